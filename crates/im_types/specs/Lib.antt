@@ -1,0 +1,4 @@
+pub mod Faults
+pub mod Keys
+pub mod Pages
+pub mod Records

@@ -1,0 +1,49 @@
+//! Why a call was refused.
+
+ghost use Rattle.std.specs.Prelude.{◌≡◌};
+ghost use Rattle.im_types.specs.Faults.{number_of};
+
+use thiserror::Error;
+
+/// A refusal. Its number is what programs print.
+#[derive(Clone, Copy, Debug, PartialEq, Eq, Error)]
+pub enum Fault {
+    /// A key or a bound has 0 bytes or more than 255.
+    #[error("a key has 1 to 255 bytes")]
+    KeyLength,
+    /// An append would pass log position 2^62. The log takes no more.
+    #[error("the log is full")]
+    LogFull,
+    /// A call of the disk failed. What it wrote may or may not be kept.
+    #[error("a call of the disk failed")]
+    Device,
+    /// There was no memory. Nothing was changed.
+    #[error("out of memory")]
+    Memory,
+    /// An earlier call failed: open the store again.
+    #[error("the store has failed: open it again")]
+    Failed,
+    /// The bytes of the files are no store of this format.
+    #[error("the files hold no store")]
+    NotAStore,
+    /// A line that the grammar of scripts does not have.
+    #[error("a bad line")]
+    BadScript,
+}
+
+impl Fault {
+    /// The number of the refusal, as programs print it.
+    pub fn number(&self) -> u8
+        ensures { result ≡ number_of self.now }
+    {
+        match self {
+            Fault::KeyLength => 3,
+            Fault::LogFull => 7,
+            Fault::Device => 8,
+            Fault::Memory => 9,
+            Fault::Failed => 10,
+            Fault::NotAStore => 11,
+            Fault::BadScript => 16,
+        }
+    }
+}

@@ -1,0 +1,10 @@
+//! The two files of a store.
+
+/// A file of a store.
+#[derive(Clone, Copy, Debug, PartialEq, Eq)]
+pub enum FileId {
+    /// The records, in batches behind gates.
+    Log,
+    /// The pages, in place.
+    Pages,
+}
