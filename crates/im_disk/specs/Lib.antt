@@ -1,0 +1,8 @@
+pub mod Disk
+pub mod Left
+pub mod Model
+pub mod ModelFile
+pub mod Past
+pub mod Plan
+pub mod Runs
+pub mod Written

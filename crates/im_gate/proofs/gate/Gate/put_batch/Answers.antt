@@ -1,0 +1,7 @@
+use Rattle.im_gate.proofs.gate.Gate.put_batch.Goals as goal
+
+pub returns-in_err-put_behind-clause-any_moment : goal.returns-in_err-put_behind-clause-any_moment
+returns-in_err-put_behind-clause-any_moment g c works = c.put_behind.ensures.any_moment c.args.self.now.first (c.requires.ready.reading.reaches works)
+
+pub returns-clause-any_moment : goal.returns-clause-any_moment
+returns-clause-any_moment g c works = c.put_behind.ensures.any_moment c.args.self.now.first (c.requires.ready.reading.reaches works)

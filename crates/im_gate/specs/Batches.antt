@@ -1,0 +1,67 @@
+-- What the bytes of a log file stand for. A gate is a byte; behind it stand four bytes of length, the records of its batch
+-- and the next gate.
+use Rattle.std.specs.Prelude.{◌≡◌, ◌⊎◌, ℕ, zero, suc, ◌+◌, ◌<◌, ◌==◌, nat_le, nat_lt, Bool, ◌&&◌, if◌then◌else◌, List, [], ◌∷◌, ◌++◌, length, take, drop, Option, Some, None}
+use Rattle.std.specs.Int.{w32, from_be_bytes, to_be_bytes}
+
+-- The length that the four bytes behind a gate give. Here and below, `behind` is all that stands behind the gate.
+unfoldable pub batch_length : List ℕ → ℕ
+batch_length behind = from_be_bytes w32 (take 4 behind)
+
+-- The records of the batch behind a gate.
+abbrev pub batch : List ℕ → List ℕ
+batch behind = take (batch_length behind) (drop 4 behind)
+
+-- The length is in range, and the records and the next gate lie within the file.
+abbrev pub is_whole : List ℕ → Bool
+is_whole behind = nat_le 1 (batch_length behind) && nat_le (batch_length behind) 16384 && nat_lt (4 + batch_length behind) (length behind)
+
+-- These before the others; none where the others are refused.
+abbrev pub in_front : List (List ℕ) → Option (List (List ℕ)) → Option (List (List ℕ))
+in_front first None = None
+in_front first (Some rest) = Some (first ++ rest)
+
+-- The batches from the gate at this place on: those in front of the first closed gate. A byte of 1 is an open gate, and any other a
+-- closed one. An open gate whose batch is not whole is refused, and so is a gate past the end of the file.
+abbrev pub batches_from : ℕ → List ℕ → Option (List (List ℕ))
+batches_from place [] = None
+batches_from (suc place) (byte ∷ file) = batches_from place file
+batches_from zero (gate ∷ behind) =
+    if gate == 1 then (if is_whole behind then in_front (batch behind ∷ []) (batches_from (4 + batch_length behind) behind) else None) else Some []
+
+-- The batches of a log file whose first gate stands at this place; none where it is refused.
+abbrev pub batches : ℕ → List ℕ → Option (List (List ℕ))
+batches first file = batches_from first file
+
+-- The same batches with one more at the end.
+abbrev pub with_batch : List ℕ → Option (List (List ℕ)) → Option (List (List ℕ))
+with_batch last None = None
+with_batch last (Some before) = Some (before ++ last ∷ [])
+
+-- A file has the batches from before, with this one more or without it.
+abbrev pub IsBeforeOrWith : ℕ → List ℕ → Option (List (List ℕ)) → List ℕ → Type 0
+IsBeforeOrWith first last before file = (batches first file ≡ before) ⊎ (batches first file ≡ with_batch last before)
+
+-- What is written behind a gate: the length, the records and the next gate, closed.
+abbrev pub spelled : List ℕ → List ℕ
+spelled records = to_be_bytes w32 (length records) ++ records ++ 0 ∷ []
+
+-- The bytes that these batches take, with their gates and lengths.
+abbrev pub size_of : List (List ℕ) → ℕ
+size_of [] = 0
+size_of (records ∷ rest) = 5 + length records + size_of rest
+
+-- The batches of a file that is not refused.
+abbrev pub listed : Option (List (List ℕ)) → List (List ℕ)
+listed None = []
+listed (Some bs) = bs
+
+-- The batches in front of this place, as a closed gate there shows them.
+abbrev pub in_front_of : ℕ → ℕ → List ℕ → List (List ℕ)
+in_front_of first place file = listed (batches first (take place file ++ 0 ∷ []))
+
+-- The gate at this place comes after whole batches, whatever stands from there on. A fact with no data of its own, so that
+-- a type may keep it.
+pub record Reaches (first : ℕ) (file : List ℕ) (place : ℕ) : Type 0 where
+  pub within : place < length file
+  pub placed : place ≡ first + size_of (in_front_of first place file)
+  pub front : (rest : List ℕ) → batches first (take place file ++ rest) ≡ in_front (in_front_of first place file) (batches_from 0 rest)

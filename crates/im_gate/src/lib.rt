@@ -1,0 +1,45 @@
+//! Batches of bytes in a log file, each on the disk before its gate is opened.
+//!
+//! # The file
+//!
+//! | Bytes | Content |
+//! |---|---|
+//! | 0 | made: 1 is made, any other byte is not |
+//! | 1 to 8 | `ARIESIM1` |
+//! | 9 to 12 | the page size, 4,096, big-endian |
+//! | 13 to 30 | zero |
+//! | 31 | the first gate |
+//!
+//! A gate is a byte: 1 is open, any other is closed. Behind a gate stand four bytes of length, big-endian, then so
+//! many bytes of records, 1 to 16,384, then the next gate. A batch counts if and only if its gate and every gate in
+//! front of it are open (`batches`). An open gate whose length is out of range, or whose records or next gate lie past the
+//! end of the file, is refused, and the file with it. What stands behind a closed gate means nothing.
+//!
+//! # A put
+//!
+//! `Gate::put_batch` makes four device calls: it writes all that stands behind the closed gate (length, records,
+//! and the next gate as 0), syncs, writes the gate as 1, and syncs. A stop up to the third call leaves the batches as they were;
+//! one in the third or fourth leaves them so or with the new batch; once the call answered Ok, every stop leaves the
+//! new batch. No call is made after one that failed: the gate has then failed, and refuses every later call.
+//!
+//! `Gate::create` closes byte 0 and syncs (only where the file has at most one byte: any other is closed already), writes the
+//! header and a closed first gate behind it and syncs, and writes byte 0 as 1 and syncs: six device calls or four. A stop
+//! within leaves a file that is not made, or a made one with no batch.
+//!
+//! # What it stands on, and its invariant
+//!
+//! It stands on the trait `Disk` alone, and makes each change by a write and a sync of one range (`write_synced`). The invariant of a gate
+//! is `IsReady`: the gate stands behind whole batches and is closed, and all of its file is on the disk. While the
+//! batches are read it is `IsReading`, which leaves the gate open. Both hold of a failed gate, and outlive calls on the other files
+//! (`ready_spared`, `reading_spared` in the proofs). What is said of bytes is said of a disk that tells them.
+#![tactic(auto)]
+
+mod creation;
+mod gate;
+mod opening;
+mod put;
+mod size;
+#[cfg(test)]
+mod tests;
+
+pub use gate::Gate;
