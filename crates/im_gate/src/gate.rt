@@ -233,6 +233,9 @@ impl Gate {
         ensures put { OnOk result (D.tells → logged D.Disk self.new disk.new ≡ with_batch records.now (logged D.Disk self.old disk.old)) }
         ensures any_moment { has_failed self.old ≡ false
             → LeavesIn D.Disk (file_of self.old) disk.old disk.new (IsBeforeOrWith (first_of self.old) records.now (logged D.Disk self.old disk.old)) }
+        ensures front { has_failed self.old ≡ false
+            → LeavesIn D.Disk (file_of self.old) disk.old disk.new (λ c. take (first_of self.old) c ≡ take (first_of self.old) (D.seen disk.old (file_of self.old))) }
+        ensures untouched { result ≡ Err Failed → disk.new ≡ disk.old }
         ensures changes { ChangesOnly D.Disk (file_of self.old) disk.old disk.new }
         ensures place { OnOk result (place_of self.new ≡ place_of self.old + (length records.now + 5)) }
         ensures failed { has_failed self.new ≡ not (is_ok result) }

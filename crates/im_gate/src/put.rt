@@ -45,6 +45,7 @@ pub(crate) fn put_behind<D: Disk>(
     ensures durable { OnOk result (Only file (D.seen disk.new) (D.may_leave disk.new)) }
     ensures any_moment { (first : ℕ) → (D.tells → Reaches first (D.seen disk.old file) place)
         → LeavesIn D.Disk file disk.old disk.new (IsBeforeOrWith first records.now (batches first (D.seen disk.old file))) }
+    ensures front { (n : ℕ) → (D.tells → n ≤ place) → LeavesIn D.Disk file disk.old disk.new (λ c. take n c ≡ take n (D.seen disk.old file)) }
     ensures changes { ChangesOnly D.Disk file disk.old disk.new }
     ensures answers { Answers (D.failed disk.new) result }
 {

@@ -1,5 +1,6 @@
-use Rattle.std.proofs.Common.{◌+◌, length, take}
+use Rattle.std.proofs.Common.{arith, ◌+◌, length, take}
 use Rattle.im_gate.proofs.Puts.{first_put, second_put, put_adds, put_moves, put_closed}
+use Rattle.im_gate.proofs.Fronts.{first_front, second_front}
 use Rattle.im_gate.proofs.put.put_behind.Goals as goal
 
 pub returns-in_err-write_synced-clause-any_moment : goal.returns-in_err-write_synced-clause-any_moment
@@ -35,3 +36,16 @@ pub returns-clause-closed : goal.returns-clause-closed
 returns-clause-closed g c first reaches =
     put_closed g.D.Disk c.args.file first c.args.disk.now c.write_synced.new.disk c.args.place c.args.records.now (take (length c.args.records.now + 5) c.spell.new.room) c.spell.ensures.spelled c.requires.some c.requires.most
     reaches c.requires.closed c.requires.durable c.write_synced-2.new.disk c.in_ok-write_synced.ensures.written c.in_ok-write_synced-2.ensures.written
+
+pub returns-in_err-write_synced-clause-front : goal.returns-in_err-write_synced-clause-front
+returns-in_err-write_synced-clause-front g c n le = first_front g.D.Disk c.args.file c.args.disk.now c.write_synced.new.disk c.args.place (length (take (length c.args.records.now + 5) c.spell.new.room)) n le c.requires.durable c.write_synced.ensures.any_moment
+
+pub returns-in_err-write_synced-2-clause-front : goal.returns-in_err-write_synced-2-clause-front
+returns-in_err-write_synced-2-clause-front g c n le =
+    second_front g.D.Disk c.args.file c.args.disk.now c.write_synced.new.disk c.args.place (length (take (length c.args.records.now + 5) c.spell.new.room)) n le c.requires.durable c.write_synced-2.new.disk (take (length c.args.records.now + 5) c.spell.new.room) (λ told. let w = c.requires.within told in omega arith) c.in_ok-write_synced.ensures.written c.in_ok-write_synced.ensures.changes c.in_ok-write_synced.ensures.durable
+    (first_front g.D.Disk c.args.file c.args.disk.now c.write_synced.new.disk c.args.place (length (take (length c.args.records.now + 5) c.spell.new.room)) n le c.requires.durable c.write_synced.ensures.any_moment) c.write_synced-2.ensures.any_moment
+
+pub returns-clause-front : goal.returns-clause-front
+returns-clause-front g c n le =
+    second_front g.D.Disk c.args.file c.args.disk.now c.write_synced.new.disk c.args.place (length (take (length c.args.records.now + 5) c.spell.new.room)) n le c.requires.durable c.write_synced-2.new.disk (take (length c.args.records.now + 5) c.spell.new.room) (λ told. let w = c.requires.within told in omega arith) c.in_ok-write_synced.ensures.written c.in_ok-write_synced.ensures.changes c.in_ok-write_synced.ensures.durable
+    (first_front g.D.Disk c.args.file c.args.disk.now c.write_synced.new.disk c.args.place (length (take (length c.args.records.now + 5) c.spell.new.room)) n le c.requires.durable c.write_synced.ensures.any_moment) c.write_synced-2.ensures.any_moment
