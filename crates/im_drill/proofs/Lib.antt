@@ -1,0 +1,4 @@
+pub mod Acked
+pub mod OpenedLogs
+pub mod Putting
+pub mod Stands

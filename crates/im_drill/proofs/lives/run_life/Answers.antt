@@ -1,0 +1,27 @@
+use Rattle.std.proofs.Common.{◌≡◌, List, ℕ, [], map, sym, subst}
+use Rattle.im_disk.specs.contracts.model_disk.ModelDiskDisk.TheImpl.{ghosts}
+use Rattle.im_disk.specs.Disk.{Files}
+use Rattle.im_drill.specs.declared.script.RawLine.{RawLine}
+use Rattle.im_drill.specs.declared.life_answers.RawReply.{RawReply}
+use Rattle.im_drill.specs.Lives.{StandsFor, Survives, asked_of, acked_of}
+use Rattle.im_drill.specs.Living.{IsLiving}
+use Rattle.im_drill.proofs.Stands.{stands_once, survives_none}
+use Rattle.im_drill.proofs.Acked.{acked-none}
+use Rattle.im_drill.proofs.lives.run_life.Goals as goal
+
+pub returns-in_ok-replies-in-Ok : goal.returns-in_ok-replies-in-Ok
+returns-in_ok-replies-in-Ok c before stands files left =
+    let found : List (List ℕ) = map (λ batch. batch.items) c.in-Ok._before.items in
+    let now : StandsFor (ghosts.seen c.arm.new.disk) before = subst (λ (s : Files). StandsFor s before) (sym c.in_ok-arm.ensures.reads.seen) stands in
+    let same : found ≡ before = stands_once (ghosts.seen c.arm.new.disk) found before (c.in-Ok.ensures.found tt) now in
+    let s = c.in_ok-replies-in-Ok.ensures before (subst (λ (l : List (List ℕ)). IsLiving ghosts l [] [] c.in-Ok.gate c.open_batches.new.disk) same c.in-Ok.ensures.living) files left in
+    (s.0, s.1, subst (λ (l : List RawLine). Survives before (asked_of l) (acked_of l c.in_ok-replies-in-Ok.replies.items) s.0) c.deref.ensures.value s.2)
+
+pub returns-after-stopped : goal.returns-after-stopped
+returns-after-stopped c before stands files left =
+    let now : StandsFor (ghosts.seen c.arm.new.disk) before = subst (λ (s : Files). StandsFor s before) (sym c.in_ok-arm.ensures.reads.seen) stands in (
+      before,
+      c.open_batches.ensures.leaves tt before now files left,
+      subst (λ (l : List RawReply). Survives before (asked_of c.args.life.now.lines.items) (acked_of c.args.life.now.lines.items l) before) (sym c.new.ensures.items)
+          (subst (λ (l : List (List ℕ)). Survives before (asked_of c.args.life.now.lines.items) l before) (sym (acked-none c.args.life.now.lines.items)) (survives_none before (asked_of c.args.life.now.lines.items))),
+    )

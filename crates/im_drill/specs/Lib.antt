@@ -1,0 +1,3 @@
+pub mod Lives
+pub mod Living
+pub mod Lines

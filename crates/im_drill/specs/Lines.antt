@@ -1,0 +1,37 @@
+-- How lines are spelled.
+use Rattle.std.specs.Prelude.{◌≡◌, ◌≢◌, ◌⊎◌, ℕ, ◌≤◌, List, [], ◌∷◌, ◌++◌, length, slice_index, codes, Ok}
+use Rattle.std.specs.Str.Parse.{IsNumeral, digits_value}
+use Rattle.hex.specs.Hex.{decode_of}
+use Rattle.im_disk.specs.declared.stop.Fill.{Fill}
+use Rattle.im_disk.specs.declared.stop.Fill.TheVariants as fills
+use Rattle.im_disk.specs.declared.stop.Length.{Length}
+use Rattle.im_disk.specs.declared.stop.Length.TheVariants as lengths
+use Rattle.im_drill.specs.declared.line.Line.{Line}
+use Rattle.im_drill.specs.declared.line.Line.TheVariants as lines
+
+-- decimal digits, without a zero in front of others
+abbrev pub IsNumber : List ℕ → ℕ → Type 0
+IsNumber word n = IsNumeral 10 word × (digits_value 10 word ≡ n) × (slice_index word 0 ≡ 48 → length word ≡ 1)
+
+-- a device call's number, or `end`, which is no call's
+abbrev pub IsCall : List ℕ → ℕ → Type 0
+IsCall word n = ((word ≡ codes "end") × (n ≡ 0)) ⊎ IsNumber word n
+
+abbrev pub IsLengthWord : List ℕ → Length → Type 0
+IsLengthWord word lengths.Long = word ≡ codes "long"
+IsLengthWord word lengths.Short = word ≡ codes "short"
+
+-- what was written, or 1 to 64 bytes in hexadecimal digits
+abbrev pub IsFillWord : List ℕ → Fill → Type 0
+IsFillWord word fills.Written = word ≡ codes "written"
+IsFillWord word (fills.Bytes bytes) = (decode_of word ≡ Ok bytes.items) × (1 ≤ length bytes.items) × (length bytes.items ≤ 64)
+
+-- The bytes of a line that says this. Its words stand apart by single spaces.
+abbrev pub Spells : List ℕ → Line → Type 0
+Spells text lines.Raw = text ≡ codes "raw"
+Spells text lines.Calls = text ≡ codes "calls"
+Spells text (lines.Put batch) = (hex : List ℕ) × (text ≡ codes "put " ++ hex) × (decode_of hex ≡ Ok batch.records.items)
+Spells text (lines.SetLog bytes) = (hex : List ℕ) × (text ≡ codes "set log " ++ hex) × (hex ≢ []) × (decode_of hex ≡ Ok bytes.items)
+Spells text (lines.Stop stop) =
+    (call : List ℕ) × (size : List ℕ) × (fill : List ℕ) × (text ≡ codes "stop " ++ (call ++ 32 ∷ (size ++ 32 ∷ fill)))
+    × IsCall call stop.call × IsLengthWord size stop.length × IsFillWord fill stop.fill

@@ -1,0 +1,24 @@
+//! A batch of a script.
+
+ghost use Rattle.std.specs.Prelude.{◌≡◌, ◌≤◌, length, IfSome};
+
+/// The bytes that one `put` line puts behind a gate: 1 to 16,384.
+#[derive(Debug, Drop)]
+pub struct Batch {
+    /// The bytes.
+    pub records: Vec<u8>,
+    ghost some: { 1 ≤ length records.items },
+    ghost most: { length records.items ≤ 16384 },
+}
+
+impl Batch {
+    /// These bytes as a batch; none where they are too few or too many.
+    pub fn new(records: Vec<u8>) -> Option<Batch>
+        ensures { IfSome result (λ batch. batch.records.items ≡ records.items) }
+    {
+        if records.is_empty() || records.len() > 16_384 {
+            return None;
+        }
+        Some(Batch { records })
+    }
+}

@@ -1,0 +1,72 @@
+//! The last line of a life.
+
+ghost use Rattle.std.specs.Prelude.{◌≡◌, IfOk, IfSome};
+ghost use Rattle.hex.specs.Hex.{decode_of};
+ghost use Rattle.im_drill.specs.Lines.{IsCall, IsLengthWord, IsFillWord};
+
+use crate::number::number_of;
+use hex::FromHexError;
+use im_disk::{Fill, Length, Stop};
+use im_types::Fault;
+use std::alloc::{AllocError, Global};
+
+/// The device call: a number, or `end`, which is no call's.
+pub(crate) fn call_of(word: &[u8]) -> Option<u64>
+    ensures { IfSome result (λ n. IsCall word.now n) }
+{
+    if word == b"end".as_slice() {
+        return Some(0);
+    }
+    number_of(word)
+}
+
+/// How long each file is.
+pub(crate) fn length_of(word: &[u8]) -> Option<Length>
+    ensures { IfSome result (λ size. IsLengthWord word.now size) }
+{
+    if word == b"long".as_slice() {
+        return Some(Length::Long);
+    }
+    if word == b"short".as_slice() {
+        return Some(Length::Short);
+    }
+    None
+}
+
+/// What stands at the places that were not synced: what was written, or 1 to 64 bytes, over and over.
+pub(crate) fn fill_of(alloc: Global, word: &[u8]) -> Result<Fill, Fault>
+    ensures { IfOk result (λ fill. IsFillWord word.now fill) }
+{
+    if word == b"written".as_slice() {
+        return Ok(Fill::Written);
+    }
+    let bytes = bytes_of(alloc, word)?;
+    if bytes.is_empty() || bytes.len() > 64 {
+        return Err(Fault::BadScript);
+    }
+    Ok(Fill::Bytes(bytes))
+}
+
+/// The bytes that the word writes in hexadecimal digits of either case.
+pub(crate) fn bytes_of(alloc: Global, word: &[u8]) -> Result<Vec<u8>, Fault>
+    ensures { IfOk result (λ bytes. decode_of word.now ≡ Ok bytes.items) }
+{
+    match hex::decode(alloc, word) {
+        Ok(bytes) => Ok(bytes),
+        Err(FromHexError::OutOfMemory) => Err(Fault::Memory),
+        Err(_) => Err(Fault::BadScript),
+    }
+}
+
+/// A stop like this one.
+pub(crate) fn copy_of(alloc: Global, stop: &Stop) -> Result<Stop, AllocError> {
+    let fill = match &stop.fill {
+        Fill::Written => Fill::Written,
+        Fill::Bytes(bytes) => Fill::Bytes(Vec::from_slice(alloc, bytes)?),
+    };
+    Ok(Stop {
+        call: stop.call,
+        length: stop.length,
+        fill,
+    })
+}

@@ -1,0 +1,76 @@
+//! Scripts as text, and their answers as text.
+
+ghost use Rattle.std.specs.Prelude.{◌≤◌, IfOk};
+
+use crate::answers::Drilled;
+use crate::drilling::drill;
+use crate::life_answers::{LifeAnswers, Opening, RawReply};
+use crate::script::{Script, ScriptError};
+use im_types::Fault;
+use std::alloc::{AllocError, Global};
+use std::io;
+use std::io::{Read, Write};
+
+/// Reads a script, runs it and prints what its lives answer. It answers the exit status: 0, or 1 where a line
+/// of the script is bad, of which it then prints the number alone.
+pub fn drill_text<R: Read, W: Write>(
+    alloc: Global,
+    reader: &mut R,
+    writer: &mut W,
+) -> io::Result<u8>
+    ensures { IfOk result (λ status. status ≤ 1) }
+{
+    let mut text = Vec::new(alloc);
+    reader.read_to_end(&mut text)?;
+    match Script::parse(alloc, &text) {
+        Ok(script) => {
+            print_answers(alloc, writer, &drill(alloc, &script)?)?;
+            Ok(0)
+        }
+        Err(ScriptError::BadLine(number)) => {
+            writeln!(
+                writer,
+                "refused {} line {number}",
+                Fault::BadScript.number()
+            )?;
+            Ok(1)
+        }
+        Err(ScriptError::Memory) => Err(io::Error::from(AllocError)),
+    }
+}
+
+fn print_answers<W: Write>(alloc: Global, writer: &mut W, drilled: &Drilled) -> io::Result<()> {
+    for life in &drilled.lives {
+        print_life(writer, life)?;
+    }
+    match &drilled.last {
+        Ok(batches) => print_batches(alloc, writer, batches),
+        Err(fault) => writeln!(writer, "final refused {}", fault.number()),
+    }
+}
+
+fn print_life<W: Write>(writer: &mut W, life: &LifeAnswers) -> io::Result<()> {
+    match life.opening {
+        Opening::Open(calls) => writeln!(writer, "open ok {calls}")?,
+        Opening::Refused(fault) => writeln!(writer, "open refused {}", fault.number())?,
+        Opening::Stopped => writeln!(writer, "open stopped")?,
+    }
+    for reply in &life.replies {
+        match *reply {
+            RawReply::Put => writeln!(writer, "put ok")?,
+            RawReply::Calls(calls) => writeln!(writer, "calls {calls}")?,
+            RawReply::Refused(fault) => writeln!(writer, "refused {}", fault.number())?,
+            RawReply::Stopped => writeln!(writer, "stopped")?,
+        }
+    }
+    Ok(())
+}
+
+fn print_batches<W: Write>(alloc: Global, writer: &mut W, batches: &[Vec<u8>]) -> io::Result<()> {
+    writeln!(writer, "final {}", batches.len())?;
+    for batch in batches {
+        let digits = hex::encode(alloc, batch.as_slice())?;
+        writeln!(writer, "{digits}")?;
+    }
+    Ok(())
+}

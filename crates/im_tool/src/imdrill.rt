@@ -1,0 +1,67 @@
+//! The program that runs a script.
+
+ghost use Rattle.std.specs.Prelude.{◌≤◌, IfOk};
+
+use clap::{Arg, ArgMatches, Command, Error};
+use im_drill::drill_text;
+use std::alloc::{AllocError, Global};
+use std::io::{BufWriter, ErrorKind, Write};
+use std::rt::Files;
+use std::{fs, io};
+
+/// Runs the script that the command line names, or standard input where it names none, and prints what its
+/// lives answer. The first word is the program's name. It answers the exit status.
+///
+/// An error is of the program's own memory, input or output: its status is 1.
+pub fn drill_program<R: Files + Input + Print + Eprint + AllocGlobal>(
+    rt: &R,
+    words: &[String],
+) -> io::Result<u8>
+    ensures { IfOk result (λ status. status ≤ 2) }
+{
+    let alloc = rt.alloc();
+    let matches = match parse_words(alloc, words) {
+        Ok(matches) => matches,
+        Err(error) => {
+            if error.kind() == clap::error::ErrorKind::OutOfMemory {
+                return Err(io::Error::from(AllocError));
+            }
+            error.print(rt)?;
+            return Ok(status_of(&error));
+        }
+    };
+    let mut writer = BufWriter::new(alloc, io::writer(rt))?;
+    let status = match matches.get_str("SCRIPT") {
+        Some(path) => run_file(rt, path, &mut writer)?,
+        None => drill_text(alloc, &mut rt.reader(), &mut writer)?,
+    };
+    writer.flush()?;
+    Ok(status)
+}
+
+// The file is read to its end before anything is printed.
+fn run_file<R: Files + AllocGlobal, W: Write>(rt: &R, path: &str, writer: &mut W) -> io::Result<u8>
+    ensures { IfOk result (λ status. status ≤ 1) }
+{
+    match fs::read(rt, path) {
+        Ok(text) => drill_text(rt.alloc(), &mut text.as_slice(), writer),
+        Err(error) if error.kind() == ErrorKind::OutOfMemory => Err(error),
+        Err(_) => {
+            writeln!(writer, "script unreadable")?;
+            Ok(1)
+        }
+    }
+}
+
+// Help goes to standard output, and is no error.
+fn status_of(error: &Error) -> u8
+    ensures { result ≤ 2 }
+{
+    if error.use_stderr() { 2 } else { 0 }
+}
+
+fn parse_words<'a>(alloc: Global, words: &'a [String]) -> Result<ArgMatches<'a>, Error> {
+    let script = Arg::new(alloc, "SCRIPT");
+    let command = Command::new(alloc, "imdrill").arg(script)?;
+    command.try_get_matches_from(words)
+}

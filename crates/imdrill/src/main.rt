@@ -1,0 +1,11 @@
+//! `imdrill [SCRIPT]`: runs a script of lives on a model disk and prints what they answer.
+#![tactic(auto)]
+
+use im_tool::drill_program;
+use std::process::ExitCode;
+use std::{env, io};
+
+fn main(rt: HostRuntime) -> io::Result<ExitCode> {
+    let words: Vec<String> = env::args(&rt)?.collect(rt.alloc())?;
+    Ok(ExitCode::from(drill_program(&rt, &words)?))
+}
