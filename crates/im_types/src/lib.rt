@@ -5,12 +5,15 @@
 //! bytes at a time.
 //!
 //! The definitions in `specs/` are the vocabulary of all contracts above: keys, pages as a header and a
-//! sorted list, records of the log as data. This crate stands on no other of the store.
+//! sorted list, records of the log as data, steps and replies, lives, and all that follows from a log. What is
+//! promised of them for every log, every list of lives and every page is proved here once, as contracts of
+//! the functions of `laws`. This crate stands on no other of the store.
 #![tactic(auto)]
 
 mod fault;
 mod file_id;
 mod key;
+pub mod laws;
 mod order;
 mod page_kind;
 mod tables;

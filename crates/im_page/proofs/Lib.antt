@@ -1,0 +1,14 @@
+pub mod Order
+pub mod FoundLemmas
+pub mod CellLemmas
+pub mod ListLemmas
+pub mod InsertLemmas
+pub mod RemoveLemmas
+pub mod EntryLemmas
+pub mod ChildLemmas
+pub mod SoundLemmas
+pub mod FormLemmas
+pub mod HeaderLemmas
+pub mod FieldLemmas
+pub mod SplitLemmas
+pub mod ContentLemmas

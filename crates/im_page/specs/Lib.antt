@@ -1,0 +1,12 @@
+pub mod Number
+pub mod Entry
+pub mod Form
+pub mod Tests
+pub mod Header
+pub mod Page
+pub mod Child
+pub mod Edit
+pub mod Found
+pub mod Sound
+pub mod Content
+pub mod Split

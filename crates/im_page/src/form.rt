@@ -1,0 +1,149 @@
+//! The test of a page's form.
+
+ghost use Rattle.std.specs.Prelude.{◌≡◌, ◌↔◌, IsTrue, ℕ, ◌+◌, ◌*◌, ◌<◌, ◌≤◌, false, length, slice_index, replicate};
+ghost use Rattle.std.specs.Bool.{OnTrue, OnFalse};
+ghost use Rattle.im_types.specs.Keys.{IsBelow};
+ghost use Rattle.im_page.specs.Form.{count_of, start_of, slot_at, key_from, cell_size, IsPacked};
+ghost use Rattle.im_page.specs.Page.{IsHeader, IsForm};
+ghost use Rattle.im_page.specs.Sound.{IsClear, HasTaken, Marks, IsCell, AreSound, SlotsSound};
+
+use crate::cells::{cell_len, key_at};
+use crate::number::{get_u16, get_u32};
+use im_types::compare;
+use std::cmp::Ordering;
+
+/// Whether no flag of a range is set.
+fn is_clear(flags: &[bool], from: usize, to: usize) -> bool
+    requires order { from ≤ to }
+    requires inside { to ≤ length flags.now }
+    ensures clear { OnTrue result (IsClear flags.now from to) }
+    ensures taken { OnFalse result (HasTaken flags.now from to) }
+{
+    let mut any = false;
+    for k in from..to {
+        any = any | flags[k];
+    }
+    !any
+}
+
+/// Sets the flags of a range.
+fn mark(flags: &mut [bool], from: usize, to: usize)
+    requires order { from ≤ to }
+    requires inside { to ≤ length flags.old }
+    ensures { Marks flags.old flags.new from to }
+{
+    for k in from..to {
+        flags[k] = true;
+    }
+}
+
+/// Whether a cell with a key begins at `at`.
+fn is_cell(leaf: bool, bytes: &[u8], at: usize) -> bool
+    requires { length bytes.now ≡ 4096 }
+    ensures { IsTrue result ↔ IsCell leaf bytes.now at }
+{
+    if at < get_u16(bytes, 14) || 4096 <= at {
+        return false;
+    }
+    let key = bytes[at] as usize;
+    1 <= key && at + cell_len(leaf, key) <= 4096
+}
+
+/// Whether the key of one cell is below that of another.
+fn is_below(bytes: &[u8], a: usize, b: usize) -> bool
+    requires a { a + 1 + slice_index bytes.now a ≤ length bytes.now }
+    requires b { b + 1 + slice_index bytes.now b ≤ length bytes.now }
+    ensures { IsTrue result ↔ IsBelow (key_from bytes.now a) (key_from bytes.now b) }
+{
+    match compare(key_at(bytes, a), key_at(bytes, b)) {
+        Ordering::Less => true,
+        _ => false,
+    }
+}
+
+/// Whether the slots are those of a packed page.
+fn are_slots_sound(leaf: bool, bytes: &[u8], flags: &mut [bool]) -> bool
+    requires len { length bytes.now ≡ 4096 }
+    requires slots { 32 + 2 * count_of bytes.now ≤ start_of bytes.now }
+    requires start { start_of bytes.now ≤ 4096 }
+    requires flags { flags.old ≡ replicate 4096 false }
+    ensures { IsTrue result ↔ SlotsSound leaf bytes.now }
+{
+    let mut total = 0usize;
+    let mut before = 0usize;
+    for i in 0..get_u16(bytes, 12) {
+        let at = get_u16(bytes, 32 + 2 * i);
+        if !is_cell(leaf, bytes, at) {
+            return false;
+        }
+        let end = at + cell_len(leaf, bytes[at] as usize);
+        if !is_clear(flags, at, end) {
+            return false;
+        }
+        if 0 < i && !is_below(bytes, before, at) {
+            return false;
+        }
+        mark(flags, at, end);
+        total += end - at;
+        before = at;
+    }
+    get_u16(bytes, 14) + total == 4096
+}
+
+/// Whether all bytes of a range are zero.
+fn is_zero(bytes: &[u8], from: usize, to: usize) -> bool
+    requires { to ≤ length bytes.now }
+    ensures { IsTrue result ↔ ((k : ℕ) → from ≤ k → k < to → slice_index bytes.now k ≡ 0) }
+{
+    for k in from..to {
+        if bytes[k] != 0 {
+            return false;
+        }
+    }
+    true
+}
+
+/// Whether bytes are packed.
+pub fn is_packed(leaf: bool, bytes: &[u8]) -> bool
+    requires { length bytes.now ≡ 4096 }
+    ensures { IsTrue result ↔ IsPacked leaf bytes.now }
+{
+    let front = 32 + 2 * get_u16(bytes, 12);
+    let start = get_u16(bytes, 14);
+    if start < front || 4096 < start || !is_zero(bytes, front, start) {
+        return false;
+    }
+    let mut flags = [false; 4096];
+    are_slots_sound(leaf, bytes, &mut flags)
+}
+
+/// Whether the header's fields are those of its kind.
+fn is_header(bytes: &[u8]) -> bool
+    requires { length bytes.now ≡ 4096 }
+    ensures { IsTrue result ↔ IsHeader bytes.now }
+{
+    match bytes[8] {
+        0 => {
+            bytes[9] == 0
+                && get_u16(bytes, 12) == 0
+                && get_u32(bytes, 16) == 0
+                && get_u32(bytes, 24) == 0
+        }
+        1 => bytes[9] == 0 && get_u16(bytes, 12) == 0,
+        2 => bytes[9] == 0 && get_u32(bytes, 24) == 0,
+        _ => 1 <= bytes[9] && get_u32(bytes, 16) == 0 && get_u32(bytes, 20) == 0,
+    }
+}
+
+/// Whether bytes are a page.
+pub fn is_form(bytes: &[u8]) -> bool
+    requires { length bytes.now ≡ 4096 }
+    ensures { IsTrue result ↔ IsForm bytes.now }
+{
+    bytes[8] <= 3
+        && bytes[10] <= 1
+        && bytes[11] == 0
+        && get_u32(bytes, 28) == 0
+        && is_header(bytes)
+        && is_packed(bytes[8] == 2, bytes)
+}

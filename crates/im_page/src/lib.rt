@@ -1,0 +1,71 @@
+//! Pages: a header and a sorted list in 4,096 bytes, searched and changed in place.
+//!
+//! A `Page` is 4,096 bytes; contracts see it as an LSN and a body (`im_types`: kind, level, mark, `prev`, `next`,
+//! `leftmost` and the entries, each a key and a value, in rising key order). No call takes memory, and none copies a
+//! page but `load`, `read` and `initial`.
+//!
+//! # The bytes
+//!
+//! | Bytes | Field |
+//! |---|---|
+//! | 0 to 7 | LSN |
+//! | 8 | kind: 0 free, 1 meta, 2 leaf, 3 inner |
+//! | 9 | level: 0 for all but inner pages, whose level is 1 or more |
+//! | 10 | bit 0: the mark of a structure change under way; other bits zero |
+//! | 11 | zero |
+//! | 12 to 13 | number of entries |
+//! | 14 to 15 | where the cells begin |
+//! | 16 to 19, 20 to 23, 24 to 27 | `prev`, `next`, `leftmost` |
+//! | 28 to 31 | zero |
+//!
+//! All numbers are big-endian. From byte 32 stand the slots, two bytes each: the places of the cells in key order. A
+//! cell is the key's length (1 to 255), the key, and a value of eight bytes in a leaf and of four in an inner page.
+//! Cells lie in any order, without a gap or an overlap, up to the end of the page; the bytes between slots and cells
+//! are zero. A leaf has `prev` and `next`, an inner page `leftmost`, a meta page all three, a free page `next`; a field
+//! that the kind does not have is zero, and meta and free pages have no entries.
+//!
+//! # The contract
+//!
+//! - `page_of` (in `specs/Page.antt`) is the page that bytes are, or none: `IsForm` says when. `Page::read` and
+//!   `Page::load` answer it, both ways; `Page::bytes` gives bytes whose page is this one.
+//! - `insert` and `remove` are those of the sorted list. `insert` is refused `Full` exactly where cells and slots with
+//!   the entry take more than 4,064 bytes; the page then stays as it was.
+//! - `find` answers the place of a key, or where it would stand; `child` the child of an inner page that holds it.
+//! - `split_point` is the longest front of entries whose cells and slots take at most 2,032 bytes. Both parts of any
+//!   split have room for one more entry of any size.
+//! - `copy_entries` leaves a range of another page's entries; the setters change one field and nothing else.
+//!
+//! The invariant of a `Page` is that its bytes have the form (`IsForm`); `content` tells it to callers as a fact about
+//! the contents.
+//!
+//! # Speed
+//!
+//! `page_bench` times the calls over leaves with keys of eight bytes, and `peer/page.c` beside it does the same work in
+//! C (`cc -O2`) over the same bytes. Nanoseconds a call, the least of six runs of each in turn on one machine with other
+//! work on it:
+//!
+//! | Work | 150 entries | in C | ratio | 200 entries | in C | ratio |
+//! |---|---|---|---|---|---|---|
+//! | find a key, and its value | 27 | 67 | 0.40 | 36 | 87 | 0.41 |
+//! | find, remove, find, insert again | 415 | 379 | 1.10 | 552 | 446 | 1.24 |
+//! | read a full page in place | 2,500 | 2,727 | 0.92 | 2,646 | 2,292 | 1.15 |
+//! | split into two pages | 1,794 | 2,542 | 0.71 | 2,315 | 3,445 | 0.67 |
+//!
+//! Slower than C are a removal and an insertion, as cells and slots move by a rotation, which keeps the shorter side in
+//! a buffer meanwhile and moves the rest at once, and as each slot is written again; and the test of a page with many
+//! small cells, as it keeps a flag for each byte and not one for each cell. Keys are compared eight bytes at a time.
+#![tactic(auto)]
+
+mod cells;
+mod form;
+mod header;
+mod insertion;
+mod number;
+mod page;
+mod removal;
+mod split;
+
+pub use page::{Full, Page};
+
+#[cfg(test)]
+mod tests;

@@ -1,0 +1,70 @@
+//! The calls of a page, over leaves of 150 and of 200 entries with keys of eight bytes.
+//!
+//! Without arguments it does each work once and prints what came out, the same each run. With `--time` it prints the
+//! nanoseconds of each call. `peer/page.c` does the same work in C over the same bytes and prints the same lines, so
+//! that the two can be compared: `cc -O2 -o page peer/page.c && ./page --time`, in the same minute.
+#![tactic(auto)]
+
+mod numbers;
+mod work;
+
+use anyhow::Result;
+use im_page::Page;
+use std::env;
+use std::time::Instant;
+use work::{edited, filled, found, read, split};
+
+fn main(rt: HostRuntime) -> Result<()> {
+    let mut timed = false;
+    for word in env::args(&rt)? {
+        if word.as_str() == "--time" {
+            timed = true;
+        }
+    }
+    leaf(&rt, 150, timed)?;
+    leaf(&rt, 200, timed)
+}
+
+/// Each work over a leaf of so many entries.
+fn leaf(rt: &HostRuntime, count: u64, timed: bool) -> Result<()> {
+    let rounds = if timed { 20_000 } else { 1 };
+    let mut page = Page::initial(1);
+    let mut left = Page::initial(1);
+    let mut right = Page::initial(1);
+    let kept = filled(&mut page, count);
+    println!(rt; "leaf {count} entries {kept}")?;
+    let start = Instant::now(rt)?;
+    let sum = found(&page, count, rounds);
+    let nanos = start.elapsed(rt)?.as_nanos();
+    show(rt, "find", sum, nanos, rounds.wrapping_mul(count), timed)?;
+    let start = Instant::now(rt)?;
+    let sum = edited(&mut page, count, rounds);
+    let nanos = start.elapsed(rt)?.as_nanos();
+    show(rt, "edit", sum, nanos, rounds.wrapping_mul(count), timed)?;
+    let start = Instant::now(rt)?;
+    let sum = read(page.bytes(), rounds);
+    let nanos = start.elapsed(rt)?.as_nanos();
+    show(rt, "read", sum, nanos, rounds, timed)?;
+    let start = Instant::now(rt)?;
+    let sum = split(&page, &mut left, &mut right, rounds);
+    let nanos = start.elapsed(rt)?.as_nanos();
+    show(rt, "split", sum, nanos, rounds, timed)?;
+    Ok(())
+}
+
+/// One line: what came out, or how long a call took.
+fn show(
+    rt: &HostRuntime,
+    name: &str,
+    sum: u64,
+    nanos: u128,
+    calls: u64,
+    timed: bool,
+) -> Result<()> {
+    if timed && calls > 0 {
+        println!(rt; "{name} {} ns", nanos / calls as u128)?;
+    } else {
+        println!(rt; "{name} {sum}")?;
+    }
+    Ok(())
+}
