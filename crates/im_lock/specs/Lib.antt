@@ -1,0 +1,10 @@
+pub mod Locks
+pub mod Table
+pub mod Index
+pub mod InStep
+pub mod Rows
+pub mod View
+pub mod Machine
+pub mod Isolation
+pub mod Found
+pub mod Serving

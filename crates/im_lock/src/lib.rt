@@ -1,0 +1,51 @@
+//! Locks on the keys of an index, decided by wait-die, and the theorem that they isolate transactions.
+//!
+//! **The table.** A lock is on a key, or on the name past the last key. Two locks conflict where their names are equal,
+//! their owners differ and one is exclusive. `try_all` takes what a step asks all at once: where nobody holds a
+//! lock against it, those of commit duration are kept and those for the instant are not (`Granted`); where the
+//! requester's number is below that of every holder in conflict, it is told to wait for the smallest of them
+//! (`Wait`); any other requester must die (`Die`). Nothing changes unless all is granted, and where memory is
+//! refused nothing is. `release_all` takes out the locks of one owner; it cannot fail and takes no memory.
+//!
+//! Contracts see the table as a list of owners, each with its locks (`Table`, `locks_of`). Within, each lock stands
+//! twice: in the list of its owner, and in a map from names to holders. That both say the same, and each lock once,
+//! is the table's invariant (`IsInStep`). So a request costs look-ups of its name, however many locks are held, and
+//! a release costs what its owner holds. `lock_bench --time` measures it: on one machine some 7, 8 and 4 million locks
+//! a second are granted to one that takes 10, 1,000 and 30,000 and lets them go, 9, 11 and 7 million are released, and
+//! another that takes one lock and lets it go does so 4 million times a second beside each of these.
+//!
+//! **The rows.** `fetch_row`, `seek_row`, `insert_row`, `delete_row` and `shared` give what each access asks, from what
+//! its search found; by their contracts these are the rows of the machine (`asked`).
+//!
+//! **The machine.** `specs/` has the relation of a step of many transactions over one map with locks (`Moves`), and its
+//! runs (`Run`). The contract of `isolation` says, of every run: each transaction's replies are those that it would
+//! get alone, on the map committed now while it is going, on the map before its place in commit order once it has
+//! committed, and on the map committed just before its rollback; and the committed map is the committed
+//! transactions applied one after another (`Isolates`). The contract of `table_serves` says that a table's three
+//! verdicts are the machine's three answers, and its releases the machine's.
+//!
+//! The crate stands on `im_types` alone.
+#![tactic(auto)]
+
+mod grants;
+mod holder;
+mod isolated;
+mod lock_table;
+mod name;
+mod name_index;
+mod request;
+mod rivals;
+mod row;
+mod rows;
+mod stored_lock;
+#[cfg(test)]
+mod tests;
+mod verdict;
+
+pub use isolated::{isolation, table_serves};
+pub use lock_table::LockTable;
+pub use name::Name;
+pub use request::{Duration, Mode, Request};
+pub use row::Row;
+pub use rows::{delete_row, fetch_row, insert_row, seek_row, shared};
+pub use verdict::Verdict;

@@ -1,0 +1,122 @@
+//! The lock table.
+
+ghost use Rattle.std.specs.Prelude.{◌≡◌, IfOk, IfErr, OnErr, OnOk, [], nat_eq};
+ghost use Rattle.std.specs.HashMap.{ContainsKey};
+ghost use Rattle.im_types.specs.declared.fault.Fault.TheVariants.{Memory};
+ghost use Rattle.im_lock.specs.Table.{row, Decides, IsGrown, SameTable, IsReleased};
+ghost use Rattle.im_lock.specs.InStep.{owned, IsInStep};
+
+use crate::grants::{forget, grant};
+use crate::name_index::NameIndex;
+use crate::request::Request;
+use crate::rivals::smallest_rival;
+use crate::stored_lock::StoredLock;
+use crate::verdict::Verdict;
+use im_types::{Fault, TxnId};
+use std::alloc::{AllocError, Global};
+use std::collections::HashMap;
+use std::marker::Model;
+
+/// The locks held, and by whom. Contracts see it as a list of owners, each with its locks.
+#[derive(Drop)]
+pub struct LockTable {
+    names: NameIndex,
+    owners: HashMap<TxnId, Vec<StoredLock>>,
+}
+
+impl Model for LockTable {
+    ghost use Rattle.im_lock.specs.Table.{Table};
+
+    ghost Value = { Table };
+
+    ghost use Rattle.im_lock.specs.InStep.{owned, IsInStep};
+
+    ghost view = { λ table. owned table.owners };
+
+    ghost invariant = { λ table. IsInStep table.names (owned table.owners) };
+}
+
+impl LockTable {
+    /// No locks.
+    pub fn new(alloc: Global) -> LockTable
+        ensures { result ≡ [] }
+    {
+        LockTable {
+            names: NameIndex {
+                keys: HashMap::new(alloc),
+                end: Vec::new(alloc),
+            },
+            owners: HashMap::new(alloc),
+        }
+    }
+
+    /// Grants all of the requests of `t`, or none.
+    pub fn try_all(&mut self, t: TxnId, requests: &[Request<'_>]) -> Result<Verdict, Fault>
+        ensures decided { IfOk result (λ verdict. Decides self.old t (row requests.now) verdict self.new) }
+        ensures refused { IfErr result (λ fault. (fault ≡ Memory) × SameTable self.old self.new) }
+    {
+        if let Some(holder) = smallest_rival(&self.names, t, requests) {
+            return Ok(if t < holder {
+                Verdict::Wait(holder)
+            } else {
+                Verdict::Die
+            });
+        }
+        if let Err(_) = grant_to(&mut self.names, &mut self.owners, t, requests) {
+            return Err(Fault::Memory);
+        }
+        Ok(Verdict::Granted)
+    }
+
+    /// Takes out the locks of `t` and no others.
+    pub fn release_all(&mut self, t: TxnId)
+        ensures { IsReleased self.old t self.new }
+    {
+        release(&mut self.names, &mut self.owners, t);
+    }
+}
+
+// Adds to the locks of `t` those requests that are kept, all or none.
+fn grant_to(
+    names: &mut NameIndex,
+    owners: &mut HashMap<TxnId, Vec<StoredLock>>,
+    t: TxnId,
+    requests: &[Request<'_>],
+) -> Result<(), AllocError>
+    requires in_step { IsInStep names.old (owned owners.old) }
+    ensures in_step { IsInStep names.new (owned owners.new) }
+    ensures granted { OnOk result (IsGrown (owned owners.old) t (row requests.now) (owned owners.new)) }
+    ensures err { OnErr result (SameTable (owned owners.old) (owned owners.new)) }
+{
+    open(*names.end.allocator(), owners, t)?;
+    match owners.get_mut(&t) {
+        Some(locks) => grant(names, t, locks, requests),
+        None => unreachable!(),
+    }
+}
+
+// Makes a list for the locks of `t`, where there is none.
+fn open(
+    alloc: Global,
+    owners: &mut HashMap<TxnId, Vec<StoredLock>>,
+    t: TxnId,
+) -> Result<(), AllocError>
+    ensures same { SameTable (owned owners.old) (owned owners.new) }
+    ensures there { OnOk result (ContainsKey nat_eq owners.new t) }
+{
+    if !owners.contains_key(&t) {
+        owners.insert(t, Vec::new(alloc))?;
+    }
+    Ok(())
+}
+
+// Takes out the locks of `t` and no others.
+fn release(names: &mut NameIndex, owners: &mut HashMap<TxnId, Vec<StoredLock>>, t: TxnId)
+    requires in_step { IsInStep names.old (owned owners.old) }
+    ensures in_step { IsInStep names.new (owned owners.new) }
+    ensures released { IsReleased (owned owners.old) t (owned owners.new) }
+{
+    if let Some(mut locks) = owners.remove(&t) {
+        forget(names, t, &mut locks, 0);
+    }
+}

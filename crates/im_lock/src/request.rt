@@ -1,0 +1,25 @@
+//! What a step asks of the lock table.
+
+use crate::name::Name;
+
+/// How a name is locked. Two locks of different owners on one name conflict where one is exclusive.
+#[derive(Clone, Copy, Debug, PartialEq, Eq)]
+pub enum Mode {
+    Shared,
+    Exclusive,
+}
+
+/// How long a lock stands: checked and not kept, or kept until the owner's locks are released.
+#[derive(Clone, Copy, Debug, PartialEq, Eq)]
+pub enum Duration {
+    Instant,
+    ToCommit,
+}
+
+/// One lock that a step asks.
+#[derive(Clone, Copy, Debug)]
+pub struct Request<'a> {
+    pub name: Name<'a>,
+    pub mode: Mode,
+    pub duration: Duration,
+}
