@@ -1,11 +1,11 @@
 -- What was asked and what was acknowledged, line by line.
 use Rattle.std.proofs.Common.{◌≡◌, ℕ, ◌+◌, ◌<◌, ◌≤◌, List, [], ◌∷◌, ◌++◌, length, take, drop, get_or, refl, sym, ◌∙◌, ap, subst, arith, take-append-drop}
 use Rattle.std.proofs.lemmas.List.{append-nil, take_more, length-take-le}
-use Rattle.im_drill.specs.declared.script.RawLine.{RawLine}
-use Rattle.im_drill.specs.declared.script.RawLine.TheVariants as lines
+use Rattle.im_drill.specs.declared.raw_line.RawLine.{RawLine}
+use Rattle.im_drill.specs.declared.raw_line.RawLine.TheVariants as lines
 use Rattle.im_drill.specs.declared.life_answers.RawReply.{RawReply}
 use Rattle.im_drill.specs.declared.life_answers.RawReply.TheVariants as replies
-use Rattle.im_drill.specs.declared.script.RawLife.{RawLife}
+use Rattle.im_drill.specs.declared.raw_life.RawLife.{RawLife}
 use Rattle.im_drill.specs.declared.life_answers.LifeAnswers.{LifeAnswers}
 use Rattle.im_drill.specs.Lives.{asked_of, acked_of, Survives, Lives}
 use Rattle.im_drill.proofs.Stands.{survives_more}

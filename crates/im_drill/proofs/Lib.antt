@@ -1,4 +1,9 @@
 pub mod Acked
+pub mod Lines
 pub mod OpenedLogs
+pub mod Passed
 pub mod Putting
+pub mod ReadLines
+pub mod Replied
+pub mod Spelled
 pub mod Stands

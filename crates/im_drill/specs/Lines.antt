@@ -1,5 +1,5 @@
 -- How lines are spelled.
-use Rattle.std.specs.Prelude.{◌≡◌, ◌≢◌, ◌⊎◌, ℕ, ◌≤◌, List, [], ◌∷◌, ◌++◌, length, slice_index, codes, Ok}
+use Rattle.std.specs.Prelude.{◌≡◌, ◌≢◌, ◌⊎◌, ℕ, ◌≤◌, ◌<◌, ◌^◌, List, [], ◌∷◌, ◌++◌, length, slice_index, codes, Ok}
 use Rattle.std.specs.Str.Parse.{IsNumeral, digits_value}
 use Rattle.hex.specs.Hex.{decode_of}
 use Rattle.im_disk.specs.declared.stop.Fill.{Fill}
@@ -9,9 +9,14 @@ use Rattle.im_disk.specs.declared.stop.Length.TheVariants as lengths
 use Rattle.im_drill.specs.declared.line.Line.{Line}
 use Rattle.im_drill.specs.declared.line.Line.TheVariants as lines
 
--- decimal digits, without a zero in front of others
+-- None of these bytes is that byte.
+abbrev pub Lacks : ℕ → List ℕ → Type 0
+Lacks b [] = Unit {0}
+Lacks b (c ∷ rest) = (c ≢ b) × Lacks b rest
+
+-- decimal digits, without a zero in front of others, of a number of 64 bits
 abbrev pub IsNumber : List ℕ → ℕ → Type 0
-IsNumber word n = IsNumeral 10 word × (digits_value 10 word ≡ n) × (slice_index word 0 ≡ 48 → length word ≡ 1)
+IsNumber word n = IsNumeral 10 word × (digits_value 10 word ≡ n) × (slice_index word 0 ≡ 48 → length word ≡ 1) × (n < 2 ^ 64)
 
 -- a device call's number, or `end`, which is no call's
 abbrev pub IsCall : List ℕ → ℕ → Type 0
@@ -26,11 +31,11 @@ abbrev pub IsFillWord : List ℕ → Fill → Type 0
 IsFillWord word fills.Written = word ≡ codes "written"
 IsFillWord word (fills.Bytes bytes) = (decode_of word ≡ Ok bytes.items) × (1 ≤ length bytes.items) × (length bytes.items ≤ 64)
 
--- The bytes of a line that says this. Its words stand apart by single spaces.
+-- The bytes of a line that says this. Its words stand apart by single spaces; a batch has 1 to 16,384 bytes.
 abbrev pub Spells : List ℕ → Line → Type 0
 Spells text lines.Raw = text ≡ codes "raw"
 Spells text lines.Calls = text ≡ codes "calls"
-Spells text (lines.Put batch) = (hex : List ℕ) × (text ≡ codes "put " ++ hex) × (decode_of hex ≡ Ok batch.records.items)
+Spells text (lines.Put batch) = (hex : List ℕ) × (text ≡ codes "put " ++ hex) × (decode_of hex ≡ Ok batch.records.items) × (1 ≤ length batch.records.items) × (length batch.records.items ≤ 16384)
 Spells text (lines.SetLog bytes) = (hex : List ℕ) × (text ≡ codes "set log " ++ hex) × (hex ≢ []) × (decode_of hex ≡ Ok bytes.items)
 Spells text (lines.Stop stop) =
     (call : List ℕ) × (size : List ℕ) × (fill : List ℕ) × (text ≡ codes "stop " ++ (call ++ 32 ∷ (size ++ 32 ∷ fill)))

@@ -4,9 +4,9 @@ use Rattle.im_types.specs.declared.file_id.FileId.TheVariants.{Log, Pages}
 use Rattle.im_disk.specs.Disk.{Files}
 use Rattle.im_gate.specs.Batches.{batches}
 use Rattle.im_gate.specs.Header.{IsUnmade, IsMade}
-use Rattle.im_drill.specs.declared.script.RawLine.{RawLine}
-use Rattle.im_drill.specs.declared.script.RawLine.TheVariants as lines
-use Rattle.im_drill.specs.declared.script.RawLife.{RawLife}
+use Rattle.im_drill.specs.declared.raw_line.RawLine.{RawLine}
+use Rattle.im_drill.specs.declared.raw_line.RawLine.TheVariants as lines
+use Rattle.im_drill.specs.declared.raw_life.RawLife.{RawLife}
 use Rattle.im_drill.specs.declared.life_answers.RawReply.{RawReply}
 use Rattle.im_drill.specs.declared.life_answers.RawReply.TheVariants as replies
 use Rattle.im_drill.specs.declared.life_answers.LifeAnswers.{LifeAnswers}

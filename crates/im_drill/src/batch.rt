@@ -1,6 +1,6 @@
 //! A batch of a script.
 
-ghost use Rattle.std.specs.Prelude.{◌≡◌, ◌≤◌, length, IfSome};
+ghost use Rattle.std.specs.Prelude.{◌≡◌, ◌≤◌, ◌<◌, ◌⊎◌, length, MatchOption};
 
 /// The bytes that one `put` line puts behind a gate: 1 to 16,384.
 #[derive(Debug, Drop)]
@@ -14,7 +14,7 @@ pub struct Batch {
 impl Batch {
     /// These bytes as a batch; none where they are too few or too many.
     pub fn new(records: Vec<u8>) -> Option<Batch>
-        ensures { IfSome result (λ batch. batch.records.items ≡ records.items) }
+        ensures { MatchOption result ((length records.items ≡ 0) ⊎ (16384 < length records.items)) (λ batch. batch.records.items ≡ records.items) }
     {
         if records.is_empty() || records.len() > 16_384 {
             return None;

@@ -4,6 +4,7 @@ ghost use Rattle.std.specs.Prelude.{◌≡◌, ◌≢◌, [], ℕ, List, map, If
 ghost use Rattle.im_types.specs.declared.fault.Fault.TheVariants.{NotAStore};
 ghost use Rattle.im_disk.specs.Disk.{both};
 ghost use Rattle.im_drill.specs.Lives.{StandsFor, Lives};
+ghost use Rattle.im_drill.specs.Answered.{EachAnswered};
 
 use crate::lives::run_life;
 use crate::opening::last_batches;
@@ -16,8 +17,10 @@ use std::alloc::{AllocError, Global};
 ///
 /// Where the script's log file stands for some batches at first, each life leaves those from before it and behind them a
 /// front of those that it asked to put, in order, with all that were acknowledged; and the last opening finds what the last life left.
+/// Each life has its answers and each of its lines its reply, up to a line into which the stop fell.
 pub fn drill(alloc: Global, script: &Script) -> Result<Drilled, AllocError>
-    ensures { IfOk result (λ told. (before : List (List ℕ)) → StandsFor (both script.now.log.items []) before
+    ensures answered { IfOk result (λ told. EachAnswered script.now.lives.items told.lives.items) }
+    ensures kept { IfOk result (λ told. (before : List (List ℕ)) → StandsFor (both script.now.log.items []) before
         → (after : List (List ℕ)) × Lives script.now.lives.items told.lives.items before after
         × MatchResult told.last (λ found. map (λ batch. batch.items) found.items ≡ after) (λ fault. fault ≢ NotAStore)) }
 {

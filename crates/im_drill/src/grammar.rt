@@ -1,18 +1,23 @@
 //! The lines that scripts may have.
 
-ghost use Rattle.std.specs.Prelude.{◌++◌, codes, IfOk};
-ghost use Rattle.im_drill.specs.Lines.{Spells};
+ghost use Rattle.std.specs.Prelude.{◌≡◌, ◌++◌, codes, IfOk};
+ghost use Rattle.im_types.specs.declared.fault.Fault.TheVariants.{BadScript};
+ghost use Rattle.im_drill.specs.declared.line.Line.{Line};
+ghost use Rattle.im_drill.specs.Lines.{Lacks, Spells};
 
+use crate::digits::bytes_of;
 use crate::pieces::first_piece;
-use crate::stop::{bytes_of, call_of, fill_of, length_of};
+use crate::stop::{call_of, fill_of, length_of};
 use crate::{Batch, Line};
 use im_disk::Stop;
 use im_types::Fault;
 use std::alloc::Global;
 
-/// What the line says. It has no newline.
+/// What the line says. It has no newline. Refused `BadScript` exactly where the grammar has no such line; `Memory`.
+#[tactic(auto, using(crate::proofs::Spelled::word_said))]
 pub fn parse_line(alloc: Global, line: &[u8]) -> Result<Line, Fault>
-    ensures { IfOk result (λ said. Spells line.now said) }
+    ensures says { IfOk result (λ said. Spells line.now said) }
+    ensures refused { result ≡ Err BadScript → (said : Line) → ¬ (Spells line.now said) }
 {
     let (word, rest) = first_piece(line, b' ');
     let Some(rest) = rest else {
@@ -30,8 +35,12 @@ pub fn parse_line(alloc: Global, line: &[u8]) -> Result<Line, Fault>
     Err(Fault::BadScript)
 }
 
+// The line of one word.
+#[tactic(auto, using(crate::proofs::Spelled::lone_bad))]
 fn lone_word(word: &[u8]) -> Result<Line, Fault>
-    ensures { IfOk result (λ said. Spells word.now said) }
+    requires { Lacks 32 word.now }
+    ensures says { IfOk result (λ said. Spells word.now said) }
+    ensures refused { result ≡ Err BadScript → (said : Line) → ¬ (Spells word.now said) }
 {
     if word == b"raw".as_slice() {
         return Ok(Line::Raw);
@@ -42,8 +51,10 @@ fn lone_word(word: &[u8]) -> Result<Line, Fault>
     Err(Fault::BadScript)
 }
 
+#[tactic(auto, using(crate::proofs::Spelled::put_said))]
 fn put_line(alloc: Global, rest: &[u8]) -> Result<Line, Fault>
-    ensures { IfOk result (λ said. Spells (codes "put " ++ rest.now) said) }
+    ensures says { IfOk result (λ said. Spells (codes "put " ++ rest.now) said) }
+    ensures refused { result ≡ Err BadScript → (said : Line) → ¬ (Spells (codes "put " ++ rest.now) said) }
 {
     let bytes = bytes_of(alloc, rest)?;
     match Batch::new(bytes) {
@@ -52,34 +63,41 @@ fn put_line(alloc: Global, rest: &[u8]) -> Result<Line, Fault>
     }
 }
 
+#[tactic(auto, using(crate::proofs::Spelled::set_said, crate::proofs::Spelled::set_word, crate::proofs::Spelled::set_hex))]
 fn set_line(alloc: Global, rest: &[u8]) -> Result<Line, Fault>
-    ensures { IfOk result (λ said. Spells (codes "set " ++ rest.now) said) }
+    ensures says { IfOk result (λ said. Spells (codes "set " ++ rest.now) said) }
+    ensures refused { result ≡ Err BadScript → (said : Line) → ¬ (Spells (codes "set " ++ rest.now) said) }
 {
     let (word, rest) = first_piece(rest, b' ');
     let Some(rest) = rest else {
         return Err(Fault::BadScript);
     };
-    if word != b"log".as_slice() || rest.is_empty() {
+    if word != b"log".as_slice() {
+        return Err(Fault::BadScript);
+    }
+    if rest.is_empty() {
         return Err(Fault::BadScript);
     }
     Ok(Line::SetLog(bytes_of(alloc, rest)?))
 }
 
+#[tactic(auto, using(crate::proofs::Spelled::stop_one, crate::proofs::Spelled::stop_call, crate::proofs::Spelled::stop_two, crate::proofs::Spelled::stop_length, crate::proofs::Spelled::stop_fill))]
 fn stop_line(alloc: Global, rest: &[u8]) -> Result<Line, Fault>
-    ensures { IfOk result (λ said. Spells (codes "stop " ++ rest.now) said) }
+    ensures says { IfOk result (λ said. Spells (codes "stop " ++ rest.now) said) }
+    ensures refused { result ≡ Err BadScript → (said : Line) → ¬ (Spells (codes "stop " ++ rest.now) said) }
 {
     let (call, rest) = first_piece(rest, b' ');
+    let Some(rest) = rest else {
+        return Err(Fault::BadScript);
+    };
     let Some(call) = call_of(call) else {
         return Err(Fault::BadScript);
     };
-    let Some(rest) = rest else {
-        return Err(Fault::BadScript);
-    };
     let (length, rest) = first_piece(rest, b' ');
-    let Some(length) = length_of(length) else {
+    let Some(rest) = rest else {
         return Err(Fault::BadScript);
     };
-    let Some(rest) = rest else {
+    let Some(length) = length_of(length) else {
         return Err(Fault::BadScript);
     };
     let fill = fill_of(alloc, rest)?;

@@ -1,11 +1,13 @@
 //! Lives over the gate alone, on the model disk.
 
-ghost use Rattle.std.specs.Prelude.{◌≡◌, ◌++◌, ◌∷◌, [], ℕ, List, false, is_ok, if◌then◌else◌, IfOk};
+ghost use Rattle.std.specs.Prelude.{◌≡◌, ◌++◌, ◌∷◌, ◌⊎◌, [], ℕ, List, true, false, is_ok, if◌then◌else◌, IfOk};
 ghost use Rattle.im_disk.specs.Disk.{Files};
 ghost use Rattle.im_disk.specs.Runs.{IsSynced, Reads};
+ghost use Rattle.im_disk.specs.Model.{model_stopped};
 ghost use Rattle.im_gate.specs.Gate.{IsReady};
 ghost use Rattle.im_drill.specs.Lives.{StandsFor, Survives, asked_of, acked_of};
 ghost use Rattle.im_drill.specs.Living.{IsLiving};
+ghost use Rattle.im_drill.specs.Answered.{IsReply, Answered, AnsweredBehind};
 
 use crate::opening::open_batches;
 use crate::stop::copy_of;
@@ -18,7 +20,8 @@ use std::alloc::{AllocError, Global};
 /// Runs one life on the disk, and leaves the disk as it was when the stop came or the lines ended.
 ///
 /// Whatever a stop then leaves stands for the batches from before and behind them a front of those that the life asked
-/// to put, in order, with all that were acknowledged.
+/// to put, in order, with all that were acknowledged. Each line has its reply, unless the stop came before or the opening did
+/// not succeed.
 pub(crate) fn run_life(
     alloc: Global,
     disk: &mut ModelDisk,
@@ -26,7 +29,8 @@ pub(crate) fn run_life(
 ) -> Result<LifeAnswers, AllocError>
     requires working { ⟦<ModelDisk as Disk>⟧.failed disk.old ≡ false }
     requires synced { IsSynced ⟦<ModelDisk as Disk>⟧ disk.old }
-    ensures { IfOk result (λ told. (before : List (List ℕ)) → StandsFor (⟦<ModelDisk as Disk>⟧.seen disk.old) before
+    ensures answered { IfOk result (λ told. AnsweredBehind told.opening life.now.lines.items told.replies.items) }
+    ensures kept { IfOk result (λ told. (before : List (List ℕ)) → StandsFor (⟦<ModelDisk as Disk>⟧.seen disk.old) before
         → (c : Files) → ⟦<ModelDisk as Disk>⟧.may_leave disk.new c
         → (after : List (List ℕ)) × StandsFor c after × Survives before (asked_of life.now.lines.items) (acked_of life.now.lines.items told.replies.items) after) }
 {
@@ -74,7 +78,8 @@ fn run_lines(
     lines: &[RawLine],
 ) -> Result<Vec<RawReply>, AllocError>
     requires { IsReady ⟦<ModelDisk as Disk>⟧ gate.old disk.old }
-    ensures { IfOk result (λ told. (before : List (List ℕ)) → IsLiving ⟦<ModelDisk as Disk>⟧ before [] [] gate.old disk.old
+    ensures answered { IfOk result (λ told. Answered lines.now told.items) }
+    ensures kept { IfOk result (λ told. (before : List (List ℕ)) → IsLiving ⟦<ModelDisk as Disk>⟧ before [] [] gate.old disk.old
         → (c : Files) → ⟦<ModelDisk as Disk>⟧.may_leave disk.new c
         → (after : List (List ℕ)) × StandsFor c after × Survives before (asked_of lines.now) (acked_of lines.now told.items) after) }
 {
@@ -91,6 +96,8 @@ fn run_lines(
 
 fn run_line(disk: &mut ModelDisk, gate: &mut Gate, line: &RawLine) -> RawReply
     requires { IsReady ⟦<ModelDisk as Disk>⟧ gate.old disk.old }
+    ensures fits { (result ≡ RawReply.Stopped) ⊎ IsReply line.now result }
+    ensures stop { result ≡ RawReply.Stopped → model_stopped disk.new ≡ true }
     ensures ready { IsReady ⟦<ModelDisk as Disk>⟧ gate.new disk.new }
     ensures living { (before asked acked : List (List ℕ)) → IsLiving ⟦<ModelDisk as Disk>⟧ before asked acked gate.old disk.old
         → IsLiving ⟦<ModelDisk as Disk>⟧ before (asked ++ asked_of (line.now ∷ [])) (acked ++ acked_of (line.now ∷ []) (result ∷ [])) gate.new disk.new }

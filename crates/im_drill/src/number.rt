@@ -1,13 +1,13 @@
 //! Numbers as scripts write them.
 
-ghost use Rattle.std.specs.Prelude.{IfSome};
+ghost use Rattle.std.specs.Prelude.{ℕ, MatchOption};
 ghost use Rattle.im_drill.specs.Lines.{IsNumber};
 
 use std::str;
 
 /// The number that the word writes in decimal, without leading zeros; none where it writes none that fits.
 pub(crate) fn number_of(word: &[u8]) -> Option<u64>
-    ensures { IfSome result (λ n. IsNumber word.now n) }
+    ensures { MatchOption result ((n : ℕ) → ¬ (IsNumber word.now n)) (λ n. IsNumber word.now n) }
 {
     let first = *word.first()?;
     if first == b'+' || (first == b'0' && word.len() > 1) {

@@ -1,18 +1,20 @@
 //! The last line of a life.
 
-ghost use Rattle.std.specs.Prelude.{◌≡◌, IfOk, IfSome};
-ghost use Rattle.hex.specs.Hex.{decode_of};
+ghost use Rattle.std.specs.Prelude.{◌≡◌, ℕ, IfOk, MatchOption};
+ghost use Rattle.im_types.specs.declared.fault.Fault.TheVariants.{BadScript};
+ghost use Rattle.im_disk.specs.declared.stop.Fill.{Fill};
+ghost use Rattle.im_disk.specs.declared.stop.Length.{Length};
 ghost use Rattle.im_drill.specs.Lines.{IsCall, IsLengthWord, IsFillWord};
 
+use crate::digits::bytes_of;
 use crate::number::number_of;
-use hex::FromHexError;
 use im_disk::{Fill, Length, Stop};
 use im_types::Fault;
 use std::alloc::{AllocError, Global};
 
 /// The device call: a number, or `end`, which is no call's.
 pub(crate) fn call_of(word: &[u8]) -> Option<u64>
-    ensures { IfSome result (λ n. IsCall word.now n) }
+    ensures { MatchOption result ((n : ℕ) → ¬ (IsCall word.now n)) (λ n. IsCall word.now n) }
 {
     if word == b"end".as_slice() {
         return Some(0);
@@ -22,7 +24,7 @@ pub(crate) fn call_of(word: &[u8]) -> Option<u64>
 
 /// How long each file is.
 pub(crate) fn length_of(word: &[u8]) -> Option<Length>
-    ensures { IfSome result (λ size. IsLengthWord word.now size) }
+    ensures { MatchOption result ((size : Length) → ¬ (IsLengthWord word.now size)) (λ size. IsLengthWord word.now size) }
 {
     if word == b"long".as_slice() {
         return Some(Length::Long);
@@ -35,7 +37,8 @@ pub(crate) fn length_of(word: &[u8]) -> Option<Length>
 
 /// What stands at the places that were not synced: what was written, or 1 to 64 bytes, over and over.
 pub(crate) fn fill_of(alloc: Global, word: &[u8]) -> Result<Fill, Fault>
-    ensures { IfOk result (λ fill. IsFillWord word.now fill) }
+    ensures says { IfOk result (λ fill. IsFillWord word.now fill) }
+    ensures refused { result ≡ Err BadScript → (fill : Fill) → ¬ (IsFillWord word.now fill) }
 {
     if word == b"written".as_slice() {
         return Ok(Fill::Written);
@@ -45,17 +48,6 @@ pub(crate) fn fill_of(alloc: Global, word: &[u8]) -> Result<Fill, Fault>
         return Err(Fault::BadScript);
     }
     Ok(Fill::Bytes(bytes))
-}
-
-/// The bytes that the word writes in hexadecimal digits of either case.
-pub(crate) fn bytes_of(alloc: Global, word: &[u8]) -> Result<Vec<u8>, Fault>
-    ensures { IfOk result (λ bytes. decode_of word.now ≡ Ok bytes.items) }
-{
-    match hex::decode(alloc, word) {
-        Ok(bytes) => Ok(bytes),
-        Err(FromHexError::OutOfMemory) => Err(Fault::Memory),
-        Err(_) => Err(Fault::BadScript),
-    }
 }
 
 /// A stop like this one.

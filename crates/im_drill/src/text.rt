@@ -5,7 +5,7 @@ ghost use Rattle.std.specs.Prelude.{◌≤◌, IfOk};
 use crate::answers::Drilled;
 use crate::drilling::drill;
 use crate::life_answers::{LifeAnswers, Opening, RawReply};
-use crate::script::{Script, ScriptError};
+use crate::{Script, ScriptError};
 use im_types::Fault;
 use std::alloc::{AllocError, Global};
 use std::io;

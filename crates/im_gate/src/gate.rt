@@ -188,7 +188,7 @@ impl Gate {
         ensures reads { Reads D.Disk disk.old disk.new }
         ensures next { IfOk result (λ next. D.tells → MatchOption next (unread D.Disk self.old disk.old ≡ Some [])
             (λ size. unread D.Disk self.old disk.old ≡ in_front (take size buffer.new ∷ []) (unread D.Disk self.new disk.new))) }
-        ensures size { IfOk result (λ next. IfSome next (λ size. size ≤ 16384)) }
+        ensures size { IfOk result (λ next. IfSome next (λ size. (1 ≤ size) × (size ≤ 16384))) }
         ensures place { IfOk result (λ next. MatchOption next (place_of self.new ≡ place_of self.old) (λ size. place_of self.new ≡ place_of self.old + (size + 5))) }
         ensures buffer { length buffer.new ≡ length buffer.old }
         ensures end { result ≡ Ok None → IsReady D.Disk self.new disk.new }

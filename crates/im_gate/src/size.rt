@@ -19,7 +19,7 @@ pub(crate) fn batch_size<D: Disk>(
     requires { D.failed disk.old ≡ false }
     ensures reads { Reads D.Disk disk.old disk.new }
     ensures closed { result ≡ Ok None → D.tells → slice_index (D.seen disk.old file) place ≢ 1 }
-    ensures bounds { IfOk result (λ size. MatchOption size (Unit {0}) (λ n. (n ≤ 16384) × (place + 5 + n < 2 ^ 64))) }
+    ensures bounds { IfOk result (λ size. MatchOption size (Unit {0}) (λ n. (1 ≤ n) × (n ≤ 16384) × (place + 5 + n < 2 ^ 64))) }
     ensures whole { IfOk result (λ size. D.tells → MatchOption size (Unit {0}) (λ n. (slice_index (D.seen disk.old file) place ≡ 1)
         × (is_whole (drop (place + 1) (D.seen disk.old file)) ≡ true) × (batch_length (drop (place + 1) (D.seen disk.old file)) ≡ n))) }
     ensures refused { result ≡ Err NotAStore → D.tells → batches_from place (D.seen disk.old file) ≡ None }

@@ -23,3 +23,4 @@ pub mod Variants
 pub mod LifeLaws
 pub mod LogLaws
 pub mod PageLaws
+pub mod Steps

@@ -1,4 +1,4 @@
-//! The words that every layer speaks: keys, numbers, files, kinds of pages, faults.
+//! The words that every layer speaks: keys, numbers, files, kinds of pages, steps, replies, faults.
 //!
 //! A key is 1 to 255 bytes, and keys are ordered by their unsigned bytes, a front before what it begins
 //! (`IsBelow`). Contracts see a `Key` as the list of its bytes. `compare` is that order over slices, eight
@@ -16,6 +16,8 @@ mod key;
 pub mod laws;
 mod order;
 mod page_kind;
+mod reply;
+mod step;
 mod tables;
 #[cfg(test)]
 mod tests;
@@ -25,6 +27,8 @@ pub use file_id::FileId;
 pub use key::Key;
 pub use order::compare;
 pub use page_kind::PageKind;
+pub use reply::Reply;
+pub use step::Step;
 pub use tables::{ActiveTransaction, DirtyPage};
 
 /// The number that an index keeps with a key, to name a record of the store's own.

@@ -3,16 +3,19 @@ use Rattle.std.proofs.lemmas.Grind.{common_steps}
 use Rattle.std.proofs.lemmas.List.{take_more}
 use Rattle.im_disk.specs.contracts.model_disk.ModelDiskDisk.TheImpl.{ghosts}
 use Rattle.im_disk.specs.Disk.{Files, both}
-use Rattle.im_drill.specs.declared.script.RawLife.{RawLife}
+use Rattle.im_drill.specs.declared.raw_life.RawLife.{RawLife}
 use Rattle.im_drill.specs.declared.life_answers.LifeAnswers.{LifeAnswers}
 use Rattle.im_drill.specs.Lives.{StandsFor, Lives}
+use Rattle.im_drill.specs.Answered.{EachAnswered}
 use Rattle.im_drill.proofs.Acked.{lives_push}
+use Rattle.im_drill.proofs.Replied.{each_push}
 use Rattle.im_drill.proofs.drilling.drill.Goals as goal
 
 pub loop-life-init : goal.loop-life-init
 loop-life-init c = record {
   working = c.new-disk.ensures.working;
   synced = c.new-disk.ensures.synced;
+  answered = subst (λ (l : List LifeAnswers). EachAnswered [] l) (sym c.new-lives.ensures.items) tt;
   kept = λ before stands.
       let log = c.in_ok-log.ensures.items ∙ c.deref.ensures.value in
       let seen = c.new-disk.ensures.seen ∙ ap (λ (l : List ℕ). both l c.new.result.items) log ∙ ap (λ (l : List ℕ). both c.args.script.now.log.items l) c.new.ensures.items in
@@ -23,9 +26,18 @@ pub loop-life-preserved : goal.loop-life-preserved
 loop-life-preserved c = record {
   working = c.in-Ok.ensures.working;
   synced = c.in-Ok.ensures.synced;
+  answered =
+      let within : c.loop-life.life-index < length c.args.script.now.lives.items = subst (λ (l : List RawLife). c.loop-life.life-index < length l) c.deref-life-items.ensures.value c.loop-life-test.true in
+      let is : c.life-item.result ≡ get_or c.args.script.now.lives.items c.loop-life.life-index c.life-item.result =
+      subst (λ (l : List RawLife). c.life-item.result ≡ get_or l c.loop-life.life-index c.life-item.result) c.deref-life-items.ensures.value c.life-item.is in
+      let more : take (c.loop-life.life-index + 1) c.args.script.now.lives.items ≡ take c.loop-life.life-index c.args.script.now.lives.items ++ c.life-item.result ∷ [] =
+      take_more c.args.script.now.lives.items c.loop-life.life-index c.life-item.result within ∙ ap (λ (l : RawLife). take c.loop-life.life-index c.args.script.now.lives.items ++ l ∷ []) (sym is) in
+      subst (λ (l : List RawLife). EachAnswered l c.push.new.self.items) (sym more)
+      (subst (λ (l : List LifeAnswers). EachAnswered (take c.loop-life.life-index c.args.script.now.lives.items ++ c.life-item.result ∷ []) l) (sym c.in_ok-push.ensures.items)
+      (each_push (take c.loop-life.life-index c.args.script.now.lives.items) c.loop-life.lives.items c.life-item.result c.in_ok-told.told c.loop-life.invariant.answered c.in_ok-told.ensures.answered));
   kept = λ before stands.
       let k = c.loop-life.invariant.kept before stands in
-      let s = c.in_ok-told.ensures k.0 k.1 (ghosts.seen c.in-Ok.left) c.in-Ok.ensures.left in
+      let s = c.in_ok-told.ensures.kept k.0 k.1 (ghosts.seen c.in-Ok.left) c.in-Ok.ensures.left in
       let within : c.loop-life.life-index < length c.args.script.now.lives.items = subst (λ (l : List RawLife). c.loop-life.life-index < length l) c.deref-life-items.ensures.value c.loop-life-test.true in
       let is : c.life-item.result ≡ get_or c.args.script.now.lives.items c.loop-life.life-index c.life-item.result =
       subst (λ (l : List RawLife). c.life-item.result ≡ get_or l c.loop-life.life-index c.life-item.result) c.deref-life-items.ensures.value c.life-item.is in
@@ -39,8 +51,13 @@ loop-life-preserved c = record {
       );
 }
 
-pub returns : goal.returns
-returns c before stands =
+pub returns-clause-kept : goal.returns-clause-kept
+returns-clause-kept c before stands =
     let k = c.loop-life.invariant.kept before stands in
     let all : take c.loop-life.life-index c.args.script.now.lives.items ≡ c.args.script.now.lives.items = grind (arith, common_steps) in
     (k.0, subst (λ (l : List RawLife). Lives l c.loop-life.lives.items before k.0) all k.2, c.last_batches-last.ensures tt k.0 k.1)
+
+pub returns-clause-answered : goal.returns-clause-answered
+returns-clause-answered c =
+    let all : take c.loop-life.life-index c.args.script.now.lives.items ≡ c.args.script.now.lives.items = grind (arith, common_steps) in
+    subst (λ (l : List RawLife). EachAnswered l c.loop-life.lives.items) all c.loop-life.invariant.answered

@@ -1,7 +1,7 @@
 use Rattle.std.proofs.Common.{◌≡◌, List, ℕ, [], map, sym, subst}
 use Rattle.im_disk.specs.contracts.model_disk.ModelDiskDisk.TheImpl.{ghosts}
 use Rattle.im_disk.specs.Disk.{Files}
-use Rattle.im_drill.specs.declared.script.RawLine.{RawLine}
+use Rattle.im_drill.specs.declared.raw_line.RawLine.{RawLine}
 use Rattle.im_drill.specs.declared.life_answers.RawReply.{RawReply}
 use Rattle.im_drill.specs.Lives.{StandsFor, Survives, asked_of, acked_of}
 use Rattle.im_drill.specs.Living.{IsLiving}
@@ -9,16 +9,16 @@ use Rattle.im_drill.proofs.Stands.{stands_once, survives_none}
 use Rattle.im_drill.proofs.Acked.{acked-none}
 use Rattle.im_drill.proofs.lives.run_life.Goals as goal
 
-pub returns-in_ok-replies-in-Ok : goal.returns-in_ok-replies-in-Ok
-returns-in_ok-replies-in-Ok c before stands files left =
+pub returns-in_ok-replies-in-Ok-clause-kept : goal.returns-in_ok-replies-in-Ok-clause-kept
+returns-in_ok-replies-in-Ok-clause-kept c before stands files left =
     let found : List (List ℕ) = map (λ batch. batch.items) c.in-Ok._before.items in
     let now : StandsFor (ghosts.seen c.arm.new.disk) before = subst (λ (s : Files). StandsFor s before) (sym c.in_ok-arm.ensures.reads.seen) stands in
     let same : found ≡ before = stands_once (ghosts.seen c.arm.new.disk) found before (c.in-Ok.ensures.found tt) now in
-    let s = c.in_ok-replies-in-Ok.ensures before (subst (λ (l : List (List ℕ)). IsLiving ghosts l [] [] c.in-Ok.gate c.open_batches.new.disk) same c.in-Ok.ensures.living) files left in
+    let s = c.in_ok-replies-in-Ok.ensures.kept before (subst (λ (l : List (List ℕ)). IsLiving ghosts l [] [] c.in-Ok.gate c.open_batches.new.disk) same c.in-Ok.ensures.living) files left in
     (s.0, s.1, subst (λ (l : List RawLine). Survives before (asked_of l) (acked_of l c.in_ok-replies-in-Ok.replies.items) s.0) c.deref.ensures.value s.2)
 
-pub returns-after-stopped : goal.returns-after-stopped
-returns-after-stopped c before stands files left =
+pub returns-after-stopped-clause-kept : goal.returns-after-stopped-clause-kept
+returns-after-stopped-clause-kept c before stands files left =
     let now : StandsFor (ghosts.seen c.arm.new.disk) before = subst (λ (s : Files). StandsFor s before) (sym c.in_ok-arm.ensures.reads.seen) stands in (
       before,
       c.open_batches.ensures.leaves tt before now files left,

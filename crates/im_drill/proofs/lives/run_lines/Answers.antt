@@ -1,14 +1,28 @@
-use Rattle.std.proofs.Common.{◌≡◌, List, ℕ, ◌+◌, [], ◌∷◌, length, take, sym, ◌∙◌, ap, subst, arith, length-append}
+use Rattle.std.proofs.lemmas.Grind.{common_steps}
+use Rattle.std.proofs.lemmas.List.{take_more}
+use Rattle.std.proofs.Common.{inl, inr, ◌≡◌, List, ℕ, ◌+◌, [], ◌∷◌, ◌++◌, length, take, sym, ◌∙◌, ap, subst, arith, length-append}
 use Rattle.im_disk.specs.contracts.model_disk.ModelDiskDisk.TheImpl.{ghosts}
 use Rattle.im_drill.specs.declared.life_answers.RawReply.{RawReply}
 use Rattle.im_drill.specs.Lives.{asked_of, acked_of}
 use Rattle.im_drill.specs.Living.{IsLiving}
+use Rattle.im_drill.specs.declared.raw_line.RawLine.{RawLine}
+use Rattle.im_drill.specs.declared.life_answers.RawReply.TheVariants as replies
+use Rattle.im_drill.specs.Answered.{IsReply, Replied}
+use Rattle.im_drill.proofs.Replied.{replied_push}
 use Rattle.im_drill.proofs.Acked.{one_more_line, whole_life}
 use Rattle.im_drill.proofs.lives.run_lines.Goals as goal
 
 pub loop-line-preserved : goal.loop-line-preserved
 loop-line-preserved c = record {
   ready = c.run_line-reply.ensures.ready;
+  replied =
+      let some : ¬ (c.run_line-reply.result ≡ replies.Stopped) = grind (arith, common_steps) in
+      let fits : IsReply c.line-item.result c.run_line-reply.result = elim c.run_line-reply.ensures.fits [ inl e ↦ absurd (some e) | inr is ↦ is ] in
+      let more : take (c.loop-line.line-index + 1) c.args.lines.now ≡ take c.loop-line.line-index c.args.lines.now ++ c.line-item.result ∷ [] =
+      take_more c.args.lines.now c.loop-line.line-index c.line-item.result c.loop-line-test.true ∙ ap (λ (l : RawLine). take c.loop-line.line-index c.args.lines.now ++ l ∷ []) (sym c.line-item.is) in
+      subst (λ (l : List RawLine). Replied l c.push.new.self.items) (sym more)
+      (subst (λ (l : List RawReply). Replied (take c.loop-line.line-index c.args.lines.now ++ c.line-item.result ∷ []) l) (sym c.in_ok-push.ensures.items)
+      (replied_push (take c.loop-line.line-index c.args.lines.now) c.loop-line.replies.items c.line-item.result c.run_line-reply.result c.loop-line.invariant.replied fits));
   count = ap length c.in_ok-push.ensures.items ∙ length-append c.loop-line.replies.items (c.run_line-reply.result ∷ []) ∙ ap (λ (n : ℕ). n + 1) c.loop-line.invariant.count;
   living = λ before living.
       subst (λ (l : List RawReply). IsLiving ghosts before (asked_of (take (c.loop-line.line-index + 1) c.args.lines.now)) (acked_of (take (c.loop-line.line-index + 1) c.args.lines.now) l) c.run_line-reply.new.gate c.run_line-reply.new.disk) (sym c.in_ok-push.ensures.items)
@@ -16,8 +30,8 @@ loop-line-preserved c = record {
       (c.run_line-reply.ensures.living before (asked_of (take c.loop-line.line-index c.args.lines.now)) (acked_of (take c.loop-line.line-index c.args.lines.now) c.loop-line.replies.items) (c.loop-line.invariant.living before living)));
 }
 
-pub returns-then-eq : goal.returns-then-eq
-returns-then-eq c before living files left =
+pub returns-then-eq-clause-kept : goal.returns-then-eq-clause-kept
+returns-then-eq-clause-kept c before living files left =
     let count : length c.push.new.self.items ≡ c.loop-line.line-index + 1 = ap length c.in_ok-push.ensures.items ∙ length-append c.loop-line.replies.items (c.run_line-reply.result ∷ []) ∙ ap (λ (n : ℕ). n + 1) c.loop-line.invariant.count in
     let now : IsLiving ghosts before (asked_of (take (c.loop-line.line-index + 1) c.args.lines.now)) (acked_of (take (c.loop-line.line-index + 1) c.args.lines.now) c.push.new.self.items) c.run_line-reply.new.gate c.run_line-reply.new.disk =
     subst (λ (l : List RawReply). IsLiving ghosts before (asked_of (take (c.loop-line.line-index + 1) c.args.lines.now)) (acked_of (take (c.loop-line.line-index + 1) c.args.lines.now) l) c.run_line-reply.new.gate c.run_line-reply.new.disk) (sym c.in_ok-push.ensures.items)
@@ -25,3 +39,14 @@ returns-then-eq c before living files left =
     (c.run_line-reply.ensures.living before (asked_of (take c.loop-line.line-index c.args.lines.now)) (acked_of (take c.loop-line.line-index c.args.lines.now) c.loop-line.replies.items) (c.loop-line.invariant.living before living))) in
     let s = now.leaves tt files left in
     (s.0, s.1, whole_life c.args.lines.now c.push.new.self.items (c.loop-line.line-index + 1) count (omega arith) before s.0 s.2)
+
+pub returns-then-eq-clause-answered : goal.returns-then-eq-clause-answered
+returns-then-eq-clause-answered c =
+    let stopped : c.run_line-reply.result ≡ replies.Stopped = grind (arith, common_steps) in
+    inr (record {
+      line = c.loop-line.line-index;
+      front = c.loop-line.replies.items;
+      within = c.loop-line-test.true;
+      replied = c.loop-line.invariant.replied;
+      is = c.in_ok-push.ensures.items ∙ ap (λ (reply : RawReply). c.loop-line.replies.items ++ reply ∷ []) stopped;
+    })

@@ -1,13 +1,15 @@
-use Rattle.std.proofs.Common.{◌≤◌, ◌+◌, ℕ, suc, List, Option, Some, None, Bor, length}
+use Rattle.std.proofs.Common.{◌≤◌, ◌+◌, suc, length}
+use Rattle.im_drill.specs.Scripts.{lines_of}
+use Rattle.im_drill.proofs.Lines.{lines_left, left_of}
+use Rattle.im_drill.proofs.Passed.{Passed}
 use Rattle.im_drill.proofs.script.Script.parse.Given as goal
 
--- the lines that are left, at most
-abbrev left_of : Option (Bor (List ℕ)) → ℕ
-left_of None = 0
-left_of (Some text) = suc (length text.now)
-
+-- the lines that were passed, and those that are left
 abbrev pub invariant-loop-left : goal.invariant-loop-left
-invariant-loop-left l = l.number + left_of l.left ≤ suc (length l.fn.text)
+invariant-loop-left l = record {
+  count : l.number + left_of l.left ≤ suc (length l.fn.text);
+  passed : Passed (lines_of l.fn.text) l.number (lines_left l.left) l.reading;
+}
 
 abbrev pub decreases-loop-left : goal.decreases-loop-left
 decreases-loop-left l = left_of l.left

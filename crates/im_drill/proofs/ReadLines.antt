@@ -1,0 +1,159 @@
+-- A script that is read line by line.
+use Rattle.std.proofs.Common.{◌≡◌, ℕ, List, [], ◌∷◌, ◌++◌, map, Option, Some, None, Vec, Global, refl, sym, ◌∙◌, ap, subst, append_assoc}
+use Rattle.std.proofs.lemmas.List.{append-nil, map-append}
+use Rattle.im_disk.specs.declared.stop.Stop.{Stop}
+use Rattle.im_drill.specs.declared.line.Line.{Line}
+use Rattle.im_drill.specs.declared.line.Line.TheVariants as lines
+use Rattle.im_drill.specs.declared.raw_line.RawLine.{RawLine}
+use Rattle.im_drill.specs.declared.raw_line.RawLine.TheVariants as raws
+use Rattle.im_drill.specs.declared.raw_life.RawLife.{RawLife}
+use Rattle.im_drill.specs.declared.script.Script.{Script}
+use Rattle.im_drill.specs.Scripts.{Kind, SetsLog, Stops, Place, Before, Within, Behind, kind_of, MayFollow, MayStand, place_behind, place_after, line_of, stop_lines, lines_of_lives, last_set, IsScriptOf}
+use Rattle.im_drill.specs.Reading.{lines_of_open, place_of, IsRead}
+
+stand_push : (p : Place) (ks : List Kind) (k : Kind) → MayStand p ks → MayFollow k (place_after p ks) → MayStand p (ks ++ k ∷ [])
+stand_push p [] k s f = (f, tt)
+stand_push p (j ∷ ks) k s f = (s.0, stand_push (place_behind j p) ks k s.1 f)
+
+pub stand_last : (p : Place) (ks : List Kind) (k : Kind) → MayStand p (ks ++ k ∷ []) → MayFollow k (place_after p ks)
+stand_last p [] k s = s.0
+stand_last p (j ∷ ks) k s = stand_last (place_behind j p) ks k s.1
+
+place_push : (p : Place) (ks : List Kind) (k : Kind) → place_after p (ks ++ k ∷ []) ≡ place_behind k (place_after p ks)
+place_push p [] k = refl
+place_push p (j ∷ ks) k = place_push (place_behind j p) ks k
+
+kinds_push : (said : List Line) (l : Line) → map kind_of (said ++ l ∷ []) ≡ map kind_of said ++ kind_of l ∷ []
+kinds_push said l = map-append kind_of said (l ∷ [])
+
+sets_push : (sets : List (Vec ℕ Global)) (bytes : Vec ℕ Global) → last_set (sets ++ bytes ∷ []) ≡ bytes.items
+sets_push [] bytes = refl
+sets_push (a ∷ []) bytes = refl
+sets_push (a ∷ b ∷ sets) bytes = sets_push (b ∷ sets) bytes
+
+module _ (log : List ℕ) (lives : List RawLife) (life : Option (Vec RawLine Global)) (said : List Line) (r : IsRead log lives life said) where
+  -- one line more, of which it is known what it makes
+  push_read : (log' : List ℕ) (lives' : List RawLife) (life' : Option (Vec RawLine Global)) (l : Line) (sets' : List (Vec ℕ Global)) → said ++ l ∷ [] ≡ map lines.SetLog sets' ++ (lines_of_lives lives' ++ lines_of_open life') → log' ≡ last_set sets'
+      → MayFollow (kind_of l) (place_of lives life) → place_behind (kind_of l) (place_of lives life) ≡ place_of lives' life' → IsRead log' lives' life' (said ++ l ∷ [])
+  push_read log' lives' life' l sets' is last may next = record {
+    sets = sets';
+    is = is;
+    log_is = last;
+    stand = subst (λ (ks : List Kind). MayStand Before ks) (sym (kinds_push said l)) (stand_push Before (map kind_of said) (kind_of l) r.stand (subst (λ (p : Place). MayFollow (kind_of l) p) (sym r.place) may));
+    place = ap (λ (ks : List Kind). place_after Before ks) (kinds_push said l) ∙ place_push Before (map kind_of said) (kind_of l) ∙ ap (λ (p : Place). place_behind (kind_of l) p) r.place ∙ next;
+  }
+
+  more_read : (lives' : List RawLife) (life' : Option (Vec RawLine Global)) (l : Line) → lines_of_lives lives' ++ lines_of_open life' ≡ (lines_of_lives lives ++ lines_of_open life) ++ l ∷ []
+      → MayFollow (kind_of l) (place_of lives life) → place_behind (kind_of l) (place_of lives life) ≡ place_of lives' life' → IsRead log lives' life' (said ++ l ∷ [])
+  more_read lives' life' l same may next =
+      push_read log lives' life' l r.sets
+      (ap (λ (x : List Line). x ++ l ∷ []) r.is ∙ append_assoc (map lines.SetLog r.sets) (lines_of_lives lives ++ lines_of_open life) (l ∷ []) ∙ ap (λ (x : List Line). map lines.SetLog r.sets ++ x) (sym same)) r.log_is may next
+
+-- a line that sets the log file
+pub set_read : (log : List ℕ) (lives : List RawLife) (life : Option (Vec RawLine Global)) (said : List Line) (bytes : Vec ℕ Global) → IsRead log lives life said → lives ≡ [] → life ≡ None → IsRead bytes.items lives life (said ++ lines.SetLog bytes ∷ [])
+set_read log [] None said bytes r none closed =
+    push_read log [] None said r bytes.items [] None (lines.SetLog bytes) (r.sets ++ bytes ∷ [])
+    (ap (λ (x : List Line). x ++ lines.SetLog bytes ∷ []) (r.is ∙ append-nil (map lines.SetLog r.sets)) ∙ sym (map-append lines.SetLog r.sets (bytes ∷ [])) ∙ sym (append-nil (map lines.SetLog (r.sets ++ bytes ∷ []))))
+    (sym (sets_push r.sets bytes)) tt refl
+set_read log [] (Some v) said bytes r none closed = absurd (cc)
+set_read log (one ∷ lives) None said bytes r none closed = absurd (cc)
+set_read log (one ∷ lives) (Some v) said bytes r none closed = absurd (cc)
+
+lives_more : (lives : List RawLife) (life : RawLife) → lines_of_lives (lives ++ life ∷ []) ≡ lines_of_lives lives ++ (lines.Raw ∷ (map line_of life.lines.items ++ stop_lines life.stop))
+lives_more [] life = append-nil (lines.Raw ∷ (map line_of life.lines.items ++ stop_lines life.stop))
+lives_more (one ∷ lives) life =
+    ap (λ (x : List Line). (lines.Raw ∷ (map line_of one.lines.items ++ stop_lines one.stop)) ++ x) (lives_more lives life)
+    ∙ sym (append_assoc (lines.Raw ∷ (map line_of one.lines.items ++ stop_lines one.stop)) (lines_of_lives lives) (lines.Raw ∷ (map line_of life.lines.items ++ stop_lines life.stop)))
+
+behind_life : (lives : List RawLife) (life : RawLife) → Behind ≡ place_of (lives ++ life ∷ []) None
+behind_life [] life = refl
+behind_life (one ∷ lives) life = refl
+
+-- a life that ends without a stop
+closed : (lives : List RawLife) (old : Vec RawLine Global) → lines_of_lives (lives ++ record { lines = old; stop = None } ∷ []) ≡ lines_of_lives lives ++ (lines.Raw ∷ map line_of old.items)
+closed lives old = lives_more lives (record { lines = old; stop = None }) ∙ ap (λ (x : List Line). lines_of_lives lives ++ (lines.Raw ∷ x)) (append-nil (map line_of old.items))
+
+-- a `raw` line
+pub begin_read : (log : List ℕ) (lives : List RawLife) (said : List Line) (v : Vec RawLine Global) → IsRead log lives None said → v.items ≡ [] → IsRead log lives (Some v) (said ++ lines.Raw ∷ [])
+begin_read log lives said v r empty =
+    more_read log lives None said r lives (Some v) lines.Raw
+    (ap (λ (x : List RawLine). lines_of_lives lives ++ (lines.Raw ∷ map line_of x)) empty ∙ ap (λ (x : List Line). x ++ lines.Raw ∷ []) (sym (append-nil (lines_of_lives lives)))) tt refl
+
+pub begin_more : (log : List ℕ) (lives : List RawLife) (old v : Vec RawLine Global) (said : List Line) (lives' : List RawLife) → IsRead log lives (Some old) said → lives' ≡ lives ++ record { lines = old; stop = None } ∷ [] → v.items ≡ []
+    → IsRead log lives' (Some v) (said ++ lines.Raw ∷ [])
+begin_more log lives old v said lives' r is empty =
+    more_read log lives (Some old) said r lives' (Some v) lines.Raw
+    (ap (λ (x : List RawLine). lines_of_lives lives' ++ (lines.Raw ∷ map line_of x)) empty ∙ ap (λ (x : List RawLife). lines_of_lives x ++ lines.Raw ∷ []) is ∙ ap (λ (x : List Line). x ++ lines.Raw ∷ []) (closed lives old)) tt refl
+
+may_within : (line : RawLine) → MayFollow (kind_of (line_of line)) Within
+may_within (raws.Put batch) = tt
+may_within raws.Calls = tt
+
+still_within : (line : RawLine) → place_behind (kind_of (line_of line)) Within ≡ Within
+still_within (raws.Put batch) = refl
+still_within raws.Calls = refl
+
+-- a line of a life
+pub add_read : (log : List ℕ) (lives : List RawLife) (old v : Vec RawLine Global) (said : List Line) (line : RawLine) → IsRead log lives (Some old) said → v.items ≡ old.items ++ line ∷ [] → IsRead log lives (Some v) (said ++ line_of line ∷ [])
+add_read log lives old v said line r is =
+    more_read log lives (Some old) said r lives (Some v) (line_of line)
+    (ap (λ (x : List RawLine). lines_of_lives lives ++ (lines.Raw ∷ map line_of x)) is ∙ ap (λ (x : List Line). lines_of_lives lives ++ (lines.Raw ∷ x)) (map-append line_of old.items (line ∷ []))
+    ∙ sym (append_assoc (lines_of_lives lives) (lines.Raw ∷ map line_of old.items) (line_of line ∷ [])))
+    (may_within line) (still_within line)
+
+-- a stop
+pub stop_read : (log : List ℕ) (lives : List RawLife) (old : Vec RawLine Global) (said : List Line) (stop : Stop) (lives' : List RawLife) → IsRead log lives (Some old) said → lives' ≡ lives ++ record { lines = old; stop = Some stop } ∷ []
+    → IsRead log lives' None (said ++ lines.Stop stop ∷ [])
+stop_read log lives old said stop lives' r is =
+    let life : RawLife = record { lines = old; stop = Some stop } in
+    more_read log lives (Some old) said r lives' None (lines.Stop stop)
+    (append-nil (lines_of_lives lives') ∙ ap lines_of_lives is ∙ lives_more lives life ∙ sym (append_assoc (lines_of_lives lives) (lines.Raw ∷ map line_of old.items) (lines.Stop stop ∷ [])))
+    tt (behind_life lives life ∙ ap (λ (x : List RawLife). place_of x None) (sym is))
+
+-- what was read is a script
+pub end_read : (script : Script) (said : List Line) → IsRead script.log.items script.lives.items None said → IsScriptOf script said × MayStand Before (map kind_of said)
+end_read script said r = (
+  record {
+    sets = r.sets;
+    is = r.is ∙ ap (λ (x : List Line). map lines.SetLog r.sets ++ x) (append-nil (lines_of_lives script.lives.items));
+    log = r.log_is;
+  },
+  r.stand,
+)
+
+pub end_more : (script : Script) (log : List ℕ) (lives : List RawLife) (old : Vec RawLine Global) (said : List Line) → script.log.items ≡ log → script.lives.items ≡ lives ++ record { lines = old; stop = None } ∷ [] → IsRead log lives (Some old) said
+    → IsScriptOf script said × MayStand Before (map kind_of said)
+end_more script log lives old said same is r = (
+  record {
+    sets = r.sets;
+    is = r.is ∙ ap (λ (x : List Line). map lines.SetLog r.sets ++ x) (sym (closed lives old) ∙ ap lines_of_lives (sym is));
+    log = same ∙ r.log_is;
+  },
+  r.stand,
+)
+
+-- where a line may not stand
+set_place : (lives : List RawLife) (life : Option (Vec RawLine Global)) → MayFollow SetsLog (place_of lives life) → (lives ≡ []) × (life ≡ None)
+set_place [] None may = (refl, refl)
+set_place [] (Some v) may = absurd may
+set_place (one ∷ lives) None may = absurd may
+set_place (one ∷ lives) (Some v) may = absurd may
+
+pub set_refused : (log : List ℕ) (lives : List RawLife) (life : Option (Vec RawLine Global)) (said : List Line) → IsRead log lives life said → MayFollow SetsLog (place_after Before (map kind_of said)) → (lives ≡ []) × (life ≡ None)
+set_refused log lives life said r may = set_place lives life (subst (λ (p : Place). MayFollow SetsLog p) r.place may)
+
+none_place : (lives : List RawLife) (line : RawLine) → MayFollow (kind_of (line_of line)) (place_of lives None) → ⊥
+none_place [] (raws.Put batch) may = may
+none_place [] raws.Calls may = may
+none_place (one ∷ lives) (raws.Put batch) may = may
+none_place (one ∷ lives) raws.Calls may = may
+
+pub add_refused : (log : List ℕ) (lives : List RawLife) (said : List Line) (line : RawLine) → IsRead log lives None said → MayFollow (kind_of (line_of line)) (place_after Before (map kind_of said)) → ⊥
+add_refused log lives said line r may = none_place lives line (subst (λ (p : Place). MayFollow (kind_of (line_of line)) p) r.place may)
+
+stop_place : (lives : List RawLife) → MayFollow Stops (place_of lives None) → ⊥
+stop_place [] may = may
+stop_place (one ∷ lives) may = may
+
+pub stop_refused : (log : List ℕ) (lives : List RawLife) (said : List Line) → IsRead log lives None said → MayFollow Stops (place_after Before (map kind_of said)) → ⊥
+stop_refused log lives said r may = stop_place lives (subst (λ (p : Place). MayFollow Stops p) r.place may)

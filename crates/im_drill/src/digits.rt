@@ -1,0 +1,21 @@
+//! Bytes as scripts write them.
+
+ghost use Rattle.std.specs.Prelude.{◌≡◌, ◌≢◌, ℕ, List, IfOk};
+ghost use Rattle.hex.specs.Hex.{decode_of};
+ghost use Rattle.im_types.specs.declared.fault.Fault.TheVariants.{BadScript};
+
+use hex::FromHexError;
+use im_types::Fault;
+use std::alloc::Global;
+
+/// The bytes that the word writes in hexadecimal digits of either case.
+pub(crate) fn bytes_of(alloc: Global, word: &[u8]) -> Result<Vec<u8>, Fault>
+    ensures says { IfOk result (λ bytes. decode_of word.now ≡ Ok bytes.items) }
+    ensures refused { result ≡ Err BadScript → (bytes : List ℕ) → decode_of word.now ≢ Ok bytes }
+{
+    match hex::decode(alloc, word) {
+        Ok(bytes) => Ok(bytes),
+        Err(FromHexError::OutOfMemory) => Err(Fault::Memory),
+        Err(_) => Err(Fault::BadScript),
+    }
+}

@@ -1,0 +1,10 @@
+pub mod Shown
+pub mod Running
+pub mod Pages
+pub mod Steps
+pub mod Keys
+pub mod Commits
+pub mod Ends
+pub mod Openings
+pub mod Lists
+pub mod Tells

@@ -1,0 +1,39 @@
+-- What steps and replies show.
+use Rattle.std.proofs.Common.{◌≡◌, ◌≢◌, ℕ, List, [], ◌∷◌, ◌++◌, Bool, true, false, refl, sym, ap, ◌∙◌, append-nil, append_assoc}
+use Rattle.std.specs.Prelude.{◌||◌, Option, None, Some, is_some}
+use Rattle.im_types.specs.Changes.{Effect}
+use Rattle.im_types.specs.Lives.{Asked, Shown, Running, Survives, effects}
+
+-- what is shown is the same where its parts are
+pub same_shown : (s : Shown) (failed : Bool) (running : ℕ → Running) (asked : List Asked) → failed ≡ s.failed → ((u : ℕ) → running u ≡ s.running u) → asked ≡ s.asked
+    → record { failed = failed; running = running; asked = asked } ≡ s
+same_shown s failed running asked f r a = λ j. record { failed = f j; running = λ u. r u j; asked = a j }
+
+-- a refusal of a failed engine
+pub still_failed : (s : Shown) → s.failed ≡ true → record s { failed = s.failed || true } ≡ s
+still_failed s h = ap (λ (b : Bool). record s { failed = b }) (ap (λ (b : Bool). b || true) h ∙ sym h)
+
+-- a refusal after which the engine works
+pub still_working : (s : Shown) → s.failed ≡ false → record s { failed = s.failed || false } ≡ s
+still_working s h = ap (λ (b : Bool). record s { failed = b }) (ap (λ (b : Bool). b || false) h ∙ sym h)
+
+-- the effects asked, with one more
+pub effects_more : (asked : List Asked) (x : Asked) → effects (asked ++ x ∷ []) ≡ effects asked ++ x.effect ∷ []
+effects_more [] x = refl
+effects_more (a ∷ more) x = ap (λ (l : List Effect). a.effect ∷ l) (effects_more more x)
+
+-- a life that keeps all that was asked
+pub keeps_all : (before : List Effect) (asked : List Asked) → Survives before asked (before ++ effects asked)
+keeps_all before asked = record { kept = asked; lost = []; all = append-nil asked; no_ack_lost = tt; is = refl }
+
+-- and one that loses the last, which was not acknowledged
+pub loses_last : (before : List Effect) (asked : List Asked) (x : Asked) → x.acked ≡ false → Survives before (asked ++ x ∷ []) (before ++ effects asked)
+loses_last before asked x h = record { kept = asked; lost = x ∷ []; all = refl; no_ack_lost = (h, tt); is = refl }
+
+-- where an option has nothing
+pub none_of : {A : Type 0} (o : Option A) → is_some o ≡ false → o ≡ None
+none_of None h = refl
+none_of (Some x) h = cc
+
+pub some_inj : {A : Type 0} (other a b : A) → Some a ≡ Some b → a ≡ b
+some_inj other a b h = ap (λ (o : Option _). elim o as (λ _. _) [ None ↦ other | Some x ↦ x ]) h

@@ -1,0 +1,5 @@
+pub mod Stands
+pub mod Running
+pub mod Kept
+pub mod Changes
+pub mod Answers

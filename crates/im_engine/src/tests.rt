@@ -1,0 +1,141 @@
+//! Lives of a store on the model disk.
+ghost use Rattle.std.specs.Prelude.{◌≡◌, false};
+ghost use Rattle.im_disk.specs.Runs.{IsSynced};
+
+use crate::{Config, Engine};
+use im_disk::{Disk, Fill, Length, ModelDisk, Stop};
+use im_types::{Fault, FileId, Reply, Step};
+use std::alloc::Global;
+use std::test::Fail;
+
+fn key_of(alloc: Global, byte: u8) -> Result<Vec<u8>, Fault> {
+    let mut key = Vec::new(alloc);
+    key.push(byte).map_err(|_| Fault::Memory)?;
+    Ok(key)
+}
+
+// Begin, an insert and a Commit.
+fn one_insert(alloc: Global, byte: u8, rid: u64) -> Result<Vec<Step>, Fault> {
+    let mut steps = Vec::new(alloc);
+    let key = key_of(alloc, byte)?;
+    steps.push(Step::Begin).map_err(|_| Fault::Memory)?;
+    steps
+        .push(Step::Insert(1, key, rid))
+        .map_err(|_| Fault::Memory)?;
+    steps.push(Step::Commit(1)).map_err(|_| Fault::Memory)?;
+    Ok(steps)
+}
+
+fn stop_at(alloc: Global, call: u64, fill: u8) -> Result<Stop, Fault> {
+    Ok(Stop {
+        call,
+        length: Length::Long,
+        fill: Fill::Bytes(key_of(alloc, fill)?),
+    })
+}
+
+// The first byte of the one key, and its row id; zeros where there are no entries.
+fn found<D: Disk>(alloc: Global, engine: &Engine<D>) -> Result<(usize, u8, u64), Fault> {
+    let entries = engine.entries(alloc)?;
+    match entries.get(0) {
+        None => Ok((entries.len(), 0, 0)),
+        Some(entry) => Ok((entries.len(), entry.0.bytes()[0], entry.1)),
+    }
+}
+
+// A life of these steps that is stopped, and what the next opening finds.
+fn after_stop(alloc: Global, call: u64, fill: u8) -> Result<(usize, u8, u64), Fault> {
+    let mut disk = ModelDisk::new(Vec::new(alloc), Vec::new(alloc));
+    disk.arm(stop_at(alloc, call, fill)?);
+    let steps = one_insert(alloc, b'a', 7)?;
+    let mut engine = Engine::open_or_create(alloc, disk, Config::default()).map_err(|x| x.0)?;
+    let _ = engine.life(alloc, &steps)?;
+    let left = engine.disk().after_stop(alloc)?;
+    let next = Engine::open_or_create(alloc, left, Config::default()).map_err(|x| x.0)?;
+    found(alloc, &next)
+}
+
+#[test]
+fn one_insert_is_committed(rt: HostRuntime) -> Result<(), Fail> {
+    let alloc = rt.alloc();
+    let disk = ModelDisk::new(Vec::new(alloc), Vec::new(alloc));
+    let steps = one_insert(alloc, b'a', 7)?;
+    let mut engine = Engine::open_or_create(alloc, disk, Config::default()).map_err(|x| x.0)?;
+    assert_eq!(rt; engine.disk().calls(), 6);
+    let replies = engine.life(alloc, &steps)?;
+    assert_eq!(rt;
+        replies.as_slice(),
+        [Reply::Started(1), Reply::Inserted, Reply::Committed].as_slice()
+    );
+    assert_eq!(rt; found(alloc, &engine)?, (1, b'a', 7));
+    assert_eq!(rt; engine.active(), 0);
+    let disk = engine.into_disk();
+    assert_eq!(rt; disk.calls(), 10);
+    assert_eq!(rt; disk.end(FileId::Log), 113);
+    Ok(())
+}
+
+#[test]
+fn a_torn_gate_is_open_or_closed(rt: HostRuntime) -> Result<(), Fail> {
+    let alloc = rt.alloc();
+    assert_eq!(rt; after_stop(alloc, 9, 0x01)?, (1, b'a', 7));
+    assert_eq!(rt; after_stop(alloc, 9, 0x4D)?, (0, 0, 0));
+    Ok(())
+}
+
+#[test]
+fn a_torn_batch_is_overwritten(rt: HostRuntime) -> Result<(), Fail> {
+    let alloc = rt.alloc();
+    let mut disk = ModelDisk::new(Vec::new(alloc), Vec::new(alloc));
+    disk.arm(stop_at(alloc, 7, 0xFF)?);
+    let steps = one_insert(alloc, b'a', 7)?;
+    let mut engine = Engine::open_or_create(alloc, disk, Config::default()).map_err(|x| x.0)?;
+    let replies = engine.life(alloc, &steps)?;
+    assert_eq!(rt;
+        replies.as_slice(),
+        [
+            Reply::Started(1),
+            Reply::Inserted,
+            Reply::Refused(Fault::Device)
+        ]
+        .as_slice()
+    );
+    assert_eq!(rt; engine.failed(), true);
+    let left = engine.disk().after_stop(alloc)?;
+    let steps = one_insert(alloc, b'b', 1)?;
+    let mut next = Engine::open_or_create(alloc, left, Config::default()).map_err(|x| x.0)?;
+    let _ = next.life(alloc, &steps)?;
+    assert_eq!(rt; next.disk().calls(), 4);
+    assert_eq!(rt; found(alloc, &next)?, (1, b'b', 1));
+    Ok(())
+}
+
+#[test]
+fn each_step_is_answered(rt: HostRuntime) -> Result<(), Fail> {
+    let alloc = rt.alloc();
+    let disk = ModelDisk::new(Vec::new(alloc), Vec::new(alloc));
+    let mut engine = Engine::open_or_create(alloc, disk, Config::default()).map_err(|x| x.0)?;
+    assert_eq!(rt; engine.step(&Step::Begin), Reply::Started(1));
+    assert_eq!(rt; engine.step(&Step::Begin), Reply::Refused(Fault::TooMany));
+    assert_eq!(rt;
+        engine.step(&Step::Insert(1, Vec::new(alloc), 1)),
+        Reply::Refused(Fault::KeyLength)
+    );
+    let insert = Step::Insert(1, key_of(alloc, b'a')?, 1);
+    let delete = Step::Delete(1, key_of(alloc, b'a')?);
+    let fetch = Step::Fetch(1, key_of(alloc, b'a')?);
+    assert_eq!(rt; engine.step(&insert), Reply::Inserted);
+    assert_eq!(rt; engine.step(&insert), Reply::Duplicate);
+    assert_eq!(rt; engine.step(&fetch), Reply::Found(1));
+    assert_eq!(rt; engine.step(&delete), Reply::Deleted);
+    assert_eq!(rt; engine.step(&delete), Reply::Absent);
+    assert_eq!(rt; engine.step(&fetch), Reply::Absent);
+    assert_eq!(rt;
+        engine.step(&Step::Commit(2)),
+        Reply::Refused(Fault::NoTransaction)
+    );
+    assert_eq!(rt; engine.active(), 1);
+    assert_eq!(rt; engine.step(&Step::Commit(1)), Reply::Committed);
+    assert_eq!(rt; engine.disk().calls(), 10);
+    Ok(())
+}

@@ -1,0 +1,11 @@
+//! A transaction that is active.
+
+use im_types::{Lsn, TxnId};
+
+/// A transaction that is active.
+#[derive(Clone, Copy)]
+pub(crate) struct Transaction {
+    pub(crate) number: TxnId,
+    /// Its last record, 0 for none.
+    pub(crate) last: Lsn,
+}

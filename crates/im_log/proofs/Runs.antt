@@ -1,0 +1,183 @@
+-- What a force and an append keep.
+use Rattle.std.proofs.Common.{◌≡◌, inl, inr, ◌⊎◌, ⊎_elim, ℕ, zero, suc, ◌+◌, ◌<◌, ◌≤◌, ◌^◌, false, List, [], ◌∷◌, ◌++◌, length, take, drop, get_or, Some, None, refl, sym, ◌∙◌, ap, subst, arith, append-nil}
+use Rattle.std.proofs.lemmas.List.{length-take-le, get_or-take, drop-take, take-take}
+use Rattle.im_types.specs.declared.file_id.FileId.{FileId}
+use Rattle.im_types.specs.declared.file_id.FileId.TheVariants.{Log}
+use Rattle.im_types.specs.Records.{Logged}
+use Rattle.im_types.specs.Histories.{Base, IsFront, end_of}
+use Rattle.im_disk.specs.declared.disk.Disk.{Ghosts}
+use Rattle.im_disk.specs.Disk.{Files, Only}
+use Rattle.im_disk.specs.Runs.{LeavesOnly, LeavesIn}
+use Rattle.im_disk.proofs.Runs.{in_started, in_weakened}
+use Rattle.im_gate.specs.Batches.{batches, batches_from, with_batch, IsBeforeOrWith, size_of}
+use Rattle.im_gate.specs.Header.{IsMade}
+use Rattle.im_gate.specs.Gate.{file_of, first_of, place_of, has_failed, logged, IsReady}
+use Rattle.im_gate.specs.declared.gate.Gate.{Gate}
+use Rattle.im_gate.proofs.Frames.{ready_place}
+use Rattle.im_record.specs.Entry.{Entry}
+use Rattle.im_record.specs.Reading.{entry_of}
+use Rattle.im_log.specs.declared.log_file.LogFile.{LogFile}
+use Rattle.im_log.specs.Gates.{IsOfLog}
+use Rattle.im_log.specs.Spelled.{logged_at, records_from, spelled_by, log_of, last_lsn}
+use Rattle.im_log.specs.LogFile.{buffered, batch_lsn, next_lsn, IsOpen, IsLog}
+use Rattle.im_log.specs.Kept.{HasLog, HasMore, SpellsEither, Appended, Forced}
+use Rattle.im_log.proofs.Spells.{Whole, push, log_with, log_end, not_refused}
+
+pub waiting : (log : LogFile) → length (buffered log) ≡ log.used
+waiting log = length-take-le log.used log.buffer.items (omega (arith, log.sized, log.within))
+
+-- a fact of the gate's file and first gate is one of the log's
+pub of_log : (gate : Gate) → IsOfLog gate → (P : FileId → ℕ → Type 0) → P (file_of gate) (first_of gate) → P Log 31
+of_log gate is P p = subst (λ (f : FileId). P f 31) is.file (subst (λ (n : ℕ). P (file_of gate) n) is.first p)
+
+-- where the last gate stands
+pub record Placed {D : Type 0} (d : Ghosts D) (gate : Gate) (disk : D) : Type 0 where
+  pub before : List (List ℕ)
+  pub is : batches 31 (d.seen disk Log) ≡ Some before
+  pub place : place_of gate ≡ 31 + size_of before
+
+pub placed : {D : Type 0} (d : Ghosts D) (gate : Gate) (disk : D) → IsOfLog gate → IsReady d gate disk → has_failed gate ≡ false → d.tells → Placed d gate disk
+placed d gate disk of ready works told =
+    let at = ready_place d gate disk ready works told in
+    record {
+      before = at.0;
+      is = of_log gate of (λ f n. batches n (d.seen disk f) ≡ Some at.0) at.1;
+      place = omega (arith, at.2, of.first);
+    }
+
+-- a gate whose batches can be told lies within its file
+pub gate_within : (place : ℕ) (file : List ℕ) (bs : List (List ℕ)) → batches_from place file ≡ Some bs → place < length file
+gate_within place [] bs is = let never : None ≡ Some bs = is in cc
+gate_within zero (byte ∷ file) bs is = omega arith
+gate_within (suc place) (byte ∷ file) bs is = omega (arith, gate_within place file bs is)
+
+-- what stands before a gate makes it a made file
+pub made_kept : (file c : List ℕ) (bs : List (List ℕ)) → take 31 c ≡ take 31 file → batches 31 c ≡ Some bs → IsMade file → IsMade c
+made_kept file c bs same is made = record {
+  within = gate_within 31 c bs is;
+  made = sym (get_or-take 31 c 0 0 (omega arith)) ∙ ap (λ (l : List ℕ). get_or l 0 0) same ∙ get_or-take 31 file 0 0 (omega arith) ∙ made.made;
+  named = sym (drop-take 1 30 c) ∙ ap (λ (l : List ℕ). drop 1 l) same ∙ drop-take 1 30 file ∙ made.named;
+}
+
+-- two facts of one run
+pub both_leave : {D : Type 0} (d : Ghosts D) (file : FileId) (old new : D) (P Q : List ℕ → Type 0) → LeavesIn d file old new P → LeavesIn d file old new Q → LeavesIn d file old new (λ c. P c × Q c)
+both_leave d file old new P Q first second = record {
+  later = first.later;
+  each = λ told c left.
+      let p = first.each told c left in
+      let q = second.each told c left in
+      (p.0, p.1, record { changed = (p.2.changed, q.2.changed); others = p.2.others });
+  before = λ told t c le since. ⊎_elim (λ was. inl was)
+      (λ p. ⊎_elim (λ was. inl was) (λ q. inr (p.0, p.1, record { changed = (p.2.changed, q.2.changed); others = p.2.others })) (second.before told t c le since))
+      (first.before told t c le since);
+}
+
+-- what a stop leaves, the file itself has too
+pub seen_now : {D : Type 0} (d : Ghosts D) (file : FileId) (old new : D) (P : List ℕ → Type 0) → ((t : ℕ) (c : Files) → t ≤ d.moment new → d.may_leave new c → d.left_since new t c) → (d.tells → d.may_leave new (d.seen new))
+    → LeavesIn d file old new P → d.tells → P (d.seen new file)
+seen_now d file old new P counts_now may_stay run told =
+    let left = run.each told (d.seen new) (counts_now (d.moment old) (d.seen new) run.later (may_stay told)) in
+    left.2.changed
+
+pub either_made : (base : ℕ) (durable all : List Logged) (file : List ℕ) → SpellsEither base durable all file → IsMade file
+either_made base durable all file has = ⊎_elim (λ (h : HasLog base durable file). h.made) (λ (h : HasLog base all file). h.made) has
+
+module _ {D : Type 0} (d : Ghosts D) (base : ℕ) (all durable : List Logged) where
+  -- the file with the buffer as a batch of its own
+  with_buffer : (log : LogFile) (disk : D) → IsOpen d log disk → IsLog d base all durable log disk → 1 ≤ log.used → (c : List ℕ) → batches 31 c ≡ with_batch (buffered log) (batches 31 (d.seen disk Log)) → log_of base c ≡ Some all
+  with_buffer log disk is_open h some c put =
+      let at = placed d log.gate disk log.of_log is_open.ready (is_open.working h.working) h.tells in
+      log_with base (place_of log.gate) (d.seen disk Log) c (buffered log) at.before durable all at.is at.place (omega (arith, is_open.room h.working some, h.based, waiting log)) h.on_disk
+      (ap (λ (k : ℕ). records_from 0 (k + (place_of log.gate + 5)) (buffered log) durable) (sym h.based) ∙ h.in_buffer) put
+
+  -- what a stop within a force leaves
+  pub force_stops : (log : LogFile) (disk new_disk : D) (records : List ℕ) → records ≡ buffered log → 1 ≤ log.used → IsOpen d log disk → IsLog d base all durable log disk
+      → LeavesIn d (file_of log.gate) disk new_disk (IsBeforeOrWith (first_of log.gate) records (logged d log.gate disk))
+      → LeavesIn d (file_of log.gate) disk new_disk (λ bytes. take (first_of log.gate) bytes ≡ take (first_of log.gate) (d.seen disk (file_of log.gate)))
+      → LeavesIn d Log disk new_disk (SpellsEither base durable all)
+  force_stops log disk new_disk records are some is_open h run front =
+      let run_log = of_log log.gate log.of_log (λ f n. LeavesIn d f disk new_disk (IsBeforeOrWith n records (batches n (d.seen disk f)))) run in
+      let front_log = of_log log.gate log.of_log (λ f n. LeavesIn d f disk new_disk (λ bytes. take n bytes ≡ take n (d.seen disk f))) front in
+      let at = placed d log.gate disk log.of_log is_open.ready (is_open.working h.working) h.tells in
+      let P = IsBeforeOrWith 31 records (batches 31 (d.seen disk Log)) in
+      let Q : List ℕ → Type 0 = λ bytes. take 31 bytes ≡ take 31 (d.seen disk Log) in
+      in_weakened d Log disk new_disk (λ c. P c × Q c) (SpellsEither base durable all) (both_leave d Log disk new_disk P Q run_log front_log)
+      (λ told c left. ⊎_elim
+      (λ before. inl (record { made = made_kept (d.seen disk Log) c at.before left.1 (before ∙ at.is) h.made; spells = ap (spelled_by base) before ∙ h.on_disk }))
+      (λ put. inr (record {
+        made = made_kept (d.seen disk Log) c (at.before ++ records ∷ []) left.1 (put ∙ ap (with_batch records) at.is) h.made;
+        spells = with_buffer log disk is_open h some c (put ∙ ap (λ (l : List ℕ). with_batch l (batches 31 (d.seen disk Log))) are);
+      }))
+      left.0)
+
+  -- behind a force
+  pub forced : (log new : LogFile) (disk new_disk : D) (records : List ℕ) → records ≡ buffered log → 1 ≤ log.used → IsOpen d log disk → IsLog d base all durable log disk
+      → (d.tells → logged d new.gate new_disk ≡ with_batch records (logged d log.gate disk)) → IsMade (d.seen new_disk Log)
+      → new.failed ≡ false → new.base ≡ log.base → new.used ≡ 0 → place_of new.gate ≡ place_of log.gate + (length records + 5) → Forced d base all durable disk new new_disk
+  forced log new disk new_disk records are some is_open h put made works same used place =
+      let put_log : batches 31 (d.seen new_disk Log) ≡ with_batch records (batches 31 (d.seen disk Log)) =
+      of_log log.gate log.of_log (λ f n. batches 31 (d.seen new_disk Log) ≡ with_batch records (batches n (d.seen disk f)))
+      (of_log new.gate new.of_log (λ f n. batches n (d.seen new_disk f) ≡ with_batch records (logged d log.gate disk)) (put h.tells)) in
+      record {
+        log = record {
+          tells = h.tells;
+          working = works;
+          based = same ∙ h.based;
+          made = made;
+          on_disk = with_buffer log disk is_open h some (d.seen new_disk Log) (put_log ∙ ap (λ (l : List ℕ). with_batch l (batches 31 (d.seen disk Log))) are);
+          in_buffer = ap (λ (k : ℕ). records_from 0 (batch_lsn new) (take k new.buffer.items) all) used;
+          front = record { newer = []; is = refl };
+          below = omega (arith, h.below, same, used, place, waiting log, ap length are);
+        };
+        file = record { more = records ∷ []; grown = λ bs is. put_log ∙ ap (with_batch records) is };
+      }
+
+  -- before the first call
+  pub unmoved : (log : LogFile) (disk : D) → ((c : Files) → d.left_since disk (d.moment disk) c → d.may_leave disk c) → IsOpen d log disk → IsLog d base all durable log disk
+      → LeavesIn d Log disk disk (SpellsEither base durable all)
+  unmoved log disk only_now is_open h =
+      in_started d Log disk (SpellsEither base durable all) only_now
+      (of_log log.gate log.of_log (λ f n. Only f (d.seen disk) (d.may_leave disk)) (is_open.ready.reading.durable (is_open.working h.working)))
+      (λ told. inl (record { made = h.made; spells = h.on_disk }))
+
+  put_ok : (log new : LogFile) (disk : D) (bytes : List ℕ) (entry : Entry) → IsLog d base all durable log disk → entry_of bytes ≡ Some entry → Whole bytes → buffered new ≡ buffered log ++ bytes → new.used ≡ log.used + length bytes
+      → new.base ≡ log.base → new.gate ≡ log.gate → new.failed ≡ log.failed → IsLog d base (logged_at (next_lsn log) entry ∷ all) durable new disk
+  put_ok log new disk bytes entry h of w buffer used same gate failed =
+      let place : place_of new.gate ≡ place_of log.gate = ap place_of gate in
+      let first : batch_lsn new ≡ batch_lsn log = omega (arith, same, place) in
+      let last : batch_lsn log + length (buffered log) ≡ next_lsn log = omega (arith, waiting log) in
+      record {
+        tells = h.tells;
+        working = failed ∙ h.working;
+        based = same ∙ h.based;
+        made = h.made;
+        on_disk = h.on_disk;
+        in_buffer =
+            ap (λ (k : ℕ). records_from 0 k (buffered new) durable) first
+            ∙ ap (λ (l : List ℕ). records_from 0 (batch_lsn log) l durable) buffer
+            ∙ push (batch_lsn log) (buffered log) bytes durable all entry h.in_buffer of w
+            ∙ ap (λ (k : ℕ). Some (logged_at k entry ∷ all)) last;
+        front = record { newer = logged_at (next_lsn log) entry ∷ h.front.newer; is = ap (λ (l : List Logged). logged_at (next_lsn log) entry ∷ l) h.front.is };
+        below = omega (arith, first, used, w.least);
+      }
+
+  -- LSNs rise above the base of any history
+  rises : (lsn : ℕ) (log : List Logged) → last_lsn base log < lsn → (b : Base) → b.start ≤ base → end_of b log < lsn
+  rises lsn [] below b start = omega (arith, below, start)
+  rises lsn (r ∷ older) below b start = below
+
+  -- a record in the buffer, behind a call after which the log has these lists
+  pub appended : (was : List Logged) → IsFront was durable → (log new : LogFile) (old disk : D) → HasMore (d.seen old Log) (d.seen disk Log) → (bytes : List ℕ) (entry : Entry) (lsn : ℕ) → IsLog d base all durable log disk → entry_of bytes ≡ Some entry
+      → Whole bytes → lsn ≡ next_lsn log → buffered new ≡ buffered log ++ bytes → new.used ≡ log.used + length bytes → new.base ≡ log.base → new.gate ≡ log.gate → new.failed ≡ log.failed
+      → Appended d base all was entry lsn old new disk
+  appended was grows log new old disk file bytes entry lsn h of w at buffer used same gate failed = record {
+    rises = rises lsn all (omega (arith, at, h.below));
+    now_durable = durable;
+    grows = grows;
+    log = subst (λ (k : ℕ). IsLog d base (logged_at k entry ∷ all) durable new disk) (sym at) (put_ok log new disk bytes entry h of w buffer used same gate failed);
+    file = file;
+  }
+
+-- a file has no more than it has
+pub no_more : (file : List ℕ) → HasMore file file
+no_more file = record { more = []; grown = λ before is. is ∙ ap Some (sym (append-nil before)) }

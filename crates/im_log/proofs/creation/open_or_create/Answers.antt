@@ -1,0 +1,57 @@
+use Rattle.std.proofs.Common.{◌≡◌, List, [], Option, IfSome, Ok, Some, None, refl, sym, ◌∙◌, ap, subst, rules}
+use Rattle.im_types.specs.declared.file_id.FileId.{FileId}
+use Rattle.im_types.specs.declared.file_id.FileId.TheVariants.{Log}
+use Rattle.im_types.specs.Records.{Logged}
+use Rattle.im_disk.specs.Disk.{Files, Stepped, InFile}
+use Rattle.im_disk.proofs.Runs.{reads_on}
+use Rattle.im_gate.specs.declared.gate.Gate.{Gate}
+use Rattle.im_gate.specs.Batches.{batches}
+use Rattle.im_gate.specs.Header.{IsMade}
+use Rattle.im_log.specs.Kept.{HasLog, IsLogOf}
+use Rattle.im_log.specs.LogFile.{IsLog}
+use Rattle.im_log.proofs.Creations.{made_has, unmade_none, blank_has, reads_stops, creation_stops}
+use Rattle.im_log.proofs.creation.open_or_create.Goals as goal
+
+pub returns-in_err-gate-in-None-clause-kept : goal.returns-in_err-gate-in-None-clause-kept
+returns-in_err-gate-in-None-clause-kept g c all told is empty =
+    let unmade = c.in_ok-gate.ensures.unmade (ap Ok c.in-None.is) told in
+    let none = unmade_none 0 all (g.D.Disk.seen c.args.disk.now Log) unmade.0 is in
+    let opened = reads_stops g.D.Disk 0 all c.args.disk.now c.open.new.disk (g.met.D.Disk.only_now c.args.disk.now) c.requires.durable is c.open.ensures.reads in
+    record {
+      ok = search rules;
+      stops = creation_stops g.D.Disk all c.args.disk.now c.open.new.disk c.create.new.disk opened c.open.ensures.reads none c.create.ensures.any_moment;
+      cause = search rules;
+    }
+
+pub returns-in-Some-clause-kept : goal.returns-in-Some-clause-kept
+returns-in-Some-clause-kept g c all told is empty =
+    let old = c.args.disk.now in
+    let mid = c.open.new.disk in
+    let made : IsMade (g.D.Disk.seen old Log) = subst (λ (o : Option Gate). IfSome o (λ _. g.D.Disk.tells → IsMade (g.D.Disk.seen old Log))) c.in-Some.is c.in_ok-gate.ensures.made told in
+    let has = subst (λ (s : Files). HasLog 0 all (s Log)) (sym c.open.ensures.reads.seen) (made_has 0 all (g.D.Disk.seen old Log) made is) in
+    let kept = c.open_log.ensures.kept all told has in
+    record {
+      ok = kept.ok;
+      stops = reads_on g.D.Disk old mid c.open_log.new.disk (Stepped (InFile Log (λ _ bytes. IsLogOf 0 all bytes)) (g.D.Disk.may_leave old))
+          (reads_stops g.D.Disk 0 all old mid (g.met.D.Disk.only_now old) c.requires.durable is c.open.ensures.reads) c.open_log.ensures.reads;
+      cause = kept.cause;
+    }
+
+pub returns-in_ok-gate-in-None-clause-kept : goal.returns-in_ok-gate-in-None-clause-kept
+returns-in_ok-gate-in-None-clause-kept g c all told is empty =
+    let unmade = c.in_ok-gate.ensures.unmade (ap Ok c.in-None.is) told in
+    let none = unmade_none 0 all (g.D.Disk.seen c.args.disk.now Log) unmade.0 is in
+    let opened = reads_stops g.D.Disk 0 all c.args.disk.now c.open.new.disk (g.met.D.Disk.only_now c.args.disk.now) c.requires.durable is c.open.ensures.reads in
+    let gate = c.in_ok-gate-in-None.gate in
+    let mid = c.create.new.disk in
+    let first = c.in_ok-gate-in-None.ensures.first in
+    let batches_none : batches 31 (g.D.Disk.seen mid Log) ≡ Some [] =
+    ap (λ (f : FileId). batches 31 (g.D.Disk.seen mid f)) (sym first.0) ∙ ap (λ n. batches n (g.D.Disk.seen mid gate.file)) (sym first.1) ∙ c.in_ok-gate-in-None.ensures.empty told in
+    let has = subst (λ (l : List Logged). HasLog 0 l (g.D.Disk.seen mid Log)) (sym none) (blank_has (g.D.Disk.seen mid Log) (c.in_ok-gate-in-None.ensures.made told) batches_none) in
+    let kept = c.open_log-in-None.ensures.kept all told has in
+    record {
+      ok = kept.ok;
+      stops = reads_on g.D.Disk c.args.disk.now mid c.open_log-in-None.new.disk (Stepped (InFile Log (λ _ bytes. IsLogOf 0 all bytes)) (g.D.Disk.may_leave c.args.disk.now))
+          (creation_stops g.D.Disk all c.args.disk.now c.open.new.disk mid opened c.open.ensures.reads none c.create.ensures.any_moment) c.open_log-in-None.ensures.reads;
+      cause = kept.cause;
+    }

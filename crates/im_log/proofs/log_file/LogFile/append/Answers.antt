@@ -1,0 +1,49 @@
+use Rattle.std.proofs.Common.{List, ℕ, [], ap, refl, sym, ◌∙◌, take, rules, arith, append-nil}
+use Rattle.std.specs.Int.{w32, from_be_bytes}
+use Rattle.im_types.specs.declared.file_id.FileId.TheVariants.{Log}
+use Rattle.im_record.specs.Entry.{view}
+use Rattle.im_record.specs.Spelling.{spelling}
+use Rattle.im_log.proofs.Spells.{whole}
+use Rattle.im_log.proofs.Runs.{unmoved, appended, no_more}
+use Rattle.im_log.proofs.log_file.LogFile.append.Goals as goal
+
+pub returns-then-is_full-clause-kept : goal.returns-then-is_full-clause-kept
+returns-then-is_full-clause-kept g c base all durable h = record {
+  ok = search rules;
+  stops = unmoved g.D.Disk base all durable c.args.self.now c.args.disk.now (g.met.D.Disk.only_now c.args.disk.now) c.requires.ready h;
+}
+
+pub returns-in_err-force-clause-kept : goal.returns-in_err-force-clause-kept
+returns-in_err-force-clause-kept g c base all durable h = record {
+  ok = search rules;
+  stops = (c.force.ensures.kept base all durable h).stops;
+}
+
+pub returns-then-self-size-le-BUFFER-clause-kept : goal.returns-then-self-size-le-BUFFER-clause-kept
+returns-then-self-size-le-BUFFER-clause-kept g c base all durable h =
+    let put = c.put_in.ensures in
+    let laws = c.spellings.ensures in
+    let entry = view c.args.record.now in
+    let size = laws.size entry in
+    record {
+      ok = appended g.D.Disk base all durable durable (record { newer = []; is = refl }) c.args.self.now c.put_in.new.self c.args.disk.now c.args.disk.now (no_more (g.D.Disk.seen c.args.disk.now Log)) (spelling entry) entry c.put_in.result h
+          (laws.read entry (spelling entry) (record { fits = c.requires.entry; spelled = refl }))
+          (whole (spelling entry) (omega (arith, size, laws.least entry)) (ap (λ (l : List ℕ). from_be_bytes w32 (take 4 l)) (sym (append-nil (spelling entry))) ∙ laws.length_first entry [] c.requires.entry ∙ sym size))
+          put.lsn put.buffered (omega (arith, put.used, size)) put.base put.gate put.failed;
+      stops = unmoved g.D.Disk base all durable c.args.self.now c.args.disk.now (g.met.D.Disk.only_now c.args.disk.now) c.requires.ready h;
+    }
+
+pub returns-clause-kept : goal.returns-clause-kept
+returns-clause-kept g c base all durable h =
+    let put = c.put_in-2.ensures in
+    let laws = c.spellings.ensures in
+    let entry = view c.args.record.now in
+    let size = laws.size entry in
+    let forced = c.in_ok-force.ensures.kept base all durable h in
+    record {
+      ok = appended g.D.Disk base all all durable h.front c.force.new.self c.put_in-2.new.self c.args.disk.now c.force.new.disk forced.ok.file (spelling entry) entry c.put_in-2.result forced.ok.log
+          (laws.read entry (spelling entry) (record { fits = c.requires.entry; spelled = refl }))
+          (whole (spelling entry) (omega (arith, size, laws.least entry)) (ap (λ (l : List ℕ). from_be_bytes w32 (take 4 l)) (sym (append-nil (spelling entry))) ∙ laws.length_first entry [] c.requires.entry ∙ sym size))
+          put.lsn put.buffered (omega (arith, put.used, size)) put.base put.gate put.failed;
+      stops = forced.stops;
+    }

@@ -1,0 +1,25 @@
+use Rattle.std.proofs.Common.{◌≡◌, true, Ok, Err, refl, ap, sym, ◌∙◌, rules, arith}
+use Rattle.im_log.proofs.Openings.{next_step, not_refused_here, filled, all_read, batch_taken_here}
+use Rattle.im_log.proofs.opening.Opening.next.Goals as goal
+
+pub returns-in_err-step-clause-kept : goal.returns-in_err-step-clause-kept
+returns-in_err-step-clause-kept g c base all older h = record {
+  ok = search rules;
+  cause = absurd (not_refused_here g.D.Disk base all older c.args.self.now c.args.disk.now h c.if-self-2.true c.in_err-step.ensures.refused.1);
+}
+
+pub returns-then-self-2-clause-kept : goal.returns-then-self-2-clause-kept
+returns-then-self-2-clause-kept g c base all older h = record {
+  ok = next_step g.D.Disk base all older c.args.self.now c.step.new.self c.args.disk.now c.in_ok-step.field-0 h c.in_ok-step.ensures.stepped c.step.ensures.gate c.step.ensures.behind c.step.ensures.base c.in_ok-step.ensures.failed;
+  cause = search rules;
+}
+
+pub returns-clause-kept : goal.returns-clause-kept
+returns-clause-kept g c base all older h =
+    let full : c.in_ok-fill.field-0 ≡ true = search rules in
+    let read = c.in_ok-fill.ensures.read (ap Ok full) in
+    let there = filled g.D.Disk base all older c.args.self.now c.fill.new.self c.args.disk.now c.fill.new.disk h c.if-self-2.false c.fill.ensures.reads.seen (c.in_ok-fill.ensures.one (ap Ok full) h.tells) read.0 read.2 c.fill.ensures.base c.in_ok-fill.ensures.failed in
+    record {
+      ok = next_step g.D.Disk base all older c.fill.new.self c.step-2.new.self c.fill.new.disk c.in_ok-step-2.field-0 there c.in_ok-step-2.ensures.stepped c.step-2.ensures.gate c.step-2.ensures.behind c.step-2.ensures.base c.in_ok-step-2.ensures.failed;
+      cause = search rules;
+    }

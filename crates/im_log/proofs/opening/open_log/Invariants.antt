@@ -1,0 +1,19 @@
+use Rattle.std.proofs.Common.{◌≡◌, ◌-◌, ◌^◌, false, List}
+use Rattle.im_types.specs.declared.file_id.FileId.TheVariants.{Log}
+use Rattle.im_types.specs.Records.{Logged}
+use Rattle.im_disk.specs.Runs.{Reads}
+use Rattle.im_log.specs.Kept.{HasLog}
+use Rattle.im_log.specs.Opening.{IsBegun, IsOpening, position_of}
+use Rattle.im_log.proofs.opening.open_log.Given as goal
+
+abbrev pub invariant-loop-opening : goal.invariant-loop-opening
+invariant-loop-opening g l = record {
+  begun : IsBegun g.D.Disk l.opening l.disk;
+  reads : Reads g.D.Disk l.fn.disk l.disk;
+  working : l.opening.failed ≡ false;
+  based : l.opening.base ≡ l.fn.base;
+  reading : (all : List Logged) → g.D.Disk.tells → HasLog l.fn.base all (g.D.Disk.seen l.fn.disk Log) → (older : List Logged) × IsOpening g.D.Disk l.fn.base all older l.opening l.disk;
+}
+
+abbrev pub decreases-loop-opening : goal.decreases-loop-opening
+decreases-loop-opening g l = 2 ^ 62 - position_of l.opening

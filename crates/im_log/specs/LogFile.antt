@@ -1,0 +1,45 @@
+-- What a log file knows of its disk.
+use Rattle.std.specs.Prelude.{◌≡◌, ℕ, ◌+◌, ◌^◌, ◌<◌, ◌≤◌, nat_le, if◌then◌else◌, false, List, take, Some}
+use Rattle.im_types.specs.declared.file_id.FileId.TheVariants.{Log}
+use Rattle.im_types.specs.Records.{Logged}
+use Rattle.im_types.specs.Histories.{IsFront}
+use Rattle.im_disk.specs.declared.disk.Disk.{Ghosts}
+use Rattle.im_gate.specs.Gate.{IsReady, place_of, has_failed}
+use Rattle.im_gate.specs.Header.{IsMade}
+use Rattle.im_log.specs.declared.log_file.LogFile.{LogFile}
+use Rattle.im_log.specs.Spelled.{records_from, log_of, last_lsn}
+
+-- The bytes that wait for a force.
+abbrev pub buffered : LogFile → List ℕ
+buffered log = take log.used log.buffer.items
+
+-- The LSN of the first record of the next batch.
+abbrev pub batch_lsn : LogFile → ℕ
+batch_lsn log = log.base + (place_of log.gate + 5)
+
+-- The LSN of the next record, where it needs no force.
+abbrev pub next_lsn : LogFile → ℕ
+next_lsn log = batch_lsn log + log.used
+
+-- Where a record of this length would end, as an LSN.
+abbrev pub end_with : LogFile → ℕ → ℕ
+end_with log size = if nat_le (log.used + size) 16384 then next_lsn log + size else next_lsn log + 5 + size
+
+module _ {D : Type 0} (d : Ghosts D) where
+  -- On any bytes: the gate is the last, and what is buffered ends at LSN 2^62 or below. After a failure it says nothing.
+  pub record IsOpen (log : LogFile) (disk : D) : Type 0 where
+    pub ready : IsReady d log.gate disk
+    pub working : log.failed ≡ false → has_failed log.gate ≡ false
+    pub placed : log.failed ≡ false → log.base + place_of log.gate ≤ 2 ^ 62
+    pub room : log.failed ≡ false → 1 ≤ log.used → next_lsn log ≤ 2 ^ 62
+
+  -- The disk tells its bytes, the made file spells the durable records, and the buffer those that come on top.
+  pub record IsLog (base : ℕ) (all durable : List Logged) (log : LogFile) (disk : D) : Type 0 where
+    pub tells : d.tells
+    pub working : log.failed ≡ false
+    pub based : log.base ≡ base
+    pub made : IsMade (d.seen disk Log)
+    pub on_disk : log_of base (d.seen disk Log) ≡ Some durable
+    pub in_buffer : records_from 0 (batch_lsn log) (buffered log) durable ≡ Some all
+    pub front : IsFront durable all
+    pub below : last_lsn base all < next_lsn log

@@ -1,0 +1,88 @@
+-- A log that is being opened.
+use Rattle.std.specs.Prelude.{◌≡◌, ℕ, ◌+◌, ◌-◌, ◌^◌, ◌≤◌, ◌<◌, false, List, ◌∷◌, length, take, drop, Option, Some, Result, IfOk, IfErr, MatchOption}
+use Rattle.im_types.specs.declared.fault.Fault.{Fault}
+use Rattle.im_types.specs.declared.fault.Fault.TheVariants.{Device}
+use Rattle.im_types.specs.declared.file_id.FileId.TheVariants.{Log}
+use Rattle.im_types.specs.Records.{Logged}
+use Rattle.im_types.specs.Histories.{IsFront}
+use Rattle.im_disk.specs.declared.disk.Disk.{Ghosts}
+use Rattle.im_gate.specs.Batches.{size_of}
+use Rattle.im_gate.specs.Gate.{IsReading, has_failed, place_of, unread}
+use Rattle.im_gate.specs.Header.{IsMade}
+use Rattle.im_record.specs.Entry.{Entry}
+use Rattle.im_record.specs.Reading.{entry_of}
+use Rattle.im_log.specs.declared.opening.Opening.{Opening}
+use Rattle.im_log.specs.Spelled.{logged_at, record_size, records_from, batches_records, log_of}
+
+-- The bytes of the record that was read last.
+abbrev pub current_of : Opening → List ℕ
+current_of opening = take (opening.at - opening.from) (drop opening.from opening.bytes.items)
+
+-- Those of its batch that come after it.
+abbrev pub rest_of : Opening → List ℕ
+rest_of opening = take (opening.end - opening.at) (drop opening.at opening.bytes.items)
+
+-- The place in the file of what comes after it.
+abbrev pub position_of : Opening → ℕ
+position_of opening = opening.behind - (opening.end - opening.at)
+
+-- It stands where it stood.
+pub record StaysAt (old new : Opening) : Type 0 where
+  pub at : new.at ≡ old.at
+  pub end : new.end ≡ old.end
+  pub behind : new.behind ≡ old.behind
+
+-- It read a record, and stands behind it.
+pub record Stepped (old : Opening) (lsn : ℕ) (new : Opening) : Type 0 where
+  pub lsn_is : lsn ≡ old.base + position_of old
+  pub least : 4 ≤ record_size (rest_of old)
+  pub most : record_size (rest_of old) ≤ length (rest_of old)
+  pub current : current_of new ≡ take (record_size (rest_of old)) (rest_of old)
+  pub rest : rest_of new ≡ drop (record_size (rest_of old)) (rest_of old)
+  pub position : position_of new ≡ position_of old + record_size (rest_of old)
+
+-- The batches from a place on are refused, or the first ends above LSN 2^62.
+pub record RefusedBatch (base place : ℕ) (unread : Option (List (List ℕ))) : Type 0 where
+  pub refused : (ahead : List (List ℕ)) → unread ≡ Some ahead → 2 ^ 62 < base + (place + size_of ahead)
+
+module _ {D : Type 0} (d : Ghosts D) where
+  -- On any bytes.
+  pub record IsBegun (opening : Opening) (disk : D) : Type 0 where
+    pub reading : IsReading d opening.gate disk
+    pub working : opening.failed ≡ false → has_failed opening.gate ≡ false
+    pub behind : opening.failed ≡ false → opening.behind ≡ place_of opening.gate
+
+  -- The disk tells its bytes, the made file spells all these records, and what was read of them are the older ones.
+  pub record IsOpening (base : ℕ) (all older : List Logged) (opening : Opening) (disk : D) : Type 0 where
+    pub tells : d.tells
+    pub working : opening.failed ≡ false
+    pub based : opening.base ≡ base
+    pub made : IsMade (d.seen disk Log)
+    pub spells : log_of base (d.seen disk Log) ≡ Some all
+    -- those of the batch, and of the batches that were not read
+    pub mid : List Logged
+    pub in_batch : records_from 0 (base + position_of opening) (rest_of opening) older ≡ Some mid
+    pub ahead : List (List ℕ)
+    pub unread : unread d opening.gate disk ≡ Some ahead
+    pub onward : batches_records (base + opening.behind) ahead mid ≡ Some all
+    pub room : base + (opening.behind + size_of ahead) ≤ 2 ^ 62
+
+  module _ (base : ℕ) (all older : List Logged) where
+    -- The record that was read is the next one of the list.
+    pub record Next (lsn : ℕ) (new : Opening) (disk : D) : Type 0 where
+      pub entry : Entry
+      pub is : entry_of (current_of new) ≡ Some entry
+      pub front : IsFront (logged_at lsn entry ∷ older) all
+      pub opening : IsOpening base all (logged_at lsn entry ∷ older) new disk
+
+    -- All records were read.
+    pub record Ended (new : Opening) (disk : D) : Type 0 where
+      pub all_read : older ≡ all
+      pub tells : d.tells
+      pub based : new.base ≡ base
+      pub made : IsMade (d.seen disk Log)
+      pub spells : log_of base (d.seen disk Log) ≡ Some all
+
+    pub record NextKept (new : Opening) (disk : D) (result : Result (Option ℕ) Fault) : Type 0 where
+      pub ok : IfOk result (λ next. MatchOption next (Ended new disk) (λ lsn. Next lsn new disk))
+      pub cause : IfErr result (λ e. e ≡ Device)

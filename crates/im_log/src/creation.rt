@@ -1,0 +1,40 @@
+//! A log is made where there is none yet.
+
+ghost use Rattle.std.specs.Prelude.{◌≡◌, ◌⊎◌, ◌↔◌, true, false, length, IfErr, IfOk, List, ℕ};
+ghost use Rattle.im_types.specs.declared.fault.Fault.TheVariants.{Device, Memory, NotAStore};
+ghost use Rattle.im_types.specs.declared.file_id.FileId.TheVariants.{Log, Pages};
+ghost use Rattle.im_types.specs.Records.{Logged};
+ghost use Rattle.im_disk.specs.Disk.{Only};
+ghost use Rattle.im_disk.specs.Runs.{ChangesOnly};
+ghost use Rattle.im_gate.specs.Header.{IsUnmade};
+ghost use Rattle.im_log.specs.LogFile.{IsOpen};
+ghost use Rattle.im_log.specs.Kept.{IsLogOf, OpenKept};
+
+use crate::{LogFile, open_log};
+use im_disk::Disk;
+use im_gate::Gate;
+use im_types::{Fault, FileId};
+use std::alloc::Global;
+
+/// Opens the log of a store, or makes it where no store was made yet: the log is unmade, and the file of pages is empty. Its
+/// first byte has LSN 0.
+///
+/// Refused `NotAStore` where the files' bytes are no store, with no device call made; `Device`; `Memory`.
+pub fn open_or_create<D: Disk>(alloc: Global, disk: &mut D) -> Result<LogFile, Fault>
+    requires working { D.failed disk.old ≡ false }
+    requires durable { Only Log (D.seen disk.old) (D.may_leave disk.old) }
+    ensures ready { IfOk result (λ log. IsOpen D.Disk log disk.new) }
+    ensures kept { (all : List Logged) → D.tells → IsLogOf 0 all (D.seen disk.old Log) → (IsUnmade (D.seen disk.old Log) → length (D.seen disk.old Pages) ≡ 0)
+        → OpenKept D.Disk 0 all disk.old disk.new result }
+    ensures changes { ChangesOnly D.Disk Log disk.old disk.new }
+    ensures working { IfOk result (λ log. (log.failed ≡ false) × (log.base ≡ 0)) }
+    ensures causes { IfErr result (λ e. (e ≡ Memory) ⊎ (e ≡ Device) ⊎ (e ≡ NotAStore)) }
+{
+    match Gate::open(alloc, disk, FileId::Log)? {
+        Some(gate) => open_log(alloc, disk, gate, 0),
+        None => {
+            let gate = Gate::create(alloc, disk, FileId::Log)?;
+            open_log(alloc, disk, gate, 0)
+        }
+    }
+}

@@ -1,0 +1,229 @@
+//! A log is opened behind the last batch of its file, which is read once.
+
+ghost use Rattle.std.specs.Prelude.{◌≡◌, ◌+◌, ◌-◌, ◌^◌, ◌<◌, ◌≤◌, ◌⊎◌, ◌↔◌, true, false, not, is_ok, length, IfErr, IfOk, OnOk, List, ℕ, Some};
+ghost use Rattle.im_log.specs.Gates.{IsOfLog};
+ghost use Rattle.im_types.specs.declared.fault.Fault.TheVariants.{Device, Memory, NotAStore};
+ghost use Rattle.im_types.specs.declared.file_id.FileId.TheVariants.{Log};
+ghost use Rattle.im_types.specs.Records.{Logged};
+ghost use Rattle.im_disk.specs.Runs.{Reads};
+ghost use Rattle.im_gate.specs.Gate.{place_of, has_failed, IsReading};
+ghost use Rattle.im_log.specs.LogFile.{IsOpen};
+ghost use Rattle.im_log.specs.Kept.{HasLog, ReadKept};
+
+use crate::LogFile;
+use crate::front::front_size;
+use crate::log_file::{BUFFER, LSNS};
+use im_disk::Disk;
+use im_gate::Gate;
+use im_record::{Record, decode};
+use im_types::{Fault, Lsn};
+use std::alloc::Global;
+
+/// A log that is being opened: its records are read in turn.
+#[derive(Drop)]
+pub struct Opening {
+    gate: Gate,
+    /// The LSN of the file's first byte.
+    base: u64,
+    /// The batch that was read last.
+    bytes: Vec<u8>,
+    /// Where the record stands in it that was read last.
+    from: usize,
+    /// Where the next one stands in it.
+    at: usize,
+    /// How many bytes the batch has.
+    end: usize,
+    /// The place behind the batch in the file.
+    behind: u64,
+    failed: bool,
+    ghost of_log: { IsOfLog gate },
+    ghost sized: { length bytes.items ≡ 16384 },
+    ghost ordered: { from ≤ at },
+    ghost within: { at ≤ end },
+    ghost ends: { end ≤ 16384 },
+    ghost after: { end ≤ behind },
+    ghost placed: { base + behind ≤ 2 ^ 62 },
+}
+
+// The room for a batch.
+fn make_room(alloc: Global) -> Result<Vec<u8>, Fault>
+    ensures size { IfOk result (λ room. length room.items ≡ 16384) }
+    ensures causes { IfErr result (λ e. e ≡ Fault.Memory) }
+{
+    vec![in alloc; 0; BUFFER].map_err(|_| Fault::Memory)
+}
+
+impl Opening {
+    ghost use Rattle.std.specs.Prelude.{MatchOption, None, [], ◌∷◌};
+    ghost use Rattle.im_types.specs.declared.fault.Fault.TheVariants.{Device, Failed, Memory, NotAStore};
+    ghost use Rattle.im_types.specs.Records.{Logged};
+    ghost use Rattle.im_disk.specs.Runs.{Reads};
+    ghost use Rattle.im_gate.specs.Gate.{place_of, has_failed, unread, IsReading, IsReady, InOneFile};
+    ghost use Rattle.im_gate.specs.Batches.{in_front};
+    ghost use Rattle.im_record.specs.Entry.{view};
+    ghost use Rattle.im_record.specs.Reading.{entry_of, Gives};
+    ghost use Rattle.im_log.specs.LogFile.{IsOpen, IsLog};
+    ghost use Rattle.im_log.specs.Spelled.{first_record};
+    ghost use Rattle.im_log.specs.Opening.{current_of, rest_of, position_of, IsBegun, IsOpening, NextKept, StaysAt, Stepped, RefusedBatch, Ended};
+
+    /// Begins to read a log at its first gate. It takes the room for a batch, in which the log's records will wait.
+    ///
+    /// Refused `Memory`.
+    pub fn start(alloc: Global, gate: Gate, base: u64) -> Result<Opening, Fault>
+        requires base { base + 31 ≤ 2 ^ 62 }
+        requires of_log { IsOfLog gate }
+        requires first { place_of gate ≡ 31 }
+        ensures opening { IfOk result (λ opening. (opening.gate ≡ gate) × (opening.base ≡ base) × (opening.at ≡ 0) × (opening.end ≡ 0) × (opening.behind ≡ 31) × (opening.failed ≡ false)) }
+        ensures causes { IfErr result (λ e. e ≡ Memory) }
+    {
+        Ok(Opening {
+            gate,
+            base,
+            bytes: make_room(alloc)?,
+            from: 0,
+            at: 0,
+            end: 0,
+            behind: 31,
+            failed: false,
+        })
+    }
+
+    // Reads the next batch, if there is one.
+    fn fill<D: Disk>(&mut self, disk: &mut D) -> Result<bool, Fault>
+        requires begun { IsBegun D.Disk self.old disk.old }
+        requires working { self.old.failed ≡ false }
+        ensures begun { IsBegun D.Disk self.new disk.new }
+        ensures reads { Reads D.Disk disk.old disk.new }
+        ensures closed { result ≡ Ok false → IsReady D.Disk self.new.gate disk.new }
+        ensures none { result ≡ Ok false → D.tells → unread D.Disk self.old.gate disk.old ≡ Some [] }
+        ensures stays { result ≡ Ok false → StaysAt self.old self.new }
+        ensures one { result ≡ Ok true → D.tells → unread D.Disk self.old.gate disk.old ≡ in_front (rest_of self.new ∷ []) (unread D.Disk self.new.gate disk.new) }
+        ensures read { result ≡ Ok true → (self.new.at ≡ 0) × (1 ≤ self.new.end) × (self.new.behind ≡ self.old.behind + (self.new.end + 5)) }
+        ensures refused { result ≡ Err NotAStore → D.tells → RefusedBatch self.old.base (place_of self.old.gate) (unread D.Disk self.old.gate disk.old) }
+        ensures base { self.new.base ≡ self.old.base }
+        ensures failed { self.new.failed ≡ not (is_ok result) }
+        ensures causes { IfErr result (λ e. (e ≡ NotAStore) ⊎ (e ≡ Device)) }
+    {
+        self.failed = true;
+        let next = self.gate.read_into(disk, &mut self.bytes)?;
+        if let Some(size) = next {
+            let behind = self.gate.place();
+            if behind > LSNS - self.base {
+                return Err(Fault::NotAStore);
+            }
+            self.behind = behind;
+            self.from = 0;
+            self.at = 0;
+            self.end = size;
+        }
+        self.failed = false;
+        Ok(next.is_some())
+    }
+
+    // Moves on to the next record of the batch.
+    fn step(&mut self) -> Result<Lsn, Fault>
+        requires some { self.old.at < self.old.end }
+        ensures stepped { IfOk result (λ lsn. Stepped self.old lsn self.new) }
+        ensures refused { IfErr result (λ e. (e ≡ NotAStore) × (first_record (rest_of self.old) ≡ None)) }
+        ensures gate { self.new.gate ≡ self.old.gate }
+        ensures behind { self.new.behind ≡ self.old.behind }
+        ensures base { self.new.base ≡ self.old.base }
+        ensures failed { self.new.failed ≡ not (is_ok result) }
+    {
+        self.failed = true;
+        let size = front_size(&self.bytes[self.at..self.end])?;
+        let lsn = self.base + (self.behind - (self.end - self.at) as u64);
+        self.from = self.at;
+        self.at += size;
+        self.failed = false;
+        Ok(lsn)
+    }
+
+    /// Moves on to the next record and answers its LSN, or none behind the last.
+    ///
+    /// Refused `NotAStore` where the bytes are no log; `Device`. After a refusal every later call answers `Failed`.
+    pub fn next<D: Disk>(&mut self, disk: &mut D) -> Result<Option<Lsn>, Fault>
+        requires begun { IsBegun D.Disk self.old disk.old }
+        ensures begun { IsBegun D.Disk self.new disk.new }
+        ensures reads { Reads D.Disk disk.old disk.new }
+        ensures kept { (base : ℕ) (all older : List Logged) → IsOpening D.Disk base all older self.old disk.old → NextKept D.Disk base all older self.new disk.new result }
+        ensures ended { result ≡ Ok None → IsReady D.Disk self.new.gate disk.new }
+        ensures moves { IfOk result (λ next. MatchOption next (Unit {0}) (λ lsn. position_of self.old < position_of self.new)) }
+        ensures base { self.new.base ≡ self.old.base }
+        ensures failed { self.new.failed ≡ not (is_ok result) }
+        ensures causes { IfErr result (λ e. (e ≡ Failed) ⊎ (e ≡ NotAStore) ⊎ (e ≡ Device)) }
+        ensures already { result ≡ Err Failed ↔ (self.old.failed ≡ true) }
+    {
+        if self.failed {
+            return Err(Fault::Failed);
+        }
+        if self.at < self.end {
+            return Ok(Some(self.step()?));
+        }
+        if !self.fill(disk)? {
+            return Ok(None);
+        }
+        Ok(Some(self.step()?))
+    }
+
+    /// The record that was read last.
+    ///
+    /// Refused `NotAStore` where its bytes are no record.
+    pub fn record(&self) -> Result<Record<'_>, Fault>
+        ensures record { Gives view result (entry_of (current_of self.now)) }
+    {
+        decode(&self.bytes[self.from..self.at])
+    }
+
+    /// The log behind its last record, with nothing buffered.
+    pub fn finish<D: Disk>(self, disk: &D) -> LogFile
+        requires usable { self.failed ≡ false }
+        requires begun { IsBegun D.Disk self disk.now }
+        requires ended { IsReady D.Disk self.gate disk.now }
+        ensures ready { IsOpen D.Disk result disk.now }
+        ensures kept { (base : ℕ) (all older : List Logged) → Ended D.Disk base all older self disk.now → IsLog D.Disk base all all result disk.now }
+        ensures base { result.base ≡ self.base }
+        ensures empty { result.used ≡ 0 }
+        ensures working { result.failed ≡ false }
+    {
+        let _ = disk;
+        let Opening {
+            gate,
+            base,
+            bytes,
+            ..
+        } = self;
+        LogFile::at_end(gate, base, bytes)
+    }
+}
+
+/// Opens a log at its first gate: reads its records to the last, and checks each. The file is read once.
+///
+/// Refused `NotAStore` where the bytes are no log; `Device`; `Memory`.
+pub fn open_log<D: Disk>(
+    alloc: Global,
+    disk: &mut D,
+    gate: Gate,
+    base: u64,
+) -> Result<LogFile, Fault>
+    requires base { base + 31 ≤ 2 ^ 62 }
+    requires of_log { IsOfLog gate }
+    requires first { place_of gate ≡ 31 }
+    requires usable { has_failed gate ≡ false }
+    requires reading { IsReading D.Disk gate disk.old }
+    ensures reads { Reads D.Disk disk.old disk.new }
+    ensures ready { IfOk result (λ log. IsOpen D.Disk log disk.new) }
+    ensures kept { (all : List Logged) → D.tells → HasLog base all (D.seen disk.old Log) → ReadKept D.Disk base all disk.new result }
+    ensures working { IfOk result (λ log. (log.failed ≡ false) × (log.base ≡ base)) }
+    ensures causes { IfErr result (λ e. (e ≡ Memory) ⊎ (e ≡ Device) ⊎ (e ≡ NotAStore)) }
+{
+    let mut opening = Opening::start(alloc, gate, base)?;
+    loop {
+        match opening.next(disk)? {
+            None => return Ok(opening.finish(disk)),
+            Some(_) => {
+                let _ = opening.record()?;
+            }
+        }
+    }
+}

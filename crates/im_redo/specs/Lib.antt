@@ -1,0 +1,4 @@
+pub mod OnePage
+pub mod Going
+pub mod Redo
+pub mod Kept
