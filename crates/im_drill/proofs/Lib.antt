@@ -1,9 +1,17 @@
 pub mod Acked
+pub mod KeyWords
 pub mod Lines
 pub mod OpenedLogs
 pub mod Passed
 pub mod Putting
+pub mod RawTexts
 pub mod ReadLines
+pub mod ReadStoreLines
 pub mod Replied
 pub mod Spelled
+pub mod Standing
 pub mod Stands
+pub mod StepSpelled
+pub mod StoreAsked
+pub mod StoreShown
+pub mod StoreSpelled

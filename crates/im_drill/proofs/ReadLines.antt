@@ -8,28 +8,12 @@ use Rattle.im_drill.specs.declared.raw_line.RawLine.{RawLine}
 use Rattle.im_drill.specs.declared.raw_line.RawLine.TheVariants as raws
 use Rattle.im_drill.specs.declared.raw_life.RawLife.{RawLife}
 use Rattle.im_drill.specs.declared.script.Script.{Script}
-use Rattle.im_drill.specs.Scripts.{Kind, SetsLog, Stops, Place, Before, Within, Behind, kind_of, MayFollow, MayStand, place_behind, place_after, line_of, stop_lines, lines_of_lives, last_set, IsScriptOf}
+use Rattle.im_drill.specs.Scripts.{Kind, Place, Before, Within, Behind, kind_of, MayFollow, MayStand, place_behind, place_after, line_of, stop_lines, lines_of_lives, last_set, IsScriptOf}
+use Rattle.im_drill.proofs.Standing.{stand_push, place_push, sets_push}
 use Rattle.im_drill.specs.Reading.{lines_of_open, place_of, IsRead}
-
-stand_push : (p : Place) (ks : List Kind) (k : Kind) → MayStand p ks → MayFollow k (place_after p ks) → MayStand p (ks ++ k ∷ [])
-stand_push p [] k s f = (f, tt)
-stand_push p (j ∷ ks) k s f = (s.0, stand_push (place_behind j p) ks k s.1 f)
-
-pub stand_last : (p : Place) (ks : List Kind) (k : Kind) → MayStand p (ks ++ k ∷ []) → MayFollow k (place_after p ks)
-stand_last p [] k s = s.0
-stand_last p (j ∷ ks) k s = stand_last (place_behind j p) ks k s.1
-
-place_push : (p : Place) (ks : List Kind) (k : Kind) → place_after p (ks ++ k ∷ []) ≡ place_behind k (place_after p ks)
-place_push p [] k = refl
-place_push p (j ∷ ks) k = place_push (place_behind j p) ks k
 
 kinds_push : (said : List Line) (l : Line) → map kind_of (said ++ l ∷ []) ≡ map kind_of said ++ kind_of l ∷ []
 kinds_push said l = map-append kind_of said (l ∷ [])
-
-sets_push : (sets : List (Vec ℕ Global)) (bytes : Vec ℕ Global) → last_set (sets ++ bytes ∷ []) ≡ bytes.items
-sets_push [] bytes = refl
-sets_push (a ∷ []) bytes = refl
-sets_push (a ∷ b ∷ sets) bytes = sets_push (b ∷ sets) bytes
 
 module _ (log : List ℕ) (lives : List RawLife) (life : Option (Vec RawLine Global)) (said : List Line) (r : IsRead log lives life said) where
   -- one line more, of which it is known what it makes
@@ -131,29 +115,3 @@ end_more script log lives old said same is r = (
   },
   r.stand,
 )
-
--- where a line may not stand
-set_place : (lives : List RawLife) (life : Option (Vec RawLine Global)) → MayFollow SetsLog (place_of lives life) → (lives ≡ []) × (life ≡ None)
-set_place [] None may = (refl, refl)
-set_place [] (Some v) may = absurd may
-set_place (one ∷ lives) None may = absurd may
-set_place (one ∷ lives) (Some v) may = absurd may
-
-pub set_refused : (log : List ℕ) (lives : List RawLife) (life : Option (Vec RawLine Global)) (said : List Line) → IsRead log lives life said → MayFollow SetsLog (place_after Before (map kind_of said)) → (lives ≡ []) × (life ≡ None)
-set_refused log lives life said r may = set_place lives life (subst (λ (p : Place). MayFollow SetsLog p) r.place may)
-
-none_place : (lives : List RawLife) (line : RawLine) → MayFollow (kind_of (line_of line)) (place_of lives None) → ⊥
-none_place [] (raws.Put batch) may = may
-none_place [] raws.Calls may = may
-none_place (one ∷ lives) (raws.Put batch) may = may
-none_place (one ∷ lives) raws.Calls may = may
-
-pub add_refused : (log : List ℕ) (lives : List RawLife) (said : List Line) (line : RawLine) → IsRead log lives None said → MayFollow (kind_of (line_of line)) (place_after Before (map kind_of said)) → ⊥
-add_refused log lives said line r may = none_place lives line (subst (λ (p : Place). MayFollow (kind_of (line_of line)) p) r.place may)
-
-stop_place : (lives : List RawLife) → MayFollow Stops (place_of lives None) → ⊥
-stop_place [] may = may
-stop_place (one ∷ lives) may = may
-
-pub stop_refused : (log : List ℕ) (lives : List RawLife) (said : List Line) → IsRead log lives None said → MayFollow Stops (place_after Before (map kind_of said)) → ⊥
-stop_refused log lives said r may = stop_place lives (subst (λ (p : Place). MayFollow Stops p) r.place may)

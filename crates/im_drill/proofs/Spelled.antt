@@ -28,6 +28,10 @@ spelled_kind text (lines.Put batch) s = sym (ap text_kind s.1)
 spelled_kind text (lines.SetLog bytes) s = sym (ap text_kind s.1)
 spelled_kind text (lines.Stop stop) s = sym (ap text_kind s.3)
 
+-- a line is of one kind, however it is read
+pub one_kind : (text : List ℕ) (l m : Line) → Spells text l → Spells text m → kind_of l ≡ kind_of m
+one_kind text l m s o = spelled_kind text l s ∙ sym (spelled_kind text m o)
+
 -- a word alone is `raw`, `calls` or no line
 pub lone_bad : (word : List ℕ) (said : Line) → Spells word said → Lacks 32 word → word ≢ codes "raw" → word ≢ codes "calls" → ⊥
 lone_bad word lines.Raw s l r c = r s
@@ -65,7 +69,7 @@ set_hex rest word more said s cut l n =
     let same = (cut_once 32 word (codes "log") more w.0 l (λ x. omega arith, (λ x. omega arith, (λ x. omega arith, tt))) (sym cut ∙ w.2)).1 in
     w.3 (sym same ∙ n)
 
-digits_lack : (word : List ℕ) → AllDigits 10 word → Lacks 32 word
+pub digits_lack : (word : List ℕ) → AllDigits 10 word → Lacks 32 word
 digits_lack [] d = tt
 digits_lack (c ∷ word) d = (λ (e : c ≡ 32). let none = subst (λ (x : ℕ). AllDigits 10 (x ∷ [])) e (d.0, tt) in absurd (omega (arith, none.0)), digits_lack word d.1)
 

@@ -21,23 +21,30 @@ IsReply lines.Calls (replies.Refused fault) = ⊥
 IsReply lines.Calls replies.Stopped = ⊥
 
 -- each line has its reply, one for one
-abbrev pub Replied : List RawLine → List RawReply → Type 0
-Replied [] [] = Unit {0}
-Replied [] (reply ∷ others) = ⊥
-Replied (line ∷ rest) [] = ⊥
-Replied (line ∷ rest) (reply ∷ others) = IsReply line reply × Replied rest others
+abbrev pub RepliedBy : {L R : Type 0} → (L → R → Type 0) → List L → List R → Type 0
+RepliedBy fits [] [] = Unit {0}
+RepliedBy fits [] (reply ∷ others) = ⊥
+RepliedBy fits (line ∷ rest) [] = ⊥
+RepliedBy fits (line ∷ rest) (reply ∷ others) = fits line reply × RepliedBy fits rest others
 
--- The stop fell into a line: those in front of it have their replies, and it answers `stopped`.
-pub record StoppedWithin (all : List RawLine) (told : List RawReply) : Type 0 where
+-- The stop fell into a line: those in front of it have their replies, and it answers that it was stopped.
+pub record StoppedWithin {L R : Type 0} (fits : L → R → Type 0) (stopped : R) (all : List L) (told : List R) : Type 0 where
   pub line : ℕ
-  pub front : List RawReply
+  pub front : List R
   pub within : line < length all
-  pub replied : Replied (take line all) front
-  pub is : told ≡ front ++ replies.Stopped ∷ []
+  pub replied : RepliedBy fits (take line all) front
+  pub is : told ≡ front ++ stopped ∷ []
 
 -- Each line has its reply, up to one into which the stop fell.
+abbrev pub AnsweredBy : {L R : Type 0} → (L → R → Type 0) → R → List L → List R → Type 0
+AnsweredBy fits stopped all told = RepliedBy fits all told ⊎ StoppedWithin fits stopped all told
+
+-- of a life over the gate alone
+abbrev pub Replied : List RawLine → List RawReply → Type 0
+Replied all told = RepliedBy IsReply all told
+
 abbrev pub Answered : List RawLine → List RawReply → Type 0
-Answered all told = Replied all told ⊎ StoppedWithin all told
+Answered all told = AnsweredBy IsReply replies.Stopped all told
 
 -- Behind an opening that did not succeed no line is answered.
 abbrev pub AnsweredBehind : Opening → List RawLine → List RawReply → Type 0

@@ -4,3 +4,8 @@ pub mod Lines
 pub mod Scripts
 pub mod Reading
 pub mod Answered
+pub mod StoreLives
+pub mod Steps
+pub mod StoreScripts
+pub mod StoreReading
+pub mod Stops

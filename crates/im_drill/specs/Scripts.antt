@@ -20,13 +20,13 @@ abbrev pub lines_of : List ℕ → List (List ℕ)
 lines_of [] = [] ∷ []
 lines_of (b ∷ rest) = if b == 10 then [] ∷ lines_of rest else in_front b (lines_of rest)
 
--- The lines of a text say these, one for one. An empty line says nothing.
-abbrev pub Says : List (List ℕ) → List Line → Type 0
-Says [] [] = Unit {0}
-Says [] (line ∷ said) = ⊥
-Says ([] ∷ texts) said = Says texts said
-Says ((b ∷ text) ∷ texts) [] = ⊥
-Says ((b ∷ text) ∷ texts) (line ∷ said) = Spells (b ∷ text) line × Says texts said
+-- The lines of a text say these, one for one, where a line says what it spells. An empty line says nothing.
+abbrev pub SaysBy : {L : Type 0} → (List ℕ → L → Type 0) → List (List ℕ) → List L → Type 0
+SaysBy spells [] [] = Unit {0}
+SaysBy spells [] (line ∷ said) = ⊥
+SaysBy spells ([] ∷ texts) said = SaysBy spells texts said
+SaysBy spells ((b ∷ text) ∷ texts) [] = ⊥
+SaysBy spells ((b ∷ text) ∷ texts) (line ∷ said) = spells (b ∷ text) line × SaysBy spells texts said
 
 -- what kind of line it is, whatever it carries
 pub data Kind : Type 0 where
@@ -34,6 +34,7 @@ pub data Kind : Type 0 where
   Begins : Kind
   Puts : Kind
   Counts : Kind
+  Steps : Kind
   Stops : Kind
 
 abbrev pub kind_of : Line → Kind
@@ -49,7 +50,7 @@ pub data Place : Type 0 where
   Within : Place
   Behind : Place
 
--- `set log` stands before the first life, `raw` anywhere, and `put`, `calls` and `stop` within a life.
+-- `set log` stands before the first life, `raw` or `life` anywhere, and `put`, `calls`, steps and `stop` within a life.
 abbrev pub MayFollow : Kind → Place → Type 0
 MayFollow Begins place = Unit {0}
 MayFollow SetsLog Before = Unit {0}
@@ -61,17 +62,21 @@ MayFollow Puts Behind = ⊥
 MayFollow Counts Before = ⊥
 MayFollow Counts Within = Unit {0}
 MayFollow Counts Behind = ⊥
+MayFollow Steps Before = ⊥
+MayFollow Steps Within = Unit {0}
+MayFollow Steps Behind = ⊥
 MayFollow Stops Before = ⊥
 MayFollow Stops Within = Unit {0}
 MayFollow Stops Behind = ⊥
 
--- a `raw` line begins a life, and a `stop` line ends it
+-- a `raw` or `life` line begins a life, and a `stop` line ends it
 abbrev pub place_behind : Kind → Place → Place
 place_behind Begins place = Within
 place_behind Stops place = Behind
 place_behind SetsLog place = place
 place_behind Puts place = place
 place_behind Counts place = place
+place_behind Steps place = place
 
 abbrev pub place_after : Place → List Kind → Place
 place_after place [] = place
@@ -109,19 +114,23 @@ pub record IsScriptOf (script : Script) (said : List Line) : Type 0 where
   pub log : script.log.items ≡ last_set sets
 
 -- lines of a text that are spelled as the grammar says and may stand in this order
-abbrev pub IsGood : List (List ℕ) → Type 0
-IsGood texts = (said : List Line) × Says texts said × MayStand Before (map kind_of said)
-
--- The script that the lines of a text make.
-abbrev pub IsScript : List (List ℕ) → Script → Type 0
-IsScript texts script = (said : List Line) × Says texts said × MayStand Before (map kind_of said) × IsScriptOf script said
+abbrev pub IsGoodBy : {L : Type 0} → (List ℕ → L → Type 0) → (L → Kind) → List (List ℕ) → Type 0
+IsGoodBy {L} spells kind texts = (said : List L) × SaysBy spells texts said × MayStand Before (map kind said)
 
 -- The line of this number, counted from 1, is the first that is bad: the lines in front of it are good, and with it they are not.
-pub record IsFirstBad (texts : List (List ℕ)) (number : ℕ) : Type 0 where
+pub record IsFirstBadBy {L : Type 0} (spells : List ℕ → L → Type 0) (kind : L → Kind) (texts : List (List ℕ)) (number : ℕ) : Type 0 where
   pub front : List (List ℕ)
   pub line : List ℕ
   pub rest : List (List ℕ)
   pub is : texts ≡ front ++ line ∷ rest
   pub counted : number ≡ length front + 1
-  pub good : IsGood front
-  pub bad : ¬ (IsGood (front ++ line ∷ []))
+  pub good : IsGoodBy spells kind front
+  pub bad : ¬ (IsGoodBy spells kind (front ++ line ∷ []))
+
+-- The script that the lines of a text make.
+abbrev pub IsScript : List (List ℕ) → Script → Type 0
+IsScript texts script = (said : List Line) × SaysBy Spells texts said × MayStand Before (map kind_of said) × IsScriptOf script said
+
+-- The line of this number is the first that is bad.
+abbrev pub IsFirstBad : List (List ℕ) → ℕ → Type 0
+IsFirstBad texts number = IsFirstBadBy Spells kind_of texts number

@@ -1,7 +1,7 @@
 //! The lines that scripts may have.
 
-ghost use Rattle.std.specs.Prelude.{◌≡◌, ◌++◌, codes, IfOk};
-ghost use Rattle.im_types.specs.declared.fault.Fault.TheVariants.{BadScript};
+ghost use Rattle.std.specs.Prelude.{◌≡◌, ◌⊎◌, ◌++◌, codes, IfOk, IfErr};
+ghost use Rattle.im_types.specs.declared.fault.Fault.TheVariants.{BadScript, Memory};
 ghost use Rattle.im_drill.specs.declared.line.Line.{Line};
 ghost use Rattle.im_drill.specs.Lines.{Lacks, Spells};
 
@@ -18,6 +18,7 @@ use std::alloc::Global;
 pub fn parse_line(alloc: Global, line: &[u8]) -> Result<Line, Fault>
     ensures says { IfOk result (λ said. Spells line.now said) }
     ensures refused { result ≡ Err BadScript → (said : Line) → ¬ (Spells line.now said) }
+    ensures causes { IfErr result (λ e. (e ≡ Memory) ⊎ (e ≡ BadScript)) }
 {
     let (word, rest) = first_piece(line, b' ');
     let Some(rest) = rest else {
@@ -41,6 +42,7 @@ fn lone_word(word: &[u8]) -> Result<Line, Fault>
     requires { Lacks 32 word.now }
     ensures says { IfOk result (λ said. Spells word.now said) }
     ensures refused { result ≡ Err BadScript → (said : Line) → ¬ (Spells word.now said) }
+    ensures causes { IfErr result (λ e. (e ≡ Memory) ⊎ (e ≡ BadScript)) }
 {
     if word == b"raw".as_slice() {
         return Ok(Line::Raw);
@@ -55,6 +57,7 @@ fn lone_word(word: &[u8]) -> Result<Line, Fault>
 fn put_line(alloc: Global, rest: &[u8]) -> Result<Line, Fault>
     ensures says { IfOk result (λ said. Spells (codes "put " ++ rest.now) said) }
     ensures refused { result ≡ Err BadScript → (said : Line) → ¬ (Spells (codes "put " ++ rest.now) said) }
+    ensures causes { IfErr result (λ e. (e ≡ Memory) ⊎ (e ≡ BadScript)) }
 {
     let bytes = bytes_of(alloc, rest)?;
     match Batch::new(bytes) {
@@ -67,6 +70,7 @@ fn put_line(alloc: Global, rest: &[u8]) -> Result<Line, Fault>
 fn set_line(alloc: Global, rest: &[u8]) -> Result<Line, Fault>
     ensures says { IfOk result (λ said. Spells (codes "set " ++ rest.now) said) }
     ensures refused { result ≡ Err BadScript → (said : Line) → ¬ (Spells (codes "set " ++ rest.now) said) }
+    ensures causes { IfErr result (λ e. (e ≡ Memory) ⊎ (e ≡ BadScript)) }
 {
     let (word, rest) = first_piece(rest, b' ');
     let Some(rest) = rest else {
@@ -85,6 +89,7 @@ fn set_line(alloc: Global, rest: &[u8]) -> Result<Line, Fault>
 fn stop_line(alloc: Global, rest: &[u8]) -> Result<Line, Fault>
     ensures says { IfOk result (λ said. Spells (codes "stop " ++ rest.now) said) }
     ensures refused { result ≡ Err BadScript → (said : Line) → ¬ (Spells (codes "stop " ++ rest.now) said) }
+    ensures causes { IfErr result (λ e. (e ≡ Memory) ⊎ (e ≡ BadScript)) }
 {
     let (call, rest) = first_piece(rest, b' ');
     let Some(rest) = rest else {

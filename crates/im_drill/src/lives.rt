@@ -1,18 +1,19 @@
 //! Lives over the gate alone, on the model disk.
 
-ghost use Rattle.std.specs.Prelude.{◌≡◌, ◌++◌, ◌∷◌, ◌⊎◌, [], ℕ, List, true, false, is_ok, if◌then◌else◌, IfOk};
+ghost use Rattle.std.specs.Prelude.{◌≡◌, ◌++◌, ◌∷◌, ◌⊎◌, [], ℕ, List, true, false, is_ok, if◌then◌else◌, IfOk, OnOk};
 ghost use Rattle.im_disk.specs.Disk.{Files};
 ghost use Rattle.im_disk.specs.Runs.{IsSynced, Reads};
 ghost use Rattle.im_disk.specs.Model.{model_stopped};
 ghost use Rattle.im_gate.specs.Gate.{IsReady};
 ghost use Rattle.im_drill.specs.Lives.{StandsFor, Survives, asked_of, acked_of};
 ghost use Rattle.im_drill.specs.Living.{IsLiving};
+ghost use Rattle.im_drill.specs.Stops.{IsArmedWith};
 ghost use Rattle.im_drill.specs.Answered.{IsReply, Answered, AnsweredBehind};
 
 use crate::opening::open_batches;
 use crate::stop::copy_of;
 use crate::{Batch, LifeAnswers, Opening, RawLife, RawLine, RawReply};
-use im_disk::{Disk, ModelDisk};
+use im_disk::{Disk, ModelDisk, Stop};
 use im_gate::Gate;
 use im_types::Fault;
 use std::alloc::{AllocError, Global};
@@ -34,34 +35,43 @@ pub(crate) fn run_life(
         → (c : Files) → ⟦<ModelDisk as Disk>⟧.may_leave disk.new c
         → (after : List (List ℕ)) × StandsFor c after × Survives before (asked_of life.now.lines.items) (acked_of life.now.lines.items told.replies.items) after) }
 {
-    arm(alloc, disk, life)?;
+    arm(alloc, disk, &life.stop)?;
     match open_batches(alloc, disk) {
         Ok((mut gate, _before)) => {
             let opening = Opening::Open(disk.calls());
             let replies = run_lines(alloc, disk, &mut gate, &life.lines)?;
             Ok(LifeAnswers { opening, replies })
         }
-        Err(fault) => {
-            let opening = if disk.stopped() {
-                Opening::Stopped
-            } else {
-                Opening::Refused(fault)
-            };
-            Ok(LifeAnswers {
-                opening,
-                replies: Vec::new(alloc),
-            })
-        }
+        Err(fault) => Ok(LifeAnswers {
+            opening: refused_opening(disk, fault),
+            replies: Vec::new(alloc),
+        }),
+    }
+}
+
+// What an opening answers that did not succeed.
+pub(crate) fn refused_opening(disk: &ModelDisk, fault: Fault) -> Opening
+    ensures { result ≡ (if model_stopped disk.now then Opening.Stopped else Opening.Refused fault) }
+{
+    if disk.stopped() {
+        Opening::Stopped
+    } else {
+        Opening::Refused(fault)
     }
 }
 
 // Sets the life's stop.
-fn arm(alloc: Global, disk: &mut ModelDisk, life: &RawLife) -> Result<(), AllocError>
+pub(crate) fn arm(
+    alloc: Global,
+    disk: &mut ModelDisk,
+    stop: &Option<Stop>,
+) -> Result<(), AllocError>
+    ensures armed { OnOk result (IsArmedWith stop.now disk.old disk.new) }
     ensures reads { Reads ⟦<ModelDisk as Disk>⟧ disk.old disk.new }
     ensures synced { IsSynced ⟦<ModelDisk as Disk>⟧ disk.old → IsSynced ⟦<ModelDisk as Disk>⟧ disk.new }
     ensures failed { ⟦<ModelDisk as Disk>⟧.failed disk.new ≡ ⟦<ModelDisk as Disk>⟧.failed disk.old }
 {
-    match &life.stop {
+    match stop {
         Some(stop) => {
             let stop = copy_of(alloc, stop)?;
             disk.arm(stop);

@@ -1,8 +1,8 @@
 //! A log behind a gate, opened: made where there is none yet, and read to its end.
 
-ghost use Rattle.std.specs.Prelude.{◌≡◌, ◌≢◌, ℕ, [], Some, List, false, map, IfOk, MatchResult};
+ghost use Rattle.std.specs.Prelude.{◌≡◌, ◌≢◌, ◌⊎◌, ◌↔◌, ℕ, [], Some, List, true, false, map, IfOk, IfErr, MatchResult};
 ghost use Rattle.im_types.specs.declared.file_id.FileId.TheVariants.{Log};
-ghost use Rattle.im_types.specs.declared.fault.Fault.TheVariants.{NotAStore};
+ghost use Rattle.im_types.specs.declared.fault.Fault.TheVariants.{Device, LogFull, Memory, NotAStore};
 ghost use Rattle.im_disk.specs.Disk.{Files};
 ghost use Rattle.im_disk.specs.Runs.{IsSynced, Reads};
 ghost use Rattle.im_gate.specs.Gate.{IsReading, IsReady, InOneFile, unread, has_failed};
@@ -26,6 +26,8 @@ pub fn open_batches<D: Disk>(alloc: Global, disk: &mut D) -> Result<(Gate, Vec<V
     ensures found { IfOk result (λ opened. D.tells → StandsFor (D.seen disk.old) (map (λ batch. batch.items) opened.1.items)) }
     ensures leaves { D.tells → (found : List (List ℕ)) → StandsFor (D.seen disk.old) found → (c : Files) → D.may_leave disk.new c → StandsFor c found }
     ensures refused { result ≡ Err NotAStore → D.tells → (found : List (List ℕ)) → ¬ (StandsFor (D.seen disk.old) found) }
+    ensures causes { IfErr result (λ e. (e ≡ Memory) ⊎ (e ≡ Device) ⊎ (e ≡ NotAStore) ⊎ (e ≡ LogFull)) }
+    ensures device { result ≡ Err Device ↔ (D.failed disk.new ≡ true) }
 {
     match Gate::open(alloc, disk, FileId::Log)? {
         Some(gate) => read_batches(alloc, disk, gate),
@@ -62,6 +64,8 @@ fn read_batches<D: Disk>(
     ensures same { IfOk result (λ opened. InOneFile gate opened.0) }
     ensures found { IfOk result (λ opened. D.tells → unread D.Disk gate disk.old ≡ Some (map (λ batch. batch.items) opened.1.items)) }
     ensures refused { result ≡ Err NotAStore → D.tells → unread D.Disk gate disk.old ≡ None }
+    ensures causes { IfErr result (λ e. (e ≡ Memory) ⊎ (e ≡ Device) ⊎ (e ≡ NotAStore) ⊎ (e ≡ LogFull)) }
+    ensures device { result ≡ Err Device ↔ (D.failed disk.new ≡ true) }
 {
     let mut gate = gate;
     let mut batches = Vec::new(alloc);

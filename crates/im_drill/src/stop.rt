@@ -1,9 +1,10 @@
 //! The last line of a life.
 
-ghost use Rattle.std.specs.Prelude.{◌≡◌, ℕ, IfOk, MatchOption};
-ghost use Rattle.im_types.specs.declared.fault.Fault.TheVariants.{BadScript};
+ghost use Rattle.std.specs.Prelude.{◌≡◌, ◌⊎◌, ℕ, IfOk, IfErr, MatchOption};
+ghost use Rattle.im_types.specs.declared.fault.Fault.TheVariants.{BadScript, Memory};
 ghost use Rattle.im_disk.specs.declared.stop.Fill.{Fill};
 ghost use Rattle.im_disk.specs.declared.stop.Length.{Length};
+ghost use Rattle.im_drill.specs.Stops.{IsSameStop};
 ghost use Rattle.im_drill.specs.Lines.{IsCall, IsLengthWord, IsFillWord};
 
 use crate::digits::bytes_of;
@@ -39,6 +40,7 @@ pub(crate) fn length_of(word: &[u8]) -> Option<Length>
 pub(crate) fn fill_of(alloc: Global, word: &[u8]) -> Result<Fill, Fault>
     ensures says { IfOk result (λ fill. IsFillWord word.now fill) }
     ensures refused { result ≡ Err BadScript → (fill : Fill) → ¬ (IsFillWord word.now fill) }
+    ensures causes { IfErr result (λ e. (e ≡ Memory) ⊎ (e ≡ BadScript)) }
 {
     if word == b"written".as_slice() {
         return Ok(Fill::Written);
@@ -51,7 +53,9 @@ pub(crate) fn fill_of(alloc: Global, word: &[u8]) -> Result<Fill, Fault>
 }
 
 /// A stop like this one.
-pub(crate) fn copy_of(alloc: Global, stop: &Stop) -> Result<Stop, AllocError> {
+pub(crate) fn copy_of(alloc: Global, stop: &Stop) -> Result<Stop, AllocError>
+    ensures { IfOk result (λ copy. IsSameStop stop.now copy) }
+{
     let fill = match &stop.fill {
         Fill::Written => Fill::Written,
         Fill::Bytes(bytes) => Fill::Bytes(Vec::from_slice(alloc, bytes)?),

@@ -4,7 +4,10 @@ ghost use Rattle.std.specs.Prelude.{◌≤◌, IfOk};
 
 use crate::answers::Drilled;
 use crate::drilling::drill;
-use crate::life_answers::{LifeAnswers, Opening, RawReply};
+use crate::life_answers::{LifeAnswers, RawReply};
+use crate::store_drilling::drill_store;
+use crate::store_script::StoreScript;
+use crate::store_text::{is_raw, print_opening, print_store};
 use crate::{Script, ScriptError};
 use im_types::Fault;
 use std::alloc::{AllocError, Global};
@@ -22,11 +25,13 @@ pub fn drill_text<R: Read, W: Write>(
 {
     let mut text = Vec::new(alloc);
     reader.read_to_end(&mut text)?;
-    match Script::parse(alloc, &text) {
-        Ok(script) => {
-            print_answers(alloc, writer, &drill(alloc, &script)?)?;
-            Ok(0)
-        }
+    let run = if is_raw(&text) {
+        run_raw(alloc, writer, &text)?
+    } else {
+        run_store(alloc, writer, &text)?
+    };
+    match run {
+        Ok(()) => Ok(0),
         Err(ScriptError::BadLine(number)) => {
             writeln!(
                 writer,
@@ -36,6 +41,36 @@ pub fn drill_text<R: Read, W: Write>(
             Ok(1)
         }
         Err(ScriptError::Memory) => Err(io::Error::from(AllocError)),
+    }
+}
+
+// A script of lives over the gate alone.
+fn run_raw<W: Write>(
+    alloc: Global,
+    writer: &mut W,
+    text: &[u8],
+) -> io::Result<Result<(), ScriptError>> {
+    match Script::parse(alloc, text) {
+        Ok(script) => {
+            print_answers(alloc, writer, &drill(alloc, &script)?)?;
+            Ok(Ok(()))
+        }
+        Err(error) => Ok(Err(error)),
+    }
+}
+
+// A script of lives of a store.
+fn run_store<W: Write>(
+    alloc: Global,
+    writer: &mut W,
+    text: &[u8],
+) -> io::Result<Result<(), ScriptError>> {
+    match StoreScript::parse(alloc, text) {
+        Ok(script) => {
+            print_store(alloc, writer, &drill_store(alloc, &script)?)?;
+            Ok(Ok(()))
+        }
+        Err(error) => Ok(Err(error)),
     }
 }
 
@@ -50,11 +85,7 @@ fn print_answers<W: Write>(alloc: Global, writer: &mut W, drilled: &Drilled) -> 
 }
 
 fn print_life<W: Write>(writer: &mut W, life: &LifeAnswers) -> io::Result<()> {
-    match life.opening {
-        Opening::Open(calls) => writeln!(writer, "open ok {calls}")?,
-        Opening::Refused(fault) => writeln!(writer, "open refused {}", fault.number())?,
-        Opening::Stopped => writeln!(writer, "open stopped")?,
-    }
+    print_opening(writer, life.opening)?;
     for reply in &life.replies {
         match *reply {
             RawReply::Put => writeln!(writer, "put ok")?,

@@ -1,24 +1,22 @@
 -- A Commit, and what the engine is after it.
-use Rattle.std.proofs.Common.{◌≡◌, ◌≢◌, ◌⊎◌, inl, inr, ⊎_elim, ℕ, ◌+◌, ◌^◌, ◌<◌, ◌≤◌, List, [], ◌∷◌, ◌++◌, length, Bool, true, false, cond, Option, Some, None, refl, sym, ap, subst, ◌∙◌, arith, append_assoc, append-nil}
-use Rattle.std.specs.Prelude.{◌==◌}
-use Rattle.std.proofs.lemmas.Bool.{cases_eq, eq-eqb, ne_eqb, cond-true, cond-false}
+use Rattle.std.proofs.Common.{◌≡◌, ◌≢◌, inl, inr, ⊎_elim, ℕ, ◌^◌, ◌<◌, ◌≤◌, List, [], ◌∷◌, ◌++◌, length, Bool, true, false, Option, None, refl, sym, ap, subst, ◌∙◌, append_assoc, append-nil}
+use Rattle.std.proofs.lemmas.Bool.{cases_eq}
 use Rattle.im_types.specs.declared.file_id.FileId.TheVariants.{Log, Pages}
 use Rattle.im_types.specs.Answers.{Going}
-use Rattle.im_types.specs.Changes.{Change, Effect, seen}
-use Rattle.im_types.specs.Histories.{History, page_at, end_of}
+use Rattle.im_types.specs.Changes.{Effect, seen}
+use Rattle.im_types.specs.Histories.{History, end_of}
 use Rattle.im_types.specs.Transactions.{committed}
 use Rattle.im_types.specs.Lives.{Asked, Shown, Running, idle, asks, effect_asked, effects, with_running, StandsForMore}
 use Rattle.im_disk.specs.declared.disk.Disk.{Ghosts}
 use Rattle.im_disk.specs.Disk.{Files, InFile, Stepped}
-use Rattle.im_disk.specs.Runs.{LeavesOnly, LeavesIn, ChangesOnly}
+use Rattle.im_disk.specs.Runs.{LeavesOnly, LeavesIn}
 use Rattle.im_disk.proofs.Runs.{weakened}
 use Rattle.im_gate.specs.Header.{IsMade}
 use Rattle.im_log.specs.Spelled.{log_of}
 use Rattle.im_log.specs.LogFile.{IsOpen, IsLog}
 use Rattle.im_log.specs.declared.log_file.LogFile.{LogFile}
 use Rattle.im_log.specs.Kept.{HasLog, SpellsEither}
-use Rattle.im_redo.specs.OnePage.{first_base, AreBelow, IsSettled}
-use Rattle.im_redo.specs.Going.{IsGoing}
+use Rattle.im_redo.specs.OnePage.{first_base, AreBelow}
 use Rattle.im_redo.proofs.Going.{commit_record, commits, commit_adds}
 use Rattle.im_engine.specs.declared.engine.Engine.{Engine}
 use Rattle.im_engine.specs.declared.transaction.Transaction.{Transaction}
@@ -26,7 +24,7 @@ use Rattle.im_engine.specs.Stands.{StandsFor, Allowed}
 use Rattle.im_engine.specs.Running.{IsActive, IsTransaction, IsRunning}
 use Rattle.im_engine.proofs.Shown.{effects_more, keeps_all, loses_last}
 use Rattle.im_engine.proofs.Running.{same_log}
-use Rattle.im_engine.proofs.Steps.{set_own, set_other, active_is}
+use Rattle.im_engine.proofs.Steps.{set_own, set_other}
 
 -- an effect with its Commit
 abbrev pub asked_with : ℕ → Bool → Effect → Asked

@@ -1,14 +1,14 @@
 -- How a Commit ends.
-use Rattle.std.proofs.Common.{◌≡◌, ◌≢◌, ◌⊎◌, inl, inr, ⊎_elim, ℕ, ◌≤◌, List, ◌++◌, Bool, true, false, Option, Some, None, Result, Ok, Err, OnOk, refl, sym, ap, subst, ◌∙◌}
+use Rattle.std.proofs.Common.{◌≡◌, ◌≢◌, ◌⊎◌, inl, inr, ⊎_elim, ℕ, ◌≤◌, List, Bool, true, false, Option, Some, None, Result, Ok, OnOk, refl, sym, ap, subst, ◌∙◌}
 use Rattle.std.specs.Prelude.{◌||◌, if◌then◌else◌, ◌==◌}
-use Rattle.im_types.specs.Answers.{Going, Step, Reply, Refused, Commit, Committed}
+use Rattle.im_types.specs.Answers.{Going, Reply, Refused, Commit, Committed}
 use Rattle.im_types.specs.Changes.{Effect}
 use Rattle.im_types.specs.Faults.{number_of}
 use Rattle.im_types.specs.Histories.{History}
 use Rattle.im_types.specs.Refusals.{not_a_store, memory, unfinished}
 use Rattle.im_types.specs.declared.fault.Fault.{Fault}
 use Rattle.im_types.specs.declared.fault.Fault.TheVariants.{Failed, NoTransaction, LogFull, Device}
-use Rattle.im_types.specs.Lives.{Asked, Shown, Running, idle, asks, breaks, shows, with_running}
+use Rattle.im_types.specs.Lives.{Shown, idle, asks, breaks, shows, with_running}
 use Rattle.im_disk.specs.declared.disk.Disk.{Ghosts}
 use Rattle.im_disk.specs.Disk.{Files}
 use Rattle.im_disk.specs.Runs.{LeavesOnly}
@@ -27,10 +27,9 @@ use Rattle.im_engine.proofs.Steps.{active_is}
 use Rattle.im_engine.proofs.Commits.{asks_none, empty_made}
 
 -- the numbers of the refusals of a log
-pub causes : {fault : Fault} → (fault ≡ Failed) ⊎ ((fault ≡ LogFull) ⊎ (fault ≡ Device)) → (number_of fault ≡ 10) ⊎ ((number_of fault ≡ 7) ⊎ (number_of fault ≡ 8))
-causes (inl e) = inl (ap number_of e)
-causes (inr (inl e)) = inr (inl (ap number_of e))
-causes (inr (inr e)) = inr (inr (ap number_of e))
+pub causes : {fault : Fault} → (fault ≡ LogFull) ⊎ (fault ≡ Device) → (number_of fault ≡ 10) ⊎ ((number_of fault ≡ 7) ⊎ (number_of fault ≡ 8))
+causes (inl e) = inr (inl (ap number_of e))
+causes (inr e) = inr (inr (ap number_of e))
 
 -- what a Commit shows where the engine has not failed
 pub cut_commit : (s : Shown) (t : ℕ) → s.failed ≡ false → (shows s (Commit t) None).asked ≡ (asks t false s).asked

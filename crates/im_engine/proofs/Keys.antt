@@ -1,11 +1,11 @@
 -- A key put or dropped.
-use Rattle.std.proofs.Common.{◌≡◌, ◌≢◌, ℕ, ◌+◌, ◌<◌, ◌≤◌, List, [], ◌∷◌, ◌++◌, length, insert, remove, Bool, true, false, Option, Some, None, Ok, Err, refl, sym, ap, subst, ◌∙◌, arith}
+use Rattle.std.proofs.Common.{◌≡◌, ℕ, ◌+◌, ◌≤◌, List, ◌∷◌, length, insert, remove, true, false, Some, Ok, refl, sym, ap, subst, ◌∙◌}
 use Rattle.std.specs.FinMap.Entries.{find}
 use Rattle.im_types.specs.Keys.{Key, key_order}
 use Rattle.im_types.specs.Pages.{Page}
-use Rattle.im_types.specs.Changes.{Change, Put, Drop, Effect}
-use Rattle.im_types.specs.Answers.{Step, Do, Insert, Delete, Inserted, Deleted}
-use Rattle.im_types.specs.Histories.{History, page_at}
+use Rattle.im_types.specs.Changes.{Put, Drop, Effect}
+use Rattle.im_types.specs.Answers.{Do, Insert, Delete, Inserted, Deleted}
+use Rattle.im_types.specs.Histories.{History}
 use Rattle.im_types.specs.Lives.{Shown}
 use Rattle.im_disk.specs.declared.disk.Disk.{Ghosts}
 use Rattle.im_disk.specs.Disk.{Files}
@@ -16,13 +16,13 @@ use Rattle.im_page.specs.Entry.{entry_at, Rises, Parts, IsPlace, taken, size}
 use Rattle.im_types.specs.declared.page_kind.PageKind.{PageKind}
 use Rattle.im_types.specs.declared.page_kind.PageKind.TheVariants.{Leaf}
 use Rattle.im_page.specs.Page.{with_entries, is_leaf_kind}
-use Rattle.im_redo.specs.OnePage.{first_base, HasRoom}
+use Rattle.im_redo.specs.OnePage.{HasRoom}
 use Rattle.im_redo.specs.Going.{IsGoing}
 use Rattle.im_redo.proofs.Entries.{put_at, without_at, found_at, absent_at}
 use Rattle.im_redo.proofs.Going.{inserts, deletes}
 use Rattle.im_engine.specs.declared.engine.Engine.{Engine}
 use Rattle.im_engine.specs.declared.transaction.Transaction.{Transaction}
-use Rattle.im_engine.specs.Running.{IsActive, IsRunning, IsLife}
+use Rattle.im_engine.specs.Running.{IsLife}
 use Rattle.im_engine.specs.Changes.{LogsOne}
 use Rattle.im_engine.specs.Kept.{StepKept}
 use Rattle.im_engine.proofs.Running.{goes_on}

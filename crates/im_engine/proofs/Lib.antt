@@ -8,3 +8,5 @@ pub mod Ends
 pub mod Openings
 pub mod Lists
 pub mod Tells
+pub mod Checks
+pub mod Turns

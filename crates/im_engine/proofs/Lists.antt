@@ -1,5 +1,5 @@
 -- Steps in turn, and entries.
-use Rattle.std.proofs.Common.{◌≡◌, ◌≢◌, ◌+◌, ◌<◌, ◌≤◌, ℕ, zero, suc, List, [], ◌∷◌, ◌++◌, length, take, get_or, Option, None, Some, Result, Ok, Err, IfOk, refl, sym, ap, subst, ◌∙◌, arith}
+use Rattle.std.proofs.Common.{◌≡◌, ◌+◌, ◌<◌, ℕ, List, [], ◌∷◌, ◌++◌, length, take, get_or, Option, None, Some, Result, Ok, Err, IfOk, refl, sym, ap, ◌∙◌, arith}
 use Rattle.std.proofs.lemmas.List.{take_more, length-take-le}
 use Rattle.std.specs.FinMap.{empty, entries}
 use Rattle.im_types.specs.Answers as answers
@@ -9,12 +9,12 @@ use Rattle.im_types.specs.Steps.{asked_by, told_by}
 use Rattle.im_types.specs.Pages.{Entry, Page}
 use Rattle.im_types.specs.Changes.{Effect, apply_all}
 use Rattle.im_types.specs.Histories.{History}
-use Rattle.im_types.specs.Lives.{Shown, Running, idle, effects, shows, shown_by}
+use Rattle.im_types.specs.Lives.{Shown, Running, idle, shows, shown_by}
 use Rattle.im_disk.specs.declared.disk.Disk.{Ghosts}
 use Rattle.im_redo.proofs.Going.{entries_at, settled_entries}
 use Rattle.im_engine.specs.declared.engine.Engine.{Engine}
 use Rattle.im_engine.specs.declared.transaction.Transaction.{Transaction}
-use Rattle.im_engine.specs.Running.{IsActive, IsTransaction, IsRunning}
+use Rattle.im_engine.specs.Running.{IsTransaction, IsRunning}
 use Rattle.im_engine.specs.Kept.{answered_by, EntriesKept}
 
 shown_more : (s : Shown) (xs : List (answers.Step × answers.Reply)) (x : answers.Step × answers.Reply) → shown_by s (xs ++ x ∷ []) ≡ shows (shown_by s xs) x.0 (Some x.1)

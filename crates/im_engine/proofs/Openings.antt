@@ -1,8 +1,8 @@
 -- An opening.
-use Rattle.std.proofs.Common.{◌≡◌, ◌≢◌, ◌≤◌, ◌^◌, inl, inr, ℕ, List, [], ◌∷◌, ◌++◌, length, Bool, false, Option, None, refl, sym, ap, subst, ◌∙◌, append-nil}
+use Rattle.std.proofs.Common.{◌≡◌, ◌≤◌, ◌^◌, inl, inr, ℕ, List, [], length, false, Option, None, refl, sym, ap, subst, ◌∙◌, append-nil}
 use Rattle.im_types.specs.declared.file_id.FileId.TheVariants.{Log, Pages}
 use Rattle.im_types.specs.Changes.{Effect, seen}
-use Rattle.im_types.specs.Histories.{History, page_at}
+use Rattle.im_types.specs.Histories.{History}
 use Rattle.im_types.specs.Transactions.{committed}
 use Rattle.im_types.specs.Lives.{nothing_shown}
 use Rattle.im_types.proofs.Lives.{survives_none}
@@ -10,17 +10,16 @@ use Rattle.im_disk.specs.declared.disk.Disk.{Ghosts}
 use Rattle.im_disk.specs.Disk.{Files, InFile, Stepped}
 use Rattle.im_disk.specs.Runs.{LeavesOnly, LeavesIn, ChangesOnly, IsSynced}
 use Rattle.im_disk.proofs.Runs.{weakened}
-use Rattle.im_gate.specs.Header.{IsUnmade, IsMade}
-use Rattle.im_log.specs.Kept.{HasLog, IsLogOf}
+use Rattle.im_log.specs.Kept.{IsLogOf}
 use Rattle.im_log.specs.LogFile.{IsOpen, IsLog}
 use Rattle.im_log.specs.declared.log_file.LogFile.{LogFile}
-use Rattle.im_redo.specs.OnePage.{first_base, IsSettled, AreBelow}
+use Rattle.im_redo.specs.OnePage.{IsSettled, AreBelow}
 use Rattle.im_redo.specs.Kept.{Redone}
 use Rattle.im_redo.specs.declared.opened.Opened.{Opened}
 use Rattle.im_redo.proofs.Going.{settled_empty}
 use Rattle.im_engine.specs.declared.engine.Engine.{Engine}
 use Rattle.im_engine.specs.Stands.{StandsFor, Allowed}
-use Rattle.im_engine.specs.Running.{IsTransaction, IsRunning, IsLife}
+use Rattle.im_engine.specs.Running.{IsTransaction, IsLife}
 use Rattle.im_engine.specs.declared.transaction.Transaction.{Transaction}
 use Rattle.im_engine.proofs.Running.{nothing_left, lives_on}
 

@@ -1,10 +1,10 @@
 -- What is known of an engine that works, and of calls that make no device call.
-use Rattle.std.proofs.Common.{◌≡◌, ◌≢◌, ℕ, ◌≤◌, List, [], ◌∷◌, ◌++◌, length, Bool, true, false, Option, Some, None, refl, sym, ap, subst, ◌∙◌, inl, inr}
-use Rattle.im_types.specs.declared.file_id.FileId.TheVariants.{Log, Pages}
+use Rattle.std.proofs.Common.{◌≡◌, ◌≢◌, List, ◌++◌, true, false, Some, None, sym, ap, subst, ◌∙◌, inr}
+use Rattle.im_types.specs.declared.file_id.FileId.TheVariants.{Log}
 use Rattle.im_types.specs.Answers.{Step, Reply, Refused}
 use Rattle.im_types.specs.Refusals.{not_a_store}
 use Rattle.im_types.specs.Changes.{Effect}
-use Rattle.im_types.specs.Lives.{Asked, Shown, Survives, StandsForMore, effects, shows}
+use Rattle.im_types.specs.Lives.{Asked, Shown, StandsForMore, effects, shows}
 use Rattle.im_disk.specs.declared.disk.Disk.{Ghosts}
 use Rattle.im_disk.specs.Disk.{Files, Only}
 use Rattle.im_disk.specs.Runs.{LeavesOnly}

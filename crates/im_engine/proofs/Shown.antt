@@ -1,5 +1,5 @@
 -- What steps and replies show.
-use Rattle.std.proofs.Common.{◌≡◌, ◌≢◌, ℕ, List, [], ◌∷◌, ◌++◌, Bool, true, false, refl, sym, ap, ◌∙◌, append-nil, append_assoc}
+use Rattle.std.proofs.Common.{◌≡◌, ℕ, List, [], ◌∷◌, ◌++◌, Bool, true, false, refl, sym, ap, ◌∙◌, append-nil}
 use Rattle.std.specs.Prelude.{◌||◌, Option, None, Some, is_some}
 use Rattle.im_types.specs.Changes.{Effect}
 use Rattle.im_types.specs.Lives.{Asked, Shown, Running, Survives, effects}

@@ -1,14 +1,13 @@
 -- A record of a key, and what the engine is after it.
-use Rattle.std.proofs.Common.{◌≡◌, ◌≢◌, ℕ, ◌+◌, ◌^◌, ◌<◌, ◌≤◌, List, [], ◌∷◌, ◌++◌, length, Bool, true, false, cond, Option, Some, None, refl, sym, ap, subst, ◌∙◌, arith}
+use Rattle.std.proofs.Common.{◌≡◌, ◌≢◌, ℕ, ◌+◌, ◌^◌, ◌<◌, ◌≤◌, List, [], ◌∷◌, Option, Some, None, refl, sym, ap, subst, ◌∙◌, arith}
 use Rattle.std.specs.Prelude.{◌==◌}
 use Rattle.std.proofs.lemmas.Bool.{eq-eqb, ne_eqb, cond-true, cond-false}
 use Rattle.im_types.specs.declared.file_id.FileId.TheVariants.{Log}
 use Rattle.im_types.specs.Answers.{Going}
 use Rattle.im_types.specs.Changes.{Change, Effect}
-use Rattle.im_types.specs.Histories.{History, page_at, end_of}
+use Rattle.im_types.specs.Histories.{History, page_at}
 use Rattle.im_types.specs.Lives.{Shown, Running, idle, adds, with_running}
 use Rattle.im_disk.specs.declared.disk.Disk.{Ghosts}
-use Rattle.im_disk.specs.Disk.{Files}
 use Rattle.im_record.specs.Entry.{Entry, transaction_of}
 use Rattle.im_log.specs.Spelled.{logged_at, log_of}
 use Rattle.im_log.specs.Kept.{Appended}

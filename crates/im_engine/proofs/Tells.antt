@@ -1,8 +1,8 @@
 -- What a found place says of a key.
-use Rattle.std.proofs.Common.{◌≡◌, ◌≢◌, ℕ, List, None, Some, Ok, sym, ap, subst, ◌∙◌}
+use Rattle.std.proofs.Common.{◌≡◌, ◌≢◌, ℕ, None, Some, Ok, sym, ap, subst, ◌∙◌}
 use Rattle.std.specs.FinMap.Entries.{find}
 use Rattle.im_types.specs.Keys.{Key, key_order}
-use Rattle.im_types.specs.Pages.{Entry, Page}
+use Rattle.im_types.specs.Pages.{Page}
 use Rattle.im_page.specs.Entry.{entry_at, Rises, Parts, IsPlace}
 use Rattle.im_redo.proofs.Entries.{found_at, absent_at}
 

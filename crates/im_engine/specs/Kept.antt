@@ -1,5 +1,5 @@
 -- What the calls of an engine keep.
-use Rattle.std.specs.Prelude.{◌≡◌, ◌≢◌, ◌++◌, ℕ, List, [], ◌∷◌, Option, Some, None, Result, Ok, Err, IfOk, IfErr, false}
+use Rattle.std.specs.Prelude.{◌≡◌, ◌≢◌, ◌++◌, ℕ, List, [], ◌∷◌, Some, None, Result, Ok, Err, IfOk, IfErr, false}
 use Rattle.std.specs.FinMap.{empty, entries}
 use Rattle.im_types.specs.Answers.{Step, Reply, Refused}
 use Rattle.im_types.specs.declared.step.Step as steps
@@ -10,12 +10,14 @@ use Rattle.im_types.specs.declared.fault.Fault.TheVariants.{NotAStore}
 use Rattle.im_types.specs.Pages.{Entry}
 use Rattle.im_types.specs.Changes.{Effect, apply_all}
 use Rattle.im_types.specs.Refusals.{not_a_store}
-use Rattle.im_types.specs.Lives.{Shown, idle, effects, nothing_shown, shows, shown_by}
+use Rattle.im_types.specs.Lives.{Shown, idle, effects, nothing_shown, shows}
 use Rattle.im_disk.specs.declared.disk.Disk.{Ghosts}
 use Rattle.im_disk.specs.Runs.{LeavesOnly}
 use Rattle.im_engine.specs.declared.engine.Engine.{Engine}
 use Rattle.im_engine.specs.Stands.{Allowed}
 use Rattle.im_engine.specs.Running.{IsLife}
+use Rattle.im_types.specs.Histories.{History}
+use Rattle.im_redo.specs.Redo.{CanRedo, next_number}
 
 -- steps with their replies
 abbrev pub answered_by : List steps.Step → List replies.Reply → List (Step × Reply)
@@ -31,6 +33,13 @@ module _ {D : Type 0} (d : Ghosts D) where
   abbrev pub disk_of : Result (Engine D d) (Fault × D) → D
   disk_of (Ok e) = e.disk
   disk_of (Err x) = x.1
+
+  -- An opening of files whose log has these records: it succeeds only where redo takes them, with the next number behind them, and they are
+  -- never found to be no store there.
+  pub record TakesLog (all : History) (result : Result (Engine D d) (Fault × D)) : Type 0 where
+    pub taken : IfOk result (λ e. CanRedo all)
+    pub next : IfOk result (λ e. e.next ≡ next_number all)
+    pub refused : IfErr result (λ x. x.0 ≡ NotAStore → CanRedo all → ⊥)
 
   -- An opening of files that stand for these effects: a life begins that has shown nothing, a stop within leaves files that stand for
   -- the same, and the files are never found to be no store.

@@ -3,3 +3,5 @@ pub mod Running
 pub mod Kept
 pub mod Changes
 pub mod Answers
+pub mod Checks
+pub mod Turns

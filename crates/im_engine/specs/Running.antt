@@ -1,5 +1,5 @@
 -- An engine between two steps.
-use Rattle.std.specs.Prelude.{◌≡◌, ◌≢◌, ◌<◌, ◌≤◌, ℕ, List, [], ◌++◌, ◌^◌, length, Bool, false, Option, Some, None}
+use Rattle.std.specs.Prelude.{◌≡◌, ◌≢◌, ◌<◌, ◌≤◌, ℕ, List, [], ◌++◌, ◌^◌, length, false, Option, Some, None}
 use Rattle.im_types.specs.declared.file_id.FileId.TheVariants.{Pages}
 use Rattle.im_types.specs.Answers.{Going}
 use Rattle.im_types.specs.Changes.{Effect, seen}

@@ -1,5 +1,5 @@
 -- What the files of a store stand for.
-use Rattle.std.specs.Prelude.{◌≡◌, ◌⊎◌, ℕ, List, [], length}
+use Rattle.std.specs.Prelude.{◌≡◌, ◌⊎◌, List, [], length}
 use Rattle.im_types.specs.declared.file_id.FileId.TheVariants.{Log, Pages}
 use Rattle.im_types.specs.Changes.{Effect, seen}
 use Rattle.im_types.specs.Histories.{History}

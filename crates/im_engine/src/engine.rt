@@ -1,6 +1,6 @@
 //! The engine: a store that is open, and its steps.
 
-ghost use Rattle.std.specs.Prelude.{◌≡◌, ◌≢◌, ◌≤◌, ◌<◌, ◌+◌, ◌⊎◌, ◌↔◌, ◌^◌, ◌==◌, ◌||◌, if◌then◌else◌, false, true, not, is_ok, length, List, ℕ, Some, None, Ok, Err, IfOk, IfErr, OnOk, OnErr};
+ghost use Rattle.std.specs.Prelude.{◌≡◌, ◌≢◌, ◌≤◌, ◌<◌, ◌+◌, ◌⊎◌, ◌↔◌, ◌^◌, ◌==◌, ◌||◌, if◌then◌else◌, false, true, not, is_ok, is_some, length, List, ℕ, Option, Some, None, Ok, Err, IfOk, IfErr, OnOk, OnErr};
 ghost use Rattle.std.specs.Result.{IsErrAnd};
 ghost use Rattle.std.specs.Option.{ForSome};
 ghost use Rattle.im_log.specs.LogFile.{IsOpen};
@@ -57,12 +57,12 @@ fn list_of(alloc: Global, page: &Page) -> Result<Vec<(Key, Rid)>, Fault>
 }
 
 impl<D: Disk> Engine<D> {
-    ghost use Rattle.im_types.specs.declared.fault.Fault.TheVariants.{Failed, NoTransaction, KeyLength, TooMany, Capacity, LogFull, Device, PoolSize};
+    ghost use Rattle.im_types.specs.declared.fault.Fault.TheVariants.{Failed, NoTransaction, KeyLength, TooMany, Capacity, LogFull, Device, NotAStore, PoolSize};
     ghost use Rattle.im_types.specs.declared.reply.Reply.TheVariants.{Started, Refused};
     ghost use Rattle.im_types.specs.Changes.{Effect};
     ghost use Rattle.im_types.specs.Histories.{History};
     ghost use Rattle.im_types.specs.Lives.{Shown, shown_by};
-    ghost use Rattle.im_disk.specs.Runs.{IsSynced};
+    ghost use Rattle.im_disk.specs.Runs.{ChangesOnly, IsSynced, Reads};
     ghost use Rattle.im_engine.specs.Stands.{StandsFor};
     ghost use Rattle.im_types.specs.Answers as answers;
     ghost use Rattle.im_types.specs.Steps.{asked_by, told_by};
@@ -70,9 +70,19 @@ impl<D: Disk> Engine<D> {
     ghost use Rattle.im_record.specs.Spelling.{IsEntry};
     ghost use Rattle.im_log.specs.LogFile.{IsLog};
     ghost use Rattle.im_engine.specs.Running.{IsLife, IsRunning};
-    ghost use Rattle.im_engine.specs.Kept.{StepKept, OpenKept, EntriesKept, answered_by};
+    ghost use Rattle.im_engine.specs.Kept.{StepKept, OpenKept, EntriesKept, TakesLog, answered_by, disk_of};
+    ghost use Rattle.im_engine.specs.Turns.{AreSteps};
+    ghost use Rattle.im_redo.specs.Kept.{IsFresh, IsTaken};
+    ghost use Rattle.im_gate.specs.Header.{IsMade, IsUnmade};
+    ghost use Rattle.im_log.specs.Kept.{IsLogOf};
+    ghost use Rattle.im_types.specs.declared.file_id.FileId.TheVariants.{Log, Pages};
     ghost use Rattle.im_engine.specs.Answers.{FetchTells, InsertTells, DeleteTells, Tells};
     ghost use Rattle.im_engine.specs.Changes.{IsIdle, LogsOne, CommitKept, active_in, header_of, is_breaking};
+    ghost use Rattle.im_engine.specs.Checks.{CallsDevice, HasLogged, LacksLog, OfOwn, OfBegin, OfFetch, OfInsert, OfDelete, OfCommit, Refuses, IsUnlessRefused, active_after, active_number, answer_to, changes_nothing, next_after};
+    ghost use Rattle.im_record.specs.Spelling.{size_of};
+    ghost use Rattle.im_log.specs.LogFile.{end_with};
+    ghost use Rattle.std.specs.FinMap.Entries.{find};
+    ghost use Rattle.im_types.specs.Keys.{key_order};
     ghost use Rattle.im_page.specs.Header.{initial};
 
     // The active transaction of a number.
@@ -81,6 +91,7 @@ impl<D: Disk> Engine<D> {
         ensures failed { result ≡ Err Failed ↔ (self.now.failed ≡ true) }
         ensures none { result ≡ Err NoTransaction → (self.now.failed ≡ false) × IsIdle number self.now.going }
         ensures causes { IfErr result (λ e. (e ≡ Failed) ⊎ (e ≡ NoTransaction)) }
+        ensures refused { IfErr result (λ e. OfOwn D.Disk self.now e number ⊥) }
     {
         if self.failed {
             return Err(Fault::Failed);
@@ -99,6 +110,7 @@ impl<D: Disk> Engine<D> {
         ensures ok { IfOk result (λ t. (self.now.failed ≡ false) × (self.now.going ≡ Some t) × (t.number ≡ number) × (1 ≤ length key.now) × (length key.now ≤ 255)) }
         ensures failed { result ≡ Err Failed ↔ (self.now.failed ≡ true) }
         ensures causes { IfErr result (λ e. (e ≡ Failed) ⊎ (e ≡ NoTransaction) ⊎ (e ≡ KeyLength)) }
+        ensures refused { IfErr result (λ e. OfFetch D.Disk self.now e number key.now) }
     {
         let transaction = self.active_of(number)?;
         if key.is_empty() || key.len() > 255 {
@@ -115,6 +127,12 @@ impl<D: Disk> Engine<D> {
         ensures started { (n : ℕ) → result ≡ Started n → n ≡ self.old.next }
         ensures many { result ≡ Refused TooMany → self.old.going ≢ None }
         ensures used_up { result ≡ Refused Capacity → 2 ^ 62 < self.old.next }
+        ensures refused { (fault : Fault) → result ≡ Refused fault ↔ OfBegin D.Disk self.old fault }
+        ensures answers { IsUnlessRefused (told_by result) (answers.Started self.old.next) }
+        ensures quiet { self.new.disk ≡ self.old.disk }
+        ensures same { changes_nothing (told_by result) ≡ true → self.new ≡ self.old }
+        ensures active { active_number self.new.going ≡ active_after (told_by result) (active_number self.old.going) }
+        ensures numbers { self.new.next ≡ next_after (told_by result) self.old.next }
     {
         if self.failed {
             return Reply::Refused(Fault::Failed);
@@ -138,6 +156,10 @@ impl<D: Disk> Engine<D> {
         ensures fails { is_breaking (told_by result) ≡ self.now.failed }
         ensures failed { self.now.failed ≡ true → result ≡ Refused Failed }
         ensures tells { FetchTells key.now (told_by result) self.now.page.value.body.entries }
+        ensures refused { (fault : Fault) → result ≡ Refused fault ↔ OfFetch D.Disk self.now fault number key.now }
+        ensures answers { IsUnlessRefused (told_by result) (answers.found (find key_order key.now self.now.page.value.body.entries)) }
+        ensures active { (active : Option ℕ) → active_after (told_by result) active ≡ active }
+        ensures numbers { (next : ℕ) → next_after (told_by result) next ≡ next }
     {
         if let Err(fault) = self.check(number, key) {
             return Reply::Refused(fault);
@@ -158,7 +180,10 @@ impl<D: Disk> Engine<D> {
         ensures disk { self.new.disk ≡ self.old.disk }
         ensures next { self.new.next ≡ self.old.next }
         ensures failed { self.new.failed ≡ not (is_ok result) }
-        ensures causes { IfErr result (λ e. (e ≡ Failed) ⊎ (e ≡ LogFull) ⊎ (e ≡ Device)) }
+        ensures causes { IfErr result (λ e. e ≡ LogFull) }
+        ensures full { IfErr result (λ e. LacksLog self.old.log (size_of (view change.now))) }
+        ensures fits { OnOk result (¬ (LacksLog self.old.log (size_of (view change.now)))) }
+        ensures active { self.old.going ≡ Some transaction → active_number self.new.going ≡ active_number self.old.going }
     {
         self.failed = true;
         if self.log.waiting() + change.size() + COMMIT > BUFFER {
@@ -180,6 +205,12 @@ impl<D: Disk> Engine<D> {
         ensures fails { self.new.failed ≡ (self.old.failed || is_breaking (told_by result)) }
         ensures failed { self.old.failed ≡ true → (result ≡ Refused Failed) × (self.new ≡ self.old) }
         ensures tells { InsertTells key.now (told_by result) self.old.page.value.body.entries }
+        ensures refused { (fault : Fault) → result ≡ Refused fault ↔ OfInsert D.Disk self.old fault number key.now }
+        ensures answers { IsUnlessRefused (told_by result) (if is_some (find key_order key.now self.old.page.value.body.entries) then answers.Duplicate else answers.Inserted) }
+        ensures quiet { self.new.disk ≡ self.old.disk }
+        ensures same { changes_nothing (told_by result) ≡ true → self.new ≡ self.old }
+        ensures active { active_number self.new.going ≡ active_after (told_by result) (active_number self.old.going) }
+        ensures numbers { self.new.next ≡ next_after (told_by result) self.old.next }
     {
         let transaction = match self.check(number, key) {
             Ok(transaction) => transaction,
@@ -190,6 +221,9 @@ impl<D: Disk> Engine<D> {
             Ok(_) => return Reply::Duplicate,
             Err(at) => at,
         };
+        if !self.page.has_room(key.len()) {
+            return Reply::Refused(Fault::PagesFull);
+        }
         match self.page.insert(at, key, rid) {
             Ok(()) => {}
             Err(_) => return Reply::Refused(Fault::PagesFull),
@@ -213,6 +247,12 @@ impl<D: Disk> Engine<D> {
         ensures fails { self.new.failed ≡ (self.old.failed || is_breaking (told_by result)) }
         ensures failed { self.old.failed ≡ true → (result ≡ Refused Failed) × (self.new ≡ self.old) }
         ensures tells { DeleteTells key.now (told_by result) self.old.page.value.body.entries }
+        ensures refused { (fault : Fault) → result ≡ Refused fault ↔ OfDelete D.Disk self.old fault number key.now }
+        ensures answers { IsUnlessRefused (told_by result) (if is_some (find key_order key.now self.old.page.value.body.entries) then answers.Deleted else answers.Absent) }
+        ensures quiet { self.new.disk ≡ self.old.disk }
+        ensures same { changes_nothing (told_by result) ≡ true → self.new ≡ self.old }
+        ensures active { active_number self.new.going ≡ active_after (told_by result) (active_number self.old.going) }
+        ensures numbers { self.new.next ≡ next_after (told_by result) self.old.next }
     {
         let transaction = match self.check(number, key) {
             Ok(transaction) => transaction,
@@ -245,7 +285,13 @@ impl<D: Disk> Engine<D> {
         ensures kept { (before : List Effect) (s : Shown) → IsRunning D.Disk before s self.old → self.old.going ≡ Some transaction → 1 ≤ transaction.last
             → CommitKept D.Disk before s transaction.number self.old self.new result }
         ensures failed { self.new.failed ≡ not (is_ok result) }
-        ensures causes { IfErr result (λ e. (e ≡ Failed) ⊎ (e ≡ LogFull) ⊎ (e ≡ Device)) }
+        ensures causes { IfErr result (λ e. (e ≡ LogFull) ⊎ (e ≡ Device)) }
+        ensures full { result ≡ Err LogFull ↔ (2 ^ 62 < end_with self.old.log 33) }
+        ensures device { result ≡ Err Device ↔ (D.failed self.new.disk ≡ true) }
+        ensures ended { OnOk result (self.new.going ≡ None) }
+        ensures going { OnErr result (self.new.going ≡ self.old.going) }
+        ensures next { self.new.next ≡ self.old.next }
+        ensures changes { ChangesOnly D.Disk Log self.old.disk self.new.disk }
     {
         self.failed = true;
         let commit = Record::Commit {
@@ -265,6 +311,13 @@ impl<D: Disk> Engine<D> {
         ensures fails { self.new.failed ≡ (self.old.failed || is_breaking (told_by result)) }
         ensures failed { self.old.failed ≡ true → (result ≡ Refused Failed) × (self.new ≡ self.old) }
         ensures none { result ≡ Refused NoTransaction → IsIdle number self.old.going }
+        ensures refused { (fault : Fault) → result ≡ Refused fault ↔ OfCommit D.Disk self.old fault number self.new.disk }
+        ensures answers { IsUnlessRefused (told_by result) answers.Committed }
+        ensures changes { ChangesOnly D.Disk Log self.old.disk self.new.disk }
+        ensures quiet { ¬ (HasLogged self.old.going) → self.new.disk ≡ self.old.disk }
+        ensures same { changes_nothing (told_by result) ≡ true → self.new ≡ self.old }
+        ensures active { active_number self.new.going ≡ active_after (told_by result) (active_number self.old.going) }
+        ensures numbers { self.new.next ≡ next_after (told_by result) self.old.next }
     {
         let transaction = match self.active_of(number) {
             Ok(transaction) => transaction,
@@ -289,6 +342,15 @@ impl<D: Disk> Engine<D> {
         ensures kept { (before : List Effect) → D.tells → IsSynced D.Disk disk → StandsFor before (D.seen disk) → OpenKept D.Disk before disk result }
         ensures frames { IsErrAnd result (λ x. x.0 ≡ PoolSize) ↔ ((config.frames < 8) ⊎ (1024 < config.frames)) }
         ensures untouched { IfErr result (λ x. x.0 ≡ PoolSize → x.1 ≡ disk) }
+        ensures opened { IfOk result (λ e. (e.failed ≡ false) × (e.going ≡ None) × (D.failed e.disk ≡ false)) }
+        ensures causes { IfErr result (λ x. (x.0 ≡ PoolSize) ⊎ (x.0 ≡ Memory) ⊎ (x.0 ≡ Device) ⊎ (x.0 ≡ NotAStore)) }
+        ensures device { IsErrAnd result (λ x. x.0 ≡ Device) ↔ (D.failed (disk_of D.Disk result) ≡ true) }
+        ensures changes { ChangesOnly D.Disk Log disk (disk_of D.Disk result) }
+        ensures store { IfOk result (λ _. D.tells → IsFresh (D.seen disk) ⊎ IsMade (D.seen disk Log)) }
+        ensures reads { D.tells → ¬ (IsFresh (D.seen disk)) → Reads D.Disk disk (disk_of D.Disk result) }
+        ensures taken { IfOk result (λ _. D.tells → IsTaken (D.seen disk)) }
+        ensures refused { IsErrAnd result (λ x. x.0 ≡ NotAStore) → D.tells → ¬ (IsTaken (D.seen disk)) }
+        ensures takes { (all : History) → D.tells → IsLogOf 0 all (D.seen disk Log) → (IsUnmade (D.seen disk Log) → length (D.seen disk Pages) ≡ 0) → TakesLog D.Disk all result }
     {
         if config.frames < 8 || config.frames > 1024 {
             return Err((Fault::PoolSize, disk));
@@ -310,12 +372,25 @@ impl<D: Disk> Engine<D> {
         }
     }
 
-    /// Makes a step.
+    /// Makes a step, and answers it. It takes no memory; only a Commit of a transaction that has records makes device calls, and it makes four.
+    ///
+    /// Refused by the first of these that holds: `Failed` where an earlier step broke the engine; `NoTransaction` where the active transaction
+    /// has another number or none is active, at Begin `TooMany` where one is; `KeyLength`; `PagesFull` where an insert finds no room in the
+    /// page; `LogFull` where the records find none in the buffer or below LSN 2^62; `Capacity` where numbers are used up; `Device`. `LogFull`,
+    /// `Capacity` and `Device` break the engine, every other refusal changes nothing.
     pub fn step(&mut self, step: &Step) -> Reply
         ensures kept { (before : List Effect) (s : Shown) → IsLife D.Disk before s self.old → StepKept D.Disk before s (asked_by step.now) (told_by result) self.old self.new }
         ensures fails { self.new.failed ≡ (self.old.failed || is_breaking (told_by result)) }
         ensures failed { self.old.failed ≡ true → (result ≡ Refused Failed) × (self.new ≡ self.old) }
         ensures tells { Tells step.now (told_by result) self.old.page.value.body.entries }
+        ensures refused { (fault : Fault) → result ≡ Refused fault ↔ Refuses D.Disk self.old fault step.now self.new.disk }
+        ensures answers { IsUnlessRefused (told_by result) (answer_to step.now self.old.next self.old.page.value.body.entries) }
+        ensures same { changes_nothing (told_by result) ≡ true → self.new ≡ self.old }
+        ensures active { active_number self.new.going ≡ active_after (told_by result) (active_number self.old.going) }
+        ensures numbers { self.new.next ≡ next_after (told_by result) self.old.next }
+        ensures works { D.failed self.new.disk ≡ true → self.new.failed ≡ true }
+        ensures changes { ChangesOnly D.Disk Log self.old.disk self.new.disk }
+        ensures quiet { ¬ (CallsDevice step.now self.old.going) → self.new.disk ≡ self.old.disk }
     {
         match step {
             Step::Begin => self.begin(),
@@ -331,6 +406,7 @@ impl<D: Disk> Engine<D> {
         ensures kept { IfOk result (λ replies. (before : List Effect) (s : Shown) → IsLife D.Disk before s self.old
             → IsLife D.Disk before (shown_by s (answered_by steps.now replies.items)) self.new) }
         ensures each { IfOk result (λ replies. length replies.items ≡ length steps.now) }
+        ensures turns { IfOk result (λ replies. AreSteps D.Disk steps.now replies.items self.old self.new) }
         ensures none { OnErr result (self.new ≡ self.old) }
         ensures memory { IfErr result (λ e. e ≡ Memory) }
     {

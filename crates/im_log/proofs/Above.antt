@@ -5,16 +5,15 @@ use Rattle.im_types.specs.Records.{Logged}
 use Rattle.im_types.specs.Histories.{IsFront}
 use Rattle.im_disk.specs.declared.disk.Disk.{Ghosts}
 use Rattle.im_disk.specs.Disk.{Files, InFile, Stepped, Only}
-use Rattle.im_disk.specs.Runs.{LeavesIn, LeavesOnly, ChangesOnly, Spares, Reads}
-use Rattle.im_disk.proofs.Runs.{in_weakened, in_then, weakened, then_on, changes_then, spares_reads}
-use Rattle.im_gate.specs.Gate.{file_of}
+use Rattle.im_disk.specs.Runs.{LeavesIn, LeavesOnly, ChangesOnly, Spares}
+use Rattle.im_disk.proofs.Runs.{in_weakened, in_then, weakened, then_on, changes_then}
 use Rattle.im_gate.specs.Header.{IsMade}
 use Rattle.im_gate.proofs.Frames.{ready_spared}
 use Rattle.im_record.specs.Entry.{Entry}
 use Rattle.im_log.specs.declared.log_file.LogFile.{LogFile}
 use Rattle.im_log.specs.Spelled.{logged_at, log_of}
 use Rattle.im_log.specs.LogFile.{IsOpen, IsLog}
-use Rattle.im_log.specs.Kept.{HasLog, HasMore, SpellsEither, SpellsBetween, AppendKept, ForceKept, Run}
+use Rattle.im_log.specs.Kept.{HasMore, SpellsEither, SpellsBetween, AppendKept, ForceKept, Run}
 use Rattle.im_log.proofs.Runs.{unmoved, of_log}
 
 pub front_none : (log : List Logged) → IsFront log log

@@ -1,6 +1,7 @@
 -- Openings that make a log, and stops within them.
-use Rattle.std.proofs.Common.{◌≡◌, ◌≢◌, ◌⊎◌, inl, inr, ⊎_elim, ℕ, ◌<◌, ◌≤◌, List, [], length, slice_index, Some, refl, sym, ◌∙◌, ap, subst, arith}
-use Rattle.im_types.specs.declared.file_id.FileId.{FileId}
+use Rattle.std.proofs.Common.{◌≡◌, ◌≢◌, inl, inr, ⊎_elim, ℕ, ◌≤◌, List, [], length, slice_index, Some, Result, Ok, Err, IfOk, IfErr, refl, sym, subst, arith}
+use Rattle.im_types.specs.declared.fault.Fault.{Fault}
+use Rattle.im_types.specs.declared.fault.Fault.TheVariants.{NotAStore}
 use Rattle.im_types.specs.declared.file_id.FileId.TheVariants.{Log, Pages}
 use Rattle.im_types.specs.Records.{Logged}
 use Rattle.im_disk.specs.declared.disk.Disk.{Ghosts}
@@ -9,8 +10,9 @@ use Rattle.im_disk.specs.Runs.{LeavesIn, Reads}
 use Rattle.im_disk.proofs.Runs.{in_started, in_then, reads_on, changes_reads}
 use Rattle.im_gate.specs.Batches.{batches}
 use Rattle.im_gate.specs.Header.{IsMade, IsUnmade, IsBlank}
-use Rattle.im_log.specs.Spelled.{log_of}
-use Rattle.im_log.specs.Kept.{HasLog, IsLogOf}
+use Rattle.im_log.specs.declared.log_file.LogFile.{LogFile}
+use Rattle.im_log.specs.Kept.{HasLog, IsLogOf, IsStore}
+use Rattle.im_log.specs.LogFile.{IsLog}
 use Rattle.im_log.proofs.Spells.{log_is}
 
 -- a made file is not unmade
@@ -49,3 +51,26 @@ module _ {D : Type 0} (d : Ghosts D) (base : ℕ) (all : List Logged) (old mid :
 pub creation_stops : {D : Type 0} (d : Ghosts D) (all : List Logged) (old mid new : D) → LeavesIn d Log old mid (IsLogOf 0 all) → Reads d old mid → all ≡ [] → LeavesIn d Log mid new IsBlank → LeavesIn d Log old new (IsLogOf 0 all)
 creation_stops d all old mid new first reads none run =
     in_then d Log old mid new (IsLogOf 0 all) IsBlank (IsLogOf 0 all) first (changes_reads d Log old mid reads) run (λ told c p. p) (λ told c p. blank_is all c none p)
+
+-- a log that was made before is opened as the bytes spell it
+pub store_opened : {D : Type 0} (d : Ghosts D) (old mid new : D) (result : Result LogFile Fault) → (d.tells → IsMade (d.seen old Log)) → d.seen mid ≡ d.seen old
+    → IfOk result (λ log. d.tells → IsMade (d.seen mid Log) → (all : List Logged) × HasLog 0 all (d.seen mid Log) × IsLog d 0 all all log new)
+    → IfOk result (λ log. d.tells → (store : IsStore (d.seen old)) × IsLog d 0 store.all store.all log new)
+store_opened d old mid new (Err e) made seen spelled = tt
+store_opened d old mid new (Ok log) made seen spelled = λ told.
+    let here = spelled told (subst (λ (s : Files). IsMade (s Log)) (sym seen) (made told)) in
+    let has = subst (λ (s : Files). HasLog 0 here.0 (s Log)) seen here.1 in (record { all = here.0; spelled = inr has; bare = λ unmade. absurd (not_both (d.seen old Log) (made told) unmade) }, here.2)
+
+-- and one that is made now has no records
+pub store_made : {D : Type 0} (d : Ghosts D) (old new : D) (result : Result LogFile Fault) → (d.tells → IsUnmade (d.seen old Log) × (length (d.seen old Pages) ≡ 0))
+    → (d.tells → IsLogOf 0 [] (d.seen old Log) → (IsUnmade (d.seen old Log) → length (d.seen old Pages) ≡ 0) → IfOk result (λ log. IsLog d 0 [] [] log new))
+    → IfOk result (λ log. d.tells → (store : IsStore (d.seen old)) × IsLog d 0 store.all store.all log new)
+store_made d old new (Err e) fresh log = tt
+store_made d old new (Ok log) fresh opened = λ told.
+    let f = fresh told in
+    let none : IsLogOf 0 [] (d.seen old Log) = inl (f.0, refl) in
+    (record { all = []; spelled = none; bare = λ unmade. f.1 }, opened told none (λ unmade. f.1))
+
+pub not_refused_so : {T : Type 0} (result : Result T Fault) → IfErr result (λ e. e ≢ NotAStore) → result ≡ Err NotAStore → ⊥
+not_refused_so (Ok x) never is = let clash : Ok x ≡ Err NotAStore = is in cc clash
+not_refused_so (Err e) never is = never cc

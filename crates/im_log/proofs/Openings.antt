@@ -1,10 +1,9 @@
 -- How an opening goes on from record to record.
-use Rattle.std.proofs.Common.{◌≡◌, ℕ, ◌+◌, ◌-◌, ◌<◌, ◌≤◌, ◌^◌, false, List, [], ◌∷◌, ◌++◌, length, take, drop, Option, Some, None, MatchOption, Ok, refl, sym, ◌∙◌, ap, subst, arith, length-drop}
-use Rattle.std.proofs.lemmas.List.{length-take-le, length-take, take-take, drop-take, drop-drop}
+use Rattle.std.proofs.Common.{◌≡◌, ℕ, ◌+◌, ◌-◌, ◌<◌, ◌≤◌, ◌^◌, false, List, [], ◌∷◌, length, take, drop, Option, Some, None, MatchOption, Ok, refl, sym, ◌∙◌, ap, subst, arith, length-drop}
+use Rattle.std.proofs.lemmas.List.{length-take-le, take-take, drop-take, drop-drop}
 use Rattle.im_types.specs.declared.file_id.FileId.{FileId}
 use Rattle.im_types.specs.declared.file_id.FileId.TheVariants.{Log}
 use Rattle.im_types.specs.Records.{Logged}
-use Rattle.im_types.specs.Histories.{IsFront}
 use Rattle.im_disk.specs.declared.disk.Disk.{Ghosts}
 use Rattle.im_disk.specs.Disk.{Files}
 use Rattle.im_gate.specs.declared.gate.Gate.{Gate}
@@ -14,13 +13,13 @@ use Rattle.im_gate.specs.Header.{IsMade}
 use Rattle.im_record.specs.Reading.{entry_of}
 use Rattle.im_log.specs.declared.opening.Opening.{Opening}
 use Rattle.im_log.specs.Spelled.{logged_at, record_size, first_record, records_from, batches_records, spelled_by, log_of}
-use Rattle.im_log.specs.Opening.{current_of, rest_of, position_of, IsBegun, IsOpening, Next, NextKept, Ended, StaysAt, Stepped, RefusedBatch}
+use Rattle.im_log.specs.Opening.{rest_of, position_of, IsBegun, IsOpening, Next, NextKept, Ended, Stepped, RefusedBatch}
 use Rattle.im_log.specs.declared.log_file.LogFile.{LogFile}
 use Rattle.im_log.specs.Gates.{IsOfLog}
 use Rattle.im_log.specs.Kept.{HasLog}
 use Rattle.im_log.specs.LogFile.{batch_lsn, IsLog}
 use Rattle.im_log.proofs.Runs.{placed}
-use Rattle.im_log.proofs.Spells.{first_is, log_end, log_room, log_records, not_refused}
+use Rattle.im_log.proofs.Spells.{first_is, log_end, log_room, log_records}
 use Rattle.im_log.proofs.Passes.{taken, records_front, batch_taken, batches_front, fronts_then}
 
 -- the first bytes of the rest, and the others
@@ -37,7 +36,7 @@ rest_is items at end size le =
 pub rest_long : (opening : Opening) → length (rest_of opening) ≡ opening.end - opening.at
 rest_long opening = length-take-le (opening.end - opening.at) (drop opening.at opening.bytes.items) (omega (arith, opening.sized, opening.within, opening.ends, length-drop opening.at opening.bytes.items))
 
-in_front_some : (b : List ℕ) (o : Option (List (List ℕ))) (ahead : List (List ℕ)) → in_front (b ∷ []) o ≡ Some ahead → (rest : List (List ℕ)) × (o ≡ Some rest) × (ahead ≡ b ∷ rest)
+pub in_front_some : (b : List ℕ) (o : Option (List (List ℕ))) (ahead : List (List ℕ)) → in_front (b ∷ []) o ≡ Some ahead → (rest : List (List ℕ)) × (o ≡ Some rest) × (ahead ≡ b ∷ rest)
 in_front_some b None ahead is = let never : None ≡ Some ahead = is in cc
 in_front_some b (Some rest) ahead is = (rest, refl, cc)
 

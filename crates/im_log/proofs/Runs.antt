@@ -1,13 +1,13 @@
 -- What a force and an append keep.
-use Rattle.std.proofs.Common.{◌≡◌, inl, inr, ◌⊎◌, ⊎_elim, ℕ, zero, suc, ◌+◌, ◌<◌, ◌≤◌, ◌^◌, false, List, [], ◌∷◌, ◌++◌, length, take, drop, get_or, Some, None, refl, sym, ◌∙◌, ap, subst, arith, append-nil}
-use Rattle.std.proofs.lemmas.List.{length-take-le, get_or-take, drop-take, take-take}
+use Rattle.std.proofs.Common.{◌≡◌, inl, inr, ⊎_elim, ℕ, zero, suc, ◌+◌, ◌<◌, ◌≤◌, false, List, [], ◌∷◌, ◌++◌, length, take, drop, get_or, Some, None, refl, sym, ◌∙◌, ap, subst, arith, append-nil}
+use Rattle.std.proofs.lemmas.List.{length-take-le, get_or-take, drop-take}
 use Rattle.im_types.specs.declared.file_id.FileId.{FileId}
 use Rattle.im_types.specs.declared.file_id.FileId.TheVariants.{Log}
 use Rattle.im_types.specs.Records.{Logged}
 use Rattle.im_types.specs.Histories.{Base, IsFront, end_of}
 use Rattle.im_disk.specs.declared.disk.Disk.{Ghosts}
 use Rattle.im_disk.specs.Disk.{Files, Only}
-use Rattle.im_disk.specs.Runs.{LeavesOnly, LeavesIn}
+use Rattle.im_disk.specs.Runs.{LeavesIn}
 use Rattle.im_disk.proofs.Runs.{in_started, in_weakened}
 use Rattle.im_gate.specs.Batches.{batches, batches_from, with_batch, IsBeforeOrWith, size_of}
 use Rattle.im_gate.specs.Header.{IsMade}
@@ -21,7 +21,7 @@ use Rattle.im_log.specs.Gates.{IsOfLog}
 use Rattle.im_log.specs.Spelled.{logged_at, records_from, spelled_by, log_of, last_lsn}
 use Rattle.im_log.specs.LogFile.{buffered, batch_lsn, next_lsn, IsOpen, IsLog}
 use Rattle.im_log.specs.Kept.{HasLog, HasMore, SpellsEither, Appended, Forced}
-use Rattle.im_log.proofs.Spells.{Whole, push, log_with, log_end, not_refused}
+use Rattle.im_log.proofs.Spells.{Whole, push, log_with}
 
 pub waiting : (log : LogFile) → length (buffered log) ≡ log.used
 waiting log = length-take-le log.used log.buffer.items (omega (arith, log.sized, log.within))

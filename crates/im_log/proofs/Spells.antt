@@ -23,7 +23,7 @@ pub first_is : (bytes : List ℕ) (entry : Entry) → First bytes entry → firs
 unfolding first_record
 first_is bytes entry f = grind (arith, nat_tests, f.least, f.most, f.is)
 
-size_more : (bytes more : List ℕ) → 4 ≤ length bytes → record_size (bytes ++ more) ≡ record_size bytes
+pub size_more : (bytes more : List ℕ) → 4 ≤ length bytes → record_size (bytes ++ more) ≡ record_size bytes
 unfolding record_size
 size_more bytes more le = ap (λ (l : List ℕ). from_be_bytes w32 l) (take-append-le 4 bytes more le)
 
@@ -37,7 +37,7 @@ pub whole : (bytes : List ℕ) → 4 ≤ length bytes → from_be_bytes w32 (tak
 unfolding record_size
 whole bytes least size = record { least = least; size = size }
 
-first_more : (bytes more : List ℕ) (entry : Entry) → First bytes entry → First (bytes ++ more) entry
+pub first_more : (bytes more : List ℕ) (entry : Entry) → First bytes entry → First (bytes ++ more) entry
 first_more bytes more entry f =
     let size = size_more bytes more (omega (arith, f.least, f.most)) in
     record {

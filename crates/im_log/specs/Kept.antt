@@ -1,11 +1,12 @@
 -- What each call keeps of a log.
-use Rattle.std.specs.Prelude.{◌≡◌, ◌⊎◌, ℕ, ◌<◌, ◌≤◌, List, [], ◌∷◌, ◌++◌, Some, Result, IfOk, IfErr, OnOk, ◌≢◌}
+use Rattle.std.specs.Prelude.{◌≡◌, ◌⊎◌, ℕ, ◌<◌, ◌≤◌, List, [], ◌∷◌, ◌++◌, length, Some, Result, IfOk, IfErr, OnOk, ◌≢◌}
 use Rattle.im_types.specs.declared.fault.Fault.{Fault}
 use Rattle.im_types.specs.declared.fault.Fault.TheVariants.{NotAStore}
-use Rattle.im_types.specs.declared.file_id.FileId.TheVariants.{Log}
+use Rattle.im_types.specs.declared.file_id.FileId.TheVariants.{Log, Pages}
 use Rattle.im_types.specs.Records.{Logged}
 use Rattle.im_types.specs.Histories.{Base, IsFront, end_of}
 use Rattle.im_disk.specs.declared.disk.Disk.{Ghosts}
+use Rattle.im_disk.specs.Disk.{Files}
 use Rattle.im_disk.specs.Runs.{LeavesIn, ChangesOnly}
 use Rattle.im_gate.specs.Batches.{batches}
 use Rattle.im_gate.specs.Header.{IsMade, IsUnmade}
@@ -22,6 +23,12 @@ pub record HasLog (base : ℕ) (all : List Logged) (bytes : List ℕ) : Type 0 w
 -- The bytes stand for this list: that of a made log, or none where no log was made yet.
 abbrev pub IsLogOf : ℕ → List Logged → List ℕ → Type 0
 IsLogOf base all bytes = (IsUnmade bytes × (all ≡ [])) ⊎ HasLog base all bytes
+
+-- The files' bytes are a store's: those of a made log that spell this list, or no log and no pages.
+pub record IsStore (files : Files) : Type 0 where
+  pub all : List Logged
+  pub spelled : IsLogOf 0 all (files Log)
+  pub bare : IsUnmade (files Log) → length (files Pages) ≡ 0
 
 -- The bytes have the one list or the other.
 abbrev pub SpellsEither : ℕ → List Logged → List Logged → List ℕ → Type 0

@@ -67,6 +67,15 @@ module _ {D : Type 0} (d : Ghosts D) where
     pub onward : batches_records (base + opening.behind) ahead mid ≡ Some all
     pub room : base + (opening.behind + size_of ahead) ≤ 2 ^ 62
 
+  -- The disk tells its bytes, and these records were read from the made file: whatever list the rest spells on top of them, the file spells.
+  pub record HasRead (base : ℕ) (older : List Logged) (opening : Opening) (disk : D) : Type 0 where
+    pub tells : d.tells
+    pub working : opening.failed ≡ false
+    pub based : opening.base ≡ base
+    pub made : IsMade (d.seen disk Log)
+    pub spells : (mid all : List Logged) (ahead : List (List ℕ)) → records_from 0 (base + position_of opening) (rest_of opening) older ≡ Some mid → unread d opening.gate disk ≡ Some ahead
+        → batches_records (base + opening.behind) ahead mid ≡ Some all → base + (opening.behind + size_of ahead) ≤ 2 ^ 62 → log_of base (d.seen disk Log) ≡ Some all
+
   module _ (base : ℕ) (all older : List Logged) where
     -- The record that was read is the next one of the list.
     pub record Next (lsn : ℕ) (new : Opening) (disk : D) : Type 0 where
@@ -86,3 +95,8 @@ module _ {D : Type 0} (d : Ghosts D) where
     pub record NextKept (new : Opening) (disk : D) (result : Result (Option ℕ) Fault) : Type 0 where
       pub ok : IfOk result (λ next. MatchOption next (Ended new disk) (λ lsn. Next lsn new disk))
       pub cause : IfErr result (λ e. e ≡ Device)
+
+  -- One record more was read where its bytes are a record's; behind the last, the file spells those that were read.
+  pub record ReadOn (base : ℕ) (older : List Logged) (new : Opening) (disk : D) (result : Result (Option ℕ) Fault) : Type 0 where
+    pub ok : IfOk result (λ next. MatchOption next (Ended base older older new disk)
+        (λ lsn. (entry : Entry) → entry_of (current_of new) ≡ Some entry → HasRead base (logged_at lsn entry ∷ older) new disk))

@@ -1,6 +1,6 @@
 -- What a record does, of what it says.
 use Rattle.std.specs.Prelude.{ℕ, List, ◌++◌, replicate, Option, Some, None}
-use Rattle.im_types.specs.Pages.{Body, Page}
+use Rattle.im_types.specs.Pages.{Page}
 use Rattle.im_types.specs.Records as whats
 use Rattle.im_types.specs.Records.{What, Unreadable}
 use Rattle.im_page.specs.Page.{page_of}

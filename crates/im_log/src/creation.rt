@@ -7,8 +7,8 @@ ghost use Rattle.im_types.specs.Records.{Logged};
 ghost use Rattle.im_disk.specs.Disk.{Only};
 ghost use Rattle.im_disk.specs.Runs.{ChangesOnly};
 ghost use Rattle.im_gate.specs.Header.{IsUnmade};
-ghost use Rattle.im_log.specs.LogFile.{IsOpen};
-ghost use Rattle.im_log.specs.Kept.{IsLogOf, OpenKept};
+ghost use Rattle.im_log.specs.LogFile.{IsOpen, IsLog};
+ghost use Rattle.im_log.specs.Kept.{IsLogOf, IsStore, OpenKept};
 
 use crate::{LogFile, open_log};
 use im_disk::Disk;
@@ -26,9 +26,12 @@ pub fn open_or_create<D: Disk>(alloc: Global, disk: &mut D) -> Result<LogFile, F
     ensures ready { IfOk result (λ log. IsOpen D.Disk log disk.new) }
     ensures kept { (all : List Logged) → D.tells → IsLogOf 0 all (D.seen disk.old Log) → (IsUnmade (D.seen disk.old Log) → length (D.seen disk.old Pages) ≡ 0)
         → OpenKept D.Disk 0 all disk.old disk.new result }
+    ensures store { IfOk result (λ log. D.tells → (store : IsStore (D.seen disk.old)) × IsLog D.Disk 0 store.all store.all log disk.new) }
+    ensures refused { result ≡ Err NotAStore → D.tells → ¬ (IsStore (D.seen disk.old)) }
     ensures changes { ChangesOnly D.Disk Log disk.old disk.new }
     ensures working { IfOk result (λ log. (log.failed ≡ false) × (log.base ≡ 0)) }
     ensures causes { IfErr result (λ e. (e ≡ Memory) ⊎ (e ≡ Device) ⊎ (e ≡ NotAStore)) }
+    ensures device { result ≡ Err Device ↔ (D.failed disk.new ≡ true) }
 {
     match Gate::open(alloc, disk, FileId::Log)? {
         Some(gate) => open_log(alloc, disk, gate, 0),

@@ -9,6 +9,18 @@
 //! `IsOpen` holds on any bytes and is asked and given by each call. `IsLog` says which list the log is, over a disk that tells
 //! its bytes; what each call keeps of it stands in its clause `kept`. After a call that failed every later one is refused.
 //!
+//! Nothing that was written is read again but by `read_at` and a scan: an append costs a copy of its record into the buffer, and
+//! a force one write of what is buffered and one of a byte, however long the log is. `log_bench --time` measures it on the model
+//! disk; one run on four cores, for records of 50 bytes, in nanoseconds a record:
+//!
+//! | | log of 160 KB | log of 33 MB | by hand |
+//! |---|---|---|---|
+//! | append into the buffer | 26 | 28 | 1, a copy of the encoded bytes |
+//! | append and force, four device calls | 91 to 165 | 159 to 168 | 52 to 63, the same calls |
+//! | `read_at` of a waiting record | 24 | 25 | |
+//! | `read_at` of a durable record, here and there in the file | 37 | 182 | |
+//! | scan, each record decoded | 65 | 61 | |
+//!
 //! It stands on gates for the batches, and on the codec of records.
 #![tactic(auto)]
 
@@ -16,9 +28,12 @@ mod creation;
 mod front;
 mod log_file;
 mod opening;
+mod reading;
+mod scan;
 #[cfg(test)]
 mod tests;
 
 pub use creation::open_or_create;
 pub use log_file::LogFile;
 pub use opening::{Opening, open_log};
+pub use scan::Scan;

@@ -3,10 +3,12 @@
 ghost use Rattle.std.specs.Prelude.{◌≡◌, ◌≢◌, ◌+◌, ◌*◌, ◌^◌, ◌<◌, ◌≤◌, ◌↔◌, ◌⊎◌, ◌++◌, false, true, not, is_ok, length, take, min, ◌-◌, IfErr, IfOk, OnOk, List, ℕ, Some};
 ghost use Rattle.im_log.specs.Gates.{IsOfLog};
 
+use crate::reading::{copy_front, read_front};
+use crate::{Opening, Scan};
 use im_disk::Disk;
 use im_gate::Gate;
 use im_record::{Record, spellings};
-use im_types::{Fault, Lsn};
+use im_types::{Fault, FileId, Lsn};
 use std::alloc::Global;
 
 /// No record ends above this LSN.
@@ -33,15 +35,18 @@ pub struct LogFile {
 }
 
 impl LogFile {
-    ghost use Rattle.im_disk.specs.Runs.{LeavesIn, ChangesOnly};
-    ghost use Rattle.im_types.specs.declared.fault.Fault.TheVariants.{Device, Failed, LogFull, Memory};
+    ghost use Rattle.im_disk.specs.Runs.{LeavesIn, ChangesOnly, Reads};
+    ghost use Rattle.im_types.specs.declared.fault.Fault.TheVariants.{Device, Failed, LogFull, Memory, NotAStore};
     ghost use Rattle.im_types.specs.declared.file_id.FileId.TheVariants.{Log};
     ghost use Rattle.im_types.specs.Records.{Logged};
+    ghost use Rattle.im_types.specs.Histories.{IsRecordOf};
     ghost use Rattle.im_gate.specs.Gate.{place_of};
     ghost use Rattle.im_record.specs.Entry.{view};
     ghost use Rattle.im_record.specs.Spelling.{IsEntry, size_of, spelling};
     ghost use Rattle.im_log.specs.LogFile.{buffered, batch_lsn, next_lsn, end_with, IsOpen, IsLog};
     ghost use Rattle.im_log.specs.Kept.{AppendKept, ForceKept};
+    ghost use Rattle.im_log.specs.Reading.{FoundKept};
+    ghost use Rattle.im_log.specs.Scan.{place_of_scan, bound_of, IsScanning, ScanBegun};
 
     // A log with nothing buffered, behind this gate.
     pub(crate) fn at_end(gate: Gate, base: u64, buffer: Vec<u8>) -> LogFile
@@ -173,5 +178,82 @@ impl LogFile {
         }
         self.force(disk)?;
         Ok(self.put_in(record))
+    }
+
+    /// Brings the record at an LSN to the front of `room`, which has 16,384 bytes or more, and answers its size: from the buffer
+    /// where it waits for a force, and otherwise from the file, by two reads. No device call, and no memory is taken.
+    ///
+    /// Refused `NotAStore` where no record can be at that LSN, as below the log, at its gate, and at its end or above; `Failed` where the log has failed; `Device`, behind which the log is
+    /// not used again.
+    pub fn read_at<D: Disk>(&self, disk: &mut D, lsn: Lsn, room: &mut [u8]) -> Result<usize, Fault>
+        requires room { 16384 ≤ length room.old }
+        requires ready { IsOpen D.Disk self.now disk.old }
+        ensures ready { D.failed disk.new ≡ false → IsOpen D.Disk self.now disk.new }
+        ensures kept { (base : ℕ) (all durable : List Logged) → IsLog D.Disk base all durable self.now disk.old → IsLog D.Disk base all durable self.now disk.new }
+        ensures found { (base : ℕ) (all durable : List Logged) (r : Logged) → IsLog D.Disk base all durable self.now disk.old
+            → IsRecordOf r all → lsn ≡ r.lsn → FoundKept r room.new result }
+        ensures reads { Reads D.Disk disk.old disk.new }
+        ensures room { length room.new ≡ length room.old }
+        ensures size { IfOk result (λ size. (4 ≤ size) × (size ≤ 16384)) }
+        ensures buffered { batch_lsn self.now ≤ lsn → disk.new ≡ disk.old }
+        ensures below { self.now.failed ≡ false → lsn < self.now.base → result ≡ Err NotAStore }
+        ensures gate { self.now.failed ≡ false → self.now.base + place_of self.now.gate ≤ lsn → lsn < batch_lsn self.now → result ≡ Err NotAStore }
+        ensures above { self.now.failed ≡ false → next_lsn self.now ≤ lsn → result ≡ Err NotAStore }
+        ensures causes { IfErr result (λ e. (e ≡ Failed) ⊎ (e ≡ NotAStore) ⊎ (e ≡ Device)) }
+        ensures already { result ≡ Err Failed ↔ (self.now.failed ≡ true) }
+        ensures device { self.now.failed ≡ false → result ≡ Err Device ↔ (D.failed disk.new ≡ true) }
+    {
+        if self.failed {
+            return Err(Fault::Failed);
+        }
+        if lsn < self.base {
+            return Err(Fault::NotAStore);
+        }
+        let at = lsn - self.base;
+        let place = self.gate.place();
+        if at < place {
+            let size = read_front(disk, at, room)?;
+            return Ok(size);
+        }
+        let behind = at - place;
+        if behind < 5 || behind - 5 >= self.used as u64 {
+            return Err(Fault::NotAStore);
+        }
+        let waiting = (behind - 5) as usize;
+        let size = copy_front(&self.buffer[waiting..self.used], room)?;
+        Ok(size)
+    }
+
+    /// A scan of the durable records from an LSN on, the oldest first. It begins at the first gate, since a record's LSN does not
+    /// tell where its batch begins: each batch is read once, to a room that is made here, as is one for the gate.
+    ///
+    /// Refused `Failed` where the log has failed; `NotAStore` where the bytes are no log; `Memory`; `Device`, behind which the log
+    /// is not used again.
+    pub fn scan_from<D: Disk>(&self, alloc: Global, disk: &mut D, from: Lsn) -> Result<Scan, Fault>
+        requires ready { IsOpen D.Disk self.now disk.old }
+        ensures ready { D.failed disk.new ≡ false → IsOpen D.Disk self.now disk.new }
+        ensures kept { (base : ℕ) (all durable : List Logged) → IsLog D.Disk base all durable self.now disk.old → IsLog D.Disk base all durable self.now disk.new }
+        ensures scans { (base : ℕ) (all durable : List Logged) → IsLog D.Disk base all durable self.now disk.old → ScanBegun D.Disk base durable disk.new result }
+        ensures begun { IfOk result (λ scan. IsScanning D.Disk scan disk.new) }
+        ensures bound { IfOk result (λ scan. bound_of scan ≡ from) }
+        ensures working { IfOk result (λ scan. (place_of_scan scan).failed ≡ false) }
+        ensures reads { Reads D.Disk disk.old disk.new }
+        ensures causes { IfErr result (λ e. (e ≡ Failed) ⊎ (e ≡ NotAStore) ⊎ (e ≡ Memory) ⊎ (e ≡ Device)) }
+        ensures already { result ≡ Err Failed ↔ (self.now.failed ≡ true) }
+        ensures device { self.now.failed ≡ false → result ≡ Err Device ↔ (D.failed disk.new ≡ true) }
+    {
+        if self.failed {
+            return Err(Fault::Failed);
+        }
+        if self.base > LSNS - 31 {
+            return Err(Fault::NotAStore);
+        }
+        match Gate::open(alloc, disk, FileId::Log)? {
+            None => Err(Fault::NotAStore),
+            Some(gate) => {
+                let opening = Opening::start(alloc, gate, self.base)?;
+                Ok(Scan::start(opening, from))
+            }
+        }
     }
 }

@@ -7,7 +7,8 @@ ghost use Rattle.im_types.specs.declared.file_id.FileId.TheVariants.{Log};
 ghost use Rattle.im_types.specs.Records.{Logged};
 ghost use Rattle.im_disk.specs.Runs.{Reads};
 ghost use Rattle.im_gate.specs.Gate.{place_of, has_failed, IsReading};
-ghost use Rattle.im_log.specs.LogFile.{IsOpen};
+ghost use Rattle.im_gate.specs.Header.{IsMade};
+ghost use Rattle.im_log.specs.LogFile.{IsOpen, IsLog};
 ghost use Rattle.im_log.specs.Kept.{HasLog, ReadKept};
 
 use crate::LogFile;
@@ -64,7 +65,7 @@ impl Opening {
     ghost use Rattle.im_record.specs.Reading.{entry_of, Gives};
     ghost use Rattle.im_log.specs.LogFile.{IsOpen, IsLog};
     ghost use Rattle.im_log.specs.Spelled.{first_record};
-    ghost use Rattle.im_log.specs.Opening.{current_of, rest_of, position_of, IsBegun, IsOpening, NextKept, StaysAt, Stepped, RefusedBatch, Ended};
+    ghost use Rattle.im_log.specs.Opening.{current_of, rest_of, position_of, IsBegun, IsOpening, NextKept, HasRead, ReadOn, StaysAt, Stepped, RefusedBatch, Ended};
 
     /// Begins to read a log at its first gate. It takes the room for a batch, in which the log's records will wait.
     ///
@@ -103,6 +104,7 @@ impl Opening {
         ensures base { self.new.base ≡ self.old.base }
         ensures failed { self.new.failed ≡ not (is_ok result) }
         ensures causes { IfErr result (λ e. (e ≡ NotAStore) ⊎ (e ≡ Device)) }
+        ensures device { result ≡ Err Device ↔ (D.failed disk.new ≡ true) }
     {
         self.failed = true;
         let next = self.gate.read_into(disk, &mut self.bytes)?;
@@ -147,12 +149,14 @@ impl Opening {
         ensures begun { IsBegun D.Disk self.new disk.new }
         ensures reads { Reads D.Disk disk.old disk.new }
         ensures kept { (base : ℕ) (all older : List Logged) → IsOpening D.Disk base all older self.old disk.old → NextKept D.Disk base all older self.new disk.new result }
+        ensures reads_on { (base : ℕ) (older : List Logged) → HasRead D.Disk base older self.old disk.old → ReadOn D.Disk base older self.new disk.new result }
         ensures ended { result ≡ Ok None → IsReady D.Disk self.new.gate disk.new }
         ensures moves { IfOk result (λ next. MatchOption next (Unit {0}) (λ lsn. position_of self.old < position_of self.new)) }
         ensures base { self.new.base ≡ self.old.base }
         ensures failed { self.new.failed ≡ not (is_ok result) }
         ensures causes { IfErr result (λ e. (e ≡ Failed) ⊎ (e ≡ NotAStore) ⊎ (e ≡ Device)) }
         ensures already { result ≡ Err Failed ↔ (self.old.failed ≡ true) }
+        ensures device { self.old.failed ≡ false → result ≡ Err Device ↔ (D.failed disk.new ≡ true) }
     {
         if self.failed {
             return Err(Fault::Failed);
@@ -214,8 +218,10 @@ pub fn open_log<D: Disk>(
     ensures reads { Reads D.Disk disk.old disk.new }
     ensures ready { IfOk result (λ log. IsOpen D.Disk log disk.new) }
     ensures kept { (all : List Logged) → D.tells → HasLog base all (D.seen disk.old Log) → ReadKept D.Disk base all disk.new result }
+    ensures spelled { IfOk result (λ log. D.tells → IsMade (D.seen disk.old Log) → (all : List Logged) × HasLog base all (D.seen disk.old Log) × IsLog D.Disk base all all log disk.new) }
     ensures working { IfOk result (λ log. (log.failed ≡ false) × (log.base ≡ base)) }
     ensures causes { IfErr result (λ e. (e ≡ Memory) ⊎ (e ≡ Device) ⊎ (e ≡ NotAStore)) }
+    ensures device { result ≡ Err Device ↔ (D.failed disk.new ≡ true) }
 {
     let mut opening = Opening::start(alloc, gate, base)?;
     loop {

@@ -92,3 +92,47 @@ fn one_insert_and_commit_are_113_bytes(rt: HostRuntime) -> Result<(), Fail> {
     assert!(rt; is_log(alloc, &mut disk, &expected)?);
     Ok(())
 }
+
+// Adds an insert and a commit, and reads the commit: from the buffer, from the file and by a scan. It answers the two sizes,
+// the LSN that the scan found, and whether that ended there.
+fn read_commit<D: Disk>(
+    alloc: Global,
+    disk: &mut D,
+) -> Result<(usize, usize, Option<u64>, bool), Fault>
+    requires working { D.failed disk.old ≡ false }
+    requires synced { IsSynced D.Disk disk.old }
+{
+    let mut log = open_or_create(alloc, disk)?;
+    let insert = Record::InsertKey {
+        transaction: 1,
+        prev: 0,
+        page: 1,
+        key: b"a",
+        rid: 7,
+    };
+    let prev = log.append(disk, &insert)?;
+    let commit = Record::Commit {
+        transaction: 1,
+        prev,
+    };
+    let lsn = log.append(disk, &commit)?;
+    let mut room = vec![in alloc; 0; 16_384].map_err(|_| Fault::Memory)?;
+    let waiting = log.read_at(disk, lsn, &mut room)?;
+    log.force(disk)?;
+    let durable = log.read_at(disk, lsn, &mut room)?;
+    let mut scan = log.scan_from(alloc, disk, lsn)?;
+    let found = scan.next(disk)?;
+    let ended = scan.next(disk)?.is_none();
+    Ok((waiting, durable, found, ended))
+}
+
+#[test]
+fn a_commit_is_read_from_buffer_file_and_scan(rt: HostRuntime) -> Result<(), Fail> {
+    let alloc = rt.alloc();
+    let mut disk = ModelDisk::new(Vec::new(alloc), Vec::new(alloc));
+    let (waiting, durable, found, ended) = read_commit(alloc, &mut disk)?;
+    assert_eq!(rt; (waiting, durable), (33, 33));
+    assert_eq!(rt; found, Some(79));
+    assert!(rt; ended);
+    Ok(())
+}

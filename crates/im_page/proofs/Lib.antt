@@ -12,3 +12,4 @@ pub mod HeaderLemmas
 pub mod FieldLemmas
 pub mod SplitLemmas
 pub mod ContentLemmas
+pub mod PageFileLemmas

@@ -8,7 +8,7 @@ use Rattle.im_types.specs.Pages.{Entry}
 use Rattle.im_page.specs.Entry.{no_entry, entry_at, width, size, taken, Rises}
 use Rattle.im_page.specs.Form.{count_of, start_of, slot_at, cell_size, key_from, entries_of, IsPacked}
 use Rattle.im_page.specs.Found.{Parts}
-use Rattle.im_page.specs.Split.{IsSplitPoint, HasRoomForAny}
+use Rattle.im_page.specs.Split.{IsSplitPoint, HasRoomForAny, LacksRoom}
 use Rattle.im_page.proofs.EntryLemmas.{length-entries_of, entry_at-entries_of, key-entries_of, room_is}
 use Rattle.im_page.proofs.RemoveLemmas.{key_len}
 use Rattle.im_page.proofs.ChildLemmas.{rises_of}
@@ -97,6 +97,12 @@ width_small : (leaf : Bool) → width leaf ≤ 8
 width_small true = omega arith
 width_small false = omega arith
 
+drop_all : {X : Type 0} (xs : List X) (m : ℕ) → length xs ≤ m → drop m xs ≡ []
+drop_all [] zero le = refl
+drop_all [] (suc m) le = refl
+drop_all (x ∷ xs) zero le = absurd (omega arith)
+drop_all (x ∷ xs) (suc m) le = drop_all xs m (omega arith)
+
 -- both parts of a split have room for one more entry of any size
 pub left_has_room : (leaf : Bool) (es : List Entry) (n : ℕ) → IsSplitPoint leaf es n → HasRoomForAny leaf (take n es)
 left_has_room leaf es n h e short = omega (arith, h.fits, width_small leaf)
@@ -112,9 +118,35 @@ right_has_room leaf es n h fits keys e short =
     let none : taken leaf (drop n es) ≡ 0 = ap (sum_by f) (drop_all es n x) in
     omega (arith, none, short, width_small leaf))
     (cases_lt n (length es))
-  where
-    drop_all : {X : Type 0} (xs : List X) (m : ℕ) → length xs ≤ m → drop m xs ≡ []
-    drop_all [] zero le = refl
-    drop_all [] (suc m) le = refl
-    drop_all (x ∷ xs) zero le = absurd (omega arith)
-    drop_all (x ∷ xs) (suc m) le = drop_all xs m (omega arith)
+
+-- what a front takes that all entries are in
+front_of_all : (leaf : Bool) (es : List Entry) (m : ℕ) → length es ≤ m → taken leaf es ≡ taken leaf (take m es)
+front_of_all leaf es m le =
+    let f : Entry → ℕ = λ x. size leaf x + 2 in
+    let none : taken leaf (drop m es) ≡ 0 = ap (sum_by f) (drop_all es m le) in
+    omega (arith, none, sum_by-take-drop f es m)
+
+-- where the longest key has no room, an entry or more stands left of the point, and two or more stand right of it
+pub both_parts : (leaf : Bool) (es : List Entry) (n : ℕ) → IsSplitPoint leaf es n → ((i : ℕ) → i < length es → length (entry_at es i).0 ≤ 255)
+    → LacksRoom leaf es → (1 ≤ n) × (n + 2 ≤ length es)
+both_parts leaf es n h keys lacks =
+    let f : Entry → ℕ = λ x. size leaf x + 2 in
+    let wide = width_small leaf in
+    let inside : n < length es = ⊎_elim
+    (λ (x : n < length es). x)
+    (λ (x : length es ≤ n). omega (arith, front_of_all leaf es n x, h.fits, lacks, wide))
+    (cases_lt n (length es)) in
+    let one : taken leaf (take (n + 1) es) ≡ taken leaf (take n es) + f (entry_at es n) = sum_by_more f es n no_entry inside in
+    let short = keys n inside in
+    let left : 1 ≤ n = ⊎_elim
+    (λ (x : n < 1).
+    let e : n ≡ 0 = omega arith in
+    let none : taken leaf (take n es) ≡ 0 = ap (λ m. taken leaf (take m es)) e in
+    omega (arith, none, one, short, wide, h.longest inside))
+    (λ (x : 1 ≤ n). x)
+    (cases_lt n 1) in
+    let right : n + 2 ≤ length es = ⊎_elim
+    (λ (x : length es < n + 2). omega (arith, front_of_all leaf es (n + 1) (omega arith), one, short, wide, h.fits, lacks))
+    (λ (x : n + 2 ≤ length es). x)
+    (cases_lt (length es) (n + 2)) in
+    (left, right)

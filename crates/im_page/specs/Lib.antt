@@ -4,6 +4,7 @@ pub mod Form
 pub mod Tests
 pub mod Header
 pub mod Page
+pub mod PageFile
 pub mod Child
 pub mod Edit
 pub mod Found

@@ -32,7 +32,8 @@
 //!   the entry take more than 4,064 bytes; the page then stays as it was.
 //! - `find` answers the place of a key, or where it would stand; `child` the child of an inner page that holds it.
 //! - `split_point` is the longest front of entries whose cells and slots take at most 2,032 bytes. Both parts of any
-//!   split have room for one more entry of any size.
+//!   split have room for one more entry of any size. Where the longest key has no room, an entry or more stands left of
+//!   the point and two or more right of it.
 //! - `copy_entries` leaves a range of another page's entries; the setters change one field and nothing else.
 //!
 //! The invariant of a `Page` is that its bytes have the form (`IsForm`); `content` tells it to callers as a fact about
@@ -51,9 +52,13 @@
 //! | read a full page in place | 2,500 | 2,727 | 0.92 | 2,646 | 2,292 | 1.15 |
 //! | split into two pages | 1,794 | 2,542 | 0.71 | 2,315 | 3,445 | 0.67 |
 //!
+//! On a second machine the ratios were, in the same order, 0.22 and 0.22, 0.91 and 0.97, 0.99 and 1.12, and between 1.1 and 1.6
+//! for a split, which took 2,763 to 4,141 there with 150 entries from run to run, where C took 2,554.
+//!
 //! Slower than C are a removal and an insertion, as cells and slots move by a rotation, which keeps the shorter side in
-//! a buffer meanwhile and moves the rest at once, and as each slot is written again; and the test of a page with many
-//! small cells, as it keeps a flag for each byte and not one for each cell. Keys are compared eight bytes at a time.
+//! a buffer meanwhile and moves the rest at once, and as each slot is written again; the test of a page with many
+//! small cells, as it keeps a flag for each byte and not one for each cell; and on the second machine a split, as each
+//! entry is put by an insertion of its own. Keys are compared eight bytes at a time.
 #![tactic(auto)]
 
 mod cells;

@@ -1,19 +1,32 @@
 -- What analysis and an opening keep.
-use Rattle.std.specs.Prelude.{◌≡◌, ◌≢◌, ℕ, Option, Result, ◌∷◌, OnOk, OnErr, IfOk, IfErr}
+use Rattle.std.specs.Prelude.{◌≡◌, ◌≢◌, ℕ, Option, Result, ◌∷◌, OnOk, OnErr, IfOk, IfErr, length}
 use Rattle.im_types.specs.declared.fault.Fault.{Fault}
 use Rattle.im_types.specs.declared.fault.Fault.TheVariants.{NotAStore}
-use Rattle.im_types.specs.declared.file_id.FileId.TheVariants.{Log}
+use Rattle.im_types.specs.declared.file_id.FileId.TheVariants.{Log, Pages}
 use Rattle.im_types.specs.Pages.{Page}
 use Rattle.im_types.specs.Records.{Logged}
 use Rattle.im_types.specs.Histories.{History, page_at}
 use Rattle.im_disk.specs.declared.disk.Disk.{Ghosts}
+use Rattle.im_disk.specs.Disk.{Files}
 use Rattle.im_disk.specs.Runs.{LeavesIn}
+use Rattle.im_gate.specs.Header.{IsUnmade}
 use Rattle.im_gate.specs.declared.gate.Gate.{Gate}
 use Rattle.im_log.specs.Kept.{HasLog, IsLogOf}
 use Rattle.im_log.specs.LogFile.{IsLog}
 use Rattle.im_redo.specs.declared.opened.Opened.{Opened}
 use Rattle.im_redo.specs.OnePage.{first_base, IsSettled}
-use Rattle.im_redo.specs.Redo.{IsRedoable, CanRedo, AreNumbered, IsAt}
+use Rattle.im_redo.specs.Redo.{IsRedoable, CanRedo, AreNumbered, IsAt, next_number}
+
+-- No store was made yet: the log is unmade, and there are no pages.
+abbrev pub IsFresh : Files → Type 0
+IsFresh files = IsUnmade (files Log) × (length (files Pages) ≡ 0)
+
+-- The files' bytes are a store's that redo takes: those of a made log that spell this list, or no log and no pages.
+pub record IsTaken (files : Files) : Type 0 where
+  pub all : History
+  pub spelled : IsLogOf 0 all (files Log)
+  pub bare : IsUnmade (files Log) → length (files Pages) ≡ 0
+  pub can : CanRedo all
 
 -- The record is taken just where the log with it is one that redo takes.
 pub record TakeKept (older : History) (r : Logged) (next : ℕ) (going : Option ℕ) (page : Page) (result : Result Unit Fault) : Type 0 where
@@ -26,6 +39,7 @@ module _ {D : Type 0} (d : Ghosts D) (all : History) where
     pub log : IsLog d 0 all all opened.log disk
     pub page_is : page ≡ page_at first_base all 1
     pub numbered : AreNumbered opened.next all
+    pub next : opened.next ≡ next_number all
     pub can : CanRedo all
 
   -- What the first gate of a log is, that was opened or made.

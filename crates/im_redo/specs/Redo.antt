@@ -1,5 +1,5 @@
 -- Redo of a log from its first record: what it asks of each record, and what it knows behind those that it took.
-use Rattle.std.specs.Prelude.{◌≡◌, ◌≢◌, ◌≤◌, ◌^◌, ℕ, List, [], ◌∷◌, length, Option, Some, None, false}
+use Rattle.std.specs.Prelude.{◌≡◌, ◌≢◌, ◌≤◌, ◌^◌, ◌+◌, ◌-◌, max, min, ℕ, List, [], ◌∷◌, length, Option, Some, None, false}
 use Rattle.std.specs.FinMap.Entries.{find}
 use Rattle.im_types.specs.Keys.{Key, key_order}
 use Rattle.im_types.specs.Pages.{Entry, Page}
@@ -51,6 +51,11 @@ Leaves (Some t) log = (1 ≤ length (to_undo t log)) × ((u : ℕ) → u ≢ t �
 -- numbers from this one on are new, as long as there are any
 abbrev pub AreNumbered : ℕ → History → Type 0
 AreNumbered next log = next ≤ 2 ^ 62 → AreBelow next log
+
+-- The number that comes next: the least from 1 on that is above each that the records name, or 2^64 - 1 where that one is no u64.
+abbrev pub next_number : History → ℕ
+next_number [] = 1
+next_number (r ∷ older) = max (next_number older) (min (r.txn + 1) (2 ^ 64 - 1))
 
 -- Behind these records: the page as they left it, the next number, the transaction that is going.
 pub record IsAt (log : History) (next : ℕ) (going : Option ℕ) (page : Page) : Type 0 where

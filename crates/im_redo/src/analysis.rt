@@ -1,9 +1,9 @@
 //! What a restart has to know beside the pages.
 
-ghost use Rattle.std.specs.Prelude.{◌≡◌, ◌↔◌, ◌^◌, ◌<◌, ◌≤◌, ℕ, true, Some, None, is_some, OnErr, IfErr};
+ghost use Rattle.std.specs.Prelude.{◌≡◌, ◌↔◌, ◌^◌, ◌+◌, ◌-◌, ◌<◌, ◌≤◌, max, min, ℕ, true, Some, None, is_some, OnOk, OnErr, IfErr};
 ghost use Rattle.im_types.specs.declared.fault.Fault.TheVariants.{NotAStore};
 ghost use Rattle.im_types.specs.Histories.{History};
-ghost use Rattle.im_record.specs.Entry.{view};
+ghost use Rattle.im_record.specs.Entry.{transaction_of, view};
 ghost use Rattle.im_log.specs.Spelled.{logged_at};
 ghost use Rattle.im_redo.specs.Redo.{IsRoot, IsAt};
 ghost use Rattle.im_redo.specs.Kept.{TakeKept};
@@ -33,7 +33,7 @@ impl Analysis {
         }
     }
 
-    /// The number of the next transaction: above each that the records name, unless numbers are used up.
+    /// The number of the next transaction: the least above each that the records name, unless numbers are used up.
     pub fn next(&self) -> TxnId
         ensures next { result ≡ self.now.next }
         ensures least { 1 ≤ result }
@@ -63,6 +63,7 @@ impl Analysis {
         ensures going { self.new.going ≡ going }
         ensures no_less { self.old.next ≤ self.new.next }
         ensures above { self.new.next ≤ 2 ^ 62 → transaction < self.new.next }
+        ensures next { self.new.next ≡ max self.old.next (min (transaction + 1) (2 ^ 64 - 1)) }
     {
         self.next = max(self.next, transaction.saturating_add(1));
         self.going = going;
@@ -77,6 +78,7 @@ impl Analysis {
         ensures root { IsRoot page.new }
         ensures kept { (older : History) → IsAt older self.old.next self.old.going page.old
             → TakeKept older (logged_at lsn (view record.now)) self.new.next self.new.going page.new result }
+        ensures next { OnOk result (self.new.next ≡ max self.old.next (min (transaction_of (view record.now) + 1) (2 ^ 64 - 1))) }
         ensures same { OnErr result ((self.new ≡ self.old) × (page.new ≡ page.old)) }
         ensures causes { IfErr result (λ e. e ≡ NotAStore) }
     {

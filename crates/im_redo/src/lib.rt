@@ -6,9 +6,10 @@
 //! its contents are what the log says (`page_at`).
 //!
 //! The contract: `CanRedo` says which logs are taken, on any bytes; each other log is refused `NotAStore`. Behind an
-//! opening the page is that at the end of the log, no transaction has anything left to undo, and numbers from the
-//! next one on are new. A log in which every transaction has its Commit (`IsSettled`) is always taken. A stop within
-//! the opening leaves the log as it was, or one without records where none was made yet.
+//! opening the page is that at the end of the log, no transaction has anything left to undo, and the next number is the
+//! least above those that the records name (`next_number`). A log in which every transaction has its Commit
+//! (`IsSettled`) is always taken. A stop within the opening leaves the log as it was, or one without records where none
+//! was made yet.
 //!
 //! It stands on `im_log` for the log, on `im_page` for the page and on `im_gate` for the creation. The laws over
 //! histories that a store of one page lives by stand in `proofs/Going` and `proofs/Redo`.

@@ -1,6 +1,6 @@
 //! A store's log is opened, and redone.
 
-ghost use Rattle.std.specs.Prelude.{◌≡◌, ◌+◌, ◌^◌, ◌≤◌, ◌⊎◌, [], false, length, IfErr, IfOk, IfSome};
+ghost use Rattle.std.specs.Prelude.{◌≡◌, ◌+◌, ◌^◌, ◌≤◌, ◌⊎◌, ◌↔◌, [], false, true, length, IfErr, IfOk, IfSome};
 ghost use Rattle.im_types.specs.declared.fault.Fault.TheVariants.{Device, Memory, NotAStore};
 ghost use Rattle.im_types.specs.declared.file_id.FileId.TheVariants.{Log, Pages};
 ghost use Rattle.im_types.specs.declared.page_kind.PageKind.TheVariants.{Leaf};
@@ -8,13 +8,13 @@ ghost use Rattle.im_types.specs.Histories.{History};
 ghost use Rattle.im_disk.specs.Disk.{Only};
 ghost use Rattle.im_disk.specs.Runs.{ChangesOnly, Reads};
 ghost use Rattle.im_gate.specs.Gate.{place_of, has_failed, IsReading};
-ghost use Rattle.im_gate.specs.Header.{IsUnmade};
+ghost use Rattle.im_gate.specs.Header.{IsMade, IsUnmade};
 ghost use Rattle.im_log.specs.Gates.{IsOfLog};
-ghost use Rattle.im_log.specs.Kept.{IsLogOf};
+ghost use Rattle.im_log.specs.Kept.{HasLog, IsLogOf};
 ghost use Rattle.im_log.specs.LogFile.{IsOpen};
-ghost use Rattle.im_log.specs.Opening.{IsBegun, IsOpening};
+ghost use Rattle.im_log.specs.Opening.{IsBegun, IsOpening, HasRead};
 ghost use Rattle.im_page.specs.Header.{initial};
-ghost use Rattle.im_redo.specs.Kept.{GateKept, ReadKept, RedoKept};
+ghost use Rattle.im_redo.specs.Kept.{GateKept, IsFresh, IsTaken, ReadKept, RedoKept};
 
 use crate::analysis::Analysis;
 use crate::opened::Opened;
@@ -36,8 +36,12 @@ fn first_gate<D: Disk>(alloc: Global, disk: &mut D) -> Result<Gate, Fault>
     ensures place { IfOk result (λ gate. place_of gate ≡ 31) }
     ensures kept { (all : History) → D.tells → IsLogOf 0 all (D.seen disk.old Log) → (IsUnmade (D.seen disk.old Log) → length (D.seen disk.old Pages) ≡ 0)
         → GateKept D.Disk all disk.old disk.new result }
+    ensures made { IfOk result (λ _. D.tells → IsMade (D.seen disk.new Log)) }
     ensures changes { ChangesOnly D.Disk Log disk.old disk.new }
+    ensures store { IfOk result (λ _. D.tells → IsFresh (D.seen disk.old) ⊎ IsMade (D.seen disk.old Log)) }
+    ensures reads { D.tells → ¬ (IsFresh (D.seen disk.old)) → Reads D.Disk disk.old disk.new }
     ensures causes { IfErr result (λ e. (e ≡ Memory) ⊎ (e ≡ Device) ⊎ (e ≡ NotAStore)) }
+    ensures device { result ≡ Err Device ↔ (D.failed disk.new ≡ true) }
 {
     match Gate::open(alloc, disk, FileId::Log)? {
         Some(gate) => Ok(gate),
@@ -57,7 +61,9 @@ fn redo<D: Disk>(disk: &mut D, opening: Opening, page: &mut Page) -> Result<Open
     ensures empty { IfOk result (λ opened. opened.log.used ≡ 0) }
     ensures leaf { IfOk result (λ _. page.new.body.kind ≡ Leaf) }
     ensures kept { (all : History) → IsOpening D.Disk 0 all [] opening disk.old → ReadKept D.Disk all page.new disk.new result }
+    ensures spelled { IfOk result (λ _. HasRead D.Disk 0 [] opening disk.old → (all : History) × HasLog 0 all (D.seen disk.old Log)) }
     ensures causes { IfErr result (λ e. (e ≡ Memory) ⊎ (e ≡ Device) ⊎ (e ≡ NotAStore)) }
+    ensures device { result ≡ Err Device ↔ (D.failed disk.new ≡ true) }
 {
     let mut opening = opening;
     let mut analysis = Analysis::new();
@@ -96,8 +102,13 @@ pub fn open_or_create<D: Disk>(
     ensures leaf { IfOk result (λ _. page.new.body.kind ≡ Leaf) }
     ensures kept { (all : History) → D.tells → IsLogOf 0 all (D.seen disk.old Log) → (IsUnmade (D.seen disk.old Log) → length (D.seen disk.old Pages) ≡ 0)
         → RedoKept D.Disk all disk.old disk.new page.new result }
+    ensures taken { IfOk result (λ _. D.tells → IsTaken (D.seen disk.old)) }
+    ensures refused { result ≡ Err NotAStore → D.tells → ¬ (IsTaken (D.seen disk.old)) }
     ensures changes { ChangesOnly D.Disk Log disk.old disk.new }
+    ensures store { IfOk result (λ _. D.tells → IsFresh (D.seen disk.old) ⊎ IsMade (D.seen disk.old Log)) }
+    ensures reads { D.tells → ¬ (IsFresh (D.seen disk.old)) → Reads D.Disk disk.old disk.new }
     ensures causes { IfErr result (λ e. (e ≡ Memory) ⊎ (e ≡ Device) ⊎ (e ≡ NotAStore)) }
+    ensures device { result ≡ Err Device ↔ (D.failed disk.new ≡ true) }
 {
     let gate = first_gate(alloc, disk)?;
     let opening = Opening::start(alloc, gate, 0)?;

@@ -54,7 +54,7 @@ fn run_file<R: Files + AllocGlobal, W: Write>(rt: &R, path: &str, writer: &mut W
 }
 
 // Help goes to standard output, and is no error.
-fn status_of(error: &Error) -> u8
+pub(crate) fn status_of(error: &Error) -> u8
     ensures { result ≤ 2 }
 {
     if error.use_stderr() { 2 } else { 0 }

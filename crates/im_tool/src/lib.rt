@@ -1,11 +1,22 @@
 //! The programs of the store, as functions of their words and of the runtime.
 //!
 //! `drill_program` is all of `imdrill` but its `main`: it reads the words of the command line, finds the script, has it run by
-//! `im_drill`, and answers the exit status, 2 at most. What goes to which stream is tested and stands in no clause.
+//! `im_drill`, and answers the exit status, 2 at most. `store_program` is all of `imstore`: it opens the folder that its words name, or an
+//! empty model disk, and hands the disk on to `store_text`, which opens the store of any disk, makes the steps that a
+//! reader's lines ask for, and writes and flushes each reply before it reads the next line. What goes to which stream is
+//! tested, by stored outputs word for word among other tests, and stands in no clause.
+//!
+//! It stands on `im_drill` for scripts, for the lines of steps and for the words of replies, on the engine, and on `clap` for command lines.
 #![tactic(auto)]
 
 mod imdrill;
+mod imstore;
+mod store;
+#[cfg(test)]
+mod stored;
 #[cfg(test)]
 mod tests;
 
 pub use imdrill::drill_program;
+pub use imstore::store_program;
+pub use store::store_text;

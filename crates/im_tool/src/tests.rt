@@ -1,4 +1,5 @@
-use crate::drill_program;
+use crate::{drill_program, store_program, store_text};
+use im_disk::{FileDisk, ModelDisk};
 use im_drill::drill_text;
 use std::test::Fail;
 use std::{fs, io};
@@ -59,7 +60,8 @@ fn lines_that_the_grammar_lacks_are_refused(rt: HostRuntime) -> Result<(), Fail>
         "put 61",
         "calls",
         "stop end long written",
-        "life",
+        "life ",
+        "begin",
     ] {
         let (status, printed) = drilled(&rt, script)?;
         assert!(rt; status == 1, "{script}");
@@ -117,5 +119,143 @@ fn the_program_answers_its_status(rt: HostRuntime) -> Result<(), Fail> {
     let words = vec![in alloc; name, script, more]?;
     assert!(rt; drill_program(&rt, &words)? == 2);
     fs::remove_file(&rt, "im_tool_script")?;
+    Ok(())
+}
+
+#[test]
+fn lives_of_a_store_print_their_replies(rt: HostRuntime) -> Result<(), Fail> {
+    for (script, want) in [
+        (
+            "life\nbegin\ninsert 1 ab+z*2 1\ninsert 1 +z*3 18446744073709551615\nfetch 1 abzz\nfetch 1 zzz\ncommit 1\n",
+            "open ok 6\nstarted 1\ninserted\ninserted\nfound 1\nfound 18446744073709551615\ncommitted\nfinal 2\n61627a7a 1\n7a7a7a 18446744073709551615\n",
+        ),
+        (
+            "life\nbegin\ninsert 1 a 7\ndelete 1 a\ndelete 1 a\nfetch 1 a\ninsert 1 a 8\ninsert 1 a 9\ncommit 1\nlife\nbegin\nfetch 2 a\ndelete 2 a\ncommit 2\n",
+            "open ok 6\nstarted 1\ninserted\ndeleted\nabsent\nabsent\ninserted\nduplicate\ncommitted\nopen ok 0\nstarted 2\nfound 8\ndeleted\ncommitted\nfinal 0\n",
+        ),
+        (
+            "life\nbegin\ninsert 1 a 7\nlife\nbegin\nbegin\ncommit 2\nstop end short written\n",
+            "open ok 6\nstarted 1\ninserted\nopen ok 0\nstarted 1\nrefused 12\nrefused 1\nfinal 0\n",
+        ),
+        ("life\nstop 1 long 00\n", "open stopped\nfinal 0\n"),
+        ("set log 00\nset log 01\n", "final 0\n"),
+    ] {
+        let (status, printed) = drilled(&rt, script)?;
+        assert!(rt; status == 0, "{script}");
+        assert!(rt; printed.as_slice() == want.as_bytes(), "{script}");
+    }
+    Ok(())
+}
+
+#[test]
+fn a_life_takes_no_other_line(rt: HostRuntime) -> Result<(), Fail> {
+    for line in [
+        "raw",
+        "put 61",
+        "set log 00",
+        "life frames 8",
+        "begin ",
+        "Begin",
+        "commit",
+        "commit 01",
+        "commit 1 1",
+        "fetch 1",
+        "fetch 1 ",
+        "fetch 1 a b",
+        "fetch 1 a+",
+        "fetch 1 a*",
+        "fetch 1 a+z",
+        "fetch 1 a+zz*1",
+        "fetch 1 a+z*1001",
+        "fetch 1 a+z*01",
+        "fetch 1 a+-*1",
+        "fetch 18446744073709551616 a",
+        "insert 1 a",
+        "insert 1 a x",
+        "insert 1 a 1 ",
+        "delete a",
+        "seek 1 a",
+        "entries",
+        "rollback 1",
+    ] {
+        let script = format!(in rt.alloc(); "life\n{line}\n")?;
+        let (status, printed) = drilled(&rt, script.as_str())?;
+        assert!(rt; status == 1, "{line}");
+        assert!(rt;
+            printed.as_slice() == "refused 16 line 2\n".as_bytes(),
+            "{line}"
+        );
+    }
+    Ok(())
+}
+
+#[test]
+fn a_store_answers_each_line(rt: HostRuntime) -> Result<(), Fail> {
+    let alloc = rt.alloc();
+    let disk = ModelDisk::new(Vec::new(alloc), Vec::new(alloc));
+    let mut reader =
+        "begin\n\ninsert 1 a 7\ninsert 1 a 8\nfetch 1 a\nfetch 1 b\ndelete 1 b\ncalls\ninsert 1 b 1\ndelete 1 b\nbegin\ncommit 2\ncommit 1\nentries".as_bytes();
+    let mut printed = Vec::new(alloc);
+    let status = store_text(alloc, disk, &mut reader, &mut printed)?;
+    assert!(rt; status == 0);
+    assert!(rt;
+        printed.as_slice()
+            == "started 1\ninserted\nduplicate\nfound 7\nabsent\nabsent\nrefused 16\ninserted\ndeleted\nrefused 12\nrefused 1\ncommitted\ntotal 1\n61 7\n".as_bytes()
+    );
+    let mut log = Vec::new(alloc);
+    log.extend_from_slice(b"\x01A")?;
+    let disk = ModelDisk::new(log, Vec::new(alloc));
+    let mut reader = "entries".as_bytes();
+    let mut printed = Vec::new(alloc);
+    let status = store_text(alloc, disk, &mut reader, &mut printed)?;
+    assert!(rt; status == 1);
+    assert!(rt; printed.as_slice() == "open refused 11\n".as_bytes());
+    Ok(())
+}
+
+#[test]
+fn a_store_in_a_folder_keeps_its_keys(rt: HostRuntime) -> Result<(), Fail> {
+    let alloc = rt.alloc();
+    for (lines, want) in [
+        (
+            "begin\ninsert 1 a 7\ncommit 1\nbegin\ninsert 2 b 8\n",
+            "started 1\ninserted\ncommitted\nstarted 2\ninserted\n",
+        ),
+        ("entries\n", "total 1\n61 7\n"),
+    ] {
+        let mut reader = lines.as_bytes();
+        let mut printed = Vec::new(alloc);
+        let Ok(disk) = FileDisk::open(&rt, "im_tool_kept") else {
+            fs::remove_dir_all(&rt, "im_tool_kept")?;
+            assert!(rt; false, "no folder");
+            return Ok(());
+        };
+        let status = store_text(alloc, disk, &mut reader, &mut printed)?;
+        assert!(rt; status == 0, "{lines}");
+        assert!(rt; printed.as_slice() == want.as_bytes(), "{lines}");
+    }
+    fs::remove_dir_all(&rt, "im_tool_kept")?;
+    Ok(())
+}
+
+#[test]
+fn the_store_program_answers_its_status(rt: HostRuntime) -> Result<(), Fail> {
+    let alloc = rt.alloc();
+    let name = String::from_str(alloc, "imstore")?;
+    let folder = String::from_str(alloc, "im_tool_store")?;
+    let words = vec![in alloc; name, folder]?;
+    assert!(rt; store_program(&rt, &words)? == 0);
+    fs::write(&rt, "im_tool_no_folder", "")?;
+    let name = String::from_str(alloc, "imstore")?;
+    let file = String::from_str(alloc, "im_tool_no_folder")?;
+    let words = vec![in alloc; name, file]?;
+    assert!(rt; store_program(&rt, &words)? == 1);
+    let name = String::from_str(alloc, "imstore")?;
+    let one = String::from_str(alloc, "one")?;
+    let two = String::from_str(alloc, "two")?;
+    let words = vec![in alloc; name, one, two]?;
+    assert!(rt; store_program(&rt, &words)? == 2);
+    fs::remove_file(&rt, "im_tool_no_folder")?;
+    fs::remove_dir_all(&rt, "im_tool_store")?;
     Ok(())
 }

@@ -21,6 +21,7 @@ pub mod OneLeaf
 pub mod WriterFronts
 pub mod WriterCovers
 pub mod WriterWrites
+pub mod WriterGrowth
 pub mod WriterAppends
 pub mod WriterCheckpoints
 pub mod WriterRedo

@@ -17,8 +17,8 @@ returns-in_ok-replies-in-Ok-clause-kept c before stands files left =
     let s = c.in_ok-replies-in-Ok.ensures.kept before (subst (λ (l : List (List ℕ)). IsLiving ghosts l [] [] c.in-Ok.gate c.open_batches.new.disk) same c.in-Ok.ensures.living) files left in
     (s.0, s.1, subst (λ (l : List RawLine). Survives before (asked_of l) (acked_of l c.in_ok-replies-in-Ok.replies.items) s.0) c.deref.ensures.value s.2)
 
-pub returns-after-stopped-clause-kept : goal.returns-after-stopped-clause-kept
-returns-after-stopped-clause-kept c before stands files left =
+pub returns-in-Err-clause-kept : goal.returns-in-Err-clause-kept
+returns-in-Err-clause-kept c before stands files left =
     let now : StandsFor (ghosts.seen c.arm.new.disk) before = subst (λ (s : Files). StandsFor s before) (sym c.in_ok-arm.ensures.reads.seen) stands in (
       before,
       c.open_batches.ensures.leaves tt before now files left,

@@ -22,7 +22,7 @@ loop-line-preserved c = record {
       take_more c.args.lines.now c.loop-line.line-index c.line-item.result c.loop-line-test.true ∙ ap (λ (l : RawLine). take c.loop-line.line-index c.args.lines.now ++ l ∷ []) (sym c.line-item.is) in
       subst (λ (l : List RawLine). Replied l c.push.new.self.items) (sym more)
       (subst (λ (l : List RawReply). Replied (take c.loop-line.line-index c.args.lines.now ++ c.line-item.result ∷ []) l) (sym c.in_ok-push.ensures.items)
-      (replied_push (take c.loop-line.line-index c.args.lines.now) c.loop-line.replies.items c.line-item.result c.run_line-reply.result c.loop-line.invariant.replied fits));
+      (replied_push IsReply (take c.loop-line.line-index c.args.lines.now) c.loop-line.replies.items c.line-item.result c.run_line-reply.result c.loop-line.invariant.replied fits));
   count = ap length c.in_ok-push.ensures.items ∙ length-append c.loop-line.replies.items (c.run_line-reply.result ∷ []) ∙ ap (λ (n : ℕ). n + 1) c.loop-line.invariant.count;
   living = λ before living.
       subst (λ (l : List RawReply). IsLiving ghosts before (asked_of (take (c.loop-line.line-index + 1) c.args.lines.now)) (acked_of (take (c.loop-line.line-index + 1) c.args.lines.now) l) c.run_line-reply.new.gate c.run_line-reply.new.disk) (sym c.in_ok-push.ensures.items)

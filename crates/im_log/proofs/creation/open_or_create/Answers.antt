@@ -1,4 +1,4 @@
-use Rattle.std.proofs.Common.{◌≡◌, List, [], Option, IfSome, Ok, Some, None, refl, sym, ◌∙◌, ap, subst, rules}
+use Rattle.std.proofs.Common.{◌≡◌, List, [], Option, IfSome, Ok, Some, sym, ◌∙◌, ap, subst, rules}
 use Rattle.im_types.specs.declared.file_id.FileId.{FileId}
 use Rattle.im_types.specs.declared.file_id.FileId.TheVariants.{Log}
 use Rattle.im_types.specs.Records.{Logged}
@@ -8,8 +8,7 @@ use Rattle.im_gate.specs.declared.gate.Gate.{Gate}
 use Rattle.im_gate.specs.Batches.{batches}
 use Rattle.im_gate.specs.Header.{IsMade}
 use Rattle.im_log.specs.Kept.{HasLog, IsLogOf}
-use Rattle.im_log.specs.LogFile.{IsLog}
-use Rattle.im_log.proofs.Creations.{made_has, unmade_none, blank_has, reads_stops, creation_stops}
+use Rattle.im_log.proofs.Creations.{made_has, unmade_none, blank_has, reads_stops, creation_stops, store_opened, store_made, not_refused_so}
 use Rattle.im_log.proofs.creation.open_or_create.Goals as goal
 
 pub returns-in_err-gate-in-None-clause-kept : goal.returns-in_err-gate-in-None-clause-kept
@@ -55,3 +54,19 @@ returns-in_ok-gate-in-None-clause-kept g c all told is empty =
           (creation_stops g.D.Disk all c.args.disk.now c.open.new.disk mid opened c.open.ensures.reads none c.create.ensures.any_moment) c.open_log-in-None.ensures.reads;
       cause = kept.cause;
     }
+
+pub returns-in-Some-clause-store : goal.returns-in-Some-clause-store
+returns-in-Some-clause-store g c =
+    let old = c.args.disk.now in
+    let made = subst (λ (o : Option Gate). IfSome o (λ _. g.D.Disk.tells → IsMade (g.D.Disk.seen old Log))) c.in-Some.is c.in_ok-gate.ensures.made in
+    store_opened g.D.Disk old c.open.new.disk c.open_log.new.disk c.open_log.result made c.open.ensures.reads.seen c.open_log.ensures.spelled
+
+pub returns-in-Some-clause-refused : goal.returns-in-Some-clause-refused
+returns-in-Some-clause-refused g c is told store = not_refused_so c.open_log.result (returns-in-Some-clause-kept g c store.all told store.spelled store.bare).cause is
+
+pub returns-in_ok-gate-in-None-clause-store : goal.returns-in_ok-gate-in-None-clause-store
+returns-in_ok-gate-in-None-clause-store g c =
+    store_made g.D.Disk c.args.disk.now c.open_log-in-None.new.disk c.open_log-in-None.result (c.in_ok-gate.ensures.unmade (ap Ok c.in-None.is)) (λ told is bare. (returns-in_ok-gate-in-None-clause-kept g c [] told is bare).ok)
+
+pub returns-in_ok-gate-in-None-clause-refused : goal.returns-in_ok-gate-in-None-clause-refused
+returns-in_ok-gate-in-None-clause-refused g c is told store = not_refused_so c.open_log-in-None.result (returns-in_ok-gate-in-None-clause-kept g c store.all told store.spelled store.bare).cause is

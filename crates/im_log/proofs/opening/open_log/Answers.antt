@@ -1,8 +1,9 @@
-use Rattle.std.proofs.Common.{◌≡◌, ◌≢◌, List, [], ◌∷◌, Some, None, Ok, Err, refl, sym, ◌∙◌, ap, rules, arith}
-use Rattle.im_types.specs.declared.fault.Fault.TheVariants.{Device, NotAStore}
+use Rattle.std.proofs.Common.{◌≡◌, [], ◌∷◌, Some, None, sym, ◌∙◌, rules}
 use Rattle.im_disk.proofs.Runs.{reads_none, reads_then}
 use Rattle.im_log.specs.Spelled.{logged_at}
 use Rattle.im_log.proofs.Openings.{started, begun_start, none_kept, some_kept}
+use Rattle.im_record.specs.Entry.{view}
+use Rattle.im_log.proofs.Backward.{read_none, none_read, some_read, has_read}
 use Rattle.im_log.proofs.opening.open_log.Goals as goal
 
 pub loop-opening-init : goal.loop-opening-init
@@ -14,6 +15,7 @@ loop-opening-init g c =
       working = is.5;
       based = is.1;
       reading = λ all told has. ([], started g.D.Disk c.args.base all c.args.gate c.in_ok-opening.opening c.args.disk.now c.requires.of_log c.requires.first told has is);
+      back = λ told made. ([], read_none g.D.Disk c.args.base c.args.gate c.in_ok-opening.opening c.args.disk.now c.requires.of_log c.requires.first told made is);
     }
 
 pub returns-in_err-next-clause-kept : goal.returns-in_err-next-clause-kept
@@ -46,4 +48,15 @@ loop-opening-preserved g c = record {
       let h = c.loop-opening.invariant.reading all told has in
       let n = some_kept g.D.Disk c.args.base all h.0 c.next.new.self c.next.new.disk c.in_ok-next.field-0 c.in-Some.field-0 c.in-Some.is (c.in_ok-next.ensures.kept c.args.base all h.0 h.1) in
       (logged_at c.in-Some.field-0 n.entry ∷ h.0, n.opening);
+  back = λ told made.
+      let h = c.loop-opening.invariant.back told made in
+      let entry = view c.in_ok-record-in-Some.field-0 in
+      (logged_at c.in-Some.field-0 entry ∷ h.0, some_read g.D.Disk c.args.base h.0 c.next.new.self c.next.new.disk c.in_ok-next.field-0 c.in-Some.field-0 entry c.in-Some.is (c.in_ok-next.ensures.reads_on c.args.base h.0 h.1) c.in_ok-record-in-Some.ensures.record);
 }
+
+pub returns-in-None-clause-spelled : goal.returns-in-None-clause-spelled
+returns-in-None-clause-spelled g c told made =
+    let h = c.loop-opening.invariant.back told made in
+    let e = none_read g.D.Disk c.args.base h.0 c.next.new.self c.next.new.disk c.in_ok-next.field-0 c.in-None.is (c.in_ok-next.ensures.reads_on c.args.base h.0 h.1) in
+    let seen = c.next.ensures.reads.seen ∙ c.loop-opening.invariant.reads.seen in
+    (h.0, has_read g.D.Disk c.args.base h.0 c.next.new.self c.args.disk.now c.next.new.disk seen e, c.finish.ensures.kept c.args.base h.0 h.0 e)

@@ -1,5 +1,7 @@
 use Rattle.std.proofs.Common.{◌≤◌, ◌+◌, suc, length}
-use Rattle.im_drill.specs.Scripts.{lines_of}
+use Rattle.im_drill.specs.Lines.{Spells}
+use Rattle.im_drill.specs.Reading.{IsReading}
+use Rattle.im_drill.specs.Scripts.{lines_of, kind_of}
 use Rattle.im_drill.proofs.Lines.{lines_left, left_of}
 use Rattle.im_drill.proofs.Passed.{Passed}
 use Rattle.im_drill.proofs.script.Script.parse.Given as goal
@@ -8,7 +10,7 @@ use Rattle.im_drill.proofs.script.Script.parse.Given as goal
 abbrev pub invariant-loop-left : goal.invariant-loop-left
 invariant-loop-left l = record {
   count : l.number + left_of l.left ≤ suc (length l.fn.text);
-  passed : Passed (lines_of l.fn.text) l.number (lines_left l.left) l.reading;
+  passed : Passed Spells kind_of IsReading (lines_of l.fn.text) l.number (lines_left l.left) l.reading;
 }
 
 abbrev pub decreases-loop-left : goal.decreases-loop-left

@@ -1,9 +1,10 @@
-use Rattle.std.proofs.Common.{◌≡◌, ◌≤◌, ℕ, List, length, take}
+use Rattle.std.proofs.Common.{◌≡◌, ◌≤◌, List, length, take}
 use Rattle.std.specs.Vec.{vec_len, vec_capacity}
 use Rattle.im_types.specs.Changes.{Effect}
 use Rattle.im_types.specs.Lives.{Shown, shown_by}
 use Rattle.im_engine.specs.Running.{IsLife}
 use Rattle.im_engine.specs.Kept.{answered_by}
+use Rattle.im_engine.specs.Turns.{AreSteps}
 use Rattle.im_engine.proofs.engine.Engine.life.Given as goal
 
 abbrev pub invariant-loop-step : goal.invariant-loop-step
@@ -11,5 +12,6 @@ invariant-loop-step g l = record {
   count : length l.replies.items ≡ l.step-index;
   len : vec_len l.replies ≡ l.step-index;
   room : length l.steps ≤ vec_capacity l.replies;
+  turns : AreSteps g.D.Disk (take l.step-index l.steps) l.replies.items l.fn.self l.self;
   kept : (before : List Effect) (s : Shown) → IsLife g.D.Disk before s l.fn.self → IsLife g.D.Disk before (shown_by s (answered_by (take l.step-index l.steps) l.replies.items)) l.self;
 }

@@ -1,4 +1,4 @@
-use Rattle.std.proofs.Common.{false, refl, sym, ap, subst, ◌∙◌, arith, rules}
+use Rattle.std.proofs.Common.{false, refl, sym, subst, arith, rules}
 use Rattle.im_types.specs.declared.file_id.FileId.TheVariants.{Log, Pages}
 use Rattle.im_types.specs.Lives.{asks}
 use Rattle.im_disk.specs.Runs.{LeavesIn, LeavesOnly}

@@ -35,3 +35,8 @@ returns-in-Ok-open_or_create-clause-kept g c before told synced stands =
       stops = opening_stops g.D.Disk before c.args.disk synced l c.open_or_create.new.disk kept.stops;
       cause = tt;
     }
+
+pub returns-in-Ok-open_or_create-clause-takes : goal.returns-in-Ok-open_or_create-clause-takes
+returns-in-Ok-open_or_create-clause-takes g c all told has bare =
+    let kept = c.in-Ok-open_or_create.ensures.kept all told has bare in
+    record { taken = kept.ok.can; next = kept.ok.next; refused = tt }

@@ -1,7 +1,7 @@
 use Rattle.std.proofs.Common.{List, ℕ, take, ap, refl, rules, arith}
 use Rattle.im_types.specs.declared.file_id.FileId.TheVariants.{Log}
 use Rattle.im_log.specs.Kept.{SpellsEither}
-use Rattle.im_log.proofs.Runs.{force_stops, forced, seen_now, either_made, no_more, unmoved}
+use Rattle.im_log.proofs.Runs.{force_stops, forced, seen_now, either_made}
 use Rattle.im_log.proofs.log_file.LogFile.force.Goals as goal
 
 pub returns-in_err-put_batch-clause-kept : goal.returns-in_err-put_batch-clause-kept

@@ -1,4 +1,4 @@
-use Rattle.std.proofs.Common.{ℕ, List, ◌≡◌, ◌-◌, ◌≤◌, take, drop, length, ap, refl, sym, ◌∙◌, arith}
+use Rattle.std.proofs.Common.{ℕ, List, ◌≡◌, ◌-◌, ◌≤◌, take, drop, length, ap, refl, ◌∙◌, arith}
 use Rattle.im_log.specs.Spelled.{record_size}
 use Rattle.im_log.specs.Opening.{rest_of}
 use Rattle.im_log.proofs.Openings.{current_is, rest_is, rest_long}

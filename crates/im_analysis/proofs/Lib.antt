@@ -1,0 +1,10 @@
+pub mod CopyLsns
+pub mod NextNumbers
+pub mod Taking
+pub mod Losers
+pub mod Lefts
+pub mod Nexts
+pub mod Undoing
+pub mod LawfulLogs
+pub mod Readings
+pub mod Tables

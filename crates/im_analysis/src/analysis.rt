@@ -1,0 +1,119 @@
+//! The pass over the records.
+
+use crate::notes::{note, since};
+use crate::numbers::{next_after, point_after};
+use crate::open_change::{make_room, note_open, opens_another};
+use crate::rows::{Loser, OpenRecord};
+use im_record::Record;
+use im_types::{Fault, Lsn, PageNo, TxnId};
+use std::alloc::Global;
+use std::collections::BTreeMap;
+
+/// What is known of the records that were taken.
+#[derive(Drop)]
+pub struct Analysis {
+    next: TxnId,
+    point: Option<Lsn>,
+    losers: BTreeMap<TxnId, Loser>,
+    copies: BTreeMap<PageNo, Lsn>,
+    open_change: Vec<OpenRecord>,
+}
+
+/// What a restart has to know of its log.
+#[derive(Drop)]
+pub struct Analysed {
+    /// The number of the next transaction.
+    pub next: TxnId,
+    /// The LSN from which redo begins, 0 for a log without records.
+    pub redo_point: Lsn,
+    /// The transactions with a record and neither Commit nor End, in rising number.
+    pub losers: BTreeMap<TxnId, Loser>,
+    /// For each page, in rising number, the LSN of the last record at or after the redo point that holds a full copy of it.
+    pub copies: BTreeMap<PageNo, Lsn>,
+    /// The records of the structure change that is open, the oldest first; empty for none. Undo begins with the last.
+    pub open_change: Vec<OpenRecord>,
+}
+
+impl Analysis {
+    ghost use Rattle.std.specs.Prelude.{◌≡◌, ◌⊎◌, [], ◌∷◌, OnErr, IfErr};
+    ghost use Rattle.im_types.specs.declared.fault.Fault.TheVariants.{Memory, NotAStore};
+    ghost use Rattle.im_types.specs.Histories.{History};
+    ghost use Rattle.im_types.specs.RedoPoints.{redo_point};
+    ghost use Rattle.im_record.specs.Entry.{view};
+    ghost use Rattle.im_log.specs.Spelled.{logged_at};
+    ghost use Rattle.im_analysis.specs.Numbers.{IsNextNumber};
+    ghost use Rattle.im_analysis.specs.Analysis.{Continues, IsAnalysed, TakeKept, IsUnchanged, IsAnalysis};
+
+    /// Before the first record.
+    pub fn new(alloc: Global) -> Self
+        ensures { IsAnalysed [] result }
+    {
+        Analysis {
+            next: 1,
+            point: None,
+            losers: BTreeMap::new(alloc),
+            copies: BTreeMap::new(alloc),
+            open_change: Vec::new(alloc),
+        }
+    }
+
+    /// The number of the next transaction: the least from 1 on that is above every transaction number in the records
+    /// and not below the next number of any of their Checkpoints, or 2^64 - 1 where that is no u64.
+    pub fn next(&self) -> TxnId
+        ensures { (log : History) → IsAnalysed log self.now → IsNextNumber result log }
+    {
+        self.next
+    }
+
+    /// The LSN from which redo begins, 0 without records.
+    pub fn redo_point(&self) -> Lsn
+        ensures { (log : History) → IsAnalysed log self.now → result ≡ redo_point log }
+    {
+        match self.point {
+            None => 0,
+            Some(point) => point,
+        }
+    }
+
+    /// Takes the next record of the log.
+    ///
+    /// Refused `NotAStore` where a structure change opens while another transaction's is open, and `Memory`; then
+    /// nothing is changed.
+    pub fn take(&mut self, lsn: Lsn, record: &Record) -> Result<(), Fault>
+        ensures kept { (older : History) → IsAnalysed older self.old → Continues (logged_at lsn (view record.now)) older
+            → TakeKept older (logged_at lsn (view record.now)) self.new result }
+        ensures same { OnErr result (IsUnchanged self.old self.new) }
+        ensures causes { IfErr result (λ e. (e ≡ Memory) ⊎ (e ≡ NotAStore)) }
+    {
+        if opens_another(&self.open_change, record) {
+            return Err(Fault::NotAStore);
+        }
+        make_room(&mut self.open_change)?;
+        note(&mut self.losers, &mut self.copies, lsn, record)?;
+        note_open(&mut self.open_change, lsn, record);
+        self.next = next_after(self.next, record);
+        self.point = Some(point_after(self.point, lsn, record));
+        Ok(())
+    }
+
+    /// What is known behind the last record.
+    pub fn finish(self) -> Analysed
+        ensures { (log : History) → IsAnalysed log self → IsAnalysis log result }
+    {
+        let redo_point = self.redo_point();
+        let Analysis {
+            next,
+            losers,
+            copies,
+            open_change,
+            ..
+        } = self;
+        Analysed {
+            next,
+            redo_point,
+            losers,
+            copies: since(copies, redo_point),
+            open_change,
+        }
+    }
+}

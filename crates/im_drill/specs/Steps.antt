@@ -1,0 +1,72 @@
+-- How the lines that ask for steps are spelled.
+use Rattle.std.specs.Prelude.{◌≡◌, ◌≢◌, ◌⊎◌, ℕ, ◌≤◌, ◌==◌, ◌&&◌, Bool, true, not, List, [], ◌∷◌, ◌++◌, codes, replicate}
+use Rattle.std.specs.List.{list_all}
+use Rattle.std.specs.Char.{is_ascii_graphic, IsAsciiAlphanumeric}
+use Rattle.im_types.specs.declared.step.Step.{Step}
+use Rattle.im_types.specs.declared.step.Step.TheVariants as steps
+use Rattle.im_drill.specs.Lines.{IsNumber}
+
+-- a byte that a key's text may have: printable, and no space, `+` or `*`
+abbrev pub is_plain : ℕ → Bool
+is_plain b = is_ascii_graphic b && not (b == 43) && not (b == 42)
+
+-- each byte of a text is such
+abbrev pub is_text : List ℕ → Bool
+is_text text = list_all is_plain text
+
+-- `C*N`: the letter or digit C, N times, N at most 1,000.
+pub record IsRepeated (word : List ℕ) (letter times : ℕ) : Type 0 where
+  pub digits : List ℕ
+  pub is : word ≡ letter ∷ 42 ∷ digits
+  pub sign : IsAsciiAlphanumeric letter
+  pub number : IsNumber digits times
+  pub most : times ≤ 1000
+
+-- `T+C*N`: the text T, which may be empty, and then the letter or digit C, N times.
+pub record IsRepeating (word key : List ℕ) : Type 0 where
+  pub text : List ℕ
+  pub more : List ℕ
+  pub letter : ℕ
+  pub times : ℕ
+  pub is : word ≡ text ++ 43 ∷ more
+  pub plain : is_text text ≡ true
+  pub repeated : IsRepeated more letter times
+  pub key_is : key ≡ text ++ replicate times letter
+
+-- a text of one byte or more, which is the key
+pub record IsPlainKey (word key : List ℕ) : Type 0 where
+  pub plain : is_text word ≡ true
+  pub some : word ≢ []
+  pub key_is : key ≡ word
+
+-- the key that a word writes
+abbrev pub IsKeyWord : List ℕ → List ℕ → Type 0
+IsKeyWord word key = IsPlainKey word key ⊎ IsRepeating word key
+
+-- a number, a space, and what stands behind them
+pub record IsNumbered (text : List ℕ) (n : ℕ) (rest : List ℕ) : Type 0 where
+  pub word : List ℕ
+  pub is : text ≡ word ++ 32 ∷ rest
+  pub number : IsNumber word n
+
+-- a number, a space, and the word of a key
+pub record IsKeyed (text : List ℕ) (t : ℕ) (key : List ℕ) : Type 0 where
+  pub word : List ℕ
+  pub numbered : IsNumbered text t word
+  pub is_key : IsKeyWord word key
+
+-- a number, the word of a key and a row id, with single spaces between them
+pub record IsKeyedWith (text : List ℕ) (t : ℕ) (key : List ℕ) (rid : ℕ) : Type 0 where
+  pub word : List ℕ
+  pub last : List ℕ
+  pub numbered : IsNumbered text t (word ++ 32 ∷ last)
+  pub is_key : IsKeyWord word key
+  pub is_rid : IsNumber last rid
+
+-- The bytes of a line that asks for this step.
+abbrev pub SpellsStep : List ℕ → Step → Type 0
+SpellsStep text steps.Begin = text ≡ codes "begin"
+SpellsStep text (steps.Fetch t key) = (rest : List ℕ) × (text ≡ codes "fetch " ++ rest) × IsKeyed rest t key.items
+SpellsStep text (steps.Insert t key rid) = (rest : List ℕ) × (text ≡ codes "insert " ++ rest) × IsKeyedWith rest t key.items rid
+SpellsStep text (steps.Delete t key) = (rest : List ℕ) × (text ≡ codes "delete " ++ rest) × IsKeyed rest t key.items
+SpellsStep text (steps.Commit t) = (rest : List ℕ) × (text ≡ codes "commit " ++ rest) × IsNumber rest t

@@ -1,0 +1,64 @@
+-- The lines of scripts of lives of a store, and what script they make.
+use Rattle.std.specs.Prelude.{◌≡◌, ◌≢◌, ℕ, List, [], ◌∷◌, ◌++◌, map, codes, Option, Some, None}
+use Rattle.std.specs.Global.{Vec}
+use Rattle.im_disk.specs.declared.stop.Stop.{Stop}
+use Rattle.im_drill.specs.declared.line.Line.TheVariants as raws
+use Rattle.im_drill.specs.declared.store_script_line.StoreScriptLine.{StoreScriptLine}
+use Rattle.im_drill.specs.declared.store_script_line.StoreScriptLine.TheVariants as lines
+use Rattle.im_drill.specs.declared.store_life.StoreLine.TheVariants as within
+use Rattle.im_drill.specs.declared.store_life.StoreLife.{StoreLife}
+use Rattle.im_drill.specs.declared.store_script.StoreScript.{StoreScript}
+use Rattle.im_drill.specs.Lines.{Spells}
+use Rattle.im_drill.specs.Steps.{SpellsStep}
+use Rattle.im_drill.specs.Scripts.{Kind, SetsLog, Begins, Counts, Steps, Stops, Before, MayStand, SaysBy, IsFirstBadBy, last_set}
+
+-- The bytes of a line that says this.
+abbrev pub SpellsStore : List ℕ → StoreScriptLine → Type 0
+SpellsStore text lines.Life = text ≡ codes "life"
+SpellsStore text (lines.SetLog bytes) = Spells text (raws.SetLog bytes)
+SpellsStore text (lines.Within within.Calls) = Spells text raws.Calls
+SpellsStore text (lines.Within (within.Step step)) = SpellsStep text step
+SpellsStore text (lines.Stop stop) = Spells text (raws.Stop stop)
+
+-- `life` begins a life as `raw` does, and a step stands where a put does.
+abbrev pub store_kind_of : StoreScriptLine → Kind
+store_kind_of lines.Life = Begins
+store_kind_of (lines.SetLog bytes) = SetsLog
+store_kind_of (lines.Within within.Calls) = Counts
+store_kind_of (lines.Within (within.Step step)) = Steps
+store_kind_of (lines.Stop stop) = Stops
+
+abbrev pub stop_lines : Option Stop → List StoreScriptLine
+stop_lines None = []
+stop_lines (Some stop) = lines.Stop stop ∷ []
+
+-- The lines of lives: of each `life`, then its lines, then its stop.
+abbrev pub lines_of_lives : List StoreLife → List StoreScriptLine
+lines_of_lives [] = []
+lines_of_lives (life ∷ rest) = lines.Life ∷ (map lines.Within life.lines.items ++ stop_lines life.stop) ++ lines_of_lives rest
+
+-- The script of these lines: its log file is what was set last, and its lives are those of the other lines, in order.
+pub record IsStoreScriptOf (script : StoreScript) (said : List StoreScriptLine) : Type 0 where
+  pub sets : List (Vec ℕ)
+  pub is : said ≡ map lines.SetLog sets ++ lines_of_lives script.lives.items
+  pub log : script.log.items ≡ last_set sets
+
+-- The script that the lines of a text make.
+abbrev pub IsStoreScript : List (List ℕ) → StoreScript → Type 0
+IsStoreScript texts script = (said : List StoreScriptLine) × SaysBy SpellsStore texts said × MayStand Before (map store_kind_of said) × IsStoreScriptOf script said
+
+-- The line of this number is the first that is bad.
+abbrev pub IsFirstBadOfStore : List (List ℕ) → ℕ → Type 0
+IsFirstBadOfStore texts number = IsFirstBadBy SpellsStore store_kind_of texts number
+
+-- none of the lines is this one
+abbrev pub NoLine : List ℕ → List (List ℕ) → Type 0
+NoLine word [] = Unit {0}
+NoLine word (line ∷ rest) = (line ≢ word) × NoLine word rest
+
+-- A text of lives over gates alone: a `raw` line stands in it, and no `life` line in front of that.
+pub record IsRaw (texts : List (List ℕ)) : Type 0 where
+  pub front : List (List ℕ)
+  pub rest : List (List ℕ)
+  pub is : texts ≡ front ++ codes "raw" ∷ rest
+  pub lives : NoLine (codes "life") front

@@ -1,0 +1,33 @@
+//! What the lives of a store answer.
+
+use crate::Opening;
+use im_types::{Fault, Key, Reply, Rid};
+
+/// What a line of a life of a store answers.
+#[derive(Clone, Copy, Debug, PartialEq, Eq)]
+pub enum StoreReply {
+    /// The step's reply.
+    Step(Reply),
+    /// The device calls so far.
+    Calls(u64),
+    /// The stop fell into it. The life's other lines answer nothing.
+    Stopped,
+}
+
+/// What a life of a store answers.
+#[derive(Drop)]
+pub struct StoreAnswers {
+    /// Its opening.
+    pub opening: Opening,
+    /// One reply for each of its lines, as far as it came.
+    pub replies: Vec<StoreReply>,
+}
+
+/// What the lives of a store answer, and what stands behind the last.
+#[derive(Drop)]
+pub struct StoreDrilled {
+    /// The answers of each life.
+    pub lives: Vec<StoreAnswers>,
+    /// The entries that the last opening finds.
+    pub last: Result<Vec<(Key, Rid)>, Fault>,
+}

@@ -1,0 +1,127 @@
+//! Lives of a store, on the model disk.
+
+ghost use Rattle.std.specs.Prelude.{◌≡◌, ◌≢◌, ◌⊎◌, ◌↔◌, true, false, List, IfOk, MatchResult};
+ghost use Rattle.std.specs.FinMap.{empty, entries};
+ghost use Rattle.im_types.specs.declared.fault.Fault.TheVariants.{NotAStore};
+ghost use Rattle.im_types.specs.Changes.{Effect, apply_all};
+ghost use Rattle.im_types.specs.Lives.{Shown, nothing_shown, StandsForMore};
+ghost use Rattle.im_types.specs.Steps.{told_by};
+ghost use Rattle.im_types.specs.declared.reply.Reply.{Reply};
+ghost use Rattle.im_types.specs.declared.step.Step.{Step};
+ghost use Rattle.im_disk.specs.Disk.{Files};
+ghost use Rattle.im_disk.specs.Runs.{IsSynced};
+ghost use Rattle.im_disk.specs.Model.{model_calls, model_stopped};
+ghost use Rattle.im_engine.specs.Stands.{StandsFor, Allowed};
+ghost use Rattle.im_engine.specs.Running.{IsLife};
+ghost use Rattle.im_engine.specs.Answers.{Tells};
+ghost use Rattle.im_drill.specs.declared.store_answers.StoreReply.TheVariants.{Stopped};
+ghost use Rattle.im_drill.specs.Answered.{AnsweredBy};
+ghost use Rattle.im_drill.specs.StoreLives.{asked_in, shown_in, LineKept, IsStoreReply, StoreAnswered};
+
+use crate::Opening;
+use crate::lives::{arm, refused_opening};
+use crate::store_answers::{StoreAnswers, StoreReply};
+use crate::store_life::{StoreLife, StoreLine};
+use im_disk::{Disk, ModelDisk};
+use im_engine::{Config, Engine};
+use im_types::{Fault, Key, Rid};
+use std::alloc::{AllocError, Global};
+
+/// Runs one life on the disk, and gives the disk back as it was when the stop came or the lines ended.
+///
+/// Whatever a stop then leaves stands for the effects from before and a front of those whose Commit the life asked, with all
+/// that were acknowledged. Each line has its reply, unless the stop came before or the opening did not succeed; and
+/// where the files stood for some effects, the opening does not say that they are no store.
+pub(crate) fn run_store_life(
+    alloc: Global,
+    disk: ModelDisk,
+    life: &StoreLife,
+) -> Result<(StoreAnswers, ModelDisk), AllocError>
+    requires working { ⟦<ModelDisk as Disk>⟧.failed disk ≡ false }
+    requires synced { IsSynced ⟦<ModelDisk as Disk>⟧ disk }
+    ensures answered { IfOk result (λ run. StoreAnswered run.0.opening life.now.lines.items run.0.replies.items) }
+    ensures opened { IfOk result (λ run. (before : List Effect) → StandsFor before (⟦<ModelDisk as Disk>⟧.seen disk) → run.0.opening ≢ Opening.Refused NotAStore) }
+    ensures kept { IfOk result (λ run. (before : List Effect) → StandsFor before (⟦<ModelDisk as Disk>⟧.seen disk)
+        → (c : Files) → ⟦<ModelDisk as Disk>⟧.may_leave run.1 c → StandsForMore StandsFor before (asked_in life.now run.0) c) }
+{
+    let mut disk = disk;
+    arm(alloc, &mut disk, &life.stop)?;
+    match Engine::open_or_create(alloc, disk, Config::default()) {
+        Ok(mut engine) => {
+            let opening = Opening::Open(engine.disk().calls());
+            let replies = run_store_lines(alloc, &mut engine, &life.lines);
+            let disk = engine.into_disk();
+            let replies = replies?;
+            Ok((StoreAnswers { opening, replies }, disk))
+        }
+        Err((fault, disk)) => {
+            let opening = refused_opening(&disk, fault);
+            let replies = Vec::new(alloc);
+            Ok((StoreAnswers { opening, replies }, disk))
+        }
+    }
+}
+
+fn run_store_lines(
+    alloc: Global,
+    engine: &mut Engine<ModelDisk>,
+    lines: &[StoreLine],
+) -> Result<Vec<StoreReply>, AllocError>
+    ensures answered { IfOk result (λ told. AnsweredBy IsStoreReply Stopped lines.now told.items) }
+    ensures kept { IfOk result (λ told. (before : List Effect) → IsLife ⟦<ModelDisk as Disk>⟧ before nothing_shown engine.old
+        → (c : Files) → ⟦<ModelDisk as Disk>⟧.may_leave engine.new.disk c → Allowed before (shown_in nothing_shown lines.now told.items) c) }
+{
+    let mut replies = Vec::new(alloc);
+    for line in lines {
+        let reply = run_store_line(engine, line);
+        replies.push(reply)?;
+        if is_stopped(reply) {
+            return Ok(replies);
+        }
+    }
+    Ok(replies)
+}
+
+fn run_store_line(engine: &mut Engine<ModelDisk>, line: &StoreLine) -> StoreReply
+    ensures fits { (result ≡ Stopped) ⊎ IsStoreReply line.now result }
+    ensures stopped { (step : Step) → line.now ≡ StoreLine.Step step → (result ≡ Stopped ↔ model_stopped engine.new.disk ≡ true) }
+    ensures calls { line.now ≡ StoreLine.Calls → (result ≡ StoreReply.Calls (model_calls engine.old.disk)) × (engine.new ≡ engine.old) }
+    ensures tells { (step : Step) (reply : Reply) → line.now ≡ StoreLine.Step step → result ≡ StoreReply.Step reply → Tells step (told_by reply) engine.old.page.value.body.entries }
+    ensures kept { (before : List Effect) (s : Shown) → IsLife ⟦<ModelDisk as Disk>⟧ before s engine.old
+        → LineKept ⟦<ModelDisk as Disk>⟧ before s line.now result engine.new }
+{
+    let step = match line {
+        StoreLine::Calls => return StoreReply::Calls(engine.disk().calls()),
+        StoreLine::Step(step) => step,
+    };
+    let reply = engine.step(step);
+    if engine.disk().stopped() {
+        StoreReply::Stopped
+    } else {
+        StoreReply::Step(reply)
+    }
+}
+
+// The stop fell into the line.
+fn is_stopped(reply: StoreReply) -> bool
+    ensures { result ≡ true ↔ reply ≡ Stopped }
+{
+    matches!(reply, StoreReply::Stopped)
+}
+
+/// The entries that an opening finds.
+pub(crate) fn last_entries(alloc: Global, disk: ModelDisk) -> Result<Vec<(Key, Rid)>, Fault>
+    requires working { ⟦<ModelDisk as Disk>⟧.failed disk ≡ false }
+    requires synced { IsSynced ⟦<ModelDisk as Disk>⟧ disk }
+    ensures { (after : List Effect) → StandsFor after (⟦<ModelDisk as Disk>⟧.seen disk)
+        → MatchResult result (λ found. found.items ≡ entries (apply_all empty after)) (λ fault. fault ≢ NotAStore) }
+{
+    match Engine::open_or_create(alloc, disk, Config::default()) {
+        Ok(engine) => {
+            let entries = engine.entries(alloc);
+            let _disk = engine.into_disk();
+            entries
+        }
+        Err((fault, _disk)) => Err(fault),
+    }
+}

@@ -1,0 +1,137 @@
+//! A script of lives of a store as far as it was read.
+
+ghost use Rattle.std.specs.Prelude.{◌≡◌, ◌++◌, ◌∷◌, [], List, map, IfOk, OnOk, IfErr};
+ghost use Rattle.im_types.specs.declared.fault.Fault.TheVariants.{BadScript};
+ghost use Rattle.im_drill.specs.declared.store_script_line.StoreScriptLine.{StoreScriptLine};
+ghost use Rattle.im_drill.specs.Scripts.{MayStand, MayFollow, Before, place_after};
+ghost use Rattle.im_drill.specs.StoreScripts.{SpellsStore, IsStoreScriptOf, store_kind_of};
+ghost use Rattle.im_drill.specs.StoreReading.{IsStoreReading};
+
+use crate::ScriptError;
+use crate::store_grammar::parse_store_line;
+use crate::store_life::{StoreLife, StoreLine};
+use crate::store_script::StoreScript;
+use crate::store_script_line::StoreScriptLine;
+use im_disk::Stop;
+use im_types::Fault;
+use std::alloc::Global;
+
+/// The log file and the lives that are ended, and the lines of the life that is not.
+#[derive(Drop)]
+pub(crate) struct StoreReading {
+    script: StoreScript,
+    life: Option<Vec<StoreLine>>,
+}
+
+impl StoreReading {
+    /// No line was read.
+    pub(crate) fn new(alloc: Global) -> StoreReading
+        ensures { IsStoreReading result [] }
+    {
+        StoreReading {
+            script: StoreScript {
+                log: Vec::new(alloc),
+                lives: Vec::new(alloc),
+            },
+            life: None,
+        }
+    }
+
+    /// Reads the next line. Refused `BadScript` where it is bad by itself or may not stand here.
+    pub(crate) fn read_line(&mut self, alloc: Global, line: &[u8]) -> Result<(), Fault>
+        ensures read { OnOk result ((said : List StoreScriptLine) → IsStoreReading self.old said → (next : StoreScriptLine) × SpellsStore line.now next × IsStoreReading self.new (said ++ next ∷ [])) }
+        ensures refused { result ≡ Err BadScript → (said : List StoreScriptLine) → IsStoreReading self.old said → (next : StoreScriptLine) → SpellsStore line.now next → ¬ (MayFollow (store_kind_of next) (place_after Before (map store_kind_of said))) }
+    {
+        let line = parse_store_line(alloc, line)?;
+        self.take(alloc, line)
+    }
+
+    fn take(&mut self, alloc: Global, line: StoreScriptLine) -> Result<(), Fault>
+        ensures read { OnOk result ((said : List StoreScriptLine) → IsStoreReading self.old said → IsStoreReading self.new (said ++ line ∷ [])) }
+        ensures refused { result ≡ Err BadScript → (said : List StoreScriptLine) → IsStoreReading self.old said → ¬ (MayFollow (store_kind_of line) (place_after Before (map store_kind_of said))) }
+    {
+        match line {
+            StoreScriptLine::SetLog(bytes) => self.set_log(bytes),
+            StoreScriptLine::Life => self.begin_life(alloc),
+            StoreScriptLine::Within(line) => self.add(line),
+            StoreScriptLine::Stop(stop) => self.stop(stop),
+        }
+    }
+
+    fn set_log(&mut self, bytes: Vec<u8>) -> Result<(), Fault>
+        ensures read { OnOk result ((said : List StoreScriptLine) → IsStoreReading self.old said → IsStoreReading self.new (said ++ StoreScriptLine.SetLog bytes ∷ [])) }
+        ensures refused { result ≡ Err BadScript → (said : List StoreScriptLine) → IsStoreReading self.old said → ¬ (MayFollow (store_kind_of (StoreScriptLine.SetLog bytes)) (place_after Before (map store_kind_of said))) }
+    {
+        if self.life.is_some() || !self.script.lives.is_empty() {
+            return Err(Fault::BadScript);
+        }
+        self.script.log = bytes;
+        Ok(())
+    }
+
+    fn begin_life(&mut self, alloc: Global) -> Result<(), Fault>
+        ensures read { OnOk result ((said : List StoreScriptLine) → IsStoreReading self.old said → IsStoreReading self.new (said ++ StoreScriptLine.Life ∷ [])) }
+        ensures memory { IfErr result (λ fault. fault ≡ Fault.Memory) }
+    {
+        let empty = Vec::new(alloc);
+        let Some(lines) = self.life.take() else {
+            self.life = Some(empty);
+            return Ok(());
+        };
+        match self.script.lives.push(StoreLife { lines, stop: None }) {
+            Ok(()) => {
+                self.life = Some(empty);
+                Ok(())
+            }
+            Err(_) => Err(Fault::Memory),
+        }
+    }
+
+    fn add(&mut self, line: StoreLine) -> Result<(), Fault>
+        ensures read { OnOk result ((said : List StoreScriptLine) → IsStoreReading self.old said → IsStoreReading self.new (said ++ StoreScriptLine.Within line ∷ [])) }
+        ensures refused { result ≡ Err BadScript → (said : List StoreScriptLine) → IsStoreReading self.old said → ¬ (MayFollow (store_kind_of (StoreScriptLine.Within line)) (place_after Before (map store_kind_of said))) }
+    {
+        let Some(mut lines) = self.life.take() else {
+            return Err(Fault::BadScript);
+        };
+        match lines.push(line) {
+            Ok(()) => {
+                self.life = Some(lines);
+                Ok(())
+            }
+            Err(_) => Err(Fault::Memory),
+        }
+    }
+
+    fn stop(&mut self, stop: Stop) -> Result<(), Fault>
+        ensures read { OnOk result ((said : List StoreScriptLine) → IsStoreReading self.old said → IsStoreReading self.new (said ++ StoreScriptLine.Stop stop ∷ [])) }
+        ensures refused { result ≡ Err BadScript → (said : List StoreScriptLine) → IsStoreReading self.old said → ¬ (MayFollow (store_kind_of (StoreScriptLine.Stop stop)) (place_after Before (map store_kind_of said))) }
+    {
+        let Some(lines) = self.life.take() else {
+            return Err(Fault::BadScript);
+        };
+        let life = StoreLife {
+            lines,
+            stop: Some(stop),
+        };
+        let Ok(()) = self.script.lives.push(life) else {
+            return Err(Fault::Memory);
+        };
+        Ok(())
+    }
+
+    /// The script of the lines that were read.
+    pub(crate) fn end(self) -> Result<StoreScript, ScriptError>
+        ensures read { IfOk result (λ script. (said : List StoreScriptLine) → IsStoreReading self said → IsStoreScriptOf script said × MayStand Before (map store_kind_of said)) }
+        ensures memory { IfErr result (λ error. error ≡ ScriptError.Memory) }
+    {
+        let StoreReading { mut script, life } = self;
+        let Some(lines) = life else {
+            return Ok(script);
+        };
+        match script.lives.push(StoreLife { lines, stop: None }) {
+            Ok(()) => Ok(script),
+            Err(_) => Err(ScriptError::Memory),
+        }
+    }
+}

@@ -1,0 +1,17 @@
+//! What one line of a script of lives of a store says.
+
+use crate::store_life::StoreLine;
+use im_disk::Stop;
+
+/// A line of a script of lives of a store.
+#[derive(Drop)]
+pub enum StoreScriptLine {
+    /// `life`: a life of a store.
+    Life,
+    /// `set log HEX`: the bytes of the log file before the first life.
+    SetLog(Vec<u8>),
+    /// A step, or `calls`.
+    Within(StoreLine),
+    /// `stop N LEN FILL`: the last line of a life. No call has the number 0, which stands for `end`.
+    Stop(Stop),
+}

@@ -1,0 +1,70 @@
+//! Scripts of lives of a store as text, and their answers as text.
+
+ghost use Rattle.std.specs.Prelude.{◌≡◌, ◌↔◌, true};
+ghost use Rattle.im_drill.specs.Scripts.{lines_of};
+ghost use Rattle.im_drill.specs.StoreScripts.{IsRaw};
+
+use crate::Opening;
+use crate::entry_lines::entries_text;
+use crate::pieces::first_piece;
+use crate::reply_words::reply_text;
+use crate::store_answers::{StoreAnswers, StoreDrilled, StoreReply};
+use std::alloc::Global;
+use std::io;
+use std::io::Write;
+
+/// A `raw` line stands in the script, and no `life` line in front of it.
+pub(crate) fn is_raw(text: &[u8]) -> bool
+    ensures { result ≡ true ↔ IsRaw (lines_of text.now) }
+{
+    let mut left = Some(text);
+    while let Some(rest) = left {
+        let (line, more) = first_piece(rest, b'\n');
+        left = more;
+        if line == b"raw".as_slice() {
+            return true;
+        }
+        if line == b"life".as_slice() {
+            return false;
+        }
+    }
+    false
+}
+
+pub(crate) fn print_store<W: Write>(
+    alloc: Global,
+    writer: &mut W,
+    drilled: &StoreDrilled,
+) -> io::Result<()> {
+    for life in &drilled.lives {
+        print_store_life(writer, life)?;
+    }
+    match &drilled.last {
+        Ok(entries) => entries_text(alloc, writer, "final", entries),
+        Err(fault) => writeln!(writer, "final refused {}", fault.number()),
+    }
+}
+
+fn print_store_life<W: Write>(writer: &mut W, life: &StoreAnswers) -> io::Result<()> {
+    print_opening(writer, life.opening)?;
+    for reply in &life.replies {
+        match reply {
+            StoreReply::Step(reply) => {
+                reply_text(writer, reply)?;
+                writeln!(writer)?;
+            }
+            StoreReply::Calls(calls) => writeln!(writer, "calls {calls}")?,
+            StoreReply::Stopped => writeln!(writer, "stopped")?,
+        }
+    }
+    Ok(())
+}
+
+/// Prints what an opening answers.
+pub(crate) fn print_opening<W: Write>(writer: &mut W, opening: Opening) -> io::Result<()> {
+    match opening {
+        Opening::Open(calls) => writeln!(writer, "open ok {calls}"),
+        Opening::Refused(fault) => writeln!(writer, "open refused {}", fault.number()),
+        Opening::Stopped => writeln!(writer, "open stopped"),
+    }
+}

@@ -1,0 +1,4 @@
+pub mod DirtyTable
+pub mod PageFile
+pub mod Stands
+pub mod Images

@@ -1,0 +1,222 @@
+//! The dirty table.
+ghost use Rattle.std.specs.Prelude.{◌≡◌, ℕ, ◌<◌, ◌≤◌, ◌↔◌, true, List, [], ◌∷◌, length, vec_len, vec_capacity, slice_index_or, IsTrue, IfOk, IfErr, IfSome, IsNone, Option, Some, None};
+ghost use Rattle.im_types.specs.Writer.{PageState};
+ghost use Rattle.im_types.specs.WriterSteps.{changed_entry, written_entry, synced_entry, at_point, Lists};
+ghost use Rattle.im_flush.specs.declared.table_entry.TableEntry.{TableEntry};
+ghost use Rattle.im_flush.specs.declared.dirty_table.TheConstants.{MOST};
+ghost use Rattle.im_flush.specs.DirtyTable.{entry_in, dirty_entry, dirty_pages, put, has_room, written_in, synced_entries, ChangesEntry, IsRising, IsFound, IsAbsent};
+
+use crate::TableEntry;
+use im_types::{DirtyPage, Lsn, PageNo};
+use std::alloc::{AllocError, Global};
+use std::marker::Model;
+
+/// How many entries there may be.
+pub const MOST: usize = 1_024;
+
+/// The pages that may lack changes in their file, each once, in rising order. Contracts see the list of the entries. With room
+/// for all of them made once, no later call takes memory, and none is refused.
+#[derive(Drop)]
+pub struct DirtyTable {
+    entries: Vec<TableEntry>,
+}
+
+impl Model for DirtyTable {
+    ghost Value = { List TableEntry };
+
+    ghost view = { λ t. t.entries.items };
+
+    ghost invariant = { λ t. IsRising t.entries.items × (vec_len t.entries ≤ MOST) × (MOST ≤ vec_capacity t.entries) };
+}
+
+impl DirtyTable {
+    /// With no entry, and room for `MOST`.
+    pub fn new(alloc: Global) -> Result<Self, AllocError>
+        ensures { IfOk result (λ t. t ≡ []) }
+    {
+        Ok(DirtyTable {
+            entries: Vec::with_capacity(alloc, MOST)?,
+        })
+    }
+
+    /// The number of entries.
+    pub fn len(&self) -> usize
+        ensures { result ≡ length self.now }
+    {
+        self.entries.len()
+    }
+
+    /// Whether no further page can come in.
+    pub fn is_full(&self) -> bool
+        ensures full { IsTrue result ↔ (length self.now ≡ MOST) }
+        ensures within { length self.now ≤ MOST }
+    {
+        self.entries.len() == MOST
+    }
+
+    // The first place whose page is no less.
+    fn place(&self, page: PageNo) -> usize
+        ensures within { result ≤ length self.now }
+        ensures below { (k : ℕ) (d : TableEntry) → k < result → (slice_index_or self.now k d).page < page }
+        ensures above { (d : TableEntry) → result < length self.now → page ≤ (slice_index_or self.now result d).page }
+    {
+        let mut low = 0;
+        let mut high = self.entries.len();
+        while low < high {
+            let middle = low + (high - low) / 2;
+            if self.entries[middle].page < page {
+                low = middle + 1;
+            } else {
+                high = middle;
+            }
+        }
+        low
+    }
+
+    // The place of the page's entry, or where one would come in.
+    fn search(&self, page: PageNo) -> Result<usize, usize>
+        ensures found { IfOk result (λ i. IsFound self.now page i) }
+        ensures absent { IfErr result (λ i. IsAbsent self.now page i) }
+    {
+        let at = self.place(page);
+        if at == self.entries.len() {
+            return Err(at);
+        }
+        if self.entries[at].page == page {
+            Ok(at)
+        } else {
+            Err(at)
+        }
+    }
+
+    /// What the table has of a page.
+    pub fn get(&self, page: PageNo) -> Option<TableEntry>
+        ensures some { IfSome result (λ e. entry_in self.now page ≡ Some (dirty_entry e)) }
+        ensures page { IfSome result (λ e. e.page ≡ page) }
+        ensures none { IsNone result → entry_in self.now page ≡ None }
+    {
+        match self.search(page) {
+            Ok(at) => Some(self.entries[at]),
+            Err(_) => None,
+        }
+    }
+
+    /// The page is changed by the record at an LSN. An entry that is there keeps its rec_lsn.
+    pub fn enter(&mut self, page: PageNo, lsn: Lsn)
+        requires room { entry_in self.old page ≡ None → length self.old < MOST }
+        ensures table { self.new ≡ put page (changed_entry lsn) self.old }
+        ensures entry { ChangesEntry page (changed_entry lsn) self.old self.new }
+    {
+        match self.search(page) {
+            Ok(at) => {
+                let entry = self.entries[at];
+                if entry.since.is_none() {
+                    self.entries[at].since = Some(lsn);
+                }
+            },
+            Err(at) => {
+                let entry = TableEntry {
+                    page,
+                    rec_lsn: lsn,
+                    since: Some(lsn),
+                };
+                self.entries.insert(at, entry).unwrap();
+            },
+        }
+    }
+
+    /// The page is written. Where it has no entry it gets one, with the LSN of its Image, if there is room. It answers whether
+    /// the page has its entry; where it has none, the table stays as it was.
+    pub fn write(&mut self, page: PageNo, lsn: Lsn) -> bool
+        ensures entered { result ≡ has_room page self.old }
+        ensures table { self.new ≡ written_in page lsn self.old }
+        ensures entry { result ≡ true → ChangesEntry page (written_entry lsn) self.old self.new }
+    {
+        match self.search(page) {
+            Ok(at) => {
+                self.entries[at].since = None;
+                true
+            },
+            Err(at) => {
+                if self.entries.len() == MOST {
+                    return false;
+                }
+                let entry = TableEntry {
+                    page,
+                    rec_lsn: lsn,
+                    since: None,
+                };
+                self.entries.insert(at, entry).unwrap();
+                true
+            },
+        }
+    }
+
+    /// The page is changed by redo, or loaded from its copy: it counts as changed since the redo point, whatever its entry was.
+    pub fn enter_at_point(&mut self, page: PageNo, point: Lsn)
+        requires room { entry_in self.old page ≡ None → length self.old < MOST }
+        ensures table { self.new ≡ put page (λ o. at_point point) self.old }
+        ensures entry { ChangesEntry page (λ o. at_point point) self.old self.new }
+    {
+        let entry = TableEntry {
+            page,
+            rec_lsn: point,
+            since: Some(point),
+        };
+        match self.search(page) {
+            Ok(at) => {
+                self.entries[at] = entry;
+            },
+            Err(at) => {
+                self.entries.insert(at, entry).unwrap();
+            },
+        }
+    }
+
+    /// The file of pages has been synced: a page that has not changed since its last write leaves, each other one counts as
+    /// changed since then.
+    pub fn sync(&mut self)
+        ensures table { self.new ≡ synced_entries self.old }
+        ensures entry { (p : ℕ) → entry_in self.new p ≡ synced_entry (entry_in self.old p) }
+    {
+        let mut kept = 0;
+        for at in 0..self.entries.len() {
+            let entry = self.entries[at];
+            if let Some(since) = entry.since {
+                self.entries[kept] = TableEntry {
+                    page: entry.page,
+                    rec_lsn: since,
+                    since: Some(since),
+                };
+                kept += 1;
+            }
+        }
+        self.entries.truncate(kept);
+    }
+
+    /// The entries, each page once, in rising order.
+    pub fn entries(&self) -> &[TableEntry]
+        ensures same { result.now ≡ self.now }
+        ensures rising { IsRising result.now }
+    {
+        self.entries.as_slice()
+    }
+
+    /// Makes `rows`, which has room for `MOST`, a Checkpoint's list: each page with its rec_lsn, in rising order.
+    pub fn copy_rows(&self, rows: &mut Vec<DirtyPage>)
+        requires room { MOST ≤ vec_capacity rows.old }
+        ensures rows { rows.new.items ≡ dirty_pages self.now }
+        ensures lists { (pages : ℕ → PageState) → ((p : ℕ) → entry_in self.now p ≡ (pages p).entry) → Lists pages rows.new.items }
+        ensures room { MOST ≤ vec_capacity rows.new }
+    {
+        rows.clear();
+        for at in 0..self.entries.len() {
+            let entry = self.entries[at];
+            let row = DirtyPage {
+                page: entry.page,
+                rec_lsn: entry.rec_lsn,
+            };
+            rows.push(row).unwrap();
+        }
+    }
+}

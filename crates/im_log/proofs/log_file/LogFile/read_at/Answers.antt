@@ -1,0 +1,55 @@
+use Rattle.std.proofs.Common.{◌≡◌, ℕ, List, ◌-◌, Some, None, take, drop, ap, sym, ◌∙◌, rules, arith, subst}
+use Rattle.im_types.specs.declared.file_id.FileId.TheVariants.{Log}
+use Rattle.im_log.specs.LogFile.{buffered}
+use Rattle.im_log.specs.Spelled.{first_record}
+use Rattle.im_log.specs.Reading.{IsFrontOf}
+use Rattle.im_log.proofs.Spells.{first_is}
+use Rattle.im_log.proofs.Places.{none_below, buffer_bounds, there_in_file, there_in_buffer, brought, slice_is}
+use Rattle.im_log.proofs.log_file.LogFile.read_at.Goals as goal
+
+pub returns-then-lsn-self-clause-found : goal.returns-then-lsn-self-clause-found
+returns-then-lsn-self-clause-found g c base all durable r h has same =
+    absurd (none_below g.D.Disk base all durable c.args.self.now c.args.disk.now r c.requires.ready h has (omega (arith, same)))
+
+pub returns-in_err-size-clause-found : goal.returns-in_err-size-clause-found
+returns-in_err-size-clause-found g c base all durable r h has same =
+    let log = c.args.self.now in
+    let t = there_in_file g.D.Disk base all durable log c.args.disk.now r c.requires.ready h has (c.args.lsn - log.base) (omega (arith, same)) (omega arith) in
+    let fits = t.fits in
+    let refused = c.in_err-size.ensures.refused in
+    let told = h.tells in
+    record { ok = search rules; cause = search (rules, fits, refused, told) }
+
+pub returns-then-at-place-clause-found : goal.returns-then-at-place-clause-found
+returns-then-at-place-clause-found g c base all durable r h has same =
+    let log = c.args.self.now in
+    let at : ℕ = c.args.lsn - log.base in
+    let t = there_in_file g.D.Disk base all durable log c.args.disk.now r c.requires.ready h has at (omega (arith, same)) (omega arith) in
+    record {
+      ok = brought (drop at (g.D.Disk.seen c.args.disk.now Log)) c.read_front.new.room c.in_ok-size.size t.entry r t.first (c.in_ok-size.ensures.read h.tells) t.is;
+      cause = search rules;
+    }
+
+pub returns-then-behind-lt5-clause-found : goal.returns-then-behind-lt5-clause-found
+returns-then-behind-lt5-clause-found g c base all durable r h has same =
+    let b = buffer_bounds g.D.Disk base all durable c.args.self.now c.args.disk.now r c.requires.ready h has (omega (arith, same)) in
+    absurd (omega (arith, same, b.0, b.1))
+
+pub returns-in_err-size-2-clause-found : goal.returns-in_err-size-2-clause-found
+returns-in_err-size-2-clause-found g c base all durable r h has same =
+    let log = c.args.self.now in
+    let at : ℕ = c.args.lsn - log.base - c.place-place.result - 5 in
+    let t = there_in_buffer g.D.Disk base all durable log c.args.disk.now r c.requires.ready h has at (omega (arith, same)) in
+    let are : take (log.used - at) (drop at c.deref.result.now) ≡ drop at (buffered log) = ap (λ (l : List ℕ). take (log.used - at) (drop at l)) c.deref.ensures.value ∙ slice_is log.buffer.items at log.used (omega arith) in
+    let never : None ≡ Some t.entry = sym c.in_err-size-2.ensures.refused.1 ∙ ap first_record are ∙ first_is (drop at (buffered log)) t.entry t.first in
+    let bottom : ⊥ = cc in
+    absurd bottom
+
+pub returns-clause-found : goal.returns-clause-found
+returns-clause-found g c base all durable r h has same =
+    let log = c.args.self.now in
+    let at : ℕ = c.args.lsn - log.base - c.place-place.result - 5 in
+    let t = there_in_buffer g.D.Disk base all durable log c.args.disk.now r c.requires.ready h has at (omega (arith, same)) in
+    let are : take (log.used - at) (drop at c.deref.result.now) ≡ drop at (buffered log) = ap (λ (l : List ℕ). take (log.used - at) (drop at l)) c.deref.ensures.value ∙ slice_is log.buffer.items at log.used (omega arith) in
+    let copied = subst (λ (l : List ℕ). IsFrontOf c.in_ok-size-2.size l c.copy_front.new.room) are c.in_ok-size-2.ensures.copied in
+    record { ok = brought (drop at (buffered log)) c.copy_front.new.room c.in_ok-size-2.size t.entry r t.first copied t.is; cause = search rules }

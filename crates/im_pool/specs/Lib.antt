@@ -1,0 +1,5 @@
+pub mod Frames
+pub mod Inside
+pub mod Places
+pub mod Pool
+pub mod Writes

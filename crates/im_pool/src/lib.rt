@@ -1,0 +1,50 @@
+//! A bounded pool of pages: each held page stands in a frame, and any other is read when it is wanted.
+//!
+//! # The contract
+//!
+//! Contracts see a pool as the list of its held pages, the most recently used first, each with the place of its frame,
+//! the page and a mark that says whether it was changed since it was read or written; with the number of frames and a
+//! count of gets. Numbers differ, and at most as many pages are held as there are frames.
+//!
+//! - `page_seen` (in `specs/Pool.antt`) is what the pool is about: a function from page number to page. It is the held
+//!   page, else the page in the bytes of the file (`file_page`, in the specs of `im_page`): the initial page from the
+//!   file's page count on, and none where the bytes are no page.
+//! - `get` leaves that function as it is, and answers the frame at which the page is held. A page that is held costs a
+//!   look-up by hash and a move in the order of use; any other one length call, one read and one check.
+//! - `insert`, `remove`, `copy_in` and the setters change the one page of their frame, as the calls of `im_page` of the
+//!   same names do, and mark it.
+//! - `hold_copy` and `hold_initial` hold a page whatever the file has, without a call of the disk.
+//! - `write_back` writes one page at its place and takes the mark off; `write_page` does so for a page outside. A stop
+//!   within leaves any bytes where that page stands, and each other page as it was.
+//! - `evict` gives the frame of one page back.
+//!
+//! The caller makes room: `get` and its kin ask for a free frame, or for a page that is held. `oldest` and
+//! `oldest_changed` say which page to evict or to write.
+//!
+//! # Memory
+//!
+//! `new` takes the memory of all frames. After it only the entry of a page that comes to be held is taken, some 40 bytes;
+//! nothing is taken for a page that is held, for a change, a write or an eviction.
+//!
+//! # What is counted
+//!
+//! Each call of `get` adds one to the pool's `gets`, whether it succeeds or not. That number has no bytes (`Gets`): it
+//! stands in contracts alone.
+//!
+//! The crate stands on `im_page`, on `im_disk` and on `lru`. A place is an index of the vector of frames; the invariant
+//! says that each place stands once among those of the held pages and the free ones.
+#![tactic(auto)]
+
+mod files;
+mod frame;
+mod frames;
+mod gets;
+mod places;
+mod pool;
+#[cfg(test)]
+mod tests;
+
+pub use files::write_page;
+pub use frame::Frame;
+pub use gets::Gets;
+pub use pool::Pool;

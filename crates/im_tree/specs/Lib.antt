@@ -1,0 +1,16 @@
+pub mod Levels
+pub mod Same
+pub mod Good
+pub mod Search
+pub mod Changes
+pub mod Splits
+pub mod Allocations
+pub mod Deletions
+pub mod Lookups
+pub mod Theory
+pub mod Halves
+pub mod Plans
+pub mod KeySplits
+pub mod KeyDeletions
+pub mod Steps
+pub mod Variants
