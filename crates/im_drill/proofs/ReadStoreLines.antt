@@ -7,6 +7,8 @@ use Rattle.im_drill.specs.declared.store_script_line.StoreScriptLine.TheVariants
 use Rattle.im_drill.specs.declared.store_life.StoreLine.{StoreLine}
 use Rattle.im_drill.specs.declared.store_life.StoreLine.TheVariants as within
 use Rattle.im_drill.specs.declared.store_life.StoreLife.{StoreLife}
+use Rattle.im_drill.specs.declared.store_life.LifeOptions.{LifeOptions}
+use Rattle.im_drill.specs.declared.store_reading.OpenLife.{OpenLife}
 use Rattle.im_drill.specs.declared.store_script.StoreScript.{StoreScript}
 use Rattle.im_drill.specs.Scripts.{Kind, Place, Before, Within, Behind, MayFollow, MayStand, place_behind, place_after, last_set}
 use Rattle.im_drill.specs.StoreScripts.{store_kind_of, stop_lines, lines_of_lives, IsStoreScriptOf}
@@ -16,9 +18,9 @@ use Rattle.im_drill.specs.StoreReading.{lines_of_open, place_of, IsStoreRead}
 kinds_push : (said : List StoreScriptLine) (l : StoreScriptLine) → map store_kind_of (said ++ l ∷ []) ≡ map store_kind_of said ++ store_kind_of l ∷ []
 kinds_push said l = map-append store_kind_of said (l ∷ [])
 
-module _ (log : List ℕ) (lives : List StoreLife) (life : Option (Vec StoreLine Global)) (said : List StoreScriptLine) (r : IsStoreRead log lives life said) where
+module _ (log : List ℕ) (lives : List StoreLife) (life : Option OpenLife) (said : List StoreScriptLine) (r : IsStoreRead log lives life said) where
   -- one line more, of which it is known what it makes
-  push_read : (log' : List ℕ) (lives' : List StoreLife) (life' : Option (Vec StoreLine Global)) (l : StoreScriptLine) (sets' : List (Vec ℕ Global)) → said ++ l ∷ [] ≡ map lines.SetLog sets' ++ (lines_of_lives lives' ++ lines_of_open life') → log' ≡ last_set sets'
+  push_read : (log' : List ℕ) (lives' : List StoreLife) (life' : Option OpenLife) (l : StoreScriptLine) (sets' : List (Vec ℕ Global)) → said ++ l ∷ [] ≡ map lines.SetLog sets' ++ (lines_of_lives lives' ++ lines_of_open life') → log' ≡ last_set sets'
       → MayFollow (store_kind_of l) (place_of lives life) → place_behind (store_kind_of l) (place_of lives life) ≡ place_of lives' life' → IsStoreRead log' lives' life' (said ++ l ∷ [])
   push_read log' lives' life' l sets' is last may next = record {
     sets = sets';
@@ -28,14 +30,14 @@ module _ (log : List ℕ) (lives : List StoreLife) (life : Option (Vec StoreLine
     place = ap (λ (ks : List Kind). place_after Before ks) (kinds_push said l) ∙ place_push Before (map store_kind_of said) (store_kind_of l) ∙ ap (λ (p : Place). place_behind (store_kind_of l) p) r.place ∙ next;
   }
 
-  more_read : (lives' : List StoreLife) (life' : Option (Vec StoreLine Global)) (l : StoreScriptLine) → lines_of_lives lives' ++ lines_of_open life' ≡ (lines_of_lives lives ++ lines_of_open life) ++ l ∷ []
+  more_read : (lives' : List StoreLife) (life' : Option OpenLife) (l : StoreScriptLine) → lines_of_lives lives' ++ lines_of_open life' ≡ (lines_of_lives lives ++ lines_of_open life) ++ l ∷ []
       → MayFollow (store_kind_of l) (place_of lives life) → place_behind (store_kind_of l) (place_of lives life) ≡ place_of lives' life' → IsStoreRead log lives' life' (said ++ l ∷ [])
   more_read lives' life' l same may next =
       push_read log lives' life' l r.sets
       (ap (λ (x : List StoreScriptLine). x ++ l ∷ []) r.is ∙ append_assoc (map lines.SetLog r.sets) (lines_of_lives lives ++ lines_of_open life) (l ∷ []) ∙ ap (λ (x : List StoreScriptLine). map lines.SetLog r.sets ++ x) (sym same)) r.log_is may next
 
 -- a line that sets the log file
-pub set_read : (log : List ℕ) (lives : List StoreLife) (life : Option (Vec StoreLine Global)) (said : List StoreScriptLine) (bytes : Vec ℕ Global) → IsStoreRead log lives life said → lives ≡ [] → life ≡ None → IsStoreRead bytes.items lives life (said ++ lines.SetLog bytes ∷ [])
+pub set_read : (log : List ℕ) (lives : List StoreLife) (life : Option OpenLife) (said : List StoreScriptLine) (bytes : Vec ℕ Global) → IsStoreRead log lives life said → lives ≡ [] → life ≡ None → IsStoreRead bytes.items lives life (said ++ lines.SetLog bytes ∷ [])
 set_read log [] None said bytes r none closed =
     push_read log [] None said r bytes.items [] None (lines.SetLog bytes) (r.sets ++ bytes ∷ [])
     (ap (λ (x : List StoreScriptLine). x ++ lines.SetLog bytes ∷ []) (r.is ∙ append-nil (map lines.SetLog r.sets)) ∙ sym (map-append lines.SetLog r.sets (bytes ∷ [])) ∙ sym (append-nil (map lines.SetLog (r.sets ++ bytes ∷ []))))
@@ -44,55 +46,57 @@ set_read log [] (Some v) said bytes r none closed = absurd (cc)
 set_read log (one ∷ lives) None said bytes r none closed = absurd (cc)
 set_read log (one ∷ lives) (Some v) said bytes r none closed = absurd (cc)
 
-lives_more : (lives : List StoreLife) (life : StoreLife) → lines_of_lives (lives ++ life ∷ []) ≡ lines_of_lives lives ++ (lines.Life ∷ (map lines.Within life.lines.items ++ stop_lines life.stop))
-lives_more [] life = append-nil (lines.Life ∷ (map lines.Within life.lines.items ++ stop_lines life.stop))
+lives_more : (lives : List StoreLife) (life : StoreLife) → lines_of_lives (lives ++ life ∷ []) ≡ lines_of_lives lives ++ (lines.Life life.options ∷ (map lines.Within life.lines.items ++ stop_lines life.stop))
+lives_more [] life = append-nil (lines.Life life.options ∷ (map lines.Within life.lines.items ++ stop_lines life.stop))
 lives_more (one ∷ lives) life =
-    ap (λ (x : List StoreScriptLine). (lines.Life ∷ (map lines.Within one.lines.items ++ stop_lines one.stop)) ++ x) (lives_more lives life)
-    ∙ sym (append_assoc (lines.Life ∷ (map lines.Within one.lines.items ++ stop_lines one.stop)) (lines_of_lives lives) (lines.Life ∷ (map lines.Within life.lines.items ++ stop_lines life.stop)))
+    ap (λ (x : List StoreScriptLine). (lines.Life one.options ∷ (map lines.Within one.lines.items ++ stop_lines one.stop)) ++ x) (lives_more lives life)
+    ∙ sym (append_assoc (lines.Life one.options ∷ (map lines.Within one.lines.items ++ stop_lines one.stop)) (lines_of_lives lives) (lines.Life life.options ∷ (map lines.Within life.lines.items ++ stop_lines life.stop)))
 
 behind_life : (lives : List StoreLife) (life : StoreLife) → Behind ≡ place_of (lives ++ life ∷ []) None
 behind_life [] life = refl
 behind_life (one ∷ lives) life = refl
 
 -- a life that ends without a stop
-closed : (lives : List StoreLife) (old : Vec StoreLine Global) → lines_of_lives (lives ++ record { lines = old; stop = None } ∷ []) ≡ lines_of_lives lives ++ (lines.Life ∷ map lines.Within old.items)
-closed lives old = lives_more lives (record { lines = old; stop = None }) ∙ ap (λ (x : List StoreScriptLine). lines_of_lives lives ++ (lines.Life ∷ x)) (append-nil (map lines.Within old.items))
+closed : (lives : List StoreLife) (old : OpenLife) → lines_of_lives (lives ++ record { options = old.options; lines = old.lines; stop = None } ∷ []) ≡ lines_of_lives lives ++ (lines.Life old.options ∷ map lines.Within old.lines.items)
+closed lives old = lives_more lives (record { options = old.options; lines = old.lines; stop = None }) ∙ ap (λ (x : List StoreScriptLine). lines_of_lives lives ++ (lines.Life old.options ∷ x)) (append-nil (map lines.Within old.lines.items))
 
 -- a `life` line
-pub begin_read : (log : List ℕ) (lives : List StoreLife) (said : List StoreScriptLine) (v : Vec StoreLine Global) → IsStoreRead log lives None said → v.items ≡ [] → IsStoreRead log lives (Some v) (said ++ lines.Life ∷ [])
+pub begin_read : (log : List ℕ) (lives : List StoreLife) (said : List StoreScriptLine) (v : OpenLife) → IsStoreRead log lives None said → v.lines.items ≡ [] → IsStoreRead log lives (Some v) (said ++ lines.Life v.options ∷ [])
 begin_read log lives said v r empty =
-    more_read log lives None said r lives (Some v) lines.Life
-    (ap (λ (x : List StoreLine). lines_of_lives lives ++ (lines.Life ∷ map lines.Within x)) empty ∙ ap (λ (x : List StoreScriptLine). x ++ lines.Life ∷ []) (sym (append-nil (lines_of_lives lives)))) tt refl
+    more_read log lives None said r lives (Some v) (lines.Life v.options)
+    (ap (λ (x : List StoreLine). lines_of_lives lives ++ (lines.Life v.options ∷ map lines.Within x)) empty ∙ ap (λ (x : List StoreScriptLine). x ++ lines.Life v.options ∷ []) (sym (append-nil (lines_of_lives lives)))) tt refl
 
-pub begin_more : (log : List ℕ) (lives : List StoreLife) (old v : Vec StoreLine Global) (said : List StoreScriptLine) (lives' : List StoreLife) → IsStoreRead log lives (Some old) said → lives' ≡ lives ++ record { lines = old; stop = None } ∷ [] → v.items ≡ []
-    → IsStoreRead log lives' (Some v) (said ++ lines.Life ∷ [])
+pub begin_more : (log : List ℕ) (lives : List StoreLife) (old v : OpenLife) (said : List StoreScriptLine) (lives' : List StoreLife) → IsStoreRead log lives (Some old) said → lives' ≡ lives ++ record { options = old.options; lines = old.lines; stop = None } ∷ [] → v.lines.items ≡ []
+    → IsStoreRead log lives' (Some v) (said ++ lines.Life v.options ∷ [])
 begin_more log lives old v said lives' r is empty =
-    more_read log lives (Some old) said r lives' (Some v) lines.Life
-    (ap (λ (x : List StoreLine). lines_of_lives lives' ++ (lines.Life ∷ map lines.Within x)) empty ∙ ap (λ (x : List StoreLife). lines_of_lives x ++ lines.Life ∷ []) is ∙ ap (λ (x : List StoreScriptLine). x ++ lines.Life ∷ []) (closed lives old)) tt refl
+    more_read log lives (Some old) said r lives' (Some v) (lines.Life v.options)
+    (ap (λ (x : List StoreLine). lines_of_lives lives' ++ (lines.Life v.options ∷ map lines.Within x)) empty ∙ ap (λ (x : List StoreLife). lines_of_lives x ++ lines.Life v.options ∷ []) is ∙ ap (λ (x : List StoreScriptLine). x ++ lines.Life v.options ∷ []) (closed lives old)) tt refl
 
 may_within : (line : StoreLine) → MayFollow (store_kind_of (lines.Within line)) Within
 may_within (within.Step step) = tt
 may_within within.Calls = tt
+may_within (within.Page page) = tt
 
 still_within : (line : StoreLine) → place_behind (store_kind_of (lines.Within line)) Within ≡ Within
 still_within (within.Step step) = refl
 still_within within.Calls = refl
+still_within (within.Page page) = refl
 
 -- a line of a life
-pub add_read : (log : List ℕ) (lives : List StoreLife) (old v : Vec StoreLine Global) (said : List StoreScriptLine) (line : StoreLine) → IsStoreRead log lives (Some old) said → v.items ≡ old.items ++ line ∷ [] → IsStoreRead log lives (Some v) (said ++ lines.Within line ∷ [])
-add_read log lives old v said line r is =
+pub add_read : (log : List ℕ) (lives : List StoreLife) (old v : OpenLife) (said : List StoreScriptLine) (line : StoreLine) → IsStoreRead log lives (Some old) said → v.options ≡ old.options → v.lines.items ≡ old.lines.items ++ line ∷ [] → IsStoreRead log lives (Some v) (said ++ lines.Within line ∷ [])
+add_read log lives old v said line r same is =
     more_read log lives (Some old) said r lives (Some v) (lines.Within line)
-    (ap (λ (x : List StoreLine). lines_of_lives lives ++ (lines.Life ∷ map lines.Within x)) is ∙ ap (λ (x : List StoreScriptLine). lines_of_lives lives ++ (lines.Life ∷ x)) (map-append lines.Within old.items (line ∷ []))
-    ∙ sym (append_assoc (lines_of_lives lives) (lines.Life ∷ map lines.Within old.items) (lines.Within line ∷ [])))
+    (ap (λ (o : LifeOptions). lines_of_lives lives ++ (lines.Life o ∷ map lines.Within v.lines.items)) same ∙ ap (λ (x : List StoreLine). lines_of_lives lives ++ (lines.Life old.options ∷ map lines.Within x)) is ∙ ap (λ (x : List StoreScriptLine). lines_of_lives lives ++ (lines.Life old.options ∷ x)) (map-append lines.Within old.lines.items (line ∷ []))
+    ∙ sym (append_assoc (lines_of_lives lives) (lines.Life old.options ∷ map lines.Within old.lines.items) (lines.Within line ∷ [])))
     (may_within line) (still_within line)
 
 -- a stop
-pub stop_read : (log : List ℕ) (lives : List StoreLife) (old : Vec StoreLine Global) (said : List StoreScriptLine) (stop : Stop) (lives' : List StoreLife) → IsStoreRead log lives (Some old) said → lives' ≡ lives ++ record { lines = old; stop = Some stop } ∷ []
+pub stop_read : (log : List ℕ) (lives : List StoreLife) (old : OpenLife) (said : List StoreScriptLine) (stop : Stop) (lives' : List StoreLife) → IsStoreRead log lives (Some old) said → lives' ≡ lives ++ record { options = old.options; lines = old.lines; stop = Some stop } ∷ []
     → IsStoreRead log lives' None (said ++ lines.Stop stop ∷ [])
 stop_read log lives old said stop lives' r is =
-    let life : StoreLife = record { lines = old; stop = Some stop } in
+    let life : StoreLife = record { options = old.options; lines = old.lines; stop = Some stop } in
     more_read log lives (Some old) said r lives' None (lines.Stop stop)
-    (append-nil (lines_of_lives lives') ∙ ap lines_of_lives is ∙ lives_more lives life ∙ sym (append_assoc (lines_of_lives lives) (lines.Life ∷ map lines.Within old.items) (lines.Stop stop ∷ [])))
+    (append-nil (lines_of_lives lives') ∙ ap lines_of_lives is ∙ lives_more lives life ∙ sym (append_assoc (lines_of_lives lives) (lines.Life old.options ∷ map lines.Within old.lines.items) (lines.Stop stop ∷ [])))
     tt (behind_life lives life ∙ ap (λ (x : List StoreLife). place_of x None) (sym is))
 
 -- what was read is a script
@@ -106,7 +110,7 @@ end_read script said r = (
   r.stand,
 )
 
-pub end_more : (script : StoreScript) (log : List ℕ) (lives : List StoreLife) (old : Vec StoreLine Global) (said : List StoreScriptLine) → script.log.items ≡ log → script.lives.items ≡ lives ++ record { lines = old; stop = None } ∷ [] → IsStoreRead log lives (Some old) said
+pub end_more : (script : StoreScript) (log : List ℕ) (lives : List StoreLife) (old : OpenLife) (said : List StoreScriptLine) → script.log.items ≡ log → script.lives.items ≡ lives ++ record { options = old.options; lines = old.lines; stop = None } ∷ [] → IsStoreRead log lives (Some old) said
     → IsStoreScriptOf script said × MayStand Before (map store_kind_of said)
 end_more script log lives old said same is r = (
   record {

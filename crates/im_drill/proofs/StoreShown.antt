@@ -3,7 +3,7 @@ use Rattle.std.proofs.Common.{◌≡◌, ℕ, suc, ◌+◌, ◌<◌, zero, List,
 use Rattle.std.proofs.lemmas.List.{append-nil, take_more, length-take-le}
 use Rattle.std.specs.FinMap.{empty, entries}
 use Rattle.im_types.specs.declared.fault.Fault.{Fault}
-use Rattle.im_types.specs.declared.fault.Fault.TheVariants.{Failed, Memory, NotAStore}
+use Rattle.im_types.specs.declared.fault.Fault.TheVariants.{NotAStore}
 use Rattle.im_types.specs.Pages.{Entry}
 use Rattle.im_types.specs.Changes.{Effect, apply_all}
 use Rattle.im_types.specs.Lives.{Shown, nothing_shown}
@@ -39,11 +39,10 @@ shown_to s all i told line reply is count within =
 
 -- the entries that an opening hands out, or why it hands out none
 pub entries_match : {A : Type 0} (items : A → List Entry) (L : List Effect → Shown → Type 0) (r : Result A Fault) (after : List Effect) → L after nothing_shown
-    → IfOk r (λ l. (before : List Effect) (s : Shown) → L before s → EntriesKept before s (items l)) → IfErr r (λ e. (e ≡ Failed) ⊎ (e ≡ Memory))
+    → IfOk r (λ l. (before : List Effect) (s : Shown) → L before s → EntriesKept before s (items l)) → IfErr r (λ e. (before : List Effect) (s : Shown) → L before s → e ≢ NotAStore)
     → MatchResult r (λ l. items l ≡ entries (apply_all empty after)) (λ e. e ≢ NotAStore)
-entries_match items L (Ok l) after life kept causes = (kept after nothing_shown life).is (λ t. refl) ∙ ap (λ (b : List Effect). entries (apply_all empty b)) (append-nil after)
-entries_match items L (Err e) after life kept (inl is) = λ no. absurd (cc)
-entries_match items L (Err e) after life kept (inr is) = λ no. absurd (cc)
+entries_match items L (Ok l) after life kept never = (kept after nothing_shown life).is (λ t. refl) ∙ ap (λ (b : List Effect). entries (apply_all empty b)) (append-nil after)
+entries_match items L (Err e) after life kept never = never after nothing_shown life
 
 -- where no line was answered nothing is shown
 pub shown_none : (s : Shown) (all : List StoreLine) → shown_in s all [] ≡ s

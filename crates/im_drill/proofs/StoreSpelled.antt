@@ -1,5 +1,5 @@
 -- What lines of scripts of lives of a store spell, and what they do not.
-use Rattle.std.proofs.Common.{◌≡◌, ◌≢◌, ℕ, List, slice_index, if◌then◌else◌, ◌==◌, codes, sym, ◌∙◌, ap, arith}
+use Rattle.std.proofs.Common.{◌≡◌, ◌≢◌, ◌⊎◌, inl, inr, ⊎_elim, ◌+◌, ◌*◌, refl, ℕ, List, slice_index, if◌then◌else◌, ◌==◌, ◌++◌, ◌∷◌, Option, None, Some, codes, sym, ◌∙◌, ap, subst, arith}
 use Rattle.im_types.specs.declared.step.Step.{Step}
 use Rattle.im_types.specs.declared.step.Step.TheVariants as steps
 use Rattle.im_drill.specs.declared.batch.Batch.{Batch}
@@ -8,11 +8,12 @@ use Rattle.im_drill.specs.declared.line.Line.TheVariants as raws
 use Rattle.im_drill.specs.declared.store_script_line.StoreScriptLine.{StoreScriptLine}
 use Rattle.im_drill.specs.declared.store_script_line.StoreScriptLine.TheVariants as lines
 use Rattle.im_drill.specs.declared.store_life.StoreLine.TheVariants as within
-use Rattle.im_drill.specs.Lines.{Spells}
+use Rattle.im_drill.specs.Lines.{Spells, Lacks, IsNumber, IsPageNumber}
 use Rattle.im_drill.specs.Steps.{SpellsStep}
 use Rattle.im_drill.specs.Scripts.{Kind, SetsLog, Begins, Counts, Steps, Stops}
-use Rattle.im_drill.specs.StoreScripts.{SpellsStore, store_kind_of}
-use Rattle.im_drill.proofs.StepSpelled.{step_byte, step_first}
+use Rattle.im_drill.specs.StoreScripts.{SpellsLife, SpellsStore, IsPlainLine, store_kind_of}
+use Rattle.im_drill.specs.declared.store_life.LifeOptions.{LifeOptions}
+use Rattle.im_drill.proofs.Lines.{cut_once, lacks_mid}
 
 -- the kind of a good line, by its first bytes
 abbrev pub store_text_kind : List ℕ → Kind
@@ -20,70 +21,178 @@ store_text_kind text =
     if slice_index text 0 == 108 then Begins
     else if slice_index text 0 == 115 then (if slice_index text 1 == 101 then SetsLog else Stops)
     else if slice_index text 0 == 99 then (if slice_index text 1 == 97 then Counts else Steps)
+    else if slice_index text 0 == 112 then Counts
     else Steps
 
+life_kind : (text : List ℕ) (frames : Option ℕ) → SpellsLife text frames → Begins ≡ store_text_kind text
+life_kind text None s = sym (ap store_text_kind s)
+life_kind text (Some frames) s = sym (ap store_text_kind s.1)
+
 store_kind : (text : List ℕ) (said : StoreScriptLine) → SpellsStore text said → store_kind_of said ≡ store_text_kind text
-store_kind text lines.Life s = sym (ap store_text_kind s)
+store_kind text (lines.Life options) s = life_kind text options.frames s
 store_kind text (lines.SetLog bytes) s = sym (ap store_text_kind s.1)
 store_kind text (lines.Within within.Calls) s = sym (ap store_text_kind s)
+store_kind text (lines.Within (within.Page page)) s = sym (ap store_text_kind s.1)
 store_kind text (lines.Within (within.Step steps.Begin)) s = sym (ap store_text_kind s)
 store_kind text (lines.Within (within.Step (steps.Fetch t key))) s = sym (ap store_text_kind s.1)
 store_kind text (lines.Within (within.Step (steps.Insert t key rid))) s = sym (ap store_text_kind s.1)
 store_kind text (lines.Within (within.Step (steps.Delete t key))) s = sym (ap store_text_kind s.1)
 store_kind text (lines.Within (within.Step (steps.Commit t))) s = sym (ap store_text_kind s.1)
+store_kind text (lines.Within (within.Step (steps.FlushPage page))) s = sym (ap store_text_kind s.1)
+store_kind text (lines.Within (within.Step steps.Force)) s = sym (ap store_text_kind s)
 store_kind text (lines.Stop stop) s = sym (ap store_text_kind s.3)
 
 -- a line is of one kind, however it is read
 pub one_store_kind : (text : List ℕ) (l m : StoreScriptLine) → SpellsStore text l → SpellsStore text m → store_kind_of l ≡ store_kind_of m
 one_store_kind text l m s o = store_kind text l s ∙ sym (store_kind text m o)
 
-abbrev first_byte : StoreScriptLine → ℕ
-first_byte lines.Life = 108
-first_byte (lines.SetLog bytes) = 115
-first_byte (lines.Within within.Calls) = 99
-first_byte (lines.Within (within.Step step)) = step_byte step
-first_byte (lines.Stop stop) = 115
+-- the first two bytes of a line, as one number
+abbrev first_two : List ℕ → ℕ
+first_two text = slice_index text 0 * 256 + slice_index text 1
 
-store_first : (text : List ℕ) (said : StoreScriptLine) → SpellsStore text said → slice_index text 0 ≡ first_byte said
-store_first text lines.Life s = ap (λ (t : List ℕ). slice_index t 0) s
-store_first text (lines.SetLog bytes) s = ap (λ (t : List ℕ). slice_index t 0) s.1
-store_first text (lines.Within within.Calls) s = ap (λ (t : List ℕ). slice_index t 0) s
-store_first text (lines.Within (within.Step step)) s = step_first text step s
-store_first text (lines.Stop stop) s = ap (λ (t : List ℕ). slice_index t 0) s.3
+abbrev two_of : StoreScriptLine → ℕ
+two_of (lines.Life options) = 27753
+two_of (lines.SetLog bytes) = 29541
+two_of (lines.Within within.Calls) = 25441
+two_of (lines.Within (within.Page page)) = 28769
+two_of (lines.Within (within.Step steps.Begin)) = 25189
+two_of (lines.Within (within.Step (steps.Fetch t key))) = 26213
+two_of (lines.Within (within.Step (steps.Insert t key rid))) = 26990
+two_of (lines.Within (within.Step (steps.Delete t key))) = 25701
+two_of (lines.Within (within.Step (steps.Commit t))) = 25455
+two_of (lines.Within (within.Step (steps.FlushPage page))) = 26220
+two_of (lines.Within (within.Step steps.Force)) = 26223
+two_of (lines.Stop stop) = 29556
 
-not_r : (said : StoreScriptLine) → first_byte said ≢ 114
-not_r lines.Life e = absurd (omega arith)
-not_r (lines.SetLog bytes) e = absurd (omega arith)
-not_r (lines.Within within.Calls) e = absurd (omega arith)
-not_r (lines.Within (within.Step steps.Begin)) e = absurd (omega arith)
-not_r (lines.Within (within.Step (steps.Fetch t key))) e = absurd (omega arith)
-not_r (lines.Within (within.Step (steps.Insert t key rid))) e = absurd (omega arith)
-not_r (lines.Within (within.Step (steps.Delete t key))) e = absurd (omega arith)
-not_r (lines.Within (within.Step (steps.Commit t))) e = absurd (omega arith)
-not_r (lines.Stop stop) e = absurd (omega arith)
+life_two : (text : List ℕ) (frames : Option ℕ) → SpellsLife text frames → first_two text ≡ 27753
+life_two text None s = ap first_two s
+life_two text (Some frames) s = ap first_two s.1
 
-not_p : (said : StoreScriptLine) → first_byte said ≢ 112
-not_p lines.Life e = absurd (omega arith)
-not_p (lines.SetLog bytes) e = absurd (omega arith)
-not_p (lines.Within within.Calls) e = absurd (omega arith)
-not_p (lines.Within (within.Step steps.Begin)) e = absurd (omega arith)
-not_p (lines.Within (within.Step (steps.Fetch t key))) e = absurd (omega arith)
-not_p (lines.Within (within.Step (steps.Insert t key rid))) e = absurd (omega arith)
-not_p (lines.Within (within.Step (steps.Delete t key))) e = absurd (omega arith)
-not_p (lines.Within (within.Step (steps.Commit t))) e = absurd (omega arith)
-not_p (lines.Stop stop) e = absurd (omega arith)
+store_two : (text : List ℕ) (said : StoreScriptLine) → SpellsStore text said → first_two text ≡ two_of said
+store_two text (lines.Life options) s = life_two text options.frames s
+store_two text (lines.SetLog bytes) s = ap first_two s.1
+store_two text (lines.Within within.Calls) s = ap first_two s
+store_two text (lines.Within (within.Page page)) s = ap first_two s.1
+store_two text (lines.Within (within.Step steps.Begin)) s = ap first_two s
+store_two text (lines.Within (within.Step (steps.Fetch t key))) s = ap first_two s.1
+store_two text (lines.Within (within.Step (steps.Insert t key rid))) s = ap first_two s.1
+store_two text (lines.Within (within.Step (steps.Delete t key))) s = ap first_two s.1
+store_two text (lines.Within (within.Step (steps.Commit t))) s = ap first_two s.1
+store_two text (lines.Within (within.Step (steps.FlushPage page))) s = ap first_two s.1
+store_two text (lines.Within (within.Step steps.Force)) s = ap first_two s
+store_two text (lines.Stop stop) s = ap first_two s.3
+
+-- a line of a life of a store begins with neither `ra` nor `pu`
+not_two : (said : StoreScriptLine) (n : ℕ) → (n ≡ 29281) ⊎ (n ≡ 28789) → two_of said ≢ n
+not_two (lines.Life options) n is e = ⊎_elim (λ (r : n ≡ 29281). absurd (omega (arith, r, e))) (λ (p : n ≡ 28789). absurd (omega (arith, p, e))) is
+not_two (lines.SetLog bytes) n is e = ⊎_elim (λ (r : n ≡ 29281). absurd (omega (arith, r, e))) (λ (p : n ≡ 28789). absurd (omega (arith, p, e))) is
+not_two (lines.Within within.Calls) n is e = ⊎_elim (λ (r : n ≡ 29281). absurd (omega (arith, r, e))) (λ (p : n ≡ 28789). absurd (omega (arith, p, e))) is
+not_two (lines.Within (within.Page page)) n is e = ⊎_elim (λ (r : n ≡ 29281). absurd (omega (arith, r, e))) (λ (p : n ≡ 28789). absurd (omega (arith, p, e))) is
+not_two (lines.Within (within.Step steps.Begin)) n is e = ⊎_elim (λ (r : n ≡ 29281). absurd (omega (arith, r, e))) (λ (p : n ≡ 28789). absurd (omega (arith, p, e))) is
+not_two (lines.Within (within.Step (steps.Fetch t key))) n is e = ⊎_elim (λ (r : n ≡ 29281). absurd (omega (arith, r, e))) (λ (p : n ≡ 28789). absurd (omega (arith, p, e))) is
+not_two (lines.Within (within.Step (steps.Insert t key rid))) n is e = ⊎_elim (λ (r : n ≡ 29281). absurd (omega (arith, r, e))) (λ (p : n ≡ 28789). absurd (omega (arith, p, e))) is
+not_two (lines.Within (within.Step (steps.Delete t key))) n is e = ⊎_elim (λ (r : n ≡ 29281). absurd (omega (arith, r, e))) (λ (p : n ≡ 28789). absurd (omega (arith, p, e))) is
+not_two (lines.Within (within.Step (steps.Commit t))) n is e = ⊎_elim (λ (r : n ≡ 29281). absurd (omega (arith, r, e))) (λ (p : n ≡ 28789). absurd (omega (arith, p, e))) is
+not_two (lines.Within (within.Step (steps.FlushPage page))) n is e = ⊎_elim (λ (r : n ≡ 29281). absurd (omega (arith, r, e))) (λ (p : n ≡ 28789). absurd (omega (arith, p, e))) is
+not_two (lines.Within (within.Step steps.Force)) n is e = ⊎_elim (λ (r : n ≡ 29281). absurd (omega (arith, r, e))) (λ (p : n ≡ 28789). absurd (omega (arith, p, e))) is
+not_two (lines.Stop stop) n is e = ⊎_elim (λ (r : n ≡ 29281). absurd (omega (arith, r, e))) (λ (p : n ≡ 28789). absurd (omega (arith, p, e))) is
 
 -- `raw` and `put` are no lines of lives of a store
 pub not_raw : (text : List ℕ) (said : StoreScriptLine) → Spells text raws.Raw → SpellsStore text said → ⊥
-not_raw text said r s = not_r said (sym (store_first text said s) ∙ ap (λ (t : List ℕ). slice_index t 0) r)
+not_raw text said r s = not_two said 29281 (inl refl) (sym (store_two text said s) ∙ ap first_two r)
 
 pub not_put : (text : List ℕ) (said : StoreScriptLine) (batch : Batch) → Spells text (raws.Put batch) → SpellsStore text said → ⊥
-not_put text said batch p s = not_p said (sym (store_first text said s) ∙ ap (λ (t : List ℕ). slice_index t 0) p.1)
+not_put text said batch p s = not_two said 28789 (inr refl) (sym (store_two text said s) ∙ ap first_two p.1)
 
--- what is neither `life`, nor another line, nor a step
-pub no_store_line : (text : List ℕ) (said : StoreScriptLine) → SpellsStore text said → text ≢ codes "life" → ((line : Line) → ¬ (Spells text line)) → ((step : Step) → ¬ (SpellsStep text step)) → ⊥
-no_store_line text lines.Life s l o t = l s
-no_store_line text (lines.SetLog bytes) s l o t = o (raws.SetLog bytes) s
-no_store_line text (lines.Within within.Calls) s l o t = o raws.Calls s
-no_store_line text (lines.Within (within.Step step)) s l o t = t step s
-no_store_line text (lines.Stop stop) s l o t = o (raws.Stop stop) s
+-- what is neither another line nor a step, is no plain line
+pub no_store_line : (text : List ℕ) (said : StoreScriptLine) → SpellsStore text said → IsPlainLine said → ((line : Line) → ¬ (Spells text line)) → ((step : Step) → ¬ (SpellsStep text step)) → ⊥
+no_store_line text (lines.Life options) s plain o t = plain
+no_store_line text (lines.SetLog bytes) s plain o t = o (raws.SetLog bytes) s
+no_store_line text (lines.Within within.Calls) s plain o t = o raws.Calls s
+no_store_line text (lines.Within (within.Page page)) s plain o t = plain
+no_store_line text (lines.Within (within.Step step)) s plain o t = t step s
+no_store_line text (lines.Stop stop) s plain o t = o (raws.Stop stop) s
+
+life_lacks : Lacks 32 (codes "life")
+life_lacks = (λ x. omega arith, (λ x. omega arith, (λ x. omega arith, (λ x. omega arith, tt))))
+
+page_lacks : Lacks 32 (codes "page")
+page_lacks = (λ x. omega arith, (λ x. omega arith, (λ x. omega arith, (λ x. omega arith, tt))))
+
+frames_lacks : Lacks 32 (codes "frames")
+frames_lacks = (λ x. omega arith, (λ x. omega arith, (λ x. omega arith, (λ x. omega arith, (λ x. omega arith, (λ x. omega arith, tt))))))
+
+lone_not_life : (word : List ℕ) (frames : Option ℕ) → Lacks 32 word → SpellsLife word frames → word ≢ codes "life" → ⊥
+lone_not_life word None l s other = other s
+lone_not_life word (Some frames) l s other = lacks_mid 32 (codes "life") (codes "frames " ++ s.0) (subst (λ (t : List ℕ). Lacks 32 t) s.1 l)
+
+-- a word alone is `life`, or what a plain line is
+pub no_lone_line : (word : List ℕ) (said : StoreScriptLine) → SpellsStore word said → Lacks 32 word → word ≢ codes "life" → ((other : StoreScriptLine) → IsPlainLine other → ¬ (SpellsStore word other)) → ⊥
+no_lone_line word (lines.Life options) s l other plain = lone_not_life word options.frames l s other
+no_lone_line word (lines.SetLog bytes) s l other plain = plain (lines.SetLog bytes) tt s
+no_lone_line word (lines.Within within.Calls) s l other plain = plain (lines.Within within.Calls) tt s
+no_lone_line word (lines.Within (within.Page page)) s l other plain = lacks_mid 32 (codes "page") s.0 (subst (λ (t : List ℕ). Lacks 32 t) s.1 l)
+no_lone_line word (lines.Within (within.Step step)) s l other plain = plain (lines.Within (within.Step step)) tt s
+no_lone_line word (lines.Stop stop) s l other plain = plain (lines.Stop stop) tt s
+
+spaced_not_life : (word rest : List ℕ) (frames : Option ℕ) → Lacks 32 word → SpellsLife (word ++ 32 ∷ rest) frames → word ≢ codes "life" → ⊥
+spaced_not_life word rest None l s other = lacks_mid 32 word rest (subst (λ (t : List ℕ). Lacks 32 t) (sym s) life_lacks)
+spaced_not_life word rest (Some frames) l s other = other (cut_once 32 word (codes "life") rest (codes "frames " ++ s.0) l life_lacks s.1).0
+
+-- a line of more words begins with `life` or `page`, or is what a plain line is
+pub no_spaced_line : (text word rest : List ℕ) (said : StoreScriptLine) → SpellsStore text said → text ≡ word ++ 32 ∷ rest → Lacks 32 word → word ≢ codes "life" → word ≢ codes "page" → ((other : StoreScriptLine) → IsPlainLine other → ¬ (SpellsStore text other)) → ⊥
+no_spaced_line text word rest (lines.Life options) s cut l life page plain = spaced_not_life word rest options.frames l (subst (λ (t : List ℕ). SpellsLife t options.frames) cut s) life
+no_spaced_line text word rest (lines.SetLog bytes) s cut l life page plain = plain (lines.SetLog bytes) tt s
+no_spaced_line text word rest (lines.Within within.Calls) s cut l life page plain = plain (lines.Within within.Calls) tt s
+no_spaced_line text word rest (lines.Within (within.Page n)) s cut l life page plain = page (cut_once 32 word (codes "page") rest s.0 l page_lacks (sym cut ∙ s.1)).0
+no_spaced_line text word rest (lines.Within (within.Step step)) s cut l life page plain = plain (lines.Within (within.Step step)) tt s
+no_spaced_line text word rest (lines.Stop stop) s cut l life page plain = plain (lines.Stop stop) tt s
+
+-- what stands behind `life `: `frames ` and a number
+life_of : (rest : List ℕ) (frames : Option ℕ) → SpellsLife (codes "life " ++ rest) frames → (tail : List ℕ) × (n : ℕ) × (rest ≡ codes "frames " ++ tail) × IsNumber tail n
+life_of rest None s = absurd (lacks_mid 32 (codes "life") rest (subst (λ (t : List ℕ). Lacks 32 t) (sym s) life_lacks))
+life_of rest (Some frames) s = let e : codes "life " ++ rest ≡ codes "life " ++ (codes "frames " ++ s.0) = s.1 in let same : rest ≡ codes "frames " ++ s.0 = cc in (s.0, frames, same, s.2)
+
+life_said : (rest : List ℕ) (said : StoreScriptLine) → SpellsStore (codes "life " ++ rest) said → (tail : List ℕ) × (n : ℕ) × (rest ≡ codes "frames " ++ tail) × IsNumber tail n
+life_said rest (lines.Life options) s = life_of rest options.frames s
+life_said rest (lines.SetLog bytes) s = let e = store_two (codes "life " ++ rest) (lines.SetLog bytes) s in absurd (omega (arith, e))
+life_said rest (lines.Within within.Calls) s = let e = store_two (codes "life " ++ rest) (lines.Within within.Calls) s in absurd (omega (arith, e))
+life_said rest (lines.Within (within.Page page)) s = let e = store_two (codes "life " ++ rest) (lines.Within (within.Page page)) s in absurd (omega (arith, e))
+life_said rest (lines.Within (within.Step steps.Begin)) s = let e = store_two (codes "life " ++ rest) (lines.Within (within.Step steps.Begin)) s in absurd (omega (arith, e))
+life_said rest (lines.Within (within.Step (steps.Fetch t key))) s = let e = store_two (codes "life " ++ rest) (lines.Within (within.Step (steps.Fetch t key))) s in absurd (omega (arith, e))
+life_said rest (lines.Within (within.Step (steps.Insert t key rid))) s = let e = store_two (codes "life " ++ rest) (lines.Within (within.Step (steps.Insert t key rid))) s in absurd (omega (arith, e))
+life_said rest (lines.Within (within.Step (steps.Delete t key))) s = let e = store_two (codes "life " ++ rest) (lines.Within (within.Step (steps.Delete t key))) s in absurd (omega (arith, e))
+life_said rest (lines.Within (within.Step (steps.Commit t))) s = let e = store_two (codes "life " ++ rest) (lines.Within (within.Step (steps.Commit t))) s in absurd (omega (arith, e))
+life_said rest (lines.Within (within.Step (steps.FlushPage page))) s = let e = store_two (codes "life " ++ rest) (lines.Within (within.Step (steps.FlushPage page))) s in absurd (omega (arith, e))
+life_said rest (lines.Within (within.Step steps.Force)) s = let e = store_two (codes "life " ++ rest) (lines.Within (within.Step steps.Force)) s in absurd (omega (arith, e))
+life_said rest (lines.Stop stop) s = let e = store_two (codes "life " ++ rest) (lines.Stop stop) s in absurd (omega (arith, e))
+
+-- one word alone is no option
+pub life_one : (rest : List ℕ) (said : StoreScriptLine) → SpellsStore (codes "life " ++ rest) said → Lacks 32 rest → ⊥
+life_one rest said s l = let is = life_said rest said s in lacks_mid 32 (codes "frames") is.0 (subst (λ (t : List ℕ). Lacks 32 t) is.2 l)
+
+-- the first word is `frames`
+pub life_word : (rest word more : List ℕ) (said : StoreScriptLine) → SpellsStore (codes "life " ++ rest) said → rest ≡ word ++ 32 ∷ more → Lacks 32 word → word ≡ codes "frames"
+life_word rest word more said s cut l = let is = life_said rest said s in (cut_once 32 word (codes "frames") more is.0 l frames_lacks (sym cut ∙ is.2)).0
+
+-- and then a number
+pub life_frames : (rest word more : List ℕ) (said : StoreScriptLine) → SpellsStore (codes "life " ++ rest) said → rest ≡ word ++ 32 ∷ more → Lacks 32 word → (n : ℕ) × IsNumber more n
+life_frames rest word more said s cut l =
+    let is = life_said rest said s in
+    let same : more ≡ is.0 = (cut_once 32 word (codes "frames") more is.0 l frames_lacks (sym cut ∙ is.2)).1 in
+    (is.1, subst (λ (t : List ℕ). IsNumber t is.1) (sym same) is.3)
+
+-- what stands behind `page `
+pub page_said : (rest : List ℕ) (said : StoreScriptLine) → SpellsStore (codes "page " ++ rest) said → (n : ℕ) × IsPageNumber rest n
+page_said rest (lines.Within (within.Page page)) s = let e : codes "page " ++ rest ≡ codes "page " ++ s.0 = s.1 in let same : rest ≡ s.0 = cc in (page, subst (λ (t : List ℕ). IsPageNumber t page) (sym same) s.2)
+page_said rest (lines.Life options) s = let e = store_two (codes "page " ++ rest) (lines.Life options) s in absurd (omega (arith, e))
+page_said rest (lines.SetLog bytes) s = let e = store_two (codes "page " ++ rest) (lines.SetLog bytes) s in absurd (omega (arith, e))
+page_said rest (lines.Within within.Calls) s = let e = store_two (codes "page " ++ rest) (lines.Within within.Calls) s in absurd (omega (arith, e))
+page_said rest (lines.Within (within.Step steps.Begin)) s = let e = store_two (codes "page " ++ rest) (lines.Within (within.Step steps.Begin)) s in absurd (omega (arith, e))
+page_said rest (lines.Within (within.Step (steps.Fetch t key))) s = let e = store_two (codes "page " ++ rest) (lines.Within (within.Step (steps.Fetch t key))) s in absurd (omega (arith, e))
+page_said rest (lines.Within (within.Step (steps.Insert t key rid))) s = let e = store_two (codes "page " ++ rest) (lines.Within (within.Step (steps.Insert t key rid))) s in absurd (omega (arith, e))
+page_said rest (lines.Within (within.Step (steps.Delete t key))) s = let e = store_two (codes "page " ++ rest) (lines.Within (within.Step (steps.Delete t key))) s in absurd (omega (arith, e))
+page_said rest (lines.Within (within.Step (steps.Commit t))) s = let e = store_two (codes "page " ++ rest) (lines.Within (within.Step (steps.Commit t))) s in absurd (omega (arith, e))
+page_said rest (lines.Within (within.Step (steps.FlushPage page))) s = let e = store_two (codes "page " ++ rest) (lines.Within (within.Step (steps.FlushPage page))) s in absurd (omega (arith, e))
+page_said rest (lines.Within (within.Step steps.Force)) s = let e = store_two (codes "page " ++ rest) (lines.Within (within.Step steps.Force)) s in absurd (omega (arith, e))
+page_said rest (lines.Stop stop) s = let e = store_two (codes "page " ++ rest) (lines.Stop stop) s in absurd (omega (arith, e))

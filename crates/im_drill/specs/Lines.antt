@@ -18,6 +18,10 @@ Lacks b (c ∷ rest) = (c ≢ b) × Lacks b rest
 abbrev pub IsNumber : List ℕ → ℕ → Type 0
 IsNumber word n = IsNumeral 10 word × (digits_value 10 word ≡ n) × (slice_index word 0 ≡ 48 → length word ≡ 1) × (n < 2 ^ 64)
 
+-- a number of 32 bits
+abbrev pub IsPageNumber : List ℕ → ℕ → Type 0
+IsPageNumber word n = IsNumber word n × (n < 2 ^ 32)
+
 -- a device call's number, or `end`, which is no call's
 abbrev pub IsCall : List ℕ → ℕ → Type 0
 IsCall word n = ((word ≡ codes "end") × (n ≡ 0)) ⊎ IsNumber word n

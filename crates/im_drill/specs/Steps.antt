@@ -4,7 +4,7 @@ use Rattle.std.specs.List.{list_all}
 use Rattle.std.specs.Char.{is_ascii_graphic, IsAsciiAlphanumeric}
 use Rattle.im_types.specs.declared.step.Step.{Step}
 use Rattle.im_types.specs.declared.step.Step.TheVariants as steps
-use Rattle.im_drill.specs.Lines.{IsNumber}
+use Rattle.im_drill.specs.Lines.{IsNumber, IsPageNumber}
 
 -- a byte that a key's text may have: printable, and no space, `+` or `*`
 abbrev pub is_plain : ℕ → Bool
@@ -70,3 +70,5 @@ SpellsStep text (steps.Fetch t key) = (rest : List ℕ) × (text ≡ codes "fetc
 SpellsStep text (steps.Insert t key rid) = (rest : List ℕ) × (text ≡ codes "insert " ++ rest) × IsKeyedWith rest t key.items rid
 SpellsStep text (steps.Delete t key) = (rest : List ℕ) × (text ≡ codes "delete " ++ rest) × IsKeyed rest t key.items
 SpellsStep text (steps.Commit t) = (rest : List ℕ) × (text ≡ codes "commit " ++ rest) × IsNumber rest t
+SpellsStep text (steps.FlushPage page) = (rest : List ℕ) × (text ≡ codes "flush " ++ rest) × IsPageNumber rest page
+SpellsStep text steps.Force = text ≡ codes "force"

@@ -1,7 +1,8 @@
 -- What lives of a store in a script make of its effects.
 use Rattle.std.specs.Prelude.{◌≡◌, ◌≢◌, List, [], ◌∷◌, Some, None}
 use Rattle.im_types.specs.Changes.{Effect}
-use Rattle.im_types.specs.Lives.{Shown, Asked, nothing_shown, shows}
+use Rattle.im_types.specs.Faults.{number_of}
+use Rattle.im_types.specs.Lives.{Shown, Asked, nothing_shown, breaks, shows}
 use Rattle.im_types.specs.Steps.{asked_by, told_by}
 use Rattle.im_disk.specs.Disk.{Files}
 use Rattle.im_disk.specs.declared.disk.Disk.{Ghosts}
@@ -19,12 +20,12 @@ use Rattle.im_drill.specs.declared.life_answers.Opening.TheVariants as openings
 use Rattle.im_types.specs.declared.fault.Fault.TheVariants.{NotAStore}
 use Rattle.im_drill.specs.Answered.{AnsweredBy}
 
--- what is shown after a line: a step's reply, or a step within which the stop fell
+-- what is shown after a line: a step's reply, or a step within which the stop fell; a look at a page that is refused may break the engine
 abbrev pub shown_after : Shown → StoreLine → StoreReply → Shown
 shown_after s (lines.Step step) (replies.Step reply) = shows s (asked_by step) (Some (told_by reply))
-shown_after s (lines.Step step) (replies.Calls n) = s
 shown_after s (lines.Step step) replies.Stopped = shows s (asked_by step) None
-shown_after s lines.Calls reply = s
+shown_after s (lines.Page page) (replies.Refused fault) = record s { failed = breaks (number_of fault) }
+shown_after s line reply = s
 
 -- what is shown after the lines that have their replies
 abbrev pub shown_in : Shown → List StoreLine → List StoreReply → Shown
@@ -47,14 +48,13 @@ pub record LineKept {D : Type 0} (d : Ghosts D) (before : List Effect) (s : Show
   pub after : reply ≢ replies.Stopped → IsLife d before (shown_after s line reply) new
   pub stops : (c : Files) → d.may_leave new.disk c → Allowed before (shown_after s line reply) c
 
--- A step has its reply, and `calls` answers a number.
+-- A step has its reply, `calls` answers a number, and `page` what that page is for, or why that can't be told.
 abbrev pub IsStoreReply : StoreLine → StoreReply → Type 0
 IsStoreReply (lines.Step step) (replies.Step reply) = Unit {0}
-IsStoreReply (lines.Step step) (replies.Calls n) = ⊥
-IsStoreReply (lines.Step step) replies.Stopped = ⊥
 IsStoreReply lines.Calls (replies.Calls n) = Unit {0}
-IsStoreReply lines.Calls (replies.Step reply) = ⊥
-IsStoreReply lines.Calls replies.Stopped = ⊥
+IsStoreReply (lines.Page page) (replies.Page of header) = of ≡ page
+IsStoreReply (lines.Page page) (replies.Refused fault) = Unit {0}
+IsStoreReply _ _ = ⊥
 
 -- Each line has its reply, up to one into which the stop fell. Behind an opening that did not succeed no line is answered.
 abbrev pub StoreAnswered : Opening → List StoreLine → List StoreReply → Type 0

@@ -3,25 +3,25 @@ use Rattle.std.specs.Prelude.{◌≡◌, ℕ, List, [], ◌∷◌, ◌++◌, map
 use Rattle.std.specs.Global.{Vec}
 use Rattle.im_drill.specs.declared.store_script_line.StoreScriptLine.{StoreScriptLine}
 use Rattle.im_drill.specs.declared.store_script_line.StoreScriptLine.TheVariants as lines
-use Rattle.im_drill.specs.declared.store_life.StoreLine.{StoreLine}
 use Rattle.im_drill.specs.declared.store_life.StoreLife.{StoreLife}
 use Rattle.im_drill.specs.declared.store_reading.StoreReading.{StoreReading}
+use Rattle.im_drill.specs.declared.store_reading.OpenLife.{OpenLife}
 use Rattle.im_drill.specs.Scripts.{Place, Before, Within, Behind, MayStand, place_after, last_set}
 use Rattle.im_drill.specs.StoreScripts.{store_kind_of, lines_of_lives}
 
 -- the lines of the life that is not ended
-abbrev pub lines_of_open : Option (Vec StoreLine) → List StoreScriptLine
+abbrev pub lines_of_open : Option OpenLife → List StoreScriptLine
 lines_of_open None = []
-lines_of_open (Some open_lines) = lines.Life ∷ map lines.Within open_lines.items
+lines_of_open (Some life) = lines.Life life.options ∷ map lines.Within life.lines.items
 
 -- where the next line stands
-abbrev pub place_of : List StoreLife → Option (Vec StoreLine) → Place
-place_of lives (Some open_lines) = Within
+abbrev pub place_of : List StoreLife → Option OpenLife → Place
+place_of lives (Some life) = Within
 place_of [] None = Before
 place_of (life ∷ rest) None = Behind
 
 -- These lines were read: what they set, the lives that they ended and the one that they did not.
-pub record IsStoreRead (log : List ℕ) (lives : List StoreLife) (life : Option (Vec StoreLine)) (said : List StoreScriptLine) : Type 0 where
+pub record IsStoreRead (log : List ℕ) (lives : List StoreLife) (life : Option OpenLife) (said : List StoreScriptLine) : Type 0 where
   pub sets : List (Vec ℕ)
   pub is : said ≡ map lines.SetLog sets ++ (lines_of_lives lives ++ lines_of_open life)
   pub log_is : log ≡ last_set sets

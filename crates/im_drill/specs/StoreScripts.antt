@@ -1,5 +1,5 @@
 -- The lines of scripts of lives of a store, and what script they make.
-use Rattle.std.specs.Prelude.{◌≡◌, ◌≢◌, ℕ, List, [], ◌∷◌, ◌++◌, map, codes, Option, Some, None}
+use Rattle.std.specs.Prelude.{◌≡◌, ◌⊎◌, ℕ, List, [], ◌∷◌, ◌++◌, map, codes, Option, Some, None}
 use Rattle.std.specs.Global.{Vec}
 use Rattle.im_disk.specs.declared.stop.Stop.{Stop}
 use Rattle.im_drill.specs.declared.line.Line.TheVariants as raws
@@ -7,24 +7,38 @@ use Rattle.im_drill.specs.declared.store_script_line.StoreScriptLine.{StoreScrip
 use Rattle.im_drill.specs.declared.store_script_line.StoreScriptLine.TheVariants as lines
 use Rattle.im_drill.specs.declared.store_life.StoreLine.TheVariants as within
 use Rattle.im_drill.specs.declared.store_life.StoreLife.{StoreLife}
+use Rattle.im_drill.specs.declared.store_life.LifeOptions.{LifeOptions}
 use Rattle.im_drill.specs.declared.store_script.StoreScript.{StoreScript}
-use Rattle.im_drill.specs.Lines.{Spells}
+use Rattle.im_drill.specs.Lines.{Spells, IsNumber, IsPageNumber}
 use Rattle.im_drill.specs.Steps.{SpellsStep}
 use Rattle.im_drill.specs.Scripts.{Kind, SetsLog, Begins, Counts, Steps, Stops, Before, MayStand, SaysBy, IsFirstBadBy, last_set}
 
+-- `life`, or with the number of frames.
+abbrev pub SpellsLife : List ℕ → Option ℕ → Type 0
+SpellsLife text None = text ≡ codes "life"
+SpellsLife text (Some frames) = (rest : List ℕ) × (text ≡ codes "life frames " ++ rest) × IsNumber rest frames
+
 -- The bytes of a line that says this.
 abbrev pub SpellsStore : List ℕ → StoreScriptLine → Type 0
-SpellsStore text lines.Life = text ≡ codes "life"
+SpellsStore text (lines.Life options) = SpellsLife text options.frames
 SpellsStore text (lines.SetLog bytes) = Spells text (raws.SetLog bytes)
 SpellsStore text (lines.Within within.Calls) = Spells text raws.Calls
+SpellsStore text (lines.Within (within.Page page)) = (rest : List ℕ) × (text ≡ codes "page " ++ rest) × IsPageNumber rest page
 SpellsStore text (lines.Within (within.Step step)) = SpellsStep text step
 SpellsStore text (lines.Stop stop) = Spells text (raws.Stop stop)
 
+-- a line that is neither `life` nor `page`
+abbrev pub IsPlainLine : StoreScriptLine → Type 0
+IsPlainLine (lines.Life options) = ⊥
+IsPlainLine (lines.Within (within.Page page)) = ⊥
+IsPlainLine _ = Unit {0}
+
 -- `life` begins a life as `raw` does, and a step stands where a put does.
 abbrev pub store_kind_of : StoreScriptLine → Kind
-store_kind_of lines.Life = Begins
+store_kind_of (lines.Life options) = Begins
 store_kind_of (lines.SetLog bytes) = SetsLog
 store_kind_of (lines.Within within.Calls) = Counts
+store_kind_of (lines.Within (within.Page page)) = Counts
 store_kind_of (lines.Within (within.Step step)) = Steps
 store_kind_of (lines.Stop stop) = Stops
 
@@ -35,7 +49,7 @@ stop_lines (Some stop) = lines.Stop stop ∷ []
 -- The lines of lives: of each `life`, then its lines, then its stop.
 abbrev pub lines_of_lives : List StoreLife → List StoreScriptLine
 lines_of_lives [] = []
-lines_of_lives (life ∷ rest) = lines.Life ∷ (map lines.Within life.lines.items ++ stop_lines life.stop) ++ lines_of_lives rest
+lines_of_lives (life ∷ rest) = lines.Life life.options ∷ (map lines.Within life.lines.items ++ stop_lines life.stop) ++ lines_of_lives rest
 
 -- The script of these lines: its log file is what was set last, and its lives are those of the other lines, in order.
 pub record IsStoreScriptOf (script : StoreScript) (said : List StoreScriptLine) : Type 0 where
@@ -51,14 +65,18 @@ IsStoreScript texts script = (said : List StoreScriptLine) × SaysBy SpellsStore
 abbrev pub IsFirstBadOfStore : List (List ℕ) → ℕ → Type 0
 IsFirstBadOfStore texts number = IsFirstBadBy SpellsStore store_kind_of texts number
 
--- none of the lines is this one
-abbrev pub NoLine : List ℕ → List (List ℕ) → Type 0
-NoLine word [] = Unit {0}
-NoLine word (line ∷ rest) = (line ≢ word) × NoLine word rest
+-- the line is `life`, or begins with that word
+abbrev pub BeginsLife : List ℕ → Type 0
+BeginsLife line = (line ≡ codes "life") ⊎ ((more : List ℕ) × (line ≡ codes "life " ++ more))
+
+-- none of the lines begins a life of a store
+abbrev pub NoLife : List (List ℕ) → Type 0
+NoLife [] = Unit {0}
+NoLife (line ∷ rest) = (BeginsLife line → ⊥) × NoLife rest
 
 -- A text of lives over gates alone: a `raw` line stands in it, and no `life` line in front of that.
 pub record IsRaw (texts : List (List ℕ)) : Type 0 where
   pub front : List (List ℕ)
   pub rest : List (List ℕ)
   pub is : texts ≡ front ++ codes "raw" ∷ rest
-  pub lives : NoLine (codes "life") front
+  pub lives : NoLife front

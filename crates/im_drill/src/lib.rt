@@ -77,7 +77,7 @@ pub use step_words::step_line;
 pub use store_answers::{StoreAnswers, StoreDrilled, StoreReply};
 pub use store_drilling::drill_store;
 pub use store_grammar::parse_store_line;
-pub use store_life::{StoreLife, StoreLine};
+pub use store_life::{LifeOptions, StoreLife, StoreLine};
 pub use store_script::StoreScript;
 pub use store_script_line::StoreScriptLine;
 pub use text::drill_text;

@@ -14,6 +14,7 @@ pub fn reply_text<W: Write>(writer: &mut W, reply: &Reply) -> io::Result<()> {
         Reply::Duplicate => write!(writer, "duplicate"),
         Reply::Deleted => write!(writer, "deleted"),
         Reply::Committed => write!(writer, "committed"),
+        Reply::Done => write!(writer, "done"),
         Reply::Refused(fault) => write!(writer, "refused {}", fault.number()),
     }
 }

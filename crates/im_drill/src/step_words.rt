@@ -3,7 +3,7 @@
 ghost use Rattle.std.specs.Prelude.{◌≡◌, ◌⊎◌, ◌++◌, ℕ, List, codes, IfOk, IfErr};
 ghost use Rattle.im_types.specs.declared.fault.Fault.TheVariants.{BadScript, Memory};
 ghost use Rattle.im_types.specs.declared.step.Step.{Step};
-ghost use Rattle.im_drill.specs.Lines.{Lacks, IsNumber};
+ghost use Rattle.im_drill.specs.Lines.{Lacks, IsNumber, IsPageNumber};
 ghost use Rattle.im_drill.specs.Steps.{SpellsStep, IsNumbered, IsKeyed, IsKeyedWith};
 
 use crate::key_word::key_of;
@@ -35,6 +35,9 @@ pub fn step_line(alloc: Global, line: &[u8]) -> Result<Step, Fault>
     if word == b"insert".as_slice() {
         return insert_line(alloc, rest);
     }
+    if word == b"flush".as_slice() {
+        return flush_line(rest);
+    }
     Err(Fault::BadScript)
 }
 
@@ -49,6 +52,9 @@ fn lone_step(word: &[u8]) -> Result<Step, Fault>
     if word == b"begin".as_slice() {
         return Ok(Step::Begin);
     }
+    if word == b"force".as_slice() {
+        return Ok(Step::Force);
+    }
     Err(Fault::BadScript)
 }
 
@@ -60,6 +66,16 @@ fn commit_line(rest: &[u8]) -> Result<Step, Fault>
 {
     let number = count_of(rest)?;
     Ok(Step::Commit(number))
+}
+
+#[tactic(auto, using(crate::proofs::StepSpelled::flush_said))]
+fn flush_line(rest: &[u8]) -> Result<Step, Fault>
+    ensures says { IfOk result (λ step. SpellsStep (codes "flush " ++ rest.now) step) }
+    ensures refused { result ≡ Err BadScript → (step : Step) → ¬ (SpellsStep (codes "flush " ++ rest.now) step) }
+    ensures causes { IfErr result (λ e. (e ≡ Memory) ⊎ (e ≡ BadScript)) }
+{
+    let page = page_of(rest)?;
+    Ok(Step::FlushPage(page))
 }
 
 #[tactic(auto, using(crate::proofs::StepSpelled::fetch_said))]
@@ -125,7 +141,20 @@ fn numbered(text: &[u8]) -> Result<(u64, &[u8]), Fault>
     Ok((number, rest))
 }
 
-fn count_of(word: &[u8]) -> Result<u64, Fault>
+// A page's number.
+pub(crate) fn page_of(word: &[u8]) -> Result<u32, Fault>
+    ensures says { IfOk result (λ n. IsPageNumber word.now n) }
+    ensures refused { IfErr result (λ e. (n : ℕ) → ¬ (IsPageNumber word.now n)) }
+    ensures cause { IfErr result (λ e. e ≡ BadScript) }
+{
+    let number = count_of(word)?;
+    if number > u32::MAX as u64 {
+        return Err(Fault::BadScript);
+    }
+    Ok(number as u32)
+}
+
+pub(crate) fn count_of(word: &[u8]) -> Result<u64, Fault>
     ensures says { IfOk result (λ n. IsNumber word.now n) }
     ensures refused { IfErr result (λ e. (n : ℕ) → ¬ (IsNumber word.now n)) }
     ensures cause { IfErr result (λ e. e ≡ BadScript) }

@@ -1,7 +1,8 @@
 //! What the lives of a store answer.
 
 use crate::Opening;
-use im_types::{Fault, Key, Reply, Rid};
+use im_engine::Header;
+use im_types::{Fault, Key, PageNo, Reply, Rid};
 
 /// What a line of a life of a store answers.
 #[derive(Clone, Copy, Debug, PartialEq, Eq)]
@@ -10,6 +11,10 @@ pub enum StoreReply {
     Step(Reply),
     /// The device calls so far.
     Calls(u64),
+    /// What a page is for.
+    Page(PageNo, Header),
+    /// What a page is for can't be told.
+    Refused(Fault),
     /// The stop fell into it. The life's other lines answer nothing.
     Stopped,
 }

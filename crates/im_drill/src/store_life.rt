@@ -1,7 +1,7 @@
 //! A life of a store in a script.
 
 use im_disk::Stop;
-use im_types::Step;
+use im_types::{PageNo, Step};
 
 /// A line within a life of a store.
 #[derive(Drop)]
@@ -10,11 +10,21 @@ pub enum StoreLine {
     Step(Step),
     /// Prints the device calls so far.
     Calls,
+    /// Prints what a page is for.
+    Page(PageNo),
+}
+
+/// How the store of a life is opened.
+#[derive(Clone, Copy, Debug, PartialEq, Eq)]
+pub struct LifeOptions {
+    /// How many pages are held at most; none for as many as the default has.
+    pub frames: Option<u64>,
 }
 
 /// A life of a store: it is opened, and then its lines are run in turn.
 #[derive(Drop)]
 pub struct StoreLife {
+    pub options: LifeOptions,
     /// The lines between the first and the stop.
     pub lines: Vec<StoreLine>,
     /// The stop that ends it; none where the whole life is made and all that was written is left.

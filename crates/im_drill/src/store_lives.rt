@@ -5,7 +5,6 @@ ghost use Rattle.std.specs.FinMap.{empty, entries};
 ghost use Rattle.im_types.specs.declared.fault.Fault.TheVariants.{NotAStore};
 ghost use Rattle.im_types.specs.Changes.{Effect, apply_all};
 ghost use Rattle.im_types.specs.Lives.{Shown, nothing_shown, StandsForMore};
-ghost use Rattle.im_types.specs.Steps.{told_by};
 ghost use Rattle.im_types.specs.declared.reply.Reply.{Reply};
 ghost use Rattle.im_types.specs.declared.step.Step.{Step};
 ghost use Rattle.im_disk.specs.Disk.{Files};
@@ -13,7 +12,7 @@ ghost use Rattle.im_disk.specs.Runs.{IsSynced};
 ghost use Rattle.im_disk.specs.Model.{model_calls, model_stopped};
 ghost use Rattle.im_engine.specs.Stands.{StandsFor, Allowed};
 ghost use Rattle.im_engine.specs.Running.{IsLife};
-ghost use Rattle.im_engine.specs.Answers.{Tells};
+ghost use Rattle.im_engine.specs.Checks.{AnswersStep};
 ghost use Rattle.im_drill.specs.declared.store_answers.StoreReply.TheVariants.{Stopped};
 ghost use Rattle.im_drill.specs.Answered.{AnsweredBy};
 ghost use Rattle.im_drill.specs.StoreLives.{asked_in, shown_in, LineKept, IsStoreReply, StoreAnswered};
@@ -21,10 +20,10 @@ ghost use Rattle.im_drill.specs.StoreLives.{asked_in, shown_in, LineKept, IsStor
 use crate::Opening;
 use crate::lives::{arm, refused_opening};
 use crate::store_answers::{StoreAnswers, StoreReply};
-use crate::store_life::{StoreLife, StoreLine};
+use crate::store_life::{LifeOptions, StoreLife, StoreLine};
 use im_disk::{Disk, ModelDisk};
 use im_engine::{Config, Engine};
-use im_types::{Fault, Key, Rid};
+use im_types::{Fault, Key, PageNo, Rid, Step};
 use std::alloc::{AllocError, Global};
 
 /// Runs one life on the disk, and gives the disk back as it was when the stop came or the lines ended.
@@ -46,7 +45,7 @@ pub(crate) fn run_store_life(
 {
     let mut disk = disk;
     arm(alloc, &mut disk, &life.stop)?;
-    match Engine::open_or_create(alloc, disk, Config::default()) {
+    match Engine::open_or_create(alloc, disk, config_of(life.options)) {
         Ok(mut engine) => {
             let opening = Opening::Open(engine.disk().calls());
             let replies = run_store_lines(alloc, &mut engine, &life.lines);
@@ -59,6 +58,18 @@ pub(crate) fn run_store_life(
             let replies = Vec::new(alloc);
             Ok((StoreAnswers { opening, replies }, disk))
         }
+    }
+}
+
+// How an engine is opened by these options.
+fn config_of(options: LifeOptions) -> Config {
+    let config = Config::default();
+    match options.frames {
+        None => config,
+        Some(frames) => Config {
+            frames: frames as usize,
+            max_pages: config.max_pages,
+        },
     }
 }
 
@@ -84,21 +95,48 @@ fn run_store_lines(
 
 fn run_store_line(engine: &mut Engine<ModelDisk>, line: &StoreLine) -> StoreReply
     ensures fits { (result ≡ Stopped) ⊎ IsStoreReply line.now result }
-    ensures stopped { (step : Step) → line.now ≡ StoreLine.Step step → (result ≡ Stopped ↔ model_stopped engine.new.disk ≡ true) }
+    ensures stopped { line.now ≢ StoreLine.Calls → (result ≡ Stopped ↔ model_stopped engine.new.disk ≡ true) }
     ensures calls { line.now ≡ StoreLine.Calls → (result ≡ StoreReply.Calls (model_calls engine.old.disk)) × (engine.new ≡ engine.old) }
-    ensures tells { (step : Step) (reply : Reply) → line.now ≡ StoreLine.Step step → result ≡ StoreReply.Step reply → Tells step (told_by reply) engine.old.page.value.body.entries }
+    ensures tells { (step : Step) (reply : Reply) → line.now ≡ StoreLine.Step step → result ≡ StoreReply.Step reply → AnswersStep ⟦<ModelDisk as Disk>⟧ step reply engine.old engine.new }
     ensures kept { (before : List Effect) (s : Shown) → IsLife ⟦<ModelDisk as Disk>⟧ before s engine.old
         → LineKept ⟦<ModelDisk as Disk>⟧ before s line.now result engine.new }
 {
-    let step = match line {
-        StoreLine::Calls => return StoreReply::Calls(engine.disk().calls()),
-        StoreLine::Step(step) => step,
-    };
+    match line {
+        StoreLine::Calls => StoreReply::Calls(engine.disk().calls()),
+        StoreLine::Step(step) => run_step(engine, step),
+        StoreLine::Page(page) => look_at(engine, *page),
+    }
+}
+
+fn run_step(engine: &mut Engine<ModelDisk>, step: &Step) -> StoreReply
+    ensures fits { (result ≡ Stopped) ⊎ IsStoreReply (StoreLine.Step step.now) result }
+    ensures stopped { result ≡ Stopped ↔ model_stopped engine.new.disk ≡ true }
+    ensures tells { (reply : Reply) → result ≡ StoreReply.Step reply → AnswersStep ⟦<ModelDisk as Disk>⟧ step.now reply engine.old engine.new }
+    ensures kept { (before : List Effect) (s : Shown) → IsLife ⟦<ModelDisk as Disk>⟧ before s engine.old
+        → LineKept ⟦<ModelDisk as Disk>⟧ before s (StoreLine.Step step.now) result engine.new }
+{
     let reply = engine.step(step);
     if engine.disk().stopped() {
         StoreReply::Stopped
     } else {
         StoreReply::Step(reply)
+    }
+}
+
+// What a page is for.
+fn look_at(engine: &mut Engine<ModelDisk>, page: PageNo) -> StoreReply
+    ensures fits { (result ≡ Stopped) ⊎ IsStoreReply (StoreLine.Page page) result }
+    ensures stopped { result ≡ Stopped ↔ model_stopped engine.new.disk ≡ true }
+    ensures kept { (before : List Effect) (s : Shown) → IsLife ⟦<ModelDisk as Disk>⟧ before s engine.old
+        → LineKept ⟦<ModelDisk as Disk>⟧ before s (StoreLine.Page page) result engine.new }
+{
+    let header = engine.header(page);
+    if engine.disk().stopped() {
+        return StoreReply::Stopped;
+    }
+    match header {
+        Ok(header) => StoreReply::Page(page, header),
+        Err(fault) => StoreReply::Refused(fault),
     }
 }
 
@@ -117,7 +155,7 @@ pub(crate) fn last_entries(alloc: Global, disk: ModelDisk) -> Result<Vec<(Key, R
         → MatchResult result (λ found. found.items ≡ entries (apply_all empty after)) (λ fault. fault ≢ NotAStore) }
 {
     match Engine::open_or_create(alloc, disk, Config::default()) {
-        Ok(engine) => {
+        Ok(mut engine) => {
             let entries = engine.entries(alloc);
             let _disk = engine.into_disk();
             entries

@@ -9,18 +9,25 @@ ghost use Rattle.im_drill.specs.StoreReading.{IsStoreReading};
 
 use crate::ScriptError;
 use crate::store_grammar::parse_store_line;
-use crate::store_life::{StoreLife, StoreLine};
+use crate::store_life::{LifeOptions, StoreLife, StoreLine};
 use crate::store_script::StoreScript;
 use crate::store_script_line::StoreScriptLine;
 use im_disk::Stop;
 use im_types::Fault;
 use std::alloc::Global;
 
-/// The log file and the lives that are ended, and the lines of the life that is not.
+/// A life that is not ended.
+#[derive(Drop)]
+pub(crate) struct OpenLife {
+    options: LifeOptions,
+    lines: Vec<StoreLine>,
+}
+
+/// The log file and the lives that are ended, and the life that is not.
 #[derive(Drop)]
 pub(crate) struct StoreReading {
     script: StoreScript,
-    life: Option<Vec<StoreLine>>,
+    life: Option<OpenLife>,
 }
 
 impl StoreReading {
@@ -52,7 +59,7 @@ impl StoreReading {
     {
         match line {
             StoreScriptLine::SetLog(bytes) => self.set_log(bytes),
-            StoreScriptLine::Life => self.begin_life(alloc),
+            StoreScriptLine::Life(options) => self.begin_life(alloc, options),
             StoreScriptLine::Within(line) => self.add(line),
             StoreScriptLine::Stop(stop) => self.stop(stop),
         }
@@ -69,18 +76,26 @@ impl StoreReading {
         Ok(())
     }
 
-    fn begin_life(&mut self, alloc: Global) -> Result<(), Fault>
-        ensures read { OnOk result ((said : List StoreScriptLine) → IsStoreReading self.old said → IsStoreReading self.new (said ++ StoreScriptLine.Life ∷ [])) }
+    fn begin_life(&mut self, alloc: Global, options: LifeOptions) -> Result<(), Fault>
+        ensures read { OnOk result ((said : List StoreScriptLine) → IsStoreReading self.old said → IsStoreReading self.new (said ++ StoreScriptLine.Life options ∷ [])) }
         ensures memory { IfErr result (λ fault. fault ≡ Fault.Memory) }
     {
-        let empty = Vec::new(alloc);
-        let Some(lines) = self.life.take() else {
-            self.life = Some(empty);
+        let next = OpenLife {
+            options,
+            lines: Vec::new(alloc),
+        };
+        let Some(life) = self.life.take() else {
+            self.life = Some(next);
             return Ok(());
         };
-        match self.script.lives.push(StoreLife { lines, stop: None }) {
+        let OpenLife { options, lines } = life;
+        match self.script.lives.push(StoreLife {
+            options,
+            lines,
+            stop: None,
+        }) {
             Ok(()) => {
-                self.life = Some(empty);
+                self.life = Some(next);
                 Ok(())
             }
             Err(_) => Err(Fault::Memory),
@@ -91,12 +106,12 @@ impl StoreReading {
         ensures read { OnOk result ((said : List StoreScriptLine) → IsStoreReading self.old said → IsStoreReading self.new (said ++ StoreScriptLine.Within line ∷ [])) }
         ensures refused { result ≡ Err BadScript → (said : List StoreScriptLine) → IsStoreReading self.old said → ¬ (MayFollow (store_kind_of (StoreScriptLine.Within line)) (place_after Before (map store_kind_of said))) }
     {
-        let Some(mut lines) = self.life.take() else {
+        let Some(mut life) = self.life.take() else {
             return Err(Fault::BadScript);
         };
-        match lines.push(line) {
+        match life.lines.push(line) {
             Ok(()) => {
-                self.life = Some(lines);
+                self.life = Some(life);
                 Ok(())
             }
             Err(_) => Err(Fault::Memory),
@@ -107,10 +122,12 @@ impl StoreReading {
         ensures read { OnOk result ((said : List StoreScriptLine) → IsStoreReading self.old said → IsStoreReading self.new (said ++ StoreScriptLine.Stop stop ∷ [])) }
         ensures refused { result ≡ Err BadScript → (said : List StoreScriptLine) → IsStoreReading self.old said → ¬ (MayFollow (store_kind_of (StoreScriptLine.Stop stop)) (place_after Before (map store_kind_of said))) }
     {
-        let Some(lines) = self.life.take() else {
+        let Some(life) = self.life.take() else {
             return Err(Fault::BadScript);
         };
+        let OpenLife { options, lines } = life;
         let life = StoreLife {
+            options,
             lines,
             stop: Some(stop),
         };
@@ -126,10 +143,15 @@ impl StoreReading {
         ensures memory { IfErr result (λ error. error ≡ ScriptError.Memory) }
     {
         let StoreReading { mut script, life } = self;
-        let Some(lines) = life else {
+        let Some(life) = life else {
             return Ok(script);
         };
-        match script.lives.push(StoreLife { lines, stop: None }) {
+        let OpenLife { options, lines } = life;
+        match script.lives.push(StoreLife {
+            options,
+            lines,
+            stop: None,
+        }) {
             Ok(()) => Ok(script),
             Err(_) => Err(ScriptError::Memory),
         }

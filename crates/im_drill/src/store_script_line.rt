@@ -1,16 +1,16 @@
 //! What one line of a script of lives of a store says.
 
-use crate::store_life::StoreLine;
+use crate::store_life::{LifeOptions, StoreLine};
 use im_disk::Stop;
 
 /// A line of a script of lives of a store.
 #[derive(Drop)]
 pub enum StoreScriptLine {
-    /// `life`: a life of a store.
-    Life,
+    /// `life`, `life frames N`: a life of a store.
+    Life(LifeOptions),
     /// `set log HEX`: the bytes of the log file before the first life.
     SetLog(Vec<u8>),
-    /// A step, or `calls`.
+    /// A step, `calls`, or `page P`.
     Within(StoreLine),
     /// `stop N LEN FILL`: the last line of a life. No call has the number 0, which stands for `end`.
     Stop(Stop),

@@ -2,13 +2,15 @@
 
 ghost use Rattle.std.specs.Prelude.{◌≡◌, ◌↔◌, true};
 ghost use Rattle.im_drill.specs.Scripts.{lines_of};
-ghost use Rattle.im_drill.specs.StoreScripts.{IsRaw};
+ghost use Rattle.im_drill.specs.StoreScripts.{BeginsLife, IsRaw};
 
 use crate::Opening;
 use crate::entry_lines::entries_text;
 use crate::pieces::first_piece;
 use crate::reply_words::reply_text;
 use crate::store_answers::{StoreAnswers, StoreDrilled, StoreReply};
+use im_engine::Header;
+use im_types::{PageKind, PageNo};
 use std::alloc::Global;
 use std::io;
 use std::io::Write;
@@ -24,11 +26,20 @@ pub(crate) fn is_raw(text: &[u8]) -> bool
         if line == b"raw".as_slice() {
             return true;
         }
-        if line == b"life".as_slice() {
+        if begins_life(line) {
             return false;
         }
     }
     false
+}
+
+// The line is `life`, or begins with that word.
+#[tactic(auto, using(crate::proofs::RawTexts::life_or_not))]
+fn begins_life(line: &[u8]) -> bool
+    ensures { result ≡ true ↔ BeginsLife line.now }
+{
+    let (word, _) = first_piece(line, b' ');
+    word == b"life".as_slice()
 }
 
 pub(crate) fn print_store<W: Write>(
@@ -54,10 +65,29 @@ fn print_store_life<W: Write>(writer: &mut W, life: &StoreAnswers) -> io::Result
                 writeln!(writer)?;
             }
             StoreReply::Calls(calls) => writeln!(writer, "calls {calls}")?,
+            StoreReply::Page(page, header) => {
+                print_header(writer, *page, *header)?;
+            }
+            StoreReply::Refused(fault) => writeln!(writer, "refused {}", fault.number())?,
             StoreReply::Stopped => writeln!(writer, "stopped")?,
         }
     }
     Ok(())
+}
+
+// Prints what a page is for.
+fn print_header<W: Write>(writer: &mut W, page: PageNo, header: Header) -> io::Result<()> {
+    let kind = match header.kind {
+        PageKind::Free => "free",
+        PageKind::Meta => "meta",
+        PageKind::Leaf => "leaf",
+        PageKind::Inner => "inner",
+    };
+    writeln!(
+        writer,
+        "page {page} {kind} {} {}",
+        header.level, header.count
+    )
 }
 
 /// Prints what an opening answers.

@@ -1,21 +1,35 @@
 -- Steps in turn, and entries.
-use Rattle.std.proofs.Common.{◌≡◌, ◌+◌, ◌<◌, ℕ, List, [], ◌∷◌, ◌++◌, length, take, get_or, Option, None, Some, Result, Ok, Err, IfOk, refl, sym, ap, ◌∙◌, arith}
+use Rattle.std.proofs.Common.{◌≡◌, inl, inr, ◌+◌, ◌<◌, ◌≤◌, ℕ, List, [], ◌∷◌, ◌++◌, length, take, get_or, Bool, true, false, Option, None, Some, Result, Ok, Err, IfOk, refl, sym, ap, subst, ◌∙◌, arith}
+use Rattle.std.proofs.lemmas.Bool.{cases_eq}
 use Rattle.std.proofs.lemmas.List.{take_more, length-take-le}
 use Rattle.std.specs.FinMap.{empty, entries}
 use Rattle.im_types.specs.Answers as answers
+use Rattle.im_types.specs.Answers.{Idle, Going}
 use Rattle.im_types.specs.declared.step.Step.{Step}
 use Rattle.im_types.specs.declared.reply.Reply.{Reply}
 use Rattle.im_types.specs.Steps.{asked_by, told_by}
 use Rattle.im_types.specs.Pages.{Entry, Page}
 use Rattle.im_types.specs.Changes.{Effect, apply_all}
+use Rattle.im_types.specs.Faults.{number_of}
 use Rattle.im_types.specs.Histories.{History}
-use Rattle.im_types.specs.Lives.{Shown, Running, idle, shows, shown_by}
+use Rattle.im_types.specs.Lives.{Shown, Running, breaks, idle, shows, shown_by}
+use Rattle.im_types.specs.declared.fault.Fault.{Fault}
+use Rattle.im_types.specs.declared.fault.Fault.TheVariants.{Memory}
 use Rattle.im_disk.specs.declared.disk.Disk.{Ghosts}
-use Rattle.im_redo.proofs.Going.{entries_at, settled_entries}
+use Rattle.im_disk.specs.Disk.{Files}
+use Rattle.im_disk.specs.Runs.{LeavesOnly}
+use Rattle.im_log.proofs.Above.{left_now}
+use Rattle.im_pool.specs.Pool.{page_at}
+use Rattle.im_one_page.specs.OneAtATime.{IsIdleIn, IsActiveIn}
+use Rattle.im_one_page.proofs.Promises.{pages_show_effects}
 use Rattle.im_engine.specs.declared.engine.Engine.{Engine}
 use Rattle.im_engine.specs.declared.transaction.Transaction.{Transaction}
-use Rattle.im_engine.specs.Running.{IsTransaction, IsRunning}
-use Rattle.im_engine.specs.Kept.{answered_by, EntriesKept}
+use Rattle.im_engine.specs.Stands.{Allowed}
+use Rattle.im_engine.specs.Running.{IsTransaction, IsRunning, IsLife}
+use Rattle.im_engine.specs.Changes.{Looked}
+use Rattle.im_engine.specs.Kept.{answered_by, EntriesKept, LookKept}
+use Rattle.im_engine.proofs.Running.{lives_on}
+use Rattle.im_engine.proofs.Checks.{IsOfWriter}
 
 shown_more : (s : Shown) (xs : List (answers.Step × answers.Reply)) (x : answers.Step × answers.Reply) → shown_by s (xs ++ x ∷ []) ≡ shows (shown_by s xs) x.0 (Some x.1)
 shown_more s [] x = refl
@@ -38,21 +52,65 @@ one_step_more s steps replies now i none step reply len lt is at =
     ∙ ap (λ (l : List (answers.Step × answers.Reply)). shown_by s l) (answered_more (take i steps) replies step reply long)
     ∙ shown_more s (answered_by (take i steps) replies) (asked_by step, told_by reply)
 
-all_settled : (s : Shown) (going : Option Transaction) (next : ℕ) (all durable : History) → IsTransaction s going next all durable → ((t : ℕ) → s.running t ≡ idle) → all ≡ durable
-all_settled s None next all durable h none = h.0
-all_settled s (Some t) next all durable h none = let never = sym (none t.number) ∙ h.shown in absurd (let mark = ap (λ (x : Running). x.mark) never in cc)
+all_idle : (s : Shown) (going : Option Transaction) (next : ℕ) (log : History) → IsTransaction s going next log → ((t : ℕ) → s.running t ≡ idle) → IsIdleIn log
+all_idle s None next log h none = h.0
+all_idle s (Some t) next log h none = let never = sym (none t.number) ∙ h.shown in absurd (let mark = ap (λ (x : Running). x.mark) never in cc)
 
--- the entries of an engine in which no transaction is going
-pub entries_kept : {D : Type 0} (d : Ghosts D) (before : List Effect) (s : Shown) (e : Engine D d) (list : List Entry) → IsRunning d before s e → list ≡ e.page.value.body.entries → EntriesKept before s list
-entries_kept d before s e list r is = record {
+-- the transaction that is going is the active one
+active_here : (s : Shown) (going : Option Transaction) (next : ℕ) (log : History) → IsTransaction s going next log → (t : ℕ) → (s.running t).mark ≡ Going → (last : ℕ) × IsActiveIn t last (s.running t).effect log
+active_here s None next log h t is = let never : Idle ≡ Going = sym (ap (λ (x : Running). x.mark) (h.1 t)) ∙ is in absurd (cc never)
+active_here s (Some x) next log h t is = elim (cases_eq t x.number) [
+  | inl same ↦
+      let shown : (s.running t).effect ≡ h.effect = ap (λ (u : ℕ). (s.running u).effect) same ∙ ap (λ (r : Running). r.effect) h.shown in
+      (x.last, subst (λ (u : ℕ). IsActiveIn u x.last (s.running t).effect log) (sym same) (subst (λ (e : Effect). IsActiveIn x.number x.last e log) (sym shown) h.going))
+  | inr differ ↦ let never : Idle ≡ Going = sym (ap (λ (r : Running). r.mark) (h.others t differ)) ∙ is in absurd (cc never)
+]
+
+-- the entries of an engine
+pub entries_kept : {D : Type 0} (d : Ghosts D) (before : List Effect) (s : Shown) (old : Engine D d) (r : IsRunning d before s old) (new : Engine D d) (l : Looked d before s old r 1 new) (page : Page) (list : List Entry)
+    → list ≡ page.body.entries → page ≡ page_at new.writer.pool 1 → EntriesKept before s list
+entries_kept d before s old r new l page list is here = record {
   is = λ none.
-      is ∙ ap (λ (p : Page). p.body.entries) r.page
-      ∙ ap (λ (h : History). entries_at h) (all_settled s e.going e.next r.all r.durable r.transaction none)
-      ∙ settled_entries r.durable r.settled
-      ∙ ap (λ (l : List Effect). entries (apply_all empty l)) r.stands;
+      is ∙ ap (λ (p : Page). p.body.entries) (here ∙ l.page)
+      ∙ (pages_show_effects l.running.now.log l.running.one_page).idle (all_idle s new.going new.next l.running.now.log l.running.transaction none)
+      ∙ ap (λ (e : List Effect). entries (apply_all empty e)) l.running.says;
+  active = λ t going.
+      let a = active_here s new.going new.next l.running.now.log l.running.transaction t going in
+      is ∙ ap (λ (p : Page). p.body.entries) (here ∙ l.page)
+      ∙ (pages_show_effects l.running.now.log l.running.one_page).active t a.0 (s.running t).effect a.1
+      ∙ ap (λ (e : List Effect). entries (apply_all empty (e ++ (s.running t).effect ∷ []))) l.running.says;
 }
 
 -- a fact of a result that follows from another
 pub listed : {A E : Type 0} (r : Result A E) (P Q : A → Type 0) → IfOk r P → ((x : A) → P x → Q x) → IfOk r Q
 listed (Ok x) P Q h then = then x h
 listed (Err e) P Q h then = tt
+
+module _ {D : Type 0} (d : Ghosts D) (before : List Effect) (s : Shown) (old new : Engine D d) (life : IsLife d before s old) (leaves : LeavesOnly d old.disk new.disk (Allowed before s)) where
+  -- a look after which the engine works
+  pub look_kept : old.failed ≡ false → new.failed ≡ false → IsRunning d before s new → LookKept d before s old new
+  look_kept works works_on running = record {
+    after = subst (λ (b : Bool). IsLife d before (record s { failed = b }) new) (life.failed ∙ works ∙ sym works_on) (lives_on d before s new works_on (life.failed ∙ works) running);
+    stops = leaves;
+  }
+
+  -- one that was refused
+  pub look_refused : old.failed ≡ false → (fault : Fault) → IsOfWriter fault → (fault ≡ Memory → IsRunning d before s new) → new.failed ≡ breaks (number_of fault)
+      → ((t : ℕ) (c : Files) → t ≤ d.moment new.disk → d.may_leave new.disk c → d.left_since new.disk t c) → LookKept d before s old new
+  look_refused works fault of again fails counts_now = by of
+    where
+      broken : new.failed ≡ true → LookKept d before s old new
+      broken is = record {
+        after = record {
+          stops = λ c left. left_now d old.disk new.disk (Allowed before s) counts_now leaves (life.running works).stands.writing.stands.log_is.tells c left;
+          failed = refl;
+          running = λ on. let never : true ≡ false = sym is ∙ on in absurd (cc never);
+        };
+        stops = leaves;
+      }
+
+      by : IsOfWriter fault → LookKept d before s old new
+      by (inl is) = broken (fails ∙ ap (λ (f : Fault). breaks (number_of f)) is)
+      by (inr (inl is)) = look_kept works (fails ∙ ap (λ (f : Fault). breaks (number_of f)) is) (again is)
+      by (inr (inr (inl is))) = broken (fails ∙ ap (λ (f : Fault). breaks (number_of f)) is)
+      by (inr (inr (inr is))) = broken (fails ∙ ap (λ (f : Fault). breaks (number_of f)) is)

@@ -1,73 +1,69 @@
 -- An opening.
-use Rattle.std.proofs.Common.{◌≡◌, ◌≤◌, ◌^◌, inl, inr, ℕ, List, [], length, false, Option, None, refl, sym, ap, subst, ◌∙◌, append-nil}
-use Rattle.im_types.specs.declared.file_id.FileId.TheVariants.{Log, Pages}
+use Rattle.std.proofs.Common.{◌≡◌, inl, inr, ℕ, List, [], false, Option, None, refl, sym, ap, subst, ◌∙◌, append-nil, arith}
 use Rattle.im_types.specs.Changes.{Effect, seen}
 use Rattle.im_types.specs.Histories.{History}
 use Rattle.im_types.specs.Transactions.{committed}
 use Rattle.im_types.specs.Lives.{nothing_shown}
 use Rattle.im_types.proofs.Lives.{survives_none}
 use Rattle.im_disk.specs.declared.disk.Disk.{Ghosts}
-use Rattle.im_disk.specs.Disk.{Files, InFile, Stepped}
-use Rattle.im_disk.specs.Runs.{LeavesOnly, LeavesIn, ChangesOnly, IsSynced}
+use Rattle.im_disk.specs.Disk.{Files}
+use Rattle.im_disk.specs.Runs.{LeavesOnly, IsSynced}
 use Rattle.im_disk.proofs.Runs.{weakened}
-use Rattle.im_log.specs.Kept.{IsLogOf}
-use Rattle.im_log.specs.LogFile.{IsOpen, IsLog}
-use Rattle.im_log.specs.declared.log_file.LogFile.{LogFile}
-use Rattle.im_redo.specs.OnePage.{IsSettled, AreBelow}
-use Rattle.im_redo.specs.Kept.{Redone}
-use Rattle.im_redo.specs.declared.opened.Opened.{Opened}
-use Rattle.im_redo.proofs.Going.{settled_empty}
+use Rattle.im_restart.specs.Restart.{HasStore, MayRestart, IsLeftUndoing, IsRestarted}
+use Rattle.im_restart.specs.declared.restarted.Restarted.{Restarted}
+use Rattle.im_flush.specs.declared.page_writer.PageWriter.{PageWriter}
+use Rattle.im_flush.specs.PageWriter.{StandsAs}
+use Rattle.im_one_page.specs.OnePage.{first_base, one_page, AreBelow}
+use Rattle.im_one_page.specs.OneAtATime.{IsOnePageLog}
+use Rattle.im_one_page.proofs.Promises.{empty_log_is_idle, fresh_files_hold_the_empty_log, restarts_can_begin, restarts_carry_on, next_numbers_are_above}
 use Rattle.im_engine.specs.declared.engine.Engine.{Engine}
+use Rattle.im_engine.specs.declared.transaction.Transaction.{Transaction}
 use Rattle.im_engine.specs.Stands.{StandsFor, Allowed}
 use Rattle.im_engine.specs.Running.{IsTransaction, IsLife}
-use Rattle.im_engine.specs.declared.transaction.Transaction.{Transaction}
 use Rattle.im_engine.proofs.Running.{nothing_left, lives_on}
 
 -- the log that files with these effects have
 pub record StandsOn (before : List Effect) (files : Files) : Type 0 where
   pub all : History
-  pub log : IsLogOf 0 all (files Log)
-  pub settled : IsSettled all
+  pub has : HasStore first_base all files
+  pub log : IsOnePageLog all
   pub is : before ≡ seen (committed all)
-  pub bare : length (files Pages) ≡ 0
 
 pub stands_on : (before : List Effect) (files : Files) → StandsFor before files → StandsOn before files
-stands_on before files (inl new) = record { all = []; log = inl (new.unmade, refl); settled = settled_empty; is = new.none; bare = new.bare }
-stands_on before files (inr store) = record { all = store.log; log = inr store.has; settled = store.settled; is = store.is; bare = store.bare }
+stands_on before files (inl new) = record { all = []; has = fresh_files_hold_the_empty_log files (new.unmade, new.bare); log = empty_log_is_idle.0; is = new.none }
+stands_on before files (inr store) = record { all = store.log; has = store.has; log = store.one_page; is = store.is }
 
--- files with the same log stand for the same
-stands_back : (before : List Effect) (files c : Files) (l : StandsOn before files) → IsLogOf 0 l.all (c Log) → length (c Pages) ≡ 0 → StandsFor before c
-stands_back before files c l (inl x) bare = inl (record { unmade = x.0; bare = bare; none = l.is ∙ ap (λ (h : History). seen (committed h)) x.1 })
-stands_back before files c l (inr has) bare = inr (record { log = l.all; has = has; bare = bare; settled = l.settled; is = l.is })
+pub may_restart : (before : List Effect) (files : Files) (l : StandsOn before files) → MayRestart first_base one_page l.all files
+may_restart before files l = restarts_can_begin l.all files l.log l.has
 
-module _ {D : Type 0} (d : Ghosts D) (before : List Effect) (old : D) (synced : IsSynced d old) (l : StandsOn before (d.seen old)) where
+module _ {D : Type 0} (d : Ghosts D) (before : List Effect) (old : D) (stands : StandsFor before (d.seen old)) where
+  pub l : StandsOn before (d.seen old)
+  l = stands_on before (d.seen old) stands
+
   -- a stop within the opening
-  pub opening_stops : (new : D) → LeavesIn d Log old new (IsLogOf 0 l.all) → LeavesOnly d old new (Allowed before nothing_shown)
+  pub opening_stops : (new : D) → LeavesOnly d old new (IsLeftUndoing first_base one_page l.all) → LeavesOnly d old new (Allowed before nothing_shown)
   opening_stops new run =
-      weakened d old new (Stepped (InFile Log (λ _ bytes. IsLogOf 0 l.all bytes)) (d.may_leave old)) (Allowed before nothing_shown) run
-      (λ told c left. (
-        before,
-        survives_none before,
-        stands_back before (d.seen old) c l left.2.changed (ap length (left.2.others Pages (λ same. cc) ∙ synced Pages left.0 left.1) ∙ l.bare),
-      ))
+      weakened d old new (IsLeftUndoing first_base one_page l.all) (Allowed before nothing_shown) run
+      (λ told c is.
+      let on = restarts_carry_on l.all is.left l.log is.grown is.lawful in
+      (before, survives_none before, inr (record { log = is.left; has = is.has; one_page = on.log; is = l.is ∙ sym (ap seen on.committed) })))
 
   -- and one before its first device call
-  pub none_opened : ((c : Files) → d.left_since old (d.moment old) c → d.may_leave old c) → LeavesOnly d old old (Allowed before nothing_shown)
-  none_opened only_now =
-      nothing_left d old (Allowed before nothing_shown) only_now
-      (λ c left. (before, survives_none before, stands_back before (d.seen old) c l (subst (IsLogOf 0 l.all) (sym (synced Log c left)) l.log) (ap length (synced Pages c left) ∙ l.bare)))
+  pub none_opened : IsSynced d old → ((c : Files) → d.left_since old (d.moment old) c → d.may_leave old c) → LeavesOnly d old old (Allowed before nothing_shown)
+  none_opened synced only_now = nothing_left d before old (Allowed before nothing_shown) only_now (λ c left. (before, survives_none before, subst (λ (files : Files). StandsFor before files) (sym (λ j file. synced file c left j)) stands))
 
   -- the engine that it makes
-  pub engine_opened : (e : Engine D d) (opened : Opened) → Redone d l.all e.page.value opened e.disk → ChangesOnly d Log old e.disk → e.log ≡ opened.log → e.next ≡ opened.next → e.going ≡ None
-      → e.failed ≡ false → IsOpen d e.log e.disk → IsLife d before nothing_shown e
-  engine_opened e opened redone changes log next going works is_open = lives_on d before nothing_shown e works refl is_open (record {
-    all = l.all;
-    durable = l.all;
-    log = subst (λ (x : LogFile). IsLog d 0 l.all l.all x e.disk) (sym log) redone.log;
-    bare = λ c left. let was = changes.outcomes c left in ap length (was.2 Pages (λ same. cc) ∙ synced Pages was.0 was.1) ∙ l.bare;
-    page = redone.page_is;
-    settled = l.settled;
-    stands = sym l.is ∙ sym (append-nil before);
-    numbered = subst (λ (n : ℕ). n ≤ 2 ^ 62 → AreBelow n l.all) (sym next) redone.numbered;
-    transaction = subst (λ (g : Option Transaction). IsTransaction nothing_shown g e.next l.all l.all) (sym going) (refl, λ t. refl);
-  })
+  pub engine_opened : (e : Engine D d) (r : Restarted) → IsRestarted d first_base one_page l.all r e.disk → e.writer ≡ r.writer → e.next ≡ r.next → e.going ≡ None → e.failed ≡ false → IsLife d before nothing_shown e
+  engine_opened e r is writer next going works =
+      let on = restarts_carry_on l.all is.now.log l.log is.grown is.lawful in
+      lives_on d before nothing_shown e works refl (record {
+        now = is.now;
+        stands = subst (λ (w : PageWriter). StandsAs d first_base 0 is.now w e.disk) (sym writer) is.stands;
+        redo_end = is.redo_end;
+        over = is.over;
+        one_page = on.log;
+        says = ap seen on.committed ∙ sym l.is ∙ sym (append-nil before);
+        durable = ap committed is.durable;
+        numbered = λ le. on.below e.next e.first (subst (λ (n : ℕ). AreBelow n l.all) (sym next) (next_numbers_are_above r.next l.all is.next (omega (arith, le, next))));
+        transaction = subst (λ (g : Option Transaction). IsTransaction nothing_shown g e.next is.now.log) (sym going) (on.idle is.ended, λ t. refl);
+      })

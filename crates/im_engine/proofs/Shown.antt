@@ -1,5 +1,5 @@
 -- What steps and replies show.
-use Rattle.std.proofs.Common.{◌≡◌, ℕ, List, [], ◌∷◌, ◌++◌, Bool, true, false, refl, sym, ap, ◌∙◌, append-nil}
+use Rattle.std.proofs.Common.{◌≡◌, ◌≢◌, ℕ, List, [], ◌∷◌, ◌++◌, Bool, true, false, refl, sym, ap, ◌∙◌, append-nil}
 use Rattle.std.specs.Prelude.{◌||◌, Option, None, Some, is_some}
 use Rattle.im_types.specs.Changes.{Effect}
 use Rattle.im_types.specs.Lives.{Asked, Shown, Running, Survives, effects}
@@ -34,6 +34,11 @@ loses_last before asked x h = record { kept = asked; lost = x ∷ []; all = refl
 pub none_of : {A : Type 0} (o : Option A) → is_some o ≡ false → o ≡ None
 none_of None h = refl
 none_of (Some x) h = cc
+
+-- and where it has something
+pub some_of : {A : Type 0} (o : Option A) → is_some o ≡ true → o ≢ None
+some_of None h e = cc h
+some_of (Some x) h e = cc e
 
 pub some_inj : {A : Type 0} (other a b : A) → Some a ≡ Some b → a ≡ b
 some_inj other a b h = ap (λ (o : Option _). elim o as (λ _. _) [ None ↦ other | Some x ↦ x ]) h

@@ -1,21 +1,30 @@
 -- The checks of a step in their order, and the answer of a step that passes them.
-use Rattle.std.specs.Prelude.{◌≡◌, ◌≢◌, ◌⊎◌, ◌<◌, ◌≤◌, ◌+◌, ◌^◌, ℕ, Bool, true, false, not, List, Option, Some, None, is_some, if◌then◌else◌, length}
+use Rattle.std.specs.Prelude.{◌≡◌, ◌≢◌, ◌⊎◌, ◌↔◌, ◌<◌, ◌≤◌, ◌+◌, ◌^◌, ◌==◌, ◌||◌, ℕ, Bool, true, false, List, Option, Some, None, is_some, if◌then◌else◌, length}
 use Rattle.std.specs.FinMap.Entries.{find}
 use Rattle.im_types.specs.declared.fault.Fault.{Fault}
-use Rattle.im_types.specs.declared.fault.Fault.TheVariants.{NoTransaction, KeyLength, PagesFull, Capacity, LogFull, Device, Failed, TooMany}
+use Rattle.im_types.specs.declared.fault.Fault.TheVariants.{NoTransaction, KeyLength, PagesFull, Capacity, LogFull, Device, Memory, Failed, NotAStore, TooMany}
 use Rattle.im_types.specs.declared.step.Step as steps
-use Rattle.im_types.specs.declared.step.Step.TheVariants.{Begin, Fetch, Insert, Delete, Commit}
+use Rattle.im_types.specs.declared.step.Step.TheVariants.{Begin, Fetch, Insert, Delete, Commit, FlushPage, Force}
+use Rattle.im_types.specs.declared.reply.Reply as said
+use Rattle.im_types.specs.declared.reply.Reply.TheVariants.{Found, Absent, Inserted, Duplicate, Deleted, Refused}
+use Rattle.im_types.specs.Steps.{told_by}
 use Rattle.im_types.specs.Keys.{Key, key_order}
 use Rattle.im_types.specs.Pages.{Entry}
 use Rattle.im_types.specs.Answers as replies
-use Rattle.im_types.specs.Lives.{breaks}
+use Rattle.im_types.specs.Changes.{Effect}
+use Rattle.im_types.specs.Histories.{page_at}
+use Rattle.im_types.specs.Refusals.{no_transaction, key_length, failed, too_many}
+use Rattle.im_types.specs.Lives.{Shown}
 use Rattle.im_disk.specs.declared.disk.Disk.{Ghosts}
-use Rattle.im_log.specs.LogFile.{end_with}
 use Rattle.im_log.specs.declared.log_file.LogFile.{LogFile}
+use Rattle.im_log.specs.LogFile.{HasNoRoom, end_with}
+use Rattle.im_pool.specs.Pool as pools
 use Rattle.im_page.specs.Entry.{taken, size}
+use Rattle.im_one_page.specs.OnePage.{first_base}
 use Rattle.im_engine.specs.declared.engine.Engine.{Engine}
 use Rattle.im_engine.specs.declared.transaction.Transaction.{Transaction}
 use Rattle.im_engine.specs.Changes.{IsIdle}
+use Rattle.im_engine.specs.Running.{IsRunning}
 
 -- One thing where this holds, and the other where it does not.
 abbrev pub Where : Type 0 → Type 0 → Type 0 → Type 0
@@ -29,53 +38,92 @@ IsNoKey key = (length key ≡ 0) ⊎ (255 < length key)
 abbrev pub LacksRoom : List Entry → Key → Type 0
 LacksRoom entries key = 4064 < taken true entries + size true (key, 0) + 2
 
--- a record of so many bytes does not fit the buffer with a Commit behind it, or would end above LSN 2^62
-abbrev pub LacksLog : LogFile → ℕ → Type 0
-LacksLog log bytes = (16384 < log.used + bytes + 33) ⊎ (2 ^ 62 < end_with log bytes)
-
 -- the active transaction has records
 abbrev pub HasLogged : Option Transaction → Type 0
 HasLogged None = ⊥
 HasLogged (Some t) = 1 ≤ t.last
 
-module _ {D : Type 0} (d : Ghosts D) (e : Engine D d) (fault : Fault) where
+-- the refusals that come of the log, the disk, memory or the bytes of a page
+abbrev pub is_late : said.Reply → Bool
+is_late (Refused LogFull) = true
+is_late (Refused Device) = true
+is_late (Refused Memory) = true
+is_late (Refused NotAStore) = true
+is_late _ = false
+
+-- the replies for which page 1 was read
+abbrev pub has_read : said.Reply → Bool
+has_read (Found rid) = true
+has_read Absent = true
+has_read Inserted = true
+has_read Duplicate = true
+has_read Deleted = true
+has_read (Refused PagesFull) = true
+has_read _ = false
+
+-- those of them that leave it as it is
+abbrev pub has_kept : said.Reply → Bool
+has_kept (Found rid) = true
+has_kept Absent = true
+has_kept Duplicate = true
+has_kept (Refused PagesFull) = true
+has_kept _ = false
+
+module _ {D : Type 0} (d : Ghosts D) (log : LogFile) (disk : D) where
+  -- why such a refusal comes, by the log and the disk that it left
+  abbrev pub HasCause : Fault → Type 0
+  HasCause Device = d.failed disk ≡ true
+  HasCause LogFull = HasNoRoom log
+  HasCause Memory = Unit {0}
+  HasCause NotAStore = Unit {0}
+  HasCause _ = ⊥
+
+  -- The reply is refused so, for its cause.
+  abbrev pub IsLate : said.Reply → Fault → Type 0
+  IsLate reply fault = (reply ≡ Refused fault) × HasCause fault
+
+module _ {D : Type 0} (d : Ghosts D) (old : Engine D d) (fault : Fault) where
   -- The fault that answers a step of this transaction, where what follows says which later check fails.
   abbrev pub OfOwn : ℕ → Type 0 → Type 0
-  OfOwn number later = Where (e.failed ≡ true) (fault ≡ Failed) (Where (IsIdle number e.going) (fault ≡ NoTransaction) later)
+  OfOwn number later = Where (old.failed ≡ true) (fault ≡ Failed) (Where (IsIdle number old.going) (fault ≡ NoTransaction) later)
 
   -- of one with this key
   abbrev pub OfAccess : ℕ → Key → Type 0 → Type 0
   OfAccess number key later = OfOwn number (Where (IsNoKey key) (fault ≡ KeyLength) later)
 
-  -- of a change by this key, which the entries allow: its record takes 42 bytes beside the key
-  abbrev pub OfChange : Key → Type 0
-  OfChange key = Where (LacksLog e.log (42 + length key)) (fault ≡ LogFull) ⊥
-
   abbrev pub OfBegin : Type 0
-  OfBegin = Where (e.failed ≡ true) (fault ≡ Failed) (Where (e.going ≢ None) (fault ≡ TooMany) (Where (2 ^ 62 < e.next) (fault ≡ Capacity) ⊥))
+  OfBegin = Where (old.failed ≡ true) (fault ≡ Failed) (Where (old.going ≢ None) (fault ≡ TooMany) (Where (2 ^ 62 < old.next) (fault ≡ Capacity) ⊥))
 
+module _ {D : Type 0} (d : Ghosts D) (old new : Engine D d) (reply : said.Reply) (fault : Fault) where
   abbrev pub OfFetch : ℕ → Key → Type 0
-  OfFetch number key = OfAccess number key ⊥
+  OfFetch number key = OfAccess d old fault number key (IsLate d new.writer.log new.disk reply fault)
 
   -- a key that is there is a Duplicate, and no refusal
-  abbrev pub OfInsert : ℕ → Key → Type 0
-  OfInsert number key = OfAccess number key (Where (find key_order key e.page.value.body.entries ≢ None) ⊥ (Where (LacksRoom e.page.value.body.entries key) (fault ≡ PagesFull) (OfChange key)))
+  abbrev pub OfInsert : ℕ → Key → List Entry → Type 0
+  OfInsert number key entries = OfAccess d old fault number key (Where (is_late reply ≡ true) (IsLate d new.writer.log new.disk reply fault)
+      (Where (find key_order key entries ≢ None) ⊥ (Where (LacksRoom entries key) (fault ≡ PagesFull) ⊥)))
 
   -- a key that is not there is Absent, and no refusal
   abbrev pub OfDelete : ℕ → Key → Type 0
-  OfDelete number key = OfAccess number key (Where (find key_order key e.page.value.body.entries ≡ None) ⊥ (OfChange key))
+  OfDelete number key = OfAccess d old fault number key (IsLate d new.writer.log new.disk reply fault)
 
-  -- a transaction without records makes no call; behind its records there is always room for a Commit in the buffer
-  abbrev pub OfCommit : ℕ → D → Type 0
-  OfCommit number disk = OfOwn number (Where (HasLogged e.going) (Where (2 ^ 62 < end_with e.log 33) (fault ≡ LogFull) (Where (d.failed disk ≡ true) (fault ≡ Device) ⊥)) ⊥)
+  -- a transaction without records makes no call; the record of a Commit takes 33 bytes
+  abbrev pub OfCommit : ℕ → Type 0
+  OfCommit number = OfOwn d old fault number (Where (HasLogged old.going) (Where (2 ^ 62 < end_with old.writer.log 33) (fault ≡ LogFull) (Where (d.failed new.disk ≡ true) (fault ≡ Device) ⊥)) ⊥)
 
-  -- The fault that refuses a step of this engine, which leaves this disk: that of the first check that the step fails.
-  abbrev pub Refuses : steps.Step → D → Type 0
-  Refuses Begin disk = OfBegin
-  Refuses (Fetch t key) disk = OfFetch t key.items
-  Refuses (Insert t key rid) disk = OfInsert t key.items
-  Refuses (Delete t key) disk = OfDelete t key.items
-  Refuses (Commit t) disk = OfCommit t disk
+  -- a call for the log or a page
+  abbrev pub OfCall : Type 0
+  OfCall = Where (old.failed ≡ true) (fault ≡ Failed) (IsLate d new.writer.log new.disk reply fault)
+
+  -- The fault that refuses a step of this engine, where page 1 has these entries: that of the first check that the step fails.
+  abbrev pub Refuses : steps.Step → List Entry → Type 0
+  Refuses Begin entries = OfBegin d old fault
+  Refuses (Fetch t key) entries = OfFetch t key.items
+  Refuses (Insert t key rid) entries = OfInsert t key.items entries
+  Refuses (Delete t key) entries = OfDelete t key.items
+  Refuses (Commit t) entries = OfCommit t
+  Refuses (FlushPage page) entries = OfCall
+  Refuses Force entries = OfCall
 
 -- A reply that is no refusal is this one.
 abbrev pub IsUnlessRefused : replies.Reply → replies.Reply → Type 0
@@ -89,13 +137,30 @@ answer_to (Fetch t key) next entries = replies.found (find key_order key.items e
 answer_to (Insert t key rid) next entries = if is_some (find key_order key.items entries) then replies.Duplicate else replies.Inserted
 answer_to (Delete t key) next entries = if is_some (find key_order key.items entries) then replies.Deleted else replies.Absent
 answer_to (Commit t) next entries = replies.Committed
+answer_to (FlushPage page) next entries = replies.Done
+answer_to Force next entries = replies.Done
 
--- Such a reply leaves all as it was: what was found, and a refusal that does not break the engine.
+module _ {D : Type 0} (d : Ghosts D) where
+  -- These are the entries of page 1 that a step was answered on: the pool has them, where the step left them as they were, and in a
+  -- sound store the log's records have made them.
+  pub record IsRead (reply : said.Reply) (old new : Engine D d) (entries : List Entry) : Type 0 where
+    pub shown : has_kept reply ≡ true → entries ≡ (pools.page_at new.writer.pool 1).body.entries
+    pub logged : has_read reply ≡ true → (before : List Effect) (s : Shown) (r : IsRunning d before s old) → entries ≡ (page_at first_base r.now.log 1).body.entries
+
+  -- A step that was answered: it is refused exactly where one of its checks says so, and else has its answer.
+  pub record IsAnswered (reply : said.Reply) (old new : Engine D d) (of : List Entry → Fault → Type 0) (answer : List Entry → replies.Reply) : Type 0 where
+    pub entries : List Entry
+    pub read : IsRead reply old new entries
+    pub refused : (fault : Fault) → (reply ≡ Refused fault) ↔ of entries fault
+    pub answers : IsUnlessRefused (told_by reply) (answer entries)
+
+  -- a step of this kind: it is refused exactly by the first check that it fails
+  abbrev pub AnswersStep : steps.Step → said.Reply → Engine D d → Engine D d → Type 0
+  AnswersStep step reply old new = IsAnswered reply old new (λ entries fault. Refuses d old new reply fault step entries) (λ entries. answer_to step old.next entries)
+
+-- The refusals before any page is read leave all as it was.
 abbrev pub changes_nothing : replies.Reply → Bool
-changes_nothing (replies.Found rid) = true
-changes_nothing replies.Absent = true
-changes_nothing replies.Duplicate = true
-changes_nothing (replies.Refused n) = not (breaks n)
+changes_nothing (replies.Refused n) = n == failed || n == no_transaction || n == key_length || n == too_many
 changes_nothing _ = false
 
 -- The number of the active transaction.
@@ -114,7 +179,9 @@ abbrev pub next_after : replies.Reply → ℕ → ℕ
 next_after (replies.Started n) next = next + 1
 next_after _ next = next
 
--- Only a Commit of a transaction that has records makes device calls.
-abbrev pub CallsDevice : steps.Step → Option Transaction → Type 0
-CallsDevice (Commit t) going = HasLogged going
-CallsDevice _ going = ⊥
+-- Steps that make no device call: a Begin, a Commit of a transaction that has no records, the flush of a page that was not changed.
+abbrev pub CallsDevice : {D : Type 0} (d : Ghosts D) → steps.Step → Engine D d → Type 0
+CallsDevice d Begin e = ⊥
+CallsDevice d (Commit t) e = HasLogged e.going
+CallsDevice d (FlushPage page) e = pools.is_changed e.writer.pool page ≡ true
+CallsDevice d _ e = Unit {0}

@@ -2,6 +2,5 @@ pub mod Stands
 pub mod Running
 pub mod Kept
 pub mod Changes
-pub mod Answers
 pub mod Checks
 pub mod Turns

@@ -7,8 +7,9 @@ use Rattle.im_types.specs.Transactions.{committed}
 use Rattle.im_types.specs.Lives.{Shown, StandsForMore}
 use Rattle.im_disk.specs.Disk.{Files}
 use Rattle.im_gate.specs.Header.{IsUnmade}
-use Rattle.im_log.specs.Kept.{HasLog}
-use Rattle.im_redo.specs.OnePage.{IsSettled}
+use Rattle.im_restart.specs.Restart.{HasStore}
+use Rattle.im_one_page.specs.OnePage.{first_base}
+use Rattle.im_one_page.specs.OneAtATime.{IsOnePageLog}
 
 -- No store was made yet, and no effect is there.
 pub record IsNew (effects : List Effect) (files : Files) : Type 0 where
@@ -16,12 +17,11 @@ pub record IsNew (effects : List Effect) (files : Files) : Type 0 where
   pub bare : length (files Pages) ≡ 0
   pub none : effects ≡ []
 
--- A store: its log has these effects, one transaction after another, each with its Commit. No page was written.
+-- A store: its log covers the pages, and these effects have their Commits in it, in this order.
 pub record IsStore (effects : List Effect) (files : Files) : Type 0 where
   pub log : History
-  pub has : HasLog 0 log (files Log)
-  pub bare : length (files Pages) ≡ 0
-  pub settled : IsSettled log
+  pub has : HasStore first_base log files
+  pub one_page : IsOnePageLog log
   pub is : effects ≡ seen (committed log)
 
 -- The files stand for these effects, in the order of their Commits.

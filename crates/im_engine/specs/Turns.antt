@@ -1,6 +1,5 @@
 -- Steps in turn, on any bytes.
-use Rattle.std.specs.Prelude.{◌≡◌, ◌↔◌, ◌||◌, List, [], ◌∷◌, true}
-use Rattle.im_types.specs.declared.fault.Fault.{Fault}
+use Rattle.std.specs.Prelude.{◌≡◌, ◌||◌, List, [], ◌∷◌, true}
 use Rattle.im_types.specs.declared.fault.Fault.TheVariants.{Failed}
 use Rattle.im_types.specs.declared.step.Step.{Step}
 use Rattle.im_types.specs.declared.reply.Reply.{Reply}
@@ -9,13 +8,12 @@ use Rattle.im_types.specs.Steps.{told_by}
 use Rattle.im_disk.specs.declared.disk.Disk.{Ghosts}
 use Rattle.im_engine.specs.declared.engine.Engine.{Engine}
 use Rattle.im_engine.specs.Changes.{is_breaking}
-use Rattle.im_engine.specs.Checks.{Refuses, IsUnlessRefused, answer_to, changes_nothing, active_number, active_after, next_after}
+use Rattle.im_engine.specs.Checks.{AnswersStep, changes_nothing, active_number, active_after, next_after}
 
 module _ {D : Type 0} (d : Ghosts D) where
-  -- A step that was answered: it is refused exactly by the first check that it fails, and else has its answer.
+  -- A step that was made.
   pub record IsStep (step : Step) (reply : Reply) (old new : Engine D d) : Type 0 where
-    pub refused : (fault : Fault) → (reply ≡ Refused fault) ↔ Refuses d old fault step new.disk
-    pub answers : IsUnlessRefused (told_by reply) (answer_to step old.next old.page.value.body.entries)
+    pub answered : AnswersStep d step reply old new
     pub same : changes_nothing (told_by reply) ≡ true → new ≡ old
     pub failed : old.failed ≡ true → (reply ≡ Refused Failed) × (new ≡ old)
     pub fails : new.failed ≡ (old.failed || is_breaking (told_by reply))

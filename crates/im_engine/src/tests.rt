@@ -34,8 +34,8 @@ fn stop_at(alloc: Global, call: u64, fill: u8) -> Result<Stop, Fault> {
     })
 }
 
-// The first byte of the one key, and its row id; zeros where there are no entries.
-fn found<D: Disk>(alloc: Global, engine: &Engine<D>) -> Result<(usize, u8, u64), Fault> {
+// How many entries there are, the first byte of the first key, and its row id; zeros where there are none.
+fn found<D: Disk>(alloc: Global, engine: &mut Engine<D>) -> Result<(usize, u8, u64), Fault> {
     let entries = engine.entries(alloc)?;
     match entries.get(0) {
         None => Ok((entries.len(), 0, 0)),
@@ -51,8 +51,8 @@ fn after_stop(alloc: Global, call: u64, fill: u8) -> Result<(usize, u8, u64), Fa
     let mut engine = Engine::open_or_create(alloc, disk, Config::default()).map_err(|x| x.0)?;
     let _ = engine.life(alloc, &steps)?;
     let left = engine.disk().after_stop(alloc)?;
-    let next = Engine::open_or_create(alloc, left, Config::default()).map_err(|x| x.0)?;
-    found(alloc, &next)
+    let mut next = Engine::open_or_create(alloc, left, Config::default()).map_err(|x| x.0)?;
+    found(alloc, &mut next)
 }
 
 #[test]
@@ -67,7 +67,7 @@ fn one_insert_is_committed(rt: HostRuntime) -> Result<(), Fail> {
         replies.as_slice(),
         [Reply::Started(1), Reply::Inserted, Reply::Committed].as_slice()
     );
-    assert_eq!(rt; found(alloc, &engine)?, (1, b'a', 7));
+    assert_eq!(rt; found(alloc, &mut engine)?, (1, b'a', 7));
     assert_eq!(rt; engine.active(), 0);
     let disk = engine.into_disk();
     assert_eq!(rt; disk.calls(), 10);
@@ -106,36 +106,125 @@ fn a_torn_batch_is_overwritten(rt: HostRuntime) -> Result<(), Fail> {
     let mut next = Engine::open_or_create(alloc, left, Config::default()).map_err(|x| x.0)?;
     let _ = next.life(alloc, &steps)?;
     assert_eq!(rt; next.disk().calls(), 4);
-    assert_eq!(rt; found(alloc, &next)?, (1, b'b', 1));
+    assert_eq!(rt; found(alloc, &mut next)?, (1, b'b', 1));
     Ok(())
+}
+
+// The steps of one transaction that is answered in each way, but for want of room.
+fn every_answer(alloc: Global) -> Result<Vec<Step>, Fault> {
+    let mut steps = Vec::new(alloc);
+    steps.push(Step::Begin).map_err(|_| Fault::Memory)?;
+    steps.push(Step::Begin).map_err(|_| Fault::Memory)?;
+    steps
+        .push(Step::Insert(1, Vec::new(alloc), 1))
+        .map_err(|_| Fault::Memory)?;
+    steps
+        .push(Step::Insert(1, key_of(alloc, b'a')?, 1))
+        .map_err(|_| Fault::Memory)?;
+    steps
+        .push(Step::Insert(1, key_of(alloc, b'a')?, 1))
+        .map_err(|_| Fault::Memory)?;
+    steps
+        .push(Step::Fetch(1, key_of(alloc, b'a')?))
+        .map_err(|_| Fault::Memory)?;
+    steps
+        .push(Step::Delete(1, key_of(alloc, b'a')?))
+        .map_err(|_| Fault::Memory)?;
+    steps
+        .push(Step::Delete(1, key_of(alloc, b'a')?))
+        .map_err(|_| Fault::Memory)?;
+    steps
+        .push(Step::Fetch(1, key_of(alloc, b'a')?))
+        .map_err(|_| Fault::Memory)?;
+    steps.push(Step::Commit(2)).map_err(|_| Fault::Memory)?;
+    steps.push(Step::Commit(1)).map_err(|_| Fault::Memory)?;
+    Ok(steps)
 }
 
 #[test]
 fn each_step_is_answered(rt: HostRuntime) -> Result<(), Fail> {
     let alloc = rt.alloc();
     let disk = ModelDisk::new(Vec::new(alloc), Vec::new(alloc));
+    let steps = every_answer(alloc)?;
     let mut engine = Engine::open_or_create(alloc, disk, Config::default()).map_err(|x| x.0)?;
-    assert_eq!(rt; engine.step(&Step::Begin), Reply::Started(1));
-    assert_eq!(rt; engine.step(&Step::Begin), Reply::Refused(Fault::TooMany));
+    let replies = engine.life(alloc, &steps)?;
     assert_eq!(rt;
-        engine.step(&Step::Insert(1, Vec::new(alloc), 1)),
-        Reply::Refused(Fault::KeyLength)
+        replies.as_slice(),
+        [
+            Reply::Started(1),
+            Reply::Refused(Fault::TooMany),
+            Reply::Refused(Fault::KeyLength),
+            Reply::Inserted,
+            Reply::Duplicate,
+            Reply::Found(1),
+            Reply::Deleted,
+            Reply::Absent,
+            Reply::Absent,
+            Reply::Refused(Fault::NoTransaction),
+            Reply::Committed
+        ]
+        .as_slice()
     );
-    let insert = Step::Insert(1, key_of(alloc, b'a')?, 1);
-    let delete = Step::Delete(1, key_of(alloc, b'a')?);
-    let fetch = Step::Fetch(1, key_of(alloc, b'a')?);
-    assert_eq!(rt; engine.step(&insert), Reply::Inserted);
-    assert_eq!(rt; engine.step(&insert), Reply::Duplicate);
-    assert_eq!(rt; engine.step(&fetch), Reply::Found(1));
-    assert_eq!(rt; engine.step(&delete), Reply::Deleted);
-    assert_eq!(rt; engine.step(&delete), Reply::Absent);
-    assert_eq!(rt; engine.step(&fetch), Reply::Absent);
-    assert_eq!(rt;
-        engine.step(&Step::Commit(2)),
-        Reply::Refused(Fault::NoTransaction)
-    );
-    assert_eq!(rt; engine.active(), 1);
-    assert_eq!(rt; engine.step(&Step::Commit(1)), Reply::Committed);
     assert_eq!(rt; engine.disk().calls(), 10);
+    Ok(())
+}
+
+// A commit of one key, and behind it an insert of another that is not committed, with this step at the end.
+fn half_done(alloc: Global, last: Step) -> Result<Vec<Step>, Fault> {
+    let mut steps = one_insert(alloc, b'a', 7)?;
+    steps.push(Step::Begin).map_err(|_| Fault::Memory)?;
+    steps
+        .push(Step::Insert(2, key_of(alloc, b'x')?, 9))
+        .map_err(|_| Fault::Memory)?;
+    steps.push(last).map_err(|_| Fault::Memory)?;
+    Ok(steps)
+}
+
+#[test]
+fn a_torn_page_is_taken_from_its_image(rt: HostRuntime) -> Result<(), Fail> {
+    let alloc = rt.alloc();
+    let mut disk = ModelDisk::new(Vec::new(alloc), Vec::new(alloc));
+    disk.arm(stop_at(alloc, 16, 0xFF)?);
+    let steps = half_done(alloc, Step::FlushPage(1))?;
+    let mut engine = Engine::open_or_create(alloc, disk, Config::default()).map_err(|x| x.0)?;
+    let replies = engine.life(alloc, &steps)?;
+    assert_eq!(rt;
+        replies.get(5).copied(),
+        Some(Reply::Refused(Fault::Device))
+    );
+    let left = engine.disk().after_stop(alloc)?;
+    let mut next = Engine::open_or_create(alloc, left, Config::default()).map_err(|x| x.0)?;
+    assert_eq!(rt; found(alloc, &mut next)?, (1, b'a', 7));
+    Ok(())
+}
+
+#[test]
+fn what_was_forced_and_not_committed_is_taken_back(rt: HostRuntime) -> Result<(), Fail> {
+    let alloc = rt.alloc();
+    let disk = ModelDisk::new(Vec::new(alloc), Vec::new(alloc));
+    let steps = half_done(alloc, Step::Force)?;
+    let mut engine = Engine::open_or_create(alloc, disk, Config::default()).map_err(|x| x.0)?;
+    let replies = engine.life(alloc, &steps)?;
+    assert_eq!(rt; replies.get(5).copied(), Some(Reply::Done));
+    assert_eq!(rt; engine.disk().calls(), 14);
+    let left = engine.disk().after_stop(alloc)?;
+    let mut next = Engine::open_or_create(alloc, left, Config::default()).map_err(|x| x.0)?;
+    assert_eq!(rt; found(alloc, &mut next)?, (1, b'a', 7));
+    assert_eq!(rt; next.step(&Step::Begin), Reply::Started(3));
+    Ok(())
+}
+
+#[test]
+fn a_flush_writes_a_changed_page_once(rt: HostRuntime) -> Result<(), Fail> {
+    let alloc = rt.alloc();
+    let disk = ModelDisk::new(Vec::new(alloc), Vec::new(alloc));
+    let steps = half_done(alloc, Step::FlushPage(1))?;
+    let mut engine = Engine::open_or_create(alloc, disk, Config::default()).map_err(|x| x.0)?;
+    let _ = engine.life(alloc, &steps)?;
+    assert_eq!(rt; engine.disk().calls(), 16);
+    assert_eq!(rt; engine.step(&Step::FlushPage(1)), Reply::Done);
+    assert_eq!(rt; engine.disk().calls(), 16);
+    let header = engine.header(1)?;
+    assert_eq!(rt; header.count, 2);
     Ok(())
 }

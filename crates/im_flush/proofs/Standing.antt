@@ -1,10 +1,7 @@
 -- How a writer of pages stands behind each of its calls, and what a stop within one leaves.
-use Rattle.std.proofs.Common.{◌≡◌, inl, inr, ⊎_elim, ℕ, ◌*◌, ◌≤◌, false, true, Bool, List, length, Option, None, Some, refl, sym, ◌∙◌, ap, subst}
-use Rattle.std.proofs.lemmas.Bool.{cases_Bool, cases_eq, cond-false, cond-true, eq-eqb, ne_eqb}
-use Rattle.std.specs.Prelude.{◌==◌}
-use Rattle.std.specs.Option.{is_some}
+use Rattle.std.proofs.Common.{◌≡◌, inl, inr, ⊎_elim, ℕ, ◌*◌, ◌≤◌, false, true, List, length, Option, None, Some, refl, sym, ◌∙◌, ap, subst}
+use Rattle.std.proofs.lemmas.Bool.{cases_Bool, cases_eq, cond-false}
 use Rattle.im_types.specs.declared.file_id.FileId.TheVariants.{Log, Pages}
-use Rattle.im_types.specs.Pages.{Page}
 use Rattle.im_types.specs.Histories.{Base, History, IsFront}
 use Rattle.im_types.specs.Writer.{DirtyEntry, PageState, Writer, IsWritten, WriterKept}
 use Rattle.im_types.specs.WriterSteps.{MayWrite, entry_since, forced, only, synced_entry, synced_page, written, written_entry, written_page}
@@ -26,7 +23,7 @@ use Rattle.im_page.specs.PageFile.{file_page}
 use Rattle.im_flush.specs.declared.table_entry.TableEntry.{TableEntry}
 use Rattle.im_flush.specs.DirtyTable.{entry_in, has_room, put, written_in, ChangesEntry}
 use Rattle.im_flush.specs.PageFile.{KeepsSynced}
-use Rattle.im_flush.specs.Stands.{IsTied, HasEntries, IsPool, is_changed, unchanged, IsCovered, LeavesCovered, Stands, MayWritePage, Synced, Run}
+use Rattle.im_flush.specs.Stands.{IsTied, HasEntries, IsCovered, LeavesCovered, Stands, MayWritePage, Synced, Run}
 use Rattle.im_flush.proofs.Tables.{room_found}
 use Rattle.im_flush.proofs.PageFiles.{only_here, only_other, page_file_spared, page_file_synced, page_file_torn, page_file_written}
 
@@ -94,37 +91,6 @@ tied_synced pages old new is tied p = is p ∙ elim (tied p) [
     gone : (o : Option DirtyEntry) → IsWritten o → synced_entry o ≡ None
     gone None done = refl
     gone (Some e) done = ap entry_since done
-
--- ---- the pool
-
--- behind a write the page has nothing left to be written
-pub pool_written : (page : ℕ → Page) (changed : ℕ → Bool) (pages : ℕ → PageState) (p l : ℕ) → IsPool page changed pages → IsPool page (unchanged p changed) (only p (written_page l) pages)
-pool_written page changed pages p l is = record {
-  shows = λ q. is.shows q ∙ elim (cases_eq p q) [
-    | inl here ↦ ap (λ (x : PageState). x.page) (sym (only_here (written_page l) pages p q here))
-    | inr other ↦ ap (λ (x : PageState). x.page) (sym (only_other (written_page l) pages p q other))
-  ];
-  knows = λ q. elim (cases_eq p q) [
-    | inl here ↦ cond-true (p == q) false (changed q) (eq-eqb p q here) ∙ sym (written_is (pages q).entry) ∙ ap (λ (x : PageState). is_changed x.entry) (sym (only_here (written_page l) pages p q here))
-    | inr other ↦ cond-false (p == q) false (changed q) (ne_eqb p q other) ∙ is.knows q ∙ ap (λ (x : PageState). is_changed x.entry) (sym (only_other (written_page l) pages p q other))
-  ];
-}
-  where
-    written_is : (o : Option DirtyEntry) → is_changed (Some (written_entry l o)) ≡ false
-    written_is None = refl
-    written_is (Some e) = refl
-
--- a sync changes no page
-pub pool_synced : (page : ℕ → Page) (changed : ℕ → Bool) (pages : ℕ → PageState) → IsPool page changed pages → IsPool page changed (λ q. synced_page (pages q))
-pool_synced page changed pages is = record { shows = is.shows; knows = λ q. is.knows q ∙ same (pages q).entry }
-  where
-    of_since : (o : Option ℕ) → is_some o ≡ is_changed (entry_since o)
-    of_since None = refl
-    of_since (Some l) = refl
-
-    same : (o : Option DirtyEntry) → is_changed o ≡ is_changed (synced_entry o)
-    same None = refl
-    same (Some e) = of_since e.since
 
 -- ---- the log's file
 

@@ -33,7 +33,7 @@ rising_le (x ∷ xs) (suc i) (suc j) d e up le within = rising_le xs i j d e (ta
 
 -- ---- as a function of the page
 
-not_below : (n : ℕ) (xs : List TableEntry) (p : ℕ) → IsAbove n xs → p ≤ n → entry_in xs p ≡ None
+pub not_below : (n : ℕ) (xs : List TableEntry) (p : ℕ) → IsAbove n xs → p ≤ n → entry_in xs p ≡ None
 not_below n [] p up le = refl
 not_below n (x ∷ xs) p up le =
     let here : n < x.page = up.0 in

@@ -1,11 +1,10 @@
 -- An Image of a page joins the log.
-use Rattle.std.specs.Prelude.{◌≡◌, ◌≢◌, ◌≤◌, ℕ, false, List, [], ◌∷◌, ◌++◌, Option, None, Some, Result, IfOk}
+use Rattle.std.specs.Prelude.{◌≡◌, ◌≢◌, ℕ, false, List, [], ◌∷◌, Option, None, Some, Result, IfOk}
 use Rattle.im_types.specs.declared.fault.Fault.{Fault}
 use Rattle.im_types.specs.Pages.{Page}
 use Rattle.im_types.specs.Records.{Image, Logged}
 use Rattle.im_types.specs.Histories.{Base, History, IsFront}
-use Rattle.im_types.specs.RedoPoints.{redo_point}
-use Rattle.im_types.specs.Writer.{DirtyEntry, PageState, Writer}
+use Rattle.im_types.specs.Writer.{PageState, Writer}
 use Rattle.im_types.specs.WriterSteps.{passed}
 use Rattle.im_disk.specs.declared.disk.Disk.{Ghosts}
 use Rattle.im_log.specs.declared.log_file.LogFile.{LogFile}
@@ -31,14 +30,6 @@ pub record MayImage (s : Writer) (p : ℕ) (bytes : List ℕ) : Type 0 where
   pub ready : (s.pages p).waits ≡ false
   pub page : page_of bytes ≡ Some (s.pages p).page
   pub begun : s.redo_end ≡ None → s.log ≢ []
-
--- The log has an Image of the page as the pool shows it, no earlier than its rec_lsn and the redo point.
-pub record HasImage (s : Writer) (p lsn : ℕ) : Type 0 where
-  pub newer : History
-  pub older : History
-  pub is : newer ++ image_at lsn p (s.pages p).page ∷ older ≡ s.log
-  pub point : redo_point s.log ≤ lsn
-  pub entry : (e : DirtyEntry) → (s.pages p).entry ≡ Some e → e.rec_lsn ≤ lsn
 
 module _ {D : Type 0} (d : Ghosts D) (b : Base) (base : ℕ) where
   -- The Image joined the log, of which more may be durable than before.

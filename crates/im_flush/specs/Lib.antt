@@ -2,3 +2,11 @@ pub mod DirtyTable
 pub mod PageFile
 pub mod Stands
 pub mod Images
+pub mod Growth
+pub mod Writing
+pub mod PageWriter
+pub mod LeafChange
+pub mod LoggedChange
+pub mod PageCopy
+pub mod StructureChange
+pub mod Redoing

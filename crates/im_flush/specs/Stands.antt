@@ -1,9 +1,8 @@
 -- How a writer of pages stands over its log, its dirty table and a disk, and what each of its calls keeps.
-use Rattle.std.specs.Prelude.{◌≡◌, ◌⊎◌, ℕ, Bool, false, true, if◌then◌else◌, ◌==◌, List, Option, None, Some, Result, IfOk, OnOk}
+use Rattle.std.specs.Prelude.{◌≡◌, ◌⊎◌, ℕ, Bool, false, true, List, Option, None, Some, Result, IfOk, OnOk}
 use Rattle.std.specs.Option.{is_some}
 use Rattle.im_types.specs.declared.fault.Fault.{Fault}
 use Rattle.im_types.specs.declared.file_id.FileId.TheVariants.{Log, Pages}
-use Rattle.im_types.specs.Pages.{Page}
 use Rattle.im_types.specs.Histories.{Base, History, IsFront}
 use Rattle.im_types.specs.RedoPoints.{Covers}
 use Rattle.im_types.specs.Writer.{DirtyEntry, PageState, Writer, IsWritten, WriterKept}
@@ -36,15 +35,6 @@ HasEntries table pages = (p : ℕ) → entry_in table p ≡ (pages p).entry
 abbrev pub is_changed : Option DirtyEntry → Bool
 is_changed None = false
 is_changed (Some e) = is_some e.since
-
--- The pool shows each page, and knows which were changed since their last write.
-pub record IsPool (page : ℕ → Page) (changed : ℕ → Bool) (pages : ℕ → PageState) : Type 0 where
-  pub shows : (p : ℕ) → page p ≡ (pages p).page
-  pub knows : (p : ℕ) → changed p ≡ is_changed (pages p).entry
-
--- one page is changed no more
-abbrev pub unchanged : ℕ → (ℕ → Bool) → ℕ → Bool
-unchanged p changed q = if p == q then false else changed q
 
 -- ---- the whole
 

@@ -54,6 +54,13 @@ impl DirtyTable {
         self.entries.len() == MOST
     }
 
+    /// The pages rise: a law, and nothing that runs.
+    pub(crate) fn pages_rise(&self)
+        ensures { IsRising self.now }
+    {
+        self.entries.len();
+    }
+
     // The first place whose page is no less.
     fn place(&self, page: PageNo) -> usize
         ensures within { result ≤ length self.now }

@@ -7,7 +7,7 @@ ghost use Rattle.im_types.specs.Histories.{Base};
 ghost use Rattle.im_types.specs.Writer.{Writer};
 ghost use Rattle.im_disk.specs.Runs.{ChangesOnly};
 ghost use Rattle.im_record.specs.Entry.{Image};
-ghost use Rattle.im_log.specs.LogFile.{end_with, IsOpen, IsLog};
+ghost use Rattle.im_log.specs.LogFile.{HasNoRoom, end_with, IsOpen, IsLog};
 ghost use Rattle.im_log.specs.Kept.{AppendKept};
 ghost use Rattle.im_flush.specs.declared.table_entry.TableEntry.{TableEntry};
 ghost use Rattle.im_flush.specs.Stands.{Stands};
@@ -40,6 +40,7 @@ pub fn append_image<D: Disk>(
     ensures fits { log.old.used + 4129 ≤ 16384 → disk.new ≡ disk.old }
     ensures failed { log.new.failed ≡ not (is_ok result) }
     ensures causes { IfErr result (λ e. (e ≡ Failed) ⊎ (e ≡ LogFull) ⊎ (e ≡ Device)) }
+    ensures no_room { result ≡ Err LogFull → HasNoRoom log.new }
     ensures already { result ≡ Err Failed ↔ (log.old.failed ≡ true) }
     ensures full { result ≡ Err LogFull ↔ ((log.old.failed ≡ false) × (2 ^ 62 < end_with log.old 4129)) }
     ensures device { log.old.failed ≡ false → result ≡ Err Device ↔ (D.failed disk.new ≡ true) }

@@ -17,26 +17,71 @@
 //! device call; `sync_pages` syncs the file, one device call, and then the table. A write goes to a page that the file has or by
 //! which it grows. So a stop leaves each other page as it would have been left before, however long it leaves the file.
 //!
+//! # The writer of pages
+//!
+//! `PageWriter` has the log, a pool of 8 to 1,024 frames over the file of pages, and the dirty table. It owns no disk.
+//!
+//! - A flush (`flush_one`) writes a page that was changed: it alone, where the file has it, and past the file's end every page
+//!   from the page count up to it, so that no range of the file is left without a page. First the Images of these pages join the
+//!   log, in rising page number; then the log is forced, four device calls; then each page is entered and written, one device
+//!   call each, in rising number. Where the table has no room for the entry of a page that is written along, the file is synced
+//!   behind them.
+//! - A page that is got (`get`) stays in its frame. Where no frame is free, the least recently used page is flushed, if it was
+//!   changed, and its frame given up.
+//! - A change (`log_change`) gets the page, makes room for its entry (`make_entry_room`), appends the record, changes the page,
+//!   gives it the record's LSN, and enters it. What the page does not take is refused before the append.
+//! - Room is made where the table is full: the least recently used page that was changed is flushed, and the file synced. What
+//!   stays in the table then is changed pages in frames, and of those there are at most 1,023: one entry is free (`room`).
+//! - `log_only` appends a record that changes no page, `log_image` one page of a structure change, which then is the record's
+//!   page; `force` forces the log, `sync_pages` syncs the file, `read_at` reads a record again.
+//! - In redo, `load_copy` takes a page from the full copy that a record holds, in place of what the file has there, and
+//!   `redo_change` applies a record to its page, if the page's LSN is below the record's. Both make frame and entry free as at
+//!   any time, so that redo needs no more frames than a store that runs. A page so loaded or changed counts as changed from the
+//!   redo point on.
+//!
+//! A refusal for want of memory, or since a page does not take a record, leaves the writer working. Each other one fails it, and
+//! from then on each call answers `Failed` and calls no disk (`fails`, `already`).
+//!
+//! # Speed
+//!
+//! By `flush_bench --time`, over a disk in memory: a get of the page that was got last takes 6 ns; a logged change of a leaf,
+//! record, search, entry and all, 54 to 64 ns, the forces among them; a change with a flush and a sync 2.0 to 2.1 µs, in which
+//! six device calls are made: four of the force, one write and one sync.
+//!
 //! # What is kept
 //!
-//! A writer of pages (`Writer`, in im_types' specs) has the log with its durable front, and for each page what the pool shows,
+//! What a writer keeps (`Writer`, in im_types' specs) is the log with its durable front, and for each page what the pool shows,
 //! its entry, what the file has as of its last sync and what a read gives. `Stands` says that what a writer keeps is kept, and
-//! that a log file, a table and a disk are as it says; `IsPool` says the same of a pool. Each call has a clause `kept`: where the
-//! writer stands, and may do the step, it stands as the step leaves it, and a stop at any moment within leaves what redo can
-//! start from, a front of the log between the durable one and the whole that covers the file of pages (`LeavesCovered`). A call
-//! that is refused leaves that too, and the writer makes no call after it. `Run` puts calls in a row together.
+//! that a log file, a table and a disk are as it says; `StandsAs` says the same of a `PageWriter`, with its pool. Each call has a
+//! clause `kept`: where the writer stands, and may do the step, it stands as the step leaves it, and a stop at any moment within
+//! leaves what redo can start from, a front of the log between the durable one and the whole that covers the file of pages
+//! (`LeavesCovered`). A call that flushes on its way leaves each page as it was, and the log with Images more (`Keeps`). What a
+//! stop leaves holds behind a refusal too, and behind one that leaves the writer working it stands as before (`again`).
 //!
-//! It stands on the log, on pages and on the disk.
+//! `written_pages_have_copies` is the law of full copies: a page that was written since the last sync has an entry in the table,
+//! and the durable log a full copy of it at or after the entry's rec_lsn. So redo never reads bytes that a stop may have torn.
+//!
+//! It stands on the log, on pages, on the pool and on the disk.
 #![tactic(auto)]
 
 mod dirty_table;
+mod flush;
+mod image_range;
 mod images;
+mod laws;
+mod leaf_change;
+mod page_copy;
 mod page_file;
+mod page_range;
+mod page_writer;
+mod redone_page;
 mod table_entry;
 #[cfg(test)]
 mod tests;
 
 pub use dirty_table::{DirtyTable, MOST};
 pub use images::append_image;
+pub use laws::written_pages_have_copies;
 pub use page_file::{count_pages, sync_pages, write_page};
+pub use page_writer::PageWriter;
 pub use table_entry::TableEntry;

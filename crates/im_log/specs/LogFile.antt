@@ -25,6 +25,12 @@ next_lsn log = batch_lsn log + log.used
 abbrev pub end_with : LogFile → ℕ → ℕ
 end_with log size = if nat_le (log.used + size) 16384 then next_lsn log + size else next_lsn log + 5 + size
 
+-- A record of some length would end above LSN 2^62.
+pub record HasNoRoom (log : LogFile) : Type 0 where
+  pub size : ℕ
+  pub most : size ≤ 16384
+  pub above : 2 ^ 62 < end_with log size
+
 module _ {D : Type 0} (d : Ghosts D) where
   -- On any bytes: the gate is the last, and what is buffered ends at LSN 2^62 or below. After a failure it says nothing.
   pub record IsOpen (log : LogFile) (disk : D) : Type 0 where

@@ -43,7 +43,7 @@ impl LogFile {
     ghost use Rattle.im_gate.specs.Gate.{place_of};
     ghost use Rattle.im_record.specs.Entry.{view};
     ghost use Rattle.im_record.specs.Spelling.{IsEntry, size_of, spelling};
-    ghost use Rattle.im_log.specs.LogFile.{buffered, batch_lsn, next_lsn, end_with, IsOpen, IsLog};
+    ghost use Rattle.im_log.specs.LogFile.{buffered, batch_lsn, next_lsn, end_with, HasNoRoom, IsOpen, IsLog};
     ghost use Rattle.im_log.specs.Kept.{AppendKept, ForceKept};
     ghost use Rattle.im_log.specs.Reading.{FoundKept};
     ghost use Rattle.im_log.specs.Scan.{place_of_scan, bound_of, IsScanning, ScanBegun};
@@ -162,6 +162,7 @@ impl LogFile {
         ensures causes { IfErr result (λ e. (e ≡ Failed) ⊎ (e ≡ LogFull) ⊎ (e ≡ Device)) }
         ensures already { result ≡ Err Failed ↔ (self.old.failed ≡ true) }
         ensures full { result ≡ Err LogFull ↔ ((self.old.failed ≡ false) × (2 ^ 62 < end_with self.old (size_of (view record.now)))) }
+        ensures no_room { result ≡ Err LogFull → HasNoRoom self.new }
         ensures device { self.old.failed ≡ false → result ≡ Err Device ↔ (D.failed disk.new ≡ true) }
     {
         if self.failed {

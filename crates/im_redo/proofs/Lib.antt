@@ -1,6 +1,7 @@
-pub mod Entries
-pub mod OnePage
-pub mod Going
-pub mod Redo
-pub mod Taking
-pub mod Openings
+pub mod Applicable
+pub mod Applying
+pub mod Loading
+pub mod Passing
+pub mod Raised
+pub mod Reached
+pub mod Within

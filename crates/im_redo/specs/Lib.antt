@@ -1,4 +1,4 @@
-pub mod OnePage
-pub mod Going
+pub mod Applying
+pub mod Loading
 pub mod Redo
-pub mod Kept
+pub mod Within

@@ -1,28 +1,40 @@
-//! Analysis and redo: a store is opened by reading its log once, from the first record to the last.
+//! Redo: the pages are brought to what the whole durable log made of them.
 //!
-//! `open_or_create` opens the log of a disk, or makes a new one where there is none yet, and hands each record to
-//! `Analysis::take`, which applies it to page 1 and keeps what a restart has to know beside the page: the next
-//! transaction number, and which transaction is going. The store has one page with keys, which is never written:
-//! its contents are what the log says (`page_at`).
+//! Analysis (`im_analysis`) says from which LSN on records may be lacking in the file of pages, the redo point, and where the last
+//! full copy of each page stands at or after it. `redo` is handed both, the LSNs of the records from the redo point on that change
+//! a page, and a writer of pages (`im_flush`) over the log that was just opened:
 //!
-//! The contract: `CanRedo` says which logs are taken, on any bytes; each other log is refused `NotAStore`. Behind an
-//! opening the page is that at the end of the log, no transaction has anything left to undo, and the next number is the
-//! least above those that the records name (`next_number`). A log in which every transaction has its Commit
-//! (`IsSettled`) is always taken. A stop within the opening leaves the log as it was, or one without records where none
-//! was made yet.
+//! 1. Each page with a noted copy is loaded from that copy, in rising page number, and never from the file, whose bytes a stop may
+//!    have torn. It counts as changed from the redo point on. All copies are loaded before the first record is applied: no write
+//!    of another page may come before a page that waits for its copy.
+//! 2. The records are applied in the order of the log, each to its page, where that page's LSN is less than the record's. That is
+//!    also so for a record that stands before the page's copy in the log: a copy may be older than the records around it, and its
+//!    own LSN says which of them it has.
 //!
-//! It stands on `im_log` for the log, on `im_page` for the page and on `im_gate` for the creation. The laws over
-//! histories that a store of one page lives by stand in `proofs/Going` and `proofs/Redo`.
+//! No record is kept in memory: each is read again at its LSN, into room that the caller lends. A page that is evicted on the way is
+//! written as in any flush, behind its Image, so Images may join the log while redo goes on.
+//!
+//! # What is kept
+//!
+//! `kept`: where the writer stands as an opening finds it (`opened`), and each record of the log can be applied to its page as the
+//! records before it left that (`AreApplicable`), then behind an Ok each page is what the whole log made of it, Images alone joined
+//! the log (`Redone`), and redo is over for the writer. A stop at any moment leaves the log with Images more, and a file of pages from
+//! which redo can start again (`LeavesRedoing`); and no such store is refused as none. On any other bytes `redo` is total: it is
+//! refused `NotAStore` where a page does not take its record, or no record stands at an LSN.
+//!
+//! `lawful_is_applicable`, in proofs/Applicable, gives `AreApplicable` of each lawful log over a tree whose words speak of leaves
+//! (`IsOnLeaves`).
+//!
+//! Between its calls redo has gone past a front of the log (`HasPassed`): no page waits, and each has had all records of that front.
+//! Records that change no page, and those below the redo point, are gone past in the proof alone.
+//!
+//! It stands on the writer of pages, on the codec of records, and on the definitions of analysis.
 #![tactic(auto)]
 
-mod analysis;
-mod opened;
-mod opening;
-mod root;
-
-pub use analysis::Analysis;
-pub use opened::Opened;
-pub use opening::open_or_create;
-
+mod copies;
+mod records;
+mod redoing;
 #[cfg(test)]
 mod tests;
+
+pub use redoing::redo;

@@ -1,79 +1,145 @@
-//! A log that was written is redone; one that redo doesn't take is refused.
-ghost use Rattle.std.specs.Prelude.{◌≡◌, false};
+//! Redo of a store of one leaf, over a model disk.
+ghost use Rattle.std.specs.Prelude.{◌≡◌, ◌≤◌, false, length, IfOk, OnOk};
 ghost use Rattle.im_disk.specs.Runs.{IsSynced};
+ghost use Rattle.im_flush.specs.PageWriter.{IsReadyWriter};
 
-use crate::open_or_create;
+use crate::redo;
 use im_disk::{Disk, ModelDisk};
+use im_flush::PageWriter;
+use im_log::open_or_create;
 use im_page::Page;
 use im_record::Record;
-use im_types::Fault;
+use im_types::{Fault, FileId, Lsn, PageNo};
 use std::alloc::Global;
+use std::collections::BTreeMap;
 use std::test::Fail;
 
-// Opens a store, adds an insert, and a Commit where that is asked for, and makes them durable.
-fn write_once<D: Disk>(alloc: Global, disk: &mut D, commit: bool) -> Result<u64, Fault>
+// A writer with 8 frames over the log that the disk has.
+fn open<D: Disk>(alloc: Global, disk: &mut D) -> Result<PageWriter, Fault>
     requires working { D.failed disk.old ≡ false }
-    requires synced { IsSynced D.Disk disk.old }
+    ensures ready { IfOk result (λ w. IsReadyWriter D.Disk w disk.new) }
 {
-    let mut page = Page::initial(1);
-    let mut opened = open_or_create(alloc, disk, &mut page)?;
-    let insert = Record::InsertKey {
+    disk.sync(FileId::Log)?;
+    let log = open_or_create(alloc, disk)?;
+    PageWriter::new(alloc, log, 8)
+}
+
+// Logs an insert of a key into page 1.
+fn insert<D: Disk>(writer: &mut PageWriter, disk: &mut D, key: &[u8]) -> Result<Lsn, Fault>
+    requires ready { IsReadyWriter D.Disk writer.old disk.old }
+    requires keyed { 1 ≤ length key.now }
+    requires short { length key.now ≤ 255 }
+    ensures ready { IsReadyWriter D.Disk writer.new disk.new }
+{
+    let record = Record::InsertKey {
         transaction: 1,
         prev: 0,
         page: 1,
-        key: b"a",
+        key,
         rid: 7,
     };
-    let lsn = opened.log.append(disk, &insert)?;
-    if commit {
-        let end = Record::Commit {
-            transaction: 1,
-            prev: 36,
-        };
-        opened.log.append(disk, &end)?;
-    }
-    opened.log.force(disk)?;
+    writer.log_change(disk, &record)
+}
+
+// Logs a full copy of page 1 as it was before anything was put, and forces the log.
+fn copy<D: Disk>(writer: &mut PageWriter, disk: &mut D) -> Result<Lsn, Fault>
+    requires ready { IsReadyWriter D.Disk writer.old disk.old }
+    ensures ready { IsReadyWriter D.Disk writer.new disk.new }
+    ensures working { OnOk result (D.failed disk.new ≡ false) }
+{
+    let page = Page::initial(1);
+    let record = Record::Image {
+        page: 1,
+        bytes: page.bytes(),
+    };
+    let lsn = writer.log_only(disk, &record)?;
+    writer.force(disk)?;
     Ok(lsn)
 }
 
-// What an opening finds: the next number, how many keys, the page's LSN and the first key's row id.
-fn found<D: Disk>(alloc: Global, disk: &mut D) -> Result<(u64, usize, u64, u64), Fault>
+// Where the records stand.
+#[derive(Clone, Copy)]
+struct Placed {
+    inserts: [Lsn; 2],
+    copy: Lsn,
+}
+
+// Two keys are inserted into page 1, and then a full copy of it is logged that has neither.
+fn log_records<D: Disk>(alloc: Global, disk: &mut D) -> Result<Placed, Fault>
     requires working { D.failed disk.old ≡ false }
-    requires synced { IsSynced D.Disk disk.old }
+    ensures working { OnOk result (D.failed disk.new ≡ false) }
 {
-    let mut page = Page::initial(0);
-    let opened = open_or_create(alloc, disk, &mut page)?;
-    let rid = match page.find(b"a") {
-        Ok(i) => page.value(i),
-        Err(_) => 0,
-    };
-    Ok((opened.next, page.len(), page.lsn(), rid))
+    let mut writer = open(alloc, disk)?;
+    let first = insert(&mut writer, disk, b"a")?;
+    let second = insert(&mut writer, disk, b"b")?;
+    let copy = copy(&mut writer, disk)?;
+    Ok(Placed {
+        inserts: [first, second],
+        copy,
+    })
+}
+
+// Redo from the first record, with these copies noted.
+fn redo_all<D: Disk>(
+    disk: &mut D,
+    writer: &mut PageWriter,
+    placed: &Placed,
+    copies: &BTreeMap<PageNo, Lsn>,
+) -> Result<(), Fault>
+    requires ready { IsReadyWriter D.Disk writer.old disk.old }
+    ensures ready { IsReadyWriter D.Disk writer.new disk.new }
+{
+    let mut room = [0; 16_384];
+    redo(
+        disk,
+        writer,
+        placed.inserts[0],
+        copies,
+        &placed.inserts,
+        &mut room,
+    )
+}
+
+// The LSN of page 1, and how many entries it has.
+fn got<D: Disk>(writer: &mut PageWriter, disk: &mut D) -> Result<(Lsn, usize), Fault>
+    requires ready { IsReadyWriter D.Disk writer.old disk.old }
+    ensures ready { IsReadyWriter D.Disk writer.new disk.new }
+{
+    let frame = writer.get(disk, 1)?;
+    let page = writer.page(frame);
+    Ok((page.lsn(), page.len()))
 }
 
 #[test]
-fn a_new_store_is_empty(rt: HostRuntime) -> Result<(), Fail> {
+fn a_store_is_redone_from_its_log(rt: HostRuntime) -> Result<(), Fail> {
     let alloc = rt.alloc();
     let mut disk = ModelDisk::new(Vec::new(alloc), Vec::new(alloc));
-    assert_eq!(rt; found(alloc, &mut disk)?, (1, 0, 0, 0));
+    let placed = log_records(alloc, &mut disk)?;
+    let mut writer = open(alloc, &mut disk)?;
+    let calls = disk.calls();
+    let none = BTreeMap::new(alloc);
+    redo_all(&mut disk, &mut writer, &placed, &none)?;
+    assert_eq!(rt; got(&mut writer, &mut disk)?, (placed.inserts[1], 2));
+    redo_all(&mut disk, &mut writer, &placed, &none)?;
+    assert_eq!(rt; got(&mut writer, &mut disk)?, (placed.inserts[1], 2));
+    assert_eq!(rt; disk.calls(), calls);
     Ok(())
 }
 
 #[test]
-fn a_committed_insert_is_redone(rt: HostRuntime) -> Result<(), Fail> {
+fn a_torn_page_is_redone_from_its_copy(rt: HostRuntime) -> Result<(), Fail> {
     let alloc = rt.alloc();
     let mut disk = ModelDisk::new(Vec::new(alloc), Vec::new(alloc));
-    assert_eq!(rt; write_once(alloc, &mut disk, true)?, 36);
-    let mut left = disk.after_stop(alloc)?;
-    assert_eq!(rt; found(alloc, &mut left)?, (2, 1, 36, 7));
-    Ok(())
-}
-
-#[test]
-fn an_unfinished_transaction_is_refused(rt: HostRuntime) -> Result<(), Fail> {
-    let alloc = rt.alloc();
-    let mut disk = ModelDisk::new(Vec::new(alloc), Vec::new(alloc));
-    assert_eq!(rt; write_once(alloc, &mut disk, false)?, 36);
-    let mut left = disk.after_stop(alloc)?;
-    assert_eq!(rt; found(alloc, &mut left), Err(Fault::NotAStore));
+    let placed = log_records(alloc, &mut disk)?;
+    disk.write_at(FileId::Pages, 0, &[7; 8_192])?;
+    let mut writer = open(alloc, &mut disk)?;
+    let mut copies = BTreeMap::new(alloc);
+    assert_eq!(rt;
+        redo_all(&mut disk, &mut writer, &placed, &copies),
+        Err(Fault::NotAStore)
+    );
+    copies.insert(1, placed.copy)?;
+    redo_all(&mut disk, &mut writer, &placed, &copies)?;
+    assert_eq!(rt; got(&mut writer, &mut disk)?, (placed.inserts[1], 2));
     Ok(())
 }

@@ -2,7 +2,7 @@ use im_drill::drill_text;
 use std::test::Fail;
 
 // Scripts with what they print and their exit statuses, word for word.
-const STORED: [(&str, &str, &str, u8); 22] = [
+const STORED: [(&str, &str, &str, u8); 24] = [
     (
         "bad_line_is_named",
         "raw\nputt 61\n",
@@ -67,6 +67,18 @@ const STORED: [(&str, &str, &str, u8); 22] = [
         "open_gate_with_nothing_behind",
         "set log 014152494553494d310000100000000000000000000000000000000000000001\nlife\n",
         "open refused 11\nfinal refused 11\n",
+        0,
+    ),
+    (
+        "seven_frames_refused",
+        "life frames 7\n",
+        "open refused 13\nfinal 0\n",
+        0,
+    ),
+    (
+        "torn_page_restored_from_image",
+        "life\nbegin\ninsert 1 a 7\ncommit 1\nbegin\ninsert 2 x 9\nflush 1\nstop 16 long FF\n",
+        "open ok 6\nstarted 1\ninserted\ncommitted\nstarted 2\ninserted\nstopped\nfinal 1\n61 7\n",
         0,
     ),
     (

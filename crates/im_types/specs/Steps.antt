@@ -13,6 +13,8 @@ asked_by (steps.Fetch t key) = answers.Do t (answers.Fetch key.items)
 asked_by (steps.Insert t key rid) = answers.Do t (answers.Insert key.items rid)
 asked_by (steps.Delete t key) = answers.Do t (answers.Delete key.items)
 asked_by (steps.Commit t) = answers.Commit t
+asked_by (steps.FlushPage page) = answers.FlushPage page
+asked_by steps.Force = answers.Force
 
 -- what a reply says
 abbrev pub told_by : Reply → answers.Reply
@@ -23,4 +25,5 @@ told_by replies.Inserted = answers.Inserted
 told_by replies.Duplicate = answers.Duplicate
 told_by replies.Deleted = answers.Deleted
 told_by replies.Committed = answers.Committed
+told_by replies.Done = answers.Done
 told_by (replies.Refused fault) = answers.Refused (number_of fault)

@@ -17,5 +17,7 @@ pub enum Reply {
     Deleted,
     /// All that the transaction did is durable.
     Committed,
+    /// What was asked for is done.
+    Done,
     Refused(Fault),
 }

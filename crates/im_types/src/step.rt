@@ -14,4 +14,8 @@ pub enum Step {
     Delete(u64, Vec<u8>),
     /// Makes all that the transaction did durable, and ends it.
     Commit(u64),
+    /// Writes a page in place, where something of it is left to be written.
+    FlushPage(u32),
+    /// Makes every record so far durable.
+    Force,
 }

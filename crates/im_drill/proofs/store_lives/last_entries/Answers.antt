@@ -6,7 +6,7 @@ use Rattle.im_drill.proofs.store_lives.last_entries.Goals as goal
 pub returns-in-Ok : goal.returns-in-Ok
 returns-in-Ok c after stands =
     let k = c.in-Ok.ensures.kept after tt c.requires.synced stands in
-    entries_match (λ l. l.items) (λ b s. IsLife ghosts b s c.in-Ok.engine) c.entries-entries.result after k.ok.0 c.entries-entries.ensures.kept c.entries-entries.ensures.causes
+    entries_match (λ l. l.items) (λ b s. IsLife ghosts b s c.in-Ok.engine) c.entries-entries.result after k.ok.0 c.entries-entries.ensures.entries c.entries-entries.ensures.never
 
 pub returns-in-Err : goal.returns-in-Err
 returns-in-Err c after stands = (c.in-Err.ensures.kept after tt c.requires.synced stands).cause

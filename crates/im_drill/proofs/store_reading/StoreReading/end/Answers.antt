@@ -1,16 +1,11 @@
-use Rattle.std.proofs.Common.{◌≡◌, Option, Some, None, Vec, Global, refl, subst}
-use Rattle.im_drill.specs.declared.store_life.StoreLine.{StoreLine}
+use Rattle.std.proofs.Common.{◌≡◌, Option, Some, None, refl, subst}
 use Rattle.im_drill.specs.StoreReading.{IsStoreRead}
-use Rattle.im_drill.proofs.ReadStoreLines.{end_read, end_more}
+use Rattle.im_drill.specs.declared.store_reading.OpenLife.{OpenLife}
+use Rattle.im_drill.proofs.ReadStoreLines.{end_more}
 use Rattle.im_drill.proofs.store_reading.StoreReading.end.Goals as goal
-
-pub returns-in_default-clause-read : goal.returns-in_default-clause-read
-returns-in_default-clause-read c said r =
-    let is : c.args.self.life ≡ None = cc in
-    end_read c.args.self.script said (subst (λ (o : Option (Vec StoreLine Global)). IsStoreRead c.args.self.script.log.items c.args.self.script.lives.items o said) is r)
 
 pub returns-in-Ok-clause-read : goal.returns-in-Ok-clause-read
 returns-in-Ok-clause-read c said r =
-    let is : c.args.self.life ≡ Some c.in-Some.lines = cc in
-    end_more (record { log = c.args.self.script.log; lives = c.push.new.self }) c.args.self.script.log.items c.args.self.script.lives.items c.in-Some.lines said refl c.in-Ok.ensures.items
-    (subst (λ (o : Option (Vec StoreLine Global)). IsStoreRead c.args.self.script.log.items c.args.self.script.lives.items o said) is r)
+    let is : c.args.self.life ≡ Some c.in-Some.life = cc in
+    end_more (record { log = c.args.self.script.log; lives = c.push.new.self }) c.args.self.script.log.items c.args.self.script.lives.items c.in-Some.life said refl c.in-Ok.ensures.items
+    (subst (λ (o : Option OpenLife). IsStoreRead c.args.self.script.log.items c.args.self.script.lives.items o said) is r)

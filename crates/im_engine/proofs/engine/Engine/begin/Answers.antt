@@ -1,8 +1,9 @@
 use Rattle.std.proofs.Common.{refl, sym, ◌∙◌}
 use Rattle.im_types.specs.Answers.{Begin, Started}
 use Rattle.im_engine.proofs.Shown.{none_of}
-use Rattle.im_engine.proofs.Running.{goes_on}
+use Rattle.im_engine.proofs.Running.{nothing_left, stops_now, goes_on}
 use Rattle.im_engine.proofs.Steps.{begin_step}
+use Rattle.im_engine.specs.Stands.{Allowed}
 use Rattle.im_engine.proofs.engine.Engine.begin.Goals as goal
 
 pub returns-clause-kept : goal.returns-clause-kept
@@ -10,5 +11,5 @@ returns-clause-kept g c before s life =
     let old = c.args.self.now in
     let r = life.running c.if-self.false in
     let none = none_of old.going (sym c.is_some.ensures ∙ c.if-is_some.false) in
-    goes_on g.D.Disk before s Begin (Started old.next) old _ refl c.if-self.false (life.failed ∙ c.if-self.false) refl (λ e. cc) (g.met.D.Disk.only_now old.disk) life (old.opened c.if-self.false)
-    (begin_step g.D.Disk before s old _ r none refl refl refl refl refl old.first c.if-number-gt-NUMBERS.false)
+    goes_on g.D.Disk before s Begin (Started old.next) refl (λ e. cc e) old _ (nothing_left g.D.Disk before old.disk (Allowed before s) (g.met.D.Disk.only_now old.disk) (stops_now g.D.Disk before s old r))
+    c.if-self.false (life.failed ∙ c.if-self.false) tt (begin_step g.D.Disk before s old _ r none refl refl refl refl c.if-number-gt-NUMBERS.false)

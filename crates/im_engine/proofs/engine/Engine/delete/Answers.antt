@@ -1,46 +1,118 @@
-use Rattle.std.proofs.Common.{sym, ap, subst, ◌∙◌, remove, Ok, Bool, ℕ, Option}
+use Rattle.std.proofs.Common.{[], ℕ, Option, Err, refl, sym, ap, ◌∙◌}
 use Rattle.std.specs.Prelude.{is_some, if◌then◌else◌}
 use Rattle.im_types.specs.Answers as answers
 use Rattle.im_types.specs.Pages.{Page}
-use Rattle.im_page.specs.Entry.{IsPlace, Rises, entry_at}
-use Rattle.im_page.specs.Page.{with_entries}
-use Rattle.im_engine.proofs.Keys.{delete_kept}
-use Rattle.im_engine.proofs.Tells.{absent_in, there_in}
-use Rattle.im_engine.proofs.Checks.{is_there, delete_absent, delete_unlogged}
+use Rattle.im_types.specs.declared.reply.Reply.TheVariants.{Absent, Deleted}
+use Rattle.im_pool.specs.Pool.{page_at}
+use Rattle.im_engine.proofs.Running.{looks}
+use Rattle.im_engine.proofs.Refusals.{early_kept, late_kept}
+use Rattle.im_engine.proofs.Keys.{delete_kept, page_lets_go, change_stops, change_again}
+use Rattle.im_engine.proofs.Checks.{access_refused, access_late, access_none, unread, unread_late}
 use Rattle.im_engine.proofs.engine.Engine.delete.Goals as goal
+
+pub returns-in-Err-clause-kept : goal.returns-in-Err-clause-kept
+returns-in-Err-clause-kept g c before s life =
+    early_kept g.D.Disk before s (answers.Do c.args.number (answers.Delete c.args.key.now)) refl (λ n. refl) c.args.self.now life (g.met.D.Disk.only_now c.args.self.now.disk)
+    c.in-Err.fault c.in-Err.ensures.causes (λ is. c.in-Err.ensures.failed.0 (λ j. Err (is j)))
+
+pub returns-in-Err-clause-answered : goal.returns-in-Err-clause-answered
+returns-in-Err-clause-answered g c =
+    let old = c.args.self.now in
+    record {
+      entries = [];
+      read = unread g.D.Disk old old c.in-Err.fault [] c.in-Err.ensures.causes;
+      refused = λ other. access_refused g.D.Disk old c.args.number c.in-Err.fault c.args.key.now c.in-Err.ensures.refused other _;
+      answers = tt;
+    }
+
+pub returns-in-Err-root-clause-kept : goal.returns-in-Err-root-clause-kept
+returns-in-Err-root-clause-kept g c before s life =
+    let checked = c.in-Ok.ensures.ok in
+    let kept = c.in-Err-root.ensures.kept before s (life.running checked.0) in
+    late_kept g.D.Disk before s (answers.Do c.args.number (answers.Delete c.args.key.now)) refl (λ n. refl) c.args.self.now c.root.new.self life checked.0 kept.stops
+    (λ t f le left. g.met.D.Disk.counts_now c.root.new.self.disk t f le left) c.in-Err-root.fault c.in-Err-root.ensures.causes kept.again kept.cause c.in-Err-root.ensures.fails
+
+pub returns-in-Err-root-clause-answered : goal.returns-in-Err-root-clause-answered
+returns-in-Err-root-clause-answered g c =
+    let old = c.args.self.now in
+    let checked = c.in-Ok.ensures.ok in
+    record {
+      entries = [];
+      read = unread_late g.D.Disk old c.root.new.self c.in-Err-root.fault [] c.in-Err-root.ensures.causes;
+      refused = λ other. access_late g.D.Disk old c.args.number c.in-Ok.transaction checked.0 checked.1 checked.2 c.root.new.self c.args.key.now checked.3 checked.4 c.in-Err-root.fault c.in-Err-root.ensures.cause other;
+      answers = tt;
+    }
+
+pub returns-in-None-clause-kept : goal.returns-in-None-clause-kept
+returns-in-None-clause-kept g c before s life =
+    let checked = c.in-Ok.ensures.ok in
+    let kept = c.in-Ok-root.ensures.kept before s (life.running checked.0) in
+    looks g.D.Disk before s (answers.Do c.args.number (answers.Delete c.args.key.now)) answers.Absent refl (λ e. cc e) c.args.self.now c.root.new.self kept.stops
+    checked.0 life c.in-Ok-root.ensures.works refl tt kept.ok.running
+
+pub returns-in-None-clause-answered : goal.returns-in-None-clause-answered
+returns-in-None-clause-answered g c =
+    let old = c.args.self.now in
+    let checked = c.in-Ok.ensures.ok in
+    record {
+      entries = (page_at c.root.new.self.writer.pool 1).body.entries;
+      read = record {
+        shown = λ _. refl;
+        logged = λ h before s r. let l = (c.in-Ok-root.ensures.kept before s r).ok in ap (λ (p : Page). p.body.entries) (l.page ∙ l.still 1);
+      };
+      refused = λ other. access_none g.D.Disk old c.args.number c.in-Ok.transaction checked.0 checked.1 checked.2 c.root.new.self c.args.key.now checked.3 checked.4 Absent (λ x e. cc e) other;
+      answers = ap (λ (o : Option ℕ). if is_some o then answers.Deleted else answers.Absent) c.in-None.ensures;
+    }
 
 pub returns-in-Ok-log_change-clause-kept : goal.returns-in-Ok-log_change-clause-kept
 returns-in-Ok-log_change-clause-kept g c before s life =
     let old = c.args.self.now in
     let checked = c.in-Ok.ensures.ok in
+    let r = life.running checked.0 in
+    let kept = c.in-Ok-root.ensures.kept before s r in
     let logged = c.in-Ok-log_change.ensures in
-    delete_kept g.D.Disk before s c.in-Ok.transaction c.args.number checked.2 c.args.key.now c.value-rid.result c.in-Ok-find.at old _ c.log_change.new.self
-    life checked.0 checked.1 logged.disk logged.next logged.failed (g.met.D.Disk.only_now old.disk) (c.log_change.new.self.opened logged.failed)
-    (subst (λ (p : Page). IsPlace p.body.entries c.args.key.now (Ok c.in-Ok-find.at)) c.deref-2.ensures c.in-Ok-find.ensures)
-    (subst (λ (p : Page). Rises p.body.entries) c.deref.ensures c.content.ensures.rises)
-    (c.value-rid.ensures.value ∙ ap (λ (p : Page). (entry_at p.body.entries c.in-Ok-find.at).1) c.deref-3.ensures)
-    (c.remove.ensures ∙ ap (λ (p : Page). with_entries p (remove p.body.entries c.in-Ok-find.at)) c.deref_mut.ensures.value)
-    (λ all durable h. logged.kept all durable h)
+    delete_kept g.D.Disk before s old r c.root.new.self kept.ok kept.stops c.args.key.now c.in-Ok.transaction c.in-Some.rid c.args.number c.in-Ok-log_change.field-0 checked.2 c.log_change.new.self
+    life checked.0 (c.in-Ok-root.ensures.going ∙ checked.1) logged.next logged.ok.0 logged.ok.1 (sym c.in-Some.ensures)
+    (logged.kept kept.ok.running.now kept.ok.running.redo_end kept.ok.running.stands kept.ok.running.over)
 
-pub returns-in-Err-find-clause-tells : goal.returns-in-Err-find-clause-tells
-returns-in-Err-find-clause-tells g c = absent_in c.args.self.now.page.value c.deref-2.result.now c.deref.result.now c.args.key.now c.in-Err-find.field-0 c.deref-2.ensures c.in-Err-find.ensures
-
-pub returns-in-Err-find-clause-answers : goal.returns-in-Err-find-clause-answers
-returns-in-Err-find-clause-answers g c = sym (ap (λ (o : Option ℕ). if is_some o then answers.Deleted else answers.Absent) (returns-in-Err-find-clause-tells g c))
-
-pub returns-in-Err-find-clause-refused : goal.returns-in-Err-find-clause-refused
-returns-in-Err-find-clause-refused g c =
+pub returns-in-Ok-log_change-clause-answered : goal.returns-in-Ok-log_change-clause-answered
+returns-in-Ok-log_change-clause-answered g c =
+    let old = c.args.self.now in
     let checked = c.in-Ok.ensures.ok in
-    delete_absent g.D.Disk c.args.self.now c.args.number c.in-Ok.transaction checked.0 checked.1 checked.2 c.args.key.now checked.3 checked.4 _ (returns-in-Err-find-clause-tells g c) (λ x e. cc)
+    record {
+      entries = (page_at c.root.new.self.writer.pool 1).body.entries;
+      read = record {
+        shown = λ h. cc h;
+        logged = λ h before s r. let l = (c.in-Ok-root.ensures.kept before s r).ok in ap (λ (p : Page). p.body.entries) (l.page ∙ l.still 1);
+      };
+      refused = λ other. access_none g.D.Disk old c.args.number c.in-Ok.transaction checked.0 checked.1 checked.2 c.log_change.new.self c.args.key.now checked.3 checked.4 Deleted (λ x e. cc e) other;
+      answers = ap (λ (o : Option ℕ). if is_some o then answers.Deleted else answers.Absent) c.in-Some.ensures;
+    }
 
-pub returns-in-Ok-log_change-clause-answers : goal.returns-in-Ok-log_change-clause-answers
-returns-in-Ok-log_change-clause-answers g c =
-    let there = there_in c.args.self.now.page.value c.deref-2.result.now c.deref.result.now c.args.key.now c.in-Ok-find.at c.deref-2.ensures c.deref.ensures c.in-Ok-find.ensures c.content.ensures.rises in
-    sym (ap (λ (b : Bool). if b then answers.Deleted else answers.Absent) (is_there _ there))
+pub returns-in-Err-log_change-clause-kept : goal.returns-in-Err-log_change-clause-kept
+returns-in-Err-log_change-clause-kept g c before s life =
+    let old = c.args.self.now in
+    let checked = c.in-Ok.ensures.ok in
+    let r = life.running checked.0 in
+    let kept = c.in-Ok-root.ensures.kept before s r in
+    let l = kept.ok in
+    let logged = c.in-Err-log_change.ensures in
+    let made = logged.kept l.running.now l.running.redo_end l.running.stands l.running.over in
+    late_kept g.D.Disk before s (answers.Do c.args.number (answers.Delete c.args.key.now)) refl (λ n. refl) old c.log_change.new.self life checked.0
+    (change_stops g.D.Disk before s old r c.root.new.self l kept.stops c.args.key.now c.log_change.new.self _ _ made)
+    (λ t f le left. g.met.D.Disk.counts_now c.log_change.new.self.disk t f le left) c.in-Err-log_change.fault c.in-Err-log_change.ensures.causes
+    (change_again g.D.Disk before s old r c.root.new.self l c.log_change.new.self _ c.in-Err-log_change.fault made logged.fails.1 logged.next)
+    (made.cause (page_lets_go g.D.Disk before s old r c.root.new.self l kept.stops c.args.key.now c.in-Ok.transaction c.in-Some.rid (sym c.in-Some.ensures)))
+    logged.fails.0
 
-pub returns-in-Err-log_change-clause-refused : goal.returns-in-Err-log_change-clause-refused
-returns-in-Err-log_change-clause-refused g c =
+pub returns-in-Err-log_change-clause-answered : goal.returns-in-Err-log_change-clause-answered
+returns-in-Err-log_change-clause-answered g c =
+    let old = c.args.self.now in
     let checked = c.in-Ok.ensures.ok in
     let logged = c.in-Err-log_change.ensures in
-    let there = there_in c.args.self.now.page.value c.deref-2.result.now c.deref.result.now c.args.key.now c.in-Ok-find.at c.deref-2.ensures c.deref.ensures c.in-Ok-find.ensures c.content.ensures.rises in
-    delete_unlogged g.D.Disk c.args.self.now c.args.number c.in-Ok.transaction checked.0 checked.1 checked.2 c.args.key.now checked.3 checked.4 c.in-Err-log_change.fault there logged.causes logged.full
+    record {
+      entries = [];
+      read = unread_late g.D.Disk old c.log_change.new.self c.in-Err-log_change.fault [] logged.causes;
+      refused = λ other. access_late g.D.Disk old c.args.number c.in-Ok.transaction checked.0 checked.1 checked.2 c.log_change.new.self c.args.key.now checked.3 checked.4 c.in-Err-log_change.fault logged.cause other;
+      answers = tt;
+    }

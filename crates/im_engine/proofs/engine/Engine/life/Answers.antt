@@ -16,7 +16,7 @@ loop-step-preserved g c =
       turns =
           let made = c.step-reply.ensures in
           one_turn_more g.D.Disk c.args.steps.now c.loop-step.replies.items c.push.new.self.items c.loop-step.step-index _ c.step-item.result c.step-reply.result _ _ _ was.count (omega (arith, c.loop-step-test.true)) pushed c.step-item.is
-          was.turns (record { refused = made.refused; answers = made.answers; same = made.same; failed = made.failed; fails = made.fails; active = made.active; numbers = made.numbers });
+          was.turns (record { answered = made.answered; same = made.same; failed = made.failed; fails = made.fails; active = made.active; numbers = made.numbers });
       kept = λ before s life.
           subst (λ (x : Shown). IsLife g.D.Disk before x c.step-reply.new.self)
           (sym (one_step_more s c.args.steps.now c.loop-step.replies.items c.push.new.self.items c.loop-step.step-index _ c.step-item.result c.step-reply.result was.count (omega (arith, c.loop-step-test.true)) pushed c.step-item.is))

@@ -1,25 +1,28 @@
-use Rattle.std.proofs.Common.{◌≡◌, subst}
-use Rattle.std.specs.Prelude.{◌↔◌}
-use Rattle.im_types.specs.Keys.{Key}
-use Rattle.im_types.specs.declared.fault.Fault.{Fault}
-use Rattle.im_types.specs.declared.reply.Reply.TheVariants.{Refused}
-use Rattle.im_engine.specs.Checks.{OfFetch, OfInsert, OfDelete}
+use Rattle.std.proofs.Common.{subst}
+use Rattle.std.specs.Prelude.{is_some, if◌then◌else◌}
+use Rattle.std.specs.FinMap.Entries.{find}
+use Rattle.im_types.specs.Answers as answers
+use Rattle.im_types.specs.Keys.{Key, key_order}
+use Rattle.im_engine.specs.Checks.{IsAnswered, OfFetch, OfInsert, OfDelete}
 use Rattle.im_engine.proofs.engine.Engine.step.Goals as goal
 
-pub returns-in-Begin-clause-refused : goal.returns-in-Begin-clause-refused
-returns-in-Begin-clause-refused g c = rw c.in-Begin.is c.begin.ensures.refused
+pub returns-in-Begin-clause-answered : goal.returns-in-Begin-clause-answered
+returns-in-Begin-clause-answered g c = rw c.in-Begin.is c.begin.ensures.answered
 
-pub returns-in-Commit-clause-refused : goal.returns-in-Commit-clause-refused
-returns-in-Commit-clause-refused g c = rw c.in-Commit.is c.commit.ensures.refused
+pub returns-in-Commit-clause-answered : goal.returns-in-Commit-clause-answered
+returns-in-Commit-clause-answered g c = rw c.in-Commit.is c.commit.ensures.answered
 
-pub returns-in-Fetch-clause-refused : goal.returns-in-Fetch-clause-refused
-returns-in-Fetch-clause-refused g c =
-    rw c.in-Fetch.is (subst (λ (k : Key). (fault : Fault) → ((c.fetch.result ≡ Refused fault) ↔ OfFetch g.D.Disk c.args.self.now fault c.in-Fetch.number k)) c.deref.ensures.value c.fetch.ensures.refused)
+pub returns-in-Fetch-clause-answered : goal.returns-in-Fetch-clause-answered
+returns-in-Fetch-clause-answered g c =
+    rw c.in-Fetch.is (subst (λ (k : Key). IsAnswered g.D.Disk c.fetch.result c.args.self.now c.fetch.new.self (λ entries fault. OfFetch g.D.Disk c.args.self.now c.fetch.new.self c.fetch.result fault c.in-Fetch.number k)
+    (λ entries. answers.found (find key_order k entries))) c.deref.ensures.value c.fetch.ensures.answered)
 
-pub returns-in-Insert-clause-refused : goal.returns-in-Insert-clause-refused
-returns-in-Insert-clause-refused g c =
-    rw c.in-Insert.is (subst (λ (k : Key). (fault : Fault) → ((c.insert.result ≡ Refused fault) ↔ OfInsert g.D.Disk c.args.self.now fault c.in-Insert.number k)) c.deref-in-Insert.ensures.value c.insert.ensures.refused)
+pub returns-in-Insert-clause-answered : goal.returns-in-Insert-clause-answered
+returns-in-Insert-clause-answered g c =
+    rw c.in-Insert.is (subst (λ (k : Key). IsAnswered g.D.Disk c.insert.result c.args.self.now c.insert.new.self (λ entries fault. OfInsert g.D.Disk c.args.self.now c.insert.new.self c.insert.result fault c.in-Insert.number k entries)
+    (λ entries. if is_some (find key_order k entries) then answers.Duplicate else answers.Inserted)) c.deref-in-Insert.ensures.value c.insert.ensures.answered)
 
-pub returns-in-Delete-clause-refused : goal.returns-in-Delete-clause-refused
-returns-in-Delete-clause-refused g c =
-    rw c.in-Delete.is (subst (λ (k : Key). (fault : Fault) → ((c.delete.result ≡ Refused fault) ↔ OfDelete g.D.Disk c.args.self.now fault c.in-Delete.number k)) c.deref-in-Delete.ensures.value c.delete.ensures.refused)
+pub returns-in-Delete-clause-answered : goal.returns-in-Delete-clause-answered
+returns-in-Delete-clause-answered g c =
+    rw c.in-Delete.is (subst (λ (k : Key). IsAnswered g.D.Disk c.delete.result c.args.self.now c.delete.new.self (λ entries fault. OfDelete g.D.Disk c.args.self.now c.delete.new.self c.delete.result fault c.in-Delete.number k)
+    (λ entries. if is_some (find key_order k entries) then answers.Deleted else answers.Absent)) c.deref-in-Delete.ensures.value c.delete.ensures.answered)

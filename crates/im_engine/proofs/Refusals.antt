@@ -1,0 +1,90 @@
+-- Steps that are refused.
+use Rattle.std.proofs.Common.{◌≡◌, ◌≢◌, ◌⊎◌, inl, inr, ℕ, ◌≤◌, List, Bool, true, false, Some, None, refl, sym, ap, subst, ◌∙◌}
+use Rattle.std.specs.Prelude.{◌||◌}
+use Rattle.im_types.specs.Answers.{Step, Begin, Do, Commit, Rollback, Continue, FlushPage, Force, Checkpoint, Reply, Refused}
+use Rattle.im_types.specs.Changes.{Effect}
+use Rattle.im_types.specs.Faults.{number_of}
+use Rattle.im_types.specs.Refusals.{not_a_store}
+use Rattle.im_types.specs.declared.fault.Fault.{Fault}
+use Rattle.im_types.specs.declared.fault.Fault.TheVariants.{Failed, NoTransaction, KeyLength, Memory, NotAStore}
+use Rattle.im_types.specs.Lives.{Shown, breaks, shows}
+use Rattle.im_disk.specs.declared.disk.Disk.{Ghosts}
+use Rattle.im_disk.specs.Disk.{Files}
+use Rattle.im_disk.specs.Runs.{LeavesOnly}
+use Rattle.im_log.proofs.Above.{left_now}
+use Rattle.im_engine.specs.declared.engine.Engine.{Engine}
+use Rattle.im_engine.specs.Stands.{Allowed}
+use Rattle.im_engine.specs.Running.{IsRunning, IsLife}
+use Rattle.im_engine.specs.Kept.{StepKept, IsDone}
+use Rattle.im_engine.proofs.Shown.{still_failed, still_working}
+use Rattle.im_engine.proofs.Running.{unchanged, goes_on, breaks_off}
+use Rattle.im_engine.proofs.Checks.{IsOfWriter}
+
+or_true : (b : Bool) → (b || true) ≡ true
+or_true true = refl
+or_true false = refl
+
+or_false : (b : Bool) → (b || false) ≡ b
+or_false true = refl
+or_false false = refl
+
+-- nothing was done
+pub none_done : {D : Type 0} (d : Ghosts D) (step : Step) (n : ℕ) (e : Engine D d) → IsDone d step (Refused n) e
+none_done d Begin n e = tt
+none_done d (Do t a) n e = tt
+none_done d (Commit t) n e = tt
+none_done d (Rollback t) n e = tt
+none_done d (Continue t) n e = tt
+none_done d (FlushPage p) n e = tt
+none_done d Force n e = tt
+none_done d Checkpoint n e = tt
+
+pub refused_number : {m k : ℕ} → Refused m ≡ Refused k → m ≡ k
+refused_number e = ap (λ (x : Reply). elim x as (λ _. ℕ) [ Refused m ↦ m | _ ↦ 0 ]) e
+
+module _ {D : Type 0} (d : Ghosts D) (before : List Effect) (s : Shown) (step : Step) (asked : (shows s step None).asked ≡ s.asked)
+    (shown : (n : ℕ) → shows s step (Some (Refused n)) ≡ record s { failed = s.failed || breaks n }) where
+  module _ (e : Engine D d) (life : IsLife d before s e) (only_now : (c : Files) → d.left_since e.disk (d.moment e.disk) c → d.may_leave e.disk c) where
+    stays : (n : ℕ) → n ≢ not_a_store → (breaks n ≡ true → s.failed ≡ true) → StepKept d before s step (Refused n) e e
+    stays n other broken = unchanged d before s step (Refused n) asked (λ x. other (refused_number x)) e (shown n ∙ same) (none_done d step n e) only_now life
+      where
+        by : (b : Bool) → breaks n ≡ b → record s { failed = s.failed || b } ≡ s
+        by true is = still_failed s (broken is)
+        by false is = ap (λ (x : Bool). record s { failed = x }) (or_false s.failed)
+
+        same : record s { failed = s.failed || breaks n } ≡ s
+        same = by (breaks n) refl
+
+    -- a step that is refused before any page is read
+    pub early_kept : (fault : Fault) → (fault ≡ Failed) ⊎ (fault ≡ NoTransaction) ⊎ (fault ≡ KeyLength) → (fault ≡ Failed → e.failed ≡ true) → StepKept d before s step (Refused (number_of fault)) e e
+    early_kept fault (inl is) failed = subst (λ (f : Fault). StepKept d before s step (Refused (number_of f)) e e) (sym is) (stays 10 (λ x. cc x) (λ _. life.failed ∙ failed is))
+    early_kept fault (inr (inl is)) failed = subst (λ (f : Fault). StepKept d before s step (Refused (number_of f)) e e) (sym is) (stays 1 (λ x. cc x) (λ x. cc x))
+    early_kept fault (inr (inr is)) failed = subst (λ (f : Fault). StepKept d before s step (Refused (number_of f)) e e) (sym is) (stays 3 (λ x. cc x) (λ x. cc x))
+
+  module _ (old new : Engine D d) (life : IsLife d before s old) (works : old.failed ≡ false) (leaves : LeavesOnly d old.disk new.disk (Allowed before s))
+      (counts_now : (t : ℕ) (c : Files) → t ≤ d.moment new.disk → d.may_leave new.disk c → d.left_since new.disk t c) where
+    breaks_with : (n : ℕ) → n ≢ not_a_store → breaks n ≡ true → new.failed ≡ true → StepKept d before s step (Refused n) old new
+    breaks_with n other broken fails =
+        breaks_off d before s step (Refused n) asked (λ x. other (refused_number x)) old new leaves fails
+        (ap (λ (x : Shown). x.failed) (shown n) ∙ ap (λ (b : Bool). s.failed || b) broken ∙ or_true s.failed) (ap (λ (x : Shown). x.asked) (shown n)) (none_done d step n new)
+        (λ c left. left_now d old.disk new.disk (Allowed before s) counts_now leaves (life.running works).stands.writing.stands.log_is.tells c left)
+
+    -- one that a call of the writer refuses
+    pub late_kept : (fault : Fault) → IsOfWriter fault → (fault ≡ Memory → IsRunning d before s new) → fault ≢ NotAStore → new.failed ≡ breaks (number_of fault) → StepKept d before s step (Refused (number_of fault)) old new
+    late_kept fault (inl is) again other fails =
+        subst (λ (f : Fault). StepKept d before s step (Refused (number_of f)) old new) (sym is) (breaks_with 7 (λ x. cc x) refl (fails ∙ ap (λ (f : Fault). breaks (number_of f)) is))
+    late_kept fault (inr (inl is)) again other fails =
+        subst (λ (f : Fault). StepKept d before s step (Refused (number_of f)) old new) (sym is)
+        (goes_on d before s step (Refused 9) asked (λ x. cc x) old new leaves (fails ∙ ap (λ (f : Fault). breaks (number_of f)) is)
+        (ap (λ (x : Shown). x.failed) (shown 9) ∙ or_false s.failed ∙ life.failed ∙ works) (none_done d step 9 new)
+        (subst (λ (x : Shown). IsRunning d before x new) (sym (shown 9 ∙ still_working s (life.failed ∙ works))) (again is)))
+    late_kept fault (inr (inr (inl is))) again other fails = absurd (other is)
+    late_kept fault (inr (inr (inr is))) again other fails =
+        subst (λ (f : Fault). StepKept d before s step (Refused (number_of f)) old new) (sym is) (breaks_with 8 (λ x. cc x) refl (fails ∙ ap (λ (f : Fault). breaks (number_of f)) is))
+
+    -- an insert for which the page has no room
+    pub full_kept : new.failed ≡ false → IsRunning d before s new → StepKept d before s step (Refused 5) old new
+    full_kept fails running =
+        goes_on d before s step (Refused 5) asked (λ x. cc x) old new leaves fails
+        (ap (λ (x : Shown). x.failed) (shown 5) ∙ or_false s.failed ∙ life.failed ∙ works) (none_done d step 5 new)
+        (subst (λ (x : Shown). IsRunning d before x new) (sym (shown 5 ∙ still_working s (life.failed ∙ works))) running)

@@ -1,0 +1,119 @@
+-- A record that changes its page joins the log, after redo: the page is changed by it, and enters the dirty table.
+use Rattle.std.proofs.Common.{◌≡◌, inl, inr, ℕ, true, false, Bool, List, Option, None, Some, refl, sym, ◌∙◌, ap, subst}
+use Rattle.std.specs.Prelude.{is_some}
+use Rattle.std.proofs.lemmas.Bool.{cases_eq}
+use Rattle.im_types.specs.declared.file_id.FileId.TheVariants.{Log, Pages}
+use Rattle.im_types.specs.Pages.{Page}
+use Rattle.im_types.specs.Histories.{Base, page_after}
+use Rattle.im_types.specs.Copies.{copy_in}
+use Rattle.im_types.specs.RedoPoints.{is_checkpoint}
+use Rattle.im_types.specs.Writer.{DirtyEntry, PageState, Writer}
+use Rattle.im_types.specs.WriterSteps.{MayAppend, changed, changed_entry, changed_page, first_since, only, passed}
+use Rattle.im_types.proofs.WriterAppends.{changed_kept}
+use Rattle.im_types.proofs.WriterCheckpoints.{next_point}
+use Rattle.im_types.proofs.WriterGrowth.{grown_kept}
+use Rattle.im_disk.specs.declared.disk.Disk.{Ghosts}
+use Rattle.im_disk.specs.Runs.{ChangesOnly}
+use Rattle.im_disk.proofs.Runs.{spared}
+use Rattle.im_record.specs.Entry.{Entry}
+use Rattle.im_log.specs.declared.log_file.LogFile.{LogFile}
+use Rattle.im_log.specs.LogFile.{IsOpen}
+use Rattle.im_log.specs.Spelled.{logged_at}
+use Rattle.im_log.specs.Whats.{what_of}
+use Rattle.im_log.specs.Kept.{Appended}
+use Rattle.im_pool.specs.declared.frame.Frame.{Frame}
+use Rattle.im_pool.specs.Pool.{Held, PoolView, held_of, Sets}
+use Rattle.im_flush.specs.declared.table_entry.TableEntry.{TableEntry}
+use Rattle.im_flush.specs.DirtyTable.{ChangesEntry}
+use Rattle.im_flush.specs.PageFile.{IsPageFile}
+use Rattle.im_flush.specs.Stands.{HasEntries, is_changed}
+use Rattle.im_flush.specs.Writing.{IsShown, IsPooled, IsWriting}
+use Rattle.im_flush.proofs.PageFiles.{only_here, only_other, page_file_spared}
+use Rattle.im_flush.proofs.TableSteps.{entries_put}
+use Rattle.im_flush.proofs.Goings.{pooled_same}
+
+-- ---- one page
+
+now_some : (l : ℕ) (t : Option ℕ) → true ≡ is_some (first_since l t)
+now_some l None = refl
+now_some l (Some k) = refl
+
+now_changed : (l : ℕ) (o : Option DirtyEntry) → true ≡ is_changed (Some (changed_entry l o))
+now_changed l None = refl
+now_changed l (Some e) = now_some l e.since
+
+-- what a step on one page leaves of the file
+file_only : {D : Type 0} (d : Ghosts D) (pages : ℕ → PageState) (f : PageState → PageState) (p : ℕ) (disk : D) → ((x : PageState) → ((f x).reads ≡ x.reads) × ((f x).synced ≡ x.synced) × ((f x).unsynced ≡ x.unsynced)) → IsPageFile d pages disk
+    → IsPageFile d (only p f pages) disk
+file_only d pages f p disk stays is = record {
+  reads = λ q. is.reads q ∙ sym (same q).0;
+  leaves = λ c left q unsynced. is.leaves c left q (sym (same q).2 ∙ unsynced) ∙ sym (same q).1;
+}
+  where
+    same : (q : ℕ) → ((only p f pages q).reads ≡ (pages q).reads) × ((only p f pages q).synced ≡ (pages q).synced) × ((only p f pages q).unsynced ≡ (pages q).unsynced)
+    same q = elim (cases_eq p q) [
+      | inl here ↦ subst (λ (x : PageState). (x.reads ≡ (pages q).reads) × (x.synced ≡ (pages q).synced) × (x.unsynced ≡ (pages q).unsynced)) (sym (only_here f pages p q here)) (stays (pages q))
+      | inr other ↦ subst (λ (x : PageState). (x.reads ≡ (pages q).reads) × (x.synced ≡ (pages q).synced) × (x.unsynced ≡ (pages q).unsynced)) (sym (only_other f pages p q other)) (refl, refl, refl)
+    ]
+
+-- The pool shows a page that was set there, and each other as before.
+pub pooled_set : (pool new : PoolView) (pages : ℕ → PageState) (f : PageState → PageState) (frame : Frame) (page : Page) (mark : Bool) → IsPooled pool pages → Sets frame page mark pool new → is_some (held_of pool frame.number) ≡ true
+    → page ≡ (f (pages frame.number)).page → mark ≡ is_changed (f (pages frame.number)).entry → ((x : PageState) → (f x).waits ≡ x.waits) → IsPooled new (only frame.number f pages)
+pooled_set pool new pages f frame page mark is sets held shown marked waits = record {
+  shows = λ q. elim (cases_eq frame.number q) [
+    | inl here ↦ subst (λ (n : ℕ). IsShown (held_of new n) (only frame.number f pages n)) here
+        (subst (λ (x : PageState). IsShown (held_of new frame.number) x) (sym (only_here f pages frame.number frame.number refl))
+        (subst (λ (o : Option Held). IsShown o (f (pages frame.number))) (sym sets.here) (shown, marked)))
+    | inr other ↦ subst (λ (x : PageState). IsShown (held_of new q) x) (sym (only_other f pages frame.number q other)) (subst (λ (o : Option Held). IsShown o (pages q)) (sym (sets.others q (λ e. other (sym e)))) (is.shows q))
+  ];
+  ready = λ n q holds le. still q ∙ is.ready n q (was n holds) le;
+}
+  where
+    still : (q : ℕ) → (only frame.number f pages q).waits ≡ (pages q).waits
+    still q = elim (cases_eq frame.number q) [
+      | inl here ↦ ap (λ (x : PageState). x.waits) (only_here f pages frame.number q here) ∙ waits (pages q)
+      | inr other ↦ ap (λ (x : PageState). x.waits) (only_other f pages frame.number q other)
+    ]
+
+    was : (n : ℕ) → is_some (held_of new n) ≡ true → is_some (held_of pool n) ≡ true
+    was n holds = elim (cases_eq frame.number n) [
+      | inl here ↦ subst (λ (k : ℕ). is_some (held_of pool k) ≡ true) here held
+      | inr other ↦ ap (λ (o : Option Held). is_some o) (sym (sets.others n (λ e. other (sym e)))) ∙ holds
+    ]
+
+-- ---- the whole
+
+module _ {D : Type 0} (d : Ghosts D) (b : Base) (base : ℕ) (s : Writer) (e : ℕ) (log new_log : LogFile) (table new_table : List TableEntry) (pool new_pool : PoolView) (old new : D) (entry : Entry) (lsn : ℕ) (frame : Frame)
+    (w : IsWriting d b base s log table pool old) (over : s.redo_end ≡ Some e) (copy : copy_in lsn (what_of entry) ≡ None) (point : is_checkpoint (what_of entry) ≡ false)
+    (done : Appended d base s.log s.durable entry lsn old new_log new) (here : (logged_at lsn entry).page ≡ frame.number) where
+  change_may : MayAppend b s (logged_at lsn entry)
+  change_may = record {
+    redo_end = e;
+    over = over;
+    last = done.rises b w.based;
+    exact = λ c holds. absurd (let clash : None ≡ Some c = sym copy ∙ holds in cc clash);
+    point = next_point b s (logged_at lsn entry) e w.stands.kept over (done.rises b w.based) point;
+  }
+
+  -- The append with the change of the page and its entry is one step of the writer.
+  pub changed_by : IsOpen d new_log new → ChangesOnly d Log old new → is_some (held_of pool frame.number) ≡ true → Sets frame (page_after lsn (what_of entry) (s.pages frame.number).page) true pool new_pool
+      → ChangesEntry frame.number (changed_entry lsn) table new_table → IsWriting d b base (record (changed (logged_at lsn entry) s) { durable = done.now_durable }) new_log new_table new_pool new
+  changed_by opened changes held sets enters =
+      let r = logged_at lsn entry in
+      let file = file_only d s.pages (changed_page r) r.page new (λ x. (refl, refl, refl)) (page_file_spared d s.pages old new (spared d Log Pages old new (λ same. cc) changes) w.stands.file) in
+      let entries : HasEntries new_table (only r.page (changed_page r) s.pages) = entries_put (changed_page r) (changed_entry lsn) s.pages r.page table new_table (λ x. refl) w.entries
+      (subst (λ (n : ℕ). ChangesEntry n (changed_entry lsn) table new_table) (sym here) enters) in
+      let pooled = subst (λ (n : ℕ). IsPooled new_pool (only n (changed_page r) s.pages)) (sym here)
+      (pooled_set pool new_pool s.pages (changed_page r) frame (page_after lsn (what_of entry) (s.pages frame.number).page) true w.pooled sets held refl (now_changed lsn (s.pages frame.number).entry) (λ x. refl)) in
+      record {
+        stands = record {
+          kept = grown_kept b (changed r s) done.now_durable done.grows done.log.front (changed_kept b s r w.stands.kept change_may);
+          ready = opened;
+          log_is = done.log;
+          file = record { reads = file.reads; leaves = file.leaves };
+          tied = λ q. inl (entries q);
+        };
+        entries = entries;
+        pooled = pooled_same new_pool (only r.page (changed_page r) s.pages) (λ q. passed lsn (only r.page (changed_page r) s.pages q)) (λ q. refl) (λ q. refl) (λ q. refl) pooled;
+        based = w.based;
+      }

@@ -1,0 +1,43 @@
+use Rattle.std.proofs.Common.{◌≡◌, inl, inr, refl, sym, ap, ◌∙◌, rules, arith}
+use Rattle.im_types.specs.declared.file_id.FileId.TheVariants.{Pages}
+use Rattle.im_disk.specs.Disk.{Files}
+use Rattle.im_page.specs.PageFile.{page_count}
+use Rattle.im_flush.proofs.Growing.{on_ok}
+use Rattle.im_flush.proofs.Goings.{leaves_then}
+use Rattle.im_flush.proofs.Flushing.{flushed_last, flushed_then, goes_read, leaves_read, may_flush}
+use Rattle.im_flush.proofs.flush.flush_page.Goals as goal
+
+pub returns-in_err-count-clause-kept : goal.returns-in_err-count-clause-kept
+returns-in_err-count-clause-kept g c b base s w = record {
+  ok = search rules;
+  stops = leaves_read g.D.Disk b base s c.args.log.now c.args.table.now c.args.pool.now c.args.disk.now c.count_pages.new.disk (g.met.D.Disk.only_now c.args.disk.now) w c.count_pages.ensures.reads;
+}
+
+pub returns-then-number-count-clause-kept : goal.returns-then-number-count-clause-kept
+returns-then-number-count-clause-kept g c b base s w =
+    let goes =
+    goes_read g.D.Disk b base s c.args.log.now c.args.table.now c.args.pool.now c.args.disk.now c.count_pages.new.disk (g.met.D.Disk.only_now c.args.disk.now) w c.count_pages.ensures.reads c.in_ok-count.ensures.answers.noted in
+    let asks = may_flush g.D.Disk b base s c.args.log.now c.args.table.now c.args.pool.now c.count_pages.new.disk c.args.number c.args.number goes.writing c.requires.changed (inl refl) in
+    let k = c.flush_range.ensures.kept b base s goes.writing asks in
+    record {
+      ok = on_ok c.flush_range.result _ _ k.ok
+          (λ is. flushed_then g.D.Disk b base s s c.args.number c.args.number c.args.disk.now c.count_pages.new.disk c.flush_range.new.disk c.args.log.now c.flush_range.new.log c.args.table.now c.flush_range.new.table c.args.pool.now
+          c.flush_range.new.pool goes is);
+      stops = leaves_then g.D.Disk b base s c.args.disk.now s c.args.log.now c.args.table.now c.args.pool.now c.count_pages.new.disk goes c.flush_range.new.disk k.stops;
+    }
+
+pub returns-clause-kept : goal.returns-clause-kept
+returns-clause-kept g c b base s w =
+    let goes =
+    goes_read g.D.Disk b base s c.args.log.now c.args.table.now c.args.pool.now c.args.disk.now c.count_pages.new.disk (g.met.D.Disk.only_now c.args.disk.now) w c.count_pages.ensures.reads c.in_ok-count.ensures.answers.noted in
+    let first = c.in_ok-count.count in
+    let counted : page_count (g.D.Disk.seen c.count_pages.new.disk Pages) ≡ first = ap (λ (f : Files). page_count (f Pages)) c.count_pages.ensures.reads.seen ∙ sym (c.in_ok-count.ensures.count w.stands.log_is.tells) in
+    let asks = may_flush g.D.Disk b base s c.args.log.now c.args.table.now c.args.pool.now c.count_pages.new.disk first c.args.number goes.writing c.requires.changed (inr (omega (arith, counted))) in
+    let k = c.flush_range-2.ensures.kept b base s goes.writing asks in
+    record {
+      ok = on_ok c.flush_range-2.result _ _ k.ok
+          (λ is. flushed_last g.D.Disk b base s first c.args.number c.args.disk.now c.flush_range-2.new.log c.flush_range-2.new.table c.flush_range-2.new.pool c.flush_range-2.new.disk c.if-number-count.false
+          (flushed_then g.D.Disk b base s s first c.args.number c.args.disk.now c.count_pages.new.disk c.flush_range-2.new.disk c.args.log.now c.flush_range-2.new.log c.args.table.now c.flush_range-2.new.table c.args.pool.now
+          c.flush_range-2.new.pool goes is));
+      stops = leaves_then g.D.Disk b base s c.args.disk.now s c.args.log.now c.args.table.now c.args.pool.now c.count_pages.new.disk goes c.flush_range-2.new.disk k.stops;
+    }

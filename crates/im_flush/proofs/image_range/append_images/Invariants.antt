@@ -1,0 +1,21 @@
+use Rattle.std.proofs.Common.{◌≡◌, ◌≤◌, ℕ, false, List, vec_capacity}
+use Rattle.im_types.specs.declared.file_id.FileId.TheVariants.{Log}
+use Rattle.im_types.specs.Histories.{Base}
+use Rattle.im_types.specs.Writer.{Writer}
+use Rattle.im_disk.specs.Runs.{ChangesOnly}
+use Rattle.im_log.specs.LogFile.{IsOpen}
+use Rattle.im_flush.specs.declared.table_entry.TableEntry.{TableEntry}
+use Rattle.im_flush.specs.declared.image_range.TheConstants.{NOTED}
+use Rattle.im_flush.specs.Writing.{IsWriting, ImagesTo, MayCopy}
+use Rattle.im_flush.proofs.image_range.append_images.Given as goal
+
+abbrev pub invariant-loop-number : goal.invariant-loop-number
+invariant-loop-number g l = record {
+  low : l.fn.first ≤ l.number;
+  ready : IsOpen g.D.Disk l.log l.disk;
+  working : l.log.failed ≡ false;
+  room : NOTED ≤ vec_capacity l.lsns;
+  changes : ChangesOnly g.D.Disk Log l.fn.disk l.disk;
+  kept : (b : Base) (base : ℕ) (s : Writer) (table : List TableEntry) → IsWriting g.D.Disk b base s l.fn.log table l.fn.pool l.fn.disk → ((q : ℕ) → l.fn.first ≤ q → q ≤ l.fn.last → MayCopy s l.fn.pool q)
+      → ImagesTo g.D.Disk b base s l.fn.first l.number l.lsns.items l.fn.disk l.log table l.fn.pool l.disk;
+}

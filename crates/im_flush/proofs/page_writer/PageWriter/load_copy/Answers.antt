@@ -1,0 +1,38 @@
+use Rattle.std.proofs.Common.{refl, ◌∙◌, rules}
+use Rattle.im_record.specs.Entry.{view, page_of}
+use Rattle.im_log.specs.Whats.{what_of}
+use Rattle.im_flush.proofs.Growing.{on_ok}
+use Rattle.im_flush.proofs.Goings.{leaves_so_far}
+use Rattle.im_flush.proofs.Redoing.{copy_loaded, load_taken, not_no_store}
+use Rattle.im_flush.proofs.page_writer.PageWriter.load_copy.Goals as goal
+
+pub returns-in_err-make_rooms-clause-kept : goal.returns-in_err-make_rooms-clause-kept
+returns-in_err-make_rooms-clause-kept g c b base s copy is over at holds waits found low =
+    record { ok = search rules; stops = (c.in_err-make_rooms.ensures.kept b base s is).stops; cause = search rules }
+
+pub returns-clause-kept : goal.returns-clause-kept
+returns-clause-kept g c b base s copy is over at holds waits found low =
+    let room = (c.in_ok-make_rooms.ensures.kept b base s is).ok in
+    let mid = c.make_rooms.new.self in
+    let disk = c.make_rooms.new.disk in
+    let new = c.put_copy.new.self in
+    let t = room.now in
+    let keeps = room.on.goes.keeps in
+    let p = page_of (view c.args.record.now) in
+    let what = what_of (view c.args.record.now) in
+    let going = keeps.redo_end ∙ over in
+    let waits_still = (keeps.pages p).waits ∙ waits in
+    record {
+      ok = on_ok c.put_copy.result _ _ c.put_copy.ensures.ok (λ here. record {
+        before = t;
+        keeps = keeps;
+        stops = room.on.goes.stops;
+        stands = record {
+          working = c.put_copy.ensures.failed ∙ room.on.working;
+          writing = copy_loaded g.D.Disk b base t mid.log mid.table mid.pool disk room.on.goes.writing going p c.args.lsn c.page-number.result copy what c.args.point mid new (keeps.point ∙ at) holds waits_still ((keeps.pages p).found ∙ found)
+              (λ q lt. (keeps.pages q).waits ∙ low q lt) refl refl refl c.put_copy.ensures.log c.page-number.ensures here;
+        };
+      });
+      stops = leaves_so_far g.D.Disk b base s c.args.disk.now t mid.log mid.table mid.pool disk room.on.goes;
+      cause = not_no_store c.put_copy.result _ (load_taken g.D.Disk b base t mid.log mid.table mid.pool disk room.on.goes.writing going p c.args.lsn c.page-number.result copy what holds waits_still c.page-number.ensures) c.put_copy.ensures.refused;
+    }

@@ -1,0 +1,43 @@
+use Rattle.std.proofs.Common.{ℕ, ap, subst, sym, ◌∙◌, rules}
+use Rattle.im_types.specs.Pages.{Page}
+use Rattle.im_page.specs.Header.{initial}
+use Rattle.im_pool.specs.Pool.{held_of}
+use Rattle.im_flush.specs.LeafChange.{CanTakeKey}
+use Rattle.im_flush.proofs.Growing.{if_ok}
+use Rattle.im_flush.proofs.Goings.{leaves_last, leaves_so_far}
+use Rattle.im_flush.proofs.LoggedChanges.{at_shows, err_on, failed_cause, failed_none}
+use Rattle.im_flush.proofs.page_writer.PageWriter.log_take.Goals as goal
+
+pub returns-in_err-frame-clause-kept : goal.returns-in_err-frame-clause-kept
+returns-in_err-frame-clause-kept g c b base s e is over =
+    let k = c.in_err-frame.ensures.kept b base s is (λ q le. ((is.writing.stands.kept.pages q).run e over).0) in
+    let same = c.from_residual.ensures.1 in
+    record { ok = search rules; stops = k.stops; cause = λ takes. err_on c.from_residual.result c.in_err-frame.field-0.0 _ same k.cause; again = err_on c.from_residual.result c.in_err-frame.field-0.0 _ same k.again }
+
+pub returns-in_err-i-clause-kept : goal.returns-in_err-i-clause-kept
+returns-in_err-i-clause-kept g c b base s e is over =
+    let held = (c.in_ok-frame.ensures.kept b base s is (λ q le. ((is.writing.stands.kept.pages q).run e over).0)).ok in
+    let w = c.hold_with_room.new.self in
+    let frame = c.in_ok-frame.frame in
+    let page = c.page.ensures.page
+    ∙ at_shows (held_of w.pool frame.number) frame.place (held.now.pages frame.number) (initial 0) c.in_ok-frame.ensures.at (held.on.goes.writing.pooled.shows frame.number)
+    ∙ (held.on.goes.keeps.pages frame.number).page
+    ∙ ap (λ (n : ℕ). (s.pages n).page) (c.in_ok-frame.ensures.frame ∙ sym c.requires.page) in
+    record {
+      ok = search rules;
+      stops = leaves_so_far g.D.Disk b base s c.args.disk.now held.now w.log w.table w.pool c.hold_with_room.new.disk held.on.goes;
+      cause = λ takes. absurd (c.in_err-i.ensures.refused.1 (subst (λ (x : Page). CanTakeKey x c.args.key.now) (sym page) (c.requires.what.takes _ takes)));
+      again = err_on c.from_residual-in_err-i.result c.in_err-i.field-0.0 _ c.from_residual-in_err-i.ensures.1 (λ why. record { now = held.now; on = held.on });
+    }
+
+pub returns-clause-kept : goal.returns-clause-kept
+returns-clause-kept g c b base s e is over =
+    let held = (c.in_ok-frame.ensures.kept b base s is (λ q le. ((is.writing.stands.kept.pages q).run e over).0)).ok in
+    let w = c.hold_with_room.new.self in
+    let k = c.take_logged.ensures.kept b base held.now e (record { working = held.on.working; writing = held.on.goes.writing }) (held.on.goes.keeps.redo_end ∙ over) in
+    record {
+      ok = if_ok c.take_logged.result _ _ k.ok (λ lsn done. record { before = held.now; keeps = held.on.goes.keeps; logged = done });
+      stops = leaves_last g.D.Disk b base s c.args.disk.now held.now w.log w.table w.pool c.hold_with_room.new.disk held.on.goes c.take_logged.new.disk k.stops;
+      cause = λ takes. failed_cause c.take_logged.result c.take_logged.ensures.causes;
+      again = failed_none c.take_logged.result _ c.take_logged.ensures.causes;
+    }

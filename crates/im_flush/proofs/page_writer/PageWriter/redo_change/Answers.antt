@@ -1,0 +1,30 @@
+use Rattle.std.proofs.Common.{◌≤◌, ℕ, sym, subst}
+use Rattle.im_record.specs.Entry.{view, page_of}
+use Rattle.im_log.specs.Spelled.{logged_at}
+use Rattle.im_flush.proofs.Goings.{leaves_so_far}
+use Rattle.im_flush.proofs.Growing.{keeps_none}
+use Rattle.im_flush.proofs.RedoneRecords.{applies_none, redone_none}
+use Rattle.im_flush.proofs.Writers.{goes_on_start}
+use Rattle.im_flush.proofs.page_writer.PageWriter.redo_change.Goals as goal
+
+pub returns-then-not-may_change-clause-kept : goal.returns-then-not-may_change-clause-kept
+returns-then-not-may_change-clause-kept g c b base s newer older is over at there from ready =
+    let w = c.args.self.now in
+    let old = c.args.disk.now in
+    let r = logged_at c.args.lsn (view c.args.record.now) in
+    let none = c.may_change.ensures c.if-not-may_change.true in
+    let on = goes_on_start g.D.Disk b base s w old (g.met.D.Disk.only_now old) is in
+    record {
+      ok = record {
+        before = s;
+        keeps = keeps_none b s;
+        stops = on.goes.stops;
+        stands = record {
+          working = is.working;
+          writing = redone_none g.D.Disk b base s w.log w.table w.pool old is.writing over r newer older there (subst (λ (k : ℕ). k ≤ c.args.lsn) (sym at) from) ready (λ q. applies_none r q (s.pages q).page none);
+        };
+      };
+      applied = sym (applies_none r (page_of (view c.args.record.now)) (s.pages (page_of (view c.args.record.now))).page none);
+      stops = leaves_so_far g.D.Disk b base s old s w.log w.table w.pool old on.goes;
+      cause = λ takes. tt;
+    }

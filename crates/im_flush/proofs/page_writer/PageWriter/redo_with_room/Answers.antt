@@ -1,0 +1,45 @@
+use Rattle.std.proofs.Common.{◌≡◌, ◌<◌, ◌≤◌, ◌++◌, ℕ, true, refl, sym, ◌∙◌, ap, subst, rules}
+use Rattle.im_types.specs.Pages.{Page}
+use Rattle.im_types.specs.WriterSteps.{applies}
+use Rattle.im_record.specs.Entry.{view, page_of}
+use Rattle.im_log.specs.Spelled.{logged_at}
+use Rattle.im_flush.specs.Redoing.{TakesRecord}
+use Rattle.im_flush.proofs.Goings.{leaves_so_far}
+use Rattle.im_flush.proofs.Growing.{if_ok}
+use Rattle.im_flush.proofs.Redoing.{not_no_store}
+use Rattle.im_flush.proofs.RedoneRecords.{applies_is, on_of, redone_here, ready_still, taker_there, there_still}
+use Rattle.im_flush.proofs.page_writer.PageWriter.redo_with_room.Goals as goal
+
+pub returns-in_err-make_entry_room-clause-kept : goal.returns-in_err-make_entry_room-clause-kept
+returns-in_err-make_entry_room-clause-kept g c b base s newer older is over at there from ready below =
+    record { ok = search rules; applied = search rules; stops = (c.in_err-make_entry_room.ensures.kept b base s is).stops; cause = λ takes. search rules }
+
+pub returns-clause-kept : goal.returns-clause-kept
+returns-clause-kept g c b base s newer older is over at there from ready below =
+    let room = (c.in_ok-make_entry_room.ensures.kept b base s is).ok in
+    let t = room.now in
+    let mid = c.make_entry_room.new.self in
+    let disk = c.make_entry_room.new.disk in
+    let new = c.redo_held.new.self in
+    let keeps = room.on.goes.keeps in
+    let r = logged_at c.args.lsn (view c.args.record.now) in
+    let n = c.args.number in
+    let number : n ≡ page_of (view c.args.record.now) = sym c.requires.page in
+    let page_is : (t.pages n).page ≡ (s.pages (page_of (view c.args.record.now))).page = (keeps.pages n).page ∙ ap (λ (k : ℕ). (s.pages k).page) number in
+    let below_s : (s.pages r.page).page.lsn < c.args.lsn = subst (λ (k : ℕ). (s.pages k).page.lsn < c.args.lsn) number below in
+    let below_t : (t.pages r.page).page.lsn < c.args.lsn = subst (λ (g : Page). g.lsn < c.args.lsn) (sym (keeps.pages r.page).page) below_s in
+    let step = redone_here g.D.Disk b base t mid.log mid.table mid.pool disk room.on.goes.writing (keeps.redo_end ∙ over) r (keeps.durable.newer ++ newer) older (there_still b s t keeps r newer older there)
+    (subst (λ (k : ℕ). k ≤ c.args.lsn) (sym (keeps.point ∙ at)) from) (ready_still b s t keeps r newer older ready) in
+    record {
+      ok = on_of c.redo_held.result _ _ c.redo_held.ensures.ok (λ done here. record {
+        before = t;
+        keeps = keeps;
+        stops = room.on.goes.stops;
+        stands = record { working = c.redo_held.ensures.failed ∙ room.on.working; writing = step c.args.point n done new.log mid new refl refl (keeps.point ∙ at) number below_t c.redo_held.ensures.log here };
+      });
+      applied = if_ok c.redo_held.result _ _ c.redo_held.ensures.ok (λ done here. here.applied.changes ∙ sym (applies_is r (s.pages r.page).page below_s));
+      stops = leaves_so_far g.D.Disk b base s c.args.disk.now t mid.log mid.table mid.pool disk room.on.goes;
+      cause = λ takes. not_no_store c.redo_held.result _
+          (taker_there r mid.pool n (t.pages n) number (room.on.goes.writing.pooled.shows n) (subst (λ (g : Page). g.lsn < c.args.lsn) (sym page_is) below_s)
+          (subst (λ (g : Page). applies r r.page g ≡ true → TakesRecord r.what g) (sym page_is) takes)) c.redo_held.ensures.refused;
+    }

@@ -1,0 +1,134 @@
+//! The Images of a flush, in rising page number.
+ghost use Rattle.std.specs.Prelude.{◌≡◌, ◌≢◌, ◌≤◌, ◌<◌, ◌+◌, ◌-◌, ◌⊎◌, ◌↔◌, ℕ, List, [], false, true, not, is_ok, length, min, vec_capacity, slice_index_or, IfErr, OnOk};
+ghost use Rattle.im_types.specs.declared.fault.Fault.TheVariants.{Device, Failed, LogFull};
+ghost use Rattle.im_types.specs.declared.file_id.FileId.TheVariants.{Log};
+ghost use Rattle.im_types.specs.Histories.{Base};
+ghost use Rattle.im_types.specs.Writer.{Writer};
+ghost use Rattle.im_disk.specs.Runs.{ChangesOnly};
+ghost use Rattle.im_log.specs.LogFile.{HasNoRoom, IsOpen};
+ghost use Rattle.im_flush.specs.declared.table_entry.TableEntry.{TableEntry};
+ghost use Rattle.im_flush.specs.Writing.{with_lsn, lsn_for, IsWriting, MayCopy, CopyKept, ImagesKept, DurableKept};
+
+use crate::append_image;
+use im_disk::Disk;
+use im_log::LogFile;
+use im_page::Page;
+use im_pool::Pool;
+use im_types::{Fault, Lsn, PageNo};
+
+/// How many LSNs are noted.
+const NOTED: usize = 1_024;
+
+// Notes the LSN of an Image, where there is room for it.
+fn note(lsns: &mut Vec<Lsn>, lsn: Lsn)
+    requires room { NOTED ≤ vec_capacity lsns.old }
+    ensures items { lsns.new.items ≡ with_lsn lsn lsns.old.items }
+    ensures room { NOTED ≤ vec_capacity lsns.new }
+{
+    if lsns.len() < NOTED {
+        lsns.push(lsn).unwrap();
+    }
+}
+
+/// The LSN of the Image of the page at a place of a flush; behind the last one that is noted that one, which is no later.
+pub(crate) fn lsn_of(lsns: &[Lsn], place: u64) -> Lsn
+    ensures { result ≡ lsn_for lsns.now place }
+{
+    let at = if place < 1_023 { place as usize } else { 1_023 };
+    if at < lsns.len() { lsns[at] } else { 0 }
+}
+
+// Adds the Image of a page to the log: as the pool has it, and of one that it doesn't hold, which stands past the file's end, the
+// initial page.
+fn append_one<D: Disk>(
+    disk: &mut D,
+    log: &mut LogFile,
+    pool: &Pool,
+    spare: &mut Page,
+    number: PageNo,
+) -> Result<Lsn, Fault>
+    requires ready { IsOpen D.Disk log.old disk.old }
+    requires working { log.old.failed ≡ false }
+    ensures ready { IsOpen D.Disk log.new disk.new }
+    ensures kept { (b : Base) (base : ℕ) (s : Writer) (table : List TableEntry) → IsWriting D.Disk b base s log.old table pool.now disk.old
+        → MayCopy s pool.now number → CopyKept D.Disk b base s number disk.old log.new table pool.now disk.new result }
+    ensures changes { ChangesOnly D.Disk Log disk.old disk.new }
+    ensures failed { log.new.failed ≡ not (is_ok result) }
+    ensures causes { IfErr result (λ e. (e ≡ LogFull) ⊎ (e ≡ Device)) }
+    ensures no_room { result ≡ Err LogFull → HasNoRoom log.new }
+    ensures device { result ≡ Err Device ↔ (D.failed disk.new ≡ true) }
+{
+    match pool.find(number) {
+        Some(frame) => append_image(disk, log, pool.page(frame).bytes(), number),
+        None => {
+            spare.reset(number);
+            append_image(disk, log, spare.bytes(), number)
+        }
+    }
+}
+
+/// Adds the Images of a range of pages to the log, in rising page number, and notes their LSNs, the first 1,024. The log is
+/// forced where one does not fit into its buffer.
+///
+/// Refused `LogFull` or `Device`.
+pub(crate) fn append_images<D: Disk>(
+    disk: &mut D,
+    log: &mut LogFile,
+    pool: &Pool,
+    spare: &mut Page,
+    lsns: &mut Vec<Lsn>,
+    first: PageNo,
+    last: PageNo,
+) -> Result<(), Fault>
+    requires ready { IsOpen D.Disk log.old disk.old }
+    requires working { log.old.failed ≡ false }
+    requires room { NOTED ≤ vec_capacity lsns.old }
+    requires order { first ≤ last }
+    ensures ready { IsOpen D.Disk log.new disk.new }
+    ensures kept { (b : Base) (base : ℕ) (s : Writer) (table : List TableEntry) → IsWriting D.Disk b base s log.old table pool.now disk.old
+        → ((q : ℕ) → first ≤ q → q ≤ last → MayCopy s pool.now q) → ImagesKept D.Disk b base s first last lsns.new.items disk.old log.new table pool.now disk.new result }
+    ensures changes { ChangesOnly D.Disk Log disk.old disk.new }
+    ensures failed { log.new.failed ≡ not (is_ok result) }
+    ensures room { NOTED ≤ vec_capacity lsns.new }
+    ensures causes { IfErr result (λ e. (e ≡ LogFull) ⊎ (e ≡ Device)) }
+    ensures no_room { result ≡ Err LogFull → HasNoRoom log.new }
+    ensures device { result ≡ Err Device ↔ (D.failed disk.new ≡ true) }
+{
+    lsns.clear();
+    for number in first as u64..last as u64 + 1 {
+        let lsn = append_one(disk, log, pool, spare, number as u32)?;
+        note(lsns, lsn);
+    }
+    Ok(())
+}
+
+/// Brings the Images of a range of pages into the log, and forces it.
+///
+/// Refused `LogFull` or `Device`.
+pub(crate) fn log_images<D: Disk>(
+    disk: &mut D,
+    log: &mut LogFile,
+    pool: &Pool,
+    spare: &mut Page,
+    lsns: &mut Vec<Lsn>,
+    first: PageNo,
+    last: PageNo,
+) -> Result<(), Fault>
+    requires ready { IsOpen D.Disk log.old disk.old }
+    requires working { log.old.failed ≡ false }
+    requires room { NOTED ≤ vec_capacity lsns.old }
+    requires order { first ≤ last }
+    ensures ready { IsOpen D.Disk log.new disk.new }
+    ensures kept { (b : Base) (base : ℕ) (s : Writer) (table : List TableEntry) → IsWriting D.Disk b base s log.old table pool.now disk.old
+        → ((q : ℕ) → first ≤ q → q ≤ last → MayCopy s pool.now q) → DurableKept D.Disk b base s first last lsns.new.items disk.old log.new table pool.now disk.new result }
+    ensures changes { ChangesOnly D.Disk Log disk.old disk.new }
+    ensures failed { log.new.failed ≡ not (is_ok result) }
+    ensures room { NOTED ≤ vec_capacity lsns.new }
+    ensures causes { IfErr result (λ e. (e ≡ LogFull) ⊎ (e ≡ Device)) }
+    ensures no_room { result ≡ Err LogFull → HasNoRoom log.new }
+    ensures device { result ≡ Err Device ↔ (D.failed disk.new ≡ true) }
+{
+    append_images(disk, log, pool, spare, lsns, first, last)?;
+    log.force(disk)?;
+    Ok(())
+}

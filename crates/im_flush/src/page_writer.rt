@@ -1,0 +1,370 @@
+//! The writer of pages.
+ghost use Rattle.std.specs.Prelude.{◌≡◌, ◌≢◌, ◌≤◌, ◌<◌, ◌+◌, ◌^◌, ◌⊎◌, ◌↔◌, ℕ, List, [], None, Some, Ok, Err, false, true, not, is_ok, is_some, length, vec_capacity, IsOk, IfErr, IfOk, OnOk};
+ghost use Rattle.im_types.specs.declared.fault.Fault.TheVariants.{Device, Failed, LogFull, Memory, NotAStore};
+ghost use Rattle.im_types.specs.Histories.{Base};
+ghost use Rattle.im_types.specs.Writer.{Writer};
+ghost use Rattle.im_log.specs.LogFile.{end_with, HasNoRoom, IsOpen};
+
+use crate::flush::flush_page;
+use crate::{DirtyTable, sync_pages};
+use im_disk::Disk;
+use im_log::LogFile;
+use im_page::Page;
+use im_pool::{Frame, Pool};
+use im_record::Record;
+use im_types::{Fault, Lsn, PageNo};
+use std::alloc::Global;
+
+mod changes;
+mod redo;
+mod structure;
+#[cfg(test)]
+mod tests;
+
+/// The pages of a store in a bounded pool over its file, with the log that goes before every write. It owns no disk.
+#[derive(Drop)]
+pub struct PageWriter {
+    log: LogFile,
+    pool: Pool,
+    table: DirtyTable,
+    /// The LSNs of a flush's Images.
+    lsns: Vec<Lsn>,
+    /// A page past the file's end that is written along.
+    spare: Box<Page>,
+    failed: bool,
+    ghost noted: { 1024 ≤ vec_capacity lsns },
+}
+
+impl PageWriter {
+    ghost use Rattle.im_pool.specs.Pool.{held_of, is_changed, page_at, Evicts, Holds, IsAt};
+    ghost use Rattle.im_types.specs.WriterSteps.{forced, synced};
+    ghost use Rattle.im_flush.specs.DirtyTable.{synced_entries};
+    ghost use Rattle.im_record.specs.Entry.{view};
+    ghost use Rattle.im_record.specs.Spelling.{IsEntry, size_of};
+    ghost use Rattle.im_log.specs.Whats.{what_of};
+    ghost use Rattle.im_flush.specs.Writing.{SameHeld};
+    ghost use Rattle.im_flush.specs.PageWriter.{IsReadyWriter, StandsAs, FlushOneKept, EvictKept, GetKept, StepKept, OldestKept, RoomKept, IsPlain, LogKept};
+
+    /// Writes a page in place, if it was changed since it was read or written: it alone, where the file has it, and past the file's
+    /// end every page from the page count up to it, unchanged ones too. First the Images of these pages join the log, in rising
+    /// page number, then the log is forced, then the pages are written in rising number. A page without a change takes no call.
+    ///
+    /// Refused `LogFull`, `Device`, or `Failed` after a call that failed so; every later call is then refused `Failed`.
+    pub fn flush_one<D: Disk>(&mut self, disk: &mut D, number: PageNo) -> Result<(), Fault>
+        requires ready { IsReadyWriter D.Disk self.old disk.old }
+        ensures ready { IsReadyWriter D.Disk self.new disk.new }
+        ensures kept { (b : Base) (base : ℕ) (s : Writer) → StandsAs D.Disk b base s self.old disk.old → FlushOneKept D.Disk b base s number disk.old self.new disk.new result }
+        ensures unchanged { self.old.failed ≡ false → is_changed self.old.pool number ≡ false → (result ≡ Ok tt) × (self.new ≡ self.old) × (disk.new ≡ disk.old) }
+        ensures held { OnOk result (SameHeld self.old.pool self.new.pool) }
+        ensures failed { self.new.failed ≡ not (is_ok result) }
+        ensures causes { IfErr result (λ e. (e ≡ Failed) ⊎ (e ≡ LogFull) ⊎ (e ≡ Device)) }
+        ensures no_room { result ≡ Err LogFull → HasNoRoom self.new.log }
+        ensures already { result ≡ Err Failed ↔ (self.old.failed ≡ true) }
+        ensures device { self.old.failed ≡ false → result ≡ Err Device ↔ (D.failed disk.new ≡ true) }
+    {
+        if self.failed {
+            return Err(Fault::Failed);
+        }
+        match self.pool.find(number) {
+            None => Ok(()),
+            Some(frame) => {
+                if self.pool.is_changed(frame) {
+                    self.flush_changed(disk, number)
+                } else {
+                    Ok(())
+                }
+            }
+        }
+    }
+
+    // The same of a page that was changed.
+    fn flush_changed<D: Disk>(&mut self, disk: &mut D, number: PageNo) -> Result<(), Fault>
+        requires ready { IsReadyWriter D.Disk self.old disk.old }
+        requires working { self.old.failed ≡ false }
+        requires changed { is_changed self.old.pool number ≡ true }
+        ensures ready { IsReadyWriter D.Disk self.new disk.new }
+        ensures kept { (b : Base) (base : ℕ) (s : Writer) → StandsAs D.Disk b base s self.old disk.old → FlushOneKept D.Disk b base s number disk.old self.new disk.new result }
+        ensures held { OnOk result (SameHeld self.old.pool self.new.pool) }
+        ensures failed { self.new.failed ≡ not (is_ok result) }
+        ensures causes { IfErr result (λ e. (e ≡ LogFull) ⊎ (e ≡ Device)) }
+        ensures no_room { result ≡ Err LogFull → HasNoRoom self.new.log }
+        ensures device { result ≡ Err Device ↔ (D.failed disk.new ≡ true) }
+    {
+        self.failed = true;
+        flush_page(
+            disk,
+            &mut self.log,
+            &mut self.table,
+            &mut self.pool,
+            &mut self.spare,
+            &mut self.lsns,
+            number,
+        )?;
+        self.failed = false;
+        Ok(())
+    }
+
+    // A page is held no more.
+    fn drop_page(&mut self, number: PageNo)
+        requires held { Holds self.old.pool number }
+        ensures evicts { Evicts number self.old.pool self.new.pool }
+        ensures free { length self.new.pool.held < self.new.pool.frames }
+        ensures log { self.new.log ≡ self.old.log }
+        ensures table { self.new.table ≡ self.old.table }
+        ensures failed { self.new.failed ≡ self.old.failed }
+    {
+        let _held = self.pool.len();
+        self.pool.evict(number);
+    }
+
+    // Makes a frame free: the least recently used page is written, if it was changed, and held no more.
+    fn evict_oldest<D: Disk>(&mut self, disk: &mut D) -> Result<(), Fault>
+        requires ready { IsReadyWriter D.Disk self.old disk.old }
+        requires working { self.old.failed ≡ false }
+        ensures ready { IsReadyWriter D.Disk self.new disk.new }
+        ensures kept { (b : Base) (base : ℕ) (s : Writer) → StandsAs D.Disk b base s self.old disk.old → EvictKept D.Disk b base s disk.old self.new disk.new result }
+        ensures free { OnOk result (length self.new.pool.held < self.new.pool.frames) }
+        ensures gets { OnOk result (self.new.pool.gets ≡ self.old.pool.gets) }
+        ensures works { OnOk result (self.new.failed ≡ false) }
+        ensures fails { IfErr result (λ e. (self.new.failed ≡ false) ↔ ((e ≡ Memory) ⊎ (e ≡ NotAStore))) }
+        ensures causes { IfErr result (λ e. (e ≡ Memory) ⊎ (e ≡ LogFull) ⊎ (e ≡ Device)) }
+        ensures no_room { result ≡ Err LogFull → HasNoRoom self.new.log }
+        ensures device { result ≡ Err Device ↔ (D.failed disk.new ≡ true) }
+    {
+        let Some(frame) = self.pool.oldest() else {
+            return Err(Fault::Memory);
+        };
+        self.flush_one(disk, frame.number)?;
+        self.drop_page(frame.number);
+        Ok(())
+    }
+
+    // Makes a frame free for a page that is not held, where none is.
+    fn make_room<D: Disk>(&mut self, disk: &mut D, number: PageNo) -> Result<(), Fault>
+        requires ready { IsReadyWriter D.Disk self.old disk.old }
+        requires working { self.old.failed ≡ false }
+        ensures ready { IsReadyWriter D.Disk self.new disk.new }
+        ensures kept { (b : Base) (base : ℕ) (s : Writer) → StandsAs D.Disk b base s self.old disk.old → EvictKept D.Disk b base s disk.old self.new disk.new result }
+        ensures room { OnOk result (Holds self.new.pool number ⊎ (length self.new.pool.held < self.new.pool.frames)) }
+        ensures gets { OnOk result (self.new.pool.gets ≡ self.old.pool.gets) }
+        ensures works { OnOk result (self.new.failed ≡ false) }
+        ensures fails { IfErr result (λ e. (self.new.failed ≡ false) ↔ ((e ≡ Memory) ⊎ (e ≡ NotAStore))) }
+        ensures causes { IfErr result (λ e. (e ≡ Memory) ⊎ (e ≡ LogFull) ⊎ (e ≡ Device)) }
+        ensures no_room { result ≡ Err LogFull → HasNoRoom self.new.log }
+        ensures device { result ≡ Err Device ↔ (D.failed disk.new ≡ true) }
+        ensures held { Holds self.old.pool number → (result ≡ Ok tt) × (self.new ≡ self.old) × (disk.new ≡ disk.old) }
+    {
+        if self.pool.holds(number) {
+            return Ok(());
+        }
+        if !self.pool.is_full() {
+            return Ok(());
+        }
+        self.evict_oldest(disk)
+    }
+
+    // Where a page is held from now on, for which there is room.
+    fn hold<D: Disk>(&mut self, disk: &mut D, number: PageNo) -> Result<Frame, Fault>
+        requires ready { IsReadyWriter D.Disk self.old disk.old }
+        requires working { self.old.failed ≡ false }
+        requires room { Holds self.old.pool number ⊎ (length self.old.pool.held < self.old.pool.frames) }
+        ensures ready { IsReadyWriter D.Disk self.new disk.new }
+        ensures kept { (b : Base) (base : ℕ) (s : Writer) → StandsAs D.Disk b base s self.old disk.old → ((q : ℕ) → q ≤ number → (s.pages q).waits ≡ false)
+            → GetKept D.Disk b base s number disk.old self.new disk.new result }
+        ensures at { IfOk result (IsAt self.new.pool) }
+        ensures frame { IfOk result (λ frame. frame.number ≡ number) }
+        ensures gets { IfOk result (λ _. self.new.pool.gets ≡ self.old.pool.gets + 1) }
+        ensures held { Holds self.old.pool number → IsOk result }
+        ensures works { OnOk result (self.new.failed ≡ false) }
+        ensures fails { IfErr result (λ e. (self.new.failed ≡ false) ↔ ((e ≡ Memory) ⊎ (e ≡ NotAStore))) }
+        ensures causes { IfErr result (λ e. (e ≡ Memory) ⊎ (e ≡ NotAStore) ⊎ (e ≡ Device)) }
+        ensures device { result ≡ Err Device ↔ (D.failed disk.new ≡ true) }
+    {
+        match self.pool.get(disk, number) {
+            Ok(frame) => Ok(frame),
+            Err(fault) => {
+                self.failed = fault == Fault::Device;
+                Err(fault)
+            }
+        }
+    }
+
+    /// Where a page is held from now on, as the most recently used. A page that is held takes no call of the disk; for one that is
+    /// not, where no frame is free, the least recently used page goes first, as `flush_one` writes it where it was changed. One get
+    /// is counted, and none for the page that goes.
+    ///
+    /// Refused `Failed` after a call that failed, `LogFull`, `Device`, `Memory`, or `NotAStore` where the page's bytes are none;
+    /// behind the last two the writer goes on.
+    pub fn get<D: Disk>(&mut self, disk: &mut D, number: PageNo) -> Result<Frame, Fault>
+        requires ready { IsReadyWriter D.Disk self.old disk.old }
+        ensures ready { IsReadyWriter D.Disk self.new disk.new }
+        ensures kept { (b : Base) (base : ℕ) (s : Writer) → StandsAs D.Disk b base s self.old disk.old → ((q : ℕ) → q ≤ number → (s.pages q).waits ≡ false)
+            → GetKept D.Disk b base s number disk.old self.new disk.new result }
+        ensures at { IfOk result (IsAt self.new.pool) }
+        ensures frame { IfOk result (λ frame. frame.number ≡ number) }
+        ensures gets { IfOk result (λ _. self.new.pool.gets ≡ self.old.pool.gets + 1) }
+        ensures works { OnOk result (self.new.failed ≡ false) }
+        ensures fails { IfErr result (λ e. (self.new.failed ≡ false) ↔ ((e ≡ Memory) ⊎ (e ≡ NotAStore))) }
+        ensures causes { IfErr result (λ e. (e ≡ Failed) ⊎ (e ≡ LogFull) ⊎ (e ≡ Memory) ⊎ (e ≡ NotAStore) ⊎ (e ≡ Device)) }
+        ensures no_room { result ≡ Err LogFull → HasNoRoom self.new.log }
+        ensures already { result ≡ Err Failed ↔ (self.old.failed ≡ true) }
+        ensures device { self.old.failed ≡ false → result ≡ Err Device ↔ (D.failed disk.new ≡ true) }
+    {
+        if self.failed {
+            return Err(Fault::Failed);
+        }
+        self.make_room(disk, number)?;
+        self.hold(disk, number)
+    }
+
+    /// A held page, lent.
+    pub fn page(&self, frame: Frame) -> &Page
+        requires { IsAt self.now.pool frame }
+        ensures page { result.now ≡ page_at self.now.pool frame.number }
+    {
+        self.pool.page(frame)
+    }
+
+    /// A writer over a log, with room for so many pages, 8 to 1,024. All memory is taken here, but for some 40 bytes a page that comes
+    /// to be held. Refused `Memory`.
+    pub fn new(alloc: Global, log: LogFile, frames: usize) -> Result<Self, Fault>
+        requires least { 8 ≤ frames }
+        requires most { frames ≤ 1024 }
+        requires usable { log.failed ≡ false }
+        ensures log { IfOk result (λ w. w.log ≡ log) }
+        ensures pool { IfOk result (λ w. w.pool ≡ record { held = []; frames = frames; gets = 0 }) }
+        ensures table { IfOk result (λ w. w.table ≡ []) }
+        ensures failed { IfOk result (λ w. w.failed ≡ false) }
+        ensures refused { IfErr result (λ e. e ≡ Memory) }
+    {
+        let pool = Pool::new(alloc, frames)?;
+        let table = DirtyTable::new(alloc).map_err(|_| Fault::Memory)?;
+        let lsns = Vec::with_capacity(alloc, 1_024).map_err(|_| Fault::Memory)?;
+        let spare = Box::new(alloc, Page::initial(0)).map_err(|_| Fault::Memory)?;
+        Ok(PageWriter {
+            log,
+            pool,
+            table,
+            lsns,
+            spare,
+            failed: false,
+        })
+    }
+
+    /// Brings the log to the disk, by four device calls; none where nothing is buffered.
+    ///
+    /// Refused `Device`, or `Failed` after a call that failed.
+    pub fn force<D: Disk>(&mut self, disk: &mut D) -> Result<(), Fault>
+        requires ready { IsReadyWriter D.Disk self.old disk.old }
+        ensures ready { IsReadyWriter D.Disk self.new disk.new }
+        ensures kept { (b : Base) (base : ℕ) (s : Writer) → StandsAs D.Disk b base s self.old disk.old → StepKept D.Disk b base s (forced s) disk.old self.new disk.new result }
+        ensures failed { self.new.failed ≡ not (is_ok result) }
+        ensures causes { IfErr result (λ e. (e ≡ Failed) ⊎ (e ≡ Device)) }
+        ensures already { result ≡ Err Failed ↔ (self.old.failed ≡ true) }
+        ensures device { self.old.failed ≡ false → result ≡ Err Device ↔ (D.failed disk.new ≡ true) }
+    {
+        if self.failed {
+            return Err(Fault::Failed);
+        }
+        self.failed = true;
+        self.log.force(disk)?;
+        self.failed = false;
+        Ok(())
+    }
+
+    /// Syncs the file of pages, one device call: pages that have not changed since their last write leave the dirty table.
+    ///
+    /// Refused `Device`, or `Failed` after a call that failed.
+    pub fn sync_pages<D: Disk>(&mut self, disk: &mut D) -> Result<(), Fault>
+        requires ready { IsReadyWriter D.Disk self.old disk.old }
+        ensures ready { IsReadyWriter D.Disk self.new disk.new }
+        ensures kept { (b : Base) (base : ℕ) (s : Writer) → StandsAs D.Disk b base s self.old disk.old → StepKept D.Disk b base s (synced s) disk.old self.new disk.new result }
+        ensures table { OnOk result (self.new.table ≡ synced_entries self.old.table) }
+        ensures pool { self.new.pool ≡ self.old.pool }
+        ensures failed { self.new.failed ≡ not (is_ok result) }
+        ensures causes { IfErr result (λ e. (e ≡ Failed) ⊎ (e ≡ Device)) }
+        ensures already { result ≡ Err Failed ↔ (self.old.failed ≡ true) }
+        ensures device { self.old.failed ≡ false → result ≡ Err Device ↔ (D.failed disk.new ≡ true) }
+    {
+        if self.failed {
+            return Err(Fault::Failed);
+        }
+        self.failed = true;
+        sync_pages(disk, &mut self.table)?;
+        self.failed = false;
+        Ok(())
+    }
+
+    // Flushes the least recently used page that was changed, if there is one.
+    fn flush_oldest<D: Disk>(&mut self, disk: &mut D) -> Result<(), Fault>
+        requires ready { IsReadyWriter D.Disk self.old disk.old }
+        requires working { self.old.failed ≡ false }
+        ensures ready { IsReadyWriter D.Disk self.new disk.new }
+        ensures kept { (b : Base) (base : ℕ) (s : Writer) → StandsAs D.Disk b base s self.old disk.old → OldestKept D.Disk b base s disk.old self.old.pool self.new disk.new result }
+        ensures held { OnOk result (SameHeld self.old.pool self.new.pool) }
+        ensures failed { self.new.failed ≡ not (is_ok result) }
+        ensures causes { IfErr result (λ e. (e ≡ LogFull) ⊎ (e ≡ Device)) }
+        ensures no_room { result ≡ Err LogFull → HasNoRoom self.new.log }
+        ensures device { result ≡ Err Device ↔ (D.failed disk.new ≡ true) }
+    {
+        match self.pool.oldest_changed() {
+            None => Ok(()),
+            Some(frame) => self.flush_one(disk, frame.number),
+        }
+    }
+
+    /// Makes room in the dirty table, where it is full: the least recently used page that was changed is flushed, if there is one, and
+    /// the file of pages synced. Behind it one more page can come in. It comes after a page has its frame, and before the append of
+    /// the record that changes the page.
+    ///
+    /// Refused `LogFull`, `Device`, or `Failed` after a call that failed.
+    pub fn make_entry_room<D: Disk>(&mut self, disk: &mut D) -> Result<(), Fault>
+        requires ready { IsReadyWriter D.Disk self.old disk.old }
+        ensures ready { IsReadyWriter D.Disk self.new disk.new }
+        ensures kept { (b : Base) (base : ℕ) (s : Writer) → StandsAs D.Disk b base s self.old disk.old → RoomKept D.Disk b base s disk.old self.old self.new disk.new result }
+        ensures held { OnOk result (SameHeld self.old.pool self.new.pool) }
+        ensures unchanged { self.old.failed ≡ false → length self.old.table < 1024 → (result ≡ Ok tt) × (self.new ≡ self.old) × (disk.new ≡ disk.old) }
+        ensures failed { self.new.failed ≡ not (is_ok result) }
+        ensures causes { IfErr result (λ e. (e ≡ Failed) ⊎ (e ≡ LogFull) ⊎ (e ≡ Device)) }
+        ensures no_room { result ≡ Err LogFull → HasNoRoom self.new.log }
+        ensures already { result ≡ Err Failed ↔ (self.old.failed ≡ true) }
+        ensures device { self.old.failed ≡ false → result ≡ Err Device ↔ (D.failed disk.new ≡ true) }
+    {
+        if self.failed {
+            return Err(Fault::Failed);
+        }
+        if !self.table.is_full() {
+            return Ok(());
+        }
+        self.flush_oldest(disk)?;
+        self.table.pages_rise();
+        let _held = self.pool.len();
+        self.sync_pages(disk)
+    }
+
+    /// Adds a record that changes no page to the log, as a Commit or an End, and answers its LSN. The log is forced first where the
+    /// record does not fit into its buffer.
+    ///
+    /// Refused `LogFull`, exactly where the record would end above LSN 2^62, `Device`, or `Failed` after a call that failed.
+    pub fn log_only<D: Disk>(&mut self, disk: &mut D, record: &Record) -> Result<Lsn, Fault>
+        requires entry { IsEntry (view record.now) }
+        requires ready { IsReadyWriter D.Disk self.old disk.old }
+        ensures ready { IsReadyWriter D.Disk self.new disk.new }
+        ensures kept { (b : Base) (base : ℕ) (s : Writer) (e : ℕ) → StandsAs D.Disk b base s self.old disk.old → s.redo_end ≡ Some e → IsPlain (what_of (view record.now))
+            → LogKept D.Disk b base s (view record.now) disk.old self.new disk.new result }
+        ensures failed { self.new.failed ≡ not (is_ok result) }
+        ensures causes { IfErr result (λ e. (e ≡ Failed) ⊎ (e ≡ LogFull) ⊎ (e ≡ Device)) }
+        ensures no_room { result ≡ Err LogFull → HasNoRoom self.new.log }
+        ensures already { result ≡ Err Failed ↔ (self.old.failed ≡ true) }
+        ensures full { result ≡ Err LogFull ↔ ((self.old.failed ≡ false) × (2 ^ 62 < end_with self.old.log (size_of (view record.now)))) }
+        ensures device { self.old.failed ≡ false → result ≡ Err Device ↔ (D.failed disk.new ≡ true) }
+    {
+        if self.failed {
+            return Err(Fault::Failed);
+        }
+        self.failed = true;
+        let lsn = self.log.append(disk, record)?;
+        self.failed = false;
+        Ok(lsn)
+    }
+}

@@ -1,0 +1,11 @@
+pub mod Pages
+pub mod Numbers
+pub mod Images
+pub mod Fronts
+pub mod Going
+pub mod Active
+pub mod KeyLists
+pub mod Room
+pub mod Restarts
+pub mod Promises
+pub mod WorkedLog

@@ -1,0 +1,5 @@
+pub mod OnePage
+pub mod OneAtATime
+pub mod OnePageLaws
+pub mod Variants
+pub mod Worked

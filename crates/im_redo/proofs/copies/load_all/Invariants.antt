@@ -1,0 +1,18 @@
+use Rattle.std.proofs.Common.{◌≡◌, ℕ, false, length}
+use Rattle.im_types.specs.Histories.{Base, History}
+use Rattle.im_types.specs.RedoPoints.{redo_point}
+use Rattle.im_types.specs.Writer.{Writer}
+use Rattle.im_flush.specs.PageWriter.{IsReadyWriter}
+use Rattle.im_redo.specs.Loading.{AreWaiting, IsLoading}
+use Rattle.im_redo.specs.Within.{IsWithinRedo}
+use Rattle.im_redo.proofs.copies.load_all.Given as goal
+
+abbrev pub invariant-loop-lsn : goal.invariant-loop-lsn
+invariant-loop-lsn g l = record {
+  ready : IsReadyWriter g.D.Disk l.writer l.disk;
+  working : l.writer.failed ≡ false;
+  disk : g.D.Disk.failed l.disk ≡ false;
+  room : length l.room ≡ length l.fn.room;
+  kept : (b : Base) (base : ℕ) (begun : History) (from : g.row.D.Denot) (s : Writer) → IsWithinRedo g.D.Disk b base begun from s l.fn.writer l.fn.disk → AreWaiting begun l.copies.entries s.pages → l.fn.point ≡ redo_point begun
+      → IsLoading g.D.Disk b base begun l.lsn-iterator from l.writer l.disk;
+}

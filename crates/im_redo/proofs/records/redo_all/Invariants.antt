@@ -1,0 +1,17 @@
+use Rattle.std.proofs.Common.{◌≡◌, ℕ, false, drop, length}
+use Rattle.im_types.specs.Histories.{Base, History}
+use Rattle.im_types.specs.RedoPoints.{redo_point}
+use Rattle.im_flush.specs.PageWriter.{IsReadyWriter}
+use Rattle.im_redo.specs.Redo.{AreApplicable}
+use Rattle.im_redo.specs.Applying.{IsApplying}
+use Rattle.im_redo.proofs.records.redo_all.Given as goal
+
+abbrev pub invariant-loop-lsn : goal.invariant-loop-lsn
+invariant-loop-lsn g l = record {
+  ready : IsReadyWriter g.D.Disk l.writer l.disk;
+  working : l.writer.failed ≡ false;
+  disk : g.D.Disk.failed l.disk ≡ false;
+  room : length l.room ≡ length l.fn.room;
+  kept : (b : Base) (base : ℕ) (begun : History) (from : g.row.D.Denot) → IsApplying g.D.Disk b base begun l.lsns from l.fn.writer l.fn.disk → AreApplicable b begun → l.fn.point ≡ redo_point begun
+      → IsApplying g.D.Disk b base begun (drop l.lsn-index l.lsns) from l.writer l.disk;
+}

@@ -1,0 +1,65 @@
+//! Noted copies, loaded in rising page number.
+
+ghost use Rattle.std.specs.Prelude.{◌≡◌, ◌≤◌, ◌⊎◌, ◌↔◌, ◌∷◌, ℕ, List, [], true, false, length, Err, IfErr, OnOk};
+ghost use Rattle.im_types.specs.declared.fault.Fault.TheVariants.{Device, LogFull, Memory, NotAStore};
+ghost use Rattle.im_types.specs.Histories.{Base, History};
+ghost use Rattle.im_types.specs.RedoPoints.{redo_point};
+ghost use Rattle.im_flush.specs.PageWriter.{IsReadyWriter};
+ghost use Rattle.im_types.specs.Writer.{Writer};
+ghost use Rattle.im_redo.specs.Loading.{AreWaiting, IsLoading, LoadingKept};
+ghost use Rattle.im_redo.specs.Within.{IsWithinRedo};
+
+use im_disk::Disk;
+use im_flush::PageWriter;
+use im_record::decode;
+use im_types::{Fault, Lsn, PageNo};
+use std::collections::BTreeMap;
+
+// Loads one copy: its record is read again at its LSN, and says which page it is of.
+fn load_one<D: Disk>(
+    disk: &mut D,
+    writer: &mut PageWriter,
+    point: Lsn,
+    lsn: Lsn,
+    room: &mut [u8],
+) -> Result<(), Fault>
+    requires room { 16384 ≤ length room.old }
+    requires ready { IsReadyWriter D.Disk writer.old disk.old }
+    requires working { writer.old.failed ≡ false }
+    ensures ready { IsReadyWriter D.Disk writer.new disk.new }
+    ensures room { length room.new ≡ length room.old }
+    ensures kept { (b : Base) (base : ℕ) (begun : History) (from : D) (p : ℕ) (left : List (ℕ × ℕ)) → IsLoading D.Disk b base begun ((p, lsn) ∷ left) from writer.old disk.old
+        → point ≡ redo_point begun → LoadingKept D.Disk b base begun left from writer.new disk.new result }
+    ensures works { OnOk result (writer.new.failed ≡ false) }
+    ensures causes { IfErr result (λ e. (e ≡ LogFull) ⊎ (e ≡ Memory) ⊎ (e ≡ NotAStore) ⊎ (e ≡ Device)) }
+    ensures device { result ≡ Err Device ↔ (D.failed disk.new ≡ true) }
+{
+    let size = writer.read_at(disk, lsn, room)?;
+    let record = decode(&room[..size])?;
+    writer.load_copy(disk, point, lsn, &record)
+}
+
+/// Loads the noted copies in rising page number.
+pub(crate) fn load_all<D: Disk>(
+    disk: &mut D,
+    writer: &mut PageWriter,
+    point: Lsn,
+    copies: &BTreeMap<PageNo, Lsn>,
+    room: &mut [u8],
+) -> Result<(), Fault>
+    requires room { 16384 ≤ length room.old }
+    requires ready { IsReadyWriter D.Disk writer.old disk.old }
+    requires working { writer.old.failed ≡ false }
+    ensures ready { IsReadyWriter D.Disk writer.new disk.new }
+    ensures room { length room.new ≡ length room.old }
+    ensures kept { (b : Base) (base : ℕ) (begun : History) (from : D) (s : Writer) → IsWithinRedo D.Disk b base begun from s writer.old disk.old
+        → AreWaiting begun copies.now.entries s.pages → point ≡ redo_point begun → LoadingKept D.Disk b base begun [] from writer.new disk.new result }
+    ensures works { OnOk result (writer.new.failed ≡ false) }
+    ensures causes { IfErr result (λ e. (e ≡ LogFull) ⊎ (e ≡ Memory) ⊎ (e ≡ NotAStore) ⊎ (e ≡ Device)) }
+    ensures device { result ≡ Err Device ↔ (D.failed disk.new ≡ true) }
+{
+    for (_, lsn) in copies {
+        load_one(disk, writer, point, *lsn, room)?;
+    }
+    Ok(())
+}

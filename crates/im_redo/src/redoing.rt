@@ -1,0 +1,51 @@
+//! Noted copies are loaded, and then the records from the redo point on applied.
+
+ghost use Rattle.std.specs.Prelude.{◌≡◌, ◌≤◌, ◌⊎◌, ◌↔◌, ℕ, true, false, length, Option, Ok, Err, IfErr, OnOk};
+ghost use Rattle.im_types.specs.declared.fault.Fault.TheVariants.{Device, Failed, LogFull, Memory, NotAStore};
+ghost use Rattle.im_types.specs.Pages.{Page};
+ghost use Rattle.im_types.specs.Histories.{Base, History};
+ghost use Rattle.im_types.specs.RedoPoints.{redo_point};
+ghost use Rattle.im_types.specs.WriterSteps.{opened};
+ghost use Rattle.im_analysis.specs.CopyLsns.{AreCopies};
+ghost use Rattle.im_flush.specs.PageWriter.{IsReadyWriter, StandsAs};
+ghost use Rattle.im_redo.specs.Redo.{AreApplicable, lsns_from, RedoneKept};
+
+use crate::copies::load_all;
+use crate::records::redo_all;
+use im_disk::Disk;
+use im_flush::PageWriter;
+use im_types::{Fault, Lsn, PageNo};
+use std::collections::BTreeMap;
+
+/// Brings the pages of a writer that was just opened to what the whole durable log made of them: the noted copies are loaded in
+/// rising page number, and then the records that change a page, from the redo point on, are applied to their pages in turn, by
+/// LSN. `copies` has the LSN of each noted copy, and `lsns` those of the records. Records are read again into `room`, of 16,384 bytes
+/// at least.
+///
+/// Refused `NotAStore` where a page does not take its record or no such record stands there, otherwise as the writer's `get` is.
+/// Behind a refusal redo is not over: the store is to be opened again.
+pub fn redo<D: Disk>(
+    disk: &mut D,
+    writer: &mut PageWriter,
+    point: Lsn,
+    copies: &BTreeMap<PageNo, Lsn>,
+    lsns: &[Lsn],
+    room: &mut [u8],
+) -> Result<(), Fault>
+    requires room { 16384 ≤ length room.old }
+    requires ready { IsReadyWriter D.Disk writer.old disk.old }
+    ensures ready { IsReadyWriter D.Disk writer.new disk.new }
+    ensures room { length room.new ≡ length room.old }
+    ensures kept { (b : Base) (base : ℕ) (begun : History) (file : ℕ → Option Page) → StandsAs D.Disk b base (opened b begun file) writer.old disk.old
+        → AreApplicable b begun → point ≡ redo_point begun → AreCopies point copies.now begun → lsns.now ≡ lsns_from point begun
+        → RedoneKept D.Disk b base begun disk.old writer.new disk.new result }
+    ensures works { OnOk result (writer.new.failed ≡ false) }
+    ensures causes { IfErr result (λ e. (e ≡ Failed) ⊎ (e ≡ LogFull) ⊎ (e ≡ Memory) ⊎ (e ≡ NotAStore) ⊎ (e ≡ Device)) }
+    ensures already { result ≡ Err Failed ↔ (writer.old.failed ≡ true) }
+    ensures device { writer.old.failed ≡ false → result ≡ Err Device ↔ (D.failed disk.new ≡ true) }
+{
+    // Nothing is buffered yet, so this makes no device call: a writer that has failed is refused here.
+    writer.force(disk)?;
+    load_all(disk, writer, point, copies, room)?;
+    redo_all(disk, writer, point, lsns, room)
+}

@@ -1,0 +1,13 @@
+pub mod Growth
+pub mod Others
+pub mod Losers
+pub mod Bounds
+pub mod KeyRecords
+pub mod Steps
+pub mod Compensations
+pub mod Readings
+pub mod Undos
+pub mod Openings
+pub mod Changes
+pub mod Restarts
+pub mod OpenChanges

@@ -1,0 +1,54 @@
+-- The log at an opening: its first gate, and its records in turn.
+use Rattle.std.proofs.Common.{◌≡◌, ℕ, [], ◌∷◌, Some, Option, Result, Ok, Err, sym, ◌∙◌, ap, subst}
+use Rattle.std.specs.Prelude.{IfOk, OnOk}
+use Rattle.im_types.specs.declared.fault.Fault.{Fault}
+use Rattle.im_types.specs.declared.file_id.FileId.{FileId}
+use Rattle.im_types.specs.declared.file_id.FileId.TheVariants.{Log}
+use Rattle.im_types.specs.Records.{Logged}
+use Rattle.im_types.specs.Tree.{Tree}
+use Rattle.im_types.specs.Histories.{Base, History, IsFront}
+use Rattle.im_types.specs.Lawful.{IsLawful}
+use Rattle.im_types.proofs.Fronts.{fronts_lawful}
+use Rattle.im_disk.specs.declared.disk.Disk.{Ghosts}
+use Rattle.im_gate.specs.declared.gate.Gate.{Gate}
+use Rattle.im_gate.specs.Batches.{batches}
+use Rattle.im_gate.specs.Gate.{file_of, first_of, place_of, logged}
+use Rattle.im_gate.specs.Header.{IsMade}
+use Rattle.im_record.specs.Entry.{Entry}
+use Rattle.im_log.specs.Spelled.{logged_at}
+use Rattle.im_log.specs.declared.opening.Opening.{Opening}
+use Rattle.im_log.specs.Opening.{IsOpening}
+use Rattle.im_log.specs.Kept.{HasLog}
+use Rattle.im_log.proofs.Creations.{blank_has}
+use Rattle.im_analysis.specs.Analysis.{Continues}
+use Rattle.im_analysis.specs.OpenChange.{OpensAnother}
+use Rattle.im_analysis.proofs.LawfulLogs.{taken_when_lawful}
+
+-- a log that was made has no record
+pub created : {D : Type 0} (d : Ghosts D) (all : History) (disk : D) (result : Result Gate Fault) → all ≡ [] → d.tells → OnOk result (d.tells → IsMade (d.seen disk Log))
+    → IfOk result (λ gate. d.tells → logged d gate disk ≡ Some []) → IfOk result (λ gate. (file_of gate ≡ Log) × (first_of gate ≡ 31) × (place_of gate ≡ 31)) → IfOk result (λ gate. HasLog 0 all (d.seen disk Log))
+created d all disk (Err e) none told made empty first = tt
+created d all disk (Ok gate) none told made empty first =
+    let same : batches 31 (d.seen disk Log) ≡ Some [] = sym (ap (λ (f : FileId). batches (first_of gate) (d.seen disk f)) first.0 ∙ ap (λ (n : ℕ). batches n (d.seen disk Log)) first.1) ∙ empty told in
+    subst (λ (l : History). HasLog 0 l (d.seen disk Log)) (sym none) (blank_has (d.seen disk Log) (made told) same)
+
+-- the record that was read is the next one of the list
+pub same_entry : (read : Option Entry) (some other : Entry) → read ≡ Some some → read ≡ Some other → some ≡ other
+same_entry read some other first second = let e : Some some ≡ Some other = sym first ∙ second in cc e
+
+-- a record of a lawful log may come where it comes
+pub continues : (b : Base) (tree : Tree) (all older : History) (r : Logged) → IsLawful b tree all → IsFront (r ∷ older) all → Continues r older × (OpensAnother r older → ⊥)
+continues b tree all older r law front = taken_when_lawful tree b older r (fronts_lawful b tree (r ∷ older) all front law)
+
+-- the next record of a lawful log, as it was decoded
+pub next_read : {D : Type 0} (d : Ghosts D) (b : Base) (tree : Tree) (all older : History) (lsn : ℕ) (entry said : Entry) (new : Opening) (disk : D) → entry ≡ said → IsLawful b tree all → IsFront (logged_at lsn entry ∷ older) all
+    → IsOpening d 0 all (logged_at lsn entry ∷ older) new disk
+    → Continues (logged_at lsn said) older × (OpensAnother (logged_at lsn said) older → ⊥) × IsOpening d 0 all (logged_at lsn said ∷ older) new disk
+next_read d b tree all older lsn entry said new disk same law front opening =
+    let is = subst (λ (e : Entry). IsFront (logged_at lsn e ∷ older) all × IsOpening d 0 all (logged_at lsn e ∷ older) new disk) same (front, opening) in
+    let next = continues b tree all older (logged_at lsn said) law is.0 in
+    (next.0, next.1, is.1)
+
+pub holds_if_ok : {T : Type 0} {P : Type 0} (result : Result T Fault) → P → IfOk result (λ _. P)
+holds_if_ok (Ok x) p = p
+holds_if_ok (Err e) p = tt

@@ -1,0 +1,198 @@
+-- A restart: what redo, undo and the last force leave, put together.
+use Rattle.std.proofs.Common.{◌≡◌, ◌≢◌, ◌⊎◌, ◌≤◌, ◌-◌, ◌^◌, ℕ, min, inl, inr, [], List, false, length, Option, Result, Ok, Err, refl, sym, ◌∙◌, ap, subst, arith}
+use Rattle.std.specs.Prelude.{IfErr}
+use Rattle.im_types.specs.declared.fault.Fault.{Fault}
+use Rattle.im_types.specs.declared.fault.Fault.TheVariants.{Device, Failed, NotAStore}
+use Rattle.im_types.specs.declared.file_id.FileId.TheVariants.{Log, Pages}
+use Rattle.im_types.specs.Pages.{Page}
+use Rattle.im_types.specs.Tree.{Tree}
+use Rattle.im_types.specs.Histories.{Base, History, end_of}
+use Rattle.im_types.specs.Copies.{GrowsByImages}
+use Rattle.im_types.specs.RedoPoints.{Covers}
+use Rattle.im_types.specs.Lawful.{IsLawful}
+use Rattle.im_types.specs.Writer.{Writer}
+use Rattle.im_types.specs.WriterSteps.{forced, opened}
+use Rattle.im_types.proofs.Images.{images_open, lawful_images}
+use Rattle.im_types.specs.Structure.{open_smo}
+use Rattle.im_disk.specs.declared.disk.Disk.{Ghosts}
+use Rattle.im_disk.specs.Disk.{Files, Only}
+use Rattle.im_disk.specs.Runs.{ChangesOnly, LeavesIn, LeavesOnly, Reads}
+use Rattle.im_disk.proofs.Runs.{reads_on, started, weakened}
+use Rattle.im_gate.specs.Header.{IsUnmade}
+use Rattle.im_page.specs.PageFile.{file_page}
+use Rattle.im_log.specs.Kept.{IsLogOf}
+use Rattle.im_log.specs.LogFile.{IsOpen, IsLog}
+use Rattle.im_log.proofs.Above.{front_none}
+use Rattle.im_log.proofs.Creations.{not_both}
+use Rattle.im_log.proofs.Runs.{of_log}
+use Rattle.im_log.specs.declared.log_file.LogFile.{LogFile}
+use Rattle.im_flush.specs.declared.page_writer.PageWriter.{PageWriter}
+use Rattle.im_flush.specs.PageWriter.{GoesOn, StandsAs, StepKept}
+use Rattle.im_flush.proofs.Growing.{grown_front, on_ok}
+use Rattle.im_flush.proofs.Restarting.{writer_opens}
+use Rattle.im_types.proofs.Fronts.{rises}
+use Rattle.im_analysis.specs.Numbers.{IsNextNumber}
+use Rattle.im_redo.specs.Redo.{LeavesRedoing, Redone}
+use Rattle.im_analysis.specs.Losers.{AreLosers, LoserMap}
+use Rattle.im_analysis.specs.declared.rows.OpenRecord.{OpenRecord}
+use Rattle.im_analysis.specs.OpenChange.{IsOpenChange, oldest_first}
+use Rattle.im_analysis.proofs.Tables.{images_table}
+use Rattle.im_restart.specs.Restart.{HasStore, IsFresh, IsLeftUndoing, IsRestarted, IsSettled, MayRestart, SettleKept}
+use Rattle.im_restart.specs.StructureChange.{ChangeGoes}
+use Rattle.im_restart.specs.Undoing.{AllUndone}
+use Rattle.im_restart.proofs.Growth.{grows_images, grows_none, grows_then}
+use Rattle.im_restart.proofs.Steps.{left_covered, left_here, left_then}
+
+-- ---- the files
+
+pub has_same : (b : Base) (all : History) (files c : Files) → c Log ≡ files Log → c Pages ≡ files Pages → HasStore b all files → HasStore b all c
+has_same b all files c log pages has = record {
+  log = subst (λ (bytes : List ℕ). IsLogOf 0 all bytes) (sym log) has.log;
+  bare = λ unmade. ap (λ (bytes : List ℕ). length bytes) pages ∙ has.bare (subst (λ (bytes : List ℕ). IsUnmade bytes) log unmade);
+  covers = subst (λ (bytes : List ℕ). Covers b all (file_page bytes)) (sym pages) has.covers;
+}
+
+-- a call is never refused as no store that is refused so
+pub not_no_store : {T : Type 0} (result : Result T Fault) → IfErr result (λ e. (e ≡ Failed) ⊎ (e ≡ Device)) → IfErr result (λ e. e ≢ NotAStore)
+not_no_store (Ok x) is = tt
+not_no_store (Err e) (inl is) = λ same. (let clash : Failed ≡ NotAStore = sym is ∙ same in cc clash)
+not_no_store (Err e) (inr is) = λ same. (let clash : Device ≡ NotAStore = sym is ∙ same in cc clash)
+
+module _ {D : Type 0} (d : Ghosts D) (b : Base) (tree : Tree) (all : History) where
+  -- ---- before any call
+
+  pub left_unmoved : (disk : D) → ((c : Files) → d.left_since disk (d.moment disk) c → d.may_leave disk c) → Only Log (d.seen disk) (d.may_leave disk) → Only Pages (d.seen disk) (d.may_leave disk) → HasStore b all (d.seen disk)
+      → IsLawful b tree all → LeavesOnly d disk disk (IsLeftUndoing b tree all)
+  left_unmoved disk only_now log pages has law =
+      started d disk (IsLeftUndoing b tree all)
+      (λ told c left. record { left = all; has = has_same b all (d.seen disk) c (log c (only_now c left)) (pages c (only_now c left)) has; grown = grows_none all; lawful = law })
+
+  -- an open log is on the disk
+  pub log_synced : (file : LogFile) (disk : D) → IsOpen d file disk → file.failed ≡ false → Only Log (d.seen disk) (d.may_leave disk)
+  log_synced file disk is_open working = of_log file.gate file.of_log (λ f n. Only f (d.seen disk) (d.may_leave disk)) (is_open.ready.reading.durable (is_open.working working))
+
+  -- ---- the log is opened or made
+
+  pub left_opening : (old mid : D) → ((c : Files) → d.left_since old (d.moment old) c → d.may_leave old c) → d.tells → Only Log (d.seen old) (d.may_leave old) → Only Pages (d.seen old) (d.may_leave old)
+      → MayRestart b tree all (d.seen old) → LeavesIn d Log old mid (IsLogOf 0 all) → (d.tells → ¬ (IsFresh (d.seen old)) → Reads d old mid) → LeavesOnly d old mid (IsLeftUndoing b tree all)
+  left_opening old mid only_now told log pages may stops reads = by may.has.log
+    where
+      by : IsLogOf 0 all (d.seen old Log) → LeavesOnly d old mid (IsLeftUndoing b tree all)
+      by (inl fresh) =
+          weakened d old mid _ (IsLeftUndoing b tree all) stops
+          (λ t c left.
+          let same : c Pages ≡ d.seen old Pages = left.2.others Pages (λ e. cc e) ∙ pages left.0 left.1 in
+          record {
+            left = all;
+            has = record {
+              log = left.2.changed;
+              bare = λ unmade. ap (λ (bytes : List ℕ). length bytes) same ∙ may.has.bare fresh.0;
+              covers = subst (λ (bytes : List ℕ). Covers b all (file_page bytes)) (sym same) may.has.covers;
+            };
+            grown = grows_none all;
+            lawful = may.lawful;
+          })
+      by (inr made) =
+          reads_on d old old mid (IsLeftUndoing b tree all) (left_unmoved old only_now log pages may.has may.lawful) (reads told (λ fresh. not_both (d.seen old Log) made.made fresh.0))
+
+  -- what the restart finds behind it
+  pub may_behind : (old mid : D) (file : LogFile) → MayRestart b tree all (d.seen old) → ChangesOnly d Log old mid → IsLog d 0 all all file mid → MayRestart b tree all (d.seen mid)
+  may_behind old mid file may changes log = record {
+    start = may.start;
+    has = record {
+      log = inr (record { made = log.made; spells = log.on_disk });
+      bare = λ unmade. absurd (not_both (d.seen mid Log) log.made unmade);
+      covers = subst (λ (bytes : List ℕ). Covers b all (file_page bytes)) (sym (changes.seen Pages (λ e. cc e))) may.has.covers;
+    };
+    lawful = may.lawful;
+    leaves = may.leaves;
+    in_place = may.in_place;
+  }
+
+  pub pages_synced : (old mid : D) → ChangesOnly d Log old mid → Only Pages (d.seen old) (d.may_leave old) → Only Pages (d.seen mid) (d.may_leave mid)
+  pages_synced old mid changes pages c left =
+      let e = changes.outcomes c left in
+      e.2 Pages (λ same. cc same) ∙ pages e.0 e.1 ∙ sym (changes.seen Pages (λ same. cc same))
+
+  -- ---- redo
+
+  pub left_redoing : (old new : D) → MayRestart b tree all (d.seen old) → LeavesRedoing d b 0 all old new → LeavesOnly d old new (IsLeftUndoing b tree all)
+  left_redoing old new may leaves =
+      left_covered d b tree all all leaves.high old new leaves.stops (front_none all) (grows_images b all all leaves.high (grows_none all) leaves.grows)
+      (subst (λ (l : History). IsLawful b tree l) (sym leaves.grows.is) (lawful_images b tree leaves.grows.images all leaves.grows.all may.lawful))
+
+  -- undo begins
+  pub taking_begins : (file : ℕ → Option Page) (old : D) (w : PageWriter) (disk : D) (files : Files) → MayRestart b tree all files → (done : Redone d b 0 all old w disk) → ChangeGoes d b tree all (opened b all file) old done.now w disk
+  taking_begins file old w disk files may done =
+      let law : IsLawful b tree done.now.log = subst (λ (l : History). IsLawful b tree l) (sym done.log.is) (lawful_images b tree done.log.images all done.log.all may.lawful) in
+      let grown = grows_images b all all done.now.log (grows_none all) done.log in
+      record {
+        stands = done.stands;
+        taking = record { redo_end = end_of b done.now.log; over = done.over; grown = grown; found = done.durable; lawful = law; pages = done.pages };
+        stops = left_covered d b tree all all done.now.log old disk done.stops (front_none all) grown law;
+        on = grown_front b all done.now.log done.log;
+      }
+
+  pub open_then : (rows : List OpenRecord) (now : History) → GrowsByImages b all now → IsOpenChange rows all → IsOpenChange rows now
+  open_then rows now by are = are ∙ ap oldest_first (sym (ap open_smo by.is ∙ images_open b by.images all by.all))
+
+  pub losers_then : (losers : LoserMap) (now : History) → GrowsByImages b all now → AreLosers losers all → AreLosers losers now
+  losers_then losers now by are = subst (λ (l : History). AreLosers losers l) (sym by.is) (images_table b losers by.images all by.all are)
+
+  -- ---- the last force
+
+  pub settled_so : (s : Writer) (old : D) (w : PageWriter) (mid : D) (x : PageWriter) (new : D) (result : Result Unit Fault) → (done : AllUndone d b tree all s old w mid) → StepKept d b 0 done.now (forced done.now) mid x new result
+      → IfErr result (λ e. (e ≡ Failed) ⊎ (e ≡ Device)) → SettleKept d b tree all old x new result
+  settled_so s old w mid x new result done k causes = record {
+    ok = on_ok result (GoesOn d b 0 done.now mid (forced done.now) x new) (IsSettled d b tree all x new) k.ok
+        (λ on. record {
+          now = forced done.now;
+          stands = record { working = on.working; writing = on.goes.writing };
+          redo_end = done.goes.undoing.redo_end;
+          over = done.goes.undoing.over;
+          durable = refl;
+          grown = done.goes.undoing.grown;
+          lawful = done.goes.undoing.can.lawful;
+          ended = done.ended;
+          pages = done.goes.undoing.pages;
+        });
+    stops = left_then d b tree all old mid new done.goes.stops (left_here d b tree all done.now mid new done.goes.undoing k.stops);
+    cause = not_no_store result causes;
+  }
+
+  -- ---- the writer
+
+  pub writer_starts : (file : LogFile) (w : PageWriter) (frames : ℕ) (disk : D) → MayRestart b tree all (d.seen disk) → Only Pages (d.seen disk) (d.may_leave disk) → IsOpen d file disk → IsLog d 0 all all file disk → w.log ≡ file
+      → w.pool ≡ record { held = []; frames = frames; gets = 0 } → w.table ≡ [] → w.failed ≡ false → StandsAs d b 0 (opened b all (file_page (d.seen disk Pages))) w disk
+  writer_starts file w frames disk may pages is_open log same pool table working =
+      let start : b.start ≡ 0 = may.start in
+      writer_opens d b 0 all w frames disk (omega (arith, start)) (rises b tree all may.lawful) may.has.covers (subst (λ (f : LogFile). IsOpen d f disk) (sym same) is_open) (subst (λ (f : LogFile). IsLog d 0 all all f disk) (sym same) log) pages pool
+      table working
+
+  pub restarted_so : (w : PageWriter) (next : ℕ) (disk : D) → IsSettled d b tree all w disk → IsNextNumber next all → IsRestarted d b tree all (record { writer = w; next = next }) disk
+  restarted_so w next disk is number = record {
+    now = is.now;
+    stands = is.stands;
+    redo_end = is.redo_end;
+    over = is.over;
+    durable = is.durable;
+    grown = is.grown;
+    lawful = is.lawful;
+    ended = is.ended;
+    pages = is.pages;
+    next = number;
+  }
+
+-- the next number is at least 1
+pub next_least : (next : ℕ) (log : History) → IsNextNumber next log → 1 ≤ next
+next_least next log is = let least : 1 ≤ is.number = is.new.least in let same : next ≡ min is.number (2 ^ 64 - 1) = is.is in omega (arith, least, same)
+
+-- what a stop within a restart leaves, a restart can start from again
+pub may_again : (b : Base) (tree : Tree) (all : History) (files left : Files) → MayRestart b tree all files → (is : IsLeftUndoing b tree all left) → MayRestart b tree is.left left
+may_again b tree all files left may is = record {
+  start = may.start;
+  has = is.has;
+  lawful = is.lawful;
+  leaves = may.leaves;
+  in_place = λ now grown. may.in_place now (grows_then all is.left now is.grown grown);
+}

@@ -1,0 +1,32 @@
+use Rattle.std.proofs.Common.{rules, ◌≡◌, ◌≢◌, sym, ◌∙◌}
+use Rattle.im_types.specs.declared.fault.Fault.TheVariants.{Memory, NotAStore}
+use Rattle.im_disk.proofs.Runs.{reads_on, reads_then}
+use Rattle.im_log.proofs.Openings.{started}
+use Rattle.im_restart.proofs.Openings.{holds_if_ok}
+use Rattle.im_restart.proofs.reading.open_log.Goals as goal
+
+pub returns-in_err-gate-clause-kept : goal.returns-in_err-gate-clause-kept
+returns-in_err-gate-clause-kept g c b all told is bare law =
+    let k = c.in_err-gate.ensures.kept all told is bare in
+    let other : c.in_err-gate.field-0.0 ≢ NotAStore = k.cause in
+    record { ok = search rules; stops = k.stops; cause = search (rules, other) }
+
+pub returns-in_err-opening-clause-kept : goal.returns-in_err-opening-clause-kept
+returns-in_err-opening-clause-kept g c b all told is bare law =
+    let k = c.in_ok-gate.ensures.kept all told is bare in
+    let cause : c.in_err-opening.field-0.0 ≡ Memory = c.in_err-opening.ensures.causes in
+    let other : c.in_err-opening.field-0.0 ≢ NotAStore = λ e. (let clash : Memory ≡ NotAStore = sym cause ∙ e in cc clash) in
+    record { ok = search rules; stops = k.stops; cause = search (rules, other) }
+
+pub returns-clause-kept : goal.returns-clause-kept
+returns-clause-kept g c b all told is bare law =
+    let k = c.in_ok-gate.ensures.kept all told is bare in
+    let start = started g.D.Disk 0 all c.in_ok-gate.gate c.in_ok-opening.opening c.first_gate.new.disk c.in_ok-gate.ensures.of_log c.in_ok-gate.ensures.place told k.ok c.in_ok-opening.ensures.opening in
+    let r = c.read_all.ensures.kept b all start law in
+    record { ok = r.ok; stops = reads_on g.D.Disk c.args.disk.now c.first_gate.new.disk c.read_all.new.disk _ k.stops c.read_all.ensures.reads; cause = r.cause }
+
+pub returns-clause-store : goal.returns-clause-store
+returns-clause-store g c = holds_if_ok c.read_all.result c.in_ok-gate.ensures.store
+
+pub returns-clause-reads : goal.returns-clause-reads
+returns-clause-reads g c told known = reads_then g.D.Disk c.args.disk.now c.first_gate.new.disk c.read_all.new.disk (c.in_ok-gate.ensures.reads told known) c.read_all.ensures.reads

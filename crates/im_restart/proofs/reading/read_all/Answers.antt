@@ -1,0 +1,67 @@
+use Rattle.std.proofs.Common.{rules, ◌≡◌, ◌≢◌, ◌∷◌, List, None, Some, sym, ap, ◌∙◌, subst}
+use Rattle.im_types.specs.declared.fault.Fault.TheVariants.{Device, NotAStore}
+use Rattle.im_types.specs.Histories.{History}
+use Rattle.im_disk.proofs.Runs.{reads_then}
+use Rattle.im_record.specs.Entry.{view}
+use Rattle.im_log.specs.Spelled.{logged_at}
+use Rattle.im_log.proofs.Openings.{none_kept, some_kept}
+use Rattle.im_analysis.specs.Analysis.{IsAnalysed}
+use Rattle.im_redo.specs.Redo.{lsns_from}
+use Rattle.im_restart.proofs.Openings.{next_read, same_entry}
+use Rattle.im_restart.proofs.reading.read_all.Goals as goal
+
+pub loop-lsns-preserved : goal.loop-lsns-preserved
+loop-lsns-preserved g c = record {
+  begun = c.next.ensures.begun;
+  reads = reads_then g.D.Disk c.args.disk.now c.loop-lsns.disk c.next.new.disk c.loop-lsns.invariant.reads c.next.ensures.reads;
+  working = c.in_ok-next.ensures.failed;
+  kept = λ b all start law. (
+      let h = c.loop-lsns.invariant.kept b all start law in
+      let n = some_kept g.D.Disk 0 all h.0 c.next.new.self c.next.new.disk c.in_ok-next.field-0 c.in-Some.lsn c.in-Some.is (c.in_ok-next.ensures.kept 0 all h.0 h.1) in
+      let said = view c.in_ok-record-in-Some.record in
+      let same : n.entry ≡ said = same_entry _ n.entry said n.is c.in_ok-record-in-Some.ensures.record in
+      let next = next_read g.D.Disk b g.T.PageTree.tree all h.0 c.in-Some.lsn n.entry said c.next.new.self c.next.new.disk same law n.front n.opening in
+      (logged_at c.in-Some.lsn said ∷ h.0, next.2, (c.in_ok-take-in-Some.ensures.kept h.0 h.2 next.0).ok, c.in_ok-note_change-in-Some.ensures.kept h.0 next.0.readable h.3)
+      );
+}
+
+pub returns-in_err-next-clause-kept : goal.returns-in_err-next-clause-kept
+returns-in_err-next-clause-kept g c b all start law =
+    let h = c.loop-lsns.invariant.kept b all start law in
+    let cause : c.in_err-next.field-0.0 ≡ Device = (c.in_err-next.ensures.kept 0 all h.0 h.1).cause in
+    let other : c.in_err-next.field-0.0 ≢ NotAStore = λ e. (let clash : Device ≡ NotAStore = sym cause ∙ e in cc clash) in
+    record { ok = search rules; cause = search (rules, other) }
+
+pub returns-in_err-record-in-Some-clause-kept : goal.returns-in_err-record-in-Some-clause-kept
+returns-in_err-record-in-Some-clause-kept g c b all start law =
+    let h = c.loop-lsns.invariant.kept b all start law in
+    let n = some_kept g.D.Disk 0 all h.0 c.next.new.self c.next.new.disk c.in_ok-next.field-0 c.in-Some.lsn c.in-Some.is (c.in_ok-next.ensures.kept 0 all h.0 h.1) in
+    let never : None ≡ Some n.entry = sym c.in_err-record-in-Some.ensures.record.1 ∙ n.is in
+    let bottom : ⊥ = cc never in
+    absurd bottom
+
+pub returns-in_err-take-in-Some-clause-kept : goal.returns-in_err-take-in-Some-clause-kept
+returns-in_err-take-in-Some-clause-kept g c b all start law =
+    let h = c.loop-lsns.invariant.kept b all start law in
+    let n = some_kept g.D.Disk 0 all h.0 c.next.new.self c.next.new.disk c.in_ok-next.field-0 c.in-Some.lsn c.in-Some.is (c.in_ok-next.ensures.kept 0 all h.0 h.1) in
+    let said = view c.in_ok-record-in-Some.record in
+    let same : n.entry ≡ said = same_entry _ n.entry said n.is c.in_ok-record-in-Some.ensures.record in
+    let next = next_read g.D.Disk b g.T.PageTree.tree all h.0 c.in-Some.lsn n.entry said c.next.new.self c.next.new.disk same law n.front n.opening in
+    let k = c.in_err-take-in-Some.ensures.kept h.0 h.2 next.0 in
+    let other : c.in_err-take-in-Some.field-0.0 ≢ NotAStore = λ e. next.1 (k.refused.0 (ap Rattle.std.proofs.Common.Err e)) in
+    record { ok = search rules; cause = search (rules, other) }
+
+pub returns-clause-kept : goal.returns-clause-kept
+returns-clause-kept g c b all start law =
+    let h = c.loop-lsns.invariant.kept b all start law in
+    let e = none_kept g.D.Disk 0 all h.0 c.next.new.self c.next.new.disk c.in_ok-next.field-0 c.in-None.is (c.in_ok-next.ensures.kept 0 all h.0 h.1) in
+    let whole = subst (λ (l : History). IsAnalysed l c.loop-lsns.analysis × (c.loop-lsns.lsns.items ≡ lsns_from 0 l)) e.all_read (h.2, h.3) in
+    let analysis = c.finish-analysed.ensures all whole.0 in
+    record {
+      ok = record {
+        log = c.finish.ensures.kept 0 all h.0 e;
+        analysis = analysis;
+        lsns = c.since-lsns.ensures all whole.1 ∙ ap (λ n. lsns_from n all) analysis.point;
+      };
+      cause = tt;
+    }

@@ -1,0 +1,20 @@
+use Rattle.std.proofs.Common.{◌≡◌, false, length}
+use Rattle.im_types.specs.Histories.{Base, History}
+use Rattle.im_types.specs.Writer.{Writer}
+use Rattle.im_flush.specs.PageWriter.{IsReadyWriter, StandsAs}
+use Rattle.im_analysis.specs.Losers.{AreLosers}
+use Rattle.im_analysis.specs.OpenChange.{IsOpenChange}
+use Rattle.im_restart.specs.StructureChange.{ChangeGoes, IsTakingBack}
+use Rattle.im_restart.proofs.structure_change.undo_change.Given as goal
+
+abbrev pub invariant-loop-newest : goal.invariant-loop-newest
+invariant-loop-newest g l = record {
+  ready : IsReadyWriter g.D.Disk l.writer l.disk;
+  working : l.writer.failed ≡ false;
+  same_room : length l.room ≡ length l.fn.room;
+  kept : (b : Base) (all : History) (s : Writer) → StandsAs g.D.Disk b 0 s l.fn.writer l.fn.disk → IsTakingBack b g.T.PageTree.tree all s → IsOpenChange l.fn.open_change.items s.log → AreLosers l.fn.losers s.log
+      → (now : Writer) × ChangeGoes g.D.Disk b g.T.PageTree.tree all s l.fn.disk now l.writer l.disk × IsOpenChange l.open_change.items now.log × AreLosers l.losers now.log;
+}
+
+abbrev pub decreases-loop-newest : goal.decreases-loop-newest
+decreases-loop-newest g l = length l.open_change.items

@@ -1,0 +1,19 @@
+use Rattle.std.proofs.Common.{◌≡◌, false, length}
+use Rattle.im_types.specs.Histories.{Base, History}
+use Rattle.im_types.specs.Writer.{Writer}
+use Rattle.im_flush.specs.PageWriter.{IsReadyWriter, StandsAs}
+use Rattle.im_analysis.specs.Losers.{AreLosers}
+use Rattle.im_restart.specs.Undoing.{AreChains, AreWaiting, IsUndoing, UndoGoes}
+use Rattle.im_restart.proofs.Losers.{waiting}
+use Rattle.im_restart.proofs.undo.enter_all.Given as goal
+
+abbrev pub invariant-loop-transaction : goal.invariant-loop-transaction
+invariant-loop-transaction g l = record {
+  ready : IsReadyWriter g.D.Disk l.writer l.disk;
+  working : l.writer.failed ≡ false;
+  kept : (b : Base) (all : History) (s : Writer) → StandsAs g.D.Disk b 0 s l.fn.writer l.fn.disk → IsUndoing b g.T.PageTree.tree all s → AreLosers l.fn.losers s.log
+      → (now : Writer) × UndoGoes g.D.Disk b g.T.PageTree.tree all s l.fn.disk now l.writer l.disk × AreChains (waiting l.losers) l.chains now.log × AreWaiting l.losers now.log;
+}
+
+abbrev pub decreases-loop-transaction : goal.decreases-loop-transaction
+decreases-loop-transaction g l = length l.losers.entries

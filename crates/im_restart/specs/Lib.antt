@@ -1,0 +1,5 @@
+pub mod Undone
+pub mod Restart
+pub mod Undoing
+pub mod StructureChange
+pub mod Reading

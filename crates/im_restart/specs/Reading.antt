@@ -1,0 +1,39 @@
+-- What reading the log keeps.
+use Rattle.std.specs.Prelude.{◌≡◌, ◌≢◌, Result, IfErr, IfOk}
+use Rattle.im_types.specs.declared.fault.Fault.{Fault}
+use Rattle.im_types.specs.declared.fault.Fault.TheVariants.{NotAStore}
+use Rattle.im_types.specs.declared.file_id.FileId.TheVariants.{Log}
+use Rattle.im_types.specs.Histories.{History}
+use Rattle.im_types.specs.RedoPoints.{redo_point}
+use Rattle.im_disk.specs.declared.disk.Disk.{Ghosts}
+use Rattle.im_disk.specs.Runs.{LeavesIn}
+use Rattle.im_gate.specs.declared.gate.Gate.{Gate}
+use Rattle.im_log.specs.Kept.{HasLog, IsLogOf}
+use Rattle.im_log.specs.LogFile.{IsLog}
+use Rattle.im_analysis.specs.Analysis.{IsAnalysis}
+use Rattle.im_redo.specs.Redo.{lsns_from}
+use Rattle.im_restart.specs.declared.found.Found.{Found}
+
+module _ {D : Type 0} (d : Ghosts D) (all : History) where
+  -- What the first gate of a log is, that was opened or made.
+  pub record GateKept (old new : D) (result : Result Gate Fault) : Type 0 where
+    pub ok : IfOk result (λ gate. HasLog 0 all (d.seen new Log))
+    pub stops : LeavesIn d Log old new (IsLogOf 0 all)
+    pub cause : IfErr result (λ e. e ≢ NotAStore)
+
+  -- The log is open behind all its records, which are durable, and this is what they say.
+  pub record IsFound (found : Found) (disk : D) : Type 0 where
+    pub log : IsLog d 0 all all found.log disk
+    pub analysis : IsAnalysis all found.analysed
+    pub lsns : found.lsns.items ≡ lsns_from (redo_point all) all
+
+  -- what reading the records keeps
+  pub record ReadKept (disk : D) (result : Result Found Fault) : Type 0 where
+    pub ok : IfOk result (λ found. IsFound found disk)
+    pub cause : IfErr result (λ e. e ≢ NotAStore)
+
+  -- what opening a log keeps
+  pub record OpenKept (old new : D) (result : Result Found Fault) : Type 0 where
+    pub ok : IfOk result (λ found. IsFound found new)
+    pub stops : LeavesIn d Log old new (IsLogOf 0 all)
+    pub cause : IfErr result (λ e. e ≢ NotAStore)

@@ -1,0 +1,74 @@
+-- Undo of the structure change that was open, page by page.
+use Rattle.std.specs.Prelude.{◌≡◌, ◌≢◌, ℕ, [], ◌∷◌, Some, Result, IfErr, IfOk, OnOk}
+use Rattle.std.specs.Ordering.{nat_cmp}
+use Rattle.std.specs.BTreeMap.{Updates}
+use Rattle.im_types.specs.declared.fault.Fault.{Fault}
+use Rattle.im_types.specs.declared.fault.Fault.TheVariants.{NotAStore}
+use Rattle.im_types.specs.Records.{Logged}
+use Rattle.im_types.specs.Tree.{Tree}
+use Rattle.im_types.specs.Histories.{Base, History, IsFront, page_at}
+use Rattle.im_types.specs.Structure.{open_smo}
+use Rattle.im_types.specs.Lawful.{IsLawful}
+use Rattle.im_types.specs.Writer.{Writer}
+use Rattle.im_disk.specs.declared.disk.Disk.{Ghosts}
+use Rattle.im_disk.specs.Runs.{LeavesOnly}
+use Rattle.im_flush.specs.declared.page_writer.PageWriter.{PageWriter}
+use Rattle.im_flush.specs.PageWriter.{StandsAs}
+use Rattle.im_analysis.specs.Losers.{AreLosers, LoserMap}
+use Rattle.im_restart.specs.Undone.{GrowsByUndo}
+use Rattle.im_restart.specs.Restart.{IsLeftUndoing}
+
+-- Redo is over, the log is the one that was found with records of undo, and each page is what the log made of it.
+pub record IsTakingBack (b : Base) (tree : Tree) (all : History) (now : Writer) : Type 0 where
+  pub redo_end : ℕ
+  pub over : now.redo_end ≡ Some redo_end
+  pub grown : GrowsByUndo all now.log
+  pub found : IsFront all now.durable
+  pub lawful : IsLawful b tree now.log
+  pub pages : (p : ℕ) → (now.pages p).page ≡ page_at b now.log p
+
+-- the newest record of the open structure change stands at this LSN, in front of these
+pub record IsNewestAt (lsn : ℕ) (log rest : History) : Type 0 where
+  pub newest : Logged
+  pub going : open_smo log ≡ newest ∷ rest
+  pub here : newest.lsn ≡ lsn
+
+module _ {D : Type 0} (d : Ghosts D) (b : Base) (tree : Tree) (all : History) where
+  -- Calls in a row, since the writer stood so: how it stands now, and what a stop since then has left.
+  pub record ChangeGoes (s : Writer) (old : D) (t : Writer) (w : PageWriter) (disk : D) : Type 0 where
+    pub stands : StandsAs d b 0 t w disk
+    pub taking : IsTakingBack b tree all t
+    pub stops : LeavesOnly d old disk (IsLeftUndoing b tree all)
+    pub on : IsFront s.log t.log
+
+  -- The newest page is taken back by a record at this LSN, which leads the transaction's undo on to that one.
+  pub record TakenBack (s : Writer) (t on : ℕ) (rest : History) (lsn : ℕ) (old : D) (w : PageWriter) (disk : D) : Type 0 where
+    pub now : Writer
+    pub goes : ChangeGoes s old now w disk
+    pub going : open_smo now.log ≡ rest
+    pub losers : (m n : LoserMap) → AreLosers m s.log → Updates nat_cmp m n t (Some (record { last = lsn; undo_next = on })) → AreLosers n now.log
+
+  -- what that keeps
+  pub record TakeBackKept (s : Writer) (t on : ℕ) (rest : History) (old : D) (w : PageWriter) (disk : D) (result : Result ℕ Fault) : Type 0 where
+    pub ok : IfOk result (λ lsn. TakenBack s t on rest lsn old w disk)
+    pub stops : LeavesOnly d old disk (IsLeftUndoing b tree all)
+    pub cause : IfErr result (λ e. e ≢ NotAStore)
+
+  -- The table of the losers says so too.
+  pub record PageUndone (s : Writer) (rest : History) (old : D) (w : PageWriter) (losers : LoserMap) (disk : D) : Type 0 where
+    pub now : Writer
+    pub goes : ChangeGoes s old now w disk
+    pub going : open_smo now.log ≡ rest
+    pub are : AreLosers losers now.log
+
+  -- what the undo of a page keeps
+  pub record PageKept (s : Writer) (rest : History) (old : D) (w : PageWriter) (losers : LoserMap) (disk : D) (result : Result Unit Fault) : Type 0 where
+    pub ok : OnOk result (PageUndone s rest old w losers disk)
+    pub stops : LeavesOnly d old disk (IsLeftUndoing b tree all)
+    pub cause : IfErr result (λ e. e ≢ NotAStore)
+
+  -- what the undo of all of them keeps
+  pub record ChangeKept (s : Writer) (old : D) (w : PageWriter) (losers : LoserMap) (disk : D) (result : Result Unit Fault) : Type 0 where
+    pub ok : OnOk result (PageUndone s [] old w losers disk)
+    pub stops : LeavesOnly d old disk (IsLeftUndoing b tree all)
+    pub cause : IfErr result (λ e. e ≢ NotAStore)

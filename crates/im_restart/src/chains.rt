@@ -1,0 +1,11 @@
+//! Where the undo of each loser goes on.
+
+use im_types::{Lsn, TxnId};
+
+/// A transaction that is being undone.
+#[derive(Clone, Copy, Debug, PartialEq, Eq)]
+pub(crate) struct Chain {
+    pub transaction: TxnId,
+    /// The LSN of its last record.
+    pub last: Lsn,
+}

@@ -1,0 +1,14 @@
+//! What a restart finds in the log.
+
+use im_analysis::Analysed;
+use im_log::LogFile;
+use im_types::Lsn;
+
+/// The log behind its last record, and what its records say.
+#[derive(Drop)]
+pub(crate) struct Found {
+    pub log: LogFile,
+    pub analysed: Analysed,
+    /// The LSNs of the records from the redo point on that change a page, the oldest first.
+    pub lsns: Vec<Lsn>,
+}

@@ -1,0 +1,48 @@
+//! Restart: a store's files are opened, its pages redone, and what was unfinished undone.
+//!
+//! `open_or_create` goes through the log once and then back from the ends of the losers:
+//!
+//! 1. **Analysis** (`reading`): the log is opened, or made where there is none yet and no page, and each record read once. That
+//!    gives the number of the next transaction, the redo point, the losers, the last full copies of pages, the structure change
+//!    that is open, and the LSNs of the records that change a page.
+//! 2. **Redo**, by `im_redo`: the pages are brought to what all of the log made of them.
+//! 3. **Undo of the open structure change** (`structure_change`): its pages are put back, the newest first, each by an UndoSmo with
+//!    the page before.
+//! 4. **Undo of the losers** (`undo`), all together, the record with the greatest LSN first. Each loser's chain stands in a map at
+//!    the LSN where its undo goes on, and the greatest is taken out again and again: a key record is compensated on its own page, by
+//!    a record that leads to the one before it; a compensation or the end of a structure change leads on to its next one to undo.
+//!    Where nothing is left the loser's End is appended before others go on.
+//! 5. One **force**. Where nothing was appended it makes no device call, so an opening of a store with nothing to undo makes none;
+//!    a creation takes six, or four on a half-made log. No Checkpoint is taken.
+//!
+//! Each chain must lead to earlier records of its own transaction: this is tested record by record, so that restart ends on any
+//! bytes, and is refused `NotAStore` where it is not so. Memory is taken for the frames, a room of 16,384 bytes, and the tables.
+//!
+//! # What is kept
+//!
+//! `MayRestart` is what files have to be: a lawful log (`IsLawful`) that covers the pages (`Covers`), or none and no page; with what
+//! the tree says of leaves (`IsOnLeaves`), and that what is left to undo can always be undone on the page that its record names
+//! (`UndoesInPlace`). `RestartKept` is what the clause `kept` says of such files:
+//!
+//! - behind an opening (`IsRestarted`) the log is the one that was found with Images and records of undo more (`GrowsByUndo`), it
+//!   is lawful and durable, no loser is left, and each page is what the whole log made of it;
+//! - a stop at any moment leaves such files again (`IsLeftUndoing`): the log that was found, or it with some of these records. Nothing
+//!   is undone twice: a compensation takes its record off what is left, and a lawful log has no second one;
+//! - it is never refused as no store.
+//!
+//! It stands on analysis, redo, the writer of pages, the log and its gates.
+#![tactic(auto)]
+
+mod chains;
+mod found;
+mod opening;
+mod reading;
+mod restarted;
+mod structure_change;
+mod undo;
+
+pub use opening::open_or_create;
+pub use restarted::Restarted;
+
+#[cfg(test)]
+mod tests;

@@ -1,0 +1,176 @@
+//! A store is opened.
+
+ghost use Rattle.std.specs.Prelude.{◌≡◌, ◌≤◌, ◌⊎◌, ◌↔◌, ℕ, [], true, false, length, IfErr, IfOk, OnOk};
+ghost use Rattle.im_types.specs.declared.fault.Fault.TheVariants.{Device, LogFull, Memory, NotAStore};
+ghost use Rattle.im_types.specs.declared.file_id.FileId.TheVariants.{Log, Pages};
+ghost use Rattle.im_types.specs.Histories.{Base, History};
+ghost use Rattle.im_types.specs.RedoPoints.{redo_point};
+ghost use Rattle.im_types.specs.Writer.{Writer};
+ghost use Rattle.im_types.specs.WriterSteps.{opened};
+ghost use Rattle.im_disk.specs.Disk.{Only};
+ghost use Rattle.im_disk.specs.Runs.{IsSynced};
+ghost use Rattle.im_gate.specs.Header.{IsMade};
+ghost use Rattle.im_page.specs.PageFile.{file_page};
+ghost use Rattle.im_log.specs.LogFile.{IsOpen};
+ghost use Rattle.im_analysis.specs.Analysis.{IsAnalysis};
+ghost use Rattle.im_analysis.specs.Losers.{AreLosers};
+ghost use Rattle.im_analysis.specs.OpenChange.{IsOpenChange};
+ghost use Rattle.im_redo.specs.Redo.{lsns_from};
+ghost use Rattle.im_flush.specs.PageWriter.{IsReadyWriter, StandsAs};
+ghost use Rattle.im_restart.specs.Reading.{IsFound};
+ghost use Rattle.im_restart.specs.StructureChange.{IsTakingBack};
+ghost use Rattle.im_restart.specs.Undoing.{MayUndo, UndoKept};
+ghost use Rattle.im_restart.specs.Restart.{IsFresh, MayRestart, RestartKept, SettleKept};
+
+use crate::found::Found;
+use crate::reading::open_log;
+use crate::restarted::Restarted;
+use crate::structure_change::undo_change;
+use crate::undo::undo;
+use im_analysis::Analysed;
+use im_disk::Disk;
+use im_flush::PageWriter;
+use im_redo::redo;
+use im_types::laws::logs::PageTree;
+use im_types::{Fault, Lsn, TxnId};
+use std::alloc::Global;
+use std::cmp::max;
+
+const ROOM: usize = 16_384;
+
+// The room in which records are read again.
+fn make_room(alloc: Global) -> Result<Vec<u8>, Fault>
+    ensures size { IfOk result (λ room. length room.items ≡ 16384) }
+    ensures causes { IfErr result (λ e. e ≡ Memory) }
+{
+    vec![in alloc; 0; ROOM].map_err(|_| Fault::Memory)
+}
+
+// The number of the next transaction, from 1 on.
+fn first_number(next: TxnId) -> TxnId
+    ensures least { 1 ≤ result }
+    ensures same { 1 ≤ next → result ≡ next }
+{
+    max(next, 1)
+}
+
+// Undoes what was found unfinished: the structure change that was open first, and then the losers.
+fn undo_found<D: Disk, T: PageTree>(
+    alloc: Global,
+    disk: &mut D,
+    writer: &mut PageWriter,
+    analysed: &mut Analysed,
+    room: &mut [u8],
+) -> Result<(), Fault>
+    requires room { 16384 ≤ length room.old }
+    requires ready { IsReadyWriter D.Disk writer.old disk.old }
+    requires working { writer.old.failed ≡ false }
+    ensures ready { IsReadyWriter D.Disk writer.new disk.new }
+    ensures kept { (b : Base) (all : History) (s : Writer) → StandsAs D.Disk b 0 s writer.old disk.old → MayUndo b T.tree all → IsTakingBack b T.tree all s
+        → IsOpenChange analysed.old.open_change.items s.log → AreLosers analysed.old.losers s.log → UndoKept D.Disk b T.tree all s disk.old writer.new disk.new result }
+    ensures works { OnOk result (writer.new.failed ≡ false) }
+    ensures next { analysed.new.next ≡ analysed.old.next }
+    ensures causes { IfErr result (λ e. (e ≡ LogFull) ⊎ (e ≡ Memory) ⊎ (e ≡ NotAStore) ⊎ (e ≡ Device)) }
+    ensures device { result ≡ Err Device ↔ (D.failed disk.new ≡ true) }
+{
+    undo_change::<D, T>(
+        disk,
+        writer,
+        &mut analysed.open_change,
+        &mut analysed.losers,
+        room,
+    )?;
+    undo::<D, T>(alloc, disk, writer, &mut analysed.losers, room)
+}
+
+// Redoes the records from the redo point on, undoes and ends the losers, and makes what was logged durable.
+fn settle<D: Disk, T: PageTree>(
+    alloc: Global,
+    disk: &mut D,
+    writer: &mut PageWriter,
+    analysed: &mut Analysed,
+    lsns: &[Lsn],
+    room: &mut [u8],
+) -> Result<(), Fault>
+    requires room { 16384 ≤ length room.old }
+    requires ready { IsReadyWriter D.Disk writer.old disk.old }
+    requires working { writer.old.failed ≡ false }
+    ensures ready { IsReadyWriter D.Disk writer.new disk.new }
+    ensures kept { (b : Base) (all : History) → StandsAs D.Disk b 0 (opened b all (file_page (D.seen disk.old Pages))) writer.old disk.old → MayRestart b T.tree all (D.seen disk.old)
+        → IsAnalysis all analysed.old → lsns.now ≡ lsns_from (redo_point all) all → SettleKept D.Disk b T.tree all disk.old writer.new disk.new result }
+    ensures works { OnOk result (writer.new.failed ≡ false) }
+    ensures next { analysed.new.next ≡ analysed.old.next }
+    ensures causes { IfErr result (λ e. (e ≡ LogFull) ⊎ (e ≡ Memory) ⊎ (e ≡ NotAStore) ⊎ (e ≡ Device)) }
+    ensures device { result ≡ Err Device ↔ (D.failed disk.new ≡ true) }
+{
+    redo(
+        disk,
+        writer,
+        analysed.redo_point,
+        &analysed.copies,
+        lsns,
+        room,
+    )?;
+    undo_found::<D, T>(alloc, disk, writer, analysed, room)?;
+    writer.force(disk)
+}
+
+// Restarts with the log that was found.
+fn restart<D: Disk, T: PageTree>(
+    alloc: Global,
+    disk: &mut D,
+    found: Found,
+    frames: usize,
+) -> Result<Restarted, Fault>
+    requires least { 8 ≤ frames }
+    requires most { frames ≤ 1024 }
+    requires ready { IsOpen D.Disk found.log disk.old }
+    requires usable { found.log.failed ≡ false }
+    ensures ready { IfOk result (λ r. IsReadyWriter D.Disk r.writer disk.new) }
+    ensures works { IfOk result (λ r. r.writer.failed ≡ false) }
+    ensures least { IfOk result (λ r. 1 ≤ r.next) }
+    ensures kept { (b : Base) (all : History) → MayRestart b T.tree all (D.seen disk.old) → Only Pages (D.seen disk.old) (D.may_leave disk.old) → IsFound D.Disk all found disk.old
+        → RestartKept D.Disk b T.tree all disk.old disk.new result }
+    ensures causes { IfErr result (λ e. (e ≡ Memory) ⊎ (e ≡ Device) ⊎ (e ≡ NotAStore) ⊎ (e ≡ LogFull)) }
+    ensures device { result ≡ Err Device ↔ (D.failed disk.new ≡ true) }
+{
+    let Found {
+        log,
+        analysed,
+        lsns,
+    } = found;
+    let mut analysed = analysed;
+    let mut writer = PageWriter::new(alloc, log, frames)?;
+    let mut room = make_room(alloc)?;
+    settle::<D, T>(alloc, disk, &mut writer, &mut analysed, &lsns, &mut room)?;
+    Ok(Restarted {
+        writer,
+        next: first_number(analysed.next),
+    })
+}
+
+/// Opens a store's log and pages, or makes a log where there is none yet and no page: analysis reads the log once, redo brings the
+/// pages to what all of it made of them, and the transactions with neither Commit nor End are undone and ended. Where that logs
+/// anything, it is made durable.
+///
+/// Refused `NotAStore` where the bytes are no store, or there are pages without a log; `Memory`; `LogFull`; `Device`.
+pub fn open_or_create<D: Disk, T: PageTree>(
+    alloc: Global,
+    disk: &mut D,
+    frames: usize,
+) -> Result<Restarted, Fault>
+    requires working { D.failed disk.old ≡ false }
+    requires synced { IsSynced D.Disk disk.old }
+    requires least { 8 ≤ frames }
+    requires most { frames ≤ 1024 }
+    ensures ready { IfOk result (λ r. IsReadyWriter D.Disk r.writer disk.new) }
+    ensures works { IfOk result (λ r. r.writer.failed ≡ false) }
+    ensures least { IfOk result (λ r. 1 ≤ r.next) }
+    ensures made { IfOk result (λ _. D.tells → IsFresh (D.seen disk.old) ⊎ IsMade (D.seen disk.old Log)) }
+    ensures kept { (b : Base) (all : History) → D.tells → MayRestart b T.tree all (D.seen disk.old) → RestartKept D.Disk b T.tree all disk.old disk.new result }
+    ensures causes { IfErr result (λ e. (e ≡ Memory) ⊎ (e ≡ Device) ⊎ (e ≡ NotAStore) ⊎ (e ≡ LogFull)) }
+    ensures device { result ≡ Err Device ↔ (D.failed disk.new ≡ true) }
+{
+    let found = open_log::<D, T>(alloc, disk)?;
+    restart::<D, T>(alloc, disk, found, frames)
+}

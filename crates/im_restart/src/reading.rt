@@ -1,0 +1,159 @@
+//! The log is opened, and each of its records read once.
+
+ghost use Rattle.std.specs.Prelude.{◌≡◌, ◌≢◌, ◌+◌, ◌^◌, ◌≤◌, ◌⊎◌, ◌↔◌, ◌∷◌, ℕ, [], false, true, length, List, IfErr, IfOk, OnOk};
+ghost use Rattle.im_types.specs.declared.fault.Fault.TheVariants.{Device, Memory, NotAStore};
+ghost use Rattle.im_types.specs.declared.file_id.FileId.TheVariants.{Log, Pages};
+ghost use Rattle.im_types.specs.Records.{Unreadable};
+ghost use Rattle.im_types.specs.Histories.{Base, History, changes_page};
+ghost use Rattle.im_types.specs.Lawful.{IsLawful};
+ghost use Rattle.im_disk.specs.Disk.{Only};
+ghost use Rattle.im_disk.specs.Runs.{ChangesOnly, Reads};
+ghost use Rattle.im_gate.specs.Gate.{place_of, has_failed, IsReading};
+ghost use Rattle.im_gate.specs.Header.{IsMade, IsUnmade};
+ghost use Rattle.im_record.specs.Entry.{view};
+ghost use Rattle.im_log.specs.Gates.{IsOfLog};
+ghost use Rattle.im_log.specs.Whats.{what_of};
+ghost use Rattle.im_log.specs.Spelled.{logged_at};
+ghost use Rattle.im_log.specs.Kept.{IsLogOf};
+ghost use Rattle.im_log.specs.LogFile.{IsOpen};
+ghost use Rattle.im_log.specs.Opening.{IsBegun, IsOpening};
+ghost use Rattle.im_redo.specs.Redo.{lsns_from};
+ghost use Rattle.im_restart.specs.Restart.{IsFresh};
+ghost use Rattle.im_restart.specs.Reading.{GateKept, ReadKept, OpenKept};
+
+use crate::found::Found;
+use im_analysis::Analysis;
+use im_disk::Disk;
+use im_gate::Gate;
+use im_log::Opening;
+use im_record::Record;
+use im_types::laws::logs::PageTree;
+use im_types::{Fault, FileId, Lsn};
+use std::alloc::Global;
+
+// The first gate of the log, which is made where there is none yet and the file of pages is empty.
+fn first_gate<D: Disk>(alloc: Global, disk: &mut D) -> Result<Gate, Fault>
+    requires working { D.failed disk.old ≡ false }
+    requires durable { Only Log (D.seen disk.old) (D.may_leave disk.old) }
+    ensures reading { IfOk result (λ gate. IsReading D.Disk gate disk.new) }
+    ensures usable { IfOk result (λ gate. has_failed gate ≡ false) }
+    ensures of_log { IfOk result (λ gate. IsOfLog gate) }
+    ensures place { IfOk result (λ gate. place_of gate ≡ 31) }
+    ensures kept { (all : History) → D.tells → IsLogOf 0 all (D.seen disk.old Log) → (IsUnmade (D.seen disk.old Log) → length (D.seen disk.old Pages) ≡ 0)
+        → GateKept D.Disk all disk.old disk.new result }
+    ensures made { IfOk result (λ _. D.tells → IsMade (D.seen disk.new Log)) }
+    ensures changes { ChangesOnly D.Disk Log disk.old disk.new }
+    ensures store { IfOk result (λ _. D.tells → IsFresh (D.seen disk.old) ⊎ IsMade (D.seen disk.old Log)) }
+    ensures reads { D.tells → ¬ (IsFresh (D.seen disk.old)) → Reads D.Disk disk.old disk.new }
+    ensures causes { IfErr result (λ e. (e ≡ Memory) ⊎ (e ≡ Device) ⊎ (e ≡ NotAStore)) }
+    ensures device { result ≡ Err Device ↔ (D.failed disk.new ≡ true) }
+{
+    match Gate::open(alloc, disk, FileId::Log)? {
+        Some(gate) => Ok(gate),
+        None => Gate::create(alloc, disk, FileId::Log),
+    }
+}
+
+// Whether a record's kind is one that changes its page.
+fn changes_page(record: &Record) -> bool
+    ensures { what_of (view record.now) ≢ Unreadable → result ≡ changes_page (what_of (view record.now)) }
+{
+    match record {
+        Record::InsertKey { .. }
+        | Record::DeleteKey { .. }
+        | Record::UndoInsert { .. }
+        | Record::UndoDelete { .. }
+        | Record::Smo { .. }
+        | Record::UndoSmo { .. } => true,
+        Record::DummyClr { .. }
+        | Record::Commit { .. }
+        | Record::End { .. }
+        | Record::Image { .. }
+        | Record::Checkpoint { .. } => false,
+    }
+}
+
+// Notes the LSN of a record that changes a page.
+fn note_change(lsns: &mut Vec<Lsn>, lsn: Lsn, record: &Record) -> Result<(), Fault>
+    ensures kept { OnOk result ((older : History) → what_of (view record.now) ≢ Unreadable → lsns.old.items ≡ lsns_from 0 older
+        → lsns.new.items ≡ lsns_from 0 (logged_at lsn (view record.now) ∷ older)) }
+    ensures causes { IfErr result (λ e. e ≡ Memory) }
+{
+    if changes_page(record) {
+        match lsns.push(lsn) {
+            Ok(()) => Ok(()),
+            Err(_) => Err(Fault::Memory),
+        }
+    } else {
+        Ok(())
+    }
+}
+
+// Those from an LSN on.
+fn since(lsns: Vec<Lsn>, point: Lsn) -> Vec<Lsn>
+    ensures { (log : History) → lsns.items ≡ lsns_from 0 log → result.items ≡ lsns_from point log }
+{
+    let mut lsns = lsns;
+    lsns.retain(|lsn| *lsn >= point);
+    lsns
+}
+
+// Reads the records, and takes each in turn.
+fn read_all<D: Disk, T: PageTree>(
+    alloc: Global,
+    disk: &mut D,
+    opening: Opening,
+) -> Result<Found, Fault>
+    requires begun { IsBegun D.Disk opening disk.old }
+    requires usable { opening.failed ≡ false }
+    requires based { opening.base ≡ 0 }
+    ensures reads { Reads D.Disk disk.old disk.new }
+    ensures ready { IfOk result (λ found. IsOpen D.Disk found.log disk.new) }
+    ensures usable { IfOk result (λ found. found.log.failed ≡ false) }
+    ensures kept { (b : Base) (all : History) → IsOpening D.Disk 0 all [] opening disk.old → IsLawful b T.tree all → ReadKept D.Disk all disk.new result }
+    ensures causes { IfErr result (λ e. (e ≡ Memory) ⊎ (e ≡ Device) ⊎ (e ≡ NotAStore)) }
+    ensures device { result ≡ Err Device ↔ (D.failed disk.new ≡ true) }
+{
+    let mut opening = opening;
+    let mut analysis = Analysis::new(alloc);
+    let mut lsns = Vec::new(alloc);
+    loop {
+        match opening.next(disk)? {
+            None => break,
+            Some(lsn) => {
+                let record = opening.record()?;
+                analysis.take(lsn, &record)?;
+                note_change(&mut lsns, lsn, &record)?;
+            }
+        }
+    }
+    let analysed = analysis.finish();
+    let lsns = since(lsns, analysed.redo_point);
+    Ok(Found {
+        log: opening.finish(disk),
+        analysed,
+        lsns,
+    })
+}
+
+/// Opens a store's log, or makes one where there is none yet, and reads its records once.
+///
+/// Refused `NotAStore` where the bytes are no log, a structure change opens beside another's, or there are pages without a log;
+/// `Memory`; `Device`.
+pub(crate) fn open_log<D: Disk, T: PageTree>(alloc: Global, disk: &mut D) -> Result<Found, Fault>
+    requires working { D.failed disk.old ≡ false }
+    requires durable { Only Log (D.seen disk.old) (D.may_leave disk.old) }
+    ensures ready { IfOk result (λ found. IsOpen D.Disk found.log disk.new) }
+    ensures usable { IfOk result (λ found. found.log.failed ≡ false) }
+    ensures kept { (b : Base) (all : History) → D.tells → IsLogOf 0 all (D.seen disk.old Log) → (IsUnmade (D.seen disk.old Log) → length (D.seen disk.old Pages) ≡ 0) → IsLawful b T.tree all
+        → OpenKept D.Disk all disk.old disk.new result }
+    ensures changes { ChangesOnly D.Disk Log disk.old disk.new }
+    ensures store { IfOk result (λ _. D.tells → IsFresh (D.seen disk.old) ⊎ IsMade (D.seen disk.old Log)) }
+    ensures reads { D.tells → ¬ (IsFresh (D.seen disk.old)) → Reads D.Disk disk.old disk.new }
+    ensures causes { IfErr result (λ e. (e ≡ Memory) ⊎ (e ≡ Device) ⊎ (e ≡ NotAStore)) }
+    ensures device { result ≡ Err Device ↔ (D.failed disk.new ≡ true) }
+{
+    let gate = first_gate(alloc, disk)?;
+    let opening = Opening::start(alloc, gate, 0)?;
+    read_all::<D, T>(alloc, disk, opening)
+}

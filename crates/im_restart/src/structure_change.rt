@@ -1,0 +1,167 @@
+//! The structure change that was open is taken back, its newest page first.
+
+ghost use Rattle.std.specs.Prelude.{◌≡◌, ◌≤◌, ◌⊎◌, ◌↔◌, ◌∷◌, ℕ, true, false, length, Some, Ok, Err, IfErr, IfOk, OnOk};
+ghost use Rattle.std.specs.Ordering.{nat_cmp};
+ghost use Rattle.std.specs.BTreeMap.{Updates};
+ghost use Rattle.im_types.specs.declared.fault.Fault.TheVariants.{Device, Failed, LogFull, Memory, NotAStore};
+ghost use Rattle.im_types.specs.Histories.{Base, History};
+ghost use Rattle.im_types.specs.Structure.{open_smo};
+ghost use Rattle.im_types.specs.Transactions.{last_of};
+ghost use Rattle.im_types.specs.Writer.{Writer};
+ghost use Rattle.im_record.specs.Entry.{view, prev_of, transaction_of};
+ghost use Rattle.im_record.specs.Spelling.{IsEntry};
+ghost use Rattle.im_log.specs.Spelled.{logged_at};
+ghost use Rattle.im_analysis.specs.Losers.{AreLosers, is_loser};
+ghost use Rattle.im_analysis.specs.OpenChange.{IsOpenChange};
+ghost use Rattle.im_flush.specs.PageWriter.{IsReadyWriter, StandsAs};
+ghost use Rattle.im_restart.specs.StructureChange.{ChangeKept, IsNewestAt, IsTakingBack, PageKept, TakeBackKept};
+
+use im_analysis::{Loser, OpenRecord};
+use im_disk::Disk;
+use im_flush::PageWriter;
+use im_record::{Record, decode};
+use im_types::laws::logs::PageTree;
+use im_types::{Fault, Lsn, TxnId};
+use std::collections::BTreeMap;
+
+// Logs the undo of one page of a structure change behind its transaction's last record, and makes the page what it was. It answers
+// the LSN.
+fn take_back<D: Disk, T: PageTree>(
+    disk: &mut D,
+    writer: &mut PageWriter,
+    last: Lsn,
+    record: &Record,
+) -> Result<Lsn, Fault>
+    requires entry { IsEntry (view record.now) }
+    requires ready { IsReadyWriter D.Disk writer.old disk.old }
+    requires working { writer.old.failed ≡ false }
+    ensures ready { IsReadyWriter D.Disk writer.new disk.new }
+    ensures kept { (b : Base) (all : History) (s : Writer) (lsn : ℕ) (rest : History) → StandsAs D.Disk b 0 s writer.old disk.old → IsTakingBack b T.tree all s
+        → open_smo s.log ≡ logged_at lsn (view record.now) ∷ rest → last ≡ last_of (transaction_of (view record.now)) s.log
+        → TakeBackKept D.Disk b T.tree all s (transaction_of (view record.now)) (prev_of (view record.now)) rest disk.old writer.new disk.new result }
+    ensures works { OnOk result (writer.new.failed ≡ false) }
+    ensures causes { IfErr result (λ e. (e ≡ LogFull) ⊎ (e ≡ Memory) ⊎ (e ≡ NotAStore) ⊎ (e ≡ Device)) }
+    ensures device { result ≡ Err Device ↔ (D.failed disk.new ≡ true) }
+{
+    match record {
+        Record::Smo {
+            transaction,
+            prev,
+            page,
+            before,
+            ..
+        } => {
+            let undo = Record::UndoSmo {
+                transaction: *transaction,
+                prev: last,
+                undo_next: *prev,
+                page: *page,
+                after: before,
+            };
+            writer.log_image(disk, &undo)
+        }
+        _ => Err(Fault::NotAStore),
+    }
+}
+
+// The LSN of a loser's last record.
+fn last_of(losers: &BTreeMap<TxnId, Loser>, transaction: TxnId) -> Result<Lsn, Fault>
+    ensures last { (log : History) → AreLosers losers.now log → is_loser transaction log ≡ true → result ≡ Ok (last_of transaction log) }
+    ensures refused { IfErr result (λ e. e ≡ NotAStore) }
+{
+    match losers.get(&transaction) {
+        None => Err(Fault::NotAStore),
+        Some(row) => Ok(row.last),
+    }
+}
+
+// Notes a loser's row.
+fn note_row(
+    losers: &mut BTreeMap<TxnId, Loser>,
+    transaction: TxnId,
+    row: Loser,
+) -> Result<(), Fault>
+    ensures updates { OnOk result (Updates nat_cmp losers.old losers.new transaction (Some row)) }
+    ensures refused { IfErr result (λ e. e ≡ Memory) }
+{
+    match losers.insert(transaction, row) {
+        Ok(_) => Ok(()),
+        Err(_) => Err(Fault::Memory),
+    }
+}
+
+// Takes back one page, whose record this is.
+fn undo_page<D: Disk, T: PageTree>(
+    disk: &mut D,
+    writer: &mut PageWriter,
+    losers: &mut BTreeMap<TxnId, Loser>,
+    record: &Record,
+) -> Result<(), Fault>
+    requires entry { IsEntry (view record.now) }
+    requires ready { IsReadyWriter D.Disk writer.old disk.old }
+    requires working { writer.old.failed ≡ false }
+    ensures ready { IsReadyWriter D.Disk writer.new disk.new }
+    ensures kept { (b : Base) (all : History) (s : Writer) (lsn : ℕ) (rest : History) → StandsAs D.Disk b 0 s writer.old disk.old → IsTakingBack b T.tree all s
+        → open_smo s.log ≡ logged_at lsn (view record.now) ∷ rest → AreLosers losers.old s.log → PageKept D.Disk b T.tree all s rest disk.old writer.new losers.new disk.new result }
+    ensures works { OnOk result (writer.new.failed ≡ false) }
+    ensures causes { IfErr result (λ e. (e ≡ LogFull) ⊎ (e ≡ Memory) ⊎ (e ≡ NotAStore) ⊎ (e ≡ Device)) }
+    ensures device { result ≡ Err Device ↔ (D.failed disk.new ≡ true) }
+{
+    let last = last_of(losers, record.transaction())?;
+    let lsn = take_back::<D, T>(disk, writer, last, record)?;
+    let row = Loser {
+        last: lsn,
+        undo_next: record.prev(),
+    };
+    note_row(losers, record.transaction(), row)
+}
+
+// The same, with the record read into the room.
+fn undo_page_at<D: Disk, T: PageTree>(
+    disk: &mut D,
+    writer: &mut PageWriter,
+    losers: &mut BTreeMap<TxnId, Loser>,
+    lsn: Lsn,
+    room: &mut [u8],
+) -> Result<(), Fault>
+    requires room { 16384 ≤ length room.old }
+    requires ready { IsReadyWriter D.Disk writer.old disk.old }
+    requires working { writer.old.failed ≡ false }
+    ensures ready { IsReadyWriter D.Disk writer.new disk.new }
+    ensures room { length room.new ≡ length room.old }
+    ensures kept { (b : Base) (all : History) (s : Writer) (rest : History) → StandsAs D.Disk b 0 s writer.old disk.old → IsTakingBack b T.tree all s → IsNewestAt lsn s.log rest
+        → AreLosers losers.old s.log → PageKept D.Disk b T.tree all s rest disk.old writer.new losers.new disk.new result }
+    ensures works { OnOk result (writer.new.failed ≡ false) }
+    ensures causes { IfErr result (λ e. (e ≡ LogFull) ⊎ (e ≡ Memory) ⊎ (e ≡ NotAStore) ⊎ (e ≡ Device)) }
+    ensures device { result ≡ Err Device ↔ (D.failed disk.new ≡ true) }
+{
+    let size = writer.read_at(disk, lsn, room)?;
+    let record = decode(&room[..size])?;
+    undo_page::<D, T>(disk, writer, losers, &record)
+}
+
+/// Takes back the structure change that was open, whose records these are, the newest page first, and leaves its transaction's row in
+/// the table of the losers as that leaves it.
+pub(crate) fn undo_change<D: Disk, T: PageTree>(
+    disk: &mut D,
+    writer: &mut PageWriter,
+    open_change: &mut Vec<OpenRecord>,
+    losers: &mut BTreeMap<TxnId, Loser>,
+    room: &mut [u8],
+) -> Result<(), Fault>
+    requires room { 16384 ≤ length room.old }
+    requires ready { IsReadyWriter D.Disk writer.old disk.old }
+    requires working { writer.old.failed ≡ false }
+    ensures ready { IsReadyWriter D.Disk writer.new disk.new }
+    ensures room { length room.new ≡ length room.old }
+    ensures kept { (b : Base) (all : History) (s : Writer) → StandsAs D.Disk b 0 s writer.old disk.old → IsTakingBack b T.tree all s → IsOpenChange open_change.old.items s.log
+        → AreLosers losers.old s.log → ChangeKept D.Disk b T.tree all s disk.old writer.new losers.new disk.new result }
+    ensures works { OnOk result (writer.new.failed ≡ false) }
+    ensures causes { IfErr result (λ e. (e ≡ LogFull) ⊎ (e ≡ Memory) ⊎ (e ≡ NotAStore) ⊎ (e ≡ Device)) }
+    ensures device { result ≡ Err Device ↔ (D.failed disk.new ≡ true) }
+{
+    while let Some(newest) = open_change.pop() {
+        undo_page_at::<D, T>(disk, writer, losers, newest.lsn, room)?;
+    }
+    Ok(())
+}

@@ -1,0 +1,367 @@
+//! What was unfinished is undone: the losers all together, the record with the greatest LSN first.
+
+ghost use Rattle.std.specs.Prelude.{◌≡◌, [], ◌≢◌, ◌≤◌, ◌<◌, ◌⊎◌, ◌↔◌, ℕ, Bool, true, false, length, Option, None, Some, Ok, Err, IfErr, IfOk, IfSome, OnOk};
+ghost use Rattle.im_types.specs.declared.fault.Fault.TheVariants.{Device, Failed, LogFull, Memory, NotAStore};
+ghost use Rattle.im_types.specs.Histories.{Base, History, IsRecordOf, Rises};
+ghost use Rattle.im_types.specs.Transactions.{is_key};
+ghost use Rattle.im_types.specs.Writer.{Writer};
+ghost use Rattle.im_record.specs.Entry.{view, prev_of, transaction_of, undo_next_of};
+ghost use Rattle.im_record.specs.Spelling.{IsEntry};
+ghost use Rattle.im_log.specs.Whats.{what_of};
+ghost use Rattle.im_log.specs.Spelled.{logged_at};
+ghost use Rattle.im_analysis.specs.Losers.{AreLosers};
+ghost use Rattle.im_flush.specs.PageWriter.{IsReadyWriter, StandsAs};
+ghost use Rattle.im_restart.specs.Undoing.{AreChains, CompensateKept, EndKept, GoesOnAt, IsToUndo, IsUndoing, LeadsNowhere, MayLeadOn, MayUndo, EnterKept, PutKept, StepKept, UndoKept, above, and_also, chain_of, nobody};
+
+use crate::chains::Chain;
+use im_analysis::Loser;
+use im_disk::Disk;
+use im_flush::PageWriter;
+use im_record::{Record, decode};
+use im_types::laws::logs::PageTree;
+use im_types::{Fault, Lsn, TxnId};
+use std::alloc::Global;
+use std::collections::BTreeMap;
+
+// Logs the compensation of an insert or a delete behind its transaction's last record, and takes the key out of its page or puts
+// it back. It answers the compensation's LSN.
+fn compensate<D: Disk, T: PageTree>(
+    disk: &mut D,
+    writer: &mut PageWriter,
+    last: Lsn,
+    record: &Record,
+) -> Result<Lsn, Fault>
+    requires entry { IsEntry (view record.now) }
+    requires ready { IsReadyWriter D.Disk writer.old disk.old }
+    requires working { writer.old.failed ≡ false }
+    requires key { is_key (what_of (view record.now)) ≡ true }
+    ensures ready { IsReadyWriter D.Disk writer.new disk.new }
+    ensures kept { (b : Base) (all : History) (s : Writer) → StandsAs D.Disk b 0 s writer.old disk.old → MayUndo b T.tree all → IsUndoing b T.tree all s
+        → IsToUndo s.log (chain_of (transaction_of (view record.now)) last) (view record.now)
+        → CompensateKept D.Disk b T.tree all s (transaction_of (view record.now)) (prev_of (view record.now)) disk.old writer.new disk.new result }
+    ensures works { OnOk result (writer.new.failed ≡ false) }
+    ensures causes { IfErr result (λ e. (e ≡ LogFull) ⊎ (e ≡ Memory) ⊎ (e ≡ NotAStore) ⊎ (e ≡ Device)) }
+    ensures device { result ≡ Err Device ↔ (D.failed disk.new ≡ true) }
+{
+    match record {
+        Record::InsertKey {
+            transaction,
+            prev,
+            page,
+            key,
+            rid,
+        } => {
+            let undo = Record::UndoInsert {
+                transaction: *transaction,
+                prev: last,
+                undo_next: *prev,
+                page: *page,
+                key,
+                rid: *rid,
+            };
+            writer.log_change(disk, &undo)
+        }
+        Record::DeleteKey {
+            transaction,
+            prev,
+            page,
+            key,
+            rid,
+        } => {
+            let undo = Record::UndoDelete {
+                transaction: *transaction,
+                prev: last,
+                undo_next: *prev,
+                page: *page,
+                key,
+                rid: *rid,
+            };
+            writer.log_change(disk, &undo)
+        }
+        _ => Err(Fault::NotAStore),
+    }
+}
+
+// Logs the End of a transaction of which nothing is left to undo.
+fn end<D: Disk, T: PageTree>(
+    disk: &mut D,
+    writer: &mut PageWriter,
+    chain: Chain,
+) -> Result<(), Fault>
+    requires ready { IsReadyWriter D.Disk writer.old disk.old }
+    requires working { writer.old.failed ≡ false }
+    ensures ready { IsReadyWriter D.Disk writer.new disk.new }
+    ensures kept { (b : Base) (all : History) (s : Writer) → StandsAs D.Disk b 0 s writer.old disk.old → IsUndoing b T.tree all s → GoesOnAt chain 0 s.log
+        → EndKept D.Disk b T.tree all s chain.transaction disk.old writer.new disk.new result }
+    ensures works { OnOk result (writer.new.failed ≡ false) }
+    ensures causes { IfErr result (λ e. (e ≡ LogFull) ⊎ (e ≡ NotAStore) ⊎ (e ≡ Device)) }
+    ensures device { result ≡ Err Device ↔ (D.failed disk.new ≡ true) }
+{
+    if chain.transaction == 0 {
+        return Err(Fault::NotAStore);
+    }
+    let record = Record::End {
+        transaction: chain.transaction,
+        prev: chain.last,
+    };
+    writer.log_only(disk, &record)?;
+    Ok(())
+}
+
+// Puts a chain at the LSN where its undo goes on.
+//
+// Refused `NotAStore` where another has that LSN; `Memory`.
+fn put_chain(chains: &mut BTreeMap<Lsn, Chain>, lsn: Lsn, chain: Chain) -> Result<(), Fault>
+    ensures kept { (b : Base) (out : ℕ → Bool) (log : History) → Rises b log → AreChains (and_also chain.transaction out) chains.old log → out chain.transaction ≡ false
+        → GoesOnAt chain lsn log → lsn ≢ 0 → PutKept out log chains.new result }
+    ensures above { OnOk result ((n : ℕ) → lsn < n → above chains.old.entries ≤ n → above chains.new.entries ≤ n) }
+    ensures causes { IfErr result (λ e. (e ≡ Memory) ⊎ (e ≡ NotAStore)) }
+{
+    match chains.insert(lsn, chain) {
+        Ok(None) => Ok(()),
+        Ok(Some(_)) => Err(Fault::NotAStore),
+        Err(_) => Err(Fault::Memory),
+    }
+}
+
+// Undo of a transaction goes on at an LSN; where nothing is left, it ends.
+fn go_on<D: Disk, T: PageTree>(
+    disk: &mut D,
+    writer: &mut PageWriter,
+    chains: &mut BTreeMap<Lsn, Chain>,
+    chain: Chain,
+    lsn: Lsn,
+) -> Result<(), Fault>
+    requires ready { IsReadyWriter D.Disk writer.old disk.old }
+    requires working { writer.old.failed ≡ false }
+    ensures ready { IsReadyWriter D.Disk writer.new disk.new }
+    ensures kept { (b : Base) (all : History) (s : Writer) (out : ℕ → Bool) → StandsAs D.Disk b 0 s writer.old disk.old → IsUndoing b T.tree all s
+        → AreChains (and_also chain.transaction out) chains.old s.log → out chain.transaction ≡ false → GoesOnAt chain lsn s.log
+        → StepKept D.Disk b T.tree all s chain.transaction out disk.old writer.new chains.new disk.new result }
+    ensures above { OnOk result ((n : ℕ) → lsn < n → above chains.old.entries ≤ n → above chains.new.entries ≤ n) }
+    ensures works { OnOk result (writer.new.failed ≡ false) }
+    ensures causes { IfErr result (λ e. (e ≡ LogFull) ⊎ (e ≡ Memory) ⊎ (e ≡ NotAStore) ⊎ (e ≡ Device)) }
+    ensures device { result ≡ Err Device ↔ (D.failed disk.new ≡ true) }
+{
+    if lsn == 0 {
+        end::<D, T>(disk, writer, chain)
+    } else {
+        put_chain(chains, lsn, chain)
+    }
+}
+
+// Where undo goes on behind a record: a key record names its transaction's record before, and a compensation or the end of a
+// structure change the next one to undo.
+//
+// Refused `NotAStore` for another record, and where that is no earlier one.
+fn next_after(record: &Record, lsn: Lsn) -> Result<Lsn, Fault>
+    ensures key { IfOk result (λ next. is_key (what_of (view record.now)) ≡ true → next ≡ prev_of (view record.now)) }
+    ensures other { IfOk result (λ next. is_key (what_of (view record.now)) ≡ false → MayLeadOn (what_of (view record.now)) × (next ≡ undo_next_of (view record.now))) }
+    ensures falls { IfOk result (λ next. next < lsn) }
+    ensures refused { IfErr result (λ e. (e ≡ NotAStore) × LeadsNowhere (view record.now) lsn) }
+{
+    let next = match record {
+        Record::InsertKey { prev, .. } | Record::DeleteKey { prev, .. } => *prev,
+        Record::UndoInsert { undo_next, .. }
+        | Record::UndoDelete { undo_next, .. }
+        | Record::UndoSmo { undo_next, .. }
+        | Record::DummyClr { undo_next, .. } => *undo_next,
+        Record::Smo { .. }
+        | Record::Commit { .. }
+        | Record::End { .. }
+        | Record::Image { .. }
+        | Record::Checkpoint { .. } => return Err(Fault::NotAStore),
+    };
+    if next >= lsn {
+        return Err(Fault::NotAStore);
+    }
+    Ok(next)
+}
+
+// Whether it is an insert or a delete of a key.
+fn is_key(record: &Record) -> bool
+    ensures { result ≡ is_key (what_of (view record.now)) }
+{
+    match record {
+        Record::InsertKey { .. } | Record::DeleteKey { .. } => true,
+        Record::UndoInsert { .. }
+        | Record::UndoDelete { .. }
+        | Record::Smo { .. }
+        | Record::UndoSmo { .. }
+        | Record::DummyClr { .. }
+        | Record::Commit { .. }
+        | Record::End { .. }
+        | Record::Image { .. }
+        | Record::Checkpoint { .. } => false,
+    }
+}
+
+// Takes back a key record, and goes on behind it.
+fn undo_key<D: Disk, T: PageTree>(
+    disk: &mut D,
+    writer: &mut PageWriter,
+    chains: &mut BTreeMap<Lsn, Chain>,
+    chain: Chain,
+    next: Lsn,
+    record: &Record,
+) -> Result<(), Fault>
+    requires entry { IsEntry (view record.now) }
+    requires ready { IsReadyWriter D.Disk writer.old disk.old }
+    requires working { writer.old.failed ≡ false }
+    requires key { is_key (what_of (view record.now)) ≡ true }
+    requires owner { transaction_of (view record.now) ≡ chain.transaction }
+    requires next { next ≡ prev_of (view record.now) }
+    ensures ready { IsReadyWriter D.Disk writer.new disk.new }
+    ensures kept { (b : Base) (all : History) (s : Writer) (out : ℕ → Bool) → StandsAs D.Disk b 0 s writer.old disk.old → MayUndo b T.tree all → IsUndoing b T.tree all s
+        → AreChains (and_also chain.transaction out) chains.old s.log → out chain.transaction ≡ false → IsToUndo s.log chain (view record.now)
+        → StepKept D.Disk b T.tree all s chain.transaction out disk.old writer.new chains.new disk.new result }
+    ensures above { OnOk result ((n : ℕ) → next < n → above chains.old.entries ≤ n → above chains.new.entries ≤ n) }
+    ensures works { OnOk result (writer.new.failed ≡ false) }
+    ensures causes { IfErr result (λ e. (e ≡ LogFull) ⊎ (e ≡ Memory) ⊎ (e ≡ NotAStore) ⊎ (e ≡ Device)) }
+    ensures device { result ≡ Err Device ↔ (D.failed disk.new ≡ true) }
+{
+    let last = compensate::<D, T>(disk, writer, chain.last, record)?;
+    let behind = Chain {
+        transaction: chain.transaction,
+        last,
+    };
+    go_on::<D, T>(disk, writer, chains, behind, next)
+}
+
+// Takes back the record of a transaction at an LSN, or passes over it where it is a compensation or the end of a structure change.
+//
+// Refused `NotAStore` for a record of another kind, or of another transaction, and where it leads to no earlier one.
+fn undo_record<D: Disk, T: PageTree>(
+    disk: &mut D,
+    writer: &mut PageWriter,
+    chains: &mut BTreeMap<Lsn, Chain>,
+    chain: Chain,
+    lsn: Lsn,
+    record: &Record,
+) -> Result<(), Fault>
+    requires entry { IsEntry (view record.now) }
+    requires ready { IsReadyWriter D.Disk writer.old disk.old }
+    requires working { writer.old.failed ≡ false }
+    ensures ready { IsReadyWriter D.Disk writer.new disk.new }
+    ensures kept { (b : Base) (all : History) (s : Writer) (out : ℕ → Bool) → StandsAs D.Disk b 0 s writer.old disk.old → MayUndo b T.tree all → IsUndoing b T.tree all s
+        → AreChains (and_also chain.transaction out) chains.old s.log → out chain.transaction ≡ false → GoesOnAt chain lsn s.log
+        → IsRecordOf (logged_at lsn (view record.now)) s.log → transaction_of (view record.now) ≡ chain.transaction
+        → StepKept D.Disk b T.tree all s chain.transaction out disk.old writer.new chains.new disk.new result }
+    ensures above { OnOk result (above chains.old.entries ≤ lsn → above chains.new.entries ≤ lsn) }
+    ensures works { OnOk result (writer.new.failed ≡ false) }
+    ensures causes { IfErr result (λ e. (e ≡ LogFull) ⊎ (e ≡ Memory) ⊎ (e ≡ NotAStore) ⊎ (e ≡ Device)) }
+    ensures device { result ≡ Err Device ↔ (D.failed disk.new ≡ true) }
+{
+    if record.transaction() != chain.transaction {
+        return Err(Fault::NotAStore);
+    }
+    let next = next_after(record, lsn)?;
+    if is_key(record) {
+        undo_key::<D, T>(disk, writer, chains, chain, next, record)
+    } else {
+        go_on::<D, T>(disk, writer, chains, chain, next)
+    }
+}
+
+// The same, with the record read into the room.
+fn undo_at<D: Disk, T: PageTree>(
+    disk: &mut D,
+    writer: &mut PageWriter,
+    chains: &mut BTreeMap<Lsn, Chain>,
+    chain: Chain,
+    lsn: Lsn,
+    room: &mut [u8],
+) -> Result<(), Fault>
+    requires room { 16384 ≤ length room.old }
+    requires ready { IsReadyWriter D.Disk writer.old disk.old }
+    requires working { writer.old.failed ≡ false }
+    ensures ready { IsReadyWriter D.Disk writer.new disk.new }
+    ensures room { length room.new ≡ length room.old }
+    ensures kept { (b : Base) (all : History) (s : Writer) (out : ℕ → Bool) → StandsAs D.Disk b 0 s writer.old disk.old → MayUndo b T.tree all → IsUndoing b T.tree all s
+        → AreChains (and_also chain.transaction out) chains.old s.log → out chain.transaction ≡ false → lsn ≢ 0 → GoesOnAt chain lsn s.log
+        → StepKept D.Disk b T.tree all s chain.transaction out disk.old writer.new chains.new disk.new result }
+    ensures above { OnOk result (above chains.old.entries ≤ lsn → above chains.new.entries ≤ lsn) }
+    ensures works { OnOk result (writer.new.failed ≡ false) }
+    ensures causes { IfErr result (λ e. (e ≡ LogFull) ⊎ (e ≡ Memory) ⊎ (e ≡ NotAStore) ⊎ (e ≡ Device)) }
+    ensures device { result ≡ Err Device ↔ (D.failed disk.new ≡ true) }
+{
+    let size = writer.read_at(disk, lsn, room)?;
+    let record = decode(&room[..size])?;
+    undo_record::<D, T>(disk, writer, chains, chain, lsn, &record)
+}
+
+// Undoes and ends the transactions of these chains, the record with the greatest LSN first.
+fn undo_all<D: Disk, T: PageTree>(
+    disk: &mut D,
+    writer: &mut PageWriter,
+    chains: &mut BTreeMap<Lsn, Chain>,
+    room: &mut [u8],
+) -> Result<(), Fault>
+    requires room { 16384 ≤ length room.old }
+    requires ready { IsReadyWriter D.Disk writer.old disk.old }
+    requires working { writer.old.failed ≡ false }
+    ensures ready { IsReadyWriter D.Disk writer.new disk.new }
+    ensures kept { (b : Base) (all : History) (s : Writer) → StandsAs D.Disk b 0 s writer.old disk.old → MayUndo b T.tree all → IsUndoing b T.tree all s
+        → AreChains nobody chains.old s.log → UndoKept D.Disk b T.tree all s disk.old writer.new disk.new result }
+    ensures works { OnOk result (writer.new.failed ≡ false) }
+    ensures causes { IfErr result (λ e. (e ≡ LogFull) ⊎ (e ≡ Memory) ⊎ (e ≡ NotAStore) ⊎ (e ≡ Device)) }
+    ensures device { result ≡ Err Device ↔ (D.failed disk.new ≡ true) }
+{
+    while let Some((lsn, chain)) = chains.pop_last() {
+        undo_at::<D, T>(disk, writer, chains, chain, lsn, room)?;
+    }
+    Ok(())
+}
+
+// Puts each loser at the LSN where its undo goes on; those of which nothing is left end.
+fn enter_all<D: Disk, T: PageTree>(
+    disk: &mut D,
+    writer: &mut PageWriter,
+    losers: &mut BTreeMap<TxnId, Loser>,
+    chains: &mut BTreeMap<Lsn, Chain>,
+) -> Result<(), Fault>
+    requires ready { IsReadyWriter D.Disk writer.old disk.old }
+    requires working { writer.old.failed ≡ false }
+    requires none { chains.old.entries ≡ [] }
+    ensures ready { IsReadyWriter D.Disk writer.new disk.new }
+    ensures kept { (b : Base) (all : History) (s : Writer) → StandsAs D.Disk b 0 s writer.old disk.old → IsUndoing b T.tree all s → AreLosers losers.old s.log
+        → EnterKept D.Disk b T.tree all s disk.old writer.new chains.new disk.new result }
+    ensures works { OnOk result (writer.new.failed ≡ false) }
+    ensures causes { IfErr result (λ e. (e ≡ LogFull) ⊎ (e ≡ Memory) ⊎ (e ≡ NotAStore) ⊎ (e ≡ Device)) }
+    ensures device { result ≡ Err Device ↔ (D.failed disk.new ≡ true) }
+{
+    while let Some((transaction, row)) = losers.pop_first() {
+        let chain = Chain {
+            transaction,
+            last: row.last,
+        };
+        go_on::<D, T>(disk, writer, chains, chain, row.undo_next)?;
+    }
+    Ok(())
+}
+
+/// Undoes and ends the losers, all together, the record with the greatest LSN first. Records are read again into the room.
+///
+/// Refused `NotAStore` where a chain of records leads to no earlier record of its transaction that can be undone, or a page does not
+/// take a compensation; `Memory`, `LogFull`, `Device`.
+pub(crate) fn undo<D: Disk, T: PageTree>(
+    alloc: Global,
+    disk: &mut D,
+    writer: &mut PageWriter,
+    losers: &mut BTreeMap<TxnId, Loser>,
+    room: &mut [u8],
+) -> Result<(), Fault>
+    requires room { 16384 ≤ length room.old }
+    requires ready { IsReadyWriter D.Disk writer.old disk.old }
+    requires working { writer.old.failed ≡ false }
+    ensures ready { IsReadyWriter D.Disk writer.new disk.new }
+    ensures kept { (b : Base) (all : History) (s : Writer) → StandsAs D.Disk b 0 s writer.old disk.old → MayUndo b T.tree all → IsUndoing b T.tree all s
+        → AreLosers losers.old s.log → UndoKept D.Disk b T.tree all s disk.old writer.new disk.new result }
+    ensures works { OnOk result (writer.new.failed ≡ false) }
+    ensures causes { IfErr result (λ e. (e ≡ LogFull) ⊎ (e ≡ Memory) ⊎ (e ≡ NotAStore) ⊎ (e ≡ Device)) }
+    ensures device { result ≡ Err Device ↔ (D.failed disk.new ≡ true) }
+{
+    let mut chains = BTreeMap::new(alloc);
+    enter_all::<D, T>(disk, writer, losers, &mut chains)?;
+    undo_all::<D, T>(disk, writer, &mut chains, room)
+}

@@ -1,0 +1,5 @@
+pub mod Pages
+pub mod Steps
+pub mod Ways
+pub mod Places
+pub mod Chain

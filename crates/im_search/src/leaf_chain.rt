@@ -1,0 +1,135 @@
+//! The first entry past a key.
+
+ghost use Rattle.std.specs.Prelude.{◌≡◌, ◌≤◌, ◌<◌, ◌⊎◌, ◌↔◌, ◌+◌, ℕ, List, length, true, false, Some, None, Ok, Err, IfErr, IfOk, IfSome, OnOk};
+ghost use Rattle.im_types.specs.declared.fault.Fault.TheVariants.{Device, Failed, LogFull, Memory, NotAStore};
+ghost use Rattle.im_types.specs.Histories.{Base};
+ghost use Rattle.im_types.specs.Maps.{first_in};
+ghost use Rattle.im_types.specs.Writer.{Writer};
+ghost use Rattle.im_page.specs.Entry.{entry_at};
+ghost use Rattle.im_flush.specs.PageWriter.{IsReadyWriter};
+ghost use Rattle.im_tree.specs.Lookups.{IsAhead, IsFirstAt};
+ghost use Rattle.im_search.specs.Levels.{bodies, start_at};
+ghost use Rattle.im_search.specs.Found.{HasTree, CountKept, NextKept, IsFirstOf};
+
+use crate::descent::leaf_for;
+use crate::entry_place::EntryPlace;
+use crate::levels::tree_page;
+use im_disk::Disk;
+use im_flush::PageWriter;
+use im_page::Page;
+use im_types::{Fault, PageKind, PageNo};
+
+// The place of the first entry at or above a key, or above it: the number of entries where there is none.
+fn place_past(page: &Page, key: &[u8], inclusive: bool) -> usize
+    ensures { IsFirstAt (start_at inclusive key.now) page.now.body.entries result }
+{
+    page.content();
+    let _len = page.len();
+    match page.find(key) {
+        Ok(i) if inclusive => i,
+        Ok(i) => i + 1,
+        Err(i) => i,
+    }
+}
+
+// The place of that entry, where the page has it.
+fn first_past(page: &Page, key: &[u8], inclusive: bool) -> Option<usize>
+    ensures some { IfSome result (λ i. (i < length page.now.body.entries) × (first_in (start_at inclusive key.now) page.now.body.entries ≡ Some (entry_at page.now.body.entries i))) }
+    ensures none { result ≡ None → first_in (start_at inclusive key.now) page.now.body.entries ≡ None }
+{
+    let place = place_past(page, key, inclusive);
+    if place < page.len() {
+        return Some(place);
+    }
+    None
+}
+
+// How many pages there are, by the meta page: one get.
+fn page_count<D: Disk>(writer: &mut PageWriter, disk: &mut D) -> Result<PageNo, Fault>
+    requires ready { IsReadyWriter D.Disk writer.old disk.old }
+    ensures ready { IsReadyWriter D.Disk writer.new disk.new }
+    ensures kept { (b : Base) (base : ℕ) (s : Writer) (spare : List ℕ) → HasTree D.Disk b base s spare writer.old disk.old
+        → CountKept D.Disk b base s disk.old writer.new disk.new result }
+    ensures works { OnOk result (writer.new.failed ≡ false) }
+    ensures fails { IfErr result (λ e. (writer.new.failed ≡ false) ↔ ((e ≡ Memory) ⊎ (e ≡ NotAStore))) }
+    ensures causes { IfErr result (λ e. (e ≡ Failed) ⊎ (e ≡ LogFull) ⊎ (e ≡ Memory) ⊎ (e ≡ NotAStore) ⊎ (e ≡ Device)) }
+    ensures already { result ≡ Err Failed ↔ (writer.old.failed ≡ true) }
+    ensures device { writer.old.failed ≡ false → result ≡ Err Device ↔ (D.failed disk.new ≡ true) }
+{
+    let frame = writer.get(disk, 0)?;
+    let page = writer.page(frame);
+    if page.kind() != PageKind::Meta {
+        return Err(Fault::NotAStore);
+    }
+    Ok(page.leftmost())
+}
+
+// The first entry past a key along the leaf chain, from a leaf behind that of the key on. There are fewer leaves than pages, so
+// that a chain which goes on longer leads round in a ring.
+fn first_along<D: Disk>(
+    writer: &mut PageWriter,
+    disk: &mut D,
+    from: PageNo,
+    key: &[u8],
+    inclusive: bool,
+) -> Result<Option<EntryPlace>, Fault>
+    requires ready { IsReadyWriter D.Disk writer.old disk.old }
+    ensures ready { IsReadyWriter D.Disk writer.new disk.new }
+    ensures kept { (b : Base) (base : ℕ) (s : Writer) (spare : List ℕ) → HasTree D.Disk b base s spare writer.old disk.old → IsAhead (bodies s) (start_at inclusive key.now) 0 from
+        → NextKept D.Disk b base s (start_at inclusive key.now) disk.old writer.new disk.new result }
+    ensures first { IfOk result (λ found. IfSome found (IsFirstOf (start_at inclusive key.now) writer.new.pool)) }
+    ensures works { OnOk result (writer.new.failed ≡ false) }
+    ensures fails { IfErr result (λ e. (writer.new.failed ≡ false) ↔ ((e ≡ Memory) ⊎ (e ≡ NotAStore))) }
+    ensures causes { IfErr result (λ e. (e ≡ Failed) ⊎ (e ≡ LogFull) ⊎ (e ≡ Memory) ⊎ (e ≡ NotAStore) ⊎ (e ≡ Device)) }
+    ensures already { result ≡ Err Failed ↔ (writer.old.failed ≡ true) }
+    ensures device { writer.old.failed ≡ false → result ≡ Err Device ↔ (D.failed disk.new ≡ true) }
+{
+    let mut left = page_count(writer, disk)?;
+    let mut number = from;
+    while number != 0 {
+        if left == 0 {
+            return Err(Fault::NotAStore);
+        }
+        left -= 1;
+        let frame = tree_page(writer, disk, number, 0)?;
+        let leaf = writer.page(frame);
+        if let Some(at) = first_past(leaf, key, inclusive) {
+            return Ok(Some(EntryPlace { frame, at }));
+        }
+        number = leaf.next();
+    }
+    Ok(None)
+}
+
+/// Where the first entry at or above a key stands (`inclusive`), or the first above it; `None` where the index has none. Nothing is
+/// copied: the entry's leaf lends the key as long as it is held.
+///
+/// The search goes down to the key's leaf, and from there along the leaf chain past leaves that have no such entry; it gets page 0
+/// only then, for the page count. Refused `NotAStore` as `leaf_for` is, where a page of the chain is no leaf or page 0 no meta page,
+/// and where the chain has as many leaves as there are pages; otherwise as `PageWriter::get` is. Behind `NotAStore` and `Memory` the
+/// writer goes on.
+pub fn next_entry<D: Disk>(
+    writer: &mut PageWriter,
+    disk: &mut D,
+    key: &[u8],
+    inclusive: bool,
+) -> Result<Option<EntryPlace>, Fault>
+    requires ready { IsReadyWriter D.Disk writer.old disk.old }
+    ensures ready { IsReadyWriter D.Disk writer.new disk.new }
+    ensures kept { (b : Base) (base : ℕ) (s : Writer) (spare : List ℕ) → HasTree D.Disk b base s spare writer.old disk.old
+        → NextKept D.Disk b base s (start_at inclusive key.now) disk.old writer.new disk.new result }
+    ensures first { IfOk result (λ found. IfSome found (IsFirstOf (start_at inclusive key.now) writer.new.pool)) }
+    ensures works { OnOk result (writer.new.failed ≡ false) }
+    ensures fails { IfErr result (λ e. (writer.new.failed ≡ false) ↔ ((e ≡ Memory) ⊎ (e ≡ NotAStore))) }
+    ensures causes { IfErr result (λ e. (e ≡ Failed) ⊎ (e ≡ LogFull) ⊎ (e ≡ Memory) ⊎ (e ≡ NotAStore) ⊎ (e ≡ Device)) }
+    ensures already { result ≡ Err Failed ↔ (writer.old.failed ≡ true) }
+    ensures device { writer.old.failed ≡ false → result ≡ Err Device ↔ (D.failed disk.new ≡ true) }
+{
+    let frame = leaf_for(writer, disk, key)?;
+    let leaf = writer.page(frame);
+    if let Some(at) = first_past(leaf, key, inclusive) {
+        return Ok(Some(EntryPlace { frame, at }));
+    }
+    let next = leaf.next();
+    first_along(writer, disk, next, key, inclusive)
+}

@@ -1,0 +1,35 @@
+//! Search: the leaf of a key, the row id of a key, and the next entry, over a writer of pages.
+//!
+//! - `leaf_for` goes from page 1 down to the leaf in whose range a key lies, by one get for each level.
+//! - `locate` answers the row id of a key.
+//! - `next_entry` answers where the first entry at or above a key stands, or the first above it: it goes down to the key's
+//!   leaf, and from there along the leaf chain past leaves that have no such entry.
+//!
+//! The contract: where the pages are a good tree, all with their copies loaded (`HasTree`), the answers are those of the
+//! walk, the entries of the leaves from left to right; the number of gets is the root's level plus one; and no search is
+//! refused `NotAStore`. A get may take another page's frame, and write that page first. So each page is as it was behind a
+//! search, the log has Images more at most (`GoesOn`), and a stop within leaves what redo can start from.
+//!
+//! On any bytes each search ends: levels are read from the pages and have to fall by one, a page of another kind than its
+//! level asks for is refused, and a chain of leaves that goes on longer than there are pages is a ring.
+//!
+//! No key and no page is copied. A leaf is answered as its frame, an entry as its leaf's frame and its place there: both are
+//! right as long as the leaf is held.
+//!
+//! It stands on `im_flush` for pages and their gets, on `im_page` for what a page has of a key, and on `im_tree` for the
+//! laws of the way down and of the leaf chain. For callers `proofs/Pages` has `tree_stays`: the tree is there still behind
+//! calls that keep each page.
+#![tactic(auto)]
+
+mod descent;
+mod entry_place;
+mod leaf_chain;
+mod levels;
+mod lookup;
+#[cfg(test)]
+mod tests;
+
+pub use descent::leaf_for;
+pub use entry_place::EntryPlace;
+pub use leaf_chain::next_entry;
+pub use lookup::locate;
