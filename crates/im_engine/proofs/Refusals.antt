@@ -1,6 +1,7 @@
 -- Steps that are refused.
-use Rattle.std.proofs.Common.{◌≡◌, ◌≢◌, ◌⊎◌, inl, inr, ℕ, ◌≤◌, List, Bool, true, false, Some, None, refl, sym, ap, subst, ◌∙◌}
+use Rattle.std.proofs.Common.{◌≡◌, ◌≢◌, ◌⊎◌, inl, inr, ℕ, ◌≤◌, List, Bool, true, false, Some, None, Result, Ok, Err, IfErr, refl, sym, ap, subst, ◌∙◌}
 use Rattle.std.specs.Prelude.{◌||◌}
+use Rattle.std.specs.Result.{IsErrAnd}
 use Rattle.im_types.specs.Answers.{Step, Begin, Do, Commit, Rollback, Continue, FlushPage, Force, Checkpoint, Reply, Refused}
 use Rattle.im_types.specs.Changes.{Effect}
 use Rattle.im_types.specs.Faults.{number_of}
@@ -41,6 +42,11 @@ none_done d Checkpoint n e = tt
 
 pub refused_number : {m k : ℕ} → Refused m ≡ Refused k → m ≡ k
 refused_number e = ap (λ (x : Reply). elim x as (λ _. ℕ) [ Refused m ↦ m | _ ↦ 0 ]) e
+
+-- what holds of a refusal holds of it where it is handed on
+pub handed_on : {A : Type 0} (r : Result A Fault) (fault : Fault) (P : Fault → Type 0) → IsErrAnd r (λ e. e ≡ fault) → P fault → IfErr r P
+handed_on (Ok a) fault P is has = absurd is
+handed_on (Err e) fault P is has = subst (λ (f : Fault). P f) (sym is) has
 
 module _ {D : Type 0} (d : Ghosts D) (before : List Effect) (s : Shown) (step : Step) (asked : (shows s step None).asked ≡ s.asked)
     (shown : (n : ℕ) → shows s step (Some (Refused n)) ≡ record s { failed = s.failed || breaks n }) where

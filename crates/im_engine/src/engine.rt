@@ -1,6 +1,6 @@
 //! The engine: a store that is open, and its steps.
 
-ghost use Rattle.std.specs.Prelude.{◌≡◌, ◌≢◌, ◌≤◌, ◌<◌, ◌+◌, ◌⊎◌, ◌↔◌, ◌^◌, ◌||◌, false, true, not, is_some, length, List, ℕ, Option, Some, None, Ok, Err, IfOk, IfErr, OnOk, OnErr};
+ghost use Rattle.std.specs.Prelude.{◌≡◌, ◌≢◌, ◌≤◌, ◌<◌, ◌+◌, ◌⊎◌, ◌↔◌, ◌^◌, ◌||◌, false, true, not, is_some, length, List, Option, Some, None, Ok, Err, IfOk, IfErr, OnOk, OnErr};
 ghost use Rattle.std.specs.Result.{IsErrAnd};
 ghost use Rattle.std.specs.Option.{ForSome};
 ghost use Rattle.im_flush.specs.PageWriter.{IsReadyWriter};
@@ -221,10 +221,7 @@ impl<D: Disk> Engine<D> {
         if self.failed {
             return Err(Fault::Failed);
         }
-        let frame = match self.root() {
-            Ok(frame) => frame,
-            Err(fault) => return Err(fault),
-        };
+        let frame = self.root()?;
         list_of(alloc, self.writer.page(frame))
     }
 
@@ -245,10 +242,7 @@ impl<D: Disk> Engine<D> {
         if self.failed {
             return Err(Fault::Failed);
         }
-        let frame = match self.get_page(page) {
-            Ok(frame) => frame,
-            Err(fault) => return Err(fault),
-        };
+        let frame = self.get_page(page)?;
         let page = self.writer.page(frame);
         Ok(Header {
             kind: page.kind(),

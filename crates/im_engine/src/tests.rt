@@ -1,6 +1,4 @@
 //! Lives of a store on the model disk.
-ghost use Rattle.std.specs.Prelude.{◌≡◌, false};
-ghost use Rattle.im_disk.specs.Runs.{IsSynced};
 
 use crate::{Config, Engine};
 use im_disk::{Disk, Fill, Length, ModelDisk, Stop};

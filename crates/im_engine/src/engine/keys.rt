@@ -1,6 +1,6 @@
 //! Steps of the active transaction by a key.
 
-ghost use Rattle.std.specs.Prelude.{◌≡◌, ◌⊎◌, ◌≤◌, ◌↔◌, ◌||◌, ℕ, Option, List, Some, Ok, Err, true, false, is_some, if◌then◌else◌, length, IfOk, IfErr, OnOk};
+ghost use Rattle.std.specs.Prelude.{◌≡◌, ◌⊎◌, ◌≤◌, ◌↔◌, ◌||◌, ℕ, List, Some, Ok, Err, true, false, is_some, if◌then◌else◌, length, IfOk, IfErr};
 ghost use Rattle.std.specs.FinMap.Entries.{find};
 ghost use Rattle.im_types.specs.declared.fault.Fault.TheVariants.{LogFull, Device, Memory, NotAStore, Failed, NoTransaction, KeyLength};
 ghost use Rattle.im_types.specs.declared.reply.Reply.TheVariants.{Refused};

@@ -1,6 +1,6 @@
 //! Pages, as an engine looks at them.
 
-ghost use Rattle.std.specs.Prelude.{◌≡◌, ◌⊎◌, ◌≤◌, ◌+◌, ◌↔◌, true, false, List, IfOk, IfErr, OnOk, OnErr, length};
+ghost use Rattle.std.specs.Prelude.{◌≡◌, ◌⊎◌, ◌≤◌, true, false, List, IfOk, IfErr, OnOk, length};
 ghost use Rattle.std.specs.FinMap.Entries.{find};
 ghost use Rattle.im_types.specs.declared.fault.Fault.TheVariants.{LogFull, Device, Memory, NotAStore};
 ghost use Rattle.im_types.specs.Faults.{number_of};
@@ -78,10 +78,7 @@ impl<D: Disk> Engine<D> {
         ensures going { self.new.going ≡ self.old.going }
         ensures next { self.new.next ≡ self.old.next }
     {
-        let frame = match self.get_page(1) {
-            Ok(frame) => frame,
-            Err(fault) => return Err(fault),
-        };
+        let frame = self.get_page(1)?;
         match self.writer.page(frame).kind() {
             PageKind::Leaf => Ok(frame),
             _ => {

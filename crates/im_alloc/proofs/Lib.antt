@@ -1,0 +1,4 @@
+pub mod Results
+pub mod Seeing
+pub mod Taking
+pub mod Goings

@@ -1,0 +1,80 @@
+//! The page of a number, in memory of its own.
+
+ghost use Rattle.std.specs.Prelude.{◌≡◌, ◌⊎◌, ◌↔◌, ℕ, true, false, Ok, Err, IfErr, IfOk, OnOk, OnErr};
+ghost use Rattle.im_types.specs.declared.fault.Fault.TheVariants.{Device, LogFull, Memory, NotAStore};
+ghost use Rattle.im_types.specs.Histories.{Base};
+ghost use Rattle.im_types.specs.Writer.{Writer};
+ghost use Rattle.im_flush.specs.PageWriter.{IsReadyWriter, StandsAs};
+ghost use Rattle.im_smo.specs.Images.{without_image};
+ghost use Rattle.im_alloc.specs.Seen.{page_in};
+ghost use Rattle.im_alloc.specs.Kept.{PageKept};
+
+use im_disk::Disk;
+use im_flush::PageWriter;
+use im_page::Page;
+use im_smo::Images;
+use im_types::{Fault, PageNo};
+use std::alloc::Global;
+
+// A copy of a page.
+fn copied(alloc: Global, page: &Page) -> Result<Box<Page>, Fault>
+    ensures same { IfOk result (λ p. p.value ≡ page.now) }
+    ensures refused { IfErr result (λ e. e ≡ Memory) }
+{
+    let mut copy = Box::new(alloc, Page::initial(0)).map_err(|_| Fault::Memory)?;
+    match copy.load(page.bytes()) {
+        Ok(()) => Ok(copy),
+        Err(fault) => Err(fault),
+    }
+}
+
+// A copy of the pool's page, which is held from now on as the most recently used.
+fn pool_copy<D: Disk>(
+    alloc: Global,
+    writer: &mut PageWriter,
+    disk: &mut D,
+    number: PageNo,
+) -> Result<Box<Page>, Fault>
+    requires ready { IsReadyWriter D.Disk writer.old disk.old }
+    requires working { writer.old.failed ≡ false }
+    ensures ready { IsReadyWriter D.Disk writer.new disk.new }
+    ensures kept { (b : Base) (base : ℕ) (s : Writer) → StandsAs D.Disk b base s writer.old disk.old → ((q : ℕ) → (s.pages q).waits ≡ false)
+        → PageKept D.Disk b base s (s.pages number).page disk.old writer.new disk.new result (λ p. p.value) }
+    ensures works { OnOk result (writer.new.failed ≡ false) }
+    ensures fails { IfErr result (λ e. (writer.new.failed ≡ false) ↔ ((e ≡ Memory) ⊎ (e ≡ NotAStore))) }
+    ensures causes { IfErr result (λ e. (e ≡ LogFull) ⊎ (e ≡ Memory) ⊎ (e ≡ NotAStore) ⊎ (e ≡ Device)) }
+    ensures device { result ≡ Err Device ↔ (D.failed disk.new ≡ true) }
+{
+    let frame = writer.get(disk, number)?;
+    copied(alloc, writer.page(frame))
+}
+
+/// The page of a number as the structure change has it, in memory of its own: taken out of the images, where it is among
+/// them, and otherwise a copy of the pool's page, which is held from now on as the most recently used. Whoever changes it
+/// puts it back.
+///
+/// Refused, with the images as they were, `Memory`, `LogFull`, `Device`, or `NotAStore` where the page's bytes are none.
+pub fn image<D: Disk>(
+    alloc: Global,
+    images: &mut Images,
+    writer: &mut PageWriter,
+    disk: &mut D,
+    number: PageNo,
+) -> Result<Box<Page>, Fault>
+    requires ready { IsReadyWriter D.Disk writer.old disk.old }
+    requires working { writer.old.failed ≡ false }
+    ensures ready { IsReadyWriter D.Disk writer.new disk.new }
+    ensures kept { (b : Base) (base : ℕ) (s : Writer) → StandsAs D.Disk b base s writer.old disk.old → ((q : ℕ) → (s.pages q).waits ≡ false)
+        → PageKept D.Disk b base s (page_in s images.old number) disk.old writer.new disk.new result (λ p. p.value) }
+    ensures images { images.new ≡ without_image number images.old }
+    ensures same { OnErr result (images.new ≡ images.old) }
+    ensures works { OnOk result (writer.new.failed ≡ false) }
+    ensures fails { IfErr result (λ e. (writer.new.failed ≡ false) ↔ ((e ≡ Memory) ⊎ (e ≡ NotAStore))) }
+    ensures causes { IfErr result (λ e. (e ≡ LogFull) ⊎ (e ≡ Memory) ⊎ (e ≡ NotAStore) ⊎ (e ≡ Device)) }
+    ensures device { result ≡ Err Device ↔ (D.failed disk.new ≡ true) }
+{
+    match images.take(number) {
+        Some(page) => Ok(page),
+        None => pool_copy(alloc, writer, disk, number),
+    }
+}

@@ -1,0 +1,6 @@
+pub mod PageBytes
+pub mod Records
+pub mod ChangeLogs
+pub mod Closing
+pub mod Runs
+pub mod Nets

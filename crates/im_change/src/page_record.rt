@@ -1,0 +1,48 @@
+//! One page of a structure change.
+
+ghost use Rattle.std.specs.Prelude.{◌≡◌, ◌≤◌, ◌⊎◌, ◌↔◌, ℕ, true, false, Some, Err, IfErr, OnOk};
+ghost use Rattle.im_types.specs.declared.fault.Fault.TheVariants.{Device, LogFull, Memory, NotAStore};
+ghost use Rattle.im_types.specs.Histories.{Base};
+ghost use Rattle.im_types.specs.Writer.{Writer};
+ghost use Rattle.im_flush.specs.PageWriter.{IsReadyWriter, StandsAs};
+ghost use Rattle.im_change.specs.Logged.{PageLogKept};
+
+use crate::page_bytes::{behind, copy_behind};
+use im_disk::Disk;
+use im_flush::PageWriter;
+use im_page::Page;
+use im_record::Record;
+use im_types::{Fault, Lsn, PageNo};
+
+/// Logs one page of a structure change, as it is and as it will be, and makes it so. It answers the LSN.
+pub(crate) fn log_page<D: Disk>(
+    writer: &mut PageWriter,
+    disk: &mut D,
+    transaction: u64,
+    prev: Lsn,
+    number: PageNo,
+    after: &Page,
+) -> Result<Lsn, Fault>
+    requires ready { IsReadyWriter D.Disk writer.old disk.old }
+    requires working { writer.old.failed ≡ false }
+    requires owner { 1 ≤ transaction }
+    ensures ready { IsReadyWriter D.Disk writer.new disk.new }
+    ensures kept { (b : Base) (base : ℕ) (s : Writer) (e : ℕ) → StandsAs D.Disk b base s writer.old disk.old → s.redo_end ≡ Some e
+        → PageLogKept D.Disk b base s transaction prev number after.now.body disk.old writer.new disk.new result }
+    ensures works { OnOk result (writer.new.failed ≡ false) }
+    ensures fails { IfErr result (λ e. (writer.new.failed ≡ false) ↔ ((e ≡ Memory) ⊎ (e ≡ NotAStore))) }
+    ensures causes { IfErr result (λ e. (e ≡ LogFull) ⊎ (e ≡ Memory) ⊎ (e ≡ NotAStore) ⊎ (e ≡ Device)) }
+    ensures device { result ≡ Err Device ↔ (D.failed disk.new ≡ true) }
+{
+    let frame = writer.get(disk, number)?;
+    let mut before = [0; 4088];
+    copy_behind(&mut before, writer.page(frame));
+    let logged = Record::Smo {
+        transaction,
+        prev,
+        page: number,
+        before: &before,
+        after: behind(after),
+    };
+    writer.log_image(disk, &logged)
+}

@@ -1,0 +1,15 @@
+pub mod PartLemmas
+pub mod ImageLemmas
+pub mod Updates
+pub mod Beside
+pub mod LeafSplitSteps
+pub mod InnerSplitSteps
+pub mod RootSplitSteps
+pub mod DropSteps
+pub mod AllocationSteps
+pub mod Unrefused
+pub mod Holding
+pub mod Parting
+pub mod Becoming
+pub mod GoingDown
+pub mod KeepingTrees

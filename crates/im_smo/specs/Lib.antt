@@ -1,0 +1,6 @@
+pub mod Bodies
+pub mod Parts
+pub mod Images
+pub mod Changed
+pub mod OnImages
+pub mod OnWay

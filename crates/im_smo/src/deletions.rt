@@ -1,0 +1,63 @@
+//! Deletions: what the parent of a page that goes says behind it, and a root left without a child.
+
+ghost use Rattle.std.specs.Prelude.{◌≡◌, ◌<◌, ◌↔◌, [], OnOk, OnErr, IfErr, IsOk, IfSome, IsNone, length};
+ghost use Rattle.im_types.specs.declared.fault.Fault.TheVariants.{NotAStore};
+ghost use Rattle.im_types.specs.declared.page_kind.PageKind.TheVariants.{Inner};
+ghost use Rattle.im_page.specs.Entry.{entry_at};
+ghost use Rattle.im_page.specs.Child.{IsChild, StartAbove};
+ghost use Rattle.im_smo.specs.Bodies.{says, leaf_body, without_entry, without_leftmost};
+
+use im_page::Page;
+use im_types::{Fault, PageKind, PageNo};
+
+/// Where the child on a key's way stands in an inner page: the place of its entry, or none where it is the leftmost one.
+pub fn child_place(page: &Page, key: &[u8]) -> Option<usize>
+    ensures entry { IfSome result (λ i. (i < length page.now.body.entries) × IsChild page.now.body key.now (entry_at page.now.body.entries i).1) }
+    ensures leftmost { IsNone result → StartAbove key.now page.now.body.entries × IsChild page.now.body key.now page.now.body.leftmost }
+{
+    page.content();
+    match page.find(key) {
+        Ok(i) => Some(i),
+        Err(0) => None,
+        Err(i) => Some(i - 1),
+    }
+}
+
+/// Takes the entry of a child that goes out of its parent: the child at place i, which is not the leftmost one.
+/// Refused `NotAStore` exactly where the page is no inner page or has no such entry; it then stays as it was.
+pub fn drop_entry(parent: &mut Page, i: usize) -> Result<(), Fault>
+    ensures new { OnOk result (parent.new ≡ says parent.old (without_entry parent.old.body i)) }
+    ensures same { OnErr result (parent.new ≡ parent.old) }
+    ensures refused { IfErr result (λ e. e ≡ NotAStore) }
+    ensures ok { IsOk result ↔ ((parent.old.body.kind ≡ Inner) × (i < length parent.old.body.entries)) }
+{
+    if parent.kind() != PageKind::Inner || parent.len() <= i {
+        return Err(Fault::NotAStore);
+    }
+    parent.remove(i);
+    Ok(())
+}
+
+/// Takes the leftmost child, which goes, out of its parent: the child of the first entry takes its place, and the entry
+/// goes. Refused `NotAStore` exactly where the page is no inner page or has no entry; it then stays as it was.
+pub fn drop_leftmost(parent: &mut Page) -> Result<(), Fault>
+    ensures new { OnOk result (parent.new ≡ says parent.old (without_leftmost parent.old.body)) }
+    ensures same { OnErr result (parent.new ≡ parent.old) }
+    ensures refused { IfErr result (λ e. e ≡ NotAStore) }
+    ensures ok { IsOk result ↔ ((parent.old.body.kind ≡ Inner) × (0 < length parent.old.body.entries)) }
+{
+    if parent.kind() != PageKind::Inner || parent.len() == 0 {
+        return Err(Fault::NotAStore);
+    }
+    let first = parent.value(0) as PageNo;
+    parent.set_leftmost(first);
+    parent.remove(0);
+    Ok(())
+}
+
+/// Makes the root, which was left without a child, a leaf with no entry and no leaf beside it.
+pub fn empty_root(root: &mut Page)
+    ensures { root.new ≡ says root.old (leaf_body 0 0 []) }
+{
+    root.become_leaf(0, 0);
+}
