@@ -6,6 +6,7 @@ ghost use Rattle.im_types.specs.declared.page_kind.PageKind.TheVariants.{Free, M
 ghost use Rattle.im_types.specs.Histories.{Base};
 ghost use Rattle.im_types.specs.Writer.{Writer};
 ghost use Rattle.im_page.specs.Header.{empty_body};
+ghost use Rattle.im_log.specs.LogFile.{HasNoRoom};
 ghost use Rattle.im_flush.specs.PageWriter.{IsReadyWriter};
 ghost use Rattle.im_smo.specs.Bodies.{says, meta_with_first};
 ghost use Rattle.im_smo.specs.Images.{put_image};
@@ -97,6 +98,7 @@ pub fn allocate<D: Disk>(
     ensures works { OnOk result (writer.new.failed ≡ false) }
     ensures fails { IfErr result (λ e. (writer.new.failed ≡ false) ↔ ((e ≡ Memory) ⊎ (e ≡ NotAStore) ⊎ (e ≡ Capacity))) }
     ensures causes { IfErr result (λ e. (e ≡ Capacity) ⊎ (e ≡ LogFull) ⊎ (e ≡ Memory) ⊎ (e ≡ NotAStore) ⊎ (e ≡ Device)) }
+    ensures no_room { result ≡ Err LogFull → HasNoRoom writer.new.log }
     ensures device { result ≡ Err Device ↔ (D.failed disk.new ≡ true) }
 {
     let _rises = images.len();
@@ -143,6 +145,7 @@ pub fn free<D: Disk>(
     ensures works { OnOk result (writer.new.failed ≡ false) }
     ensures fails { IfErr result (λ e. (writer.new.failed ≡ false) ↔ ((e ≡ Memory) ⊎ (e ≡ NotAStore))) }
     ensures causes { IfErr result (λ e. (e ≡ LogFull) ⊎ (e ≡ Memory) ⊎ (e ≡ NotAStore) ⊎ (e ≡ Device)) }
+    ensures no_room { result ≡ Err LogFull → HasNoRoom writer.new.log }
     ensures device { result ≡ Err Device ↔ (D.failed disk.new ≡ true) }
 {
     let _rises = images.len();

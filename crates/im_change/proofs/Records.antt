@@ -29,9 +29,9 @@ pub smo_leaves : (w : What) (was now : Body) → w ≡ whats.Smo was now → aft
 smo_leaves w was now is none = let clash : Some now ≡ None = ap after_in (sym is) ∙ none in cc clash
 
 module _ {D : Type 0} (d : Ghosts D) (b : Base) (base : ℕ) where
-  pub page_logged : (s t : Writer) (n prev p : ℕ) (before after : List ℕ) (now : Body) (lsn : ℕ) (w : PageWriter) (disk : D) → Keeps b s t → what_of (Smo n prev p before after) ≡ whats.Smo (s.pages p).page.body now
-      → ChangedFrom d b base t (Smo n prev p before after) lsn w disk → PageLogged d b base s n prev p now lsn w disk
-  page_logged s t n prev p before after now lsn w disk keeps what done = record {
+  pub page_logged : (s t : Writer) (n prev p : ℕ) (before after : List ℕ) (now : Body) (lsn : ℕ) (old : D) (w : PageWriter) (disk : D) → Keeps b s t → what_of (Smo n prev p before after) ≡ whats.Smo (s.pages p).page.body now
+      → ChangedFrom d b base t (Smo n prev p before after) lsn old w disk → PageLogged d b base s n prev p now lsn w disk
+  page_logged s t n prev p before after now lsn old w disk keeps what done = record {
     before = done.before;
     keeps = keeps_then b s t done.before keeps done.keeps;
     durable = done.logged.durable;

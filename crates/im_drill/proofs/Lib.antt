@@ -1,5 +1,6 @@
 pub mod Acked
 pub mod KeyWords
+pub mod LifeWords
 pub mod Lines
 pub mod OpenedLogs
 pub mod Passed

@@ -1,5 +1,5 @@
 -- What lives of a store show, line by line.
-use Rattle.std.proofs.Common.{◌≡◌, ℕ, suc, ◌+◌, ◌<◌, zero, List, [], ◌∷◌, ◌++◌, length, take, get_or, refl, sym, ◌∙◌, ap, subst, arith, ◌⊎◌, inl, inr, Result, Ok, Err, IfOk, IfErr, MatchResult, ◌≢◌, Bool, true, false, if◌then◌else◌}
+use Rattle.std.proofs.Common.{◌≡◌, ℕ, suc, ◌+◌, ◌<◌, zero, List, [], ◌∷◌, ◌++◌, length, take, get_or, refl, sym, ◌∙◌, ap, subst, arith, Result, Ok, Err, IfOk, IfErr, MatchResult, ◌≢◌, Bool, true, false, if◌then◌else◌}
 use Rattle.std.proofs.lemmas.List.{append-nil, take_more, length-take-le}
 use Rattle.std.specs.FinMap.{empty, entries}
 use Rattle.im_types.specs.declared.fault.Fault.{Fault}
@@ -53,3 +53,11 @@ shown_none s (line ∷ all) = refl
 pub still_a_store : (stopped : Bool) (fault : Fault) → fault ≢ NotAStore → (if stopped then openings.Stopped else openings.Refused fault) ≢ openings.Refused NotAStore
 still_a_store true fault other is = absurd (cc)
 still_a_store false fault other is = other (cc)
+
+pub not_failed : (failed : Bool) → (failed ≡ true → ⊥) → failed ≡ false
+not_failed true never = absurd (never refl)
+not_failed false never = refl
+
+-- what is shown of an engine that fails just where it did
+pub same_shown : (s : Shown) (failed : Bool) → failed ≡ s.failed → record s { failed = failed } ≡ s
+same_shown s failed is = ap (λ (f : Bool). record s { failed = f }) is

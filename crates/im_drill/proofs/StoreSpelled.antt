@@ -1,5 +1,5 @@
 -- What lines of scripts of lives of a store spell, and what they do not.
-use Rattle.std.proofs.Common.{◌≡◌, ◌≢◌, ◌⊎◌, inl, inr, ⊎_elim, ◌+◌, ◌*◌, refl, ℕ, List, slice_index, if◌then◌else◌, ◌==◌, ◌++◌, ◌∷◌, Option, None, Some, codes, sym, ◌∙◌, ap, subst, arith}
+use Rattle.std.proofs.Common.{◌≡◌, ◌≢◌, ◌⊎◌, inl, inr, ⊎_elim, ◌+◌, ◌*◌, refl, ℕ, List, slice_index, if◌then◌else◌, ◌==◌, ◌++◌, ◌∷◌, codes, sym, ◌∙◌, ap, subst, arith}
 use Rattle.im_types.specs.declared.step.Step.{Step}
 use Rattle.im_types.specs.declared.step.Step.TheVariants as steps
 use Rattle.im_drill.specs.declared.batch.Batch.{Batch}
@@ -8,12 +8,13 @@ use Rattle.im_drill.specs.declared.line.Line.TheVariants as raws
 use Rattle.im_drill.specs.declared.store_script_line.StoreScriptLine.{StoreScriptLine}
 use Rattle.im_drill.specs.declared.store_script_line.StoreScriptLine.TheVariants as lines
 use Rattle.im_drill.specs.declared.store_life.StoreLine.TheVariants as within
-use Rattle.im_drill.specs.Lines.{Spells, Lacks, IsNumber, IsPageNumber}
+use Rattle.im_drill.specs.Lines.{Spells, Lacks, IsPageNumber}
 use Rattle.im_drill.specs.Steps.{SpellsStep}
 use Rattle.im_drill.specs.Scripts.{Kind, SetsLog, Begins, Counts, Steps, Stops}
 use Rattle.im_drill.specs.StoreScripts.{SpellsLife, SpellsStore, IsPlainLine, store_kind_of}
 use Rattle.im_drill.specs.declared.store_life.LifeOptions.{LifeOptions}
 use Rattle.im_drill.proofs.Lines.{cut_once, lacks_mid}
+use Rattle.im_drill.proofs.LifeWords.{AreOptions, are_options, lone_life, spaced_life}
 
 -- the kind of a good line, by its first bytes
 abbrev pub store_text_kind : List ℕ → Kind
@@ -24,12 +25,8 @@ store_text_kind text =
     else if slice_index text 0 == 112 then Counts
     else Steps
 
-life_kind : (text : List ℕ) (frames : Option ℕ) → SpellsLife text frames → Begins ≡ store_text_kind text
-life_kind text None s = sym (ap store_text_kind s)
-life_kind text (Some frames) s = sym (ap store_text_kind s.1)
-
 store_kind : (text : List ℕ) (said : StoreScriptLine) → SpellsStore text said → store_kind_of said ≡ store_text_kind text
-store_kind text (lines.Life options) s = life_kind text options.frames s
+store_kind text (lines.Life options) s = sym (ap store_text_kind s.2)
 store_kind text (lines.SetLog bytes) s = sym (ap store_text_kind s.1)
 store_kind text (lines.Within within.Calls) s = sym (ap store_text_kind s)
 store_kind text (lines.Within (within.Page page)) s = sym (ap store_text_kind s.1)
@@ -64,12 +61,8 @@ two_of (lines.Within (within.Step (steps.FlushPage page))) = 26220
 two_of (lines.Within (within.Step steps.Force)) = 26223
 two_of (lines.Stop stop) = 29556
 
-life_two : (text : List ℕ) (frames : Option ℕ) → SpellsLife text frames → first_two text ≡ 27753
-life_two text None s = ap first_two s
-life_two text (Some frames) s = ap first_two s.1
-
 store_two : (text : List ℕ) (said : StoreScriptLine) → SpellsStore text said → first_two text ≡ two_of said
-store_two text (lines.Life options) s = life_two text options.frames s
+store_two text (lines.Life options) s = ap first_two s.2
 store_two text (lines.SetLog bytes) s = ap first_two s.1
 store_two text (lines.Within within.Calls) s = ap first_two s
 store_two text (lines.Within (within.Page page)) s = ap first_two s.1
@@ -119,68 +112,38 @@ life_lacks = (λ x. omega arith, (λ x. omega arith, (λ x. omega arith, (λ x. 
 page_lacks : Lacks 32 (codes "page")
 page_lacks = (λ x. omega arith, (λ x. omega arith, (λ x. omega arith, (λ x. omega arith, tt))))
 
-frames_lacks : Lacks 32 (codes "frames")
-frames_lacks = (λ x. omega arith, (λ x. omega arith, (λ x. omega arith, (λ x. omega arith, (λ x. omega arith, (λ x. omega arith, tt))))))
-
-lone_not_life : (word : List ℕ) (frames : Option ℕ) → Lacks 32 word → SpellsLife word frames → word ≢ codes "life" → ⊥
-lone_not_life word None l s other = other s
-lone_not_life word (Some frames) l s other = lacks_mid 32 (codes "life") (codes "frames " ++ s.0) (subst (λ (t : List ℕ). Lacks 32 t) s.1 l)
-
 -- a word alone is `life`, or what a plain line is
 pub no_lone_line : (word : List ℕ) (said : StoreScriptLine) → SpellsStore word said → Lacks 32 word → word ≢ codes "life" → ((other : StoreScriptLine) → IsPlainLine other → ¬ (SpellsStore word other)) → ⊥
-no_lone_line word (lines.Life options) s l other plain = lone_not_life word options.frames l s other
+no_lone_line word (lines.Life options) s l other plain = other (lone_life word options l s)
 no_lone_line word (lines.SetLog bytes) s l other plain = plain (lines.SetLog bytes) tt s
 no_lone_line word (lines.Within within.Calls) s l other plain = plain (lines.Within within.Calls) tt s
 no_lone_line word (lines.Within (within.Page page)) s l other plain = lacks_mid 32 (codes "page") s.0 (subst (λ (t : List ℕ). Lacks 32 t) s.1 l)
 no_lone_line word (lines.Within (within.Step step)) s l other plain = plain (lines.Within (within.Step step)) tt s
 no_lone_line word (lines.Stop stop) s l other plain = plain (lines.Stop stop) tt s
 
-spaced_not_life : (word rest : List ℕ) (frames : Option ℕ) → Lacks 32 word → SpellsLife (word ++ 32 ∷ rest) frames → word ≢ codes "life" → ⊥
-spaced_not_life word rest None l s other = lacks_mid 32 word rest (subst (λ (t : List ℕ). Lacks 32 t) (sym s) life_lacks)
-spaced_not_life word rest (Some frames) l s other = other (cut_once 32 word (codes "life") rest (codes "frames " ++ s.0) l life_lacks s.1).0
-
 -- a line of more words begins with `life` or `page`, or is what a plain line is
 pub no_spaced_line : (text word rest : List ℕ) (said : StoreScriptLine) → SpellsStore text said → text ≡ word ++ 32 ∷ rest → Lacks 32 word → word ≢ codes "life" → word ≢ codes "page" → ((other : StoreScriptLine) → IsPlainLine other → ¬ (SpellsStore text other)) → ⊥
-no_spaced_line text word rest (lines.Life options) s cut l life page plain = spaced_not_life word rest options.frames l (subst (λ (t : List ℕ). SpellsLife t options.frames) cut s) life
+no_spaced_line text word rest (lines.Life options) s cut l life page plain = life (spaced_life word rest options l (subst (λ (t : List ℕ). SpellsLife t options) cut s))
 no_spaced_line text word rest (lines.SetLog bytes) s cut l life page plain = plain (lines.SetLog bytes) tt s
 no_spaced_line text word rest (lines.Within within.Calls) s cut l life page plain = plain (lines.Within within.Calls) tt s
 no_spaced_line text word rest (lines.Within (within.Page n)) s cut l life page plain = page (cut_once 32 word (codes "page") rest s.0 l page_lacks (sym cut ∙ s.1)).0
 no_spaced_line text word rest (lines.Within (within.Step step)) s cut l life page plain = plain (lines.Within (within.Step step)) tt s
 no_spaced_line text word rest (lines.Stop stop) s cut l life page plain = plain (lines.Stop stop) tt s
 
--- what stands behind `life `: `frames ` and a number
-life_of : (rest : List ℕ) (frames : Option ℕ) → SpellsLife (codes "life " ++ rest) frames → (tail : List ℕ) × (n : ℕ) × (rest ≡ codes "frames " ++ tail) × IsNumber tail n
-life_of rest None s = absurd (lacks_mid 32 (codes "life") rest (subst (λ (t : List ℕ). Lacks 32 t) (sym s) life_lacks))
-life_of rest (Some frames) s = let e : codes "life " ++ rest ≡ codes "life " ++ (codes "frames " ++ s.0) = s.1 in let same : rest ≡ codes "frames " ++ s.0 = cc in (s.0, frames, same, s.2)
-
-life_said : (rest : List ℕ) (said : StoreScriptLine) → SpellsStore (codes "life " ++ rest) said → (tail : List ℕ) × (n : ℕ) × (rest ≡ codes "frames " ++ tail) × IsNumber tail n
-life_said rest (lines.Life options) s = life_of rest options.frames s
-life_said rest (lines.SetLog bytes) s = let e = store_two (codes "life " ++ rest) (lines.SetLog bytes) s in absurd (omega (arith, e))
-life_said rest (lines.Within within.Calls) s = let e = store_two (codes "life " ++ rest) (lines.Within within.Calls) s in absurd (omega (arith, e))
-life_said rest (lines.Within (within.Page page)) s = let e = store_two (codes "life " ++ rest) (lines.Within (within.Page page)) s in absurd (omega (arith, e))
-life_said rest (lines.Within (within.Step steps.Begin)) s = let e = store_two (codes "life " ++ rest) (lines.Within (within.Step steps.Begin)) s in absurd (omega (arith, e))
-life_said rest (lines.Within (within.Step (steps.Fetch t key))) s = let e = store_two (codes "life " ++ rest) (lines.Within (within.Step (steps.Fetch t key))) s in absurd (omega (arith, e))
-life_said rest (lines.Within (within.Step (steps.Insert t key rid))) s = let e = store_two (codes "life " ++ rest) (lines.Within (within.Step (steps.Insert t key rid))) s in absurd (omega (arith, e))
-life_said rest (lines.Within (within.Step (steps.Delete t key))) s = let e = store_two (codes "life " ++ rest) (lines.Within (within.Step (steps.Delete t key))) s in absurd (omega (arith, e))
-life_said rest (lines.Within (within.Step (steps.Commit t))) s = let e = store_two (codes "life " ++ rest) (lines.Within (within.Step (steps.Commit t))) s in absurd (omega (arith, e))
-life_said rest (lines.Within (within.Step (steps.FlushPage page))) s = let e = store_two (codes "life " ++ rest) (lines.Within (within.Step (steps.FlushPage page))) s in absurd (omega (arith, e))
-life_said rest (lines.Within (within.Step steps.Force)) s = let e = store_two (codes "life " ++ rest) (lines.Within (within.Step steps.Force)) s in absurd (omega (arith, e))
-life_said rest (lines.Stop stop) s = let e = store_two (codes "life " ++ rest) (lines.Stop stop) s in absurd (omega (arith, e))
-
--- one word alone is no option
-pub life_one : (rest : List ℕ) (said : StoreScriptLine) → SpellsStore (codes "life " ++ rest) said → Lacks 32 rest → ⊥
-life_one rest said s l = let is = life_said rest said s in lacks_mid 32 (codes "frames") is.0 (subst (λ (t : List ℕ). Lacks 32 t) is.2 l)
-
--- the first word is `frames`
-pub life_word : (rest word more : List ℕ) (said : StoreScriptLine) → SpellsStore (codes "life " ++ rest) said → rest ≡ word ++ 32 ∷ more → Lacks 32 word → word ≡ codes "frames"
-life_word rest word more said s cut l = let is = life_said rest said s in (cut_once 32 word (codes "frames") more is.0 l frames_lacks (sym cut ∙ is.2)).0
-
--- and then a number
-pub life_frames : (rest word more : List ℕ) (said : StoreScriptLine) → SpellsStore (codes "life " ++ rest) said → rest ≡ word ++ 32 ∷ more → Lacks 32 word → (n : ℕ) × IsNumber more n
-life_frames rest word more said s cut l =
-    let is = life_said rest said s in
-    let same : more ≡ is.0 = (cut_once 32 word (codes "frames") more is.0 l frames_lacks (sym cut ∙ is.2)).1 in
-    (is.1, subst (λ (t : List ℕ). IsNumber t is.1) (sym same) is.3)
+-- what stands behind `life`: its options
+pub life_said : (rest : List ℕ) (said : StoreScriptLine) → SpellsStore (codes "life" ++ rest) said → (options : LifeOptions) × AreOptions options rest
+life_said rest (lines.Life options) s = (options, are_options rest options s)
+life_said rest (lines.SetLog bytes) s = let e = store_two (codes "life" ++ rest) (lines.SetLog bytes) s in absurd (omega (arith, e))
+life_said rest (lines.Within within.Calls) s = let e = store_two (codes "life" ++ rest) (lines.Within within.Calls) s in absurd (omega (arith, e))
+life_said rest (lines.Within (within.Page page)) s = let e = store_two (codes "life" ++ rest) (lines.Within (within.Page page)) s in absurd (omega (arith, e))
+life_said rest (lines.Within (within.Step steps.Begin)) s = let e = store_two (codes "life" ++ rest) (lines.Within (within.Step steps.Begin)) s in absurd (omega (arith, e))
+life_said rest (lines.Within (within.Step (steps.Fetch t key))) s = let e = store_two (codes "life" ++ rest) (lines.Within (within.Step (steps.Fetch t key))) s in absurd (omega (arith, e))
+life_said rest (lines.Within (within.Step (steps.Insert t key rid))) s = let e = store_two (codes "life" ++ rest) (lines.Within (within.Step (steps.Insert t key rid))) s in absurd (omega (arith, e))
+life_said rest (lines.Within (within.Step (steps.Delete t key))) s = let e = store_two (codes "life" ++ rest) (lines.Within (within.Step (steps.Delete t key))) s in absurd (omega (arith, e))
+life_said rest (lines.Within (within.Step (steps.Commit t))) s = let e = store_two (codes "life" ++ rest) (lines.Within (within.Step (steps.Commit t))) s in absurd (omega (arith, e))
+life_said rest (lines.Within (within.Step (steps.FlushPage page))) s = let e = store_two (codes "life" ++ rest) (lines.Within (within.Step (steps.FlushPage page))) s in absurd (omega (arith, e))
+life_said rest (lines.Within (within.Step steps.Force)) s = let e = store_two (codes "life" ++ rest) (lines.Within (within.Step steps.Force)) s in absurd (omega (arith, e))
+life_said rest (lines.Stop stop) s = let e = store_two (codes "life" ++ rest) (lines.Stop stop) s in absurd (omega (arith, e))
 
 -- what stands behind `page `
 pub page_said : (rest : List ℕ) (said : StoreScriptLine) → SpellsStore (codes "page " ++ rest) said → (n : ℕ) × IsPageNumber rest n

@@ -1,5 +1,6 @@
 -- How lines are spelled.
-use Rattle.std.specs.Prelude.{◌≡◌, ◌≢◌, ◌⊎◌, ℕ, ◌≤◌, ◌<◌, ◌^◌, List, [], ◌∷◌, ◌++◌, length, slice_index, codes, Ok}
+use Rattle.std.specs.Prelude.{◌≡◌, ◌≢◌, ◌⊎◌, ℕ, ◌≤◌, ◌<◌, ◌^◌, List, [], ◌∷◌, ◌++◌, length, slice_index, codes, Option, None, Some, Ok}
+use Rattle.std.specs.Borrow.{Bor}
 use Rattle.std.specs.Str.Parse.{IsNumeral, digits_value}
 use Rattle.hex.specs.Hex.{decode_of}
 use Rattle.im_disk.specs.declared.stop.Fill.{Fill}
@@ -13,6 +14,11 @@ use Rattle.im_drill.specs.declared.line.Line.TheVariants as lines
 abbrev pub Lacks : ℕ → List ℕ → Type 0
 Lacks b [] = Unit {0}
 Lacks b (c ∷ rest) = (c ≢ b) × Lacks b rest
+
+-- what is left of a line behind a word: nothing, or a space and what stands behind it
+abbrev pub behind_word : Option (Bor (List ℕ)) → List ℕ
+behind_word None = []
+behind_word (Some rest) = 32 ∷ rest.now
 
 -- decimal digits, without a zero in front of others, of a number of 64 bits
 abbrev pub IsNumber : List ℕ → ℕ → Type 0

@@ -1,16 +1,18 @@
 -- What lives of a store in a script make of its effects.
-use Rattle.std.specs.Prelude.{◌≡◌, ◌≢◌, List, [], ◌∷◌, Some, None}
+use Rattle.std.specs.Prelude.{◌≡◌, ◌≢◌, ℕ, false, List, [], ◌∷◌, Option, Some, None}
 use Rattle.im_types.specs.Changes.{Effect}
 use Rattle.im_types.specs.Faults.{number_of}
 use Rattle.im_types.specs.Lives.{Shown, Asked, nothing_shown, breaks, shows}
 use Rattle.im_types.specs.Steps.{asked_by, told_by}
 use Rattle.im_disk.specs.Disk.{Files}
 use Rattle.im_disk.specs.declared.disk.Disk.{Ghosts}
+use Rattle.im_engine.specs.declared.config.Config.{Config}
 use Rattle.im_engine.specs.declared.engine.Engine.{Engine}
 use Rattle.im_engine.specs.Stands.{Allowed}
 use Rattle.im_engine.specs.Running.{IsLife}
 use Rattle.im_drill.specs.declared.store_life.StoreLine.{StoreLine}
 use Rattle.im_drill.specs.declared.store_life.StoreLine.TheVariants as lines
+use Rattle.im_drill.specs.declared.store_life.LifeOptions.{LifeOptions}
 use Rattle.im_drill.specs.declared.store_life.StoreLife.{StoreLife}
 use Rattle.im_drill.specs.declared.store_answers.StoreReply.{StoreReply}
 use Rattle.im_drill.specs.declared.store_answers.StoreReply.TheVariants as replies
@@ -46,7 +48,7 @@ asked_in_each (life ∷ rest) [] = []
 -- A line was run: what a stop leaves is allowed by what is shown, and where none came the life goes on.
 pub record LineKept {D : Type 0} (d : Ghosts D) (before : List Effect) (s : Shown) (line : StoreLine) (reply : StoreReply) (new : Engine D d) : Type 0 where
   pub after : reply ≢ replies.Stopped → IsLife d before (shown_after s line reply) new
-  pub stops : (c : Files) → d.may_leave new.disk c → Allowed before (shown_after s line reply) c
+  pub stops : (c : Files) → d.may_leave new.disk c → Allowed new.split before (shown_after s line reply) c
 
 -- A step has its reply, `calls` answers a number, and `page` what that page is for, or why that can't be told.
 abbrev pub IsStoreReply : StoreLine → StoreReply → Type 0
@@ -69,7 +71,22 @@ EachStoreAnswered [] (told ∷ others) = ⊥
 EachStoreAnswered (life ∷ rest) [] = ⊥
 EachStoreAnswered (life ∷ rest) (told ∷ others) = StoreAnswered told.opening life.lines.items told.replies.items × EachStoreAnswered rest others
 
--- no opening said that the files are no store
+-- no life began a change of the tree's structure
+abbrev pub NoneSplit : List StoreAnswers → Type 0
+NoneSplit [] = Unit {0}
+NoneSplit (told ∷ others) = (told.split ≡ false) × NoneSplit others
+
+-- No opening said that the files are no store, as far as no life before it had begun a change of the tree's structure.
 abbrev pub AreStores : List StoreAnswers → Type 0
 AreStores [] = Unit {0}
-AreStores (told ∷ others) = (told.opening ≢ openings.Refused NotAStore) × AreStores others
+AreStores (told ∷ others) = (told.opening ≢ openings.Refused NotAStore) × (told.split ≡ false → AreStores others)
+
+-- an option's number, or this one where it is left out
+abbrev pub number_or : ℕ → Option ℕ → ℕ
+number_or n None = n
+number_or n (Some given) = given
+
+-- the limits that options of a life give an engine: 64 frames and 1,000,000 pages where they are left out
+pub record IsConfigOf (options : LifeOptions) (config : Config) : Type 0 where
+  pub frames : config.frames ≡ number_or 64 options.frames
+  pub max_pages : config.max_pages ≡ number_or 1000000 options.max_pages

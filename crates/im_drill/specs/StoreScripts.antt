@@ -1,5 +1,5 @@
 -- The lines of scripts of lives of a store, and what script they make.
-use Rattle.std.specs.Prelude.{◌≡◌, ◌⊎◌, ℕ, List, [], ◌∷◌, ◌++◌, map, codes, Option, Some, None}
+use Rattle.std.specs.Prelude.{◌≡◌, ◌≢◌, ◌⊎◌, ℕ, ◌<◌, ◌^◌, List, [], ◌∷◌, ◌++◌, map, codes, Option, Some, None, IfSome}
 use Rattle.std.specs.Global.{Vec}
 use Rattle.im_disk.specs.declared.stop.Stop.{Stop}
 use Rattle.im_drill.specs.declared.line.Line.TheVariants as raws
@@ -9,18 +9,34 @@ use Rattle.im_drill.specs.declared.store_life.StoreLine.TheVariants as within
 use Rattle.im_drill.specs.declared.store_life.StoreLife.{StoreLife}
 use Rattle.im_drill.specs.declared.store_life.LifeOptions.{LifeOptions}
 use Rattle.im_drill.specs.declared.store_script.StoreScript.{StoreScript}
-use Rattle.im_drill.specs.Lines.{Spells, IsNumber, IsPageNumber}
+use Rattle.im_drill.specs.Lines.{Spells, Lacks, IsNumber, IsPageNumber}
 use Rattle.im_drill.specs.Steps.{SpellsStep}
 use Rattle.im_drill.specs.Scripts.{Kind, SetsLog, Begins, Counts, Steps, Stops, Before, MayStand, SaysBy, IsFirstBadBy, last_set}
 
--- `life`, or with the number of frames.
-abbrev pub SpellsLife : List ℕ → Option ℕ → Type 0
-SpellsLife text None = text ≡ codes "life"
-SpellsLife text (Some frames) = (rest : List ℕ) × (text ≡ codes "life frames " ++ rest) × IsNumber rest frames
+-- An option of a life: nothing, where it is left out, or a space, its name, a space and its number.
+abbrev pub SpellsOption : List ℕ → List ℕ → Option ℕ → Type 0
+SpellsOption name text None = text ≡ []
+SpellsOption name text (Some n) = (word : List ℕ) × (text ≡ 32 ∷ (name ++ 32 ∷ word)) × IsNumber word n
+
+-- `life`, and then its options in this order: the number of frames, and the most pages, a number of 32 bits.
+abbrev pub SpellsLife : List ℕ → LifeOptions → Type 0
+SpellsLife text options =
+    (frames : List ℕ) × (most : List ℕ) × (text ≡ codes "life" ++ (frames ++ most))
+    × SpellsOption (codes "frames") frames options.frames × SpellsOption (codes "max") most options.max_pages × IfSome options.max_pages (λ n. n < 2 ^ 32)
+
+-- What may stand behind an option of this name: nothing, or what begins with another name.
+abbrev pub IsBehindOption : List ℕ → List ℕ → Type 0
+IsBehindOption name text = (text ≡ []) ⊎ ((other : List ℕ) × (rest : List ℕ) × (text ≡ 32 ∷ (other ++ 32 ∷ rest)) × Lacks 32 other × (other ≢ name))
+
+-- The text begins with this option, and this is left behind it.
+pub record IsOption (name text : List ℕ) (option : Option ℕ) (left : List ℕ) : Type 0 where
+  pub front : List ℕ
+  pub is : text ≡ front ++ left
+  pub spelled : SpellsOption name front option
 
 -- The bytes of a line that says this.
 abbrev pub SpellsStore : List ℕ → StoreScriptLine → Type 0
-SpellsStore text (lines.Life options) = SpellsLife text options.frames
+SpellsStore text (lines.Life options) = SpellsLife text options
 SpellsStore text (lines.SetLog bytes) = Spells text (raws.SetLog bytes)
 SpellsStore text (lines.Within within.Calls) = Spells text raws.Calls
 SpellsStore text (lines.Within (within.Page page)) = (rest : List ℕ) × (text ≡ codes "page " ++ rest) × IsPageNumber rest page

@@ -1,10 +1,10 @@
 //! The lines that scripts of lives of a store may have.
 
-ghost use Rattle.std.specs.Prelude.{◌≡◌, ◌⊎◌, ◌++◌, codes, IfOk, IfErr};
+ghost use Rattle.std.specs.Prelude.{◌≡◌, ◌⊎◌, ◌++◌, ◌↔◌, ◌<◌, ◌^◌, ℕ, List, Option, true, codes, IfOk, IfErr, IfSome};
 ghost use Rattle.im_types.specs.declared.fault.Fault.TheVariants.{BadScript, Memory};
 ghost use Rattle.im_drill.specs.declared.store_script_line.StoreScriptLine.{StoreScriptLine};
-ghost use Rattle.im_drill.specs.StoreScripts.{SpellsStore, IsPlainLine};
-ghost use Rattle.im_drill.specs.Lines.{Lacks};
+ghost use Rattle.im_drill.specs.StoreScripts.{SpellsStore, IsOption, IsBehindOption, IsPlainLine};
+ghost use Rattle.im_drill.specs.Lines.{Lacks, behind_word};
 
 use crate::Line;
 use crate::grammar::parse_line;
@@ -17,57 +17,88 @@ use std::alloc::Global;
 
 /// What the line of a script of lives of a store says. It has no newline. Refused `BadScript` exactly where the grammar has no
 /// such line; `Memory`.
-#[tactic(auto, using(crate::proofs::StoreSpelled::no_spaced_line))]
+#[tactic(auto, using(crate::proofs::StoreSpelled::no_lone_line, crate::proofs::StoreSpelled::no_spaced_line))]
 pub fn parse_store_line(alloc: Global, line: &[u8]) -> Result<StoreScriptLine, Fault>
     ensures says { IfOk result (λ said. SpellsStore line.now said) }
     ensures refused { result ≡ Err BadScript → (said : StoreScriptLine) → ¬ (SpellsStore line.now said) }
     ensures causes { IfErr result (λ e. (e ≡ Memory) ⊎ (e ≡ BadScript)) }
 {
     let (word, rest) = first_piece(line, b' ');
-    let Some(rest) = rest else {
-        return lone_line(alloc, word);
-    };
     if word == b"life".as_slice() {
         return life_line(rest);
     }
+    let Some(rest) = rest else {
+        return plain_line(alloc, word);
+    };
     if word == b"page".as_slice() {
         return page_line(rest);
     }
     plain_line(alloc, line)
 }
 
-// The line of one word.
-#[tactic(auto, using(crate::proofs::StoreSpelled::no_lone_line))]
-fn lone_line(alloc: Global, word: &[u8]) -> Result<StoreScriptLine, Fault>
-    requires { Lacks 32 word.now }
-    ensures says { IfOk result (λ said. SpellsStore word.now said) }
-    ensures refused { result ≡ Err BadScript → (said : StoreScriptLine) → ¬ (SpellsStore word.now said) }
-    ensures causes { IfErr result (λ e. (e ≡ Memory) ⊎ (e ≡ BadScript)) }
+// A life with its options.
+fn life_line(words: Option<&[u8]>) -> Result<StoreScriptLine, Fault>
+    ensures says { IfOk result (λ said. SpellsStore (codes "life" ++ behind_word words.entry) said) }
+    ensures refused { result ≡ Err BadScript → (said : StoreScriptLine) → ¬ (SpellsStore (codes "life" ++ behind_word words.entry) said) }
+    ensures cause { IfErr result (λ e. e ≡ BadScript) }
 {
-    if word == b"life".as_slice() {
-        return Ok(StoreScriptLine::Life(LifeOptions { frames: None }));
+    let (frames, words) = option_of(b"frames".as_slice(), words)?;
+    let (most, words) = option_of(b"max".as_slice(), words)?;
+    if words.is_some() {
+        return Err(Fault::BadScript);
     }
-    plain_line(alloc, word)
+    let max_pages = most_pages(most)?;
+    Ok(StoreScriptLine::Life(LifeOptions { frames, max_pages }))
 }
 
-// The options of a life.
-#[tactic(auto, using(crate::proofs::StoreSpelled::life_one, crate::proofs::StoreSpelled::life_word, crate::proofs::StoreSpelled::life_frames))]
-fn life_line(rest: &[u8]) -> Result<StoreScriptLine, Fault>
-    ensures says { IfOk result (λ said. SpellsStore (codes "life " ++ rest.now) said) }
-    ensures refused { result ≡ Err BadScript → (said : StoreScriptLine) → ¬ (SpellsStore (codes "life " ++ rest.now) said) }
-    ensures causes { IfErr result (λ e. (e ≡ Memory) ⊎ (e ≡ BadScript)) }
+// The number of the option of this name that the words begin with, and the words behind it; none, where they begin with no such
+// option.
+fn option_of<'a>(
+    name: &[u8],
+    words: Option<&'a [u8]>,
+) -> Result<(Option<u64>, Option<&'a [u8]>), Fault>
+    requires { Lacks 32 name.now }
+    ensures says { IfOk result (λ said. IsOption name.now (behind_word words.entry) said.0 (behind_word said.1)) }
+    ensures once { IfOk result (λ said. (option : Option ℕ) (left : List ℕ) → IsOption name.now (behind_word words.entry) option left → IsBehindOption name.now left
+        → (option ≡ said.0) × (left ≡ behind_word said.1)) }
+    ensures refused { IfErr result (λ e. (option : Option ℕ) (left : List ℕ) → IsBehindOption name.now left → ¬ (IsOption name.now (behind_word words.entry) option left)) }
+    ensures cause { IfErr result (λ e. e ≡ BadScript) }
 {
-    let (word, number) = first_piece(rest, b' ');
-    let Some(number) = number else {
+    let Some(text) = words else {
+        return Ok((None, None));
+    };
+    let (word, rest) = first_piece(text, b' ');
+    if !is_word(word, name) {
+        return Ok((None, words));
+    }
+    let Some(rest) = rest else {
         return Err(Fault::BadScript);
     };
-    if word != b"frames".as_slice() {
-        return Err(Fault::BadScript);
+    let (digits, more) = first_piece(rest, b' ');
+    let number = count_of(digits)?;
+    Ok((Some(number), more))
+}
+
+// The word is this name.
+fn is_word(word: &[u8], name: &[u8]) -> bool
+    ensures { result ≡ true ↔ word.now ≡ name.now }
+{
+    word == name
+}
+
+// The most pages, which are a number of 32 bits.
+fn most_pages(number: Option<u64>) -> Result<Option<u32>, Fault>
+    ensures says { IfOk result (λ most. (most ≡ number) × IfSome number (λ n. n < 2 ^ 32)) }
+    ensures refused { IfErr result (λ e. ¬ (IfSome number (λ n. n < 2 ^ 32))) }
+    ensures cause { IfErr result (λ e. e ≡ BadScript) }
+{
+    match number {
+        None => Ok(None),
+        Some(number) => match u32::try_from(number) {
+            Ok(number) => Ok(Some(number)),
+            Err(_) => Err(Fault::BadScript),
+        },
     }
-    let frames = count_of(number)?;
-    Ok(StoreScriptLine::Life(LifeOptions {
-        frames: Some(frames),
-    }))
 }
 
 #[tactic(auto, using(crate::proofs::StoreSpelled::page_said))]

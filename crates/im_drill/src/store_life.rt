@@ -19,6 +19,8 @@ pub enum StoreLine {
 pub struct LifeOptions {
     /// How many pages are held at most; none for as many as the default has.
     pub frames: Option<u64>,
+    /// How many pages the store has at most, as far as inserts go; none for as many as the default has.
+    pub max_pages: Option<u32>,
 }
 
 /// A life of a store: it is opened, and then its lines are run in turn.

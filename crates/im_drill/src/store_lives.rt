@@ -15,7 +15,7 @@ ghost use Rattle.im_engine.specs.Running.{IsLife};
 ghost use Rattle.im_engine.specs.Checks.{AnswersStep};
 ghost use Rattle.im_drill.specs.declared.store_answers.StoreReply.TheVariants.{Stopped};
 ghost use Rattle.im_drill.specs.Answered.{AnsweredBy};
-ghost use Rattle.im_drill.specs.StoreLives.{asked_in, shown_in, LineKept, IsStoreReply, StoreAnswered};
+ghost use Rattle.im_drill.specs.StoreLives.{asked_in, shown_in, IsConfigOf, LineKept, IsStoreReply, StoreAnswered};
 
 use crate::Opening;
 use crate::lives::{arm, refused_opening};
@@ -28,9 +28,10 @@ use std::alloc::{AllocError, Global};
 
 /// Runs one life on the disk, and gives the disk back as it was when the stop came or the lines ended.
 ///
-/// Whatever a stop then leaves stands for the effects from before and a front of those whose Commit the life asked, with all
-/// that were acknowledged. Each line has its reply, unless the stop came before or the opening did not succeed; and
-/// where the files stood for some effects, the opening does not say that they are no store.
+/// Where the files stood for some effects, and no structure change had been begun in the store, whatever a stop then leaves stands for
+/// these effects and a front of those whose Commit the life asked, with all that were acknowledged, also where the life
+/// itself began such a change, as its answers then say; and the opening does not say that the files are no store. Each line has its
+/// reply, unless the stop came before or the opening did not succeed.
 pub(crate) fn run_store_life(
     alloc: Global,
     disk: ModelDisk,
@@ -39,9 +40,9 @@ pub(crate) fn run_store_life(
     requires working { ⟦<ModelDisk as Disk>⟧.failed disk ≡ false }
     requires synced { IsSynced ⟦<ModelDisk as Disk>⟧ disk }
     ensures answered { IfOk result (λ run. StoreAnswered run.0.opening life.now.lines.items run.0.replies.items) }
-    ensures opened { IfOk result (λ run. (before : List Effect) → StandsFor before (⟦<ModelDisk as Disk>⟧.seen disk) → run.0.opening ≢ Opening.Refused NotAStore) }
-    ensures kept { IfOk result (λ run. (before : List Effect) → StandsFor before (⟦<ModelDisk as Disk>⟧.seen disk)
-        → (c : Files) → ⟦<ModelDisk as Disk>⟧.may_leave run.1 c → StandsForMore StandsFor before (asked_in life.now run.0) c) }
+    ensures opened { IfOk result (λ run. (before : List Effect) → StandsFor false before (⟦<ModelDisk as Disk>⟧.seen disk) → run.0.opening ≢ Opening.Refused NotAStore) }
+    ensures kept { IfOk result (λ run. (before : List Effect) → StandsFor false before (⟦<ModelDisk as Disk>⟧.seen disk)
+        → (c : Files) → ⟦<ModelDisk as Disk>⟧.may_leave run.1 c → StandsForMore (StandsFor run.0.split) before (asked_in life.now run.0) c) }
 {
     let mut disk = disk;
     arm(alloc, &mut disk, &life.stop)?;
@@ -49,28 +50,50 @@ pub(crate) fn run_store_life(
         Ok(mut engine) => {
             let opening = Opening::Open(engine.disk().calls());
             let replies = run_store_lines(alloc, &mut engine, &life.lines);
+            let split = has_begun_change(&engine);
             let disk = engine.into_disk();
             let replies = replies?;
-            Ok((StoreAnswers { opening, replies }, disk))
+            let answers = StoreAnswers {
+                opening,
+                replies,
+                split,
+            };
+            Ok((answers, disk))
         }
         Err((fault, disk)) => {
             let opening = refused_opening(&disk, fault);
             let replies = Vec::new(alloc);
-            Ok((StoreAnswers { opening, replies }, disk))
+            let answers = StoreAnswers {
+                opening,
+                replies,
+                split: false,
+            };
+            Ok((answers, disk))
         }
     }
 }
 
+// Whether a change of the tree's structure was begun in the life so far.
+fn has_begun_change(engine: &Engine<ModelDisk>) -> bool
+    ensures { result ≡ engine.now.split }
+{
+    engine.has_split()
+}
+
 // How an engine is opened by these options.
-fn config_of(options: LifeOptions) -> Config {
+fn config_of(options: LifeOptions) -> Config
+    ensures { IsConfigOf options result }
+{
     let config = Config::default();
-    match options.frames {
-        None => config,
-        Some(frames) => Config {
-            frames: frames as usize,
-            max_pages: config.max_pages,
-        },
-    }
+    let frames = match options.frames {
+        None => config.frames,
+        Some(frames) => frames as usize,
+    };
+    let max_pages = match options.max_pages {
+        None => config.max_pages,
+        Some(most) => most,
+    };
+    Config { frames, max_pages }
 }
 
 fn run_store_lines(
@@ -80,7 +103,7 @@ fn run_store_lines(
 ) -> Result<Vec<StoreReply>, AllocError>
     ensures answered { IfOk result (λ told. AnsweredBy IsStoreReply Stopped lines.now told.items) }
     ensures kept { IfOk result (λ told. (before : List Effect) → IsLife ⟦<ModelDisk as Disk>⟧ before nothing_shown engine.old
-        → (c : Files) → ⟦<ModelDisk as Disk>⟧.may_leave engine.new.disk c → Allowed before (shown_in nothing_shown lines.now told.items) c) }
+        → (c : Files) → ⟦<ModelDisk as Disk>⟧.may_leave engine.new.disk c → Allowed engine.new.split before (shown_in nothing_shown lines.now told.items) c) }
 {
     let mut replies = Vec::new(alloc);
     for line in lines {
@@ -151,7 +174,7 @@ fn is_stopped(reply: StoreReply) -> bool
 pub(crate) fn last_entries(alloc: Global, disk: ModelDisk) -> Result<Vec<(Key, Rid)>, Fault>
     requires working { ⟦<ModelDisk as Disk>⟧.failed disk ≡ false }
     requires synced { IsSynced ⟦<ModelDisk as Disk>⟧ disk }
-    ensures { (after : List Effect) → StandsFor after (⟦<ModelDisk as Disk>⟧.seen disk)
+    ensures { (after : List Effect) → StandsFor false after (⟦<ModelDisk as Disk>⟧.seen disk)
         → MatchResult result (λ found. found.items ≡ entries (apply_all empty after)) (λ fault. fault ≢ NotAStore) }
 {
     match Engine::open_or_create(alloc, disk, Config::default()) {

@@ -5,22 +5,83 @@ use Rattle.std.specs.FinMap.Entries.{find}
 use Rattle.im_types.specs.Keys.{Key, key_order}
 use Rattle.im_types.specs.Pages.{Entry}
 use Rattle.im_types.specs.Faults.{number_of}
-use Rattle.im_types.specs.Lives.{breaks}
+use Rattle.im_types.specs.Changes.{Effect}
+use Rattle.im_types.specs.LogLaws.{bodies}
+use Rattle.im_types.specs.Lives.{Shown, breaks}
 use Rattle.im_types.specs.declared.fault.Fault.{Fault}
-use Rattle.im_types.specs.declared.fault.Fault.TheVariants.{Failed, NoTransaction, KeyLength, PagesFull, LogFull, Device, Memory, NotAStore}
+use Rattle.im_types.specs.declared.fault.Fault.TheVariants.{Failed, NoTransaction, KeyLength, PagesFull, Capacity, LogFull, Device, Memory, NotAStore}
 use Rattle.im_types.specs.declared.reply.Reply.{Reply}
 use Rattle.im_types.specs.declared.reply.Reply.TheVariants.{Refused}
 use Rattle.im_disk.specs.declared.disk.Disk.{Ghosts}
 use Rattle.im_engine.specs.declared.engine.Engine.{Engine}
 use Rattle.im_engine.specs.declared.transaction.Transaction.{Transaction}
+use Rattle.im_tree.specs.Levels.{walk}
+use Rattle.im_one_page.specs.OnePage.{first_base}
+use Rattle.im_engine.specs.Running.{IsRunning}
 use Rattle.im_engine.specs.Changes.{IsIdle}
-use Rattle.im_engine.specs.Checks.{Where, LacksRoom, HasCause, HasLogged, IsLate, OfOwn, OfAccess, OfInsert, OfCommit, IsRead, is_late}
+use Rattle.im_engine.specs.Checks.{Where, LacksRoom, HasCause, FlushCause, ChangeCause, InsertCause, HasLogged, IsLate, OfOwn, OfAccess, OfInsert, OfDelete, OfCommit, IsRead}
 use Rattle.im_log.specs.declared.log_file.LogFile.{LogFile}
 use Rattle.im_log.specs.LogFile.{HasNoRoom, end_with}
 
 -- the refusals of a call of the writer of pages
 abbrev pub IsOfWriter : Fault → Type 0
 IsOfWriter e = (e ≡ LogFull) ⊎ (e ≡ Memory) ⊎ (e ≡ NotAStore) ⊎ (e ≡ Device)
+
+-- and those of a step that may change the structure of the tree
+abbrev pub IsOfEdit : Fault → Type 0
+IsOfEdit e = (e ≡ PagesFull) ⊎ (e ≡ Capacity) ⊎ (e ≡ Failed) ⊎ IsOfWriter e
+
+-- of a deletion behind its record
+abbrev pub IsOfDrop : Fault → Type 0
+IsOfDrop e = (e ≡ LogFull) ⊎ (e ≡ Failed) ⊎ (e ≡ NotAStore) ⊎ (e ≡ Device)
+
+pub drop_edit : (e : Fault) → IsOfDrop e → IsOfEdit e
+drop_edit e (inl is) = inr (inr (inr (inl is)))
+drop_edit e (inr (inl is)) = inr (inr (inl is))
+drop_edit e (inr (inr (inl is))) = inr (inr (inr (inr (inr (inl is)))))
+drop_edit e (inr (inr (inr is))) = inr (inr (inr (inr (inr (inr is)))))
+
+pub drop_wants : {A : Type 0} (e : Fault) → IsOfDrop e → (e ≡ Memory) ⊎ (e ≡ PagesFull) → A
+drop_wants e (inl is) (inl w) = absurd (let never : LogFull ≡ Memory = sym is ∙ w in cc never)
+drop_wants e (inl is) (inr w) = absurd (let never : LogFull ≡ PagesFull = sym is ∙ w in cc never)
+drop_wants e (inr (inl is)) (inl w) = absurd (let never : Failed ≡ Memory = sym is ∙ w in cc never)
+drop_wants e (inr (inl is)) (inr w) = absurd (let never : Failed ≡ PagesFull = sym is ∙ w in cc never)
+drop_wants e (inr (inr (inl is))) (inl w) = absurd (let never : NotAStore ≡ Memory = sym is ∙ w in cc never)
+drop_wants e (inr (inr (inl is))) (inr w) = absurd (let never : NotAStore ≡ PagesFull = sym is ∙ w in cc never)
+drop_wants e (inr (inr (inr is))) (inl w) = absurd (let never : Device ≡ Memory = sym is ∙ w in cc never)
+drop_wants e (inr (inr (inr is))) (inr w) = absurd (let never : Device ≡ PagesFull = sym is ∙ w in cc never)
+
+pub drop_capacity : {A : Type 0} (e : Fault) → IsOfDrop e → e ≡ Capacity → A
+drop_capacity e (inl is) w = absurd (let never : LogFull ≡ Capacity = sym is ∙ w in cc never)
+drop_capacity e (inr (inl is)) w = absurd (let never : Failed ≡ Capacity = sym is ∙ w in cc never)
+drop_capacity e (inr (inr (inl is))) w = absurd (let never : NotAStore ≡ Capacity = sym is ∙ w in cc never)
+drop_capacity e (inr (inr (inr is))) w = absurd (let never : Device ≡ Capacity = sym is ∙ w in cc never)
+
+pub drop_breaks : (e : Fault) → IsOfDrop e → true ≡ breaks (number_of e)
+drop_breaks e (inl is) = sym (ap (λ (f : Fault). breaks (number_of f)) is)
+drop_breaks e (inr (inl is)) = sym (ap (λ (f : Fault). breaks (number_of f)) is)
+drop_breaks e (inr (inr (inl is))) = sym (ap (λ (f : Fault). breaks (number_of f)) is)
+drop_breaks e (inr (inr (inr is))) = sym (ap (λ (f : Fault). breaks (number_of f)) is)
+
+pub writer_edit : (e : Fault) → IsOfWriter e → IsOfEdit e
+writer_edit e of = inr (inr (inr of))
+
+-- pages are not wanted there
+pub not_full : (e : Fault) → IsOfWriter e → e ≢ PagesFull
+not_full e (inl is) full = let never : LogFull ≡ PagesFull = sym is ∙ full in cc never
+not_full e (inr (inl is)) full = let never : Memory ≡ PagesFull = sym is ∙ full in cc never
+not_full e (inr (inr (inl is))) full = let never : NotAStore ≡ PagesFull = sym is ∙ full in cc never
+not_full e (inr (inr (inr is))) full = let never : Device ≡ PagesFull = sym is ∙ full in cc never
+
+pub full_never : {A : Type 0} (e : Fault) → IsOfWriter e → e ≡ PagesFull → A
+full_never e of is = absurd (not_full e of is)
+
+-- nor page numbers
+pub not_used_up : (e : Fault) → IsOfWriter e → e ≢ Capacity
+not_used_up e (inl is) full = let never : LogFull ≡ Capacity = sym is ∙ full in cc never
+not_used_up e (inr (inl is)) full = let never : Memory ≡ Capacity = sym is ∙ full in cc never
+not_used_up e (inr (inr (inl is))) full = let never : NotAStore ≡ Capacity = sym is ∙ full in cc never
+not_used_up e (inr (inr (inr is))) full = let never : Device ≡ Capacity = sym is ∙ full in cc never
 
 -- of a writer that had not failed
 pub of_writer : (e : Fault) → (e ≡ Failed) ⊎ IsOfWriter e → (e ≡ Failed → true ≡ false) → IsOfWriter e
@@ -60,6 +121,14 @@ module _ {D : Type 0} (d : Ghosts D) (log : LogFile) (disk : D) where
   has_cause e (inr (inr (inl is))) device full = subst (λ (f : Fault). HasCause d log disk f) (sym is) tt
   has_cause e (inr (inr (inr is))) device full = subst (λ (f : Fault). HasCause d log disk f) (sym is) (device is)
 
+-- the disk failed where the fault says so
+pub device_of : {D : Type 0} (d : Ghosts D) (log : LogFile) (disk : D) (e : Fault) → HasCause d log disk e → e ≡ Device → d.failed disk ≡ true
+device_of d log disk e cause is = subst (λ (f : Fault). HasCause d log disk f) is cause
+
+-- and the log has no room where it says that
+pub room_of : {D : Type 0} (d : Ghosts D) (log : LogFile) (disk : D) (e : Fault) → HasCause d log disk e → e ≡ LogFull → HasNoRoom log
+room_of d log disk e cause is = subst (λ (f : Fault). HasCause d log disk f) is cause
+
 -- this check fails
 pub here : {X P A B : Type 0} → P → (X ↔ A) → (X ↔ Where P A B)
 here p same = (λ x. inl (p, same.0 x), λ w. ⊎_elim (λ h. same.1 h.1) (λ h. absurd (h.0 p)) w)
@@ -72,7 +141,7 @@ past not same = (λ x. inr (not, same.0 x), λ w. ⊎_elim (λ h. absurd (not h.
 pub none : {X : Type 0} → (X → ⊥) → (X ↔ ⊥)
 none not = (not, λ never. absurd never)
 
-refused_inj : (a b : Fault) → Refused a ≡ Refused b → a ≡ b
+pub refused_inj : (a b : Fault) → Refused a ≡ Refused b → a ≡ b
 refused_inj a b e = ap (λ (x : Reply). elim x as (λ _. Fault) [ Refused y ↦ y | _ ↦ a ]) e
 
 -- the reply has this fault
@@ -93,23 +162,56 @@ is_there (Some x) h = refl
 
 module _ {D : Type 0} (d : Ghosts D) (old new : Engine D d) where
   -- no page was read
-  pub unread : (e : Fault) (es : List Entry) → (e ≡ Failed) ⊎ (e ≡ NoTransaction) ⊎ (e ≡ KeyLength) → IsRead d (Refused e) old new es
-  unread e es (inl is) = subst (λ (f : Fault). IsRead d (Refused f) old new es) (sym is) (record { shown = λ h. cc h; logged = λ h. cc h })
-  unread e es (inr (inl is)) = subst (λ (f : Fault). IsRead d (Refused f) old new es) (sym is) (record { shown = λ h. cc h; logged = λ h. cc h })
-  unread e es (inr (inr is)) = subst (λ (f : Fault). IsRead d (Refused f) old new es) (sym is) (record { shown = λ h. cc h; logged = λ h. cc h })
+  pub unread : (key : Key) (e : Fault) (es : List Entry) → (e ≡ Failed) ⊎ (e ≡ NoTransaction) ⊎ (e ≡ KeyLength) → IsRead d key (Refused e) old new es
+  unread key e es (inl is) = subst (λ (f : Fault). IsRead d key (Refused f) old new es) (sym is) (record { shown = λ h. cc h; logged = λ h. cc h })
+  unread key e es (inr (inl is)) = subst (λ (f : Fault). IsRead d key (Refused f) old new es) (sym is) (record { shown = λ h. cc h; logged = λ h. cc h })
+  unread key e es (inr (inr is)) = subst (λ (f : Fault). IsRead d key (Refused f) old new es) (sym is) (record { shown = λ h. cc h; logged = λ h. cc h })
 
   -- or it was, and then a call was refused
-  pub unread_late : (e : Fault) (es : List Entry) → IsOfWriter e → IsRead d (Refused e) old new es
-  unread_late e es (inl is) = subst (λ (f : Fault). IsRead d (Refused f) old new es) (sym is) (record { shown = λ h. cc h; logged = λ h. cc h })
-  unread_late e es (inr (inl is)) = subst (λ (f : Fault). IsRead d (Refused f) old new es) (sym is) (record { shown = λ h. cc h; logged = λ h. cc h })
-  unread_late e es (inr (inr (inl is))) = subst (λ (f : Fault). IsRead d (Refused f) old new es) (sym is) (record { shown = λ h. cc h; logged = λ h. cc h })
-  unread_late e es (inr (inr (inr is))) = subst (λ (f : Fault). IsRead d (Refused f) old new es) (sym is) (record { shown = λ h. cc h; logged = λ h. cc h })
+  pub unread_late : (key : Key) (e : Fault) (es : List Entry) → IsOfWriter e → IsRead d key (Refused e) old new es
+  unread_late key e es (inl is) = subst (λ (f : Fault). IsRead d key (Refused f) old new es) (sym is) (record { shown = λ h. cc h; logged = λ h. cc h })
+  unread_late key e es (inr (inl is)) = subst (λ (f : Fault). IsRead d key (Refused f) old new es) (sym is) (record { shown = λ h. cc h; logged = λ h. cc h })
+  unread_late key e es (inr (inr (inl is))) = subst (λ (f : Fault). IsRead d key (Refused f) old new es) (sym is) (record { shown = λ h. cc h; logged = λ h. cc h })
+  unread_late key e es (inr (inr (inr is))) = subst (λ (f : Fault). IsRead d key (Refused f) old new es) (sym is) (record { shown = λ h. cc h; logged = λ h. cc h })
 
-late : (e : Fault) → IsOfWriter e → is_late (Refused e) ≡ true
-late e (inl is) = ap (λ (f : Fault). is_late (Refused f)) is
-late e (inr (inl is)) = ap (λ (f : Fault). is_late (Refused f)) is
-late e (inr (inr (inl is))) = ap (λ (f : Fault). is_late (Refused f)) is
-late e (inr (inr (inr is))) = ap (λ (f : Fault). is_late (Refused f)) is
+  -- what was found in a leaf, where a split was refused
+  pub unread_edit : (key : Key) (e : Fault) (es : List Entry) → IsOfEdit e
+      → ((before : List Effect) (s : Shown) (r : IsRunning d before s old) → find key_order key es ≡ find key_order key (walk (bodies first_base r.now.log))) → IsRead d key (Refused e) old new es
+  unread_edit key e es (inl is) found = subst (λ (f : Fault). IsRead d key (Refused f) old new es) (sym is) (record { shown = λ h. cc h; logged = λ h. found })
+  unread_edit key e es (inr (inl is)) found = subst (λ (f : Fault). IsRead d key (Refused f) old new es) (sym is) (record { shown = λ h. cc h; logged = λ h. cc h })
+  unread_edit key e es (inr (inr (inl is))) found = subst (λ (f : Fault). IsRead d key (Refused f) old new es) (sym is) (record { shown = λ h. cc h; logged = λ h. cc h })
+  unread_edit key e es (inr (inr (inr of))) found = unread_late key e es of
+
+-- what is true of a refusal's fault, and of no other
+pub cause_so : (P : Fault → Type 0) (e : Fault) → P e → (other : Fault) → ((Refused e ≡ Refused other) ↔ ((Refused e ≡ Refused other) × P other))
+cause_so P e cause other = (λ x. (x, subst P (refused_inj e other x) cause), λ y. y.0)
+
+pub cause_none : (P : Fault → Type 0) (reply : Reply) → ((x : Fault) → reply ≢ Refused x) → (other : Fault) → ((reply ≡ Refused other) ↔ ((reply ≡ Refused other) × P other))
+cause_none P reply not other = (λ x. absurd (not other x), λ y. y.0)
+
+module _ {D : Type 0} (d : Ghosts D) (log : LogFile) (disk : D) where
+  -- the cause of a change's refusal
+  pub change_cause : (e : Fault) → IsOfDrop e → (e ≡ Device → d.failed disk ≡ true) → (e ≡ LogFull → HasNoRoom log) → ChangeCause d log disk e
+  change_cause e (inl is) device full = subst (λ (f : Fault). ChangeCause d log disk f) (sym is) (full is)
+  change_cause e (inr (inl is)) device full = subst (λ (f : Fault). ChangeCause d log disk f) (sym is) tt
+  change_cause e (inr (inr (inl is))) device full = subst (λ (f : Fault). ChangeCause d log disk f) (sym is) tt
+  change_cause e (inr (inr (inr is))) device full = subst (λ (f : Fault). ChangeCause d log disk f) (sym is) (device is)
+
+  pub writer_cause : (e : Fault) → IsOfWriter e → HasCause d log disk e → ChangeCause d log disk e
+  writer_cause e (inl is) cause = subst (λ (f : Fault). ChangeCause d log disk f) (sym is) (subst (λ (f : Fault). HasCause d log disk f) is cause)
+  writer_cause e (inr (inl is)) cause = subst (λ (f : Fault). ChangeCause d log disk f) (sym is) tt
+  writer_cause e (inr (inr (inl is))) cause = subst (λ (f : Fault). ChangeCause d log disk f) (sym is) tt
+  writer_cause e (inr (inr (inr is))) cause = subst (λ (f : Fault). ChangeCause d log disk f) (sym is) (subst (λ (f : Fault). HasCause d log disk f) is cause)
+
+  -- and of an insert's
+  pub insert_cause : (es : List Entry) (key : Key) (e : Fault) → IsOfEdit e → (e ≡ PagesFull → (find key_order key es ≡ None) × LacksRoom es key) → (e ≡ Device → d.failed disk ≡ true) → (e ≡ LogFull → HasNoRoom log) → InsertCause d log disk es key e
+  insert_cause es key e (inl is) full device logs = subst (λ (f : Fault). InsertCause d log disk es key f) (sym is) (full is)
+  insert_cause es key e (inr (inl is)) full device logs = subst (λ (f : Fault). InsertCause d log disk es key f) (sym is) tt
+  insert_cause es key e (inr (inr (inl is))) full device logs = subst (λ (f : Fault). InsertCause d log disk es key f) (sym is) tt
+  insert_cause es key e (inr (inr (inr (inl is)))) full device logs = subst (λ (f : Fault). InsertCause d log disk es key f) (sym is) (logs is)
+  insert_cause es key e (inr (inr (inr (inr (inl is))))) full device logs = subst (λ (f : Fault). InsertCause d log disk es key f) (sym is) tt
+  insert_cause es key e (inr (inr (inr (inr (inr (inl is)))))) full device logs = subst (λ (f : Fault). InsertCause d log disk es key f) (sym is) tt
+  insert_cause es key e (inr (inr (inr (inr (inr (inr is)))))) full device logs = subst (λ (f : Fault). InsertCause d log disk es key f) (sym is) (device is)
 
 module _ {D : Type 0} (d : Ghosts D) (log : LogFile) (disk : D) where
   -- such a refusal
@@ -150,22 +252,18 @@ module _ {D : Type 0} (d : Ghosts D) (old : Engine D d) (number : ℕ) where
       pub access_none : (reply : Reply) → ((x : Fault) → reply ≢ Refused x) → (other : Fault) → ((reply ≡ Refused other) ↔ OfAccess d old other number key (IsLate d new.writer.log new.disk reply other))
       access_none reply not other = past_access key some short other _ (late_none d new.writer.log new.disk reply not other)
 
-      -- an insert is refused by a later call
-      pub insert_late : (e : Fault) (es : List Entry) → IsOfWriter e → HasCause d new.writer.log new.disk e → (other : Fault) → ((Refused e ≡ Refused other) ↔ OfInsert d old new (Refused e) other number key es)
-      insert_late e es of cause other = past_access key some short other _ (here (late e of) (late_so d new.writer.log new.disk e cause other))
+      -- one that may change the structure of the tree
+      pub insert_refused : (es : List Entry) (e : Fault) → InsertCause d new.writer.log new.disk es key e → (other : Fault) → ((Refused e ≡ Refused other) ↔ OfInsert d old new (Refused e) other number key es)
+      insert_refused es e cause other = past_access key some short other _ (cause_so (λ (f : Fault). InsertCause d new.writer.log new.disk es key f) e cause other)
 
-      -- an insert finds the key
-      pub insert_there : (reply : Reply) (es : List Entry) → is_late reply ≡ false → find key_order key es ≢ None → ((x : Fault) → reply ≢ Refused x) → (other : Fault) → ((reply ≡ Refused other) ↔ OfInsert d old new reply other number key es)
-      insert_there reply es early there not other = past_access key some short other _ (past (not_true (is_late reply) early) (here there (none (not other))))
+      pub insert_none : (es : List Entry) (reply : Reply) → ((x : Fault) → reply ≢ Refused x) → (other : Fault) → ((reply ≡ Refused other) ↔ OfInsert d old new reply other number key es)
+      insert_none es reply not other = past_access key some short other _ (cause_none (λ (f : Fault). InsertCause d new.writer.log new.disk es key f) reply not other)
 
-      -- a page without room
-      pub insert_full : (es : List Entry) → find key_order key es ≡ None → LacksRoom es key → (other : Fault) → ((Refused PagesFull ≡ Refused other) ↔ OfInsert d old new (Refused PagesFull) other number key es)
-      insert_full es absent full other = past_access key some short other _ (past (not_true false refl) (past (λ there. there absent) (here full (named PagesFull other PagesFull refl))))
+      pub delete_refused : (e : Fault) → ChangeCause d new.writer.log new.disk e → (other : Fault) → ((Refused e ≡ Refused other) ↔ OfDelete d old new (Refused e) other number key)
+      delete_refused e cause other = past_access key some short other _ (cause_so (λ (f : Fault). ChangeCause d new.writer.log new.disk f) e cause other)
 
-      -- an insert is made
-      pub insert_made : (reply : Reply) (es : List Entry) → is_late reply ≡ false → find key_order key es ≡ None → (LacksRoom es key → ⊥) → ((x : Fault) → reply ≢ Refused x) → (other : Fault)
-          → ((reply ≡ Refused other) ↔ OfInsert d old new reply other number key es)
-      insert_made reply es early absent room not other = past_access key some short other _ (past (not_true (is_late reply) early) (past (λ there. there absent) (past room (none (not other)))))
+      pub delete_none : (reply : Reply) → ((x : Fault) → reply ≢ Refused x) → (other : Fault) → ((reply ≡ Refused other) ↔ OfDelete d old new reply other number key)
+      delete_none reply not other = past_access key some short other _ (cause_none (λ (f : Fault). ChangeCause d new.writer.log new.disk f) reply not other)
 
 module _ {D : Type 0} (d : Ghosts D) (old new : Engine D d) (number : ℕ) (t : Transaction) (works : old.failed ≡ false) (going : old.going ≡ Some t) (same : t.number ≡ number) where
   unlogged : t.last ≡ 0 → HasLogged old.going → ⊥
@@ -189,7 +287,24 @@ module _ {D : Type 0} (d : Ghosts D) (old new : Engine D d) (number : ℕ) (t : 
     commit_refused fault full device (inl is) other = past_own d old number t works going same other _ (here (logged some) (here (full is) (named fault other LogFull is)))
     commit_refused fault full device (inr is) other = past_own d old number t works going same other _ (here (logged some) (past (device is).0 (here (device is).1 (named fault other Device is))))
 
--- a call for the log or a page is refused
-pub call_late : {D : Type 0} (d : Ghosts D) (old : Engine D d) (log : LogFile) (disk : D) → old.failed ≡ false → (e : Fault) → HasCause d log disk e → (other : Fault)
-    → ((Refused e ≡ Refused other) ↔ Where (old.failed ≡ true) (other ≡ Failed) (IsLate d log disk (Refused e) other))
-call_late d old log disk works e cause other = past (not_true old.failed works) (late_so d log disk e cause other)
+module _ {D : Type 0} (d : Ghosts D) (old : Engine D d) (log : LogFile) (disk : D) (works : old.failed ≡ false) where
+  -- a force that was made
+  pub force_made : (reply : Reply) → (d.failed disk ≡ true → ⊥) → ((x : Fault) → reply ≢ Refused x) → (other : Fault)
+      → ((reply ≡ Refused other) ↔ Where (old.failed ≡ true) (other ≡ Failed) (Where (d.failed disk ≡ true) (other ≡ Device) ⊥))
+  force_made reply on not other = past (not_true old.failed works) (past on (none (not other)))
+
+  -- and one that was refused
+  pub force_refused : (e : Fault) → e ≡ Device → d.failed disk ≡ true → (other : Fault) → ((Refused e ≡ Refused other) ↔ Where (old.failed ≡ true) (other ≡ Failed) (Where (d.failed disk ≡ true) (other ≡ Device) ⊥))
+  force_refused e is fails other = past (not_true old.failed works) (here fails (named e other Device is))
+
+  -- the flush of a page
+  pub flush_made : (reply : Reply) → ((x : Fault) → reply ≢ Refused x) → (other : Fault) → ((reply ≡ Refused other) ↔ Where (old.failed ≡ true) (other ≡ Failed) ((reply ≡ Refused other) × FlushCause d log disk other))
+  flush_made reply not other = past (not_true old.failed works) (cause_none (λ (f : Fault). FlushCause d log disk f) reply not other)
+
+  pub flush_refused : (e : Fault) → (e ≡ LogFull) ⊎ (e ≡ Device) → (e ≡ Device → d.failed disk ≡ true) → (e ≡ LogFull → HasNoRoom log) → (other : Fault)
+      → ((Refused e ≡ Refused other) ↔ Where (old.failed ≡ true) (other ≡ Failed) ((Refused e ≡ Refused other) × FlushCause d log disk other))
+  flush_refused e of device full other = past (not_true old.failed works) (cause_so (λ (f : Fault). FlushCause d log disk f) e (by of) other)
+    where
+      by : (e ≡ LogFull) ⊎ (e ≡ Device) → FlushCause d log disk e
+      by (inl is) = subst (λ (f : Fault). FlushCause d log disk f) (sym is) (full is)
+      by (inr is) = subst (λ (f : Fault). FlushCause d log disk f) (sym is) (device is)

@@ -19,9 +19,9 @@ use Rattle.im_flush.specs.Stands.{IsCovered, LeavesCovered}
 use Rattle.im_flush.specs.PageWriter.{StandsAs, LoggedOnly}
 use Rattle.im_flush.specs.declared.page_writer.PageWriter.{PageWriter}
 use Rattle.im_one_page.specs.OnePage.{first_base, AreBelow}
-use Rattle.im_one_page.specs.OneAtATime.{IsOnePageLog}
-use Rattle.im_one_page.specs.OnePageLaws.{IsCommitted}
-use Rattle.im_one_page.proofs.Promises.{transactions_commit, active_effects_are_logged, stops_keep_the_committed}
+use Rattle.im_serial.specs.Serial.{IsSerialLog, NeverSplit, IsGoingIn}
+use Rattle.im_serial.specs.SerialLaws.{IsCommitted}
+use Rattle.im_serial.proofs.Promises.{transactions_commit, unlogged_effects_are_empty, stops_keep_the_committed}
 use Rattle.im_engine.specs.declared.engine.Engine.{Engine}
 use Rattle.im_engine.specs.declared.transaction.Transaction.{Transaction}
 use Rattle.im_engine.specs.Stands.{StandsFor, Allowed}
@@ -49,23 +49,23 @@ now_idle u x t own others = elim (cases_eq u t) [
   | inr differ ↦ others u differ
 ]
 
-module _ {D : Type 0} (d : Ghosts D) (before : List Effect) (s : Shown) (t : Transaction) (old : Engine D d) (r : IsRunning d before s old) (a : IsActive s t old.next r.now.log) (some : 1 ≤ t.last) where
+module _ {D : Type 0} (d : Ghosts D) (before : List Effect) (s : Shown) (t : Transaction) (old : Engine D d) (r : IsRunning d before s old) (a : IsActive s t old.next r.now.log) (some : (s.running t.number).effect ≢ []) where
   has_effect : a.effect ≢ []
-  has_effect = (active_effects_are_logged t.number t.last a.effect r.now.log r.one_page a.going).some some
+  has_effect none = some (ap (λ (x : Running). x.effect) a.shown ∙ none)
 
   -- the files stand for what was there before the Commit
-  without_it : (c : Files) → IsCovered first_base 0 r.now.durable r.now.log c → Allowed before (asks t.number false s) c
+  without_it : (c : Files) → IsCovered first_base 0 r.now.durable r.now.log c → Allowed old.split before (asks t.number false s) c
   without_it c is =
-      let kept = stops_keep_the_committed r.now.durable r.now.log is.log.left (record { from = is.log.longer; upto = is.log.shorter }) r.one_page r.durable in
-      subst (λ (l : List Asked). StandsForMore StandsFor before l c) (sym (asks_one s t.number false a.effect a.shown has_effect)) (
+      let kept = stops_keep_the_committed r.now.durable r.now.log is.log.left (record { from = is.log.longer; upto = is.log.shorter }) r.serial r.durable in
+      subst (λ (l : List Asked). StandsForMore (StandsFor old.split) before l c) (sym (asks_one s t.number false a.effect a.shown has_effect)) (
         before ++ effects s.asked,
         loses_last before s.asked (asked_with t.number false a.effect) refl,
-        inr (record { log = is.log.left; has = covered_store r.now.durable r.now.log c is; one_page = kept.log; is = sym r.says ∙ sym (ap seen kept.committed) }),
+        inr (record { log = is.log.left; has = covered_store r.now.durable r.now.log c is; serial = kept.log; never = λ f. kept.never (r.never f); is = sym r.says ∙ sym (ap seen kept.committed) }),
       )
 
   -- a stop before the record is in the log
-  pub unlogged_stops : (new : D) → LeavesCovered d first_base 0 r.now.durable r.now.log old.disk new → LeavesOnly d old.disk new (Allowed before (asks t.number false s))
-  unlogged_stops new run = weakened d old.disk new (IsCovered first_base 0 r.now.durable r.now.log) (Allowed before (asks t.number false s)) run (λ told c is. without_it c is)
+  pub unlogged_stops : (new : D) → LeavesCovered d first_base 0 r.now.durable r.now.log old.disk new → LeavesOnly d old.disk new (Allowed old.split before (asks t.number false s))
+  unlogged_stops new run = weakened d old.disk new (IsCovered first_base 0 r.now.durable r.now.log) (Allowed old.split before (asks t.number false s)) run (λ told c is. without_it c is)
 
   module _ (lsn : ℕ) (w : PageWriter) (mid : D) (logged : LoggedOnly d first_base 0 r.now (entries.Commit t.number t.last) lsn w mid) where
     -- the log with its Commit
@@ -73,7 +73,7 @@ module _ {D : Type 0} (d : Ghosts D) (before : List Effect) (s : Shown) (t : Tra
     with_commit = logged_at lsn (entries.Commit t.number t.last) ∷ r.now.log
 
     law : IsCommitted a.effect (logged_at lsn (entries.Commit t.number t.last)) r.now.log
-    law = transactions_commit t.number t.last lsn a.effect r.now.log r.one_page a.going logged.high
+    law = transactions_commit t.number t.last t.undo_next lsn a.effect r.now.log r.serial r.closed a.going logged.high
 
     stands_with : (acked : Bool) → seen (committed with_commit) ≡ before ++ effects (asks t.number acked s).asked
     stands_with acked =
@@ -84,7 +84,7 @@ module _ {D : Type 0} (d : Ghosts D) (before : List Effect) (s : Shown) (t : Tra
         ∙ ap (λ (l : List Asked). before ++ effects l) (sym (asks_one s t.number acked a.effect a.shown has_effect))
 
     -- a stop within the force leaves the Commit, or it does not
-    with_or_without : (c : Files) → IsCovered first_base 0 logged.durable with_commit c → Allowed before (asks t.number false s) c
+    with_or_without : (c : Files) → IsCovered first_base 0 logged.durable with_commit c → Allowed old.split before (asks t.number false s) c
     with_or_without c is =
         ⊎_elim
         (λ same. (
@@ -93,7 +93,8 @@ module _ {D : Type 0} (d : Ghosts D) (before : List Effect) (s : Shown) (t : Tra
           inr (record {
             log = is.log.left;
             has = covered_store logged.durable with_commit c is;
-            one_page = subst IsOnePageLog (sym same) law.log;
+            serial = subst IsSerialLog (sym same) law.log;
+            never = λ f. subst NeverSplit (sym same) (law.never.0 (r.never f));
             is = sym (stands_with false) ∙ ap (λ (h : History). seen (committed h)) (sym same);
           }),
         ))
@@ -102,19 +103,22 @@ module _ {D : Type 0} (d : Ghosts D) (before : List Effect) (s : Shown) (t : Tra
         (record { from = front_of_front r.now.durable logged.durable is.log.left logged.grows is.log.longer; upto = is.log.shorter }))
 
     -- a stop within both calls
-    pub commit_stops : (new : D) → LeavesCovered d first_base 0 r.now.durable r.now.log old.disk mid → LeavesCovered d first_base 0 logged.durable with_commit mid new → LeavesOnly d old.disk new (Allowed before (asks t.number false s))
+    pub commit_stops : (new : D) → LeavesCovered d first_base 0 r.now.durable r.now.log old.disk mid → LeavesCovered d first_base 0 logged.durable with_commit mid new → LeavesOnly d old.disk new (Allowed old.split before (asks t.number false s))
     commit_stops new first second =
-        then_on d old.disk mid new (Allowed before (asks t.number false s)) (IsCovered first_base 0 logged.durable with_commit) (unlogged_stops mid first) second (λ told c is. with_or_without c is)
+        then_on d old.disk mid new (Allowed old.split before (asks t.number false s)) (IsCovered first_base 0 logged.durable with_commit) (unlogged_stops mid first) second (λ told c is. with_or_without c is)
 
     -- after them
     pub commit_made : (new : Engine D d) → StandsAs d first_base 0 (forced (record (appended (logged_at lsn (entries.Commit t.number t.last)) r.now) { durable = logged.durable })) new.writer new.disk
-        → new.next ≡ old.next → new.going ≡ None → IsRunning d before (with_running t.number idle (asks t.number true s)) new
-    commit_made new stands next going = record {
+        → new.next ≡ old.next → new.split ≡ old.split → new.going ≡ None → IsRunning d before (with_running t.number idle (asks t.number true s)) new
+    commit_made new stands next split going = record {
       now = forced (record (appended (logged_at lsn (entries.Commit t.number t.last)) r.now) { durable = logged.durable });
       stands = stands;
       redo_end = r.redo_end;
       over = r.over;
-      one_page = law.log;
+      serial = law.log;
+      closed = law.closed;
+      never = λ f. law.never.0 (r.never (sym split ∙ f));
+      begun = λ is h. r.begun (sym split ∙ is) (law.never.1 h);
       says = stands_with true;
       durable = refl;
       numbered = subst (λ (n : ℕ). n ≤ 2 ^ 62 → AreBelow n with_commit) (sym next) (λ le. (a.number, r.numbered le));
@@ -129,19 +133,22 @@ asks_none s t acked x is none = ap (λ (y : Running). s.asked ++ effect_asked t 
 module _ {D : Type 0} (d : Ghosts D) (before : List Effect) (s : Shown) (t : Transaction) (old : Engine D d) (r : IsRunning d before s old) (a : IsActive s t old.next r.now.log) (zero_is : t.last ≡ 0) where
   pub nothing_asked : (acked : Bool) → (asks t.number acked s).asked ≡ s.asked
   nothing_asked acked =
-      let was = (active_effects_are_logged t.number t.last a.effect r.now.log r.one_page a.going).none zero_is in
+      let was = unlogged_effects_are_empty t.number t.undo_next a.effect r.now.log r.serial (subst (λ (n : ℕ). IsGoingIn t.number n t.undo_next a.effect r.now.log) zero_is a.going) in
       asks_none s t.number acked (record { mark = Going; effect = [] }) (a.shown ∙ ap (λ (e : Effect). record { mark = Going; effect = e }) was.0) refl
 
   -- and is idle after its Commit
-  pub empty_made : (new : Engine D d) → new.writer ≡ old.writer → new.disk ≡ old.disk → new.next ≡ old.next → new.going ≡ None → IsRunning d before (with_running t.number idle (asks t.number true s)) new
-  empty_made new writer disk next going =
-      let was = (active_effects_are_logged t.number t.last a.effect r.now.log r.one_page a.going).none zero_is in
+  pub empty_made : (new : Engine D d) → new.writer ≡ old.writer → new.disk ≡ old.disk → new.next ≡ old.next → new.split ≡ old.split → new.going ≡ None → IsRunning d before (with_running t.number idle (asks t.number true s)) new
+  empty_made new writer disk next split going =
+      let was = unlogged_effects_are_empty t.number t.undo_next a.effect r.now.log r.serial (subst (λ (n : ℕ). IsGoingIn t.number n t.undo_next a.effect r.now.log) zero_is a.going) in
       record {
         now = r.now;
         stands = subst (λ (w : PageWriter). StandsAs d first_base 0 r.now w new.disk) (sym writer) (subst (λ (x : D). StandsAs d first_base 0 r.now old.writer x) (sym disk) r.stands);
         redo_end = r.redo_end;
         over = r.over;
-        one_page = r.one_page;
+        serial = r.serial;
+        closed = r.closed;
+        never = λ f. r.never (sym split ∙ f);
+        begun = λ is. r.begun (sym split ∙ is);
         says = r.says ∙ ap (λ (l : List Asked). before ++ effects l) (sym (nothing_asked true));
         durable = r.durable;
         numbered = subst (λ (n : ℕ). n ≤ 2 ^ 62 → AreBelow n r.now.log) (sym next) r.numbered;

@@ -1,5 +1,5 @@
 -- How a Commit ends.
-use Rattle.std.proofs.Common.{◌≡◌, ◌≢◌, ◌⊎◌, inl, inr, ⊎_elim, ℕ, ◌≤◌, List, Bool, true, false, Option, Some, None, Result, Ok, OnOk, refl, sym, ap, subst, ◌∙◌}
+use Rattle.std.proofs.Common.{◌≡◌, ◌≢◌, ◌⊎◌, inl, inr, ⊎_elim, ℕ, ◌≤◌, List, [], Bool, true, false, Option, Some, None, Result, Ok, OnOk, refl, sym, ap, subst, ◌∙◌}
 use Rattle.std.specs.Prelude.{◌||◌, if◌then◌else◌, ◌==◌}
 use Rattle.im_types.specs.Answers.{Refused, Commit, Committed}
 use Rattle.im_types.specs.Changes.{Effect}
@@ -17,11 +17,11 @@ use Rattle.im_log.proofs.Above.{left_now}
 use Rattle.im_engine.specs.declared.engine.Engine.{Engine}
 use Rattle.im_engine.specs.declared.transaction.Transaction.{Transaction}
 use Rattle.im_engine.specs.Stands.{Allowed}
-use Rattle.im_engine.specs.Running.{IsTransaction, IsRunning, IsLife}
+use Rattle.im_engine.specs.Running.{IsTransaction, HasShown, IsRunning, IsLife}
 use Rattle.im_engine.specs.Changes.{IsIdle, CommitKept}
 use Rattle.im_engine.specs.Kept.{StepKept}
 use Rattle.im_engine.proofs.Shown.{same_shown}
-use Rattle.im_engine.proofs.Running.{allowed_as, lives_on, unchanged, goes_on, nothing_left, stops_now}
+use Rattle.im_engine.proofs.Running.{allowed_as, leaves_more, lives_on, unchanged, goes_on, nothing_left, stops_now}
 use Rattle.im_engine.proofs.Refusals.{refused_number}
 use Rattle.im_engine.proofs.Steps.{active_is}
 use Rattle.im_engine.proofs.Commits.{asks_none, nothing_asked, empty_made}
@@ -40,6 +40,14 @@ refused_commit s t n h m u =
     (λ j. if h j || n == memory || n == unfinished then s else record (asks t false s) { failed = breaks n })
     ∙ (λ j. if m j || n == unfinished then s else record (asks t false s) { failed = breaks n })
     ∙ (λ j. if u j then s else record (asks t false s) { failed = breaks n })
+
+-- where none is active none has shown a change
+none_shown : (s : Shown) (going : Option Transaction) → going ≡ None → HasShown s going
+none_shown s going none = subst (λ (g : Option Transaction). HasShown s g) (sym none) tt
+
+-- the active transaction has shown a change, where it has a record
+pub has_changed : (s : Shown) (going : Option Transaction) (t : Transaction) → going ≡ Some t → HasShown s going → 1 ≤ t.last → (s.running t.number).effect ≢ []
+has_changed s going t is has = subst (λ (g : Option Transaction). HasShown s g) is has
 
 -- a transaction that is not active is idle
 idle_here : (s : Shown) (going : Option Transaction) (n next : ℕ) (log : History) → IsIdle n going → IsTransaction s going next log → s.running n ≡ idle
@@ -67,28 +75,29 @@ module _ {D : Type 0} (d : Ghosts D) (before : List Effect) (s : Shown) where
 
   module _ (t : Transaction) (number : ℕ) (is : t.number ≡ number) (old new : Engine D d) (life : IsLife d before s old) (works : old.failed ≡ false) where
     -- nothing was logged
-    pub commit_empty : old.going ≡ Some t → t.last ≡ 0 → new.writer ≡ old.writer → new.disk ≡ old.disk → new.next ≡ old.next → new.going ≡ None → new.failed ≡ false
+    pub commit_empty : old.going ≡ Some t → t.last ≡ 0 → new.writer ≡ old.writer → new.disk ≡ old.disk → new.next ≡ old.next → new.split ≡ old.split → new.going ≡ None → new.failed ≡ false
         → ((c : Files) → d.left_since old.disk (d.moment old.disk) c → d.may_leave old.disk c) → StepKept d before s (Commit number) Committed old new
-    commit_empty going zero_is writer disk next gone works_on only_now =
+    commit_empty going zero_is writer disk next split gone works_on only_now =
         let r = life.running works in
         let a = active_is d before s old r t going in
         let shown = life.failed ∙ works in
         subst (λ (n : ℕ). StepKept d before s (Commit n) Committed old new) is
         (goes_on d before s (Commit t.number) Committed (cut_commit s t.number shown ∙ nothing_asked d before s t old r a zero_is false) (λ e. cc e) old new
-        (subst (λ (x : D). LeavesOnly d old.disk x (Allowed before s)) (sym disk) (nothing_left d before old.disk (Allowed before s) only_now (stops_now d before s old r)))
-        works_on shown tt (empty_made d before s t old r a zero_is new writer disk next gone))
+        (leaves_more d before old.split new.split (λ is. split ∙ is) s old.disk new.disk
+        (subst (λ (x : D). LeavesOnly d old.disk x (Allowed old.split before s)) (sym disk) (nothing_left d before old.disk (Allowed old.split before s) only_now (stops_now d before s old r))))
+        works_on shown tt (empty_made d before s t old r a zero_is new writer disk next split gone) (none_shown (shows s (Commit t.number) (Some Committed)) new.going gone))
 
     module _ (result : Result Unit Fault) (kept : CommitKept d before s t.number old new result) where
-      within : LeavesOnly d old.disk new.disk (Allowed before (shows s (Commit t.number) None))
-      within = weakened d old.disk new.disk (Allowed before (asks t.number false s)) (Allowed before (shows s (Commit t.number) None)) kept.stops
-          (λ told c h. allowed_as before (asks t.number false s) (shows s (Commit t.number) None) c (cut_commit s t.number (life.failed ∙ works)) h)
+      within : LeavesOnly d old.disk new.disk (Allowed new.split before (shows s (Commit t.number) None))
+      within = weakened d old.disk new.disk (Allowed new.split before (asks t.number false s)) (Allowed new.split before (shows s (Commit t.number) None)) kept.stops
+          (λ told c h. allowed_as new.split before (asks t.number false s) (shows s (Commit t.number) None) c (cut_commit s t.number (life.failed ∙ works)) h)
 
       -- made
-      pub commit_ends : result ≡ Ok tt → new.failed ≡ false → StepKept d before s (Commit number) Committed old new
-      commit_ends ok works_on =
+      pub commit_ends : result ≡ Ok tt → new.failed ≡ false → new.going ≡ None → StepKept d before s (Commit number) Committed old new
+      commit_ends ok works_on gone =
           subst (λ (n : ℕ). StepKept d before s (Commit n) Committed old new) is (record {
             after = lives_on d before (shows s (Commit t.number) (Some Committed)) new works_on (life.failed ∙ works)
-                (subst (λ (x : Result Unit Fault). OnOk x (IsRunning d before (with_running t.number idle (asks t.number true s)) new)) ok kept.ok);
+                (subst (λ (x : Result Unit Fault). OnOk x (IsRunning d before (with_running t.number idle (asks t.number true s)) new)) ok kept.ok) (none_shown (shows s (Commit t.number) (Some Committed)) new.going gone);
             stops = within;
             done = tt;
             cause = λ e. cc e;
@@ -104,9 +113,10 @@ module _ {D : Type 0} (d : Ghosts D) (before : List Effect) (s : Shown) where
           let other : n ≢ not_a_store = ⊎_elim (λ e f. cc) (λ e f. cc) cause in
           subst (λ (m : ℕ). StepKept d before s (Commit m) (Refused n) old new) is (record {
             after = subst (λ (x : Shown). IsLife d before x new) (sym shown) (record {
-              stops = λ c left. left_now d old.disk new.disk (Allowed before (asks t.number false s)) counts_now kept.stops r.stands.writing.stands.log_is.tells c left;
+              stops = λ c left. left_now d old.disk new.disk (Allowed new.split before (asks t.number false s)) counts_now kept.stops r.stands.writing.stands.log_is.tells c left;
               failed = sym fails;
               running = λ on. let never : true ≡ false = sym fails ∙ on in cc;
+              changed = λ on. let never : true ≡ false = sym fails ∙ on in cc;
             });
             stops = within;
             done = tt;

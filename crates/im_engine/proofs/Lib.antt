@@ -7,6 +7,10 @@ pub mod Refusals
 pub mod Tells
 pub mod Steps
 pub mod Keys
+pub mod Structure
+pub mod StructureSteps
+pub mod SplitPuts
+pub mod Limits
 pub mod Commits
 pub mod Ends
 pub mod Writes

@@ -8,7 +8,7 @@ use Rattle.im_types.specs.Answers.{Idle, Going}
 use Rattle.im_types.specs.declared.step.Step.{Step}
 use Rattle.im_types.specs.declared.reply.Reply.{Reply}
 use Rattle.im_types.specs.Steps.{asked_by, told_by}
-use Rattle.im_types.specs.Pages.{Entry, Page}
+use Rattle.im_types.specs.Pages.{Entry}
 use Rattle.im_types.specs.Changes.{Effect, apply_all}
 use Rattle.im_types.specs.Faults.{number_of}
 use Rattle.im_types.specs.Histories.{History}
@@ -19,14 +19,14 @@ use Rattle.im_disk.specs.declared.disk.Disk.{Ghosts}
 use Rattle.im_disk.specs.Disk.{Files}
 use Rattle.im_disk.specs.Runs.{LeavesOnly}
 use Rattle.im_log.proofs.Above.{left_now}
-use Rattle.im_pool.specs.Pool.{page_at}
-use Rattle.im_one_page.specs.OneAtATime.{IsIdleIn, IsActiveIn}
-use Rattle.im_one_page.proofs.Promises.{pages_show_effects}
+use Rattle.im_one_page.specs.OneAtATime.{IsIdleIn}
+use Rattle.im_serial.specs.Serial.{IsGoingIn}
+use Rattle.im_serial.specs.SerialLaws.{walk_at}
+use Rattle.im_serial.proofs.Promises.{tree_shows_effects}
 use Rattle.im_engine.specs.declared.engine.Engine.{Engine}
 use Rattle.im_engine.specs.declared.transaction.Transaction.{Transaction}
 use Rattle.im_engine.specs.Stands.{Allowed}
-use Rattle.im_engine.specs.Running.{IsTransaction, IsRunning, IsLife}
-use Rattle.im_engine.specs.Changes.{Looked}
+use Rattle.im_engine.specs.Running.{IsTransaction, HasShown, IsRunning, IsLife}
 use Rattle.im_engine.specs.Kept.{answered_by, EntriesKept, LookKept}
 use Rattle.im_engine.proofs.Running.{lives_on}
 use Rattle.im_engine.proofs.Checks.{IsOfWriter}
@@ -57,40 +57,45 @@ all_idle s None next log h none = h.0
 all_idle s (Some t) next log h none = let never = sym (none t.number) ∙ h.shown in absurd (let mark = ap (λ (x : Running). x.mark) never in cc)
 
 -- the transaction that is going is the active one
-active_here : (s : Shown) (going : Option Transaction) (next : ℕ) (log : History) → IsTransaction s going next log → (t : ℕ) → (s.running t).mark ≡ Going → (last : ℕ) × IsActiveIn t last (s.running t).effect log
+pub record IsHere (t : ℕ) (effect : Effect) (log : History) : Type 0 where
+  pub last : ℕ
+  pub undo_next : ℕ
+  pub going : IsGoingIn t last undo_next effect log
+
+active_here : (s : Shown) (going : Option Transaction) (next : ℕ) (log : History) → IsTransaction s going next log → (t : ℕ) → (s.running t).mark ≡ Going → IsHere t (s.running t).effect log
 active_here s None next log h t is = let never : Idle ≡ Going = sym (ap (λ (x : Running). x.mark) (h.1 t)) ∙ is in absurd (cc never)
 active_here s (Some x) next log h t is = elim (cases_eq t x.number) [
   | inl same ↦
       let shown : (s.running t).effect ≡ h.effect = ap (λ (u : ℕ). (s.running u).effect) same ∙ ap (λ (r : Running). r.effect) h.shown in
-      (x.last, subst (λ (u : ℕ). IsActiveIn u x.last (s.running t).effect log) (sym same) (subst (λ (e : Effect). IsActiveIn x.number x.last e log) (sym shown) h.going))
+      record {
+        last = x.last;
+        undo_next = x.undo_next;
+        going = subst (λ (u : ℕ). IsGoingIn u x.last x.undo_next (s.running t).effect log) (sym same) (subst (λ (e : Effect). IsGoingIn x.number x.last x.undo_next e log) (sym shown) h.going);
+      }
   | inr differ ↦ let never : Idle ≡ Going = sym (ap (λ (r : Running). r.mark) (h.others t differ)) ∙ is in absurd (cc never)
 ]
 
 -- the entries of an engine
-pub entries_kept : {D : Type 0} (d : Ghosts D) (before : List Effect) (s : Shown) (old : Engine D d) (r : IsRunning d before s old) (new : Engine D d) (l : Looked d before s old r 1 new) (page : Page) (list : List Entry)
-    → list ≡ page.body.entries → page ≡ page_at new.writer.pool 1 → EntriesKept before s list
-entries_kept d before s old r new l page list is here = record {
-  is = λ none.
-      is ∙ ap (λ (p : Page). p.body.entries) (here ∙ l.page)
-      ∙ (pages_show_effects l.running.now.log l.running.one_page).idle (all_idle s new.going new.next l.running.now.log l.running.transaction none)
-      ∙ ap (λ (e : List Effect). entries (apply_all empty e)) l.running.says;
-  active = λ t going.
-      let a = active_here s new.going new.next l.running.now.log l.running.transaction t going in
-      is ∙ ap (λ (p : Page). p.body.entries) (here ∙ l.page)
-      ∙ (pages_show_effects l.running.now.log l.running.one_page).active t a.0 (s.running t).effect a.1
-      ∙ ap (λ (e : List Effect). entries (apply_all empty (e ++ (s.running t).effect ∷ []))) l.running.says;
-}
+pub entries_kept : {D : Type 0} (d : Ghosts D) (before : List Effect) (s : Shown) (e : Engine D d) (r : IsRunning d before s e) (list : List Entry) → list ≡ walk_at r.now.log → EntriesKept before s list
+entries_kept d before s e r list here =
+    let shows = tree_shows_effects r.now.log r.serial r.closed in
+    record {
+      is = λ none. here ∙ shows.idle (all_idle s e.going e.next r.now.log r.transaction none) ∙ ap (λ (e : List Effect). entries (apply_all empty e)) r.says;
+      active = λ t going.
+          let a = active_here s e.going e.next r.now.log r.transaction t going in
+          here ∙ shows.going t a.last a.undo_next (s.running t).effect a.going ∙ ap (λ (e : List Effect). entries (apply_all empty (e ++ (s.running t).effect ∷ []))) r.says;
+    }
 
 -- a fact of a result that follows from another
 pub listed : {A E : Type 0} (r : Result A E) (P Q : A → Type 0) → IfOk r P → ((x : A) → P x → Q x) → IfOk r Q
 listed (Ok x) P Q h then = then x h
 listed (Err e) P Q h then = tt
 
-module _ {D : Type 0} (d : Ghosts D) (before : List Effect) (s : Shown) (old new : Engine D d) (life : IsLife d before s old) (leaves : LeavesOnly d old.disk new.disk (Allowed before s)) where
+module _ {D : Type 0} (d : Ghosts D) (before : List Effect) (s : Shown) (old new : Engine D d) (life : IsLife d before s old) (going : new.going ≡ old.going) (leaves : LeavesOnly d old.disk new.disk (Allowed new.split before s)) where
   -- a look after which the engine works
   pub look_kept : old.failed ≡ false → new.failed ≡ false → IsRunning d before s new → LookKept d before s old new
   look_kept works works_on running = record {
-    after = subst (λ (b : Bool). IsLife d before (record s { failed = b }) new) (life.failed ∙ works ∙ sym works_on) (lives_on d before s new works_on (life.failed ∙ works) running);
+    after = subst (λ (b : Bool). IsLife d before (record s { failed = b }) new) (life.failed ∙ works ∙ sym works_on) (lives_on d before s new works_on (life.failed ∙ works) running (subst (λ (g : Option Transaction). HasShown s g) (sym going) (life.changed works)));
     stops = leaves;
   }
 
@@ -102,9 +107,10 @@ module _ {D : Type 0} (d : Ghosts D) (before : List Effect) (s : Shown) (old new
       broken : new.failed ≡ true → LookKept d before s old new
       broken is = record {
         after = record {
-          stops = λ c left. left_now d old.disk new.disk (Allowed before s) counts_now leaves (life.running works).stands.writing.stands.log_is.tells c left;
+          stops = λ c left. left_now d old.disk new.disk (Allowed new.split before s) counts_now leaves (life.running works).stands.writing.stands.log_is.tells c left;
           failed = refl;
           running = λ on. let never : true ≡ false = sym is ∙ on in absurd (cc never);
+          changed = λ on. let never : true ≡ false = sym is ∙ on in absurd (cc never);
         };
         stops = leaves;
       }

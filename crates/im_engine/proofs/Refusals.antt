@@ -1,5 +1,5 @@
 -- Steps that are refused.
-use Rattle.std.proofs.Common.{◌≡◌, ◌≢◌, ◌⊎◌, inl, inr, ℕ, ◌≤◌, List, Bool, true, false, Some, None, Result, Ok, Err, IfErr, refl, sym, ap, subst, ◌∙◌}
+use Rattle.std.proofs.Common.{◌≡◌, ◌≢◌, ◌⊎◌, inl, inr, ℕ, ◌≤◌, List, Bool, true, false, Option, Some, None, Result, Ok, Err, IfErr, refl, sym, ap, subst, ◌∙◌}
 use Rattle.std.specs.Prelude.{◌||◌}
 use Rattle.std.specs.Result.{IsErrAnd}
 use Rattle.im_types.specs.Answers.{Step, Begin, Do, Commit, Rollback, Continue, FlushPage, Force, Checkpoint, Reply, Refused}
@@ -7,7 +7,7 @@ use Rattle.im_types.specs.Changes.{Effect}
 use Rattle.im_types.specs.Faults.{number_of}
 use Rattle.im_types.specs.Refusals.{not_a_store}
 use Rattle.im_types.specs.declared.fault.Fault.{Fault}
-use Rattle.im_types.specs.declared.fault.Fault.TheVariants.{Failed, NoTransaction, KeyLength, Memory, NotAStore}
+use Rattle.im_types.specs.declared.fault.Fault.TheVariants.{Failed, NoTransaction, KeyLength, PagesFull, Memory, NotAStore}
 use Rattle.im_types.specs.Lives.{Shown, breaks, shows}
 use Rattle.im_disk.specs.declared.disk.Disk.{Ghosts}
 use Rattle.im_disk.specs.Disk.{Files}
@@ -15,11 +15,12 @@ use Rattle.im_disk.specs.Runs.{LeavesOnly}
 use Rattle.im_log.proofs.Above.{left_now}
 use Rattle.im_engine.specs.declared.engine.Engine.{Engine}
 use Rattle.im_engine.specs.Stands.{Allowed}
-use Rattle.im_engine.specs.Running.{IsRunning, IsLife}
+use Rattle.im_engine.specs.Running.{HasShown, IsRunning, IsLife}
+use Rattle.im_engine.specs.declared.transaction.Transaction.{Transaction}
 use Rattle.im_engine.specs.Kept.{StepKept, IsDone}
 use Rattle.im_engine.proofs.Shown.{still_failed, still_working}
 use Rattle.im_engine.proofs.Running.{unchanged, goes_on, breaks_off}
-use Rattle.im_engine.proofs.Checks.{IsOfWriter}
+use Rattle.im_engine.proofs.Checks.{IsOfWriter, IsOfEdit}
 
 or_true : (b : Bool) → (b || true) ≡ true
 or_true true = refl
@@ -67,13 +68,16 @@ module _ {D : Type 0} (d : Ghosts D) (before : List Effect) (s : Shown) (step : 
     early_kept fault (inr (inl is)) failed = subst (λ (f : Fault). StepKept d before s step (Refused (number_of f)) e e) (sym is) (stays 1 (λ x. cc x) (λ x. cc x))
     early_kept fault (inr (inr is)) failed = subst (λ (f : Fault). StepKept d before s step (Refused (number_of f)) e e) (sym is) (stays 3 (λ x. cc x) (λ x. cc x))
 
-  module _ (old new : Engine D d) (life : IsLife d before s old) (works : old.failed ≡ false) (leaves : LeavesOnly d old.disk new.disk (Allowed before s))
+  module _ (old new : Engine D d) (life : IsLife d before s old) (works : old.failed ≡ false) (going : new.failed ≡ false → new.going ≡ old.going) (leaves : LeavesOnly d old.disk new.disk (Allowed new.split before s))
       (counts_now : (t : ℕ) (c : Files) → t ≤ d.moment new.disk → d.may_leave new.disk c → d.left_since new.disk t c) where
+    still : new.failed ≡ false → HasShown s new.going
+    still on = subst (λ (g : Option Transaction). HasShown s g) (sym (going on)) (life.changed works)
+
     breaks_with : (n : ℕ) → n ≢ not_a_store → breaks n ≡ true → new.failed ≡ true → StepKept d before s step (Refused n) old new
     breaks_with n other broken fails =
         breaks_off d before s step (Refused n) asked (λ x. other (refused_number x)) old new leaves fails
         (ap (λ (x : Shown). x.failed) (shown n) ∙ ap (λ (b : Bool). s.failed || b) broken ∙ or_true s.failed) (ap (λ (x : Shown). x.asked) (shown n)) (none_done d step n new)
-        (λ c left. left_now d old.disk new.disk (Allowed before s) counts_now leaves (life.running works).stands.writing.stands.log_is.tells c left)
+        (λ c left. left_now d old.disk new.disk (Allowed new.split before s) counts_now leaves (life.running works).stands.writing.stands.log_is.tells c left)
 
     -- one that a call of the writer refuses
     pub late_kept : (fault : Fault) → IsOfWriter fault → (fault ≡ Memory → IsRunning d before s new) → fault ≢ NotAStore → new.failed ≡ breaks (number_of fault) → StepKept d before s step (Refused (number_of fault)) old new
@@ -83,14 +87,28 @@ module _ {D : Type 0} (d : Ghosts D) (before : List Effect) (s : Shown) (step : 
         subst (λ (f : Fault). StepKept d before s step (Refused (number_of f)) old new) (sym is)
         (goes_on d before s step (Refused 9) asked (λ x. cc x) old new leaves (fails ∙ ap (λ (f : Fault). breaks (number_of f)) is)
         (ap (λ (x : Shown). x.failed) (shown 9) ∙ or_false s.failed ∙ life.failed ∙ works) (none_done d step 9 new)
-        (subst (λ (x : Shown). IsRunning d before x new) (sym (shown 9 ∙ still_working s (life.failed ∙ works))) (again is)))
+        (subst (λ (x : Shown). IsRunning d before x new) (sym (shown 9 ∙ still_working s (life.failed ∙ works))) (again is))
+        (subst (λ (x : Shown). HasShown x new.going) (sym (shown 9 ∙ still_working s (life.failed ∙ works))) (still (fails ∙ ap (λ (f : Fault). breaks (number_of f)) is))))
     late_kept fault (inr (inr (inl is))) again other fails = absurd (other is)
     late_kept fault (inr (inr (inr is))) again other fails =
         subst (λ (f : Fault). StepKept d before s step (Refused (number_of f)) old new) (sym is) (breaks_with 8 (λ x. cc x) refl (fails ∙ ap (λ (f : Fault). breaks (number_of f)) is))
 
-    -- an insert for which the page has no room
-    pub full_kept : new.failed ≡ false → IsRunning d before s new → StepKept d before s step (Refused 5) old new
-    full_kept fails running =
-        goes_on d before s step (Refused 5) asked (λ x. cc x) old new leaves fails
-        (ap (λ (x : Shown). x.failed) (shown 5) ∙ or_false s.failed ∙ life.failed ∙ works) (none_done d step 5 new)
-        (subst (λ (x : Shown). IsRunning d before x new) (sym (shown 5 ∙ still_working s (life.failed ∙ works))) running)
+    goes_with : (n : ℕ) → n ≢ not_a_store → breaks n ≡ false → new.failed ≡ false → IsRunning d before s new → StepKept d before s step (Refused n) old new
+    goes_with n other whole works_on running =
+        goes_on d before s step (Refused n) asked (λ x. other (refused_number x)) old new leaves works_on
+        (ap (λ (x : Shown). x.failed) (shown n) ∙ ap (λ (b : Bool). s.failed || b) whole ∙ or_false s.failed ∙ life.failed ∙ works) (none_done d step n new)
+        (subst (λ (x : Shown). IsRunning d before x new) (sym same) running) (subst (λ (x : Shown). HasShown x new.going) (sym same) (still works_on))
+      where
+        same : shows s step (Some (Refused n)) ≡ s
+        same = shown n ∙ ap (λ (b : Bool). record s { failed = s.failed || b }) whole ∙ still_working s (life.failed ∙ works)
+
+    -- one that is refused for pages, page numbers or behind a structure change, too
+    pub edit_kept : (fault : Fault) → IsOfEdit fault → ((fault ≡ Memory) ⊎ (fault ≡ PagesFull) → IsRunning d before s new) → fault ≢ NotAStore → new.failed ≡ breaks (number_of fault)
+        → StepKept d before s step (Refused (number_of fault)) old new
+    edit_kept fault (inl is) again other fails =
+        subst (λ (f : Fault). StepKept d before s step (Refused (number_of f)) old new) (sym is) (goes_with 5 (λ x. cc x) refl (fails ∙ ap (λ (f : Fault). breaks (number_of f)) is) (again (inr is)))
+    edit_kept fault (inr (inl is)) again other fails =
+        subst (λ (f : Fault). StepKept d before s step (Refused (number_of f)) old new) (sym is) (breaks_with 6 (λ x. cc x) refl (fails ∙ ap (λ (f : Fault). breaks (number_of f)) is))
+    edit_kept fault (inr (inr (inl is))) again other fails =
+        subst (λ (f : Fault). StepKept d before s step (Refused (number_of f)) old new) (sym is) (breaks_with 10 (λ x. cc x) refl (fails ∙ ap (λ (f : Fault). breaks (number_of f)) is))
+    edit_kept fault (inr (inr (inr of))) again other fails = late_kept fault of (λ is. again (inl is)) other fails

@@ -1,27 +1,36 @@
 -- A record of a key, and what the engine is after it.
-use Rattle.std.proofs.Common.{◌≡◌, ◌≢◌, ℕ, ◌^◌, ◌<◌, ◌≤◌, List, [], ◌∷◌, Option, Some, None, refl, sym, ap, subst, ◌∙◌, arith}
+use Rattle.std.proofs.Common.{◌≡◌, ◌≢◌, ℕ, ◌^◌, ◌<◌, ◌≤◌, List, [], ◌∷◌, Option, Some, None, false, refl, sym, ap, subst, ◌∙◌, arith}
 use Rattle.std.specs.Prelude.{◌==◌, ◌+◌}
 use Rattle.std.proofs.lemmas.Bool.{eq-eqb, ne_eqb, cond-true, cond-false}
-use Rattle.im_types.specs.Answers.{Going}
+use Rattle.im_types.specs.Answers.{Going, Step, Reply, Refused}
+use Rattle.im_types.specs.Refusals.{not_a_store}
 use Rattle.im_types.specs.Changes.{Change, Effect, seen}
-use Rattle.im_types.specs.Histories.{History, end_of, page_at}
-use Rattle.im_types.specs.Lives.{Shown, Running, adds, with_running}
+use Rattle.im_types.specs.Histories.{History, end_of}
+use Rattle.im_types.specs.LogLaws.{bodies}
+use Rattle.im_types.specs.Structure.{open_smo}
+use Rattle.im_types.specs.Lives.{Shown, Running, adds, shows, with_running}
 use Rattle.im_types.specs.WriterSteps.{changed}
 use Rattle.im_types.proofs.Histories.{front_of_front}
 use Rattle.im_disk.specs.declared.disk.Disk.{Ghosts}
+use Rattle.im_disk.specs.Runs.{LeavesOnly}
 use Rattle.im_record.specs.Entry.{Entry, transaction_of}
 use Rattle.im_log.specs.Spelled.{logged_at}
 use Rattle.im_flush.specs.PageWriter.{StandsAs}
 use Rattle.im_flush.specs.LoggedChange.{ChangedFrom}
 use Rattle.im_flush.specs.declared.page_writer.PageWriter.{PageWriter}
 use Rattle.im_one_page.specs.OnePage.{first_base, AreBelow}
-use Rattle.im_one_page.specs.OneAtATime.{IsOnePageLog, IsActiveIn}
-use Rattle.im_one_page.specs.OnePageLaws.{GoesOn}
 use Rattle.im_one_page.proofs.Numbers.{below_more}
-use Rattle.im_one_page.proofs.Promises.{images_change_nothing, stops_keep_the_committed, transactions_begin}
+use Rattle.im_serial.specs.Serial.{IsSerialLog, IsGoingIn}
+use Rattle.im_serial.specs.SerialLaws.{GoesOn}
+use Rattle.im_serial.proofs.Promises.{images_change_nothing, stops_keep_the_committed, transactions_begin}
 use Rattle.im_engine.specs.declared.engine.Engine.{Engine}
 use Rattle.im_engine.specs.declared.transaction.Transaction.{Transaction}
-use Rattle.im_engine.specs.Running.{IsActive, IsTransaction, IsRunning}
+use Rattle.im_engine.specs.Running.{IsActive, IsTransaction, HasShown, IsRunning, IsLife}
+use Rattle.im_engine.specs.Stands.{Allowed}
+use Rattle.im_engine.specs.Kept.{StepKept, IsDone}
+use Rattle.im_engine.specs.Checks.{active_number}
+use Rattle.im_engine.proofs.Shown.{some_inj}
+use Rattle.im_engine.proofs.Running.{goes_on}
 
 -- one transaction set, and the others
 pub set_own : (t : ℕ) (x : Running) (s : Shown) → (with_running t x s).running t ≡ x
@@ -36,16 +45,19 @@ module _ {D : Type 0} (d : Ghosts D) (before : List Effect) (s : Shown) where
   active_is e r t is = subst (λ (g : Option Transaction). IsTransaction s g e.next r.now.log) is r.transaction
 
   -- a transaction began
-  pub begin_step : (old new : Engine D d) (r : IsRunning d before s old) → old.going ≡ None → new.writer ≡ old.writer → new.disk ≡ old.disk → new.next ≡ old.next + 1
-      → new.going ≡ Some (record { number = old.next; last = 0 }) → old.next ≤ 2 ^ 62 → IsRunning d before (with_running old.next (record { mark = Going; effect = [] }) s) new
-  begin_step old new r none writer disk next going small =
+  pub begin_step : (old new : Engine D d) (r : IsRunning d before s old) → old.going ≡ None → new.writer ≡ old.writer → new.disk ≡ old.disk → new.next ≡ old.next + 1 → new.split ≡ old.split
+      → new.going ≡ Some (record { number = old.next; last = 0; undo_next = 0 }) → old.next ≤ 2 ^ 62 → IsRunning d before (with_running old.next (record { mark = Going; effect = [] }) s) new
+  begin_step old new r none writer disk next split going small =
       let was = subst (λ (g : Option Transaction). IsTransaction s g old.next r.now.log) none r.transaction in
       record {
         now = r.now;
         stands = subst (λ (w : PageWriter). StandsAs d first_base 0 r.now w new.disk) (sym writer) (subst (λ (x : D). StandsAs d first_base 0 r.now old.writer x) (sym disk) r.stands);
         redo_end = r.redo_end;
         over = r.over;
-        one_page = r.one_page;
+        serial = r.serial;
+        closed = r.closed;
+        never = λ f. r.never (sym split ∙ f);
+        begun = λ is. r.begun (sym split ∙ is);
         says = r.says;
         durable = r.durable;
         numbered = λ le. below_more old.next new.next r.now.log (omega (arith, next)) (r.numbered small);
@@ -60,13 +72,14 @@ module _ {D : Type 0} (d : Ghosts D) (before : List Effect) (s : Shown) where
 
   -- a key record joined the log
   pub key_step : (t : Transaction) (c : Change) (entry : Entry) (lsn : ℕ) (old new : Engine D d) (r : IsRunning d before s old) (a : IsActive s t old.next r.now.log)
-      → ChangedFrom d first_base 0 r.now entry lsn new.writer new.disk → new.next ≡ old.next → new.going ≡ Some (record { number = t.number; last = lsn }) → transaction_of entry ≡ t.number
-      → ((log : History) → IsOnePageLog log → IsActiveIn t.number t.last a.effect log → end_of first_base log < lsn → page_at first_base log 1 ≡ page_at first_base r.now.log 1 → GoesOn t.number (c ∷ a.effect) (logged_at lsn entry) log)
+      → ChangedFrom d first_base 0 r.now entry lsn old.disk new.writer new.disk → new.next ≡ old.next → new.split ≡ old.split → new.going ≡ Some (record { number = t.number; last = lsn; undo_next = lsn }) → transaction_of entry ≡ t.number
+      → ((log : History) → IsSerialLog log → open_smo log ≡ [] → IsGoingIn t.number t.last t.undo_next a.effect log → end_of first_base log < lsn → bodies first_base log ≡ bodies first_base r.now.log
+      → GoesOn t.number (c ∷ a.effect) (logged_at lsn entry) log)
       → IsRunning d before (adds t.number c s) new
-  key_step t c entry lsn old new r a made next going txn law =
+  key_step t c entry lsn old new r a made next split going txn law =
       let was = made.before in
-      let same = images_change_nothing r.now.log was.log made.keeps.log r.one_page in
-      let l = law was.log same.log (same.active t.number t.last a.effect a.going) made.logged.high (same.pages 1) in
+      let same = images_change_nothing r.now.log was.log made.keeps.log r.serial in
+      let l = law was.log same.log (same.opened ∙ r.closed) (same.going t.number t.last t.undo_next a.effect a.going) made.logged.high same.bodies in
       let full = logged_at lsn entry ∷ was.log in
       let all = stops_keep_the_committed r.now.durable full made.logged.durable
       (record { from = front_of_front r.now.durable was.durable made.logged.durable made.keeps.durable made.logged.grows; upto = made.logged.stands.writing.stands.kept.front }) l.log
@@ -76,15 +89,37 @@ module _ {D : Type 0} (d : Ghosts D) (before : List Effect) (s : Shown) where
         stands = made.logged.stands;
         redo_end = r.redo_end;
         over = made.keeps.redo_end ∙ r.over;
-        one_page = l.log;
+        serial = l.log;
+        closed = l.closed;
+        never = λ f. l.never.0 (same.never.0 (r.never (sym split ∙ f)));
+        begun = λ is h. r.begun (sym split ∙ is) (same.never.1 (l.never.1 h));
         says = ap seen (l.committed ∙ same.committed) ∙ r.says;
         durable = all.committed;
         numbered = subst (λ (n : ℕ). n ≤ 2 ^ 62 → AreBelow n full) (sym next) (λ le. (subst (λ (u : ℕ). u < old.next) (sym txn) a.number, same.below old.next old.first (r.numbered le)));
         transaction = subst (λ (g : Option Transaction). IsTransaction (adds t.number c s) g new.next full) (sym going) (record {
           effect = c ∷ a.effect;
-          going = l.active;
+          going = l.going;
           number = subst (λ (n : ℕ). t.number < n) (sym next) a.number;
           shown = set_own t.number (record (s.running t.number) { effect = c ∷ (s.running t.number).effect }) s ∙ ap (λ (x : Running). record x { effect = c ∷ x.effect }) a.shown;
           others = λ u differ. set_other t.number u (record (s.running t.number) { effect = c ∷ (s.running t.number).effect }) s differ ∙ a.others u differ;
         });
       }
+
+-- the active transaction has shown the change
+pub adds_shown : (n : ℕ) (c : Change) (s : Shown) (going : Option Transaction) → active_number going ≡ Some n → HasShown (adds n c s) going
+adds_shown n c s None is = tt
+adds_shown n c s (Some t) is =
+    let same : t.number ≡ n = some_inj 0 t.number n is in
+    λ le none.
+    let own = ap (λ (x : Running). x.effect) (ap (λ (u : ℕ). (adds n c s).running u) same ∙ set_own n (record (s.running n) { effect = c ∷ (s.running n).effect }) s) in
+    let never : c ∷ (s.running n).effect ≡ [] = sym own ∙ none in
+    cc never
+
+-- a step that shows a change was made
+pub edit_made : {D : Type 0} (d : Ghosts D) (before : List Effect) (s : Shown) (step : Step) (reply : Reply) (n : ℕ) (c : Change) → (shows s step None).asked ≡ s.asked → reply ≢ Refused not_a_store
+    → shows s step (Some reply) ≡ adds n c s → (old new : Engine D d) → IsLife d before s old → old.failed ≡ false → IsDone d step reply new → LeavesOnly d old.disk new.disk (Allowed new.split before s)
+    → new.failed ≡ false → (m : ℕ) → m ≡ n → IsRunning d before (adds m c s) new → active_number new.going ≡ Some n → StepKept d before s step reply old new
+edit_made d before s step reply n c asked cause shown old new life works done leaves works_on m same running active =
+    goes_on d before s step reply asked cause old new leaves works_on (ap (λ (x : Shown). x.failed) shown ∙ life.failed ∙ works) done
+    (subst (λ (x : Shown). IsRunning d before x new) (ap (λ (k : ℕ). adds k c s) same ∙ sym shown) running)
+    (subst (λ (x : Shown). HasShown x new.going) (sym shown) (adds_shown n c s new.going active))

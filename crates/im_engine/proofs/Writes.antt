@@ -1,5 +1,5 @@
 -- The log is forced, and a page is written.
-use Rattle.std.proofs.Common.{◌≡◌, ℕ, ◌≤◌, ◌^◌, List, [], ◌∷◌, ◌++◌, false, Option, Some, None, Ok, refl, sym, ap, subst, ◌∙◌}
+use Rattle.std.proofs.Common.{◌≡◌, ℕ, ◌≤◌, ◌^◌, List, [], ◌∷◌, ◌++◌, true, false, Option, Some, None, Ok, refl, sym, ap, subst, ◌∙◌}
 use Rattle.im_types.specs.Answers.{FlushPage, Force, Done}
 use Rattle.im_types.specs.Changes.{Effect}
 use Rattle.im_types.specs.Pages.{Page}
@@ -9,12 +9,12 @@ use Rattle.im_types.specs.Lives.{Asked, Shown, all_acked, effects}
 use Rattle.im_disk.specs.declared.disk.Disk.{Ghosts}
 use Rattle.im_flush.specs.PageWriter as writers
 use Rattle.im_one_page.specs.OnePage.{first_base, AreBelow}
-use Rattle.im_one_page.proofs.Promises.{images_change_nothing}
+use Rattle.im_serial.proofs.Promises.{images_change_nothing}
 use Rattle.im_engine.specs.declared.engine.Engine.{Engine}
 use Rattle.im_engine.specs.declared.transaction.Transaction.{Transaction}
-use Rattle.im_engine.specs.Running.{IsTransaction, IsRunning, IsLife}
+use Rattle.im_engine.specs.Running.{IsTransaction, HasShown, IsRunning, IsLife}
 use Rattle.im_engine.specs.Kept.{StepKept}
-use Rattle.im_engine.proofs.Running.{none_waits, page_is, grown_stops, covered_stops, runs_on, looks, goes_on}
+use Rattle.im_engine.proofs.Running.{none_waits, page_is, grown_stops, covered_stops, leaves_more, runs_on, looks, goes_on}
 
 -- what is acknowledged has the same effects
 effects_acked : (asked : List Asked) → effects (all_acked asked) ≡ effects asked
@@ -26,37 +26,47 @@ transaction_as : (s : Shown) (asked : List Asked) (going : Option Transaction) (
 transaction_as s asked None next log is = is
 transaction_as s asked (Some t) next log is = record { effect = is.effect; going = is.going; number = is.number; shown = is.shown; others = is.others }
 
-module _ {D : Type 0} (d : Ghosts D) (before : List Effect) (s : Shown) (old new : Engine D d) (life : IsLife d before s old) (works : old.failed ≡ false) (works_on : new.failed ≡ false) (going : new.going ≡ old.going) (next : new.next ≡ old.next) where
+shown_as : (s : Shown) (asked : List Asked) (going : Option Transaction) → HasShown s going → HasShown (record s { asked = asked }) going
+shown_as s asked None has = has
+shown_as s asked (Some t) has = has
+
+module _ {D : Type 0} (d : Ghosts D) (before : List Effect) (s : Shown) (old new : Engine D d) (life : IsLife d before s old) (works : old.failed ≡ false) (works_on : new.failed ≡ false) (going : new.going ≡ old.going) (next : new.next ≡ old.next) (split : new.split ≡ old.split) where
+  more : old.split ≡ true → new.split ≡ true
+  more is = split ∙ is
+
   -- the log was forced
   pub force_kept : (r : IsRunning d before s old) → writers.StepKept d first_base 0 r.now (forced r.now) old.disk new.writer new.disk (Ok tt) → StepKept d before s Force Done old new
   force_kept r kept =
-      goes_on d before s Force Done refl (λ e. cc e) old new (covered_stops d before s old r new.disk kept.stops) works_on (life.failed ∙ works)
+      goes_on d before s Force Done refl (λ e. cc e) old new (leaves_more d before old.split new.split more s old.disk new.disk (covered_stops d before s old r new.disk kept.stops)) works_on (life.failed ∙ works)
       (record { log = r.now.log; durable = kept.ok.goes.writing.stands.log_is })
       (record {
         now = forced r.now;
         stands = record { working = kept.ok.working; writing = kept.ok.goes.writing };
         redo_end = r.redo_end;
         over = r.over;
-        one_page = r.one_page;
+        serial = r.serial;
+        closed = r.closed;
+        never = λ f. r.never (sym split ∙ f);
+        begun = λ is. r.begun (sym split ∙ is);
         says = r.says ∙ ap (λ (l : List Effect). before ++ l) (sym (effects_acked s.asked));
         durable = refl;
         numbered = subst (λ (n : ℕ). n ≤ 2 ^ 62 → AreBelow n r.now.log) (sym next) r.numbered;
         transaction = subst (λ (n : ℕ). IsTransaction (record s { asked = all_acked s.asked }) new.going n r.now.log) (sym next)
             (subst (λ (g : Option Transaction). IsTransaction (record s { asked = all_acked s.asked }) g old.next r.now.log) (sym going) (transaction_as s (all_acked s.asked) old.going old.next r.now.log r.transaction));
-      })
+      }) (shown_as s (all_acked s.asked) new.going (subst (λ (g : Option Transaction). HasShown s g) (sym going) (life.changed works)))
 
   -- a page was flushed
   pub flush_kept : (p : ℕ) (r : IsRunning d before s old) → writers.FlushOneKept d first_base 0 r.now p old.disk new.writer new.disk (Ok tt) → StepKept d before s (FlushPage p) Done old new
   flush_kept p r kept =
       let f = kept.ok in
       let stands : writers.StandsAs d first_base 0 f.now new.writer new.disk = record { working = f.on.working; writing = f.on.goes.writing } in
-      let same = images_change_nothing r.now.log f.now.log f.on.goes.keeps.log r.one_page in
-      let on = runs_on d before s old r new going next f.now stands f.on.goes.keeps in
-      looks d before s (FlushPage p) Done refl (λ e. cc e) old new (grown_stops d before s old r new.disk kept.stops) works life works_on refl
+      let same = images_change_nothing r.now.log f.now.log f.on.goes.keeps.log r.serial in
+      let on = runs_on d before s old r new going next split f.now stands f.on.goes.keeps in
+      looks d before s (FlushPage p) Done refl (λ e. cc e) old new (leaves_more d before old.split new.split more s old.disk new.disk (grown_stops d before s old r new.disk kept.stops)) works life works_on refl
       (record {
         log = f.now.log;
         durable = f.now.durable;
         is = stands.writing.stands.log_is;
         reads = stands.writing.stands.file.reads p ∙ f.in_file ((f.on.goes.keeps.pages p).waits ∙ none_waits d before s old r p) ∙ ap (λ (g : Page). Some g) ((f.on.goes.keeps.pages p).page ∙ page_is d before s old r p ∙ sym (same.pages p));
       })
-      on
+      on going

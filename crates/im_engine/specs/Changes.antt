@@ -1,16 +1,19 @@
 -- What the parts of a step do.
-use Rattle.std.specs.Prelude.{◌≡◌, ◌≢◌, ℕ, List, Option, Some, None, Result, IfErr, OnOk, Bool, true, false, length}
+use Rattle.std.specs.Prelude.{◌≡◌, ◌≢◌, ◌⊎◌, ℕ, List, Option, Some, None, Result, IfErr, IfOk, OnOk, Bool, true, false, length}
 use Rattle.im_types.specs.Histories.{page_at}
+use Rattle.im_types.specs.Keys.{Key}
+use Rattle.im_types.specs.LogLaws.{bodies}
 use Rattle.im_types.specs.Answers.{Reply, Refused}
 use Rattle.im_types.specs.Pages.{Page}
 use Rattle.im_types.specs.Changes.{Effect}
 use Rattle.im_types.specs.Lives.{Shown, idle, asks, breaks, with_running}
 use Rattle.im_types.specs.declared.fault.Fault.{Fault}
-use Rattle.im_types.specs.declared.fault.Fault.TheVariants.{Memory, NotAStore}
+use Rattle.im_types.specs.declared.fault.Fault.TheVariants.{Memory, NotAStore, PagesFull}
 use Rattle.im_disk.specs.declared.disk.Disk.{Ghosts}
 use Rattle.im_disk.specs.Runs.{LeavesOnly}
 use Rattle.im_pool.specs.Pool as pools
 use Rattle.im_pool.specs.declared.frame.Frame.{Frame}
+use Rattle.im_tree.specs.Search.{IsOnWay}
 use Rattle.im_one_page.specs.OnePage.{first_base}
 use Rattle.im_engine.specs.declared.header.Header.{Header}
 use Rattle.im_engine.specs.declared.engine.Engine.{Engine}
@@ -48,10 +51,29 @@ module _ {D : Type 0} (d : Ghosts D) (before : List Effect) (s : Shown) where
   pub record PageKept (old : Engine D d) (was : IsRunning d before s old) (p : ℕ) (new : Engine D d) (result : Result Frame Fault) : Type 0 where
     pub ok : OnOk result (Looked old was p new)
     pub again : IfErr result (λ e. e ≡ Memory → IsRunning d before s new)
-    pub stops : LeavesOnly d old.disk new.disk (Allowed before s)
+    pub stops : LeavesOnly d old.disk new.disk (Allowed new.split before s)
+    pub cause : IfErr result (λ e. e ≢ NotAStore)
+
+  -- The leaf of a key is held so.
+  pub record LeafLooked (old : Engine D d) (was : IsRunning d before s old) (key : Key) (p : ℕ) (new : Engine D d) : Type 0 where
+    pub looked : Looked old was p new
+    pub way : IsOnWay (bodies first_base was.now.log) 0 key p
+
+  -- what the search for a key's leaf keeps
+  pub record LeafKept (old : Engine D d) (was : IsRunning d before s old) (key : Key) (new : Engine D d) (result : Result Frame Fault) : Type 0 where
+    pub ok : IfOk result (λ frame. LeafLooked old was key frame.number new)
+    pub again : IfErr result (λ e. e ≡ Memory → IsRunning d before s new)
+    pub stops : LeavesOnly d old.disk new.disk (Allowed new.split before s)
+    pub cause : IfErr result (λ e. e ≢ NotAStore)
+
+  -- A step goes on: behind it this is shown. A refusal for want of memory or of pages leaves what was shown before, and so does a stop.
+  pub record EditKept {A : Type 0} (then : Shown) (old new : Engine D d) (result : Result A Fault) : Type 0 where
+    pub ok : OnOk result (IsRunning d before then new)
+    pub again : IfErr result (λ e. (e ≡ Memory) ⊎ (e ≡ PagesFull) → IsRunning d before s new)
+    pub stops : LeavesOnly d old.disk new.disk (Allowed new.split before s)
     pub cause : IfErr result (λ e. e ≢ NotAStore)
 
   -- A Commit: once it is made its effect is one of those asked and acknowledged; a stop within leaves the effect whole, or nothing of it.
   pub record CommitKept (number : ℕ) (old new : Engine D d) (result : Result Unit Fault) : Type 0 where
     pub ok : OnOk result (IsRunning d before (with_running number idle (asks number true s)) new)
-    pub stops : LeavesOnly d old.disk new.disk (Allowed before (asks number false s))
+    pub stops : LeavesOnly d old.disk new.disk (Allowed new.split before (asks number false s))

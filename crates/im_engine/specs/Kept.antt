@@ -38,11 +38,11 @@ module _ {D : Type 0} (d : Ghosts D) where
   disk_of (Ok e) = e.disk
   disk_of (Err x) = x.1
 
-  -- An opening of files that stand for these effects: a life begins that has shown nothing, a stop within leaves files that stand for
+  -- An opening of files that stand for these effects, of a store that was never split: a life begins that has shown nothing, a stop within leaves files that stand for
   -- the same, and the files are never found to be no store.
   pub record OpenKept (before : List Effect) (old : D) (result : Result (Engine D d) (Fault × D)) : Type 0 where
     pub ok : IfOk result (λ e. IsLife d before nothing_shown e × (e.failed ≡ false))
-    pub stops : LeavesOnly d old (disk_of result) (Allowed before nothing_shown)
+    pub stops : LeavesOnly d old (disk_of result) (Allowed false before nothing_shown)
     pub cause : IfErr result (λ x. x.0 ≢ NotAStore)
 
   -- Every record is durable: a stop leaves the whole log.
@@ -67,11 +67,11 @@ module _ {D : Type 0} (d : Ghosts D) where
   -- never found to be no store.
   pub record StepKept (before : List Effect) (s : Shown) (step : Step) (reply : Reply) (old new : Engine D d) : Type 0 where
     pub after : IsLife d before (shows s step (Some reply)) new
-    pub stops : LeavesOnly d old.disk new.disk (Allowed before (shows s step None))
+    pub stops : LeavesOnly d old.disk new.disk (Allowed new.split before (shows s step None))
     pub done : IsDone step reply new
     pub cause : reply ≢ Refused not_a_store
 
   -- A call that only looks: the life goes on, unless the call made the engine fail, and a stop within it leaves what is allowed.
   pub record LookKept (before : List Effect) (s : Shown) (old new : Engine D d) : Type 0 where
     pub after : IsLife d before (record s { failed = new.failed }) new
-    pub stops : LeavesOnly d old.disk new.disk (Allowed before s)
+    pub stops : LeavesOnly d old.disk new.disk (Allowed new.split before s)

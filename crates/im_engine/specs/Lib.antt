@@ -3,4 +3,5 @@ pub mod Running
 pub mod Kept
 pub mod Changes
 pub mod Checks
+pub mod Structure
 pub mod Turns

@@ -1,8 +1,9 @@
 -- An engine between two steps.
-use Rattle.std.specs.Prelude.{◌≡◌, ◌≢◌, ◌<◌, ◌≤◌, ℕ, List, ◌++◌, ◌^◌, false, Option, Some, None}
+use Rattle.std.specs.Prelude.{◌≡◌, ◌≢◌, ◌<◌, ◌≤◌, ℕ, List, [], ◌++◌, ◌^◌, false, true, Option, Some, None}
 use Rattle.im_types.specs.Answers.{Going}
 use Rattle.im_types.specs.Changes.{Effect, seen}
 use Rattle.im_types.specs.Histories.{History}
+use Rattle.im_types.specs.Structure.{open_smo}
 use Rattle.im_types.specs.Transactions.{committed}
 use Rattle.im_types.specs.Writer.{Writer}
 use Rattle.im_types.specs.Lives.{Shown, idle, effects}
@@ -10,15 +11,16 @@ use Rattle.im_disk.specs.declared.disk.Disk.{Ghosts}
 use Rattle.im_disk.specs.Disk.{Files}
 use Rattle.im_flush.specs.PageWriter.{StandsAs}
 use Rattle.im_one_page.specs.OnePage.{first_base, AreBelow}
-use Rattle.im_one_page.specs.OneAtATime.{IsOnePageLog, IsIdleIn, IsActiveIn}
+use Rattle.im_one_page.specs.OneAtATime.{IsIdleIn}
+use Rattle.im_serial.specs.Serial.{IsSerialLog, NeverSplit, IsGoingIn}
 use Rattle.im_engine.specs.declared.engine.Engine.{Engine}
 use Rattle.im_engine.specs.declared.transaction.Transaction.{Transaction}
 use Rattle.im_engine.specs.Stands.{Allowed}
 
--- A transaction is active: its records say what its steps have shown.
+-- A transaction is active: its records say what its steps have shown, and where its undo would go on.
 pub record IsActive (s : Shown) (t : Transaction) (next : ℕ) (log : History) : Type 0 where
   pub effect : Effect
-  pub going : IsActiveIn t.number t.last effect log
+  pub going : IsGoingIn t.number t.last t.undo_next effect log
   pub number : t.number < next
   pub shown : s.running t.number ≡ record { mark = Going; effect = effect }
   pub others : (u : ℕ) → u ≢ t.number → s.running u ≡ idle
@@ -28,15 +30,24 @@ abbrev pub IsTransaction : Shown → Option Transaction → ℕ → History → 
 IsTransaction s None next log = IsIdleIn log × ((u : ℕ) → s.running u ≡ idle)
 IsTransaction s (Some t) next log = IsActive s t next log
 
+-- a transaction that has a record has shown a change
+abbrev pub HasShown : Shown → Option Transaction → Type 0
+HasShown s None = Unit {0}
+HasShown s (Some t) = 1 ≤ t.last → (s.running t.number).effect ≢ []
+
 module _ {D : Type 0} (d : Ghosts D) where
-  -- The engine works: its writer of pages stands as one whose redo is over; the log's Commits are those of the effects before the life
+  -- The engine works: its writer of pages stands as one whose redo is over, and no structure change is open; the log's Commits are those of the effects before the life
   -- and of those asked in it, and each of them is durable.
   pub record IsRunning (before : List Effect) (s : Shown) (e : Engine D d) : Type 0 where
     pub now : Writer
     pub stands : StandsAs d first_base 0 now e.writer e.disk
     pub redo_end : ℕ
     pub over : now.redo_end ≡ Some redo_end
-    pub one_page : IsOnePageLog now.log
+    pub serial : IsSerialLog now.log
+    pub closed : open_smo now.log ≡ []
+    -- there is a structure change in the log just where one was begun since the opening
+    pub never : e.split ≡ false → NeverSplit now.log
+    pub begun : e.split ≡ true → NeverSplit now.log → ⊥
     pub says : seen (committed now.log) ≡ before ++ effects s.asked
     pub durable : committed now.durable ≡ committed now.log
     -- numbers from the next one on are new, as long as there are any
@@ -45,6 +56,7 @@ module _ {D : Type 0} (d : Ghosts D) where
 
   -- Between two steps of a life that has shown this: what a stop leaves is allowed, and the engine works unless it has failed.
   pub record IsLife (before : List Effect) (s : Shown) (e : Engine D d) : Type 0 where
-    pub stops : (c : Files) → d.may_leave e.disk c → Allowed before s c
+    pub stops : (c : Files) → d.may_leave e.disk c → Allowed e.split before s c
     pub failed : s.failed ≡ e.failed
     pub running : e.failed ≡ false → IsRunning before s e
+    pub changed : e.failed ≡ false → HasShown s e.going

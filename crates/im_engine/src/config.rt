@@ -1,5 +1,7 @@
 //! How an engine is opened.
 
+ghost use Rattle.std.specs.Prelude.{◌≡◌, ◌≤◌};
+
 /// The limits of an engine.
 #[derive(Clone, Copy)]
 pub struct Config {
@@ -10,7 +12,10 @@ pub struct Config {
 }
 
 impl Default for Config {
-    fn default() -> Self {
+    fn default() -> Self
+        ensures frames { result.frames ≡ 64 }
+        ensures pages { result.max_pages ≡ 1000000 }
+    {
         Config {
             frames: 64,
             max_pages: 1_000_000,

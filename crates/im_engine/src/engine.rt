@@ -1,23 +1,24 @@
 //! The engine: a store that is open, and its steps.
 
-ghost use Rattle.std.specs.Prelude.{◌≡◌, ◌≢◌, ◌≤◌, ◌<◌, ◌+◌, ◌⊎◌, ◌↔◌, ◌^◌, ◌||◌, false, true, not, is_some, length, List, Option, Some, None, Ok, Err, IfOk, IfErr, OnOk, OnErr};
+ghost use Rattle.std.specs.Prelude.{◌≡◌, ◌≢◌, ◌≤◌, ◌<◌, ◌+◌, ◌⊎◌, ◌↔◌, ◌^◌, ◌||◌, false, true, not, is_some, length, List, [], Option, Some, None, Ok, Err, IfOk, IfErr, OnOk, OnErr};
 ghost use Rattle.std.specs.Result.{IsErrAnd};
 ghost use Rattle.std.specs.Option.{ForSome};
 ghost use Rattle.im_flush.specs.PageWriter.{IsReadyWriter};
 ghost use Rattle.im_types.specs.declared.fault.Fault.TheVariants.{Memory};
 
 use crate::config::Config;
+use crate::engine::pages::breaks;
 use crate::header::Header;
 use crate::transaction::Transaction;
 use im_disk::Disk;
 use im_flush::PageWriter;
-use im_one_page::OnePage;
-use im_page::Page;
+use im_serial::KeyTree;
 use im_types::{Fault, Key, PageNo, Reply, Rid, Step, TxnId};
 use std::alloc::Global;
 
 mod keys;
 mod pages;
+mod structure;
 mod writes;
 
 /// No transaction has a greater number.
@@ -26,28 +27,19 @@ const NUMBERS: u64 = 1 << 62;
 /// A store that is open.
 #[derive(Drop)]
 pub struct Engine<D: Disk> {
+    alloc: Global,
     writer: PageWriter,
     disk: D,
+    max_pages: PageNo,
     going: Option<Transaction>,
     next: TxnId,
+    /// A structure change was begun since the opening.
+    split: bool,
     failed: bool,
     ghost ready: { IsReadyWriter D.Disk writer disk },
     ghost working: { failed ≡ false → writer.failed ≡ false },
     ghost first: { 1 ≤ next },
     ghost owned: { ForSome going (λ t. 1 ≤ t.number) },
-}
-
-// The entries of a page.
-fn list_of(alloc: Global, page: &Page) -> Result<Vec<(Key, Rid)>, Fault>
-    ensures list { IfOk result (λ list. list.items ≡ page.now.body.entries) }
-    ensures memory { IfErr result (λ e. e ≡ Memory) }
-{
-    let mut list = Vec::new(alloc);
-    for i in 0..page.len() {
-        let key = Key::new(page.key(i))?;
-        list.push((key, page.value(i))).map_err(|_| Fault::Memory)?;
-    }
-    Ok(list)
 }
 
 impl<D: Disk> Engine<D> {
@@ -59,15 +51,16 @@ impl<D: Disk> Engine<D> {
     ghost use Rattle.im_disk.specs.Runs.{IsSynced};
     ghost use Rattle.im_types.specs.Answers as answers;
     ghost use Rattle.im_types.specs.Steps.{asked_by, told_by};
-    ghost use Rattle.im_types.specs.declared.file_id.FileId.TheVariants.{Log};
-    ghost use Rattle.im_gate.specs.Header.{IsMade};
     ghost use Rattle.im_pool.specs.Pool.{page_at};
-    ghost use Rattle.im_restart.specs.Restart.{IsFresh};
+    ghost use Rattle.im_types.specs.LogLaws.{bodies};
+    ghost use Rattle.im_tree.specs.Levels.{walk};
+    ghost use Rattle.im_restart.specs.Restart.{SpellsLog};
     ghost use Rattle.im_engine.specs.Stands.{StandsFor};
     ghost use Rattle.im_types.specs.Histories as histories;
     ghost use Rattle.im_one_page.specs.OnePage.{first_base};
     ghost use Rattle.im_engine.specs.Running.{IsLife, IsRunning};
     ghost use Rattle.im_engine.specs.Kept.{StepKept, OpenKept, LookKept, EntriesKept, answered_by, disk_of};
+    ghost use Rattle.im_engine.specs.Structure.{KeepsLimit};
     ghost use Rattle.im_engine.specs.Turns.{AreSteps};
     ghost use Rattle.im_engine.specs.Changes.{IsIdle, active_in, header_of, is_breaking};
     ghost use Rattle.im_engine.specs.Checks.{CallsDevice, OfOwn, OfBegin, IsAnswered, AnswersStep, HasCause, active_after, active_number, changes_nothing, next_after};
@@ -97,11 +90,12 @@ impl<D: Disk> Engine<D> {
         ensures kept { (before : List Effect) (s : Shown) → IsLife D.Disk before s self.old → StepKept D.Disk before s answers.Begin (told_by result) self.old self.new }
         ensures fails { self.new.failed ≡ (self.old.failed || is_breaking (told_by result)) }
         ensures failed { self.old.failed ≡ true → (result ≡ Refused Failed) × (self.new ≡ self.old) }
-        ensures answered { IsAnswered D.Disk result self.old self.new (λ entries fault. OfBegin D.Disk self.old fault) (λ entries. answers.Started self.old.next) }
+        ensures answered { IsAnswered D.Disk [] result self.old self.new (λ entries fault. OfBegin D.Disk self.old fault) (λ entries. answers.Started self.old.next) }
         ensures quiet { self.new.disk ≡ self.old.disk }
         ensures same { changes_nothing (told_by result) ≡ true → self.new ≡ self.old }
         ensures active { active_number self.new.going ≡ active_after (told_by result) (active_number self.old.going) }
         ensures numbers { self.new.next ≡ next_after (told_by result) self.old.next }
+        ensures split { self.new.split ≡ self.old.split }
     {
         if self.failed {
             return Reply::Refused(Fault::Failed);
@@ -115,7 +109,11 @@ impl<D: Disk> Engine<D> {
             return Reply::Refused(Fault::Capacity);
         }
         self.next += 1;
-        self.going = Some(Transaction { number, last: 0 });
+        self.going = Some(Transaction {
+            number,
+            last: 0,
+            undo_next: 0,
+        });
         Reply::Started(number)
     }
 
@@ -127,11 +125,12 @@ impl<D: Disk> Engine<D> {
     pub fn open_or_create(alloc: Global, disk: D, config: Config) -> Result<Engine<D>, (Fault, D)>
         requires working { D.failed disk ≡ false }
         requires synced { IsSynced D.Disk disk }
-        ensures kept { (before : List Effect) → D.tells → IsSynced D.Disk disk → StandsFor before (D.seen disk) → OpenKept D.Disk before disk result }
+        ensures kept { (before : List Effect) → D.tells → IsSynced D.Disk disk → StandsFor false before (D.seen disk) → OpenKept D.Disk before disk result }
         ensures frames { IsErrAnd result (λ x. x.0 ≡ PoolSize) ↔ ((config.frames < 8) ⊎ (1024 < config.frames)) }
         ensures untouched { IfErr result (λ x. x.0 ≡ PoolSize → x.1 ≡ disk) }
-        ensures opened { IfOk result (λ e. (e.failed ≡ false) × (e.going ≡ None) × (D.failed e.disk ≡ false)) }
-        ensures made { IfOk result (λ _. D.tells → IsFresh (D.seen disk) ⊎ IsMade (D.seen disk Log)) }
+        ensures opened { IfOk result (λ e. (e.failed ≡ false) × (e.going ≡ None) × (e.split ≡ false) × (D.failed e.disk ≡ false)) }
+        ensures limit { IfOk result (λ e. e.max_pages ≡ config.max_pages) }
+        ensures spelled { IfOk result (λ _. D.tells → SpellsLog (D.seen disk)) }
         ensures causes { IfErr result (λ x. (x.0 ≡ PoolSize) ⊎ (x.0 ≡ Memory) ⊎ (x.0 ≡ Device) ⊎ (x.0 ≡ NotAStore) ⊎ (x.0 ≡ LogFull)) }
         ensures device { IsErrAnd result (λ x. x.0 ≡ Device) ↔ (D.failed (disk_of D.Disk result) ≡ true) }
     {
@@ -139,27 +138,32 @@ impl<D: Disk> Engine<D> {
             return Err((Fault::PoolSize, disk));
         }
         let mut disk = disk;
-        match im_restart::open_or_create::<D, OnePage>(alloc, &mut disk, config.frames) {
+        match im_restart::open_or_create::<D, KeyTree>(alloc, &mut disk, config.frames) {
             Err(fault) => Err((fault, disk)),
             Ok(restarted) => Ok(Engine {
+                alloc,
                 writer: restarted.writer,
                 disk,
+                max_pages: config.max_pages,
                 going: None,
                 next: restarted.next,
+                split: false,
                 failed: false,
             }),
         }
     }
 
-    /// Makes a step, and answers it. A step by a key reads page 1, which makes device calls where the pool does not hold it, a Commit of
-    /// a transaction that has records forces the log, `Force` does where records are buffered, and `FlushPage` writes a page that was
-    /// changed. What is read needs a frame, so a page that was changed may be written to make one free.
+    /// Makes a step, and answers it. A step by a key reads the pages on the key's way, which makes device calls where the pool does not
+    /// hold them, a Commit of a transaction that has records forces the log, `Force` does where records are buffered, and `FlushPage`
+    /// writes a page that was changed. What is read needs a frame, so a page that was changed may be written to make one free. An insert
+    /// into a leaf without room splits it first, and a delete that leaves a leaf other than the root empty takes it out of the tree.
     ///
     /// Refused by the first of these that holds: `Failed` where an earlier step broke the engine; `NoTransaction` where the active transaction
-    /// has another number or none is active, at Begin `TooMany` where one is; `KeyLength`; `PagesFull` where an insert finds no room in the
-    /// page; `Capacity` where numbers are used up. In between come `LogFull` where the log has no room below LSN 2^62, `Device`,
-    /// `NotAStore` where a page's bytes are none, and `Memory`. `LogFull`, `Capacity`, `Device` and `NotAStore` break the engine; after
-    /// every other refusal the entries and the transactions are as they were.
+    /// has another number or none is active, at Begin `TooMany` where one is; `KeyLength`; `PagesFull` where an insert needs pages past the
+    /// limit; `Capacity` where page numbers, levels or transaction numbers are used up. In between come `LogFull` where the log has no room
+    /// below LSN 2^62, `Device`, `NotAStore` where a page's bytes are none, `Memory`, and `Failed` where memory was wanted behind the
+    /// first record of a structure change. `LogFull`, `Capacity`, `Device`, `NotAStore` and `Failed` break the engine; after every other
+    /// refusal the entries and the transactions are as they were.
     pub fn step(&mut self, step: &Step) -> Reply
         ensures kept { (before : List Effect) (s : Shown) → IsLife D.Disk before s self.old → StepKept D.Disk before s (asked_by step.now) (told_by result) self.old self.new }
         ensures fails { self.new.failed ≡ (self.old.failed || is_breaking (told_by result)) }
@@ -169,6 +173,8 @@ impl<D: Disk> Engine<D> {
         ensures same { changes_nothing (told_by result) ≡ true → self.new ≡ self.old }
         ensures active { active_number self.new.going ≡ active_after (told_by result) (active_number self.old.going) }
         ensures numbers { self.new.next ≡ next_after (told_by result) self.old.next }
+        ensures limit { (before : List Effect) (s : Shown) (r : IsRunning D.Disk before s self.old) → KeepsLimit D.Disk before s self.old r step.now result }
+        ensures split { self.old.split ≡ true → self.new.split ≡ true }
         ensures works { D.failed self.new.disk ≡ true → self.new.failed ≡ true }
         ensures quiet { ¬ (CallsDevice D.Disk step.now self.old) → self.new.disk ≡ self.old.disk }
     {
@@ -203,12 +209,12 @@ impl<D: Disk> Engine<D> {
         Ok(replies)
     }
 
-    /// The entries of the store, those of the active transaction included. Refused `Failed`, `Memory`, and as a step is that reads page 1;
-    /// every refusal but `Memory` then breaks the engine.
+    /// The entries of the store, those of the active transaction included, in rising key order. Refused `Failed`, `Memory`, and as a step is
+    /// that reads a leaf; every refusal but `Memory` then breaks the engine.
     pub fn entries(&mut self, alloc: Global) -> Result<Vec<(Key, Rid)>, Fault>
         ensures kept { (before : List Effect) (s : Shown) → IsLife D.Disk before s self.old → LookKept D.Disk before s self.old self.new }
         ensures entries { IfOk result (λ list. (before : List Effect) (s : Shown) → IsLife D.Disk before s self.old → EntriesKept before s list.items) }
-        ensures list { IfOk result (λ list. list.items ≡ (page_at self.new.writer.pool 1).body.entries) }
+        ensures walk { IfOk result (λ list. (before : List Effect) (s : Shown) (r : IsRunning D.Disk before s self.old) → list.items ≡ walk (bodies first_base r.now.log)) }
         ensures never { IfErr result (λ e. (before : List Effect) (s : Shown) → IsLife D.Disk before s self.old → e ≢ NotAStore) }
         ensures failed { result ≡ Err Failed ↔ (self.old.failed ≡ true) }
         ensures works { OnOk result (self.new.failed ≡ false) }
@@ -217,12 +223,22 @@ impl<D: Disk> Engine<D> {
         ensures device { self.old.failed ≡ false → D.failed self.new.disk ≡ true → result ≡ Err Device }
         ensures going { self.new.going ≡ self.old.going }
         ensures next { self.new.next ≡ self.old.next }
+        ensures split { self.new.split ≡ self.old.split }
     {
         if self.failed {
             return Err(Fault::Failed);
         }
-        let frame = self.root()?;
-        list_of(alloc, self.writer.page(frame))
+        self.failed = true;
+        match im_search::entries(alloc, &mut self.writer, &mut self.disk) {
+            Ok(list) => {
+                self.failed = false;
+                Ok(list)
+            }
+            Err(fault) => {
+                self.failed = breaks(fault);
+                Err(fault)
+            }
+        }
     }
 
     /// What a page is for. Refused as `entries` is.
@@ -238,6 +254,7 @@ impl<D: Disk> Engine<D> {
         ensures device { self.old.failed ≡ false → D.failed self.new.disk ≡ true → result ≡ Err Device }
         ensures going { self.new.going ≡ self.old.going }
         ensures next { self.new.next ≡ self.old.next }
+        ensures split { self.new.split ≡ self.old.split }
     {
         if self.failed {
             return Err(Fault::Failed);
@@ -265,6 +282,13 @@ impl<D: Disk> Engine<D> {
         self.failed
     }
 
+    /// Whether a structure change was begun since it was opened.
+    pub fn has_split(&self) -> bool
+        ensures { result ≡ self.now.split }
+    {
+        self.split
+    }
+
     /// The disk, for reading.
     pub fn disk(&self) -> &D
         ensures { result.now ≡ self.now.disk }
@@ -277,10 +301,13 @@ impl<D: Disk> Engine<D> {
         ensures { result ≡ self.disk }
     {
         let Engine {
+            alloc: _alloc,
             writer: _writer,
             disk,
+            max_pages: _max_pages,
             going: _going,
             next: _next,
+            split: _split,
             failed: _failed,
         } = self;
         disk

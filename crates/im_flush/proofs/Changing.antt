@@ -83,6 +83,31 @@ pooled_set pool new pages f frame page mark is sets held shown marked waits = re
 
 -- ---- the whole
 
+module _ {D : Type 0} (d : Ghosts D) (b : Base) (base : ℕ) (s : Writer) (log new_log : LogFile) (table new_table : List TableEntry) (pool new_pool : PoolView) (old new : D) (entry : Entry) (lsn : ℕ) (frame : Frame)
+    (w : IsWriting d b base s log table pool old) (may : MayAppend b s (logged_at lsn entry)) (done : Appended d base s.log s.durable entry lsn old new_log new) (here : (logged_at lsn entry).page ≡ frame.number) where
+  -- An append with what the record makes of its page, and the page's entry, is one step of the writer.
+  pub step_by : IsOpen d new_log new → ChangesOnly d Log old new → is_some (held_of pool frame.number) ≡ true → Sets frame (page_after lsn (what_of entry) (s.pages frame.number).page) true pool new_pool
+      → ChangesEntry frame.number (changed_entry lsn) table new_table → IsWriting d b base (record (changed (logged_at lsn entry) s) { durable = done.now_durable }) new_log new_table new_pool new
+  step_by opened changes held sets enters =
+      let r = logged_at lsn entry in
+      let file = file_only d s.pages (changed_page r) r.page new (λ x. (refl, refl, refl)) (page_file_spared d s.pages old new (spared d Log Pages old new (λ same. cc) changes) w.stands.file) in
+      let entries : HasEntries new_table (only r.page (changed_page r) s.pages) = entries_put (changed_page r) (changed_entry lsn) s.pages r.page table new_table (λ x. refl) w.entries
+      (subst (λ (n : ℕ). ChangesEntry n (changed_entry lsn) table new_table) (sym here) enters) in
+      let pooled = subst (λ (n : ℕ). IsPooled new_pool (only n (changed_page r) s.pages)) (sym here)
+      (pooled_set pool new_pool s.pages (changed_page r) frame (page_after lsn (what_of entry) (s.pages frame.number).page) true w.pooled sets held refl (now_changed lsn (s.pages frame.number).entry) (λ x. refl)) in
+      record {
+        stands = record {
+          kept = grown_kept b (changed r s) done.now_durable done.grows done.log.front (changed_kept b s r w.stands.kept may);
+          ready = opened;
+          log_is = done.log;
+          file = record { reads = file.reads; leaves = file.leaves };
+          tied = λ q. inl (entries q);
+        };
+        entries = entries;
+        pooled = pooled_same new_pool (only r.page (changed_page r) s.pages) (λ q. passed lsn (only r.page (changed_page r) s.pages q)) (λ q. refl) (λ q. refl) (λ q. refl) pooled;
+        based = w.based;
+      }
+
 module _ {D : Type 0} (d : Ghosts D) (b : Base) (base : ℕ) (s : Writer) (e : ℕ) (log new_log : LogFile) (table new_table : List TableEntry) (pool new_pool : PoolView) (old new : D) (entry : Entry) (lsn : ℕ) (frame : Frame)
     (w : IsWriting d b base s log table pool old) (over : s.redo_end ≡ Some e) (copy : copy_in lsn (what_of entry) ≡ None) (point : is_checkpoint (what_of entry) ≡ false)
     (done : Appended d base s.log s.durable entry lsn old new_log new) (here : (logged_at lsn entry).page ≡ frame.number) where
@@ -95,25 +120,7 @@ module _ {D : Type 0} (d : Ghosts D) (b : Base) (base : ℕ) (s : Writer) (e : �
     point = next_point b s (logged_at lsn entry) e w.stands.kept over (done.rises b w.based) point;
   }
 
-  -- The append with the change of the page and its entry is one step of the writer.
+  -- the same of a record that holds no full copy
   pub changed_by : IsOpen d new_log new → ChangesOnly d Log old new → is_some (held_of pool frame.number) ≡ true → Sets frame (page_after lsn (what_of entry) (s.pages frame.number).page) true pool new_pool
       → ChangesEntry frame.number (changed_entry lsn) table new_table → IsWriting d b base (record (changed (logged_at lsn entry) s) { durable = done.now_durable }) new_log new_table new_pool new
-  changed_by opened changes held sets enters =
-      let r = logged_at lsn entry in
-      let file = file_only d s.pages (changed_page r) r.page new (λ x. (refl, refl, refl)) (page_file_spared d s.pages old new (spared d Log Pages old new (λ same. cc) changes) w.stands.file) in
-      let entries : HasEntries new_table (only r.page (changed_page r) s.pages) = entries_put (changed_page r) (changed_entry lsn) s.pages r.page table new_table (λ x. refl) w.entries
-      (subst (λ (n : ℕ). ChangesEntry n (changed_entry lsn) table new_table) (sym here) enters) in
-      let pooled = subst (λ (n : ℕ). IsPooled new_pool (only n (changed_page r) s.pages)) (sym here)
-      (pooled_set pool new_pool s.pages (changed_page r) frame (page_after lsn (what_of entry) (s.pages frame.number).page) true w.pooled sets held refl (now_changed lsn (s.pages frame.number).entry) (λ x. refl)) in
-      record {
-        stands = record {
-          kept = grown_kept b (changed r s) done.now_durable done.grows done.log.front (changed_kept b s r w.stands.kept change_may);
-          ready = opened;
-          log_is = done.log;
-          file = record { reads = file.reads; leaves = file.leaves };
-          tied = λ q. inl (entries q);
-        };
-        entries = entries;
-        pooled = pooled_same new_pool (only r.page (changed_page r) s.pages) (λ q. passed lsn (only r.page (changed_page r) s.pages q)) (λ q. refl) (λ q. refl) (λ q. refl) pooled;
-        based = w.based;
-      }
+  changed_by opened changes held sets enters = step_by d b base s log new_log table new_table pool new_pool old new entry lsn frame w change_may done here opened changes held sets enters

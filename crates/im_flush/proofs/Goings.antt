@@ -102,12 +102,11 @@ module _ {D : Type 0} (d : Ghosts D) (b : Base) (base : ℕ) where
       stops = covered_then s.durable t.log t.durable two.high old mid new one.stops two.stops one.keeps.durable (grown_front b t.log two.high two.grows);
     }
 
+    pub covered_last : (new : D) → LeavesCovered d b base t.durable t.log mid new → LeavesCovered d b base s.durable t.log old new
+    covered_last new two = covered_then s.durable t.log t.durable t.log old mid new one.stops two one.keeps.durable (front_self t.log)
+
     pub leaves_last : (new : D) → LeavesCovered d b base t.durable t.log mid new → LeavesGrown d b base s old new
-    leaves_last new two = record {
-      high = t.log;
-      grows = one.keeps.log;
-      stops = covered_then s.durable t.log t.durable t.log old mid new one.stops two one.keeps.durable (front_self t.log);
-    }
+    leaves_last new two = record { high = t.log; grows = one.keeps.log; stops = covered_last new two }
 
     pub leaves_so_far : LeavesGrown d b base s old mid
     leaves_so_far = record { high = t.log; grows = one.keeps.log; stops = one.stops }

@@ -36,7 +36,7 @@ use Rattle.im_flush.specs.DirtyTable.{ChangesEntry}
 use Rattle.im_flush.specs.PageCopy.{after_in}
 use Rattle.im_flush.specs.Stands.{HasEntries, is_changed, LeavesCovered}
 use Rattle.im_flush.specs.Writing.{IsPooled, IsWriting}
-use Rattle.im_flush.proofs.Changing.{pooled_set}
+use Rattle.im_flush.proofs.Changing.{step_by}
 use Rattle.im_flush.proofs.Goings.{pooled_same}
 use Rattle.im_flush.proofs.Growing.{keeps_none}
 use Rattle.im_flush.proofs.LoggedChanges.{cause_of}
@@ -113,14 +113,6 @@ module _ {D : Type 0} (d : Ghosts D) (b : Base) (base : ℕ) where
 
 -- ---- the step
 
-now_some : (l : ℕ) (t : Option ℕ) → true ≡ is_some (first_since l t)
-now_some l None = refl
-now_some l (Some k) = refl
-
-now_changed : (l : ℕ) (o : Option DirtyEntry) → true ≡ is_changed (Some (changed_entry l o))
-now_changed l None = refl
-now_changed l (Some e) = now_some l e.since
-
 module _ {D : Type 0} (d : Ghosts D) (b : Base) (base : ℕ) (s : Writer) (e : ℕ) (log new_log : LogFile) (table new_table : List TableEntry) (pool new_pool : PoolView) (old new : D) (entry : Entry) (lsn : ℕ) (frame : Frame)
     (w : IsWriting d b base s log table pool old) (over : s.redo_end ≡ Some e) (body : Body) (after : after_in (what_of entry) ≡ Some body) (done : Appended d base s.log s.durable entry lsn old new_log new) (here : page_of entry ≡ frame.number) where
   leaves : LeavesBody lsn (what_of entry) body
@@ -146,24 +138,5 @@ module _ {D : Type 0} (d : Ghosts D) (b : Base) (base : ℕ) (s : Writer) (e : �
   pub left_by : IsOpen d new_log new → ChangesOnly d Log old new → is_some (held_of pool frame.number) ≡ true → Sets frame (record { lsn = lsn; body = body }) true pool new_pool
       → ChangesEntry frame.number (changed_entry lsn) table new_table → IsWriting d b base (record (changed (logged_at lsn entry) s) { durable = done.now_durable }) new_log new_table new_pool new
   left_by opened changes held sets enters =
-      let r = logged_at lsn entry in
-      let page : Page = (s.pages frame.number).page in
       let set : Sets frame (page_after lsn (what_of entry) (s.pages frame.number).page) true pool new_pool = subst (λ (g : Page). Sets frame g true pool new_pool) (sym (leaves.after (s.pages frame.number).page)) sets in
-      let file = page_file_as d s.pages (only r.page (changed_page r) s.pages) new (only_in_file s.pages (changed_page r) r.page (λ x. record { reads = refl; synced = refl; unsynced = refl }))
-      (page_file_spared d s.pages old new (spared d Log Pages old new (λ same. cc) changes) w.stands.file) in
-      let entries : HasEntries new_table (only r.page (changed_page r) s.pages) = entries_put (changed_page r) (changed_entry lsn) s.pages r.page table new_table (λ x. refl) w.entries
-      (subst (λ (n : ℕ). ChangesEntry n (changed_entry lsn) table new_table) (sym here) enters) in
-      let pooled = subst (λ (n : ℕ). IsPooled new_pool (only n (changed_page r) s.pages)) (sym here)
-      (pooled_set pool new_pool s.pages (changed_page r) frame (page_after lsn (what_of entry) (s.pages frame.number).page) true w.pooled set held refl (now_changed lsn (s.pages frame.number).entry) (λ x. refl)) in
-      record {
-        stands = record {
-          kept = grown_kept b (changed r s) done.now_durable done.grows done.log.front (changed_kept b s r w.stands.kept may);
-          ready = opened;
-          log_is = done.log;
-          file = record { reads = file.reads; leaves = file.leaves };
-          tied = λ q. inl (entries q);
-        };
-        entries = entries;
-        pooled = pooled_same new_pool (only r.page (changed_page r) s.pages) (λ q. passed lsn (only r.page (changed_page r) s.pages q)) (λ q. refl) (λ q. refl) (λ q. refl) pooled;
-        based = w.based;
-      }
+      step_by d b base s log new_log table new_table pool new_pool old new entry lsn frame w may done here opened changes held set enters

@@ -76,6 +76,11 @@ seen_is : (o : Option Held) (x : PageState) (f : Option Page) → IsShown o x �
 seen_is None x f is here = here refl
 seen_is (Some h) x f is here = ap (λ (g : Page). Some g) is.0
 
+-- a page that is not seen is not in the file
+pub seen_none : (o : Option Held) (f : Option Page) → option_map_or (λ h. Some h.page) o f ≡ None → f ≡ None
+seen_none None f none = none
+seen_none (Some h) f none = absurd (let clash : Some h.page ≡ None = none in cc clash)
+
 pub still_working : (failed : Bool) → (failed ≡ true → ⊥) → failed ≡ false
 still_working true never = absurd (never refl)
 still_working false never = refl

@@ -49,14 +49,15 @@ module _ {D : Type 0} (d : Ghosts D) (b : Base) (base : ℕ) where
     pub stops : LeavesCovered d b base s.durable s.log old disk
 
   -- Each page was as before, the log had Images more, and then the record joined it.
-  pub record ChangedFrom (s : Writer) (entry : Entry) (lsn : ℕ) (w : PageWriter) (disk : D) : Type 0 where
+  pub record ChangedFrom (s : Writer) (entry : Entry) (lsn : ℕ) (old : D) (w : PageWriter) (disk : D) : Type 0 where
     pub before : Writer
     pub keeps : Keeps b s before
+    pub stops : LeavesCovered d b base s.durable before.log old disk
     pub logged : LoggedHere before entry lsn w disk
 
   -- what a logged change keeps; it is refused as no store only where the page doesn't take the record
   pub record ChangeKept (s : Writer) (entry : Entry) (old : D) (w : PageWriter) (disk : D) (result : Result ℕ Fault) : Type 0 where
-    pub ok : IfOk result (λ lsn. ChangedFrom s entry lsn w disk)
+    pub ok : IfOk result (λ lsn. ChangedFrom s entry lsn old w disk)
     pub stops : LeavesGrown d b base s old disk
     pub cause : LeafTakes (what_of entry) (s.pages (page_of entry)).page → IfErr result (λ e. e ≢ NotAStore)
     pub again : StaysOn d b base s old w disk result

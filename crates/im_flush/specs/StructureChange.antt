@@ -21,7 +21,7 @@ module _ {D : Type 0} (d : Ghosts D) (b : Base) (base : ℕ) where
 
   -- what it keeps of any page; it is refused as no store only where the record is of another kind, or its images are no pages
   pub record LeftKept (s : Writer) (entry : Entry) (old : D) (w : PageWriter) (disk : D) (result : Result ℕ Fault) : Type 0 where
-    pub ok : IfOk result (λ lsn. ChangedFrom d b base s entry lsn w disk)
+    pub ok : IfOk result (λ lsn. ChangedFrom d b base s entry lsn old w disk)
     pub stops : LeavesGrown d b base s old disk
     pub cause : after_in (what_of entry) ≢ None → IfErr result (λ e. e ≢ NotAStore)
     pub again : StaysOn d b base s old w disk result

@@ -1,6 +1,7 @@
 //! The writer of pages.
 ghost use Rattle.std.specs.Prelude.{◌≡◌, ◌≢◌, ◌≤◌, ◌<◌, ◌+◌, ◌^◌, ◌⊎◌, ◌↔◌, ℕ, List, [], None, Some, Ok, Err, false, true, not, is_ok, is_some, length, vec_capacity, IsOk, IfErr, IfOk, OnOk};
 ghost use Rattle.im_types.specs.declared.fault.Fault.TheVariants.{Device, Failed, LogFull, Memory, NotAStore};
+ghost use Rattle.im_types.specs.declared.file_id.FileId.TheVariants.{Pages};
 ghost use Rattle.im_types.specs.Histories.{Base};
 ghost use Rattle.im_types.specs.Writer.{Writer};
 ghost use Rattle.im_log.specs.LogFile.{end_with, HasNoRoom, IsOpen};
@@ -36,7 +37,8 @@ pub struct PageWriter {
 }
 
 impl PageWriter {
-    ghost use Rattle.im_pool.specs.Pool.{held_of, is_changed, page_at, Evicts, Holds, IsAt};
+    ghost use Rattle.im_page.specs.PageFile.{file_page};
+    ghost use Rattle.im_pool.specs.Pool.{held_of, is_changed, page_at, Evicts, Holds, IsAt, MovesFirst};
     ghost use Rattle.im_types.specs.WriterSteps.{forced, synced};
     ghost use Rattle.im_flush.specs.DirtyTable.{synced_entries};
     ghost use Rattle.im_record.specs.Entry.{view};
@@ -174,7 +176,11 @@ impl PageWriter {
         ensures at { IfOk result (IsAt self.new.pool) }
         ensures frame { IfOk result (λ frame. frame.number ≡ number) }
         ensures gets { IfOk result (λ _. self.new.pool.gets ≡ self.old.pool.gets + 1) }
-        ensures held { Holds self.old.pool number → IsOk result }
+        ensures held { Holds self.old.pool number → IsOk result × MovesFirst number self.old.pool self.new.pool }
+        ensures quiet { Holds self.old.pool number → disk.new ≡ disk.old }
+        ensures log { self.new.log ≡ self.old.log }
+        ensures table { self.new.table ≡ self.old.table }
+        ensures no_page { result ≡ Err NotAStore → D.tells → file_page (D.seen disk.new Pages) number ≡ None }
         ensures works { OnOk result (self.new.failed ≡ false) }
         ensures fails { IfErr result (λ e. (self.new.failed ≡ false) ↔ ((e ≡ Memory) ⊎ (e ≡ NotAStore))) }
         ensures causes { IfErr result (λ e. (e ≡ Memory) ⊎ (e ≡ NotAStore) ⊎ (e ≡ Device)) }
@@ -193,8 +199,8 @@ impl PageWriter {
     /// not, where no frame is free, the least recently used page goes first, as `flush_one` writes it where it was changed. One get
     /// is counted, and none for the page that goes.
     ///
-    /// Refused `Failed` after a call that failed, `LogFull`, `Device`, `Memory`, or `NotAStore` where the page's bytes are none;
-    /// behind the last two the writer goes on.
+    /// Refused `Failed` after a call that failed; otherwise only for a page that is not held: `LogFull`, `Device`, `Memory`, or
+    /// `NotAStore` where the page's bytes are none. Behind the last two the writer goes on.
     pub fn get<D: Disk>(&mut self, disk: &mut D, number: PageNo) -> Result<Frame, Fault>
         requires ready { IsReadyWriter D.Disk self.old disk.old }
         ensures ready { IsReadyWriter D.Disk self.new disk.new }
@@ -203,6 +209,10 @@ impl PageWriter {
         ensures at { IfOk result (IsAt self.new.pool) }
         ensures frame { IfOk result (λ frame. frame.number ≡ number) }
         ensures gets { IfOk result (λ _. self.new.pool.gets ≡ self.old.pool.gets + 1) }
+        ensures held { self.old.failed ≡ false → Holds self.old.pool number → IsOk result × MovesFirst number self.old.pool self.new.pool }
+        ensures quiet { self.old.failed ≡ false → Holds self.old.pool number → (disk.new ≡ disk.old) × (self.new.log ≡ self.old.log) × (self.new.table ≡ self.old.table) }
+        ensures memory { result ≡ Err Memory → held_of self.old.pool number ≡ None }
+        ensures no_page { result ≡ Err NotAStore → D.tells → file_page (D.seen disk.new Pages) number ≡ None }
         ensures works { OnOk result (self.new.failed ≡ false) }
         ensures fails { IfErr result (λ e. (self.new.failed ≡ false) ↔ ((e ≡ Memory) ⊎ (e ≡ NotAStore))) }
         ensures causes { IfErr result (λ e. (e ≡ Failed) ⊎ (e ≡ LogFull) ⊎ (e ≡ Memory) ⊎ (e ≡ NotAStore) ⊎ (e ≡ Device)) }
@@ -258,6 +268,9 @@ impl PageWriter {
         requires ready { IsReadyWriter D.Disk self.old disk.old }
         ensures ready { IsReadyWriter D.Disk self.new disk.new }
         ensures kept { (b : Base) (base : ℕ) (s : Writer) → StandsAs D.Disk b base s self.old disk.old → StepKept D.Disk b base s (forced s) disk.old self.new disk.new result }
+        ensures none { self.old.failed ≡ false → self.old.log.used ≡ 0 → (result ≡ Ok tt) × (self.new.log ≡ self.old.log) × (disk.new ≡ disk.old) }
+        ensures pool { self.new.pool ≡ self.old.pool }
+        ensures table { self.new.table ≡ self.old.table }
         ensures failed { self.new.failed ≡ not (is_ok result) }
         ensures causes { IfErr result (λ e. (e ≡ Failed) ⊎ (e ≡ Device)) }
         ensures already { result ≡ Err Failed ↔ (self.old.failed ≡ true) }

@@ -122,6 +122,7 @@ impl LogFile {
             → ForceKept D.Disk base all durable disk.old self.new disk.new result }
         ensures changes { ChangesOnly D.Disk Log disk.old disk.new }
         ensures none { self.old.used ≡ 0 → disk.new ≡ disk.old }
+        ensures same { self.old.failed ≡ false → self.old.used ≡ 0 → (result ≡ Ok tt) × (self.new ≡ self.old) }
         ensures base { self.new.base ≡ self.old.base }
         ensures place { OnOk result (1 ≤ self.old.used → next_lsn self.new ≡ next_lsn self.old + 5) }
         ensures empty { OnOk result (self.new.used ≡ 0) }

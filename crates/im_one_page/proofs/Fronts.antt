@@ -82,13 +82,14 @@ as_long a (x ∷ b) es fs is same = absurd (
     let short : length es ≡ length fs = ap length same in
     omega (arith, long, short, length-append (es ++ a) (x ∷ b), length-append es a))
 
-pub keeps_committed : (durable log left : History) → IsLeft durable log left → IsOnePageLog log → committed durable ≡ committed log → KeepsCommitted left log
-keeps_committed durable log left stop l same =
+-- where every Commit is durable
+pub committed_stays : (durable log left : History) → IsLeft durable log left → committed durable ≡ committed log → committed left ≡ committed log
+committed_stays durable log left stop same =
     let from = committed_front stop.from.newer durable in
     let upto = committed_front stop.upto.newer left in
     let begun : committed durable ++ from.0 ≡ committed left = from.1 ∙ ap committed stop.from.is in
     let ends : committed left ++ upto.0 ≡ committed log = upto.1 ∙ ap committed stop.upto.is in
-    record {
-      log = front_log left log stop.upto l;
-      committed = sym begun ∙ as_long from.0 upto.0 (committed durable) (committed log) (ap (λ (es : List Effect). es ++ upto.0) begun ∙ ends) same;
-    }
+    sym begun ∙ as_long from.0 upto.0 (committed durable) (committed log) (ap (λ (es : List Effect). es ++ upto.0) begun ∙ ends) same
+
+pub keeps_committed : (durable log left : History) → IsLeft durable log left → IsOnePageLog log → committed durable ≡ committed log → KeepsCommitted left log
+keeps_committed durable log left stop l same = record { log = front_log left log stop.upto l; committed = committed_stays durable log left stop same }

@@ -17,16 +17,16 @@ module _ (older : History) where
   plain_images [] all h = h
   plain_images (r ∷ images) all h = (subst (λ (w : What). IsPlain r w) (sym all.0.what) tt, plain_images images all.1 h)
 
-  serial_images : (images : History) → AreImages first_base images older → IsSerial older → IsSerial (images ++ older)
+  pub serial_images : (images : History) → AreImages first_base images older → IsSerial older → IsSerial (images ++ older)
   serial_images [] all h = h
   serial_images (r ∷ images) all h = (λ key. absurd (let clash : false ≡ true = sym (ap is_key all.0.what) ∙ key in cc clash), serial_images images all.1 h)
 
-  below_images : (images : History) (n : ℕ) → 1 ≤ n → AreImages first_base images older → AreBelow n older → AreBelow n (images ++ older)
+  pub below_images : (images : History) (n : ℕ) → 1 ≤ n → AreImages first_base images older → AreBelow n older → AreBelow n (images ++ older)
   below_images [] n one all h = h
   below_images (r ∷ images) n one all h = (subst (λ (t : ℕ). t < n) (sym all.0.no_owner) one, below_images images n one all.1 h)
 
   -- whoever they are said to be of
-  images_to_undo : (images : History) (t : ℕ) → AreImages first_base images older → to_undo t (images ++ older) ≡ to_undo t older
+  pub images_to_undo : (images : History) (t : ℕ) → AreImages first_base images older → to_undo t (images ++ older) ≡ to_undo t older
   images_to_undo [] t all = refl
   images_to_undo (r ∷ images) t all = elim (cases_eq r.txn t) [
     | inl mine ↦ cond-true (r.txn == t) (stack_after r r.what (to_undo t (images ++ older))) (to_undo t (images ++ older)) (eq-eqb r.txn t mine)
@@ -34,7 +34,7 @@ module _ (older : History) where
     | inr other ↦ cond-false (r.txn == t) (stack_after r r.what (to_undo t (images ++ older))) (to_undo t (images ++ older)) (ne_eqb r.txn t other) ∙ images_to_undo images t all.1
   ]
 
-  images_finished : (images : History) (t : ℕ) → AreImages first_base images older → is_finished t (images ++ older) ≡ is_finished t older
+  pub images_finished : (images : History) (t : ℕ) → AreImages first_base images older → is_finished t (images ++ older) ≡ is_finished t older
   images_finished [] t all = refl
   images_finished (r ∷ images) t all = elim (cases_eq r.txn t) [
     | inl mine ↦ cond-true (r.txn == t) (is_end r.what || is_finished t (images ++ older)) (is_finished t (images ++ older)) (eq-eqb r.txn t mine)
@@ -42,7 +42,7 @@ module _ (older : History) where
     | inr other ↦ cond-false (r.txn == t) (is_end r.what || is_finished t (images ++ older)) (is_finished t (images ++ older)) (ne_eqb r.txn t other) ∙ images_finished images t all.1
   ]
 
-  images_rolling_back : (images : History) (t : ℕ) → AreImages first_base images older → is_rolling_back t (images ++ older) ≡ is_rolling_back t older
+  pub images_rolling_back : (images : History) (t : ℕ) → AreImages first_base images older → is_rolling_back t (images ++ older) ≡ is_rolling_back t older
   images_rolling_back [] t all = refl
   images_rolling_back (r ∷ images) t all = elim (cases_eq r.txn t) [
     | inl mine ↦ cond-true (r.txn == t) (is_compensation r.what || is_rolling_back t (images ++ older)) (is_rolling_back t (images ++ older)) (eq-eqb r.txn t mine)
@@ -50,10 +50,10 @@ module _ (older : History) where
     | inr other ↦ cond-false (r.txn == t) (is_compensation r.what || is_rolling_back t (images ++ older)) (is_rolling_back t (images ++ older)) (ne_eqb r.txn t other) ∙ images_rolling_back images t all.1
   ]
 
-  some_number : (t : ℕ) → 1 ≤ t → t ≢ 0
+  pub some_number : (t : ℕ) → 1 ≤ t → t ≢ 0
   some_number t one zero_is = absurd (let k : 1 ≤ 0 = subst (λ (x : ℕ). 1 ≤ x) zero_is one in omega (arith, k))
 
-  images_active : (images : History) → AreImages first_base images older → (t last : ℕ) (effect : Effect) → IsActiveIn t last effect older → IsActiveIn t last effect (images ++ older)
+  pub images_active : (images : History) → AreImages first_base images older → (t last : ℕ) (effect : Effect) → IsActiveIn t last effect older → IsActiveIn t last effect (images ++ older)
   images_active images all t last effect a = record {
     others = λ u differ. images_to_undo images u all ∙ a.others u differ;
     number = a.number;

@@ -9,7 +9,7 @@ use Rattle.im_analysis.specs.Losers.{has_record}
 use Rattle.im_analysis.specs.Numbers.{IsNextNumber}
 use Rattle.im_one_page.specs.OnePage.{AreBelow}
 
-other_number : (t n : ℕ) → t < n → (t == n) ≡ false
+pub other_number : (t n : ℕ) → t < n → (t == n) ≡ false
 other_number t n lt = ne_eqb t n (λ e. absurd (omega (arith, lt, e)))
 
 -- ---- a number that no record has

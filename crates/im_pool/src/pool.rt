@@ -160,6 +160,7 @@ impl Pool {
         ensures frame { IfOk result (λ f. f.number ≡ p) }
         ensures at { IfOk result (IsAt self.new) }
         ensures held { Holds self.old p → IsOk result × MovesFirst p self.old self.new }
+        ensures quiet { Holds self.old p → disk.new ≡ disk.old }
         ensures read { held_of self.old p ≡ None → IfOk result (λ f. Takes f (page_at self.new p) false self.old self.new) }
         ensures err { OnErr result (self.new.held ≡ self.old.held) }
         ensures frames { self.new.frames ≡ self.old.frames }

@@ -9,7 +9,7 @@ use Rattle.std.specs.List.{All}
 use Rattle.std.proofs.lemmas.List.Elements.{All-tail}
 use Rattle.std.proofs.lemmas.Cmp.{ranked}
 use Rattle.im_restart.specs.declared.chains.Chain.{Chain}
-use Rattle.im_restart.specs.Undoing.{above}
+use Rattle.im_restart.specs.LoserChains.{above}
 
 pub above_insert : (es : List (ℕ × Chain)) (l : ℕ) (c : Chain) (n : ℕ) → l < n → above es ≤ n → above (insert_entry nat_cmp es l c) ≤ n
 above_insert [] l c n lt le = omega (arith, lt)

@@ -32,7 +32,8 @@ use Rattle.im_analysis.proofs.Tables.{images_undoable}
 use Rattle.im_analysis.proofs.Undoing.{undo_goes_on}
 use Rattle.im_restart.specs.Undone.{GrowsByUndo, IsUndo, TakesInverse}
 use Rattle.im_restart.specs.Restart.{IsLeftUndoing}
-use Rattle.im_restart.specs.Undoing.{Compensated, CompensateKept, IsToUndo, IsUndoing, MayUndo, chain_of}
+use Rattle.im_restart.specs.LoserChains.{IsToUndo, chain_of}
+use Rattle.im_restart.specs.Undoing.{Compensated, CompensateKept, IsUndoing, MayUndo}
 use Rattle.im_restart.proofs.Growth.{grows_images, grows_one}
 use Rattle.im_restart.proofs.Others.{images_same_loser, images_same_row, in_newer, spares_images, spares_one, spares_then}
 use Rattle.im_restart.proofs.Steps.{left_grown}
@@ -85,7 +86,7 @@ module _ {D : Type 0} (d : Ghosts D) (b : Base) (tree : Tree) (all : History) (l
     done : (lsn : ℕ) → ((now : History) → is_loser t now ≡ true → IsUndoable b tree now → IsNext t now (logged_at to.lsn said)
         → TakesInverse tree (bodies b now) (logged_at to.lsn said).page (logged_at to.lsn said).what
         → last ≡ last_of t now → end_of b now < lsn → Compensates b tree t now (logged_at to.lsn said) (logged_at lsn entry) × IsUndo (logged_at lsn entry) now (logged_at lsn entry).what)
-        → ChangedFrom d b 0 s entry lsn w new → Compensated d b tree all s t (logged_at to.lsn said).prev lsn old w new
+        → ChangedFrom d b 0 s entry lsn old w new → Compensated d b tree all s t (logged_at to.lsn said).prev lsn old w new
     done lsn how from =
         let x : Logged = logged_at to.lsn said in
         let r : Logged = logged_at lsn entry in
@@ -128,7 +129,7 @@ module _ {D : Type 0} (d : Ghosts D) (b : Base) (tree : Tree) (all : History) (l
         let has : CanTakeKey (s.pages page).page key =
         may.leaves.take (bodies b s.log) (s.pages page).page page key rid (good_now b tree s.log is.can) drop (ap (λ (g : Page). g.body) (is.pages page)) in
         record {
-          ok = if_ok result (λ lsn. ChangedFrom d b 0 s entry lsn w new) (λ lsn. Compensated d b tree all s t prev lsn old w new) kept.ok
+          ok = if_ok result (λ lsn. ChangedFrom d b 0 s entry lsn old w new) (λ lsn. Compensated d b tree all s t prev lsn old w new) kept.ok
               (λ lsn. done t last said entry to old w new stops lsn
               (λ now loser can next takes behind high. (
                 record { linked = record { rises = high; owner = refl; prev = behind }; takes_back = (refl, takes); leads = refl },
@@ -147,7 +148,7 @@ module _ {D : Type 0} (d : Ghosts D) (b : Base) (tree : Tree) (all : History) (l
         let has : CanPutKey (s.pages page).page key =
         may.leaves.put (bodies b s.log) (s.pages page).page page key rid (good_now b tree s.log is.can) put (ap (λ (g : Page). g.body) (is.pages page)) in
         record {
-          ok = if_ok result (λ lsn. ChangedFrom d b 0 s entry lsn w new) (λ lsn. Compensated d b tree all s t prev lsn old w new) kept.ok
+          ok = if_ok result (λ lsn. ChangedFrom d b 0 s entry lsn old w new) (λ lsn. Compensated d b tree all s t prev lsn old w new) kept.ok
               (λ lsn. done t last said entry to old w new stops lsn
               (λ now loser can next takes behind high. (
                 record { linked = record { rises = high; owner = refl; prev = behind }; takes_back = (refl, takes); leads = refl },

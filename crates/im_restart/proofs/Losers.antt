@@ -20,7 +20,7 @@ use Rattle.im_analysis.proofs.LawfulLogs.{low}
 use Rattle.im_analysis.proofs.Readings.{goes_on_at}
 use Rattle.im_analysis.proofs.Tables.{listed}
 use Rattle.im_restart.specs.declared.chains.Chain.{Chain}
-use Rattle.im_restart.specs.Undoing.{AreChains, AreWaiting, ChainMap, GoesOnAt, HasChain, SparesOthers, and_also, chain_of, nobody}
+use Rattle.im_restart.specs.LoserChains.{AreChains, AreWaiting, ChainMap, GoesOnAt, HasChain, SparesOthers, and_also, chain_of, nobody}
 use Rattle.im_restart.proofs.Others.{goes_longer}
 
 -- ---- maps

@@ -184,7 +184,7 @@ module _ {D : Type 0} (d : Ghosts D) (b : Base) (tree : Tree) (all : History) wh
     undo_is : what_of (UndoSmo t last prev page before) ≡ whats.UndoSmo smo.0
     undo_is = smo_before (page_behind before) (page_behind after) smo.0 smo.1 smo.2
 
-    done : (at : ℕ) → LeavesOnly d old new (IsLeftUndoing b tree all) → ChangedFrom d b 0 s (UndoSmo t last prev page before) at w new → TakenBack d b tree all s t prev rest at old w new
+    done : (at : ℕ) → LeavesOnly d old new (IsLeftUndoing b tree all) → ChangedFrom d b 0 s (UndoSmo t last prev page before) at old w new → TakenBack d b tree all s t prev rest at old w new
     done at stops from =
         let x : Logged = logged_at lsn (Smo t prev page before after) in
         let r : Logged = logged_at at (UndoSmo t last prev page before) in
@@ -228,7 +228,7 @@ module _ {D : Type 0} (d : Ghosts D) (b : Base) (tree : Tree) (all : History) wh
     taken_so result k =
         let stops = taking_grown s old new is k.stops in
         record {
-          ok = if_ok result (λ at. ChangedFrom d b 0 s (UndoSmo t last prev page before) at w new) (λ at. TakenBack d b tree all s t prev rest at old w new) k.ok (λ at from. done at stops from);
+          ok = if_ok result (λ at. ChangedFrom d b 0 s (UndoSmo t last prev page before) at old w new) (λ at. TakenBack d b tree all s t prev rest at old w new) k.ok (λ at from. done at stops from);
           stops = stops;
           cause = k.cause (λ none. (let clash : Some smo.0 ≡ None = sym (ap after_in undo_is) ∙ none in cc clash));
         }

@@ -1,5 +1,5 @@
 -- The log at an opening: its first gate, and its records in turn.
-use Rattle.std.proofs.Common.{◌≡◌, ℕ, [], ◌∷◌, Some, Option, Result, Ok, Err, sym, ◌∙◌, ap, subst}
+use Rattle.std.proofs.Common.{◌≡◌, ◌⊎◌, inl, inr, ℕ, [], ◌∷◌, Some, Option, Result, Ok, Err, sym, ◌∙◌, ap, subst}
 use Rattle.std.specs.Prelude.{IfOk, OnOk}
 use Rattle.im_types.specs.declared.fault.Fault.{Fault}
 use Rattle.im_types.specs.declared.file_id.FileId.{FileId}
@@ -10,6 +10,8 @@ use Rattle.im_types.specs.Histories.{Base, History, IsFront}
 use Rattle.im_types.specs.Lawful.{IsLawful}
 use Rattle.im_types.proofs.Fronts.{fronts_lawful}
 use Rattle.im_disk.specs.declared.disk.Disk.{Ghosts}
+use Rattle.im_disk.specs.Disk.{Files}
+use Rattle.im_disk.specs.Runs.{Reads}
 use Rattle.im_gate.specs.declared.gate.Gate.{Gate}
 use Rattle.im_gate.specs.Batches.{batches}
 use Rattle.im_gate.specs.Gate.{file_of, first_of, place_of, logged}
@@ -17,12 +19,13 @@ use Rattle.im_gate.specs.Header.{IsMade}
 use Rattle.im_record.specs.Entry.{Entry}
 use Rattle.im_log.specs.Spelled.{logged_at}
 use Rattle.im_log.specs.declared.opening.Opening.{Opening}
-use Rattle.im_log.specs.Opening.{IsOpening}
+use Rattle.im_log.specs.Opening.{HasRead, IsOpening}
 use Rattle.im_log.specs.Kept.{HasLog}
-use Rattle.im_log.proofs.Creations.{blank_has}
+use Rattle.im_log.proofs.Creations.{blank_has, not_both}
 use Rattle.im_analysis.specs.Analysis.{Continues}
 use Rattle.im_analysis.specs.OpenChange.{OpensAnother}
 use Rattle.im_analysis.proofs.LawfulLogs.{taken_when_lawful}
+use Rattle.im_restart.specs.Restart.{IsFresh, SpellsLog}
 
 -- a log that was made has no record
 pub created : {D : Type 0} (d : Ghosts D) (all : History) (disk : D) (result : Result Gate Fault) → all ≡ [] → d.tells → OnOk result (d.tells → IsMade (d.seen disk Log))
@@ -52,3 +55,17 @@ next_read d b tree all older lsn entry said new disk same law front opening =
 pub holds_if_ok : {T : Type 0} {P : Type 0} (result : Result T Fault) → P → IfOk result (λ _. P)
 holds_if_ok (Ok x) p = p
 holds_if_ok (Err e) p = tt
+
+-- ---- what was read
+
+made_known : (files : Files) → IsMade (files Log) → ¬ (IsFresh files)
+made_known files made fresh = not_both (files Log) made fresh.0
+
+-- an opening that did not make the log read all of it
+pub spelled_so : {D T : Type 0} (d : Ghosts D) (old mid : D) (opening : Opening) (result : Result T Fault) → (d.tells → IsFresh (d.seen old) ⊎ IsMade (d.seen old Log)) → (d.tells → ¬ (IsFresh (d.seen old)) → Reads d old mid)
+    → (d.tells → HasRead d 0 [] opening mid) → IfOk result (λ _. HasRead d 0 [] opening mid → (found : History) × HasLog 0 found (d.seen mid Log)) → IfOk result (λ _. d.tells → SpellsLog (d.seen old))
+spelled_so d old mid opening (Err e) store reads start spelled = tt
+spelled_so d old mid opening (Ok x) store reads start spelled = λ told. elim (store told) [
+  | inl fresh ↦ inl fresh
+  | inr made ↦ let s = spelled (start told) in inr (s.0, subst (λ (f : Files). HasLog 0 s.0 (f Log)) (reads told (made_known (d.seen old) made)).seen s.1)
+]

@@ -15,7 +15,7 @@ use Rattle.im_analysis.proofs.Losers.{leaves_others, loser_number}
 use Rattle.im_analysis.proofs.LawfulLogs.{low}
 use Rattle.im_analysis.proofs.Readings.{goes_on_at}
 use Rattle.im_restart.specs.declared.chains.Chain.{Chain}
-use Rattle.im_restart.specs.Undoing.{GoesOnAt, SparesOthers}
+use Rattle.im_restart.specs.LoserChains.{GoesOnAt, SparesOthers}
 
 -- ---- who is a loser, and its row
 

@@ -20,7 +20,7 @@ use Rattle.im_analysis.proofs.Losers.{loser_number, loser_unfinished}
 use Rattle.im_analysis.proofs.Readings.{goes_on_at}
 use Rattle.im_analysis.proofs.Undoing.{undo_goes_on}
 use Rattle.im_restart.specs.declared.chains.Chain.{Chain}
-use Rattle.im_restart.specs.Undoing.{GoesOnAt, IsToUndo, LeadsNowhere, MayLeadOn, chain_of}
+use Rattle.im_restart.specs.LoserChains.{GoesOnAt, IsToUndo, LeadsNowhere, MayLeadOn, chain_of}
 use Rattle.im_restart.proofs.Steps.{comes_to}
 
 -- a record of a lawful log might come where it stands

@@ -30,7 +30,8 @@ use Rattle.im_analysis.proofs.Undoing.{undo_goes_on}
 use Rattle.im_restart.specs.declared.chains.Chain.{Chain}
 use Rattle.im_restart.specs.Undone.{GrowsByUndo}
 use Rattle.im_restart.specs.Restart.{IsLeftUndoing}
-use Rattle.im_restart.specs.Undoing.{Ended, GoesOnAt, IsUndoing, UndoGoes}
+use Rattle.im_restart.specs.LoserChains.{GoesOnAt}
+use Rattle.im_restart.specs.Undoing.{Ended, IsUndoing, UndoGoes}
 use Rattle.im_restart.proofs.Growth.{grows_front, grows_images, grows_one}
 use Rattle.im_restart.proofs.Others.{spares_one}
 

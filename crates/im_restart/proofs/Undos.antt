@@ -14,7 +14,8 @@ use Rattle.im_flush.specs.declared.page_writer.PageWriter.{PageWriter}
 use Rattle.im_flush.specs.PageWriter.{IsReadyWriter, StandsAs}
 use Rattle.im_flush.proofs.Growing.{on_ok}
 use Rattle.im_restart.specs.Restart.{IsLeftUndoing}
-use Rattle.im_restart.specs.Undoing.{AllUndone, AreChains, ChainMap, Ended, EndKept, IsUndoing, PutKept, SparesOthers, Stepped, StepKept, UndoGoes, UndoKept, and_also}
+use Rattle.im_restart.specs.LoserChains.{AreChains, ChainMap, PutKept, SparesOthers, and_also}
+use Rattle.im_restart.specs.Undoing.{AllUndone, Ended, EndKept, IsUndoing, Stepped, StepKept, UndoGoes, UndoKept}
 use Rattle.im_restart.proofs.Losers.{chains_ended, chains_longer}
 use Rattle.im_restart.proofs.Others.{spares_none, spares_then}
 use Rattle.im_restart.proofs.Steps.{left_then, undo_start, undo_then}

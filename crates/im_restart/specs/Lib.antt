@@ -1,5 +1,6 @@
 pub mod Undone
 pub mod Restart
+pub mod LoserChains
 pub mod Undoing
 pub mod StructureChange
 pub mod Reading

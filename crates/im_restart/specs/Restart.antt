@@ -1,5 +1,5 @@
 -- What a restart asks of the files, and what it keeps.
-use Rattle.std.specs.Prelude.{◌≡◌, ◌≢◌, ℕ, length, Some, false, Result, IfErr, IfOk, OnOk}
+use Rattle.std.specs.Prelude.{◌≡◌, ◌≢◌, ◌⊎◌, ℕ, length, Some, false, Result, IfErr, IfOk, OnOk}
 use Rattle.im_types.specs.declared.fault.Fault.{Fault}
 use Rattle.im_types.specs.declared.fault.Fault.TheVariants.{NotAStore}
 use Rattle.im_types.specs.declared.file_id.FileId.TheVariants.{Log, Pages}
@@ -12,7 +12,7 @@ use Rattle.im_disk.specs.declared.disk.Disk.{Ghosts}
 use Rattle.im_disk.specs.Disk.{Files}
 use Rattle.im_disk.specs.Runs.{LeavesOnly}
 use Rattle.im_gate.specs.Header.{IsUnmade}
-use Rattle.im_log.specs.Kept.{IsLogOf}
+use Rattle.im_log.specs.Kept.{HasLog, IsLogOf}
 use Rattle.im_page.specs.PageFile.{file_page}
 use Rattle.im_flush.specs.declared.page_writer.PageWriter.{PageWriter}
 use Rattle.im_flush.specs.PageWriter.{StandsAs}
@@ -25,6 +25,10 @@ use Rattle.im_restart.specs.Undone.{GrowsByUndo, UndoesInPlace}
 -- No store was made yet: the log is unmade, and there are no pages.
 abbrev pub IsFresh : Files → Type 0
 IsFresh files = IsUnmade (files Log) × (length (files Pages) ≡ 0)
+
+-- No store was made yet, or the log's bytes spell a list of records to the last: a damaged log spells none.
+abbrev pub SpellsLog : Files → Type 0
+SpellsLog files = IsFresh files ⊎ ((found : History) × HasLog 0 found (files Log))
 
 -- The files have this log, which covers the pages; without a log there are no pages.
 pub record HasStore (b : Base) (all : History) (files : Files) : Type 0 where

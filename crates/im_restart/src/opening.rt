@@ -20,7 +20,7 @@ ghost use Rattle.im_flush.specs.PageWriter.{IsReadyWriter, StandsAs};
 ghost use Rattle.im_restart.specs.Reading.{IsFound};
 ghost use Rattle.im_restart.specs.StructureChange.{IsTakingBack};
 ghost use Rattle.im_restart.specs.Undoing.{MayUndo, UndoKept};
-ghost use Rattle.im_restart.specs.Restart.{IsFresh, MayRestart, RestartKept, SettleKept};
+ghost use Rattle.im_restart.specs.Restart.{IsFresh, SpellsLog, MayRestart, RestartKept, SettleKept};
 
 use crate::found::Found;
 use crate::reading::open_log;
@@ -167,6 +167,7 @@ pub fn open_or_create<D: Disk, T: PageTree>(
     ensures works { IfOk result (λ r. r.writer.failed ≡ false) }
     ensures least { IfOk result (λ r. 1 ≤ r.next) }
     ensures made { IfOk result (λ _. D.tells → IsFresh (D.seen disk.old) ⊎ IsMade (D.seen disk.old Log)) }
+    ensures spelled { IfOk result (λ _. D.tells → SpellsLog (D.seen disk.old)) }
     ensures kept { (b : Base) (all : History) → D.tells → MayRestart b T.tree all (D.seen disk.old) → RestartKept D.Disk b T.tree all disk.old disk.new result }
     ensures causes { IfErr result (λ e. (e ≡ Memory) ⊎ (e ≡ Device) ⊎ (e ≡ NotAStore) ⊎ (e ≡ LogFull)) }
     ensures device { result ≡ Err Device ↔ (D.failed disk.new ≡ true) }

@@ -14,11 +14,11 @@ ghost use Rattle.im_record.specs.Entry.{view};
 ghost use Rattle.im_log.specs.Gates.{IsOfLog};
 ghost use Rattle.im_log.specs.Whats.{what_of};
 ghost use Rattle.im_log.specs.Spelled.{logged_at};
-ghost use Rattle.im_log.specs.Kept.{IsLogOf};
+ghost use Rattle.im_log.specs.Kept.{HasLog, IsLogOf};
 ghost use Rattle.im_log.specs.LogFile.{IsOpen};
-ghost use Rattle.im_log.specs.Opening.{IsBegun, IsOpening};
+ghost use Rattle.im_log.specs.Opening.{IsBegun, IsOpening, HasRead};
 ghost use Rattle.im_redo.specs.Redo.{lsns_from};
-ghost use Rattle.im_restart.specs.Restart.{IsFresh};
+ghost use Rattle.im_restart.specs.Restart.{IsFresh, SpellsLog};
 ghost use Rattle.im_restart.specs.Reading.{GateKept, ReadKept, OpenKept};
 
 use crate::found::Found;
@@ -111,6 +111,7 @@ fn read_all<D: Disk, T: PageTree>(
     ensures ready { IfOk result (λ found. IsOpen D.Disk found.log disk.new) }
     ensures usable { IfOk result (λ found. found.log.failed ≡ false) }
     ensures kept { (b : Base) (all : History) → IsOpening D.Disk 0 all [] opening disk.old → IsLawful b T.tree all → ReadKept D.Disk all disk.new result }
+    ensures spelled { IfOk result (λ _. HasRead D.Disk 0 [] opening disk.old → (found : History) × HasLog 0 found (D.seen disk.old Log)) }
     ensures causes { IfErr result (λ e. (e ≡ Memory) ⊎ (e ≡ Device) ⊎ (e ≡ NotAStore)) }
     ensures device { result ≡ Err Device ↔ (D.failed disk.new ≡ true) }
 {
@@ -147,6 +148,7 @@ pub(crate) fn open_log<D: Disk, T: PageTree>(alloc: Global, disk: &mut D) -> Res
     ensures usable { IfOk result (λ found. found.log.failed ≡ false) }
     ensures kept { (b : Base) (all : History) → D.tells → IsLogOf 0 all (D.seen disk.old Log) → (IsUnmade (D.seen disk.old Log) → length (D.seen disk.old Pages) ≡ 0) → IsLawful b T.tree all
         → OpenKept D.Disk all disk.old disk.new result }
+    ensures spelled { IfOk result (λ _. D.tells → SpellsLog (D.seen disk.old)) }
     ensures changes { ChangesOnly D.Disk Log disk.old disk.new }
     ensures store { IfOk result (λ _. D.tells → IsFresh (D.seen disk.old) ⊎ IsMade (D.seen disk.old Log)) }
     ensures reads { D.tells → ¬ (IsFresh (D.seen disk.old)) → Reads D.Disk disk.old disk.new }

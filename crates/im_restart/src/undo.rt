@@ -11,7 +11,8 @@ ghost use Rattle.im_log.specs.Whats.{what_of};
 ghost use Rattle.im_log.specs.Spelled.{logged_at};
 ghost use Rattle.im_analysis.specs.Losers.{AreLosers};
 ghost use Rattle.im_flush.specs.PageWriter.{IsReadyWriter, StandsAs};
-ghost use Rattle.im_restart.specs.Undoing.{AreChains, CompensateKept, EndKept, GoesOnAt, IsToUndo, IsUndoing, LeadsNowhere, MayLeadOn, MayUndo, EnterKept, PutKept, StepKept, UndoKept, above, and_also, chain_of, nobody};
+ghost use Rattle.im_restart.specs.LoserChains.{AreChains, GoesOnAt, IsToUndo, LeadsNowhere, MayLeadOn, PutKept, above, and_also, chain_of, nobody};
+ghost use Rattle.im_restart.specs.Undoing.{CompensateKept, EndKept, IsUndoing, MayUndo, EnterKept, StepKept, UndoKept};
 
 use crate::chains::Chain;
 use im_analysis::Loser;

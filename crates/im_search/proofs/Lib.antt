@@ -3,3 +3,4 @@ pub mod Steps
 pub mod Ways
 pub mod Places
 pub mod Chain
+pub mod Walks

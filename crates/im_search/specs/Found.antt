@@ -1,6 +1,7 @@
 -- What searches keep and answer.
-use Rattle.std.specs.Prelude.{◌≡◌, ◌≢◌, ◌<◌, ◌+◌, ℕ, false, List, length, Option, Some, option_map, Result, IfErr, IfOk, OnOk}
+use Rattle.std.specs.Prelude.{◌≡◌, ◌≢◌, ◌<◌, ◌≤◌, ◌+◌, ◌++◌, ℕ, false, List, length, Option, Some, option_map, Result, IfErr, IfOk, OnOk}
 use Rattle.std.specs.FinMap.Entries.{find}
+use Rattle.std.specs.Global.{Vec}
 use Rattle.im_types.specs.declared.fault.Fault.{Fault}
 use Rattle.im_types.specs.declared.fault.Fault.TheVariants.{NotAStore}
 use Rattle.im_types.specs.Keys.{Key, key_order}
@@ -15,8 +16,8 @@ use Rattle.im_pool.specs.Pool.{PoolView, page_at, IsAt}
 use Rattle.im_flush.specs.declared.page_writer.PageWriter.{PageWriter}
 use Rattle.im_flush.specs.Writing.{LeavesGrown}
 use Rattle.im_flush.specs.PageWriter.{GoesOn, StandsAs, Evicted, StaysOn}
-use Rattle.im_tree.specs.Levels.{height, walk}
-use Rattle.im_tree.specs.Good.{IsGoodTree}
+use Rattle.im_tree.specs.Levels.{Pages, Node, leaves_under, entries_in, the_root, height, walk}
+use Rattle.im_tree.specs.Good.{first_page, IsGoodTree}
 use Rattle.im_tree.specs.Search.{IsOnWay}
 use Rattle.im_tree.specs.Lookups.{IsAhead}
 use Rattle.im_search.specs.declared.entry_place.EntryPlace.{EntryPlace}
@@ -37,6 +38,15 @@ pub record IsFirstOf (start : Start) (pool : PoolView) (place : EntryPlace) : Ty
   pub held : IsAt pool place.frame
   pub within : place.at < length (entries_of pool place.frame.number)
   pub first : first_in start (entries_of pool place.frame.number) ≡ Some (entry_of pool place)
+
+-- The list has the entries of the leaves before page p, which is 0 behind the last leaf. At least `passed` leaves stand before.
+pub record IsListed (pages : Pages) (list : List Entry) (passed p : ℕ) : Type 0 where
+  pub before : List Node
+  pub rest : List Node
+  pub leaves : leaves_under pages (height pages) the_root ≡ before ++ rest
+  pub page : first_page rest ≡ p
+  pub count : passed ≤ length before
+  pub entries : list ≡ entries_in pages before
 
 -- ---- what a search asks, and what it keeps
 
@@ -107,6 +117,21 @@ module _ {D : Type 0} (d : Ghosts D) (b : Base) (base : ℕ) where
     pub cause : IfErr result (λ e. e ≢ NotAStore)
     pub again : StaysOn d b base s old w disk result
 
+  -- ---- all entries
+
+  -- The list is the walk; each page is as it was, and the log has Images more.
+  pub record Listed (s : Writer) (list : List Entry) (old : D) (w : PageWriter) (disk : D) : Type 0 where
+    pub now : Writer
+    pub on : GoesOn d b base s old now w disk
+    pub answer : list ≡ walk (bodies s)
+
+  -- what the list of all entries keeps
+  pub record EntriesKept (s : Writer) (old : D) (w : PageWriter) (disk : D) (result : Result (Vec Entry) Fault) : Type 0 where
+    pub ok : IfOk result (λ list. Listed s list.items old w disk)
+    pub stops : LeavesGrown d b base s old disk
+    pub cause : IfErr result (λ e. e ≢ NotAStore)
+    pub again : StaysOn d b base s old w disk result
+
   -- what a look at the page count keeps
   pub record CountKept (s : Writer) (old : D) (w : PageWriter) (disk : D) (result : Result ℕ Fault) : Type 0 where
     pub ok : OnOk result (Evicted d b base s old w disk)
@@ -121,4 +146,12 @@ module _ {D : Type 0} (d : Ghosts D) (b : Base) (base : ℕ) where
     pub on : GoesOn d b base s old now w disk
     pub passed : ℕ
     pub ahead : IsAhead (bodies s) start passed p
+    pub count : left + passed ≡ (bodies s 0).leftmost
+
+  -- The list has the entries of the leaves before page p; the leaves passed and those that may still come are together as many as there are pages.
+  pub record ListsOn (s : Writer) (list : List Entry) (left p : ℕ) (old : D) (w : PageWriter) (disk : D) : Type 0 where
+    pub now : Writer
+    pub on : GoesOn d b base s old now w disk
+    pub passed : ℕ
+    pub listed : IsListed (bodies s) list passed p
     pub count : left + passed ≡ (bodies s 0).leftmost

@@ -8,6 +8,7 @@ ghost use Rattle.im_types.specs.Writer.{Writer};
 ghost use Rattle.im_types.specs.declared.page_kind.PageKind.TheVariants.{Inner};
 ghost use Rattle.im_page.specs.Child.{IsChild};
 ghost use Rattle.im_pool.specs.Pool.{page_at, IsAt};
+ghost use Rattle.im_log.specs.LogFile.{HasNoRoom};
 ghost use Rattle.im_flush.specs.PageWriter.{IsReadyWriter};
 ghost use Rattle.im_tree.specs.Levels.{height};
 ghost use Rattle.im_tree.specs.Search.{IsOnWay};
@@ -50,6 +51,7 @@ fn step_down<D: Disk>(
     ensures works { OnOk result (writer.new.failed ≡ false) }
     ensures fails { IfErr result (λ e. (writer.new.failed ≡ false) ↔ ((e ≡ Memory) ⊎ (e ≡ NotAStore))) }
     ensures causes { IfErr result (λ e. (e ≡ Failed) ⊎ (e ≡ LogFull) ⊎ (e ≡ Memory) ⊎ (e ≡ NotAStore) ⊎ (e ≡ Device)) }
+    ensures no_room { result ≡ Err LogFull → HasNoRoom writer.new.log }
     ensures already { result ≡ Err Failed ↔ (writer.old.failed ≡ true) }
     ensures device { writer.old.failed ≡ false → result ≡ Err Device ↔ (D.failed disk.new ≡ true) }
 {
@@ -70,6 +72,7 @@ fn root<D: Disk>(writer: &mut PageWriter, disk: &mut D) -> Result<Frame, Fault>
     ensures works { OnOk result (writer.new.failed ≡ false) }
     ensures fails { IfErr result (λ e. (writer.new.failed ≡ false) ↔ ((e ≡ Memory) ⊎ (e ≡ NotAStore))) }
     ensures causes { IfErr result (λ e. (e ≡ Failed) ⊎ (e ≡ LogFull) ⊎ (e ≡ Memory) ⊎ (e ≡ NotAStore) ⊎ (e ≡ Device)) }
+    ensures no_room { result ≡ Err LogFull → HasNoRoom writer.new.log }
     ensures already { result ≡ Err Failed ↔ (writer.old.failed ≡ true) }
     ensures device { writer.old.failed ≡ false → result ≡ Err Device ↔ (D.failed disk.new ≡ true) }
 {
@@ -96,6 +99,7 @@ pub fn leaf_for<D: Disk>(writer: &mut PageWriter, disk: &mut D, key: &[u8]) -> R
     ensures works { OnOk result (writer.new.failed ≡ false) }
     ensures fails { IfErr result (λ e. (writer.new.failed ≡ false) ↔ ((e ≡ Memory) ⊎ (e ≡ NotAStore))) }
     ensures causes { IfErr result (λ e. (e ≡ Failed) ⊎ (e ≡ LogFull) ⊎ (e ≡ Memory) ⊎ (e ≡ NotAStore) ⊎ (e ≡ Device)) }
+    ensures no_room { result ≡ Err LogFull → HasNoRoom writer.new.log }
     ensures already { result ≡ Err Failed ↔ (writer.old.failed ≡ true) }
     ensures device { writer.old.failed ≡ false → result ≡ Err Device ↔ (D.failed disk.new ≡ true) }
 {

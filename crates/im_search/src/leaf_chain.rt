@@ -6,6 +6,7 @@ ghost use Rattle.im_types.specs.Histories.{Base};
 ghost use Rattle.im_types.specs.Maps.{first_in};
 ghost use Rattle.im_types.specs.Writer.{Writer};
 ghost use Rattle.im_page.specs.Entry.{entry_at};
+ghost use Rattle.im_log.specs.LogFile.{HasNoRoom};
 ghost use Rattle.im_flush.specs.PageWriter.{IsReadyWriter};
 ghost use Rattle.im_tree.specs.Lookups.{IsAhead, IsFirstAt};
 ghost use Rattle.im_search.specs.Levels.{bodies, start_at};
@@ -45,7 +46,7 @@ fn first_past(page: &Page, key: &[u8], inclusive: bool) -> Option<usize>
 }
 
 // How many pages there are, by the meta page: one get.
-fn page_count<D: Disk>(writer: &mut PageWriter, disk: &mut D) -> Result<PageNo, Fault>
+pub(crate) fn page_count<D: Disk>(writer: &mut PageWriter, disk: &mut D) -> Result<PageNo, Fault>
     requires ready { IsReadyWriter D.Disk writer.old disk.old }
     ensures ready { IsReadyWriter D.Disk writer.new disk.new }
     ensures kept { (b : Base) (base : ℕ) (s : Writer) (spare : List ℕ) → HasTree D.Disk b base s spare writer.old disk.old
@@ -53,6 +54,7 @@ fn page_count<D: Disk>(writer: &mut PageWriter, disk: &mut D) -> Result<PageNo, 
     ensures works { OnOk result (writer.new.failed ≡ false) }
     ensures fails { IfErr result (λ e. (writer.new.failed ≡ false) ↔ ((e ≡ Memory) ⊎ (e ≡ NotAStore))) }
     ensures causes { IfErr result (λ e. (e ≡ Failed) ⊎ (e ≡ LogFull) ⊎ (e ≡ Memory) ⊎ (e ≡ NotAStore) ⊎ (e ≡ Device)) }
+    ensures no_room { result ≡ Err LogFull → HasNoRoom writer.new.log }
     ensures already { result ≡ Err Failed ↔ (writer.old.failed ≡ true) }
     ensures device { writer.old.failed ≡ false → result ≡ Err Device ↔ (D.failed disk.new ≡ true) }
 {
@@ -81,6 +83,7 @@ fn first_along<D: Disk>(
     ensures works { OnOk result (writer.new.failed ≡ false) }
     ensures fails { IfErr result (λ e. (writer.new.failed ≡ false) ↔ ((e ≡ Memory) ⊎ (e ≡ NotAStore))) }
     ensures causes { IfErr result (λ e. (e ≡ Failed) ⊎ (e ≡ LogFull) ⊎ (e ≡ Memory) ⊎ (e ≡ NotAStore) ⊎ (e ≡ Device)) }
+    ensures no_room { result ≡ Err LogFull → HasNoRoom writer.new.log }
     ensures already { result ≡ Err Failed ↔ (writer.old.failed ≡ true) }
     ensures device { writer.old.failed ≡ false → result ≡ Err Device ↔ (D.failed disk.new ≡ true) }
 {
@@ -122,6 +125,7 @@ pub fn next_entry<D: Disk>(
     ensures works { OnOk result (writer.new.failed ≡ false) }
     ensures fails { IfErr result (λ e. (writer.new.failed ≡ false) ↔ ((e ≡ Memory) ⊎ (e ≡ NotAStore))) }
     ensures causes { IfErr result (λ e. (e ≡ Failed) ⊎ (e ≡ LogFull) ⊎ (e ≡ Memory) ⊎ (e ≡ NotAStore) ⊎ (e ≡ Device)) }
+    ensures no_room { result ≡ Err LogFull → HasNoRoom writer.new.log }
     ensures already { result ≡ Err Failed ↔ (writer.old.failed ≡ true) }
     ensures device { writer.old.failed ≡ false → result ≡ Err Device ↔ (D.failed disk.new ≡ true) }
 {

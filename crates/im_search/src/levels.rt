@@ -5,6 +5,7 @@ ghost use Rattle.im_types.specs.declared.fault.Fault.TheVariants.{Device, Failed
 ghost use Rattle.im_types.specs.Histories.{Base};
 ghost use Rattle.im_types.specs.Writer.{Writer};
 ghost use Rattle.im_pool.specs.Pool.{page_at, IsAt};
+ghost use Rattle.im_log.specs.LogFile.{HasNoRoom};
 ghost use Rattle.im_flush.specs.PageWriter.{IsReadyWriter, StandsAs, GetKept};
 ghost use Rattle.im_search.specs.Levels.{HasLevel, bodies};
 
@@ -15,7 +16,7 @@ use im_pool::Frame;
 use im_types::{Fault, PageKind, PageNo};
 
 /// Whether it is a page of the tree, of this level: a leaf at level 0, an inner page above.
-pub(crate) fn has_level(page: &Page, level: u8) -> bool
+pub fn has_level(page: &Page, level: u8) -> bool
     ensures { IsTrue result ↔ HasLevel level page.now.body }
 {
     if page.level() != level {
@@ -28,7 +29,7 @@ pub(crate) fn has_level(page: &Page, level: u8) -> bool
 }
 
 /// Gets a page that is of this level. Refused `NotAStore` where it is not, otherwise as `PageWriter::get` is.
-pub(crate) fn tree_page<D: Disk>(
+pub fn tree_page<D: Disk>(
     writer: &mut PageWriter,
     disk: &mut D,
     number: PageNo,
@@ -45,6 +46,7 @@ pub(crate) fn tree_page<D: Disk>(
     ensures works { OnOk result (writer.new.failed ≡ false) }
     ensures fails { IfErr result (λ e. (writer.new.failed ≡ false) ↔ ((e ≡ Memory) ⊎ (e ≡ NotAStore))) }
     ensures causes { IfErr result (λ e. (e ≡ Failed) ⊎ (e ≡ LogFull) ⊎ (e ≡ Memory) ⊎ (e ≡ NotAStore) ⊎ (e ≡ Device)) }
+    ensures no_room { result ≡ Err LogFull → HasNoRoom writer.new.log }
     ensures already { result ≡ Err Failed ↔ (writer.old.failed ≡ true) }
     ensures device { writer.old.failed ≡ false → result ≡ Err Device ↔ (D.failed disk.new ≡ true) }
 {

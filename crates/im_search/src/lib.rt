@@ -1,9 +1,11 @@
-//! Search: the leaf of a key, the row id of a key, and the next entry, over a writer of pages.
+//! Search: the leaf of a key, the row id of a key, the next entry, and all entries, over a writer of pages.
 //!
 //! - `leaf_for` goes from page 1 down to the leaf in whose range a key lies, by one get for each level.
 //! - `locate` answers the row id of a key.
 //! - `next_entry` answers where the first entry at or above a key stands, or the first above it: it goes down to the key's
 //!   leaf, and from there along the leaf chain past leaves that have no such entry.
+//! - `entries` answers copies of all entries, along the leaf chain.
+//! - `tree_page` gets a page that is to be of a level, and `has_level` tests whether a page is.
 //!
 //! The contract: where the pages are a good tree, all with their copies loaded (`HasTree`), the answers are those of the
 //! walk, the entries of the leaves from left to right; the number of gets is the root's level plus one; and no search is
@@ -13,8 +15,8 @@
 //! On any bytes each search ends: levels are read from the pages and have to fall by one, a page of another kind than its
 //! level asks for is refused, and a chain of leaves that goes on longer than there are pages is a ring.
 //!
-//! No key and no page is copied. A leaf is answered as its frame, an entry as its leaf's frame and its place there: both are
-//! right as long as the leaf is held.
+//! But for `entries`, no key and no page is copied. A leaf is answered as its frame, an entry as its leaf's frame and its
+//! place there: both are right as long as the leaf is held.
 //!
 //! It stands on `im_flush` for pages and their gets, on `im_page` for what a page has of a key, and on `im_tree` for the
 //! laws of the way down and of the leaf chain. For callers `proofs/Pages` has `tree_stays`: the tree is there still behind
@@ -25,6 +27,7 @@ mod descent;
 mod entry_place;
 mod leaf_chain;
 mod levels;
+mod listing;
 mod lookup;
 #[cfg(test)]
 mod tests;
@@ -32,4 +35,6 @@ mod tests;
 pub use descent::leaf_for;
 pub use entry_place::EntryPlace;
 pub use leaf_chain::next_entry;
+pub use levels::{has_level, tree_page};
+pub use listing::entries;
 pub use lookup::locate;

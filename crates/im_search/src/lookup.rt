@@ -6,6 +6,7 @@ ghost use Rattle.im_types.specs.declared.fault.Fault.TheVariants.{Device, Failed
 ghost use Rattle.im_types.specs.Keys.{key_order};
 ghost use Rattle.im_types.specs.Histories.{Base};
 ghost use Rattle.im_types.specs.Writer.{Writer};
+ghost use Rattle.im_log.specs.LogFile.{HasNoRoom};
 ghost use Rattle.im_flush.specs.PageWriter.{IsReadyWriter};
 ghost use Rattle.im_search.specs.Found.{HasTree, LocateKept};
 
@@ -41,6 +42,7 @@ pub fn locate<D: Disk>(
     ensures works { OnOk result (writer.new.failed ≡ false) }
     ensures fails { IfErr result (λ e. (writer.new.failed ≡ false) ↔ ((e ≡ Memory) ⊎ (e ≡ NotAStore))) }
     ensures causes { IfErr result (λ e. (e ≡ Failed) ⊎ (e ≡ LogFull) ⊎ (e ≡ Memory) ⊎ (e ≡ NotAStore) ⊎ (e ≡ Device)) }
+    ensures no_room { result ≡ Err LogFull → HasNoRoom writer.new.log }
     ensures already { result ≡ Err Failed ↔ (writer.old.failed ≡ true) }
     ensures device { writer.old.failed ≡ false → result ≡ Err Device ↔ (D.failed disk.new ≡ true) }
 {

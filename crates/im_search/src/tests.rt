@@ -10,7 +10,7 @@ use im_disk::{Disk, ModelDisk, read_vec};
 use im_flush::PageWriter;
 use im_log::open_or_create;
 use im_page::Page;
-use im_types::{Fault, FileId, PageNo, Rid};
+use im_types::{Fault, FileId, Key, PageNo, Rid};
 use std::alloc::Global;
 use std::test::Fail;
 
@@ -138,6 +138,35 @@ fn the_next_entry_stands_past_an_empty_leaf(rt: HostRuntime) -> Result<(), Fail>
     Ok(())
 }
 
+// Whether the entries of the index are those of these keys of one byte.
+fn has_entries(list: &Vec<(Key, Rid)>, keys: &[u8]) -> bool {
+    if list.len() != keys.len() {
+        return false;
+    }
+    for i in 0..keys.len() {
+        let (key, rid) = &list[i];
+        if key.bytes() != [keys[i]].as_slice() || *rid != keys[i] as u64 {
+            return false;
+        }
+    }
+    true
+}
+
+#[test]
+fn all_entries_are_listed(rt: HostRuntime) -> Result<(), Fail> {
+    let alloc = rt.alloc();
+    let mut pages = Vec::new(alloc);
+    add_root(&mut pages, 5)?;
+    add_leaf(&mut pages, b"ab", 0, 3)?;
+    add_leaf(&mut pages, b"", 2, 4)?;
+    add_leaf(&mut pages, b"mx", 3, 0)?;
+    let mut disk = disk_of(alloc, pages)?;
+    let mut writer = open(alloc, &mut disk)?;
+    let list = entries(alloc, &mut writer, &mut disk)?;
+    assert!(rt; has_entries(&list, b"abmx"));
+    Ok(())
+}
+
 #[test]
 fn a_ring_of_leaves_is_no_store(rt: HostRuntime) -> Result<(), Fail> {
     let alloc = rt.alloc();
@@ -152,6 +181,10 @@ fn a_ring_of_leaves_is_no_store(rt: HostRuntime) -> Result<(), Fail> {
     assert_eq!(rt;
         next(&mut writer, &mut disk, b"y", true),
         Err(Fault::NotAStore)
+    );
+    assert_eq!(rt;
+        entries(alloc, &mut writer, &mut disk).err(),
+        Some(Fault::NotAStore)
     );
     assert_eq!(rt; locate(&mut writer, &mut disk, b"a")?, Some(97));
     Ok(())
@@ -179,6 +212,7 @@ fn a_new_store_has_no_entry(rt: HostRuntime) -> Result<(), Fail> {
     assert_eq!(rt; leaf_for(&mut writer, &mut disk, b"k")?.number, 1);
     assert_eq!(rt; locate(&mut writer, &mut disk, b"k")?, None);
     assert_eq!(rt; next(&mut writer, &mut disk, b"k", true)?, None);
+    assert_eq!(rt; entries(alloc, &mut writer, &mut disk)?.len(), 0);
     assert_eq!(rt; disk.calls(), opened);
     Ok(())
 }

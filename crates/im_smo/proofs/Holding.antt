@@ -54,6 +54,16 @@ two_keep a x b y xs up = keeps_then xs (put_image a x xs) (put_two a x b y xs) (
 pub three_keep : (a : ℕ) (x : Page) (b : ℕ) (y : Page) (c : ℕ) (z : Page) (xs : List Numbered) → IsRising xs → KeepsAll xs (put_three a x b y c z xs)
 three_keep a x b y c z xs up = keeps_then xs (put_two a x b y xs) (put_three a x b y c z xs) (two_keep a x b y xs up) (put_keeps c z (put_two a x b y xs) (two_rise a x b y xs up))
 
+-- each of the three is among them
+pub three_has : (a : ℕ) (x : Page) (b : ℕ) (y : Page) (c : ℕ) (z : Page) (xs : List Numbered) → IsRising xs
+    → Has (put_three a x b y c z xs) a × Has (put_three a x b y c z xs) b × Has (put_three a x b y c z xs) c
+three_has a x b y c z xs up =
+    let last = put_keeps c z (put_two a x b y xs) (two_rise a x b y xs up) in (
+      last a (put_keeps b y (put_image a x xs) (put_rising a x xs up) a (has_put a x xs up)),
+      last b (has_put b y (put_image a x xs) (put_rising a x xs up)),
+      has_put c z (put_two a x b y xs) (two_rise a x b y xs up),
+    )
+
 pub held_two : (pages : Pages) (a : ℕ) (x : Page) (b : ℕ) (y : Page) (xs : List Numbered) → IsRising xs
     → SamePages (held pages (put_two a x b y xs)) (with_body (with_body (held pages xs) a x.body) b y.body)
 held_two pages a x b y xs up q =

@@ -160,6 +160,14 @@ without_none n (x ∷ xs) h = elim (cases_eq x.0 n) [
   | inr other ↦ without_other n x xs other ∙ ap (λ (l : List Numbered). x ∷ l) (without_none n xs (sym (of_other n x xs other) ∙ h))
 ]
 
+-- nothing of a number is left where its page is taken out
+pub image_without : (n : ℕ) (xs : List Numbered) → IsRising xs → image_of (without_image n xs) n ≡ None
+image_without n [] up = refl
+image_without n (x ∷ xs) up = elim (cases_eq x.0 n) [
+  | inl here ↦ ap (λ (l : List Numbered). image_of l n) (without_same n x xs here) ∙ not_above x.0 n xs up (omega (arith, here))
+  | inr other ↦ ap (λ (l : List Numbered). image_of l n) (without_other n x xs other) ∙ of_other n x (without_image n xs) other ∙ image_without n xs (rising_tail x xs up)
+]
+
 -- ---- as a function of the number
 
 pub image_put : (n : ℕ) (p : Page) (xs : List Numbered) → IsRising xs → image_of (put_image n p xs) n ≡ Some p

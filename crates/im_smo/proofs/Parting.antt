@@ -6,11 +6,11 @@ use Rattle.im_page.specs.Entry.{entry_at, Rises}
 use Rattle.im_tree.specs.Levels.{Pages}
 use Rattle.im_smo.specs.Bodies.{leaf_body, inner_body, raised, with_separator}
 use Rattle.im_smo.specs.Parts.{LeafSplit, InnerSplit, RootLeafSplit, RootInnerSplit}
-use Rattle.im_smo.specs.Images.{Numbered, IsRising, image_of, held, KeepsAll}
+use Rattle.im_smo.specs.Images.{Numbered, IsRising, image_of, held, Has, KeepsAll}
 use Rattle.im_smo.specs.Changed.{SamePages, leaf_parted_pages, inner_split_pages, root_leaf_split_pages, root_inner_split_pages}
 use Rattle.im_smo.specs.OnImages.{PartsLeaf, PartsInner, PartsRootLeaf, PartsRootInner}
 use Rattle.im_smo.proofs.Updates.{same_trans}
-use Rattle.im_smo.proofs.Holding.{held_there, put_three, three_keep, held_three, same_three}
+use Rattle.im_smo.proofs.Holding.{held_there, put_three, three_keep, three_has, held_three, same_three}
 
 -- what the parent has, from what it had
 above_is : (h : Pages) (parent p q n : ℕ) (page old_above above : Page) → h p ≡ page.body → h parent ≡ old_above.body
@@ -26,6 +26,8 @@ parts_leaf xs new page old_left old_right old_above left right above parent p q 
   at = split.at;
   rises = λ pages. subst (λ (b : Body). Rises b.entries) (sym (held_there pages xs parent old_above there)) rises;
   kept = subst (KeepsAll xs) (sym is) (three_keep parent above q right p left xs up);
+  left = subst (λ (ys : List Numbered). Has ys p) (sym is) (three_has parent above q right p left xs up).2;
+  right = subst (λ (ys : List Numbered). Has ys q) (sym is) (three_has parent above q right p left xs up).1;
   pages = λ pages page_is.
       let h : Pages = held pages xs in
       subst (λ (ys : List Numbered). SamePages (held pages ys) (leaf_parted_pages h parent p q n)) (sym is)
@@ -43,6 +45,8 @@ parts_inner xs new page old_left old_right old_above left right above parent p q
   at = split.at;
   rises = λ pages. subst (λ (b : Body). Rises b.entries) (sym (held_there pages xs parent old_above there)) rises;
   kept = subst (KeepsAll xs) (sym is) (three_keep parent above q right p left xs up);
+  left = subst (λ (ys : List Numbered). Has ys p) (sym is) (three_has parent above q right p left xs up).2;
+  right = subst (λ (ys : List Numbered). Has ys q) (sym is) (three_has parent above q right p left xs up).1;
   pages = λ pages page_is.
       let h : Pages = held pages xs in
       subst (λ (ys : List Numbered). SamePages (held pages ys) (inner_split_pages h parent p q n)) (sym is)
@@ -60,6 +64,9 @@ pub parts_root_leaf : (xs new : List Numbered) (page old_root old_left old_right
 parts_root_leaf xs new page old_root old_left old_right root left right l r n up split is = record {
   at = split.at;
   kept = subst (KeepsAll xs) (sym is) (three_keep 1 root r right l left xs up);
+  root = subst (λ (ys : List Numbered). Has ys 1) (sym is) (three_has 1 root r right l left xs up).0;
+  left = subst (λ (ys : List Numbered). Has ys l) (sym is) (three_has 1 root r right l left xs up).2;
+  right = subst (λ (ys : List Numbered). Has ys r) (sym is) (three_has 1 root r right l left xs up).1;
   pages = λ pages page_is.
       let h : Pages = held pages xs in
       subst (λ (ys : List Numbered). SamePages (held pages ys) (root_leaf_split_pages h l r n)) (sym is)
@@ -76,6 +83,9 @@ pub parts_root_inner : (xs new : List Numbered) (page old_root old_left old_righ
 parts_root_inner xs new page old_root old_left old_right root left right l r n up split is = record {
   at = split.at;
   kept = subst (KeepsAll xs) (sym is) (three_keep 1 root r right l left xs up);
+  root = subst (λ (ys : List Numbered). Has ys 1) (sym is) (three_has 1 root r right l left xs up).0;
+  left = subst (λ (ys : List Numbered). Has ys l) (sym is) (three_has 1 root r right l left xs up).2;
+  right = subst (λ (ys : List Numbered). Has ys r) (sym is) (three_has 1 root r right l left xs up).1;
   pages = λ pages page_is.
       let h : Pages = held pages xs in
       subst (λ (ys : List Numbered). SamePages (held pages ys) (root_inner_split_pages h l r n)) (sym is)

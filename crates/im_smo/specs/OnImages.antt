@@ -5,13 +5,15 @@ use Rattle.im_types.specs.declared.page_kind.PageKind.TheVariants.{Leaf, Inner}
 use Rattle.im_page.specs.Entry.{Rises}
 use Rattle.im_tree.specs.Levels.{Pages}
 use Rattle.im_smo.specs.Parts.{SplitsAt}
-use Rattle.im_smo.specs.Images.{Numbered, held, KeepsAll}
+use Rattle.im_smo.specs.Images.{Numbered, held, Has, KeepsAll}
 use Rattle.im_smo.specs.Changed.{SamePages, leaf_parted_pages, inner_split_pages, root_leaf_split_pages, root_inner_split_pages, free_taken_pages, count_taken_pages}
 
 -- leaf p, which held this body, is split at place n; the leaf behind it is not told of q yet
 pub record PartsLeaf (old new : List Numbered) (page : Body) (parent p q n : ℕ) : Type 0 where
   pub at : SplitsAt Leaf page n
   pub kept : KeepsAll old new
+  pub left : Has new p
+  pub right : Has new q
   pub rises : (pages : Pages) → Rises (held pages old parent).entries
   pub pages : (pages : Pages) → held pages old p ≡ page → SamePages (held pages new) (leaf_parted_pages (held pages old) parent p q n)
 
@@ -19,6 +21,8 @@ pub record PartsLeaf (old new : List Numbered) (page : Body) (parent p q n : ℕ
 pub record PartsInner (old new : List Numbered) (page : Body) (parent p q n : ℕ) : Type 0 where
   pub at : SplitsAt Inner page n
   pub kept : KeepsAll old new
+  pub left : Has new p
+  pub right : Has new q
   pub rises : (pages : Pages) → Rises (held pages old parent).entries
   pub pages : (pages : Pages) → held pages old p ≡ page → SamePages (held pages new) (inner_split_pages (held pages old) parent p q n)
 
@@ -26,12 +30,18 @@ pub record PartsInner (old new : List Numbered) (page : Body) (parent p q n : �
 pub record PartsRootLeaf (old new : List Numbered) (page : Body) (l r n : ℕ) : Type 0 where
   pub at : SplitsAt Leaf page n
   pub kept : KeepsAll old new
+  pub root : Has new 1
+  pub left : Has new l
+  pub right : Has new r
   pub pages : (pages : Pages) → held pages old 1 ≡ page → SamePages (held pages new) (root_leaf_split_pages (held pages old) l r n)
 
 -- the root, an inner page that held this body, is split at place n
 pub record PartsRootInner (old new : List Numbered) (page : Body) (l r n : ℕ) : Type 0 where
   pub at : SplitsAt Inner page n
   pub kept : KeepsAll old new
+  pub root : Has new 1
+  pub left : Has new l
+  pub right : Has new r
   pub pages : (pages : Pages) → held pages old 1 ≡ page → SamePages (held pages new) (root_inner_split_pages (held pages old) l r n)
 
 -- what the pages hold becomes what the step makes of it

@@ -99,6 +99,7 @@ impl Images {
         ensures goes { IfOk result (λ m. (pages : Pages) (spare : List ℕ) → IsGoodTree (held pages self.old) (q ∷ spare) → IsOnWay (held pages self.old) (suc zero) key.now parent
             → IsChild (held pages self.old parent) key.now p → held pages self.old p ≡ page.now.body
             → HasRoomIn (held pages self.old) (held pages self.new) spare key.now m) }
+        ensures there { IfOk result (λ _. Has self.new p) }
         ensures sound { (pages : Pages) (spare : List ℕ) → IsGoodTree (held pages self.old) (q ∷ spare) → IsOnWay (held pages self.old) (suc zero) key.now parent
             → IsChild (held pages self.old parent) key.now p → held pages self.old p ≡ page.now.body → Has self.old parent → (1 ≤ page.now.body.next → Has self.old page.now.body.next)
             → CanSplit Leaf page.now.body (held pages self.old parent) q → result ≡ Err NotAStore → ⊥ }
@@ -126,6 +127,7 @@ impl Images {
         ensures goes { IfOk result (λ m. (pages : Pages) (spare : List ℕ) → IsGoodTree (held pages self.old) (l ∷ r ∷ spare) → height (held pages self.old) ≡ zero
             → held pages self.old 1 ≡ page.now.body
             → HasRoomIn (held pages self.old) (held pages self.new) spare key.now m) }
+        ensures there { IfOk result (λ _. Has self.new 1) }
         ensures sound { CanHalve Leaf page.now.body → result ≡ Err NotAStore → ⊥ }
         ensures causes { IfErr result (λ e. (e ≡ Memory) ⊎ (e ≡ NotAStore)) }
     {

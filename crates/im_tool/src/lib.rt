@@ -16,6 +16,8 @@ mod store;
 mod stored;
 #[cfg(test)]
 mod tests;
+#[cfg(test)]
+mod tree_rows;
 
 pub use imdrill::drill_program;
 pub use imstore::store_program;

@@ -4,7 +4,6 @@
 //! nanoseconds of each call. Beside the gets of held pages stand look-ups of a hash map over the same numbers.
 #![tactic(auto)]
 
-mod numbers;
 mod work;
 
 use anyhow::Result;
@@ -15,12 +14,10 @@ use std::time::Instant;
 use work::{cached, file, filled, looked_up, missed};
 
 fn main(rt: HostRuntime) -> Result<()> {
-    let mut timed = false;
-    for word in env::args(&rt)? {
-        if word.as_str() == "--time" {
-            timed = true;
-        }
-    }
+    let timed = env::args(&rt)?
+        .skip(1)
+        .next()
+        .is_some_and(|word| word.as_str() == "--time");
     let rounds = if timed { 2_000_000 } else { 1_000 };
     let start = Instant::now(&rt)?;
     let sum = held(&rt, rounds)?;

@@ -2,7 +2,6 @@
 
 ghost use Rattle.std.specs.Prelude.{◌≡◌, false, IfOk};
 
-use crate::numbers::Numbers;
 use im_disk::Disk;
 use im_page::Page;
 use im_pool::Pool;
@@ -19,6 +18,11 @@ pub fn file(alloc: Global, pages: u32) -> Result<Vec<u8>, Fault> {
             .map_err(|_| Fault::Memory)?;
     }
     Ok(bytes)
+}
+
+/// The page of a round: one far from that of the round before.
+fn page_of(round: u64, pages: u32) -> u32 {
+    (round.wrapping_mul(7_919) % pages.max(1) as u64) as u32
 }
 
 /// Gets a page, for which the oldest goes where the pool is full, and answers one more than its number of entries.
@@ -60,10 +64,9 @@ pub fn filled<D: Disk>(pool: &mut Pool, disk: &mut D, pages: u32) -> Result<(), 
 pub fn cached<D: Disk>(pool: &mut Pool, disk: &mut D, pages: u32, rounds: u64) -> Result<u64, Fault>
     requires { D.failed disk.old ≡ false }
 {
-    let mut numbers = Numbers::new();
     let mut sum = 0u64;
-    for _ in 0..rounds {
-        let p = (numbers.next() >> 40) as u32 % pages.max(1);
+    for round in 0..rounds {
+        let p = page_of(round, pages);
         sum = sum.wrapping_add(got(pool, disk, p)?);
     }
     Ok(sum)
@@ -89,10 +92,9 @@ pub fn looked_up(alloc: Global, count: u32, rounds: u64) -> Result<u64, Fault> {
             return Err(Fault::Memory);
         }
     }
-    let mut numbers = Numbers::new();
     let mut sum = 0u64;
-    for _ in 0..rounds {
-        let p = (numbers.next() >> 40) as u32 % count.max(1);
+    for round in 0..rounds {
+        let p = page_of(round, count);
         if let Some(n) = map.get(&p) {
             sum = sum.wrapping_add(*n);
         }

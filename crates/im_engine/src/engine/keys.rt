@@ -1,34 +1,40 @@
 //! Steps of the active transaction by a key.
 
-ghost use Rattle.std.specs.Prelude.{◌≡◌, ◌⊎◌, ◌≤◌, ◌↔◌, ◌||◌, ℕ, List, Some, Ok, Err, true, false, is_some, if◌then◌else◌, length, IfOk, IfErr};
+ghost use Rattle.std.specs.Prelude.{◌≡◌, ◌⊎◌, ◌≤◌, ◌↔◌, ◌||◌, ℕ, List, Some, Ok, Err, true, false, is_some, if◌then◌else◌, length, ◌≢◌, ◌∷◌, IfOk, IfErr, OnOk, None};
 ghost use Rattle.std.specs.FinMap.Entries.{find};
-ghost use Rattle.im_types.specs.declared.fault.Fault.TheVariants.{LogFull, Device, Memory, NotAStore, Failed, NoTransaction, KeyLength};
+ghost use Rattle.im_types.specs.declared.fault.Fault.TheVariants.{LogFull, Device, Memory, NotAStore, Failed, NoTransaction, KeyLength, PagesFull, Capacity};
 ghost use Rattle.im_types.specs.declared.reply.Reply.TheVariants.{Refused};
 
 use crate::Engine;
 use crate::engine::pages::breaks;
+use crate::engine::structure::late;
 use crate::transaction::Transaction;
 use im_disk::Disk;
 use im_record::Record;
-use im_types::{Fault, Lsn, Reply, Rid, TxnId};
+use im_types::{Fault, Lsn, PageNo, Reply, Rid, TxnId};
 
 impl<D: Disk> Engine<D> {
     ghost use Rattle.im_types.specs.Answers as answers;
-    ghost use Rattle.im_types.specs.Changes.{Effect};
+    ghost use Rattle.im_types.specs.Changes.{Effect, Put, Drop};
     ghost use Rattle.im_types.specs.Faults.{number_of};
     ghost use Rattle.im_types.specs.Keys.{key_order};
-    ghost use Rattle.im_types.specs.Lives.{Shown, breaks};
+    ghost use Rattle.im_types.specs.Lives.{Shown, adds, breaks};
+    ghost use Rattle.im_types.specs.LogLaws.{bodies};
     ghost use Rattle.im_types.specs.Steps.{told_by};
     ghost use Rattle.im_types.specs.Writer.{Writer};
     ghost use Rattle.im_record.specs.Entry.{view};
     ghost use Rattle.im_record.specs.Spelling.{IsEntry};
     ghost use Rattle.im_flush.specs.PageWriter.{StandsAs};
     ghost use Rattle.im_flush.specs.LoggedChange.{ChangeKept};
-    ghost use Rattle.im_one_page.specs.OnePage.{first_base};
-    ghost use Rattle.im_engine.specs.Running.{IsLife};
+    ghost use Rattle.im_log.specs.LogFile.{HasNoRoom};
+    ghost use Rattle.im_tree.specs.Levels.{walk};
+    ghost use Rattle.im_tree.specs.Search.{IsOnWay};
+    ghost use Rattle.im_one_page.specs.OnePage.{first_base, HasRoom};
+    ghost use Rattle.im_engine.specs.Running.{IsLife, IsRunning};
     ghost use Rattle.im_engine.specs.Kept.{StepKept};
-    ghost use Rattle.im_engine.specs.Changes.{is_breaking};
-    ghost use Rattle.im_engine.specs.Checks.{HasCause, IsAnswered, OfFetch, OfInsert, OfDelete, OfAccess, active_after, active_number, changes_nothing, next_after};
+    ghost use Rattle.im_engine.specs.Changes.{EditKept, is_breaking};
+    ghost use Rattle.im_engine.specs.Structure.{LimitKept, MeetsLimit};
+    ghost use Rattle.im_engine.specs.Checks.{HasCause, LacksRoom, IsAnswered, OfFetch, OfInsert, OfDelete, OfAccess, active_after, active_number, changes_nothing, next_after};
 
     // The checks with which an access begins.
     fn check(&self, number: TxnId, key: &[u8]) -> Result<Transaction, Fault>
@@ -49,16 +55,17 @@ impl<D: Disk> Engine<D> {
         ensures kept { (before : List Effect) (s : Shown) → IsLife D.Disk before s self.old → StepKept D.Disk before s (answers.Do number (answers.Fetch key.now)) (told_by result) self.old self.new }
         ensures fails { self.new.failed ≡ (self.old.failed || is_breaking (told_by result)) }
         ensures failed { self.old.failed ≡ true → (result ≡ Refused Failed) × (self.new ≡ self.old) }
-        ensures answered { IsAnswered D.Disk result self.old self.new (λ entries fault. OfFetch D.Disk self.old self.new result fault number key.now) (λ entries. answers.found (find key_order key.now entries)) }
+        ensures answered { IsAnswered D.Disk key.now result self.old self.new (λ entries fault. OfFetch D.Disk self.old self.new result fault number key.now) (λ entries. answers.found (find key_order key.now entries)) }
         ensures device { self.old.failed ≡ false → D.failed self.new.disk ≡ true → result ≡ Refused Device }
         ensures same { changes_nothing (told_by result) ≡ true → self.new ≡ self.old }
         ensures active { active_number self.new.going ≡ active_after (told_by result) (active_number self.old.going) }
         ensures numbers { self.new.next ≡ next_after (told_by result) self.old.next }
+        ensures split { self.old.split ≡ true → self.new.split ≡ true }
     {
         if let Err(fault) = self.check(number, key) {
             return Reply::Refused(fault);
         }
-        let frame = match self.root() {
+        let frame = match self.leaf(key) {
             Ok(frame) => frame,
             Err(fault) => return Reply::Refused(fault),
         };
@@ -68,19 +75,20 @@ impl<D: Disk> Engine<D> {
         }
     }
 
-    // Logs a transaction's record of a key, and changes the page of the keys by it.
+    // Logs a transaction's record of a key, and changes its page by it.
     fn log_change(&mut self, transaction: Transaction, change: &Record) -> Result<Lsn, Fault>
         requires entry { IsEntry (view change.now) }
         requires working { self.old.failed ≡ false }
         requires owned { 1 ≤ transaction.number }
         ensures kept { (now : Writer) (e : ℕ) → StandsAs D.Disk first_base 0 now self.old.writer self.old.disk → now.redo_end ≡ Some e
             → ChangeKept D.Disk first_base 0 now (view change.now) self.old.disk self.new.writer self.new.disk result }
-        ensures ok { IfOk result (λ lsn. (self.new.failed ≡ false) × (self.new.going ≡ Some (record { number = transaction.number; last = lsn }))) }
+        ensures ok { IfOk result (λ lsn. (self.new.failed ≡ false) × (self.new.going ≡ Some (record { number = transaction.number; last = lsn; undo_next = lsn }))) }
         ensures fails { IfErr result (λ e. (self.new.failed ≡ breaks (number_of e)) × (self.new.going ≡ self.old.going)) }
         ensures causes { IfErr result (λ e. (e ≡ LogFull) ⊎ (e ≡ Memory) ⊎ (e ≡ NotAStore) ⊎ (e ≡ Device)) }
         ensures cause { IfErr result (HasCause D.Disk self.new.writer.log self.new.disk) }
         ensures device { D.failed self.new.disk ≡ true → result ≡ Err Device }
         ensures next { self.new.next ≡ self.old.next }
+        ensures split { self.new.split ≡ self.old.split }
     {
         self.failed = true;
         match self.writer.log_change(&mut self.disk, change) {
@@ -88,6 +96,7 @@ impl<D: Disk> Engine<D> {
                 self.going = Some(Transaction {
                     number: transaction.number,
                     last: lsn,
+                    undo_next: lsn,
                 });
                 self.failed = false;
                 Ok(lsn)
@@ -99,41 +108,135 @@ impl<D: Disk> Engine<D> {
         }
     }
 
+    // Puts a key with its row id into its leaf, which has room for it.
+    fn put(
+        &mut self,
+        transaction: Transaction,
+        page: PageNo,
+        key: &[u8],
+        rid: Rid,
+    ) -> Result<Lsn, Fault>
+        requires working { self.old.failed ≡ false }
+        requires owned { 1 ≤ transaction.number }
+        requires some { 1 ≤ length key.now }
+        requires short { length key.now ≤ 255 }
+        ensures kept { (before : List Effect) (s : Shown) (r : IsRunning D.Disk before s self.old) → self.old.going ≡ Some transaction
+            → IsOnWay (bodies first_base r.now.log) 0 key.now page → find key_order key.now (walk (bodies first_base r.now.log)) ≡ None → HasRoom (bodies first_base r.now.log page).entries key.now
+            → EditKept D.Disk before s (adds transaction.number (Put key.now rid) s) self.old self.new result }
+        ensures ok { IfOk result (λ lsn. (self.new.failed ≡ false) × (self.new.going ≡ Some (record { number = transaction.number; last = lsn; undo_next = lsn }))) }
+        ensures fails { IfErr result (λ e. (self.new.failed ≡ breaks (number_of e)) × (self.new.going ≡ self.old.going)) }
+        ensures causes { IfErr result (λ e. (e ≡ LogFull) ⊎ (e ≡ Memory) ⊎ (e ≡ NotAStore) ⊎ (e ≡ Device)) }
+        ensures cause { IfErr result (HasCause D.Disk self.new.writer.log self.new.disk) }
+        ensures device { D.failed self.new.disk ≡ true → result ≡ Err Device }
+        ensures next { self.new.next ≡ self.old.next }
+        ensures split { self.new.split ≡ self.old.split }
+    {
+        let change = Record::InsertKey {
+            transaction: transaction.number,
+            prev: transaction.last,
+            page,
+            key,
+            rid,
+        };
+        self.log_change(transaction, &change)
+    }
+
+    // Takes a key out of its leaf.
+    fn take(
+        &mut self,
+        transaction: Transaction,
+        page: PageNo,
+        key: &[u8],
+        rid: Rid,
+    ) -> Result<Lsn, Fault>
+        requires working { self.old.failed ≡ false }
+        requires owned { 1 ≤ transaction.number }
+        requires some { 1 ≤ length key.now }
+        requires short { length key.now ≤ 255 }
+        ensures kept { (before : List Effect) (s : Shown) (r : IsRunning D.Disk before s self.old) → self.old.going ≡ Some transaction
+            → IsOnWay (bodies first_base r.now.log) 0 key.now page → find key_order key.now (walk (bodies first_base r.now.log)) ≡ Some rid
+            → EditKept D.Disk before s (adds transaction.number (Drop key.now 0) s) self.old self.new result }
+        ensures ok { IfOk result (λ lsn. (self.new.failed ≡ false) × (self.new.going ≡ Some (record { number = transaction.number; last = lsn; undo_next = lsn }))) }
+        ensures fails { IfErr result (λ e. (self.new.failed ≡ breaks (number_of e)) × (self.new.going ≡ self.old.going)) }
+        ensures causes { IfErr result (λ e. (e ≡ LogFull) ⊎ (e ≡ Memory) ⊎ (e ≡ NotAStore) ⊎ (e ≡ Device)) }
+        ensures cause { IfErr result (HasCause D.Disk self.new.writer.log self.new.disk) }
+        ensures device { D.failed self.new.disk ≡ true → result ≡ Err Device }
+        ensures next { self.new.next ≡ self.old.next }
+        ensures split { self.new.split ≡ self.old.split }
+    {
+        let change = Record::DeleteKey {
+            transaction: transaction.number,
+            prev: transaction.last,
+            page,
+            key,
+            rid,
+        };
+        self.log_change(transaction, &change)
+    }
+
+    // Splits the leaf of a key, which lacks room for it, and puts the key with its row id into its leaf.
+    fn split_and_put(&mut self, transaction: Transaction, key: &[u8], rid: Rid) -> Result<(), Fault>
+        requires working { self.old.failed ≡ false }
+        requires owned { 1 ≤ transaction.number }
+        requires some { 1 ≤ length key.now }
+        requires short { length key.now ≤ 255 }
+        ensures kept { (before : List Effect) (s : Shown) (r : IsRunning D.Disk before s self.old) → self.old.going ≡ Some transaction
+            → (p : ℕ) → IsOnWay (bodies first_base r.now.log) 0 key.now p → find key_order key.now (walk (bodies first_base r.now.log)) ≡ None → LacksRoom (bodies first_base r.now.log p).entries key.now
+            → EditKept D.Disk before s (adds transaction.number (Put key.now rid) s) self.old self.new result × LimitKept D.Disk before s self.old r key.now result }
+        ensures works { OnOk result (self.new.failed ≡ false) }
+        ensures fails { IfErr result (λ e. self.new.failed ≡ breaks (number_of e)) }
+        ensures still { IfErr result (λ e. self.new.failed ≡ false → self.new.going ≡ self.old.going) }
+        ensures active { active_number self.old.going ≡ Some transaction.number → active_number self.new.going ≡ Some transaction.number }
+        ensures causes { IfErr result (λ e. (e ≡ PagesFull) ⊎ (e ≡ Capacity) ⊎ (e ≡ Failed) ⊎ (e ≡ LogFull) ⊎ (e ≡ Memory) ⊎ (e ≡ NotAStore) ⊎ (e ≡ Device)) }
+        ensures device { D.failed self.new.disk ≡ true → result ≡ Err Device }
+        ensures failed { result ≡ Err Device → D.failed self.new.disk ≡ true }
+        ensures no_room { result ≡ Err LogFull → HasNoRoom self.new.writer.log }
+        ensures next { self.new.next ≡ self.old.next }
+        ensures split { self.old.split ≡ true → self.new.split ≡ true }
+    {
+        let (transaction, frame) = self.split_leaf(transaction, key)?;
+        match self.put(transaction, frame.number, key, rid) {
+            Ok(_) => Ok(()),
+            Err(fault) => {
+                self.failed = true;
+                Err(late(fault))
+            }
+        }
+    }
+
     // Puts a key with its row id.
     pub(crate) fn insert(&mut self, number: TxnId, key: &[u8], rid: Rid) -> Reply
         ensures kept { (before : List Effect) (s : Shown) → IsLife D.Disk before s self.old → StepKept D.Disk before s (answers.Do number (answers.Insert key.now rid)) (told_by result) self.old self.new }
+        ensures limit { (before : List Effect) (s : Shown) (r : IsRunning D.Disk before s self.old) → MeetsLimit D.Disk before s self.old r key.now result }
         ensures fails { self.new.failed ≡ (self.old.failed || is_breaking (told_by result)) }
         ensures failed { self.old.failed ≡ true → (result ≡ Refused Failed) × (self.new ≡ self.old) }
-        ensures answered { IsAnswered D.Disk result self.old self.new (λ entries fault. OfInsert D.Disk self.old self.new result fault number key.now entries)
+        ensures answered { IsAnswered D.Disk key.now result self.old self.new (λ entries fault. OfInsert D.Disk self.old self.new result fault number key.now entries)
             (λ entries. if is_some (find key_order key.now entries) then answers.Duplicate else answers.Inserted) }
         ensures device { self.old.failed ≡ false → D.failed self.new.disk ≡ true → result ≡ Refused Device }
         ensures same { changes_nothing (told_by result) ≡ true → self.new ≡ self.old }
         ensures active { active_number self.new.going ≡ active_after (told_by result) (active_number self.old.going) }
         ensures numbers { self.new.next ≡ next_after (told_by result) self.old.next }
+        ensures split { self.old.split ≡ true → self.new.split ≡ true }
     {
         let transaction = match self.check(number, key) {
             Ok(transaction) => transaction,
             Err(fault) => return Reply::Refused(fault),
         };
-        let frame = match self.root() {
+        let frame = match self.leaf(key) {
             Ok(frame) => frame,
             Err(fault) => return Reply::Refused(fault),
         };
         if self.row_id(frame, key).is_some() {
             return Reply::Duplicate;
         }
-        if !self.has_room(frame, key) {
-            return Reply::Refused(Fault::PagesFull);
+        if self.has_room(frame, key) {
+            return match self.put(transaction, frame.number, key, rid) {
+                Ok(_) => Reply::Inserted,
+                Err(fault) => Reply::Refused(fault),
+            };
         }
-        let change = Record::InsertKey {
-            transaction: transaction.number,
-            prev: transaction.last,
-            page: 1,
-            key,
-            rid,
-        };
-        match self.log_change(transaction, &change) {
-            Ok(_) => Reply::Inserted,
+        match self.split_and_put(transaction, key, rid) {
+            Ok(()) => Reply::Inserted,
             Err(fault) => Reply::Refused(fault),
         }
     }
@@ -143,18 +246,19 @@ impl<D: Disk> Engine<D> {
         ensures kept { (before : List Effect) (s : Shown) → IsLife D.Disk before s self.old → StepKept D.Disk before s (answers.Do number (answers.Delete key.now)) (told_by result) self.old self.new }
         ensures fails { self.new.failed ≡ (self.old.failed || is_breaking (told_by result)) }
         ensures failed { self.old.failed ≡ true → (result ≡ Refused Failed) × (self.new ≡ self.old) }
-        ensures answered { IsAnswered D.Disk result self.old self.new (λ entries fault. OfDelete D.Disk self.old self.new result fault number key.now)
+        ensures answered { IsAnswered D.Disk key.now result self.old self.new (λ entries fault. OfDelete D.Disk self.old self.new result fault number key.now)
             (λ entries. if is_some (find key_order key.now entries) then answers.Deleted else answers.Absent) }
         ensures device { self.old.failed ≡ false → D.failed self.new.disk ≡ true → result ≡ Refused Device }
         ensures same { changes_nothing (told_by result) ≡ true → self.new ≡ self.old }
         ensures active { active_number self.new.going ≡ active_after (told_by result) (active_number self.old.going) }
         ensures numbers { self.new.next ≡ next_after (told_by result) self.old.next }
+        ensures split { self.old.split ≡ true → self.new.split ≡ true }
     {
         let transaction = match self.check(number, key) {
             Ok(transaction) => transaction,
             Err(fault) => return Reply::Refused(fault),
         };
-        let frame = match self.root() {
+        let frame = match self.leaf(key) {
             Ok(frame) => frame,
             Err(fault) => return Reply::Refused(fault),
         };
@@ -162,15 +266,21 @@ impl<D: Disk> Engine<D> {
             Some(rid) => rid,
             None => return Reply::Absent,
         };
-        let change = Record::DeleteKey {
-            transaction: transaction.number,
-            prev: transaction.last,
-            page: 1,
-            key,
-            rid,
+        let last_entry = self.is_last_entry(frame);
+        let lsn = match self.take(transaction, frame.number, key, rid) {
+            Ok(lsn) => lsn,
+            Err(fault) => return Reply::Refused(fault),
         };
-        match self.log_change(transaction, &change) {
-            Ok(_) => Reply::Deleted,
+        if !last_entry {
+            return Reply::Deleted;
+        }
+        let behind = Transaction {
+            number: transaction.number,
+            last: lsn,
+            undo_next: lsn,
+        };
+        match self.drop_leaf(behind, key) {
+            Ok(()) => Reply::Deleted,
             Err(fault) => Reply::Refused(fault),
         }
     }

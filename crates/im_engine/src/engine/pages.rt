@@ -1,6 +1,6 @@
 //! Pages, as an engine looks at them.
 
-ghost use Rattle.std.specs.Prelude.{◌≡◌, ◌⊎◌, ◌≤◌, true, false, List, IfOk, IfErr, OnOk, length};
+ghost use Rattle.std.specs.Prelude.{◌≡◌, ◌≢◌, ◌⊎◌, ◌≤◌, true, false, List, Err, IfOk, IfErr, OnOk, length};
 ghost use Rattle.std.specs.FinMap.Entries.{find};
 ghost use Rattle.im_types.specs.declared.fault.Fault.TheVariants.{LogFull, Device, Memory, NotAStore};
 ghost use Rattle.im_types.specs.Faults.{number_of};
@@ -10,7 +10,8 @@ ghost use Rattle.im_types.specs.declared.page_kind.PageKind.TheVariants.{Leaf};
 use crate::Engine;
 use im_disk::Disk;
 use im_pool::Frame;
-use im_types::{Fault, PageKind, PageNo, Rid};
+use im_search::leaf_for;
+use im_types::{Fault, PageNo, Rid};
 
 // Whether the engine has failed behind a refusal of its writer of pages.
 pub(crate) fn breaks(fault: Fault) -> bool
@@ -33,7 +34,7 @@ impl<D: Disk> Engine<D> {
     ghost use Rattle.im_types.specs.Lives.{Shown, breaks};
     ghost use Rattle.im_pool.specs.Pool.{page_at, IsAt};
     ghost use Rattle.im_engine.specs.Running.{IsRunning};
-    ghost use Rattle.im_engine.specs.Changes.{PageKept};
+    ghost use Rattle.im_engine.specs.Changes.{PageKept, LeafKept};
     ghost use Rattle.im_engine.specs.Checks.{HasCause, LacksRoom};
 
     // Where a page is held from now on.
@@ -49,6 +50,7 @@ impl<D: Disk> Engine<D> {
         ensures device { D.failed self.new.disk ≡ true → result ≡ Err Device }
         ensures going { self.new.going ≡ self.old.going }
         ensures next { self.new.next ≡ self.old.next }
+        ensures split { self.new.split ≡ self.old.split }
     {
         self.failed = true;
         match self.writer.get(&mut self.disk, number) {
@@ -63,13 +65,12 @@ impl<D: Disk> Engine<D> {
         }
     }
 
-    // Where the page of the keys is held, which is a leaf.
-    pub(crate) fn root(&mut self) -> Result<Frame, Fault>
+    // Where the leaf is held from now on in whose range a key lies.
+    pub(crate) fn leaf(&mut self, key: &[u8]) -> Result<Frame, Fault>
         requires working { self.old.failed ≡ false }
-        ensures kept { (before : List Effect) (s : Shown) (r : IsRunning D.Disk before s self.old) → PageKept D.Disk before s self.old r 1 self.new result }
+        ensures kept { (before : List Effect) (s : Shown) (r : IsRunning D.Disk before s self.old) → LeafKept D.Disk before s self.old r key.now self.new result }
         ensures at { IfOk result (IsAt self.new.writer.pool) }
-        ensures frame { IfOk result (λ frame. frame.number ≡ 1) }
-        ensures leaf { OnOk result ((page_at self.new.writer.pool 1).body.kind ≡ Leaf) }
+        ensures leaf { IfOk result (λ frame. (page_at self.new.writer.pool frame.number).body.kind ≡ Leaf) }
         ensures works { OnOk result (self.new.failed ≡ false) }
         ensures fails { IfErr result (λ e. self.new.failed ≡ breaks (number_of e)) }
         ensures causes { IfErr result (λ e. (e ≡ LogFull) ⊎ (e ≡ Memory) ⊎ (e ≡ NotAStore) ⊎ (e ≡ Device)) }
@@ -77,22 +78,26 @@ impl<D: Disk> Engine<D> {
         ensures device { D.failed self.new.disk ≡ true → result ≡ Err Device }
         ensures going { self.new.going ≡ self.old.going }
         ensures next { self.new.next ≡ self.old.next }
+        ensures split { self.new.split ≡ self.old.split }
+        ensures limit { self.new.max_pages ≡ self.old.max_pages }
     {
-        let frame = self.get_page(1)?;
-        match self.writer.page(frame).kind() {
-            PageKind::Leaf => Ok(frame),
-            _ => {
-                self.failed = true;
-                Err(Fault::NotAStore)
+        self.failed = true;
+        match leaf_for(&mut self.writer, &mut self.disk, key) {
+            Ok(frame) => {
+                self.failed = false;
+                Ok(frame)
+            }
+            Err(fault) => {
+                self.failed = breaks(fault);
+                Err(fault)
             }
         }
     }
 
-    // The row id of a key in the page of the keys.
+    // The row id of a key in a leaf.
     pub(crate) fn row_id(&self, frame: Frame, key: &[u8]) -> Option<Rid>
         requires at { IsAt self.now.writer.pool frame }
-        requires number { frame.number ≡ 1 }
-        ensures { result ≡ find key_order key.now (page_at self.now.writer.pool 1).body.entries }
+        ensures { result ≡ find key_order key.now (page_at self.now.writer.pool frame.number).body.entries }
     {
         let page = self.writer.page(frame);
         page.content();
@@ -102,15 +107,23 @@ impl<D: Disk> Engine<D> {
         }
     }
 
-    // Whether the page of the keys has room for one more.
+    // Whether a leaf has room for one more.
     pub(crate) fn has_room(&self, frame: Frame, key: &[u8]) -> bool
         requires at { IsAt self.now.writer.pool frame }
-        requires number { frame.number ≡ 1 }
-        requires leaf { (page_at self.now.writer.pool 1).body.kind ≡ Leaf }
+        requires leaf { (page_at self.now.writer.pool frame.number).body.kind ≡ Leaf }
         requires short { length key.now ≤ 255 }
-        ensures room { result ≡ true → ¬ (LacksRoom (page_at self.now.writer.pool 1).body.entries key.now) }
-        ensures full { result ≡ false → LacksRoom (page_at self.now.writer.pool 1).body.entries key.now }
+        ensures room { result ≡ true → ¬ (LacksRoom (page_at self.now.writer.pool frame.number).body.entries key.now) }
+        ensures full { result ≡ false → LacksRoom (page_at self.now.writer.pool frame.number).body.entries key.now }
     {
         self.writer.page(frame).has_room(key.len())
+    }
+
+    // Whether a page that is not the root would be left empty without one of its entries.
+    pub(crate) fn is_last_entry(&self, frame: Frame) -> bool
+        requires at { IsAt self.now.writer.pool frame }
+        ensures last { result ≡ true → (frame.number ≢ 1) × (length (page_at self.now.writer.pool frame.number).body.entries ≡ 1) }
+        ensures more { result ≡ false → (frame.number ≡ 1) ⊎ (length (page_at self.now.writer.pool frame.number).body.entries ≢ 1) }
+    {
+        frame.number != 1 && self.writer.page(frame).len() == 1
     }
 }

@@ -1,6 +1,6 @@
 //! Steps that bring the log and pages to the disk.
 
-ghost use Rattle.std.specs.Prelude.{◌≡◌, ◌⊎◌, ◌≤◌, ◌<◌, ◌^◌, ◌↔◌, ◌||◌, List, None, Some, Ok, Err, true, false, not, is_ok, IfErr, OnOk, OnErr};
+ghost use Rattle.std.specs.Prelude.{◌≡◌, ◌≢◌, ◌⊎◌, ◌≤◌, ◌<◌, ◌^◌, ◌↔◌, ◌||◌, List, [], None, Some, Ok, Err, true, false, not, is_ok, IfErr, OnOk, OnErr};
 ghost use Rattle.im_types.specs.declared.fault.Fault.TheVariants.{LogFull, Device, Failed};
 ghost use Rattle.im_types.specs.declared.reply.Reply.TheVariants.{Refused};
 
@@ -20,13 +20,13 @@ impl<D: Disk> Engine<D> {
     ghost use Rattle.im_engine.specs.Running.{IsLife, IsRunning};
     ghost use Rattle.im_engine.specs.Kept.{StepKept};
     ghost use Rattle.im_engine.specs.Changes.{CommitKept, is_breaking};
-    ghost use Rattle.im_engine.specs.Checks.{HasLogged, IsAnswered, OfCommit, OfCall, active_after, active_number, changes_nothing, next_after};
+    ghost use Rattle.im_engine.specs.Checks.{HasLogged, IsAnswered, OfCommit, OfForce, OfFlush, active_after, active_number, changes_nothing, next_after};
 
     // Adds the record of a Commit, and makes all durable.
     fn log_commit(&mut self, transaction: Transaction) -> Result<(), Fault>
         requires working { self.old.failed ≡ false }
         requires owned { 1 ≤ transaction.number }
-        ensures kept { (before : List Effect) (s : Shown) → IsRunning D.Disk before s self.old → self.old.going ≡ Some transaction → 1 ≤ transaction.last
+        ensures kept { (before : List Effect) (s : Shown) → IsRunning D.Disk before s self.old → self.old.going ≡ Some transaction → (s.running transaction.number).effect ≢ []
             → CommitKept D.Disk before s transaction.number self.old self.new result }
         ensures failed { self.new.failed ≡ not (is_ok result) }
         ensures causes { IfErr result (λ e. (e ≡ LogFull) ⊎ (e ≡ Device)) }
@@ -35,6 +35,7 @@ impl<D: Disk> Engine<D> {
         ensures ended { OnOk result (self.new.going ≡ None) }
         ensures going { OnErr result (self.new.going ≡ self.old.going) }
         ensures next { self.new.next ≡ self.old.next }
+        ensures split { self.new.split ≡ self.old.split }
     {
         self.failed = true;
         let commit = Record::Commit {
@@ -53,12 +54,13 @@ impl<D: Disk> Engine<D> {
         ensures kept { (before : List Effect) (s : Shown) → IsLife D.Disk before s self.old → StepKept D.Disk before s (answers.Commit number) (told_by result) self.old self.new }
         ensures fails { self.new.failed ≡ (self.old.failed || is_breaking (told_by result)) }
         ensures failed { self.old.failed ≡ true → (result ≡ Refused Failed) × (self.new ≡ self.old) }
-        ensures answered { IsAnswered D.Disk result self.old self.new (λ entries fault. OfCommit D.Disk self.old self.new result fault number) (λ entries. answers.Committed) }
+        ensures answered { IsAnswered D.Disk [] result self.old self.new (λ entries fault. OfCommit D.Disk self.old self.new result fault number) (λ entries. answers.Committed) }
         ensures device { self.old.failed ≡ false → D.failed self.new.disk ≡ true → result ≡ Refused Device }
         ensures quiet { ¬ (HasLogged self.old.going) → self.new.disk ≡ self.old.disk }
         ensures same { changes_nothing (told_by result) ≡ true → self.new ≡ self.old }
         ensures active { active_number self.new.going ≡ active_after (told_by result) (active_number self.old.going) }
         ensures numbers { self.new.next ≡ next_after (told_by result) self.old.next }
+        ensures split { self.new.split ≡ self.old.split }
     {
         let transaction = match self.active_of(number) {
             Ok(transaction) => transaction,
@@ -79,11 +81,13 @@ impl<D: Disk> Engine<D> {
         ensures kept { (before : List Effect) (s : Shown) → IsLife D.Disk before s self.old → StepKept D.Disk before s answers.Force (told_by result) self.old self.new }
         ensures fails { self.new.failed ≡ (self.old.failed || is_breaking (told_by result)) }
         ensures failed { self.old.failed ≡ true → (result ≡ Refused Failed) × (self.new ≡ self.old) }
-        ensures answered { IsAnswered D.Disk result self.old self.new (λ entries fault. OfCall D.Disk self.old self.new result fault) (λ entries. answers.Done) }
+        ensures answered { IsAnswered D.Disk [] result self.old self.new (λ entries fault. OfForce D.Disk self.old self.new result fault) (λ entries. answers.Done) }
         ensures device { self.old.failed ≡ false → D.failed self.new.disk ≡ true → result ≡ Refused Device }
+        ensures quiet { ¬ (1 ≤ self.old.writer.log.used) → self.new.disk ≡ self.old.disk }
         ensures same { changes_nothing (told_by result) ≡ true → self.new ≡ self.old }
         ensures active { active_number self.new.going ≡ active_after (told_by result) (active_number self.old.going) }
         ensures numbers { self.new.next ≡ next_after (told_by result) self.old.next }
+        ensures split { self.new.split ≡ self.old.split }
     {
         if self.failed {
             return Reply::Refused(Fault::Failed);
@@ -103,12 +107,13 @@ impl<D: Disk> Engine<D> {
         ensures kept { (before : List Effect) (s : Shown) → IsLife D.Disk before s self.old → StepKept D.Disk before s (answers.FlushPage page) (told_by result) self.old self.new }
         ensures fails { self.new.failed ≡ (self.old.failed || is_breaking (told_by result)) }
         ensures failed { self.old.failed ≡ true → (result ≡ Refused Failed) × (self.new ≡ self.old) }
-        ensures answered { IsAnswered D.Disk result self.old self.new (λ entries fault. OfCall D.Disk self.old self.new result fault) (λ entries. answers.Done) }
+        ensures answered { IsAnswered D.Disk [] result self.old self.new (λ entries fault. OfFlush D.Disk self.old self.new result fault) (λ entries. answers.Done) }
         ensures device { self.old.failed ≡ false → D.failed self.new.disk ≡ true → result ≡ Refused Device }
         ensures quiet { ¬ (is_changed self.old.writer.pool page ≡ true) → self.new.disk ≡ self.old.disk }
         ensures same { changes_nothing (told_by result) ≡ true → self.new ≡ self.old }
         ensures active { active_number self.new.going ≡ active_after (told_by result) (active_number self.old.going) }
         ensures numbers { self.new.next ≡ next_after (told_by result) self.old.next }
+        ensures split { self.new.split ≡ self.old.split }
     {
         if self.failed {
             return Reply::Refused(Fault::Failed);

@@ -61,6 +61,7 @@ impl PageWriter {
         ensures frame { IfOk result (λ f. f.number ≡ number) }
         ensures works { OnOk result (self.new.failed ≡ false) }
         ensures room { OnOk result (entry_in self.new.table number ≡ None → length self.new.table < 1024) }
+        ensures memory { result ≡ Err Memory → held_of self.old.pool number ≡ None }
         ensures fails { IfErr result (λ e. (self.new.failed ≡ false) ↔ ((e ≡ Memory) ⊎ (e ≡ NotAStore))) }
         ensures causes { IfErr result (λ e. (e ≡ Failed) ⊎ (e ≡ LogFull) ⊎ (e ≡ Memory) ⊎ (e ≡ NotAStore) ⊎ (e ≡ Device)) }
         ensures no_room { result ≡ Err LogFull → HasNoRoom self.new.log }
@@ -162,6 +163,7 @@ impl PageWriter {
         ensures kept { (b : Base) (base : ℕ) (s : Writer) (e : ℕ) → StandsAs D.Disk b base s self.old disk.old → s.redo_end ≡ Some e
             → ChangeKept D.Disk b base s (view record.now) disk.old self.new disk.new result }
         ensures works { OnOk result (self.new.failed ≡ false) }
+        ensures memory { result ≡ Err Memory → held_of self.old.pool number ≡ None }
         ensures fails { IfErr result (λ e. (self.new.failed ≡ false) ↔ ((e ≡ Memory) ⊎ (e ≡ NotAStore))) }
         ensures causes { IfErr result (λ e. (e ≡ Failed) ⊎ (e ≡ LogFull) ⊎ (e ≡ Memory) ⊎ (e ≡ NotAStore) ⊎ (e ≡ Device)) }
         ensures no_room { result ≡ Err LogFull → HasNoRoom self.new.log }
@@ -192,6 +194,7 @@ impl PageWriter {
         ensures kept { (b : Base) (base : ℕ) (s : Writer) (e : ℕ) → StandsAs D.Disk b base s self.old disk.old → s.redo_end ≡ Some e
             → ChangeKept D.Disk b base s (view record.now) disk.old self.new disk.new result }
         ensures works { OnOk result (self.new.failed ≡ false) }
+        ensures memory { result ≡ Err Memory → held_of self.old.pool number ≡ None }
         ensures fails { IfErr result (λ e. (self.new.failed ≡ false) ↔ ((e ≡ Memory) ⊎ (e ≡ NotAStore))) }
         ensures causes { IfErr result (λ e. (e ≡ Failed) ⊎ (e ≡ LogFull) ⊎ (e ≡ Memory) ⊎ (e ≡ NotAStore) ⊎ (e ≡ Device)) }
         ensures no_room { result ≡ Err LogFull → HasNoRoom self.new.log }
@@ -228,6 +231,7 @@ impl PageWriter {
         ensures kept { (b : Base) (base : ℕ) (s : Writer) (e : ℕ) → StandsAs D.Disk b base s self.old disk.old → s.redo_end ≡ Some e
             → ChangeKept D.Disk b base s (view record.now) disk.old self.new disk.new result }
         ensures works { OnOk result (self.new.failed ≡ false) }
+        ensures memory { result ≡ Err Memory → held_of self.old.pool (page_of (view record.now)) ≡ None }
         ensures fails { IfErr result (λ e. (self.new.failed ≡ false) ↔ ((e ≡ Memory) ⊎ (e ≡ NotAStore))) }
         ensures causes { IfErr result (λ e. (e ≡ Failed) ⊎ (e ≡ LogFull) ⊎ (e ≡ Memory) ⊎ (e ≡ NotAStore) ⊎ (e ≡ Device)) }
         ensures no_room { result ≡ Err LogFull → HasNoRoom self.new.log }

@@ -24,6 +24,7 @@ impl PageWriter {
     ghost use Rattle.im_types.specs.Histories.{IsRecordOf, end_of};
     ghost use Rattle.im_record.specs.Entry.{view, page_of};
     ghost use Rattle.im_record.specs.Spelling.{IsEntry};
+    ghost use Rattle.im_log.specs.LogFile.{HasNoRoom};
     ghost use Rattle.im_log.specs.Spelled.{logged_at};
     ghost use Rattle.im_log.specs.Whats.{what_of};
     ghost use Rattle.im_log.specs.Reading.{FoundKept};
@@ -72,6 +73,7 @@ impl PageWriter {
         ensures kept { (b : Base) (base : ℕ) (s : Writer) → StandsAs D.Disk b base s self.old disk.old → EvictKept D.Disk b base s disk.old self.new disk.new result }
         ensures works { OnOk result (self.new.failed ≡ false) }
         ensures causes { IfErr result (λ e. (e ≡ Failed) ⊎ (e ≡ Memory) ⊎ (e ≡ LogFull) ⊎ (e ≡ Device)) }
+        ensures no_room { result ≡ Err LogFull → HasNoRoom self.new.log }
         ensures fails { IfErr result (λ e. (self.new.failed ≡ false) ↔ ((e ≡ Memory) ⊎ (e ≡ NotAStore))) }
         ensures already { result ≡ Err Failed ↔ (self.old.failed ≡ true) }
         ensures device { self.old.failed ≡ false → result ≡ Err Device ↔ (D.failed disk.new ≡ true) }
@@ -133,6 +135,7 @@ impl PageWriter {
             → LoadKept D.Disk b base s (page_of (view record.now)) copy disk.old self.new disk.new result }
         ensures works { OnOk result (self.new.failed ≡ false) }
         ensures causes { IfErr result (λ e. (e ≡ Failed) ⊎ (e ≡ LogFull) ⊎ (e ≡ Memory) ⊎ (e ≡ NotAStore) ⊎ (e ≡ Device)) }
+        ensures no_room { result ≡ Err LogFull → HasNoRoom self.new.log }
         ensures fails { IfErr result (λ e. (self.new.failed ≡ false) ↔ ((e ≡ Memory) ⊎ (e ≡ NotAStore))) }
         ensures already { result ≡ Err Failed ↔ (self.old.failed ≡ true) }
         ensures device { self.old.failed ≡ false → result ≡ Err Device ↔ (D.failed disk.new ≡ true) }
@@ -199,6 +202,7 @@ impl PageWriter {
             → (s.pages number).page.lsn < lsn → RedoKept D.Disk b base s (logged_at lsn (view record.now)) disk.old self.new disk.new result }
         ensures works { OnOk result (self.new.failed ≡ false) }
         ensures causes { IfErr result (λ e. (e ≡ Failed) ⊎ (e ≡ LogFull) ⊎ (e ≡ Memory) ⊎ (e ≡ NotAStore) ⊎ (e ≡ Device)) }
+        ensures no_room { result ≡ Err LogFull → HasNoRoom self.new.log }
         ensures fails { IfErr result (λ e. (self.new.failed ≡ false) ↔ ((e ≡ Memory) ⊎ (e ≡ NotAStore))) }
         ensures already { result ≡ Err Failed ↔ (self.old.failed ≡ true) }
         ensures device { self.old.failed ≡ false → result ≡ Err Device ↔ (D.failed disk.new ≡ true) }
@@ -225,6 +229,7 @@ impl PageWriter {
             → RedoKept D.Disk b base s (logged_at lsn (view record.now)) disk.old self.new disk.new result }
         ensures works { OnOk result (self.new.failed ≡ false) }
         ensures causes { IfErr result (λ e. (e ≡ Failed) ⊎ (e ≡ LogFull) ⊎ (e ≡ Memory) ⊎ (e ≡ NotAStore) ⊎ (e ≡ Device)) }
+        ensures no_room { result ≡ Err LogFull → HasNoRoom self.new.log }
         ensures fails { IfErr result (λ e. (self.new.failed ≡ false) ↔ ((e ≡ Memory) ⊎ (e ≡ NotAStore))) }
         ensures already { result ≡ Err Failed ↔ (self.old.failed ≡ true) }
         ensures device { self.old.failed ≡ false → result ≡ Err Device ↔ (D.failed disk.new ≡ true) }
@@ -256,6 +261,7 @@ impl PageWriter {
             → RedoKept D.Disk b base s (logged_at lsn (view record.now)) disk.old self.new disk.new result }
         ensures works { OnOk result (self.new.failed ≡ false) }
         ensures causes { IfErr result (λ e. (e ≡ Failed) ⊎ (e ≡ LogFull) ⊎ (e ≡ Memory) ⊎ (e ≡ NotAStore) ⊎ (e ≡ Device)) }
+        ensures no_room { result ≡ Err LogFull → HasNoRoom self.new.log }
         ensures fails { IfErr result (λ e. (self.new.failed ≡ false) ↔ ((e ≡ Memory) ⊎ (e ≡ NotAStore))) }
         ensures already { result ≡ Err Failed ↔ (self.old.failed ≡ true) }
         ensures device { self.old.failed ≡ false → result ≡ Err Device ↔ (D.failed disk.new ≡ true) }

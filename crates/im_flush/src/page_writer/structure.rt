@@ -15,8 +15,9 @@ use im_types::{Fault, Lsn, PageNo};
 impl PageWriter {
     ghost use Rattle.im_record.specs.Entry.{view, page_of};
     ghost use Rattle.im_record.specs.Spelling.{IsEntry};
+    ghost use Rattle.im_log.specs.LogFile.{HasNoRoom};
     ghost use Rattle.im_log.specs.Whats.{what_of};
-    ghost use Rattle.im_pool.specs.Pool.{IsAt};
+    ghost use Rattle.im_pool.specs.Pool.{held_of, IsAt};
     ghost use Rattle.im_flush.specs.DirtyTable.{entry_in};
     ghost use Rattle.im_flush.specs.PageCopy.{after_in};
     ghost use Rattle.im_flush.specs.PageWriter.{IsReadyWriter, StandsAs};
@@ -43,6 +44,7 @@ impl PageWriter {
         ensures refused { result ≡ Err NotAStore ↔ (after_in (what_of (view record.now)) ≡ None) }
         ensures images { OnOk result (after_in (what_of (view record.now)) ≢ None) }
         ensures causes { IfErr result (λ e. (e ≡ NotAStore) ⊎ (e ≡ LogFull) ⊎ (e ≡ Device)) }
+        ensures no_room { result ≡ Err LogFull → HasNoRoom self.new.log }
         ensures device { result ≡ Err Device ↔ (D.failed disk.new ≡ true) }
     {
         if !read_after(&mut self.spare, record) {
@@ -71,9 +73,11 @@ impl PageWriter {
             → LeftKept D.Disk b base s (view record.now) disk.old self.new disk.new result }
         ensures works { OnOk result (self.new.failed ≡ false) }
         ensures causes { IfErr result (λ e. (e ≡ Failed) ⊎ (e ≡ LogFull) ⊎ (e ≡ Memory) ⊎ (e ≡ NotAStore) ⊎ (e ≡ Device)) }
+        ensures no_room { result ≡ Err LogFull → HasNoRoom self.new.log }
         ensures already { result ≡ Err Failed ↔ (self.old.failed ≡ true) }
         ensures device { self.old.failed ≡ false → result ≡ Err Device ↔ (D.failed disk.new ≡ true) }
         ensures fails { IfErr result (λ e. (self.new.failed ≡ false) ↔ ((e ≡ Memory) ⊎ (e ≡ NotAStore))) }
+        ensures memory { result ≡ Err Memory → held_of self.old.pool number ≡ None }
         ensures images { OnOk result (after_in (what_of (view record.now)) ≢ None) }
     {
         let frame = self.hold_with_room(disk, number)?;
@@ -94,9 +98,11 @@ impl PageWriter {
             → LeftKept D.Disk b base s (view record.now) disk.old self.new disk.new result }
         ensures works { OnOk result (self.new.failed ≡ false) }
         ensures causes { IfErr result (λ e. (e ≡ Failed) ⊎ (e ≡ LogFull) ⊎ (e ≡ Memory) ⊎ (e ≡ NotAStore) ⊎ (e ≡ Device)) }
+        ensures no_room { result ≡ Err LogFull → HasNoRoom self.new.log }
         ensures already { result ≡ Err Failed ↔ (self.old.failed ≡ true) }
         ensures device { self.old.failed ≡ false → result ≡ Err Device ↔ (D.failed disk.new ≡ true) }
         ensures fails { IfErr result (λ e. (self.new.failed ≡ false) ↔ ((e ≡ Memory) ⊎ (e ≡ NotAStore))) }
+        ensures memory { result ≡ Err Memory → held_of self.old.pool (page_of (view record.now)) ≡ None }
         ensures images { OnOk result (after_in (what_of (view record.now)) ≢ None) }
     {
         match record {

@@ -28,7 +28,7 @@ returns-clause-kept g c b base s e is over =
     let kept = c.log_image.ensures.kept b base got.now e (record { working = got.on.working; writing = got.on.goes.writing }) (got.on.goes.keeps.redo_end ∙ over) in
     record {
       ok = if_ok c.log_image.result _ _ kept.ok
-          (λ lsn done. page_logged g.D.Disk b base s got.now c.args.transaction c.args.prev p before after c.args.after.now.body lsn c.log_image.new.self c.log_image.new.disk got.on.goes.keeps what done);
+          (λ lsn done. page_logged g.D.Disk b base s got.now c.args.transaction c.args.prev p before after c.args.after.now.body lsn c.get.new.disk c.log_image.new.self c.log_image.new.disk got.on.goes.keeps what done);
       stops = leaves_then g.D.Disk b base s c.args.disk.now got.now w.log w.table w.pool c.get.new.disk got.on.goes c.log_image.new.disk kept.stops;
       cause = kept.cause (smo_leaves _ (s.pages p).page.body c.args.after.now.body what);
     }

@@ -1,4 +1,4 @@
-use Rattle.std.proofs.Common.{◌≡◌, codes, true, rules, arith}
+use Rattle.std.proofs.Common.{◌≡◌, codes, rules, arith}
 use Rattle.std.proofs.lemmas.Grind.{common_steps}
 use Rattle.im_drill.proofs.RawTexts.{life_or_not}
 use Rattle.im_drill.proofs.store_text.begins_life.Goals as goal

@@ -1,6 +1,7 @@
 use Rattle.std.proofs.Common.{rules, ◌≢◌}
 use Rattle.im_types.specs.declared.fault.Fault.TheVariants.{NotAStore}
 use Rattle.im_types.specs.declared.file_id.FileId.TheVariants.{Log, Pages}
+use Rattle.im_restart.proofs.Openings.{holds_if_ok}
 use Rattle.im_restart.proofs.Restarts.{left_opening, may_behind, pages_synced}
 use Rattle.im_restart.proofs.Steps.{left_then}
 use Rattle.im_restart.proofs.opening.open_or_create.Goals as goal
@@ -28,3 +29,6 @@ returns-clause-kept g c b all told may =
     let behind = may_behind d b tree all old mid c.in_ok-found.found.log may c.in_ok-found.ensures.changes k.ok.log in
     let r = c.restart.ensures.kept b all behind (pages_synced d b tree all old mid c.in_ok-found.ensures.changes (c.requires.synced Pages)) k.ok in
     record { ok = r.ok; stops = left_then d b tree all old mid c.restart.new.disk opening r.stops; cause = r.cause }
+
+pub returns-clause-spelled : goal.returns-clause-spelled
+returns-clause-spelled g c = holds_if_ok c.restart.result c.in_ok-found.ensures.spelled

@@ -1,8 +1,9 @@
 use Rattle.std.proofs.Common.{rules, ◌≡◌, ◌≢◌, sym, ◌∙◌}
 use Rattle.im_types.specs.declared.fault.Fault.TheVariants.{Memory, NotAStore}
 use Rattle.im_disk.proofs.Runs.{reads_on, reads_then}
+use Rattle.im_log.proofs.Backward.{read_none}
 use Rattle.im_log.proofs.Openings.{started}
-use Rattle.im_restart.proofs.Openings.{holds_if_ok}
+use Rattle.im_restart.proofs.Openings.{holds_if_ok, spelled_so}
 use Rattle.im_restart.proofs.reading.open_log.Goals as goal
 
 pub returns-in_err-gate-clause-kept : goal.returns-in_err-gate-clause-kept
@@ -30,3 +31,9 @@ returns-clause-store g c = holds_if_ok c.read_all.result c.in_ok-gate.ensures.st
 
 pub returns-clause-reads : goal.returns-clause-reads
 returns-clause-reads g c told known = reads_then g.D.Disk c.args.disk.now c.first_gate.new.disk c.read_all.new.disk (c.in_ok-gate.ensures.reads told known) c.read_all.ensures.reads
+
+pub returns-clause-spelled : goal.returns-clause-spelled
+returns-clause-spelled g c =
+    let gate = c.in_ok-gate.ensures in
+    spelled_so g.D.Disk c.args.disk.now c.first_gate.new.disk c.in_ok-opening.opening c.read_all.result gate.store gate.reads
+    (λ told. read_none g.D.Disk 0 c.in_ok-gate.gate c.in_ok-opening.opening c.first_gate.new.disk gate.of_log gate.place told (gate.made told) c.in_ok-opening.ensures.opening) c.read_all.ensures.spelled

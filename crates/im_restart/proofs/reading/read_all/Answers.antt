@@ -4,6 +4,7 @@ use Rattle.im_types.specs.Histories.{History}
 use Rattle.im_disk.proofs.Runs.{reads_then}
 use Rattle.im_record.specs.Entry.{view}
 use Rattle.im_log.specs.Spelled.{logged_at}
+use Rattle.im_log.proofs.Backward.{has_read, none_read, some_read}
 use Rattle.im_log.proofs.Openings.{none_kept, some_kept}
 use Rattle.im_analysis.specs.Analysis.{IsAnalysed}
 use Rattle.im_redo.specs.Redo.{lsns_from}
@@ -23,6 +24,10 @@ loop-lsns-preserved g c = record {
       let next = next_read g.D.Disk b g.T.PageTree.tree all h.0 c.in-Some.lsn n.entry said c.next.new.self c.next.new.disk same law n.front n.opening in
       (logged_at c.in-Some.lsn said ∷ h.0, next.2, (c.in_ok-take-in-Some.ensures.kept h.0 h.2 next.0).ok, c.in_ok-note_change-in-Some.ensures.kept h.0 next.0.readable h.3)
       );
+  back = λ start.
+      let h = c.loop-lsns.invariant.back start in
+      let said = view c.in_ok-record-in-Some.record in
+      (logged_at c.in-Some.lsn said ∷ h.0, some_read g.D.Disk 0 h.0 c.next.new.self c.next.new.disk c.in_ok-next.field-0 c.in-Some.lsn said c.in-Some.is (c.in_ok-next.ensures.reads_on 0 h.0 h.1) c.in_ok-record-in-Some.ensures.record);
 }
 
 pub returns-in_err-next-clause-kept : goal.returns-in_err-next-clause-kept
@@ -65,3 +70,10 @@ returns-clause-kept g c b all start law =
       };
       cause = tt;
     }
+
+pub returns-clause-spelled : goal.returns-clause-spelled
+returns-clause-spelled g c start =
+    let h = c.loop-lsns.invariant.back start in
+    let e = none_read g.D.Disk 0 h.0 c.next.new.self c.next.new.disk c.in_ok-next.field-0 c.in-None.is (c.in_ok-next.ensures.reads_on 0 h.0 h.1) in
+    let seen = c.next.ensures.reads.seen ∙ c.loop-lsns.invariant.reads.seen in
+    (h.0, has_read g.D.Disk 0 h.0 c.next.new.self c.args.disk.now c.next.new.disk seen e)

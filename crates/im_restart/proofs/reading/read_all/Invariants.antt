@@ -2,7 +2,7 @@ use Rattle.std.proofs.Common.{◌≡◌, ◌-◌, ◌^◌, false, []}
 use Rattle.im_types.specs.Histories.{Base, History}
 use Rattle.im_types.specs.Lawful.{IsLawful}
 use Rattle.im_disk.specs.Runs.{Reads}
-use Rattle.im_log.specs.Opening.{IsBegun, IsOpening, position_of}
+use Rattle.im_log.specs.Opening.{IsBegun, IsOpening, HasRead, position_of}
 use Rattle.im_analysis.specs.Analysis.{IsAnalysed}
 use Rattle.im_redo.specs.Redo.{lsns_from}
 use Rattle.im_restart.proofs.reading.read_all.Given as goal
@@ -14,6 +14,7 @@ invariant-loop-lsns g l = record {
   working : l.opening.failed ≡ false;
   kept : (b : Base) (all : History) → IsOpening g.D.Disk 0 all [] l.fn.opening l.fn.disk → IsLawful b g.T.PageTree.tree all
       → (older : History) × IsOpening g.D.Disk 0 all older l.opening l.disk × IsAnalysed older l.analysis × (l.lsns.items ≡ lsns_from 0 older);
+  back : HasRead g.D.Disk 0 [] l.fn.opening l.fn.disk → (older : History) × HasRead g.D.Disk 0 older l.opening l.disk;
 }
 
 abbrev pub decreases-loop-lsns : goal.decreases-loop-lsns

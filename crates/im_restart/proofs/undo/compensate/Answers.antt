@@ -1,7 +1,8 @@
 use Rattle.std.proofs.Common.{◌≡◌, sym, ap, subst}
 use Rattle.im_record.specs.Entry.{Entry, InsertKey, DeleteKey, view, prev_of, transaction_of}
 use Rattle.im_record.specs.declared.record.Record.{Record}
-use Rattle.im_restart.specs.Undoing.{CompensateKept, IsToUndo, chain_of}
+use Rattle.im_restart.specs.LoserChains.{IsToUndo, chain_of}
+use Rattle.im_restart.specs.Undoing.{CompensateKept}
 use Rattle.im_restart.proofs.Compensations.{insert_undone, delete_undone}
 use Rattle.im_restart.proofs.KeyRecords.{no_key}
 use Rattle.im_restart.proofs.undo.compensate.Goals as goal

@@ -3,7 +3,8 @@ use Rattle.im_types.specs.Histories.{Base, History}
 use Rattle.im_types.specs.Writer.{Writer}
 use Rattle.im_flush.specs.PageWriter.{IsReadyWriter, StandsAs}
 use Rattle.im_analysis.specs.Losers.{AreLosers}
-use Rattle.im_restart.specs.Undoing.{AreChains, AreWaiting, IsUndoing, UndoGoes}
+use Rattle.im_restart.specs.LoserChains.{AreChains, AreWaiting}
+use Rattle.im_restart.specs.Undoing.{IsUndoing, UndoGoes}
 use Rattle.im_restart.proofs.Losers.{waiting}
 use Rattle.im_restart.proofs.undo.enter_all.Given as goal
 

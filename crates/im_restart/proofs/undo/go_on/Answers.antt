@@ -1,6 +1,6 @@
 use Rattle.std.proofs.Common.{subst}
 use Rattle.im_types.proofs.Fronts.{rises}
-use Rattle.im_restart.specs.Undoing.{GoesOnAt}
+use Rattle.im_restart.specs.LoserChains.{GoesOnAt}
 use Rattle.im_restart.proofs.Undos.{step_end, step_put}
 use Rattle.im_restart.proofs.undo.go_on.Goals as goal
 

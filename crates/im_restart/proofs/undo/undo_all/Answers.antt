@@ -1,7 +1,7 @@
 use Rattle.std.proofs.Common.{rules, ◌≢◌, ◌≤◌, refl, arith}
 use Rattle.std.proofs.lemmas.Grind.{common_steps}
 use Rattle.im_types.specs.declared.fault.Fault.TheVariants.{NotAStore}
-use Rattle.im_restart.specs.Undoing.{above, nobody}
+use Rattle.im_restart.specs.LoserChains.{above, nobody}
 use Rattle.im_restart.proofs.Bounds.{above_below, falls, none_left}
 use Rattle.im_restart.proofs.Losers.{chains_none, chains_taken}
 use Rattle.im_restart.proofs.Steps.{left_then, undo_start, undo_then}

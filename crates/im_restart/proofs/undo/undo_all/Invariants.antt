@@ -2,7 +2,8 @@ use Rattle.std.proofs.Common.{◌≡◌, ◌≤◌, false, length}
 use Rattle.im_types.specs.Histories.{Base, History}
 use Rattle.im_types.specs.Writer.{Writer}
 use Rattle.im_flush.specs.PageWriter.{IsReadyWriter, StandsAs}
-use Rattle.im_restart.specs.Undoing.{AreChains, IsUndoing, MayUndo, UndoGoes, above, nobody}
+use Rattle.im_restart.specs.LoserChains.{AreChains, above, nobody}
+use Rattle.im_restart.specs.Undoing.{IsUndoing, MayUndo, UndoGoes}
 use Rattle.im_restart.proofs.undo.undo_all.Given as goal
 
 abbrev pub invariant-loop-lsn : goal.invariant-loop-lsn

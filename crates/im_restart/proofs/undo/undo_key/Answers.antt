@@ -1,7 +1,8 @@
 use Rattle.std.proofs.Common.{rules, ◌≢◌, sym, subst}
 use Rattle.im_types.specs.declared.fault.Fault.TheVariants.{NotAStore}
 use Rattle.im_record.specs.Entry.{view, prev_of}
-use Rattle.im_restart.specs.Undoing.{Compensated, GoesOnAt, IsToUndo, chain_of}
+use Rattle.im_restart.specs.LoserChains.{GoesOnAt, IsToUndo, chain_of}
+use Rattle.im_restart.specs.Undoing.{Compensated}
 use Rattle.im_restart.proofs.Readings.{goes_behind}
 use Rattle.im_restart.proofs.Undos.{chains_then, step_then}
 use Rattle.im_restart.proofs.undo.undo_key.Goals as goal

@@ -1,5 +1,5 @@
 use Rattle.std.proofs.Common.{sym, ◌∙◌, subst}
-use Rattle.im_restart.specs.Undoing.{GoesOnAt}
+use Rattle.im_restart.specs.LoserChains.{GoesOnAt}
 use Rattle.im_restart.proofs.Readings.{leads_so, leads_somewhere, to_undo_here}
 use Rattle.im_record.specs.Entry.{view}
 use Rattle.im_restart.proofs.undo.undo_record.Goals as goal

@@ -1,4 +1,4 @@
-use Rattle.std.proofs.Common.{◌≡◌, Option, Some, None, refl, subst}
+use Rattle.std.proofs.Common.{◌≡◌, Option, Some, refl, subst}
 use Rattle.im_drill.specs.StoreReading.{IsStoreRead}
 use Rattle.im_drill.specs.declared.store_reading.OpenLife.{OpenLife}
 use Rattle.im_drill.proofs.ReadStoreLines.{end_more}

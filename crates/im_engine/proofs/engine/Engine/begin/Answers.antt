@@ -1,4 +1,4 @@
-use Rattle.std.proofs.Common.{refl, sym, ◌∙◌}
+use Rattle.std.proofs.Common.{refl, sym, ◌∙◌, arith}
 use Rattle.im_types.specs.Answers.{Begin, Started}
 use Rattle.im_engine.proofs.Shown.{none_of}
 use Rattle.im_engine.proofs.Running.{nothing_left, stops_now, goes_on}
@@ -11,5 +11,5 @@ returns-clause-kept g c before s life =
     let old = c.args.self.now in
     let r = life.running c.if-self.false in
     let none = none_of old.going (sym c.is_some.ensures ∙ c.if-is_some.false) in
-    goes_on g.D.Disk before s Begin (Started old.next) refl (λ e. cc e) old _ (nothing_left g.D.Disk before old.disk (Allowed before s) (g.met.D.Disk.only_now old.disk) (stops_now g.D.Disk before s old r))
-    c.if-self.false (life.failed ∙ c.if-self.false) tt (begin_step g.D.Disk before s old _ r none refl refl refl refl c.if-number-gt-NUMBERS.false)
+    goes_on g.D.Disk before s Begin (Started old.next) refl (λ e. cc e) old _ (nothing_left g.D.Disk before old.disk (Allowed old.split before s) (g.met.D.Disk.only_now old.disk) (stops_now g.D.Disk before s old r))
+    c.if-self.false (life.failed ∙ c.if-self.false) tt (begin_step g.D.Disk before s old _ r none refl refl refl refl refl c.if-number-gt-NUMBERS.false) (λ le. absurd (omega (arith, le)))

@@ -1,7 +1,7 @@
 use Rattle.std.proofs.Common.{[], inl, inr, ⊎_elim, ◌≡◌, refl, arith, Err, ◌∙◌}
 use Rattle.im_types.specs.declared.reply.Reply.TheVariants.{Committed}
 use Rattle.im_types.specs.declared.fault.Fault.TheVariants.{LogFull, Device}
-use Rattle.im_engine.proofs.Ends.{commit_refused, commit_empty, commit_ends, commit_breaks, causes}
+use Rattle.im_engine.proofs.Ends.{has_changed, commit_refused, commit_empty, commit_ends, commit_breaks, causes}
 use Rattle.im_engine.proofs.Checks as checks
 use Rattle.im_engine.proofs.engine.Engine.commit.Goals as goal
 
@@ -12,21 +12,21 @@ returns-in-Err-clause-kept g c before s life =
 pub returns-then-transaction-eq0-clause-kept : goal.returns-then-transaction-eq0-clause-kept
 returns-then-transaction-eq0-clause-kept g c before s life =
     let checked = c.in-Ok.ensures.ok in
-    commit_empty g.D.Disk before s c.in-Ok.transaction c.args.number checked.2 c.args.self.now _ life checked.0 checked.1 c.if-transaction-eq0.true refl refl refl refl checked.0 (g.met.D.Disk.only_now c.args.self.now.disk)
+    commit_empty g.D.Disk before s c.in-Ok.transaction c.args.number checked.2 c.args.self.now _ life checked.0 checked.1 c.if-transaction-eq0.true refl refl refl refl refl checked.0 (g.met.D.Disk.only_now c.args.self.now.disk)
 
 pub returns-in-Ok-log_commit-clause-kept : goal.returns-in-Ok-log_commit-clause-kept
 returns-in-Ok-log_commit-clause-kept g c before s life =
     let checked = c.in-Ok.ensures.ok in
     let made = c.in-Ok-log_commit.ensures in
     commit_ends g.D.Disk before s c.in-Ok.transaction c.args.number checked.2 c.args.self.now c.log_commit.new.self life checked.0 _
-    (made.kept before s (life.running checked.0) checked.1 (omega (arith, c.if-transaction-eq0.false))) refl made.failed
+    (made.kept before s (life.running checked.0) checked.1 (has_changed s c.args.self.now.going c.in-Ok.transaction checked.1 (life.changed checked.0) (omega (arith, c.if-transaction-eq0.false)))) refl made.failed made.ended
 
 pub returns-in-Err-log_commit-clause-kept : goal.returns-in-Err-log_commit-clause-kept
 returns-in-Err-log_commit-clause-kept g c before s life =
     let checked = c.in-Ok.ensures.ok in
     let made = c.in-Err-log_commit.ensures in
     commit_breaks g.D.Disk before s c.in-Ok.transaction c.args.number checked.2 c.args.self.now c.log_commit.new.self life checked.0 _
-    (made.kept before s (life.running checked.0) checked.1 (omega (arith, c.if-transaction-eq0.false))) _ (causes made.causes) made.failed (λ t f le left. g.met.D.Disk.counts_now c.log_commit.new.self.disk t f le left)
+    (made.kept before s (life.running checked.0) checked.1 (has_changed s c.args.self.now.going c.in-Ok.transaction checked.1 (life.changed checked.0) (omega (arith, c.if-transaction-eq0.false)))) _ (causes made.causes) made.failed (λ t f le left. g.met.D.Disk.counts_now c.log_commit.new.self.disk t f le left)
 
 pub returns-then-transaction-eq0-clause-answered : goal.returns-then-transaction-eq0-clause-answered
 returns-then-transaction-eq0-clause-answered g c =
@@ -56,9 +56,19 @@ returns-in-Err-log_commit-clause-answered g c =
     let made = c.in-Err-log_commit.ensures in
     record {
       entries = [];
-      read = checks.unread_late g.D.Disk c.args.self.now c.log_commit.new.self c.in-Err-log_commit.fault [] (⊎_elim (λ is. inl is) (λ is. inr (inr (inr is))) made.causes);
+      read = checks.unread_late g.D.Disk c.args.self.now c.log_commit.new.self [] c.in-Err-log_commit.fault [] (⊎_elim (λ is. inl is) (λ is. inr (inr (inr is))) made.causes);
       refused = λ other. checks.commit_refused g.D.Disk c.args.self.now c.log_commit.new.self c.args.number c.in-Ok.transaction checked.0 checked.1 checked.2 (omega (arith, c.if-transaction-eq0.false))
           c.in-Err-log_commit.fault (λ is. made.full.0 (λ j. Err (is j)))
           (λ is. ((λ full. let never : LogFull ≡ Device = cc (made.full.1 full) ∙ is in cc), made.device.0 (λ j. Err (is j)))) made.causes other;
+      answers = tt;
+    }
+
+pub returns-in-Err-clause-answered : goal.returns-in-Err-clause-answered
+returns-in-Err-clause-answered g c =
+    let old = c.args.self.now in
+    record {
+      entries = [];
+      read = checks.unread g.D.Disk old old [] c.in-Err.fault [] (⊎_elim (λ is. inl is) (λ is. inr (inl is)) c.in-Err.ensures.causes);
+      refused = λ other. checks.own_refused g.D.Disk old c.args.number c.in-Err.fault c.in-Err.ensures.refused other _;
       answers = tt;
     }

@@ -1,13 +1,15 @@
-use Rattle.std.proofs.Common.{[], ℕ, Option, Err, refl, sym, ap, ◌∙◌}
+use Rattle.std.proofs.Common.{[], inl, inr, ⊎_elim, ℕ, Bool, Option, Some, Err, refl, sym, ap, subst, ◌∙◌, ◌≡◌, true, false}
 use Rattle.std.specs.Prelude.{is_some, if◌then◌else◌}
 use Rattle.im_types.specs.Answers as answers
-use Rattle.im_types.specs.Pages.{Page}
+use Rattle.im_types.specs.Changes.{Drop}
+use Rattle.im_types.specs.Lives.{adds}
 use Rattle.im_types.specs.declared.reply.Reply.TheVariants.{Absent, Deleted}
 use Rattle.im_pool.specs.Pool.{page_at}
-use Rattle.im_engine.proofs.Running.{looks}
-use Rattle.im_engine.proofs.Refusals.{early_kept, late_kept}
-use Rattle.im_engine.proofs.Keys.{delete_kept, page_lets_go, change_stops, change_again}
-use Rattle.im_engine.proofs.Checks.{access_refused, access_late, access_none, unread, unread_late}
+use Rattle.im_engine.specs.Checks.{active_number}
+use Rattle.im_engine.proofs.Running.{looks, leaf_says, leaf_now, says_now, leaves_then}
+use Rattle.im_engine.proofs.Steps.{edit_made}
+use Rattle.im_engine.proofs.Refusals.{early_kept, late_kept, edit_kept}
+use Rattle.im_engine.proofs.Checks.{access_refused, delete_refused, delete_none, unread, unread_late, unread_edit, writer_cause, change_cause, drop_edit, drop_wants, drop_breaks}
 use Rattle.im_engine.proofs.engine.Engine.delete.Goals as goal
 
 pub returns-in-Err-clause-kept : goal.returns-in-Err-clause-kept
@@ -20,99 +22,161 @@ returns-in-Err-clause-answered g c =
     let old = c.args.self.now in
     record {
       entries = [];
-      read = unread g.D.Disk old old c.in-Err.fault [] c.in-Err.ensures.causes;
+      read = unread g.D.Disk old old c.args.key.now c.in-Err.fault [] c.in-Err.ensures.causes;
       refused = λ other. access_refused g.D.Disk old c.args.number c.in-Err.fault c.args.key.now c.in-Err.ensures.refused other _;
       answers = tt;
     }
 
-pub returns-in-Err-root-clause-kept : goal.returns-in-Err-root-clause-kept
-returns-in-Err-root-clause-kept g c before s life =
+pub returns-in-Err-leaf-clause-kept : goal.returns-in-Err-leaf-clause-kept
+returns-in-Err-leaf-clause-kept g c before s life =
     let checked = c.in-Ok.ensures.ok in
-    let kept = c.in-Err-root.ensures.kept before s (life.running checked.0) in
-    late_kept g.D.Disk before s (answers.Do c.args.number (answers.Delete c.args.key.now)) refl (λ n. refl) c.args.self.now c.root.new.self life checked.0 kept.stops
-    (λ t f le left. g.met.D.Disk.counts_now c.root.new.self.disk t f le left) c.in-Err-root.fault c.in-Err-root.ensures.causes kept.again kept.cause c.in-Err-root.ensures.fails
+    let kept = c.in-Err-leaf.ensures.kept before s (life.running checked.0) in
+    late_kept g.D.Disk before s (answers.Do c.args.number (answers.Delete c.args.key.now)) refl (λ n. refl) c.args.self.now c.leaf.new.self life checked.0 (λ _. c.in-Err-leaf.ensures.going) kept.stops
+    (λ t f le left. g.met.D.Disk.counts_now c.leaf.new.self.disk t f le left) c.in-Err-leaf.fault c.in-Err-leaf.ensures.causes kept.again kept.cause c.in-Err-leaf.ensures.fails
 
-pub returns-in-Err-root-clause-answered : goal.returns-in-Err-root-clause-answered
-returns-in-Err-root-clause-answered g c =
+pub returns-in-Err-leaf-clause-answered : goal.returns-in-Err-leaf-clause-answered
+returns-in-Err-leaf-clause-answered g c =
     let old = c.args.self.now in
     let checked = c.in-Ok.ensures.ok in
     record {
       entries = [];
-      read = unread_late g.D.Disk old c.root.new.self c.in-Err-root.fault [] c.in-Err-root.ensures.causes;
-      refused = λ other. access_late g.D.Disk old c.args.number c.in-Ok.transaction checked.0 checked.1 checked.2 c.root.new.self c.args.key.now checked.3 checked.4 c.in-Err-root.fault c.in-Err-root.ensures.cause other;
+      read = unread_late g.D.Disk old c.leaf.new.self c.args.key.now c.in-Err-leaf.fault [] c.in-Err-leaf.ensures.causes;
+      refused = λ other. delete_refused g.D.Disk old c.args.number c.in-Ok.transaction checked.0 checked.1 checked.2 c.leaf.new.self c.args.key.now checked.3 checked.4 c.in-Err-leaf.fault (writer_cause g.D.Disk c.leaf.new.self.writer.log c.leaf.new.self.disk c.in-Err-leaf.fault c.in-Err-leaf.ensures.causes c.in-Err-leaf.ensures.cause) other;
       answers = tt;
     }
 
 pub returns-in-None-clause-kept : goal.returns-in-None-clause-kept
 returns-in-None-clause-kept g c before s life =
     let checked = c.in-Ok.ensures.ok in
-    let kept = c.in-Ok-root.ensures.kept before s (life.running checked.0) in
-    looks g.D.Disk before s (answers.Do c.args.number (answers.Delete c.args.key.now)) answers.Absent refl (λ e. cc e) c.args.self.now c.root.new.self kept.stops
-    checked.0 life c.in-Ok-root.ensures.works refl tt kept.ok.running
+    let kept = c.in-Ok-leaf.ensures.kept before s (life.running checked.0) in
+    looks g.D.Disk before s (answers.Do c.args.number (answers.Delete c.args.key.now)) answers.Absent refl (λ e. cc e) c.args.self.now c.leaf.new.self kept.stops
+    checked.0 life c.in-Ok-leaf.ensures.works refl tt kept.ok.looked.running c.in-Ok-leaf.ensures.going
 
 pub returns-in-None-clause-answered : goal.returns-in-None-clause-answered
 returns-in-None-clause-answered g c =
     let old = c.args.self.now in
     let checked = c.in-Ok.ensures.ok in
     record {
-      entries = (page_at c.root.new.self.writer.pool 1).body.entries;
+      entries = (page_at c.leaf.new.self.writer.pool c.in-Ok-leaf.frame.number).body.entries;
       read = record {
-        shown = λ _. refl;
-        logged = λ h before s r. let l = (c.in-Ok-root.ensures.kept before s r).ok in ap (λ (p : Page). p.body.entries) (l.page ∙ l.still 1);
+        shown = λ _. (c.in-Ok-leaf.frame.number, c.in-Ok-leaf.ensures.leaf, refl);
+        logged = λ h before s r. leaf_says g.D.Disk before s old r c.args.key.now c.in-Ok-leaf.frame.number c.leaf.new.self (c.in-Ok-leaf.ensures.kept before s r).ok;
       };
-      refused = λ other. access_none g.D.Disk old c.args.number c.in-Ok.transaction checked.0 checked.1 checked.2 c.root.new.self c.args.key.now checked.3 checked.4 Absent (λ x e. cc e) other;
+      refused = λ other. delete_none g.D.Disk old c.args.number c.in-Ok.transaction checked.0 checked.1 checked.2 c.leaf.new.self c.args.key.now checked.3 checked.4 Absent (λ x e. cc e) other;
       answers = ap (λ (o : Option ℕ). if is_some o then answers.Deleted else answers.Absent) c.in-None.ensures;
     }
 
-pub returns-in-Ok-log_change-clause-kept : goal.returns-in-Ok-log_change-clause-kept
-returns-in-Ok-log_change-clause-kept g c before s life =
+pub returns-in-Err-take-clause-kept : goal.returns-in-Err-take-clause-kept
+returns-in-Err-take-clause-kept g c before s life =
     let old = c.args.self.now in
     let checked = c.in-Ok.ensures.ok in
     let r = life.running checked.0 in
-    let kept = c.in-Ok-root.ensures.kept before s r in
-    let logged = c.in-Ok-log_change.ensures in
-    delete_kept g.D.Disk before s old r c.root.new.self kept.ok kept.stops c.args.key.now c.in-Ok.transaction c.in-Some.rid c.args.number c.in-Ok-log_change.field-0 checked.2 c.log_change.new.self
-    life checked.0 (c.in-Ok-root.ensures.going ∙ checked.1) logged.next logged.ok.0 logged.ok.1 (sym c.in-Some.ensures)
-    (logged.kept kept.ok.running.now kept.ok.running.redo_end kept.ok.running.stands kept.ok.running.over)
+    let found = c.in-Ok-leaf.ensures.kept before s r in
+    let l = found.ok in
+    let p = c.in-Ok-leaf.frame.number in
+    let kept = c.in-Err-take.ensures.kept before s l.looked.running (c.in-Ok-leaf.ensures.going ∙ checked.1) (leaf_now g.D.Disk before s old r c.args.key.now p c.leaf.new.self l)
+    (sym (says_now g.D.Disk before s old r c.args.key.now p c.leaf.new.self l) ∙ sym c.in-Some.ensures) in
+    late_kept g.D.Disk before s (answers.Do c.args.number (answers.Delete c.args.key.now)) refl (λ n. refl) old c.take.new.self life checked.0 (λ _. c.in-Err-take.ensures.fails.1 ∙ c.in-Ok-leaf.ensures.going)
+    (leaves_then g.D.Disk before c.leaf.new.self.split c.take.new.self.split (λ is. c.in-Err-take.ensures.split ∙ is) s old.disk c.leaf.new.self.disk c.take.new.self.disk found.stops kept.stops)
+    (λ t f le left. g.met.D.Disk.counts_now c.take.new.self.disk t f le left) c.in-Err-take.fault c.in-Err-take.ensures.causes (λ is. kept.again (inl is)) kept.cause c.in-Err-take.ensures.fails.0
 
-pub returns-in-Ok-log_change-clause-answered : goal.returns-in-Ok-log_change-clause-answered
-returns-in-Ok-log_change-clause-answered g c =
+pub returns-in-Err-take-clause-answered : goal.returns-in-Err-take-clause-answered
+returns-in-Err-take-clause-answered g c =
     let old = c.args.self.now in
     let checked = c.in-Ok.ensures.ok in
     record {
-      entries = (page_at c.root.new.self.writer.pool 1).body.entries;
+      entries = [];
+      read = unread_late g.D.Disk old c.take.new.self c.args.key.now c.in-Err-take.fault [] c.in-Err-take.ensures.causes;
+      refused = λ other. delete_refused g.D.Disk old c.args.number c.in-Ok.transaction checked.0 checked.1 checked.2 c.take.new.self c.args.key.now checked.3 checked.4 c.in-Err-take.fault (writer_cause g.D.Disk c.take.new.self.writer.log c.take.new.self.disk c.in-Err-take.fault c.in-Err-take.ensures.causes c.in-Err-take.ensures.cause) other;
+      answers = tt;
+    }
+
+pub returns-then-not-last_entry-clause-kept : goal.returns-then-not-last_entry-clause-kept
+returns-then-not-last_entry-clause-kept g c before s life =
+    let old = c.args.self.now in
+    let checked = c.in-Ok.ensures.ok in
+    let r = life.running checked.0 in
+    let found = c.in-Ok-leaf.ensures.kept before s r in
+    let l = found.ok in
+    let p = c.in-Ok-leaf.frame.number in
+    let kept = c.in-Ok-take.ensures.kept before s l.looked.running (c.in-Ok-leaf.ensures.going ∙ checked.1) (leaf_now g.D.Disk before s old r c.args.key.now p c.leaf.new.self l)
+    (sym (says_now g.D.Disk before s old r c.args.key.now p c.leaf.new.self l) ∙ sym c.in-Some.ensures) in
+    edit_made g.D.Disk before s (answers.Do c.args.number (answers.Delete c.args.key.now)) answers.Deleted c.args.number (Drop c.args.key.now 0) refl (λ e. cc e) refl old c.take.new.self life checked.0 tt
+    (leaves_then g.D.Disk before c.leaf.new.self.split c.take.new.self.split (λ is. c.in-Ok-take.ensures.split ∙ is) s old.disk c.leaf.new.self.disk c.take.new.self.disk found.stops kept.stops)
+    c.in-Ok-take.ensures.ok.0 c.in-Ok.transaction.number checked.2 kept.ok (ap active_number c.in-Ok-take.ensures.ok.1 ∙ ap (λ (n : ℕ). Some n) checked.2)
+
+pub returns-then-not-last_entry-clause-answered : goal.returns-then-not-last_entry-clause-answered
+returns-then-not-last_entry-clause-answered g c =
+    let old = c.args.self.now in
+    let checked = c.in-Ok.ensures.ok in
+    record {
+      entries = (page_at c.leaf.new.self.writer.pool c.in-Ok-leaf.frame.number).body.entries;
       read = record {
         shown = λ h. cc h;
-        logged = λ h before s r. let l = (c.in-Ok-root.ensures.kept before s r).ok in ap (λ (p : Page). p.body.entries) (l.page ∙ l.still 1);
+        logged = λ h before s r. leaf_says g.D.Disk before s old r c.args.key.now c.in-Ok-leaf.frame.number c.leaf.new.self (c.in-Ok-leaf.ensures.kept before s r).ok;
       };
-      refused = λ other. access_none g.D.Disk old c.args.number c.in-Ok.transaction checked.0 checked.1 checked.2 c.log_change.new.self c.args.key.now checked.3 checked.4 Deleted (λ x e. cc e) other;
+      refused = λ other. delete_none g.D.Disk old c.args.number c.in-Ok.transaction checked.0 checked.1 checked.2 c.take.new.self c.args.key.now checked.3 checked.4 Deleted (λ x e. cc e) other;
       answers = ap (λ (o : Option ℕ). if is_some o then answers.Deleted else answers.Absent) c.in-Some.ensures;
     }
 
-pub returns-in-Err-log_change-clause-kept : goal.returns-in-Err-log_change-clause-kept
-returns-in-Err-log_change-clause-kept g c before s life =
+pub returns-in-Ok-drop_leaf-clause-kept : goal.returns-in-Ok-drop_leaf-clause-kept
+returns-in-Ok-drop_leaf-clause-kept g c before s life =
     let old = c.args.self.now in
     let checked = c.in-Ok.ensures.ok in
     let r = life.running checked.0 in
-    let kept = c.in-Ok-root.ensures.kept before s r in
-    let l = kept.ok in
-    let logged = c.in-Err-log_change.ensures in
-    let made = logged.kept l.running.now l.running.redo_end l.running.stands l.running.over in
-    late_kept g.D.Disk before s (answers.Do c.args.number (answers.Delete c.args.key.now)) refl (λ n. refl) old c.log_change.new.self life checked.0
-    (change_stops g.D.Disk before s old r c.root.new.self l kept.stops c.args.key.now c.log_change.new.self _ _ made)
-    (λ t f le left. g.met.D.Disk.counts_now c.log_change.new.self.disk t f le left) c.in-Err-log_change.fault c.in-Err-log_change.ensures.causes
-    (change_again g.D.Disk before s old r c.root.new.self l c.log_change.new.self _ c.in-Err-log_change.fault made logged.fails.1 logged.next)
-    (made.cause (page_lets_go g.D.Disk before s old r c.root.new.self l kept.stops c.args.key.now c.in-Ok.transaction c.in-Some.rid (sym c.in-Some.ensures)))
-    logged.fails.0
+    let found = c.in-Ok-leaf.ensures.kept before s r in
+    let l = found.ok in
+    let p = c.in-Ok-leaf.frame.number in
+    let kept = c.in-Ok-take.ensures.kept before s l.looked.running (c.in-Ok-leaf.ensures.going ∙ checked.1) (leaf_now g.D.Disk before s old r c.args.key.now p c.leaf.new.self l)
+    (sym (says_now g.D.Disk before s old r c.args.key.now p c.leaf.new.self l) ∙ sym c.in-Some.ensures) in
+    let shown = adds c.in-Ok.transaction.number (Drop c.args.key.now 0) s in
+    let gone = c.in-Ok-drop_leaf.ensures.kept before shown kept.ok c.in-Ok-take.ensures.ok.1 in
+    let leaves = leaves_then g.D.Disk before c.leaf.new.self.split c.drop_leaf.new.self.split (λ is. c.drop_leaf.ensures.split (c.in-Ok-take.ensures.split ∙ is)) s old.disk c.leaf.new.self.disk c.drop_leaf.new.self.disk found.stops
+    (leaves_then g.D.Disk before c.take.new.self.split c.drop_leaf.new.self.split c.drop_leaf.ensures.split s c.leaf.new.self.disk c.take.new.self.disk c.drop_leaf.new.self.disk kept.stops gone.stops) in
+    edit_made g.D.Disk before s (answers.Do c.args.number (answers.Delete c.args.key.now)) answers.Deleted c.args.number (Drop c.args.key.now 0) refl (λ e. cc e) refl old c.drop_leaf.new.self life checked.0 tt
+    leaves c.in-Ok-drop_leaf.ensures.works c.in-Ok.transaction.number checked.2 gone.ok (c.in-Ok-drop_leaf.ensures.active (ap active_number c.in-Ok-take.ensures.ok.1) ∙ ap (λ (n : ℕ). Some n) checked.2)
 
-pub returns-in-Err-log_change-clause-answered : goal.returns-in-Err-log_change-clause-answered
-returns-in-Err-log_change-clause-answered g c =
+pub returns-in-Ok-drop_leaf-clause-answered : goal.returns-in-Ok-drop_leaf-clause-answered
+returns-in-Ok-drop_leaf-clause-answered g c =
     let old = c.args.self.now in
     let checked = c.in-Ok.ensures.ok in
-    let logged = c.in-Err-log_change.ensures in
     record {
-      entries = [];
-      read = unread_late g.D.Disk old c.log_change.new.self c.in-Err-log_change.fault [] logged.causes;
-      refused = λ other. access_late g.D.Disk old c.args.number c.in-Ok.transaction checked.0 checked.1 checked.2 c.log_change.new.self c.args.key.now checked.3 checked.4 c.in-Err-log_change.fault logged.cause other;
+      entries = (page_at c.leaf.new.self.writer.pool c.in-Ok-leaf.frame.number).body.entries;
+      read = record {
+        shown = λ h. cc h;
+        logged = λ h before s r. leaf_says g.D.Disk before s old r c.args.key.now c.in-Ok-leaf.frame.number c.leaf.new.self (c.in-Ok-leaf.ensures.kept before s r).ok;
+      };
+      refused = λ other. delete_none g.D.Disk old c.args.number c.in-Ok.transaction checked.0 checked.1 checked.2 c.drop_leaf.new.self c.args.key.now checked.3 checked.4 Deleted (λ x e. cc e) other;
+      answers = ap (λ (o : Option ℕ). if is_some o then answers.Deleted else answers.Absent) c.in-Some.ensures;
+    }
+
+pub returns-in-Err-drop_leaf-clause-kept : goal.returns-in-Err-drop_leaf-clause-kept
+returns-in-Err-drop_leaf-clause-kept g c before s life =
+    let old = c.args.self.now in
+    let checked = c.in-Ok.ensures.ok in
+    let r = life.running checked.0 in
+    let found = c.in-Ok-leaf.ensures.kept before s r in
+    let l = found.ok in
+    let p = c.in-Ok-leaf.frame.number in
+    let kept = c.in-Ok-take.ensures.kept before s l.looked.running (c.in-Ok-leaf.ensures.going ∙ checked.1) (leaf_now g.D.Disk before s old r c.args.key.now p c.leaf.new.self l)
+    (sym (says_now g.D.Disk before s old r c.args.key.now p c.leaf.new.self l) ∙ sym c.in-Some.ensures) in
+    let shown = adds c.in-Ok.transaction.number (Drop c.args.key.now 0) s in
+    let gone = c.in-Err-drop_leaf.ensures.kept before shown kept.ok c.in-Ok-take.ensures.ok.1 in
+    let leaves = leaves_then g.D.Disk before c.leaf.new.self.split c.drop_leaf.new.self.split (λ is. c.drop_leaf.ensures.split (c.in-Ok-take.ensures.split ∙ is)) s old.disk c.leaf.new.self.disk c.drop_leaf.new.self.disk found.stops
+    (leaves_then g.D.Disk before c.take.new.self.split c.drop_leaf.new.self.split c.drop_leaf.ensures.split s c.leaf.new.self.disk c.take.new.self.disk c.drop_leaf.new.self.disk kept.stops gone.stops) in
+    edit_kept g.D.Disk before s (answers.Do c.args.number (answers.Delete c.args.key.now)) refl (λ n. refl) old c.drop_leaf.new.self life checked.0
+    (λ on. let never : true ≡ false = sym c.in-Err-drop_leaf.ensures.fails ∙ on in absurd (cc never)) leaves
+    (λ t f le left. g.met.D.Disk.counts_now c.drop_leaf.new.self.disk t f le left) c.in-Err-drop_leaf.fault (drop_edit c.in-Err-drop_leaf.fault c.in-Err-drop_leaf.ensures.causes)
+    (drop_wants c.in-Err-drop_leaf.fault c.in-Err-drop_leaf.ensures.causes) gone.cause (c.in-Err-drop_leaf.ensures.fails ∙ drop_breaks c.in-Err-drop_leaf.fault c.in-Err-drop_leaf.ensures.causes)
+
+pub returns-in-Err-drop_leaf-clause-answered : goal.returns-in-Err-drop_leaf-clause-answered
+returns-in-Err-drop_leaf-clause-answered g c =
+    let old = c.args.self.now in
+    let checked = c.in-Ok.ensures.ok in
+    record {
+      entries = (page_at c.leaf.new.self.writer.pool c.in-Ok-leaf.frame.number).body.entries;
+      read = unread_edit g.D.Disk old c.drop_leaf.new.self c.args.key.now c.in-Err-drop_leaf.fault _ (drop_edit c.in-Err-drop_leaf.fault c.in-Err-drop_leaf.ensures.causes)
+          (λ before s r. leaf_says g.D.Disk before s old r c.args.key.now c.in-Ok-leaf.frame.number c.leaf.new.self (c.in-Ok-leaf.ensures.kept before s r).ok);
+      refused = λ other. delete_refused g.D.Disk old c.args.number c.in-Ok.transaction checked.0 checked.1 checked.2 c.drop_leaf.new.self c.args.key.now checked.3 checked.4 c.in-Err-drop_leaf.fault (change_cause g.D.Disk c.drop_leaf.new.self.writer.log c.drop_leaf.new.self.disk c.in-Err-drop_leaf.fault c.in-Err-drop_leaf.ensures.causes (λ is. c.in-Err-drop_leaf.ensures.failed (λ j. Err (is j))) (λ is. c.in-Err-drop_leaf.ensures.no_room (λ j. Err (is j)))) other;
       answers = tt;
     }

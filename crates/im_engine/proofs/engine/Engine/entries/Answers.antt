@@ -1,34 +1,48 @@
-use Rattle.std.proofs.Common.{◌≡◌, ◌≢◌, List, ℕ, ap, ◌∙◌}
-use Rattle.im_types.specs.Changes.{Effect}
-use Rattle.im_types.specs.Lives.{Shown}
-use Rattle.im_types.specs.declared.fault.Fault.TheVariants.{NotAStore}
-use Rattle.im_engine.specs.Running.{IsLife}
-use Rattle.im_pool.specs.Pool.{page_at}
-use Rattle.im_engine.proofs.Lists.{look_kept, look_refused, entries_kept, listed}
-use Rattle.im_engine.proofs.Refusals.{handed_on}
+use Rattle.std.proofs.Common.{[], inl, refl, sym, ap, Err, ◌∙◌}
+use Rattle.im_tree.specs.Levels.{Pages, walk}
+use Rattle.im_one_page.specs.OnePage.{first_base}
+use Rattle.im_engine.proofs.Running.{has_tree, bodies_are, grown_stops, runs_goes, runs_evicted}
+use Rattle.im_engine.proofs.Checks.{of_writer, has_cause}
+use Rattle.im_engine.proofs.Lists.{look_kept, look_refused, entries_kept}
 use Rattle.im_engine.proofs.engine.Engine.entries.Goals as goal
 
-pub returns-in_err-frame-clause-kept : goal.returns-in_err-frame-clause-kept
-returns-in_err-frame-clause-kept g c before s life =
-    let got = c.in_err-frame.ensures in
-    let kept = got.kept before s (life.running c.if-self.false) in
-    look_refused g.D.Disk before s c.args.self.now c.root.new.self life kept.stops c.if-self.false c.in_err-frame.field-0.0 got.causes kept.again got.fails
-    (λ t f le left. g.met.D.Disk.counts_now c.root.new.self.disk t f le left)
-
-pub returns-in_err-frame-clause-never : goal.returns-in_err-frame-clause-never
-returns-in_err-frame-clause-never g c =
-    handed_on c.from_residual.result c.in_err-frame.field-0.0 (λ e. (before : List Effect) (s : Shown) → IsLife g.D.Disk before s c.args.self.now → e ≢ NotAStore) c.from_residual.ensures.1
-    (λ before s life. (c.in_err-frame.ensures.kept before s (life.running c.if-self.false)).cause)
-
-pub returns-clause-kept : goal.returns-clause-kept
-returns-clause-kept g c before s life =
-    let got = c.in_ok-frame.ensures in
-    let kept = got.kept before s (life.running c.if-self.false) in
-    look_kept g.D.Disk before s c.args.self.now c.root.new.self life kept.stops c.if-self.false got.works kept.ok.running
-
-pub returns-clause-entries : goal.returns-clause-entries
-returns-clause-entries g c = listed c.list_of.result (λ list. list.items ≡ c.page.result.now.body.entries) _ c.list_of.ensures.list
-    (λ list is before s life.
+pub returns-in-Ok-clause-kept : goal.returns-in-Ok-clause-kept
+returns-in-Ok-clause-kept g c before s life =
+    let old = c.args.self.now in
     let r = life.running c.if-self.false in
-    entries_kept g.D.Disk before s c.args.self.now r c.root.new.self (c.in_ok-frame.ensures.kept before s r).ok c.page.result.now list.items is
-    (c.page.ensures.page ∙ ap (λ (n : ℕ). page_at c.root.new.self.writer.pool n) c.in_ok-frame.ensures.frame))
+    let kept = c.in-Ok.ensures.kept first_base 0 r.now [] (has_tree g.D.Disk before s old r) in
+    look_kept g.D.Disk before s old _ life refl (grown_stops g.D.Disk before s old r c.entries.new.disk kept.stops) c.if-self.false refl (runs_goes g.D.Disk before s old r _ refl refl refl kept.ok.now kept.ok.on)
+
+pub returns-in-Ok-clause-walk : goal.returns-in-Ok-clause-walk
+returns-in-Ok-clause-walk g c before s r =
+    let old = c.args.self.now in
+    let kept = c.in-Ok.ensures.kept first_base 0 r.now [] (has_tree g.D.Disk before s old r) in
+    kept.ok.answer ∙ ap (λ (pages : Pages). walk pages) (bodies_are g.D.Disk before s old r)
+
+pub returns-in-Ok-clause-entries : goal.returns-in-Ok-clause-entries
+returns-in-Ok-clause-entries g c before s life =
+    let old = c.args.self.now in
+    let r = life.running c.if-self.false in
+    let kept = c.in-Ok.ensures.kept first_base 0 r.now [] (has_tree g.D.Disk before s old r) in
+    entries_kept g.D.Disk before s old r c.in-Ok.list.items (kept.ok.answer ∙ ap (λ (pages : Pages). walk pages) (bodies_are g.D.Disk before s old r))
+
+pub returns-in-Err-clause-kept : goal.returns-in-Err-clause-kept
+returns-in-Err-clause-kept g c before s life =
+    let old = c.args.self.now in
+    let r = life.running c.if-self.false in
+    let kept = c.in-Err.ensures.kept first_base 0 r.now [] (has_tree g.D.Disk before s old r) in
+    look_refused g.D.Disk before s old _ life refl (grown_stops g.D.Disk before s old r c.entries.new.disk kept.stops) c.if-self.false c.in-Err.fault
+    (of_writer c.in-Err.fault c.in-Err.ensures.causes (λ is. sym (c.in-Err.ensures.already.0 (λ j. Err (is j))) ∙ old.working c.if-self.false))
+    (λ is. runs_evicted g.D.Disk before s old r _ refl refl refl (kept.again (inl is))) c.breaks-self.ensures (λ t f le left. g.met.D.Disk.counts_now c.entries.new.disk t f le left)
+
+pub returns-in-Err-clause-never : goal.returns-in-Err-clause-never
+returns-in-Err-clause-never g c before s life =
+    let old = c.args.self.now in
+    let r = life.running c.if-self.false in
+    (c.in-Err.ensures.kept first_base 0 r.now [] (has_tree g.D.Disk before s old r)).cause
+
+pub returns-in-Err-clause-cause : goal.returns-in-Err-clause-cause
+returns-in-Err-clause-cause g c works =
+    let on = c.args.self.now.working works in
+    has_cause g.D.Disk _ _ c.in-Err.fault (of_writer c.in-Err.fault c.in-Err.ensures.causes (λ is. sym (c.in-Err.ensures.already.0 (λ j. Err (is j))) ∙ on))
+    (λ is. (c.in-Err.ensures.device on).0 (λ j. Err (is j))) (λ is. c.in-Err.ensures.no_room (λ j. Err (is j)))

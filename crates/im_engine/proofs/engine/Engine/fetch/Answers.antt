@@ -1,10 +1,8 @@
-use Rattle.std.proofs.Common.{[], ℕ, Option, Err, refl, ap, ◌∙◌}
+use Rattle.std.proofs.Common.{[], inl, inr, ⊎_elim, ℕ, Bool, Option, Some, Err, refl, sym, ap, subst, ◌∙◌, ◌≡◌}
 use Rattle.im_types.specs.Answers as answers
-use Rattle.im_types.specs.Pages.{Page}
-use Rattle.im_types.specs.declared.reply.Reply.TheVariants.{Found, Absent, Refused}
+use Rattle.im_types.specs.declared.reply.Reply.TheVariants.{Found, Absent}
 use Rattle.im_pool.specs.Pool.{page_at}
-use Rattle.im_engine.specs.Checks.{IsLate}
-use Rattle.im_engine.proofs.Running.{looks}
+use Rattle.im_engine.proofs.Running.{looks, leaf_says}
 use Rattle.im_engine.proofs.Refusals.{early_kept, late_kept}
 use Rattle.im_engine.proofs.Checks.{access_refused, access_late, access_none, unread, unread_late}
 use Rattle.im_engine.proofs.engine.Engine.fetch.Goals as goal
@@ -19,26 +17,26 @@ returns-in-Err-clause-answered g c =
     let old = c.args.self.now in
     record {
       entries = [];
-      read = unread g.D.Disk old old c.in-Err.fault [] c.in-Err.ensures.causes;
-      refused = λ other. access_refused g.D.Disk old c.args.number c.in-Err.fault c.args.key.now c.in-Err.ensures.refused other (IsLate g.D.Disk old.writer.log old.disk (Refused c.in-Err.fault) other);
+      read = unread g.D.Disk old old c.args.key.now c.in-Err.fault [] c.in-Err.ensures.causes;
+      refused = λ other. access_refused g.D.Disk old c.args.number c.in-Err.fault c.args.key.now c.in-Err.ensures.refused other _;
       answers = tt;
     }
 
-pub returns-in-Err-root-clause-kept : goal.returns-in-Err-root-clause-kept
-returns-in-Err-root-clause-kept g c before s life =
+pub returns-in-Err-leaf-clause-kept : goal.returns-in-Err-leaf-clause-kept
+returns-in-Err-leaf-clause-kept g c before s life =
     let checked = c.in_default.ensures.ok in
-    let kept = c.in-Err-root.ensures.kept before s (life.running checked.0) in
-    late_kept g.D.Disk before s (answers.Do c.args.number (answers.Fetch c.args.key.now)) refl (λ n. refl) c.args.self.now c.root.new.self life checked.0 kept.stops
-    (λ t f le left. g.met.D.Disk.counts_now c.root.new.self.disk t f le left) c.in-Err-root.fault c.in-Err-root.ensures.causes kept.again kept.cause c.in-Err-root.ensures.fails
+    let kept = c.in-Err-leaf.ensures.kept before s (life.running checked.0) in
+    late_kept g.D.Disk before s (answers.Do c.args.number (answers.Fetch c.args.key.now)) refl (λ n. refl) c.args.self.now c.leaf.new.self life checked.0 (λ _. c.in-Err-leaf.ensures.going) kept.stops
+    (λ t f le left. g.met.D.Disk.counts_now c.leaf.new.self.disk t f le left) c.in-Err-leaf.fault c.in-Err-leaf.ensures.causes kept.again kept.cause c.in-Err-leaf.ensures.fails
 
-pub returns-in-Err-root-clause-answered : goal.returns-in-Err-root-clause-answered
-returns-in-Err-root-clause-answered g c =
+pub returns-in-Err-leaf-clause-answered : goal.returns-in-Err-leaf-clause-answered
+returns-in-Err-leaf-clause-answered g c =
     let old = c.args.self.now in
     let checked = c.in_default.ensures.ok in
     record {
       entries = [];
-      read = unread_late g.D.Disk old c.root.new.self c.in-Err-root.fault [] c.in-Err-root.ensures.causes;
-      refused = λ other. access_late g.D.Disk old c.args.number c.in_default.field-0 checked.0 checked.1 checked.2 c.root.new.self c.args.key.now checked.3 checked.4 c.in-Err-root.fault c.in-Err-root.ensures.cause other;
+      read = unread_late g.D.Disk old c.leaf.new.self c.args.key.now c.in-Err-leaf.fault [] c.in-Err-leaf.ensures.causes;
+      refused = λ other. access_late g.D.Disk old c.args.number c.in_default.field-0 checked.0 checked.1 checked.2 c.leaf.new.self c.args.key.now checked.3 checked.4 c.in-Err-leaf.fault c.in-Err-leaf.ensures.cause other;
       answers = tt;
     }
 
@@ -46,20 +44,20 @@ pub returns-in-Some-clause-kept : goal.returns-in-Some-clause-kept
 returns-in-Some-clause-kept g c before s life =
     let checked = c.in_default.ensures.ok in
     let kept = c.in-Ok.ensures.kept before s (life.running checked.0) in
-    looks g.D.Disk before s (answers.Do c.args.number (answers.Fetch c.args.key.now)) (answers.Found c.in-Some.rid) refl (λ e. cc e) c.args.self.now c.root.new.self kept.stops
-    checked.0 life c.in-Ok.ensures.works refl tt kept.ok.running
+    looks g.D.Disk before s (answers.Do c.args.number (answers.Fetch c.args.key.now)) (answers.Found c.in-Some.rid) refl (λ e. cc e) c.args.self.now c.leaf.new.self kept.stops
+    checked.0 life c.in-Ok.ensures.works refl tt kept.ok.looked.running c.in-Ok.ensures.going
 
 pub returns-in-Some-clause-answered : goal.returns-in-Some-clause-answered
 returns-in-Some-clause-answered g c =
     let old = c.args.self.now in
     let checked = c.in_default.ensures.ok in
     record {
-      entries = (page_at c.root.new.self.writer.pool 1).body.entries;
+      entries = (page_at c.leaf.new.self.writer.pool c.in-Ok.frame.number).body.entries;
       read = record {
-        shown = λ _. refl;
-        logged = λ h before s r. let l = (c.in-Ok.ensures.kept before s r).ok in ap (λ (p : Page). p.body.entries) (l.page ∙ l.still 1);
+        shown = λ _. (c.in-Ok.frame.number, c.in-Ok.ensures.leaf, refl);
+        logged = λ h before s r. leaf_says g.D.Disk before s old r c.args.key.now c.in-Ok.frame.number c.leaf.new.self (c.in-Ok.ensures.kept before s r).ok;
       };
-      refused = λ other. access_none g.D.Disk old c.args.number c.in_default.field-0 checked.0 checked.1 checked.2 c.root.new.self c.args.key.now checked.3 checked.4 (Found c.in-Some.rid) (λ x e. cc e) other;
+      refused = λ other. access_none g.D.Disk old c.args.number c.in_default.field-0 checked.0 checked.1 checked.2 c.leaf.new.self c.args.key.now checked.3 checked.4 (Found c.in-Some.rid) (λ x e. cc e) other;
       answers = ap (λ (o : Option ℕ). answers.found o) c.in-Some.ensures;
     }
 
@@ -67,19 +65,19 @@ pub returns-in-None-clause-kept : goal.returns-in-None-clause-kept
 returns-in-None-clause-kept g c before s life =
     let checked = c.in_default.ensures.ok in
     let kept = c.in-Ok.ensures.kept before s (life.running checked.0) in
-    looks g.D.Disk before s (answers.Do c.args.number (answers.Fetch c.args.key.now)) answers.Absent refl (λ e. cc e) c.args.self.now c.root.new.self kept.stops
-    checked.0 life c.in-Ok.ensures.works refl tt kept.ok.running
+    looks g.D.Disk before s (answers.Do c.args.number (answers.Fetch c.args.key.now)) answers.Absent refl (λ e. cc e) c.args.self.now c.leaf.new.self kept.stops
+    checked.0 life c.in-Ok.ensures.works refl tt kept.ok.looked.running c.in-Ok.ensures.going
 
 pub returns-in-None-clause-answered : goal.returns-in-None-clause-answered
 returns-in-None-clause-answered g c =
     let old = c.args.self.now in
     let checked = c.in_default.ensures.ok in
     record {
-      entries = (page_at c.root.new.self.writer.pool 1).body.entries;
+      entries = (page_at c.leaf.new.self.writer.pool c.in-Ok.frame.number).body.entries;
       read = record {
-        shown = λ _. refl;
-        logged = λ h before s r. let l = (c.in-Ok.ensures.kept before s r).ok in ap (λ (p : Page). p.body.entries) (l.page ∙ l.still 1);
+        shown = λ _. (c.in-Ok.frame.number, c.in-Ok.ensures.leaf, refl);
+        logged = λ h before s r. leaf_says g.D.Disk before s old r c.args.key.now c.in-Ok.frame.number c.leaf.new.self (c.in-Ok.ensures.kept before s r).ok;
       };
-      refused = λ other. access_none g.D.Disk old c.args.number c.in_default.field-0 checked.0 checked.1 checked.2 c.root.new.self c.args.key.now checked.3 checked.4 Absent (λ x e. cc e) other;
+      refused = λ other. access_none g.D.Disk old c.args.number c.in_default.field-0 checked.0 checked.1 checked.2 c.leaf.new.self c.args.key.now checked.3 checked.4 Absent (λ x e. cc e) other;
       answers = ap (λ (o : Option ℕ). answers.found o) c.in-None.ensures;
     }

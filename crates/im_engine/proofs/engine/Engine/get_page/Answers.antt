@@ -9,7 +9,7 @@ returns-in-Ok-clause-kept g c before s r =
     let old = c.args.self.now in
     let kept = c.in-Ok.ensures.kept first_base 0 r.now r.stands (λ q le. none_waits g.D.Disk before s old r q) in
     record {
-      ok = looked g.D.Disk before s old r _ refl refl c.args.number kept.ok;
+      ok = looked g.D.Disk before s old r _ refl refl refl c.args.number kept.ok;
       again = tt;
       stops = grown_stops g.D.Disk before s old r c.get.new.disk kept.stops;
       cause = tt;
@@ -21,7 +21,7 @@ returns-in-Err-clause-kept g c before s r =
     let kept = c.in-Err.ensures.kept first_base 0 r.now r.stands (λ q le. none_waits g.D.Disk before s old r q) in
     record {
       ok = tt;
-      again = λ is. runs_evicted g.D.Disk before s old r _ refl refl (kept.again (inl is));
+      again = λ is. runs_evicted g.D.Disk before s old r _ refl refl refl (kept.again (inl is));
       stops = grown_stops g.D.Disk before s old r c.get.new.disk kept.stops;
       cause = kept.cause;
     }

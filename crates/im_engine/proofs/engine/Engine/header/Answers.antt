@@ -13,7 +13,7 @@ pub returns-in_err-frame-clause-kept : goal.returns-in_err-frame-clause-kept
 returns-in_err-frame-clause-kept g c before s life =
     let got = c.in_err-frame.ensures in
     let kept = got.kept before s (life.running c.if-self.false) in
-    look_refused g.D.Disk before s c.args.self.now c.get_page.new.self life kept.stops c.if-self.false c.in_err-frame.field-0.0 got.causes kept.again got.fails
+    look_refused g.D.Disk before s c.args.self.now c.get_page.new.self life got.going kept.stops c.if-self.false c.in_err-frame.field-0.0 got.causes kept.again got.fails
     (λ t f le left. g.met.D.Disk.counts_now c.get_page.new.self.disk t f le left)
 
 pub returns-in_err-frame-clause-never : goal.returns-in_err-frame-clause-never
@@ -25,7 +25,7 @@ pub returns-clause-kept : goal.returns-clause-kept
 returns-clause-kept g c before s life =
     let got = c.in_ok-frame.ensures in
     let kept = got.kept before s (life.running c.if-self.false) in
-    look_kept g.D.Disk before s c.args.self.now c.get_page.new.self life kept.stops c.if-self.false got.works kept.ok.running
+    look_kept g.D.Disk before s c.args.self.now c.get_page.new.self life got.going kept.stops c.if-self.false got.works kept.ok.running
 
 pub returns-clause-logged : goal.returns-clause-logged
 returns-clause-logged g c before s r =

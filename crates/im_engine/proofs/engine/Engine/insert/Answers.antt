@@ -1,14 +1,18 @@
-use Rattle.std.proofs.Common.{[], ℕ, Bool, Option, Err, refl, sym, ap, ◌∙◌}
+use Rattle.std.proofs.Common.{[], inl, inr, ⊎_elim, ℕ, Bool, Option, Some, Err, refl, sym, ap, subst, ◌∙◌, ◌≡◌, true, false}
 use Rattle.std.specs.Prelude.{is_some, if◌then◌else◌}
 use Rattle.im_types.specs.Answers as answers
-use Rattle.im_types.specs.Pages.{Page}
+use Rattle.im_types.specs.Changes.{Put}
+use Rattle.im_types.specs.Lives.{adds}
 use Rattle.im_types.specs.declared.reply.Reply.TheVariants.{Duplicate, Inserted}
 use Rattle.im_pool.specs.Pool.{page_at}
+use Rattle.im_engine.specs.Checks.{active_number}
 use Rattle.im_engine.proofs.Shown.{none_of, some_of}
-use Rattle.im_engine.proofs.Running.{looks}
-use Rattle.im_engine.proofs.Refusals.{early_kept, late_kept, full_kept}
-use Rattle.im_engine.proofs.Keys.{insert_kept, page_takes, change_stops, change_again}
-use Rattle.im_engine.proofs.Checks.{access_refused, insert_late, insert_there, insert_full, insert_made, unread, unread_late}
+use Rattle.im_engine.proofs.Running.{looks, leaf_says, leaf_now, says_now, leaves_then}
+use Rattle.im_engine.proofs.Steps.{edit_made}
+use Rattle.im_engine.proofs.Keys.{room_now, lacks_now}
+use Rattle.im_engine.proofs.Limits.{limit_early, limit_late, limit_there, limit_room, limit_split, limit_refused}
+use Rattle.im_engine.proofs.Refusals.{early_kept, late_kept, edit_kept}
+use Rattle.im_engine.proofs.Checks.{access_refused, insert_refused, insert_none, unread, unread_late, unread_edit, writer_edit, insert_cause, device_of, room_of, full_never}
 use Rattle.im_engine.proofs.engine.Engine.insert.Goals as goal
 
 pub returns-in-Err-clause-kept : goal.returns-in-Err-clause-kept
@@ -21,130 +25,195 @@ returns-in-Err-clause-answered g c =
     let old = c.args.self.now in
     record {
       entries = [];
-      read = unread g.D.Disk old old c.in-Err.fault [] c.in-Err.ensures.causes;
+      read = unread g.D.Disk old old c.args.key.now c.in-Err.fault [] c.in-Err.ensures.causes;
       refused = λ other. access_refused g.D.Disk old c.args.number c.in-Err.fault c.args.key.now c.in-Err.ensures.refused other _;
       answers = tt;
     }
 
-pub returns-in-Err-root-clause-kept : goal.returns-in-Err-root-clause-kept
-returns-in-Err-root-clause-kept g c before s life =
-    let checked = c.in-Ok.ensures.ok in
-    let kept = c.in-Err-root.ensures.kept before s (life.running checked.0) in
-    late_kept g.D.Disk before s (answers.Do c.args.number (answers.Insert c.args.key.now c.args.rid)) refl (λ n. refl) c.args.self.now c.root.new.self life checked.0 kept.stops
-    (λ t f le left. g.met.D.Disk.counts_now c.root.new.self.disk t f le left) c.in-Err-root.fault c.in-Err-root.ensures.causes kept.again kept.cause c.in-Err-root.ensures.fails
+pub returns-in-Err-clause-limit : goal.returns-in-Err-clause-limit
+returns-in-Err-clause-limit g c before s r = limit_early g.D.Disk before s c.args.self.now r c.args.key.now c.in-Err.fault c.in-Err.ensures.causes
 
-pub returns-in-Err-root-clause-answered : goal.returns-in-Err-root-clause-answered
-returns-in-Err-root-clause-answered g c =
+pub returns-in-Err-leaf-clause-kept : goal.returns-in-Err-leaf-clause-kept
+returns-in-Err-leaf-clause-kept g c before s life =
+    let checked = c.in-Ok.ensures.ok in
+    let kept = c.in-Err-leaf.ensures.kept before s (life.running checked.0) in
+    late_kept g.D.Disk before s (answers.Do c.args.number (answers.Insert c.args.key.now c.args.rid)) refl (λ n. refl) c.args.self.now c.leaf.new.self life checked.0 (λ _. c.in-Err-leaf.ensures.going) kept.stops
+    (λ t f le left. g.met.D.Disk.counts_now c.leaf.new.self.disk t f le left) c.in-Err-leaf.fault c.in-Err-leaf.ensures.causes kept.again kept.cause c.in-Err-leaf.ensures.fails
+
+pub returns-in-Err-leaf-clause-answered : goal.returns-in-Err-leaf-clause-answered
+returns-in-Err-leaf-clause-answered g c =
     let old = c.args.self.now in
     let checked = c.in-Ok.ensures.ok in
     record {
       entries = [];
-      read = unread_late g.D.Disk old c.root.new.self c.in-Err-root.fault [] c.in-Err-root.ensures.causes;
-      refused = λ other. insert_late g.D.Disk old c.args.number c.in-Ok.transaction checked.0 checked.1 checked.2 c.root.new.self c.args.key.now checked.3 checked.4
-          c.in-Err-root.fault [] c.in-Err-root.ensures.causes c.in-Err-root.ensures.cause other;
+      read = unread_late g.D.Disk old c.leaf.new.self c.args.key.now c.in-Err-leaf.fault [] c.in-Err-leaf.ensures.causes;
+      refused = λ other. insert_refused g.D.Disk old c.args.number c.in-Ok.transaction checked.0 checked.1 checked.2 c.leaf.new.self c.args.key.now checked.3 checked.4 [] c.in-Err-leaf.fault (insert_cause g.D.Disk c.leaf.new.self.writer.log c.leaf.new.self.disk [] c.args.key.now c.in-Err-leaf.fault (writer_edit c.in-Err-leaf.fault c.in-Err-leaf.ensures.causes) (full_never c.in-Err-leaf.fault c.in-Err-leaf.ensures.causes) (device_of g.D.Disk c.leaf.new.self.writer.log c.leaf.new.self.disk c.in-Err-leaf.fault c.in-Err-leaf.ensures.cause) (room_of g.D.Disk c.leaf.new.self.writer.log c.leaf.new.self.disk c.in-Err-leaf.fault c.in-Err-leaf.ensures.cause)) other;
       answers = tt;
     }
+
+pub returns-in-Err-leaf-clause-limit : goal.returns-in-Err-leaf-clause-limit
+returns-in-Err-leaf-clause-limit g c before s r = limit_late g.D.Disk before s c.args.self.now r c.args.key.now c.in-Err-leaf.fault c.in-Err-leaf.ensures.causes
 
 pub returns-then-is_some-clause-kept : goal.returns-then-is_some-clause-kept
 returns-then-is_some-clause-kept g c before s life =
     let checked = c.in-Ok.ensures.ok in
-    let kept = c.in-Ok-root.ensures.kept before s (life.running checked.0) in
-    looks g.D.Disk before s (answers.Do c.args.number (answers.Insert c.args.key.now c.args.rid)) answers.Duplicate refl (λ e. cc e) c.args.self.now c.root.new.self kept.stops
-    checked.0 life c.in-Ok-root.ensures.works refl tt kept.ok.running
+    let kept = c.in-Ok-leaf.ensures.kept before s (life.running checked.0) in
+    looks g.D.Disk before s (answers.Do c.args.number (answers.Insert c.args.key.now c.args.rid)) answers.Duplicate refl (λ e. cc e) c.args.self.now c.leaf.new.self kept.stops
+    checked.0 life c.in-Ok-leaf.ensures.works refl tt kept.ok.looked.running c.in-Ok-leaf.ensures.going
 
 pub returns-then-is_some-clause-answered : goal.returns-then-is_some-clause-answered
 returns-then-is_some-clause-answered g c =
     let old = c.args.self.now in
     let checked = c.in-Ok.ensures.ok in
-    let there = ap (λ (o : Option ℕ). is_some o) (sym c.row_id.ensures) ∙ sym c.is_some.ensures ∙ c.if-is_some.true in
     record {
-      entries = (page_at c.root.new.self.writer.pool 1).body.entries;
+      entries = (page_at c.leaf.new.self.writer.pool c.in-Ok-leaf.frame.number).body.entries;
       read = record {
-        shown = λ _. refl;
-        logged = λ h before s r. let l = (c.in-Ok-root.ensures.kept before s r).ok in ap (λ (p : Page). p.body.entries) (l.page ∙ l.still 1);
+        shown = λ _. (c.in-Ok-leaf.frame.number, c.in-Ok-leaf.ensures.leaf, refl);
+        logged = λ h before s r. leaf_says g.D.Disk before s old r c.args.key.now c.in-Ok-leaf.frame.number c.leaf.new.self (c.in-Ok-leaf.ensures.kept before s r).ok;
       };
-      refused = λ other. insert_there g.D.Disk old c.args.number c.in-Ok.transaction checked.0 checked.1 checked.2 c.root.new.self c.args.key.now checked.3 checked.4
-          Duplicate _ refl (some_of _ there) (λ x e. cc e) other;
-      answers = sym (ap (λ (b : Bool). if b then answers.Duplicate else answers.Inserted) there);
+      refused = λ other. insert_none g.D.Disk old c.args.number c.in-Ok.transaction checked.0 checked.1 checked.2 c.leaf.new.self c.args.key.now checked.3 checked.4 _ Duplicate (λ x e. cc e) other;
+      answers = sym (ap (λ (b : Bool). if b then answers.Duplicate else answers.Inserted) (ap (λ (o : Option ℕ). is_some o) (sym c.row_id.ensures) ∙ sym c.is_some.ensures ∙ c.if-is_some.true));
     }
 
-pub returns-then-not-has_room-clause-kept : goal.returns-then-not-has_room-clause-kept
-returns-then-not-has_room-clause-kept g c before s life =
-    let checked = c.in-Ok.ensures.ok in
-    let kept = c.in-Ok-root.ensures.kept before s (life.running checked.0) in
-    full_kept g.D.Disk before s (answers.Do c.args.number (answers.Insert c.args.key.now c.args.rid)) refl (λ n. refl) c.args.self.now c.root.new.self life checked.0 kept.stops
-    (λ t f le left. g.met.D.Disk.counts_now c.root.new.self.disk t f le left) c.in-Ok-root.ensures.works kept.ok.running
+pub returns-then-is_some-clause-limit : goal.returns-then-is_some-clause-limit
+returns-then-is_some-clause-limit g c before s r = limit_there g.D.Disk before s c.args.self.now r c.args.key.now
 
-pub returns-then-not-has_room-clause-answered : goal.returns-then-not-has_room-clause-answered
-returns-then-not-has_room-clause-answered g c =
-    let old = c.args.self.now in
-    let checked = c.in-Ok.ensures.ok in
-    let absent = sym c.row_id.ensures ∙ none_of c.row_id.result (sym c.is_some.ensures ∙ c.if-is_some.false) in
-    record {
-      entries = (page_at c.root.new.self.writer.pool 1).body.entries;
-      read = record {
-        shown = λ _. refl;
-        logged = λ h before s r. let l = (c.in-Ok-root.ensures.kept before s r).ok in ap (λ (p : Page). p.body.entries) (l.page ∙ l.still 1);
-      };
-      refused = λ other. insert_full g.D.Disk old c.args.number c.in-Ok.transaction checked.0 checked.1 checked.2 c.root.new.self c.args.key.now checked.3 checked.4
-          _ absent (c.has_room.ensures.full c.if-not-has_room.true) other;
-      answers = tt;
-    }
-
-pub returns-in-Ok-log_change-clause-kept : goal.returns-in-Ok-log_change-clause-kept
-returns-in-Ok-log_change-clause-kept g c before s life =
+pub returns-in-Ok-put-clause-kept : goal.returns-in-Ok-put-clause-kept
+returns-in-Ok-put-clause-kept g c before s life =
     let old = c.args.self.now in
     let checked = c.in-Ok.ensures.ok in
     let r = life.running checked.0 in
-    let kept = c.in-Ok-root.ensures.kept before s r in
-    let logged = c.in-Ok-log_change.ensures in
-    let absent = sym c.row_id.ensures ∙ none_of c.row_id.result (sym c.is_some.ensures ∙ c.if-is_some.false) in
-    insert_kept g.D.Disk before s old r c.root.new.self kept.ok kept.stops c.args.key.now c.in-Ok.transaction c.args.rid c.args.number c.in-Ok-log_change.field-0 checked.2 c.log_change.new.self
-    life checked.0 (c.in-Ok-root.ensures.going ∙ checked.1) logged.next logged.ok.0 logged.ok.1 absent checked.3 checked.4 (c.has_room.ensures.room c.if-not-has_room.false)
-    (logged.kept kept.ok.running.now kept.ok.running.redo_end kept.ok.running.stands kept.ok.running.over)
+    let found = c.in-Ok-leaf.ensures.kept before s r in
+    let l = found.ok in
+    let p = c.in-Ok-leaf.frame.number in
+    let kept = c.in-Ok-put.ensures.kept before s l.looked.running (c.in-Ok-leaf.ensures.going ∙ checked.1) (leaf_now g.D.Disk before s old r c.args.key.now p c.leaf.new.self l)
+    (sym (says_now g.D.Disk before s old r c.args.key.now p c.leaf.new.self l) ∙ (sym c.row_id.ensures ∙ none_of c.row_id.result (sym c.is_some.ensures ∙ c.if-is_some.false))) (room_now g.D.Disk before s old r c.args.key.now p c.leaf.new.self l checked.3 checked.4 (c.has_room.ensures.room c.if-has_room.true)) in
+    edit_made g.D.Disk before s (answers.Do c.args.number (answers.Insert c.args.key.now c.args.rid)) answers.Inserted c.args.number (Put c.args.key.now c.args.rid) refl (λ e. cc e) refl old c.put.new.self life checked.0 tt
+    (leaves_then g.D.Disk before c.leaf.new.self.split c.put.new.self.split (λ is. c.in-Ok-put.ensures.split ∙ is) s old.disk c.leaf.new.self.disk c.put.new.self.disk found.stops kept.stops)
+    c.in-Ok-put.ensures.ok.0 c.in-Ok.transaction.number checked.2 kept.ok (ap active_number c.in-Ok-put.ensures.ok.1 ∙ ap (λ (n : ℕ). Some n) checked.2)
 
-pub returns-in-Ok-log_change-clause-answered : goal.returns-in-Ok-log_change-clause-answered
-returns-in-Ok-log_change-clause-answered g c =
+pub returns-in-Ok-put-clause-answered : goal.returns-in-Ok-put-clause-answered
+returns-in-Ok-put-clause-answered g c =
     let old = c.args.self.now in
     let checked = c.in-Ok.ensures.ok in
-    let absent = sym c.row_id.ensures ∙ none_of c.row_id.result (sym c.is_some.ensures ∙ c.if-is_some.false) in
     record {
-      entries = (page_at c.root.new.self.writer.pool 1).body.entries;
+      entries = (page_at c.leaf.new.self.writer.pool c.in-Ok-leaf.frame.number).body.entries;
       read = record {
         shown = λ h. cc h;
-        logged = λ h before s r. let l = (c.in-Ok-root.ensures.kept before s r).ok in ap (λ (p : Page). p.body.entries) (l.page ∙ l.still 1);
+        logged = λ h before s r. leaf_says g.D.Disk before s old r c.args.key.now c.in-Ok-leaf.frame.number c.leaf.new.self (c.in-Ok-leaf.ensures.kept before s r).ok;
       };
-      refused = λ other. insert_made g.D.Disk old c.args.number c.in-Ok.transaction checked.0 checked.1 checked.2 c.log_change.new.self c.args.key.now checked.3 checked.4
-          Inserted _ refl absent (c.has_room.ensures.room c.if-not-has_room.false) (λ x e. cc e) other;
-      answers = sym (ap (λ (o : Option ℕ). if is_some o then answers.Duplicate else answers.Inserted) absent);
+      refused = λ other. insert_none g.D.Disk old c.args.number c.in-Ok.transaction checked.0 checked.1 checked.2 c.put.new.self c.args.key.now checked.3 checked.4 _ Inserted (λ x e. cc e) other;
+      answers = sym (ap (λ (o : Option ℕ). if is_some o then answers.Duplicate else answers.Inserted) (sym c.row_id.ensures ∙ none_of c.row_id.result (sym c.is_some.ensures ∙ c.if-is_some.false)));
     }
 
-pub returns-in-Err-log_change-clause-kept : goal.returns-in-Err-log_change-clause-kept
-returns-in-Err-log_change-clause-kept g c before s life =
+pub returns-in-Ok-put-clause-limit : goal.returns-in-Ok-put-clause-limit
+returns-in-Ok-put-clause-limit g c before s r =
+    limit_room g.D.Disk before s c.args.self.now r c.args.key.now c.in-Ok-leaf.frame.number c.leaf.new.self (c.in-Ok-leaf.ensures.kept before s r).ok (c.has_room.ensures.room c.if-has_room.true)
+
+pub returns-in-Err-put-clause-kept : goal.returns-in-Err-put-clause-kept
+returns-in-Err-put-clause-kept g c before s life =
     let old = c.args.self.now in
     let checked = c.in-Ok.ensures.ok in
     let r = life.running checked.0 in
-    let kept = c.in-Ok-root.ensures.kept before s r in
-    let l = kept.ok in
-    let logged = c.in-Err-log_change.ensures in
-    let absent = sym c.row_id.ensures ∙ none_of c.row_id.result (sym c.is_some.ensures ∙ c.if-is_some.false) in
-    let made = logged.kept l.running.now l.running.redo_end l.running.stands l.running.over in
-    late_kept g.D.Disk before s (answers.Do c.args.number (answers.Insert c.args.key.now c.args.rid)) refl (λ n. refl) old c.log_change.new.self life checked.0
-    (change_stops g.D.Disk before s old r c.root.new.self l kept.stops c.args.key.now c.log_change.new.self _ _ made)
-    (λ t f le left. g.met.D.Disk.counts_now c.log_change.new.self.disk t f le left) c.in-Err-log_change.fault c.in-Err-log_change.ensures.causes
-    (change_again g.D.Disk before s old r c.root.new.self l c.log_change.new.self _ c.in-Err-log_change.fault made logged.fails.1 logged.next)
-    (made.cause (page_takes g.D.Disk before s old r c.root.new.self l kept.stops c.args.key.now c.in-Ok.transaction c.args.rid absent checked.3 checked.4 (c.has_room.ensures.room c.if-not-has_room.false)))
-    logged.fails.0
+    let found = c.in-Ok-leaf.ensures.kept before s r in
+    let l = found.ok in
+    let p = c.in-Ok-leaf.frame.number in
+    let kept = c.in-Err-put.ensures.kept before s l.looked.running (c.in-Ok-leaf.ensures.going ∙ checked.1) (leaf_now g.D.Disk before s old r c.args.key.now p c.leaf.new.self l)
+    (sym (says_now g.D.Disk before s old r c.args.key.now p c.leaf.new.self l) ∙ (sym c.row_id.ensures ∙ none_of c.row_id.result (sym c.is_some.ensures ∙ c.if-is_some.false))) (room_now g.D.Disk before s old r c.args.key.now p c.leaf.new.self l checked.3 checked.4 (c.has_room.ensures.room c.if-has_room.true)) in
+    late_kept g.D.Disk before s (answers.Do c.args.number (answers.Insert c.args.key.now c.args.rid)) refl (λ n. refl) old c.put.new.self life checked.0 (λ _. c.in-Err-put.ensures.fails.1 ∙ c.in-Ok-leaf.ensures.going)
+    (leaves_then g.D.Disk before c.leaf.new.self.split c.put.new.self.split (λ is. c.in-Err-put.ensures.split ∙ is) s old.disk c.leaf.new.self.disk c.put.new.self.disk found.stops kept.stops)
+    (λ t f le left. g.met.D.Disk.counts_now c.put.new.self.disk t f le left) c.in-Err-put.fault c.in-Err-put.ensures.causes (λ is. kept.again (inl is)) kept.cause c.in-Err-put.ensures.fails.0
 
-pub returns-in-Err-log_change-clause-answered : goal.returns-in-Err-log_change-clause-answered
-returns-in-Err-log_change-clause-answered g c =
+pub returns-in-Err-put-clause-answered : goal.returns-in-Err-put-clause-answered
+returns-in-Err-put-clause-answered g c =
     let old = c.args.self.now in
     let checked = c.in-Ok.ensures.ok in
-    let logged = c.in-Err-log_change.ensures in
     record {
       entries = [];
-      read = unread_late g.D.Disk old c.log_change.new.self c.in-Err-log_change.fault [] logged.causes;
-      refused = λ other. insert_late g.D.Disk old c.args.number c.in-Ok.transaction checked.0 checked.1 checked.2 c.log_change.new.self c.args.key.now checked.3 checked.4
-          c.in-Err-log_change.fault [] logged.causes logged.cause other;
+      read = unread_late g.D.Disk old c.put.new.self c.args.key.now c.in-Err-put.fault [] c.in-Err-put.ensures.causes;
+      refused = λ other. insert_refused g.D.Disk old c.args.number c.in-Ok.transaction checked.0 checked.1 checked.2 c.put.new.self c.args.key.now checked.3 checked.4 [] c.in-Err-put.fault (insert_cause g.D.Disk c.put.new.self.writer.log c.put.new.self.disk [] c.args.key.now c.in-Err-put.fault (writer_edit c.in-Err-put.fault c.in-Err-put.ensures.causes) (full_never c.in-Err-put.fault c.in-Err-put.ensures.causes) (device_of g.D.Disk c.put.new.self.writer.log c.put.new.self.disk c.in-Err-put.fault c.in-Err-put.ensures.cause) (room_of g.D.Disk c.put.new.self.writer.log c.put.new.self.disk c.in-Err-put.fault c.in-Err-put.ensures.cause)) other;
       answers = tt;
     }
+
+pub returns-in-Err-put-clause-limit : goal.returns-in-Err-put-clause-limit
+returns-in-Err-put-clause-limit g c before s r = limit_late g.D.Disk before s c.args.self.now r c.args.key.now c.in-Err-put.fault c.in-Err-put.ensures.causes
+
+pub returns-in-Ok-split_and_put-clause-kept : goal.returns-in-Ok-split_and_put-clause-kept
+returns-in-Ok-split_and_put-clause-kept g c before s life =
+    let old = c.args.self.now in
+    let checked = c.in-Ok.ensures.ok in
+    let r = life.running checked.0 in
+    let found = c.in-Ok-leaf.ensures.kept before s r in
+    let l = found.ok in
+    let p = c.in-Ok-leaf.frame.number in
+    let both = c.in-Ok-split_and_put.ensures.kept before s l.looked.running (c.in-Ok-leaf.ensures.going ∙ checked.1) p (leaf_now g.D.Disk before s old r c.args.key.now p c.leaf.new.self l)
+    (sym (says_now g.D.Disk before s old r c.args.key.now p c.leaf.new.self l) ∙ (sym c.row_id.ensures ∙ none_of c.row_id.result (sym c.is_some.ensures ∙ c.if-is_some.false))) (lacks_now g.D.Disk before s old r c.args.key.now p c.leaf.new.self l (c.has_room.ensures.full c.if-has_room.false)) in
+    let kept = both.0 in
+    let leaves = leaves_then g.D.Disk before c.leaf.new.self.split c.split_and_put.new.self.split c.split_and_put.ensures.split s old.disk c.leaf.new.self.disk c.split_and_put.new.self.disk found.stops kept.stops in
+    edit_made g.D.Disk before s (answers.Do c.args.number (answers.Insert c.args.key.now c.args.rid)) answers.Inserted c.args.number (Put c.args.key.now c.args.rid) refl (λ e. cc e) refl old c.split_and_put.new.self life checked.0 tt
+    leaves c.in-Ok-split_and_put.ensures.works c.in-Ok.transaction.number checked.2 kept.ok (c.in-Ok-split_and_put.ensures.active (ap active_number (c.in-Ok-leaf.ensures.going ∙ checked.1)) ∙ ap (λ (n : ℕ). Some n) checked.2)
+
+pub returns-in-Ok-split_and_put-clause-answered : goal.returns-in-Ok-split_and_put-clause-answered
+returns-in-Ok-split_and_put-clause-answered g c =
+    let old = c.args.self.now in
+    let checked = c.in-Ok.ensures.ok in
+    record {
+      entries = (page_at c.leaf.new.self.writer.pool c.in-Ok-leaf.frame.number).body.entries;
+      read = record {
+        shown = λ h. cc h;
+        logged = λ h before s r. leaf_says g.D.Disk before s old r c.args.key.now c.in-Ok-leaf.frame.number c.leaf.new.self (c.in-Ok-leaf.ensures.kept before s r).ok;
+      };
+      refused = λ other. insert_none g.D.Disk old c.args.number c.in-Ok.transaction checked.0 checked.1 checked.2 c.split_and_put.new.self c.args.key.now checked.3 checked.4 _ Inserted (λ x e. cc e) other;
+      answers = sym (ap (λ (o : Option ℕ). if is_some o then answers.Duplicate else answers.Inserted) (sym c.row_id.ensures ∙ none_of c.row_id.result (sym c.is_some.ensures ∙ c.if-is_some.false)));
+    }
+
+pub returns-in-Ok-split_and_put-clause-limit : goal.returns-in-Ok-split_and_put-clause-limit
+returns-in-Ok-split_and_put-clause-limit g c before s r =
+    let old = c.args.self.now in
+    let checked = c.in-Ok.ensures.ok in
+    let found = c.in-Ok-leaf.ensures.kept before s r in
+    let l = found.ok in
+    let p = c.in-Ok-leaf.frame.number in
+    let both = c.in-Ok-split_and_put.ensures.kept before s l.looked.running (c.in-Ok-leaf.ensures.going ∙ checked.1) p (leaf_now g.D.Disk before s old r c.args.key.now p c.leaf.new.self l)
+    (sym (says_now g.D.Disk before s old r c.args.key.now p c.leaf.new.self l) ∙ (sym c.row_id.ensures ∙ none_of c.row_id.result (sym c.is_some.ensures ∙ c.if-is_some.false))) (lacks_now g.D.Disk before s old r c.args.key.now p c.leaf.new.self l (c.has_room.ensures.full c.if-has_room.false)) in
+    limit_split g.D.Disk before s old r c.args.key.now p c.leaf.new.self l.looked c.in-Ok-leaf.ensures.limit both.1.within
+
+pub returns-in-Err-split_and_put-clause-kept : goal.returns-in-Err-split_and_put-clause-kept
+returns-in-Err-split_and_put-clause-kept g c before s life =
+    let old = c.args.self.now in
+    let checked = c.in-Ok.ensures.ok in
+    let r = life.running checked.0 in
+    let found = c.in-Ok-leaf.ensures.kept before s r in
+    let l = found.ok in
+    let p = c.in-Ok-leaf.frame.number in
+    let both = c.in-Err-split_and_put.ensures.kept before s l.looked.running (c.in-Ok-leaf.ensures.going ∙ checked.1) p (leaf_now g.D.Disk before s old r c.args.key.now p c.leaf.new.self l)
+    (sym (says_now g.D.Disk before s old r c.args.key.now p c.leaf.new.self l) ∙ (sym c.row_id.ensures ∙ none_of c.row_id.result (sym c.is_some.ensures ∙ c.if-is_some.false))) (lacks_now g.D.Disk before s old r c.args.key.now p c.leaf.new.self l (c.has_room.ensures.full c.if-has_room.false)) in
+    let kept = both.0 in
+    let leaves = leaves_then g.D.Disk before c.leaf.new.self.split c.split_and_put.new.self.split c.split_and_put.ensures.split s old.disk c.leaf.new.self.disk c.split_and_put.new.self.disk found.stops kept.stops in
+    edit_kept g.D.Disk before s (answers.Do c.args.number (answers.Insert c.args.key.now c.args.rid)) refl (λ n. refl) old c.split_and_put.new.self life checked.0
+    (λ on. c.in-Err-split_and_put.ensures.still on ∙ c.in-Ok-leaf.ensures.going) leaves
+    (λ t f le left. g.met.D.Disk.counts_now c.split_and_put.new.self.disk t f le left) c.in-Err-split_and_put.fault c.in-Err-split_and_put.ensures.causes kept.again kept.cause c.in-Err-split_and_put.ensures.fails
+
+pub returns-in-Err-split_and_put-clause-answered : goal.returns-in-Err-split_and_put-clause-answered
+returns-in-Err-split_and_put-clause-answered g c =
+    let old = c.args.self.now in
+    let checked = c.in-Ok.ensures.ok in
+    record {
+      entries = (page_at c.leaf.new.self.writer.pool c.in-Ok-leaf.frame.number).body.entries;
+      read = unread_edit g.D.Disk old c.split_and_put.new.self c.args.key.now c.in-Err-split_and_put.fault _ c.in-Err-split_and_put.ensures.causes
+          (λ before s r. leaf_says g.D.Disk before s old r c.args.key.now c.in-Ok-leaf.frame.number c.leaf.new.self (c.in-Ok-leaf.ensures.kept before s r).ok);
+      refused = λ other. insert_refused g.D.Disk old c.args.number c.in-Ok.transaction checked.0 checked.1 checked.2 c.split_and_put.new.self c.args.key.now checked.3 checked.4 _ c.in-Err-split_and_put.fault (insert_cause g.D.Disk c.split_and_put.new.self.writer.log c.split_and_put.new.self.disk (page_at c.leaf.new.self.writer.pool c.in-Ok-leaf.frame.number).body.entries c.args.key.now c.in-Err-split_and_put.fault c.in-Err-split_and_put.ensures.causes (λ _. ((sym c.row_id.ensures ∙ none_of c.row_id.result (sym c.is_some.ensures ∙ c.if-is_some.false)), c.has_room.ensures.full c.if-has_room.false)) (λ is. c.in-Err-split_and_put.ensures.failed (λ j. Err (is j))) (λ is. c.in-Err-split_and_put.ensures.no_room (λ j. Err (is j)))) other;
+      answers = tt;
+    }
+
+pub returns-in-Err-split_and_put-clause-limit : goal.returns-in-Err-split_and_put-clause-limit
+returns-in-Err-split_and_put-clause-limit g c before s r =
+    let old = c.args.self.now in
+    let checked = c.in-Ok.ensures.ok in
+    let found = c.in-Ok-leaf.ensures.kept before s r in
+    let l = found.ok in
+    let p = c.in-Ok-leaf.frame.number in
+    let both = c.in-Err-split_and_put.ensures.kept before s l.looked.running (c.in-Ok-leaf.ensures.going ∙ checked.1) p (leaf_now g.D.Disk before s old r c.args.key.now p c.leaf.new.self l)
+    (sym (says_now g.D.Disk before s old r c.args.key.now p c.leaf.new.self l) ∙ (sym c.row_id.ensures ∙ none_of c.row_id.result (sym c.is_some.ensures ∙ c.if-is_some.false))) (lacks_now g.D.Disk before s old r c.args.key.now p c.leaf.new.self l (c.has_room.ensures.full c.if-has_room.false)) in
+    limit_refused g.D.Disk before s old r c.args.key.now p c.leaf.new.self l.looked c.in-Ok-leaf.ensures.limit c.in-Err-split_and_put.fault both.1.full both.1.used_up
+    (sym (leaf_says g.D.Disk before s old r c.args.key.now p c.leaf.new.self l) ∙ (sym c.row_id.ensures ∙ none_of c.row_id.result (sym c.is_some.ensures ∙ c.if-is_some.false)))

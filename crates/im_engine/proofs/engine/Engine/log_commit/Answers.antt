@@ -34,6 +34,6 @@ returns-clause-kept g c before s r going some =
     let kept = c.in_ok-log_only.ensures.kept first_base 0 r.now r.redo_end r.stands r.over (record { page = λ l p. refl; copy = λ l. refl; point = refl }) in
     let forced = c.in_ok-force.ensures.kept first_base 0 (record (appended (logged_at lsn (Commit t.number t.last)) r.now) { durable = kept.ok.durable }) kept.ok.stands in
     record {
-      ok = commit_made g.D.Disk before s t old r a some lsn c.log_only.new.self c.log_only.new.disk kept.ok _ (record { working = forced.ok.working; writing = forced.ok.goes.writing }) refl refl;
+      ok = commit_made g.D.Disk before s t old r a some lsn c.log_only.new.self c.log_only.new.disk kept.ok _ (record { working = forced.ok.working; writing = forced.ok.goes.writing }) refl refl refl;
       stops = commit_stops g.D.Disk before s t old r a some lsn c.log_only.new.self c.log_only.new.disk kept.ok c.force.new.disk kept.stops forced.stops;
     }

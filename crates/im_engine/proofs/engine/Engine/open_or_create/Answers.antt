@@ -25,7 +25,10 @@ returns-in-Ok-clause-kept g c before told synced stands =
     let on = l g.D.Disk before c.args.disk stands in
     let kept = c.in-Ok.ensures.kept first_base on.all told (may_restart before (g.D.Disk.seen c.args.disk) on) in
     record {
-      ok = (engine_opened g.D.Disk before c.args.disk stands _ c.in-Ok.restarted kept.ok refl refl refl refl, refl);
+      ok = (engine_opened g.D.Disk before c.args.disk stands _ c.in-Ok.restarted kept.ok refl refl refl refl refl, refl);
       stops = opening_stops g.D.Disk before c.args.disk stands c.open_or_create.new.disk kept.stops;
       cause = tt;
     }
+
+pub returns-in-Ok-clause-spelled : goal.returns-in-Ok-clause-spelled
+returns-in-Ok-clause-spelled g c = c.in-Ok.ensures.spelled

@@ -14,15 +14,18 @@ returns-in-Commit-clause-answered g c = rw c.in-Commit.is c.commit.ensures.answe
 
 pub returns-in-Fetch-clause-answered : goal.returns-in-Fetch-clause-answered
 returns-in-Fetch-clause-answered g c =
-    rw c.in-Fetch.is (subst (λ (k : Key). IsAnswered g.D.Disk c.fetch.result c.args.self.now c.fetch.new.self (λ entries fault. OfFetch g.D.Disk c.args.self.now c.fetch.new.self c.fetch.result fault c.in-Fetch.number k)
+    rw c.in-Fetch.is (subst (λ (k : Key). IsAnswered g.D.Disk k c.fetch.result c.args.self.now c.fetch.new.self (λ entries fault. OfFetch g.D.Disk c.args.self.now c.fetch.new.self c.fetch.result fault c.in-Fetch.number k)
     (λ entries. answers.found (find key_order k entries))) c.deref.ensures.value c.fetch.ensures.answered)
 
 pub returns-in-Insert-clause-answered : goal.returns-in-Insert-clause-answered
 returns-in-Insert-clause-answered g c =
-    rw c.in-Insert.is (subst (λ (k : Key). IsAnswered g.D.Disk c.insert.result c.args.self.now c.insert.new.self (λ entries fault. OfInsert g.D.Disk c.args.self.now c.insert.new.self c.insert.result fault c.in-Insert.number k entries)
+    rw c.in-Insert.is (subst (λ (k : Key). IsAnswered g.D.Disk k c.insert.result c.args.self.now c.insert.new.self (λ entries fault. OfInsert g.D.Disk c.args.self.now c.insert.new.self c.insert.result fault c.in-Insert.number k entries)
     (λ entries. if is_some (find key_order k entries) then answers.Duplicate else answers.Inserted)) c.deref-in-Insert.ensures.value c.insert.ensures.answered)
 
 pub returns-in-Delete-clause-answered : goal.returns-in-Delete-clause-answered
 returns-in-Delete-clause-answered g c =
-    rw c.in-Delete.is (subst (λ (k : Key). IsAnswered g.D.Disk c.delete.result c.args.self.now c.delete.new.self (λ entries fault. OfDelete g.D.Disk c.args.self.now c.delete.new.self c.delete.result fault c.in-Delete.number k)
+    rw c.in-Delete.is (subst (λ (k : Key). IsAnswered g.D.Disk k c.delete.result c.args.self.now c.delete.new.self (λ entries fault. OfDelete g.D.Disk c.args.self.now c.delete.new.self c.delete.result fault c.in-Delete.number k)
     (λ entries. if is_some (find key_order k entries) then answers.Deleted else answers.Absent)) c.deref-in-Delete.ensures.value c.delete.ensures.answered)
+
+pub returns-in-Force-clause-answered : goal.returns-in-Force-clause-answered
+returns-in-Force-clause-answered g c = rw c.in-Force.is c.force.ensures.answered

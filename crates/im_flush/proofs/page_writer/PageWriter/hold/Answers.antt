@@ -1,7 +1,11 @@
-use Rattle.std.proofs.Common.{◌≡◌, inl, inr, refl, sym, ◌∙◌, ap, false, Err, rules}
+use Rattle.std.proofs.Common.{◌≡◌, inl, inr, refl, sym, ◌∙◌, ap, subst, false, Err, None, rules}
 use Rattle.im_types.specs.declared.fault.Fault.TheVariants.{Device, Memory, NotAStore}
+use Rattle.im_types.specs.declared.file_id.FileId.TheVariants.{Pages}
+use Rattle.im_disk.specs.Disk.{Files}
+use Rattle.im_page.specs.PageFile.{file_page}
+use Rattle.im_pool.specs.Pool.{held_of}
 use Rattle.im_flush.proofs.Flushing.{leaves_read}
-use Rattle.im_flush.proofs.Writers.{got_page, goes_got, goes_refused, no_page_missing, still_working}
+use Rattle.im_flush.proofs.Writers.{got_page, goes_got, goes_refused, no_page_missing, seen_none, still_working}
 use Rattle.im_flush.proofs.page_writer.PageWriter.hold.Goals as goal
 
 pub returns-in-Ok-clause-kept : goal.returns-in-Ok-clause-kept
@@ -50,3 +54,11 @@ returns-in-Err-clause-kept g c b base s is ready =
       cause = λ same. no_page_missing g.D.Disk b base s w.log w.table w.pool old is.writing c.args.number ready (g.D.Disk.failed c.get.new.disk) c.in-Err.fault same (λ failed. let is_device : Err c.in-Err.fault ≡ Err Device = e.device.1 failed in cc is_device)
           (λ works. (e.refused is.writing.stands.log_is.tells works).0 (ap Err same));
     }
+
+pub returns-in-Err-clause-no_page : goal.returns-in-Err-clause-no_page
+returns-in-Err-clause-no_page g c is told =
+    let old = c.args.disk.now in
+    let p = c.args.number in
+    let e = c.in-Err.ensures in
+    let works = still_working (g.D.Disk.failed c.get.new.disk) (λ failed. let clash : Err NotAStore ≡ Err Device = sym is ∙ e.device.1 failed in let never : ⊥ = cc clash in never) in
+    subst (λ (s : Files). file_page (s Pages) p ≡ None) (sym e.reads.seen) (seen_none (held_of c.args.self.now.pool p) (file_page (g.D.Disk.seen old Pages) p) ((e.refused told works).0 is))

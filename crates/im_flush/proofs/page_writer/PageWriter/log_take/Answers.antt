@@ -4,7 +4,7 @@ use Rattle.im_page.specs.Header.{initial}
 use Rattle.im_pool.specs.Pool.{held_of}
 use Rattle.im_flush.specs.LeafChange.{CanTakeKey}
 use Rattle.im_flush.proofs.Growing.{if_ok}
-use Rattle.im_flush.proofs.Goings.{leaves_last, leaves_so_far}
+use Rattle.im_flush.proofs.Goings.{covered_last, leaves_last, leaves_so_far}
 use Rattle.im_flush.proofs.LoggedChanges.{at_shows, err_on, failed_cause, failed_none}
 use Rattle.im_flush.proofs.page_writer.PageWriter.log_take.Goals as goal
 
@@ -36,7 +36,7 @@ returns-clause-kept g c b base s e is over =
     let w = c.hold_with_room.new.self in
     let k = c.take_logged.ensures.kept b base held.now e (record { working = held.on.working; writing = held.on.goes.writing }) (held.on.goes.keeps.redo_end ∙ over) in
     record {
-      ok = if_ok c.take_logged.result _ _ k.ok (λ lsn done. record { before = held.now; keeps = held.on.goes.keeps; logged = done });
+      ok = if_ok c.take_logged.result _ _ k.ok (λ lsn done. record { before = held.now; keeps = held.on.goes.keeps; stops = covered_last g.D.Disk b base s c.args.disk.now held.now w.log w.table w.pool c.hold_with_room.new.disk held.on.goes c.take_logged.new.disk k.stops; logged = done });
       stops = leaves_last g.D.Disk b base s c.args.disk.now held.now w.log w.table w.pool c.hold_with_room.new.disk held.on.goes c.take_logged.new.disk k.stops;
       cause = λ takes. failed_cause c.take_logged.result c.take_logged.ensures.causes;
       again = failed_none c.take_logged.result _ c.take_logged.ensures.causes;

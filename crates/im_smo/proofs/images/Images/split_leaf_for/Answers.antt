@@ -31,3 +31,6 @@ returns-in_err-link_prev-clause-sound c pages spare good way goes page_is has ne
     (subst (λ (r : ℕ). 1 ≤ r → Has c.split_leaf.new.self r) (sym c.next.ensures) (λ some. c.in_ok-n.ensures.parts.kept c.args.page.now.body.next (next some)))
     (subst (λ (r : ℕ). 1 ≤ r → (held pages c.split_leaf.new.self r).kind ≡ Leaf) (sym c.next.ensures) kind)
     (ap (λ (f : Fault). Err f) fault)
+
+pub returns-clause-there : goal.returns-clause-there
+returns-clause-there c = c.in_ok-link_prev.ensures.new.kept c.args.p c.in_ok-n.ensures.parts.left

@@ -1,0 +1,6 @@
+pub mod Calls
+pub mod Placing
+pub mod OneLeaf
+pub mod Leaving
+pub mod Frees
+pub mod Plans

@@ -1,0 +1,57 @@
+-- The chain of pages that goes with an empty leaf.
+use Rattle.std.specs.Prelude.{◌≡◌, ℕ, ◌<◌, ◌≤◌, [], length}
+use Rattle.im_types.specs.Keys.{Key}
+use Rattle.im_types.specs.Pages.{Body}
+use Rattle.im_types.specs.Tree.{with_body}
+use Rattle.im_types.specs.declared.page_kind.PageKind.TheVariants.{Leaf}
+use Rattle.im_page.specs.Entry.{entry_at}
+use Rattle.im_page.specs.Child.{IsChild}
+use Rattle.im_tree.specs.Levels.{Pages}
+use Rattle.im_smo.specs.Bodies.{leaf_body, without_entry, without_leftmost}
+use Rattle.im_smo.specs.Changed.{unlinked_pages}
+use Rattle.im_delete.specs.declared.child_place.ChildPlace.{ChildPlace}
+use Rattle.im_delete.specs.declared.child_place.ChildPlace.TheVariants.{Entry, Leftmost, Only}
+use Rattle.im_delete.specs.declared.reading.Child.{Child}
+use Rattle.im_delete.specs.declared.reading.Beside.{Beside}
+
+-- page c stands there in an inner page
+abbrev pub StandsAt : Body → ChildPlace → ℕ → Type 0
+StandsAt b (Entry i) c = (i < length b.entries) × ((entry_at b.entries i).1 ≡ c)
+StandsAt b Leftmost c = (0 < length b.entries) × (b.leftmost ≡ c)
+StandsAt b Only c = (b.entries ≡ []) × (b.leftmost ≡ c)
+
+-- the child of an inner page on a key's way
+pub record IsChildOf (b : Body) (key : Key) (child : Child) : Type 0 where
+  pub way : IsChild b key child.number
+  pub at : StandsAt b child.place child.number
+
+-- the leaves beside a leaf without entries
+pub record IsBeside (b : Body) (beside : Beside) : Type 0 where
+  pub none : b.entries ≡ []
+  pub prev : beside.prev ≡ b.prev
+  pub next : beside.next ≡ b.next
+
+-- the root alone is left without a child
+abbrev pub OnlyUnderRoot : ChildPlace → ℕ → Type 0
+OnlyUnderRoot (Entry i) parent = Unit {0}
+OnlyUnderRoot Leftmost parent = Unit {0}
+OnlyUnderRoot Only parent = parent ≡ 1
+
+-- ---- what a deletion makes of pages
+
+-- the parent without the child at a place; the root left without a child is a leaf without entries
+abbrev pub without_child : Body → ChildPlace → Body
+without_child b (Entry i) = without_entry b i
+without_child b Leftmost = without_leftmost b
+without_child b Only = leaf_body 0 0 []
+
+-- the pages where a chain is out of the tree, and the leaf at its end, which had these leaves beside it, out of the chain of leaves
+abbrev pub out_of_tree : Pages → (parent : ℕ) → ChildPlace → (prev next : ℕ) → Pages
+out_of_tree pages parent (Entry i) prev next = unlinked_pages (with_body pages parent (without_entry (pages parent) i)) prev next
+out_of_tree pages parent Leftmost prev next = unlinked_pages (with_body pages parent (without_leftmost (pages parent))) prev next
+out_of_tree pages parent Only prev next = with_body pages parent (leaf_body 0 0 [])
+
+-- the pages of these numbers, where they are not 0, are leaves
+pub record AreLeavesBeside (pages : Pages) (prev next : ℕ) : Type 0 where
+  pub prev_kind : 1 ≤ prev → (pages prev).kind ≡ Leaf
+  pub next_kind : 1 ≤ next → (pages next).kind ≡ Leaf

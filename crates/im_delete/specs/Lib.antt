@@ -1,0 +1,5 @@
+pub mod Plan
+pub mod Kept
+pub mod Chains
+pub mod Ways
+pub mod Given

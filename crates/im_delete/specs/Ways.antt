@@ -1,0 +1,46 @@
+-- From a page on the way to the next.
+use Rattle.std.specs.Prelude.{◌≡◌, ◌≢◌, ◌⊎◌, ℕ, suc, List, [], ◌∷◌, ◌++◌}
+use Rattle.im_types.specs.Keys.{Key}
+use Rattle.im_types.specs.Histories.{Base}
+use Rattle.im_types.specs.Writer.{Writer}
+use Rattle.im_disk.specs.declared.disk.Disk.{Ghosts}
+use Rattle.im_flush.specs.declared.page_writer.PageWriter.{PageWriter}
+use Rattle.im_flush.specs.PageWriter.{GoesOn}
+use Rattle.im_tree.specs.Levels.{Pages}
+use Rattle.im_tree.specs.Search.{IsOnWay}
+use Rattle.im_tree.specs.KeyDeletions.{HasNone, chain_down, leaf_down}
+use Rattle.im_alloc.specs.Seen.{bodies}
+use Rattle.im_delete.specs.declared.child_place.ChildPlace.{ChildPlace}
+use Rattle.im_delete.specs.declared.child_place.ChildPlace.TheVariants.{Only}
+use Rattle.im_delete.specs.declared.reading.Child.{Child}
+use Rattle.im_delete.specs.declared.way.Place.{Place}
+use Rattle.im_delete.specs.Chains.{StandsAt, OnlyUnderRoot}
+
+-- Page n of level k on a key's way stands at the end of a chain that hangs from a page on it: down from the parent's child the pages `above` have one child each. Where page n has no entry, and has such a chain under it down to a leaf, all of these go.
+pub record Hangs (pages : Pages) (key : Key) (parent : ℕ) (place : ChildPlace) (k n : ℕ) (above : List ℕ) : Type 0 where
+  pub h : ℕ
+  pub p : ℕ
+  pub up : IsOnWay pages (suc h) key parent
+  pub at : StandsAt (pages parent) place p
+  pub root : OnlyUnderRoot place parent
+  pub none : HasNone pages k n → HasNone pages h p
+  pub chain : chain_down pages h p ≡ above ++ chain_down pages k n
+  pub leaf : leaf_down pages h p ≡ leaf_down pages k n
+
+-- page n of level k is on a key's way; it is the root, or stands at the end of a chain
+pub record IsPlaced (pages : Pages) (key : Key) (parent : ℕ) (place : ChildPlace) (k n : ℕ) (above : List ℕ) : Type 0 where
+  pub way : IsOnWay pages k key n
+  pub from : (n ≡ 1) ⊎ Hangs pages key parent place k n above
+
+-- A page whose one child is the next page joins the chain; any other page, and the root, begins a chain.
+pub record IsNext (place : Place) (child : Child) (next : Place) (above more : List ℕ) : Type 0 where
+  pub number : next.number ≡ child.number
+  pub joins : child.place ≡ Only → place.number ≢ 1 → (next.parent ≡ place.parent) × (next.place ≡ place.place) × (more ≡ above ++ place.number ∷ [])
+  pub begins : (child.place ≢ Only) ⊎ (place.number ≡ 1) → (next.parent ≡ place.number) × (next.place ≡ child.place) × (more ≡ [])
+
+module _ {D : Type 0} (d : Ghosts D) (b : Base) (base : ℕ) where
+  -- The way came so far; each page of the writer is as it was, and the log has Images more.
+  pub record PlacedTo (s : Writer) (key : Key) (place : Place) (k : ℕ) (above : List ℕ) (old : D) (w : PageWriter) (disk : D) : Type 0 where
+    pub now : Writer
+    pub on : GoesOn d b base s old now w disk
+    pub placed : IsPlaced (bodies s) key place.parent place.place k place.number above

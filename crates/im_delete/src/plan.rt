@@ -1,0 +1,65 @@
+//! The plan of a deletion.
+
+ghost use Rattle.std.specs.Prelude.{◌≡◌, ◌≢◌, ◌⊎◌, ◌↔◌, ℕ, [], true, false, Ok, Err, IfErr, OnOk};
+ghost use Rattle.im_types.specs.declared.fault.Fault.TheVariants.{Device, LogFull, Memory, NotAStore};
+ghost use Rattle.im_types.specs.Histories.{Base};
+ghost use Rattle.im_types.specs.Writer.{Writer};
+ghost use Rattle.im_log.specs.LogFile.{HasNoRoom};
+ghost use Rattle.im_flush.specs.PageWriter.{IsReadyWriter};
+ghost use Rattle.im_search.specs.Found.{HasTree};
+ghost use Rattle.im_tree.specs.Search.{IsOnWay};
+ghost use Rattle.im_alloc.specs.Seen.{bodies};
+ghost use Rattle.im_delete.specs.Plan.{DeleteKept};
+
+use crate::dropping::take_out;
+use crate::giving::give_back;
+use crate::reading::beside_of;
+use crate::way::find_chain;
+use im_disk::Disk;
+use im_flush::PageWriter;
+use im_smo::Images;
+use im_types::Fault;
+use std::alloc::Global;
+
+/// The pages that have to be written so that the empty leaf of a key leaves the tree, as images: the leaf in whose range the
+/// key lies is empty and is not page 1. Put in the place of the pages that are there they are a good tree with the same walk
+/// and no page spare, in which that leaf's page is free.
+///
+/// Refused `NotAStore` where the leaf has an entry or is page 1, or a page on the way, beside the leaf or in front of the free
+/// list is none of its kind; otherwise as `PageWriter::get` is, and `Memory`. No page of the pool is changed.
+pub fn plan_delete<D: Disk>(
+    alloc: Global,
+    writer: &mut PageWriter,
+    disk: &mut D,
+    key: &[u8],
+) -> Result<Images, Fault>
+    requires ready { IsReadyWriter D.Disk writer.old disk.old }
+    requires working { writer.old.failed ≡ false }
+    ensures ready { IsReadyWriter D.Disk writer.new disk.new }
+    ensures kept { (b : Base) (base : ℕ) (s : Writer) → HasTree D.Disk b base s [] writer.old disk.old → (p : ℕ) → IsOnWay (bodies s) 0 key.now p → (bodies s p).entries ≡ [] → p ≢ 1
+        → DeleteKept D.Disk b base s p disk.old writer.new disk.new result }
+    ensures works { OnOk result (writer.new.failed ≡ false) }
+    ensures fails { IfErr result (λ e. (writer.new.failed ≡ false) ↔ ((e ≡ Memory) ⊎ (e ≡ NotAStore))) }
+    ensures causes { IfErr result (λ e. (e ≡ LogFull) ⊎ (e ≡ Memory) ⊎ (e ≡ NotAStore) ⊎ (e ≡ Device)) }
+    ensures no_room { result ≡ Err LogFull → HasNoRoom writer.new.log }
+    ensures device { result ≡ Err Device ↔ (D.failed disk.new ≡ true) }
+{
+    let mut above = Vec::new(alloc);
+    let leaf = find_chain(&mut above, writer, disk, key)?;
+    if leaf.number == 1 {
+        return Err(Fault::NotAStore);
+    }
+    let beside = beside_of(writer, disk, leaf.number)?;
+    let mut images = Images::new(alloc);
+    take_out(
+        alloc,
+        &mut images,
+        writer,
+        disk,
+        leaf.parent,
+        leaf.place,
+        beside,
+    )?;
+    give_back(alloc, &mut images, writer, disk, &mut above, leaf.number)?;
+    Ok(images)
+}

@@ -1,0 +1,105 @@
+//! The way down to the leaf that goes, and the chain of pages that goes with it.
+
+ghost use Rattle.std.specs.Prelude.{◌≡◌, ◌≢◌, ◌⊎◌, ◌↔◌, ℕ, [], ◌∷◌, ◌++◌, true, false, Ok, Err, IfErr, IfOk, OnOk, IsTrue};
+ghost use Rattle.im_types.specs.declared.fault.Fault.TheVariants.{Device, LogFull, Memory, NotAStore};
+ghost use Rattle.im_types.specs.Histories.{Base};
+ghost use Rattle.im_types.specs.Writer.{Writer};
+ghost use Rattle.im_log.specs.LogFile.{HasNoRoom};
+ghost use Rattle.im_flush.specs.PageWriter.{IsReadyWriter};
+ghost use Rattle.im_search.specs.Found.{HasTree};
+ghost use Rattle.im_alloc.specs.Seen.{bodies};
+ghost use Rattle.im_delete.specs.declared.child_place.ChildPlace.TheVariants.{Only};
+ghost use Rattle.im_delete.specs.Kept.{CallKept};
+ghost use Rattle.im_delete.specs.Ways.{IsNext, IsPlaced};
+
+use crate::child_place::ChildPlace;
+use crate::reading::{Child, child_of, level_of};
+use im_disk::Disk;
+use im_flush::PageWriter;
+use im_types::{Fault, PageNo};
+use std::alloc::Global;
+
+/// A page on a key's way, and where the chain of pages with one child begins that it ends: under page `parent`, at that place.
+#[derive(Clone, Copy)]
+pub(crate) struct Place {
+    pub(crate) number: PageNo,
+    pub(crate) parent: PageNo,
+    pub(crate) place: ChildPlace,
+}
+
+/// Whether a child has no other beside it.
+pub(crate) fn is_only(place: ChildPlace) -> bool
+    ensures { IsTrue result ↔ (place ≡ Only) }
+{
+    match place {
+        ChildPlace::Only => true,
+        ChildPlace::Leftmost => false,
+        ChildPlace::Entry(_) => false,
+    }
+}
+
+// Notes a number.
+fn note(numbers: &mut Vec<PageNo>, number: PageNo) -> Result<(), Fault>
+    ensures new { OnOk result (numbers.new.items ≡ numbers.old.items ++ number ∷ []) }
+    ensures refused { IfErr result (λ e. e ≡ Memory) }
+{
+    numbers.push(number).map_err(|_| Fault::Memory)?;
+    Ok(())
+}
+
+// From a page to its child: a page with no other child joins the chain, and another one begins a new chain, as the root does.
+fn next_place(above: &mut Vec<PageNo>, place: Place, child: Child) -> Result<Place, Fault>
+    ensures next { IfOk result (λ next. IsNext place child next above.old.items above.new.items) }
+    ensures refused { IfErr result (λ e. e ≡ Memory) }
+{
+    if is_only(child.place) && place.number != 1 {
+        note(above, place.number)?;
+        return Ok(Place {
+            number: child.number,
+            parent: place.parent,
+            place: place.place,
+        });
+    }
+    above.clear();
+    Ok(Place {
+        number: child.number,
+        parent: place.number,
+        place: child.place,
+    })
+}
+
+/// The leaf of a key, and the chain of pages with one child each that it ends; `above` are the pages of the chain in front of
+/// the leaf, from the top down.
+///
+/// Refused `NotAStore` where a page on the way is none of its level, `Memory` also where there is none for the numbers; otherwise
+/// as `PageWriter::get` is.
+pub(crate) fn find_chain<D: Disk>(
+    above: &mut Vec<PageNo>,
+    writer: &mut PageWriter,
+    disk: &mut D,
+    key: &[u8],
+) -> Result<Place, Fault>
+    requires ready { IsReadyWriter D.Disk writer.old disk.old }
+    requires working { writer.old.failed ≡ false }
+    ensures ready { IsReadyWriter D.Disk writer.new disk.new }
+    ensures kept { (b : Base) (base : ℕ) (s : Writer) → HasTree D.Disk b base s [] writer.old disk.old
+        → CallKept D.Disk b base s (λ leaf. IsPlaced (bodies s) key.now leaf.parent leaf.place 0 leaf.number above.new.items) disk.old writer.new disk.new result }
+    ensures works { OnOk result (writer.new.failed ≡ false) }
+    ensures fails { IfErr result (λ e. (writer.new.failed ≡ false) ↔ ((e ≡ Memory) ⊎ (e ≡ NotAStore))) }
+    ensures causes { IfErr result (λ e. (e ≡ LogFull) ⊎ (e ≡ Memory) ⊎ (e ≡ NotAStore) ⊎ (e ≡ Device)) }
+    ensures no_room { result ≡ Err LogFull → HasNoRoom writer.new.log }
+    ensures device { result ≡ Err Device ↔ (D.failed disk.new ≡ true) }
+{
+    let mut level = level_of(writer, disk, 1)?;
+    let mut place = Place {
+        number: 1,
+        parent: 1,
+        place: ChildPlace::Only,
+    };
+    while 0 < level {
+        let child = child_of(writer, disk, place.number, level, key)?;
+        place = next_place(above, place, child)?;
+        level -= 1;
+    }
+    Ok(place)
+}

@@ -1,0 +1,185 @@
+-- The options of a life, and what stands behind each.
+use Rattle.std.proofs.Common.{◌≡◌, ◌≢◌, ◌⊎◌, inl, inr, ℕ, ◌<◌, ◌^◌, List, [], ◌∷◌, ◌++◌, Option, None, Some, Bor, MatchOption, IfSome, is_some, true, codes, refl, sym, ◌∙◌, ap, subst, append_assoc, arith}
+use Rattle.std.proofs.lemmas.List.{append-nil}
+use Rattle.im_drill.specs.Lines.{Lacks, IsNumber, behind_word}
+use Rattle.im_drill.specs.StoreScripts.{SpellsOption, SpellsLife, IsBehindOption, IsOption}
+use Rattle.im_drill.specs.declared.store_life.LifeOptions.{LifeOptions}
+use Rattle.im_drill.proofs.Lines.{lacks_mid, cut_once}
+use Rattle.im_drill.proofs.Spelled.{digits_lack}
+use Rattle.im_drill.proofs.KeyWords.{number_once}
+
+pub life_lacks : Lacks 32 (codes "life")
+life_lacks = (λ x. omega arith, (λ x. omega arith, (λ x. omega arith, (λ x. omega arith, tt))))
+
+pub frames_lacks : Lacks 32 (codes "frames")
+frames_lacks = (λ x. omega arith, (λ x. omega arith, (λ x. omega arith, (λ x. omega arith, (λ x. omega arith, (λ x. omega arith, tt))))))
+
+pub max_lacks : Lacks 32 (codes "max")
+max_lacks = (λ x. omega arith, (λ x. omega arith, (λ x. omega arith, tt)))
+
+-- nothing, or a space and more
+abbrev pub IsTail : List ℕ → Type 0
+IsTail text = (text ≡ []) ⊎ ((rest : List ℕ) × (text ≡ 32 ∷ rest))
+
+-- a word and its tail are cut in one way
+pub cut_tail : (p q t u : List ℕ) → Lacks 32 p → Lacks 32 q → IsTail t → IsTail u → p ++ t ≡ q ++ u → (p ≡ q) × (t ≡ u)
+cut_tail [] [] t u lp lq it iu e = (refl, e)
+cut_tail [] (c ∷ q) t u lp lq (inl none) iu e = let e' : [] ≡ c ∷ (q ++ u) = sym none ∙ e in absurd (cc)
+cut_tail [] (c ∷ q) t u lp lq (inr some) iu e = let e' : 32 ∷ some.0 ≡ c ∷ (q ++ u) = sym some.1 ∙ e in let same : c ≡ 32 = cc in absurd (lq.0 same)
+cut_tail (c ∷ p) [] t u lp lq it (inl none) e = let e' : c ∷ (p ++ t) ≡ [] = e ∙ none in absurd (cc)
+cut_tail (c ∷ p) [] t u lp lq it (inr some) e = let e' : c ∷ (p ++ t) ≡ 32 ∷ some.0 = e ∙ some.1 in let same : c ≡ 32 = cc in absurd (lp.0 same)
+cut_tail (c ∷ p) (d ∷ q) t u lp lq it iu e =
+    let head : c ≡ d = cc in
+    let tail : p ++ t ≡ q ++ u = cc in
+    let rest = cut_tail p q t u lp.1 lq.1 it iu tail in
+    let same : p ≡ q = rest.0 in (cc, rest.1)
+
+behind_tail : (words : Option (Bor (List ℕ))) → IsTail (behind_word words)
+behind_tail None = inl refl
+behind_tail (Some rest) = inr (rest.now, refl)
+
+option_tail : (name text : List ℕ) (option : Option ℕ) → SpellsOption name text option → IsTail text
+option_tail name text None s = inl s
+option_tail name text (Some n) s = inr (name ++ 32 ∷ s.0, s.1)
+
+tails : (t u : List ℕ) → IsTail t → IsTail u → IsTail (t ++ u)
+tails t u (inl none) iu = subst (λ (x : List ℕ). IsTail (x ++ u)) (sym none) iu
+tails t u (inr some) iu = inr (some.0 ++ u, ap (λ (x : List ℕ). x ++ u) some.1)
+
+other_tail : (name text : List ℕ) → IsBehindOption name text → IsTail text
+other_tail name text (inl none) = inl none
+other_tail name text (inr some) = inr (some.0 ++ 32 ∷ some.1, some.2)
+
+-- a word cut off the front of a text
+pub word_tail : (text word : List ℕ) (rest : Option (Bor (List ℕ))) → MatchOption rest (word ≡ text) (λ r. text ≡ word ++ 32 ∷ r.now) → text ≡ word ++ behind_word rest
+word_tail text word None cut = sym cut ∙ sym (append-nil word)
+word_tail text word (Some r) cut = cut
+
+-- what stands behind `life`
+pub record AreOptions (options : LifeOptions) (text : List ℕ) : Type 0 where
+  pub frames : List ℕ
+  pub most : List ℕ
+  pub is : text ≡ frames ++ most
+  pub is_frames : SpellsOption (codes "frames") frames options.frames
+  pub is_most : SpellsOption (codes "max") most options.max_pages
+  pub fits : IfSome options.max_pages (λ n. n < 2 ^ 32)
+
+pub are_options : (rest : List ℕ) (options : LifeOptions) → SpellsLife (codes "life" ++ rest) options → AreOptions options rest
+are_options rest options s =
+    let e : codes "life" ++ rest ≡ codes "life" ++ (s.0 ++ s.1) = s.2 in
+    let same : rest ≡ s.0 ++ s.1 = cc in record { frames = s.0; most = s.1; is = same; is_frames = s.3; is_most = s.4; fits = s.5 }
+
+options_tail : (options : LifeOptions) (text : List ℕ) → (s : SpellsLife text options) → IsTail (s.0 ++ s.1)
+options_tail options text s = tails s.0 s.1 (option_tail (codes "frames") s.0 options.frames s.3) (option_tail (codes "max") s.1 options.max_pages s.4)
+
+-- a line of one word that begins a life is that word
+pub lone_life : (word : List ℕ) (options : LifeOptions) → Lacks 32 word → SpellsLife word options → word ≡ codes "life"
+lone_life word options l s = (cut_tail word (codes "life") [] (s.0 ++ s.1) l life_lacks (inl refl) (options_tail options word s) (append-nil word ∙ s.2)).0
+
+-- and so one of several begins with it
+pub spaced_life : (word rest : List ℕ) (options : LifeOptions) → Lacks 32 word → SpellsLife (word ++ 32 ∷ rest) options → word ≡ codes "life"
+spaced_life word rest options l s = (cut_tail word (codes "life") (32 ∷ rest) (s.0 ++ s.1) l life_lacks (inr (rest, refl)) (options_tail options (word ++ 32 ∷ rest) s) s.2).0
+
+-- what the next option leaves may stand behind `frames`
+pub behind_frames : (text : List ℕ) (option : Option ℕ) → SpellsOption (codes "max") text option → IsBehindOption (codes "frames") text
+behind_frames text None s = inl s
+behind_frames text (Some n) s = inr (codes "max", s.0, s.1, max_lacks, (λ e. absurd (cc)))
+
+-- no words: no option
+pub none_once : (name : List ℕ) (option : Option ℕ) (left : List ℕ) → IsOption name [] option left → (option ≡ None) × (left ≡ [])
+none_once name None left o = (refl, sym (o.is ∙ ap (λ (x : List ℕ). x ++ left) o.spelled))
+none_once name (Some n) left o = let e : [] ≡ 32 ∷ ((name ++ 32 ∷ o.spelled.0) ++ left) = o.is ∙ ap (λ (x : List ℕ). x ++ left) o.spelled.1 in absurd (cc)
+
+-- a text of this option, behind its first space
+some_is : (name text : List ℕ) (n : ℕ) (left : List ℕ) (o : IsOption name (32 ∷ text) (Some n) left) → text ≡ name ++ 32 ∷ (o.spelled.0 ++ left)
+some_is name text n left o =
+    let e : 32 ∷ text ≡ 32 ∷ ((name ++ 32 ∷ o.spelled.0) ++ left) = o.is ∙ ap (λ (x : List ℕ). x ++ left) o.spelled.1 in
+    let same : text ≡ (name ++ 32 ∷ o.spelled.0) ++ left = cc in same ∙ append_assoc name (32 ∷ o.spelled.0) left
+
+none_is : (name text left : List ℕ) → IsOption name text None left → text ≡ left
+none_is name text left o = o.is ∙ ap (λ (x : List ℕ). x ++ left) o.spelled
+
+-- the first word is another name: no option
+pub other_once : (name text word : List ℕ) (rest : Option (Bor (List ℕ))) (option : Option ℕ) (left : List ℕ) → Lacks 32 name → text ≡ word ++ behind_word rest → Lacks 32 word → word ≢ name
+    → IsOption name (32 ∷ text) option left → (option ≡ None) × (left ≡ 32 ∷ text)
+other_once name text word rest None left ln cut l other o = (refl, sym (none_is name (32 ∷ text) left o))
+other_once name text word rest (Some n) left ln cut l other o =
+    absurd (other (cut_tail word name (behind_word rest) (32 ∷ (o.spelled.0 ++ left)) l ln (behind_tail rest) (inr (o.spelled.0 ++ left, refl)) (sym cut ∙ some_is name text n left o)).0)
+
+-- no option begins with its name alone, nor does what may stand behind it
+not_behind : (name text tail : List ℕ) → Lacks 32 name → IsTail tail → text ≡ name ++ tail → IsBehindOption name (32 ∷ text) → ⊥
+not_behind name text tail ln it cut (inl none) = absurd (cc)
+not_behind name text tail ln it cut (inr some) =
+    let e : 32 ∷ text ≡ 32 ∷ (some.0 ++ 32 ∷ some.1) = some.2 in
+    let same : text ≡ some.0 ++ 32 ∷ some.1 = cc in some.4 (sym (cut_tail name some.0 tail (32 ∷ some.1) ln some.3 it (inr (some.1, refl)) (sym cut ∙ same)).0)
+
+pub no_number : (name text : List ℕ) (option : Option ℕ) (left : List ℕ) → Lacks 32 name → text ≡ name → IsBehindOption name left → IsOption name (32 ∷ text) option left → ⊥
+no_number name text None left ln cut behind o = not_behind name text [] ln (inl refl) (cut ∙ sym (append-nil name)) (subst (λ (x : List ℕ). IsBehindOption name x) (sym (none_is name (32 ∷ text) left o)) behind)
+no_number name text (Some n) left ln cut behind o = lacks_mid 32 name (o.spelled.0 ++ left) (subst (λ (x : List ℕ). Lacks 32 x) (sym cut ∙ some_is name text n left o) ln)
+
+-- the option's number and what is left are those of its text
+pub number_is : (name text rest digits : List ℕ) (more : Option (Bor (List ℕ))) (n : ℕ) (left : List ℕ) → Lacks 32 name → text ≡ name ++ 32 ∷ rest → rest ≡ digits ++ behind_word more → Lacks 32 digits
+    → IsBehindOption name left → IsOption name (32 ∷ text) (Some n) left → IsNumber digits n × (left ≡ behind_word more)
+number_is name text rest digits more n left ln cut next l behind o =
+    let same = (cut_once 32 name name rest (o.spelled.0 ++ left) ln ln (sym cut ∙ some_is name text n left o)).1 in
+    let both = cut_tail digits o.spelled.0 (behind_word more) left l (digits_lack o.spelled.0 o.spelled.2.0.1) (behind_tail more) (other_tail name left behind) (sym next ∙ same) in
+    (subst (λ (x : List ℕ). IsNumber x n) (sym both.0) o.spelled.2, sym both.1)
+
+pub number_one : (name text rest digits : List ℕ) (more : Option (Bor (List ℕ))) (m : ℕ) (option : Option ℕ) (left : List ℕ) → Lacks 32 name → text ≡ name ++ 32 ∷ rest → rest ≡ digits ++ behind_word more → Lacks 32 digits → IsNumber digits m
+    → IsBehindOption name left → IsOption name (32 ∷ text) option left → (option ≡ Some m) × (left ≡ behind_word more)
+number_one name text rest digits more m None left ln cut next l is behind o = absurd (not_behind name text (32 ∷ rest) ln (inr (rest, refl)) cut (subst (λ (x : List ℕ). IsBehindOption name x) (sym (none_is name (32 ∷ text) left o)) behind))
+number_one name text rest digits more m (Some n) left ln cut next l is behind o =
+    let both = number_is name text rest digits more n left ln cut next l behind o in (ap Some (number_once digits n m both.0 is), both.1)
+
+pub number_bad : (name text rest digits : List ℕ) (more : Option (Bor (List ℕ))) (option : Option ℕ) (left : List ℕ) → Lacks 32 name → text ≡ name ++ 32 ∷ rest → rest ≡ digits ++ behind_word more → Lacks 32 digits → ((n : ℕ) → ¬ (IsNumber digits n))
+    → IsBehindOption name left → IsOption name (32 ∷ text) option left → ⊥
+number_bad name text rest digits more None left ln cut next l bad behind o = not_behind name text (32 ∷ rest) ln (inr (rest, refl)) cut (subst (λ (x : List ℕ). IsBehindOption name x) (sym (none_is name (32 ∷ text) left o)) behind)
+number_bad name text rest digits more (Some n) left ln cut next l bad behind o = bad n (number_is name text rest digits more n left ln cut next l behind o).0
+
+-- an option with its number, as it was read
+pub option_is : (name text rest digits : List ℕ) (more : Option (Bor (List ℕ))) (n : ℕ) → text ≡ name ++ 32 ∷ rest → rest ≡ digits ++ behind_word more → IsNumber digits n → IsOption name (32 ∷ text) (Some n) (behind_word more)
+option_is name text rest digits more n cut next is = record {
+  front = 32 ∷ (name ++ 32 ∷ digits);
+  is = ap (λ (x : List ℕ). 32 ∷ x) (cut ∙ ap (λ (x : List ℕ). name ++ 32 ∷ x) next ∙ sym (append_assoc name (32 ∷ digits) (behind_word more)));
+  spelled = (digits, refl, is);
+}
+
+-- ---- a line that spells a life, read option by option
+
+-- an option of this name is refused, whatever is left behind it
+abbrev pub IsRefused : List ℕ → List ℕ → Type 0
+IsRefused name text = (option : Option ℕ) (left : List ℕ) → IsBehindOption name left → ¬ (IsOption name text option left)
+
+-- an option of this name is this one, and leaves this
+abbrev pub IsOnlyOption : List ℕ → List ℕ → Option ℕ → List ℕ → Type 0
+IsOnlyOption name text only rest = (option : Option ℕ) (left : List ℕ) → IsOption name text option left → IsBehindOption name left → (option ≡ only) × (left ≡ rest)
+
+module _ (options : LifeOptions) (text : List ℕ) (o : AreOptions options text) (name : List ℕ) where
+  frames_option : name ≡ codes "frames" → IsOption name text options.frames o.most × IsBehindOption name o.most
+  frames_option is =
+      subst (λ (n : List ℕ). IsOption n text options.frames o.most × IsBehindOption n o.most) (sym is)
+      (record { front = o.frames; is = o.is; spelled = o.is_frames }, behind_frames o.most options.max_pages o.is_most)
+
+  pub frames_refused : name ≡ codes "frames" → IsRefused name text → ⊥
+  frames_refused is refused = let f = frames_option is in refused options.frames o.most f.1 f.0
+
+  pub most_is : name ≡ codes "frames" → (frames : Option ℕ) (left : List ℕ) → IsOnlyOption name text frames left → o.most ≡ left
+  most_is is frames left once = let f = frames_option is in (once options.frames o.most f.0 f.1).1
+
+  last_option : name ≡ codes "max" → (left : List ℕ) → o.most ≡ left → IsOption name left options.max_pages []
+  last_option is left same =
+      subst (λ (n : List ℕ). IsOption n left options.max_pages []) (sym is)
+      (record { front = left; is = sym (append-nil left); spelled = subst (λ (x : List ℕ). SpellsOption (codes "max") x options.max_pages) same o.is_most })
+
+  pub most_refused : name ≡ codes "max" → (left : List ℕ) → o.most ≡ left → IsRefused name left → ⊥
+  most_refused is left same refused = refused options.max_pages [] (inl refl) (last_option is left same)
+
+  pub most_once : name ≡ codes "max" → (left : List ℕ) → o.most ≡ left → (most : Option ℕ) (end : List ℕ) → IsOnlyOption name left most end → (options.max_pages ≡ most) × ([] ≡ end)
+  most_once is left same most end once = once options.max_pages [] (last_option is left same) (inl refl)
+
+pub most_fits : (options : LifeOptions) (text : List ℕ) → AreOptions options text → (most : Option ℕ) → options.max_pages ≡ most → IfSome most (λ n. n < 2 ^ 32)
+most_fits options text o most is = subst (λ (m : Option ℕ). IfSome m (λ n. n < 2 ^ 32)) is o.fits
+
+pub none_left : (words : Option (Bor (List ℕ))) → is_some words ≡ true → [] ≡ behind_word words → ⊥
+none_left None some is = absurd (cc)
+none_left (Some rest) some is = absurd (cc)

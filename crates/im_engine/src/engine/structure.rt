@@ -1,0 +1,282 @@
+//! Structure changes of the active transaction.
+
+ghost use Rattle.std.specs.Prelude.{◌≡◌, ◌≢◌, ◌⊎◌, ◌≤◌, ℕ, List, [], Some, Err, true, false, length, IfOk, IfErr, OnOk};
+ghost use Rattle.im_types.specs.declared.fault.Fault.TheVariants.{LogFull, Device, Memory, NotAStore, Failed, PagesFull, Capacity};
+
+use crate::Engine;
+use crate::engine::pages::breaks;
+use crate::transaction::Transaction;
+use im_delete::plan_delete;
+use im_disk::Disk;
+use im_pool::Frame;
+use im_smo::Images;
+use im_split::plan_split;
+use im_types::Fault;
+
+// What a refusal is answered as behind the first record of a structure change: for want of memory the engine fails.
+pub(crate) fn late(fault: Fault) -> Fault
+    ensures memory { fault ≡ Memory → result ≡ Failed }
+    ensures others { fault ≢ Memory → result ≡ fault }
+{
+    match fault {
+        Fault::Memory => Fault::Failed,
+        _ => fault,
+    }
+}
+
+// Whether a refusal came for want of memory.
+fn wants_memory(fault: Fault) -> bool
+    ensures wants { result ≡ true → fault ≡ Memory }
+    ensures other { result ≡ false → fault ≢ Memory }
+{
+    match fault {
+        Fault::Memory => true,
+        _ => false,
+    }
+}
+
+impl<D: Disk> Engine<D> {
+    ghost use Rattle.im_types.specs.Changes.{Effect};
+    ghost use Rattle.im_types.specs.Faults.{number_of};
+    ghost use Rattle.im_types.specs.Lives.{Shown, breaks};
+    ghost use Rattle.im_types.specs.LogLaws.{bodies};
+    ghost use Rattle.im_types.specs.declared.page_kind.PageKind.TheVariants.{Leaf};
+    ghost use Rattle.im_log.specs.LogFile.{HasNoRoom};
+    ghost use Rattle.im_pool.specs.Pool.{page_at, IsAt};
+    ghost use Rattle.im_tree.specs.Levels.{walk};
+    ghost use Rattle.im_tree.specs.Good.{IsGoodTree};
+    ghost use Rattle.im_tree.specs.Search.{IsOnWay};
+    ghost use Rattle.im_alloc.specs.Seen.{seen};
+    ghost use Rattle.im_one_page.specs.OnePage.{first_base};
+    ghost use Rattle.im_engine.specs.Running.{IsRunning};
+    ghost use Rattle.im_engine.specs.Changes.{EditKept};
+    ghost use Rattle.im_engine.specs.Structure.{PlanKept, StructureKept, RoomKept, SplitKept, DeletePlanKept, DropPlanKept};
+    ghost use Rattle.im_engine.specs.Checks.{LacksRoom, active_number};
+
+    // The pages that the split of a key's leaf has to write, as images.
+    fn plan_split(&mut self, key: &[u8]) -> Result<Images, Fault>
+        requires working { self.old.failed ≡ false }
+        requires short { length key.now ≤ 255 }
+        ensures kept { (before : List Effect) (s : Shown) (r : IsRunning D.Disk before s self.old) → PlanKept D.Disk before s self.old r key.now self.new result }
+        ensures works { OnOk result (self.new.failed ≡ false) }
+        ensures fails { IfErr result (λ e. self.new.failed ≡ breaks (number_of e)) }
+        ensures causes { IfErr result (λ e. (e ≡ PagesFull) ⊎ (e ≡ Capacity) ⊎ (e ≡ LogFull) ⊎ (e ≡ Memory) ⊎ (e ≡ NotAStore) ⊎ (e ≡ Device)) }
+        ensures device { D.failed self.new.disk ≡ true → result ≡ Err Device }
+        ensures failed { result ≡ Err Device → D.failed self.new.disk ≡ true }
+        ensures no_room { result ≡ Err LogFull → HasNoRoom self.new.writer.log }
+        ensures going { self.new.going ≡ self.old.going }
+        ensures next { self.new.next ≡ self.old.next }
+        ensures split { self.new.split ≡ self.old.split }
+        ensures limit { self.new.max_pages ≡ self.old.max_pages }
+    {
+        self.failed = true;
+        let limit = Some(self.max_pages);
+        match plan_split(self.alloc, &mut self.writer, &mut self.disk, key, limit) {
+            Ok(images) => {
+                self.failed = false;
+                Ok(images)
+            }
+            Err(fault) => {
+                self.failed = breaks(fault);
+                Err(fault)
+            }
+        }
+    }
+
+    // The pages that have to be written so that the empty leaf of a key leaves the tree, as images.
+    fn plan_delete(&mut self, key: &[u8]) -> Result<Images, Fault>
+        requires working { self.old.failed ≡ false }
+        ensures kept { (before : List Effect) (s : Shown) (r : IsRunning D.Disk before s self.old) (p : ℕ) → IsOnWay (bodies first_base r.now.log) 0 key.now p → (bodies first_base r.now.log p).entries ≡ [] → p ≢ 1
+            → DeletePlanKept D.Disk before s self.old r self.new result }
+        ensures works { OnOk result (self.new.failed ≡ false) }
+        ensures fails { IfErr result (λ e. self.new.failed ≡ breaks (number_of e)) }
+        ensures causes { IfErr result (λ e. (e ≡ LogFull) ⊎ (e ≡ Memory) ⊎ (e ≡ NotAStore) ⊎ (e ≡ Device)) }
+        ensures device { D.failed self.new.disk ≡ true → result ≡ Err Device }
+        ensures failed { result ≡ Err Device → D.failed self.new.disk ≡ true }
+        ensures no_room { result ≡ Err LogFull → HasNoRoom self.new.writer.log }
+        ensures going { self.new.going ≡ self.old.going }
+        ensures next { self.new.next ≡ self.old.next }
+        ensures split { self.new.split ≡ self.old.split }
+    {
+        self.failed = true;
+        match plan_delete(self.alloc, &mut self.writer, &mut self.disk, key) {
+            Ok(images) => {
+                self.failed = false;
+                Ok(images)
+            }
+            Err(fault) => {
+                self.failed = breaks(fault);
+                Err(fault)
+            }
+        }
+    }
+
+    // Logs a structure change of the active transaction, and makes its pages so. Answers the transaction behind it. After a refusal the
+    // engine has failed: the change may be open in the log.
+    fn restructure(
+        &mut self,
+        transaction: Transaction,
+        images: &Images,
+    ) -> Result<Transaction, Fault>
+        requires working { self.old.failed ≡ false }
+        requires owned { 1 ≤ transaction.number }
+        ensures kept { (before : List Effect) (s : Shown) (r : IsRunning D.Disk before s self.old) → self.old.going ≡ Some transaction → 1 ≤ length images.now → IsGoodTree (seen r.now images.now) []
+            → walk (seen r.now images.now) ≡ walk (bodies first_base r.now.log) → StructureKept D.Disk before s self.old r images.now self.new result }
+        ensures ok { IfOk result (λ t. (self.new.failed ≡ false) × (self.new.going ≡ Some t) × (t.number ≡ transaction.number)) }
+        ensures fails { IfErr result (λ e. (self.new.failed ≡ true) × (self.new.going ≡ self.old.going)) }
+        ensures causes { IfErr result (λ e. (e ≡ LogFull) ⊎ (e ≡ Failed) ⊎ (e ≡ NotAStore) ⊎ (e ≡ Device)) }
+        ensures device { D.failed self.new.disk ≡ true → result ≡ Err Device }
+        ensures failed { result ≡ Err Device → D.failed self.new.disk ≡ true }
+        ensures no_room { result ≡ Err LogFull → HasNoRoom self.new.writer.log }
+        ensures next { self.new.next ≡ self.old.next }
+        ensures split { self.new.split ≡ true }
+        ensures limit { self.new.max_pages ≡ self.old.max_pages }
+    {
+        self.split = true;
+        self.failed = true;
+        match im_change::run(
+            &mut self.writer,
+            &mut self.disk,
+            images,
+            transaction.number,
+            transaction.last,
+            transaction.undo_next,
+        ) {
+            Ok(lsn) => {
+                let behind = Transaction {
+                    number: transaction.number,
+                    last: lsn,
+                    undo_next: transaction.undo_next,
+                };
+                self.going = Some(behind);
+                self.failed = false;
+                Ok(behind)
+            }
+            Err(fault) => Err(late(fault)),
+        }
+    }
+
+    // Where a key's leaf is held, which was split so that it has room for the key. After a refusal the engine has failed.
+    fn leaf_with_room(&mut self, key: &[u8]) -> Result<Frame, Fault>
+        requires working { self.old.failed ≡ false }
+        requires short { length key.now ≤ 255 }
+        ensures kept { (before : List Effect) (s : Shown) (r : IsRunning D.Disk before s self.old) → RoomKept D.Disk before s self.old r key.now self.new result }
+        ensures at { IfOk result (IsAt self.new.writer.pool) }
+        ensures leaf { IfOk result (λ frame. (page_at self.new.writer.pool frame.number).body.kind ≡ Leaf) }
+        ensures room { IfOk result (λ frame. ¬ (LacksRoom (page_at self.new.writer.pool frame.number).body.entries key.now)) }
+        ensures works { OnOk result (self.new.failed ≡ false) }
+        ensures fails { IfErr result (λ e. self.new.failed ≡ true) }
+        ensures causes { IfErr result (λ e. (e ≡ LogFull) ⊎ (e ≡ Failed) ⊎ (e ≡ NotAStore) ⊎ (e ≡ Device)) }
+        ensures device { D.failed self.new.disk ≡ true → result ≡ Err Device }
+        ensures failed { result ≡ Err Device → D.failed self.new.disk ≡ true }
+        ensures no_room { result ≡ Err LogFull → HasNoRoom self.new.writer.log }
+        ensures going { self.new.going ≡ self.old.going }
+        ensures next { self.new.next ≡ self.old.next }
+        ensures split { self.new.split ≡ self.old.split }
+    {
+        match self.leaf(key) {
+            Ok(frame) => {
+                if self.has_room(frame, key) {
+                    return Ok(frame);
+                }
+                self.failed = true;
+                Err(Fault::NotAStore)
+            }
+            Err(fault) => {
+                self.failed = true;
+                Err(late(fault))
+            }
+        }
+    }
+
+    // Splits the leaf of a key, which lacks room for it. Answers the transaction behind that, and where the key's leaf is now held.
+    pub(crate) fn split_leaf(
+        &mut self,
+        transaction: Transaction,
+        key: &[u8],
+    ) -> Result<(Transaction, Frame), Fault>
+        requires working { self.old.failed ≡ false }
+        requires owned { 1 ≤ transaction.number }
+        requires short { length key.now ≤ 255 }
+        ensures kept { (before : List Effect) (s : Shown) (r : IsRunning D.Disk before s self.old) → self.old.going ≡ Some transaction
+            → (p : ℕ) → IsOnWay (bodies first_base r.now.log) 0 key.now p → LacksRoom (bodies first_base r.now.log p).entries key.now → SplitKept D.Disk before s self.old r key.now self.new result }
+        ensures at { IfOk result (λ x. IsAt self.new.writer.pool x.1) }
+        ensures leaf { IfOk result (λ x. (page_at self.new.writer.pool x.1.number).body.kind ≡ Leaf) }
+        ensures room { IfOk result (λ x. ¬ (LacksRoom (page_at self.new.writer.pool x.1.number).body.entries key.now)) }
+        ensures ok { IfOk result (λ x. (self.new.failed ≡ false) × (self.new.going ≡ Some x.0) × (x.0.number ≡ transaction.number) × (self.new.split ≡ true)) }
+        ensures fails { IfErr result (λ e. self.new.failed ≡ breaks (number_of e)) }
+        ensures still { IfErr result (λ e. self.new.failed ≡ false → self.new.going ≡ self.old.going) }
+        ensures active { active_number self.old.going ≡ Some transaction.number → active_number self.new.going ≡ Some transaction.number }
+        ensures causes { IfErr result (λ e. (e ≡ PagesFull) ⊎ (e ≡ Capacity) ⊎ (e ≡ Failed) ⊎ (e ≡ LogFull) ⊎ (e ≡ Memory) ⊎ (e ≡ NotAStore) ⊎ (e ≡ Device)) }
+        ensures device { D.failed self.new.disk ≡ true → result ≡ Err Device }
+        ensures failed { result ≡ Err Device → D.failed self.new.disk ≡ true }
+        ensures no_room { result ≡ Err LogFull → HasNoRoom self.new.writer.log }
+        ensures next { self.new.next ≡ self.old.next }
+        ensures split { self.old.split ≡ true → self.new.split ≡ true }
+    {
+        let images = self.plan_split(key)?;
+        let transaction = self.restructure(transaction, &images)?;
+        let frame = self.leaf_with_room(key)?;
+        Ok((transaction, frame))
+    }
+
+    // Whether the leaf of a key is not the root, and has no entry.
+    fn is_spare(&self, frame: Frame) -> bool
+        requires at { IsAt self.now.writer.pool frame }
+        ensures { result ≡ true → (frame.number ≢ 1) × ((page_at self.now.writer.pool frame.number).body.entries ≡ []) }
+    {
+        frame.number != 1 && self.writer.page(frame).len() == 0
+    }
+
+    // The pages that have to be written so that the leaf of a key leaves the tree, as images, where it is empty and not the root.
+    fn plan_drop(&mut self, key: &[u8]) -> Result<Option<Images>, Fault>
+        requires working { self.old.failed ≡ false }
+        ensures kept { (before : List Effect) (s : Shown) (r : IsRunning D.Disk before s self.old) → DropPlanKept D.Disk before s self.old r self.new result }
+        ensures works { OnOk result (self.new.failed ≡ false) }
+        ensures fails { IfErr result (λ e. self.new.failed ≡ breaks (number_of e)) }
+        ensures causes { IfErr result (λ e. (e ≡ LogFull) ⊎ (e ≡ Memory) ⊎ (e ≡ NotAStore) ⊎ (e ≡ Device)) }
+        ensures device { D.failed self.new.disk ≡ true → result ≡ Err Device }
+        ensures failed { result ≡ Err Device → D.failed self.new.disk ≡ true }
+        ensures no_room { result ≡ Err LogFull → HasNoRoom self.new.writer.log }
+        ensures going { self.new.going ≡ self.old.going }
+        ensures next { self.new.next ≡ self.old.next }
+        ensures split { self.new.split ≡ self.old.split }
+    {
+        let frame = self.leaf(key)?;
+        if !self.is_spare(frame) {
+            return Ok(None);
+        }
+        let images = self.plan_delete(key)?;
+        Ok(Some(images))
+    }
+
+    // Takes the leaf of a key out of the tree, where it is empty and not the root. For want of memory it stays.
+    pub(crate) fn drop_leaf(&mut self, transaction: Transaction, key: &[u8]) -> Result<(), Fault>
+        requires working { self.old.failed ≡ false }
+        requires owned { 1 ≤ transaction.number }
+        ensures kept { (before : List Effect) (s : Shown) → IsRunning D.Disk before s self.old → self.old.going ≡ Some transaction → EditKept D.Disk before s s self.old self.new result }
+        ensures works { OnOk result (self.new.failed ≡ false) }
+        ensures fails { IfErr result (λ e. self.new.failed ≡ true) }
+        ensures causes { IfErr result (λ e. (e ≡ LogFull) ⊎ (e ≡ Failed) ⊎ (e ≡ NotAStore) ⊎ (e ≡ Device)) }
+        ensures device { D.failed self.new.disk ≡ true → result ≡ Err Device }
+        ensures failed { result ≡ Err Device → D.failed self.new.disk ≡ true }
+        ensures no_room { result ≡ Err LogFull → HasNoRoom self.new.writer.log }
+        ensures active { active_number self.old.going ≡ Some transaction.number → active_number self.new.going ≡ Some transaction.number }
+        ensures next { self.new.next ≡ self.old.next }
+        ensures split { self.old.split ≡ true → self.new.split ≡ true }
+    {
+        match self.plan_drop(key) {
+            Ok(None) => Ok(()),
+            Ok(Some(images)) => match self.restructure(transaction, &images) {
+                Ok(_) => Ok(()),
+                Err(fault) => Err(fault),
+            },
+            Err(fault) => {
+                if wants_memory(fault) {
+                    return Ok(());
+                }
+                Err(fault)
+            }
+        }
+    }
+}

@@ -1,0 +1,12 @@
+pub mod Pages
+pub mod Fronts
+pub mod Images
+pub mod Going
+pub mod Effects
+pub mod Changes
+pub mod Roots
+pub mod Unsplit
+pub mod Restarts
+pub mod Beginnings
+pub mod Promises
+pub mod WorkedLog

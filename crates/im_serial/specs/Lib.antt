@@ -1,0 +1,4 @@
+pub mod Serial
+pub mod SerialLaws
+pub mod Worked
+pub mod Variants

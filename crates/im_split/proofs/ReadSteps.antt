@@ -1,0 +1,74 @@
+-- Reads in a row.
+use Rattle.std.proofs.Common.{◌≡◌, ◌≢◌, ◌⊎◌, ℕ, sym, subst, ◌∙◌}
+use Rattle.std.specs.Prelude.{Result, Ok, Err, IsErrAnd, IfErr, IfOk, OnOk}
+use Rattle.im_types.specs.declared.fault.Fault.{Fault}
+use Rattle.im_types.specs.declared.fault.Fault.TheVariants.{Memory, NotAStore}
+use Rattle.im_types.specs.Histories.{Base}
+use Rattle.im_types.specs.Writer.{Writer}
+use Rattle.im_disk.specs.declared.disk.Disk.{Ghosts}
+use Rattle.im_flush.specs.declared.page_writer.PageWriter.{PageWriter}
+use Rattle.im_flush.specs.Writing.{LeavesGrown}
+use Rattle.im_flush.specs.PageWriter.{GoesOn, Got, Evicted}
+use Rattle.im_flush.proofs.Goings.{leaves_then, leaves_so_far}
+use Rattle.im_flush.proofs.LoggedChanges.{ok_of, again_here, again_on}
+use Rattle.im_flush.proofs.Writers.{goes_on_then}
+use Rattle.im_tree.specs.Levels.{Pages}
+use Rattle.im_search.specs.Levels.{bodies}
+use Rattle.im_search.proofs.Pages.{bodies_stay}
+use Rattle.im_split.specs.Kept.{ReadKept}
+
+pub if_ok : {A E : Type 0} (r : Result A E) (P Q : A → Type 0) → IfOk r P → ((a : A) → P a → Q a) → IfOk r Q
+if_ok (Ok a) P Q is to = to a is
+if_ok (Err e) P Q is to = tt
+
+pub on_ok : {A E : Type 0} (r : Result A E) (P Q : Type 0) → OnOk r P → (P → Q) → OnOk r Q
+on_ok (Ok a) P Q is to = to is
+on_ok (Err e) P Q is to = tt
+
+-- a call that is refused in no case that it is called in
+pub never_err : {A E : Type 0} (r : Result A E) (P : E → Type 0) → IfErr r (λ e. ⊥) → IfErr r P
+never_err (Ok a) P never = tt
+never_err (Err e) P never = absurd never
+
+module _ {D : Type 0} (d : Ghosts D) (b : Base) (base : ℕ) where
+  -- what is read of a page that was got
+  pub read_of : {A : Type 0} (s : Writer) (P : A → Type 0) (n : ℕ) (old : D) (w : PageWriter) (disk : D) (r : Result A Fault) → Got d b base s n old w disk → IfOk r P → IfErr r (λ e. ⊥)
+      → ReadKept d b base s P old w disk r
+  read_of s P n old w disk r got is never = record {
+    ok = is;
+    on = ok_of r _ (record { now = got.now; on = got.on });
+    stops = leaves_so_far d b base s old got.now w.log w.table w.pool disk got.on.goes;
+    cause = never_err r _ never;
+    again = again_here r _ _ (record { now = got.now; on = got.on });
+  }
+
+  -- a read whose page was not got
+  pub read_refused : {A : Type 0} (s : Writer) (P : A → Type 0) (old : D) (w : PageWriter) (disk : D) (f : Fault) → LeavesGrown d b base s old disk → f ≢ NotAStore
+      → ((f ≡ Memory) ⊎ (f ≡ NotAStore) → Evicted d b base s old w disk) → (r : Result A Fault) → IsErrAnd r (λ e. e ≡ f) → ReadKept d b base s P old w disk r
+  read_refused s P old w disk f stops cause again (Ok a) is = absurd is
+  read_refused s P old w disk f stops cause again (Err e) is = record {
+    ok = tt;
+    on = tt;
+    stops = stops;
+    cause = λ same. cause (sym is ∙ same);
+    again = subst (λ (x : Fault). (x ≡ Memory) ⊎ (x ≡ NotAStore) → Evicted d b base s old w disk) (sym is) again;
+  }
+
+  -- a read behind others
+  pub read_then : {A : Type 0} (s : Writer) (P Q : A → Type 0) (old : D) (t : Writer) (w : PageWriter) (mid : D) → GoesOn d b base s old t w mid → (v : PageWriter) (new : D) (r : Result A Fault)
+      → ReadKept d b base t P mid v new r → ((a : A) → P a → Q a) → ReadKept d b base s Q old v new r
+  read_then s P Q old t w mid on v new r two to =
+      let more : Evicted d b base t mid v new → Evicted d b base s old v new = λ is. record { now = is.now; on = goes_on_then d b base s old t w mid on is.now v new is.on } in
+      record {
+        ok = if_ok r P Q two.ok to;
+        on = on_ok r _ _ two.on more;
+        stops = leaves_then d b base s old t w.log w.table w.pool mid on.goes new two.stops;
+        cause = two.cause;
+        again = again_on r _ _ _ two.again more;
+      }
+
+  -- what is read of pages behind other reads is read of them as they were
+  pub read_past : {A : Type 0} (s : Writer) (P : Pages → A → Type 0) (old : D) (t : Writer) (w : PageWriter) (mid : D) → GoesOn d b base s old t w mid → (v : PageWriter) (new : D) (r : Result A Fault)
+      → ReadKept d b base t (P (bodies t)) mid v new r → ReadKept d b base s (P (bodies s)) old v new r
+  read_past s P old t w mid on v new r two =
+      read_then s (P (bodies t)) (P (bodies s)) old t w mid on v new r two (λ a is. subst (λ (pages : Pages). P pages a) (bodies_stay b s t on.goes.keeps) is)

@@ -1,0 +1,9 @@
+pub mod Turns
+pub mod Paths
+pub mod Kept
+pub mod Readings
+pub mod Tops
+pub mod Pages
+pub mod Steps
+pub mod Ends
+pub mod Plan

@@ -1,0 +1,208 @@
+//! What the pages on a key's way say of a split.
+
+ghost use Rattle.std.specs.Prelude.{◌≡◌, ◌≤◌, ◌⊎◌, ◌↔◌, ◌+◌, ℕ, true, false, Ok, Err, IfErr, IfOk, OnOk, length};
+ghost use Rattle.im_types.specs.declared.fault.Fault.TheVariants.{Device, LogFull, Memory, NotAStore};
+ghost use Rattle.im_types.specs.declared.page_kind.PageKind.TheVariants.{Meta};
+ghost use Rattle.im_types.specs.Histories.{Base};
+ghost use Rattle.im_types.specs.Writer.{Writer};
+ghost use Rattle.im_page.specs.Entry.{entry_at, taken, width};
+ghost use Rattle.im_page.specs.Child.{IsChild};
+ghost use Rattle.im_page.specs.Page.{is_leaf_kind};
+ghost use Rattle.im_page.specs.Split.{IsSplitPoint};
+ghost use Rattle.im_log.specs.LogFile.{HasNoRoom};
+ghost use Rattle.im_flush.specs.PageWriter.{IsReadyWriter, StandsAs};
+ghost use Rattle.im_search.specs.Levels.{HasLevel, kind_at};
+ghost use Rattle.im_alloc.specs.Seen.{bodies};
+ghost use Rattle.im_split.specs.Kept.{ReadKept};
+ghost use Rattle.im_split.specs.Readings.{HasUp, IsRoom, IsFull};
+
+use im_disk::Disk;
+use im_flush::PageWriter;
+use im_page::Page;
+use im_search::has_level;
+use im_types::{Fault, PageKind, PageNo};
+
+/// The child of an inner page of this level on a key's way. Refused `NotAStore` where it is none.
+pub(crate) fn child_in(page: &Page, level: u8, key: &[u8]) -> Result<PageNo, Fault>
+    ensures child { IfOk result (λ c. IsChild page.now.body key.now c) }
+    ensures level { IfOk result (λ _. HasLevel level page.now.body) }
+    ensures refused { IfErr result (λ e. e ≡ NotAStore) }
+    ensures sound { 1 ≤ level → HasLevel level page.now.body → IfErr result (λ _. ⊥) }
+{
+    if level == 0 || !has_level(page, level) {
+        return Err(Fault::NotAStore);
+    }
+    Ok(page.child(key) as PageNo)
+}
+
+// How many bytes the key has that moves up where a page of this level is split.
+fn up_in(page: &Page, level: u8) -> Result<usize, Fault>
+    ensures up { IfOk result (λ n. HasUp (is_leaf_kind (kind_at level)) page.now.body n) }
+    ensures refused { IfErr result (λ e. e ≡ NotAStore) }
+    ensures sound { HasLevel level page.now.body → IfErr result (λ _. ⊥) }
+{
+    if !has_level(page, level) {
+        return Err(Fault::NotAStore);
+    }
+    let point = page.split_point();
+    if point == page.len() {
+        return Ok(0);
+    }
+    Ok(page.key(point).len())
+}
+
+// Whether a page of this level has room for an entry whose key has so many bytes.
+fn room_in(page: &Page, level: u8, key: usize) -> Result<bool, Fault>
+    requires { key ≤ 255 }
+    ensures room { IfOk result (IsRoom (is_leaf_kind (kind_at level)) page.now.body key) }
+    ensures refused { IfErr result (λ e. e ≡ NotAStore) }
+    ensures sound { HasLevel level page.now.body → IfErr result (λ _. ⊥) }
+{
+    if !has_level(page, level) {
+        return Err(Fault::NotAStore);
+    }
+    page.content();
+    Ok(page.has_room(key))
+}
+
+// The level of a page of the tree.
+fn level_in(page: &Page) -> Result<u8, Fault>
+    ensures level { IfOk result (λ h. h ≡ page.now.body.level) }
+    ensures refused { IfErr result (λ e. e ≡ NotAStore) }
+    ensures sound { HasLevel page.now.body.level page.now.body → IfErr result (λ _. ⊥) }
+{
+    let level = page.level();
+    if !has_level(page, level) {
+        return Err(Fault::NotAStore);
+    }
+    Ok(level)
+}
+
+/// The level of a page of the tree. Refused as `child_of` is.
+pub(crate) fn level_of<D: Disk>(
+    writer: &mut PageWriter,
+    disk: &mut D,
+    number: PageNo,
+) -> Result<u8, Fault>
+    requires ready { IsReadyWriter D.Disk writer.old disk.old }
+    requires working { writer.old.failed ≡ false }
+    ensures ready { IsReadyWriter D.Disk writer.new disk.new }
+    ensures kept { (b : Base) (base : ℕ) (s : Writer) → StandsAs D.Disk b base s writer.old disk.old → ((q : ℕ) → (s.pages q).waits ≡ false)
+        → HasLevel (bodies s number).level (bodies s number) → ReadKept D.Disk b base s (λ h. h ≡ (bodies s number).level) disk.old writer.new disk.new result }
+    ensures works { OnOk result (writer.new.failed ≡ false) }
+    ensures fails { IfErr result (λ e. (writer.new.failed ≡ false) ↔ ((e ≡ Memory) ⊎ (e ≡ NotAStore))) }
+    ensures causes { IfErr result (λ e. (e ≡ LogFull) ⊎ (e ≡ Memory) ⊎ (e ≡ NotAStore) ⊎ (e ≡ Device)) }
+    ensures device { result ≡ Err Device ↔ (D.failed disk.new ≡ true) }
+    ensures no_room { result ≡ Err LogFull → HasNoRoom writer.new.log }
+{
+    let frame = writer.get(disk, number)?;
+    level_in(writer.page(frame))
+}
+
+/// The child on a key's way of an inner page, which has to be of this level. Refused `NotAStore` where it is not, otherwise as
+/// `PageWriter::get` is.
+pub(crate) fn child_of<D: Disk>(
+    writer: &mut PageWriter,
+    disk: &mut D,
+    number: PageNo,
+    level: u8,
+    key: &[u8],
+) -> Result<PageNo, Fault>
+    requires ready { IsReadyWriter D.Disk writer.old disk.old }
+    requires working { writer.old.failed ≡ false }
+    ensures ready { IsReadyWriter D.Disk writer.new disk.new }
+    ensures kept { (b : Base) (base : ℕ) (s : Writer) → StandsAs D.Disk b base s writer.old disk.old → ((q : ℕ) → (s.pages q).waits ≡ false)
+        → 1 ≤ level → HasLevel level (bodies s number) → ReadKept D.Disk b base s (λ c. IsChild (bodies s number) key.now c) disk.old writer.new disk.new result }
+    ensures works { OnOk result (writer.new.failed ≡ false) }
+    ensures fails { IfErr result (λ e. (writer.new.failed ≡ false) ↔ ((e ≡ Memory) ⊎ (e ≡ NotAStore))) }
+    ensures causes { IfErr result (λ e. (e ≡ LogFull) ⊎ (e ≡ Memory) ⊎ (e ≡ NotAStore) ⊎ (e ≡ Device)) }
+    ensures device { result ≡ Err Device ↔ (D.failed disk.new ≡ true) }
+    ensures no_room { result ≡ Err LogFull → HasNoRoom writer.new.log }
+{
+    let frame = writer.get(disk, number)?;
+    child_in(writer.page(frame), level, key)
+}
+
+/// How many bytes the key has that moves up where a page of this level is split. Refused as `child_of` is.
+pub(crate) fn up_of<D: Disk>(
+    writer: &mut PageWriter,
+    disk: &mut D,
+    number: PageNo,
+    level: u8,
+) -> Result<usize, Fault>
+    requires ready { IsReadyWriter D.Disk writer.old disk.old }
+    requires working { writer.old.failed ≡ false }
+    ensures ready { IsReadyWriter D.Disk writer.new disk.new }
+    ensures kept { (b : Base) (base : ℕ) (s : Writer) → StandsAs D.Disk b base s writer.old disk.old → ((q : ℕ) → (s.pages q).waits ≡ false)
+        → HasLevel level (bodies s number) → ReadKept D.Disk b base s (HasUp (is_leaf_kind (kind_at level)) (bodies s number)) disk.old writer.new disk.new result }
+    ensures short { IfOk result (λ n. n ≤ 255) }
+    ensures works { OnOk result (writer.new.failed ≡ false) }
+    ensures fails { IfErr result (λ e. (writer.new.failed ≡ false) ↔ ((e ≡ Memory) ⊎ (e ≡ NotAStore))) }
+    ensures causes { IfErr result (λ e. (e ≡ LogFull) ⊎ (e ≡ Memory) ⊎ (e ≡ NotAStore) ⊎ (e ≡ Device)) }
+    ensures device { result ≡ Err Device ↔ (D.failed disk.new ≡ true) }
+    ensures no_room { result ≡ Err LogFull → HasNoRoom writer.new.log }
+{
+    let frame = writer.get(disk, number)?;
+    up_in(writer.page(frame), level)
+}
+
+/// Whether a page of this level has room for an entry whose key has so many bytes. Refused as `child_of` is.
+pub(crate) fn has_room<D: Disk>(
+    writer: &mut PageWriter,
+    disk: &mut D,
+    number: PageNo,
+    level: u8,
+    key: usize,
+) -> Result<bool, Fault>
+    requires ready { IsReadyWriter D.Disk writer.old disk.old }
+    requires working { writer.old.failed ≡ false }
+    requires short { key ≤ 255 }
+    ensures ready { IsReadyWriter D.Disk writer.new disk.new }
+    ensures kept { (b : Base) (base : ℕ) (s : Writer) → StandsAs D.Disk b base s writer.old disk.old → ((q : ℕ) → (s.pages q).waits ≡ false)
+        → HasLevel level (bodies s number) → ReadKept D.Disk b base s (IsRoom (is_leaf_kind (kind_at level)) (bodies s number) key) disk.old writer.new disk.new result }
+    ensures works { OnOk result (writer.new.failed ≡ false) }
+    ensures fails { IfErr result (λ e. (writer.new.failed ≡ false) ↔ ((e ≡ Memory) ⊎ (e ≡ NotAStore))) }
+    ensures causes { IfErr result (λ e. (e ≡ LogFull) ⊎ (e ≡ Memory) ⊎ (e ≡ NotAStore) ⊎ (e ≡ Device)) }
+    ensures device { result ≡ Err Device ↔ (D.failed disk.new ≡ true) }
+    ensures no_room { result ≡ Err LogFull → HasNoRoom writer.new.log }
+{
+    let frame = writer.get(disk, number)?;
+    room_in(writer.page(frame), level, key)
+}
+
+// Whether so many pages more would be more than the store may have, by the meta page.
+fn full_in(meta: &Page, pages: u32, max: PageNo) -> Result<bool, Fault>
+    ensures full { IfOk result (IsFull meta.now.body pages max) }
+    ensures refused { IfErr result (λ e. e ≡ NotAStore) }
+    ensures sound { meta.now.body.kind ≡ Meta → IfErr result (λ _. ⊥) }
+{
+    if meta.kind() != PageKind::Meta {
+        return Err(Fault::NotAStore);
+    }
+    let used = meta.leftmost() as u64 + pages as u64;
+    let most = max as u64 + meta.prev() as u64;
+    Ok(most < used)
+}
+
+/// Whether so many pages more would be more than the store may have. Refused `NotAStore` where page 0 is no meta page, otherwise
+/// as `PageWriter::get` is.
+pub(crate) fn is_full<D: Disk>(
+    writer: &mut PageWriter,
+    disk: &mut D,
+    pages: u32,
+    max: PageNo,
+) -> Result<bool, Fault>
+    requires ready { IsReadyWriter D.Disk writer.old disk.old }
+    requires working { writer.old.failed ≡ false }
+    ensures ready { IsReadyWriter D.Disk writer.new disk.new }
+    ensures kept { (b : Base) (base : ℕ) (s : Writer) → StandsAs D.Disk b base s writer.old disk.old → ((q : ℕ) → (s.pages q).waits ≡ false)
+        → (bodies s 0).kind ≡ Meta → ReadKept D.Disk b base s (IsFull (bodies s 0) pages max) disk.old writer.new disk.new result }
+    ensures works { OnOk result (writer.new.failed ≡ false) }
+    ensures fails { IfErr result (λ e. (writer.new.failed ≡ false) ↔ ((e ≡ Memory) ⊎ (e ≡ NotAStore))) }
+    ensures causes { IfErr result (λ e. (e ≡ LogFull) ⊎ (e ≡ Memory) ⊎ (e ≡ NotAStore) ⊎ (e ≡ Device)) }
+    ensures device { result ≡ Err Device ↔ (D.failed disk.new ≡ true) }
+    ensures no_room { result ≡ Err LogFull → HasNoRoom writer.new.log }
+{
+    let frame = writer.get(disk, 0)?;
+    full_in(writer.page(frame), pages, max)
+}

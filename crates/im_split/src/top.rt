@@ -1,0 +1,136 @@
+//! The highest page that a split splits.
+
+ghost use Rattle.std.specs.Prelude.{◌≡◌, ◌≤◌, ◌⊎◌, ◌↔◌, ◌+◌, ◌-◌, ℕ, [], true, false, Ok, Err, IfErr, IfOk, IfSome, OnOk, length};
+ghost use Rattle.im_types.specs.declared.fault.Fault.TheVariants.{Device, LogFull, Memory, NotAStore};
+ghost use Rattle.im_types.specs.Histories.{Base};
+ghost use Rattle.im_types.specs.Writer.{Writer};
+ghost use Rattle.im_log.specs.LogFile.{HasNoRoom};
+ghost use Rattle.im_flush.specs.PageWriter.{IsReadyWriter};
+ghost use Rattle.im_search.specs.Found.{HasTree};
+ghost use Rattle.im_alloc.specs.Seen.{bodies};
+ghost use Rattle.im_split.specs.Kept.{ReadKept};
+ghost use Rattle.im_split.specs.Tops.{IsCounted, IsPlaced, IsFound};
+
+use crate::reading::{child_of, has_room, level_of, up_of};
+use im_disk::Disk;
+use im_flush::PageWriter;
+use im_types::{Fault, PageNo};
+
+/// The highest page that splits, where a page on a key's way does, with its level and its parent; and how many pages have to be
+/// taken. The root has no parent.
+#[derive(Clone, Copy)]
+pub(crate) struct Top {
+    pub(crate) level: u8,
+    pub(crate) page: PageNo,
+    pub(crate) parent: PageNo,
+    pub(crate) root: bool,
+    pub(crate) pages: u32,
+}
+
+// A page on a key's way.
+#[derive(Clone, Copy)]
+pub(crate) struct Place {
+    pub(crate) level: u8,
+    pub(crate) number: PageNo,
+    pub(crate) top: Top,
+}
+
+// From a page above the leaves to its child on a key's way.
+fn step_down<D: Disk>(
+    writer: &mut PageWriter,
+    disk: &mut D,
+    place: Place,
+    key: &[u8],
+) -> Result<Place, Fault>
+    requires ready { IsReadyWriter D.Disk writer.old disk.old }
+    requires working { writer.old.failed ≡ false }
+    requires inner { 1 ≤ place.level }
+    requires counted { IsCounted place.level place.top }
+    ensures ready { IsReadyWriter D.Disk writer.new disk.new }
+    ensures kept { (b : Base) (base : ℕ) (s : Writer) → HasTree D.Disk b base s [] writer.old disk.old → IsPlaced (bodies s) key.now place.level place.number place.top
+        → ReadKept D.Disk b base s (λ next. IsPlaced (bodies s) key.now next.level next.number next.top) disk.old writer.new disk.new result }
+    ensures counted { IfOk result (λ next. IsCounted next.level next.top) }
+    ensures level { IfOk result (λ next. next.level + 1 ≡ place.level) }
+    ensures works { OnOk result (writer.new.failed ≡ false) }
+    ensures fails { IfErr result (λ e. (writer.new.failed ≡ false) ↔ ((e ≡ Memory) ⊎ (e ≡ NotAStore))) }
+    ensures causes { IfErr result (λ e. (e ≡ LogFull) ⊎ (e ≡ Memory) ⊎ (e ≡ NotAStore) ⊎ (e ≡ Device)) }
+    ensures device { result ≡ Err Device ↔ (D.failed disk.new ≡ true) }
+    ensures no_room { result ≡ Err LogFull → HasNoRoom writer.new.log }
+{
+    let level = place.level - 1;
+    let child = child_of(writer, disk, place.number, place.level, key)?;
+    let bytes = up_of(writer, disk, child, level)?;
+    let fits = has_room(writer, disk, place.number, place.level, bytes)?;
+    Ok(next_place(place, child, fits))
+}
+
+// The child's place, whose separator fits into its parent or not.
+fn next_place(place: Place, child: PageNo, fits: bool) -> Place
+    requires inner { 1 ≤ place.level }
+    requires counted { IsCounted place.level place.top }
+    ensures level { result.level + 1 ≡ place.level }
+    ensures number { result.number ≡ child }
+    ensures counted { IsCounted result.level result.top }
+    ensures fits { fits ≡ true → result.top ≡ record { level = result.level; page = child; parent = place.number; root = false; pages = 1 } }
+    ensures splits { fits ≡ false → result.top ≡ record place.top { pages = place.top.pages + 1 } }
+{
+    let level = place.level - 1;
+    let mut top = place.top;
+    if fits {
+        top = Top {
+            level,
+            page: child,
+            parent: place.number,
+            root: false,
+            pages: 1,
+        };
+    } else {
+        top.pages += 1;
+    }
+    Place {
+        level,
+        number: child,
+        top,
+    }
+}
+
+/// The highest page that splits before a key's entry goes into its leaf; none where the leaf has room for it.
+///
+/// Refused `NotAStore` where a page on the way is none of its level; otherwise as `PageWriter::get` is.
+pub(crate) fn find_top<D: Disk>(
+    writer: &mut PageWriter,
+    disk: &mut D,
+    key: &[u8],
+) -> Result<Option<Top>, Fault>
+    requires ready { IsReadyWriter D.Disk writer.old disk.old }
+    requires working { writer.old.failed ≡ false }
+    requires short { length key.now ≤ 255 }
+    ensures ready { IsReadyWriter D.Disk writer.new disk.new }
+    ensures kept { (b : Base) (base : ℕ) (s : Writer) → HasTree D.Disk b base s [] writer.old disk.old → ReadKept D.Disk b base s (IsFound (bodies s) key.now) disk.old writer.new disk.new result }
+    ensures counted { IfOk result (λ found. IfSome found (IsCounted 0)) }
+    ensures works { OnOk result (writer.new.failed ≡ false) }
+    ensures fails { IfErr result (λ e. (writer.new.failed ≡ false) ↔ ((e ≡ Memory) ⊎ (e ≡ NotAStore))) }
+    ensures causes { IfErr result (λ e. (e ≡ LogFull) ⊎ (e ≡ Memory) ⊎ (e ≡ NotAStore) ⊎ (e ≡ Device)) }
+    ensures device { result ≡ Err Device ↔ (D.failed disk.new ≡ true) }
+    ensures no_room { result ≡ Err LogFull → HasNoRoom writer.new.log }
+{
+    let level = level_of(writer, disk, 1)?;
+    let mut place = Place {
+        level,
+        number: 1,
+        top: Top {
+            level,
+            page: 1,
+            parent: 0,
+            root: true,
+            pages: 2,
+        },
+    };
+    while 0 < place.level {
+        place = step_down(writer, disk, place, key)?;
+    }
+    if has_room(writer, disk, place.number, 0, key.len())? {
+        return Ok(None);
+    }
+    Ok(Some(place.top))
+}

@@ -1,0 +1,63 @@
+//! Look-ups of keys in a tree.
+
+ghost use Rattle.std.specs.Prelude.{◌≡◌, false, IfOk, OnOk};
+ghost use Rattle.im_disk.specs.Runs.{IsSynced};
+ghost use Rattle.im_flush.specs.PageWriter.{IsReadyWriter};
+
+use crate::keys::{key_of, scattered};
+use im_disk::{Disk, ModelDisk, read_vec};
+use im_flush::PageWriter;
+use im_log::open_or_create;
+use im_search::locate;
+use im_types::{Fault, FileId};
+use std::alloc::Global;
+
+/// A disk with a new log, and these pages.
+pub fn disk_of(alloc: Global, pages: Vec<u8>) -> Result<ModelDisk, Fault>
+    ensures working { IfOk result (λ disk. ⟦<ModelDisk as Disk>⟧.failed disk ≡ false) }
+    ensures synced { IfOk result (λ disk. IsSynced ⟦<ModelDisk as Disk>⟧ disk) }
+{
+    let mut empty = ModelDisk::new(Vec::new(alloc), Vec::new(alloc));
+    let log = new_log(alloc, &mut empty)?;
+    Ok(ModelDisk::new(log, pages))
+}
+
+// The bytes of a new log.
+fn new_log<D: Disk>(alloc: Global, disk: &mut D) -> Result<Vec<u8>, Fault>
+    requires working { D.failed disk.old ≡ false }
+    requires synced { IsSynced D.Disk disk.old }
+{
+    open_or_create(alloc, disk)?;
+    let size = disk.len(FileId::Log)?;
+    read_vec(alloc, disk, FileId::Log, 0, size as usize)
+}
+
+/// A writer of pages with as many frames as it can have.
+pub fn opened<D: Disk>(alloc: Global, disk: &mut D) -> Result<PageWriter, Fault>
+    requires working { D.failed disk.old ≡ false }
+    requires synced { IsSynced D.Disk disk.old }
+    ensures ready { IfOk result (λ writer. IsReadyWriter D.Disk writer disk.new) }
+{
+    let log = open_or_create(alloc, disk)?;
+    PageWriter::new(alloc, log, 1_024)
+}
+
+/// Looks up so many keys, each somewhere among the first `keys` numbers, and answers how many were found with their number as row id.
+pub fn found<D: Disk>(
+    writer: &mut PageWriter,
+    disk: &mut D,
+    keys: u64,
+    rounds: u64,
+) -> Result<u64, Fault>
+    requires ready { IsReadyWriter D.Disk writer.old disk.old }
+    ensures ready { OnOk result (IsReadyWriter D.Disk writer.new disk.new) }
+{
+    let mut found = 0u64;
+    for round in 0..rounds {
+        let number = scattered(round) % keys.max(1);
+        if locate(writer, disk, &key_of(number))? == Some(number) {
+            found = found.wrapping_add(1);
+        }
+    }
+    Ok(found)
+}
