@@ -13,6 +13,7 @@ pub mod SplitPuts
 pub mod Limits
 pub mod Commits
 pub mod Ends
+pub mod Wanted
 pub mod Writes
 pub mod Lists
 pub mod Openings

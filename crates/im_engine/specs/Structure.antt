@@ -1,5 +1,5 @@
 -- Structure changes within a step, and the limit of pages.
-use Rattle.std.specs.Prelude.{◌≡◌, ◌≢◌, ◌⊎◌, ◌≤◌, ℕ, List, [], Option, None, Some, Result, IfErr, IfOk, OnOk, length}
+use Rattle.std.specs.Prelude.{◌≡◌, ◌≢◌, ◌⊎◌, ◌≤◌, ℕ, Bool, true, false, List, [], Option, None, Some, Result, IfErr, IfOk, OnOk, length}
 use Rattle.std.specs.FinMap.Entries.{find}
 use Rattle.im_types.specs.Keys.{Key, key_order}
 use Rattle.im_types.specs.LogLaws.{bodies}
@@ -8,11 +8,11 @@ use Rattle.im_types.specs.Changes.{Effect}
 use Rattle.im_types.specs.Lives.{Shown}
 use Rattle.im_types.specs.Writer.{Writer}
 use Rattle.im_types.specs.declared.fault.Fault.{Fault}
-use Rattle.im_types.specs.declared.fault.Fault.TheVariants.{Memory, NotAStore, PagesFull, Capacity}
+use Rattle.im_types.specs.declared.fault.Fault.TheVariants.{Memory, NotAStore, PagesFull, Capacity, Failed}
 use Rattle.im_types.specs.declared.reply.Reply.{Reply}
 use Rattle.im_types.specs.declared.reply.Reply.TheVariants.{Inserted, Refused}
 use Rattle.im_types.specs.declared.step.Step.{Step}
-use Rattle.im_types.specs.declared.step.Step.TheVariants.{Insert}
+use Rattle.im_types.specs.declared.step.Step.TheVariants.{Insert, Delete}
 use Rattle.im_disk.specs.declared.disk.Disk.{Ghosts}
 use Rattle.im_disk.specs.Runs.{LeavesOnly}
 use Rattle.im_pool.specs.Pool as pools
@@ -32,6 +32,19 @@ use Rattle.im_engine.specs.declared.transaction.Transaction.{Transaction}
 use Rattle.im_engine.specs.Stands.{Allowed}
 use Rattle.im_engine.specs.Running.{IsRunning}
 use Rattle.im_engine.specs.Checks.{LacksRoom}
+
+-- the refusals of a structure change
+abbrev pub is_of_change : Reply → Bool
+is_of_change (Refused PagesFull) = true
+is_of_change (Refused Capacity) = true
+is_of_change (Refused Failed) = true
+is_of_change _ = false
+
+-- the steps that may change the structure of the tree
+abbrev pub MayChangeTree : Step → Type 0
+MayChangeTree (Insert t key rid) = Unit {0}
+MayChangeTree (Delete t key) = Unit {0}
+MayChangeTree _ = ⊥
 
 -- page numbers are used up over these pages
 pub record NumbersEnd (pages : Pages) : Type 0 where
@@ -137,3 +150,29 @@ module _ {D : Type 0} (d : Ghosts D) (before : List Effect) (s : Shown) (old : E
   abbrev pub KeepsLimit : Step → Reply → Type 0
   KeepsLimit (Insert t key rid) reply = MeetsLimit key.items reply
   KeepsLimit _ reply = Unit {0}
+
+  -- A step of an engine that had not failed begins a structure change, or is refused for pages, for page numbers, or behind the first record of such a change.
+  pub record AsksChange (reply : Reply) (new : Engine D d) : Type 0 where
+    pub worked : old.failed ≡ false
+    pub asks : (is_of_change reply ≡ true) ⊎ (new.split ≢ old.split)
+
+  -- The key is absent, and its leaf lacks room for it.
+  pub record WantsSplit (key : Key) : Type 0 where
+    pub absent : find key_order key (walk (bodies first_base was.now.log)) ≡ None
+    pub page : ℕ
+    pub way : IsOnWay (bodies first_base was.now.log) 0 key page
+    pub lacks : LacksRoom (bodies first_base was.now.log page).entries key
+
+  -- The key's leaf is not the root, and has one entry, which is the key's.
+  pub record WantsDrop (key : Key) : Type 0 where
+    pub page : ℕ
+    pub way : IsOnWay (bodies first_base was.now.log) 0 key page
+    pub under : page ≢ 1
+    pub one : length (bodies first_base was.now.log page).entries ≡ 1
+    pub there : find key_order key (walk (bodies first_base was.now.log)) ≢ None
+
+  -- A step asks for a structure change only where it wants one.
+  abbrev pub AsksWhereWanted : Step → Reply → Engine D d → Type 0
+  AsksWhereWanted (Insert t key rid) reply new = AsksChange reply new → WantsSplit key.items
+  AsksWhereWanted (Delete t key) reply new = AsksChange reply new → WantsDrop key.items
+  AsksWhereWanted _ reply new = Unit {0}

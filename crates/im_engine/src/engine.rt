@@ -60,7 +60,7 @@ impl<D: Disk> Engine<D> {
     ghost use Rattle.im_one_page.specs.OnePage.{first_base};
     ghost use Rattle.im_engine.specs.Running.{IsLife, IsRunning};
     ghost use Rattle.im_engine.specs.Kept.{StepKept, OpenKept, LookKept, EntriesKept, answered_by, disk_of};
-    ghost use Rattle.im_engine.specs.Structure.{KeepsLimit};
+    ghost use Rattle.im_engine.specs.Structure.{KeepsLimit, AsksWhereWanted, MayChangeTree};
     ghost use Rattle.im_engine.specs.Turns.{AreSteps};
     ghost use Rattle.im_engine.specs.Changes.{IsIdle, active_in, header_of, is_breaking};
     ghost use Rattle.im_engine.specs.Checks.{CallsDevice, OfOwn, OfBegin, IsAnswered, AnswersStep, HasCause, active_after, active_number, changes_nothing, next_after};
@@ -174,7 +174,9 @@ impl<D: Disk> Engine<D> {
         ensures active { active_number self.new.going ≡ active_after (told_by result) (active_number self.old.going) }
         ensures numbers { self.new.next ≡ next_after (told_by result) self.old.next }
         ensures limit { (before : List Effect) (s : Shown) (r : IsRunning D.Disk before s self.old) → KeepsLimit D.Disk before s self.old r step.now result }
+        ensures wanted { (before : List Effect) (s : Shown) (r : IsRunning D.Disk before s self.old) → AsksWhereWanted D.Disk before s self.old r step.now result self.new }
         ensures split { self.old.split ≡ true → self.new.split ≡ true }
+        ensures unsplit { ¬ (MayChangeTree step.now) → self.new.split ≡ self.old.split }
         ensures works { D.failed self.new.disk ≡ true → self.new.failed ≡ true }
         ensures quiet { ¬ (CallsDevice D.Disk step.now self.old) → self.new.disk ≡ self.old.disk }
     {

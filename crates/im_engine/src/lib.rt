@@ -9,15 +9,17 @@
 //!
 //! The contract: whatever a stop leaves, at any moment of an opening or of a step, is allowed (`Allowed`): the files stand for the
 //! effects that they stood for before the life, and a front of those whose Commit was asked in it, in their order, each whole, with every one
-//! that was acknowledged (`StandsFor`, `IsLife`). This holds of every store, split or not. An opening that succeeds hands out exactly their
-//! entries: this is promised of files of a store whose structure never changed (`StandsFor false`), as the undo of an opening is in place, on
-//! the page that a record names, and `has_split` says whether a life has left those. Behind `Force` every record is durable, and behind
+//! that was acknowledged (`StandsFor`, `IsLife`). This holds of a life that opened a store whose structure had never changed
+//! (`StandsFor false`), also once the life changes it. An opening that succeeds hands out exactly their entries: this is promised of files of
+//! such a store alone, as the undo of an opening is in place, on the page that a record names, and `has_split` says whether a life has left
+//! those. Behind `Force` every record is durable, and behind
 //! `FlushPage` the file has the page as it is (`IsDone`). Over lists of lives that never split this composes (`every_list_of_lives`).
 //!
 //! On any bytes every call is safe: a step is refused exactly by the first of its checks that fails, unless the log, the disk, memory or the
 //! bytes of a page refuse it before (`Refuses`), and otherwise has the answer of one user alone on the entries of a leaf; in a sound store
 //! these have of the key what the walk of the tree has, as the log's records have made it (`IsRead`). An insert is made there just where the
-//! pages that its split takes are within the limit (`MeetsLimit`).
+//! pages that its split takes are within the limit (`MeetsLimit`), and a structure change comes only where the key's leaf lacks room for
+//! an insert, or would be left empty by a delete (`AsksWhereWanted`).
 //!
 //! It stands on `im_restart` for the opening, on `im_search`, `im_split`, `im_delete` and `im_change` for the tree, and on `im_flush` for the
 //! log and the pages; what the logs of such a store are, and the laws of a record that joins one, is `im_serial`'s. Its invariant

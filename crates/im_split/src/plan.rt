@@ -1,6 +1,6 @@
 //! The plan of a split.
 
-ghost use Rattle.std.specs.Prelude.{◌≡◌, ◌≤◌, ◌<◌, ◌⊎◌, ◌↔◌, ◌+◌, ℕ, [], true, false, Ok, Err, IfErr, IfOk, OnOk, length};
+ghost use Rattle.std.specs.Prelude.{◌≡◌, ◌≢◌, ◌≤◌, ◌<◌, ◌⊎◌, ◌↔◌, ◌+◌, ℕ, [], true, false, None, Ok, Err, IfErr, IfOk, OnOk, length};
 ghost use Rattle.im_types.specs.declared.fault.Fault.TheVariants.{Capacity, Device, LogFull, Memory, NotAStore, PagesFull};
 ghost use Rattle.im_types.specs.declared.page_kind.PageKind.TheVariants.{Meta};
 ghost use Rattle.im_types.specs.Histories.{Base};
@@ -44,6 +44,7 @@ fn check_room<D: Disk>(
     ensures causes { IfErr result (λ e. (e ≡ PagesFull) ⊎ (e ≡ LogFull) ⊎ (e ≡ Memory) ⊎ (e ≡ NotAStore) ⊎ (e ≡ Device)) }
     ensures device { result ≡ Err Device ↔ (D.failed disk.new ≡ true) }
     ensures no_room { result ≡ Err LogFull → HasNoRoom writer.new.log }
+    ensures limited { result ≡ Err PagesFull → max ≢ None }
 {
     let Some(most) = max else {
         return Ok(());
@@ -140,6 +141,7 @@ pub fn plan_split<D: Disk>(
     ensures causes { IfErr result (λ e. (e ≡ PagesFull) ⊎ (e ≡ Capacity) ⊎ (e ≡ LogFull) ⊎ (e ≡ Memory) ⊎ (e ≡ NotAStore) ⊎ (e ≡ Device)) }
     ensures device { result ≡ Err Device ↔ (D.failed disk.new ≡ true) }
     ensures no_room { result ≡ Err LogFull → HasNoRoom writer.new.log }
+    ensures limited { result ≡ Err PagesFull → max ≢ None }
 {
     let Some(top) = find_top(writer, disk, key)? else {
         return Ok(Images::new(alloc));

@@ -33,7 +33,7 @@ impl<D: Disk> Engine<D> {
     ghost use Rattle.im_engine.specs.Running.{IsLife, IsRunning};
     ghost use Rattle.im_engine.specs.Kept.{StepKept};
     ghost use Rattle.im_engine.specs.Changes.{EditKept, is_breaking};
-    ghost use Rattle.im_engine.specs.Structure.{LimitKept, MeetsLimit};
+    ghost use Rattle.im_engine.specs.Structure.{LimitKept, MeetsLimit, AsksChange, WantsSplit, WantsDrop};
     ghost use Rattle.im_engine.specs.Checks.{HasCause, LacksRoom, IsAnswered, OfFetch, OfInsert, OfDelete, OfAccess, active_after, active_number, changes_nothing, next_after};
 
     // The checks with which an access begins.
@@ -60,7 +60,7 @@ impl<D: Disk> Engine<D> {
         ensures same { changes_nothing (told_by result) ≡ true → self.new ≡ self.old }
         ensures active { active_number self.new.going ≡ active_after (told_by result) (active_number self.old.going) }
         ensures numbers { self.new.next ≡ next_after (told_by result) self.old.next }
-        ensures split { self.old.split ≡ true → self.new.split ≡ true }
+        ensures split { self.new.split ≡ self.old.split }
     {
         if let Err(fault) = self.check(number, key) {
             return Reply::Refused(fault);
@@ -208,6 +208,7 @@ impl<D: Disk> Engine<D> {
     pub(crate) fn insert(&mut self, number: TxnId, key: &[u8], rid: Rid) -> Reply
         ensures kept { (before : List Effect) (s : Shown) → IsLife D.Disk before s self.old → StepKept D.Disk before s (answers.Do number (answers.Insert key.now rid)) (told_by result) self.old self.new }
         ensures limit { (before : List Effect) (s : Shown) (r : IsRunning D.Disk before s self.old) → MeetsLimit D.Disk before s self.old r key.now result }
+        ensures wanted { (before : List Effect) (s : Shown) (r : IsRunning D.Disk before s self.old) → AsksChange D.Disk before s self.old r result self.new → WantsSplit D.Disk before s self.old r key.now }
         ensures fails { self.new.failed ≡ (self.old.failed || is_breaking (told_by result)) }
         ensures failed { self.old.failed ≡ true → (result ≡ Refused Failed) × (self.new ≡ self.old) }
         ensures answered { IsAnswered D.Disk key.now result self.old self.new (λ entries fault. OfInsert D.Disk self.old self.new result fault number key.now entries)
@@ -244,6 +245,7 @@ impl<D: Disk> Engine<D> {
     // Drops a key.
     pub(crate) fn delete(&mut self, number: TxnId, key: &[u8]) -> Reply
         ensures kept { (before : List Effect) (s : Shown) → IsLife D.Disk before s self.old → StepKept D.Disk before s (answers.Do number (answers.Delete key.now)) (told_by result) self.old self.new }
+        ensures wanted { (before : List Effect) (s : Shown) (r : IsRunning D.Disk before s self.old) → AsksChange D.Disk before s self.old r result self.new → WantsDrop D.Disk before s self.old r key.now }
         ensures fails { self.new.failed ≡ (self.old.failed || is_breaking (told_by result)) }
         ensures failed { self.old.failed ≡ true → (result ≡ Refused Failed) × (self.new ≡ self.old) }
         ensures answered { IsAnswered D.Disk key.now result self.old self.new (λ entries fault. OfDelete D.Disk self.old self.new result fault number key.now)

@@ -8,6 +8,7 @@ use Rattle.im_pool.specs.Pool.{page_at}
 use Rattle.im_engine.specs.Checks.{active_number}
 use Rattle.im_engine.proofs.Running.{looks, leaf_says, leaf_now, says_now, leaves_then}
 use Rattle.im_engine.proofs.Steps.{edit_made}
+use Rattle.im_engine.proofs.Wanted.{asks_none, asks_none_early, asks_none_late, wants_drop}
 use Rattle.im_engine.proofs.Refusals.{early_kept, late_kept, edit_kept}
 use Rattle.im_engine.proofs.Checks.{access_refused, delete_refused, delete_none, unread, unread_late, unread_edit, writer_cause, change_cause, drop_edit, drop_wants, drop_breaks}
 use Rattle.im_engine.proofs.engine.Engine.delete.Goals as goal
@@ -180,3 +181,28 @@ returns-in-Err-drop_leaf-clause-answered g c =
       refused = λ other. delete_refused g.D.Disk old c.args.number c.in-Ok.transaction checked.0 checked.1 checked.2 c.drop_leaf.new.self c.args.key.now checked.3 checked.4 c.in-Err-drop_leaf.fault (change_cause g.D.Disk c.drop_leaf.new.self.writer.log c.drop_leaf.new.self.disk c.in-Err-drop_leaf.fault c.in-Err-drop_leaf.ensures.causes (λ is. c.in-Err-drop_leaf.ensures.failed (λ j. Err (is j))) (λ is. c.in-Err-drop_leaf.ensures.no_room (λ j. Err (is j)))) other;
       answers = tt;
     }
+
+pub returns-in-Err-clause-wanted : goal.returns-in-Err-clause-wanted
+returns-in-Err-clause-wanted g c before s r asks = asks_none_early g.D.Disk before s c.args.self.now r c.in-Err.fault c.in-Err.ensures.causes (λ is. c.in-Err.ensures.failed.0 (λ j. Err (is j))) asks
+
+pub returns-in-Err-leaf-clause-wanted : goal.returns-in-Err-leaf-clause-wanted
+returns-in-Err-leaf-clause-wanted g c before s r asks = asks_none_late g.D.Disk before s c.args.self.now r c.in-Err-leaf.fault c.leaf.new.self c.in-Err-leaf.ensures.causes c.in-Err-leaf.ensures.split asks
+
+pub returns-in-None-clause-wanted : goal.returns-in-None-clause-wanted
+returns-in-None-clause-wanted g c before s r asks = asks_none g.D.Disk before s c.args.self.now r Absent c.leaf.new.self refl c.in-Ok-leaf.ensures.split asks
+
+pub returns-in-Err-take-clause-wanted : goal.returns-in-Err-take-clause-wanted
+returns-in-Err-take-clause-wanted g c before s r asks = asks_none_late g.D.Disk before s c.args.self.now r c.in-Err-take.fault c.take.new.self c.in-Err-take.ensures.causes (c.in-Err-take.ensures.split ∙ c.in-Ok-leaf.ensures.split) asks
+
+pub returns-then-not-last_entry-clause-wanted : goal.returns-then-not-last_entry-clause-wanted
+returns-then-not-last_entry-clause-wanted g c before s r asks = asks_none g.D.Disk before s c.args.self.now r Deleted c.take.new.self refl (c.in-Ok-take.ensures.split ∙ c.in-Ok-leaf.ensures.split) asks
+
+pub returns-in-Ok-drop_leaf-clause-wanted : goal.returns-in-Ok-drop_leaf-clause-wanted
+returns-in-Ok-drop_leaf-clause-wanted g c before s r asks =
+    let last = c.is_last_entry-last_entry.ensures.last c.if-not-last_entry.false in
+    wants_drop g.D.Disk before s c.args.self.now r c.args.key.now c.in-Ok-leaf.frame.number c.leaf.new.self (c.in-Ok-leaf.ensures.kept before s r).ok c.in-Some.rid c.in-Some.ensures last.0 last.1
+
+pub returns-in-Err-drop_leaf-clause-wanted : goal.returns-in-Err-drop_leaf-clause-wanted
+returns-in-Err-drop_leaf-clause-wanted g c before s r asks =
+    let last = c.is_last_entry-last_entry.ensures.last c.if-not-last_entry.false in
+    wants_drop g.D.Disk before s c.args.self.now r c.args.key.now c.in-Ok-leaf.frame.number c.leaf.new.self (c.in-Ok-leaf.ensures.kept before s r).ok c.in-Some.rid c.in-Some.ensures last.0 last.1

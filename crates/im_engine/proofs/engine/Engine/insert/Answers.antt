@@ -11,6 +11,7 @@ use Rattle.im_engine.proofs.Running.{looks, leaf_says, leaf_now, says_now, leave
 use Rattle.im_engine.proofs.Steps.{edit_made}
 use Rattle.im_engine.proofs.Keys.{room_now, lacks_now}
 use Rattle.im_engine.proofs.Limits.{limit_early, limit_late, limit_there, limit_room, limit_split, limit_refused}
+use Rattle.im_engine.proofs.Wanted.{asks_none, asks_none_early, asks_none_late, wants_split}
 use Rattle.im_engine.proofs.Refusals.{early_kept, late_kept, edit_kept}
 use Rattle.im_engine.proofs.Checks.{access_refused, insert_refused, insert_none, unread, unread_late, unread_edit, writer_edit, insert_cause, device_of, room_of, full_never}
 use Rattle.im_engine.proofs.engine.Engine.insert.Goals as goal
@@ -217,3 +218,26 @@ returns-in-Err-split_and_put-clause-limit g c before s r =
     (sym (says_now g.D.Disk before s old r c.args.key.now p c.leaf.new.self l) ∙ (sym c.row_id.ensures ∙ none_of c.row_id.result (sym c.is_some.ensures ∙ c.if-is_some.false))) (lacks_now g.D.Disk before s old r c.args.key.now p c.leaf.new.self l (c.has_room.ensures.full c.if-has_room.false)) in
     limit_refused g.D.Disk before s old r c.args.key.now p c.leaf.new.self l.looked c.in-Ok-leaf.ensures.limit c.in-Err-split_and_put.fault both.1.full both.1.used_up
     (sym (leaf_says g.D.Disk before s old r c.args.key.now p c.leaf.new.self l) ∙ (sym c.row_id.ensures ∙ none_of c.row_id.result (sym c.is_some.ensures ∙ c.if-is_some.false)))
+
+pub returns-in-Err-clause-wanted : goal.returns-in-Err-clause-wanted
+returns-in-Err-clause-wanted g c before s r asks = asks_none_early g.D.Disk before s c.args.self.now r c.in-Err.fault c.in-Err.ensures.causes (λ is. c.in-Err.ensures.failed.0 (λ j. Err (is j))) asks
+
+pub returns-in-Err-leaf-clause-wanted : goal.returns-in-Err-leaf-clause-wanted
+returns-in-Err-leaf-clause-wanted g c before s r asks = asks_none_late g.D.Disk before s c.args.self.now r c.in-Err-leaf.fault c.leaf.new.self c.in-Err-leaf.ensures.causes c.in-Err-leaf.ensures.split asks
+
+pub returns-then-is_some-clause-wanted : goal.returns-then-is_some-clause-wanted
+returns-then-is_some-clause-wanted g c before s r asks = asks_none g.D.Disk before s c.args.self.now r Duplicate c.leaf.new.self refl c.in-Ok-leaf.ensures.split asks
+
+pub returns-in-Ok-put-clause-wanted : goal.returns-in-Ok-put-clause-wanted
+returns-in-Ok-put-clause-wanted g c before s r asks = asks_none g.D.Disk before s c.args.self.now r Inserted c.put.new.self refl (c.in-Ok-put.ensures.split ∙ c.in-Ok-leaf.ensures.split) asks
+
+pub returns-in-Err-put-clause-wanted : goal.returns-in-Err-put-clause-wanted
+returns-in-Err-put-clause-wanted g c before s r asks = asks_none_late g.D.Disk before s c.args.self.now r c.in-Err-put.fault c.put.new.self c.in-Err-put.ensures.causes (c.in-Err-put.ensures.split ∙ c.in-Ok-leaf.ensures.split) asks
+
+pub returns-in-Ok-split_and_put-clause-wanted : goal.returns-in-Ok-split_and_put-clause-wanted
+returns-in-Ok-split_and_put-clause-wanted g c before s r asks =
+    wants_split g.D.Disk before s c.args.self.now r c.args.key.now c.in-Ok-leaf.frame.number c.leaf.new.self (c.in-Ok-leaf.ensures.kept before s r).ok (sym c.row_id.ensures ∙ none_of c.row_id.result (sym c.is_some.ensures ∙ c.if-is_some.false)) (c.has_room.ensures.full c.if-has_room.false)
+
+pub returns-in-Err-split_and_put-clause-wanted : goal.returns-in-Err-split_and_put-clause-wanted
+returns-in-Err-split_and_put-clause-wanted g c before s r asks =
+    wants_split g.D.Disk before s c.args.self.now r c.args.key.now c.in-Ok-leaf.frame.number c.leaf.new.self (c.in-Ok-leaf.ensures.kept before s r).ok (sym c.row_id.ensures ∙ none_of c.row_id.result (sym c.is_some.ensures ∙ c.if-is_some.false)) (c.has_room.ensures.full c.if-has_room.false)

@@ -4,6 +4,7 @@ use Rattle.std.specs.FinMap.Entries.{find}
 use Rattle.im_types.specs.Answers as answers
 use Rattle.im_types.specs.Keys.{Key, key_order}
 use Rattle.im_engine.specs.Checks.{IsAnswered, OfFetch, OfInsert, OfDelete}
+use Rattle.im_engine.specs.Structure.{AsksChange, WantsSplit, WantsDrop}
 use Rattle.im_engine.proofs.engine.Engine.step.Goals as goal
 
 pub returns-in-Begin-clause-answered : goal.returns-in-Begin-clause-answered
@@ -29,3 +30,11 @@ returns-in-Delete-clause-answered g c =
 
 pub returns-in-Force-clause-answered : goal.returns-in-Force-clause-answered
 returns-in-Force-clause-answered g c = rw c.in-Force.is c.force.ensures.answered
+
+pub returns-in-Insert-clause-wanted : goal.returns-in-Insert-clause-wanted
+returns-in-Insert-clause-wanted g c before s r =
+    rw c.in-Insert.is (subst (λ (k : Key). AsksChange g.D.Disk before s c.args.self.now r c.insert.result c.insert.new.self → WantsSplit g.D.Disk before s c.args.self.now r k) c.deref-in-Insert.ensures.value (c.insert.ensures.wanted before s r))
+
+pub returns-in-Delete-clause-wanted : goal.returns-in-Delete-clause-wanted
+returns-in-Delete-clause-wanted g c before s r =
+    rw c.in-Delete.is (subst (λ (k : Key). AsksChange g.D.Disk before s c.args.self.now r c.delete.result c.delete.new.self → WantsDrop g.D.Disk before s c.args.self.now r k) c.deref-in-Delete.ensures.value (c.delete.ensures.wanted before s r))

@@ -1,0 +1,318 @@
+-- One key record taken back: the parts of it in a row.
+use Rattle.std.proofs.Common.{◌≡◌, ◌≢◌, ◌⊎◌, inl, inr, ◌≤◌, ℕ, [], ◌∷◌, ◌++◌, length, true, Result, Ok, Err, sym, ◌∙◌, ap, subst, append-nil}
+use Rattle.std.specs.Prelude.{IfOk, IfErr, IsErrAnd}
+use Rattle.im_types.specs.declared.fault.Fault.{Fault}
+use Rattle.im_types.specs.declared.fault.Fault.TheVariants.{Device, Failed, LogFull, Memory, NotAStore}
+use Rattle.im_types.specs.Keys.{Key}
+use Rattle.im_types.specs.Maps.{IndexMap}
+use Rattle.im_types.specs.Pages.{Page}
+use Rattle.im_types.specs.Records.{What, InsertKey, DeleteKey, Logged}
+use Rattle.im_types.specs.Histories.{Base, History, IsFront, IsRecordOf}
+use Rattle.im_types.specs.Transactions.{contents, contents_after, to_undo, undo_next_of}
+use Rattle.im_types.specs.Writer.{Writer}
+use Rattle.im_types.proofs.Images.{images_contents, images_to_undo}
+use Rattle.im_disk.specs.declared.disk.Disk.{Ghosts}
+use Rattle.im_record.specs.Entry.{Entry, prev_of}
+use Rattle.im_log.specs.Spelled.{logged_at}
+use Rattle.im_log.specs.Whats.{what_of}
+use Rattle.im_page.specs.Split.{HasRoom}
+use Rattle.im_pool.specs.Pool.{page_at}
+use Rattle.im_flush.specs.declared.page_writer.PageWriter.{PageWriter}
+use Rattle.im_flush.specs.Writing.{LeavesGrown}
+use Rattle.im_flush.specs.PageWriter.{GoesOn, Evicted}
+use Rattle.im_flush.proofs.Growing.{if_ok}
+use Rattle.im_flush.proofs.LoggedChanges.{again_on, err_on}
+use Rattle.im_flush.proofs.Writers.{goes_on_then}
+use Rattle.im_tree.specs.Levels.{Pages}
+use Rattle.im_tree.specs.Search.{IsOnWay}
+use Rattle.im_alloc.specs.Seen.{bodies}
+use Rattle.im_alloc.proofs.Goings.{bodies_stay}
+use Rattle.im_search.specs.Found.{Reached}
+use Rattle.im_split.specs.Plan.{FitsInLeaf}
+use Rattle.im_analysis.specs.declared.rows.Loser.{Loser}
+use Rattle.im_analysis.specs.Undo.{IsNext}
+use Rattle.im_undo.specs.Records.{compensations, inverse_of}
+use Rattle.im_undo.specs.Undoing.{IsGoing, GoesTo, TakesIt, Restructured, DropKept, HasMadeRoom, SplitKept, IsToUndo, TakenBack, CompensateKept}
+use Rattle.im_undo.proofs.Growth.{loser_some, grown_front, going_images, left_images, left_then, goes_images, goes_images_none, goes_then, goes_compensations}
+
+-- ---- refusals
+
+-- a refusal has no answer
+pub not_ok : {A : Type 0} (r : Result A Fault) (f : Fault) (P : A → Type 0) → IsErrAnd r (λ e. e ≡ f) → IfOk r P
+not_ok (Ok a) f P is = absurd is
+not_ok (Err e) f P is = tt
+
+-- a search is refused as failed only where the writer had failed
+pub not_failed : (e : Fault) → ((e ≡ Failed) ⊎ (e ≡ LogFull) ⊎ (e ≡ Memory) ⊎ (e ≡ NotAStore) ⊎ (e ≡ Device)) → (e ≡ Failed → ⊥) → (e ≡ LogFull) ⊎ (e ≡ Memory) ⊎ (e ≡ NotAStore) ⊎ (e ≡ Device)
+not_failed e (inl failed) works = absurd (works failed)
+not_failed e (inr others) works = others
+
+-- the deletion of an empty leaf is not refused for want of memory
+pub never_memory : (e : Fault) → ((e ≡ Failed) ⊎ (e ≡ LogFull) ⊎ (e ≡ NotAStore) ⊎ (e ≡ Device)) → e ≡ Memory → ⊥
+never_memory e (inl failed) is = let clash : Failed ≡ Memory = sym failed ∙ is in cc clash
+never_memory e (inr (inl full)) is = let clash : LogFull ≡ Memory = sym full ∙ is in cc clash
+never_memory e (inr (inr (inl bytes))) is = let clash : NotAStore ≡ Memory = sym bytes ∙ is in cc clash
+never_memory e (inr (inr (inr device))) is = let clash : Device ≡ Memory = sym device ∙ is in cc clash
+
+-- what a refusal is answered as behind the first record is not for want of memory
+pub late_memory : (f answer : Fault) → (f ≡ Memory → answer ≡ Failed) → (f ≢ Memory → answer ≡ f) → answer ≡ Memory → ⊥
+late_memory f answer memory others is =
+    let other : f ≢ Memory = λ same. (let clash : Failed ≡ Memory = sym (memory same) ∙ is in cc clash) in
+    other (sym (others other) ∙ is)
+
+-- nor as no store, where the refusal was not
+pub late_cause : (f answer : Fault) → (f ≡ Memory → answer ≡ Failed) → (f ≢ Memory → answer ≡ f) → f ≢ NotAStore → answer ≢ NotAStore
+late_cause f answer memory others cause is =
+    let other : f ≢ Memory = λ same. (let clash : Failed ≡ NotAStore = sym (memory same) ∙ is in cc clash) in
+    cause (sym (others other) ∙ is)
+
+-- ---- what is to be taken back
+
+in_newer : (x : Logged) (newer older : History) → IsRecordOf x older → IsRecordOf x (newer ++ older)
+in_newer x [] older is = is
+in_newer x (r ∷ newer) older is = inr (in_newer x newer older is)
+
+next_longer : (t : ℕ) (older longer : History) (x : Logged) → IsFront older longer → to_undo t longer ≡ to_undo t older → undo_next_of t longer ≡ undo_next_of t older → IsNext t older x → IsNext t longer x
+next_longer t older longer x front stack next is = record {
+  rest = is.rest;
+  stack = stack ∙ is.stack;
+  key = is.key;
+  owner = is.owner;
+  logged = subst (λ (l : History). IsRecordOf x l) front.is (in_newer x front.newer older is.logged);
+  behind = subst (λ (n : ℕ). x.lsn ≤ n) (sym next) is.behind;
+  falls = is.falls;
+}
+
+-- ---- the page
+
+-- the key's leaf takes an insert back
+pub takes_insert : (pages : Pages) (p : ℕ) (w : What) (k : Key) (i : ℕ) → w ≡ InsertKey k i → IsOnWay pages 0 k p → TakesIt pages p w
+takes_insert pages p w k i same way = subst (λ (x : What). TakesIt pages p x) (sym same) way
+
+-- and a delete where it has room
+pub takes_delete : (pages : Pages) (p : ℕ) (w : What) (k : Key) (i : ℕ) → w ≡ DeleteKey k i → IsOnWay pages 0 k p → HasRoom true (pages p).entries (k, 0) → TakesIt pages p w
+takes_delete pages p w k i same way room = subst (λ (x : What). TakesIt pages p x) (sym same) (way, room)
+
+module _ {D : Type 0} (d : Ghosts D) (b : Base) (base : ℕ) where
+  -- the leaf that a search reached is the key's leaf still
+  pub way_now : (s : Writer) (key : Key) (p : ℕ) (old : D) (w : PageWriter) (disk : D) (found : Reached d b base s key 0 p old w disk) → IsOnWay (bodies found.now) 0 key p
+  way_now s key p old w disk found = subst (λ (pages : Pages). IsOnWay pages 0 key p) (sym (bodies_stay b s found.now found.on.goes.keeps)) found.way
+
+  -- with the room that its frame has
+  pub room_now : (s : Writer) (key : Key) (p : ℕ) (old : D) (w : PageWriter) (disk : D) (found : Reached d b base s key 0 p old w disk) → HasRoom true (page_at w.pool p).body.entries (key, 0)
+      → HasRoom true (bodies found.now p).entries (key, 0)
+  room_now s key p old w disk found room =
+      subst (λ (g : Page). HasRoom true g.body.entries (key, 0)) (found.page ∙ sym (found.on.goes.keeps.pages p).page) room
+
+  -- or that it has since a split
+  pub room_since : (s : Writer) (key : Key) (p : ℕ) (old : D) (w : PageWriter) (disk : D) (found : Reached d b base s key 0 p old w disk) → FitsInLeaf (bodies s) key → HasRoom true (bodies found.now p).entries (key, 0)
+  room_since s key p old w disk found fits =
+      subst (λ (pages : Pages). HasRoom true (pages p).entries (key, 0)) (sym (bodies_stay b s found.now found.on.goes.keeps)) (fits p found.way)
+
+  module _ (s : Writer) (e t last undo_next : ℕ) (start : PageWriter) (old : D) (g : IsGoing d b base s e t last undo_next start old) where
+    -- calls that add Images change no structure, and compensate nothing
+    unfoldable pub images_made : (now : Writer) (w : PageWriter) (disk : D) → GoesOn d b base s old now w disk → Restructured d b base s e t last undo_next old w disk
+    images_made now w disk on =
+        let by = on.goes.keeps.log in
+        record {
+          now = now;
+          goes = goes_images d b base s e t last undo_next start old now w disk g on;
+          stack = ap (λ (l : History). to_undo t l) by.is ∙ images_to_undo b t by.images s.log (loser_some t s.log g.loser) by.all;
+          map = ap (λ (l : History). contents b l) by.is ∙ images_contents b by.images s.log by.all;
+          none = goes_images_none d b base s e t last undo_next start old now w disk g on;
+        }
+
+    -- the same is to be taken back
+    pub still_to_undo : (entry : Entry) (l : ℕ) (w : PageWriter) (disk : D) (made : Restructured d b base s e t l undo_next old w disk) → IsToUndo d b base s t entry → IsToUndo d b base made.now t entry
+    still_to_undo entry l w disk made to = record {
+      lsn = to.lsn;
+      next = next_longer t s.log made.now.log (logged_at to.lsn entry) (grown_front t s.log made.now.log made.goes.grows) made.stack
+          (ap (λ (r : Loser). r.undo_next) made.goes.going.row ∙ sym (ap (λ (r : Loser). r.undo_next) g.row)) to.next;
+    }
+
+    pub to_undo_on : (entry : Entry) (now : Writer) (w : PageWriter) (disk : D) → GoesOn d b base s old now w disk → IsToUndo d b base s t entry → IsToUndo d b base now t entry
+    unfolding images_made
+    to_undo_on entry now w disk on to = still_to_undo entry last w disk (images_made now w disk on) to
+
+  module _ (s : Writer) (e t : ℕ) (entry : Entry) (old : D) where
+    -- a compensation behind a structure change
+    pub restructured_then : (l m undo_next : ℕ) (v : PageWriter) (mid : D) (w : PageWriter) (new : D) (made : Restructured d b base s e t l undo_next old v mid) → TakenBack d b base made.now e t entry m mid w new
+        → TakenBack d b base s e t entry m old w new
+    restructured_then l m undo_next v mid w new made taken =
+        let first : GoesTo d b base s e t l undo_next old made.now v mid = made.goes in
+        let next : GoesTo d b base made.now e t m (prev_of entry) mid taken.now w new = taken.goes in
+        record {
+          now = taken.now;
+          goes = goes_then d b base s e t l undo_next old made.now v mid first m (prev_of entry) taken.now w new next;
+          lsn = taken.lsn;
+          stack = sym made.stack ∙ taken.stack;
+          map = taken.map ∙ ap (λ (x : IndexMap). contents_after (inverse_of (what_of entry)) x) made.map;
+          once = ap (λ (rs : History). length rs)
+              (goes_compensations d b base s e t l undo_next old made.now v mid first m (prev_of entry) taken.now w new next
+              ∙ ap (λ (rs : History). compensations next.grows.more ++ rs) made.none ∙ append-nil (compensations next.grows.more)) ∙ taken.once;
+        }
+
+    -- and a structure change behind a compensation
+    pub taken_then : (l m : ℕ) (v : PageWriter) (mid : D) (w : PageWriter) (new : D) (taken : TakenBack d b base s e t entry l old v mid) → Restructured d b base taken.now e t m (prev_of entry) mid w new
+        → TakenBack d b base s e t entry m old w new
+    taken_then l m v mid w new taken made =
+        let first : GoesTo d b base s e t l (prev_of entry) old taken.now v mid = taken.goes in
+        let next : GoesTo d b base taken.now e t m (prev_of entry) mid made.now w new = made.goes in
+        record {
+          now = made.now;
+          goes = goes_then d b base s e t l (prev_of entry) old taken.now v mid first m (prev_of entry) made.now w new next;
+          lsn = taken.lsn;
+          stack = taken.stack ∙ ap (λ (rest : History). logged_at taken.lsn entry ∷ rest) (sym made.stack);
+          map = made.map ∙ taken.map;
+          once = ap (λ (rs : History). length rs)
+              (goes_compensations d b base s e t l (prev_of entry) old taken.now v mid first m (prev_of entry) made.now w new next
+              ∙ ap (λ (rs : History). rs ++ compensations first.grows.more) made.none) ∙ taken.once;
+        }
+
+    -- ---- the key's leaf is looked for
+
+    -- it was refused
+    pub place_refused : (w : PageWriter) (new : D) (l undo_next : ℕ) (start : PageWriter) (f : Fault) (result : Result ℕ Fault) → IsGoing d b base s e t l undo_next start old
+        → LeavesGrown d b base s old new → f ≢ NotAStore → ((f ≡ Memory) ⊎ (f ≡ NotAStore) → Evicted d b base s old w new) → IsErrAnd result (λ x. x ≡ f) → CompensateKept d b base s e t entry old w new result
+    place_refused w new l undo_next start f result g stops cause again here = record {
+      ok = not_ok result f (λ last. TakenBack d b base s e t entry last old w new) here;
+      stops = left_images d b base s t old new g.can.lawful stops;
+      cause = err_on result f (λ x. x ≢ NotAStore) here cause;
+      again = err_on result f (λ x. x ≡ Memory → Evicted d b base s old w new) here (λ is. again (inl is));
+    }
+
+    -- and behind it the key record is taken back
+    pub place_then : (l undo_next : ℕ) (start v : PageWriter) (mid : D) (w : PageWriter) (new : D) (g : IsGoing d b base s e t l undo_next start old) (now : Writer) → GoesOn d b base s old now v mid
+        → (result : Result ℕ Fault) → CompensateKept d b base now e t entry mid w new result → CompensateKept d b base s e t entry old w new result
+    unfolding images_made
+    place_then l undo_next start v mid w new g now on result kept =
+        let made : Restructured d b base s e t l undo_next old v mid = images_made s e t l undo_next start old g now v mid on in
+        record {
+          ok = if_ok result (λ last. TakenBack d b base now e t entry last mid w new) (λ last. TakenBack d b base s e t entry last old w new) kept.ok
+              (λ last taken. restructured_then l last undo_next v mid w new made taken);
+          stops = left_then d b base s e t l undo_next old now v mid made.goes new kept.stops;
+          cause = kept.cause;
+          again = again_on result (λ x. x ≡ Memory) (Evicted d b base now mid w new) (Evicted d b base s old w new) kept.again
+              (λ is. record { now = is.now; on = goes_on_then d b base s old now v mid on is.now w new is.on });
+        }
+
+    module _ (last undo_next : ℕ) (start : PageWriter) (g : IsGoing d b base s e t last undo_next start old) (to : IsToUndo d b base s t entry) (key : Key) (p : ℕ) (v : PageWriter) (mid : D)
+        (found : Reached d b base s key 0 p old v mid) (w : PageWriter) (new : D) (result : Result ℕ Fault) where
+      found_then : TakesIt (bodies found.now) p (what_of entry)
+          → (IsGoing d b base found.now e t last undo_next v mid → IsToUndo d b base found.now t entry → TakesIt (bodies found.now) p (what_of entry) → CompensateKept d b base found.now e t entry mid w new result)
+          → CompensateKept d b base s e t entry old w new result
+      found_then takes kept =
+          place_then last undo_next start v mid w new g found.now found.on result
+          (kept (going_images d b base s e t last undo_next start old g old found.now v mid found.on) (to_undo_on s e t last undo_next start old g entry found.now v mid found.on to) takes)
+
+      -- an insert is taken back in the leaf that was found
+      pub insert_found : (i : ℕ) → what_of entry ≡ InsertKey key i
+          → ((now : Writer) → IsGoing d b base now e t last undo_next v mid → IsToUndo d b base now t entry → TakesIt (bodies now) p (what_of entry) → CompensateKept d b base now e t entry mid w new result)
+          → CompensateKept d b base s e t entry old w new result
+      insert_found i same kept = found_then (takes_insert (bodies found.now) p (what_of entry) key i same (way_now s key p old v mid found)) (kept found.now)
+
+      -- and a delete, where its frame has room for the key
+      pub delete_found : (i : ℕ) → what_of entry ≡ DeleteKey key i → HasRoom true (page_at v.pool p).body.entries (key, 0)
+          → ((now : Writer) → IsGoing d b base now e t last undo_next v mid → IsToUndo d b base now t entry → TakesIt (bodies now) p (what_of entry) → CompensateKept d b base now e t entry mid w new result)
+          → CompensateKept d b base s e t entry old w new result
+      delete_found i same room kept =
+          found_then (takes_delete (bodies found.now) p (what_of entry) key i same (way_now s key p old v mid found) (room_now s key p old v mid found room)) (kept found.now)
+
+      -- or where the key fits into its leaf
+      pub delete_fits : (i : ℕ) → what_of entry ≡ DeleteKey key i → FitsInLeaf (bodies s) key
+          → ((now : Writer) → IsGoing d b base now e t last undo_next v mid → IsToUndo d b base now t entry → TakesIt (bodies now) p (what_of entry) → CompensateKept d b base now e t entry mid w new result)
+          → CompensateKept d b base s e t entry old w new result
+      delete_fits i same fits kept =
+          found_then (takes_delete (bodies found.now) p (what_of entry) key i same (way_now s key p old v mid found) (room_since s key p old v mid found fits)) (kept found.now)
+
+    -- a leaf without room was found, and all else is done behind that
+    pub full_found : (last undo_next : ℕ) (start : PageWriter) (g : IsGoing d b base s e t last undo_next start old) (to : IsToUndo d b base s t entry) (key : Key) (p : ℕ) (v : PageWriter) (mid : D)
+        (found : Reached d b base s key 0 p old v mid) (w : PageWriter) (new : D) (result : Result ℕ Fault)
+        → ((now : Writer) → IsGoing d b base now e t last undo_next v mid → IsToUndo d b base now t entry → CompensateKept d b base now e t entry mid w new result) → CompensateKept d b base s e t entry old w new result
+    full_found last undo_next start g to key p v mid found w new result kept =
+        place_then last undo_next start v mid w new g found.now found.on result
+        (kept found.now (going_images d b base s e t last undo_next start old g old found.now v mid found.on) (to_undo_on s e t last undo_next start old g entry found.now v mid found.on to))
+
+    -- a refusal that is handed on
+    pub refused_on : (w : PageWriter) (new : D) (f : Fault) (result : Result ℕ Fault) → IsErrAnd result (λ x. x ≡ f) → CompensateKept d b base s e t entry old w new (Err f) → CompensateKept d b base s e t entry old w new result
+    refused_on w new f result here kept = record {
+      ok = not_ok result f (λ last. TakenBack d b base s e t entry last old w new) here;
+      stops = kept.stops;
+      cause = err_on result f (λ x. x ≢ NotAStore) here kept.cause;
+      again = err_on result f (λ x. x ≡ Memory → Evicted d b base s old w new) here kept.again;
+    }
+
+    -- ---- the leaf that was left empty
+
+    drop_kept : (l : ℕ) (v : PageWriter) (mid : D) (w : PageWriter) (new : D) (taken : TakenBack d b base s e t entry l old v mid) (result : Result ℕ Fault)
+        → IfErr result (λ x. (x ≡ Failed) ⊎ (x ≡ LogFull) ⊎ (x ≡ NotAStore) ⊎ (x ≡ Device)) → DropKept d b base taken.now e t (prev_of entry) mid w new result → CompensateKept d b base s e t entry old w new result
+    drop_kept l v mid w new taken (Ok last) causes kept = record {
+      ok = taken_then l last v mid w new taken kept.ok;
+      stops = left_then d b base s e t l (prev_of entry) old taken.now v mid taken.goes new kept.stops;
+      cause = tt;
+      again = tt;
+    }
+    drop_kept l v mid w new taken (Err f) causes kept = record {
+      ok = tt;
+      stops = left_then d b base s e t l (prev_of entry) old taken.now v mid taken.goes new kept.stops;
+      cause = kept.cause;
+      again = λ is. absurd (never_memory f causes is);
+    }
+
+    drop_as : (now : Writer) (l : ℕ) (v : PageWriter) (mid : D) (w : PageWriter) (new : D) (result : Result ℕ Fault) (u m : ℕ) → u ≡ t → m ≡ prev_of entry
+        → (IsGoing d b base now e u l m v mid → DropKept d b base now e u m mid w new result) → IsGoing d b base now e t l (prev_of entry) v mid → DropKept d b base now e t (prev_of entry) mid w new result
+    drop_as now l v mid w new result u m owner prev kept =
+        subst (λ (n : ℕ). IsGoing d b base now e n l (prev_of entry) v mid → DropKept d b base now e n (prev_of entry) mid w new result) owner
+        (subst (λ (n : ℕ). IsGoing d b base now e u l n v mid → DropKept d b base now e u n mid w new result) prev kept)
+
+    -- it leaves the tree behind the compensation
+    pub leaf_dropped : (l : ℕ) (v : PageWriter) (mid : D) (w : PageWriter) (new : D) → CompensateKept d b base s e t entry old v mid (Ok l) → (result : Result ℕ Fault) (u m : ℕ) → u ≡ t → m ≡ prev_of entry
+        → IfErr result (λ x. (x ≡ Failed) ⊎ (x ≡ LogFull) ⊎ (x ≡ NotAStore) ⊎ (x ≡ Device))
+        → ((now : Writer) → IsGoing d b base now e u l m v mid → DropKept d b base now e u m mid w new result) → CompensateKept d b base s e t entry old w new result
+    leaf_dropped l v mid w new first result u m owner prev causes kept =
+        let taken : TakenBack d b base s e t entry l old v mid = first.ok in
+        drop_kept l v mid w new taken result causes (drop_as taken.now l v mid w new result u m owner prev (kept taken.now) taken.goes.going)
+
+    -- ---- the split of the leaf
+
+    pub split_as : (last undo_next : ℕ) (start : PageWriter) (key : Key) (w : PageWriter) (new : D) (result : Result ℕ Fault) (u : ℕ) → u ≡ t
+        → (IsGoing d b base s e u last undo_next start old → SplitKept d b base s e u undo_next key old w new result) → IsGoing d b base s e t last undo_next start old → SplitKept d b base s e t undo_next key old w new result
+    split_as last undo_next start key w new result u owner kept =
+        subst (λ (n : ℕ). IsGoing d b base s e n last undo_next start old → SplitKept d b base s e n undo_next key old w new result) owner kept
+
+    -- it was refused
+    pub split_refused : (undo_next : ℕ) (key : Key) (w : PageWriter) (new : D) (f : Fault) (result : Result ℕ Fault) → IsErrAnd result (λ x. x ≡ f) → SplitKept d b base s e t undo_next key old w new (Err f)
+        → CompensateKept d b base s e t entry old w new result
+    split_refused undo_next key w new f result here kept = record {
+      ok = not_ok result f (λ last. TakenBack d b base s e t entry last old w new) here;
+      stops = kept.stops;
+      cause = err_on result f (λ x. x ≢ NotAStore) here kept.cause;
+      again = err_on result f (λ x. x ≡ Memory → Evicted d b base s old w new) here kept.again;
+    }
+
+    module _ (last l undo_next : ℕ) (start : PageWriter) (g : IsGoing d b base s e t last undo_next start old) (to : IsToUndo d b base s t entry) (key : Key) (v : PageWriter) (mid : D)
+        (room : HasMadeRoom d b base s e t l undo_next key old v mid) (w : PageWriter) (new : D) where
+      behind : (result : Result ℕ Fault) → ((now : Writer) → IsGoing d b base now e t l undo_next v mid → IsToUndo d b base now t entry → FitsInLeaf (bodies now) key → CompensateKept d b base now e t entry mid w new result)
+          → CompensateKept d b base room.made.now e t entry mid w new result
+      behind result kept = kept room.made.now room.made.goes.going (still_to_undo s e t last undo_next start old g entry l v mid room.made to) room.fits
+
+      -- the key is back
+      pub behind_split : (m : ℕ) → ((now : Writer) → IsGoing d b base now e t l undo_next v mid → IsToUndo d b base now t entry → FitsInLeaf (bodies now) key → CompensateKept d b base now e t entry mid w new (Ok m))
+          → CompensateKept d b base s e t entry old w new (Ok m)
+      behind_split m kept = record {
+        ok = restructured_then l m undo_next v mid w new room.made (behind (Ok m) kept).ok;
+        stops = left_then d b base s e t l undo_next old room.made.now v mid room.made.goes new (behind (Ok m) kept).stops;
+        cause = tt;
+        again = tt;
+      }
+
+      -- or that was refused
+      pub late_refused : (f answer : Fault) → (f ≡ Memory → answer ≡ Failed) → (f ≢ Memory → answer ≡ f)
+          → ((now : Writer) → IsGoing d b base now e t l undo_next v mid → IsToUndo d b base now t entry → FitsInLeaf (bodies now) key → CompensateKept d b base now e t entry mid w new (Err f))
+          → CompensateKept d b base s e t entry old w new (Err answer)
+      late_refused f answer memory others kept = record {
+        ok = tt;
+        stops = left_then d b base s e t l undo_next old room.made.now v mid room.made.goes new (behind (Err f) kept).stops;
+        cause = late_cause f answer memory others (behind (Err f) kept).cause;
+        again = λ is. absurd (late_memory f answer memory others is);
+      }

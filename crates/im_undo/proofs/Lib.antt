@@ -1,0 +1,11 @@
+pub mod Growth
+pub mod Keeping
+pub mod KeyRecords
+pub mod Shown
+pub mod PlaceLaws
+pub mod PlaceCalls
+pub mod Compensations
+pub mod StructureLogs
+pub mod StructureChanges
+pub mod StructurePlans
+pub mod Composing

@@ -1,0 +1,89 @@
+-- Gets of a page that may be the leaf of a key.
+use Rattle.std.proofs.Common.{◌≡◌, ◌⊎◌, ◌<◌, ℕ, Option, Some, sym, ap, subst, ◌∙◌}
+use Rattle.std.specs.Prelude.{Result, Ok, Err, IsErrAnd, IfOk}
+use Rattle.im_types.specs.declared.fault.Fault.{Fault}
+use Rattle.im_types.specs.declared.fault.Fault.TheVariants.{Memory, NotAStore}
+use Rattle.im_types.specs.Keys.{Key}
+use Rattle.im_types.specs.Pages.{Page}
+use Rattle.im_types.specs.Histories.{Base}
+use Rattle.im_types.specs.Writer.{Writer}
+use Rattle.im_disk.specs.declared.disk.Disk.{Ghosts}
+use Rattle.im_pool.specs.declared.frame.Frame.{Frame}
+use Rattle.im_pool.specs.Pool.{page_at}
+use Rattle.im_flush.specs.declared.page_writer.PageWriter.{PageWriter}
+use Rattle.im_flush.specs.PageWriter.{Evicted, GoesOn, GetKept}
+use Rattle.im_flush.proofs.LoggedChanges.{again_on}
+use Rattle.im_tree.specs.Search.{IsOnWay}
+use Rattle.im_search.specs.Levels.{HasLevel, bodies}
+use Rattle.im_search.specs.Found.{Reached, LeafKept}
+use Rattle.im_search.proofs.Ways.{evicted_past, stops_past, reached_then}
+use Rattle.im_delete.specs.Kept.{CallKept}
+use Rattle.im_undo.specs.Place.{IsKnownLeaf, IsHeldPage, IfHeldPage, PlaceKept}
+
+-- a page that was got is a leaf below the page count
+pub known_held : (s : Writer) (w : PageWriter) (frame : Frame) (meta page : Page) (p : ℕ) → frame.number ≡ p → page ≡ page_at w.pool frame.number → page ≡ (s.pages p).page → HasLevel 0 page.body
+    → meta ≡ (s.pages 0).page → p < meta.body.leftmost → IsHeldPage s (IsKnownLeaf (bodies s)) w frame
+known_held s w frame meta page p is shown says level first less =
+    let here : page ≡ (s.pages frame.number).page = says ∙ ap (λ (n : ℕ). (s.pages n).page) (sym is) in
+    record {
+      page = sym shown ∙ here;
+      has = record {
+        leaf = ap (λ (g : Page). g.body.kind) (sym here) ∙ level.kind;
+        counted = subst (λ (n : ℕ). n < (bodies s 0).leftmost) (sym is) (subst (λ (g : Page). p < g.body.leftmost) first less);
+      };
+    }
+
+module _ {D : Type 0} (d : Ghosts D) (b : Base) (base : ℕ) where
+  -- a get that was refused
+  pub get_refused : {A : Type 0} (s : Writer) (P : A → Type 0) (p : ℕ) (old : D) (w : PageWriter) (disk : D) (f : Fault) → GetKept d b base s p old w disk (Err f) → CallKept d b base s P old w disk (Err f)
+  get_refused s P p old w disk f kept = record { ok = tt; on = tt; stops = kept.stops; cause = kept.cause; again = kept.again }
+
+  -- a known leaf is that of a key
+  pub way_held : (s : Writer) (key : Key) (old : D) (w : PageWriter) (disk : D) (o : Option Frame) (frame : Frame) (page : Page) → o ≡ Some frame → CallKept d b base s (IfHeldPage s (IsKnownLeaf (bodies s)) w) old w disk (Ok o)
+      → page ≡ page_at w.pool frame.number → (IsKnownLeaf (bodies s) frame.number → page.body ≡ bodies s frame.number → IsOnWay (bodies s) 0 key frame.number)
+      → CallKept d b base s (IfHeldPage s (IsOnWay (bodies s) 0 key) w) old w disk (Ok (Some frame))
+  way_held s key old w disk o frame page is kept shown to =
+      let here : CallKept d b base s (IfHeldPage s (IsKnownLeaf (bodies s)) w) old w disk (Ok (Some frame)) = subst (λ (x : Option Frame). CallKept d b base s (IfHeldPage s (IsKnownLeaf (bodies s)) w) old w disk (Ok x)) is kept in
+      record {
+        ok = record { page = here.ok.page; has = to here.ok.has (ap (λ (g : Page). g.body) (shown ∙ here.ok.page)) };
+        on = here.on;
+        stops = here.stops;
+        cause = tt;
+        again = tt;
+      }
+
+  -- the leaf is held
+  pub place_held : (s : Writer) (key : Key) (old : D) (w : PageWriter) (disk : D) (o : Option Frame) (frame : Frame) → o ≡ Some frame → CallKept d b base s (IfHeldPage s (IsOnWay (bodies s) 0 key) w) old w disk (Ok o)
+      → PlaceKept d b base s key old w disk (Ok frame)
+  place_held s key old w disk o frame is kept =
+      let here : CallKept d b base s (IfHeldPage s (IsOnWay (bodies s) 0 key) w) old w disk (Ok (Some frame)) = subst (λ (x : Option Frame). CallKept d b base s (IfHeldPage s (IsOnWay (bodies s) 0 key) w) old w disk (Ok x)) is kept in
+      record {
+        ok = record { now = here.on.now; on = here.on.on; page = here.ok.page; way = here.ok.has };
+        stops = here.stops;
+        cause = tt;
+        again = tt;
+      }
+
+  pub place_refused : {A : Type 0} (s : Writer) (P : A → Type 0) (key : Key) (old : D) (w : PageWriter) (disk : D) (f : Fault) → CallKept d b base s P old w disk (Err f) → (r : Result Frame Fault) → IsErrAnd r (λ e. e ≡ f)
+      → PlaceKept d b base s key old w disk r
+  place_refused s P key old w disk f kept (Ok frame) is = absurd is
+  place_refused s P key old w disk f kept (Err e) is = record {
+    ok = tt;
+    stops = kept.stops;
+    cause = λ same. kept.cause (sym is ∙ same);
+    again = subst (λ (x : Fault). (x ≡ Memory) ⊎ (x ≡ NotAStore) → Evicted d b base s old w disk) (sym is) kept.again;
+  }
+
+  -- it is searched for behind other calls
+  pub place_searched : (s : Writer) (key : Key) (gets : ℕ) (old : D) (t : Writer) (w : PageWriter) (mid : D) → GoesOn d b base s old t w mid → (v : PageWriter) (new : D) (r : Result Frame Fault)
+      → LeafKept d b base t key gets mid v new r → PlaceKept d b base s key old v new r
+  place_searched s key gets old t w mid on v new r kept = record {
+    ok = by r kept.ok;
+    stops = stops_past d b base s old t w mid on new kept.stops;
+    cause = kept.cause;
+    again = again_on r _ _ _ kept.again (evicted_past d b base s old t w mid on v new);
+  }
+    where
+      by : (x : Result Frame Fault) → IfOk x (λ frame. Reached d b base t key 0 frame.number mid v new) → IfOk x (λ frame. Reached d b base s key 0 frame.number old v new)
+      by (Ok frame) is = reached_then d b base s old t w mid on 0 key frame.number v new is
+      by (Err e) is = tt

@@ -1,0 +1,39 @@
+use Rattle.std.proofs.Common.{◌≡◌, Err, Ok}
+use Rattle.im_record.specs.Entry.{Entry, view, transaction_of}
+use Rattle.im_undo.proofs.Growth.{going_tree}
+use Rattle.im_undo.proofs.Composing.{place_refused, insert_found, refused_on, leaf_dropped}
+use Rattle.im_undo.proofs.undo.undo_insert.Goals as goal
+
+pub returns-in_err-frame-clause-kept : goal.returns-in_err-frame-clause-kept
+returns-in_err-frame-clause-kept g c b base s e undo_next rid same going to =
+    let entry : Entry = view c.args.«record».now in
+    let kept = c.in_err-frame.ensures.kept b base s (going_tree g.D.Disk b base s e (transaction_of entry) c.args.last undo_next c.args.writer.now c.args.disk.now going) in
+    place_refused g.D.Disk b base s e (transaction_of entry) entry c.args.disk.now c.leaf_with.new.writer c.leaf_with.new.disk c.args.last undo_next c.args.writer.now c.in_err-frame.field-0.0 c.from_residual.result going
+    kept.stops kept.cause kept.again c.from_residual.ensures.1
+
+pub returns-in_err-lsn-clause-kept : goal.returns-in_err-lsn-clause-kept
+returns-in_err-lsn-clause-kept g c b base s e undo_next rid same going to =
+    let entry : Entry = view c.args.«record».now in
+    let t = transaction_of entry in
+    let found = (c.in_ok-frame.ensures.kept b base s (going_tree g.D.Disk b base s e t c.args.last undo_next c.args.writer.now c.args.disk.now going)).ok in
+    refused_on g.D.Disk b base s e t entry c.args.disk.now c.compensate.new.writer c.compensate.new.disk c.in_err-lsn.field-0.0 c.from_residual-in_err-lsn.result c.from_residual-in_err-lsn.ensures.1
+    (insert_found g.D.Disk b base s e t entry c.args.disk.now c.args.last undo_next c.args.writer.now going to c.args.key.now c.in_ok-frame.frame.number c.leaf_with.new.writer c.leaf_with.new.disk found
+    c.compensate.new.writer c.compensate.new.disk (Err c.in_err-lsn.field-0.0) rid same (λ now goes next takes. c.in_err-lsn.ensures.kept b base now e undo_next goes next takes))
+
+pub returns-then-not-spare-clause-kept : goal.returns-then-not-spare-clause-kept
+returns-then-not-spare-clause-kept g c b base s e undo_next rid same going to =
+    let entry : Entry = view c.args.«record».now in
+    let t = transaction_of entry in
+    let found = (c.in_ok-frame.ensures.kept b base s (going_tree g.D.Disk b base s e t c.args.last undo_next c.args.writer.now c.args.disk.now going)).ok in
+    insert_found g.D.Disk b base s e t entry c.args.disk.now c.args.last undo_next c.args.writer.now going to c.args.key.now c.in_ok-frame.frame.number c.leaf_with.new.writer c.leaf_with.new.disk found
+    c.compensate.new.writer c.compensate.new.disk (Ok c.in_ok-lsn.lsn) rid same (λ now goes next takes. c.in_ok-lsn.ensures.kept b base now e undo_next goes next takes)
+
+pub returns-clause-kept : goal.returns-clause-kept
+returns-clause-kept g c b base s e undo_next rid same going to =
+    let entry : Entry = view c.args.«record».now in
+    let t = transaction_of entry in
+    let found = (c.in_ok-frame.ensures.kept b base s (going_tree g.D.Disk b base s e t c.args.last undo_next c.args.writer.now c.args.disk.now going)).ok in
+    let first = insert_found g.D.Disk b base s e t entry c.args.disk.now c.args.last undo_next c.args.writer.now going to c.args.key.now c.in_ok-frame.frame.number c.leaf_with.new.writer c.leaf_with.new.disk found
+    c.compensate.new.writer c.compensate.new.disk (Ok c.in_ok-lsn.lsn) rid same (λ now goes next takes. c.in_ok-lsn.ensures.kept b base now e undo_next goes next takes) in
+    leaf_dropped g.D.Disk b base s e t entry c.args.disk.now c.in_ok-lsn.lsn c.compensate.new.writer c.compensate.new.disk c.drop_leaf.new.writer c.drop_leaf.new.disk first c.drop_leaf.result
+    c.transaction.result c.prev.result c.transaction.ensures c.prev.ensures c.drop_leaf.ensures.causes (λ now goes. c.drop_leaf.ensures.kept b base now e goes)

@@ -1,0 +1,4 @@
+pub mod Records
+pub mod Place
+pub mod DropPlan
+pub mod Undoing

@@ -1,0 +1,59 @@
+-- Where the leaf of a key is found.
+use Rattle.std.specs.Prelude.{◌≡◌, ◌≢◌, ◌<◌, ℕ, List, length, Option, IfSome, Result, IfErr, IfOk}
+use Rattle.im_types.specs.declared.fault.Fault.{Fault}
+use Rattle.im_types.specs.declared.fault.Fault.TheVariants.{NotAStore}
+use Rattle.im_types.specs.declared.page_kind.PageKind.TheVariants.{Leaf}
+use Rattle.im_types.specs.Keys.{Key, IsBelow}
+use Rattle.im_types.specs.Pages.{Entry}
+use Rattle.im_types.specs.Histories.{Base}
+use Rattle.im_types.specs.Writer.{Writer}
+use Rattle.im_disk.specs.declared.disk.Disk.{Ghosts}
+use Rattle.im_page.specs.Entry.{entry_at}
+use Rattle.im_pool.specs.declared.frame.Frame.{Frame}
+use Rattle.im_pool.specs.Pool.{page_at}
+use Rattle.im_flush.specs.declared.page_writer.PageWriter.{PageWriter}
+use Rattle.im_flush.specs.Writing.{LeavesGrown}
+use Rattle.im_flush.specs.PageWriter.{StaysOn}
+use Rattle.im_tree.specs.Levels.{Pages}
+use Rattle.im_search.specs.Found.{Reached}
+
+-- ---- what a page says of a key
+
+-- The page is below the page count, and a leaf.
+pub record IsKnownLeaf (pages : Pages) (p : ℕ) : Type 0 where
+  pub leaf : (pages p).kind ≡ Leaf
+  pub counted : p < (pages 0).leftmost
+
+-- One of these entries has the key.
+pub record HasKey (es : List Entry) (key : Key) : Type 0 where
+  pub at : ℕ
+  pub within : at < length es
+  pub same : (entry_at es at).0 ≡ key
+
+-- One of these entries has a smaller key, and one a greater.
+pub record Surrounds (es : List Entry) (key : Key) : Type 0 where
+  pub low : ℕ
+  pub high : ℕ
+  pub low_within : low < length es
+  pub high_within : high < length es
+  pub smaller : IsBelow (entry_at es low).0 key
+  pub greater : IsBelow key (entry_at es high).0
+
+-- The page is held, is the writer's, and has this property.
+pub record IsHeldPage (s : Writer) (P : ℕ → Type 0) (w : PageWriter) (frame : Frame) : Type 0 where
+  pub page : page_at w.pool frame.number ≡ (s.pages frame.number).page
+  pub has : P frame.number
+
+-- and so is the page that is answered, if there is one
+abbrev pub IfHeldPage : Writer → (ℕ → Type 0) → PageWriter → Option Frame → Type 0
+IfHeldPage s P w found = IfSome found (IsHeldPage s P w)
+
+-- ---- the leaf of a key
+
+module _ {D : Type 0} (d : Ghosts D) (b : Base) (base : ℕ) where
+  -- The key's leaf is held, and is the writer's; each page is as it was, and the log has Images more. It is not refused as no store.
+  pub record PlaceKept (s : Writer) (key : Key) (old : D) (w : PageWriter) (disk : D) (result : Result Frame Fault) : Type 0 where
+    pub ok : IfOk result (λ frame. Reached d b base s key 0 frame.number old w disk)
+    pub stops : LeavesGrown d b base s old disk
+    pub cause : IfErr result (λ e. e ≢ NotAStore)
+    pub again : StaysOn d b base s old w disk result

@@ -1,0 +1,177 @@
+//! Structure changes that an undo needs, as nested top actions of the transaction that is undone.
+
+ghost use Rattle.std.specs.Prelude.{◌≡◌, ◌≢◌, ◌≤◌, ◌⊎◌, ◌↔◌, ℕ, [], true, false, length, Err, IfErr, OnOk};
+ghost use Rattle.im_types.specs.declared.fault.Fault.TheVariants.{Capacity, Device, Failed, LogFull, Memory, NotAStore};
+ghost use Rattle.im_types.specs.Histories.{Base};
+ghost use Rattle.im_types.specs.Writer.{Writer};
+ghost use Rattle.im_log.specs.LogFile.{HasNoRoom};
+ghost use Rattle.im_pool.specs.Pool.{page_at, IsAt};
+ghost use Rattle.im_flush.specs.PageWriter.{IsReadyWriter};
+ghost use Rattle.im_search.specs.Found.{HasTree};
+ghost use Rattle.im_delete.specs.Kept.{CallKept};
+ghost use Rattle.im_change.specs.Changes.{MayChange, ChangeKept};
+ghost use Rattle.im_undo.specs.DropPlan.{IsDropPlan};
+ghost use Rattle.im_undo.specs.Undoing.{IsGoing, SplitKept, DropKept};
+
+use im_change::run;
+use im_delete::plan_delete;
+use im_disk::Disk;
+use im_flush::PageWriter;
+use im_pool::Frame;
+use im_search::leaf_for;
+use im_smo::Images;
+use im_split::plan_split;
+use im_types::{Fault, Lsn, TxnId};
+use std::alloc::Global;
+
+// What a refusal is answered as behind the first record: for want of memory there is no way back then.
+pub(crate) fn late(fault: Fault) -> Fault
+    ensures memory { fault ≡ Memory → result ≡ Failed }
+    ensures others { fault ≢ Memory → result ≡ fault }
+{
+    match fault {
+        Fault::Memory => Fault::Failed,
+        _ => fault,
+    }
+}
+
+// Whether a refusal came for want of memory.
+fn wants_memory(fault: Fault) -> bool
+    ensures wants { result ≡ true → fault ≡ Memory }
+    ensures other { result ≡ false → fault ≢ Memory }
+{
+    match fault {
+        Fault::Memory => true,
+        _ => false,
+    }
+}
+
+// Logs a structure change of a transaction, and makes the pages those of its images. It answers the LSN of the record that closes it.
+fn restructure<D: Disk>(
+    writer: &mut PageWriter,
+    disk: &mut D,
+    images: &Images,
+    transaction: TxnId,
+    last: Lsn,
+    undo_next: Lsn,
+) -> Result<Lsn, Fault>
+    requires ready { IsReadyWriter D.Disk writer.old disk.old }
+    requires working { writer.old.failed ≡ false }
+    requires owner { 1 ≤ transaction }
+    ensures ready { IsReadyWriter D.Disk writer.new disk.new }
+    ensures kept { (b : Base) (base : ℕ) (s : Writer) (e : ℕ) → MayChange D.Disk b base s e images.now transaction last undo_next writer.old disk.old
+        → ChangeKept D.Disk b base s e images.now transaction undo_next disk.old writer.new disk.new result }
+    ensures works { OnOk result (writer.new.failed ≡ false) }
+    ensures fails { IfErr result (λ e. (writer.new.failed ≡ false) ↔ ((e ≡ NotAStore) ⊎ (e ≡ Failed))) }
+    ensures causes { IfErr result (λ e. (e ≡ Failed) ⊎ (e ≡ LogFull) ⊎ (e ≡ NotAStore) ⊎ (e ≡ Device)) }
+    ensures no_room { result ≡ Err LogFull → HasNoRoom writer.new.log }
+    ensures device { result ≡ Err Device ↔ (D.failed disk.new ≡ true) }
+{
+    match run(writer, disk, images, transaction, last, undo_next) {
+        Ok(lsn) => Ok(lsn),
+        Err(fault) => Err(late(fault)),
+    }
+}
+
+/// Splits the leaf of a key where it lacks room for the key, whatever limit of pages there is. It answers the LSN of the
+/// transaction's last record, which is the old one where nothing was split.
+///
+/// Refused `Capacity` where page numbers or levels are used up, `Memory` before the first record and `Failed` where memory is wanted
+/// behind it; otherwise as `PageWriter::get` is.
+pub(crate) fn split_leaf<D: Disk>(
+    alloc: Global,
+    writer: &mut PageWriter,
+    disk: &mut D,
+    transaction: TxnId,
+    last: Lsn,
+    undo_next: Lsn,
+    key: &[u8],
+) -> Result<Lsn, Fault>
+    requires ready { IsReadyWriter D.Disk writer.old disk.old }
+    requires working { writer.old.failed ≡ false }
+    requires owner { 1 ≤ transaction }
+    requires short { length key.now ≤ 255 }
+    ensures ready { IsReadyWriter D.Disk writer.new disk.new }
+    ensures kept { (b : Base) (base : ℕ) (s : Writer) (e : ℕ) → IsGoing D.Disk b base s e transaction last undo_next writer.old disk.old
+        → SplitKept D.Disk b base s e transaction undo_next key.now disk.old writer.new disk.new result }
+    ensures works { OnOk result (writer.new.failed ≡ false) }
+    ensures fails { IfErr result (λ e. (writer.new.failed ≡ false) ↔ ((e ≡ Memory) ⊎ (e ≡ NotAStore) ⊎ (e ≡ Capacity) ⊎ (e ≡ Failed))) }
+    ensures causes { IfErr result (λ e. (e ≡ Capacity) ⊎ (e ≡ Failed) ⊎ (e ≡ LogFull) ⊎ (e ≡ Memory) ⊎ (e ≡ NotAStore) ⊎ (e ≡ Device)) }
+    ensures no_room { result ≡ Err LogFull → HasNoRoom writer.new.log }
+    ensures device { result ≡ Err Device ↔ (D.failed disk.new ≡ true) }
+{
+    let images = plan_split(alloc, writer, disk, key, None)?;
+    if images.len() == 0 {
+        return Ok(last);
+    }
+    restructure(writer, disk, &images, transaction, last, undo_next)
+}
+
+// Whether the leaf of a key is not the root, and has no entry.
+fn is_spare(writer: &PageWriter, frame: Frame) -> bool
+    requires at { IsAt writer.now.pool frame }
+    ensures { result ≡ true → (frame.number ≢ 1) × ((page_at writer.now.pool frame.number).body.entries ≡ []) }
+{
+    frame.number != 1 && writer.page(frame).len() == 0
+}
+
+// The pages that have to be written so that the leaf of a key leaves the tree, as images, where it is empty and not the root.
+fn plan_drop<D: Disk>(
+    alloc: Global,
+    writer: &mut PageWriter,
+    disk: &mut D,
+    key: &[u8],
+) -> Result<Option<Images>, Fault>
+    requires ready { IsReadyWriter D.Disk writer.old disk.old }
+    requires working { writer.old.failed ≡ false }
+    ensures ready { IsReadyWriter D.Disk writer.new disk.new }
+    ensures kept { (b : Base) (base : ℕ) (s : Writer) → HasTree D.Disk b base s [] writer.old disk.old → CallKept D.Disk b base s (IsDropPlan s) disk.old writer.new disk.new result }
+    ensures works { OnOk result (writer.new.failed ≡ false) }
+    ensures fails { IfErr result (λ e. (writer.new.failed ≡ false) ↔ ((e ≡ Memory) ⊎ (e ≡ NotAStore))) }
+    ensures causes { IfErr result (λ e. (e ≡ LogFull) ⊎ (e ≡ Memory) ⊎ (e ≡ NotAStore) ⊎ (e ≡ Device)) }
+    ensures no_room { result ≡ Err LogFull → HasNoRoom writer.new.log }
+    ensures device { result ≡ Err Device ↔ (D.failed disk.new ≡ true) }
+{
+    let frame = leaf_for(writer, disk, key)?;
+    if !is_spare(writer, frame) {
+        return Ok(None);
+    }
+    let images = plan_delete(alloc, writer, disk, key)?;
+    Ok(Some(images))
+}
+
+/// Takes the leaf of a key out of the tree where it is empty and not the root. It answers the LSN of the transaction's last record,
+/// which is the old one where the leaf stays. For want of memory in front of the first record it stays; behind that the
+/// refusal is `Failed`.
+pub(crate) fn drop_leaf<D: Disk>(
+    alloc: Global,
+    writer: &mut PageWriter,
+    disk: &mut D,
+    transaction: TxnId,
+    last: Lsn,
+    undo_next: Lsn,
+    key: &[u8],
+) -> Result<Lsn, Fault>
+    requires ready { IsReadyWriter D.Disk writer.old disk.old }
+    requires working { writer.old.failed ≡ false }
+    requires owner { 1 ≤ transaction }
+    ensures ready { IsReadyWriter D.Disk writer.new disk.new }
+    ensures kept { (b : Base) (base : ℕ) (s : Writer) (e : ℕ) → IsGoing D.Disk b base s e transaction last undo_next writer.old disk.old
+        → DropKept D.Disk b base s e transaction undo_next disk.old writer.new disk.new result }
+    ensures works { OnOk result (writer.new.failed ≡ false) }
+    ensures fails { IfErr result (λ e. (writer.new.failed ≡ false) ↔ ((e ≡ NotAStore) ⊎ (e ≡ Failed))) }
+    ensures causes { IfErr result (λ e. (e ≡ Failed) ⊎ (e ≡ LogFull) ⊎ (e ≡ NotAStore) ⊎ (e ≡ Device)) }
+    ensures no_room { result ≡ Err LogFull → HasNoRoom writer.new.log }
+    ensures device { result ≡ Err Device ↔ (D.failed disk.new ≡ true) }
+{
+    match plan_drop(alloc, writer, disk, key) {
+        Ok(None) => Ok(last),
+        Ok(Some(images)) => restructure(writer, disk, &images, transaction, last, undo_next),
+        Err(fault) => {
+            if wants_memory(fault) {
+                return Ok(last);
+            }
+            Err(fault)
+        }
+    }
+}

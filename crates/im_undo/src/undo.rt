@@ -1,0 +1,231 @@
+//! One key record of a transaction, taken back.
+
+ghost use Rattle.std.specs.Prelude.{◌≡◌, ◌≢◌, ◌≤◌, ◌⊎◌, ◌↔◌, ℕ, true, false, length, Err, IfErr, OnOk};
+ghost use Rattle.im_types.specs.declared.fault.Fault.TheVariants.{Capacity, Device, Failed, LogFull, Memory, NotAStore};
+ghost use Rattle.im_types.specs.declared.page_kind.PageKind.TheVariants.{Leaf};
+ghost use Rattle.im_types.specs.Histories.{Base};
+ghost use Rattle.im_types.specs.Records.{InsertKey, DeleteKey};
+ghost use Rattle.im_types.specs.Transactions.{is_key};
+ghost use Rattle.im_types.specs.Writer.{Writer};
+ghost use Rattle.im_record.specs.Entry.{view, transaction_of};
+ghost use Rattle.im_record.specs.Spelling.{IsEntry};
+ghost use Rattle.im_log.specs.LogFile.{HasNoRoom};
+ghost use Rattle.im_log.specs.Whats.{what_of};
+ghost use Rattle.im_page.specs.Split.{HasRoom};
+ghost use Rattle.im_pool.specs.Pool.{page_at, IsAt};
+ghost use Rattle.im_flush.specs.PageWriter.{IsReadyWriter};
+ghost use Rattle.im_alloc.specs.Seen.{bodies};
+ghost use Rattle.im_split.specs.Plan.{FitsInLeaf};
+ghost use Rattle.im_undo.specs.Undoing.{IsGoing, IsToUndo, CompensateKept};
+
+use crate::compensation::compensate;
+use crate::place::{leaf_around, leaf_with};
+use crate::structure::{drop_leaf, late, split_leaf};
+use im_disk::Disk;
+use im_flush::PageWriter;
+use im_pool::Frame;
+use im_record::Record;
+use im_search::leaf_for;
+use im_types::{Fault, Lsn};
+use std::alloc::Global;
+
+// Whether a page that is not the root would be left empty without one of its entries.
+fn is_last_entry(writer: &PageWriter, frame: Frame) -> bool
+    requires at { IsAt writer.now.pool frame }
+    ensures last { result ≡ true → (frame.number ≢ 1) × (length (page_at writer.now.pool frame.number).body.entries ≡ 1) }
+    ensures more { result ≡ false → (frame.number ≡ 1) ⊎ (length (page_at writer.now.pool frame.number).body.entries ≢ 1) }
+{
+    frame.number != 1 && writer.page(frame).len() == 1
+}
+
+// Whether a leaf has room for a key more.
+fn has_room(writer: &PageWriter, frame: Frame, key: &[u8]) -> bool
+    requires at { IsAt writer.now.pool frame }
+    requires leaf { (page_at writer.now.pool frame.number).body.kind ≡ Leaf }
+    requires short { length key.now ≤ 255 }
+    ensures room { result ≡ true → HasRoom true (page_at writer.now.pool frame.number).body.entries (key.now, 0) }
+    ensures full { result ≡ false → ¬ (HasRoom true (page_at writer.now.pool frame.number).body.entries (key.now, 0)) }
+{
+    writer.page(frame).has_room(key.len())
+}
+
+// Takes the key of an insert out of the leaf that it is in now. A leaf other than the root that is left empty leaves the tree.
+fn undo_insert<D: Disk>(
+    alloc: Global,
+    writer: &mut PageWriter,
+    disk: &mut D,
+    record: &Record,
+    last: Lsn,
+    key: &[u8],
+) -> Result<Lsn, Fault>
+    requires entry { IsEntry (view record.now) }
+    requires ready { IsReadyWriter D.Disk writer.old disk.old }
+    requires working { writer.old.failed ≡ false }
+    requires key { is_key (what_of (view record.now)) ≡ true }
+    requires owner { 1 ≤ transaction_of (view record.now) }
+    ensures ready { IsReadyWriter D.Disk writer.new disk.new }
+    ensures kept { (b : Base) (base : ℕ) (s : Writer) (e undo_next rid : ℕ) → what_of (view record.now) ≡ InsertKey key.now rid
+        → IsGoing D.Disk b base s e (transaction_of (view record.now)) last undo_next writer.old disk.old → IsToUndo D.Disk b base s (transaction_of (view record.now)) (view record.now)
+        → CompensateKept D.Disk b base s e (transaction_of (view record.now)) (view record.now) disk.old writer.new disk.new result }
+    ensures works { OnOk result (writer.new.failed ≡ false) }
+    ensures fails { IfErr result (λ e. (writer.new.failed ≡ false) ↔ ((e ≡ Memory) ⊎ (e ≡ NotAStore) ⊎ (e ≡ Failed))) }
+    ensures causes { IfErr result (λ e. (e ≡ Failed) ⊎ (e ≡ LogFull) ⊎ (e ≡ Memory) ⊎ (e ≡ NotAStore) ⊎ (e ≡ Device)) }
+    ensures no_room { result ≡ Err LogFull → HasNoRoom writer.new.log }
+    ensures device { result ≡ Err Device ↔ (D.failed disk.new ≡ true) }
+{
+    let frame = leaf_with(writer, disk, record.page(), key)?;
+    let spare = is_last_entry(writer, frame);
+    let lsn = compensate(writer, disk, record, last, frame.number)?;
+    if !spare {
+        return Ok(lsn);
+    }
+    drop_leaf(
+        alloc,
+        writer,
+        disk,
+        record.transaction(),
+        lsn,
+        record.prev(),
+        key,
+    )
+}
+
+// Puts a key back into its leaf, which has room for it.
+fn put_back<D: Disk>(
+    writer: &mut PageWriter,
+    disk: &mut D,
+    record: &Record,
+    last: Lsn,
+    key: &[u8],
+) -> Result<Lsn, Fault>
+    requires entry { IsEntry (view record.now) }
+    requires ready { IsReadyWriter D.Disk writer.old disk.old }
+    requires working { writer.old.failed ≡ false }
+    requires key { is_key (what_of (view record.now)) ≡ true }
+    ensures ready { IsReadyWriter D.Disk writer.new disk.new }
+    ensures kept { (b : Base) (base : ℕ) (s : Writer) (e undo_next rid : ℕ) → what_of (view record.now) ≡ DeleteKey key.now rid
+        → IsGoing D.Disk b base s e (transaction_of (view record.now)) last undo_next writer.old disk.old → IsToUndo D.Disk b base s (transaction_of (view record.now)) (view record.now)
+        → FitsInLeaf (bodies s) key.now → CompensateKept D.Disk b base s e (transaction_of (view record.now)) (view record.now) disk.old writer.new disk.new result }
+    ensures works { OnOk result (writer.new.failed ≡ false) }
+    ensures fails { IfErr result (λ e. (writer.new.failed ≡ false) ↔ ((e ≡ Memory) ⊎ (e ≡ NotAStore))) }
+    ensures causes { IfErr result (λ e. (e ≡ LogFull) ⊎ (e ≡ Memory) ⊎ (e ≡ NotAStore) ⊎ (e ≡ Device)) }
+    ensures no_room { result ≡ Err LogFull → HasNoRoom writer.new.log }
+    ensures device { result ≡ Err Device ↔ (D.failed disk.new ≡ true) }
+{
+    let frame = leaf_for(writer, disk, key)?;
+    compensate(writer, disk, record, last, frame.number)
+}
+
+// Splits the leaf of a key that lacks room for it, and puts the key back.
+fn put_back_behind_split<D: Disk>(
+    alloc: Global,
+    writer: &mut PageWriter,
+    disk: &mut D,
+    record: &Record,
+    last: Lsn,
+    undo_next: Lsn,
+    key: &[u8],
+) -> Result<Lsn, Fault>
+    requires entry { IsEntry (view record.now) }
+    requires ready { IsReadyWriter D.Disk writer.old disk.old }
+    requires working { writer.old.failed ≡ false }
+    requires key { is_key (what_of (view record.now)) ≡ true }
+    requires owner { 1 ≤ transaction_of (view record.now) }
+    requires short { length key.now ≤ 255 }
+    ensures ready { IsReadyWriter D.Disk writer.new disk.new }
+    ensures kept { (b : Base) (base : ℕ) (s : Writer) (e rid : ℕ) → what_of (view record.now) ≡ DeleteKey key.now rid
+        → IsGoing D.Disk b base s e (transaction_of (view record.now)) last undo_next writer.old disk.old → IsToUndo D.Disk b base s (transaction_of (view record.now)) (view record.now)
+        → CompensateKept D.Disk b base s e (transaction_of (view record.now)) (view record.now) disk.old writer.new disk.new result }
+    ensures works { OnOk result (writer.new.failed ≡ false) }
+    ensures fails { IfErr result (λ e. (writer.new.failed ≡ false) ↔ ((e ≡ Memory) ⊎ (e ≡ NotAStore) ⊎ (e ≡ Capacity) ⊎ (e ≡ Failed))) }
+    ensures causes { IfErr result (λ e. (e ≡ Capacity) ⊎ (e ≡ Failed) ⊎ (e ≡ LogFull) ⊎ (e ≡ Memory) ⊎ (e ≡ NotAStore) ⊎ (e ≡ Device)) }
+    ensures no_room { result ≡ Err LogFull → HasNoRoom writer.new.log }
+    ensures device { result ≡ Err Device ↔ (D.failed disk.new ≡ true) }
+{
+    let lsn = split_leaf(
+        alloc,
+        writer,
+        disk,
+        record.transaction(),
+        last,
+        undo_next,
+        key,
+    )?;
+    match put_back(writer, disk, record, lsn, key) {
+        Ok(lsn) => Ok(lsn),
+        Err(fault) => Err(late(fault)),
+    }
+}
+
+// Puts the key of a delete back into the leaf in whose range it lies now, which is split where it lacks room for the key.
+fn undo_delete<D: Disk>(
+    alloc: Global,
+    writer: &mut PageWriter,
+    disk: &mut D,
+    record: &Record,
+    last: Lsn,
+    undo_next: Lsn,
+    key: &[u8],
+) -> Result<Lsn, Fault>
+    requires entry { IsEntry (view record.now) }
+    requires ready { IsReadyWriter D.Disk writer.old disk.old }
+    requires working { writer.old.failed ≡ false }
+    requires key { is_key (what_of (view record.now)) ≡ true }
+    requires owner { 1 ≤ transaction_of (view record.now) }
+    requires short { length key.now ≤ 255 }
+    ensures ready { IsReadyWriter D.Disk writer.new disk.new }
+    ensures kept { (b : Base) (base : ℕ) (s : Writer) (e rid : ℕ) → what_of (view record.now) ≡ DeleteKey key.now rid
+        → IsGoing D.Disk b base s e (transaction_of (view record.now)) last undo_next writer.old disk.old → IsToUndo D.Disk b base s (transaction_of (view record.now)) (view record.now)
+        → CompensateKept D.Disk b base s e (transaction_of (view record.now)) (view record.now) disk.old writer.new disk.new result }
+    ensures works { OnOk result (writer.new.failed ≡ false) }
+    ensures fails { IfErr result (λ e. (writer.new.failed ≡ false) ↔ ((e ≡ Memory) ⊎ (e ≡ NotAStore) ⊎ (e ≡ Capacity) ⊎ (e ≡ Failed))) }
+    ensures causes { IfErr result (λ e. (e ≡ Capacity) ⊎ (e ≡ Failed) ⊎ (e ≡ LogFull) ⊎ (e ≡ Memory) ⊎ (e ≡ NotAStore) ⊎ (e ≡ Device)) }
+    ensures no_room { result ≡ Err LogFull → HasNoRoom writer.new.log }
+    ensures device { result ≡ Err Device ↔ (D.failed disk.new ≡ true) }
+{
+    let frame = leaf_around(writer, disk, record.page(), key)?;
+    if has_room(writer, frame, key) {
+        return compensate(writer, disk, record, last, frame.number);
+    }
+    put_back_behind_split(alloc, writer, disk, record, last, undo_next, key)
+}
+
+/// Takes back one key record of a transaction: the key is put back into the leaf in whose range it lies now, or taken out of it, wherever
+/// splits have moved it since. It answers the LSN of the transaction's last record behind that; undo goes on at the record's own prev.
+///
+/// A leaf that lacks room for a key that comes back is split first, whatever limit of pages there is, and a leaf other than the root that is
+/// left empty is taken out of the tree, each in a structure change of the transaction. For want of memory an empty leaf stays.
+///
+/// No lock is asked. Refused `Capacity` where page numbers or levels are used up, `Memory` with all as it was, and `Failed` where memory
+/// is wanted behind the first record; otherwise as `PageWriter::log_change` is.
+pub fn undo_one<D: Disk>(
+    alloc: Global,
+    writer: &mut PageWriter,
+    disk: &mut D,
+    record: &Record,
+    last: Lsn,
+    undo_next: Lsn,
+) -> Result<Lsn, Fault>
+    requires entry { IsEntry (view record.now) }
+    requires ready { IsReadyWriter D.Disk writer.old disk.old }
+    requires working { writer.old.failed ≡ false }
+    requires key { is_key (what_of (view record.now)) ≡ true }
+    requires owner { 1 ≤ transaction_of (view record.now) }
+    ensures ready { IsReadyWriter D.Disk writer.new disk.new }
+    ensures kept { (b : Base) (base : ℕ) (s : Writer) (e : ℕ) → IsGoing D.Disk b base s e (transaction_of (view record.now)) last undo_next writer.old disk.old
+        → IsToUndo D.Disk b base s (transaction_of (view record.now)) (view record.now)
+        → CompensateKept D.Disk b base s e (transaction_of (view record.now)) (view record.now) disk.old writer.new disk.new result }
+    ensures works { OnOk result (writer.new.failed ≡ false) }
+    ensures fails { IfErr result (λ e. (writer.new.failed ≡ false) ↔ ((e ≡ Memory) ⊎ (e ≡ NotAStore) ⊎ (e ≡ Capacity) ⊎ (e ≡ Failed))) }
+    ensures causes { IfErr result (λ e. (e ≡ Capacity) ⊎ (e ≡ Failed) ⊎ (e ≡ LogFull) ⊎ (e ≡ Memory) ⊎ (e ≡ NotAStore) ⊎ (e ≡ Device)) }
+    ensures no_room { result ≡ Err LogFull → HasNoRoom writer.new.log }
+    ensures device { result ≡ Err Device ↔ (D.failed disk.new ≡ true) }
+{
+    match record {
+        Record::InsertKey { key, .. } => undo_insert(alloc, writer, disk, record, last, key),
+        Record::DeleteKey { key, .. } => {
+            undo_delete(alloc, writer, disk, record, last, undo_next, key)
+        }
+        _ => Err(Fault::NotAStore),
+    }
+}
