@@ -134,8 +134,10 @@ fn print_counts(rt: &HostRuntime, dir: &str) -> anyhow::Result<()> {
     let mut left = model.after_stop(alloc)?;
     let batches = put_many(alloc, &mut left, FEW)?;
     println!(rt; "model disk: {batches} batches")?;
-    let mut files = FileDisk::open(rt, dir)?;
-    put_many(alloc, &mut files, FEW)?;
+    {
+        let mut files = FileDisk::open(rt, dir)?;
+        put_many(alloc, &mut files, FEW)?;
+    }
     let mut again = FileDisk::open(rt, dir)?;
     let batches = put_many(alloc, &mut again, FEW)?;
     println!(rt; "files: {batches} batches")?;

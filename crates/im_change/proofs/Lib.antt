@@ -2,5 +2,6 @@ pub mod PageBytes
 pub mod Records
 pub mod ChangeLogs
 pub mod Closing
+pub mod Refusals
 pub mod Runs
 pub mod Nets

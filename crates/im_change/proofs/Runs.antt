@@ -1,9 +1,10 @@
 -- A writer of pages through a structure change.
-use Rattle.std.proofs.Common.{◌≡◌, ◌≢◌, ℕ, zero, suc, ◌+◌, ◌<◌, ◌≤◌, Bool, true, false, List, [], ◌∷◌, length, drop, Option, Some, None, inl, inr, refl, sym, ap, subst, ◌∙◌, arith, ◌==◌, if◌then◌else◌}
+use Rattle.std.proofs.Common.{◌≡◌, ◌≢◌, ◌⊎◌, ℕ, zero, suc, ◌+◌, ◌<◌, ◌≤◌, Bool, true, false, List, [], ◌∷◌, length, drop, Option, Some, None, inl, inr, refl, sym, ap, subst, ◌∙◌, arith, ◌==◌, if◌then◌else◌}
 use Rattle.std.proofs.Math.Path.{fun_ext}
 use Rattle.std.proofs.lemmas.Bool.{cases_eq, cond-true, cond-false, eq-eqb, ne_eqb}
 use Rattle.std.proofs.lemmas.List.{drop_more, drop_all}
 use Rattle.im_types.specs.Pages.{Body, Page}
+use Rattle.im_types.specs.Records.{What, InsertKey, DeleteKey, UndoInsert, UndoDelete, Smo, UndoSmo, DummyClr, Commit, End, Image, Checkpoint, Unreadable, Logged}
 use Rattle.im_types.specs.Histories.{Base, History, IsFront, end_of, page_at}
 use Rattle.im_types.specs.Lawful.{IsLawful, resumes}
 use Rattle.im_types.specs.Tree.{with_body}
@@ -17,16 +18,16 @@ use Rattle.im_disk.specs.Disk.{Files}
 use Rattle.im_disk.proofs.Runs.{then_on, weakened}
 use Rattle.im_log.proofs.Above.{front_then}
 use Rattle.im_page.specs.Header.{initial}
-use Rattle.im_record.specs.Entry.{DummyClr}
+use Rattle.im_record.specs.Entry as entries
 use Rattle.im_flush.specs.declared.page_writer.PageWriter.{PageWriter}
 use Rattle.im_flush.specs.Stands.{IsCovered}
 use Rattle.im_flush.specs.Writing.{LeavesGrown}
-use Rattle.im_flush.specs.PageWriter.{StandsAs, LoggedOnly}
+use Rattle.im_flush.specs.PageWriter.{StandsAs, LoggedOnly, Evicted}
 use Rattle.im_flush.proofs.Goings.{leaves_so_far}
 use Rattle.im_flush.proofs.Standing.{wider_covered}
 use Rattle.im_flush.proofs.Writers.{goes_on_start}
 use Rattle.im_tree.specs.Levels.{Pages, walk}
-use Rattle.im_tree.specs.Good.{IsGoodTree}
+use Rattle.im_tree.specs.Good.{AllOf, IsGoodTree}
 use Rattle.im_tree.specs.Theory.{page_tree}
 use Rattle.im_smo.specs.Images.{Numbered, IsAbove, IsRising, image_of, image_at}
 use Rattle.im_smo.specs.Changed.{SamePages}
@@ -34,9 +35,36 @@ use Rattle.im_smo.proofs.ImageLemmas.{body_or, applied_image}
 use Rattle.im_smo.proofs.Updates.{at_other}
 use Rattle.im_alloc.specs.Seen.{bodies, seen}
 use Rattle.im_change.specs.Logged.{smo_at, dummy_at, PageLogged}
-use Rattle.im_change.specs.Changes.{GrowsByChange, IsOpenBelow, LeftByChange, LeavesChange, MayChange, PagesLogged, Changed}
+use Rattle.im_change.specs.Changes.{IsOfChange, GrowsByChange, HasRecordOf, with_mark, marks, image_marks, IsOpenBelow, LeftByChange, LeavesChange, MayChange, PagesLogged, Begun, Changed}
 use Rattle.im_change.proofs.ChangeLogs.{grows_images, images_lawful, images_under_way, smo_under_way}
 use Rattle.im_change.proofs.Closing.{logged_bodies, closes}
+
+-- ---- records of the change
+
+-- the record is one of the transaction, or a mark stands behind it
+has_one : (t : ℕ) (r : Logged) (w : What) (older : History) (m : Option ℕ) (ms : List (Option ℕ)) → IsOfChange t r w → with_mark r w (marks older) ≡ m ∷ ms → (marks older ≡ m ∷ ms → HasRecordOf t older)
+    → (r.txn ≡ t) ⊎ HasRecordOf t older
+has_one t r (Smo was now) older m ms is marked rest = inl is
+has_one t r DummyClr older m ms is marked rest = inl is
+has_one t r (Image c) older m ms is marked rest = inr (rest marked)
+has_one t r (InsertKey k i) older m ms is marked rest = absurd is
+has_one t r (DeleteKey k i) older m ms is marked rest = absurd is
+has_one t r (UndoInsert k i) older m ms is marked rest = absurd is
+has_one t r (UndoDelete k i) older m ms is marked rest = absurd is
+has_one t r (UndoSmo now) older m ms is marked rest = absurd is
+has_one t r Commit older m ms is marked rest = absurd is
+has_one t r End older m ms is marked rest = absurd is
+has_one t r (Checkpoint n a dirty) older m ms is marked rest = absurd is
+has_one t r Unreadable older m ms is marked rest = absurd is
+
+pub marked_is : (t : ℕ) (more : History) (m : Option ℕ) (ms : List (Option ℕ)) → AllOf (λ (r : Logged). IsOfChange t r r.what) more → marks more ≡ m ∷ ms → HasRecordOf t more
+marked_is t [] m ms all is = absurd (cc is)
+marked_is t (r ∷ more) m ms all is = has_one t r r.what more m ms all.0 is (λ rest. marked_is t more m ms all.1 rest)
+
+-- where an image is logged, the transaction has a record
+images_begun : (t i : ℕ) (xs : List Numbered) (more : History) → 1 ≤ i → AllOf (λ (r : Logged). IsOfChange t r r.what) more → marks more ≡ image_marks i xs → HasRecordOf t more
+images_begun t zero xs more some all is = absurd (omega (arith, some))
+images_begun t (suc i) xs more some all is = marked_is t more (Some (image_at xs i).0) (image_marks i xs) all is
 
 -- ---- images that are still to be logged
 
@@ -176,10 +204,22 @@ module _ {D : Type 0} (d : Ghosts D) (b : Base) (base : ℕ) where
             changed_bodies lsn t prev p (now.pages p).page.body x.1.body done.before q
             ∙ ap (λ (c : Body). if p == q then x.1.body else c) (ap (λ (g : Page). g.body) (done.keeps.pages q).page)
 
+    -- a page was not logged, behind the first one
+    pub pages_begun : (i prev : ℕ) (old : D) (w : PageWriter) (mid : D) (v : PageWriter) (new : D) → t ≢ 0 → 1 ≤ i → (so : PagesLogged d b base s e xs t undo_next i prev old w mid)
+        → Evicted d b base so.now mid v new → Begun d b base s t v new
+    pages_begun i prev old w mid v new some first so ev =
+        let way = images_under_way b t undo_next xs s.log some i prev so.now.log ev.now.log ev.on.goes.keeps.log so.log in
+        record {
+          now = ev.now;
+          stands = record { working = ev.on.working; writing = ev.on.goes.writing };
+          grows = way.grows;
+          some = images_begun t i xs way.grows.more first way.grows.all way.order;
+        }
+
     -- ---- the end
 
     pub change_done : (last prev lsn : ℕ) (start : PageWriter) (old : D) (w : PageWriter) (mid : D) (v : PageWriter) (new : D) → t ≢ 0 → MayChange d b base s e xs t last undo_next start old
-        → (so : PagesLogged d b base s e xs t undo_next (length xs) prev old w mid) → LoggedOnly d b base so.now (DummyClr t prev undo_next) lsn v new → Changed d b base s e xs t undo_next lsn old v new
+        → (so : PagesLogged d b base s e xs t undo_next (length xs) prev old w mid) → LoggedOnly d b base so.now (entries.DummyClr t prev undo_next) lsn v new → Changed d b base s e xs t undo_next lsn old v new
     change_done last prev lsn start old w mid v new some may so done =
         let log = closes b t undo_next xs s.log (length xs) prev lsn now.log some may.some so.log done.high may.lawful may.closed
         (subst (λ (pages : Pages). IsGoodTree pages []) (sym logged) may.good)

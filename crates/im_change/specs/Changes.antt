@@ -1,7 +1,7 @@
 -- What a structure change asks, how it stands on its way, and what it keeps.
-use Rattle.std.specs.Prelude.{◌≡◌, ◌≢◌, ◌≤◌, ◌<◌, ℕ, zero, suc, false, List, [], ◌∷◌, ◌++◌, length, drop, Option, Some, None, Result, IfErr, IfOk}
+use Rattle.std.specs.Prelude.{◌≡◌, ◌≢◌, ◌≤◌, ◌<◌, ◌⊎◌, ℕ, zero, suc, false, List, [], ◌∷◌, ◌++◌, length, drop, Option, Some, None, Result, IfErr, IfOk}
 use Rattle.im_types.specs.declared.fault.Fault.{Fault}
-use Rattle.im_types.specs.declared.fault.Fault.TheVariants.{NotAStore}
+use Rattle.im_types.specs.declared.fault.Fault.TheVariants.{Failed, Memory, NotAStore}
 use Rattle.im_types.specs.Records.{What, InsertKey, DeleteKey, UndoInsert, UndoDelete, Smo, UndoSmo, DummyClr, Commit, End, Image, Checkpoint, Unreadable, Logged}
 use Rattle.im_types.specs.Histories.{Base, History, IsFront, end_of}
 use Rattle.im_types.specs.Lawful.{IsLawful, resumes}
@@ -13,7 +13,7 @@ use Rattle.im_disk.specs.Disk.{Files}
 use Rattle.im_disk.specs.Runs.{LeavesOnly}
 use Rattle.im_flush.specs.declared.page_writer.PageWriter.{PageWriter}
 use Rattle.im_flush.specs.Stands.{IsCovered}
-use Rattle.im_flush.specs.PageWriter.{StandsAs}
+use Rattle.im_flush.specs.PageWriter.{StandsAs, Evicted}
 use Rattle.im_tree.specs.Levels.{walk}
 use Rattle.im_tree.specs.Good.{AllOf, IsGoodTree}
 use Rattle.im_tree.specs.Theory.{page_tree}
@@ -43,6 +43,11 @@ pub record GrowsByChange (t : ℕ) (older longer : History) : Type 0 where
   pub more : History
   pub is : longer ≡ more ++ older
   pub all : AllOf (λ (r : Logged). IsOfChange t r r.what) more
+
+-- one of these records is of transaction t
+abbrev pub HasRecordOf : ℕ → History → Type 0
+HasRecordOf t [] = ⊥
+HasRecordOf t (r ∷ older) = (r.txn ≡ t) ⊎ HasRecordOf t older
 
 -- Of transaction u the last record, the next one to undo, what is left to undo, and whether it is finished are as they were.
 pub record IsSameOf (u : ℕ) (older longer : History) : Type 0 where
@@ -121,11 +126,20 @@ module _ {D : Type 0} (d : Ghosts D) (b : Base) (base : ℕ) where
     pub pages : SamePages (seen now (drop i images)) (seen s images)
     pub stops : LeavesChange s t old disk
 
-  -- what logging all of them keeps
+  -- A record of the structure change joined the log.
+  pub record Begun (s : Writer) (t : ℕ) (w : PageWriter) (disk : D) : Type 0 where
+    pub now : Writer
+    pub stands : StandsAs d b base now w disk
+    pub grows : GrowsByChange t s.log now.log
+    pub some : HasRecordOf t grows.more
+
+  -- What logging all of them keeps. A want of memory leaves all as it was, or is `Failed` behind a record of the change.
   pub record PagesKept (s : Writer) (e : ℕ) (images : List Numbered) (t undo_next : ℕ) (old : D) (w : PageWriter) (disk : D) (result : Result ℕ Fault) : Type 0 where
     pub ok : IfOk result (λ prev. PagesLogged s e images t undo_next (length images) prev old w disk)
     pub stops : LeavesChange s t old disk
     pub cause : IfErr result (λ e. e ≢ NotAStore)
+    pub again : IfErr result (λ e. e ≡ Memory → Evicted d b base s old w disk)
+    pub begun : IfErr result (λ e. e ≡ Failed → Begun s t w disk)
 
   -- The structure change is logged, one record for each image in rising page number, and closed: the pages are those of the images, the log is lawful, and undo goes on where it stood, from the record at this LSN.
   pub record Changed (s : Writer) (e : ℕ) (images : List Numbered) (t undo_next lsn : ℕ) (old : D) (w : PageWriter) (disk : D) : Type 0 where
@@ -143,8 +157,10 @@ module _ {D : Type 0} (d : Ghosts D) (b : Base) (base : ℕ) where
     pub unfinished : is_finished t now.log ≡ false
     pub closed : open_smo now.log ≡ []
 
-  -- what a structure change keeps
+  -- What a structure change keeps. A want of memory leaves all as it was, or is `Failed` behind a record of the change.
   pub record ChangeKept (s : Writer) (e : ℕ) (images : List Numbered) (t undo_next : ℕ) (old : D) (w : PageWriter) (disk : D) (result : Result ℕ Fault) : Type 0 where
     pub ok : IfOk result (λ lsn. Changed s e images t undo_next lsn old w disk)
     pub stops : LeavesChange s t old disk
     pub cause : IfErr result (λ e. e ≢ NotAStore)
+    pub again : IfErr result (λ e. e ≡ Memory → Evicted d b base s old w disk)
+    pub begun : IfErr result (λ e. e ≡ Failed → Begun s t w disk)

@@ -1,11 +1,13 @@
 //! A structure change, logged page by page and closed.
 
-ghost use Rattle.std.specs.Prelude.{◌≡◌, ◌≤◌, ◌⊎◌, ◌↔◌, ℕ, true, false, Some, Err, length, IfErr, OnOk};
-ghost use Rattle.im_types.specs.declared.fault.Fault.TheVariants.{Device, LogFull, Memory, NotAStore};
+ghost use Rattle.std.specs.Prelude.{◌≡◌, ◌≢◌, ◌<◌, ◌≤◌, ◌⊎◌, ◌↔◌, ℕ, true, false, Some, Err, length, IfErr, OnOk};
+ghost use Rattle.im_types.specs.declared.fault.Fault.TheVariants.{Device, Failed, LogFull, Memory, NotAStore};
 ghost use Rattle.im_types.specs.Histories.{Base};
 ghost use Rattle.im_types.specs.Writer.{Writer};
 ghost use Rattle.im_log.specs.LogFile.{HasNoRoom};
-ghost use Rattle.im_flush.specs.PageWriter.{IsReadyWriter};
+ghost use Rattle.im_flush.specs.PageWriter.{IsReadyWriter, StandsAs};
+ghost use Rattle.im_smo.specs.Images.{image_at};
+ghost use Rattle.im_change.specs.Logged.{ImageLogKept};
 ghost use Rattle.im_change.specs.Changes.{MayChange, PagesKept, ChangeKept};
 
 use crate::page_record::log_page;
@@ -14,6 +16,56 @@ use im_flush::PageWriter;
 use im_record::Record;
 use im_smo::Images;
 use im_types::{Fault, Lsn};
+
+// What a refusal at a page is answered as: for want of memory there is no way back behind the first record.
+fn refused_at(i: usize, fault: Fault) -> Fault
+    ensures first { i ≡ 0 → result ≡ fault }
+    ensures late { 1 ≤ i → fault ≡ Memory → result ≡ Failed }
+    ensures others { fault ≢ Memory → result ≡ fault }
+{
+    if i == 0 {
+        return fault;
+    }
+    match fault {
+        Fault::Memory => Fault::Failed,
+        _ => fault,
+    }
+}
+
+// Logs the page of the image at a place, and makes it so. It answers the LSN.
+fn log_at<D: Disk>(
+    writer: &mut PageWriter,
+    disk: &mut D,
+    images: &Images,
+    i: usize,
+    transaction: u64,
+    prev: Lsn,
+) -> Result<Lsn, Fault>
+    requires ready { IsReadyWriter D.Disk writer.old disk.old }
+    requires working { writer.old.failed ≡ false }
+    requires owner { 1 ≤ transaction }
+    requires within { i < length images.now }
+    ensures ready { IsReadyWriter D.Disk writer.new disk.new }
+    ensures kept { (b : Base) (base : ℕ) (s : Writer) (e : ℕ) → StandsAs D.Disk b base s writer.old disk.old → s.redo_end ≡ Some e
+        → ImageLogKept D.Disk b base s transaction prev (image_at images.now i).0 (image_at images.now i).1.body i disk.old writer.new disk.new result }
+    ensures works { OnOk result (writer.new.failed ≡ false) }
+    ensures fails { IfErr result (λ e. (writer.new.failed ≡ false) ↔ ((e ≡ Memory) ⊎ (e ≡ NotAStore) ⊎ (e ≡ Failed))) }
+    ensures causes { IfErr result (λ e. (e ≡ Failed) ⊎ (e ≡ LogFull) ⊎ (e ≡ Memory) ⊎ (e ≡ NotAStore) ⊎ (e ≡ Device)) }
+    ensures no_room { result ≡ Err LogFull → HasNoRoom writer.new.log }
+    ensures device { result ≡ Err Device ↔ (D.failed disk.new ≡ true) }
+{
+    match log_page(
+        writer,
+        disk,
+        transaction,
+        prev,
+        images.number(i),
+        images.page(i),
+    ) {
+        Ok(lsn) => Ok(lsn),
+        Err(fault) => Err(refused_at(i, fault)),
+    }
+}
 
 // Logs the pages of a structure change in rising page number, each record behind the one before, and makes them so. It
 // answers the LSN of the last record.
@@ -31,22 +83,15 @@ fn log_pages<D: Disk>(
     ensures kept { (b : Base) (base : ℕ) (s : Writer) (e undo_next : ℕ) → MayChange D.Disk b base s e images.now transaction last undo_next writer.old disk.old
         → PagesKept D.Disk b base s e images.now transaction undo_next disk.old writer.new disk.new result }
     ensures works { OnOk result (writer.new.failed ≡ false) }
-    ensures fails { IfErr result (λ e. (writer.new.failed ≡ false) ↔ ((e ≡ Memory) ⊎ (e ≡ NotAStore))) }
-    ensures causes { IfErr result (λ e. (e ≡ LogFull) ⊎ (e ≡ Memory) ⊎ (e ≡ NotAStore) ⊎ (e ≡ Device)) }
+    ensures fails { IfErr result (λ e. (writer.new.failed ≡ false) ↔ ((e ≡ Memory) ⊎ (e ≡ NotAStore) ⊎ (e ≡ Failed))) }
+    ensures causes { IfErr result (λ e. (e ≡ Failed) ⊎ (e ≡ LogFull) ⊎ (e ≡ Memory) ⊎ (e ≡ NotAStore) ⊎ (e ≡ Device)) }
     ensures no_room { result ≡ Err LogFull → HasNoRoom writer.new.log }
     ensures device { IfErr result (λ e. (e ≡ Device) ↔ (D.failed disk.new ≡ true)) }
 {
     let len = images.len();
     let mut prev = last;
     for i in 0..len {
-        prev = log_page(
-            writer,
-            disk,
-            transaction,
-            prev,
-            images.number(i),
-            images.page(i),
-        )?;
+        prev = log_at(writer, disk, images, i, transaction, prev)?;
     }
     Ok(prev)
 }
@@ -55,8 +100,9 @@ fn log_pages<D: Disk>(
 /// for each page, with the page before and after, in rising page number, chained from the transaction's record at `last`,
 /// and then the DummyClr that closes it, from which undo goes on at `undo_next`. It answers that record's LSN.
 ///
-/// Refused `Memory`, `LogFull`, `Device`, or `NotAStore` where a page's bytes are none. Behind a refusal the structure
-/// change may be open in the log, so that the transaction can do nothing but be undone by a restart.
+/// Refused `Memory` with all as it was, and `Failed` where memory is wanted behind the first record; `LogFull`, `Device`, or
+/// `NotAStore` where a page's bytes are none. Behind a refusal other than `Memory` the structure change may be open in the log, so that
+/// the transaction can do nothing but be undone by a restart.
 pub fn run<D: Disk>(
     writer: &mut PageWriter,
     disk: &mut D,
@@ -72,8 +118,8 @@ pub fn run<D: Disk>(
     ensures kept { (b : Base) (base : ℕ) (s : Writer) (e : ℕ) → MayChange D.Disk b base s e images.now transaction last undo_next writer.old disk.old
         → ChangeKept D.Disk b base s e images.now transaction undo_next disk.old writer.new disk.new result }
     ensures works { OnOk result (writer.new.failed ≡ false) }
-    ensures fails { IfErr result (λ e. (writer.new.failed ≡ false) ↔ ((e ≡ Memory) ⊎ (e ≡ NotAStore))) }
-    ensures causes { IfErr result (λ e. (e ≡ LogFull) ⊎ (e ≡ Memory) ⊎ (e ≡ NotAStore) ⊎ (e ≡ Device)) }
+    ensures fails { IfErr result (λ e. (writer.new.failed ≡ false) ↔ ((e ≡ Memory) ⊎ (e ≡ NotAStore) ⊎ (e ≡ Failed))) }
+    ensures causes { IfErr result (λ e. (e ≡ Failed) ⊎ (e ≡ LogFull) ⊎ (e ≡ Memory) ⊎ (e ≡ NotAStore) ⊎ (e ≡ Device)) }
     ensures no_room { result ≡ Err LogFull → HasNoRoom writer.new.log }
     ensures device { result ≡ Err Device ↔ (D.failed disk.new ≡ true) }
 {

@@ -1,5 +1,6 @@
 pub mod Moments
 pub mod Patch
+pub mod Fills
 pub mod Runs
 pub mod StopLemmas
 pub mod Synced

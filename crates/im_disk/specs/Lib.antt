@@ -4,5 +4,6 @@ pub mod Model
 pub mod ModelFile
 pub mod Past
 pub mod Plan
+pub mod RealFiles
 pub mod Runs
 pub mod Written

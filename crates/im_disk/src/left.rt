@@ -1,12 +1,12 @@
 //! What a stop leaves of a file of the model disk.
-ghost use Rattle.std.specs.Prelude.{◌≡◌, ◌<◌, true, slice_index, IfOk};
+ghost use Rattle.std.specs.Prelude.{◌≡◌, ◌⊎◌, ℕ, ◌+◌, ◌%◌, ◌<◌, ◌≤◌, length, slice_index, IfOk};
+ghost use Rattle.im_disk.specs.Left.{IsKept, IsLeft, left_length};
 ghost use Rattle.im_disk.specs.ModelFile.{IsOutside};
-ghost use Rattle.im_disk.specs.Left.{IsKept, IsLeft, fill_at};
 
 use crate::{Fill, Length, ModelFile};
 use std::alloc::{AllocError, Global};
 
-/// The bytes of the file after a stop.
+/// The bytes of the file after a stop, in time linear in those and in what was written since the last sync.
 pub(crate) fn left(
     alloc: Global,
     file: &ModelFile,
@@ -15,41 +15,71 @@ pub(crate) fn left(
 ) -> Result<Vec<u8>, AllocError>
     ensures { IfOk result (λ bytes. IsLeft length fill.now file.now bytes.items) }
 {
-    let len = match length {
-        Length::Long => file.bytes.len(),
-        Length::Short => file.synced,
-    };
+    let len = left_len(file, length);
     let mut bytes = Vec::new(alloc);
-    for place in 0..len {
-        bytes.push(left_at(file, place, fill))?;
-    }
-    Ok(bytes)
-}
-
-// The byte that a stop leaves at a place.
-fn left_at(file: &ModelFile, place: usize, fill: &Fill) -> u8
-    ensures kept { IsKept file.now place → result ≡ slice_index file.now.bytes.items place }
-    ensures filled { ¬ (IsKept file.now place) → result ≡ fill_at fill.now file.now.bytes.items place }
-{
-    let written = file.bytes.get(place).copied().unwrap_or(0);
-    if place < file.synced && is_outside(&file.written, place) {
-        return written;
-    }
+    bytes.extend_from_slice(&file.bytes[..len])?;
     match fill {
-        Fill::Written => written,
-        Fill::Bytes(pattern) if pattern.is_empty() => 0,
-        Fill::Bytes(pattern) => pattern[place % pattern.len()],
-    }
-}
-
-fn is_outside(writes: &[(usize, usize)], place: usize) -> bool
-    ensures outside { result ≡ true → IsOutside writes.now place }
-    ensures inside { IsOutside writes.now place → result ≡ true }
-{
-    for (at, size) in writes {
-        if place >= *at && place - *at < *size {
-            return false;
+        Fill::Written => Ok(bytes),
+        Fill::Bytes(pattern) => {
+            fill_unsynced(&mut bytes, file, pattern);
+            Ok(bytes)
         }
     }
-    true
+}
+
+fn left_len(file: &ModelFile, choice: Length) -> usize
+    ensures long { result ≡ left_length choice file.now }
+    ensures within { result ≤ length file.now.bytes.items }
+{
+    match choice {
+        Length::Long => file.bytes.len(),
+        Length::Short => file.synced,
+    }
+}
+
+// The pattern at each place that is not as synced.
+fn fill_unsynced(bytes: &mut [u8], file: &ModelFile, pattern: &[u8])
+    ensures kept { (place : ℕ) → place < length bytes.old → IsKept file.now place → slice_index bytes.new place ≡ slice_index bytes.old place }
+    ensures filled { (place : ℕ) → place < length bytes.old → ¬ (IsKept file.now place) → slice_index bytes.new place ≡ slice_index pattern.now (place % length pattern.now) }
+{
+    fill_written(bytes, &file.written, pattern);
+    let len = bytes.len();
+    fill_range(bytes, file.synced, len, pattern);
+}
+
+// The pattern at each place that a write has touched.
+fn fill_written(bytes: &mut [u8], writes: &[(usize, usize)], pattern: &[u8])
+    ensures outside { (place : ℕ) → place < length bytes.old → IsOutside writes.now place → slice_index bytes.new place ≡ slice_index bytes.old place }
+    ensures inside { (place : ℕ) → place < length bytes.old → ¬ (IsOutside writes.now place) → slice_index bytes.new place ≡ slice_index pattern.now (place % length pattern.now) }
+{
+    for (at, size) in writes {
+        fill_range(bytes, *at, *size, pattern);
+    }
+}
+
+// The pattern from a place on, so many bytes, as far as there are.
+fn fill_range(bytes: &mut [u8], at: usize, size: usize, pattern: &[u8])
+    ensures outside { (place : ℕ) → place < length bytes.old → (place < at) ⊎ (at + size ≤ place) → slice_index bytes.new place ≡ slice_index bytes.old place }
+    ensures inside { (place : ℕ) → place < length bytes.old → at ≤ place → place < at + size → slice_index bytes.new place ≡ slice_index pattern.now (place % length pattern.now) }
+{
+    let len = bytes.len();
+    let end = if size < len.saturating_sub(at) {
+        at + size
+    } else {
+        len
+    };
+    for place in at..end {
+        bytes[place] = pattern_at(pattern, place);
+    }
+}
+
+// The pattern's byte for a place, and 0 where the pattern has none.
+fn pattern_at(pattern: &[u8], place: usize) -> u8
+    ensures { result ≡ slice_index pattern.now (place % length pattern.now) }
+{
+    if pattern.is_empty() {
+        0
+    } else {
+        pattern[place % pattern.len()]
+    }
 }

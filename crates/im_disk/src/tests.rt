@@ -118,17 +118,90 @@ fn model_and_real_files_are_used_alike(rt: HostRuntime) -> Result<(), Fail> {
     assert_eq!(rt; use_once(&mut model)?, [2, 3]);
     assert_eq!(rt; model.calls(), 4);
     let _ = fs::remove_dir_all(&rt, "im_disk_test");
-    let mut disk = FileDisk::open(&rt, "im_disk_test/store")?;
-    assert_eq!(rt; use_once(&mut disk)?, [2, 3]);
-    let mut again = FileDisk::open(&rt, "im_disk_test/store")?;
+    {
+        let mut disk = FileDisk::open(&rt, "im_disk_test/new/store")?;
+        assert_eq!(rt; use_once(&mut disk)?, [2, 3]);
+        assert_eq!(rt; refused(&rt, "im_disk_test/new/store"), Some(Fault::Locked));
+    }
     assert_eq!(rt;
-        whole(alloc, &mut again, FileId::Pages)?.as_slice(),
-        &[4, 5][..]
+        look(&rt, "im_disk_test/new/store")?,
+        (3, Err(Fault::Device))
     );
-    assert!(rt; FileDisk::open(&rt, "im_disk_test/store/log").is_err());
-    let mut third = FileDisk::open(&rt, "im_disk_test/store")?;
-    let past_memory = read_vec(alloc, &mut third, FileId::Log, 0, usize::MAX);
-    assert_eq!(rt; past_memory.err(), Some(Fault::Memory));
+    assert!(rt; FileDisk::open_to_read(&rt, "im_disk_test/new").is_err());
+    {
+        let mut again = FileDisk::open(&rt, "im_disk_test/new/store")?;
+        assert_eq!(rt;
+            whole(alloc, &mut again, FileId::Pages)?.as_slice(),
+            &[4, 5][..]
+        );
+    }
+    assert_eq!(rt;
+        read_past_memory(&rt, alloc, "im_disk_test/new/store")?,
+        Some(Fault::Memory)
+    );
     fs::remove_dir_all(&rt, "im_disk_test")?;
+    Ok(())
+}
+
+// The length of the log of files that are opened to be read, and the answer to a write.
+fn look(rt: &HostRuntime, dir: &str) -> Result<(u64, Result<(), Fault>), Fail> {
+    let mut disk = FileDisk::open_to_read(rt, dir)?;
+    let length = disk.len(FileId::Log)?;
+    let written = disk.write_at(FileId::Log, 0, &[9]);
+    Ok((length, written))
+}
+
+// The refusal of more bytes than there is memory for.
+fn read_past_memory(rt: &HostRuntime, alloc: Global, dir: &str) -> Result<Option<Fault>, Fail> {
+    let mut disk = FileDisk::open(rt, dir)?;
+    Ok(read_vec(alloc, &mut disk, FileId::Log, 0, usize::MAX).err())
+}
+
+// The refusal of an opening.
+fn refused(rt: &HostRuntime, dir: &str) -> Option<Fault> {
+    match FileDisk::open(rt, dir) {
+        Ok(_) => None,
+        Err(error) => Some(error.fault()),
+    }
+}
+
+#[test]
+fn other_files_are_left_as_they_are(rt: HostRuntime) -> Result<(), Fail> {
+    let dir = "im_disk_other";
+    let log = "im_disk_other/log";
+    let pages = "im_disk_other/pages";
+    let _ = fs::remove_dir_all(&rt, dir);
+    fs::create_dir(&rt, dir)?;
+    fs::write(&rt, log, "the quick brown fox jumps over it")?;
+    assert_eq!(rt; refused(&rt, dir), Some(Fault::NotAStore));
+    assert_eq!(rt;
+        fs::read(&rt, log)?.as_slice(),
+        b"the quick brown fox jumps over it".as_slice()
+    );
+    assert!(rt; !fs::exists(&rt, pages)?);
+    // One byte less is what a stop may leave of a log before it is made.
+    fs::write(&rt, log, "the quick brown fox jumps over i")?;
+    assert_eq!(rt; refused(&rt, dir), None);
+    fs::remove_file(&rt, pages)?;
+    fs::create_dir(&rt, pages)?;
+    assert_eq!(rt; refused(&rt, dir), Some(Fault::NotAStore));
+    assert_eq!(rt; refused(&rt, log), Some(Fault::Device));
+    assert_eq!(rt; refused(&rt, ""), Some(Fault::Device));
+    fs::remove_dir_all(&rt, dir)?;
+    Ok(())
+}
+
+#[test]
+fn errors_of_an_opening_have_words(rt: HostRuntime) -> Result<(), Fail> {
+    let alloc = rt.alloc();
+    assert_eq!(rt;
+        format!(in alloc; "{}", OpenError::NotAFile("pages"))?.as_str(),
+        "`pages` in it is no plain file"
+    );
+    let missing = OpenError::from(std::io::Error::from_raw_os_error(2));
+    assert_eq!(rt;
+        format!(in alloc; "{missing}")?.as_str(),
+        "there is no such folder, and it cannot be made: No such file or directory (os error 2)"
+    );
     Ok(())
 }

@@ -1,12 +1,12 @@
 -- Lives of a store, one after another.
-use Rattle.std.proofs.Common.{◌≡◌, ◌≢◌, false, List, [], ◌∷◌, ◌++◌, refl, ap, subst}
+use Rattle.std.proofs.Common.{◌≡◌, ◌≢◌, List, [], ◌∷◌, ◌++◌, refl, ap, subst}
 use Rattle.im_types.specs.Changes.{Effect}
 use Rattle.im_types.specs.Lives.{Asked, Survives, Lives}
 use Rattle.im_types.specs.declared.fault.Fault.TheVariants.{NotAStore}
 use Rattle.im_drill.specs.declared.store_life.StoreLife.{StoreLife}
 use Rattle.im_drill.specs.declared.store_answers.StoreAnswers.{StoreAnswers}
 use Rattle.im_drill.specs.declared.life_answers.Opening.TheVariants as openings
-use Rattle.im_drill.specs.StoreLives.{asked_in, asked_in_each, StoreAnswered, EachStoreAnswered, NoneSplit, AreStores}
+use Rattle.im_drill.specs.StoreLives.{asked_in, asked_in_each, StoreAnswered, EachStoreAnswered, AreStores}
 
 -- one life more, of which it is known what it asked
 lives_push : (before : List Effect) (lives : List (List Asked)) (mid : List Effect) (asked : List Asked) (after : List Effect) → Lives before lives mid → Survives mid asked after → Lives before (lives ++ asked ∷ []) after
@@ -31,15 +31,7 @@ store_answered_push [] (one ∷ told) life answers e is = absurd e
 store_answered_push (first ∷ some) [] life answers e is = absurd e
 store_answered_push (first ∷ some) (one ∷ told) life answers e is = (e.0, store_answered_push some told life answers e.1 is)
 
--- a life more that began no structure change, or that did
-pub none_split_front : (told : List StoreAnswers) (answers : StoreAnswers) → NoneSplit (told ++ answers ∷ []) → NoneSplit told
-none_split_front [] answers n = tt
-none_split_front (one ∷ told) answers n = (n.0, none_split_front told answers n.1)
-
-pub none_split_last : (told : List StoreAnswers) (answers : StoreAnswers) → NoneSplit (told ++ answers ∷ []) → answers.split ≡ false
-none_split_last [] answers n = n.0
-none_split_last (one ∷ told) answers n = none_split_last told answers n.1
-
-pub stores_push : (told : List StoreAnswers) (answers : StoreAnswers) → AreStores told → (NoneSplit told → answers.opening ≢ openings.Refused NotAStore) → AreStores (told ++ answers ∷ [])
-stores_push [] answers s is = (is tt, λ unsplit. tt)
-stores_push (one ∷ told) answers s is = (s.0, λ unsplit. stores_push told answers (s.1 unsplit) (λ none. is (unsplit, none)))
+-- one opening more that did not say that the files are no store
+pub stores_push : (told : List StoreAnswers) (answers : StoreAnswers) → AreStores told → answers.opening ≢ openings.Refused NotAStore → AreStores (told ++ answers ∷ [])
+stores_push [] answers s is = (is, tt)
+stores_push (one ∷ told) answers s is = (s.0, stores_push told answers s.1 is)

@@ -1,5 +1,5 @@
 -- What lives of a store in a script make of its effects.
-use Rattle.std.specs.Prelude.{◌≡◌, ◌≢◌, ℕ, false, List, [], ◌∷◌, Option, Some, None}
+use Rattle.std.specs.Prelude.{◌≡◌, ◌≢◌, ℕ, List, [], ◌∷◌, Option, Some, None}
 use Rattle.im_types.specs.Changes.{Effect}
 use Rattle.im_types.specs.Faults.{number_of}
 use Rattle.im_types.specs.Lives.{Shown, Asked, nothing_shown, breaks, shows}
@@ -48,7 +48,7 @@ asked_in_each (life ∷ rest) [] = []
 -- A line was run: what a stop leaves is allowed by what is shown, and where none came the life goes on.
 pub record LineKept {D : Type 0} (d : Ghosts D) (before : List Effect) (s : Shown) (line : StoreLine) (reply : StoreReply) (new : Engine D d) : Type 0 where
   pub after : reply ≢ replies.Stopped → IsLife d before (shown_after s line reply) new
-  pub stops : (c : Files) → d.may_leave new.disk c → Allowed new.split before (shown_after s line reply) c
+  pub stops : (c : Files) → d.may_leave new.disk c → Allowed before (shown_after s line reply) c
 
 -- A step has its reply, `calls` answers a number, and `page` what that page is for, or why that can't be told.
 abbrev pub IsStoreReply : StoreLine → StoreReply → Type 0
@@ -71,15 +71,10 @@ EachStoreAnswered [] (told ∷ others) = ⊥
 EachStoreAnswered (life ∷ rest) [] = ⊥
 EachStoreAnswered (life ∷ rest) (told ∷ others) = StoreAnswered told.opening life.lines.items told.replies.items × EachStoreAnswered rest others
 
--- no life began a change of the tree's structure
-abbrev pub NoneSplit : List StoreAnswers → Type 0
-NoneSplit [] = Unit {0}
-NoneSplit (told ∷ others) = (told.split ≡ false) × NoneSplit others
-
--- No opening said that the files are no store, as far as no life before it had begun a change of the tree's structure.
+-- No opening said that the files are no store.
 abbrev pub AreStores : List StoreAnswers → Type 0
 AreStores [] = Unit {0}
-AreStores (told ∷ others) = (told.opening ≢ openings.Refused NotAStore) × (told.split ≡ false → AreStores others)
+AreStores (told ∷ others) = (told.opening ≢ openings.Refused NotAStore) × AreStores others
 
 -- an option's number, or this one where it is left out
 abbrev pub number_or : ℕ → Option ℕ → ℕ

@@ -11,12 +11,11 @@
 //! last life left, or was refused for want of memory or by the disk. Each life has its answers and each line its reply, up to a
 //! line into which the stop fell (`EachAnswered`).
 //!
-//! `drill_store` promises the same of effects, in the words of the engine and of lives, for stores that never split: of a script whose files
-//! stand for some effects at first, as two empty files do for none, and in none of whose lives a change of the tree's structure was begun
-//! (`NoneSplit`, by the answers), there are effects that the lives allow of what each asked, read off its own steps and replies
-//! (`asked_in_each`, by `shows`), and the last opening, where it succeeds, hands out exactly their entries. No opening of what
-//! such lives left says that there is no store. A life that begins such a change itself still leaves files that stand for what it
-//! asked; an opening of these is not spoken of, as undo looks for a key on the page where it was put.
+//! `drill_store` promises the same of effects, in the words of the engine and of lives, of every store, whether its tree has changed its
+//! structure or not: of a script whose files stand for some effects at first, as two empty files do for none, there are effects that
+//! the lives allow of what each asked, read off its own steps and replies (`asked_in_each`, by `shows`), and the last opening, where
+//! it succeeds, hands out exactly their entries. No opening says that there is no store (`AreStores`); each may be refused for
+//! want of memory, of room in the log or of page numbers, or by the disk.
 //!
 //! `parse_line`, `parse_store_line` and `step_line` decide the grammar: what they read is spelled as the grammar says (`Spells`,
 //! `SpellsStore`, `SpellsStep`), and no line spells what they refuse as bad. `Script::parse` and `StoreScript::parse` read exactly

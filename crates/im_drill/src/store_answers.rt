@@ -26,8 +26,6 @@ pub struct StoreAnswers {
     pub opening: Opening,
     /// One reply for each of its lines, as far as it came.
     pub replies: Vec<StoreReply>,
-    /// A change of the tree's structure was begun in it.
-    pub split: bool,
 }
 
 /// What the lives of a store answer, and what stands behind the last.

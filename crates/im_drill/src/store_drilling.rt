@@ -1,13 +1,13 @@
 //! A script of lives of a store, run.
 
-ghost use Rattle.std.specs.Prelude.{◌≡◌, ◌≢◌, [], List, false, IfOk, MatchResult};
+ghost use Rattle.std.specs.Prelude.{◌≡◌, ◌≢◌, [], List, IfOk, MatchResult};
 ghost use Rattle.std.specs.FinMap.{empty, entries};
 ghost use Rattle.im_types.specs.declared.fault.Fault.TheVariants.{NotAStore};
 ghost use Rattle.im_types.specs.Changes.{Effect, apply_all};
 ghost use Rattle.im_types.specs.Lives.{Lives};
 ghost use Rattle.im_disk.specs.Disk.{both};
 ghost use Rattle.im_engine.specs.Stands.{StandsFor};
-ghost use Rattle.im_drill.specs.StoreLives.{asked_in_each, EachStoreAnswered, NoneSplit, AreStores};
+ghost use Rattle.im_drill.specs.StoreLives.{asked_in_each, EachStoreAnswered, AreStores};
 
 use crate::store_answers::StoreDrilled;
 use crate::store_lives::{last_entries, run_store_life};
@@ -18,19 +18,18 @@ use std::alloc::{AllocError, Global};
 /// Runs the lives of a script on a model disk, each on what the stop of the one before has left, and opens once
 /// more behind the last.
 ///
-/// This is for stores that never split, until undo finds the keys that a split has moved: where no life has begun a change of the tree's structure
-/// (`split` of its answers), and the script's files stand for some effects at first, as two empty ones do for none, each life leaves
-/// those from before it and behind them a front of those whose Commit its steps asked, as its own replies show, with all
-/// that were acknowledged; and the last opening finds the entries of just the effects that the last life left.
+/// Where the script's files stand for some effects at first, as two empty ones do for none, each life leaves those from before it and
+/// behind them a front of those whose Commit its steps asked, as its own replies show, with all that were acknowledged; the last
+/// opening finds the entries of just the effects that the last life left; and no opening says that there is no store. So it is of
+/// every store, whether the tree has changed its structure or not, in whichever life.
 ///
-/// No opening says that there is no store, as far as no life before it has begun such a change. On any bytes, each life has its answers
-/// and each of its lines its reply, up to a line into which the stop fell.
+/// On any bytes, each life has its answers and each of its lines its reply, up to a line into which the stop fell.
 pub fn drill_store(alloc: Global, script: &StoreScript) -> Result<StoreDrilled, AllocError>
     ensures answered { IfOk result (λ told. EachStoreAnswered script.now.lives.items told.lives.items) }
-    ensures kept { IfOk result (λ told. (before : List Effect) → StandsFor false before (both script.now.log.items []) → NoneSplit told.lives.items
+    ensures kept { IfOk result (λ told. (before : List Effect) → StandsFor before (both script.now.log.items [])
         → (after : List Effect) × Lives before (asked_in_each script.now.lives.items told.lives.items) after
         × MatchResult told.last (λ found. found.items ≡ entries (apply_all empty after)) (λ fault. fault ≢ NotAStore)) }
-    ensures stores { IfOk result (λ told. (before : List Effect) → StandsFor false before (both script.now.log.items []) → AreStores told.lives.items) }
+    ensures stores { IfOk result (λ told. (before : List Effect) → StandsFor before (both script.now.log.items []) → AreStores told.lives.items) }
 {
     let log = Vec::from_slice(alloc, &script.log)?;
     let mut disk = ModelDisk::new(log, Vec::new(alloc));

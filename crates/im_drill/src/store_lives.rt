@@ -28,10 +28,9 @@ use std::alloc::{AllocError, Global};
 
 /// Runs one life on the disk, and gives the disk back as it was when the stop came or the lines ended.
 ///
-/// Where the files stood for some effects, and no structure change had been begun in the store, whatever a stop then leaves stands for
-/// these effects and a front of those whose Commit the life asked, with all that were acknowledged, also where the life
-/// itself began such a change, as its answers then say; and the opening does not say that the files are no store. Each line has its
-/// reply, unless the stop came before or the opening did not succeed.
+/// Where the files stood for some effects, whatever a stop then leaves stands for these effects and a front of those whose Commit
+/// the life asked, with all that were acknowledged; and the opening does not say that the files are no store. Each line has its reply,
+/// unless the stop came before or the opening did not succeed.
 pub(crate) fn run_store_life(
     alloc: Global,
     disk: ModelDisk,
@@ -40,9 +39,9 @@ pub(crate) fn run_store_life(
     requires working { ⟦<ModelDisk as Disk>⟧.failed disk ≡ false }
     requires synced { IsSynced ⟦<ModelDisk as Disk>⟧ disk }
     ensures answered { IfOk result (λ run. StoreAnswered run.0.opening life.now.lines.items run.0.replies.items) }
-    ensures opened { IfOk result (λ run. (before : List Effect) → StandsFor false before (⟦<ModelDisk as Disk>⟧.seen disk) → run.0.opening ≢ Opening.Refused NotAStore) }
-    ensures kept { IfOk result (λ run. (before : List Effect) → StandsFor false before (⟦<ModelDisk as Disk>⟧.seen disk)
-        → (c : Files) → ⟦<ModelDisk as Disk>⟧.may_leave run.1 c → StandsForMore (StandsFor run.0.split) before (asked_in life.now run.0) c) }
+    ensures opened { IfOk result (λ run. (before : List Effect) → StandsFor before (⟦<ModelDisk as Disk>⟧.seen disk) → run.0.opening ≢ Opening.Refused NotAStore) }
+    ensures kept { IfOk result (λ run. (before : List Effect) → StandsFor before (⟦<ModelDisk as Disk>⟧.seen disk)
+        → (c : Files) → ⟦<ModelDisk as Disk>⟧.may_leave run.1 c → StandsForMore StandsFor before (asked_in life.now run.0) c) }
 {
     let mut disk = disk;
     arm(alloc, &mut disk, &life.stop)?;
@@ -50,34 +49,16 @@ pub(crate) fn run_store_life(
         Ok(mut engine) => {
             let opening = Opening::Open(engine.disk().calls());
             let replies = run_store_lines(alloc, &mut engine, &life.lines);
-            let split = has_begun_change(&engine);
             let disk = engine.into_disk();
             let replies = replies?;
-            let answers = StoreAnswers {
-                opening,
-                replies,
-                split,
-            };
-            Ok((answers, disk))
+            Ok((StoreAnswers { opening, replies }, disk))
         }
         Err((fault, disk)) => {
             let opening = refused_opening(&disk, fault);
             let replies = Vec::new(alloc);
-            let answers = StoreAnswers {
-                opening,
-                replies,
-                split: false,
-            };
-            Ok((answers, disk))
+            Ok((StoreAnswers { opening, replies }, disk))
         }
     }
-}
-
-// Whether a change of the tree's structure was begun in the life so far.
-fn has_begun_change(engine: &Engine<ModelDisk>) -> bool
-    ensures { result ≡ engine.now.split }
-{
-    engine.has_split()
 }
 
 // How an engine is opened by these options.
@@ -103,7 +84,7 @@ fn run_store_lines(
 ) -> Result<Vec<StoreReply>, AllocError>
     ensures answered { IfOk result (λ told. AnsweredBy IsStoreReply Stopped lines.now told.items) }
     ensures kept { IfOk result (λ told. (before : List Effect) → IsLife ⟦<ModelDisk as Disk>⟧ before nothing_shown engine.old
-        → (c : Files) → ⟦<ModelDisk as Disk>⟧.may_leave engine.new.disk c → Allowed engine.new.split before (shown_in nothing_shown lines.now told.items) c) }
+        → (c : Files) → ⟦<ModelDisk as Disk>⟧.may_leave engine.new.disk c → Allowed before (shown_in nothing_shown lines.now told.items) c) }
 {
     let mut replies = Vec::new(alloc);
     for line in lines {
@@ -174,7 +155,7 @@ fn is_stopped(reply: StoreReply) -> bool
 pub(crate) fn last_entries(alloc: Global, disk: ModelDisk) -> Result<Vec<(Key, Rid)>, Fault>
     requires working { ⟦<ModelDisk as Disk>⟧.failed disk ≡ false }
     requires synced { IsSynced ⟦<ModelDisk as Disk>⟧ disk }
-    ensures { (after : List Effect) → StandsFor false after (⟦<ModelDisk as Disk>⟧.seen disk)
+    ensures { (after : List Effect) → StandsFor after (⟦<ModelDisk as Disk>⟧.seen disk)
         → MatchResult result (λ found. found.items ≡ entries (apply_all empty after)) (λ fault. fault ≢ NotAStore) }
 {
     match Engine::open_or_create(alloc, disk, Config::default()) {

@@ -5,8 +5,9 @@ use Rattle.std.specs.FinMap.Entries.{find}
 use Rattle.im_types.specs.Keys.{Key, key_order}
 use Rattle.im_types.specs.Pages.{Entry}
 use Rattle.im_types.specs.Faults.{number_of}
+use Rattle.im_types.specs.Histories.{Base}
 use Rattle.im_types.specs.Changes.{Effect}
-use Rattle.im_types.specs.LogLaws.{bodies}
+use Rattle.im_types.specs.Structure.{settled}
 use Rattle.im_types.specs.Lives.{Shown, breaks}
 use Rattle.im_types.specs.declared.fault.Fault.{Fault}
 use Rattle.im_types.specs.declared.fault.Fault.TheVariants.{Failed, NoTransaction, KeyLength, PagesFull, Capacity, LogFull, Device, Memory, NotAStore}
@@ -16,7 +17,6 @@ use Rattle.im_disk.specs.declared.disk.Disk.{Ghosts}
 use Rattle.im_engine.specs.declared.engine.Engine.{Engine}
 use Rattle.im_engine.specs.declared.transaction.Transaction.{Transaction}
 use Rattle.im_tree.specs.Levels.{walk}
-use Rattle.im_one_page.specs.OnePage.{first_base}
 use Rattle.im_engine.specs.Running.{IsRunning}
 use Rattle.im_engine.specs.Changes.{IsIdle}
 use Rattle.im_engine.specs.Checks.{Where, LacksRoom, HasCause, FlushCause, ChangeCause, InsertCause, HasLogged, IsLate, OfOwn, OfAccess, OfInsert, OfDelete, OfCommit, IsRead}
@@ -176,7 +176,7 @@ module _ {D : Type 0} (d : Ghosts D) (old new : Engine D d) where
 
   -- what was found in a leaf, where a split was refused
   pub unread_edit : (key : Key) (e : Fault) (es : List Entry) → IsOfEdit e
-      → ((before : List Effect) (s : Shown) (r : IsRunning d before s old) → find key_order key es ≡ find key_order key (walk (bodies first_base r.now.log))) → IsRead d key (Refused e) old new es
+      → ((b : Base) (before : List Effect) (s : Shown) (r : IsRunning d b before s old) → find key_order key es ≡ find key_order key (walk (settled b r.now.log))) → IsRead d key (Refused e) old new es
   unread_edit key e es (inl is) found = subst (λ (f : Fault). IsRead d key (Refused f) old new es) (sym is) (record { shown = λ h. cc h; logged = λ h. found })
   unread_edit key e es (inr (inl is)) found = subst (λ (f : Fault). IsRead d key (Refused f) old new es) (sym is) (record { shown = λ h. cc h; logged = λ h. cc h })
   unread_edit key e es (inr (inr (inl is))) found = subst (λ (f : Fault). IsRead d key (Refused f) old new es) (sym is) (record { shown = λ h. cc h; logged = λ h. cc h })

@@ -4,7 +4,7 @@ use Rattle.std.specs.Prelude.{◌||◌, if◌then◌else◌, ◌==◌}
 use Rattle.im_types.specs.Answers.{Refused, Commit, Committed}
 use Rattle.im_types.specs.Changes.{Effect}
 use Rattle.im_types.specs.Faults.{number_of}
-use Rattle.im_types.specs.Histories.{History}
+use Rattle.im_types.specs.Histories.{Base, History}
 use Rattle.im_types.specs.Refusals.{not_a_store, memory, unfinished}
 use Rattle.im_types.specs.declared.fault.Fault.{Fault}
 use Rattle.im_types.specs.declared.fault.Fault.TheVariants.{Failed, NoTransaction, LogFull, Device}
@@ -18,10 +18,11 @@ use Rattle.im_engine.specs.declared.engine.Engine.{Engine}
 use Rattle.im_engine.specs.declared.transaction.Transaction.{Transaction}
 use Rattle.im_engine.specs.Stands.{Allowed}
 use Rattle.im_engine.specs.Running.{IsTransaction, HasShown, IsRunning, IsLife}
-use Rattle.im_engine.specs.Changes.{IsIdle, CommitKept}
+use Rattle.im_engine.specs.Joined.{CommitJoined}
+use Rattle.im_engine.specs.Changes.{IsIdle, Edited, CommitKept}
 use Rattle.im_engine.specs.Kept.{StepKept}
 use Rattle.im_engine.proofs.Shown.{same_shown}
-use Rattle.im_engine.proofs.Running.{allowed_as, leaves_more, lives_on, unchanged, goes_on, nothing_left, stops_now}
+use Rattle.im_engine.proofs.Running.{allowed_as, lives_on, unchanged, goes_on, nothing_left, stops_now}
 use Rattle.im_engine.proofs.Refusals.{refused_number}
 use Rattle.im_engine.proofs.Steps.{active_is}
 use Rattle.im_engine.proofs.Commits.{asks_none, nothing_asked, empty_made}
@@ -56,64 +57,64 @@ idle_here s (Some t) n next log h is = is.others n (λ e. h (sym e))
 
 module _ {D : Type 0} (d : Ghosts D) (before : List Effect) (s : Shown) where
   -- refused for its number, or by a failed engine
-  pub commit_refused : (number : ℕ) (fault : Fault) (e : Engine D d) → IsLife d before s e → (fault ≡ Failed) ⊎ (fault ≡ NoTransaction) → (fault ≡ Failed → e.failed ≡ true)
+  pub commit_refused : (number : ℕ) (fault : Fault) (e : Engine D d) (life : IsLife d before s e) → (fault ≡ Failed) ⊎ (fault ≡ NoTransaction) → (fault ≡ Failed → e.failed ≡ true)
       → (fault ≡ NoTransaction → (e.failed ≡ false) × IsIdle number e.going) → ((c : Files) → d.left_since e.disk (d.moment e.disk) c → d.may_leave e.disk c)
-      → StepKept d before s (Commit number) (Refused (number_of fault)) e e
+      → StepKept d before s (Commit number) (Refused (number_of fault)) e life e
   commit_refused number fault e life (inl is) failed none only_now =
       let fails = life.failed ∙ failed is in
-      subst (λ (f : Fault). StepKept d before s (Commit number) (Refused (number_of f)) e e) (sym is)
-      (unchanged d before s (Commit number) (Refused 10) (ap (λ (b : Bool). (if b then s else asks number false s).asked) fails) (λ x. cc x) e
-      (ap (λ (b : Bool). if b || 10 == memory || 10 == unfinished then s else record (asks number false s) { failed = breaks 10 }) fails) tt only_now life)
+      subst (λ (f : Fault). StepKept d before s (Commit number) (Refused (number_of f)) e life e) (sym is)
+      (unchanged d before s (Commit number) (Refused 10) (ap (λ (b : Bool). (if b then s else asks number false s).asked) fails) (λ x. cc x) e life
+      (ap (λ (b : Bool). if b || 10 == memory || 10 == unfinished then s else record (asks number false s) { failed = breaks 10 }) fails) tt (λ works. record { images = []; is = refl; all = tt }) only_now)
   commit_refused number fault e life (inr is) failed none only_now =
       let found = none is in
       let works = life.failed ∙ found.0 in
-      let r = life.running found.0 in
+      let r = (life.running found.0).1 in
       let same : (asks number false s).asked ≡ s.asked = asks_none s number false idle (idle_here s e.going number e.next r.now.log found.1 r.transaction) refl in
-      subst (λ (f : Fault). StepKept d before s (Commit number) (Refused (number_of f)) e e) (sym is)
-      (unchanged d before s (Commit number) (Refused 1) (cut_commit s number works ∙ same) (λ x. cc x) e
-      (refused_commit s number 1 works refl refl ∙ same_shown s false s.running (asks number false s).asked (sym works) (λ u. refl) same) tt only_now life)
+      subst (λ (f : Fault). StepKept d before s (Commit number) (Refused (number_of f)) e life e) (sym is)
+      (unchanged d before s (Commit number) (Refused 1) (cut_commit s number works ∙ same) (λ x. cc x) e life
+      (refused_commit s number 1 works refl refl ∙ same_shown s false s.running (asks number false s).asked (sym works) (λ u. refl) same) tt (λ on. record { images = []; is = refl; all = tt }) only_now)
 
   module _ (t : Transaction) (number : ℕ) (is : t.number ≡ number) (old new : Engine D d) (life : IsLife d before s old) (works : old.failed ≡ false) where
     -- nothing was logged
-    pub commit_empty : old.going ≡ Some t → t.last ≡ 0 → new.writer ≡ old.writer → new.disk ≡ old.disk → new.next ≡ old.next → new.split ≡ old.split → new.going ≡ None → new.failed ≡ false
-        → ((c : Files) → d.left_since old.disk (d.moment old.disk) c → d.may_leave old.disk c) → StepKept d before s (Commit number) Committed old new
-    commit_empty going zero_is writer disk next split gone works_on only_now =
-        let r = life.running works in
+    pub commit_empty : old.going ≡ Some t → t.last ≡ 0 → new.writer ≡ old.writer → new.disk ≡ old.disk → new.next ≡ old.next → new.going ≡ None → new.failed ≡ false
+        → ((c : Files) → d.left_since old.disk (d.moment old.disk) c → d.may_leave old.disk c) → StepKept d before s (Commit number) Committed old life new
+    commit_empty going zero_is writer disk next gone works_on only_now =
+        let r = (life.running works).1 in
         let a = active_is d before s old r t going in
         let shown = life.failed ∙ works in
-        subst (λ (n : ℕ). StepKept d before s (Commit n) Committed old new) is
-        (goes_on d before s (Commit t.number) Committed (cut_commit s t.number shown ∙ nothing_asked d before s t old r a zero_is false) (λ e. cc e) old new
-        (leaves_more d before old.split new.split (λ is. split ∙ is) s old.disk new.disk
-        (subst (λ (x : D). LeavesOnly d old.disk x (Allowed old.split before s)) (sym disk) (nothing_left d before old.disk (Allowed old.split before s) only_now (stops_now d before s old r))))
-        works_on shown tt (empty_made d before s t old r a zero_is new writer disk next split gone) (none_shown (shows s (Commit t.number) (Some Committed)) new.going gone))
+        subst (λ (n : ℕ). StepKept d before s (Commit n) Committed old life new) is
+        (goes_on d before s (Commit t.number) Committed (cut_commit s t.number shown ∙ nothing_asked d before s t old r a zero_is false) (λ e. cc e) old new life works
+        (subst (λ (x : D). LeavesOnly d old.disk x (Allowed before s)) (sym disk) (nothing_left d before old.disk (Allowed before s) only_now (stops_now d before s old r)))
+        works_on shown tt (empty_made d before s t old r a zero_is new writer disk next gone) (none_shown (shows s (Commit t.number) (Some Committed)) new.going gone))
 
-    module _ (result : Result Unit Fault) (kept : CommitKept d before s t.number old new result) where
-      within : LeavesOnly d old.disk new.disk (Allowed new.split before (shows s (Commit t.number) None))
-      within = weakened d old.disk new.disk (Allowed new.split before (asks t.number false s)) (Allowed new.split before (shows s (Commit t.number) None)) kept.stops
-          (λ told c h. allowed_as new.split before (asks t.number false s) (shows s (Commit t.number) None) c (cut_commit s t.number (life.failed ∙ works)) h)
+    module _ (result : Result Unit Fault) (kept : CommitKept d before s old (life.running works).1 t.number new result) where
+      within : LeavesOnly d old.disk new.disk (Allowed before (shows s (Commit t.number) None))
+      within = weakened d old.disk new.disk (Allowed before (asks t.number false s)) (Allowed before (shows s (Commit t.number) None)) kept.stops
+          (λ told c h. allowed_as before (asks t.number false s) (shows s (Commit t.number) None) c (cut_commit s t.number (life.failed ∙ works)) h)
 
       -- made
-      pub commit_ends : result ≡ Ok tt → new.failed ≡ false → new.going ≡ None → StepKept d before s (Commit number) Committed old new
+      pub commit_ends : result ≡ Ok tt → new.failed ≡ false → new.going ≡ None → StepKept d before s (Commit number) Committed old life new
       commit_ends ok works_on gone =
-          subst (λ (n : ℕ). StepKept d before s (Commit n) Committed old new) is (record {
-            after = lives_on d before (shows s (Commit t.number) (Some Committed)) new works_on (life.failed ∙ works)
-                (subst (λ (x : Result Unit Fault). OnOk x (IsRunning d before (with_running t.number idle (asks t.number true s)) new)) ok kept.ok) (none_shown (shows s (Commit t.number) (Some Committed)) new.going gone);
+          let made = subst (λ (x : Result Unit Fault). OnOk x (Edited d (life.running works).0 before (with_running t.number idle (asks t.number true s)) (CommitJoined t.number (life.running works).1.now.log) new)) ok kept.ok in
+          subst (λ (n : ℕ). StepKept d before s (Commit n) Committed old life new) is (record {
+            after = lives_on d before (shows s (Commit t.number) (Some Committed)) new works_on (life.failed ∙ works) made.running (none_shown (shows s (Commit t.number) (Some Committed)) new.going gone);
             stops = within;
             done = tt;
             cause = λ e. cc e;
+            joined = λ on. record { worked = works; edited = made };
           })
 
       -- refused, when it is not known whether it was made
       pub commit_breaks : (n : ℕ) → (n ≡ 7) ⊎ (n ≡ 8) → new.failed ≡ true → ((t : ℕ) (c : Files) → t ≤ d.moment new.disk → d.may_leave new.disk c → d.left_since new.disk t c)
-          → StepKept d before s (Commit number) (Refused n) old new
+          → StepKept d before s (Commit number) (Refused n) old life new
       commit_breaks n cause fails counts_now =
-          let r = life.running works in
+          let r = (life.running works).1 in
           let shown : shows s (Commit t.number) (Some (Refused n)) ≡ record (asks t.number false s) { failed = true } =
           ⊎_elim (λ e. broken e refl refl refl) (λ e. broken e refl refl refl) cause in
           let other : n ≢ not_a_store = ⊎_elim (λ e f. cc) (λ e f. cc) cause in
-          subst (λ (m : ℕ). StepKept d before s (Commit m) (Refused n) old new) is (record {
+          subst (λ (m : ℕ). StepKept d before s (Commit m) (Refused n) old life new) is (record {
             after = subst (λ (x : Shown). IsLife d before x new) (sym shown) (record {
-              stops = λ c left. left_now d old.disk new.disk (Allowed new.split before (asks t.number false s)) counts_now kept.stops r.stands.writing.stands.log_is.tells c left;
+              stops = λ c left. left_now d old.disk new.disk (Allowed before (asks t.number false s)) counts_now kept.stops r.stands.writing.stands.log_is.tells c left;
               failed = sym fails;
               running = λ on. let never : true ≡ false = sym fails ∙ on in cc;
               changed = λ on. let never : true ≡ false = sym fails ∙ on in cc;
@@ -121,6 +122,7 @@ module _ {D : Type 0} (d : Ghosts D) (before : List Effect) (s : Shown) where
             stops = within;
             done = tt;
             cause = λ e. other (refused_number e);
+            joined = λ on. let never : true ≡ false = sym fails ∙ on in cc;
           })
         where
           broken : {k : ℕ} → n ≡ k → (k == memory) ≡ false → (k == unfinished) ≡ false → breaks k ≡ true → shows s (Commit t.number) (Some (Refused n)) ≡ record (asks t.number false s) { failed = true }

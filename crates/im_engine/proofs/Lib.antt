@@ -8,6 +8,7 @@ pub mod Tells
 pub mod Steps
 pub mod Keys
 pub mod Structure
+pub mod SplitPlans
 pub mod StructureSteps
 pub mod SplitPuts
 pub mod Limits
@@ -17,3 +18,6 @@ pub mod Wanted
 pub mod Writes
 pub mod Lists
 pub mod Openings
+pub mod Joins
+pub mod StepFacts
+pub mod LivedLives

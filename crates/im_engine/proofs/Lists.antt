@@ -1,5 +1,5 @@
 -- Steps in turn, and entries.
-use Rattle.std.proofs.Common.{◌≡◌, inl, inr, ◌+◌, ◌<◌, ◌≤◌, ℕ, List, [], ◌∷◌, ◌++◌, length, take, get_or, Bool, true, false, Option, None, Some, Result, Ok, Err, IfOk, refl, sym, ap, subst, ◌∙◌, arith}
+use Rattle.std.proofs.Common.{◌≡◌, inl, inr, ◌+◌, ◌<◌, ◌≤◌, ℕ, List, [], ◌∷◌, ◌++◌, length, take, get_or, Bool, true, false, Option, None, Some, Result, Ok, Err, IfOk, refl, sym, ap, subst, ◌∙◌, append_assoc, append-nil, arith}
 use Rattle.std.proofs.lemmas.Bool.{cases_eq}
 use Rattle.std.proofs.lemmas.List.{take_more, length-take-le}
 use Rattle.std.specs.FinMap.{empty, entries}
@@ -9,17 +9,19 @@ use Rattle.im_types.specs.declared.step.Step.{Step}
 use Rattle.im_types.specs.declared.reply.Reply.{Reply}
 use Rattle.im_types.specs.Steps.{asked_by, told_by}
 use Rattle.im_types.specs.Pages.{Entry}
-use Rattle.im_types.specs.Changes.{Effect, apply_all}
+use Rattle.im_types.specs.Changes.{Effect, apply_all, seen}
+use Rattle.im_types.specs.Transactions.{committed}
+use Rattle.im_types.proofs.Changes.{apply_all_append}
 use Rattle.im_types.specs.Faults.{number_of}
-use Rattle.im_types.specs.Histories.{History}
-use Rattle.im_types.specs.Lives.{Shown, Running, breaks, idle, shows, shown_by}
+use Rattle.im_types.specs.Histories.{Base, History}
+use Rattle.im_types.specs.Lives.{Shown, Running, breaks, effects, idle, shows, shown_by}
 use Rattle.im_types.specs.declared.fault.Fault.{Fault}
 use Rattle.im_types.specs.declared.fault.Fault.TheVariants.{Memory}
 use Rattle.im_disk.specs.declared.disk.Disk.{Ghosts}
 use Rattle.im_disk.specs.Disk.{Files}
 use Rattle.im_disk.specs.Runs.{LeavesOnly}
 use Rattle.im_log.proofs.Above.{left_now}
-use Rattle.im_one_page.specs.OneAtATime.{IsIdleIn}
+use Rattle.im_serial.specs.OneAtATime.{IsIdleIn}
 use Rattle.im_serial.specs.Serial.{IsGoingIn}
 use Rattle.im_serial.specs.SerialLaws.{walk_at}
 use Rattle.im_serial.proofs.Promises.{tree_shows_effects}
@@ -76,38 +78,47 @@ active_here s (Some x) next log h t is = elim (cases_eq t x.number) [
 ]
 
 -- the entries of an engine
-pub entries_kept : {D : Type 0} (d : Ghosts D) (before : List Effect) (s : Shown) (e : Engine D d) (r : IsRunning d before s e) (list : List Entry) → list ≡ walk_at r.now.log → EntriesKept before s list
-entries_kept d before s e r list here =
-    let shows = tree_shows_effects r.now.log r.serial r.closed in
+pub entries_kept : {D : Type 0} (d : Ghosts D) {b : Base} (before : List Effect) (s : Shown) (e : Engine D d) (r : IsRunning d b before s e) (list : List Entry) → list ≡ walk_at b r.now.log → EntriesKept before s list
+entries_kept d {b = b} before s e r list here =
+    let shows = tree_shows_effects b r.now.log r.serial r.closed in
     record {
-      is = λ none. here ∙ shows.idle (all_idle s e.going e.next r.now.log r.transaction none) ∙ ap (λ (e : List Effect). entries (apply_all empty e)) r.says;
+      is = λ none.
+          here ∙ shows.idle (all_idle s e.going e.next r.now.log r.transaction none) ∙ ap (λ (es : List Effect). entries (apply_all b.map es)) (sym (append-nil (seen (committed r.now.log)))) ∙ map_is []
+          ∙ ap (λ (es : List Effect). entries (apply_all empty es)) (append-nil (before ++ effects s.asked));
       active = λ t going.
           let a = active_here s e.going e.next r.now.log r.transaction t going in
-          here ∙ shows.going t a.last a.undo_next (s.running t).effect a.going ∙ ap (λ (e : List Effect). entries (apply_all empty (e ++ (s.running t).effect ∷ []))) r.says;
+          here ∙ shows.going t a.last a.undo_next (s.running t).effect a.going ∙ map_is ((s.running t).effect ∷ []);
     }
+  where
+    -- the committed effects, and more behind them
+    map_is : (more : List Effect) → entries (apply_all b.map (seen (committed r.now.log) ++ more)) ≡ entries (apply_all empty ((before ++ effects s.asked) ++ more))
+    map_is more =
+        ap (λ m. entries (apply_all m (seen (committed r.now.log) ++ more))) (sym r.made)
+        ∙ ap (λ m. entries m) (sym (apply_all_append empty r.earlier (seen (committed r.now.log) ++ more)))
+        ∙ ap (λ (es : List Effect). entries (apply_all empty es)) (sym (append_assoc r.earlier (seen (committed r.now.log)) more) ∙ ap (λ (es : List Effect). es ++ more) r.commits.whole)
 
 -- a fact of a result that follows from another
 pub listed : {A E : Type 0} (r : Result A E) (P Q : A → Type 0) → IfOk r P → ((x : A) → P x → Q x) → IfOk r Q
 listed (Ok x) P Q h then = then x h
 listed (Err e) P Q h then = tt
 
-module _ {D : Type 0} (d : Ghosts D) (before : List Effect) (s : Shown) (old new : Engine D d) (life : IsLife d before s old) (going : new.going ≡ old.going) (leaves : LeavesOnly d old.disk new.disk (Allowed new.split before s)) where
+module _ {D : Type 0} (d : Ghosts D) (before : List Effect) (s : Shown) (old new : Engine D d) (life : IsLife d before s old) (going : new.going ≡ old.going) (leaves : LeavesOnly d old.disk new.disk (Allowed before s)) where
   -- a look after which the engine works
-  pub look_kept : old.failed ≡ false → new.failed ≡ false → IsRunning d before s new → LookKept d before s old new
+  pub look_kept : {b : Base} → old.failed ≡ false → new.failed ≡ false → IsRunning d b before s new → LookKept d before s old new
   look_kept works works_on running = record {
     after = subst (λ (b : Bool). IsLife d before (record s { failed = b }) new) (life.failed ∙ works ∙ sym works_on) (lives_on d before s new works_on (life.failed ∙ works) running (subst (λ (g : Option Transaction). HasShown s g) (sym going) (life.changed works)));
     stops = leaves;
   }
 
   -- one that was refused
-  pub look_refused : old.failed ≡ false → (fault : Fault) → IsOfWriter fault → (fault ≡ Memory → IsRunning d before s new) → new.failed ≡ breaks (number_of fault)
+  pub look_refused : old.failed ≡ false → (fault : Fault) → IsOfWriter fault → (fault ≡ Memory → (b : Base) × IsRunning d b before s new) → new.failed ≡ breaks (number_of fault)
       → ((t : ℕ) (c : Files) → t ≤ d.moment new.disk → d.may_leave new.disk c → d.left_since new.disk t c) → LookKept d before s old new
   look_refused works fault of again fails counts_now = by of
     where
       broken : new.failed ≡ true → LookKept d before s old new
       broken is = record {
         after = record {
-          stops = λ c left. left_now d old.disk new.disk (Allowed new.split before s) counts_now leaves (life.running works).stands.writing.stands.log_is.tells c left;
+          stops = λ c left. left_now d old.disk new.disk (Allowed before s) counts_now leaves (life.running works).1.stands.writing.stands.log_is.tells c left;
           failed = refl;
           running = λ on. let never : true ≡ false = sym is ∙ on in absurd (cc never);
           changed = λ on. let never : true ≡ false = sym is ∙ on in absurd (cc never);
@@ -117,6 +128,6 @@ module _ {D : Type 0} (d : Ghosts D) (before : List Effect) (s : Shown) (old new
 
       by : IsOfWriter fault → LookKept d before s old new
       by (inl is) = broken (fails ∙ ap (λ (f : Fault). breaks (number_of f)) is)
-      by (inr (inl is)) = look_kept works (fails ∙ ap (λ (f : Fault). breaks (number_of f)) is) (again is)
+      by (inr (inl is)) = look_kept works (fails ∙ ap (λ (f : Fault). breaks (number_of f)) is) (again is).1
       by (inr (inr (inl is))) = broken (fails ∙ ap (λ (f : Fault). breaks (number_of f)) is)
       by (inr (inr (inr is))) = broken (fails ∙ ap (λ (f : Fault). breaks (number_of f)) is)

@@ -1,8 +1,8 @@
 -- What steps and replies show.
-use Rattle.std.proofs.Common.{◌≡◌, ◌≢◌, ℕ, List, [], ◌∷◌, ◌++◌, Bool, true, false, refl, sym, ap, ◌∙◌, append-nil}
+use Rattle.std.proofs.Common.{◌≡◌, ◌≢◌, ℕ, List, [], ◌∷◌, ◌++◌, Bool, true, false, refl, sym, ap, ◌∙◌, append_assoc}
 use Rattle.std.specs.Prelude.{◌||◌, Option, None, Some, is_some}
 use Rattle.im_types.specs.Changes.{Effect}
-use Rattle.im_types.specs.Lives.{Asked, Shown, Running, Survives, effects}
+use Rattle.im_types.specs.Lives.{Asked, NoneAcked, Shown, Running, Survives, effects}
 
 -- what is shown is the same where its parts are
 pub same_shown : (s : Shown) (failed : Bool) (running : ℕ → Running) (asked : List Asked) → failed ≡ s.failed → ((u : ℕ) → running u ≡ s.running u) → asked ≡ s.asked
@@ -22,13 +22,20 @@ pub effects_more : (asked : List Asked) (x : Asked) → effects (asked ++ x ∷ 
 effects_more [] x = refl
 effects_more (a ∷ more) x = ap (λ (l : List Effect). a.effect ∷ l) (effects_more more x)
 
--- a life that keeps all that was asked
-pub keeps_all : (before : List Effect) (asked : List Asked) → Survives before asked (before ++ effects asked)
-keeps_all before asked = record { kept = asked; lost = []; all = append-nil asked; no_ack_lost = tt; is = refl }
+-- one more that was not acknowledged
+pub none_more : (rest : List Asked) (x : Asked) → NoneAcked rest → x.acked ≡ false → NoneAcked (rest ++ x ∷ [])
+none_more [] x none h = (h, tt)
+none_more (y ∷ rest) x none h = (none.0, none_more rest x none.1 h)
 
--- and one that loses the last, which was not acknowledged
-pub loses_last : (before : List Effect) (asked : List Asked) (x : Asked) → x.acked ≡ false → Survives before (asked ++ x ∷ []) (before ++ effects asked)
-loses_last before asked x h = record { kept = asked; lost = x ∷ []; all = refl; no_ack_lost = (h, tt); is = refl }
+-- a life that loses one more
+pub loses_more : (before : List Effect) (asked : List Asked) (x : Asked) → x.acked ≡ false → (after : List Effect) → Survives before asked after → Survives before (asked ++ x ∷ []) after
+loses_more before asked x h after s = record {
+  kept = s.kept;
+  lost = s.lost ++ x ∷ [];
+  all = sym (append_assoc s.kept s.lost (x ∷ [])) ∙ ap (λ (l : List Asked). l ++ x ∷ []) s.all;
+  no_ack_lost = none_more s.lost x s.no_ack_lost h;
+  is = s.is;
+}
 
 -- where an option has nothing
 pub none_of : {A : Type 0} (o : Option A) → is_some o ≡ false → o ≡ None

@@ -1,10 +1,10 @@
 -- Structure changes within a step.
-use Rattle.std.proofs.Common.{◌≡◌, ◌≢◌, ◌⊎◌, inl, inr, ⊎_elim, ℕ, ◌<◌, ◌≤◌, ◌^◌, List, [], length, Bool, true, false, Option, Some, None, Result, Ok, Err, IfOk, IfErr, refl, sym, ap, subst, ◌∙◌, arith}
+use Rattle.std.proofs.Common.{◌≡◌, ◌≢◌, ◌⊎◌, inl, inr, ⊎_elim, ℕ, ◌<◌, ◌≤◌, ◌^◌, List, [], length, true, Option, Some, Result, Ok, Err, IfOk, refl, sym, ap, subst, ◌∙◌, arith}
 use Rattle.std.proofs.Math.Path.{fun_ext}
 use Rattle.im_types.specs.Keys.{Key}
 use Rattle.im_types.specs.Pages.{Entry, Page}
-use Rattle.im_types.specs.Changes.{Effect, seen}
-use Rattle.im_types.specs.Histories.{History}
+use Rattle.im_types.specs.Histories.{Base}
+use Rattle.im_types.specs.Changes.{Effect}
 use Rattle.im_types.specs.LogLaws.{bodies}
 use Rattle.im_types.specs.Writer.{Writer}
 use Rattle.im_types.specs.Lives.{Shown}
@@ -13,9 +13,8 @@ use Rattle.im_types.specs.declared.fault.Fault.TheVariants.{Memory, Failed, LogF
 use Rattle.im_disk.specs.declared.disk.Disk.{Ghosts}
 use Rattle.im_disk.specs.Runs.{LeavesOnly}
 use Rattle.im_disk.proofs.Runs.{weakened}
-use Rattle.im_page.specs.Entry.{taken, size}
 use Rattle.im_page.specs.Split.{HasRoom}
-use Rattle.im_tree.specs.Levels.{Pages, height, walk}
+use Rattle.im_tree.specs.Levels.{Pages, walk}
 use Rattle.im_tree.specs.Good.{IsGoodTree}
 use Rattle.im_tree.specs.Search.{IsOnWay}
 use Rattle.im_flush.specs.PageWriter.{GoesOn}
@@ -28,21 +27,21 @@ use Rattle.im_alloc.proofs.Goings.{seen_stays}
 use Rattle.im_change.specs.Changes as changes
 use Rattle.im_split.specs.Plan as splits
 use Rattle.im_delete.specs.Plan as deletes
-use Rattle.im_one_page.specs.OnePage.{first_base, AreBelow}
-use Rattle.im_serial.proofs.Promises.{images_change_nothing, changes_go_on, stops_keep_the_committed}
+use Rattle.im_serial.specs.Store.{AreBelow}
+use Rattle.im_serial.proofs.Promises.{commits_stay, images_change_nothing, changes_go_on}
 use Rattle.im_engine.specs.declared.engine.Engine.{Engine}
 use Rattle.im_engine.specs.declared.transaction.Transaction.{Transaction}
 use Rattle.im_engine.specs.Stands.{Allowed}
-use Rattle.im_engine.specs.Running.{IsActive, IsTransaction, IsRunning}
-use Rattle.im_engine.specs.Changes.{Looked, LeafLooked}
-use Rattle.im_engine.specs.Structure.{NumbersEnd, AreImages, AreForKey, AreForDrop, PlanKept, DeletePlanKept, Restructured, HasLeaf, SplitKept}
+use Rattle.im_engine.specs.Running.{IsTransaction, IsRunning}
+use Rattle.im_engine.specs.Changes.{Rests, LeafLooked}
+use Rattle.im_engine.specs.Structure.{IsUsedUp, AreImages, AreForKey, PlanKept, DeletePlanKept, Restructured, LeafHeld, HasSplitLeaf, SplitKept}
 use Rattle.im_engine.specs.Checks.{LacksRoom}
 use Rattle.im_engine.proofs.Refusals.{handed_on}
 use Rattle.im_engine.proofs.Checks.{IsOfWriter, IsOfDrop, drop_wants, drop_capacity}
 use Rattle.im_engine.proofs.Shown.{some_inj}
-use Rattle.im_engine.proofs.Stands.{covered_allowed}
-use Rattle.im_engine.proofs.Running.{bodies_are, bodies_still, leaf_now, runs_on, runs_goes, runs_evicted, grown_stops, leaves_more}
+use Rattle.im_engine.proofs.Running.{bodies_are, bodies_still, leaf_now, left_on, runs_on, runs_goes, runs_evicted, grown_stops}
 use Rattle.im_engine.proofs.Steps.{active_is}
+use Rattle.im_engine.proofs.Keys.{change_then, images_as_change}
 
 -- a fault as it is answered behind a structure change's first record is that of no store only where it was
 pub not_late : (e answer : Fault) → IsOfWriter e → (e ≡ Memory → answer ≡ Failed) → (e ≢ Memory → answer ≡ e) → e ≢ NotAStore → answer ≢ NotAStore
@@ -57,6 +56,15 @@ late_full e answer memory others (inl is) full = is
 late_full e answer memory others (inr (inl is)) full = absurd (let never : Failed ≡ LogFull = sym (memory is) ∙ full in cc never)
 late_full e answer memory others (inr (inr (inl is))) full = sym (others (λ w. let never : NotAStore ≡ Memory = sym is ∙ w in cc never)) ∙ full
 late_full e answer memory others (inr (inr (inr is))) full = sym (others (λ w. let never : Device ≡ Memory = sym is ∙ w in cc never)) ∙ full
+
+-- of a structure change that was begun
+pub change_not_late : (e answer : Fault) → (e ≡ Failed) ⊎ IsOfWriter e → (e ≡ Memory → answer ≡ Failed) → (e ≢ Memory → answer ≡ e) → e ≢ NotAStore → answer ≢ NotAStore
+change_not_late e answer (inl is) memory others not store = not (sym (others (λ w. let never : Failed ≡ Memory = sym is ∙ w in cc never)) ∙ store)
+change_not_late e answer (inr of) memory others not store = not_late e answer of memory others not store
+
+pub change_late_full : (e answer : Fault) → (e ≡ Memory → answer ≡ Failed) → (e ≢ Memory → answer ≡ e) → (e ≡ Failed) ⊎ IsOfWriter e → answer ≡ LogFull → e ≡ LogFull
+change_late_full e answer memory others (inl is) full = sym (others (λ w. let never : Failed ≡ Memory = sym is ∙ w in cc never)) ∙ full
+change_late_full e answer memory others (inr of) full = late_full e answer memory others of full
 
 -- a refusal of some result
 abbrev pub err_in : (A : Type 0) → Fault → Result A Fault
@@ -73,78 +81,43 @@ pub some_images : {P : Type 0} (images : List Numbered) → 1 ≤ length images 
 some_images images some (inl none) = absurd (let long : 1 ≤ length {A = Numbered} [] = subst (λ (l : List Numbered). 1 ≤ length l) none some in omega (arith, long))
 some_images images some (inr p) = p
 
-module _ {D : Type 0} (d : Ghosts D) (before : List Effect) (s : Shown) (old : Engine D d) (r : IsRunning d before s old) where
-  module _ (new : Engine D d) (going : new.going ≡ old.going) (next : new.next ≡ old.next) (split : new.split ≡ old.split) where
-    more : old.split ≡ true → new.split ≡ true
-    more is = split ∙ is
-
+module _ {D : Type 0} (d : Ghosts D) {b : Base} (before : List Effect) (s : Shown) (old : Engine D d) (r : IsRunning d b before s old) where
+  module _ (new : Engine D d) (going : new.going ≡ old.going) (next : new.next ≡ old.next) where
     -- images over pages that are as they were
-    are_images : (t : Writer) (on : GoesOn d first_base 0 r.now old.disk t new.writer new.disk) (images : List Numbered) → IsGoodTree (alloc.seen r.now images) []
+    unfoldable pub are_images : (t : Writer) (on : GoesOn d b 0 r.now old.disk t new.writer new.disk) (images : List Numbered) → IsGoodTree (alloc.seen r.now images) []
         → walk (alloc.seen r.now images) ≡ walk (alloc.bodies r.now) → AreImages d before s old r images new
     unfolding runs_goes runs_on
     are_images t on images good same =
-        let still = (images_change_nothing r.now.log t.log on.goes.keeps.log r.serial).bodies in
-        let stays = seen_stays first_base r.now t on.goes.keeps images in
+        let still = (images_change_nothing b r.now.log t.log on.goes.keeps.log r.serial).bodies in
+        let stays = seen_stays b r.now t on.goes.keeps images in
         record {
-          running = runs_goes d before s old r new going next split t on;
+          running = runs_goes d before s old r new going next t on;
           good = subst (λ (pages : Pages). IsGoodTree pages []) (sym stays) good;
           same = ap (λ (pages : Pages). walk pages) stays ∙ same ∙ ap (λ (pages : Pages). walk pages) (bodies_are d before s old r) ∙ ap (λ (pages : Pages). walk pages) (sym still);
           still = still;
+          grows = on.goes.keeps.log;
         }
-
-    -- the plan of a split
-    pub plan_kept : (key : Key) (result : Result (List Numbered) Fault) → splits.PlanKept d first_base 0 r.now key (Some old.max_pages) old.disk new.writer new.disk result → PlanKept d before s old r key new result
-    unfolding are_images runs_goes runs_on
-    plan_kept key (Ok images) kept =
-        let p = kept.ok in
-        let stays = seen_stays first_base r.now p.now p.on.goes.keeps images in
-        record {
-          ok = record {
-            are = are_images p.now p.on images p.good p.same;
-            fits = subst (λ (pages : Pages). splits.FitsInLeaf pages key) (sym stays) p.fits;
-            some = λ q way lacks.
-                p.some q (subst (λ (pages : Pages). IsOnWay pages 0 key q) (sym (bodies_are d before s old r)) way)
-                (room_not (alloc.bodies r.now q).entries key (subst (λ (pages : Pages). LacksRoom (pages q).entries key) (sym (bodies_are d before s old r)) lacks));
-            within = λ some. subst (λ (pages : Pages). splits.IsWithin pages key old.max_pages) (bodies_are d before s old r) (some_images images some (p.within old.max_pages refl));
-          };
-          again = tt;
-          stops = leaves_more d before old.split new.split more s old.disk new.disk (grown_stops d before s old r new.disk kept.stops);
-          cause = tt;
-          full = tt;
-          used_up = tt;
-        }
-    plan_kept key (Err e) kept = record {
-      ok = tt;
-      again = λ is. runs_evicted d before s old r new going next split (kept.again (⊎_elim (λ x. inl x) (λ x. inr (inr (inr x))) is));
-      stops = leaves_more d before old.split new.split more s old.disk new.disk (grown_stops d before s old r new.disk kept.stops);
-      cause = kept.cause;
-      full = λ is.
-          let f = kept.full is in
-          subst (λ (pages : Pages). splits.IsOver pages key old.max_pages) (bodies_are d before s old r)
-          (subst (λ (m : ℕ). splits.IsOver (alloc.bodies r.now) key m) (sym (some_inj 0 old.max_pages f.0 f.1)) f.2);
-      used_up = λ is. ⊎_elim (λ x. inl (record { writer = r.now; says = bodies_are d before s old r; end = x })) (λ x. inr (ap (λ (pages : Pages). height pages) (sym (bodies_are d before s old r)) ∙ x)) (kept.used_up is);
-    }
 
     -- the plan of a deletion
-    pub delete_plan_kept : (p : ℕ) (result : Result (List Numbered) Fault) → deletes.DeleteKept d first_base 0 r.now p old.disk new.writer new.disk result → DeletePlanKept d before s old r new result
+    pub delete_plan_kept : (p : ℕ) (result : Result (List Numbered) Fault) → deletes.DeleteKept d b 0 r.now p old.disk new.writer new.disk result → DeletePlanKept d before s old r new result
     delete_plan_kept p (Ok images) kept = record {
       ok = record { are = are_images kept.ok.now kept.ok.on images kept.ok.good kept.ok.same; some = kept.ok.some };
       again = tt;
-      stops = leaves_more d before old.split new.split more s old.disk new.disk (grown_stops d before s old r new.disk kept.stops);
+      stops = grown_stops d before s old r new.disk kept.stops;
       cause = tt;
     }
     delete_plan_kept p (Err e) kept = record {
       ok = tt;
-      again = λ is. runs_evicted d before s old r new going next split (kept.again (inl is));
-      stops = leaves_more d before old.split new.split more s old.disk new.disk (grown_stops d before s old r new.disk kept.stops);
+      again = λ is. runs_evicted d before s old r new going next (kept.again (inl is));
+      stops = grown_stops d before s old r new.disk kept.stops;
       cause = kept.cause;
     }
 
   -- ---- a structure change
 
   -- what it asks
-  pub may_change : (t : Transaction) → old.going ≡ Some t → (images : List Numbered) → 1 ≤ length images → IsGoodTree (alloc.seen r.now images) [] → walk (alloc.seen r.now images) ≡ walk (bodies first_base r.now.log)
-      → changes.MayChange d first_base 0 r.now r.redo_end images t.number t.last t.undo_next old.writer old.disk
+  pub may_change : (t : Transaction) → old.going ≡ Some t → (images : List Numbered) → 1 ≤ length images → IsGoodTree (alloc.seen r.now images) [] → walk (alloc.seen r.now images) ≡ walk (bodies b r.now.log)
+      → changes.MayChange d b 0 r.now r.redo_end images t.number t.last t.undo_next old.writer old.disk
   may_change t going images some good same =
       let a = active_is d before s old r t going in
       record {
@@ -161,35 +134,32 @@ module _ {D : Type 0} (d : Ghosts D) (before : List Effect) (s : Shown) (old : E
       }
 
   -- a stop within it
-  pub change_stops : (t : Transaction) (disk : D) → changes.LeavesChange d first_base 0 r.now t.number old.disk disk → LeavesOnly d old.disk disk (Allowed true before s)
+  pub change_stops : (t : Transaction) (disk : D) → changes.LeavesChange d b 0 r.now t.number old.disk disk → LeavesOnly d old.disk disk (Allowed before s)
   change_stops t disk run =
-      weakened d old.disk disk (changes.LeftByChange d first_base 0 r.now t.number) (Allowed true before s) run
+      weakened d old.disk disk (changes.LeftByChange d b 0 r.now t.number) (Allowed before s) run
       (λ told c left.
-      let keeps = changes_go_on t.number r.now.log left.high left.grows r.serial left.lawful in
-      covered_allowed true before s r.now.durable left.high keeps.log (λ f. let never : true ≡ false = f in cc never) (r.durable ∙ sym keeps.committed) (ap seen keeps.committed ∙ r.says) c left.covered)
+      let keeps = changes_go_on b t.number r.now.log left.high left.grows r.serial left.lawful in
+      left_on d before s old r left.high keeps.log keeps.committed c left.covered)
 
-  module _ (new : Engine D d) (next : new.next ≡ old.next) (begun : new.split ≡ true) (t : Transaction) (going : old.going ≡ Some t) where
-    never_here : {A : Type 0} → new.split ≡ false → A
-    never_here is = absurd (let never : true ≡ false = sym begun ∙ is in cc never)
-
+  module _ (new : Engine D d) (next : new.next ≡ old.next) (t : Transaction) (going : old.going ≡ Some t) where
     -- behind it
-    pub restructured : (images : List Numbered) (lsn : ℕ) → changes.Changed d first_base 0 r.now r.redo_end images t.number t.undo_next lsn old.disk new.writer new.disk
-        → new.going ≡ Some (record { number = t.number; last = lsn; undo_next = t.undo_next }) → Restructured d before s old r images new
+    pub restructured : (images : List Numbered) (lsn : ℕ) → changes.Changed d b 0 r.now r.redo_end images t.number t.undo_next lsn old.disk new.writer new.disk
+        → new.going ≡ Some (record { number = t.number; last = lsn; undo_next = t.undo_next }) → Restructured d before s old r t.number images new
     restructured images lsn made now =
         let a = active_is d before s old r t going in
-        let keeps = changes_go_on t.number r.now.log made.now.log made.grows r.serial made.lawful in
-        let all = stops_keep_the_committed r.now.durable made.now.log made.now.durable (record { from = made.durable; upto = made.stands.writing.stands.kept.front }) keeps.log (r.durable ∙ sym keeps.committed) in
-        let running : IsRunning d before s new = record {
+        let keeps = changes_go_on b t.number r.now.log made.now.log made.grows r.serial made.lawful in
+        let running : IsRunning d b before s new = record {
+          start = r.start;
+          earlier = r.earlier;
+          made = r.made;
           now = made.now;
           stands = made.stands;
           redo_end = r.redo_end;
           over = made.over;
           serial = keeps.log;
           closed = made.closed;
-          never = never_here;
-          begun = λ t h. keeps.split None (changes.image_marks (length images) images) made.order h;
-          says = ap seen keeps.committed ∙ r.says;
-          durable = all.committed;
+          commits = commits_stay b r.earlier before s.asked r.now.durable r.now.log made.now.durable made.now.log keeps.log r.commits keeps.committed
+              (record { from = made.durable; upto = made.stands.writing.stands.kept.front });
           numbered = subst (λ (n : ℕ). n ≤ 2 ^ 62 → AreBelow n made.now.log) (sym next) (λ le. keeps.below old.next a.number (r.numbered le));
           transaction = subst (λ (g : Option Transaction). IsTransaction s g new.next made.now.log) (sym now) (record {
             effect = a.effect;
@@ -199,68 +169,76 @@ module _ {D : Type 0} (d : Ghosts D) (before : List Effect) (s : Shown) (old : E
             others = a.others;
           });
         } in
-        record { running = running; pages = sym (bodies_are d before s new running) ∙ fun_ext made.pages }
+        record { running = running; grows = made.grows; some = λ none. let never = sym made.order ∙ none in cc never; pages = sym (bodies_are d before s new running) ∙ fun_ext made.pages }
 
-module _ {D : Type 0} (d : Ghosts D) (before : List Effect) (s : Shown) (old : Engine D d) (r : IsRunning d before s old) where
+module _ {D : Type 0} (d : Ghosts D) {b : Base} (before : List Effect) (s : Shown) (old : Engine D d) (r : IsRunning d b before s old) where
   -- a leaf that was found is held, with the walk that was there
-  pub has_leaf : (key : Key) (p : ℕ) (new : Engine D d) → LeafLooked d before s old r key p new → HasLeaf d before s old r key p new
+  pub has_leaf : (key : Key) (p : ℕ) (new : Engine D d) → LeafLooked d before s old r key p new → LeafHeld d before s old r key p new
   has_leaf key p new l = record {
-    running = l.looked.running;
-    page = l.looked.page;
-    way = leaf_now d before s old r key p new l;
-    same = ap (λ (pages : Pages). walk pages) (bodies_still d before s old r p new l.looked);
+    leaf = record {
+      running = l.looked.running;
+      page = l.looked.page;
+      way = leaf_now d before s old r key p new l;
+      same = ap (λ (pages : Pages). walk pages) (bodies_still d before s old r p new l.looked);
+    };
+    grows = l.looked.grows;
   }
 
   -- it has room, where the key fits there
-  pub leaf_fits : (key : Key) (p : ℕ) (new : Engine D d) (l : LeafLooked d before s old r key p new) → splits.FitsInLeaf (bodies first_base r.now.log) key
+  pub leaf_fits : (key : Key) (p : ℕ) (new : Engine D d) (l : LeafLooked d before s old r key p new) → splits.FitsInLeaf (bodies b r.now.log) key
       → LacksRoom (pools.page_at new.writer.pool p).body.entries key → ⊥
   leaf_fits key p new l fits lacks =
-      room_not (bodies first_base r.now.log p).entries key
+      room_not (bodies b r.now.log p).entries key
       (subst (λ (g : Page). LacksRoom g.body.entries key) (l.looked.page ∙ l.looked.still p) lacks) (fits p l.way)
 
   -- a leaf behind a split, seen from before it
-  pub split_leaf : (key : Key) (images : List Numbered) (mid : Engine D d) (planned : AreForKey d before s old r key images mid) (then : Engine D d)
-      (made : Restructured d before s mid planned.are.running images then) (p : ℕ) (new : Engine D d) → HasLeaf d before s then made.running key p new → HasLeaf d before s old r key p new
-  split_leaf key images mid planned then made p new leaf = record {
-    running = leaf.running;
-    page = leaf.page;
-    way = leaf.way;
-    same = leaf.same ∙ ap (λ (pages : Pages). walk pages) made.pages ∙ planned.are.same ∙ ap (λ (pages : Pages). walk pages) planned.are.still;
+  pub split_leaf : (t : ℕ) (key : Key) (images : List Numbered) (mid : Engine D d) (planned : AreForKey d before s old r key images mid) (then : Engine D d)
+      (made : Restructured d before s mid planned.are.running t images then) (p : ℕ) (new : Engine D d) → LeafHeld d before s then made.running key p new → HasSplitLeaf d before s old r t key p new
+  split_leaf t key images mid planned then made p new held = record {
+    leaf = record {
+      running = held.leaf.running;
+      page = held.leaf.page;
+      way = held.leaf.way;
+      same = held.leaf.same ∙ ap (λ (pages : Pages). walk pages) made.pages ∙ planned.are.same ∙ ap (λ (pages : Pages). walk pages) planned.are.still;
+    };
+    grows = change_then t r.now.log made.running.now.log held.leaf.running.now.log
+        (change_then t r.now.log planned.are.running.now.log made.running.now.log (images_as_change b t r.now.log planned.are.running.now.log planned.are.grows) made.grows)
+        (images_as_change b t made.running.now.log held.leaf.running.now.log held.grows);
   }
 
   -- in which the key fits
-  pub split_fits : (key : Key) (images : List Numbered) (mid : Engine D d) (planned : AreForKey d before s old r key images mid) (then : Engine D d)
-      (made : Restructured d before s mid planned.are.running images then) → splits.FitsInLeaf (bodies first_base made.running.now.log) key
-  split_fits key images mid planned then made = subst (λ (pages : Pages). splits.FitsInLeaf pages key) (sym made.pages) planned.fits
+  pub split_fits : (t : ℕ) (key : Key) (images : List Numbered) (mid : Engine D d) (planned : AreForKey d before s old r key images mid) (then : Engine D d)
+      (made : Restructured d before s mid planned.are.running t images then) → splits.FitsInLeaf (bodies b made.running.now.log) key
+  split_fits t key images mid planned then made = subst (λ (pages : Pages). splits.FitsInLeaf pages key) (sym made.pages) planned.fits
 
 -- no result where it is a refusal
 pub not_ok : {A : Type 0} (result : Result A Fault) (e : Fault) (P : A → Type 0) → IsErrAnd result (λ x. x ≡ e) → IfOk result P
 not_ok (Ok x) e P is = absurd is
 not_ok (Err x) e P is = tt
 
-module _ {D : Type 0} (d : Ghosts D) (before : List Effect) (s : Shown) (old : Engine D d) (r : IsRunning d before s old) (key : Key) (new : Engine D d) (result : Result (Transaction × Frame) Fault) where
+module _ {D : Type 0} (d : Ghosts D) {b : Base} (before : List Effect) (s : Shown) (old : Engine D d) (r : IsRunning d b before s old) (t : ℕ) (key : Key) (new : Engine D d) (result : Result (Transaction × Frame) Fault) where
   -- the plan of a split was refused
-  pub plan_refused : (plan : Result (List Numbered) Fault) (e : Fault) → plan ≡ Err e → IsErrAnd result (λ x. x ≡ e) → PlanKept d before s old r key new plan → SplitKept d before s old r key new result
+  pub plan_refused : (plan : Result (List Numbered) Fault) (e : Fault) → plan ≡ Err e → IsErrAnd result (λ x. x ≡ e) → PlanKept d before s old r key new plan → SplitKept d before s old r t key new result
   plan_refused plan e is here kept =
       let k : PlanKept d before s old r key new (Err e) = subst (λ (x : Result (List Numbered) Fault). PlanKept d before s old r key new x) is kept in
       record {
-        ok = not_ok result e (λ x. HasLeaf d before s old r key x.1.number new) here;
-        again = handed_on result e (λ x. (x ≡ Memory) ⊎ (x ≡ PagesFull) → IsRunning d before s new) here k.again;
+        ok = not_ok result e (λ x. HasSplitLeaf d before s old r t key x.1.number new) here;
+        again = handed_on result e (λ x. (x ≡ Memory) ⊎ (x ≡ PagesFull) → Rests d before s old r new) here k.again;
         stops = k.stops;
         cause = handed_on result e (λ x. x ≢ NotAStore) here k.cause;
-        within = not_ok result e (λ x. splits.IsWithin (bodies first_base r.now.log) key old.max_pages) here;
-        full = handed_on result e (λ x. x ≡ PagesFull → splits.IsOver (bodies first_base r.now.log) key old.max_pages) here k.full;
-        used_up = handed_on result e (λ x. x ≡ Capacity → NumbersEnd (bodies first_base r.now.log) ⊎ (height (bodies first_base r.now.log) ≡ 255)) here k.used_up;
+        within = not_ok result e (λ x. splits.IsWithin (bodies b r.now.log) key old.max_pages) here;
+        full = handed_on result e (λ x. x ≡ PagesFull → splits.IsOver (bodies b r.now.log) key old.max_pages) here k.full;
+        used_up = handed_on result e (λ x. x ≡ Capacity → IsUsedUp (bodies b r.now.log) key) here k.used_up;
       }
 
   -- or what follows was
-  pub split_refused : (e : Fault) → IsOfDrop e → IsErrAnd result (λ x. x ≡ e) → LeavesOnly d old.disk new.disk (Allowed new.split before s) → e ≢ NotAStore → SplitKept d before s old r key new result
+  pub split_refused : (e : Fault) → IsOfDrop e → IsErrAnd result (λ x. x ≡ e) → LeavesOnly d old.disk new.disk (Allowed before s) → e ≢ NotAStore → SplitKept d before s old r t key new result
   split_refused e of here leaves cause = record {
-    ok = not_ok result e (λ x. HasLeaf d before s old r key x.1.number new) here;
-    again = handed_on result e (λ x. (x ≡ Memory) ⊎ (x ≡ PagesFull) → IsRunning d before s new) here (drop_wants e of);
+    ok = not_ok result e (λ x. HasSplitLeaf d before s old r t key x.1.number new) here;
+    again = handed_on result e (λ x. (x ≡ Memory) ⊎ (x ≡ PagesFull) → Rests d before s old r new) here (drop_wants e of);
     stops = leaves;
     cause = handed_on result e (λ x. x ≢ NotAStore) here cause;
-    within = not_ok result e (λ x. splits.IsWithin (bodies first_base r.now.log) key old.max_pages) here;
-    full = handed_on result e (λ x. x ≡ PagesFull → splits.IsOver (bodies first_base r.now.log) key old.max_pages) here (λ is. drop_wants e of (inr is));
-    used_up = handed_on result e (λ x. x ≡ Capacity → NumbersEnd (bodies first_base r.now.log) ⊎ (height (bodies first_base r.now.log) ≡ 255)) here (drop_capacity e of);
+    within = not_ok result e (λ x. splits.IsWithin (bodies b r.now.log) key old.max_pages) here;
+    full = handed_on result e (λ x. x ≡ PagesFull → splits.IsOver (bodies b r.now.log) key old.max_pages) here (λ is. drop_wants e of (inr is));
+    used_up = handed_on result e (λ x. x ≡ Capacity → IsUsedUp (bodies b r.now.log) key) here (drop_capacity e of);
   }

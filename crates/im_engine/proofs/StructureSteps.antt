@@ -1,54 +1,54 @@
 -- The parts of a structure change within a step, put together.
-use Rattle.std.proofs.Common.{◌≡◌, ◌≢◌, ◌⊎◌, inl, inr, ℕ, ◌≤◌, List, [], length, Bool, true, false, Option, Some, None, Result, Ok, Err, sym, ap, subst, ◌∙◌, arith}
+use Rattle.std.proofs.Common.{◌≡◌, ◌≢◌, ◌⊎◌, inl, inr, ⊎_elim, ℕ, ◌≤◌, List, [], length, true, false, Option, Some, None, Result, Ok, Err, sym, ap, ◌∙◌}
 use Rattle.std.specs.Result.{IsErrAnd}
-use Rattle.std.specs.FinMap.Entries.{find}
-use Rattle.im_types.specs.Keys.{Key, key_order}
-use Rattle.im_types.specs.Pages.{Entry, Page}
-use Rattle.im_types.specs.Changes.{Effect, Put}
+use Rattle.im_types.specs.Keys.{Key}
+use Rattle.im_types.specs.Pages.{Page}
+use Rattle.im_types.specs.Histories.{Base}
+use Rattle.im_types.specs.Changes.{Effect}
 use Rattle.im_types.specs.LogLaws.{bodies}
-use Rattle.im_types.specs.Lives.{Shown, adds}
+use Rattle.im_types.specs.Lives.{Shown}
 use Rattle.im_types.specs.declared.fault.Fault.{Fault}
-use Rattle.im_types.specs.declared.fault.Fault.TheVariants.{Memory, Failed, LogFull, NotAStore, Device, PagesFull, Capacity}
+use Rattle.im_types.specs.declared.fault.Fault.TheVariants.{Memory, PagesFull}
 use Rattle.im_disk.specs.declared.disk.Disk.{Ghosts}
 use Rattle.im_disk.specs.Runs.{LeavesOnly}
 use Rattle.im_pool.specs.Pool as pools
 use Rattle.im_pool.specs.declared.frame.Frame.{Frame}
-use Rattle.im_tree.specs.Levels.{Pages, walk}
 use Rattle.im_smo.specs.Images.{Numbered}
-use Rattle.im_one_page.specs.OnePage.{first_base, HasRoom}
 use Rattle.im_engine.specs.declared.engine.Engine.{Engine}
 use Rattle.im_engine.specs.declared.transaction.Transaction.{Transaction}
 use Rattle.im_engine.specs.Stands.{Allowed}
 use Rattle.im_engine.specs.Running.{IsRunning}
-use Rattle.im_engine.specs.Changes.{LeafKept, EditKept}
-use Rattle.im_engine.specs.Structure.{AreForKey, AreForDrop, PlanKept, DeletePlanKept, DropPlanKept, Restructured, StructureKept, HasLeaf, RoomKept, SplitKept, LimitKept}
-use Rattle.im_engine.specs.Checks.{LacksRoom}
+use Rattle.im_change.specs.Changes.{GrowsByChange}
+use Rattle.im_engine.specs.Changes.{Rests, LeafKept, Edited}
+use Rattle.im_engine.specs.Structure.{PlanKept, DeletePlanKept, DropPlanKept, Restructured, StructureKept, RoomKept, SplitKept, DropKept}
 use Rattle.im_engine.proofs.Checks.{IsOfDrop, IsOfWriter, not_full, drop_wants}
+use Rattle.im_flush.proofs.Growing.{grows_then}
+use Rattle.im_engine.proofs.Keys.{images_as_change, change_then, none_in_front}
 use Rattle.im_engine.proofs.Running.{bodies_still, leaves_then}
 use Rattle.im_engine.proofs.Structure.{split_leaf, split_fits, split_refused}
 
-module _ {D : Type 0} (d : Ghosts D) (before : List Effect) (s : Shown) (old : Engine D d) (r : IsRunning d before s old) where
+module _ {D : Type 0} (d : Ghosts D) {b : Base} (before : List Effect) (s : Shown) (old : Engine D d) (r : IsRunning d b before s old) where
   -- ---- the split of a leaf
 
   module _ (key : Key) (images : List Numbered) (mid : Engine D d) (plan : PlanKept d before s old r key mid (Ok images)) (then : Engine D d)
-      (change : LeavesOnly d mid.disk then.disk (Allowed then.split before s)) (begun : then.split ≡ true) where
+      (change : LeavesOnly d mid.disk then.disk (Allowed before s)) where
     -- stops up to the end of the change
-    pub change_left : LeavesOnly d old.disk then.disk (Allowed then.split before s)
-    change_left = leaves_then d before mid.split then.split (λ _. begun) s old.disk mid.disk then.disk plan.stops change
+    pub change_left : LeavesOnly d old.disk then.disk (Allowed before s)
+    change_left = leaves_then d before s old.disk mid.disk then.disk plan.stops change
 
-    module _ (made : Restructured d before s mid plan.ok.are.running images then) (new : Engine D d) (split : new.split ≡ then.split) where
+    module _ (t : ℕ) (made : Restructured d before s mid plan.ok.are.running t images then) (new : Engine D d) where
       -- the leaf was not found
-      pub leaf_refused : (f : Fault) → RoomKept d before s then made.running key new (Err f) → IsOfDrop f → (result : Result (Transaction × Frame) Fault) → IsErrAnd result (λ e. e ≡ f) → SplitKept d before s old r key new result
+      pub leaf_refused : (f : Fault) → RoomKept d before s then made.running key new (Err f) → IsOfDrop f → (result : Result (Transaction × Frame) Fault) → IsErrAnd result (λ e. e ≡ f) → SplitKept d before s old r t key new result
       leaf_refused f room of result here =
-          split_refused d before s old r key new result f of here (leaves_then d before then.split new.split (λ is. split ∙ is) s old.disk then.disk new.disk change_left room.stops)
-          (room.cause (split_fits d before s old r key images mid plan.ok then made))
+          split_refused d before s old r t key new result f of here (leaves_then d before s old.disk then.disk new.disk change_left room.stops)
+          (room.cause (split_fits d before s old r t key images mid plan.ok then made))
 
       -- it has room
-      pub leaf_made : 1 ≤ length images → (t : Transaction) (frame : Frame) → RoomKept d before s then made.running key new (Ok frame) → SplitKept d before s old r key new (Ok (t, frame))
-      leaf_made some t frame room = record {
-        ok = split_leaf d before s old r key images mid plan.ok then made frame.number new room.ok;
+      pub leaf_made : 1 ≤ length images → (x : Transaction) (frame : Frame) → RoomKept d before s then made.running key new (Ok frame) → SplitKept d before s old r t key new (Ok (x, frame))
+      leaf_made some x frame room = record {
+        ok = split_leaf d before s old r t key images mid plan.ok then made frame.number new room.ok;
         again = tt;
-        stops = leaves_then d before then.split new.split (λ is. split ∙ is) s old.disk then.disk new.disk change_left room.stops;
+        stops = leaves_then d before s old.disk then.disk new.disk change_left room.stops;
         cause = tt;
         within = plan.ok.within some;
         full = tt;
@@ -58,7 +58,7 @@ module _ {D : Type 0} (d : Ghosts D) (before : List Effect) (s : Shown) (old : E
   -- ---- an empty leaf
 
   -- it was not found
-  pub drop_refused : (key : Key) (new : Engine D d) (f : Fault) → LeafKept d before s old r key new (Err f) → (result : Result (Option (List Numbered)) Fault) → IsErrAnd result (λ e. e ≡ f) → DropPlanKept d before s old r new result
+  pub drop_refused : (key : Key) (new : Engine D d) (f : Fault) → LeafKept d before s old r key new (Err f) → (result : Result (Option (List Numbered)) Fault) → IsErrAnd result (λ e. e ≡ f) → DropPlanKept d before s old r key new result
   drop_refused key new f kept (Ok x) is = absurd is
   drop_refused key new f kept (Err e) is = record {
     ok = tt;
@@ -68,30 +68,43 @@ module _ {D : Type 0} (d : Ghosts D) (before : List Effect) (s : Shown) (old : E
   }
 
   -- it stays
-  pub drop_none : (key : Key) (frame : Frame) (new : Engine D d) → LeafKept d before s old r key new (Ok frame) → DropPlanKept d before s old r new (Ok None)
-  drop_none key frame new kept = record { ok = kept.ok.looked.running; again = tt; stops = kept.stops; cause = tt }
+  pub drop_none : (key : Key) (frame : Frame) (new : Engine D d) → LeafKept d before s old r key new (Ok frame)
+      → (frame.number ≡ 1) ⊎ ((pools.page_at new.writer.pool frame.number).body.entries ≢ []) → DropPlanKept d before s old r key new (Ok None)
+  drop_none key frame new kept other = record {
+    ok = record {
+      rests = record { running = kept.ok.looked.running; grows = kept.ok.looked.grows };
+      page = frame.number;
+      way = kept.ok.way;
+      kept = ⊎_elim (λ x. inl x) (λ x. inr (λ none. x (ap (λ (g : Page). g.body.entries) (kept.ok.looked.page ∙ kept.ok.looked.still frame.number) ∙ none))) other;
+    };
+    again = tt;
+    stops = kept.stops;
+    cause = tt;
+  }
 
   module _ (key : Key) (frame : Frame) (mid : Engine D d) (leaf : LeafKept d before s old r key mid (Ok frame)) where
     -- it has no entry in the tree that the log's records have made
-    pub none_there : (pools.page_at mid.writer.pool frame.number).body.entries ≡ [] → (bodies first_base leaf.ok.looked.running.now.log frame.number).entries ≡ []
+    pub none_there : (pools.page_at mid.writer.pool frame.number).body.entries ≡ [] → (bodies b leaf.ok.looked.running.now.log frame.number).entries ≡ []
     none_there none = ap (λ (g : Page). g.body.entries) (sym leaf.ok.looked.page) ∙ none
 
-    module _ (new : Engine D d) (split : new.split ≡ mid.split) where
-      drop_left : LeavesOnly d mid.disk new.disk (Allowed new.split before s) → LeavesOnly d old.disk new.disk (Allowed new.split before s)
-      drop_left rest = leaves_then d before mid.split new.split (λ is. split ∙ is) s old.disk mid.disk new.disk leaf.stops rest
+    module _ (new : Engine D d) where
+      drop_left : LeavesOnly d mid.disk new.disk (Allowed before s) → LeavesOnly d old.disk new.disk (Allowed before s)
+      drop_left rest = leaves_then d before s old.disk mid.disk new.disk leaf.stops rest
 
       -- the plan was refused
-      pub drop_plan_refused : (f : Fault) → DeletePlanKept d before s mid leaf.ok.looked.running new (Err f) → (result : Result (Option (List Numbered)) Fault) → IsErrAnd result (λ e. e ≡ f) → DropPlanKept d before s old r new result
+      pub drop_plan_refused : (f : Fault) → DeletePlanKept d before s mid leaf.ok.looked.running new (Err f) → (result : Result (Option (List Numbered)) Fault) → IsErrAnd result (λ e. e ≡ f) → DropPlanKept d before s old r key new result
       drop_plan_refused f kept (Ok x) is = absurd is
       drop_plan_refused f kept (Err e) is = record {
         ok = tt;
-        again = λ same. kept.again (sym is ∙ same);
+        again = λ same.
+            let rests = kept.again (sym is ∙ same) in
+            record { running = rests.running; grows = grows_then b r.now.log leaf.ok.looked.running.now.log rests.running.now.log leaf.ok.looked.grows rests.grows };
         stops = drop_left kept.stops;
         cause = λ same. kept.cause (sym is ∙ same);
       }
 
       -- it goes
-      pub drop_planned : (images : List Numbered) → DeletePlanKept d before s mid leaf.ok.looked.running new (Ok images) → DropPlanKept d before s old r new (Ok (Some images))
+      pub drop_planned : (images : List Numbered) → DeletePlanKept d before s mid leaf.ok.looked.running new (Ok images) → DropPlanKept d before s old r key new (Ok (Some images))
       drop_planned images kept = record {
         ok = record {
           are = record {
@@ -99,6 +112,7 @@ module _ {D : Type 0} (d : Ghosts D) (before : List Effect) (s : Shown) (old : E
             good = kept.ok.are.good;
             same = kept.ok.are.same;
             still = kept.ok.are.still ∙ bodies_still d before s old r frame.number mid leaf.ok.looked;
+            grows = grows_then b r.now.log leaf.ok.looked.running.now.log kept.ok.are.running.now.log leaf.ok.looked.grows kept.ok.are.grows;
           };
           some = kept.ok.some;
         };
@@ -109,28 +123,38 @@ module _ {D : Type 0} (d : Ghosts D) (before : List Effect) (s : Shown) (old : E
 
   -- ---- an empty leaf dropped
 
-  module _ (mid : Engine D d) (image : List Numbered) (plan : DropPlanKept d before s old r mid (Ok (Some image))) (new : Engine D d) (begun : new.split ≡ true) where
-    drop_change : LeavesOnly d mid.disk new.disk (Allowed new.split before s) → LeavesOnly d old.disk new.disk (Allowed new.split before s)
-    drop_change rest = leaves_then d before mid.split new.split (λ _. begun) s old.disk mid.disk new.disk plan.stops rest
+  module _ (key : Key) (mid : Engine D d) (image : List Numbered) (plan : DropPlanKept d before s old r key mid (Ok (Some image))) (new : Engine D d) where
+    drop_change : LeavesOnly d mid.disk new.disk (Allowed before s) → LeavesOnly d old.disk new.disk (Allowed before s)
+    drop_change rest = leaves_then d before s old.disk mid.disk new.disk plan.stops rest
 
     -- the change was made
-    pub dropped : (t : Transaction) → StructureKept d before s mid plan.ok.are.running image new (Ok t) → EditKept d before s {A = Unit {0}} s old new (Ok tt)
-    dropped t run = record { ok = run.ok.running; again = tt; stops = drop_change run.stops; cause = tt }
+    pub dropped : (n : ℕ) (t : Transaction) → StructureKept d before s mid plan.ok.are.running n image new (Ok t) → DropKept d before s old r n key new (Ok true)
+    dropped n t run =
+        let first = images_as_change b n r.now.log plan.ok.are.running.now.log plan.ok.are.grows in
+        let grows = change_then n r.now.log plan.ok.are.running.now.log run.ok.running.now.log first run.ok.grows in
+        record {
+          edit = record { ok = record { running = run.ok.running; joins = grows }; again = tt; stops = drop_change run.stops; cause = tt };
+          gone = λ is. inr (record { running = run.ok.running; grows = grows; some = λ none. run.ok.some (none_in_front run.ok.grows.more first.more none) });
+        }
 
     -- or refused
-    pub not_dropped : (f : Fault) → IsOfDrop f → StructureKept d before s mid plan.ok.are.running image new (Err f) → EditKept d before s {A = Unit {0}} s old new (Err f)
-    not_dropped f of run = record { ok = tt; again = drop_wants f of; stops = drop_change run.stops; cause = run.cause }
+    pub not_dropped : (n : ℕ) (f : Fault) → IsOfDrop f → StructureKept d before s mid plan.ok.are.running n image new (Err f) → DropKept d before s old r n key new (Err f)
+    not_dropped n f of run = record { edit = record { ok = tt; again = drop_wants f of; stops = drop_change run.stops; cause = run.cause }; gone = tt }
+
+  -- it changes nothing
+  rests_joined : (n : ℕ) (new : Engine D d) → Rests d before s old r new → Edited d b before s (GrowsByChange n r.now.log) new
+  rests_joined n new rests = record { running = rests.running; joins = images_as_change b n r.now.log rests.running.now.log rests.grows }
 
   -- the leaf stays
-  pub stays : (new : Engine D d) → DropPlanKept d before s old r new (Ok None) → EditKept d before s {A = Unit {0}} s old new (Ok tt)
-  stays new kept = record { ok = kept.ok; again = tt; stops = kept.stops; cause = tt }
+  pub stays : (n : ℕ) (key : Key) (new : Engine D d) → DropPlanKept d before s old r key new (Ok None) → DropKept d before s old r n key new (Ok true)
+  stays n key new kept = record { edit = record { ok = rests_joined n new kept.ok.rests; again = tt; stops = kept.stops; cause = tt }; gone = λ is. inl kept.ok }
 
-  pub stays_for_memory : (new : Engine D d) (f : Fault) → f ≡ Memory → DropPlanKept d before s old r new (Err f) → EditKept d before s {A = Unit {0}} s old new (Ok tt)
-  stays_for_memory new f memory kept = record { ok = kept.again memory; again = tt; stops = kept.stops; cause = tt }
+  pub stays_for_memory : (n : ℕ) (key : Key) (new : Engine D d) (f : Fault) → f ≡ Memory → DropPlanKept d before s old r key new (Err f) → DropKept d before s old r n key new (Ok false)
+  stays_for_memory n key new f memory kept = record { edit = record { ok = rests_joined n new (kept.again memory); again = tt; stops = kept.stops; cause = tt }; gone = λ is. absurd (cc is) }
 
-  pub drop_failed : (new : Engine D d) (f : Fault) → f ≢ Memory → IsOfWriter f → DropPlanKept d before s old r new (Err f) → EditKept d before s {A = Unit {0}} s old new (Err f)
-  drop_failed new f other of kept = record { ok = tt; again = never; stops = kept.stops; cause = kept.cause }
+  pub drop_failed : (n : ℕ) (key : Key) (new : Engine D d) (f : Fault) → f ≢ Memory → IsOfWriter f → DropPlanKept d before s old r key new (Err f) → DropKept d before s old r n key new (Err f)
+  drop_failed n key new f other of kept = record { edit = record { ok = tt; again = never; stops = kept.stops; cause = kept.cause }; gone = tt }
     where
-      never : (f ≡ Memory) ⊎ (f ≡ PagesFull) → IsRunning d before s new
+      never : (f ≡ Memory) ⊎ (f ≡ PagesFull) → Rests d before s old r new
       never (inl memory) = absurd (other memory)
       never (inr full) = absurd (not_full f of full)

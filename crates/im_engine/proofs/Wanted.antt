@@ -1,12 +1,14 @@
 -- Where a step asks for a structure change, at each end of an insert and of a delete.
-use Rattle.std.proofs.Common.{◌≡◌, ◌≢◌, ◌⊎◌, inl, inr, ⊎_elim, ℕ, Bool, true, false, length, List, Option, None, Some, refl, sym, ap, subst, ◌∙◌}
+use Rattle.std.proofs.Common.{◌≡◌, ◌≢◌, ◌⊎◌, inl, inr, ℕ, Bool, true, false, length, List, None, Some, sym, ap, subst, ◌∙◌}
 use Rattle.std.specs.FinMap.Entries.{find}
 use Rattle.im_types.specs.Keys.{Key, key_order}
 use Rattle.im_types.specs.Pages.{Page}
+use Rattle.im_types.specs.Histories.{Base}
 use Rattle.im_types.specs.Changes.{Effect}
+use Rattle.im_types.specs.LogLaws.{bodies}
 use Rattle.im_types.specs.Lives.{Shown}
 use Rattle.im_types.specs.declared.fault.Fault.{Fault}
-use Rattle.im_types.specs.declared.fault.Fault.TheVariants.{Failed, NoTransaction, KeyLength, LogFull, Memory, NotAStore, Device}
+use Rattle.im_types.specs.declared.fault.Fault.TheVariants.{Failed, NoTransaction, KeyLength}
 use Rattle.im_types.specs.declared.reply.Reply.{Reply}
 use Rattle.im_types.specs.declared.reply.Reply.TheVariants.{Refused}
 use Rattle.im_disk.specs.declared.disk.Disk.{Ghosts}
@@ -28,24 +30,24 @@ no_change e (inr (inl is)) = ap (λ (f : Fault). is_of_change (Refused f)) is
 no_change e (inr (inr (inl is))) = ap (λ (f : Fault). is_of_change (Refused f)) is
 no_change e (inr (inr (inr is))) = ap (λ (f : Fault). is_of_change (Refused f)) is
 
-module _ {D : Type 0} (d : Ghosts D) (before : List Effect) (s : Shown) (old : Engine D d) (r : IsRunning d before s old) where
-  -- no change is begun, and the reply is none of those
-  pub asks_none : {A : Type 0} (reply : Reply) (new : Engine D d) → is_of_change reply ≡ false → new.split ≡ old.split → AsksChange d before s old r reply new → A
-  asks_none reply new other same asks = ⊎_elim (λ is. absurd (is_answer (is_of_change reply) other is)) (λ differs. absurd (differs same)) asks.asks
+module _ {D : Type 0} (d : Ghosts D) {b : Base} (before : List Effect) (s : Shown) (old : Engine D d) (r : IsRunning d b before s old) where
+  -- the reply is none of those
+  pub asks_none : {A : Type 0} (reply : Reply) → is_of_change reply ≡ false → AsksChange old.failed reply → A
+  asks_none reply other asks = absurd (is_answer (is_of_change reply) other asks.asks)
 
   -- refused by a call of the writer of pages
-  pub asks_none_late : {A : Type 0} (e : Fault) (new : Engine D d) → IsOfWriter e → new.split ≡ old.split → AsksChange d before s old r (Refused e) new → A
-  asks_none_late e new of same asks = asks_none (Refused e) new (no_change e of) same asks
+  pub asks_none_late : {A : Type 0} (e : Fault) → IsOfWriter e → AsksChange old.failed (Refused e) → A
+  asks_none_late e of asks = asks_none (Refused e) (no_change e of) asks
 
   -- or before a page was read
-  pub asks_none_early : {A : Type 0} (e : Fault) → (e ≡ Failed) ⊎ (e ≡ NoTransaction) ⊎ (e ≡ KeyLength) → (e ≡ Failed → old.failed ≡ true) → AsksChange d before s old r (Refused e) old → A
+  pub asks_none_early : {A : Type 0} (e : Fault) → (e ≡ Failed) ⊎ (e ≡ NoTransaction) ⊎ (e ≡ KeyLength) → (e ≡ Failed → old.failed ≡ true) → AsksChange old.failed (Refused e) → A
   asks_none_early e (inl is) failed asks = absurd (is_answer old.failed asks.worked (failed is))
-  asks_none_early e (inr (inl is)) failed asks = asks_none (Refused e) old (ap (λ (f : Fault). is_of_change (Refused f)) is) refl asks
-  asks_none_early e (inr (inr is)) failed asks = asks_none (Refused e) old (ap (λ (f : Fault). is_of_change (Refused f)) is) refl asks
+  asks_none_early e (inr (inl is)) failed asks = asks_none (Refused e) (ap (λ (f : Fault). is_of_change (Refused f)) is) asks
+  asks_none_early e (inr (inr is)) failed asks = asks_none (Refused e) (ap (λ (f : Fault). is_of_change (Refused f)) is) asks
 
   module _ (key : Key) (p : ℕ) (new : Engine D d) (l : LeafLooked d before s old r key p new) where
     -- the leaf that was found lacks room
-    pub wants_split : find key_order key (pools.page_at new.writer.pool p).body.entries ≡ None → LacksRoom (pools.page_at new.writer.pool p).body.entries key → WantsSplit d before s old r key
+    pub wants_split : find key_order key (pools.page_at new.writer.pool p).body.entries ≡ None → LacksRoom (pools.page_at new.writer.pool p).body.entries key → WantsSplit (bodies b r.now.log) key
     wants_split none lacks = record {
       absent = sym (leaf_says d before s old r key p new l) ∙ none;
       page = p;
@@ -54,7 +56,7 @@ module _ {D : Type 0} (d : Ghosts D) (before : List Effect) (s : Shown) (old : E
     }
 
     -- or it has one entry, and is not the root
-    pub wants_drop : (rid : ℕ) → Some rid ≡ find key_order key (pools.page_at new.writer.pool p).body.entries → p ≢ 1 → length (pools.page_at new.writer.pool p).body.entries ≡ 1 → WantsDrop d before s old r key
+    pub wants_drop : (rid : ℕ) → Some rid ≡ find key_order key (pools.page_at new.writer.pool p).body.entries → p ≢ 1 → length (pools.page_at new.writer.pool p).body.entries ≡ 1 → WantsDrop (bodies b r.now.log) key
     wants_drop rid some under one = record {
       page = p;
       way = l.way;

@@ -1,20 +1,21 @@
 -- The log is forced, and a page is written.
-use Rattle.std.proofs.Common.{◌≡◌, ℕ, ◌≤◌, ◌^◌, List, [], ◌∷◌, ◌++◌, true, false, Option, Some, None, Ok, refl, sym, ap, subst, ◌∙◌}
+use Rattle.std.proofs.Common.{◌≡◌, ℕ, ◌≤◌, ◌^◌, List, [], ◌∷◌, ◌++◌, false, Option, Some, None, Ok, refl, sym, ap, subst, ◌∙◌, append-nil}
 use Rattle.im_types.specs.Answers.{FlushPage, Force, Done}
-use Rattle.im_types.specs.Changes.{Effect}
+use Rattle.im_types.specs.Changes.{Effect, seen}
+use Rattle.im_types.specs.Transactions.{committed}
 use Rattle.im_types.specs.Pages.{Page}
-use Rattle.im_types.specs.Histories.{History}
+use Rattle.im_types.specs.Histories.{Base, History}
 use Rattle.im_types.specs.WriterSteps.{forced}
 use Rattle.im_types.specs.Lives.{Asked, Shown, all_acked, effects}
 use Rattle.im_disk.specs.declared.disk.Disk.{Ghosts}
 use Rattle.im_flush.specs.PageWriter as writers
-use Rattle.im_one_page.specs.OnePage.{first_base, AreBelow}
+use Rattle.im_serial.specs.Store.{AreBelow}
 use Rattle.im_serial.proofs.Promises.{images_change_nothing}
 use Rattle.im_engine.specs.declared.engine.Engine.{Engine}
 use Rattle.im_engine.specs.declared.transaction.Transaction.{Transaction}
 use Rattle.im_engine.specs.Running.{IsTransaction, HasShown, IsRunning, IsLife}
 use Rattle.im_engine.specs.Kept.{StepKept}
-use Rattle.im_engine.proofs.Running.{none_waits, page_is, grown_stops, covered_stops, leaves_more, runs_on, looks, goes_on}
+use Rattle.im_engine.proofs.Running.{none_waits, page_is, grown_stops, covered_stops, runs_on, looks, goes_on}
 
 -- what is acknowledged has the same effects
 effects_acked : (asked : List Asked) → effects (all_acked asked) ≡ effects asked
@@ -30,43 +31,49 @@ shown_as : (s : Shown) (asked : List Asked) (going : Option Transaction) → Has
 shown_as s asked None has = has
 shown_as s asked (Some t) has = has
 
-module _ {D : Type 0} (d : Ghosts D) (before : List Effect) (s : Shown) (old new : Engine D d) (life : IsLife d before s old) (works : old.failed ≡ false) (works_on : new.failed ≡ false) (going : new.going ≡ old.going) (next : new.next ≡ old.next) (split : new.split ≡ old.split) where
-  more : old.split ≡ true → new.split ≡ true
-  more is = split ∙ is
+module _ {D : Type 0} (d : Ghosts D) (before : List Effect) (s : Shown) (old new : Engine D d) (life : IsLife d before s old) (works : old.failed ≡ false) (works_on : new.failed ≡ false) (going : new.going ≡ old.going) (next : new.next ≡ old.next) where
+  abbrev pub run : (b : Base) × IsRunning d b before s old
+  run = life.running works
 
   -- the log was forced
-  pub force_kept : (r : IsRunning d before s old) → writers.StepKept d first_base 0 r.now (forced r.now) old.disk new.writer new.disk (Ok tt) → StepKept d before s Force Done old new
-  force_kept r kept =
-      goes_on d before s Force Done refl (λ e. cc e) old new (leaves_more d before old.split new.split more s old.disk new.disk (covered_stops d before s old r new.disk kept.stops)) works_on (life.failed ∙ works)
-      (record { log = r.now.log; durable = kept.ok.goes.writing.stands.log_is })
-      (record {
+  pub force_kept : writers.StepKept d run.0 0 run.1.now (forced run.1.now) old.disk new.writer new.disk (Ok tt) → StepKept d before s Force Done old life new
+  force_kept kept =
+      let b = run.0 in
+      let r = run.1 in
+      let whole : r.earlier ++ seen (committed r.now.log) ≡ before ++ effects (all_acked s.asked) = r.commits.whole ∙ ap (λ (l : List Effect). before ++ l) (sym (effects_acked s.asked)) in
+      let running : IsRunning d b before (record s { asked = all_acked s.asked }) new = record {
+        start = r.start;
+        earlier = r.earlier;
+        made = r.made;
         now = forced r.now;
         stands = record { working = kept.ok.working; writing = kept.ok.goes.writing };
         redo_end = r.redo_end;
         over = r.over;
         serial = r.serial;
         closed = r.closed;
-        never = λ f. r.never (sym split ∙ f);
-        begun = λ is. r.begun (sym split ∙ is);
-        says = r.says ∙ ap (λ (l : List Effect). before ++ l) (sym (effects_acked s.asked));
-        durable = refl;
+        commits = record { front = all_acked s.asked; rest = []; all = append-nil (all_acked s.asked); waiting = tt; forced = whole; whole = whole };
         numbered = subst (λ (n : ℕ). n ≤ 2 ^ 62 → AreBelow n r.now.log) (sym next) r.numbered;
         transaction = subst (λ (n : ℕ). IsTransaction (record s { asked = all_acked s.asked }) new.going n r.now.log) (sym next)
             (subst (λ (g : Option Transaction). IsTransaction (record s { asked = all_acked s.asked }) g old.next r.now.log) (sym going) (transaction_as s (all_acked s.asked) old.going old.next r.now.log r.transaction));
-      }) (shown_as s (all_acked s.asked) new.going (subst (λ (g : Option Transaction). HasShown s g) (sym going) (life.changed works)))
+      } in
+      goes_on d before s Force Done refl (λ e. cc e) old new life works (covered_stops d before s old r new.disk kept.stops) works_on (life.failed ∙ works)
+      (record { b = b; running = running; all = refl }) (record { running = running; joins = record { images = []; is = refl; all = tt } })
+      (shown_as s (all_acked s.asked) new.going (subst (λ (g : Option Transaction). HasShown s g) (sym going) (life.changed works)))
 
   -- a page was flushed
-  pub flush_kept : (p : ℕ) (r : IsRunning d before s old) → writers.FlushOneKept d first_base 0 r.now p old.disk new.writer new.disk (Ok tt) → StepKept d before s (FlushPage p) Done old new
-  flush_kept p r kept =
+  pub flush_kept : (p : ℕ) → writers.FlushOneKept d run.0 0 run.1.now p old.disk new.writer new.disk (Ok tt) → StepKept d before s (FlushPage p) Done old life new
+  unfolding runs_on
+  flush_kept p kept =
+      let b = run.0 in
+      let r = run.1 in
       let f = kept.ok in
-      let stands : writers.StandsAs d first_base 0 f.now new.writer new.disk = record { working = f.on.working; writing = f.on.goes.writing } in
-      let same = images_change_nothing r.now.log f.now.log f.on.goes.keeps.log r.serial in
-      let on = runs_on d before s old r new going next split f.now stands f.on.goes.keeps in
-      looks d before s (FlushPage p) Done refl (λ e. cc e) old new (leaves_more d before old.split new.split more s old.disk new.disk (grown_stops d before s old r new.disk kept.stops)) works life works_on refl
+      let stands : writers.StandsAs d b 0 f.now new.writer new.disk = record { working = f.on.working; writing = f.on.goes.writing } in
+      let same = images_change_nothing b r.now.log f.now.log f.on.goes.keeps.log r.serial in
+      let on = runs_on d before s old r new going next f.now stands f.on.goes.keeps in
+      looks d before s (FlushPage p) Done refl (λ e. cc e) old new life works (grown_stops d before s old r new.disk kept.stops) works_on refl
       (record {
-        log = f.now.log;
-        durable = f.now.durable;
-        is = stands.writing.stands.log_is;
+        b = b;
+        running = on;
         reads = stands.writing.stands.file.reads p ∙ f.in_file ((f.on.goes.keeps.pages p).waits ∙ none_waits d before s old r p) ∙ ap (λ (g : Page). Some g) ((f.on.goes.keeps.pages p).page ∙ page_is d before s old r p ∙ sym (same.pages p));
       })
-      on going
+      (record { running = on; joins = f.on.goes.keeps.log }) going

@@ -1,6 +1,7 @@
 -- What the parts of a step do.
 use Rattle.std.specs.Prelude.{◌≡◌, ◌≢◌, ◌⊎◌, ℕ, List, Option, Some, None, Result, IfErr, IfOk, OnOk, Bool, true, false, length}
-use Rattle.im_types.specs.Histories.{page_at}
+use Rattle.im_types.specs.Histories.{Base, History, page_at}
+use Rattle.im_types.specs.Copies.{GrowsByImages}
 use Rattle.im_types.specs.Keys.{Key}
 use Rattle.im_types.specs.LogLaws.{bodies}
 use Rattle.im_types.specs.Answers.{Reply, Refused}
@@ -14,12 +15,12 @@ use Rattle.im_disk.specs.Runs.{LeavesOnly}
 use Rattle.im_pool.specs.Pool as pools
 use Rattle.im_pool.specs.declared.frame.Frame.{Frame}
 use Rattle.im_tree.specs.Search.{IsOnWay}
-use Rattle.im_one_page.specs.OnePage.{first_base}
 use Rattle.im_engine.specs.declared.header.Header.{Header}
 use Rattle.im_engine.specs.declared.engine.Engine.{Engine}
 use Rattle.im_engine.specs.declared.transaction.Transaction.{Transaction}
 use Rattle.im_engine.specs.Stands.{Allowed}
 use Rattle.im_engine.specs.Running.{IsRunning}
+use Rattle.im_engine.specs.Joined.{CommitJoined}
 
 -- A reply after which the engine has failed.
 abbrev pub is_breaking : Reply → Bool
@@ -40,40 +41,51 @@ abbrev pub active_in : Option Transaction → ℕ
 active_in None = 0
 active_in (Some t) = 1
 
-module _ {D : Type 0} (d : Ghosts D) (before : List Effect) (s : Shown) where
+-- A step was made: behind it this is shown, and such records joined the log.
+pub record Edited {D : Type 0} (d : Ghosts D) (b : Base) (before : List Effect) (then : Shown) (joined : History → Type 0) (new : Engine D d) : Type 0 where
+  pub running : IsRunning d b before then new
+  pub joins : joined running.now.log
+
+module _ {D : Type 0} (d : Ghosts D) {b : Base} (before : List Effect) (s : Shown) (old : Engine D d) (was : IsRunning d b before s old) where
+  -- The engine works as it did, and its log has Images more.
+  pub record Rests (new : Engine D d) : Type 0 where
+    pub running : IsRunning d b before s new
+    pub grows : GrowsByImages b was.now.log running.now.log
+
   -- A page is held as the log's records have made it, and the log says of pages what it said.
-  pub record Looked (old : Engine D d) (was : IsRunning d before s old) (p : ℕ) (new : Engine D d) : Type 0 where
-    pub running : IsRunning d before s new
-    pub page : pools.page_at new.writer.pool p ≡ page_at first_base running.now.log p
-    pub still : (q : ℕ) → page_at first_base running.now.log q ≡ page_at first_base was.now.log q
+  pub record Looked (p : ℕ) (new : Engine D d) : Type 0 where
+    pub running : IsRunning d b before s new
+    pub grows : GrowsByImages b was.now.log running.now.log
+    pub page : pools.page_at new.writer.pool p ≡ page_at b running.now.log p
+    pub still : (q : ℕ) → page_at b running.now.log q ≡ page_at b was.now.log q
 
   -- what a look at a page keeps
-  pub record PageKept (old : Engine D d) (was : IsRunning d before s old) (p : ℕ) (new : Engine D d) (result : Result Frame Fault) : Type 0 where
-    pub ok : OnOk result (Looked old was p new)
-    pub again : IfErr result (λ e. e ≡ Memory → IsRunning d before s new)
-    pub stops : LeavesOnly d old.disk new.disk (Allowed new.split before s)
+  pub record PageKept (p : ℕ) (new : Engine D d) (result : Result Frame Fault) : Type 0 where
+    pub ok : OnOk result (Looked p new)
+    pub again : IfErr result (λ e. e ≡ Memory → Rests new)
+    pub stops : LeavesOnly d old.disk new.disk (Allowed before s)
     pub cause : IfErr result (λ e. e ≢ NotAStore)
 
   -- The leaf of a key is held so.
-  pub record LeafLooked (old : Engine D d) (was : IsRunning d before s old) (key : Key) (p : ℕ) (new : Engine D d) : Type 0 where
-    pub looked : Looked old was p new
-    pub way : IsOnWay (bodies first_base was.now.log) 0 key p
+  pub record LeafLooked (key : Key) (p : ℕ) (new : Engine D d) : Type 0 where
+    pub looked : Looked p new
+    pub way : IsOnWay (bodies b was.now.log) 0 key p
 
   -- what the search for a key's leaf keeps
-  pub record LeafKept (old : Engine D d) (was : IsRunning d before s old) (key : Key) (new : Engine D d) (result : Result Frame Fault) : Type 0 where
-    pub ok : IfOk result (λ frame. LeafLooked old was key frame.number new)
-    pub again : IfErr result (λ e. e ≡ Memory → IsRunning d before s new)
-    pub stops : LeavesOnly d old.disk new.disk (Allowed new.split before s)
+  pub record LeafKept (key : Key) (new : Engine D d) (result : Result Frame Fault) : Type 0 where
+    pub ok : IfOk result (λ frame. LeafLooked key frame.number new)
+    pub again : IfErr result (λ e. e ≡ Memory → Rests new)
+    pub stops : LeavesOnly d old.disk new.disk (Allowed before s)
     pub cause : IfErr result (λ e. e ≢ NotAStore)
 
   -- A step goes on: behind it this is shown. A refusal for want of memory or of pages leaves what was shown before, and so does a stop.
-  pub record EditKept {A : Type 0} (then : Shown) (old new : Engine D d) (result : Result A Fault) : Type 0 where
-    pub ok : OnOk result (IsRunning d before then new)
-    pub again : IfErr result (λ e. (e ≡ Memory) ⊎ (e ≡ PagesFull) → IsRunning d before s new)
-    pub stops : LeavesOnly d old.disk new.disk (Allowed new.split before s)
+  pub record EditKept {A : Type 0} (then : Shown) (joined : History → Type 0) (new : Engine D d) (result : Result A Fault) : Type 0 where
+    pub ok : OnOk result (Edited d b before then joined new)
+    pub again : IfErr result (λ e. (e ≡ Memory) ⊎ (e ≡ PagesFull) → Rests new)
+    pub stops : LeavesOnly d old.disk new.disk (Allowed before s)
     pub cause : IfErr result (λ e. e ≢ NotAStore)
 
   -- A Commit: once it is made its effect is one of those asked and acknowledged; a stop within leaves the effect whole, or nothing of it.
-  pub record CommitKept (number : ℕ) (old new : Engine D d) (result : Result Unit Fault) : Type 0 where
-    pub ok : OnOk result (IsRunning d before (with_running number idle (asks number true s)) new)
-    pub stops : LeavesOnly d old.disk new.disk (Allowed new.split before (asks number false s))
+  pub record CommitKept (number : ℕ) (new : Engine D d) (result : Result Unit Fault) : Type 0 where
+    pub ok : OnOk result (Edited d b before (with_running number idle (asks number true s)) (CommitJoined number was.now.log) new)
+    pub stops : LeavesOnly d old.disk new.disk (Allowed before (asks number false s))

@@ -12,7 +12,8 @@ use Rattle.im_types.specs.Keys.{Key, key_order}
 use Rattle.im_types.specs.Pages.{Entry}
 use Rattle.im_types.specs.Answers as replies
 use Rattle.im_types.specs.Changes.{Effect}
-use Rattle.im_types.specs.LogLaws.{bodies}
+use Rattle.im_types.specs.Histories.{Base}
+use Rattle.im_types.specs.Structure.{settled}
 use Rattle.im_types.specs.declared.page_kind.PageKind.TheVariants.{Leaf}
 use Rattle.im_types.specs.Refusals.{no_transaction, key_length, too_many}
 use Rattle.im_types.specs.Lives.{Shown}
@@ -22,7 +23,6 @@ use Rattle.im_log.specs.LogFile.{HasNoRoom, end_with}
 use Rattle.im_pool.specs.Pool as pools
 use Rattle.im_page.specs.Entry.{taken, size}
 use Rattle.im_tree.specs.Levels.{walk}
-use Rattle.im_one_page.specs.OnePage.{first_base}
 use Rattle.im_engine.specs.declared.engine.Engine.{Engine}
 use Rattle.im_engine.specs.declared.transaction.Transaction.{Transaction}
 use Rattle.im_engine.specs.Changes.{IsIdle}
@@ -165,8 +165,8 @@ module _ {D : Type 0} (d : Ghosts D) where
   -- sound store it has of the key what the walk has over the pages that the log's records have made.
   pub record IsRead (key : Key) (reply : said.Reply) (old new : Engine D d) (entries : List Entry) : Type 0 where
     pub shown : has_kept reply ≡ true → (p : ℕ) × ((pools.page_at new.writer.pool p).body.kind ≡ Leaf) × (entries ≡ (pools.page_at new.writer.pool p).body.entries)
-    pub logged : has_read reply ≡ true → (before : List Effect) (s : Shown) (r : IsRunning d before s old)
-        → find key_order key entries ≡ find key_order key (walk (bodies first_base r.now.log))
+    pub logged : has_read reply ≡ true → (b : Base) (before : List Effect) (s : Shown) (r : IsRunning d b before s old)
+        → find key_order key entries ≡ find key_order key (walk (settled b r.now.log))
 
   -- A step that was answered: it is refused exactly where one of its checks says so, and else has its answer.
   pub record IsAnswered (key : Key) (reply : said.Reply) (old new : Engine D d) (of : List Entry → Fault → Type 0) (answer : List Entry → replies.Reply) : Type 0 where

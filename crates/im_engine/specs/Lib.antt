@@ -1,7 +1,9 @@
 pub mod Stands
 pub mod Running
+pub mod Joined
 pub mod Kept
 pub mod Changes
 pub mod Checks
 pub mod Structure
 pub mod Turns
+pub mod Lived

@@ -1,18 +1,19 @@
 -- An engine between two steps.
-use Rattle.std.specs.Prelude.{◌≡◌, ◌≢◌, ◌<◌, ◌≤◌, ℕ, List, [], ◌++◌, ◌^◌, false, true, Option, Some, None}
+use Rattle.std.specs.Prelude.{◌≡◌, ◌≢◌, ◌<◌, ◌≤◌, ℕ, List, [], ◌^◌, false, Option, Some, None}
 use Rattle.im_types.specs.Answers.{Going}
-use Rattle.im_types.specs.Changes.{Effect, seen}
-use Rattle.im_types.specs.Histories.{History}
+use Rattle.std.specs.FinMap.{empty}
+use Rattle.im_types.specs.Changes.{Effect, apply_all}
+use Rattle.im_types.specs.Histories.{Base, History}
 use Rattle.im_types.specs.Structure.{open_smo}
-use Rattle.im_types.specs.Transactions.{committed}
 use Rattle.im_types.specs.Writer.{Writer}
-use Rattle.im_types.specs.Lives.{Shown, idle, effects}
+use Rattle.im_types.specs.Lives.{Shown, idle}
 use Rattle.im_disk.specs.declared.disk.Disk.{Ghosts}
 use Rattle.im_disk.specs.Disk.{Files}
 use Rattle.im_flush.specs.PageWriter.{StandsAs}
-use Rattle.im_one_page.specs.OnePage.{first_base, AreBelow}
-use Rattle.im_one_page.specs.OneAtATime.{IsIdleIn}
-use Rattle.im_serial.specs.Serial.{IsSerialLog, NeverSplit, IsGoingIn}
+use Rattle.im_serial.specs.Store.{AreBelow}
+use Rattle.im_serial.specs.Commits.{AreCommitted}
+use Rattle.im_serial.specs.OneAtATime.{IsIdleIn}
+use Rattle.im_serial.specs.Serial.{IsSerialLog, IsGoingIn}
 use Rattle.im_engine.specs.declared.engine.Engine.{Engine}
 use Rattle.im_engine.specs.declared.transaction.Transaction.{Transaction}
 use Rattle.im_engine.specs.Stands.{Allowed}
@@ -36,27 +37,26 @@ HasShown s None = Unit {0}
 HasShown s (Some t) = 1 ≤ t.last → (s.running t.number).effect ≢ []
 
 module _ {D : Type 0} (d : Ghosts D) where
-  -- The engine works: its writer of pages stands as one whose redo is over, and no structure change is open; the log's Commits are those of the effects before the life
-  -- and of those asked in it, and each of them is durable.
-  pub record IsRunning (before : List Effect) (s : Shown) (e : Engine D d) : Type 0 where
+  -- The engine works over a log that begins so: its writer of pages stands as one whose redo is over, and no structure change is open; the log's Commits are those of the
+  -- effects before the life and of those asked in it, and of each that was acknowledged the Commit is durable.
+  pub record IsRunning (b : Base) (before : List Effect) (s : Shown) (e : Engine D d) : Type 0 where
+    pub start : b.start ≡ 0
+    pub earlier : List Effect
+    pub made : apply_all empty earlier ≡ b.map
     pub now : Writer
-    pub stands : StandsAs d first_base 0 now e.writer e.disk
+    pub stands : StandsAs d b 0 now e.writer e.disk
     pub redo_end : ℕ
     pub over : now.redo_end ≡ Some redo_end
-    pub serial : IsSerialLog now.log
+    pub serial : IsSerialLog b now.log
     pub closed : open_smo now.log ≡ []
-    -- there is a structure change in the log just where one was begun since the opening
-    pub never : e.split ≡ false → NeverSplit now.log
-    pub begun : e.split ≡ true → NeverSplit now.log → ⊥
-    pub says : seen (committed now.log) ≡ before ++ effects s.asked
-    pub durable : committed now.durable ≡ committed now.log
+    pub commits : AreCommitted earlier before s.asked now.durable now.log
     -- numbers from the next one on are new, as long as there are any
     pub numbered : e.next ≤ 2 ^ 62 → AreBelow e.next now.log
     pub transaction : IsTransaction s e.going e.next now.log
 
   -- Between two steps of a life that has shown this: what a stop leaves is allowed, and the engine works unless it has failed.
   pub record IsLife (before : List Effect) (s : Shown) (e : Engine D d) : Type 0 where
-    pub stops : (c : Files) → d.may_leave e.disk c → Allowed e.split before s c
+    pub stops : (c : Files) → d.may_leave e.disk c → Allowed before s c
     pub failed : s.failed ≡ e.failed
-    pub running : e.failed ≡ false → IsRunning before s e
+    pub running : e.failed ≡ false → (b : Base) × IsRunning b before s e
     pub changed : e.failed ≡ false → HasShown s e.going

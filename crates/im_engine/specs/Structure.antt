@@ -1,12 +1,12 @@
 -- Structure changes within a step, and the limit of pages.
-use Rattle.std.specs.Prelude.{◌≡◌, ◌≢◌, ◌⊎◌, ◌≤◌, ℕ, Bool, true, false, List, [], Option, None, Some, Result, IfErr, IfOk, OnOk, length}
+use Rattle.std.specs.Prelude.{◌≡◌, ◌≢◌, ◌⊎◌, ◌≤◌, ◌-◌, ◌^◌, ℕ, Bool, true, false, List, [], Option, None, Some, Result, IfErr, IfOk, OnOk, length}
 use Rattle.std.specs.FinMap.Entries.{find}
 use Rattle.im_types.specs.Keys.{Key, key_order}
 use Rattle.im_types.specs.LogLaws.{bodies}
-use Rattle.im_types.specs.Histories.{page_at}
+use Rattle.im_types.specs.Histories.{Base, page_at}
+use Rattle.im_types.specs.Copies.{GrowsByImages}
 use Rattle.im_types.specs.Changes.{Effect}
 use Rattle.im_types.specs.Lives.{Shown}
-use Rattle.im_types.specs.Writer.{Writer}
 use Rattle.im_types.specs.declared.fault.Fault.{Fault}
 use Rattle.im_types.specs.declared.fault.Fault.TheVariants.{Memory, NotAStore, PagesFull, Capacity, Failed}
 use Rattle.im_types.specs.declared.reply.Reply.{Reply}
@@ -21,16 +21,15 @@ use Rattle.im_tree.specs.Levels.{Pages, height, walk}
 use Rattle.im_tree.specs.Good.{IsGoodTree}
 use Rattle.im_tree.specs.Search.{IsOnWay}
 use Rattle.im_smo.specs.Images.{Numbered}
-use Rattle.im_alloc.specs.Seen as alloc
 use Rattle.im_alloc.specs.Seen.{seen}
-use Rattle.im_split.specs.Pages.{IsUsedUp}
 use Rattle.im_split.specs.Plan.{IsWithin, IsOver, FitsInLeaf}
 use Rattle.im_split.specs.Tops.{HasRoomFor}
-use Rattle.im_one_page.specs.OnePage.{first_base}
+use Rattle.im_change.specs.Changes.{GrowsByChange, marks}
 use Rattle.im_engine.specs.declared.engine.Engine.{Engine}
 use Rattle.im_engine.specs.declared.transaction.Transaction.{Transaction}
 use Rattle.im_engine.specs.Stands.{Allowed}
 use Rattle.im_engine.specs.Running.{IsRunning}
+use Rattle.im_engine.specs.Changes.{Rests, EditKept}
 use Rattle.im_engine.specs.Checks.{LacksRoom}
 
 -- the refusals of a structure change
@@ -40,41 +39,34 @@ is_of_change (Refused Capacity) = true
 is_of_change (Refused Failed) = true
 is_of_change _ = false
 
--- the steps that may change the structure of the tree
-abbrev pub MayChangeTree : Step → Type 0
-MayChangeTree (Insert t key rid) = Unit {0}
-MayChangeTree (Delete t key) = Unit {0}
-MayChangeTree _ = ⊥
+-- Page numbers would be used up by the pages that the split of the key's leaf takes, or levels are.
+abbrev pub IsUsedUp : Pages → Key → Type 0
+IsUsedUp pages key = IsOver pages key (2 ^ 32 - 1) ⊎ (height pages ≡ 255)
 
--- page numbers are used up over these pages
-pub record NumbersEnd (pages : Pages) : Type 0 where
-  pub writer : Writer
-  pub says : alloc.bodies writer ≡ pages
-  pub end : IsUsedUp writer []
-
-module _ {D : Type 0} (d : Ghosts D) (before : List Effect) (s : Shown) (old : Engine D d) (was : IsRunning d before s old) where
+module _ {D : Type 0} (d : Ghosts D) {b : Base} (before : List Effect) (s : Shown) (old : Engine D d) (was : IsRunning d b before s old) where
   -- Images in the place of the pages are a good tree with the same walk.
   pub record AreImages (images : List Numbered) (new : Engine D d) : Type 0 where
-    pub running : IsRunning d before s new
+    pub running : IsRunning d b before s new
     pub good : IsGoodTree (seen running.now images) []
-    pub same : walk (seen running.now images) ≡ walk (bodies first_base running.now.log)
-    pub still : bodies first_base running.now.log ≡ bodies first_base was.now.log
+    pub same : walk (seen running.now images) ≡ walk (bodies b running.now.log)
+    pub still : bodies b running.now.log ≡ bodies b was.now.log
+    pub grows : GrowsByImages b was.now.log running.now.log
 
   -- In it the key has room in its leaf, and the pages are within the limit. There are some, where its leaf lacks that room.
   pub record AreForKey (key : Key) (images : List Numbered) (new : Engine D d) : Type 0 where
     pub are : AreImages images new
     pub fits : FitsInLeaf (seen are.running.now images) key
-    pub some : (p : ℕ) → IsOnWay (bodies first_base was.now.log) 0 key p → LacksRoom (bodies first_base was.now.log p).entries key → 1 ≤ length images
-    pub within : 1 ≤ length images → IsWithin (bodies first_base was.now.log) key old.max_pages
+    pub some : (p : ℕ) → IsOnWay (bodies b was.now.log) 0 key p → LacksRoom (bodies b was.now.log p).entries key → 1 ≤ length images
+    pub within : 1 ≤ length images → IsWithin (bodies b was.now.log) key old.max_pages
 
   -- what the plan of a split keeps
   pub record PlanKept (key : Key) (new : Engine D d) (result : Result (List Numbered) Fault) : Type 0 where
     pub ok : IfOk result (λ images. AreForKey key images new)
-    pub again : IfErr result (λ e. (e ≡ Memory) ⊎ (e ≡ PagesFull) → IsRunning d before s new)
-    pub stops : LeavesOnly d old.disk new.disk (Allowed new.split before s)
+    pub again : IfErr result (λ e. (e ≡ Memory) ⊎ (e ≡ PagesFull) → Rests d before s old was new)
+    pub stops : LeavesOnly d old.disk new.disk (Allowed before s)
     pub cause : IfErr result (λ e. e ≢ NotAStore)
-    pub full : IfErr result (λ e. e ≡ PagesFull → IsOver (bodies first_base was.now.log) key old.max_pages)
-    pub used_up : IfErr result (λ e. e ≡ Capacity → NumbersEnd (bodies first_base was.now.log) ⊎ (height (bodies first_base was.now.log) ≡ 255))
+    pub full : IfErr result (λ e. e ≡ PagesFull → IsOver (bodies b was.now.log) key old.max_pages)
+    pub used_up : IfErr result (λ e. e ≡ Capacity → IsUsedUp (bodies b was.now.log) key)
 
   -- There are some.
   pub record AreForDrop (images : List Numbered) (new : Engine D d) : Type 0 where
@@ -84,95 +76,129 @@ module _ {D : Type 0} (d : Ghosts D) (before : List Effect) (s : Shown) (old : E
   -- what the plan of a deletion keeps
   pub record DeletePlanKept (new : Engine D d) (result : Result (List Numbered) Fault) : Type 0 where
     pub ok : IfOk result (λ images. AreForDrop images new)
-    pub again : IfErr result (λ e. e ≡ Memory → IsRunning d before s new)
-    pub stops : LeavesOnly d old.disk new.disk (Allowed new.split before s)
+    pub again : IfErr result (λ e. e ≡ Memory → Rests d before s old was new)
+    pub stops : LeavesOnly d old.disk new.disk (Allowed before s)
     pub cause : IfErr result (λ e. e ≢ NotAStore)
 
-  -- there are none where the leaf stays
-  abbrev pub AreIfAny : Option (List Numbered) → Engine D d → Type 0
-  AreIfAny None new = IsRunning d before s new
-  AreIfAny (Some images) new = AreForDrop images new
+  -- The key's leaf is the root, or has entries.
+  pub record LeafStays (key : Key) (new : Engine D d) : Type 0 where
+    pub rests : Rests d before s old was new
+    pub page : ℕ
+    pub way : IsOnWay (bodies b was.now.log) 0 key page
+    pub kept : (page ≡ 1) ⊎ ((bodies b was.now.log page).entries ≢ [])
+
+  -- there are none where the leaf is not spare
+  abbrev pub AreIfAny : Key → Option (List Numbered) → Engine D d → Type 0
+  AreIfAny key None new = LeafStays key new
+  AreIfAny key (Some images) new = AreForDrop images new
 
   -- what a plan of a deletion keeps that may find nothing to do
-  pub record DropPlanKept (new : Engine D d) (result : Result (Option (List Numbered)) Fault) : Type 0 where
-    pub ok : IfOk result (λ some. AreIfAny some new)
-    pub again : IfErr result (λ e. e ≡ Memory → IsRunning d before s new)
-    pub stops : LeavesOnly d old.disk new.disk (Allowed new.split before s)
+  pub record DropPlanKept (key : Key) (new : Engine D d) (result : Result (Option (List Numbered)) Fault) : Type 0 where
+    pub ok : IfOk result (λ some. AreIfAny key some new)
+    pub again : IfErr result (λ e. e ≡ Memory → Rests d before s old was new)
+    pub stops : LeavesOnly d old.disk new.disk (Allowed before s)
     pub cause : IfErr result (λ e. e ≢ NotAStore)
 
   -- A structure change is logged and closed: the pages are those of its images.
-  pub record Restructured (images : List Numbered) (new : Engine D d) : Type 0 where
-    pub running : IsRunning d before s new
-    pub pages : bodies first_base running.now.log ≡ seen was.now images
+  pub record Restructured (t : ℕ) (images : List Numbered) (new : Engine D d) : Type 0 where
+    pub running : IsRunning d b before s new
+    pub grows : GrowsByChange t was.now.log running.now.log
+    pub some : marks grows.more ≢ []
+    pub pages : bodies b running.now.log ≡ seen was.now images
 
   -- what a structure change keeps
-  pub record StructureKept (images : List Numbered) (new : Engine D d) (result : Result Transaction Fault) : Type 0 where
-    pub ok : OnOk result (Restructured images new)
-    pub stops : LeavesOnly d old.disk new.disk (Allowed new.split before s)
+  pub record StructureKept (t : ℕ) (images : List Numbered) (new : Engine D d) (result : Result Transaction Fault) : Type 0 where
+    pub ok : OnOk result (Restructured t images new)
+    pub stops : LeavesOnly d old.disk new.disk (Allowed before s)
     pub cause : IfErr result (λ e. e ≢ NotAStore)
+
+  -- The key's leaf left the tree by a structure change of the transaction.
+  pub record LeafLeft (t : ℕ) (new : Engine D d) : Type 0 where
+    pub running : IsRunning d b before s new
+    pub grows : GrowsByChange t was.now.log running.now.log
+    pub some : marks grows.more ≢ []
+
+  -- What dropping a leaf keeps that is empty and not the root. Where it answers true that leaf is gone, or the key's leaf was none such.
+  pub record DropKept (t : ℕ) (key : Key) (new : Engine D d) (result : Result Bool Fault) : Type 0 where
+    pub edit : EditKept d before s old was s (GrowsByChange t was.now.log) new result
+    pub gone : IfOk result (λ done. done ≡ true → LeafStays key new ⊎ LeafLeft t new)
 
   -- The leaf of a key is held.
   pub record HasLeaf (key : Key) (p : ℕ) (new : Engine D d) : Type 0 where
-    pub running : IsRunning d before s new
-    pub page : pools.page_at new.writer.pool p ≡ page_at first_base running.now.log p
-    pub way : IsOnWay (bodies first_base running.now.log) 0 key p
-    pub same : walk (bodies first_base running.now.log) ≡ walk (bodies first_base was.now.log)
+    pub running : IsRunning d b before s new
+    pub page : pools.page_at new.writer.pool p ≡ page_at b running.now.log p
+    pub way : IsOnWay (bodies b running.now.log) 0 key p
+    pub same : walk (bodies b running.now.log) ≡ walk (bodies b was.now.log)
+
+  -- So it is where the log has Images more.
+  pub record LeafHeld (key : Key) (p : ℕ) (new : Engine D d) : Type 0 where
+    pub leaf : HasLeaf key p new
+    pub grows : GrowsByImages b was.now.log leaf.running.now.log
+
+  -- So it is behind a structure change of the transaction.
+  pub record HasSplitLeaf (t : ℕ) (key : Key) (p : ℕ) (new : Engine D d) : Type 0 where
+    pub leaf : HasLeaf key p new
+    pub grows : GrowsByChange t was.now.log leaf.running.now.log
 
   -- what the search for a leaf keeps that has room for its key
   pub record RoomKept (key : Key) (new : Engine D d) (result : Result Frame Fault) : Type 0 where
-    pub ok : IfOk result (λ frame. HasLeaf key frame.number new)
-    pub stops : LeavesOnly d old.disk new.disk (Allowed new.split before s)
-    pub cause : FitsInLeaf (bodies first_base was.now.log) key → IfErr result (λ e. e ≢ NotAStore)
+    pub ok : IfOk result (λ frame. LeafHeld key frame.number new)
+    pub stops : LeavesOnly d old.disk new.disk (Allowed before s)
+    pub cause : FitsInLeaf (bodies b was.now.log) key → IfErr result (λ e. e ≢ NotAStore)
 
   -- what the split of a key's leaf keeps
-  pub record SplitKept (key : Key) (new : Engine D d) (result : Result (Transaction × Frame) Fault) : Type 0 where
-    pub ok : IfOk result (λ x. HasLeaf key x.1.number new)
-    pub again : IfErr result (λ e. (e ≡ Memory) ⊎ (e ≡ PagesFull) → IsRunning d before s new)
-    pub stops : LeavesOnly d old.disk new.disk (Allowed new.split before s)
+  pub record SplitKept (t : ℕ) (key : Key) (new : Engine D d) (result : Result (Transaction × Frame) Fault) : Type 0 where
+    pub ok : IfOk result (λ x. HasSplitLeaf t key x.1.number new)
+    pub again : IfErr result (λ e. (e ≡ Memory) ⊎ (e ≡ PagesFull) → Rests d before s old was new)
+    pub stops : LeavesOnly d old.disk new.disk (Allowed before s)
     pub cause : IfErr result (λ e. e ≢ NotAStore)
-    pub within : OnOk result (IsWithin (bodies first_base was.now.log) key old.max_pages)
-    pub full : IfErr result (λ e. e ≡ PagesFull → IsOver (bodies first_base was.now.log) key old.max_pages)
-    pub used_up : IfErr result (λ e. e ≡ Capacity → NumbersEnd (bodies first_base was.now.log) ⊎ (height (bodies first_base was.now.log) ≡ 255))
+    pub within : OnOk result (IsWithin (bodies b was.now.log) key old.max_pages)
+    pub full : IfErr result (λ e. e ≡ PagesFull → IsOver (bodies b was.now.log) key old.max_pages)
+    pub used_up : IfErr result (λ e. e ≡ Capacity → IsUsedUp (bodies b was.now.log) key)
 
   -- how an insert whose leaf lacks room meets the limit of pages
   pub record LimitKept {A : Type 0} (key : Key) (result : Result A Fault) : Type 0 where
-    pub within : OnOk result (IsWithin (bodies first_base was.now.log) key old.max_pages)
-    pub full : IfErr result (λ e. e ≡ PagesFull → IsOver (bodies first_base was.now.log) key old.max_pages)
-    pub used_up : IfErr result (λ e. e ≡ Capacity → NumbersEnd (bodies first_base was.now.log) ⊎ (height (bodies first_base was.now.log) ≡ 255))
+    pub within : OnOk result (IsWithin (bodies b was.now.log) key old.max_pages)
+    pub full : IfErr result (λ e. e ≡ PagesFull → IsOver (bodies b was.now.log) key old.max_pages)
+    pub used_up : IfErr result (λ e. e ≡ Capacity → IsUsedUp (bodies b was.now.log) key)
 
-  -- An insert meets the limit of pages: it is made where the key's leaf has room or the pages with those that a split takes are within the limit, and refused `PagesFull` only where the key is absent and they are over it. It is refused `Capacity` only where page numbers or levels are used up.
-  pub record MeetsLimit (key : Key) (reply : Reply) : Type 0 where
-    pub made : reply ≡ Inserted → HasRoomFor (bodies first_base was.now.log) key ⊎ IsWithin (bodies first_base was.now.log) key old.max_pages
-    pub full : reply ≡ Refused PagesFull → (find key_order key (walk (bodies first_base was.now.log)) ≡ None) × IsOver (bodies first_base was.now.log) key old.max_pages
-    pub used_up : reply ≡ Refused Capacity → NumbersEnd (bodies first_base was.now.log) ⊎ (height (bodies first_base was.now.log) ≡ 255)
+-- ---- what a step asks of the pages that users see
+
+-- A step of an engine that had not failed is refused for pages, for page numbers, or behind the first record of a structure change.
+pub record AsksChange (failed : Bool) (reply : Reply) : Type 0 where
+  pub worked : failed ≡ false
+  pub asks : is_of_change reply ≡ true
+
+module _ (pages : Pages) where
+  -- An insert meets the limit of pages: it is made where the key's leaf has room or the pages with those that a split takes are within the limit, and refused `PagesFull` only where
+  -- the key is absent and they are over it. It is refused `Capacity` only where page numbers or levels are used up.
+  pub record MeetsLimit (max_pages : ℕ) (key : Key) (reply : Reply) : Type 0 where
+    pub made : reply ≡ Inserted → HasRoomFor pages key ⊎ IsWithin pages key max_pages
+    pub full : reply ≡ Refused PagesFull → (find key_order key (walk pages) ≡ None) × IsOver pages key max_pages
+    pub used_up : reply ≡ Refused Capacity → IsUsedUp pages key
 
   -- of the steps inserts alone are asked that
-  abbrev pub KeepsLimit : Step → Reply → Type 0
-  KeepsLimit (Insert t key rid) reply = MeetsLimit key.items reply
-  KeepsLimit _ reply = Unit {0}
-
-  -- A step of an engine that had not failed begins a structure change, or is refused for pages, for page numbers, or behind the first record of such a change.
-  pub record AsksChange (reply : Reply) (new : Engine D d) : Type 0 where
-    pub worked : old.failed ≡ false
-    pub asks : (is_of_change reply ≡ true) ⊎ (new.split ≢ old.split)
+  abbrev pub KeepsLimit : ℕ → Step → Reply → Type 0
+  KeepsLimit max_pages (Insert t key rid) reply = MeetsLimit max_pages key.items reply
+  KeepsLimit max_pages _ reply = Unit {0}
 
   -- The key is absent, and its leaf lacks room for it.
   pub record WantsSplit (key : Key) : Type 0 where
-    pub absent : find key_order key (walk (bodies first_base was.now.log)) ≡ None
+    pub absent : find key_order key (walk pages) ≡ None
     pub page : ℕ
-    pub way : IsOnWay (bodies first_base was.now.log) 0 key page
-    pub lacks : LacksRoom (bodies first_base was.now.log page).entries key
+    pub way : IsOnWay pages 0 key page
+    pub lacks : LacksRoom (pages page).entries key
 
   -- The key's leaf is not the root, and has one entry, which is the key's.
   pub record WantsDrop (key : Key) : Type 0 where
     pub page : ℕ
-    pub way : IsOnWay (bodies first_base was.now.log) 0 key page
+    pub way : IsOnWay pages 0 key page
     pub under : page ≢ 1
-    pub one : length (bodies first_base was.now.log page).entries ≡ 1
-    pub there : find key_order key (walk (bodies first_base was.now.log)) ≢ None
+    pub one : length (pages page).entries ≡ 1
+    pub there : find key_order key (walk pages) ≢ None
 
   -- A step asks for a structure change only where it wants one.
-  abbrev pub AsksWhereWanted : Step → Reply → Engine D d → Type 0
-  AsksWhereWanted (Insert t key rid) reply new = AsksChange reply new → WantsSplit key.items
-  AsksWhereWanted (Delete t key) reply new = AsksChange reply new → WantsDrop key.items
-  AsksWhereWanted _ reply new = Unit {0}
+  abbrev pub AsksWhereWanted : Bool → Step → Reply → Type 0
+  AsksWhereWanted failed (Insert t key rid) reply = AsksChange failed reply → WantsSplit key.items
+  AsksWhereWanted failed (Delete t key) reply = AsksChange failed reply → WantsDrop key.items
+  AsksWhereWanted failed _ reply = Unit {0}

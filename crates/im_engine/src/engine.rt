@@ -12,7 +12,6 @@ use crate::header::Header;
 use crate::transaction::Transaction;
 use im_disk::Disk;
 use im_flush::PageWriter;
-use im_serial::KeyTree;
 use im_types::{Fault, Key, PageNo, Reply, Rid, Step, TxnId};
 use std::alloc::Global;
 
@@ -33,8 +32,6 @@ pub struct Engine<D: Disk> {
     max_pages: PageNo,
     going: Option<Transaction>,
     next: TxnId,
-    /// A structure change was begun since the opening.
-    split: bool,
     failed: bool,
     ghost ready: { IsReadyWriter D.Disk writer disk },
     ghost working: { failed ≡ false → writer.failed ≡ false },
@@ -43,25 +40,24 @@ pub struct Engine<D: Disk> {
 }
 
 impl<D: Disk> Engine<D> {
+    ghost use Rattle.im_types.specs.Histories.{Base};
     ghost use Rattle.im_types.specs.declared.fault.Fault.TheVariants.{Failed, NoTransaction, TooMany, Capacity, LogFull, Device, NotAStore, PoolSize};
     ghost use Rattle.im_types.specs.declared.reply.Reply.TheVariants.{Started, Refused};
     ghost use Rattle.im_types.specs.Changes.{Effect};
     ghost use Rattle.im_types.specs.Faults.{number_of};
     ghost use Rattle.im_types.specs.Lives.{Shown, breaks, shown_by};
-    ghost use Rattle.im_disk.specs.Runs.{IsSynced};
+    ghost use Rattle.im_disk.specs.Runs.{IsSynced, LeavesOnly};
     ghost use Rattle.im_types.specs.Answers as answers;
     ghost use Rattle.im_types.specs.Steps.{asked_by, told_by};
     ghost use Rattle.im_pool.specs.Pool.{page_at};
-    ghost use Rattle.im_types.specs.LogLaws.{bodies};
+    ghost use Rattle.im_types.specs.Structure.{settled};
     ghost use Rattle.im_tree.specs.Levels.{walk};
     ghost use Rattle.im_restart.specs.Restart.{SpellsLog};
     ghost use Rattle.im_engine.specs.Stands.{StandsFor};
     ghost use Rattle.im_types.specs.Histories as histories;
-    ghost use Rattle.im_one_page.specs.OnePage.{first_base};
     ghost use Rattle.im_engine.specs.Running.{IsLife, IsRunning};
     ghost use Rattle.im_engine.specs.Kept.{StepKept, OpenKept, LookKept, EntriesKept, answered_by, disk_of};
-    ghost use Rattle.im_engine.specs.Structure.{KeepsLimit, AsksWhereWanted, MayChangeTree};
-    ghost use Rattle.im_engine.specs.Turns.{AreSteps};
+    ghost use Rattle.im_engine.specs.Turns.{IsStep, AreSteps, IsCutOff};
     ghost use Rattle.im_engine.specs.Changes.{IsIdle, active_in, header_of, is_breaking};
     ghost use Rattle.im_engine.specs.Checks.{CallsDevice, OfOwn, OfBegin, IsAnswered, AnswersStep, HasCause, active_after, active_number, changes_nothing, next_after};
 
@@ -87,15 +83,16 @@ impl<D: Disk> Engine<D> {
 
     // Begins a transaction.
     fn begin(&mut self) -> Reply
-        ensures kept { (before : List Effect) (s : Shown) → IsLife D.Disk before s self.old → StepKept D.Disk before s answers.Begin (told_by result) self.old self.new }
+        ensures kept { (before : List Effect) (s : Shown) (life : IsLife D.Disk before s self.old) → StepKept D.Disk before s answers.Begin (told_by result) self.old life self.new }
         ensures fails { self.new.failed ≡ (self.old.failed || is_breaking (told_by result)) }
         ensures failed { self.old.failed ≡ true → (result ≡ Refused Failed) × (self.new ≡ self.old) }
         ensures answered { IsAnswered D.Disk [] result self.old self.new (λ entries fault. OfBegin D.Disk self.old fault) (λ entries. answers.Started self.old.next) }
+        ensures device { self.old.failed ≡ false → D.failed self.new.disk ≡ true → result ≡ Refused Device }
         ensures quiet { self.new.disk ≡ self.old.disk }
         ensures same { changes_nothing (told_by result) ≡ true → self.new ≡ self.old }
         ensures active { active_number self.new.going ≡ active_after (told_by result) (active_number self.old.going) }
         ensures numbers { self.new.next ≡ next_after (told_by result) self.old.next }
-        ensures split { self.new.split ≡ self.old.split }
+        ensures max_pages { self.new.max_pages ≡ self.old.max_pages }
     {
         if self.failed {
             return Reply::Refused(Fault::Failed);
@@ -121,24 +118,24 @@ impl<D: Disk> Engine<D> {
     /// taken back. Gives the disk back with a refusal.
     ///
     /// Refused `PoolSize`, with no device call, where the frames are not 8 to 1,024; `NotAStore` where the bytes are no store;
-    /// `Memory`; `LogFull`; `Device`.
+    /// `Memory`; `LogFull`; `Device`; `Capacity` where what is taken back needs a page and page numbers or levels are used up.
     pub fn open_or_create(alloc: Global, disk: D, config: Config) -> Result<Engine<D>, (Fault, D)>
         requires working { D.failed disk ≡ false }
         requires synced { IsSynced D.Disk disk }
-        ensures kept { (before : List Effect) → D.tells → IsSynced D.Disk disk → StandsFor false before (D.seen disk) → OpenKept D.Disk before disk result }
+        ensures kept { (before : List Effect) → D.tells → IsSynced D.Disk disk → (stands : StandsFor before (D.seen disk)) → OpenKept D.Disk before disk stands result }
         ensures frames { IsErrAnd result (λ x. x.0 ≡ PoolSize) ↔ ((config.frames < 8) ⊎ (1024 < config.frames)) }
         ensures untouched { IfErr result (λ x. x.0 ≡ PoolSize → x.1 ≡ disk) }
-        ensures opened { IfOk result (λ e. (e.failed ≡ false) × (e.going ≡ None) × (e.split ≡ false) × (D.failed e.disk ≡ false)) }
+        ensures opened { IfOk result (λ e. (e.failed ≡ false) × (e.going ≡ None) × (D.failed e.disk ≡ false)) }
         ensures limit { IfOk result (λ e. e.max_pages ≡ config.max_pages) }
         ensures spelled { IfOk result (λ _. D.tells → SpellsLog (D.seen disk)) }
-        ensures causes { IfErr result (λ x. (x.0 ≡ PoolSize) ⊎ (x.0 ≡ Memory) ⊎ (x.0 ≡ Device) ⊎ (x.0 ≡ NotAStore) ⊎ (x.0 ≡ LogFull)) }
+        ensures causes { IfErr result (λ x. (x.0 ≡ PoolSize) ⊎ (x.0 ≡ Memory) ⊎ (x.0 ≡ Device) ⊎ (x.0 ≡ NotAStore) ⊎ (x.0 ≡ LogFull) ⊎ (x.0 ≡ Capacity)) }
         ensures device { IsErrAnd result (λ x. x.0 ≡ Device) ↔ (D.failed (disk_of D.Disk result) ≡ true) }
     {
         if config.frames < 8 || config.frames > 1024 {
             return Err((Fault::PoolSize, disk));
         }
         let mut disk = disk;
-        match im_restart::open_or_create::<D, KeyTree>(alloc, &mut disk, config.frames) {
+        match im_restart::open_or_create(alloc, &mut disk, config.frames) {
             Err(fault) => Err((fault, disk)),
             Ok(restarted) => Ok(Engine {
                 alloc,
@@ -147,7 +144,6 @@ impl<D: Disk> Engine<D> {
                 max_pages: config.max_pages,
                 going: None,
                 next: restarted.next,
-                split: false,
                 failed: false,
             }),
         }
@@ -165,20 +161,7 @@ impl<D: Disk> Engine<D> {
     /// first record of a structure change. `LogFull`, `Capacity`, `Device`, `NotAStore` and `Failed` break the engine; after every other
     /// refusal the entries and the transactions are as they were.
     pub fn step(&mut self, step: &Step) -> Reply
-        ensures kept { (before : List Effect) (s : Shown) → IsLife D.Disk before s self.old → StepKept D.Disk before s (asked_by step.now) (told_by result) self.old self.new }
-        ensures fails { self.new.failed ≡ (self.old.failed || is_breaking (told_by result)) }
-        ensures failed { self.old.failed ≡ true → (result ≡ Refused Failed) × (self.new ≡ self.old) }
-        ensures answered { AnswersStep D.Disk step.now result self.old self.new }
-        ensures device { self.old.failed ≡ false → D.failed self.new.disk ≡ true → result ≡ Refused Device }
-        ensures same { changes_nothing (told_by result) ≡ true → self.new ≡ self.old }
-        ensures active { active_number self.new.going ≡ active_after (told_by result) (active_number self.old.going) }
-        ensures numbers { self.new.next ≡ next_after (told_by result) self.old.next }
-        ensures limit { (before : List Effect) (s : Shown) (r : IsRunning D.Disk before s self.old) → KeepsLimit D.Disk before s self.old r step.now result }
-        ensures wanted { (before : List Effect) (s : Shown) (r : IsRunning D.Disk before s self.old) → AsksWhereWanted D.Disk before s self.old r step.now result self.new }
-        ensures split { self.old.split ≡ true → self.new.split ≡ true }
-        ensures unsplit { ¬ (MayChangeTree step.now) → self.new.split ≡ self.old.split }
-        ensures works { D.failed self.new.disk ≡ true → self.new.failed ≡ true }
-        ensures quiet { ¬ (CallsDevice D.Disk step.now self.old) → self.new.disk ≡ self.old.disk }
+        ensures { IsStep D.Disk step.now result self.old self.new }
     {
         match step {
             Step::Begin => self.begin(),
@@ -197,6 +180,8 @@ impl<D: Disk> Engine<D> {
             → IsLife D.Disk before (shown_by s (answered_by steps.now replies.items)) self.new) }
         ensures each { IfOk result (λ replies. length replies.items ≡ length steps.now) }
         ensures turns { IfOk result (λ replies. AreSteps D.Disk steps.now replies.items self.old self.new) }
+        ensures stops { IfOk result (λ replies. (before : List Effect) (s : Shown) → IsLife D.Disk before s self.old → LeavesOnly D.Disk self.old.disk self.new.disk (IsCutOff before s steps.now replies.items)) }
+        ensures max_pages { self.new.max_pages ≡ self.old.max_pages }
         ensures none { OnErr result (self.new ≡ self.old) }
         ensures memory { IfErr result (λ e. e ≡ Memory) }
     {
@@ -216,7 +201,7 @@ impl<D: Disk> Engine<D> {
     pub fn entries(&mut self, alloc: Global) -> Result<Vec<(Key, Rid)>, Fault>
         ensures kept { (before : List Effect) (s : Shown) → IsLife D.Disk before s self.old → LookKept D.Disk before s self.old self.new }
         ensures entries { IfOk result (λ list. (before : List Effect) (s : Shown) → IsLife D.Disk before s self.old → EntriesKept before s list.items) }
-        ensures walk { IfOk result (λ list. (before : List Effect) (s : Shown) (r : IsRunning D.Disk before s self.old) → list.items ≡ walk (bodies first_base r.now.log)) }
+        ensures walk { IfOk result (λ list. (b : Base) (before : List Effect) (s : Shown) (r : IsRunning D.Disk b before s self.old) → list.items ≡ walk (settled b r.now.log)) }
         ensures never { IfErr result (λ e. (before : List Effect) (s : Shown) → IsLife D.Disk before s self.old → e ≢ NotAStore) }
         ensures failed { result ≡ Err Failed ↔ (self.old.failed ≡ true) }
         ensures works { OnOk result (self.new.failed ≡ false) }
@@ -225,7 +210,7 @@ impl<D: Disk> Engine<D> {
         ensures device { self.old.failed ≡ false → D.failed self.new.disk ≡ true → result ≡ Err Device }
         ensures going { self.new.going ≡ self.old.going }
         ensures next { self.new.next ≡ self.old.next }
-        ensures split { self.new.split ≡ self.old.split }
+        ensures max_pages { self.new.max_pages ≡ self.old.max_pages }
     {
         if self.failed {
             return Err(Fault::Failed);
@@ -247,7 +232,7 @@ impl<D: Disk> Engine<D> {
     pub fn header(&mut self, page: PageNo) -> Result<Header, Fault>
         ensures kept { (before : List Effect) (s : Shown) → IsLife D.Disk before s self.old → LookKept D.Disk before s self.old self.new }
         ensures header { IfOk result (λ header. header ≡ header_of (page_at self.new.writer.pool page)) }
-        ensures logged { IfOk result (λ header. (before : List Effect) (s : Shown) (r : IsRunning D.Disk before s self.old) → header ≡ header_of (histories.page_at first_base r.now.log page)) }
+        ensures logged { IfOk result (λ header. (b : Base) (before : List Effect) (s : Shown) (r : IsRunning D.Disk b before s self.old) → header ≡ header_of (histories.page_at b r.now.log page)) }
         ensures never { IfErr result (λ e. (before : List Effect) (s : Shown) → IsLife D.Disk before s self.old → e ≢ NotAStore) }
         ensures failed { result ≡ Err Failed ↔ (self.old.failed ≡ true) }
         ensures works { OnOk result (self.new.failed ≡ false) }
@@ -256,7 +241,7 @@ impl<D: Disk> Engine<D> {
         ensures device { self.old.failed ≡ false → D.failed self.new.disk ≡ true → result ≡ Err Device }
         ensures going { self.new.going ≡ self.old.going }
         ensures next { self.new.next ≡ self.old.next }
-        ensures split { self.new.split ≡ self.old.split }
+        ensures max_pages { self.new.max_pages ≡ self.old.max_pages }
     {
         if self.failed {
             return Err(Fault::Failed);
@@ -284,13 +269,6 @@ impl<D: Disk> Engine<D> {
         self.failed
     }
 
-    /// Whether a structure change was begun since it was opened.
-    pub fn has_split(&self) -> bool
-        ensures { result ≡ self.now.split }
-    {
-        self.split
-    }
-
     /// The disk, for reading.
     pub fn disk(&self) -> &D
         ensures { result.now ≡ self.now.disk }
@@ -309,7 +287,6 @@ impl<D: Disk> Engine<D> {
             max_pages: _max_pages,
             going: _going,
             next: _next,
-            split: _split,
             failed: _failed,
         } = self;
         disk

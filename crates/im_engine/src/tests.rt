@@ -1,6 +1,6 @@
 //! Lives of a store on the model disk.
 
-use crate::{Config, Engine};
+use crate::{Config, Engine, live};
 use im_disk::{Disk, Fill, Length, ModelDisk, Stop};
 use im_types::{Fault, FileId, PageKind, PageNo, Reply, Step};
 use std::alloc::Global;
@@ -46,9 +46,9 @@ fn after_stop(alloc: Global, call: u64, fill: u8) -> Result<(usize, u8, u64), Fa
     let mut disk = ModelDisk::new(Vec::new(alloc), Vec::new(alloc));
     disk.arm(stop_at(alloc, call, fill)?);
     let steps = one_insert(alloc, b'a', 7)?;
-    let mut engine = Engine::open_or_create(alloc, disk, Config::default()).map_err(|x| x.0)?;
-    let _ = engine.life(alloc, &steps)?;
-    let left = engine.disk().after_stop(alloc)?;
+    let (replies, disk) = live(alloc, disk, Config::default(), &steps);
+    let _ = replies?;
+    let left = disk.after_stop(alloc)?;
     let mut next = Engine::open_or_create(alloc, left, Config::default()).map_err(|x| x.0)?;
     found(alloc, &mut next)
 }
@@ -308,7 +308,6 @@ fn a_full_root_leaf_is_split(rt: HostRuntime) -> Result<(), Fail> {
     let disk = ModelDisk::new(Vec::new(alloc), Vec::new(alloc));
     let mut engine = Engine::open_or_create(alloc, disk, Config::default()).map_err(|x| x.0)?;
     assert_eq!(rt; insert_sixteen(alloc, &mut engine)?, Reply::Inserted);
-    assert_eq!(rt; engine.has_split(), true);
     assert_eq!(rt; reply_to(&mut engine, Step::Commit(1)), Reply::Committed);
     assert_eq!(rt; engine.disk().calls(), 22);
     assert_eq!(rt;
@@ -320,6 +319,40 @@ fn a_full_root_leaf_is_split(rt: HostRuntime) -> Result<(), Fail> {
             (16, b'0', 1)
         )
     );
+    Ok(())
+}
+
+#[test]
+fn what_a_split_has_moved_is_taken_back(rt: HostRuntime) -> Result<(), Fail> {
+    let alloc = rt.alloc();
+    let disk = ModelDisk::new(Vec::new(alloc), Vec::new(alloc));
+    let mut engine = Engine::open_or_create(alloc, disk, Config::default()).map_err(|x| x.0)?;
+    assert_eq!(rt; insert_sixteen(alloc, &mut engine)?, Reply::Inserted);
+    assert_eq!(rt; reply_to(&mut engine, Step::Force), Reply::Done);
+    let left = engine.disk().after_stop(alloc)?;
+    let mut next = Engine::open_or_create(alloc, left, Config::default()).map_err(|x| x.0)?;
+    assert_eq!(rt; found(alloc, &mut next)?, (0, 0, 0));
+    assert_eq!(rt; reply_to(&mut next, Step::Begin), Reply::Started(2));
+    Ok(())
+}
+
+#[test]
+fn what_a_split_store_has_lost_comes_back(rt: HostRuntime) -> Result<(), Fail> {
+    let alloc = rt.alloc();
+    let disk = ModelDisk::new(Vec::new(alloc), Vec::new(alloc));
+    let mut engine = Engine::open_or_create(alloc, disk, Config::default()).map_err(|x| x.0)?;
+    assert_eq!(rt; insert_sixteen(alloc, &mut engine)?, Reply::Inserted);
+    assert_eq!(rt; reply_to(&mut engine, Step::Commit(1)), Reply::Committed);
+    assert_eq!(rt; reply_to(&mut engine, Step::Begin), Reply::Started(2));
+    for number in 1..9u8 {
+        let key = long_key(alloc, number)?;
+        assert_eq!(rt; reply_to(&mut engine, Step::Delete(2, key)), Reply::Deleted);
+    }
+    assert_eq!(rt; found(alloc, &mut engine)?, (8, b'0', 9));
+    assert_eq!(rt; reply_to(&mut engine, Step::Force), Reply::Done);
+    let left = engine.disk().after_stop(alloc)?;
+    let mut next = Engine::open_or_create(alloc, left, Config::default()).map_err(|x| x.0)?;
+    assert_eq!(rt; found(alloc, &mut next)?, (16, b'0', 1));
     Ok(())
 }
 
@@ -364,7 +397,6 @@ fn a_split_past_the_limit_of_pages_is_refused(rt: HostRuntime) -> Result<(), Fai
         Reply::Refused(Fault::PagesFull)
     );
     assert_eq!(rt; engine.failed(), false);
-    assert_eq!(rt; engine.has_split(), false);
     assert_eq!(rt; found(alloc, &mut engine)?, (15, b'0', 1));
     assert_eq!(rt; reply_to(&mut engine, Step::Commit(1)), Reply::Committed);
     Ok(())

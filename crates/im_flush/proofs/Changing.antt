@@ -4,11 +4,12 @@ use Rattle.std.specs.Prelude.{is_some}
 use Rattle.std.proofs.lemmas.Bool.{cases_eq}
 use Rattle.im_types.specs.declared.file_id.FileId.TheVariants.{Log, Pages}
 use Rattle.im_types.specs.Pages.{Page}
+use Rattle.im_types.specs.Records.{Checkpoint, Commit, DeleteKey, DummyClr, End, Image, InsertKey, Smo, UndoDelete, UndoInsert, UndoSmo, Unreadable, What}
 use Rattle.im_types.specs.Histories.{Base, page_after}
 use Rattle.im_types.specs.Copies.{copy_in}
 use Rattle.im_types.specs.RedoPoints.{is_checkpoint}
 use Rattle.im_types.specs.Writer.{DirtyEntry, PageState, Writer}
-use Rattle.im_types.specs.WriterSteps.{MayAppend, changed, changed_entry, changed_page, first_since, only, passed}
+use Rattle.im_types.specs.WriterSteps.{MayAppend, changed, changed_entry, changed_page, first_since, holds_copy, only, passed}
 use Rattle.im_types.proofs.WriterAppends.{changed_kept}
 use Rattle.im_types.proofs.WriterCheckpoints.{next_point}
 use Rattle.im_types.proofs.WriterGrowth.{grown_kept}
@@ -38,9 +39,24 @@ now_some : (l : ℕ) (t : Option ℕ) → true ≡ is_some (first_since l t)
 now_some l None = refl
 now_some l (Some k) = refl
 
-now_changed : (l : ℕ) (o : Option DirtyEntry) → true ≡ is_changed (Some (changed_entry l o))
-now_changed l None = refl
-now_changed l (Some e) = now_some l e.since
+now_changed : (k : Bool) (l : ℕ) (o : Option DirtyEntry) → true ≡ is_changed (Some (changed_entry k l o))
+now_changed k l None = refl
+now_changed k l (Some e) = now_some l e.since
+
+-- a record with no full copy
+holds_none : (l : ℕ) (w : What) → copy_in l w ≡ None → holds_copy w ≡ false
+holds_none l (Image c) none = absurd (cc none)
+holds_none l (Smo old new) none = absurd (cc none)
+holds_none l (UndoSmo new) none = absurd (cc none)
+holds_none l (InsertKey k i) none = refl
+holds_none l (DeleteKey k i) none = refl
+holds_none l (UndoInsert k i) none = refl
+holds_none l (UndoDelete k i) none = refl
+holds_none l DummyClr none = refl
+holds_none l Commit none = refl
+holds_none l End none = refl
+holds_none l (Checkpoint n a d) none = refl
+holds_none l Unreadable none = refl
 
 -- what a step on one page leaves of the file
 file_only : {D : Type 0} (d : Ghosts D) (pages : ℕ → PageState) (f : PageState → PageState) (p : ℕ) (disk : D) → ((x : PageState) → ((f x).reads ≡ x.reads) × ((f x).synced ≡ x.synced) × ((f x).unsynced ≡ x.unsynced)) → IsPageFile d pages disk
@@ -87,14 +103,14 @@ module _ {D : Type 0} (d : Ghosts D) (b : Base) (base : ℕ) (s : Writer) (log n
     (w : IsWriting d b base s log table pool old) (may : MayAppend b s (logged_at lsn entry)) (done : Appended d base s.log s.durable entry lsn old new_log new) (here : (logged_at lsn entry).page ≡ frame.number) where
   -- An append with what the record makes of its page, and the page's entry, is one step of the writer.
   pub step_by : IsOpen d new_log new → ChangesOnly d Log old new → is_some (held_of pool frame.number) ≡ true → Sets frame (page_after lsn (what_of entry) (s.pages frame.number).page) true pool new_pool
-      → ChangesEntry frame.number (changed_entry lsn) table new_table → IsWriting d b base (record (changed (logged_at lsn entry) s) { durable = done.now_durable }) new_log new_table new_pool new
+      → ChangesEntry frame.number (changed_entry (holds_copy (what_of entry)) lsn) table new_table → IsWriting d b base (record (changed (logged_at lsn entry) s) { durable = done.now_durable }) new_log new_table new_pool new
   step_by opened changes held sets enters =
       let r = logged_at lsn entry in
       let file = file_only d s.pages (changed_page r) r.page new (λ x. (refl, refl, refl)) (page_file_spared d s.pages old new (spared d Log Pages old new (λ same. cc) changes) w.stands.file) in
-      let entries : HasEntries new_table (only r.page (changed_page r) s.pages) = entries_put (changed_page r) (changed_entry lsn) s.pages r.page table new_table (λ x. refl) w.entries
-      (subst (λ (n : ℕ). ChangesEntry n (changed_entry lsn) table new_table) (sym here) enters) in
+      let entries : HasEntries new_table (only r.page (changed_page r) s.pages) = entries_put (changed_page r) (changed_entry (holds_copy (what_of entry)) lsn) s.pages r.page table new_table (λ x. refl) w.entries
+      (subst (λ (n : ℕ). ChangesEntry n (changed_entry (holds_copy (what_of entry)) lsn) table new_table) (sym here) enters) in
       let pooled = subst (λ (n : ℕ). IsPooled new_pool (only n (changed_page r) s.pages)) (sym here)
-      (pooled_set pool new_pool s.pages (changed_page r) frame (page_after lsn (what_of entry) (s.pages frame.number).page) true w.pooled sets held refl (now_changed lsn (s.pages frame.number).entry) (λ x. refl)) in
+      (pooled_set pool new_pool s.pages (changed_page r) frame (page_after lsn (what_of entry) (s.pages frame.number).page) true w.pooled sets held refl (now_changed (holds_copy (what_of entry)) lsn (s.pages frame.number).entry) (λ x. refl)) in
       record {
         stands = record {
           kept = grown_kept b (changed r s) done.now_durable done.grows done.log.front (changed_kept b s r w.stands.kept may);
@@ -122,5 +138,6 @@ module _ {D : Type 0} (d : Ghosts D) (b : Base) (base : ℕ) (s : Writer) (e : �
 
   -- the same of a record that holds no full copy
   pub changed_by : IsOpen d new_log new → ChangesOnly d Log old new → is_some (held_of pool frame.number) ≡ true → Sets frame (page_after lsn (what_of entry) (s.pages frame.number).page) true pool new_pool
-      → ChangesEntry frame.number (changed_entry lsn) table new_table → IsWriting d b base (record (changed (logged_at lsn entry) s) { durable = done.now_durable }) new_log new_table new_pool new
-  changed_by opened changes held sets enters = step_by d b base s log new_log table new_table pool new_pool old new entry lsn frame w change_may done here opened changes held sets enters
+      → ChangesEntry frame.number (changed_entry false lsn) table new_table → IsWriting d b base (record (changed (logged_at lsn entry) s) { durable = done.now_durable }) new_log new_table new_pool new
+  changed_by opened changes held sets enters = step_by d b base s log new_log table new_table pool new_pool old new entry lsn frame w change_may done here opened changes held sets
+      (subst (λ (k : Bool). ChangesEntry frame.number (changed_entry k lsn) table new_table) (sym (holds_none lsn (what_of entry) copy)) enters)

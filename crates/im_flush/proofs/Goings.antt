@@ -17,7 +17,7 @@ use Rattle.im_pool.specs.Pool.{Held, PoolView, held_of, frame_of, page_at}
 use Rattle.im_flush.specs.declared.table_entry.TableEntry.{TableEntry}
 use Rattle.im_flush.specs.Stands.{is_changed, IsCovered, LeavesCovered}
 use Rattle.im_flush.specs.Images.{with_image, MayImage, Imaged}
-use Rattle.im_flush.specs.Writing.{IsShown, IsPooled, MayCopy, IsWriting, Goes, LeavesGrown, CopyDone}
+use Rattle.im_flush.specs.Writing.{IsShown, IsPooled, MayCopy, IsWriting, Goes, LeavesGrown, PageImaged}
 use Rattle.im_flush.proofs.Standing.{run_start, wider_covered}
 use Rattle.im_flush.proofs.Growing.{image_entry, image_keeps, grown_front, grows_none, grows_then, keeps_none, keeps_then}
 
@@ -120,7 +120,7 @@ module _ {D : Type 0} (d : Ghosts D) (b : Base) (base : ℕ) where
     pub may_image : (bytes : List ℕ) (page : Page) → page_of bytes ≡ Some page → page ≡ (s.pages p).page → MayImage s p bytes
     may_image bytes page is shown = record { ready = may.ready; page = is ∙ ap (λ (g : Page). Some g) shown; begun = λ going. may.begun }
 
-    pub copy_done : (lsn : ℕ) (new_log : LogFile) (new : D) → LeavesCovered d b base s.durable s.log old new → Imaged d b base s p lsn new_log table new → CopyDone d b base s p lsn old new_log table pool new
+    pub copy_done : (lsn : ℕ) (new_log : LogFile) (new : D) → LeavesCovered d b base s.durable s.log old new → Imaged d b base s p lsn new_log table new → PageImaged d b base s p lsn old new_log table pool new
     copy_done lsn new_log new stops done =
         let high : end_of b s.log < lsn = done.stands.kept.rises.1 in
         let entry = image_entry b s p lsn w.stands.kept may.ready high done.durable in

@@ -1,5 +1,5 @@
 -- The Images of a flush: once the log is forced, each of its pages may be written.
-use Rattle.std.proofs.Common.{◌≡◌, ◌≢◌, inl, inr, ℕ, ◌+◌, ◌-◌, ◌<◌, ◌≤◌, min, false, List, [], ◌∷◌, ◌++◌, length, length-append, Option, None, Some, refl, sym, ◌∙◌, ap, subst, arith}
+use Rattle.std.proofs.Common.{◌≡◌, ◌≢◌, inl, inr, ℕ, ◌+◌, ◌-◌, ◌<◌, ◌≤◌, min, false, List, [], ◌∷◌, ◌++◌, length, length-append, refl, sym, ◌∙◌, ap, subst, arith}
 use Rattle.std.specs.Prelude.{nat_lt, slice_index_or}
 use Rattle.std.proofs.lemmas.Bool.{cases_eq, cases_lt, cond-true, cond-false, lt-ltb, le-ltb}
 use Rattle.std.proofs.lemmas.List.{get_or_append_left, get_or-append_right}
@@ -7,10 +7,12 @@ use Rattle.im_types.specs.declared.file_id.FileId.TheVariants.{Log}
 use Rattle.im_types.specs.Histories.{Base, History, IsFront, end_of}
 use Rattle.im_types.specs.Copies.{HasCopy}
 use Rattle.im_types.specs.RedoPoints.{redo_point}
-use Rattle.im_types.specs.Writer.{DirtyEntry, Writer, WriterKept}
-use Rattle.im_types.specs.WriterSteps.{MayWrite, forced, written_entry}
+use Rattle.im_types.specs.Writer.{Writer, WriterKept}
+use Rattle.im_types.specs.WriterSteps.{MayWrite, forced}
 use Rattle.im_types.proofs.Copies.{copy_grows, noted_here}
+use Rattle.im_types.proofs.Histories.{end_le}
 use Rattle.im_types.proofs.RedoPoints.{point_low, point_same}
+use Rattle.im_types.proofs.WriterFronts.{whole}
 use Rattle.im_disk.specs.declared.disk.Disk.{Ghosts}
 use Rattle.im_disk.specs.Disk.{Files}
 use Rattle.im_disk.specs.Runs.{ChangesOnly, LeavesIn}
@@ -19,63 +21,81 @@ use Rattle.im_log.specs.LogFile.{IsLog, IsOpen}
 use Rattle.im_log.specs.Kept.{SpellsEither}
 use Rattle.im_pool.specs.Pool.{PoolView}
 use Rattle.im_flush.specs.declared.table_entry.TableEntry.{TableEntry}
+use Rattle.im_flush.specs.DirtyTable.{IsCopied}
 use Rattle.im_flush.specs.Images.{image_at, with_image}
 use Rattle.im_flush.specs.Growth.{Keeps}
-use Rattle.im_flush.specs.Writing.{lsn_for, with_lsn, MayCopy, IsWriting, Goes, CopyDone, ImagesTo, ImagesDurable}
+use Rattle.im_flush.specs.Writing.{lsn_for, with_lsn, MayCopy, IsWriting, Goes, PageImaged, CopyDone, ImagesTo, ImagesDurable}
 use Rattle.im_flush.proofs.Standing.{log_stops, stands_forced}
-use Rattle.im_flush.proofs.Growing.{begun_still, grows_none, image_entry, image_keeps, same_page}
+use Rattle.im_flush.proofs.Growing.{begun_still, grown_front, grows_none, same_page}
 use Rattle.im_flush.proofs.Goings.{goes_start, goes_then}
 
 -- ---- what a write asks, of the log as it is
 
-may_from : (b : Base) (u : Writer) (log : History) (e : Option DirtyEntry) (q m : ℕ) → (u.pages q).waits ≡ false → u.log ≡ log → (u.pages q).entry ≡ e
-    → HasCopy log q (written_entry m e).rec_lsn → redo_point log ≤ m → m ≤ end_of b log → MayWrite b (forced u) q m
-may_from b u log e q m ready log_is entry copy low high = record {
-  ready = ready;
-  durable = refl;
-  copy = subst (λ (h : History). HasCopy h q (written_entry m (u.pages q).entry).rec_lsn) (sym log_is) (subst (λ (o : Option DirtyEntry). HasCopy log q (written_entry m o).rec_lsn) (sym entry) copy);
-  low = subst (λ (h : History). redo_point h ≤ m) (sym log_is) low;
-  high = subst (λ (h : History). m ≤ end_of b h) (sym log_is) high;
-}
+-- The log has more Images, and the same redo point: what could be written still can.
+may_still : (b : Base) (s t : Writer) (q m : ℕ) → WriterKept b t → Keeps b s t → redo_point t.log ≡ redo_point s.log → MayWrite b (forced s) q m → MayWrite b (forced t) q m
+may_still b s t q m kept keeps point may =
+    let front = grown_front b s.log t.log keeps.log in
+    let low : redo_point s.log ≤ m = may.low in
+    let high : m ≤ end_of b s.log = may.high in
+    let longer : end_of b s.log ≤ end_of b t.log = end_le b s.log t.log kept.rises front in
+    record {
+      ready = (keeps.pages q).waits ∙ may.ready;
+      durable = refl;
+      copy = subst (λ (k : ℕ). HasCopy t.log q k) (sym point) (copy_grows s.log t.log q (redo_point s.log) front may.copy);
+      low = omega (arith, point, low);
+      high = omega (arith, high, longer);
+    }
 
-module _ (b : Base) (s : Writer) (p l : ℕ) (kept : WriterKept b s) (ready : (s.pages p).waits ≡ false) (begun : s.log ≢ []) (last : end_of b s.log < l) (durable : History) where
-  point_still : redo_point (image_at l p (s.pages p).page ∷ s.log) ≡ redo_point s.log
+-- a page with a full copy may be written, with any LSN from the redo point up to the end
+may_new : (b : Base) (t : Writer) (p m : ℕ) → (t.pages p).waits ≡ false → HasCopy t.log p (redo_point t.log) → redo_point t.log ≤ m → m ≤ end_of b t.log → MayWrite b (forced t) p m
+may_new b t p m ready copy low high = record { ready = ready; durable = refl; copy = copy; low = low; high = high }
+
+module _ (b : Base) (s : Writer) (p l : ℕ) (kept : WriterKept b s) (begun : s.log ≢ []) (last : end_of b s.log < l) where
+  pub point_still : redo_point (image_at l p (s.pages p).page ∷ s.log) ≡ redo_point s.log
   point_still = by s.log refl
     where
       by : (log : History) → s.log ≡ log → redo_point (image_at l p (s.pages p).page ∷ s.log) ≡ redo_point s.log
       by [] is = absurd (begun is)
       by (t ∷ older) is = subst (λ (log : History). redo_point (image_at l p (s.pages p).page ∷ log) ≡ redo_point log) (sym is) (point_same (image_at l p (s.pages p).page) t older refl)
 
-  -- an Image more takes nothing away
-  pub may_still : IsFront s.durable durable → (q m : ℕ) → MayWrite b (forced s) q m → MayWrite b (forced (with_image l p durable s)) q m
-  may_still grows q m may =
-      let keeps = image_keeps b s p l kept ready last durable grows in
-      let high : m ≤ end_of b s.log = may.high in
-      let low : redo_point s.log ≤ m = may.low in
-      let point = point_still in
-      may_from b (with_image l p durable s) (image_at l p (s.pages p).page ∷ s.log) (s.pages q).entry q m ((keeps.pages q).waits ∙ may.ready) refl
-      (image_entry b s p l kept ready last durable q)
-      (copy_grows s.log (image_at l p (s.pages p).page ∷ s.log) q (written_entry m (s.pages q).entry).rec_lsn (record { newer = image_at l p (s.pages p).page ∷ []; is = refl }) may.copy)
-      (omega (arith, point, low)) (omega (arith, high, last))
-
-  -- it serves its own page, with any LSN from the redo point up to its own
-  pub may_new : IsFront s.durable durable → (m : ℕ) → redo_point s.log ≤ m → m ≤ l → MayWrite b (forced (with_image l p durable s)) p m
-  may_new grows m low high =
-      let keeps = image_keeps b s p l kept ready last durable grows in
-      let point = point_still in
-      may_from b (with_image l p durable s) (image_at l p (s.pages p).page ∷ s.log) (s.pages p).entry p m ((keeps.pages p).waits ∙ ready) refl
-      (image_entry b s p l kept ready last durable p) (by (s.pages p).entry refl) (omega (arith, point, low)) high
-    where
-      has : (k : ℕ) → k ≤ l → HasCopy (image_at l p (s.pages p).page ∷ s.log) p k
-      has k le = record { lsn = l; copy = (s.pages p).page; is = noted_here k (image_at l p (s.pages p).page) s.log p (s.pages p).page le refl refl }
-
-      by : (o : Option DirtyEntry) → (s.pages p).entry ≡ o → HasCopy (image_at l p (s.pages p).page ∷ s.log) p (written_entry m o).rec_lsn
-      by None is = has m high
-      by (Some e) is = has e.rec_lsn (let before : e.rec_lsn ≤ end_of b s.log = ((kept.pages p).entry e is).high in omega (arith, before, last))
-
-  -- the redo point is below it
-  pub point_before : redo_point s.log ≤ l
+  -- the redo point is below the Image
+  point_before : redo_point s.log ≤ l
   point_before = let low : redo_point s.log ≤ end_of b s.log = point_low b s.log kept.rises in omega (arith, low, last)
+
+-- ---- a page's full copy
+
+module _ {D : Type 0} (d : Ghosts D) (b : Base) (base : ℕ) (s : Writer) (p : ℕ) (table : List TableEntry) (pool : PoolView) (old : D) where
+  -- an Image is one
+  pub image_copies : (lsn : ℕ) (log : LogFile) (new : D) → WriterKept b s → MayCopy s pool p → PageImaged d b base s p lsn old log table pool new → CopyDone d b base s p lsn old log table pool new
+  image_copies lsn log new kept asked done =
+      let point = point_still b s p lsn kept asked.begun done.high in
+      let before : redo_point s.log ≤ lsn = point_before b s p lsn kept asked.begun done.high in
+      let low : redo_point (image_at lsn p (s.pages p).page ∷ s.log) ≤ lsn = omega (arith, point, before) in
+      record {
+        now = with_image lsn p done.durable s;
+        goes = done.goes;
+        point = point;
+        copy = record { lsn = lsn; copy = (s.pages p).page; is = noted_here (redo_point (image_at lsn p (s.pages p).page ∷ s.log)) (image_at lsn p (s.pages p).page) s.log p (s.pages p).page low refl refl };
+        low = low;
+        high = omega arith;
+      }
+
+  -- one that is known is one
+  pub known_copies : (lsn : ℕ) (log : LogFile) → ((c : Files) → d.left_since old (d.moment old) c → d.may_leave old c) → IsWriting d b base s log table pool old → IsCopied table p lsn → CopyDone d b base s p lsn old log table pool old
+  known_copies lsn log only_now w is =
+      let kept = w.stands.kept in
+      let entry = (kept.pages p).entry is.entry (sym (w.entries p) ∙ is.is) in
+      let at : is.entry.rec_lsn ≡ lsn = is.rec_lsn in
+      let low : redo_point s.log ≤ is.entry.rec_lsn = entry.low s.log (whole s.durable s.log kept.front) in
+      let high : is.entry.rec_lsn ≤ end_of b s.log = entry.high in
+      record {
+        now = s;
+        goes = goes_start d b base s log table pool old only_now w;
+        point = refl;
+        copy = entry.copied is.copied;
+        low = omega (arith, at, low);
+        high = omega (arith, at, high);
+      }
 
 -- ---- the noted LSNs
 
@@ -124,43 +144,41 @@ module _ {D : Type 0} (d : Ghosts D) (b : Base) (base : ℕ) (s : Writer) (first
 
   module _ (p : ℕ) (lsns : List ℕ) (log : LogFile) (table : List TableEntry) (pool : PoolView) (mid : D) (order : first ≤ p) (so : ImagesTo d b base s first p lsns old log table pool mid)
       (lsn : ℕ) (new_log : LogFile) (new : D) (done : CopyDone d b base so.now p lsn mid new_log table pool new) (asked : MayCopy so.now pool p) where
-    kept_now : WriterKept b so.now
-    kept_now = so.goes.writing.stands.kept
+    kept_now : WriterKept b done.now
+    kept_now = done.goes.writing.stands.kept
 
-    earlier : (q : ℕ) → first ≤ q → q < p → MayWrite b (forced (with_image lsn p done.durable so.now)) q (lsn_for (with_lsn lsn lsns) (q - first))
+    ready_now : (done.now.pages p).waits ≡ false
+    ready_now = (done.goes.keeps.pages p).waits ∙ asked.ready
+
+    earlier : (q : ℕ) → first ≤ q → q < p → MayWrite b (forced done.now) q (lsn_for (with_lsn lsn lsns) (q - first))
     earlier q low high =
         let count : length lsns ≡ min (p - first) 1024 = so.count in
-        subst (λ (m : ℕ). MayWrite b (forced (with_image lsn p done.durable so.now)) q m) (sym (noted_before lsn lsns (q - first) (omega (arith, count, low, high))))
-        (may_still b so.now p lsn kept_now asked.ready asked.begun done.high done.durable done.grows q (lsn_for lsns (q - first)) (so.may q low high))
+        subst (λ (m : ℕ). MayWrite b (forced done.now) q m) (sym (noted_before lsn lsns (q - first) (omega (arith, count, low, high))))
+        (may_still b so.now done.now q (lsn_for lsns (q - first)) kept_now done.goes.keeps done.point (so.may q low high))
 
-    own : MayWrite b (forced (with_image lsn p done.durable so.now)) p (lsn_for (with_lsn lsn lsns) (p - first))
+    own : MayWrite b (forced done.now) p (lsn_for (with_lsn lsn lsns) (p - first))
     own = elim (cases_lt (length lsns) 1024) [
       | inl room ↦
           let place : p - first ≡ length lsns = (let count : length lsns ≡ min (p - first) 1024 = so.count in omega (arith, count, room)) in
           let is : lsn_for (with_lsn lsn lsns) (p - first) ≡ lsn = ap (λ (k : ℕ). lsn_for (with_lsn lsn lsns) k) place ∙ noted_new lsn lsns room in
-          subst (λ (m : ℕ). MayWrite b (forced (with_image lsn p done.durable so.now)) p m) (sym is)
-          (may_new b so.now p lsn kept_now asked.ready asked.begun done.high done.durable done.grows lsn (point_before b so.now p lsn kept_now asked.ready asked.begun done.high done.durable) (omega arith))
+          subst (λ (m : ℕ). MayWrite b (forced done.now) p m) (sym is) (may_new b done.now p lsn ready_now done.copy done.low done.high)
       | inr full ↦
           let count : length lsns ≡ min (p - first) 1024 = so.count in
           let far : first + 1023 < p = omega (arith, count, full, order) in
-          let before = so.may (first + 1023) (omega arith) far in
+          let before = may_still b so.now done.now (first + 1023) (lsn_for lsns (first + 1023 - first)) kept_now done.goes.keeps done.point (so.may (first + 1023) (omega arith) far) in
           let places : min (p - first) 1023 ≡ min (first + 1023 - first) 1023 = omega (arith, far) in
           let is : lsn_for (with_lsn lsn lsns) (p - first) ≡ lsn_for lsns (first + 1023 - first) = ap (λ (l : List ℕ). lsn_for l (p - first)) (noted_full lsn lsns full) ∙ ap (λ (k : ℕ). slice_index_or lsns k 0) places in
-          let low : redo_point so.now.log ≤ lsn_for lsns (first + 1023 - first) = before.low in
-          let high : lsn_for lsns (first + 1023 - first) ≤ end_of b so.now.log = before.high in
-          let last : end_of b so.now.log < lsn = done.high in
-          subst (λ (m : ℕ). MayWrite b (forced (with_image lsn p done.durable so.now)) p m) (sym is)
-          (may_new b so.now p lsn kept_now asked.ready asked.begun done.high done.durable done.grows (lsn_for lsns (first + 1023 - first)) low (omega (arith, high, last)))
+          subst (λ (m : ℕ). MayWrite b (forced done.now) p m) (sym is) (may_new b done.now p (lsn_for lsns (first + 1023 - first)) ready_now done.copy before.low before.high)
     ]
 
     -- one page more
     pub images_more : ImagesTo d b base s first (p + 1) (with_lsn lsn lsns) old new_log table pool new
     images_more = record {
-      now = with_image lsn p done.durable so.now;
-      goes = goes_then d b base s old so.now log table pool mid so.goes (with_image lsn p done.durable so.now) new_log table pool new done.goes;
+      now = done.now;
+      goes = goes_then d b base s old so.now log table pool mid so.goes done.now new_log table pool new done.goes;
       count = (let count : length (with_lsn lsn lsns) ≡ min (p - first + 1) 1024 = noted_count lsn lsns (p - first) so.count in omega (arith, count, order));
       may = λ q low high. elim (cases_eq p q) [
-        | inl here ↦ subst (λ (n : ℕ). MayWrite b (forced (with_image lsn p done.durable so.now)) n (lsn_for (with_lsn lsn lsns) (n - first))) here own
+        | inl here ↦ subst (λ (n : ℕ). MayWrite b (forced done.now) n (lsn_for (with_lsn lsn lsns) (n - first))) here own
         | inr other ↦ earlier q low (omega (arith, high, other))
       ];
     }

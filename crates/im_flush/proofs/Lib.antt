@@ -1,3 +1,4 @@
+pub mod LogEnds
 pub mod Tables
 pub mod Lists
 pub mod PageFiles

@@ -82,17 +82,17 @@ pooled_written pool new pages p l is un = record {
       | inr other ↦ ap (λ (o : Option Held). is_some o) (sym (un.others n (λ e. other (sym e)))) ∙ holds
     ]
 
-of_since : (o : Option ℕ) → is_some o ≡ is_changed (entry_since o)
-of_since None = refl
-of_since (Some l) = refl
+of_since : (k : Bool) (o : Option ℕ) → is_some o ≡ is_changed (entry_since k o)
+of_since k None = refl
+of_since k (Some l) = refl
 
 changed_synced : (o : Option DirtyEntry) → is_changed o ≡ is_changed (synced_entry o)
 changed_synced None = refl
-changed_synced (Some e) = of_since e.since
+changed_synced (Some e) = of_since e.copied e.since
 
 pub written_synced : (o : Option DirtyEntry) → IsWritten o → IsWritten (synced_entry o)
 written_synced None is = tt
-written_synced (Some e) is = subst (λ (t : Option ℕ). IsWritten (entry_since t)) (sym is) tt
+written_synced (Some e) is = subst (λ (t : Option ℕ). IsWritten (entry_since e.copied t)) (sym is) tt
 
 shown_synced : (o : Option Held) (x : PageState) → IsShown o x → IsShown o (synced_page x)
 shown_synced None x is = written_synced x.entry is

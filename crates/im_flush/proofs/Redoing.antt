@@ -80,9 +80,9 @@ pooled_loaded pool new pages point p c frame is number takes low = record {
 module _ {D : Type 0} (d : Ghosts D) (b : Base) (base : ℕ) (s : Writer) (log : LogFile) (table : List TableEntry) (pool : PoolView) (disk : D) (w : IsWriting d b base s log table pool disk) (going : s.redo_end ≡ None) where
   -- A noted copy is loaded, in place of the file's page.
   pub loaded_by : (p l : ℕ) (c : Page) (frame : Frame) (new_table : List TableEntry) (new_pool : PoolView) → (s.pages p).waits ≡ true → (s.pages p).found ≡ Some (l, c) → ((q : ℕ) → q < p → (s.pages q).waits ≡ false)
-      → frame.number ≡ p → Takes frame c true pool new_pool → ChangesEntry p (λ o. at_point s.point) table new_table → IsWriting d b base (loaded p c s) log new_table new_pool disk
+      → frame.number ≡ p → Takes frame c true pool new_pool → ChangesEntry p (λ o. at_point true s.point) table new_table → IsWriting d b base (loaded p c s) log new_table new_pool disk
   loaded_by p l c frame new_table new_pool waits found low number takes enters =
-      let entries : HasEntries new_table (only p (loaded_page s.point c) s.pages) = entries_put (loaded_page s.point c) (λ o. at_point s.point) s.pages p table new_table (λ x. refl) w.entries enters in
+      let entries : HasEntries new_table (only p (loaded_page s.point c) s.pages) = entries_put (loaded_page s.point c) (λ o. at_point true s.point) s.pages p table new_table (λ x. refl) w.entries enters in
       record {
         stands = record {
           kept = loaded_kept b s p l c w.stands.kept going waits found;
@@ -105,7 +105,7 @@ module _ {D : Type 0} (d : Ghosts D) (b : Base) (base : ℕ) (s : Writer) (log :
       subst (λ (x : LogFile). IsWriting d b base (loaded p c s) x new.table new.pool disk) (sym (same ∙ old_log))
       (loaded_by p l c here.frame new.table new.pool waits found low here.here
       (subst (λ (x : PoolView). Takes here.frame c true x new.pool) old_pool (subst (λ (g : Page). Takes here.frame g true old.pool new.pool) is here.takes))
-      (subst (λ (x : List TableEntry). ChangesEntry p (λ o. at_point s.point) x new.table) old_table (subst (λ (n : ℕ). ChangesEntry p (λ o. at_point n) old.table new.table) (sym at) here.entered)))
+      (subst (λ (x : List TableEntry). ChangesEntry p (λ o. at_point true s.point) x new.table) old_table (subst (λ (n : ℕ). ChangesEntry p (λ o. at_point true n) old.table new.table) (sym at) here.entered)))
 
   -- a page that waits is not held, so the load is not refused as no store
   pub load_taken : (p l n : ℕ) (c : Page) (what : What) → copy_in l what ≡ Some c → (s.pages p).waits ≡ true → n ≡ p → Holds pool n ⊎ (copy_in l what ≡ None) → ⊥

@@ -10,7 +10,7 @@ use Rattle.im_types.specs.Records.{Logged, What, InsertKey, DeleteKey, UndoInser
 use Rattle.im_types.specs.Histories.{Base, History, changes_page, end_of, page_after}
 use Rattle.im_types.specs.Copies.{redo_one}
 use Rattle.im_types.specs.Writer.{PageState, Writer}
-use Rattle.im_types.specs.WriterSteps.{applies, at_point, only, redone, redone_page}
+use Rattle.im_types.specs.WriterSteps.{applies, at_point, is_copied, only, redone, redone_page}
 use Rattle.im_types.proofs.Histories.{no_change}
 use Rattle.im_types.proofs.WriterRedo.{redone_kept}
 use Rattle.im_disk.specs.declared.disk.Disk.{Ghosts}
@@ -85,7 +85,7 @@ held_shows (Some h) x other held shown = shown.0
 -- ---- one page changed, as redo changes it
 
 abbrev applied_page : ℕ → Logged → PageState → PageState
-applied_page point r x = record x { page = page_after r.lsn r.what x.page; entry = Some (at_point point) }
+applied_page point r x = record x { page = page_after r.lsn r.what x.page; entry = Some (at_point (is_copied x.entry) point) }
 
 module _ (point : ℕ) (r : Logged) (pages : ℕ → PageState) (lt : (pages r.page).page.lsn < r.lsn) (changes : changes_page r.what ≡ true) where
   applied_here : (q : ℕ) → r.page ≡ q → applies r q (pages q).page ≡ true
@@ -105,8 +105,8 @@ module _ (point : ℕ) (r : Logged) (pages : ℕ → PageState) (lt : (pages r.p
 
   one_entry : (q : ℕ) → (redone_page point r q (pages q)).entry ≡ (only r.page (applied_page point r) pages q).entry
   one_entry q = elim (cases_eq r.page q) [
-    | inl here ↦ cond-true (applies r q (pages q).page) (Some (at_point point)) (pages q).entry (applied_here q here) ∙ ap (λ (x : PageState). x.entry) (sym (only_here (applied_page point r) pages r.page q here))
-    | inr other ↦ cond-false (applies r q (pages q).page) (Some (at_point point)) (pages q).entry (other_stays q other) ∙ ap (λ (x : PageState). x.entry) (sym (only_other (applied_page point r) pages r.page q other))
+    | inl here ↦ cond-true (applies r q (pages q).page) (Some (at_point (is_copied (pages q).entry) point)) (pages q).entry (applied_here q here) ∙ ap (λ (x : PageState). x.entry) (sym (only_here (applied_page point r) pages r.page q here))
+    | inr other ↦ cond-false (applies r q (pages q).page) (Some (at_point (is_copied (pages q).entry) point)) (pages q).entry (other_stays q other) ∙ ap (λ (x : PageState). x.entry) (sym (only_other (applied_page point r) pages r.page q other))
   ]
 
   one_waits : (q : ℕ) → (redone_page point r q (pages q)).waits ≡ (only r.page (applied_page point r) pages q).waits
@@ -136,16 +136,16 @@ module _ {D : Type 0} (d : Ghosts D) (b : Base) (base : ℕ) (s : Writer) (log :
   -- Redo goes past a record that it does not apply: nothing changes.
   pub redone_none : ((q : ℕ) → applies r q (s.pages q).page ≡ false) → IsWriting d b base (redone r every_page s) log table pool disk
   redone_none none =
-      let entry : (q : ℕ) → ((redone r every_page s).pages q).entry ≡ (s.pages q).entry = λ q. cond-false (applies r q (s.pages q).page) (Some (at_point s.point)) (s.pages q).entry (none q) in
+      let entry : (q : ℕ) → ((redone r every_page s).pages q).entry ≡ (s.pages q).entry = λ q. cond-false (applies r q (s.pages q).page) (Some (at_point (is_copied (s.pages q).entry) s.point)) (s.pages q).entry (none q) in
       redone_as table pool (λ q. w.entries q ∙ sym (entry q))
       (pooled_same pool s.pages (redone r every_page s).pages (λ q. page_stays r q (s.pages q).page (none q)) entry (λ q. refl) w.pooled)
 
   -- It applies a record to its page, which is held.
   pub redone_by : (frame : Frame) (new_table : List TableEntry) (new_pool : PoolView) → frame.number ≡ r.page → is_some (held_of pool frame.number) ≡ true → (s.pages r.page).page.lsn < r.lsn → changes_page r.what ≡ true
-      → Sets frame (page_after r.lsn r.what (s.pages frame.number).page) true pool new_pool → ChangesEntry r.page (λ o. at_point s.point) table new_table → IsWriting d b base (redone r every_page s) log new_table new_pool disk
+      → Sets frame (page_after r.lsn r.what (s.pages frame.number).page) true pool new_pool → ChangesEntry r.page (λ o. at_point (is_copied o) s.point) table new_table → IsWriting d b base (redone r every_page s) log new_table new_pool disk
   redone_by frame new_table new_pool here held lt changes sets enters =
       let f = applied_page s.point r in
-      let one : HasEntries new_table (only r.page (applied_page s.point r) s.pages) = entries_put (applied_page s.point r) (λ o. at_point s.point) s.pages r.page table new_table (λ x. refl) w.entries enters in
+      let one : HasEntries new_table (only r.page (applied_page s.point r) s.pages) = entries_put (applied_page s.point r) (λ o. at_point (is_copied o) s.point) s.pages r.page table new_table (λ x. refl) w.entries enters in
       let pooled : IsPooled new_pool (only r.page (applied_page s.point r) s.pages) = subst (λ (n : ℕ). IsPooled new_pool (only n (applied_page s.point r) s.pages)) here
       (pooled_set pool new_pool s.pages (applied_page s.point r) frame (page_after r.lsn r.what (s.pages frame.number).page) true w.pooled sets held refl refl (λ x. refl)) in
       redone_as new_table new_pool (λ q. one q ∙ sym (one_entry s.point r s.pages lt changes q))
@@ -162,9 +162,9 @@ module _ {D : Type 0} (d : Ghosts D) (b : Base) (base : ℕ) (s : Writer) (log :
       let sets : Sets here.frame (page_after r.lsn r.what (s.pages here.frame.number).page) true pool new.pool =
       subst (λ (x : PoolView). Sets here.frame (page_after r.lsn r.what (s.pages here.frame.number).page) true x new.pool) same_pool
       (subst (λ (g : Page). Sets here.frame (page_after r.lsn r.what g) true old.pool new.pool) shows (here.applied.set refl)) in
-      let enters : ChangesEntry r.page (λ o. at_point s.point) table new.table =
-      subst (λ (x : List TableEntry). ChangesEntry r.page (λ o. at_point s.point) x new.table) same_table
-      (subst (λ (k : ℕ). ChangesEntry r.page (λ o. at_point k) old.table new.table) (sym same_point) (subst (λ (k : ℕ). ChangesEntry k (λ o. at_point point) old.table new.table) number (here.entered refl))) in
+      let enters : ChangesEntry r.page (λ o. at_point (is_copied o) s.point) table new.table =
+      subst (λ (x : List TableEntry). ChangesEntry r.page (λ o. at_point (is_copied o) s.point) x new.table) same_table
+      (subst (λ (k : ℕ). ChangesEntry r.page (λ o. at_point (is_copied o) k) old.table new.table) (sym same_point) (subst (λ (k : ℕ). ChangesEntry k (λ o. at_point (is_copied o) point) old.table new.table) number (here.entered refl))) in
       subst (λ (x : LogFile). IsWriting d b base (redone r every_page s) x new.table new.pool disk) (sym same_log) (redone_by here.frame new.table new.pool at_r held lt (sym here.applied.changes) sets enters)
   redone_here point n false new_log old new same_table same_pool same_point number lt same_log here =
       subst (λ (x : LogFile). IsWriting d b base (redone r every_page s) x new.table new.pool disk) (sym same_log)

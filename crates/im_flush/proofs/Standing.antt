@@ -90,7 +90,7 @@ tied_synced pages old new is tied p = is p ∙ elim (tied p) [
   where
     gone : (o : Option DirtyEntry) → IsWritten o → synced_entry o ≡ None
     gone None done = refl
-    gone (Some e) done = ap entry_since done
+    gone (Some e) done = ap (λ (t : Option ℕ). entry_since e.copied t) done
 
 -- ---- the log's file
 

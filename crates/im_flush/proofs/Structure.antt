@@ -1,5 +1,5 @@
 -- A structure change joins the log, after redo: its page is the one after, and enters the dirty table.
-use Rattle.std.proofs.Common.{◌≡◌, Bor, ◌⊎◌, inl, inr, ℕ, true, false, List, ◌∷◌, Option, None, Some, refl, sym, ◌∙◌, ap, subst}
+use Rattle.std.proofs.Common.{◌≡◌, Bor, ◌⊎◌, inl, inr, ℕ, true, false, List, ◌∷◌, Option, None, Some, refl, sym, ◌∙◌, ap, subst, Bool}
 use Rattle.std.specs.Prelude.{is_some, Result, Ok, Err, IfErr, ◌≢◌, ◌==◌}
 use Rattle.std.proofs.lemmas.Bool.{cond-true, eq-eqb}
 use Rattle.im_types.specs.declared.fault.Fault.{Fault}
@@ -11,7 +11,7 @@ use Rattle.im_types.specs.Histories.{Base, page_after, page_at}
 use Rattle.im_types.specs.Copies.{copy_in}
 use Rattle.im_types.specs.RedoPoints.{is_checkpoint}
 use Rattle.im_types.specs.Writer.{DirtyEntry, Writer}
-use Rattle.im_types.specs.WriterSteps.{MayAppend, changed, changed_entry, changed_page, first_since, only, passed}
+use Rattle.im_types.specs.WriterSteps.{MayAppend, changed, changed_entry, changed_page, first_since, holds_copy, only, passed}
 use Rattle.im_types.proofs.WriterAppends.{changed_kept}
 use Rattle.im_types.proofs.WriterCheckpoints.{next_point}
 use Rattle.im_types.proofs.WriterGrowth.{grown_kept}
@@ -51,10 +51,11 @@ pub record LeavesBody (l : ℕ) (w : What) (body : Body) : Type 0 where
   pub after : (g : Page) → page_after l w g ≡ record { lsn = l; body = body }
   pub copy : copy_in l w ≡ Some (record { lsn = l; body = body })
   pub point : is_checkpoint w ≡ false
+  pub holds : holds_copy w ≡ true
 
 pub leaves_body : (l : ℕ) (w : What) (body : Body) → after_in w ≡ Some body → LeavesBody l w body
-leaves_body l (Smo old new) body is = (let same : new ≡ body = cc is in record { after = λ g. ap (λ (x : Body). record { lsn = l; body = x }) same; copy = ap (λ (x : Body). Some (record { lsn = l; body = x })) same; point = refl })
-leaves_body l (UndoSmo new) body is = (let same : new ≡ body = cc is in record { after = λ g. ap (λ (x : Body). record { lsn = l; body = x }) same; copy = ap (λ (x : Body). Some (record { lsn = l; body = x })) same; point = refl })
+leaves_body l (Smo old new) body is = (let same : new ≡ body = cc is in record { after = λ g. ap (λ (x : Body). record { lsn = l; body = x }) same; copy = ap (λ (x : Body). Some (record { lsn = l; body = x })) same; point = refl; holds = refl })
+leaves_body l (UndoSmo new) body is = (let same : new ≡ body = cc is in record { after = λ g. ap (λ (x : Body). record { lsn = l; body = x }) same; copy = ap (λ (x : Body). Some (record { lsn = l; body = x })) same; point = refl; holds = refl })
 leaves_body l (InsertKey k i) body is = absurd (cc is)
 leaves_body l (DeleteKey k i) body is = absurd (cc is)
 leaves_body l (UndoInsert k i) body is = absurd (cc is)
@@ -136,7 +137,8 @@ module _ {D : Type 0} (d : Ghosts D) (b : Base) (base : ℕ) (s : Writer) (e : �
 
   -- The append with the page made the one after, and its entry, is one step of the writer.
   pub left_by : IsOpen d new_log new → ChangesOnly d Log old new → is_some (held_of pool frame.number) ≡ true → Sets frame (record { lsn = lsn; body = body }) true pool new_pool
-      → ChangesEntry frame.number (changed_entry lsn) table new_table → IsWriting d b base (record (changed (logged_at lsn entry) s) { durable = done.now_durable }) new_log new_table new_pool new
+      → ChangesEntry frame.number (changed_entry true lsn) table new_table → IsWriting d b base (record (changed (logged_at lsn entry) s) { durable = done.now_durable }) new_log new_table new_pool new
   left_by opened changes held sets enters =
       let set : Sets frame (page_after lsn (what_of entry) (s.pages frame.number).page) true pool new_pool = subst (λ (g : Page). Sets frame g true pool new_pool) (sym (leaves.after (s.pages frame.number).page)) sets in
-      step_by d b base s log new_log table new_table pool new_pool old new entry lsn frame w may done here opened changes held set enters
+      step_by d b base s log new_log table new_table pool new_pool old new entry lsn frame w may done here opened changes held set
+      (subst (λ (k : Bool). ChangesEntry frame.number (changed_entry k lsn) table new_table) (sym leaves.holds) enters)

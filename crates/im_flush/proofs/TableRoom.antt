@@ -103,7 +103,7 @@ shorter xs es p up all has none =
 
 written_gone : (o : Option DirtyEntry) → IsWritten o → synced_entry o ≡ None
 written_gone None is = refl
-written_gone (Some e) is = ap (λ (t : Option ℕ). entry_since t) is
+written_gone (Some e) is = ap (λ (t : Option ℕ). entry_since e.copied t) is
 
 module _ (table : List TableEntry) (pages : ℕ → PageState) (up : IsRising table) (has : HasEntries table pages) where
   gone : (p : ℕ) → IsWritten (pages p).entry → entry_in (synced_entries table) p ≡ None

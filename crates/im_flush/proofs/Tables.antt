@@ -1,5 +1,5 @@
 -- The list of the dirty table stands for a function of the page.
-use Rattle.std.proofs.Common.{◌≡◌, inl, inr, ℕ, zero, suc, ◌+◌, ◌<◌, ◌≤◌, List, [], ◌∷◌, length, get_or, true, false, refl, sym, ◌∙◌, ap, subst, arith, Option, None, Some}
+use Rattle.std.proofs.Common.{◌≡◌, inl, inr, ℕ, zero, suc, ◌+◌, ◌<◌, ◌≤◌, List, [], ◌∷◌, length, get_or, Bool, true, false, refl, sym, ◌∙◌, ap, subst, arith, Option, None, Some}
 use Rattle.std.specs.Prelude.{if◌then◌else◌, ◌==◌, nat_lt, ◌||◌}
 use Rattle.std.specs.List.{insert}
 use Rattle.std.specs.Option.{is_some}
@@ -9,8 +9,7 @@ use Rattle.im_types.specs.Writer.{DirtyEntry}
 use Rattle.im_flush.specs.declared.dirty_table.TheConstants.{MOST}
 use Rattle.im_flush.specs.declared.table_entry.TableEntry.{TableEntry}
 use Rattle.im_flush.specs.DirtyTable.{table_entry, dirty_entry, entry_in, has_room, written_in, ChangesEntry, IsFound, IsAbsent, IsAbove, IsRising, put, synced_onto, synced_entries}
-use Rattle.im_types.specs.WriterSteps.{synced_entry, entry_since, changed_entry, first_since, written_entry}
-use Rattle.std.proofs.lemmas.List.{set-get_or}
+use Rattle.im_types.specs.WriterSteps.{synced_entry, entry_since, written_entry}
 
 above_all : (n : ℕ) (xs : List TableEntry) (k : ℕ) (d : TableEntry) → IsAbove n xs → k < length xs → n < (get_or xs k d).page
 above_all n [] k d up within = absurd (omega arith)
@@ -81,7 +80,7 @@ synced_at_head x xs p up None none rest = elim (cases_eq x.page p) [
   | inl here ↦
       ap (λ (t : Option ℕ). entry_in (synced_onto x t (synced_entries xs)) p) none ∙ rest
       ∙ ap (λ (o : Option DirtyEntry). synced_entry o) (not_below x.page xs p up (omega (arith, here)))
-      ∙ sym (ap (λ (t : Option ℕ). entry_since t) none)
+      ∙ sym (ap (λ (t : Option ℕ). entry_since x.copied t) none)
       ∙ sym (ap (λ (o : Option DirtyEntry). synced_entry o) (cond-true (x.page == p) (Some (dirty_entry x)) (entry_in xs p) (eq-eqb x.page p here)))
   | inr other ↦
       ap (λ (t : Option ℕ). entry_in (synced_onto x t (synced_entries xs)) p) none ∙ rest
@@ -90,12 +89,12 @@ synced_at_head x xs p up None none rest = elim (cases_eq x.page p) [
 synced_at_head x xs p up (Some t) some rest = elim (cases_eq x.page p) [
   | inl here ↦
       ap (λ (t : Option ℕ). entry_in (synced_onto x t (synced_entries xs)) p) some
-      ∙ cond-true (x.page == p) (Some (record { rec_lsn = t; since = Some t })) (entry_in (synced_entries xs) p) (eq-eqb x.page p here)
-      ∙ sym (ap (λ (t : Option ℕ). entry_since t) some)
+      ∙ cond-true (x.page == p) (Some (record { rec_lsn = t; since = Some t; copied = x.copied })) (entry_in (synced_entries xs) p) (eq-eqb x.page p here)
+      ∙ sym (ap (λ (t : Option ℕ). entry_since x.copied t) some)
       ∙ sym (ap (λ (o : Option DirtyEntry). synced_entry o) (cond-true (x.page == p) (Some (dirty_entry x)) (entry_in xs p) (eq-eqb x.page p here)))
   | inr other ↦
       ap (λ (t : Option ℕ). entry_in (synced_onto x t (synced_entries xs)) p) some
-      ∙ cond-false (x.page == p) (Some (record { rec_lsn = t; since = Some t })) (entry_in (synced_entries xs) p) (ne_eqb x.page p other)
+      ∙ cond-false (x.page == p) (Some (record { rec_lsn = t; since = Some t; copied = x.copied })) (entry_in (synced_entries xs) p) (ne_eqb x.page p other)
       ∙ rest
       ∙ sym (ap (λ (o : Option DirtyEntry). synced_entry o) (cond-false (x.page == p) (Some (dirty_entry x)) (entry_in xs p) (ne_eqb x.page p other)))
 ]
@@ -228,48 +227,15 @@ rising_set f xs i p d up is = subst (λ (l : List TableEntry). IsRising l) (put_
 pub rising_insert : (f : Option DirtyEntry → DirtyEntry) (xs : List TableEntry) (i p : ℕ) → IsRising xs → IsAbsent xs p i → IsRising (insert xs i (table_entry p (f None)))
 rising_insert f xs i p up is = subst (λ (l : List TableEntry). IsRising l) (put_absent f xs i p is) (put_rising f p xs up)
 
--- ---- a change is changed_entry
+-- ---- an entry that is there, as the code reads it and then writes it
 
-pub enter_set : (xs : List TableEntry) (i p l : ℕ) (e : TableEntry) → IsFound xs p i → e ≡ get_or xs i e → e.since ≡ None → set xs i (record { page = e.page; rec_lsn = e.rec_lsn; since = Some l }) ≡ put p (changed_entry l) xs
-enter_set xs i p l e is at none =
+pub put_set : (f : Option DirtyEntry → DirtyEntry) (xs : List TableEntry) (i p : ℕ) (e new : TableEntry) → IsFound xs p i → e ≡ get_or xs i e → new ≡ table_entry e.page (f (Some (dirty_entry e))) → set xs i new ≡ put p f xs
+put_set f xs i p e new is at made =
     let page : e.page ≡ p = ap (λ (y : TableEntry). y.page) at ∙ is.here e in
-    ap (λ (q : ℕ). set xs i (record { page = q; rec_lsn = e.rec_lsn; since = Some l })) page
-    ∙ ap (λ (t : Option ℕ). set xs i (record { page = p; rec_lsn = e.rec_lsn; since = first_since l t })) (sym none)
-    ∙ ap (λ (y : TableEntry). set xs i (table_entry p (changed_entry l (Some (dirty_entry y))))) at
-    ∙ sym (put_found (changed_entry l) xs i p e is)
-
-pub enter_same : (xs : List TableEntry) (i p l t : ℕ) (e : TableEntry) → IsFound xs p i → e ≡ get_or xs i e → e.since ≡ Some t → xs ≡ put p (changed_entry l) xs
-enter_same xs i p l t e is at some = sym (put_found (changed_entry l) xs i p e is ∙ ap (λ (y : TableEntry). set xs i y) same ∙ set-get_or xs i e)
-  where
-    since : (get_or xs i e).since ≡ Some t
-    since = ap (λ (y : TableEntry). y.since) (sym at) ∙ some
-
-    same : table_entry p (changed_entry l (Some (dirty_entry (get_or xs i e)))) ≡ get_or xs i e
-    same = ap (λ (q : ℕ). table_entry q (record { rec_lsn = (get_or xs i e).rec_lsn; since = first_since l (get_or xs i e).since })) (sym (is.here e))
-        ∙ ap (λ (o : Option ℕ). table_entry (get_or xs i e).page (record { rec_lsn = (get_or xs i e).rec_lsn; since = o })) (ap (λ (o : Option ℕ). first_since l o) since ∙ sym since)
-
-pub same_at : (xs : List TableEntry) (i : ℕ) (d e : TableEntry) → i < length xs → get_or xs i d ≡ get_or xs i e
-same_at [] i d e within = absurd (omega arith)
-same_at (x ∷ xs) zero d e within = refl
-same_at (x ∷ xs) (suc i) d e within = same_at xs i d e (omega arith)
-
-pub none_of : (o : Option ℕ) → is_some o ≡ false → o ≡ None
-none_of None is = refl
-none_of (Some t) is = absurd (cc is)
-
-pub some_of : (o : Option ℕ) → is_some o ≡ true → (t : ℕ) × (o ≡ Some t)
-some_of None is = absurd (cc is)
-some_of (Some t) is = (t, refl)
-
--- as the code reads the entry, and then writes it
-pub enter_write : (xs : List TableEntry) (i p l : ℕ) (e m : TableEntry) → IsFound xs p i → e ≡ get_or xs i e → m ≡ get_or xs i m → is_some e.since ≡ false
-    → set xs i (record { page = m.page; rec_lsn = m.rec_lsn; since = Some l }) ≡ put p (changed_entry l) xs
-enter_write xs i p l e m is at am none =
-    let same : e ≡ m = at ∙ same_at xs i e m is.within ∙ sym am in
-    enter_set xs i p l m is am (ap (λ (y : TableEntry). y.since) (sym same) ∙ none_of e.since none)
-
-pub enter_leave : (xs : List TableEntry) (i p l : ℕ) (e : TableEntry) → IsFound xs p i → e ≡ get_or xs i e → is_some e.since ≡ true → xs ≡ put p (changed_entry l) xs
-enter_leave xs i p l e is at some = let t = some_of e.since some in enter_same xs i p l t.0 e is at t.1
+    ap (λ (y : TableEntry). set xs i y) made
+    ∙ ap (λ (q : ℕ). set xs i (table_entry q (f (Some (dirty_entry e))))) page
+    ∙ ap (λ (y : TableEntry). set xs i (table_entry p (f (Some (dirty_entry y))))) at
+    ∙ sym (put_found f xs i p e is)
 
 pub found_entry : (xs : List TableEntry) (i p : ℕ) (d : TableEntry) → IsRising xs → IsFound xs p i → entry_in xs p ≡ Some (dirty_entry (get_or xs i d))
 found_entry [] i p d up is = absurd (let within : i < length {A = TableEntry} [] = is.within in omega (arith, within))
@@ -328,18 +294,17 @@ synced_rising (x ∷ xs) up = by x.since (synced_above x.page xs up)
     by None rest = above_rising x.page (synced_entries xs) rest
     by (Some t) rest = rest
 
-pub write_set : (xs : List TableEntry) (i p l : ℕ) (m : TableEntry) → IsFound xs p i → m ≡ get_or xs i m → set xs i (record { page = m.page; rec_lsn = m.rec_lsn; since = None }) ≡ put p (written_entry l) xs
-write_set xs i p l m is at =
-    ap (λ (q : ℕ). set xs i (record { page = q; rec_lsn = m.rec_lsn; since = None })) (ap (λ (y : TableEntry). y.page) at ∙ is.here m)
-    ∙ ap (λ (y : TableEntry). set xs i (table_entry p (written_entry l (Some (dirty_entry y))))) at
-    ∙ sym (put_found (written_entry l) xs i p m is)
-
 -- what a put leaves, page by page
 pub changes_entry : (f : Option DirtyEntry → DirtyEntry) (p : ℕ) (old new : List TableEntry) → IsRising old → new ≡ put p f old → ChangesEntry p f old new
 changes_entry f p old new up is = record {
   entry = ap (λ (l : List TableEntry). entry_in l p) is ∙ held_put f p old up;
   others = λ q ne. ap (λ (l : List TableEntry). entry_in l q) is ∙ held_put_other f p q old (λ e. ne (sym e));
 }
+
+-- an entry that is not there knows of no copy
+pub or_none : (k : Bool) → (k || false) ≡ k
+or_none true = refl
+or_none false = refl
 
 -- whether there is room
 pub room_found : (xs : List TableEntry) (p : ℕ) (e : DirtyEntry) → entry_in xs p ≡ Some e → has_room p xs ≡ true

@@ -1,5 +1,5 @@
 -- The dirty table as a list in rising page order, and the function of the page for which it stands.
-use Rattle.std.specs.Prelude.{◌≡◌, ◌≢◌, ◌<◌, ◌≤◌, ℕ, List, [], ◌∷◌, length, map, slice_index_or, if◌then◌else◌, ◌==◌, nat_lt, Bool, ◌||◌, Option, None, Some}
+use Rattle.std.specs.Prelude.{◌≡◌, ◌≢◌, ◌<◌, ◌≤◌, ℕ, List, [], ◌∷◌, length, map, slice_index_or, if◌then◌else◌, ◌==◌, nat_lt, Bool, true, ◌||◌, Option, None, Some}
 use Rattle.std.specs.Option.{is_some}
 use Rattle.im_types.specs.Writer.{DirtyEntry}
 use Rattle.im_types.specs.declared.tables.DirtyPage.{DirtyPage}
@@ -9,11 +9,11 @@ use Rattle.im_flush.specs.declared.table_entry.TableEntry.{TableEntry}
 
 -- the entry of a page
 abbrev pub table_entry : ℕ → DirtyEntry → TableEntry
-table_entry p e = record { page = p; rec_lsn = e.rec_lsn; since = e.since }
+table_entry p e = record { page = p; rec_lsn = e.rec_lsn; since = e.since; copied = e.copied }
 
 -- the entry without its page
 abbrev pub dirty_entry : TableEntry → DirtyEntry
-dirty_entry x = record { rec_lsn = x.rec_lsn; since = x.since }
+dirty_entry x = record { rec_lsn = x.rec_lsn; since = x.since; copied = x.copied }
 
 -- what the table has of a page
 abbrev pub entry_in : List TableEntry → ℕ → Option DirtyEntry
@@ -46,7 +46,7 @@ written_in p l xs = if has_room p xs then put p (written_entry l) xs else xs
 -- an entry with this change since its last write, after a sync: without one it is gone
 abbrev pub synced_onto : TableEntry → Option ℕ → List TableEntry → List TableEntry
 synced_onto x None rest = rest
-synced_onto x (Some l) rest = record { page = x.page; rec_lsn = l; since = Some l } ∷ rest
+synced_onto x (Some l) rest = record { page = x.page; rec_lsn = l; since = Some l; copied = x.copied } ∷ rest
 
 -- the entries that a sync leaves: those changed since their last write, each counting from its first change since then
 abbrev pub synced_entries : List TableEntry → List TableEntry
@@ -57,6 +57,13 @@ synced_entries (x ∷ xs) = synced_onto x x.since (synced_entries xs)
 pub record ChangesEntry (p : ℕ) (f : Option DirtyEntry → DirtyEntry) (old new : List TableEntry) : Type 0 where
   pub entry : entry_in new p ≡ Some (f (entry_in old p))
   pub others : (q : ℕ) → q ≢ p → entry_in new q ≡ entry_in old q
+
+-- the log is known to have a full copy of the page, whose entry has this rec_lsn
+pub record IsCopied (xs : List TableEntry) (p l : ℕ) : Type 0 where
+  pub entry : DirtyEntry
+  pub is : entry_in xs p ≡ Some entry
+  pub copied : entry.copied ≡ true
+  pub rec_lsn : entry.rec_lsn ≡ l
 
 -- the page's entry is at this place
 pub record IsFound (xs : List TableEntry) (p i : ℕ) : Type 0 where

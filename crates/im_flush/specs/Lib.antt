@@ -1,3 +1,4 @@
+pub mod LogEnds
 pub mod DirtyTable
 pub mod PageFile
 pub mod Stands

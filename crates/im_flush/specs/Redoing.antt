@@ -7,7 +7,7 @@ use Rattle.im_types.specs.Records.{What, InsertKey, DeleteKey, UndoInsert, UndoD
 use Rattle.im_types.specs.Histories.{Base, changes_page, page_after}
 use Rattle.im_types.specs.Copies.{copy_in}
 use Rattle.im_types.specs.Writer.{Writer}
-use Rattle.im_types.specs.WriterSteps.{applies, at_point, loaded, redone}
+use Rattle.im_types.specs.WriterSteps.{applies, at_point, is_copied, loaded, redone}
 use Rattle.im_disk.specs.declared.disk.Disk.{Ghosts}
 use Rattle.im_pool.specs.declared.frame.Frame.{Frame}
 use Rattle.im_pool.specs.Pool.{PoolView, Holds, IsAt, Sets, Takes, page_at}
@@ -40,7 +40,7 @@ pub record LoadedHere (point lsn : ℕ) (what : What) (number : ℕ) (old new : 
   pub here : frame.number ≡ number
   pub takes : Takes frame (page_at new.pool number) true old.pool new.pool
   pub copy : copy_in lsn what ≡ Some (page_at new.pool number)
-  pub entered : ChangesEntry number (λ o. at_point point) old.table new.table
+  pub entered : ChangesEntry number (λ o. at_point true point) old.table new.table
 
 -- A held page is changed by the record at an LSN, and has such an entry, where the record's kind changes a page; otherwise nothing is.
 pub record RedoneHere (point lsn : ℕ) (what : What) (number : ℕ) (old : PageWriter) (done : Bool) (new : PageWriter) : Type 0 where
@@ -48,7 +48,7 @@ pub record RedoneHere (point lsn : ℕ) (what : What) (number : ℕ) (old : Page
   pub here : frame.number ≡ number
   pub at : IsAt old.pool frame
   pub applied : AppliedTo lsn what frame old.pool done new.pool
-  pub entered : done ≡ true → ChangesEntry number (λ o. at_point point) old.table new.table
+  pub entered : done ≡ true → ChangesEntry number (λ o. at_point (is_copied o) point) old.table new.table
   pub same : done ≡ false → new.table ≡ old.table
 
 -- A held page does not take the record.

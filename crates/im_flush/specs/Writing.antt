@@ -4,7 +4,8 @@ use Rattle.std.specs.Option.{option_map_or}
 use Rattle.im_types.specs.declared.fault.Fault.{Fault}
 use Rattle.im_types.specs.Pages.{Page}
 use Rattle.im_types.specs.Histories.{Base, History, IsFront, end_of}
-use Rattle.im_types.specs.Copies.{GrowsByImages}
+use Rattle.im_types.specs.Copies.{GrowsByImages, HasCopy}
+use Rattle.im_types.specs.RedoPoints.{redo_point}
 use Rattle.im_types.specs.Writer.{PageState, Writer, IsWritten}
 use Rattle.im_types.specs.WriterSteps.{MayWrite, forced, written}
 use Rattle.im_disk.specs.declared.disk.Disk.{Ghosts}
@@ -97,20 +98,34 @@ module _ {D : Type 0} (d : Ghosts D) (b : Base) (base : ℕ) where
   -- ---- an Image
 
   -- The page's Image joined the log.
-  pub record CopyDone (s : Writer) (p lsn : ℕ) (old : D) (log : LogFile) (table : List TableEntry) (pool : PoolView) (disk : D) : Type 0 where
+  pub record PageImaged (s : Writer) (p lsn : ℕ) (old : D) (log : LogFile) (table : List TableEntry) (pool : PoolView) (disk : D) : Type 0 where
     pub durable : History
     pub grows : IsFront s.durable durable
     pub goes : Goes s old (with_image lsn p durable s) log table pool disk
     pub high : end_of b s.log < lsn
 
   -- what the Image of a page keeps
+  pub record PageImageKept (s : Writer) (p : ℕ) (old : D) (log : LogFile) (table : List TableEntry) (pool : PoolView) (disk : D) (result : Result ℕ Fault) : Type 0 where
+    pub ok : IfOk result (λ lsn. PageImaged s p lsn old log table pool disk)
+    pub stops : LeavesCovered d b base s.durable s.log old disk
+
+  -- The log has a full copy of the page at or after its redo point, and the LSN is none below that.
+  pub record CopyDone (s : Writer) (p lsn : ℕ) (old : D) (log : LogFile) (table : List TableEntry) (pool : PoolView) (disk : D) : Type 0 where
+    pub now : Writer
+    pub goes : Goes s old now log table pool disk
+    pub point : redo_point now.log ≡ redo_point s.log
+    pub copy : HasCopy now.log p (redo_point now.log)
+    pub low : redo_point now.log ≤ lsn
+    pub high : lsn ≤ end_of b now.log
+
+  -- what it keeps to see to the full copy of a page
   pub record CopyKept (s : Writer) (p : ℕ) (old : D) (log : LogFile) (table : List TableEntry) (pool : PoolView) (disk : D) (result : Result ℕ Fault) : Type 0 where
     pub ok : IfOk result (λ lsn. CopyDone s p lsn old log table pool disk)
     pub stops : LeavesCovered d b base s.durable s.log old disk
 
-  -- ---- the Images of a range of pages
+  -- ---- the full copies of a range of pages
 
-  -- The Images of the pages before this one joined the log: once that is forced, each of them may be written.
+  -- The log has full copies of the pages before this one: once it is forced, each of them may be written.
   pub record ImagesTo (s : Writer) (first p : ℕ) (lsns : List ℕ) (old : D) (log : LogFile) (table : List TableEntry) (pool : PoolView) (disk : D) : Type 0 where
     pub now : Writer
     pub goes : Goes s old now log table pool disk

@@ -1,10 +1,10 @@
 //! The dirty table.
-ghost use Rattle.std.specs.Prelude.{◌≡◌, ℕ, ◌<◌, ◌≤◌, ◌↔◌, true, List, [], ◌∷◌, length, vec_len, vec_capacity, slice_index_or, IsTrue, IfOk, IfErr, IfSome, IsNone, Option, Some, None};
+ghost use Rattle.std.specs.Prelude.{◌≡◌, ℕ, ◌<◌, ◌≤◌, ◌↔◌, ◌||◌, true, false, List, [], ◌∷◌, length, vec_len, vec_capacity, slice_index_or, IsTrue, IfOk, IfErr, IfSome, IsNone, Option, Some, None};
 ghost use Rattle.im_types.specs.Writer.{PageState};
-ghost use Rattle.im_types.specs.WriterSteps.{changed_entry, written_entry, synced_entry, at_point, Lists};
+ghost use Rattle.im_types.specs.WriterSteps.{changed_entry, written_entry, synced_entry, at_point, is_copied, Lists};
 ghost use Rattle.im_flush.specs.declared.table_entry.TableEntry.{TableEntry};
 ghost use Rattle.im_flush.specs.declared.dirty_table.TheConstants.{MOST};
-ghost use Rattle.im_flush.specs.DirtyTable.{entry_in, dirty_entry, dirty_pages, put, has_room, written_in, synced_entries, ChangesEntry, IsRising, IsFound, IsAbsent};
+ghost use Rattle.im_flush.specs.DirtyTable.{entry_in, table_entry, dirty_entry, dirty_pages, put, has_room, written_in, synced_entries, ChangesEntry, IsRising, IsCopied, IsFound, IsAbsent};
 
 use crate::TableEntry;
 use im_types::{DirtyPage, Lsn, PageNo};
@@ -108,32 +108,49 @@ impl DirtyTable {
         }
     }
 
-    /// The page is changed by the record at an LSN. An entry that is there keeps its rec_lsn.
-    pub fn enter(&mut self, page: PageNo, lsn: Lsn)
+    /// Where the log is known to have a full copy of the page at or after its redo point, the page's rec_lsn.
+    pub fn copied(&self, page: PageNo) -> Option<Lsn>
+        ensures some { IfSome result (λ l. IsCopied self.now page l) }
+        ensures none { IsNone result → is_copied (entry_in self.now page) ≡ false }
+    {
+        match self.get(page) {
+            None => None,
+            Some(entry) => {
+                if entry.copied {
+                    Some(entry.rec_lsn)
+                } else {
+                    None
+                }
+            },
+        }
+    }
+
+    /// The page is changed by the record at an LSN, which holds a full copy of it or does not. An entry that is there keeps its rec_lsn,
+    /// and a copy that is known.
+    pub fn enter(&mut self, page: PageNo, lsn: Lsn, copied: bool)
         requires room { entry_in self.old page ≡ None → length self.old < MOST }
-        ensures table { self.new ≡ put page (changed_entry lsn) self.old }
-        ensures entry { ChangesEntry page (changed_entry lsn) self.old self.new }
+        ensures table { self.new ≡ put page (changed_entry copied lsn) self.old }
+        ensures entry { ChangesEntry page (changed_entry copied lsn) self.old self.new }
     {
         match self.search(page) {
             Ok(at) => {
                 let entry = self.entries[at];
-                if entry.since.is_none() {
-                    self.entries[at].since = Some(lsn);
-                }
+                self.entries[at] = changed(entry, lsn, copied);
             },
             Err(at) => {
                 let entry = TableEntry {
                     page,
                     rec_lsn: lsn,
                     since: Some(lsn),
+                    copied,
                 };
                 self.entries.insert(at, entry).unwrap();
             },
         }
     }
 
-    /// The page is written. Where it has no entry it gets one, with the LSN of its Image, if there is room. It answers whether
-    /// the page has its entry; where it has none, the table stays as it was.
+    /// The page is written, once the log has a full copy of it. Where it has no entry it gets one, with the LSN of its Image, if there
+    /// is room. It answers whether the page has its entry; where it has none, the table stays as it was.
     pub fn write(&mut self, page: PageNo, lsn: Lsn) -> bool
         ensures entered { result ≡ has_room page self.old }
         ensures table { self.new ≡ written_in page lsn self.old }
@@ -141,7 +158,8 @@ impl DirtyTable {
     {
         match self.search(page) {
             Ok(at) => {
-                self.entries[at].since = None;
+                let entry = self.entries[at];
+                self.entries[at] = written(entry);
                 true
             },
             Err(at) => {
@@ -152,6 +170,7 @@ impl DirtyTable {
                     page,
                     rec_lsn: lsn,
                     since: None,
+                    copied: true,
                 };
                 self.entries.insert(at, entry).unwrap();
                 true
@@ -159,22 +178,25 @@ impl DirtyTable {
         }
     }
 
-    /// The page is changed by redo, or loaded from its copy: it counts as changed since the redo point, whatever its entry was.
-    pub fn enter_at_point(&mut self, page: PageNo, point: Lsn)
+    /// The page is changed by redo, or loaded from its copy, which then is known: it counts as changed since the redo point, whatever its
+    /// entry was. A copy that was known stays so.
+    pub fn enter_at_point(&mut self, page: PageNo, point: Lsn, copied: bool)
         requires room { entry_in self.old page ≡ None → length self.old < MOST }
-        ensures table { self.new ≡ put page (λ o. at_point point) self.old }
-        ensures entry { ChangesEntry page (λ o. at_point point) self.old self.new }
+        ensures table { self.new ≡ put page (λ o. at_point (copied || is_copied o) point) self.old }
+        ensures entry { ChangesEntry page (λ o. at_point (copied || is_copied o) point) self.old self.new }
     {
-        let entry = TableEntry {
-            page,
-            rec_lsn: point,
-            since: Some(point),
-        };
         match self.search(page) {
             Ok(at) => {
-                self.entries[at] = entry;
+                let entry = self.entries[at];
+                self.entries[at] = entered_at(entry, point, copied);
             },
             Err(at) => {
+                let entry = TableEntry {
+                    page,
+                    rec_lsn: point,
+                    since: Some(point),
+                    copied,
+                };
                 self.entries.insert(at, entry).unwrap();
             },
         }
@@ -194,6 +216,7 @@ impl DirtyTable {
                     page: entry.page,
                     rec_lsn: since,
                     since: Some(since),
+                    copied: entry.copied,
                 };
                 kept += 1;
             }
@@ -225,5 +248,45 @@ impl DirtyTable {
             };
             rows.push(row).unwrap();
         }
+    }
+}
+
+// The entry of a page that is changed by the record at an LSN, which holds a full copy of it or does not.
+fn changed(entry: TableEntry, lsn: Lsn, copied: bool) -> TableEntry
+    ensures { result ≡ table_entry entry.page (changed_entry copied lsn (Some (dirty_entry entry))) }
+{
+    let since = match entry.since {
+        None => lsn,
+        Some(first) => first,
+    };
+    TableEntry {
+        page: entry.page,
+        rec_lsn: entry.rec_lsn,
+        since: Some(since),
+        copied: copied || entry.copied,
+    }
+}
+
+// The entry of a page that is written.
+fn written(entry: TableEntry) -> TableEntry
+    ensures { result ≡ table_entry entry.page (written_entry 0 (Some (dirty_entry entry))) }
+{
+    TableEntry {
+        page: entry.page,
+        rec_lsn: entry.rec_lsn,
+        since: None,
+        copied: true,
+    }
+}
+
+// The entry of a page that counts as changed since the redo point.
+fn entered_at(entry: TableEntry, point: Lsn, copied: bool) -> TableEntry
+    ensures { result ≡ table_entry entry.page (at_point (copied || is_copied (Some (dirty_entry entry))) point) }
+{
+    TableEntry {
+        page: entry.page,
+        rec_lsn: point,
+        since: Some(point),
+        copied: copied || entry.copied,
     }
 }

@@ -1,14 +1,15 @@
-//! A flush: the Images of a range of pages, a force of the log, and the writes.
-ghost use Rattle.std.specs.Prelude.{◌≡◌, ◌≢◌, ◌≤◌, ◌<◌, ◌+◌, ◌-◌, ◌⊎◌, ◌↔◌, ℕ, List, false, true, length, vec_capacity, is_some, IfErr, OnOk};
+//! A flush: the full copies of a range of pages, a force of the log, and the writes.
+ghost use Rattle.std.specs.Prelude.{◌≡◌, ◌≢◌, ◌≤◌, ◌<◌, ◌+◌, ◌-◌, ◌^◌, ◌⊎◌, ◌↔◌, ℕ, List, false, true, length, vec_capacity, is_some, IfErr, OnOk};
 ghost use Rattle.im_types.specs.declared.fault.Fault.TheVariants.{Device, LogFull};
 ghost use Rattle.im_types.specs.declared.file_id.FileId.TheVariants.{Pages};
 ghost use Rattle.im_types.specs.Histories.{Base};
 ghost use Rattle.im_types.specs.Writer.{Writer};
 ghost use Rattle.im_disk.specs.Disk.{Answers};
 ghost use Rattle.im_log.specs.declared.log_file.LogFile.{LogFile};
-ghost use Rattle.im_log.specs.LogFile.{HasNoRoom, IsOpen};
+ghost use Rattle.im_log.specs.LogFile.{HasNoRoom, end_with, IsOpen};
 ghost use Rattle.im_page.specs.PageFile.{page_count};
 ghost use Rattle.im_pool.specs.Pool.{held_of, is_changed};
+ghost use Rattle.im_flush.specs.LogEnds.{EndsNoSooner};
 ghost use Rattle.im_flush.specs.Writing.{lsn_for, SameHeld, IsWriting, MayCopy, MayWriteHere, WriteOutKept, FlushKept};
 
 use crate::image_range::log_images;
@@ -20,7 +21,7 @@ use im_page::Page;
 use im_pool::Pool;
 use im_types::{Fault, Lsn, PageNo};
 
-// Writes pages whose Images are durable; where the table has no room for the entry of one, the file is synced behind them.
+// Writes pages whose full copies are durable; where the table has no room for the entry of one, the file is synced behind them.
 fn write_out<D: Disk>(
     disk: &mut D,
     table: &mut DirtyTable,
@@ -47,7 +48,8 @@ fn write_out<D: Disk>(
     sync_pages(disk, table)
 }
 
-// Flushes a range of pages: their Images in rising page number, a force, and the pages in rising number.
+// Flushes a range of pages: the Images of those of which the log is known to have no full copy, in rising page number, a force, and the
+// pages in rising number.
 fn flush_range<D: Disk>(
     disk: &mut D,
     log: &mut LogFile,
@@ -71,9 +73,11 @@ fn flush_range<D: Disk>(
     ensures held { OnOk result (SameHeld pool.old pool.new) }
     ensures causes { IfErr result (λ e. (e ≡ LogFull) ⊎ (e ≡ Device)) }
     ensures no_room { result ≡ Err LogFull → HasNoRoom log.new }
+    ensures full { result ≡ Err LogFull → 2 ^ 62 < end_with log.new 4129 }
+    ensures later { OnOk result (EndsNoSooner log.old log.new) }
     ensures device { result ≡ Err Device ↔ (D.failed disk.new ≡ true) }
 {
-    log_images(disk, log, pool, spare, lsns, first, last)?;
+    log_images(disk, log, table, pool, spare, lsns, first, last)?;
     write_out(disk, table, pool, spare, lsns, first, last)?;
     Ok(())
 }
@@ -103,6 +107,8 @@ pub(crate) fn flush_page<D: Disk>(
     ensures held { OnOk result (SameHeld pool.old pool.new) }
     ensures causes { IfErr result (λ e. (e ≡ LogFull) ⊎ (e ≡ Device)) }
     ensures no_room { result ≡ Err LogFull → HasNoRoom log.new }
+    ensures full { result ≡ Err LogFull → 2 ^ 62 < end_with log.new 4129 }
+    ensures later { OnOk result (EndsNoSooner log.old log.new) }
     ensures device { result ≡ Err Device ↔ (D.failed disk.new ≡ true) }
 {
     let count = count_pages(disk)?;

@@ -1,15 +1,18 @@
-//! The Images of a flush, in rising page number.
-ghost use Rattle.std.specs.Prelude.{◌≡◌, ◌≢◌, ◌≤◌, ◌<◌, ◌+◌, ◌-◌, ◌⊎◌, ◌↔◌, ℕ, List, [], false, true, not, is_ok, length, min, vec_capacity, slice_index_or, IfErr, OnOk};
+//! The full copies of a flush: Images of the pages of which the log is known to have none, in rising page number.
+ghost use Rattle.std.specs.Prelude.{◌≡◌, ◌≢◌, ◌≤◌, ◌<◌, ◌+◌, ◌-◌, ◌^◌, ◌⊎◌, ◌↔◌, ℕ, List, [], false, true, not, is_ok, length, min, vec_capacity, slice_index_or, IsOk, IfErr, OnOk};
 ghost use Rattle.im_types.specs.declared.fault.Fault.TheVariants.{Device, Failed, LogFull};
 ghost use Rattle.im_types.specs.declared.file_id.FileId.TheVariants.{Log};
 ghost use Rattle.im_types.specs.Histories.{Base};
 ghost use Rattle.im_types.specs.Writer.{Writer};
 ghost use Rattle.im_disk.specs.Runs.{ChangesOnly};
-ghost use Rattle.im_log.specs.LogFile.{HasNoRoom, IsOpen};
+ghost use Rattle.im_log.specs.LogFile.{HasNoRoom, end_with, IsOpen};
 ghost use Rattle.im_flush.specs.declared.table_entry.TableEntry.{TableEntry};
-ghost use Rattle.im_flush.specs.Writing.{with_lsn, lsn_for, IsWriting, MayCopy, CopyKept, ImagesKept, DurableKept};
+ghost use Rattle.im_types.specs.WriterSteps.{is_copied};
+ghost use Rattle.im_flush.specs.DirtyTable.{entry_in};
+ghost use Rattle.im_flush.specs.LogEnds.{EndsNoSooner};
+ghost use Rattle.im_flush.specs.Writing.{with_lsn, lsn_for, IsWriting, MayCopy, PageImageKept, CopyKept, ImagesKept, DurableKept};
 
-use crate::append_image;
+use crate::{DirtyTable, append_image};
 use im_disk::Disk;
 use im_log::LogFile;
 use im_page::Page;
@@ -40,7 +43,7 @@ pub(crate) fn lsn_of(lsns: &[Lsn], place: u64) -> Lsn
 
 // Adds the Image of a page to the log: as the pool has it, and of one that it doesn't hold, which stands past the file's end, the
 // initial page.
-fn append_one<D: Disk>(
+fn append_page<D: Disk>(
     disk: &mut D,
     log: &mut LogFile,
     pool: &Pool,
@@ -51,11 +54,13 @@ fn append_one<D: Disk>(
     requires working { log.old.failed ≡ false }
     ensures ready { IsOpen D.Disk log.new disk.new }
     ensures kept { (b : Base) (base : ℕ) (s : Writer) (table : List TableEntry) → IsWriting D.Disk b base s log.old table pool.now disk.old
-        → MayCopy s pool.now number → CopyKept D.Disk b base s number disk.old log.new table pool.now disk.new result }
+        → MayCopy s pool.now number → PageImageKept D.Disk b base s number disk.old log.new table pool.now disk.new result }
     ensures changes { ChangesOnly D.Disk Log disk.old disk.new }
     ensures failed { log.new.failed ≡ not (is_ok result) }
     ensures causes { IfErr result (λ e. (e ≡ LogFull) ⊎ (e ≡ Device)) }
     ensures no_room { result ≡ Err LogFull → HasNoRoom log.new }
+    ensures full { result ≡ Err LogFull → 2 ^ 62 < end_with log.new 4129 }
+    ensures later { OnOk result (EndsNoSooner log.old log.new) }
     ensures device { result ≡ Err Device ↔ (D.failed disk.new ≡ true) }
 {
     match pool.find(number) {
@@ -67,13 +72,45 @@ fn append_one<D: Disk>(
     }
 }
 
-/// Adds the Images of a range of pages to the log, in rising page number, and notes their LSNs, the first 1,024. The log is
-/// forced where one does not fit into its buffer.
+// Sees to it that the log has a full copy of a page at or after its redo point: where none is known, the page's Image is added. It
+// answers the LSN that the page's entry gets where it has none: that of the Image, otherwise its rec_lsn.
+fn append_one<D: Disk>(
+    disk: &mut D,
+    log: &mut LogFile,
+    table: &DirtyTable,
+    pool: &Pool,
+    spare: &mut Page,
+    number: PageNo,
+) -> Result<Lsn, Fault>
+    requires ready { IsOpen D.Disk log.old disk.old }
+    requires working { log.old.failed ≡ false }
+    ensures ready { IsOpen D.Disk log.new disk.new }
+    ensures kept { (b : Base) (base : ℕ) (s : Writer) → IsWriting D.Disk b base s log.old table.now pool.now disk.old
+        → MayCopy s pool.now number → CopyKept D.Disk b base s number disk.old log.new table.now pool.now disk.new result }
+    ensures known { is_copied (entry_in table.now number) ≡ true → IsOk result × (log.new ≡ log.old) × (disk.new ≡ disk.old) }
+    ensures changes { ChangesOnly D.Disk Log disk.old disk.new }
+    ensures failed { log.new.failed ≡ not (is_ok result) }
+    ensures causes { IfErr result (λ e. (e ≡ LogFull) ⊎ (e ≡ Device)) }
+    ensures no_room { result ≡ Err LogFull → HasNoRoom log.new }
+    ensures full { result ≡ Err LogFull → 2 ^ 62 < end_with log.new 4129 }
+    ensures later { OnOk result (EndsNoSooner log.old log.new) }
+    ensures device { result ≡ Err Device ↔ (D.failed disk.new ≡ true) }
+{
+    match table.copied(number) {
+        Some(lsn) => Ok(lsn),
+        None => append_page(disk, log, pool, spare, number),
+    }
+}
+
+/// Sees to it that the log has a full copy of each page of a range at or after its redo point: the Images of those of which none is
+/// known join it, in rising page number. The LSNs are noted, the first 1,024. The log is forced where an Image does not fit into its
+/// buffer.
 ///
 /// Refused `LogFull` or `Device`.
 pub(crate) fn append_images<D: Disk>(
     disk: &mut D,
     log: &mut LogFile,
+    table: &DirtyTable,
     pool: &Pool,
     spare: &mut Page,
     lsns: &mut Vec<Lsn>,
@@ -85,29 +122,32 @@ pub(crate) fn append_images<D: Disk>(
     requires room { NOTED ≤ vec_capacity lsns.old }
     requires order { first ≤ last }
     ensures ready { IsOpen D.Disk log.new disk.new }
-    ensures kept { (b : Base) (base : ℕ) (s : Writer) (table : List TableEntry) → IsWriting D.Disk b base s log.old table pool.now disk.old
-        → ((q : ℕ) → first ≤ q → q ≤ last → MayCopy s pool.now q) → ImagesKept D.Disk b base s first last lsns.new.items disk.old log.new table pool.now disk.new result }
+    ensures kept { (b : Base) (base : ℕ) (s : Writer) → IsWriting D.Disk b base s log.old table.now pool.now disk.old
+        → ((q : ℕ) → first ≤ q → q ≤ last → MayCopy s pool.now q) → ImagesKept D.Disk b base s first last lsns.new.items disk.old log.new table.now pool.now disk.new result }
     ensures changes { ChangesOnly D.Disk Log disk.old disk.new }
     ensures failed { log.new.failed ≡ not (is_ok result) }
     ensures room { NOTED ≤ vec_capacity lsns.new }
     ensures causes { IfErr result (λ e. (e ≡ LogFull) ⊎ (e ≡ Device)) }
     ensures no_room { result ≡ Err LogFull → HasNoRoom log.new }
+    ensures full { result ≡ Err LogFull → 2 ^ 62 < end_with log.new 4129 }
+    ensures later { OnOk result (EndsNoSooner log.old log.new) }
     ensures device { result ≡ Err Device ↔ (D.failed disk.new ≡ true) }
 {
     lsns.clear();
     for number in first as u64..last as u64 + 1 {
-        let lsn = append_one(disk, log, pool, spare, number as u32)?;
+        let lsn = append_one(disk, log, table, pool, spare, number as u32)?;
         note(lsns, lsn);
     }
     Ok(())
 }
 
-/// Brings the Images of a range of pages into the log, and forces it.
+/// Sees to the full copies of a range of pages, and forces the log.
 ///
 /// Refused `LogFull` or `Device`.
 pub(crate) fn log_images<D: Disk>(
     disk: &mut D,
     log: &mut LogFile,
+    table: &DirtyTable,
     pool: &Pool,
     spare: &mut Page,
     lsns: &mut Vec<Lsn>,
@@ -119,16 +159,18 @@ pub(crate) fn log_images<D: Disk>(
     requires room { NOTED ≤ vec_capacity lsns.old }
     requires order { first ≤ last }
     ensures ready { IsOpen D.Disk log.new disk.new }
-    ensures kept { (b : Base) (base : ℕ) (s : Writer) (table : List TableEntry) → IsWriting D.Disk b base s log.old table pool.now disk.old
-        → ((q : ℕ) → first ≤ q → q ≤ last → MayCopy s pool.now q) → DurableKept D.Disk b base s first last lsns.new.items disk.old log.new table pool.now disk.new result }
+    ensures kept { (b : Base) (base : ℕ) (s : Writer) → IsWriting D.Disk b base s log.old table.now pool.now disk.old
+        → ((q : ℕ) → first ≤ q → q ≤ last → MayCopy s pool.now q) → DurableKept D.Disk b base s first last lsns.new.items disk.old log.new table.now pool.now disk.new result }
     ensures changes { ChangesOnly D.Disk Log disk.old disk.new }
     ensures failed { log.new.failed ≡ not (is_ok result) }
     ensures room { NOTED ≤ vec_capacity lsns.new }
     ensures causes { IfErr result (λ e. (e ≡ LogFull) ⊎ (e ≡ Device)) }
     ensures no_room { result ≡ Err LogFull → HasNoRoom log.new }
+    ensures full { result ≡ Err LogFull → 2 ^ 62 < end_with log.new 4129 }
+    ensures later { OnOk result (EndsNoSooner log.old log.new) }
     ensures device { result ≡ Err Device ↔ (D.failed disk.new ≡ true) }
 {
-    append_images(disk, log, pool, spare, lsns, first, last)?;
+    append_images(disk, log, table, pool, spare, lsns, first, last)?;
     log.force(disk)?;
     Ok(())
 }

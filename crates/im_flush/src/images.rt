@@ -1,5 +1,5 @@
 //! Full copies of pages for the log.
-ghost use Rattle.std.specs.Prelude.{◌≡◌, ◌+◌, ◌^◌, ◌≤◌, ◌<◌, ◌↔◌, ◌⊎◌, ℕ, List, false, true, not, is_ok, length, IfErr};
+ghost use Rattle.std.specs.Prelude.{◌≡◌, ◌+◌, ◌^◌, ◌≤◌, ◌<◌, ◌↔◌, ◌⊎◌, ℕ, List, false, true, not, is_ok, length, IfErr, OnOk};
 ghost use Rattle.im_types.specs.declared.fault.Fault.TheVariants.{Device, Failed, LogFull};
 ghost use Rattle.im_types.specs.declared.file_id.FileId.TheVariants.{Log};
 ghost use Rattle.im_types.specs.Records.{Logged};
@@ -12,6 +12,7 @@ ghost use Rattle.im_log.specs.Kept.{AppendKept};
 ghost use Rattle.im_flush.specs.declared.table_entry.TableEntry.{TableEntry};
 ghost use Rattle.im_flush.specs.Stands.{Stands};
 ghost use Rattle.im_flush.specs.Images.{MayImage, ImageKept};
+ghost use Rattle.im_flush.specs.LogEnds.{EndsNoSooner};
 
 use im_disk::Disk;
 use im_log::LogFile;
@@ -41,6 +42,8 @@ pub fn append_image<D: Disk>(
     ensures failed { log.new.failed ≡ not (is_ok result) }
     ensures causes { IfErr result (λ e. (e ≡ Failed) ⊎ (e ≡ LogFull) ⊎ (e ≡ Device)) }
     ensures no_room { result ≡ Err LogFull → HasNoRoom log.new }
+    ensures left { result ≡ Err LogFull → 2 ^ 62 < end_with log.new 4129 }
+    ensures later { OnOk result (EndsNoSooner log.old log.new) }
     ensures already { result ≡ Err Failed ↔ (log.old.failed ≡ true) }
     ensures full { result ≡ Err LogFull ↔ ((log.old.failed ≡ false) × (2 ^ 62 < end_with log.old 4129)) }
     ensures device { log.old.failed ≡ false → result ≡ Err Device ↔ (D.failed disk.new ≡ true) }

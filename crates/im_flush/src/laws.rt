@@ -9,7 +9,7 @@ ghost use Rattle.im_flush.specs.Stands.{Stands};
 use im_disk::Disk;
 
 /// A page that was written since the last sync of its file has an entry in the dirty table, and the durable log a full copy of it at
-/// or after that entry's rec_lsn: whatever a stop leaves of the page, redo has that copy.
+/// or after the redo point of every log that a stop can leave: whatever a stop leaves of the page, redo has that copy.
 pub fn written_pages_have_copies<D: Disk>()
     ensures { (disk : D) (b : Base) (base : ℕ) (s : Writer) (log : LogFile) (table : List TableEntry) → Stands D.Disk b base s log table disk
         → (p : ℕ) → (s.pages p).unsynced ≡ true → HasFullCopy s p }

@@ -1,13 +1,16 @@
 //! Page writes: which pages may lack changes in their file, and the calls that write pages in place and sync them.
 //!
 //! A page is changed in memory and written in place later, at any time. That a stop tears the write never matters: before it the
-//! log durably has the page's records and a full copy of it, an Image.
+//! log durably has the page's records and a full copy of it, at or after the redo point of every log that a stop can leave. Redo
+//! loads a page's last copy from the redo point on, never the file's bytes in its place, and applies what follows: so one copy serves
+//! for as long as the redo point stays, however often the page is changed, written and synced.
 //!
 //! # The dirty table
 //!
 //! `DirtyTable` has each page that may lack changes in the file of pages: with its `rec_lsn`, the LSN from which on it may lack
-//! them, and with `since`, the LSN of its first change after its last write. There are at most 1,024 entries, in rising page
-//! order. Room for them is made once: no call after `new` takes memory, and none is refused. Each call says what it makes of the
+//! them, with `since`, the LSN of its first change after its last write, and with `copied`, whether the log is known to have a full
+//! copy of it at or after its redo point: behind a write, behind a record of a structure change, and where redo has loaded a noted
+//! copy. There are at most 1,024 entries, in rising page order. Room for them is made once: no call after `new` takes memory, and none is refused. Each call says what it makes of the
 //! list (`table`), and of each page's entry (`entry`). `copy_rows` gives the list that a Checkpoint has (`lists`).
 //!
 //! # The file of pages
@@ -22,9 +25,9 @@
 //! `PageWriter` has the log, a pool of 8 to 1,024 frames over the file of pages, and the dirty table. It owns no disk.
 //!
 //! - A flush (`flush_one`) writes a page that was changed: it alone, where the file has it, and past the file's end every page
-//!   from the page count up to it, so that no range of the file is left without a page. First the Images of these pages join the
-//!   log, in rising page number; then the log is forced, four device calls; then each page is entered and written, one device
-//!   call each, in rising number. Where the table has no room for the entry of a page that is written along, the file is synced
+//!   from the page count up to it, so that no range of the file is left without a page. First the Images of those pages join the
+//!   log of which no full copy is known, in rising page number; then the log is forced, four device calls, and none where nothing
+//!   is buffered; then each page is entered and written, one device call each, in rising number. Where the table has no room for the entry of a page that is written along, the file is synced
 //!   behind them.
 //! - A page that is got (`get`) stays in its frame. Where no frame is free, the least recently used page is flushed, if it was
 //!   changed, and its frame given up.
@@ -59,7 +62,7 @@
 //! stop leaves holds behind a refusal too, and behind one that leaves the writer working it stands as before (`again`).
 //!
 //! `written_pages_have_copies` is the law of full copies: a page that was written since the last sync has an entry in the table,
-//! and the durable log a full copy of it at or after the entry's rec_lsn. So redo never reads bytes that a stop may have torn.
+//! and the durable log a full copy of it at or after the redo point of every log that a stop can leave. So redo never reads bytes that a stop may have torn.
 //!
 //! It stands on the log, on pages, on the pool and on the disk.
 #![tactic(auto)]

@@ -73,12 +73,12 @@ fn write_one<D: Disk>(
 
 // Whether this page and all before it have their entries.
 fn both(before: bool, has: bool) -> bool
-    ensures { result ≡ true → (before ≡ true) × (has ≡ true) }
+    ensures { (result ≡ true) ↔ ((before ≡ true) × (has ≡ true)) }
 {
     before && has
 }
 
-/// Writes a range of pages in place, in rising page number, one device call each, once their Images are durable. It answers whether
+/// Writes a range of pages in place, in rising page number, one device call each, once their full copies are durable. It answers whether
 /// the table has the entry of each: without room for one there is none, and the file is to be synced.
 ///
 /// Refused `Device`.

@@ -28,7 +28,7 @@ pub struct PageWriter {
     log: LogFile,
     pool: Pool,
     table: DirtyTable,
-    /// The LSNs of a flush's Images.
+    /// An LSN for each page of a flush: that of its Image, or its rec_lsn where no Image is wanted.
     lsns: Vec<Lsn>,
     /// A page past the file's end that is written along.
     spare: Box<Page>,
@@ -44,14 +44,17 @@ impl PageWriter {
     ghost use Rattle.im_record.specs.Entry.{view};
     ghost use Rattle.im_record.specs.Spelling.{IsEntry, size_of};
     ghost use Rattle.im_log.specs.Whats.{what_of};
+    ghost use Rattle.im_flush.specs.LogEnds.{EndsNoSooner};
     ghost use Rattle.im_flush.specs.Writing.{SameHeld};
     ghost use Rattle.im_flush.specs.PageWriter.{IsReadyWriter, StandsAs, FlushOneKept, EvictKept, GetKept, StepKept, OldestKept, RoomKept, IsPlain, LogKept};
 
     /// Writes a page in place, if it was changed since it was read or written: it alone, where the file has it, and past the file's
-    /// end every page from the page count up to it, unchanged ones too. First the Images of these pages join the log, in rising
-    /// page number, then the log is forced, then the pages are written in rising number. A page without a change takes no call.
+    /// end every page from the page count up to it, unchanged ones too. First the Images of those pages join the log of which it is
+    /// not known to have a full copy at or after its redo point, in rising page number, then the log is forced, then the pages are
+    /// written in rising number. A page without a change takes no call.
     ///
-    /// Refused `LogFull`, `Device`, or `Failed` after a call that failed so; every later call is then refused `Failed`.
+    /// Refused `LogFull`, where an Image would end above LSN 2^62, `Device`, or `Failed` after a call that failed so; every later call is
+    /// then refused `Failed`.
     pub fn flush_one<D: Disk>(&mut self, disk: &mut D, number: PageNo) -> Result<(), Fault>
         requires ready { IsReadyWriter D.Disk self.old disk.old }
         ensures ready { IsReadyWriter D.Disk self.new disk.new }
@@ -61,6 +64,8 @@ impl PageWriter {
         ensures failed { self.new.failed ≡ not (is_ok result) }
         ensures causes { IfErr result (λ e. (e ≡ Failed) ⊎ (e ≡ LogFull) ⊎ (e ≡ Device)) }
         ensures no_room { result ≡ Err LogFull → HasNoRoom self.new.log }
+        ensures full { result ≡ Err LogFull → 2 ^ 62 < end_with self.new.log 4129 }
+        ensures later { OnOk result (EndsNoSooner self.old.log self.new.log) }
         ensures already { result ≡ Err Failed ↔ (self.old.failed ≡ true) }
         ensures device { self.old.failed ≡ false → result ≡ Err Device ↔ (D.failed disk.new ≡ true) }
     {
@@ -90,6 +95,8 @@ impl PageWriter {
         ensures failed { self.new.failed ≡ not (is_ok result) }
         ensures causes { IfErr result (λ e. (e ≡ LogFull) ⊎ (e ≡ Device)) }
         ensures no_room { result ≡ Err LogFull → HasNoRoom self.new.log }
+        ensures full { result ≡ Err LogFull → 2 ^ 62 < end_with self.new.log 4129 }
+        ensures later { OnOk result (EndsNoSooner self.old.log self.new.log) }
         ensures device { result ≡ Err Device ↔ (D.failed disk.new ≡ true) }
     {
         self.failed = true;
@@ -129,8 +136,11 @@ impl PageWriter {
         ensures gets { OnOk result (self.new.pool.gets ≡ self.old.pool.gets) }
         ensures works { OnOk result (self.new.failed ≡ false) }
         ensures fails { IfErr result (λ e. (self.new.failed ≡ false) ↔ ((e ≡ Memory) ⊎ (e ≡ NotAStore))) }
+        ensures memory { result ≡ Err Memory → length self.old.pool.held ≡ 0 }
         ensures causes { IfErr result (λ e. (e ≡ Memory) ⊎ (e ≡ LogFull) ⊎ (e ≡ Device)) }
         ensures no_room { result ≡ Err LogFull → HasNoRoom self.new.log }
+        ensures full { result ≡ Err LogFull → 2 ^ 62 < end_with self.new.log 4129 }
+        ensures later { OnOk result (EndsNoSooner self.old.log self.new.log) }
         ensures device { result ≡ Err Device ↔ (D.failed disk.new ≡ true) }
     {
         let Some(frame) = self.pool.oldest() else {
@@ -151,8 +161,10 @@ impl PageWriter {
         ensures gets { OnOk result (self.new.pool.gets ≡ self.old.pool.gets) }
         ensures works { OnOk result (self.new.failed ≡ false) }
         ensures fails { IfErr result (λ e. (self.new.failed ≡ false) ↔ ((e ≡ Memory) ⊎ (e ≡ NotAStore))) }
-        ensures causes { IfErr result (λ e. (e ≡ Memory) ⊎ (e ≡ LogFull) ⊎ (e ≡ Device)) }
+        ensures causes { IfErr result (λ e. (e ≡ LogFull) ⊎ (e ≡ Device)) }
         ensures no_room { result ≡ Err LogFull → HasNoRoom self.new.log }
+        ensures full { result ≡ Err LogFull → 2 ^ 62 < end_with self.new.log 4129 }
+        ensures later { OnOk result (EndsNoSooner self.old.log self.new.log) }
         ensures device { result ≡ Err Device ↔ (D.failed disk.new ≡ true) }
         ensures held { Holds self.old.pool number → (result ≡ Ok tt) × (self.new ≡ self.old) × (disk.new ≡ disk.old) }
     {
@@ -199,8 +211,8 @@ impl PageWriter {
     /// not, where no frame is free, the least recently used page goes first, as `flush_one` writes it where it was changed. One get
     /// is counted, and none for the page that goes.
     ///
-    /// Refused `Failed` after a call that failed; otherwise only for a page that is not held: `LogFull`, `Device`, `Memory`, or
-    /// `NotAStore` where the page's bytes are none. Behind the last two the writer goes on.
+    /// Refused `Failed` after a call that failed; otherwise only for a page that is not held: `LogFull`, where an Image would end above
+    /// LSN 2^62, `Device`, `Memory`, or `NotAStore` where the page's bytes are none. Behind the last two the writer goes on.
     pub fn get<D: Disk>(&mut self, disk: &mut D, number: PageNo) -> Result<Frame, Fault>
         requires ready { IsReadyWriter D.Disk self.old disk.old }
         ensures ready { IsReadyWriter D.Disk self.new disk.new }
@@ -217,6 +229,8 @@ impl PageWriter {
         ensures fails { IfErr result (λ e. (self.new.failed ≡ false) ↔ ((e ≡ Memory) ⊎ (e ≡ NotAStore))) }
         ensures causes { IfErr result (λ e. (e ≡ Failed) ⊎ (e ≡ LogFull) ⊎ (e ≡ Memory) ⊎ (e ≡ NotAStore) ⊎ (e ≡ Device)) }
         ensures no_room { result ≡ Err LogFull → HasNoRoom self.new.log }
+        ensures full { result ≡ Err LogFull → 2 ^ 62 < end_with self.new.log 4129 }
+        ensures later { OnOk result (EndsNoSooner self.old.log self.new.log) }
         ensures already { result ≡ Err Failed ↔ (self.old.failed ≡ true) }
         ensures device { self.old.failed ≡ false → result ≡ Err Device ↔ (D.failed disk.new ≡ true) }
     {
@@ -293,6 +307,7 @@ impl PageWriter {
         ensures ready { IsReadyWriter D.Disk self.new disk.new }
         ensures kept { (b : Base) (base : ℕ) (s : Writer) → StandsAs D.Disk b base s self.old disk.old → StepKept D.Disk b base s (synced s) disk.old self.new disk.new result }
         ensures table { OnOk result (self.new.table ≡ synced_entries self.old.table) }
+        ensures log { self.new.log ≡ self.old.log }
         ensures pool { self.new.pool ≡ self.old.pool }
         ensures failed { self.new.failed ≡ not (is_ok result) }
         ensures causes { IfErr result (λ e. (e ≡ Failed) ⊎ (e ≡ Device)) }
@@ -318,6 +333,8 @@ impl PageWriter {
         ensures failed { self.new.failed ≡ not (is_ok result) }
         ensures causes { IfErr result (λ e. (e ≡ LogFull) ⊎ (e ≡ Device)) }
         ensures no_room { result ≡ Err LogFull → HasNoRoom self.new.log }
+        ensures full { result ≡ Err LogFull → 2 ^ 62 < end_with self.new.log 4129 }
+        ensures later { OnOk result (EndsNoSooner self.old.log self.new.log) }
         ensures device { result ≡ Err Device ↔ (D.failed disk.new ≡ true) }
     {
         match self.pool.oldest_changed() {
@@ -330,7 +347,7 @@ impl PageWriter {
     /// the file of pages synced. Behind it one more page can come in. It comes after a page has its frame, and before the append of
     /// the record that changes the page.
     ///
-    /// Refused `LogFull`, `Device`, or `Failed` after a call that failed.
+    /// Refused `LogFull`, where an Image would end above LSN 2^62, `Device`, or `Failed` after a call that failed.
     pub fn make_entry_room<D: Disk>(&mut self, disk: &mut D) -> Result<(), Fault>
         requires ready { IsReadyWriter D.Disk self.old disk.old }
         ensures ready { IsReadyWriter D.Disk self.new disk.new }
@@ -340,6 +357,8 @@ impl PageWriter {
         ensures failed { self.new.failed ≡ not (is_ok result) }
         ensures causes { IfErr result (λ e. (e ≡ Failed) ⊎ (e ≡ LogFull) ⊎ (e ≡ Device)) }
         ensures no_room { result ≡ Err LogFull → HasNoRoom self.new.log }
+        ensures full { result ≡ Err LogFull → 2 ^ 62 < end_with self.new.log 4129 }
+        ensures later { OnOk result (EndsNoSooner self.old.log self.new.log) }
         ensures already { result ≡ Err Failed ↔ (self.old.failed ≡ true) }
         ensures device { self.old.failed ≡ false → result ≡ Err Device ↔ (D.failed disk.new ≡ true) }
     {

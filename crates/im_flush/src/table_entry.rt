@@ -9,4 +9,6 @@ pub struct TableEntry {
     pub rec_lsn: Lsn,
     /// The LSN of the first change after the page's last write, none where it has not changed since.
     pub since: Option<Lsn>,
+    /// Known: the log has a full copy of the page, at or after its redo point. Where it is not known, it may have one all the same.
+    pub copied: bool,
 }

@@ -8,38 +8,42 @@ use std::alloc::Global;
 use std::fs;
 use std::test::Fail;
 
-fn entry(page: u32, rec_lsn: u64, since: Option<u64>) -> TableEntry {
+fn entry(page: u32, rec_lsn: u64, since: Option<u64>, copied: bool) -> TableEntry {
     TableEntry {
         page,
         rec_lsn,
         since,
+        copied,
     }
 }
 
 #[test]
 fn a_table_follows_changes_writes_and_syncs(rt: HostRuntime) -> Result<(), Fail> {
     let mut table = DirtyTable::new(rt.alloc())?;
-    table.enter(5, 36);
-    table.enter(3, 79);
-    table.enter(5, 122);
+    table.enter(5, 36, false);
+    table.enter(3, 79, false);
+    table.enter(5, 122, false);
     assert_eq!(rt;
         table.entries(),
-        &[entry(3, 79, Some(79)), entry(5, 36, Some(36))][..]
+        &[entry(3, 79, Some(79), false), entry(5, 36, Some(36), false)][..]
     );
     assert!(rt; table.write(5, 165));
     assert!(rt; table.write(4, 165));
-    table.enter(5, 208);
-    assert_eq!(rt; table.get(5), Some(entry(5, 36, Some(208))));
-    assert_eq!(rt; table.get(4), Some(entry(4, 165, None)));
+    table.enter(5, 208, false);
+    assert_eq!(rt; table.get(5), Some(entry(5, 36, Some(208), true)));
+    assert_eq!(rt; table.get(4), Some(entry(4, 165, None, true)));
     assert_eq!(rt; table.get(9), None);
     assert_eq!(rt; table.len(), 3);
     table.sync();
     assert_eq!(rt;
         table.entries(),
-        &[entry(3, 79, Some(79)), entry(5, 208, Some(208))][..]
+        &[
+            entry(3, 79, Some(79), false),
+            entry(5, 208, Some(208), true)
+        ][..]
     );
-    table.enter_at_point(3, 36);
-    assert_eq!(rt; table.get(3), Some(entry(3, 36, Some(36))));
+    table.enter_at_point(3, 36, false);
+    assert_eq!(rt; table.get(3), Some(entry(3, 36, Some(36), false)));
     Ok(())
 }
 
@@ -47,8 +51,8 @@ fn a_table_follows_changes_writes_and_syncs(rt: HostRuntime) -> Result<(), Fail>
 fn a_checkpoint_lists_the_entries(rt: HostRuntime) -> Result<(), Fail> {
     let alloc = rt.alloc();
     let mut table = DirtyTable::new(alloc)?;
-    table.enter(1, 36);
-    table.enter_at_point(0, 12);
+    table.enter(1, 36, false);
+    table.enter_at_point(0, 12, true);
     let mut rows = Vec::with_capacity(alloc, MOST)?;
     table.copy_rows(&mut rows);
     let first = DirtyPage {
@@ -169,8 +173,10 @@ fn a_stop_tears_the_written_page_alone(rt: HostRuntime) -> Result<(), Fail> {
 fn real_files_keep_the_pages(rt: HostRuntime) -> Result<(), Fail> {
     let alloc = rt.alloc();
     let _ = fs::remove_dir_all(&rt, "flush_test");
-    let mut disk = FileDisk::open(&rt, "flush_test")?;
-    assert_eq!(rt; write_pages(alloc, &mut disk)?, 3);
+    {
+        let mut disk = FileDisk::open(&rt, "flush_test")?;
+        assert_eq!(rt; write_pages(alloc, &mut disk)?, 3);
+    }
     let mut again = FileDisk::open(&rt, "flush_test")?;
     assert_eq!(rt; lsn_of(&mut again, 1)?, 122);
     assert_eq!(rt; lsn_of(&mut again, 2)?, 165);

@@ -95,7 +95,7 @@ module _ (base w : IndexMap) (f : ℕ → Txn) (told : ℕ → List (Access × R
 
   module _ (t : ℕ) (a : Access) (granted : IsGranted f t (asked a w)) (going : Told ((f t).locks) w base (told t) ((f t).net)) where
     -- no other touches what is read
-    read_free : (k : Key) → Reads a w k → (u : ℕ) → u ≢ t → Touches ((f u).net) k → ⊥
+    pub read_free : (k : Key) → Reads a w k → (u : ℕ) → u ≢ t → Touches ((f u).net) k → ⊥
     read_free k r u ne touch =
         let g = asked-guards a w k r in
         granted u (guard w k) g.0 Exclusive ne g.1 (Chain-guards _ w base _ (fits.chain u) k touch) (inr refl)

@@ -18,5 +18,6 @@ pub mod Keeping
 pub mod Runs
 pub mod Theorem
 pub mod Callers
+pub mod Isolates
 pub mod Later
 pub mod Serving

@@ -42,7 +42,7 @@ told_at : (ls : List Lock) (base w : IndexMap) (story : List (Access × Reply)) 
 told_at ls base w story net m (inl e) h = subst (λ (m : Mark). StoryHolds m ls w base story net) e h
 told_at ls base w story net m (inr e) h = subst (λ (m : Mark). StoryHolds m ls w base story net) e h
 
-granted_of : (v : View) (t : ℕ) (row : List Request) → IsFree (locks_in v) t row → IsGranted v.txns t row
+pub granted_of : (v : View) (t : ℕ) (row : List Request) → IsFree (locks_in v) t row → IsGranted v.txns t row
 granted_of v t row free s n mode theirs ne ask held either = free s (record { name = n; mode = mode; theirs = theirs; other = ne; ask = ask; held = held; exclusive = either })
 
 module _ (v : View) (told : ℕ → List (Access × Reply)) (h : Stands v told) where
@@ -167,7 +167,7 @@ either_answers : (b : Bool) (p q : Reply) → is_answer p ≡ true → is_answer
 either_answers true p q g h = g
 either_answers false p q g h = h
 
-reply_answers : (a : Access) (m : IndexMap) → is_answer (answer a m) ≡ true
+pub reply_answers : (a : Access) (m : IndexMap) → is_answer (answer a m) ≡ true
 reply_answers (Fetch k) m = found_answers (get m k)
 reply_answers (Seek k) m = entry_answers (first (From k) m)
 reply_answers (Next k) m = entry_answers (first (Above k) m)
@@ -200,11 +200,11 @@ pub record Upheld (v : View) (told : ℕ → List (Access × Reply)) : Type 0 wh
 upheld_of : (v : View) (told : ℕ → List (Access × Reply)) → Stands v told → Upheld v told
 upheld_of v told h = record { locks = λ s. (v.txns s).locks; stands = h; same = λ e s. refl }
 
-stands_of : (v : View) (told : ℕ → List (Access × Reply)) → Upheld v told → v.failed ≡ false → Stands v told
+pub stands_of : (v : View) (told : ℕ → List (Access × Reply)) → Upheld v told → v.failed ≡ false → Stands v told
 stands_of v told h e = subst (λ (ls : ℕ → List Lock). Stands (relocked v ls) told) (λ i s. h.same e s i) h.stands
 
 Goes-upheld : (v : View) (told : ℕ → List (Access × Reply)) (step : Step) (reply : Reply) (w : View) → Stands v told → Goes v step reply w → Upheld w (tell told step reply)
-Goes-upheld v told step reply w h (begins a b e) = upheld_of w (tell told step reply) (quiet_stands w told step reply (none_for step reply Begin a (λ s r. refl)) (subst (λ (u : View). Stands u told) (sym e) (begun_stands v told h)))
+Goes-upheld v told step reply w h (begins a l b e) = upheld_of w (tell told step reply) (quiet_stands w told step reply (none_for step reply Begin a (λ s r. refl)) (subst (λ (u : View). Stands u told) (sym e) (begun_stands v told h)))
 Goes-upheld v told step reply w h (does t a ls b is free same d e) =
     let done : Stands (did v t a ls) (tell told (Do t a) (answer a v.walk)) = subst (Stands (did v t a ls)) (λ i s. told_by_did told t a v.walk s i) (did_stands v told h t a ls is free same) in
     let told_same : tell told (Do t a) (answer a v.walk) ≡ tell told step reply = λ i s. tell told (sym b i) (sym d i) s in
@@ -241,7 +241,7 @@ alone_failed : (b : Bool) → fault_if b has_failed ≡ None → b ≡ false
 alone_failed true e = absurd cc
 alone_failed false e = refl
 
-live_at : (v : View) (step : Step) → barred v step ≡ None → v.failed ≡ false
+pub live_at : (v : View) (step : Step) → barred v step ≡ None → v.failed ≡ false
 live_at v Begin e = not_failed v.failed _ e
 live_at v (Do t a) e = not_failed v.failed _ e
 live_at v (Commit t) e = not_failed v.failed _ e

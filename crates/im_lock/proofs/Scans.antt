@@ -1,15 +1,16 @@
 -- A scan, step by step: the next entry, as long as it is not above hi.
-use Rattle.std.proofs.Common.{◌≡◌, ℕ, zero, suc, Bool, true, false, not, ◌&&◌, T, cond, nat_lt, List, [], ◌∷◌, ◌++◌, map, take, length, Option, Some, None, refl, ap, sym, subst, ◌∙◌, arith}
+use Rattle.std.proofs.Common.{◌≡◌, ◌≤◌, ◌<◌, ℕ, zero, suc, Bool, true, false, not, ◌&&◌, T, cond, nat_lt, List, [], ◌∷◌, ◌++◌, map, take, length, Option, Some, None, refl, ap, sym, subst, ◌∙◌, arith}
 use Rattle.std.proofs.lemmas.Bool.Decides.{nat_tests}
-use Rattle.std.proofs.lemmas.Bool.{lt-ltb}
+use Rattle.std.proofs.lemmas.Bool.{lt-ltb, ltb-true}
 use Rattle.std.specs.List.{filter}
 use Rattle.std.specs.FinMap.{entries, entries_sorted, get, is_sorted}
 use Rattle.std.specs.FinMap.Entries.{below_all}
 use Rattle.im_types.specs.Keys.{Key, key_order}
 use Rattle.im_types.specs.Maps.{IndexMap, is_below, Start, From, Above, is_past, first_in, first}
-use Rattle.im_types.specs.Answers.{scan}
-use Rattle.im_lock.specs.Rows.{scan_row, shared, name_of, next_name}
-use Rattle.im_lock.specs.Locks.{Request, At}
+use Rattle.im_types.specs.Answers.{Scan, scan, limit_of}
+use Rattle.im_lock.specs.Rows.{asked, scan_row, shared, name_of, next_name}
+use Rattle.im_lock.specs.Locks.{Name, Request, At}
+use Rattle.im_lock.specs.Found.{IsScanOf, end_row}
 use Rattle.im_lock.proofs.Order.{below-itself, below-trans, not_below_of, below_before, below_after}
 use Rattle.im_lock.proofs.Guards.{not_true, from_false}
 use Rattle.im_lock.proofs.Search.{IsFirst, first-is, first-by, head_below, rest_sorted, head_least}
@@ -175,3 +176,28 @@ scan-none lo hi (suc n) m b = go (first (From lo) m) (first-is (From lo) m)
     go : (o : Option (Key × ℕ)) → IsFirst (get m) (From lo) o → within hi o (λ e. e ∷ scan_by n (Above e.0) hi m) ≡ []
     go None f = refl
     go (Some e) f = let a : is_below e.0 lo ≡ false = not_true _ f.past_it in let c : is_below hi e.0 ≡ true = below_before hi lo e.0 b a in rw c
+
+-- ---- the row of a scan, from its entries and the name behind them
+
+up_to : (n : ℕ) (es : List (Key × ℕ)) → length (take n es) ≤ n
+up_to zero es = omega arith
+up_to (suc n) [] = omega arith
+up_to (suc n) (e ∷ es) = let h : length (take n es) ≤ n = up_to n es in omega arith
+
+as_many : (a b : ℕ) → a ≤ b → nat_lt a b ≡ false → a ≡ b
+as_many a b le not_less = grind (arith, nat_tests, le, not_less)
+
+pub scan_asked : (m : IndexMap) (lo hi : Key) (n : ℕ) (es : List (Key × ℕ)) (end : Option Name) → IsScanOf m lo hi n es end → map (λ e. shared (At e.0)) es ++ end_row end ≡ asked (Scan lo hi n) m
+scan_asked m lo hi n es end is = go (is_below hi lo) refl
+  where
+    behind : (b : Bool) → is_below hi lo ≡ false → nat_lt (length (scan lo hi (limit_of n) m)) (limit_of n) ≡ b → end_row end ≡ cond b (shared (next_name m hi) ∷ []) []
+    behind true up less = ap end_row (is.fewer up (subst (λ (l : List (Key × ℕ)). length l < limit_of n) (sym is.entries) (ltb-true (length (scan lo hi (limit_of n) m)) (limit_of n) less)))
+    behind false up less = ap end_row (is.full (ap (λ (l : List (Key × ℕ)). length l) is.entries ∙ as_many (length (scan lo hi (limit_of n) m)) (limit_of n) (up_to (limit_of n) _) less))
+
+    go : (b : Bool) → is_below hi lo ≡ b → map (λ e. shared (At e.0)) es ++ end_row end ≡ cond b [] (scan_row lo hi (limit_of n) m)
+    go true down =
+        ap (λ (l : List (Key × ℕ)). map (λ (e : Key × ℕ). shared (At e.0)) l ++ end_row end) (is.entries ∙ scan-steps lo hi (limit_of n) m ∙ scan-none lo hi (limit_of n) m down)
+        ∙ ap end_row (is.none down)
+    go false up =
+        ap (λ (l : List (Key × ℕ)). map (λ (e : Key × ℕ). shared (At e.0)) l ++ end_row end) is.entries
+        ∙ ap (λ (l : List Request). map (λ (e : Key × ℕ). shared (At e.0)) (scan lo hi (limit_of n) m) ++ l) (behind (nat_lt (length (scan lo hi (limit_of n) m)) (limit_of n)) up refl)

@@ -3,12 +3,12 @@ use Rattle.std.proofs.Common.{◌≢◌, ◌≡◌, ℕ, nat_eq, ◌&&◌, map, 
 use Rattle.std.proofs.lemmas.Bool.{cases_lt, ne_eqb}
 use Rattle.std.proofs.lemmas.List.{map-append}
 use Rattle.im_types.specs.Maps.{IndexMap}
-use Rattle.im_types.specs.Changes.{apply, Change, Touches}
+use Rattle.im_types.specs.Changes.{apply}
 use Rattle.im_types.specs.Answers.{Access, Reply, Step, replay, map_after_all, Mark, Idle, Going, MustRollBack, RollingBack, Committing, is_answer, Begin, Do, Commit, Rollback, Continue, FlushPage, Force, Checkpoint, Refused, Committed, RolledBack, More}
 use Rattle.im_lock.specs.View.{Txn, View, idle, set_txn, did, did_txn, begun, marked, committed_by, dropped_by, undid_more, undid_last, MayRollBack, relocked, broken}
 use Rattle.im_lock.specs.Machine.{barred, Answers, Goes, begins, does, waits, dies, commits, drops, turns, undoes, ends, flushes, forces, checkpoints, lacks, breaks, Run, start}
-use Rattle.im_lock.specs.Isolation.{access_of, finished, IsReplay, IsTogether, Isolates}
-use Rattle.im_lock.proofs.Changes.{apply-untouched, same_maps}
+use Rattle.im_lock.specs.Isolation.{access_of, finished, IsReplay, IsTogether}
+use Rattle.im_lock.proofs.Changes.{apply-untouched}
 use Rattle.im_lock.proofs.Invariant.{Told-replay, Told-after_all, accesses_of, replies_of, set_txn-same, set_txn-other}
 use Rattle.im_lock.proofs.Bools.{cases_number}
 use Rattle.im_lock.proofs.Keeping.{nets_apart}
@@ -62,13 +62,13 @@ tells-replies told (e ∷ es) t =
 
 -- ---- one that is going
 
-going_replay : (base : IndexMap) (n : ℕ) (trace : List (Step × Reply)) (v : View) → Run (start base n) trace v → (t : ℕ) → MayRollBack ((v.txns t).mark) → IsReplay v.committed (finished t trace)
+pub going_replay : (base : IndexMap) (n : ℕ) (trace : List (Step × Reply)) (v : View) → Run (start base n) trace v → (t : ℕ) → MayRollBack ((v.txns t).mark) → IsReplay v.committed (finished t trace)
 going_replay base n trace v r t may =
     let up : Upheld v (tells nothing_told trace) = run_upheld base n trace v r in
     let h = Told-replay (up.locks t) v.walk v.committed (tells nothing_told trace t) ((v.txns t).net) (going_told (relocked v up.locks) (tells nothing_told trace) up.stands t may) in
     ap (replay v.committed) (sym (tells-accesses nothing_told trace t)) ∙ (h ∙ tells-replies nothing_told trace t)
 
-after_story : (base : IndexMap) (n : ℕ) (trace : List (Step × Reply)) (v : View) → Run (start base n) trace v → (t : ℕ) → MayRollBack ((v.txns t).mark) → apply v.committed ((v.txns t).net) ≡ map_after_all v.committed (map (λ f. f.0) (finished t trace))
+pub after_story : (base : IndexMap) (n : ℕ) (trace : List (Step × Reply)) (v : View) → Run (start base n) trace v → (t : ℕ) → MayRollBack ((v.txns t).mark) → apply v.committed ((v.txns t).net) ≡ map_after_all v.committed (map (λ f. f.0) (finished t trace))
 after_story base n trace v r t may =
     let up : Upheld v (tells nothing_told trace) = run_upheld base n trace v r in
     Told-after_all (up.locks t) v.walk v.committed (tells nothing_told trace t) ((v.txns t).net) (going_told (relocked v up.locks) (tells nothing_told trace) up.stands t may)
@@ -128,7 +128,7 @@ module _ (v : View) (t : ℕ) (c : Closed v t) where
   at_view step reply w u e none k = (none, subst (λ (x : View). Closed x t) (sym e) k)
 
   Goes-closed : (step : Step) (reply : Reply) (w : View) → Goes v step reply w → Stays step reply w
-  Goes-closed step reply w (begins a b e) = at_view step reply w (begun v) e (quiet_for t step Begin reply a refl)
+  Goes-closed step reply w (begins a l b e) = at_view step reply w (begun v) e (quiet_for t step Begin reply a refl)
       (record { shut = set_shut v.txns v.next (record idle { mark = Going }) t c.shut (λ q. let l : t < v.next = c.old in absurd (omega arith)); old = let l : t < v.next = c.old in omega arith })
   Goes-closed step reply w (does u a ls b is free same d e) = at_view step reply w (did v u a ls) e (quiet_for t step (Do u a) reply b (other_do t u a reply (not_itself v t u c is)))
       (record { shut = set_shut v.txns u (did_txn (v.txns u) a v.walk ls) t c.shut (λ q. absurd (not_itself v t u c is q)); old = c.old })
@@ -173,10 +173,10 @@ same_story base m t front e rest a b h =
 
 -- ---- the end of a transaction
 
-record IsEnd (v : View) (t : ℕ) (w : View) : Type 0 where
-  may : MayRollBack ((v.txns t).mark)
-  is_shut : IsShut ((w.txns t).mark)
-  next : w.next ≡ v.next
+pub record IsEnd (v : View) (t : ℕ) (w : View) : Type 0 where
+  pub may : MayRollBack ((v.txns t).mark)
+  pub is_shut : IsShut ((w.txns t).mark)
+  pub next : w.next ≡ v.next
 
 shut_by : (f : ℕ → Txn) (t : ℕ) (x : Txn) → IsShut x.mark → IsShut ((set_txn f t x t).mark)
 shut_by f t x h = subst (λ (y : Txn). IsShut y.mark) (sym (set_txn-same f t x)) h
@@ -194,8 +194,8 @@ end_at v t u w x e may is_shut next q = record {
   next = ap (λ (y : View). y.next) q ∙ next;
 }
 
-commit_end : (v : View) (t : ℕ) (w : View) → Goes v (Commit t) Committed w → IsEnd v t w
-commit_end v t w (begins a b e) = absurd cc
+pub commit_end : (v : View) (t : ℕ) (w : View) → Goes v (Commit t) Committed w → IsEnd v t w
+commit_end v t w (begins a l b e) = absurd cc
 commit_end v t w (does u a ls b is free same d e) = absurd cc
 commit_end v t w (waits u a holder b is wait d e) = absurd cc
 commit_end v t w (dies u a b is must d e) = absurd cc
@@ -210,12 +210,12 @@ commit_end v t w (checkpoints a d e) = absurd cc
 commit_end v t w (lacks fault wants d e) = absurd cc
 commit_end v t w (breaks fault ls is d e) = absurd cc
 
-no_refusal : (reply : Reply) → (reply ≡ More) ⊎ (reply ≡ RolledBack) → (fault : ℕ) → reply ≡ Refused fault → ⊥
+pub no_refusal : (reply : Reply) → (reply ≡ More) ⊎ (reply ≡ RolledBack) → (fault : ℕ) → reply ≡ Refused fault → ⊥
 no_refusal reply (inl h) fault e = cc
 no_refusal reply (inr h) fault e = cc
 
-rollback_end : (v : View) (t : ℕ) (reply : Reply) (w : View) → (reply ≡ More) ⊎ (reply ≡ RolledBack) → Goes v (Rollback t) reply w → IsEnd v t w
-rollback_end v t reply w h (begins a b e) = absurd cc
+pub rollback_end : (v : View) (t : ℕ) (reply : Reply) (w : View) → (reply ≡ More) ⊎ (reply ≡ RolledBack) → Goes v (Rollback t) reply w → IsEnd v t w
+rollback_end v t reply w h (begins a l b e) = absurd cc
 rollback_end v t reply w h (does u a ls b is free same d e) = absurd cc
 rollback_end v t reply w h (waits u a holder b is wait d e) = absurd cc
 rollback_end v t reply w h (dies u a b is must d e) = absurd cc
@@ -230,7 +230,7 @@ rollback_end v t reply w h (checkpoints a d e) = absurd cc
 rollback_end v t reply w h (lacks fault wants d e) = absurd (no_refusal reply h fault d)
 rollback_end v t reply w h (breaks fault ls is d e) = absurd (no_refusal reply h fault d)
 
-unbarred : (v : View) (step : Step) (reply : Reply) (w : View) (o : Option ℕ) → Answers v step reply w o → ((fault : ℕ) → reply ≡ Refused fault → ⊥) → Goes v step reply w
+pub unbarred : (v : View) (step : Step) (reply : Reply) (w : View) (o : Option ℕ) → Answers v step reply w o → ((fault : ℕ) → reply ≡ Refused fault → ⊥) → Goes v step reply w
 unbarred v step reply w None g never = g
 unbarred v step reply w (Some fault) g never = absurd (never fault g.0)
 
@@ -241,7 +241,7 @@ going_old v told h t may =
       | inr l ↦ absurd (let i : (v.txns t).mark ≡ Idle = ap (λ (x : Txn). x.mark) (h.fresh t l) in elim may [ inl e ↦ cc | inr e ↦ cc ])
     ]
 
-ended_replay : (base : IndexMap) (n : ℕ) (front rest : List (Step × Reply)) (v w end : View) (t : ℕ) (e : Step × Reply) → Run (start base n) front v → IsEnd v t w → access_of t e.0 e.1 ≡ [] → Run w rest end → IsReplay v.committed (finished t (front ++ e ∷ rest))
+pub ended_replay : (base : IndexMap) (n : ℕ) (front rest : List (Step × Reply)) (v w end : View) (t : ℕ) (e : Step × Reply) → Run (start base n) front v → IsEnd v t w → access_of t e.0 e.1 ≡ [] → Run w rest end → IsReplay v.committed (finished t (front ++ e ∷ rest))
 ended_replay base n front rest v w end t e r is none later =
     let up : Upheld v (tells nothing_told front) = run_upheld base n front v r in
     let l : t < v.next = going_old (relocked v up.locks) (tells nothing_told front) up.stands t is.may in
@@ -251,8 +251,8 @@ ended_replay base n front rest v w end t e r is none later =
     (going_replay base n front v r t is.may)
 
 -- the map committed after a Commit
-commit_adds : (v : View) (t : ℕ) (w : View) → Goes v (Commit t) Committed w → w.committed ≡ apply v.committed ((v.txns t).net)
-commit_adds v t w (begins a b e) = absurd cc
+pub commit_adds : (v : View) (t : ℕ) (w : View) → Goes v (Commit t) Committed w → w.committed ≡ apply v.committed ((v.txns t).net)
+commit_adds v t w (begins a l b e) = absurd cc
 commit_adds v t w (does u a ls b is free same d e) = absurd cc
 commit_adds v t w (waits u a holder b is wait d e) = absurd cc
 commit_adds v t w (dies u a b is must d e) = absurd cc
@@ -269,7 +269,7 @@ commit_adds v t w (breaks fault ls is d e) = absurd cc
 
 -- no other reply changes the map committed
 goes_stays : (v w : View) (step : Step) (reply : Reply) → Goes v step reply w → reply ≢ Committed → w.committed ≡ v.committed
-goes_stays v w step reply (begins a b e) ne = ap (λ (y : View). y.committed) e
+goes_stays v w step reply (begins a l b e) ne = ap (λ (y : View). y.committed) e
 goes_stays v w step reply (does u a ls b is free same d e) ne = ap (λ (y : View). y.committed) e
 goes_stays v w step reply (waits u a holder b is wait d e) ne = ap (λ (y : View). y.committed) e
 goes_stays v w step reply (dies u a b is must d e) ne = ap (λ (y : View). y.committed) e
@@ -284,7 +284,7 @@ goes_stays v w step reply (checkpoints a d e) ne = ap (λ (y : View). y.committe
 goes_stays v w step reply (lacks fault wants d e) ne = ap (λ (y : View). y.committed) e
 goes_stays v w step reply (breaks fault ls is d e) ne = ap (λ (y : View). y.committed) e
 
-answers_stays : (v w : View) (step : Step) (reply : Reply) (o : Option ℕ) → Answers v step reply w o → reply ≢ Committed → w.committed ≡ v.committed
+pub answers_stays : (v w : View) (step : Step) (reply : Reply) (o : Option ℕ) → Answers v step reply w o → reply ≢ Committed → w.committed ≡ v.committed
 answers_stays v w step reply None g ne = goes_stays v w step reply g ne
 answers_stays v w step reply (Some fault) g ne = ap (λ (y : View). y.committed) g.1
 
@@ -295,24 +295,7 @@ together_of v told h = record {
   touched = λ t k touch. h.fits.walk t k (λ u nu other. nets_apart v.committed v.walk v.txns told h.fits u t nu k other touch);
 }
 
-together_up : (v : View) (told : ℕ → List (Access × Reply)) → Upheld v told → IsTogether v
+pub together_up : (v : View) (told : ℕ → List (Access × Reply)) → Upheld v told → IsTogether v
 together_up v told up =
     let h = together_of (relocked v up.locks) told up.stands in
     record { apart = h.apart; untouched = h.untouched; touched = h.touched }
-
-pub isolates : (base : IndexMap) (n : ℕ) → Isolates base n
-isolates base n = record {
-  going = going_replay base n;
-  committed = λ front rest v w end r t m later.
-      ended_replay base n front rest v w end t (Commit t, Committed) r (commit_end v t w (unbarred v (Commit t) Committed w (barred v (Commit t)) m (λ fault e. cc))) refl later;
-  rolled_back = λ front rest v w end r t reply which m later.
-      ended_replay base n front rest v w end t (Rollback t, reply) r (rollback_end v t reply w which (unbarred v (Rollback t) reply w (barred v (Rollback t)) m (no_refusal reply which))) refl later;
-  adds = λ front v w r t m.
-      let g = unbarred v (Commit t) Committed w (barred v (Commit t)) m (λ fault e. cc) in
-      commit_adds v t w g ∙ after_story base n front v r t ((commit_end v t w g).may);
-  stays = λ v w step reply m ne. answers_stays v w step reply (barred v step) m ne;
-  quiet = λ trace v r none.
-      let both = together_up v (tells nothing_told trace) (run_upheld base n trace v r) in
-      same_maps v.walk v.committed (λ k. both.untouched k (λ t touch. subst (λ (net : List Change). Touches net k) (none t) touch));
-  together = λ trace v r. together_up v (tells nothing_told trace) (run_upheld base n trace v r);
-}

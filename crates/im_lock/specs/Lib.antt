@@ -1,5 +1,6 @@
 pub mod Locks
 pub mod Table
+pub mod HeldKeys
 pub mod Index
 pub mod InStep
 pub mod Rows

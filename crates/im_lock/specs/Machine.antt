@@ -1,5 +1,5 @@
 -- The machine of transactions over one map with locks: which reply it may give to a step, and what is then.
-use Rattle.std.specs.Prelude.{◌≡◌, ℕ, ◌==◌, nat_lt, Bool, true, false, not, ◌&&◌, List, [], ◌∷◌, length, Option, Some, None, ◌⊎◌}
+use Rattle.std.specs.Prelude.{◌≡◌, ◌≤◌, ◌^◌, ℕ, ◌==◌, nat_lt, Bool, true, false, not, ◌&&◌, List, [], ◌∷◌, length, Option, Some, None, ◌⊎◌}
 use Rattle.im_types.specs.Keys.{Key}
 use Rattle.im_types.specs.Maps.{IndexMap}
 use Rattle.im_types.specs.Changes.{Change}
@@ -56,20 +56,36 @@ abbrev pub fault_if : Bool → ℕ → Option ℕ
 fault_if true f = Some f
 fault_if false f = None
 
--- the refusal that the view determines, the first of its checks in their order
-abbrev pub barred : View → Step → Option ℕ
-barred v Begin = or_else (fault_if v.failed has_failed) (fault_if (not (nat_lt v.active 64)) too_many)
-barred v (Do t a) = or_else (fault_if v.failed has_failed) (or_else (barred_to ((v.txns t).mark)) (fault_if (not (keys_fit a)) key_length))
-barred v (Commit t) = or_else (fault_if v.failed has_failed) (barred_to ((v.txns t).mark))
-barred v (Rollback t) = or_else (fault_if v.failed has_failed) (barred_to_rollback ((v.txns t).mark))
-barred v (Continue t) = or_else (fault_if v.failed has_failed) (barred_to_continue ((v.txns t).mark))
-barred v (FlushPage p) = fault_if v.failed has_failed
-barred v Force = fault_if v.failed has_failed
-barred v Checkpoint = fault_if v.failed has_failed
+-- The checks that neither pages nor locks decide, in their order: the engine has failed; 64 are active, for Begin; the mark of the step's transaction; the length of its keys.
+abbrev pub first_check : (failed : Bool) (active : ℕ) (mark : Mark) → Step → Option ℕ
+first_check failed active mark Begin = or_else (fault_if failed has_failed) (fault_if (not (nat_lt active 64)) too_many)
+first_check failed active mark (Do t a) = or_else (fault_if failed has_failed) (or_else (barred_to mark) (fault_if (not (keys_fit a)) key_length))
+first_check failed active mark (Commit t) = or_else (fault_if failed has_failed) (barred_to mark)
+first_check failed active mark (Rollback t) = or_else (fault_if failed has_failed) (barred_to_rollback mark)
+first_check failed active mark (Continue t) = or_else (fault_if failed has_failed) (barred_to_continue mark)
+first_check failed active mark (FlushPage p) = fault_if failed has_failed
+first_check failed active mark Force = fault_if failed has_failed
+first_check failed active mark Checkpoint = fault_if failed has_failed
 
--- Pages or memory are wanting, and nothing is changed. The machine does not say when: that they come only for cause is the engine's own promise.
-abbrev pub Wants : ℕ → Type 0
-Wants f = (f ≡ pages_full) ⊎ (f ≡ memory)
+-- the mark of the transaction that a step names
+abbrev pub mark_for : (ℕ → Mark) → Step → Mark
+mark_for marks Begin = Idle
+mark_for marks (Do t a) = marks t
+mark_for marks (Commit t) = marks t
+mark_for marks (Rollback t) = marks t
+mark_for marks (Continue t) = marks t
+mark_for marks (FlushPage p) = Idle
+mark_for marks Force = Idle
+mark_for marks Checkpoint = Idle
+
+-- the refusal that the view determines, the first of its checks
+abbrev pub barred : View → Step → Option ℕ
+barred v step = first_check v.failed v.active (mark_for (λ t. (v.txns t).mark) step) step
+
+-- Pages are wanting for an Insert, or memory, and nothing is changed. The machine does not say when: that they come only for cause is the engine's own promise.
+abbrev pub Wants : Step → ℕ → Type 0
+Wants (Do t (Insert k r)) f = (f ≡ pages_full) ⊎ (f ≡ memory)
+Wants _ f = f ≡ memory
 
 -- capacity, the log or the device failed, or memory within the step, and the engine with it
 abbrev pub Breaks : ℕ → Type 0
@@ -77,7 +93,7 @@ Breaks f = (f ≡ capacity) ⊎ ((f ≡ log_full) ⊎ ((f ≡ device) ⊎ (f ≡
 
 -- from v, where no check bars the step, the machine may give this reply and go on to w
 pub data Goes (v : View) (step : Step) (reply : Reply) (w : View) : Type 0 where
-  begins : step ≡ Begin → reply ≡ Started v.next → w ≡ begun v → Goes v step reply w
+  begins : step ≡ Begin → v.next ≤ 2 ^ 62 → reply ≡ Started v.next → w ≡ begun v → Goes v step reply w
   does : (t : ℕ) (a : Access) (ls : List Lock) → step ≡ Do t a → (v.txns t).mark ≡ Going → IsFree (locks_in v) t (asked a v.walk) → SameLocks ls (kept (asked a v.walk) ((v.txns t).locks)) → reply ≡ answer a v.walk → w ≡ did v t a ls → Goes v step reply w
   waits : (t : ℕ) (a : Access) (holder : ℕ) → step ≡ Do t a → (v.txns t).mark ≡ Going → WaitsFor (locks_in v) t (asked a v.walk) holder → reply ≡ Blocked holder → w ≡ v → Goes v step reply w
   dies : (t : ℕ) (a : Access) → step ≡ Do t a → (v.txns t).mark ≡ Going → MustDie (locks_in v) t (asked a v.walk) → reply ≡ Die → w ≡ marked v t MustRollBack → Goes v step reply w
@@ -89,7 +105,7 @@ pub data Goes (v : View) (step : Step) (reply : Reply) (w : View) : Type 0 where
   flushes : (p : ℕ) → step ≡ FlushPage p → reply ≡ Done → w ≡ v → Goes v step reply w
   forces : step ≡ Force → reply ≡ Done → w ≡ v → Goes v step reply w
   checkpoints : step ≡ Checkpoint → reply ≡ Done → w ≡ v → Goes v step reply w
-  lacks : (fault : ℕ) → Wants fault → reply ≡ Refused fault → w ≡ v → Goes v step reply w
+  lacks : (fault : ℕ) → Wants step fault → reply ≡ Refused fault → w ≡ v → Goes v step reply w
   breaks : (fault : ℕ) (ls : ℕ → List Lock) → Breaks fault → reply ≡ Refused fault → w ≡ broken v ls → Goes v step reply w
 
 -- a step that a check bars is refused and changes nothing; any other goes on
@@ -109,3 +125,9 @@ Run v (e ∷ es) w = (mid : View) × Moves v e.0 e.1 mid × Run mid es w
 -- at the beginning of a run: this map is committed, and this number is given next
 abbrev pub start : IndexMap → ℕ → View
 start base n = record { committed = base; walk = base; next = n; active = 0; failed = false; txns = λ t. idle }
+
+-- a run from this base leads to the view
+pub record IsReached (base : IndexMap) (v : View) : Type 0 where
+  pub trace : List (Step × Reply)
+  pub first : ℕ
+  pub run : Run (start base first) trace v

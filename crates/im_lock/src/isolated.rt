@@ -2,7 +2,7 @@
 
 ghost use Rattle.std.specs.Prelude.{ℕ};
 ghost use Rattle.im_types.specs.Maps.{IndexMap};
-ghost use Rattle.im_lock.specs.Isolation.{Isolates};
+ghost use Rattle.im_lock.specs.Isolation.{Isolates, GrantedChangesAreFree};
 ghost use Rattle.im_lock.specs.Serving.{TableServes};
 
 /// Whatever steps of however many transactions come in whatever order, each transaction is as good as alone. It
@@ -15,4 +15,10 @@ pub fn isolation()
 /// table then holds what the next view says; so do its releases. It does nothing: its contract is the law.
 pub fn table_serves()
     ensures { TableServes }
+{}
+
+/// Whoever is granted the locks of a change finds its key in no other transaction's net: so what the log asks of a
+/// key record holds of each change that the lock table grants. It does nothing: its contract is the law.
+pub fn granted_changes_are_free()
+    ensures { GrantedChangesAreFree }
 {}

@@ -14,8 +14,8 @@
 //! a second are granted to one that takes 10, 1,000 and 30,000 and lets them go, 9, 11 and 7 million are released, and
 //! another that takes one lock and lets it go does so 4 million times a second beside each of these.
 //!
-//! **The rows.** `fetch_row`, `seek_row`, `insert_row`, `delete_row` and `shared` give what each access asks, from what
-//! its search found; by their contracts these are the rows of the machine (`asked`).
+//! **The rows.** `fetch_row`, `seek_row`, `scan_row`, `insert_row`, `delete_row` and `shared` give what each access asks,
+//! from what its search found; by their contracts these are the rows of the machine (`asked`).
 //!
 //! **The machine.** `specs/` has the relation of a step of many transactions over one map with locks (`Moves`), and its
 //! runs (`Run`). The contract of `isolation` says, of every run: each transaction's replies are those that it would
@@ -32,20 +32,23 @@ mod holder;
 mod isolated;
 mod lock_table;
 mod name;
+mod name_holders;
 mod name_index;
 mod request;
 mod rivals;
 mod row;
 mod rows;
+mod scan_requests;
 mod stored_lock;
 #[cfg(test)]
 mod tests;
 mod verdict;
 
-pub use isolated::{isolation, table_serves};
+pub use isolated::{granted_changes_are_free, isolation, table_serves};
 pub use lock_table::LockTable;
 pub use name::Name;
 pub use request::{Duration, Mode, Request};
 pub use row::Row;
 pub use rows::{delete_row, fetch_row, insert_row, seek_row, shared};
+pub use scan_requests::scan_row;
 pub use verdict::Verdict;

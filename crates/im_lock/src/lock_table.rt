@@ -3,7 +3,8 @@
 ghost use Rattle.std.specs.Prelude.{◌≡◌, IfOk, IfErr, OnErr, OnOk, [], nat_eq};
 ghost use Rattle.std.specs.HashMap.{ContainsKey};
 ghost use Rattle.im_types.specs.declared.fault.Fault.TheVariants.{Memory};
-ghost use Rattle.im_lock.specs.Table.{row, Decides, IsGrown, SameTable, IsReleased};
+ghost use Rattle.im_lock.specs.Locks.{IsFree};
+ghost use Rattle.im_lock.specs.Table.{row, locks_of, Decides, IsGrown, SameTable, IsReleased};
 ghost use Rattle.im_lock.specs.InStep.{owned, IsInStep};
 
 use crate::grants::{forget, grant};
@@ -50,10 +51,10 @@ impl LockTable {
         }
     }
 
-    /// Grants all of the requests of `t`, or none.
+    /// Grants all of the requests of `t`, or none. Memory is wanted only where all are granted; refused, the table stays as it was.
     pub fn try_all(&mut self, t: TxnId, requests: &[Request<'_>]) -> Result<Verdict, Fault>
         ensures decided { IfOk result (λ verdict. Decides self.old t (row requests.now) verdict self.new) }
-        ensures refused { IfErr result (λ fault. (fault ≡ Memory) × SameTable self.old self.new) }
+        ensures refused { IfErr result (λ fault. (fault ≡ Memory) × IsFree (locks_of self.old) t (row requests.now) × SameTable self.old self.new) }
     {
         if let Some(holder) = smallest_rival(&self.names, t, requests) {
             return Ok(if t < holder {

@@ -1,7 +1,8 @@
 use crate::{
-    Duration, LockTable, Mode, Name, Request, Verdict, delete_row, fetch_row, insert_row,
-    isolation, seek_row, shared, table_serves,
+    Duration, LockTable, Mode, Name, Request, Verdict, delete_row, fetch_row, insert_row, scan_row,
+    seek_row, shared,
 };
+use im_types::Key;
 use std::test::Fail;
 
 #[test]
@@ -58,10 +59,17 @@ fn rows_keep_a_missing_key_missing(rt: HostRuntime) -> Result<(), Fail> {
     Ok(())
 }
 
+// A scan that ends before its limit locks the name behind it, so nothing comes into its range.
 #[test]
-fn laws_are_called(_rt: HostRuntime) {
-    isolation();
-    table_serves();
+fn a_scan_locks_the_name_behind_it(rt: HostRuntime) -> Result<(), Fail> {
+    let mut table = LockTable::new(rt.alloc());
+    let found = [(Key::new(b"b")?, 4)];
+    let scanned = scan_row(rt.alloc(), &found, Some(Name::End))?;
+    assert_eq!(rt; scanned.len(), 2);
+    assert_eq!(rt; table.try_all(1, scanned.as_slice())?, Verdict::Granted);
+    let inserted = insert_row(b"m", false, Name::End);
+    assert_eq!(rt; table.try_all(2, inserted.as_slice())?, Verdict::Die);
+    Ok(())
 }
 
 fn exclusive(name: Name<'_>, duration: Duration) -> Request<'_> {

@@ -164,6 +164,8 @@ impl LogFile {
         ensures already { result ≡ Err Failed ↔ (self.old.failed ≡ true) }
         ensures full { result ≡ Err LogFull ↔ ((self.old.failed ≡ false) × (2 ^ 62 < end_with self.old (size_of (view record.now)))) }
         ensures no_room { result ≡ Err LogFull → HasNoRoom self.new }
+        ensures left { result ≡ Err LogFull → 2 ^ 62 < end_with self.new (size_of (view record.now)) }
+        ensures end { OnOk result (next_lsn self.new ≡ end_with self.old (size_of (view record.now))) }
         ensures device { self.old.failed ≡ false → result ≡ Err Device ↔ (D.failed disk.new ≡ true) }
     {
         if self.failed {

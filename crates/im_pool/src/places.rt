@@ -28,7 +28,7 @@ impl Model for Places {
 
     ghost view = { λ a. record { taken = a.by_use.entries; free = a.free.items } };
 
-    ghost invariant = { λ a. (a.by_use.cap ≡ length a.by_use.entries + length a.free.items) × (a.by_use.cap ≤ vec_capacity a.free) };
+    ghost invariant = { λ a. (a.by_use.cap ≡ length a.by_use.entries + length a.free.items) × (a.by_use.cap ≤ vec_capacity a.free) × (1 ≤ a.by_use.cap) };
 }
 
 impl Places {
@@ -49,7 +49,8 @@ impl Places {
 
     /// How many pages are held.
     pub fn len(&self) -> usize
-        ensures { result ≡ length self.now.taken }
+        ensures len { result ≡ length self.now.taken }
+        ensures some { 1 ≤ frame_count self.now }
     {
         self.by_use.len()
     }

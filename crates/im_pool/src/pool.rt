@@ -73,6 +73,7 @@ impl Pool {
     pub fn len(&self) -> usize
         ensures len { result ≡ length self.now.held }
         ensures within { length self.now.held ≤ self.now.frames }
+        ensures some { 1 ≤ self.now.frames }
     {
         self.places.len()
     }
@@ -87,6 +88,7 @@ impl Pool {
     /// Whether no frame is free.
     pub fn is_full(&self) -> bool
         ensures full { result ≡ true → length self.now.held ≡ self.now.frames }
+        ensures some { result ≡ true → 1 ≤ length self.now.held }
         ensures room { result ≡ false → length self.now.held < self.now.frames }
     {
         self.len() == self.frames()

@@ -1,159 +1,219 @@
--- The compensation of a key record, on its own page.
-use Rattle.std.proofs.Common.{◌≡◌, ◌≢◌, ◌≤◌, ◌<◌, ℕ, [], ◌∷◌, Bool, true, false, Result, refl, sym, ◌∙◌, ap, subst, arith}
-use Rattle.std.specs.Prelude.{◌==◌, if◌then◌else◌}
+-- The undo of a key record in the tree as it is now, and pages behind a record.
+use Rattle.std.proofs.Common.{◌≡◌, ◌≢◌, ◌≤◌, ℕ, zero, suc, [], ◌∷◌, ◌++◌, Bool, true, false, Result, Err, inl, inr, refl, sym, ◌∙◌, ap, subst, arith}
+use Rattle.std.specs.Prelude.{◌&&◌, not, nat_le, if◌then◌else◌}
+use Rattle.std.proofs.lemmas.Bool.{and_parts, cases_eq}
+use Rattle.im_types.specs.declared.file_id.FileId.TheVariants.{Log}
 use Rattle.im_types.specs.declared.fault.Fault.{Fault}
-use Rattle.im_types.specs.Keys.{Key}
-use Rattle.im_types.specs.Pages.{Body, Page}
-use Rattle.im_types.specs.Records.{Logged}
-use Rattle.im_types.specs.Tree.{Tree, TreeLaws}
-use Rattle.im_types.specs.Histories.{Base, History, IsRecordOf, end_of, page_after, page_at}
+use Rattle.im_types.specs.declared.fault.Fault.TheVariants.{Failed, Memory, NotAStore}
+use Rattle.im_types.specs.Pages.{Page}
+use Rattle.im_types.specs.Records.{What, InsertKey, DeleteKey, UndoInsert, UndoDelete, Smo, UndoSmo, DummyClr, Commit, End, Image, Checkpoint, Unreadable, Logged}
+use Rattle.im_types.specs.Histories.{Base, History, page_after, page_at}
 use Rattle.im_types.specs.Copies.{GrowsByImages}
-use Rattle.im_types.specs.Structure.{open_smo, settled, taken_back}
-use Rattle.im_types.specs.Transactions.{last_of, to_undo, undo_next_of}
-use Rattle.im_types.specs.LogLaws.{bodies}
+use Rattle.im_types.specs.Transactions.{is_end, is_finished, last_of, undo_next_of}
 use Rattle.im_types.specs.Writer.{PageState, Writer}
 use Rattle.im_types.specs.WriterSteps.{changed_page}
-use Rattle.im_types.proofs.Fronts.{has_tree}
-use Rattle.im_types.proofs.Images.{images_pages, images_to_undo}
+use Rattle.im_types.proofs.Fronts.{fronts_lawful}
+use Rattle.im_types.proofs.Images.{images_pages}
 use Rattle.im_disk.specs.declared.disk.Disk.{Ghosts}
 use Rattle.im_disk.specs.Runs.{LeavesOnly}
-use Rattle.im_record.specs.Entry.{Entry, InsertKey, DeleteKey, UndoInsert, UndoDelete}
-use Rattle.im_log.specs.Spelled.{logged_at}
-use Rattle.im_log.proofs.Above.{front_one, front_then}
+use Rattle.im_disk.proofs.Runs.{weakened}
+use Rattle.im_record.specs.Entry.{Entry, prev_of}
+use Rattle.im_log.proofs.Above.{front_then}
+use Rattle.im_log.proofs.Creations.{not_both}
 use Rattle.im_flush.specs.declared.page_writer.PageWriter.{PageWriter}
-use Rattle.im_flush.specs.LeafChange.{CanPutKey, CanTakeKey}
-use Rattle.im_flush.specs.LoggedChange.{ChangedFrom, ChangeKept}
-use Rattle.im_flush.proofs.Growing.{grown_front, if_ok}
-use Rattle.im_analysis.specs.declared.rows.Loser.{Loser}
-use Rattle.im_analysis.specs.Losers.{is_loser}
-use Rattle.im_analysis.specs.Undo.{Compensates, IsNext, IsUndoable, TakesOff}
-use Rattle.im_analysis.proofs.Losers.{loser_number}
-use Rattle.im_analysis.proofs.Tables.{images_undoable}
-use Rattle.im_analysis.proofs.Undoing.{undo_goes_on}
-use Rattle.im_restart.specs.Undone.{GrowsByUndo, IsUndo, TakesInverse}
+use Rattle.im_flush.specs.PageWriter.{StandsAs}
+use Rattle.im_flush.proofs.Growing.{if_ok}
+use Rattle.im_tree.specs.Good.{AllOf}
+use Rattle.im_tree.specs.Theory.{page_tree}
+use Rattle.im_analysis.specs.Losers.{has_record, is_loser}
+use Rattle.im_analysis.proofs.Losers.{loser_number, loser_unfinished, same_loser, still_loser}
+use Rattle.im_undo.specs.Records as undone
+use Rattle.im_undo.specs.Records.{IsOfUndo}
+use Rattle.im_undo.specs.Undoing as undoing
+use Rattle.im_undo.specs.Undoing.{IsGoing, LeavesUndo, LeftByUndo, TakenBack}
+use Rattle.im_undo.proofs.Growth as growth
+use Rattle.im_undo.proofs.Growth.{going_page}
+use Rattle.im_undo.proofs.Keeping.{undo_others}
+use Rattle.im_restart.specs.declared.chains.Chain.{Chain}
+use Rattle.im_restart.specs.Undone.{AreUndo, GrowsByUndo, IsUndo}
 use Rattle.im_restart.specs.Restart.{IsLeftUndoing}
-use Rattle.im_restart.specs.LoserChains.{IsToUndo, chain_of}
-use Rattle.im_restart.specs.Undoing.{Compensated, CompensateKept, IsUndoing, MayUndo}
-use Rattle.im_restart.proofs.Growth.{grows_images, grows_one}
-use Rattle.im_restart.proofs.Others.{images_same_loser, images_same_row, in_newer, spares_images, spares_one, spares_then}
-use Rattle.im_restart.proofs.Steps.{left_grown}
+use Rattle.im_restart.specs.LoserChains.{IsToUndo, SparesOthers}
+use Rattle.im_restart.specs.Undoing.{Compensated, CompensateKept, IsUndoing}
+use Rattle.im_restart.proofs.Growth.{grows_front, grows_then}
 
--- where no structure change is open, the settled pages are the pages as they are
-settled_is : (b : Base) (log : History) → open_smo log ≡ [] → settled b log ≡ bodies b log
-settled_is b log closed = λ i p. taken_back (closed i) p (page_at b log p).body
-
-pub good_now : (b : Base) (tree : Tree) (log : History) → IsUndoable b tree log → tree.Good (bodies b log)
-good_now b tree log can = subst (λ (pages : ℕ → Body). tree.Good pages) (settled_is b log can.closed) (has_tree b tree log can.lawful).good
-
--- ---- behind Images
-
-pub undoable_longer : (b : Base) (tree : Tree) (old new : History) → GrowsByImages b old new → IsUndoable b tree old → IsUndoable b tree new
-undoable_longer b tree old new by can = subst (λ (l : History). IsUndoable b tree l) (sym by.is) (images_undoable b tree by.images old by.all can)
+-- ---- pages
 
 pub page_longer : (b : Base) (old new : History) (p : ℕ) → GrowsByImages b old new → page_at b new p ≡ page_at b old p
 page_longer b old new p by = ap (λ (l : History). page_at b l p) by.is ∙ images_pages b by.images old p by.all
-
-stack_longer : (b : Base) (t : ℕ) (old new : History) → t ≢ 0 → GrowsByImages b old new → to_undo t new ≡ to_undo t old
-stack_longer b t old new some by = ap (λ (l : History). to_undo t l) by.is ∙ images_to_undo b t by.images old some by.all
-
-next_longer : (b : Base) (t : ℕ) (old new : History) (x : Logged) → is_loser t old ≡ true → GrowsByImages b old new → IsNext t old x → IsNext t new x
-next_longer b t old new x loser by next =
-    let one : 1 ≤ t = loser_number t old loser in
-    let row : undo_next_of t new ≡ undo_next_of t old = ap (λ (r : Loser). r.undo_next) (images_same_row b old new t by loser) in
-    record {
-      rest = next.rest;
-      stack = stack_longer b t old new (λ e. omega (arith, one, e)) by ∙ next.stack;
-      key = next.key;
-      owner = next.owner;
-      logged = subst (λ (l : History). IsRecordOf x l) (sym by.is) (in_newer x by.images old next.logged);
-      behind = subst (λ (n : ℕ). x.lsn ≤ n) (sym row) next.behind;
-      falls = next.falls;
-    }
-
--- ---- the page behind the record
 
 pub page_changed : (r : Logged) (is : Bool) (x : PageState) (g : Page) → x.page ≡ g → (if is then changed_page r x else x).page ≡ (if is then page_after r.lsn r.what g else g)
 page_changed r true x g same = ap (λ (h : Page). page_after r.lsn r.what h) same
 page_changed r false x g same = same
 
-module _ {D : Type 0} (d : Ghosts D) (b : Base) (tree : Tree) (all : History) (laws : TreeLaws tree) (may : MayUndo b tree all) (s : Writer) (is : IsUndoing b tree all s) where
-  -- the key record can be taken back on its page
-  inverse : (t : ℕ) (x : Logged) (now : History) → GrowsByUndo all now → IsUndoable b tree now → is_loser t now ≡ true → IsNext t now x → TakesInverse tree (bodies b now) x.page x.what
-  inverse t x now grown can loser next = may.in_place now grown can.lawful can.closed t x next.rest loser next.stack
+-- ---- the records with which one record is taken back
 
-  module _ (t last : ℕ) (said entry : Entry) (to : IsToUndo s.log (chain_of t last) said) (old : D) (w : PageWriter) (new : D) (stops : LeavesOnly d old new (IsLeftUndoing b tree all)) where
-    -- a record that takes it back
-    done : (lsn : ℕ) → ((now : History) → is_loser t now ≡ true → IsUndoable b tree now → IsNext t now (logged_at to.lsn said)
-        → TakesInverse tree (bodies b now) (logged_at to.lsn said).page (logged_at to.lsn said).what
-        → last ≡ last_of t now → end_of b now < lsn → Compensates b tree t now (logged_at to.lsn said) (logged_at lsn entry) × IsUndo (logged_at lsn entry) now (logged_at lsn entry).what)
-        → ChangedFrom d b 0 s entry lsn old w new → Compensated d b tree all s t (logged_at to.lsn said).prev lsn old w new
-    done lsn how from =
-        let x : Logged = logged_at to.lsn said in
-        let r : Logged = logged_at lsn entry in
-        let log : History = from.before.log in
-        let by : GrowsByImages b s.log log = from.keeps.log in
-        let can : IsUndoable b tree log = undoable_longer b tree s.log log by is.can in
-        let loser : is_loser t log ≡ true = images_same_loser b s.log log t by ∙ to.loser in
-        let next : IsNext t log x = next_longer b t s.log log x to.loser by to.next in
-        let grown : GrowsByUndo all log = grows_images b all s.log log is.grown by in
-        let behind : last ≡ last_of t log = to.last ∙ sym (ap (λ (q : Loser). q.last) (images_same_row b s.log log t by to.loser)) in
-        let both = how log loser can next (inverse t x log grown can loser next) behind from.logged.high in
-        let after : IsUndoable b tree (r ∷ log) × TakesOff t log x r = (undo_goes_on tree laws).compensates b log t x r can loser next both.0 in
+-- each is one of a restart, and the transaction stays a loser
+record IsOfRestart (t : ℕ) (more older : History) : Type 0 where
+  pub all : AreUndo more older
+  pub loser : is_loser t (more ++ older) ≡ true
+
+own : (t : ℕ) (r : Logged) (log : History) → r.txn ≡ t → is_loser t log ≡ true → is_loser r.txn log ≡ true
+own t r log is loser = ap (λ (u : ℕ). is_loser u log) is ∙ loser
+
+is_undo : (t : ℕ) (r : Logged) (log : History) (w : What) → is_loser t log ≡ true → IsOfUndo t r w → IsUndo r log w
+is_undo t r log (UndoInsert k i) loser is = own t r log is loser
+is_undo t r log (UndoDelete k i) loser is = own t r log is loser
+is_undo t r log (Smo was now) loser is = own t r log is loser
+is_undo t r log DummyClr loser is = own t r log is loser
+is_undo t r log (Image c) loser is = is
+is_undo t r log (InsertKey k i) loser is = is
+is_undo t r log (DeleteKey k i) loser is = is
+is_undo t r log (UndoSmo now) loser is = absurd is
+is_undo t r log Commit loser is = is
+is_undo t r log End loser is = absurd is
+is_undo t r log (Checkpoint n a dirty) loser is = is
+is_undo t r log Unreadable loser is = is
+
+no_end : (t : ℕ) (r : Logged) (w : What) → IsOfUndo t r w → is_end w ≡ false
+no_end t r (UndoInsert k i) is = refl
+no_end t r (UndoDelete k i) is = refl
+no_end t r (Smo was now) is = refl
+no_end t r DummyClr is = refl
+no_end t r (Image c) is = refl
+no_end t r (InsertKey k i) is = refl
+no_end t r (DeleteKey k i) is = refl
+no_end t r (UndoSmo now) is = refl
+no_end t r Commit is = absurd is
+no_end t r End is = absurd is
+no_end t r (Checkpoint n a dirty) is = refl
+no_end t r Unreadable is = refl
+
+has_older : (t : ℕ) (log : History) → is_loser t log ≡ true → has_record t log ≡ true
+has_older t log loser = (and_parts (has_record t log) (not (is_finished t log)) (and_parts (nat_le 1 t) (has_record t log && not (is_finished t log)) loser).1).0
+
+-- a record more leaves a loser one, where it does not end it
+stays_loser : (t : ℕ) (r : Logged) (log : History) → is_end r.what ≡ false → is_loser t log ≡ true → is_loser t (r ∷ log) ≡ true
+stays_loser t r log goes loser = elim (cases_eq r.txn t) [
+  | inl mine ↦ still_loser r log t mine (loser_number t log loser) goes (loser_unfinished t log loser)
+  | inr other ↦ same_loser r log t other ∙ loser
+]
+
+are_of_restart : (t : ℕ) (more older : History) → AllOf (λ (r : Logged). IsOfUndo t r r.what) more → is_loser t older ≡ true → IsOfRestart t more older
+are_of_restart t [] older all loser = record { all = tt; loser = loser }
+are_of_restart t (r ∷ more) older all loser =
+    let rest = are_of_restart t more older all.1 loser in
+    record {
+      all = (is_undo t r (more ++ older) r.what rest.loser all.0, rest.all);
+      loser = stays_loser t r (more ++ older) (no_end t r r.what all.0) rest.loser;
+    }
+
+-- the log that a restart found grew by them
+pub grows_key : (all old new : History) (t : ℕ) → GrowsByUndo all old → is_loser t old ≡ true → undone.GrowsByUndo t old new → GrowsByUndo all new
+grows_key all old new t grown loser by = grows_then all old new grown (record { more = by.more; is = by.is; all = (are_of_restart t by.more old by.all loser).all })
+
+-- ---- the other losers
+
+not_mine : (t u : ℕ) (r : Logged) (w : What) → u ≢ 0 → u ≢ t → IsOfUndo t r w → r.txn ≢ u
+not_mine t u r (UndoInsert k i) some other is e = other (sym e ∙ is)
+not_mine t u r (UndoDelete k i) some other is e = other (sym e ∙ is)
+not_mine t u r (Smo was now) some other is e = other (sym e ∙ is)
+not_mine t u r DummyClr some other is e = other (sym e ∙ is)
+not_mine t u r (Image c) some other is e = some (sym e ∙ is)
+not_mine t u r (InsertKey k i) some other is e = absurd is
+not_mine t u r (DeleteKey k i) some other is e = absurd is
+not_mine t u r (UndoSmo now) some other is e = absurd is
+not_mine t u r Commit some other is e = absurd is
+not_mine t u r End some other is e = absurd is
+not_mine t u r (Checkpoint n a dirty) some other is e = absurd is
+not_mine t u r Unreadable some other is e = absurd is
+
+others_losers : (t u : ℕ) (more older : History) → u ≢ 0 → u ≢ t → AllOf (λ (r : Logged). IsOfUndo t r r.what) more → is_loser u (more ++ older) ≡ is_loser u older
+others_losers t u [] older some other all = refl
+others_losers t u (r ∷ more) older some other all = same_loser r (more ++ older) u (not_mine t u r r.what some other all.0) ∙ others_losers t u more older some other all.1
+
+spared_losers : (t u : ℕ) (old new : History) → undone.GrowsByUndo t old new → u ≢ t → is_loser u new ≡ is_loser u old
+spared_losers t zero old new by other = refl
+spared_losers t (suc u) old new by other = ap (λ (l : History). is_loser (suc u) l) by.is ∙ others_losers t (suc u) by.more old (λ e. cc e) other by.all
+
+pub spares_key : (t : ℕ) (old new : History) → undone.GrowsByUndo t old new → SparesOthers t old new
+spares_key t old new by = record {
+  losers = λ u other. spared_losers t u old new by other;
+  rows = λ u other loser.
+      let one : 1 ≤ u = loser_number u old loser in
+      let same = undo_others t u old new (λ none. (let clash : u ≡ 0 = none in omega (arith, one, clash))) other by in
+      ap (λ (l : ℕ). record { last = l; undo_next = undo_next_of u new }) same.last ∙ ap (λ (n : ℕ). record { last = last_of u old; undo_next = n }) same.undo;
+}
+
+-- ---- one record taken back
+
+-- an answer for want of memory is no refusal as no store
+answered_cause : (f answer : Fault) → (f ≡ Failed → answer ≡ Memory) → (f ≢ Failed → answer ≡ f) → f ≢ NotAStore → answer ≢ NotAStore
+answered_cause f answer memory others cause is = cause (sym (others (λ failed. (let clash : Memory ≡ NotAStore = sym (memory failed) ∙ is in cc clash))) ∙ is)
+
+module _ {D : Type 0} (d : Ghosts D) (b : Base) (all : History) where
+  -- what a stop leaves
+  pub left_key : (s : Writer) (t : ℕ) (old new : D) → IsUndoing b all s → is_loser t s.log ≡ true → LeavesUndo d b 0 s t old new → LeavesOnly d old new (IsLeftUndoing b all)
+  left_key s t old new is loser stops =
+      weakened d old new (LeftByUndo d b 0 s t) (IsLeftUndoing b all) stops
+      (λ told c by.
+      let on = by.covered in
+      record {
+        left = on.log.left;
+        has = record { log = inr on.log.has; bare = λ unmade. absurd (not_both (c Log) on.log.has.made unmade); covers = on.pages };
+        grown = grows_front all on.log.left by.high (grows_key all s.log by.high t is.grown loser by.grows) (front_then all s.durable on.log.left is.found on.log.longer) on.log.shorter;
+        lawful = fronts_lawful b page_tree on.log.left by.high on.log.shorter by.lawful;
+      })
+
+  module _ (s : Writer) (c : Chain) (said : Entry) (w : PageWriter) (old : D) (stands : StandsAs d b 0 s w old) (is : IsUndoing b all s) (to : IsToUndo s.log c said) where
+    going : IsGoing d b 0 s is.redo_end c.transaction c.last c.undo_next w old
+    going = record {
+      stands = stands;
+      over = is.over;
+      can = is.can;
+      loser = to.loser;
+      row = sym (ap (λ (l : ℕ). record { last = l; undo_next = c.undo_next }) to.last ∙ ap (λ (n : ℕ). record { last = last_of c.transaction s.log; undo_next = n }) to.undo);
+    }
+
+    done : (last : ℕ) (x : PageWriter) (new : D) → TakenBack d b 0 s is.redo_end c.transaction said last old x new → Compensated d b all s c.transaction (prev_of said) last old x new
+    done last x new back =
+        let now : Writer = back.now in
+        let goes = back.goes in
         record {
-          now = _;
+          now = now;
           goes = record {
-            stands = from.logged.stands;
+            stands = goes.going.stands;
             undoing = record {
               redo_end = is.redo_end;
-              over = from.keeps.redo_end ∙ is.over;
-              grown = grows_one all log r grown both.1;
-              found = front_then all from.before.durable from.logged.durable (front_then all s.durable from.before.durable is.found from.keeps.durable) from.logged.grows;
-              can = after.0;
-              pages = λ q. page_changed r (r.page == q) (from.before.pages q) (page_at b log q) ((from.keeps.pages q).page ∙ is.pages q ∙ sym (page_longer b s.log log q by));
+              over = goes.going.over;
+              grown = grows_key all s.log now.log c.transaction is.grown to.loser goes.grows;
+              found = front_then all s.durable now.durable is.found goes.durable;
+              can = goes.going.can;
+              pages = going_page d b 0 now is.redo_end c.transaction last (prev_of said) x new goes.going;
             };
-            stops = stops;
-            on = front_then s.log log (r ∷ log) (grown_front b s.log log by) (front_one r log);
+            stops = left_key s c.transaction old new is to.loser goes.stops;
+            on = growth.grown_front c.transaction s.log now.log goes.grows;
           };
-          others = spares_then t s.log log (r ∷ log) (spares_images b t s.log log by) (spares_one t r log after.1.others);
-          loser = after.1.loser;
-          row = after.1.row;
+          others = spares_key c.transaction s.log now.log goes.grows;
+          loser = goes.going.loser;
+          row = goes.going.row;
         }
 
-  module _ (t last prev page : ℕ) (key : Key) (rid : ℕ) (old : D) (w : PageWriter) (new : D) (result : Result ℕ Fault) where
-    pub insert_undone : IsToUndo s.log (chain_of t last) (InsertKey t prev page key rid) → ChangeKept d b 0 s (UndoInsert t last prev page key rid) old w new result → CompensateKept d b tree all s t prev old w new result
-    insert_undone to kept =
-        let said : Entry = InsertKey t prev page key rid in
-        let entry : Entry = UndoInsert t last prev page key rid in
-        let stops = left_grown d b tree all s old new is kept.stops in
-        let drop : tree.CanDrop (bodies b s.log) page key rid = inverse t (logged_at to.lsn said) s.log is.grown is.can to.loser to.next in
-        let has : CanTakeKey (s.pages page).page key =
-        may.leaves.take (bodies b s.log) (s.pages page).page page key rid (good_now b tree s.log is.can) drop (ap (λ (g : Page). g.body) (is.pages page)) in
+    -- what undo of a key record keeps, and that is what it keeps for a restart
+    abbrev pub KeepsKey : ℕ → PageWriter → D → Result ℕ Fault → Type 0
+    KeepsKey t x new result = (e : ℕ) → IsGoing d b 0 s e t c.last c.undo_next w old → undoing.IsToUndo d b 0 s t said → undoing.CompensateKept d b 0 s e t said old x new result
+
+    pub compensated_so : (t : ℕ) (x : PageWriter) (new : D) (result : Result ℕ Fault) → t ≡ c.transaction → KeepsKey t x new result → CompensateKept d b all s c.transaction (prev_of said) old x new result
+    compensated_so t x new result same keeps =
+        let k = subst (λ (u : ℕ). KeepsKey u x new result) same keeps is.redo_end going (record { lsn = to.lsn; next = to.next }) in
         record {
-          ok = if_ok result (λ lsn. ChangedFrom d b 0 s entry lsn old w new) (λ lsn. Compensated d b tree all s t prev lsn old w new) kept.ok
-              (λ lsn. done t last said entry to old w new stops lsn
-              (λ now loser can next takes behind high. (
-                record { linked = record { rises = high; owner = refl; prev = behind }; takes_back = (refl, takes); leads = refl },
-                record { undone = logged_at to.lsn said; rest = next.rest; stack = next.stack; what = refl; page = refl; loser = loser; closed = can.closed },
-              )));
-          stops = stops;
-          cause = kept.cause has;
+          ok = if_ok result (λ last. TakenBack d b 0 s is.redo_end c.transaction said last old x new) (λ last. Compensated d b all s c.transaction (prev_of said) last old x new) k.ok (λ last back. done last x new back);
+          stops = left_key s c.transaction old new is to.loser k.stops;
+          cause = k.cause;
         }
 
-    pub delete_undone : IsToUndo s.log (chain_of t last) (DeleteKey t prev page key rid) → ChangeKept d b 0 s (UndoDelete t last prev page key rid) old w new result → CompensateKept d b tree all s t prev old w new result
-    delete_undone to kept =
-        let said : Entry = DeleteKey t prev page key rid in
-        let entry : Entry = UndoDelete t last prev page key rid in
-        let stops = left_grown d b tree all s old new is kept.stops in
-        let put : tree.CanPut (bodies b s.log) page key rid = inverse t (logged_at to.lsn said) s.log is.grown is.can to.loser to.next in
-        let has : CanPutKey (s.pages page).page key =
-        may.leaves.put (bodies b s.log) (s.pages page).page page key rid (good_now b tree s.log is.can) put (ap (λ (g : Page). g.body) (is.pages page)) in
-        record {
-          ok = if_ok result (λ lsn. ChangedFrom d b 0 s entry lsn old w new) (λ lsn. Compensated d b tree all s t prev lsn old w new) kept.ok
-              (λ lsn. done t last said entry to old w new stops lsn
-              (λ now loser can next takes behind high. (
-                record { linked = record { rises = high; owner = refl; prev = behind }; takes_back = (refl, takes); leads = refl },
-                record { undone = logged_at to.lsn said; rest = next.rest; stack = next.stack; what = refl; page = refl; loser = loser; closed = can.closed },
-              )));
-          stops = stops;
-          cause = kept.cause has;
-        }
+    -- and where it was refused, however that is answered
+    pub refused_so : (t : ℕ) (x : PageWriter) (new : D) (f answer : Fault) → t ≡ c.transaction → (f ≡ Failed → answer ≡ Memory) → (f ≢ Failed → answer ≡ f) → KeepsKey t x new (Err f)
+        → CompensateKept d b all s c.transaction (prev_of said) old x new (Err answer)
+    refused_so t x new f answer same memory others keeps =
+        let k = compensated_so t x new (Err f) same keeps in
+        record { ok = tt; stops = k.stops; cause = answered_cause f answer memory others k.cause }

@@ -63,12 +63,12 @@ no_commit r older (UndoInsert k i) e es is = refl
 no_commit r older (UndoDelete k i) e es is = refl
 no_commit r older (UndoSmo n) e es is = refl
 no_commit r older End e es is = refl
-no_commit r older (InsertKey k i) e es is = refl
-no_commit r older (DeleteKey k i) e es is = refl
+no_commit r older (InsertKey k i) e es is = absurd is
+no_commit r older (DeleteKey k i) e es is = absurd is
 no_commit r older (Smo o n) e es is = refl
 no_commit r older DummyClr e es is = refl
-no_commit r older (Checkpoint n a d) e es is = refl
-no_commit r older Unreadable e es is = refl
+no_commit r older (Checkpoint n a d) e es is = absurd is
+no_commit r older Unreadable e es is = absurd is
 no_commit r older Commit e es is = absurd is
 
 commits_stay : (more all : History) → AreUndo more all → committed (more ++ all) ≡ committed all

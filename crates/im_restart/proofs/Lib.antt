@@ -5,6 +5,7 @@ pub mod Bounds
 pub mod KeyRecords
 pub mod Steps
 pub mod Compensations
+pub mod Leaves
 pub mod Readings
 pub mod Undos
 pub mod Openings

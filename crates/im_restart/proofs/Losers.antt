@@ -222,7 +222,7 @@ waiting_first losers chains log are none = (
 
 -- one of them is taken out
 pub waiting_taken : (b : Base) (tree : Tree) (losers new : LoserMap) (chains : ChainMap) (log : History) (t : ℕ) (row : Loser) → IsLawful b tree log → AreChains (waiting losers) chains log → AreWaiting losers log → get nat_cmp losers t ≡ Some row
-    → HasAt losers t None new → AreChains (and_also t (waiting new)) chains log × (waiting new t ≡ false) × GoesOnAt (chain_of t row.last) row.undo_next log × AreWaiting new log
+    → HasAt losers t None new → AreChains (and_also t (waiting new)) chains log × (waiting new t ≡ false) × GoesOnAt (chain_of t row.last row.undo_next) row.undo_next log × AreWaiting new log
 waiting_taken b tree losers new chains log t row law are wait is gone =
     let mine = wait t row is in (
       subst (λ (out : ℕ → Bool). AreChains out chains log) (λ i u. same u i) are,
@@ -230,6 +230,7 @@ waiting_taken b tree losers new chains log t row law are wait is gone =
       record {
         loser = mine.0;
         last = ap (λ (r : Loser). r.last) mine.1;
+        undo = ap (λ (r : Loser). r.undo_next) mine.1;
         at = subst (λ (n : ℕ). n ≢ 0 → HasRecordAt t n log) (sym (ap (λ (r : Loser). r.undo_next) mine.1)) (goes_on_at b tree log t law);
         same = ap (λ (r : Loser). Rattle.im_types.specs.Transactions.undo_reads r.undo_next log) mine.1;
       },

@@ -9,7 +9,7 @@ use Rattle.im_types.specs.declared.fault.Fault.TheVariants.{Memory, NotAStore}
 use Rattle.im_types.specs.Pages.{Body, Page}
 use Rattle.im_types.specs.Records.{What, Unreadable, Logged}
 use Rattle.im_types.specs.Records as whats
-use Rattle.im_types.specs.Tree.{Tree, TreeLaws}
+use Rattle.im_types.specs.Tree.{Tree}
 use Rattle.im_types.specs.Histories.{Base, History, IsRecordOf, page_at}
 use Rattle.im_types.specs.Copies.{GrowsByImages}
 use Rattle.im_types.specs.Structure.{open_smo}
@@ -44,6 +44,8 @@ use Rattle.im_analysis.specs.Undo.{TakesOff, UndoesPage}
 use Rattle.im_analysis.proofs.Losers.{has_its_record, loser_from, numbered}
 use Rattle.im_analysis.proofs.Tables.{images_table, row_changed}
 use Rattle.im_analysis.proofs.Undoing.{undo_goes_on}
+use Rattle.im_tree.specs.Theory.{page_tree}
+use Rattle.im_tree.proofs.TheoryLaws.{page_tree_laws}
 use Rattle.im_restart.specs.Undone.{IsUndo}
 use Rattle.im_restart.specs.Restart.{IsLeftUndoing}
 use Rattle.im_restart.specs.StructureChange.{ChangeGoes, IsTakingBack, PageKept, PageUndone, TakeBackKept, TakenBack}
@@ -119,47 +121,47 @@ pub none_open : (going : History) (all : List OpenRecord) → all ≡ oldest_fir
 none_open [] all are none = refl
 none_open (x ∷ rest) all are none = absurd (nothing_before (oldest_first rest) (open_row x) (sym none ∙ are))
 
-module _ {D : Type 0} (d : Ghosts D) (b : Base) (tree : Tree) (all : History) where
+module _ {D : Type 0} (d : Ghosts D) (b : Base) (all : History) where
   -- what a stop leaves
-  pub taking_grown : (s : Writer) (old new : D) → IsTakingBack b tree all s → LeavesGrown d b 0 s old new → LeavesOnly d old new (IsLeftUndoing b tree all)
+  pub taking_grown : (s : Writer) (old new : D) → IsTakingBack b all s → LeavesGrown d b 0 s old new → LeavesOnly d old new (IsLeftUndoing b all)
   taking_grown s old new is grown =
-      left_covered d b tree all s.durable grown.high old new grown.stops is.found (grows_images b all s.log grown.high is.grown grown.grows)
-      (subst (λ (l : History). IsLawful b tree l) (sym grown.grows.is) (lawful_images b tree grown.grows.images s.log grown.grows.all is.lawful))
+      left_covered d b all s.durable grown.high old new grown.stops is.found (grows_images b all s.log grown.high is.grown grown.grows)
+      (subst (λ (l : History). IsLawful b page_tree l) (sym grown.grows.is) (lawful_images b page_tree grown.grows.images s.log grown.grows.all is.lawful))
 
-  pub change_start : (s : Writer) (w : PageWriter) (disk : D) → ((c : Files) → d.left_since disk (d.moment disk) c → d.may_leave disk c) → StandsAs d b 0 s w disk → IsTakingBack b tree all s → ChangeGoes d b tree all s disk s w disk
+  pub change_start : (s : Writer) (w : PageWriter) (disk : D) → ((c : Files) → d.left_since disk (d.moment disk) c → d.may_leave disk c) → StandsAs d b 0 s w disk → IsTakingBack b all s → ChangeGoes d b all s disk s w disk
   change_start s w disk only_now stands is = record {
     stands = stands;
     taking = is;
-    stops = left_covered d b tree all s.durable s.log disk disk (goes_start d b 0 s w.log w.table w.pool disk only_now stands.writing).stops is.found is.grown is.lawful;
+    stops = left_covered d b all s.durable s.log disk disk (goes_start d b 0 s w.log w.table w.pool disk only_now stands.writing).stops is.found is.grown is.lawful;
     on = front_none s.log;
   }
 
-  pub change_then : (s : Writer) (old : D) (t : Writer) (w : PageWriter) (mid : D) (u : Writer) (x : PageWriter) (new : D) → ChangeGoes d b tree all s old t w mid → ChangeGoes d b tree all t mid u x new → ChangeGoes d b tree all s old u x new
+  pub change_then : (s : Writer) (old : D) (t : Writer) (w : PageWriter) (mid : D) (u : Writer) (x : PageWriter) (new : D) → ChangeGoes d b all s old t w mid → ChangeGoes d b all t mid u x new → ChangeGoes d b all s old u x new
   change_then s old t w mid u x new first next = record {
     stands = next.stands;
     taking = next.taking;
-    stops = left_then d b tree all old mid new first.stops next.stops;
+    stops = left_then d b all old mid new first.stops next.stops;
     on = front_then s.log t.log u.log first.on next.on;
   }
 
   -- calls that only read
-  pub change_read : (s : Writer) (w x : PageWriter) (old new : D) → ((c : Files) → d.left_since old (d.moment old) c → d.may_leave old c) → StandsAs d b 0 s w old → IsTakingBack b tree all s → Reads d old new → StandsAs d b 0 s x new
-      → ChangeGoes d b tree all s old s x new
+  pub change_read : (s : Writer) (w x : PageWriter) (old new : D) → ((c : Files) → d.left_since old (d.moment old) c → d.may_leave old c) → StandsAs d b 0 s w old → IsTakingBack b all s → Reads d old new → StandsAs d b 0 s x new
+      → ChangeGoes d b all s old s x new
   change_read s w x old new only_now stands is reads after =
-      record { stands = after; taking = is; stops = reads_on d old old new (IsLeftUndoing b tree all) (change_start s w old only_now stands is).stops reads; on = front_none s.log }
+      record { stands = after; taking = is; stops = reads_on d old old new (IsLeftUndoing b all) (change_start s w old only_now stands is).stops reads; on = front_none s.log }
 
   -- a page behind calls in a row
-  pub page_then : (s : Writer) (old : D) (t : Writer) (w : PageWriter) (mid : D) (rest : History) (x : PageWriter) (losers : LoserMap) (new : D) (result : Result Unit Fault) → ChangeGoes d b tree all s old t w mid
-      → PageKept d b tree all t rest mid x losers new result → PageKept d b tree all s rest old x losers new result
+  pub page_then : (s : Writer) (old : D) (t : Writer) (w : PageWriter) (mid : D) (rest : History) (x : PageWriter) (losers : LoserMap) (new : D) (result : Result Unit Fault) → ChangeGoes d b all s old t w mid
+      → PageKept d b all t rest mid x losers new result → PageKept d b all s rest old x losers new result
   page_then s old t w mid rest x losers new result goes k = record {
-    ok = on_ok result (PageUndone d b tree all t rest mid x losers new) (PageUndone d b tree all s rest old x losers new) k.ok
+    ok = on_ok result (PageUndone d b all t rest mid x losers new) (PageUndone d b all s rest old x losers new) k.ok
         (λ e. record { now = e.now; goes = change_then s old t w mid e.now x new goes e.goes; going = e.going; are = e.are });
-    stops = left_then d b tree all old mid new goes.stops k.stops;
+    stops = left_then d b all old mid new goes.stops k.stops;
     cause = k.cause;
   }
 
   -- none is open any more
-  pub change_over : (s : Writer) (old : D) (t : Writer) (w : PageWriter) (disk : D) → ChangeGoes d b tree all s old t w disk → open_smo t.log ≡ [] → UndoGoes d b tree all s old t w disk
+  pub change_over : (s : Writer) (old : D) (t : Writer) (w : PageWriter) (disk : D) → ChangeGoes d b all s old t w disk → open_smo t.log ≡ [] → UndoGoes d b all s old t w disk
   change_over s old t w disk goes closed = record {
     stands = goes.stands;
     undoing = record {
@@ -176,23 +178,23 @@ module _ {D : Type 0} (d : Ghosts D) (b : Base) (tree : Tree) (all : History) wh
 
   -- ---- one page
 
-  module _ (laws : TreeLaws tree) (s : Writer) (is : IsTakingBack b tree all s) (t last prev page : ℕ) (before after : List ℕ) (lsn : ℕ) (rest : History) (going : open_smo s.log ≡ logged_at lsn (Smo t prev page before after) ∷ rest)
+  module _ (s : Writer) (is : IsTakingBack b all s) (t last prev page : ℕ) (before after : List ℕ) (lsn : ℕ) (rest : History) (going : open_smo s.log ≡ logged_at lsn (Smo t prev page before after) ∷ rest)
       (behind : last ≡ last_of t s.log) (old : D) (w : PageWriter) (new : D) where
     smo : (was : Body) × (now : Body) × (what_of (Smo t prev page before after) ≡ whats.Smo was now)
-    smo = open_is_smo b tree s.log (logged_at lsn (Smo t prev page before after)) rest is.lawful going
+    smo = open_is_smo b page_tree s.log (logged_at lsn (Smo t prev page before after)) rest is.lawful going
 
     undo_is : what_of (UndoSmo t last prev page before) ≡ whats.UndoSmo smo.0
     undo_is = smo_before (page_behind before) (page_behind after) smo.0 smo.1 smo.2
 
-    done : (at : ℕ) → LeavesOnly d old new (IsLeftUndoing b tree all) → ChangedFrom d b 0 s (UndoSmo t last prev page before) at old w new → TakenBack d b tree all s t prev rest at old w new
+    done : (at : ℕ) → LeavesOnly d old new (IsLeftUndoing b all) → ChangedFrom d b 0 s (UndoSmo t last prev page before) at old w new → TakenBack d b all s t prev rest at old w new
     done at stops from =
         let x : Logged = logged_at lsn (Smo t prev page before after) in
         let r : Logged = logged_at at (UndoSmo t last prev page before) in
         let log : History = from.before.log in
         let by : GrowsByImages b s.log log = from.keeps.log in
-        let law : IsLawful b tree log = subst (λ (l : History). IsLawful b tree l) (sym by.is) (lawful_images b tree by.images s.log by.all is.lawful) in
+        let law : IsLawful b page_tree log = subst (λ (l : History). IsLawful b page_tree l) (sym by.is) (lawful_images b page_tree by.images s.log by.all is.lawful) in
         let open_now : open_smo log ≡ x ∷ rest = ap open_smo by.is ∙ images_open b by.images s.log by.all ∙ going in
-        let loser : is_loser t s.log ≡ true = open_loser b tree s.log x rest is.lawful going in
+        let loser : is_loser t s.log ≡ true = open_loser b page_tree s.log x rest is.lawful going in
         let behind_now : last ≡ last_of t log = behind ∙ sym (ap (λ (q : Loser). q.last) (images_same_row b s.log log t by loser)) in
         let undoes : UndoesPage b log x r = record {
           linked = record { rises = from.logged.high; owner = refl; prev = behind_now };
@@ -203,7 +205,7 @@ module _ {D : Type 0} (d : Ghosts D) (b : Base) (tree : Tree) (all : History) wh
           what = undo_is;
           leads = refl;
         } in
-        let next : IsLawful b tree (r ∷ log) × (open_smo (r ∷ log) ≡ rest) × TakesOff t log x r = (undo_goes_on tree laws).undoes_page b log x rest r law open_now undoes in
+        let next : IsLawful b page_tree (r ∷ log) × (open_smo (r ∷ log) ≡ rest) × TakesOff t log x r = (undo_goes_on page_tree page_tree_laws).undoes_page b log x rest r law open_now undoes in
         let back : IsUndo r log r.what = subst (λ (v : What). IsUndo r log v) (sym undo_is) (record { undone = x; rest = rest; going = open_now; owner = refl; page = refl }) in
         record {
           now = _;
@@ -224,20 +226,20 @@ module _ {D : Type 0} (d : Ghosts D) (b : Base) (tree : Tree) (all : History) wh
           losers = λ m n are up. row_changed m n log t x r (subst (λ (l : History). AreLosers m l) (sym by.is) (images_table b m by.images s.log by.all are)) next.2 up.0;
         }
 
-    pub taken_so : (result : Result ℕ Fault) → LeftKept d b 0 s (UndoSmo t last prev page before) old w new result → TakeBackKept d b tree all s t prev rest old w new result
+    pub taken_so : (result : Result ℕ Fault) → LeftKept d b 0 s (UndoSmo t last prev page before) old w new result → TakeBackKept d b all s t prev rest old w new result
     taken_so result k =
         let stops = taking_grown s old new is k.stops in
         record {
-          ok = if_ok result (λ at. ChangedFrom d b 0 s (UndoSmo t last prev page before) at old w new) (λ at. TakenBack d b tree all s t prev rest at old w new) k.ok (λ at from. done at stops from);
+          ok = if_ok result (λ at. ChangedFrom d b 0 s (UndoSmo t last prev page before) at old w new) (λ at. TakenBack d b all s t prev rest at old w new) k.ok (λ at from. done at stops from);
           stops = stops;
           cause = k.cause (λ none. (let clash : Some smo.0 ≡ None = sym (ap after_in undo_is) ∙ none in cc clash));
         }
 
   -- the row is noted
-  pub page_noted : (s : Writer) (t on : ℕ) (rest : History) (lsn : ℕ) (old : D) (w : PageWriter) (m n : LoserMap) (new : D) (result : Result Unit Fault) → TakenBack d b tree all s t on rest lsn old w new → AreLosers m s.log
-      → (u v : ℕ) → u ≡ t → v ≡ on → OnOk result (Updates nat_cmp m n u (Some (record { last = lsn; undo_next = v }))) → IfErr result (λ e. e ≡ Memory) → PageKept d b tree all s rest old w n new result
+  pub page_noted : (s : Writer) (t on : ℕ) (rest : History) (lsn : ℕ) (old : D) (w : PageWriter) (m n : LoserMap) (new : D) (result : Result Unit Fault) → TakenBack d b all s t on rest lsn old w new → AreLosers m s.log
+      → (u v : ℕ) → u ≡ t → v ≡ on → OnOk result (Updates nat_cmp m n u (Some (record { last = lsn; undo_next = v }))) → IfErr result (λ e. e ≡ Memory) → PageKept d b all s rest old w n new result
   page_noted s t on rest lsn old w m n new result done are u v who where_on up refused = record {
-    ok = on_ok result _ (PageUndone d b tree all s rest old w n new) up
+    ok = on_ok result _ (PageUndone d b all s rest old w n new) up
         (λ is. record {
           now = done.now;
           goes = done.goes;

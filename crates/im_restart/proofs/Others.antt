@@ -112,6 +112,7 @@ goes_longer b tree t c l old new law up_old up front spares other goes =
     record {
       loser = spares.losers c.transaction other ∙ goes.loser;
       last = goes.last ∙ sym (ap (λ (r : Loser). r.last) row);
+      undo = goes.undo ∙ sym next;
       at = λ some. has_longer c.transaction l old new front (goes.at some);
       same = reads_longer b old new l front up here ∙ goes.same ∙ sym (ap (λ (n : ℕ). undo_reads n new) next ∙ reads_longer b old new (undo_next_of c.transaction old) front up there);
     }

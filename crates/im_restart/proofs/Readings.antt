@@ -107,6 +107,7 @@ module _ (b : Base) (tree : Tree) (laws : TreeLaws tree) (log : History) (c : Ch
     record {
       loser = goes.loser;
       last = goes.last;
+      undo = goes.undo;
       at = λ some. subst (λ (t : ℕ). HasRecordAt t x.undo_next log) mine ((undo_goes_on tree laws).leads_to b log x can.lawful is on some);
       same = sym (reads_by x.what on) ∙ sym ((undo_goes_on tree laws).reads_record b log x can.lawful is) ∙ ap (λ (n : ℕ). undo_reads n log) here ∙ goes.same;
     },
@@ -117,7 +118,7 @@ module _ (b : Base) (tree : Tree) (laws : TreeLaws tree) (log : History) (c : Ch
 
 module _ (b : Base) (tree : Tree) (laws : TreeLaws tree) (log : History) (c : Chain) (l : ℕ) (said : Entry) (can : IsUndoable b tree log) (goes : GoesOnAt c l log) (is : IsRecordOf (logged_at l said) log) (mine : transaction_of said ≡ c.transaction) where
   pub to_undo_here : is_key (what_of said) ≡ true → IsToUndo log c said
-  to_undo_here key = record { loser = goes.loser; last = goes.last; lsn = l; next = next_here b tree laws log c l can goes (logged_at l said) is refl mine key }
+  to_undo_here key = record { loser = goes.loser; last = goes.last; undo = goes.undo; lsn = l; next = next_here b tree laws log c l can goes (logged_at l said) is refl mine key }
 
   leads_said : leads_on (what_of said) ≡ true → GoesOnAt c (named_next said) log × (named_next said < l)
   leads_said on = leads_here b tree laws log c l can goes (logged_at l said) is refl mine on
@@ -137,12 +138,13 @@ module _ (b : Base) (tree : Tree) (laws : TreeLaws tree) (log : History) (c : Ch
 
 -- ---- behind a compensation
 
-pub goes_behind : (b : Base) (tree : Tree) (log : History) (t last on : ℕ) → IsLawful b tree log → is_loser t log ≡ true → row_of t log ≡ record { last = last; undo_next = on } → GoesOnAt (chain_of t last) on log
+pub goes_behind : (b : Base) (tree : Tree) (log : History) (t last on : ℕ) → IsLawful b tree log → is_loser t log ≡ true → row_of t log ≡ record { last = last; undo_next = on } → GoesOnAt (chain_of t last on) on log
 goes_behind b tree log t last on law loser row =
     let next : undo_next_of t log ≡ on = ap (λ (r : Loser). r.undo_next) row in
     record {
       loser = loser;
       last = sym (ap (λ (r : Loser). r.last) row);
+      undo = sym next;
       at = subst (λ (n : ℕ). n ≢ 0 → HasRecordAt t n log) next (goes_on_at b tree log t law);
       same = ap (λ (n : ℕ). undo_reads n log) (sym next);
     }

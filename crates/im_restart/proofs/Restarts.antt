@@ -5,7 +5,6 @@ use Rattle.im_types.specs.declared.fault.Fault.{Fault}
 use Rattle.im_types.specs.declared.fault.Fault.TheVariants.{Device, Failed, NotAStore}
 use Rattle.im_types.specs.declared.file_id.FileId.TheVariants.{Log, Pages}
 use Rattle.im_types.specs.Pages.{Page}
-use Rattle.im_types.specs.Tree.{Tree}
 use Rattle.im_types.specs.Histories.{Base, History, end_of}
 use Rattle.im_types.specs.Copies.{GrowsByImages}
 use Rattle.im_types.specs.RedoPoints.{Covers}
@@ -37,10 +36,11 @@ use Rattle.im_analysis.specs.Losers.{AreLosers, LoserMap}
 use Rattle.im_analysis.specs.declared.rows.OpenRecord.{OpenRecord}
 use Rattle.im_analysis.specs.OpenChange.{IsOpenChange, oldest_first}
 use Rattle.im_analysis.proofs.Tables.{images_table}
+use Rattle.im_tree.specs.Theory.{page_tree}
 use Rattle.im_restart.specs.Restart.{HasStore, IsFresh, IsLeftUndoing, IsRestarted, IsSettled, MayRestart, SettleKept}
 use Rattle.im_restart.specs.StructureChange.{ChangeGoes}
 use Rattle.im_restart.specs.Undoing.{AllUndone}
-use Rattle.im_restart.proofs.Growth.{grows_images, grows_none, grows_then}
+use Rattle.im_restart.proofs.Growth.{grows_images, grows_none}
 use Rattle.im_restart.proofs.Steps.{left_covered, left_here, left_then}
 
 -- ---- the files
@@ -58,13 +58,13 @@ not_no_store (Ok x) is = tt
 not_no_store (Err e) (inl is) = λ same. (let clash : Failed ≡ NotAStore = sym is ∙ same in cc clash)
 not_no_store (Err e) (inr is) = λ same. (let clash : Device ≡ NotAStore = sym is ∙ same in cc clash)
 
-module _ {D : Type 0} (d : Ghosts D) (b : Base) (tree : Tree) (all : History) where
+module _ {D : Type 0} (d : Ghosts D) (b : Base) (all : History) where
   -- ---- before any call
 
   pub left_unmoved : (disk : D) → ((c : Files) → d.left_since disk (d.moment disk) c → d.may_leave disk c) → Only Log (d.seen disk) (d.may_leave disk) → Only Pages (d.seen disk) (d.may_leave disk) → HasStore b all (d.seen disk)
-      → IsLawful b tree all → LeavesOnly d disk disk (IsLeftUndoing b tree all)
+      → IsLawful b page_tree all → LeavesOnly d disk disk (IsLeftUndoing b all)
   left_unmoved disk only_now log pages has law =
-      started d disk (IsLeftUndoing b tree all)
+      started d disk (IsLeftUndoing b all)
       (λ told c left. record { left = all; has = has_same b all (d.seen disk) c (log c (only_now c left)) (pages c (only_now c left)) has; grown = grows_none all; lawful = law })
 
   -- an open log is on the disk
@@ -74,12 +74,12 @@ module _ {D : Type 0} (d : Ghosts D) (b : Base) (tree : Tree) (all : History) wh
   -- ---- the log is opened or made
 
   pub left_opening : (old mid : D) → ((c : Files) → d.left_since old (d.moment old) c → d.may_leave old c) → d.tells → Only Log (d.seen old) (d.may_leave old) → Only Pages (d.seen old) (d.may_leave old)
-      → MayRestart b tree all (d.seen old) → LeavesIn d Log old mid (IsLogOf 0 all) → (d.tells → ¬ (IsFresh (d.seen old)) → Reads d old mid) → LeavesOnly d old mid (IsLeftUndoing b tree all)
+      → MayRestart b all (d.seen old) → LeavesIn d Log old mid (IsLogOf 0 all) → (d.tells → ¬ (IsFresh (d.seen old)) → Reads d old mid) → LeavesOnly d old mid (IsLeftUndoing b all)
   left_opening old mid only_now told log pages may stops reads = by may.has.log
     where
-      by : IsLogOf 0 all (d.seen old Log) → LeavesOnly d old mid (IsLeftUndoing b tree all)
+      by : IsLogOf 0 all (d.seen old Log) → LeavesOnly d old mid (IsLeftUndoing b all)
       by (inl fresh) =
-          weakened d old mid _ (IsLeftUndoing b tree all) stops
+          weakened d old mid _ (IsLeftUndoing b all) stops
           (λ t c left.
           let same : c Pages ≡ d.seen old Pages = left.2.others Pages (λ e. cc e) ∙ pages left.0 left.1 in
           record {
@@ -93,10 +93,10 @@ module _ {D : Type 0} (d : Ghosts D) (b : Base) (tree : Tree) (all : History) wh
             lawful = may.lawful;
           })
       by (inr made) =
-          reads_on d old old mid (IsLeftUndoing b tree all) (left_unmoved old only_now log pages may.has may.lawful) (reads told (λ fresh. not_both (d.seen old Log) made.made fresh.0))
+          reads_on d old old mid (IsLeftUndoing b all) (left_unmoved old only_now log pages may.has may.lawful) (reads told (λ fresh. not_both (d.seen old Log) made.made fresh.0))
 
   -- what the restart finds behind it
-  pub may_behind : (old mid : D) (file : LogFile) → MayRestart b tree all (d.seen old) → ChangesOnly d Log old mid → IsLog d 0 all all file mid → MayRestart b tree all (d.seen mid)
+  pub may_behind : (old mid : D) (file : LogFile) → MayRestart b all (d.seen old) → ChangesOnly d Log old mid → IsLog d 0 all all file mid → MayRestart b all (d.seen mid)
   may_behind old mid file may changes log = record {
     start = may.start;
     has = record {
@@ -105,8 +105,6 @@ module _ {D : Type 0} (d : Ghosts D) (b : Base) (tree : Tree) (all : History) wh
       covers = subst (λ (bytes : List ℕ). Covers b all (file_page bytes)) (sym (changes.seen Pages (λ e. cc e))) may.has.covers;
     };
     lawful = may.lawful;
-    leaves = may.leaves;
-    in_place = may.in_place;
   }
 
   pub pages_synced : (old mid : D) → ChangesOnly d Log old mid → Only Pages (d.seen old) (d.may_leave old) → Only Pages (d.seen mid) (d.may_leave mid)
@@ -116,20 +114,20 @@ module _ {D : Type 0} (d : Ghosts D) (b : Base) (tree : Tree) (all : History) wh
 
   -- ---- redo
 
-  pub left_redoing : (old new : D) → MayRestart b tree all (d.seen old) → LeavesRedoing d b 0 all old new → LeavesOnly d old new (IsLeftUndoing b tree all)
+  pub left_redoing : (old new : D) → MayRestart b all (d.seen old) → LeavesRedoing d b 0 all old new → LeavesOnly d old new (IsLeftUndoing b all)
   left_redoing old new may leaves =
-      left_covered d b tree all all leaves.high old new leaves.stops (front_none all) (grows_images b all all leaves.high (grows_none all) leaves.grows)
-      (subst (λ (l : History). IsLawful b tree l) (sym leaves.grows.is) (lawful_images b tree leaves.grows.images all leaves.grows.all may.lawful))
+      left_covered d b all all leaves.high old new leaves.stops (front_none all) (grows_images b all all leaves.high (grows_none all) leaves.grows)
+      (subst (λ (l : History). IsLawful b page_tree l) (sym leaves.grows.is) (lawful_images b page_tree leaves.grows.images all leaves.grows.all may.lawful))
 
   -- undo begins
-  pub taking_begins : (file : ℕ → Option Page) (old : D) (w : PageWriter) (disk : D) (files : Files) → MayRestart b tree all files → (done : Redone d b 0 all old w disk) → ChangeGoes d b tree all (opened b all file) old done.now w disk
+  pub taking_begins : (file : ℕ → Option Page) (old : D) (w : PageWriter) (disk : D) (files : Files) → MayRestart b all files → (done : Redone d b 0 all old w disk) → ChangeGoes d b all (opened b all file) old done.now w disk
   taking_begins file old w disk files may done =
-      let law : IsLawful b tree done.now.log = subst (λ (l : History). IsLawful b tree l) (sym done.log.is) (lawful_images b tree done.log.images all done.log.all may.lawful) in
+      let law : IsLawful b page_tree done.now.log = subst (λ (l : History). IsLawful b page_tree l) (sym done.log.is) (lawful_images b page_tree done.log.images all done.log.all may.lawful) in
       let grown = grows_images b all all done.now.log (grows_none all) done.log in
       record {
         stands = done.stands;
         taking = record { redo_end = end_of b done.now.log; over = done.over; grown = grown; found = done.durable; lawful = law; pages = done.pages };
-        stops = left_covered d b tree all all done.now.log old disk done.stops (front_none all) grown law;
+        stops = left_covered d b all all done.now.log old disk done.stops (front_none all) grown law;
         on = grown_front b all done.now.log done.log;
       }
 
@@ -141,10 +139,10 @@ module _ {D : Type 0} (d : Ghosts D) (b : Base) (tree : Tree) (all : History) wh
 
   -- ---- the last force
 
-  pub settled_so : (s : Writer) (old : D) (w : PageWriter) (mid : D) (x : PageWriter) (new : D) (result : Result Unit Fault) → (done : AllUndone d b tree all s old w mid) → StepKept d b 0 done.now (forced done.now) mid x new result
-      → IfErr result (λ e. (e ≡ Failed) ⊎ (e ≡ Device)) → SettleKept d b tree all old x new result
+  pub settled_so : (s : Writer) (old : D) (w : PageWriter) (mid : D) (x : PageWriter) (new : D) (result : Result Unit Fault) → (done : AllUndone d b all s old w mid) → StepKept d b 0 done.now (forced done.now) mid x new result
+      → IfErr result (λ e. (e ≡ Failed) ⊎ (e ≡ Device)) → SettleKept d b all old x new result
   settled_so s old w mid x new result done k causes = record {
-    ok = on_ok result (GoesOn d b 0 done.now mid (forced done.now) x new) (IsSettled d b tree all x new) k.ok
+    ok = on_ok result (GoesOn d b 0 done.now mid (forced done.now) x new) (IsSettled d b all x new) k.ok
         (λ on. record {
           now = forced done.now;
           stands = record { working = on.working; writing = on.goes.writing };
@@ -156,20 +154,20 @@ module _ {D : Type 0} (d : Ghosts D) (b : Base) (tree : Tree) (all : History) wh
           ended = done.ended;
           pages = done.goes.undoing.pages;
         });
-    stops = left_then d b tree all old mid new done.goes.stops (left_here d b tree all done.now mid new done.goes.undoing k.stops);
+    stops = left_then d b all old mid new done.goes.stops (left_here d b all done.now mid new done.goes.undoing k.stops);
     cause = not_no_store result causes;
   }
 
   -- ---- the writer
 
-  pub writer_starts : (file : LogFile) (w : PageWriter) (frames : ℕ) (disk : D) → MayRestart b tree all (d.seen disk) → Only Pages (d.seen disk) (d.may_leave disk) → IsOpen d file disk → IsLog d 0 all all file disk → w.log ≡ file
+  pub writer_starts : (file : LogFile) (w : PageWriter) (frames : ℕ) (disk : D) → MayRestart b all (d.seen disk) → Only Pages (d.seen disk) (d.may_leave disk) → IsOpen d file disk → IsLog d 0 all all file disk → w.log ≡ file
       → w.pool ≡ record { held = []; frames = frames; gets = 0 } → w.table ≡ [] → w.failed ≡ false → StandsAs d b 0 (opened b all (file_page (d.seen disk Pages))) w disk
   writer_starts file w frames disk may pages is_open log same pool table working =
       let start : b.start ≡ 0 = may.start in
-      writer_opens d b 0 all w frames disk (omega (arith, start)) (rises b tree all may.lawful) may.has.covers (subst (λ (f : LogFile). IsOpen d f disk) (sym same) is_open) (subst (λ (f : LogFile). IsLog d 0 all all f disk) (sym same) log) pages pool
+      writer_opens d b 0 all w frames disk (omega (arith, start)) (rises b page_tree all may.lawful) may.has.covers (subst (λ (f : LogFile). IsOpen d f disk) (sym same) is_open) (subst (λ (f : LogFile). IsLog d 0 all all f disk) (sym same) log) pages pool
       table working
 
-  pub restarted_so : (w : PageWriter) (next : ℕ) (disk : D) → IsSettled d b tree all w disk → IsNextNumber next all → IsRestarted d b tree all (record { writer = w; next = next }) disk
+  pub restarted_so : (w : PageWriter) (next : ℕ) (disk : D) → IsSettled d b all w disk → IsNextNumber next all → IsRestarted d b all (record { writer = w; next = next }) disk
   restarted_so w next disk is number = record {
     now = is.now;
     stands = is.stands;
@@ -188,11 +186,5 @@ pub next_least : (next : ℕ) (log : History) → IsNextNumber next log → 1 �
 next_least next log is = let least : 1 ≤ is.number = is.new.least in let same : next ≡ min is.number (2 ^ 64 - 1) = is.is in omega (arith, least, same)
 
 -- what a stop within a restart leaves, a restart can start from again
-pub may_again : (b : Base) (tree : Tree) (all : History) (files left : Files) → MayRestart b tree all files → (is : IsLeftUndoing b tree all left) → MayRestart b tree is.left left
-may_again b tree all files left may is = record {
-  start = may.start;
-  has = is.has;
-  lawful = is.lawful;
-  leaves = may.leaves;
-  in_place = λ now grown. may.in_place now (grows_then all is.left now is.grown grown);
-}
+pub may_again : (b : Base) (all : History) (files left : Files) → MayRestart b all files → (is : IsLeftUndoing b all left) → MayRestart b is.left left
+may_again b all files left may is = record { start = may.start; has = is.has; lawful = is.lawful }

@@ -27,6 +27,8 @@ use Rattle.im_flush.specs.PageWriter.{LoggedOnly, StandsAs}
 use Rattle.im_flush.proofs.Goings.{goes_start}
 use Rattle.im_analysis.specs.Undo.{ComesTo, Ends, IsUndoable}
 use Rattle.im_analysis.proofs.Undoing.{undo_goes_on}
+use Rattle.im_tree.specs.Theory.{page_tree}
+use Rattle.im_tree.proofs.TheoryLaws.{page_tree_laws}
 use Rattle.im_restart.specs.declared.chains.Chain.{Chain}
 use Rattle.im_restart.specs.Undone.{GrowsByUndo}
 use Rattle.im_restart.specs.Restart.{IsLeftUndoing}
@@ -52,33 +54,33 @@ pub nothing_left : (b : Base) (tree : Tree) → TreeLaws tree → (log : History
 nothing_left b tree laws log c can goes =
     subst (λ (o : Option Logged). ComesTo c.transaction log o) (reads_none b log (rises b tree log can.lawful)) (comes_to b tree laws log c 0 can goes)
 
-module _ {D : Type 0} (d : Ghosts D) (b : Base) (tree : Tree) (all : History) where
+module _ {D : Type 0} (d : Ghosts D) (b : Base) (all : History) where
   -- what a stop leaves between two fronts of the log
-  pub left_covered : (low high : History) (old new : D) → LeavesCovered d b 0 low high old new → IsFront all low → GrowsByUndo all high → IsLawful b tree high → LeavesOnly d old new (IsLeftUndoing b tree all)
+  pub left_covered : (low high : History) (old new : D) → LeavesCovered d b 0 low high old new → IsFront all low → GrowsByUndo all high → IsLawful b page_tree high → LeavesOnly d old new (IsLeftUndoing b all)
   left_covered low high old new stops found grown law =
-      weakened d old new (IsCovered b 0 low high) (IsLeftUndoing b tree all) stops
+      weakened d old new (IsCovered b 0 low high) (IsLeftUndoing b all) stops
       (λ told c is. record {
         left = is.log.left;
         has = record { log = inr is.log.has; bare = λ unmade. absurd (not_both (c Log) is.log.has.made unmade); covers = is.pages };
         grown = grows_front all is.log.left high grown (front_then all low is.log.left found is.log.longer) is.log.shorter;
-        lawful = fronts_lawful b tree is.log.left high is.log.shorter law;
+        lawful = fronts_lawful b page_tree is.log.left high is.log.shorter law;
       })
 
-  pub left_here : (s : Writer) (old new : D) → IsUndoing b tree all s → LeavesCovered d b 0 s.durable s.log old new → LeavesOnly d old new (IsLeftUndoing b tree all)
+  pub left_here : (s : Writer) (old new : D) → IsUndoing b all s → LeavesCovered d b 0 s.durable s.log old new → LeavesOnly d old new (IsLeftUndoing b all)
   left_here s old new is stops = left_covered s.durable s.log old new stops is.found is.grown is.can.lawful
 
   -- and with Images more
-  pub left_grown : (s : Writer) (old new : D) → IsUndoing b tree all s → LeavesGrown d b 0 s old new → LeavesOnly d old new (IsLeftUndoing b tree all)
+  pub left_grown : (s : Writer) (old new : D) → IsUndoing b all s → LeavesGrown d b 0 s old new → LeavesOnly d old new (IsLeftUndoing b all)
   left_grown s old new is grown =
       left_covered s.durable grown.high old new grown.stops is.found (grows_images b all s.log grown.high is.grown grown.grows)
-      (subst (λ (l : History). IsLawful b tree l) (sym grown.grows.is) (lawful_images b tree grown.grows.images s.log grown.grows.all is.can.lawful))
+      (subst (λ (l : History). IsLawful b page_tree l) (sym grown.grows.is) (lawful_images b page_tree grown.grows.images s.log grown.grows.all is.can.lawful))
 
-  pub left_then : (old mid new : D) → LeavesOnly d old mid (IsLeftUndoing b tree all) → LeavesOnly d mid new (IsLeftUndoing b tree all) → LeavesOnly d old new (IsLeftUndoing b tree all)
-  left_then old mid new first next = then_on d old mid new (IsLeftUndoing b tree all) (IsLeftUndoing b tree all) first next (λ told c is. is)
+  pub left_then : (old mid new : D) → LeavesOnly d old mid (IsLeftUndoing b all) → LeavesOnly d mid new (IsLeftUndoing b all) → LeavesOnly d old new (IsLeftUndoing b all)
+  left_then old mid new first next = then_on d old mid new (IsLeftUndoing b all) (IsLeftUndoing b all) first next (λ told c is. is)
 
   -- ---- calls in a row
 
-  pub undo_start : (s : Writer) (w : PageWriter) (disk : D) → ((c : Files) → d.left_since disk (d.moment disk) c → d.may_leave disk c) → StandsAs d b 0 s w disk → IsUndoing b tree all s → UndoGoes d b tree all s disk s w disk
+  pub undo_start : (s : Writer) (w : PageWriter) (disk : D) → ((c : Files) → d.left_since disk (d.moment disk) c → d.may_leave disk c) → StandsAs d b 0 s w disk → IsUndoing b all s → UndoGoes d b all s disk s w disk
   undo_start s w disk only_now stands is = record {
     stands = stands;
     undoing = is;
@@ -86,7 +88,7 @@ module _ {D : Type 0} (d : Ghosts D) (b : Base) (tree : Tree) (all : History) wh
     on = front_none s.log;
   }
 
-  pub undo_then : (s : Writer) (old : D) (t : Writer) (w : PageWriter) (mid : D) (u : Writer) (x : PageWriter) (new : D) → UndoGoes d b tree all s old t w mid → UndoGoes d b tree all t mid u x new → UndoGoes d b tree all s old u x new
+  pub undo_then : (s : Writer) (old : D) (t : Writer) (w : PageWriter) (mid : D) (u : Writer) (x : PageWriter) (new : D) → UndoGoes d b all s old t w mid → UndoGoes d b all t mid u x new → UndoGoes d b all s old u x new
   undo_then s old t w mid u x new first next = record {
     stands = next.stands;
     undoing = next.undoing;
@@ -96,13 +98,13 @@ module _ {D : Type 0} (d : Ghosts D) (b : Base) (tree : Tree) (all : History) wh
 
   -- ---- an End
 
-  pub ended_so : TreeLaws tree → (s : Writer) (c : Chain) (lsn : ℕ) (old : D) (w : PageWriter) (new : D) → IsUndoing b tree all s → GoesOnAt c 0 s.log → LeavesCovered d b 0 s.durable s.log old new
-      → LoggedOnly d b 0 s (End c.transaction c.last) lsn w new → Ended d b tree all s c.transaction old w new
-  ended_so laws s c lsn old w new is goes stops logged =
+  pub ended_so : (s : Writer) (c : Chain) (lsn : ℕ) (old : D) (w : PageWriter) (new : D) → IsUndoing b all s → GoesOnAt c 0 s.log → LeavesCovered d b 0 s.durable s.log old new
+      → LoggedOnly d b 0 s (End c.transaction c.last) lsn w new → Ended d b all s c.transaction old w new
+  ended_so s c lsn old w new is goes stops logged =
       let r : Logged = logged_at lsn (End c.transaction c.last) in
-      let none : to_undo c.transaction s.log ≡ [] = nothing_left b tree laws s.log c is.can goes in
+      let none : to_undo c.transaction s.log ≡ [] = nothing_left b page_tree page_tree_laws s.log c is.can goes in
       let ends : Ends b c.transaction s.log r = record { linked = record { rises = logged.high; owner = refl; prev = goes.last }; what = refl; leads = refl } in
-      let after = (undo_goes_on tree laws).ends b s.log c.transaction r is.can goes.loser none ends in
+      let after = (undo_goes_on page_tree page_tree_laws).ends b s.log c.transaction r is.can goes.loser none ends in
       let grown : GrowsByUndo all (r ∷ s.log) = grows_one all s.log r is.grown (record { loser = goes.loser; none = none; page = refl }) in
       record {
         now = _;

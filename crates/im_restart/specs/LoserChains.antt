@@ -22,6 +22,7 @@ use Rattle.im_restart.specs.declared.chains.Chain.{Chain}
 pub record GoesOnAt (c : Chain) (l : ℕ) (log : History) : Type 0 where
   pub loser : is_loser c.transaction log ≡ true
   pub last : c.last ≡ last_of c.transaction log
+  pub undo : c.undo_next ≡ undo_next_of c.transaction log
   pub at : l ≢ 0 → HasRecordAt c.transaction l log
   pub same : undo_reads l log ≡ undo_reads (undo_next_of c.transaction log) log
 
@@ -29,9 +30,9 @@ pub record GoesOnAt (c : Chain) (l : ℕ) (log : History) : Type 0 where
 abbrev pub ChainMap : Type 0
 ChainMap = BTreeMap ℕ Chain
 
--- the chain of a transaction with this last record
-abbrev pub chain_of : ℕ → ℕ → Chain
-chain_of t last = record { transaction = t; last = last }
+-- the chain of a transaction with this last record, whose undo goes on at this LSN as the log says it
+abbrev pub chain_of : ℕ → ℕ → ℕ → Chain
+chain_of t last undo_next = record { transaction = t; last = last; undo_next = undo_next }
 
 -- the map has the transaction's chain
 pub record HasChain (t : ℕ) (chains : ChainMap) : Type 0 where
@@ -88,5 +89,6 @@ pub record LeadsNowhere (entry : Entry) (lsn : ℕ) : Type 0 where
 pub record IsToUndo (log : History) (c : Chain) (entry : Entry) : Type 0 where
   pub loser : is_loser c.transaction log ≡ true
   pub last : c.last ≡ last_of c.transaction log
+  pub undo : c.undo_next ≡ undo_next_of c.transaction log
   pub lsn : ℕ
   pub next : IsNext c.transaction log (logged_at lsn entry)

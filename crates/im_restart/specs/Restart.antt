@@ -3,7 +3,6 @@ use Rattle.std.specs.Prelude.{◌≡◌, ◌≢◌, ◌⊎◌, ℕ, length, Some
 use Rattle.im_types.specs.declared.fault.Fault.{Fault}
 use Rattle.im_types.specs.declared.fault.Fault.TheVariants.{NotAStore}
 use Rattle.im_types.specs.declared.file_id.FileId.TheVariants.{Log, Pages}
-use Rattle.im_types.specs.Tree.{Tree}
 use Rattle.im_types.specs.Histories.{Base, History, page_at}
 use Rattle.im_types.specs.RedoPoints.{Covers}
 use Rattle.im_types.specs.Lawful.{IsLawful}
@@ -16,11 +15,11 @@ use Rattle.im_log.specs.Kept.{HasLog, IsLogOf}
 use Rattle.im_page.specs.PageFile.{file_page}
 use Rattle.im_flush.specs.declared.page_writer.PageWriter.{PageWriter}
 use Rattle.im_flush.specs.PageWriter.{StandsAs}
-use Rattle.im_redo.specs.Redo.{IsOnLeaves}
+use Rattle.im_tree.specs.Theory.{page_tree}
 use Rattle.im_analysis.specs.Losers.{is_loser}
 use Rattle.im_analysis.specs.Numbers.{IsNextNumber}
 use Rattle.im_restart.specs.declared.restarted.Restarted.{Restarted}
-use Rattle.im_restart.specs.Undone.{GrowsByUndo, UndoesInPlace}
+use Rattle.im_restart.specs.Undone.{GrowsByUndo}
 
 -- No store was made yet: the log is unmade, and there are no pages.
 abbrev pub IsFresh : Files → Type 0
@@ -36,22 +35,20 @@ pub record HasStore (b : Base) (all : History) (files : Files) : Type 0 where
   pub bare : IsUnmade (files Log) → length (files Pages) ≡ 0
   pub covers : Covers b all (file_page (files Pages))
 
--- What a restart can start from: a lawful log that covers the pages, of which what is unfinished can be undone page by page.
-pub record MayRestart (b : Base) (tree : Tree) (all : History) (files : Files) : Type 0 where
+-- What a restart can start from: a lawful log that covers the pages.
+pub record MayRestart (b : Base) (all : History) (files : Files) : Type 0 where
   pub start : b.start ≡ 0
   pub has : HasStore b all files
-  pub lawful : IsLawful b tree all
-  pub leaves : IsOnLeaves tree
-  pub in_place : UndoesInPlace b tree all
+  pub lawful : IsLawful b page_tree all
 
 -- A stop left what a restart can start from again: the log, or it with records of undo more.
-pub record IsLeftUndoing (b : Base) (tree : Tree) (all : History) (files : Files) : Type 0 where
+pub record IsLeftUndoing (b : Base) (all : History) (files : Files) : Type 0 where
   pub left : History
   pub has : HasStore b left files
   pub grown : GrowsByUndo all left
-  pub lawful : IsLawful b tree left
+  pub lawful : IsLawful b page_tree left
 
-module _ {D : Type 0} (d : Ghosts D) (b : Base) (tree : Tree) (all : History) where
+module _ {D : Type 0} (d : Ghosts D) (b : Base) (all : History) where
   -- All is undone and ended that was unfinished; the pages are what the whole log made of them, and all of it is durable.
   pub record IsRestarted (r : Restarted) (disk : D) : Type 0 where
     pub now : Writer
@@ -60,7 +57,7 @@ module _ {D : Type 0} (d : Ghosts D) (b : Base) (tree : Tree) (all : History) wh
     pub over : now.redo_end ≡ Some redo_end
     pub durable : now.durable ≡ now.log
     pub grown : GrowsByUndo all now.log
-    pub lawful : IsLawful b tree now.log
+    pub lawful : IsLawful b page_tree now.log
     pub ended : (t : ℕ) → is_loser t now.log ≡ false
     pub pages : (p : ℕ) → (now.pages p).page ≡ page_at b now.log p
     pub next : IsNextNumber r.next all
@@ -73,18 +70,18 @@ module _ {D : Type 0} (d : Ghosts D) (b : Base) (tree : Tree) (all : History) wh
     pub over : now.redo_end ≡ Some redo_end
     pub durable : now.durable ≡ now.log
     pub grown : GrowsByUndo all now.log
-    pub lawful : IsLawful b tree now.log
+    pub lawful : IsLawful b page_tree now.log
     pub ended : (t : ℕ) → is_loser t now.log ≡ false
     pub pages : (p : ℕ) → (now.pages p).page ≡ page_at b now.log p
 
   -- what redo, undo and the last force keep
   pub record SettleKept (old : D) (w : PageWriter) (new : D) (result : Result Unit Fault) : Type 0 where
     pub ok : OnOk result (IsSettled w new)
-    pub stops : LeavesOnly d old new (IsLeftUndoing b tree all)
+    pub stops : LeavesOnly d old new (IsLeftUndoing b all)
     pub cause : IfErr result (λ e. e ≢ NotAStore)
 
   -- what a restart keeps
   pub record RestartKept (old new : D) (result : Result Restarted Fault) : Type 0 where
     pub ok : IfOk result (λ r. IsRestarted r new)
-    pub stops : LeavesOnly d old new (IsLeftUndoing b tree all)
+    pub stops : LeavesOnly d old new (IsLeftUndoing b all)
     pub cause : IfErr result (λ e. e ≢ NotAStore)

@@ -5,7 +5,6 @@ use Rattle.std.specs.BTreeMap.{Updates}
 use Rattle.im_types.specs.declared.fault.Fault.{Fault}
 use Rattle.im_types.specs.declared.fault.Fault.TheVariants.{NotAStore}
 use Rattle.im_types.specs.Records.{Logged}
-use Rattle.im_types.specs.Tree.{Tree}
 use Rattle.im_types.specs.Histories.{Base, History, IsFront, page_at}
 use Rattle.im_types.specs.Structure.{open_smo}
 use Rattle.im_types.specs.Lawful.{IsLawful}
@@ -14,17 +13,18 @@ use Rattle.im_disk.specs.declared.disk.Disk.{Ghosts}
 use Rattle.im_disk.specs.Runs.{LeavesOnly}
 use Rattle.im_flush.specs.declared.page_writer.PageWriter.{PageWriter}
 use Rattle.im_flush.specs.PageWriter.{StandsAs}
+use Rattle.im_tree.specs.Theory.{page_tree}
 use Rattle.im_analysis.specs.Losers.{AreLosers, LoserMap}
 use Rattle.im_restart.specs.Undone.{GrowsByUndo}
 use Rattle.im_restart.specs.Restart.{IsLeftUndoing}
 
 -- Redo is over, the log is the one that was found with records of undo, and each page is what the log made of it.
-pub record IsTakingBack (b : Base) (tree : Tree) (all : History) (now : Writer) : Type 0 where
+pub record IsTakingBack (b : Base) (all : History) (now : Writer) : Type 0 where
   pub redo_end : ℕ
   pub over : now.redo_end ≡ Some redo_end
   pub grown : GrowsByUndo all now.log
   pub found : IsFront all now.durable
-  pub lawful : IsLawful b tree now.log
+  pub lawful : IsLawful b page_tree now.log
   pub pages : (p : ℕ) → (now.pages p).page ≡ page_at b now.log p
 
 -- the newest record of the open structure change stands at this LSN, in front of these
@@ -33,12 +33,12 @@ pub record IsNewestAt (lsn : ℕ) (log rest : History) : Type 0 where
   pub going : open_smo log ≡ newest ∷ rest
   pub here : newest.lsn ≡ lsn
 
-module _ {D : Type 0} (d : Ghosts D) (b : Base) (tree : Tree) (all : History) where
+module _ {D : Type 0} (d : Ghosts D) (b : Base) (all : History) where
   -- Calls in a row, since the writer stood so: how it stands now, and what a stop since then has left.
   pub record ChangeGoes (s : Writer) (old : D) (t : Writer) (w : PageWriter) (disk : D) : Type 0 where
     pub stands : StandsAs d b 0 t w disk
-    pub taking : IsTakingBack b tree all t
-    pub stops : LeavesOnly d old disk (IsLeftUndoing b tree all)
+    pub taking : IsTakingBack b all t
+    pub stops : LeavesOnly d old disk (IsLeftUndoing b all)
     pub on : IsFront s.log t.log
 
   -- The newest page is taken back by a record at this LSN, which leads the transaction's undo on to that one.
@@ -51,7 +51,7 @@ module _ {D : Type 0} (d : Ghosts D) (b : Base) (tree : Tree) (all : History) wh
   -- what that keeps
   pub record TakeBackKept (s : Writer) (t on : ℕ) (rest : History) (old : D) (w : PageWriter) (disk : D) (result : Result ℕ Fault) : Type 0 where
     pub ok : IfOk result (λ lsn. TakenBack s t on rest lsn old w disk)
-    pub stops : LeavesOnly d old disk (IsLeftUndoing b tree all)
+    pub stops : LeavesOnly d old disk (IsLeftUndoing b all)
     pub cause : IfErr result (λ e. e ≢ NotAStore)
 
   -- The table of the losers says so too.
@@ -64,11 +64,11 @@ module _ {D : Type 0} (d : Ghosts D) (b : Base) (tree : Tree) (all : History) wh
   -- what the undo of a page keeps
   pub record PageKept (s : Writer) (rest : History) (old : D) (w : PageWriter) (losers : LoserMap) (disk : D) (result : Result Unit Fault) : Type 0 where
     pub ok : OnOk result (PageUndone s rest old w losers disk)
-    pub stops : LeavesOnly d old disk (IsLeftUndoing b tree all)
+    pub stops : LeavesOnly d old disk (IsLeftUndoing b all)
     pub cause : IfErr result (λ e. e ≢ NotAStore)
 
   -- what the undo of all of them keeps
   pub record ChangeKept (s : Writer) (old : D) (w : PageWriter) (losers : LoserMap) (disk : D) (result : Result Unit Fault) : Type 0 where
     pub ok : OnOk result (PageUndone s [] old w losers disk)
-    pub stops : LeavesOnly d old disk (IsLeftUndoing b tree all)
+    pub stops : LeavesOnly d old disk (IsLeftUndoing b all)
     pub cause : IfErr result (λ e. e ≢ NotAStore)

@@ -2,47 +2,41 @@
 use Rattle.std.specs.Prelude.{◌≡◌, ◌≢◌, ℕ, Bool, true, false, Some, Result, IfErr, IfOk, OnOk}
 use Rattle.im_types.specs.declared.fault.Fault.{Fault}
 use Rattle.im_types.specs.declared.fault.Fault.TheVariants.{NotAStore}
-use Rattle.im_types.specs.Tree.{Tree}
 use Rattle.im_types.specs.Histories.{Base, History, IsFront, page_at}
 use Rattle.im_types.specs.Writer.{Writer}
 use Rattle.im_disk.specs.declared.disk.Disk.{Ghosts}
 use Rattle.im_disk.specs.Runs.{LeavesOnly}
 use Rattle.im_flush.specs.declared.page_writer.PageWriter.{PageWriter}
 use Rattle.im_flush.specs.PageWriter.{StandsAs}
-use Rattle.im_redo.specs.Redo.{IsOnLeaves}
+use Rattle.im_tree.specs.Theory.{page_tree}
 use Rattle.im_analysis.specs.Losers.{is_loser, row_of}
 use Rattle.im_analysis.specs.Undo.{IsUndoable}
-use Rattle.im_restart.specs.Undone.{GrowsByUndo, UndoesInPlace}
+use Rattle.im_restart.specs.Undone.{GrowsByUndo}
 use Rattle.im_restart.specs.Restart.{IsLeftUndoing}
 use Rattle.im_restart.specs.LoserChains.{ChainMap, AreChains, nobody, SparesOthers}
 
 -- ---- the log and the pages
 
 -- Redo is over, the log is the one that was found with records of undo, no structure change is open, and each page is what the log made of it.
-pub record IsUndoing (b : Base) (tree : Tree) (all : History) (now : Writer) : Type 0 where
+pub record IsUndoing (b : Base) (all : History) (now : Writer) : Type 0 where
   pub redo_end : ℕ
   pub over : now.redo_end ≡ Some redo_end
   pub grown : GrowsByUndo all now.log
   pub found : IsFront all now.durable
-  pub can : IsUndoable b tree now.log
+  pub can : IsUndoable b page_tree now.log
   pub pages : (p : ℕ) → (now.pages p).page ≡ page_at b now.log p
 
--- What undo asks of the log that was found: what is left to undo can be undone on the page that its record names.
-pub record MayUndo (b : Base) (tree : Tree) (all : History) : Type 0 where
-  pub leaves : IsOnLeaves tree
-  pub in_place : UndoesInPlace b tree all
-
-module _ {D : Type 0} (d : Ghosts D) (b : Base) (tree : Tree) (all : History) where
+module _ {D : Type 0} (d : Ghosts D) (b : Base) (all : History) where
   -- Calls in a row, since the writer stood so: how it stands now, and what a stop since then has left.
   pub record UndoGoes (s : Writer) (old : D) (t : Writer) (w : PageWriter) (disk : D) : Type 0 where
     pub stands : StandsAs d b 0 t w disk
-    pub undoing : IsUndoing b tree all t
-    pub stops : LeavesOnly d old disk (IsLeftUndoing b tree all)
+    pub undoing : IsUndoing b all t
+    pub stops : LeavesOnly d old disk (IsLeftUndoing b all)
     pub on : IsFront s.log t.log
 
   -- ---- a compensation
 
-  -- It is undone by the record at this LSN, and undo of the loser goes on at this one.
+  -- It is taken back: the loser's records end at this LSN, and its undo goes on at this one.
   pub record Compensated (s : Writer) (t : ℕ) (on lsn : ℕ) (old : D) (w : PageWriter) (disk : D) : Type 0 where
     pub now : Writer
     pub goes : UndoGoes s old now w disk
@@ -53,7 +47,7 @@ module _ {D : Type 0} (d : Ghosts D) (b : Base) (tree : Tree) (all : History) wh
   -- what a compensation keeps
   pub record CompensateKept (s : Writer) (t on : ℕ) (old : D) (w : PageWriter) (disk : D) (result : Result ℕ Fault) : Type 0 where
     pub ok : IfOk result (λ lsn. Compensated s t on lsn old w disk)
-    pub stops : LeavesOnly d old disk (IsLeftUndoing b tree all)
+    pub stops : LeavesOnly d old disk (IsLeftUndoing b all)
     pub cause : IfErr result (λ e. e ≢ NotAStore)
 
   -- ---- an End
@@ -68,7 +62,7 @@ module _ {D : Type 0} (d : Ghosts D) (b : Base) (tree : Tree) (all : History) wh
   -- what an End keeps
   pub record EndKept (s : Writer) (t : ℕ) (old : D) (w : PageWriter) (disk : D) (result : Result Unit Fault) : Type 0 where
     pub ok : OnOk result (Ended s t old w disk)
-    pub stops : LeavesOnly d old disk (IsLeftUndoing b tree all)
+    pub stops : LeavesOnly d old disk (IsLeftUndoing b all)
     pub cause : IfErr result (λ e. e ≢ NotAStore)
 
   -- ---- a step
@@ -83,7 +77,7 @@ module _ {D : Type 0} (d : Ghosts D) (b : Base) (tree : Tree) (all : History) wh
   -- what a step keeps
   pub record StepKept (s : Writer) (t : ℕ) (out : ℕ → Bool) (old : D) (w : PageWriter) (chains : ChainMap) (disk : D) (result : Result Unit Fault) : Type 0 where
     pub ok : OnOk result (Stepped s t out old w chains disk)
-    pub stops : LeavesOnly d old disk (IsLeftUndoing b tree all)
+    pub stops : LeavesOnly d old disk (IsLeftUndoing b all)
     pub cause : IfErr result (λ e. e ≢ NotAStore)
 
   -- ---- all of them
@@ -97,7 +91,7 @@ module _ {D : Type 0} (d : Ghosts D) (b : Base) (tree : Tree) (all : History) wh
   -- what entering them keeps
   pub record EnterKept (s : Writer) (old : D) (w : PageWriter) (chains : ChainMap) (disk : D) (result : Result Unit Fault) : Type 0 where
     pub ok : OnOk result (Entered s old w chains disk)
-    pub stops : LeavesOnly d old disk (IsLeftUndoing b tree all)
+    pub stops : LeavesOnly d old disk (IsLeftUndoing b all)
     pub cause : IfErr result (λ e. e ≢ NotAStore)
 
   -- No loser is left.
@@ -109,5 +103,5 @@ module _ {D : Type 0} (d : Ghosts D) (b : Base) (tree : Tree) (all : History) wh
   -- what undo keeps
   pub record UndoKept (s : Writer) (old : D) (w : PageWriter) (disk : D) (result : Result Unit Fault) : Type 0 where
     pub ok : OnOk result (AllUndone s old w disk)
-    pub stops : LeavesOnly d old disk (IsLeftUndoing b tree all)
+    pub stops : LeavesOnly d old disk (IsLeftUndoing b all)
     pub cause : IfErr result (λ e. e ≢ NotAStore)

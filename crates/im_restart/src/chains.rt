@@ -8,4 +8,6 @@ pub(crate) struct Chain {
     pub transaction: TxnId,
     /// The LSN of its last record.
     pub last: Lsn,
+    /// Where its undo goes on, as the log says it: it stays while compensations and ends of structure changes are passed over.
+    pub undo_next: Lsn,
 }

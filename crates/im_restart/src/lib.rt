@@ -9,9 +9,10 @@
 //! 3. **Undo of the open structure change** (`structure_change`): its pages are put back, the newest first, each by an UndoSmo with
 //!    the page before.
 //! 4. **Undo of the losers** (`undo`), all together, the record with the greatest LSN first. Each loser's chain stands in a map at
-//!    the LSN where its undo goes on, and the greatest is taken out again and again: a key record is compensated on its own page, by
-//!    a record that leads to the one before it; a compensation or the end of a structure change leads on to its next one to undo.
-//!    Where nothing is left the loser's End is appended before others go on.
+//!    the LSN where its undo goes on, and the greatest is taken out again and again: a key record is taken back by `im_undo`, wherever
+//!    splits have moved its key, by a compensation that leads to the record before it, beside structure changes where a leaf is full
+//!    or left empty; a compensation or the end of a structure change leads on to its next one to undo. Where nothing is left the
+//!    loser's End is appended before others go on.
 //! 5. One **force**. Where nothing was appended it makes no device call, so an opening of a store with nothing to undo makes none;
 //!    a creation takes six, or four on a half-made log. No Checkpoint is taken.
 //!
@@ -20,9 +21,8 @@
 //!
 //! # What is kept
 //!
-//! `MayRestart` is what files have to be: a lawful log (`IsLawful`) that covers the pages (`Covers`), or none and no page; with what
-//! the tree says of leaves (`IsOnLeaves`), and that what is left to undo can always be undone on the page that its record names
-//! (`UndoesInPlace`). `RestartKept` is what the clause `kept` says of such files:
+//! `MayRestart` is what files have to be: a lawful log (`IsLawful`, over the tree of pages) that covers the pages (`Covers`), or none
+//! and no page, whether its tree was split or not. `RestartKept` is what the clause `kept` says of such files:
 //!
 //! - behind an opening (`IsRestarted`) the log is the one that was found with Images and records of undo more (`GrowsByUndo`), it
 //!   is lawful and durable, no loser is left, and each page is what the whole log made of it;
@@ -30,7 +30,7 @@
 //!   is undone twice: a compensation takes its record off what is left, and a lawful log has no second one;
 //! - it is never refused as no store.
 //!
-//! It stands on analysis, redo, the writer of pages, the log and its gates.
+//! It stands on the undo of one record, analysis, redo, the writer of pages, the log and its gates.
 #![tactic(auto)]
 
 mod chains;

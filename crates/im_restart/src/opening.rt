@@ -1,7 +1,7 @@
 //! A store is opened.
 
 ghost use Rattle.std.specs.Prelude.{◌≡◌, ◌≤◌, ◌⊎◌, ◌↔◌, ℕ, [], true, false, length, IfErr, IfOk, OnOk};
-ghost use Rattle.im_types.specs.declared.fault.Fault.TheVariants.{Device, LogFull, Memory, NotAStore};
+ghost use Rattle.im_types.specs.declared.fault.Fault.TheVariants.{Capacity, Device, LogFull, Memory, NotAStore};
 ghost use Rattle.im_types.specs.declared.file_id.FileId.TheVariants.{Log, Pages};
 ghost use Rattle.im_types.specs.Histories.{Base, History};
 ghost use Rattle.im_types.specs.RedoPoints.{redo_point};
@@ -19,7 +19,7 @@ ghost use Rattle.im_redo.specs.Redo.{lsns_from};
 ghost use Rattle.im_flush.specs.PageWriter.{IsReadyWriter, StandsAs};
 ghost use Rattle.im_restart.specs.Reading.{IsFound};
 ghost use Rattle.im_restart.specs.StructureChange.{IsTakingBack};
-ghost use Rattle.im_restart.specs.Undoing.{MayUndo, UndoKept};
+ghost use Rattle.im_restart.specs.Undoing.{UndoKept};
 ghost use Rattle.im_restart.specs.Restart.{IsFresh, SpellsLog, MayRestart, RestartKept, SettleKept};
 
 use crate::found::Found;
@@ -31,7 +31,6 @@ use im_analysis::Analysed;
 use im_disk::Disk;
 use im_flush::PageWriter;
 use im_redo::redo;
-use im_types::laws::logs::PageTree;
 use im_types::{Fault, Lsn, TxnId};
 use std::alloc::Global;
 use std::cmp::max;
@@ -55,7 +54,7 @@ fn first_number(next: TxnId) -> TxnId
 }
 
 // Undoes what was found unfinished: the structure change that was open first, and then the losers.
-fn undo_found<D: Disk, T: PageTree>(
+fn undo_found<D: Disk>(
     alloc: Global,
     disk: &mut D,
     writer: &mut PageWriter,
@@ -66,25 +65,25 @@ fn undo_found<D: Disk, T: PageTree>(
     requires ready { IsReadyWriter D.Disk writer.old disk.old }
     requires working { writer.old.failed ≡ false }
     ensures ready { IsReadyWriter D.Disk writer.new disk.new }
-    ensures kept { (b : Base) (all : History) (s : Writer) → StandsAs D.Disk b 0 s writer.old disk.old → MayUndo b T.tree all → IsTakingBack b T.tree all s
-        → IsOpenChange analysed.old.open_change.items s.log → AreLosers analysed.old.losers s.log → UndoKept D.Disk b T.tree all s disk.old writer.new disk.new result }
+    ensures kept { (b : Base) (all : History) (s : Writer) → StandsAs D.Disk b 0 s writer.old disk.old → IsTakingBack b all s
+        → IsOpenChange analysed.old.open_change.items s.log → AreLosers analysed.old.losers s.log → UndoKept D.Disk b all s disk.old writer.new disk.new result }
     ensures works { OnOk result (writer.new.failed ≡ false) }
     ensures next { analysed.new.next ≡ analysed.old.next }
-    ensures causes { IfErr result (λ e. (e ≡ LogFull) ⊎ (e ≡ Memory) ⊎ (e ≡ NotAStore) ⊎ (e ≡ Device)) }
+    ensures causes { IfErr result (λ e. (e ≡ LogFull) ⊎ (e ≡ Memory) ⊎ (e ≡ NotAStore) ⊎ (e ≡ Device) ⊎ (e ≡ Capacity)) }
     ensures device { result ≡ Err Device ↔ (D.failed disk.new ≡ true) }
 {
-    undo_change::<D, T>(
+    undo_change(
         disk,
         writer,
         &mut analysed.open_change,
         &mut analysed.losers,
         room,
     )?;
-    undo::<D, T>(alloc, disk, writer, &mut analysed.losers, room)
+    undo(alloc, disk, writer, &mut analysed.losers, room)
 }
 
 // Redoes the records from the redo point on, undoes and ends the losers, and makes what was logged durable.
-fn settle<D: Disk, T: PageTree>(
+fn settle<D: Disk>(
     alloc: Global,
     disk: &mut D,
     writer: &mut PageWriter,
@@ -96,11 +95,11 @@ fn settle<D: Disk, T: PageTree>(
     requires ready { IsReadyWriter D.Disk writer.old disk.old }
     requires working { writer.old.failed ≡ false }
     ensures ready { IsReadyWriter D.Disk writer.new disk.new }
-    ensures kept { (b : Base) (all : History) → StandsAs D.Disk b 0 (opened b all (file_page (D.seen disk.old Pages))) writer.old disk.old → MayRestart b T.tree all (D.seen disk.old)
-        → IsAnalysis all analysed.old → lsns.now ≡ lsns_from (redo_point all) all → SettleKept D.Disk b T.tree all disk.old writer.new disk.new result }
+    ensures kept { (b : Base) (all : History) → StandsAs D.Disk b 0 (opened b all (file_page (D.seen disk.old Pages))) writer.old disk.old → MayRestart b all (D.seen disk.old)
+        → IsAnalysis all analysed.old → lsns.now ≡ lsns_from (redo_point all) all → SettleKept D.Disk b all disk.old writer.new disk.new result }
     ensures works { OnOk result (writer.new.failed ≡ false) }
     ensures next { analysed.new.next ≡ analysed.old.next }
-    ensures causes { IfErr result (λ e. (e ≡ LogFull) ⊎ (e ≡ Memory) ⊎ (e ≡ NotAStore) ⊎ (e ≡ Device)) }
+    ensures causes { IfErr result (λ e. (e ≡ LogFull) ⊎ (e ≡ Memory) ⊎ (e ≡ NotAStore) ⊎ (e ≡ Device) ⊎ (e ≡ Capacity)) }
     ensures device { result ≡ Err Device ↔ (D.failed disk.new ≡ true) }
 {
     redo(
@@ -111,12 +110,12 @@ fn settle<D: Disk, T: PageTree>(
         lsns,
         room,
     )?;
-    undo_found::<D, T>(alloc, disk, writer, analysed, room)?;
+    undo_found(alloc, disk, writer, analysed, room)?;
     writer.force(disk)
 }
 
 // Restarts with the log that was found.
-fn restart<D: Disk, T: PageTree>(
+fn restart<D: Disk>(
     alloc: Global,
     disk: &mut D,
     found: Found,
@@ -129,9 +128,9 @@ fn restart<D: Disk, T: PageTree>(
     ensures ready { IfOk result (λ r. IsReadyWriter D.Disk r.writer disk.new) }
     ensures works { IfOk result (λ r. r.writer.failed ≡ false) }
     ensures least { IfOk result (λ r. 1 ≤ r.next) }
-    ensures kept { (b : Base) (all : History) → MayRestart b T.tree all (D.seen disk.old) → Only Pages (D.seen disk.old) (D.may_leave disk.old) → IsFound D.Disk all found disk.old
-        → RestartKept D.Disk b T.tree all disk.old disk.new result }
-    ensures causes { IfErr result (λ e. (e ≡ Memory) ⊎ (e ≡ Device) ⊎ (e ≡ NotAStore) ⊎ (e ≡ LogFull)) }
+    ensures kept { (b : Base) (all : History) → MayRestart b all (D.seen disk.old) → Only Pages (D.seen disk.old) (D.may_leave disk.old) → IsFound D.Disk all found disk.old
+        → RestartKept D.Disk b all disk.old disk.new result }
+    ensures causes { IfErr result (λ e. (e ≡ Memory) ⊎ (e ≡ Device) ⊎ (e ≡ NotAStore) ⊎ (e ≡ LogFull) ⊎ (e ≡ Capacity)) }
     ensures device { result ≡ Err Device ↔ (D.failed disk.new ≡ true) }
 {
     let Found {
@@ -142,7 +141,7 @@ fn restart<D: Disk, T: PageTree>(
     let mut analysed = analysed;
     let mut writer = PageWriter::new(alloc, log, frames)?;
     let mut room = make_room(alloc)?;
-    settle::<D, T>(alloc, disk, &mut writer, &mut analysed, &lsns, &mut room)?;
+    settle(alloc, disk, &mut writer, &mut analysed, &lsns, &mut room)?;
     Ok(Restarted {
         writer,
         next: first_number(analysed.next),
@@ -153,8 +152,9 @@ fn restart<D: Disk, T: PageTree>(
 /// pages to what all of it made of them, and the transactions with neither Commit nor End are undone and ended. Where that logs
 /// anything, it is made durable.
 ///
-/// Refused `NotAStore` where the bytes are no store, or there are pages without a log; `Memory`; `LogFull`; `Device`.
-pub fn open_or_create<D: Disk, T: PageTree>(
+/// Refused `NotAStore` where the bytes are no store, or there are pages without a log; `Capacity` where the key of a delete is put back into
+/// a full leaf, and page numbers or levels are used up, so that the leaf can't be split; `Memory`; `LogFull`; `Device`.
+pub fn open_or_create<D: Disk>(
     alloc: Global,
     disk: &mut D,
     frames: usize,
@@ -168,10 +168,10 @@ pub fn open_or_create<D: Disk, T: PageTree>(
     ensures least { IfOk result (λ r. 1 ≤ r.next) }
     ensures made { IfOk result (λ _. D.tells → IsFresh (D.seen disk.old) ⊎ IsMade (D.seen disk.old Log)) }
     ensures spelled { IfOk result (λ _. D.tells → SpellsLog (D.seen disk.old)) }
-    ensures kept { (b : Base) (all : History) → D.tells → MayRestart b T.tree all (D.seen disk.old) → RestartKept D.Disk b T.tree all disk.old disk.new result }
-    ensures causes { IfErr result (λ e. (e ≡ Memory) ⊎ (e ≡ Device) ⊎ (e ≡ NotAStore) ⊎ (e ≡ LogFull)) }
+    ensures kept { (b : Base) (all : History) → D.tells → MayRestart b all (D.seen disk.old) → RestartKept D.Disk b all disk.old disk.new result }
+    ensures causes { IfErr result (λ e. (e ≡ Memory) ⊎ (e ≡ Device) ⊎ (e ≡ NotAStore) ⊎ (e ≡ LogFull) ⊎ (e ≡ Capacity)) }
     ensures device { result ≡ Err Device ↔ (D.failed disk.new ≡ true) }
 {
-    let found = open_log::<D, T>(alloc, disk)?;
-    restart::<D, T>(alloc, disk, found, frames)
+    let found = open_log(alloc, disk)?;
+    restart(alloc, disk, found, frames)
 }

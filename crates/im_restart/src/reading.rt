@@ -17,6 +17,7 @@ ghost use Rattle.im_log.specs.Spelled.{logged_at};
 ghost use Rattle.im_log.specs.Kept.{HasLog, IsLogOf};
 ghost use Rattle.im_log.specs.LogFile.{IsOpen};
 ghost use Rattle.im_log.specs.Opening.{IsBegun, IsOpening, HasRead};
+ghost use Rattle.im_tree.specs.Theory.{page_tree};
 ghost use Rattle.im_redo.specs.Redo.{lsns_from};
 ghost use Rattle.im_restart.specs.Restart.{IsFresh, SpellsLog};
 ghost use Rattle.im_restart.specs.Reading.{GateKept, ReadKept, OpenKept};
@@ -27,7 +28,6 @@ use im_disk::Disk;
 use im_gate::Gate;
 use im_log::Opening;
 use im_record::Record;
-use im_types::laws::logs::PageTree;
 use im_types::{Fault, FileId, Lsn};
 use std::alloc::Global;
 
@@ -99,18 +99,14 @@ fn since(lsns: Vec<Lsn>, point: Lsn) -> Vec<Lsn>
 }
 
 // Reads the records, and takes each in turn.
-fn read_all<D: Disk, T: PageTree>(
-    alloc: Global,
-    disk: &mut D,
-    opening: Opening,
-) -> Result<Found, Fault>
+fn read_all<D: Disk>(alloc: Global, disk: &mut D, opening: Opening) -> Result<Found, Fault>
     requires begun { IsBegun D.Disk opening disk.old }
     requires usable { opening.failed ≡ false }
     requires based { opening.base ≡ 0 }
     ensures reads { Reads D.Disk disk.old disk.new }
     ensures ready { IfOk result (λ found. IsOpen D.Disk found.log disk.new) }
     ensures usable { IfOk result (λ found. found.log.failed ≡ false) }
-    ensures kept { (b : Base) (all : History) → IsOpening D.Disk 0 all [] opening disk.old → IsLawful b T.tree all → ReadKept D.Disk all disk.new result }
+    ensures kept { (b : Base) (all : History) → IsOpening D.Disk 0 all [] opening disk.old → IsLawful b page_tree all → ReadKept D.Disk all disk.new result }
     ensures spelled { IfOk result (λ _. HasRead D.Disk 0 [] opening disk.old → (found : History) × HasLog 0 found (D.seen disk.old Log)) }
     ensures causes { IfErr result (λ e. (e ≡ Memory) ⊎ (e ≡ Device) ⊎ (e ≡ NotAStore)) }
     ensures device { result ≡ Err Device ↔ (D.failed disk.new ≡ true) }
@@ -141,12 +137,12 @@ fn read_all<D: Disk, T: PageTree>(
 ///
 /// Refused `NotAStore` where the bytes are no log, a structure change opens beside another's, or there are pages without a log;
 /// `Memory`; `Device`.
-pub(crate) fn open_log<D: Disk, T: PageTree>(alloc: Global, disk: &mut D) -> Result<Found, Fault>
+pub(crate) fn open_log<D: Disk>(alloc: Global, disk: &mut D) -> Result<Found, Fault>
     requires working { D.failed disk.old ≡ false }
     requires durable { Only Log (D.seen disk.old) (D.may_leave disk.old) }
     ensures ready { IfOk result (λ found. IsOpen D.Disk found.log disk.new) }
     ensures usable { IfOk result (λ found. found.log.failed ≡ false) }
-    ensures kept { (b : Base) (all : History) → D.tells → IsLogOf 0 all (D.seen disk.old Log) → (IsUnmade (D.seen disk.old Log) → length (D.seen disk.old Pages) ≡ 0) → IsLawful b T.tree all
+    ensures kept { (b : Base) (all : History) → D.tells → IsLogOf 0 all (D.seen disk.old Log) → (IsUnmade (D.seen disk.old Log) → length (D.seen disk.old Pages) ≡ 0) → IsLawful b page_tree all
         → OpenKept D.Disk all disk.old disk.new result }
     ensures spelled { IfOk result (λ _. D.tells → SpellsLog (D.seen disk.old)) }
     ensures changes { ChangesOnly D.Disk Log disk.old disk.new }
@@ -157,5 +153,5 @@ pub(crate) fn open_log<D: Disk, T: PageTree>(alloc: Global, disk: &mut D) -> Res
 {
     let gate = first_gate(alloc, disk)?;
     let opening = Opening::start(alloc, gate, 0)?;
-    read_all::<D, T>(alloc, disk, opening)
+    read_all(alloc, disk, opening)
 }

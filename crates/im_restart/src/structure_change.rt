@@ -20,13 +20,12 @@ use im_analysis::{Loser, OpenRecord};
 use im_disk::Disk;
 use im_flush::PageWriter;
 use im_record::{Record, decode};
-use im_types::laws::logs::PageTree;
 use im_types::{Fault, Lsn, TxnId};
 use std::collections::BTreeMap;
 
 // Logs the undo of one page of a structure change behind its transaction's last record, and makes the page what it was. It answers
 // the LSN.
-fn take_back<D: Disk, T: PageTree>(
+fn take_back<D: Disk>(
     disk: &mut D,
     writer: &mut PageWriter,
     last: Lsn,
@@ -36,9 +35,9 @@ fn take_back<D: Disk, T: PageTree>(
     requires ready { IsReadyWriter D.Disk writer.old disk.old }
     requires working { writer.old.failed ≡ false }
     ensures ready { IsReadyWriter D.Disk writer.new disk.new }
-    ensures kept { (b : Base) (all : History) (s : Writer) (lsn : ℕ) (rest : History) → StandsAs D.Disk b 0 s writer.old disk.old → IsTakingBack b T.tree all s
+    ensures kept { (b : Base) (all : History) (s : Writer) (lsn : ℕ) (rest : History) → StandsAs D.Disk b 0 s writer.old disk.old → IsTakingBack b all s
         → open_smo s.log ≡ logged_at lsn (view record.now) ∷ rest → last ≡ last_of (transaction_of (view record.now)) s.log
-        → TakeBackKept D.Disk b T.tree all s (transaction_of (view record.now)) (prev_of (view record.now)) rest disk.old writer.new disk.new result }
+        → TakeBackKept D.Disk b all s (transaction_of (view record.now)) (prev_of (view record.now)) rest disk.old writer.new disk.new result }
     ensures works { OnOk result (writer.new.failed ≡ false) }
     ensures causes { IfErr result (λ e. (e ≡ LogFull) ⊎ (e ≡ Memory) ⊎ (e ≡ NotAStore) ⊎ (e ≡ Device)) }
     ensures device { result ≡ Err Device ↔ (D.failed disk.new ≡ true) }
@@ -91,7 +90,7 @@ fn note_row(
 }
 
 // Takes back one page, whose record this is.
-fn undo_page<D: Disk, T: PageTree>(
+fn undo_page<D: Disk>(
     disk: &mut D,
     writer: &mut PageWriter,
     losers: &mut BTreeMap<TxnId, Loser>,
@@ -101,14 +100,14 @@ fn undo_page<D: Disk, T: PageTree>(
     requires ready { IsReadyWriter D.Disk writer.old disk.old }
     requires working { writer.old.failed ≡ false }
     ensures ready { IsReadyWriter D.Disk writer.new disk.new }
-    ensures kept { (b : Base) (all : History) (s : Writer) (lsn : ℕ) (rest : History) → StandsAs D.Disk b 0 s writer.old disk.old → IsTakingBack b T.tree all s
-        → open_smo s.log ≡ logged_at lsn (view record.now) ∷ rest → AreLosers losers.old s.log → PageKept D.Disk b T.tree all s rest disk.old writer.new losers.new disk.new result }
+    ensures kept { (b : Base) (all : History) (s : Writer) (lsn : ℕ) (rest : History) → StandsAs D.Disk b 0 s writer.old disk.old → IsTakingBack b all s
+        → open_smo s.log ≡ logged_at lsn (view record.now) ∷ rest → AreLosers losers.old s.log → PageKept D.Disk b all s rest disk.old writer.new losers.new disk.new result }
     ensures works { OnOk result (writer.new.failed ≡ false) }
     ensures causes { IfErr result (λ e. (e ≡ LogFull) ⊎ (e ≡ Memory) ⊎ (e ≡ NotAStore) ⊎ (e ≡ Device)) }
     ensures device { result ≡ Err Device ↔ (D.failed disk.new ≡ true) }
 {
     let last = last_of(losers, record.transaction())?;
-    let lsn = take_back::<D, T>(disk, writer, last, record)?;
+    let lsn = take_back(disk, writer, last, record)?;
     let row = Loser {
         last: lsn,
         undo_next: record.prev(),
@@ -117,7 +116,7 @@ fn undo_page<D: Disk, T: PageTree>(
 }
 
 // The same, with the record read into the room.
-fn undo_page_at<D: Disk, T: PageTree>(
+fn undo_page_at<D: Disk>(
     disk: &mut D,
     writer: &mut PageWriter,
     losers: &mut BTreeMap<TxnId, Loser>,
@@ -129,20 +128,20 @@ fn undo_page_at<D: Disk, T: PageTree>(
     requires working { writer.old.failed ≡ false }
     ensures ready { IsReadyWriter D.Disk writer.new disk.new }
     ensures room { length room.new ≡ length room.old }
-    ensures kept { (b : Base) (all : History) (s : Writer) (rest : History) → StandsAs D.Disk b 0 s writer.old disk.old → IsTakingBack b T.tree all s → IsNewestAt lsn s.log rest
-        → AreLosers losers.old s.log → PageKept D.Disk b T.tree all s rest disk.old writer.new losers.new disk.new result }
+    ensures kept { (b : Base) (all : History) (s : Writer) (rest : History) → StandsAs D.Disk b 0 s writer.old disk.old → IsTakingBack b all s → IsNewestAt lsn s.log rest
+        → AreLosers losers.old s.log → PageKept D.Disk b all s rest disk.old writer.new losers.new disk.new result }
     ensures works { OnOk result (writer.new.failed ≡ false) }
     ensures causes { IfErr result (λ e. (e ≡ LogFull) ⊎ (e ≡ Memory) ⊎ (e ≡ NotAStore) ⊎ (e ≡ Device)) }
     ensures device { result ≡ Err Device ↔ (D.failed disk.new ≡ true) }
 {
     let size = writer.read_at(disk, lsn, room)?;
     let record = decode(&room[..size])?;
-    undo_page::<D, T>(disk, writer, losers, &record)
+    undo_page(disk, writer, losers, &record)
 }
 
 /// Takes back the structure change that was open, whose records these are, the newest page first, and leaves its transaction's row in
 /// the table of the losers as that leaves it.
-pub(crate) fn undo_change<D: Disk, T: PageTree>(
+pub(crate) fn undo_change<D: Disk>(
     disk: &mut D,
     writer: &mut PageWriter,
     open_change: &mut Vec<OpenRecord>,
@@ -154,14 +153,14 @@ pub(crate) fn undo_change<D: Disk, T: PageTree>(
     requires working { writer.old.failed ≡ false }
     ensures ready { IsReadyWriter D.Disk writer.new disk.new }
     ensures room { length room.new ≡ length room.old }
-    ensures kept { (b : Base) (all : History) (s : Writer) → StandsAs D.Disk b 0 s writer.old disk.old → IsTakingBack b T.tree all s → IsOpenChange open_change.old.items s.log
-        → AreLosers losers.old s.log → ChangeKept D.Disk b T.tree all s disk.old writer.new losers.new disk.new result }
+    ensures kept { (b : Base) (all : History) (s : Writer) → StandsAs D.Disk b 0 s writer.old disk.old → IsTakingBack b all s → IsOpenChange open_change.old.items s.log
+        → AreLosers losers.old s.log → ChangeKept D.Disk b all s disk.old writer.new losers.new disk.new result }
     ensures works { OnOk result (writer.new.failed ≡ false) }
     ensures causes { IfErr result (λ e. (e ≡ LogFull) ⊎ (e ≡ Memory) ⊎ (e ≡ NotAStore) ⊎ (e ≡ Device)) }
     ensures device { result ≡ Err Device ↔ (D.failed disk.new ≡ true) }
 {
     while let Some(newest) = open_change.pop() {
-        undo_page_at::<D, T>(disk, writer, losers, newest.lsn, room)?;
+        undo_page_at(disk, writer, losers, newest.lsn, room)?;
     }
     Ok(())
 }

@@ -7,7 +7,6 @@ use crate::{Restarted, open_or_create};
 use im_disk::{Disk, Fill, Length, ModelDisk, Stop};
 use im_page::Page;
 use im_record::Record;
-use im_types::laws::one_leaf::OneLeaf;
 use im_types::{Fault, TxnId};
 use std::alloc::Global;
 use std::test::Fail;
@@ -19,7 +18,7 @@ fn open<D: Disk>(alloc: Global, disk: &mut D) -> Result<Restarted, Fault>
     ensures ready { IfOk result (λ r. IsReadyWriter D.Disk r.writer disk.new) }
     ensures least { IfOk result (λ r. 1 ≤ r.next) }
 {
-    open_or_create::<D, OneLeaf>(alloc, disk, 8)
+    open_or_create(alloc, disk, 8)
 }
 
 // Leaves an insert of a transaction that has no end, durable.

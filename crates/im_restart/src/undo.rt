@@ -1,7 +1,7 @@
 //! What was unfinished is undone: the losers all together, the record with the greatest LSN first.
 
 ghost use Rattle.std.specs.Prelude.{◌≡◌, [], ◌≢◌, ◌≤◌, ◌<◌, ◌⊎◌, ◌↔◌, ℕ, Bool, true, false, length, Option, None, Some, Ok, Err, IfErr, IfOk, IfSome, OnOk};
-ghost use Rattle.im_types.specs.declared.fault.Fault.TheVariants.{Device, Failed, LogFull, Memory, NotAStore};
+ghost use Rattle.im_types.specs.declared.fault.Fault.TheVariants.{Capacity, Device, Failed, LogFull, Memory, NotAStore};
 ghost use Rattle.im_types.specs.Histories.{Base, History, IsRecordOf, Rises};
 ghost use Rattle.im_types.specs.Transactions.{is_key};
 ghost use Rattle.im_types.specs.Writer.{Writer};
@@ -11,89 +11,66 @@ ghost use Rattle.im_log.specs.Whats.{what_of};
 ghost use Rattle.im_log.specs.Spelled.{logged_at};
 ghost use Rattle.im_analysis.specs.Losers.{AreLosers};
 ghost use Rattle.im_flush.specs.PageWriter.{IsReadyWriter, StandsAs};
-ghost use Rattle.im_restart.specs.LoserChains.{AreChains, GoesOnAt, IsToUndo, LeadsNowhere, MayLeadOn, PutKept, above, and_also, chain_of, nobody};
-ghost use Rattle.im_restart.specs.Undoing.{CompensateKept, EndKept, IsUndoing, MayUndo, EnterKept, StepKept, UndoKept};
+ghost use Rattle.im_restart.specs.LoserChains.{AreChains, GoesOnAt, IsToUndo, LeadsNowhere, MayLeadOn, PutKept, above, and_also, nobody};
+ghost use Rattle.im_restart.specs.Undoing.{CompensateKept, EndKept, IsUndoing, EnterKept, StepKept, UndoKept};
 
 use crate::chains::Chain;
 use im_analysis::Loser;
 use im_disk::Disk;
 use im_flush::PageWriter;
 use im_record::{Record, decode};
-use im_types::laws::logs::PageTree;
 use im_types::{Fault, Lsn, TxnId};
+use im_undo::undo_one;
 use std::alloc::Global;
 use std::collections::BTreeMap;
 
-// Logs the compensation of an insert or a delete behind its transaction's last record, and takes the key out of its page or puts
-// it back. It answers the compensation's LSN.
-fn compensate<D: Disk, T: PageTree>(
+// What a refusal is answered as: for want of memory within the undo of a key record the restart is refused as for any other.
+fn answered(fault: Fault) -> Fault
+    ensures memory { fault ≡ Failed → result ≡ Memory }
+    ensures others { fault ≢ Failed → result ≡ fault }
+{
+    match fault {
+        Fault::Failed => Fault::Memory,
+        _ => fault,
+    }
+}
+
+// Takes back a key record of a loser, wherever splits have moved its key. It answers the LSN of the loser's last record behind that.
+fn compensate<D: Disk>(
+    alloc: Global,
     disk: &mut D,
     writer: &mut PageWriter,
-    last: Lsn,
+    chain: Chain,
     record: &Record,
 ) -> Result<Lsn, Fault>
     requires entry { IsEntry (view record.now) }
     requires ready { IsReadyWriter D.Disk writer.old disk.old }
     requires working { writer.old.failed ≡ false }
     requires key { is_key (what_of (view record.now)) ≡ true }
+    requires owner { transaction_of (view record.now) ≡ chain.transaction }
     ensures ready { IsReadyWriter D.Disk writer.new disk.new }
-    ensures kept { (b : Base) (all : History) (s : Writer) → StandsAs D.Disk b 0 s writer.old disk.old → MayUndo b T.tree all → IsUndoing b T.tree all s
-        → IsToUndo s.log (chain_of (transaction_of (view record.now)) last) (view record.now)
-        → CompensateKept D.Disk b T.tree all s (transaction_of (view record.now)) (prev_of (view record.now)) disk.old writer.new disk.new result }
+    ensures kept { (b : Base) (all : History) (s : Writer) → StandsAs D.Disk b 0 s writer.old disk.old → IsUndoing b all s → IsToUndo s.log chain (view record.now)
+        → CompensateKept D.Disk b all s chain.transaction (prev_of (view record.now)) disk.old writer.new disk.new result }
     ensures works { OnOk result (writer.new.failed ≡ false) }
-    ensures causes { IfErr result (λ e. (e ≡ LogFull) ⊎ (e ≡ Memory) ⊎ (e ≡ NotAStore) ⊎ (e ≡ Device)) }
+    ensures causes { IfErr result (λ e. (e ≡ LogFull) ⊎ (e ≡ Memory) ⊎ (e ≡ NotAStore) ⊎ (e ≡ Device) ⊎ (e ≡ Capacity)) }
     ensures device { result ≡ Err Device ↔ (D.failed disk.new ≡ true) }
 {
-    match record {
-        Record::InsertKey {
-            transaction,
-            prev,
-            page,
-            key,
-            rid,
-        } => {
-            let undo = Record::UndoInsert {
-                transaction: *transaction,
-                prev: last,
-                undo_next: *prev,
-                page: *page,
-                key,
-                rid: *rid,
-            };
-            writer.log_change(disk, &undo)
-        }
-        Record::DeleteKey {
-            transaction,
-            prev,
-            page,
-            key,
-            rid,
-        } => {
-            let undo = Record::UndoDelete {
-                transaction: *transaction,
-                prev: last,
-                undo_next: *prev,
-                page: *page,
-                key,
-                rid: *rid,
-            };
-            writer.log_change(disk, &undo)
-        }
-        _ => Err(Fault::NotAStore),
+    if chain.transaction == 0 {
+        return Err(Fault::NotAStore);
+    }
+    match undo_one(alloc, writer, disk, record, chain.last, chain.undo_next) {
+        Ok(lsn) => Ok(lsn),
+        Err(fault) => Err(answered(fault)),
     }
 }
 
 // Logs the End of a transaction of which nothing is left to undo.
-fn end<D: Disk, T: PageTree>(
-    disk: &mut D,
-    writer: &mut PageWriter,
-    chain: Chain,
-) -> Result<(), Fault>
+fn end<D: Disk>(disk: &mut D, writer: &mut PageWriter, chain: Chain) -> Result<(), Fault>
     requires ready { IsReadyWriter D.Disk writer.old disk.old }
     requires working { writer.old.failed ≡ false }
     ensures ready { IsReadyWriter D.Disk writer.new disk.new }
-    ensures kept { (b : Base) (all : History) (s : Writer) → StandsAs D.Disk b 0 s writer.old disk.old → IsUndoing b T.tree all s → GoesOnAt chain 0 s.log
-        → EndKept D.Disk b T.tree all s chain.transaction disk.old writer.new disk.new result }
+    ensures kept { (b : Base) (all : History) (s : Writer) → StandsAs D.Disk b 0 s writer.old disk.old → IsUndoing b all s → GoesOnAt chain 0 s.log
+        → EndKept D.Disk b all s chain.transaction disk.old writer.new disk.new result }
     ensures works { OnOk result (writer.new.failed ≡ false) }
     ensures causes { IfErr result (λ e. (e ≡ LogFull) ⊎ (e ≡ NotAStore) ⊎ (e ≡ Device)) }
     ensures device { result ≡ Err Device ↔ (D.failed disk.new ≡ true) }
@@ -126,7 +103,7 @@ fn put_chain(chains: &mut BTreeMap<Lsn, Chain>, lsn: Lsn, chain: Chain) -> Resul
 }
 
 // Undo of a transaction goes on at an LSN; where nothing is left, it ends.
-fn go_on<D: Disk, T: PageTree>(
+fn go_on<D: Disk>(
     disk: &mut D,
     writer: &mut PageWriter,
     chains: &mut BTreeMap<Lsn, Chain>,
@@ -136,16 +113,16 @@ fn go_on<D: Disk, T: PageTree>(
     requires ready { IsReadyWriter D.Disk writer.old disk.old }
     requires working { writer.old.failed ≡ false }
     ensures ready { IsReadyWriter D.Disk writer.new disk.new }
-    ensures kept { (b : Base) (all : History) (s : Writer) (out : ℕ → Bool) → StandsAs D.Disk b 0 s writer.old disk.old → IsUndoing b T.tree all s
+    ensures kept { (b : Base) (all : History) (s : Writer) (out : ℕ → Bool) → StandsAs D.Disk b 0 s writer.old disk.old → IsUndoing b all s
         → AreChains (and_also chain.transaction out) chains.old s.log → out chain.transaction ≡ false → GoesOnAt chain lsn s.log
-        → StepKept D.Disk b T.tree all s chain.transaction out disk.old writer.new chains.new disk.new result }
+        → StepKept D.Disk b all s chain.transaction out disk.old writer.new chains.new disk.new result }
     ensures above { OnOk result ((n : ℕ) → lsn < n → above chains.old.entries ≤ n → above chains.new.entries ≤ n) }
     ensures works { OnOk result (writer.new.failed ≡ false) }
     ensures causes { IfErr result (λ e. (e ≡ LogFull) ⊎ (e ≡ Memory) ⊎ (e ≡ NotAStore) ⊎ (e ≡ Device)) }
     ensures device { result ≡ Err Device ↔ (D.failed disk.new ≡ true) }
 {
     if lsn == 0 {
-        end::<D, T>(disk, writer, chain)
+        end(disk, writer, chain)
     } else {
         put_chain(chains, lsn, chain)
     }
@@ -198,7 +175,8 @@ fn is_key(record: &Record) -> bool
 }
 
 // Takes back a key record, and goes on behind it.
-fn undo_key<D: Disk, T: PageTree>(
+fn undo_key<D: Disk>(
+    alloc: Global,
     disk: &mut D,
     writer: &mut PageWriter,
     chains: &mut BTreeMap<Lsn, Chain>,
@@ -213,26 +191,28 @@ fn undo_key<D: Disk, T: PageTree>(
     requires owner { transaction_of (view record.now) ≡ chain.transaction }
     requires next { next ≡ prev_of (view record.now) }
     ensures ready { IsReadyWriter D.Disk writer.new disk.new }
-    ensures kept { (b : Base) (all : History) (s : Writer) (out : ℕ → Bool) → StandsAs D.Disk b 0 s writer.old disk.old → MayUndo b T.tree all → IsUndoing b T.tree all s
+    ensures kept { (b : Base) (all : History) (s : Writer) (out : ℕ → Bool) → StandsAs D.Disk b 0 s writer.old disk.old → IsUndoing b all s
         → AreChains (and_also chain.transaction out) chains.old s.log → out chain.transaction ≡ false → IsToUndo s.log chain (view record.now)
-        → StepKept D.Disk b T.tree all s chain.transaction out disk.old writer.new chains.new disk.new result }
+        → StepKept D.Disk b all s chain.transaction out disk.old writer.new chains.new disk.new result }
     ensures above { OnOk result ((n : ℕ) → next < n → above chains.old.entries ≤ n → above chains.new.entries ≤ n) }
     ensures works { OnOk result (writer.new.failed ≡ false) }
-    ensures causes { IfErr result (λ e. (e ≡ LogFull) ⊎ (e ≡ Memory) ⊎ (e ≡ NotAStore) ⊎ (e ≡ Device)) }
+    ensures causes { IfErr result (λ e. (e ≡ LogFull) ⊎ (e ≡ Memory) ⊎ (e ≡ NotAStore) ⊎ (e ≡ Device) ⊎ (e ≡ Capacity)) }
     ensures device { result ≡ Err Device ↔ (D.failed disk.new ≡ true) }
 {
-    let last = compensate::<D, T>(disk, writer, chain.last, record)?;
+    let last = compensate(alloc, disk, writer, chain, record)?;
     let behind = Chain {
         transaction: chain.transaction,
         last,
+        undo_next: next,
     };
-    go_on::<D, T>(disk, writer, chains, behind, next)
+    go_on(disk, writer, chains, behind, next)
 }
 
 // Takes back the record of a transaction at an LSN, or passes over it where it is a compensation or the end of a structure change.
 //
 // Refused `NotAStore` for a record of another kind, or of another transaction, and where it leads to no earlier one.
-fn undo_record<D: Disk, T: PageTree>(
+fn undo_record<D: Disk>(
+    alloc: Global,
     disk: &mut D,
     writer: &mut PageWriter,
     chains: &mut BTreeMap<Lsn, Chain>,
@@ -244,13 +224,13 @@ fn undo_record<D: Disk, T: PageTree>(
     requires ready { IsReadyWriter D.Disk writer.old disk.old }
     requires working { writer.old.failed ≡ false }
     ensures ready { IsReadyWriter D.Disk writer.new disk.new }
-    ensures kept { (b : Base) (all : History) (s : Writer) (out : ℕ → Bool) → StandsAs D.Disk b 0 s writer.old disk.old → MayUndo b T.tree all → IsUndoing b T.tree all s
+    ensures kept { (b : Base) (all : History) (s : Writer) (out : ℕ → Bool) → StandsAs D.Disk b 0 s writer.old disk.old → IsUndoing b all s
         → AreChains (and_also chain.transaction out) chains.old s.log → out chain.transaction ≡ false → GoesOnAt chain lsn s.log
         → IsRecordOf (logged_at lsn (view record.now)) s.log → transaction_of (view record.now) ≡ chain.transaction
-        → StepKept D.Disk b T.tree all s chain.transaction out disk.old writer.new chains.new disk.new result }
+        → StepKept D.Disk b all s chain.transaction out disk.old writer.new chains.new disk.new result }
     ensures above { OnOk result (above chains.old.entries ≤ lsn → above chains.new.entries ≤ lsn) }
     ensures works { OnOk result (writer.new.failed ≡ false) }
-    ensures causes { IfErr result (λ e. (e ≡ LogFull) ⊎ (e ≡ Memory) ⊎ (e ≡ NotAStore) ⊎ (e ≡ Device)) }
+    ensures causes { IfErr result (λ e. (e ≡ LogFull) ⊎ (e ≡ Memory) ⊎ (e ≡ NotAStore) ⊎ (e ≡ Device) ⊎ (e ≡ Capacity)) }
     ensures device { result ≡ Err Device ↔ (D.failed disk.new ≡ true) }
 {
     if record.transaction() != chain.transaction {
@@ -258,14 +238,15 @@ fn undo_record<D: Disk, T: PageTree>(
     }
     let next = next_after(record, lsn)?;
     if is_key(record) {
-        undo_key::<D, T>(disk, writer, chains, chain, next, record)
+        undo_key(alloc, disk, writer, chains, chain, next, record)
     } else {
-        go_on::<D, T>(disk, writer, chains, chain, next)
+        go_on(disk, writer, chains, chain, next)
     }
 }
 
 // The same, with the record read into the room.
-fn undo_at<D: Disk, T: PageTree>(
+fn undo_at<D: Disk>(
+    alloc: Global,
     disk: &mut D,
     writer: &mut PageWriter,
     chains: &mut BTreeMap<Lsn, Chain>,
@@ -278,21 +259,22 @@ fn undo_at<D: Disk, T: PageTree>(
     requires working { writer.old.failed ≡ false }
     ensures ready { IsReadyWriter D.Disk writer.new disk.new }
     ensures room { length room.new ≡ length room.old }
-    ensures kept { (b : Base) (all : History) (s : Writer) (out : ℕ → Bool) → StandsAs D.Disk b 0 s writer.old disk.old → MayUndo b T.tree all → IsUndoing b T.tree all s
+    ensures kept { (b : Base) (all : History) (s : Writer) (out : ℕ → Bool) → StandsAs D.Disk b 0 s writer.old disk.old → IsUndoing b all s
         → AreChains (and_also chain.transaction out) chains.old s.log → out chain.transaction ≡ false → lsn ≢ 0 → GoesOnAt chain lsn s.log
-        → StepKept D.Disk b T.tree all s chain.transaction out disk.old writer.new chains.new disk.new result }
+        → StepKept D.Disk b all s chain.transaction out disk.old writer.new chains.new disk.new result }
     ensures above { OnOk result (above chains.old.entries ≤ lsn → above chains.new.entries ≤ lsn) }
     ensures works { OnOk result (writer.new.failed ≡ false) }
-    ensures causes { IfErr result (λ e. (e ≡ LogFull) ⊎ (e ≡ Memory) ⊎ (e ≡ NotAStore) ⊎ (e ≡ Device)) }
+    ensures causes { IfErr result (λ e. (e ≡ LogFull) ⊎ (e ≡ Memory) ⊎ (e ≡ NotAStore) ⊎ (e ≡ Device) ⊎ (e ≡ Capacity)) }
     ensures device { result ≡ Err Device ↔ (D.failed disk.new ≡ true) }
 {
     let size = writer.read_at(disk, lsn, room)?;
     let record = decode(&room[..size])?;
-    undo_record::<D, T>(disk, writer, chains, chain, lsn, &record)
+    undo_record(alloc, disk, writer, chains, chain, lsn, &record)
 }
 
 // Undoes and ends the transactions of these chains, the record with the greatest LSN first.
-fn undo_all<D: Disk, T: PageTree>(
+fn undo_all<D: Disk>(
+    alloc: Global,
     disk: &mut D,
     writer: &mut PageWriter,
     chains: &mut BTreeMap<Lsn, Chain>,
@@ -302,20 +284,20 @@ fn undo_all<D: Disk, T: PageTree>(
     requires ready { IsReadyWriter D.Disk writer.old disk.old }
     requires working { writer.old.failed ≡ false }
     ensures ready { IsReadyWriter D.Disk writer.new disk.new }
-    ensures kept { (b : Base) (all : History) (s : Writer) → StandsAs D.Disk b 0 s writer.old disk.old → MayUndo b T.tree all → IsUndoing b T.tree all s
-        → AreChains nobody chains.old s.log → UndoKept D.Disk b T.tree all s disk.old writer.new disk.new result }
+    ensures kept { (b : Base) (all : History) (s : Writer) → StandsAs D.Disk b 0 s writer.old disk.old → IsUndoing b all s
+        → AreChains nobody chains.old s.log → UndoKept D.Disk b all s disk.old writer.new disk.new result }
     ensures works { OnOk result (writer.new.failed ≡ false) }
-    ensures causes { IfErr result (λ e. (e ≡ LogFull) ⊎ (e ≡ Memory) ⊎ (e ≡ NotAStore) ⊎ (e ≡ Device)) }
+    ensures causes { IfErr result (λ e. (e ≡ LogFull) ⊎ (e ≡ Memory) ⊎ (e ≡ NotAStore) ⊎ (e ≡ Device) ⊎ (e ≡ Capacity)) }
     ensures device { result ≡ Err Device ↔ (D.failed disk.new ≡ true) }
 {
     while let Some((lsn, chain)) = chains.pop_last() {
-        undo_at::<D, T>(disk, writer, chains, chain, lsn, room)?;
+        undo_at(alloc, disk, writer, chains, chain, lsn, room)?;
     }
     Ok(())
 }
 
 // Puts each loser at the LSN where its undo goes on; those of which nothing is left end.
-fn enter_all<D: Disk, T: PageTree>(
+fn enter_all<D: Disk>(
     disk: &mut D,
     writer: &mut PageWriter,
     losers: &mut BTreeMap<TxnId, Loser>,
@@ -325,8 +307,8 @@ fn enter_all<D: Disk, T: PageTree>(
     requires working { writer.old.failed ≡ false }
     requires none { chains.old.entries ≡ [] }
     ensures ready { IsReadyWriter D.Disk writer.new disk.new }
-    ensures kept { (b : Base) (all : History) (s : Writer) → StandsAs D.Disk b 0 s writer.old disk.old → IsUndoing b T.tree all s → AreLosers losers.old s.log
-        → EnterKept D.Disk b T.tree all s disk.old writer.new chains.new disk.new result }
+    ensures kept { (b : Base) (all : History) (s : Writer) → StandsAs D.Disk b 0 s writer.old disk.old → IsUndoing b all s → AreLosers losers.old s.log
+        → EnterKept D.Disk b all s disk.old writer.new chains.new disk.new result }
     ensures works { OnOk result (writer.new.failed ≡ false) }
     ensures causes { IfErr result (λ e. (e ≡ LogFull) ⊎ (e ≡ Memory) ⊎ (e ≡ NotAStore) ⊎ (e ≡ Device)) }
     ensures device { result ≡ Err Device ↔ (D.failed disk.new ≡ true) }
@@ -335,17 +317,18 @@ fn enter_all<D: Disk, T: PageTree>(
         let chain = Chain {
             transaction,
             last: row.last,
+            undo_next: row.undo_next,
         };
-        go_on::<D, T>(disk, writer, chains, chain, row.undo_next)?;
+        go_on(disk, writer, chains, chain, row.undo_next)?;
     }
     Ok(())
 }
 
 /// Undoes and ends the losers, all together, the record with the greatest LSN first. Records are read again into the room.
 ///
-/// Refused `NotAStore` where a chain of records leads to no earlier record of its transaction that can be undone, or a page does not
-/// take a compensation; `Memory`, `LogFull`, `Device`.
-pub(crate) fn undo<D: Disk, T: PageTree>(
+/// Refused `NotAStore` where a chain of records leads to no earlier record of its transaction that can be undone, or the tree does not
+/// take a compensation; `Capacity` where page numbers or levels are used up by splits on the way; `Memory`, `LogFull`, `Device`.
+pub(crate) fn undo<D: Disk>(
     alloc: Global,
     disk: &mut D,
     writer: &mut PageWriter,
@@ -356,13 +339,13 @@ pub(crate) fn undo<D: Disk, T: PageTree>(
     requires ready { IsReadyWriter D.Disk writer.old disk.old }
     requires working { writer.old.failed ≡ false }
     ensures ready { IsReadyWriter D.Disk writer.new disk.new }
-    ensures kept { (b : Base) (all : History) (s : Writer) → StandsAs D.Disk b 0 s writer.old disk.old → MayUndo b T.tree all → IsUndoing b T.tree all s
-        → AreLosers losers.old s.log → UndoKept D.Disk b T.tree all s disk.old writer.new disk.new result }
+    ensures kept { (b : Base) (all : History) (s : Writer) → StandsAs D.Disk b 0 s writer.old disk.old → IsUndoing b all s
+        → AreLosers losers.old s.log → UndoKept D.Disk b all s disk.old writer.new disk.new result }
     ensures works { OnOk result (writer.new.failed ≡ false) }
-    ensures causes { IfErr result (λ e. (e ≡ LogFull) ⊎ (e ≡ Memory) ⊎ (e ≡ NotAStore) ⊎ (e ≡ Device)) }
+    ensures causes { IfErr result (λ e. (e ≡ LogFull) ⊎ (e ≡ Memory) ⊎ (e ≡ NotAStore) ⊎ (e ≡ Device) ⊎ (e ≡ Capacity)) }
     ensures device { result ≡ Err Device ↔ (D.failed disk.new ≡ true) }
 {
     let mut chains = BTreeMap::new(alloc);
-    enter_all::<D, T>(disk, writer, losers, &mut chains)?;
-    undo_all::<D, T>(disk, writer, &mut chains, room)
+    enter_all(disk, writer, losers, &mut chains)?;
+    undo_all(alloc, disk, writer, &mut chains, room)
 }

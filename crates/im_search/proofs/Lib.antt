@@ -4,3 +4,4 @@ pub mod Ways
 pub mod Places
 pub mod Chain
 pub mod Walks
+pub mod NextNames

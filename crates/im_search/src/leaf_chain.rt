@@ -34,7 +34,7 @@ fn place_past(page: &Page, key: &[u8], inclusive: bool) -> usize
 }
 
 // The place of that entry, where the page has it.
-fn first_past(page: &Page, key: &[u8], inclusive: bool) -> Option<usize>
+pub(crate) fn first_past(page: &Page, key: &[u8], inclusive: bool) -> Option<usize>
     ensures some { IfSome result (λ i. (i < length page.now.body.entries) × (first_in (start_at inclusive key.now) page.now.body.entries ≡ Some (entry_at page.now.body.entries i))) }
     ensures none { result ≡ None → first_in (start_at inclusive key.now) page.now.body.entries ≡ None }
 {
@@ -68,7 +68,7 @@ pub(crate) fn page_count<D: Disk>(writer: &mut PageWriter, disk: &mut D) -> Resu
 
 // The first entry past a key along the leaf chain, from a leaf behind that of the key on. There are fewer leaves than pages, so
 // that a chain which goes on longer leads round in a ring.
-fn first_along<D: Disk>(
+pub(crate) fn first_along<D: Disk>(
     writer: &mut PageWriter,
     disk: &mut D,
     from: PageNo,

@@ -29,6 +29,7 @@ mod leaf_chain;
 mod levels;
 mod listing;
 mod lookup;
+mod next_key;
 #[cfg(test)]
 mod tests;
 
@@ -38,3 +39,4 @@ pub use leaf_chain::next_entry;
 pub use levels::{has_level, tree_page};
 pub use listing::entries;
 pub use lookup::locate;
+pub use next_key::{NextKey, leaf_and_next};

@@ -1,31 +1,29 @@
 -- A log through a structure change.
-use Rattle.std.proofs.Common.{◌≡◌, ◌≢◌, ℕ, ◌<◌, List, [], ◌∷◌, ◌++◌, Option, true, false, refl, sym, ap, subst, ◌∙◌, inl, inr, arith}
+use Rattle.std.proofs.Common.{◌≡◌, ◌≢◌, ℕ, ◌<◌, [], ◌∷◌, ◌++◌, true, false, refl, sym, ap, subst, ◌∙◌, inl, inr, arith}
 use Rattle.std.specs.Prelude.{◌==◌, ◌||◌, Bool}
 use Rattle.std.proofs.lemmas.Bool.{cases_eq, eq-eqb, ne_eqb, cond-true, cond-false}
 use Rattle.im_types.specs.Changes.{Effect, seen_effect}
 use Rattle.im_types.specs.Records.{What, InsertKey, DeleteKey, UndoInsert, UndoDelete, Smo, UndoSmo, DummyClr, Commit, End, Image, Checkpoint, Unreadable, Logged}
-use Rattle.im_types.specs.Histories.{History}
+use Rattle.im_types.specs.Histories.{Base, History}
 use Rattle.im_types.specs.Transactions.{to_undo, stack_after, is_key, is_end, is_compensation, is_finished, is_rolling_back}
 use Rattle.im_types.specs.Lawful.{IsLawful}
 use Rattle.im_tree.specs.Good.{AllOf}
 use Rattle.im_tree.specs.Theory.{page_tree}
-use Rattle.im_change.specs.Changes.{IsOfChange, GrowsByChange, with_mark, marks}
+use Rattle.im_change.specs.Changes.{IsOfChange, GrowsByChange}
 use Rattle.im_change.proofs.Closing.{change_committed}
 use Rattle.im_change.proofs.Nets.{change_nets}
-use Rattle.im_one_page.specs.OnePage.{first_base, AreBelow}
-use Rattle.im_one_page.specs.OneAtATime.{IsSerial}
-use Rattle.im_serial.specs.Serial.{IsSerialLog, IsSerialKind, AreSerialKinds, NeverSplit, is_of_change}
+use Rattle.im_serial.specs.Store.{AreBelow}
+use Rattle.im_serial.specs.OneAtATime.{IsSerial}
+use Rattle.im_serial.specs.Serial.{IsSerialLog}
 use Rattle.im_serial.specs.SerialLaws.{KeepsThroughChange}
 
 -- what one record of a structure change says
 record ChangeSays (t : ℕ) (r : Logged) (w : What) : Type 0 where
-  kind : IsSerialKind r w
   no_key : is_key w ≡ false
   forward : is_compensation w ≡ false
   unended : is_end w ≡ false
   other : r.txn ≢ t → (rest : History) → stack_after r w rest ≡ rest
   low : (n : ℕ) → t < n → r.txn < n
-  mark : (ms : List (Option ℕ)) → is_of_change w ≡ false → with_mark r w ms ≡ ms
 
 owner_low : (r : Logged) (t n : ℕ) → r.txn ≡ t → t < n → r.txn < n
 owner_low r t n is lt = omega (arith, is, lt)
@@ -35,31 +33,25 @@ none_low r t n is lt = omega (arith, is, lt)
 
 change_says : (t : ℕ) (r : Logged) (w : What) → IsOfChange t r w → ChangeSays t r w
 change_says t r (Smo was now) is = record {
-  kind = tt;
   no_key = refl;
   forward = refl;
   unended = refl;
   other = λ differ rest. absurd (differ is);
   low = λ n lt. owner_low r t n is lt;
-  mark = λ ms e. absurd (cc e);
 }
 change_says t r DummyClr is = record {
-  kind = tt;
   no_key = refl;
   forward = refl;
   unended = refl;
   other = λ differ rest. absurd (differ is);
   low = λ n lt. owner_low r t n is lt;
-  mark = λ ms e. absurd (cc e);
 }
 change_says t r (Image c) is = record {
-  kind = tt;
   no_key = refl;
   forward = refl;
   unended = refl;
   other = λ differ rest. refl;
   low = λ n lt. none_low r t n is lt;
-  mark = λ ms e. refl;
 }
 change_says t r (InsertKey k i) is = absurd is
 change_says t r (DeleteKey k i) is = absurd is
@@ -73,29 +65,24 @@ change_says t r Unreadable is = absurd is
 
 -- what all of them keep
 record ChangesKeep (t : ℕ) (older : History) (more : History) : Type 0 where
-  kinds : AreSerialKinds older → AreSerialKinds (more ++ older)
   serial : IsSerial older → IsSerial (more ++ older)
   stacks : (u : ℕ) → u ≢ t → to_undo u (more ++ older) ≡ to_undo u older
   finished : (u : ℕ) → is_finished u (more ++ older) ≡ is_finished u older
   rolling_back : (u : ℕ) → is_rolling_back u (more ++ older) ≡ is_rolling_back u older
   below : (n : ℕ) → t < n → AreBelow n older → AreBelow n (more ++ older)
-  split : (m : Option ℕ) (rest : List (Option ℕ)) → marks more ≡ m ∷ rest → NeverSplit (more ++ older) → ⊥
 
 changes_keep : (t : ℕ) (older more : History) → AllOf (λ (r : Logged). IsOfChange t r r.what) more → ChangesKeep t older more
 changes_keep t older [] all = record {
-  kinds = λ h. h;
   serial = λ h. h;
   stacks = λ u differ. refl;
   finished = λ u. refl;
   rolling_back = λ u. refl;
   below = λ n lt h. h;
-  split = λ m rest is never. cc is;
 }
 changes_keep t older (r ∷ more) all =
     let says = change_says t r r.what all.0 in
     let before = changes_keep t older more all.1 in
     record {
-      kinds = λ h. (says.kind, before.kinds h);
       serial = λ h. (λ key. absurd (let clash : false ≡ true = sym says.no_key ∙ key in cc clash), before.serial h);
       stacks = λ u differ. elim (cases_eq r.txn u) [
         | inl mine ↦
@@ -116,16 +103,14 @@ changes_keep t older (r ∷ more) all =
         | inr other ↦ cond-false (r.txn == u) (is_compensation r.what || is_rolling_back u (more ++ older)) (is_rolling_back u (more ++ older)) (ne_eqb r.txn u other) ∙ before.rolling_back u
       ];
       below = λ n lt h. (says.low n lt, before.below n lt h);
-      split = λ m rest is never. before.split m rest (sym (says.mark (marks more) never.0) ∙ is) never.1;
     }
 
-pub keeps_through : (t : ℕ) (older newer : History) (grows : GrowsByChange t older newer) → IsSerialLog older → IsLawful first_base page_tree newer → KeepsThroughChange t older newer grows
-keeps_through t older newer grows l law =
+pub keeps_through : (b : Base) (t : ℕ) (older newer : History) (grows : GrowsByChange t older newer) → IsSerialLog b older → IsLawful b page_tree newer → KeepsThroughChange b t older newer grows
+keeps_through b t older newer grows l law =
     let keeps = changes_keep t older grows.more grows.all in
     record {
       log = record {
         lawful = law;
-        kinds = subst (λ (x : History). AreSerialKinds x) (sym grows.is) (keeps.kinds l.kinds);
         serial = subst (λ (x : History). IsSerial x) (sym grows.is) (keeps.serial l.serial);
       };
       committed = change_committed t older newer grows;
@@ -141,5 +126,4 @@ keeps_through t older newer grows l law =
         undo = undo;
       };
       below = λ n lt h. subst (λ (x : History). AreBelow n x) (sym grows.is) (keeps.below n lt h);
-      split = λ m rest is never. keeps.split m rest is (subst (λ (x : History). NeverSplit x) grows.is never);
     }

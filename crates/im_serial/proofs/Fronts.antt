@@ -1,21 +1,37 @@
--- A log of no record, the fronts of a log, and what a stop leaves of one.
-use Rattle.std.proofs.Common.{◌≡◌, ℕ, [], ◌∷◌, refl, sym, arith, nat_lt, if◌then◌else◌}
+-- A log of no record, and the fronts of a log.
+use Rattle.std.proofs.Common.{◌≡◌, ℕ, ◌≤◌, length, length-append, List, [], ◌∷◌, ◌++◌, Some, refl, sym, ap, ◌∙◌, inl, inr, arith, nat_lt, if◌then◌else◌}
+use Rattle.std.specs.FinMap.{entries, len-empty, len-entries}
+use Rattle.std.proofs.lemmas.Bool.{cases_eq, ne_eqb}
 use Rattle.std.proofs.lemmas.Bool.Decides.{nat_tests}
-use Rattle.im_types.specs.Histories.{History, IsFront}
+use Rattle.std.proofs.lemmas.List.{append-nil}
+use Rattle.im_types.specs.Keys.{key_order}
+use Rattle.im_types.specs.Pages.{Entry}
+use Rattle.im_types.specs.declared.file_id.FileId.TheVariants.{Pages}
+use Rattle.im_types.specs.Histories.{Base, History, IsFront}
 use Rattle.im_types.specs.LogLaws.{bodies}
-use Rattle.im_types.specs.Transactions.{committed}
-use Rattle.im_types.specs.Writer.{IsLeft}
 use Rattle.im_types.proofs.Fronts.{fronts_lawful}
 use Rattle.im_types.proofs.Histories.{at_front}
+use Rattle.im_types.proofs.RedoPoints.{covers_base}
+use Rattle.im_disk.specs.Disk.{Files}
+use Rattle.im_page.specs.Header.{initial}
+use Rattle.im_page.specs.PageFile.{file_page}
+use Rattle.im_page.proofs.PageFileLemmas.{page_past}
+use Rattle.im_restart.specs.Restart.{IsFresh, HasStore}
 use Rattle.im_tree.specs.Good.{times, IsGoodTree}
 use Rattle.im_tree.specs.Theory.{page_tree}
-use Rattle.im_one_page.specs.OnePage.{first_base}
-use Rattle.im_one_page.specs.OneAtATime.{IsSerial}
-use Rattle.im_one_page.proofs.Fronts.{empty_log as one_empty, none_in_empty, committed_stays}
-use Rattle.im_serial.specs.Serial.{IsSerialLog, AreSerialKinds, NeverSplit}
-use Rattle.im_serial.specs.SerialLaws.{KeepsCommitted}
+use Rattle.im_serial.specs.Store.{first_base, first_pages}
+use Rattle.im_serial.specs.OneAtATime.{IsSerial}
+use Rattle.im_serial.specs.Serial.{IsSerialLog}
 
 -- ---- a log of no record
+
+no_entries : (es : List Entry) → length es ≡ 0 → es ≡ []
+no_entries [] h = refl
+no_entries (e ∷ es) h = absurd (omega (arith, h))
+
+-- a map without a key lists none
+pub none_in_empty : entries (first_base.map) ≡ []
+none_in_empty = no_entries (entries (first_base.map)) (sym (len-entries first_base.map) ∙ len-empty key_order ℕ)
 
 two_once : (p : ℕ) → times p (0 ∷ 1 ∷ []) ≡ (if nat_lt p 2 then 1 else 0)
 two_once p = grind (arith, nat_tests)
@@ -31,28 +47,42 @@ first_good = record {
   cover = λ p. two_once p;
 }
 
-pub empty_log : IsSerialLog []
+lsn_low : (p : ℕ) → (first_base.pages p).lsn ≤ 0
+lsn_low p = elim (cases_eq p 0) [
+  | inl zero_is ↦ rw zero_is (omega arith)
+  | inr other ↦ elim (cases_eq p 1) [
+    | inl one_is ↦ rw one_is (omega arith)
+    | inr neither ↦ rw (ne_eqb p 0 other, ne_eqb p 1 neither) (omega arith)
+  ]
+]
+
+pub empty_log : IsSerialLog first_base []
 empty_log = record {
-  lawful = record { lsns = one_empty.lawful.lsns; stands = record { good = first_good; walk = sym none_in_empty } };
-  kinds = tt;
+  lawful = record { lsns = λ p. lsn_low p; stands = record { good = first_good; walk = sym none_in_empty } };
   serial = tt;
+}
+
+-- files without a log and without pages hold it: past the end of the file a page is as a new store finds it
+first_is : (p : ℕ) → initial p ≡ first_pages p
+first_is p = elim (cases_eq p 0) [
+  | inl zero_is ↦ rw zero_is refl
+  | inr other ↦ elim (cases_eq p 1) [
+    | inl one_is ↦ rw one_is refl
+    | inr neither ↦ rw (ne_eqb p 0 other, ne_eqb p 1 neither) refl
+  ]
+]
+
+pub fresh_store : (files : Files) → IsFresh files → HasStore first_base [] files
+fresh_store files fresh = record {
+  log = inl (fresh.0, refl);
+  bare = λ _. fresh.1;
+  covers = covers_base first_base (file_page (files Pages)) (λ p. page_past (files Pages) p (let none = fresh.1 in omega (arith, none)) ∙ ap (λ x. Some x) (first_is p));
 }
 
 -- ---- fronts
 
-pub front_log : (f log : History) → IsFront f log → IsSerialLog log → IsSerialLog f
-front_log f log front l = record {
-  lawful = fronts_lawful first_base page_tree f log front l.lawful;
-  kinds = at_front (λ (x : History). AreSerialKinds x) (λ r older h. h.1) f log front l.kinds;
+pub front_log : (b : Base) (f log : History) → IsFront f log → IsSerialLog b log → IsSerialLog b f
+front_log b f log front l = record {
+  lawful = fronts_lawful b page_tree f log front l.lawful;
   serial = at_front (λ (x : History). IsSerial x) (λ r older h. h.1) f log front l.serial;
-}
-
-pub front_never : (f log : History) → IsFront f log → NeverSplit log → NeverSplit f
-front_never f log front h = at_front (λ (x : History). NeverSplit x) (λ r older h. h.1) f log front h
-
-pub keeps_committed : (durable log left : History) → IsLeft durable log left → IsSerialLog log → committed durable ≡ committed log → KeepsCommitted left log
-keeps_committed durable log left stop l same = record {
-  log = front_log left log stop.upto l;
-  committed = committed_stays durable log left stop same;
-  never = front_never left log stop.upto;
 }

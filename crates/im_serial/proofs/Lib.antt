@@ -1,12 +1,13 @@
+pub mod Numbers
 pub mod Pages
 pub mod Fronts
+pub mod Commits
 pub mod Images
 pub mod Going
 pub mod Effects
 pub mod Changes
 pub mod Roots
-pub mod Unsplit
 pub mod Restarts
-pub mod Beginnings
 pub mod Promises
 pub mod WorkedLog
+pub mod MovedLog

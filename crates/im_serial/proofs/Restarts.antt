@@ -1,23 +1,29 @@
--- Restarts leave such a log, with what was committed.
+-- Restarts can begin from such a log, and leave such a log, with what was committed.
 use Rattle.std.proofs.Common.{◌≡◌, ℕ, ◌<◌, ◌≤◌, [], ◌∷◌, ◌++◌, true, false, refl, sym, subst, ◌∙◌}
 use Rattle.std.specs.Prelude.{not, ◌&&◌, nat_le}
 use Rattle.std.proofs.lemmas.Bool.{and_parts}
 use Rattle.im_types.specs.Records.{What, InsertKey, DeleteKey, UndoInsert, UndoDelete, Smo, UndoSmo, DummyClr, Commit, End, Image, Checkpoint, Unreadable, Logged}
-use Rattle.im_types.specs.Histories.{History}
+use Rattle.im_types.specs.Histories.{Base, History}
 use Rattle.im_types.specs.Structure.{open_after, open_smo}
 use Rattle.im_types.specs.Transactions.{net, is_key, is_finished, committed, committed_after}
 use Rattle.im_types.specs.Lawful.{IsLawful}
 use Rattle.im_types.proofs.LogLaws.{nothing_left, none_open}
+use Rattle.im_disk.specs.Disk.{Files}
 use Rattle.im_analysis.specs.Losers.{has_record, is_loser}
 use Rattle.im_analysis.proofs.Losers.{all_done}
+use Rattle.im_restart.specs.Restart.{HasStore, MayRestart}
 use Rattle.im_restart.specs.Undone.{IsUndo, AreUndo, GrowsByUndo}
 use Rattle.im_tree.specs.Theory.{page_tree}
-use Rattle.im_one_page.specs.OnePage.{first_base, AreBelow}
-use Rattle.im_one_page.specs.OneAtATime.{IsSerial}
-use Rattle.im_one_page.proofs.Numbers.{below_of}
-use Rattle.im_serial.specs.Serial.{IsSerialLog, IsSerialKind, AreSerialKinds, NeverSplit, is_of_change}
+use Rattle.im_serial.specs.Store.{AreBelow}
+use Rattle.im_serial.specs.OneAtATime.{IsSerial}
+use Rattle.im_serial.proofs.Numbers.{below_of}
+use Rattle.im_serial.specs.Serial.{IsSerialLog}
 use Rattle.im_serial.specs.SerialLaws.{IsCarriedOn}
-use Rattle.im_serial.proofs.Pages.{never_open}
+
+-- ---- where one can begin
+
+pub may_restart : (b : Base) (log : History) (files : Files) → b.start ≡ 0 → IsSerialLog b log → HasStore b log files → MayRestart b log files
+may_restart b log files start l has = record { start = start; has = has; lawful = l.lawful }
 
 -- ---- one record of a restart
 
@@ -46,11 +52,9 @@ open_below n (r ∷ older) h = opened_below n r r.what (open_smo older) h.0 (ope
 
 -- what one record of undo leaves
 record LeavesLog (r : Logged) (older : History) (w : What) : Type 0 where
-  kind : IsSerialKind r w
   no_key : is_key w ≡ false
   committed : committed_after w (net r.txn older) (committed older) ≡ committed older
   below : (n : ℕ) → 1 ≤ n → AreBelow n older → r.txn < n
-  never : open_smo older ≡ [] → is_of_change w ≡ false
 
 module _ (r : Logged) (older : History) where
   loser_below : is_loser r.txn older ≡ true → (n : ℕ) → 1 ≤ n → AreBelow n older → r.txn < n
@@ -62,21 +66,19 @@ module _ (r : Logged) (older : History) where
       subst (λ (t : ℕ). t < n) (sym owner) there.0
 
   leaves_log : (w : What) → IsUndo r older w → LeavesLog r older w
-  leaves_log (Image c) u = record { kind = tt; no_key = refl; committed = refl; below = λ n one low. subst (λ (t : ℕ). t < n) (sym u) one; never = λ closed. refl }
-  leaves_log (UndoInsert k i) u = record { kind = tt; no_key = refl; committed = refl; below = loser_below u.loser; never = λ closed. refl }
-  leaves_log (UndoDelete k i) u = record { kind = tt; no_key = refl; committed = refl; below = loser_below u.loser; never = λ closed. refl }
+  leaves_log (Image c) u = record { no_key = refl; committed = refl; below = λ n one low. subst (λ (t : ℕ). t < n) (sym u) one }
+  leaves_log (UndoInsert k i) u = record { no_key = refl; committed = refl; below = loser_below u }
+  leaves_log (UndoDelete k i) u = record { no_key = refl; committed = refl; below = loser_below u }
   leaves_log (UndoSmo new) u = record {
-    kind = tt;
     no_key = refl;
     committed = refl;
     below = owner_below u.undone u.rest u.going u.owner;
-    never = λ closed. absurd (let clash : [] ≡ u.undone ∷ u.rest = sym closed ∙ u.going in cc clash);
   }
-  leaves_log End u = record { kind = u.page; no_key = refl; committed = refl; below = loser_below u.loser; never = λ closed. refl }
+  leaves_log End u = record { no_key = refl; committed = refl; below = loser_below u.loser }
   leaves_log (InsertKey k i) u = absurd u
   leaves_log (DeleteKey k i) u = absurd u
-  leaves_log (Smo o n) u = absurd u
-  leaves_log DummyClr u = absurd u
+  leaves_log (Smo o n) u = record { no_key = refl; committed = refl; below = loser_below u }
+  leaves_log DummyClr u = record { no_key = refl; committed = refl; below = loser_below u }
   leaves_log Commit u = absurd u
   leaves_log (Checkpoint n a d) u = absurd u
   leaves_log Unreadable u = absurd u
@@ -84,34 +86,29 @@ module _ (r : Logged) (older : History) where
 -- ---- all of them
 
 record LeavesLogs (longer older : History) : Type 0 where
-  kinds : AreSerialKinds longer
   serial : IsSerial longer
   committed : committed longer ≡ committed older
   below : (n : ℕ) → 1 ≤ n → AreBelow n older → AreBelow n longer
-  never : NeverSplit older → NeverSplit longer
 
-leaves_logs : (more older : History) → AreUndo more older → AreSerialKinds older → IsSerial older → LeavesLogs (more ++ older) older
-leaves_logs [] older all kinds serial = record { kinds = kinds; serial = serial; committed = refl; below = λ n one low. low; never = λ h. h }
-leaves_logs (r ∷ more) older all kinds serial =
-    let rest = leaves_logs more older all.1 kinds serial in
+leaves_logs : (more older : History) → AreUndo more older → IsSerial older → LeavesLogs (more ++ older) older
+leaves_logs [] older all serial = record { serial = serial; committed = refl; below = λ n one low. low }
+leaves_logs (r ∷ more) older all serial =
+    let rest = leaves_logs more older all.1 serial in
     let one = leaves_log r (more ++ older) r.what all.0 in
     record {
-      kinds = (one.kind, rest.kinds);
       serial = (λ key. absurd (let clash : false ≡ true = sym one.no_key ∙ key in cc clash), rest.serial);
       committed = one.committed ∙ rest.committed;
       below = λ n least low. (one.below n least (rest.below n least low), rest.below n least low);
-      never = λ h. (one.never (never_open (more ++ older) (rest.never h)), rest.never h);
     }
 
-pub carries_on : (older longer : History) → IsSerialLog older → GrowsByUndo older longer → IsLawful first_base page_tree longer → IsCarriedOn older longer
-carries_on older longer l grown law =
-    let left : LeavesLogs longer older = subst (λ (x : History). LeavesLogs x older) (sym grown.is) (leaves_logs grown.more older grown.all l.kinds l.serial) in
+pub carries_on : (b : Base) (older longer : History) → IsSerialLog b older → GrowsByUndo older longer → IsLawful b page_tree longer → IsCarriedOn b older longer
+carries_on b older longer l grown law =
+    let left : LeavesLogs longer older = subst (λ (x : History). LeavesLogs x older) (sym grown.is) (leaves_logs grown.more older grown.all l.serial) in
     record {
-      log = record { lawful = law; kinds = left.kinds; serial = left.serial };
+      log = record { lawful = law; serial = left.serial };
       committed = left.committed;
-      never = left.never;
       below = left.below;
       idle = λ none.
-          let gone = nothing_left first_base page_tree longer law (all_done first_base page_tree longer law none) in
-          (gone, none_open first_base page_tree longer law gone);
+          let gone = nothing_left b page_tree longer law (all_done b page_tree longer law none) in
+          (gone, none_open b page_tree longer law gone);
     }

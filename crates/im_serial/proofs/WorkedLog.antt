@@ -8,11 +8,11 @@ use Rattle.im_types.proofs.Appends.{append_smo, append_dummy}
 use Rattle.im_tree.specs.Good.{times, IsGoodTree}
 use Rattle.im_tree.specs.Theory.{page_tree}
 use Rattle.im_change.specs.Changes.{GrowsByChange}
-use Rattle.im_one_page.specs.OnePage.{first_base, blank}
+use Rattle.im_serial.specs.Store.{first_base, blank}
 use Rattle.im_serial.specs.Serial.{IsGoingIn, IsLeafOf}
 use Rattle.im_serial.specs.SerialLaws.{GoesOn, IsCommitted, KeepsThroughChange}
 use Rattle.im_serial.specs.Worked.{key_a, key_b, key_c, put_a, put_b, put_c, meta_of, full_root, split_root, left_leaf, right_leaf, smo_meta, smo_root, smo_left, smo_right, closes, full_log, half_log, split_log, IsSplitAndDone}
-use Rattle.im_one_page.specs.OneAtATime.{commit_record}
+use Rattle.im_serial.specs.OneAtATime.{commit_record}
 use Rattle.im_serial.proofs.Roots.{root_way}
 use Rattle.im_serial.proofs.Promises.{empty_log_is_idle, transactions_begin, keys_are_put, changes_go_on, transactions_commit}
 
@@ -21,12 +21,12 @@ use Rattle.im_serial.proofs.Promises.{empty_log_is_idle, transactions_begin, key
 begun : IsGoingIn 1 0 0 [] []
 begun = transactions_begin 1 [] empty_log_is_idle.1 tt (omega arith)
 
-with_a : GoesOn 1 (Put key_a 7 ∷ []) put_a []
-with_a = keys_are_put 1 0 0 36 [] [] 1 key_a 7 empty_log_is_idle.0 refl begun (omega arith) (root_way (bodies first_base []) refl key_a 1 refl refl) refl
+with_a : GoesOn first_base 1 (Put key_a 7 ∷ []) put_a []
+with_a = keys_are_put first_base 1 0 0 36 [] [] 1 key_a 7 empty_log_is_idle.0 refl begun (omega arith) (root_way (bodies first_base []) refl key_a 1 refl refl) refl
     (record { keyed = omega arith; short = omega arith; fits = omega arith })
 
-with_b : GoesOn 1 (Put key_b 8 ∷ Put key_a 7 ∷ []) put_b (put_a ∷ [])
-with_b = keys_are_put 1 36 36 80 (Put key_a 7 ∷ []) (put_a ∷ []) 1 key_b 8 with_a.log refl with_a.going (omega arith) (root_way (bodies first_base (put_a ∷ [])) refl key_b 1 refl refl) refl
+pub with_b : GoesOn first_base 1 (Put key_b 8 ∷ Put key_a 7 ∷ []) put_b (put_a ∷ [])
+with_b = keys_are_put first_base 1 36 36 80 (Put key_a 7 ∷ []) (put_a ∷ []) 1 key_b 8 with_a.log refl with_a.going (omega arith) (root_way (bodies first_base (put_a ∷ [])) refl key_b 1 refl refl) refl
     (record { keyed = omega arith; short = omega arith; fits = omega arith })
 
 -- ---- the split
@@ -88,14 +88,14 @@ split_lawful = append_dummy first_base page_tree (smo_right ∷ smo_left ∷ hal
 half_grows : GrowsByChange 1 full_log half_log
 half_grows = record { more = smo_root ∷ smo_meta ∷ []; is = refl; all = (refl, (refl, tt)) }
 
-half_kept : KeepsThroughChange 1 full_log half_log half_grows
-half_kept = changes_go_on 1 full_log half_log half_grows with_b.log half_lawful
+half_kept : KeepsThroughChange first_base 1 full_log half_log half_grows
+half_kept = changes_go_on first_base 1 full_log half_log half_grows with_b.log half_lawful
 
 split_grows : GrowsByChange 1 full_log split_log
 split_grows = record { more = closes ∷ smo_right ∷ smo_left ∷ smo_root ∷ smo_meta ∷ []; is = refl; all = (refl, (refl, (refl, (refl, (refl, tt))))) }
 
-split_kept : KeepsThroughChange 1 full_log split_log split_grows
-split_kept = changes_go_on 1 full_log split_log split_grows with_b.log split_lawful
+split_kept : KeepsThroughChange first_base 1 full_log split_log split_grows
+split_kept = changes_go_on first_base 1 full_log split_log split_grows with_b.log split_lawful
 
 split_going : IsGoingIn 1 440 80 (Put key_b 8 ∷ Put key_a 7 ∷ []) split_log
 split_going = split_kept.going 80 80 440 80 (Put key_b 8 ∷ Put key_a 7 ∷ []) with_b.going refl refl
@@ -117,21 +117,19 @@ leaf_of_c = record {
   under = tt;
 }
 
-with_c : GoesOn 1 (Put key_c 9 ∷ Put key_b 8 ∷ Put key_a 7 ∷ []) put_c split_log
-with_c = keys_are_put 1 440 80 480 (Put key_b 8 ∷ Put key_a 7 ∷ []) split_log 3 key_c 9 split_kept.log refl split_going (omega arith) leaf_of_c refl
+with_c : GoesOn first_base 1 (Put key_c 9 ∷ Put key_b 8 ∷ Put key_a 7 ∷ []) put_c split_log
+with_c = keys_are_put first_base 1 440 80 480 (Put key_b 8 ∷ Put key_a 7 ∷ []) split_log 3 key_c 9 split_kept.log refl split_going (omega arith) leaf_of_c refl
     (record { keyed = omega arith; short = omega arith; fits = omega arith })
 
-committed_all : IsCommitted (Put key_c 9 ∷ Put key_b 8 ∷ Put key_a 7 ∷ []) (commit_record 1 480 520) (put_c ∷ split_log)
-committed_all = transactions_commit 1 480 480 520 (Put key_c 9 ∷ Put key_b 8 ∷ Put key_a 7 ∷ []) (put_c ∷ split_log) with_c.log refl with_c.going (omega arith)
+committed_all : IsCommitted first_base (Put key_c 9 ∷ Put key_b 8 ∷ Put key_a 7 ∷ []) (commit_record 1 480 520) (put_c ∷ split_log)
+committed_all = transactions_commit first_base 1 480 480 520 (Put key_c 9 ∷ Put key_b 8 ∷ Put key_a 7 ∷ []) (put_c ∷ split_log) with_c.log refl with_c.going (omega arith)
 
 pub is_split_and_done : IsSplitAndDone
-unfolding split_grows
 is_split_and_done = record {
   full = with_b.log;
   half = half_kept.log;
   split = split_kept.log;
   same = refl;
-  counted = split_kept.split None (Some 3 ∷ Some 2 ∷ Some 1 ∷ Some 0 ∷ []) refl;
   done = committed_all.log;
   idle = committed_all.idle;
   closed = refl;

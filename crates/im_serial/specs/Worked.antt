@@ -9,9 +9,9 @@ use Rattle.im_types.specs.Histories.{History}
 use Rattle.im_types.specs.Structure.{open_smo}
 use Rattle.im_types.specs.Transactions.{committed}
 use Rattle.im_change.specs.Logged.{smo_at, dummy_at}
-use Rattle.im_one_page.specs.OnePage.{blank}
-use Rattle.im_one_page.specs.OneAtATime.{IsIdleIn, commit_record}
-use Rattle.im_serial.specs.Serial.{IsSerialLog, NeverSplit, key_record}
+use Rattle.im_serial.specs.Store.{first_base, blank}
+use Rattle.im_serial.specs.OneAtATime.{IsIdleIn, commit_record}
+use Rattle.im_serial.specs.Serial.{IsSerialLog, key_record}
 use Rattle.im_serial.specs.SerialLaws.{walk_at}
 
 abbrev pub key_a : Key
@@ -81,13 +81,12 @@ done_log = commit_record 1 480 520 ∷ put_c ∷ split_log
 
 -- Each is the log of such a store; the split leaves the walk as it was, and in the end the three keys are committed.
 pub record IsSplitAndDone : Type 0 where
-  pub full : IsSerialLog full_log
-  pub half : IsSerialLog half_log
-  pub split : IsSerialLog split_log
-  pub same : walk_at split_log ≡ walk_at full_log
-  pub counted : NeverSplit split_log → ⊥
-  pub done : IsSerialLog done_log
+  pub full : IsSerialLog first_base full_log
+  pub half : IsSerialLog first_base half_log
+  pub split : IsSerialLog first_base split_log
+  pub same : walk_at first_base split_log ≡ walk_at first_base full_log
+  pub done : IsSerialLog first_base done_log
   pub idle : IsIdleIn done_log
   pub closed : open_smo done_log ≡ []
-  pub entries : walk_at done_log ≡ (key_a, 7) ∷ (key_b, 8) ∷ (key_c, 9) ∷ []
+  pub entries : walk_at first_base done_log ≡ (key_a, 7) ∷ (key_b, 8) ∷ (key_c, 9) ∷ []
   pub committed : seen (committed done_log) ≡ (Put key_c 9 ∷ Put key_b 8 ∷ Put key_a 7 ∷ []) ∷ []

@@ -1,14 +1,9 @@
 //! The laws of a store over the tree, each as the contract of a function that does nothing.
 
-ghost use Rattle.im_one_page.specs.OnePageLaws.{FreshFilesHoldTheEmptyLog};
 ghost use Rattle.im_serial.specs.Serial.{IsLeafOf};
-ghost use Rattle.im_serial.specs.Serial.{IsUnsplitLog};
-ghost use Rattle.im_serial.specs.SerialLaws.{EmptyLogIsIdle, FrontsAreSerialLogs, StopsKeepTheCommitted, UnsplitLogsAreClosed, UnsplitLogsAreOnePageLogs, ImagesChangeNothing, TransactionsBegin, UnloggedEffectsAreEmpty, KeysArePut, KeysAreDropped, TransactionsCommit, ChangesGoOn, TreeShowsEffects, RestartsCanBegin, IdleStoresCanRestart, RestartsCarryOn, NextNumbersAreAbove};
+ghost use Rattle.im_serial.specs.SerialLaws.{EmptyLogIsIdle, CommitsStay, FreshFilesHoldTheEmptyLog, FrontsAreSerialLogs, StopsAllow, ImagesChangeNothing, TransactionsBegin, UnloggedEffectsAreEmpty, KeysArePut, KeysAreDropped, TransactionsCommit, ChangesGoOn, TreeShowsEffects, RestartsCanBegin, RestartsCarryOn, NextNumbersAreAbove};
 
-use crate::key_tree::KeyTree;
-use im_types::laws::logs::PageTree;
-
-/// The log of a new store, without a record, is one in which nothing is active and no page was split.
+/// The log of a new store, without a record, is one in which nothing is active.
 pub fn empty_log_is_idle()
     ensures { EmptyLogIsIdle }
 {}
@@ -23,19 +18,15 @@ pub fn fronts_are_serial_logs()
     ensures { FrontsAreSerialLogs }
 {}
 
-/// Where every Commit is durable, what a stop leaves of the log has all that was committed.
-pub fn stops_keep_the_committed()
-    ensures { StopsKeepTheCommitted }
+/// Whatever front of the log a stop leaves, its Commits are what the life may make of the effects before it: those that are
+/// durable, and a front of the others, none of which was acknowledged.
+pub fn stops_allow()
+    ensures { StopsAllow }
 {}
 
-/// Where no page was ever split, no structure change is open.
-pub fn unsplit_logs_are_closed()
-    ensures { UnsplitLogsAreClosed }
-{}
-
-/// The logs in which no page was ever split are those of a store of one page.
-pub fn unsplit_logs_are_one_page_logs()
-    ensures { UnsplitLogsAreOnePageLogs }
+/// What is said of the Commits of a life holds where more of the log becomes durable, and records join it that commit nothing.
+pub fn commits_stay()
+    ensures { CommitsStay }
 {}
 
 /// Images that join the log change nothing of what it says of pages and transactions.
@@ -80,19 +71,13 @@ pub fn tree_shows_effects()
     ensures { TreeShowsEffects }
 {}
 
-/// A restart can start from such a log in which no page was ever split: what is unfinished can be undone, each
-/// key in page 1.
+/// A restart can start from any such log, split or not.
 pub fn restarts_can_begin()
-    ensures { RestartsCanBegin IsUnsplitLog ⟦<KeyTree as PageTree>⟧.tree }
-{}
-
-/// A restart can start from any such log, split or not, where nothing is left to undo.
-pub fn idle_stores_can_restart()
-    ensures { IdleStoresCanRestart }
+    ensures { RestartsCanBegin }
 {}
 
 /// The records that a restart adds leave such a log, with what was committed before; where nobody is
-/// unfinished any more nothing is active.
+/// unfinished any more nothing is active, and no structure change is open.
 pub fn restarts_carry_on()
     ensures { RestartsCarryOn }
 {}

@@ -1,12 +1,13 @@
 -- What the search for the highest page that splits answered.
-use Rattle.std.proofs.Common.{◌≡◌, ◌⊎◌, ℕ, ◌+◌, ◌≤◌, true, Option, Some, None, inl, inr, refl, sym, subst, ◌∙◌}
+use Rattle.std.proofs.Common.{◌≡◌, ◌⊎◌, ℕ, ◌+◌, ◌≤◌, ◌<◌, true, Option, Some, None, inl, inr, refl, sym, subst, ◌∙◌}
 use Rattle.std.specs.Prelude.{Result, Ok, Err, IfErr}
 use Rattle.im_types.specs.declared.fault.Fault.{Fault}
 use Rattle.im_types.specs.declared.fault.Fault.TheVariants.{Capacity, PagesFull}
 use Rattle.im_types.specs.Keys.{Key}
 use Rattle.im_tree.specs.Levels.{Pages, height}
 use Rattle.im_split.specs.Tops.{IsFound}
-use Rattle.im_split.specs.Plan.{IsWithin}
+use Rattle.im_split.specs.Turns.{SplitsDown}
+use Rattle.im_split.specs.Plan.{IsWithin, IsOver}
 use Rattle.im_split.specs.declared.top.Top.{Top}
 use Rattle.im_split.proofs.Rooms.{IsReadCause, never_full}
 use Rattle.im_split.proofs.Froms.{never_used_up}
@@ -28,7 +29,19 @@ few_found pages key t m found few = record {
   few = subst (λ (n : ℕ). (pages 0).leftmost + n ≤ m + (pages 0).prev) found.splits.1 few;
 }
 
--- a root of the last level splits
+-- or too many
+pub many_found : (pages : Pages) (key : Key) (t : Top) (m : ℕ) → IsFound pages key (Some t) → m + (pages 0).prev < (pages 0).leftmost + t.pages → IsOver pages key m
+many_found pages key t m found many = record {
+  path = found.path;
+  is_path = found.is_path;
+  many = subst (λ (n : ℕ). m + (pages 0).prev < (pages 0).leftmost + n) found.splits.1 many;
+}
+
+-- a root of the last level splits, with each page under it on the key's way
+pub last_splits : (pages : Pages) (key : Key) (t : Top) → IsFound pages key (Some t) → t.root ≡ true → t.level ≡ 255 → SplitsDown pages key 255 1
+last_splits pages key t found root level = subst (λ (k : ℕ). SplitsDown pages key k 1) level (found.splits.0.root root).splits
+
+-- it splits
 pub last_level : (pages : Pages) (key : Key) (t : Top) → IsFound pages key (Some t) → t.root ≡ true → t.level ≡ 255 → height pages ≡ 255
 last_level pages key t found root level = (found.splits.0.root root).tall ∙ level
 

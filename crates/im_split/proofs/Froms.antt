@@ -1,5 +1,5 @@
 -- A split over pages that are taken for it.
-use Rattle.std.proofs.Common.{◌≡◌, ◌≢◌, ◌⊎◌, ℕ, zero, true, false, List, [], inl, inr, refl, sym, ap, subst, ◌∙◌}
+use Rattle.std.proofs.Common.{◌≡◌, ◌≢◌, ◌⊎◌, ◌+◌, ◌-◌, ◌^◌, ◌<◌, ℕ, zero, true, false, List, [], inl, inr, refl, sym, ap, subst, ◌∙◌}
 use Rattle.std.proofs.Math.Path.{fun_ext}
 use Rattle.std.specs.Prelude.{Result, Ok, Err, IsErrAnd}
 use Rattle.im_types.specs.declared.fault.Fault.{Fault}
@@ -20,7 +20,7 @@ use Rattle.im_smo.specs.Images.{Numbered}
 use Rattle.im_alloc.specs.Seen.{bodies, seen}
 use Rattle.im_alloc.specs.Kept.{HasImages}
 use Rattle.im_alloc.proofs.Goings.{seen_stays, images_on}
-use Rattle.im_split.specs.Pages.{newest_first, IsUsedUp, Taken, TakeKept}
+use Rattle.im_split.specs.Pages.{newest_first, Taken, TakeKept}
 use Rattle.im_split.specs.Tops.{IsTop}
 use Rattle.im_split.specs.Turns.{IsTurn, IsRootTurn}
 use Rattle.im_split.specs.Ends.{EndKept, SplitKept}
@@ -44,14 +44,14 @@ module _ {D : Type 0} (d : Ghosts D) (b : Base) (base : ℕ) (s : Writer) (old :
 
   module _ (key : Key) (first : List Numbered) (none : first ≡ []) where
     -- the pages were not taken
-    pub take_failed : {A : Type 0} (f : Fault) (new : List Numbered) (w : PageWriter) (disk : D) (value : A → List ℕ) → TakeKept d b base s first old new w disk (Err f) value → (r : Result (List Numbered) Fault)
-        → IsErrAnd r (λ e. e ≡ f) → SplitKept d b base s key old w disk r
-    take_failed f new w disk value one (Ok a) is = absurd is
-    take_failed f new w disk value one (Err e) is = record {
+    pub take_failed : {A : Type 0} (count : ℕ) (f : Fault) (new : List Numbered) (w : PageWriter) (disk : D) (value : A → List ℕ) → TakeKept d b base s first count old new w disk (Err f) value → (r : Result (List Numbered) Fault)
+        → IsErrAnd r (λ e. e ≡ f) → SplitKept d b base s key count old w disk r
+    take_failed count f new w disk value one (Ok a) is = absurd is
+    take_failed count f new w disk value one (Err e) is = record {
       ok = tt;
       stops = one.stops;
       cause = λ same. one.cause (sym is ∙ same);
-      used_up = λ same. let up = one.used_up (sym is ∙ same) in subst (λ (l : List Numbered). IsUsedUp s l) none up;
+      used_up = λ same. subst (λ (pages : Pages). 2 ^ 32 - 1 + (pages 0).prev < (pages 0).leftmost + count) (seen_none s first none) (one.used_up (sym is ∙ same));
       again = subst (λ (x : Fault). (x ≡ Memory) ⊎ ((x ≡ NotAStore) ⊎ (x ≡ Capacity)) → Evicted d b base s old w disk) (sym is) one.again;
     }
 
@@ -75,7 +75,7 @@ module _ {D : Type 0} (d : Ghosts D) (b : Base) (base : ℕ) (s : Writer) (old :
 
       -- the split over them was refused
       pub down_failed : (f : Fault) → IsReadCause f → (new : List Numbered) (x : PageWriter) (late : D) → EndKept d b base one.now key mid disk new x late (Err f) → (r : Result (List Numbered) Fault)
-          → IsErrAnd r (λ e. e ≡ f) → SplitKept d b base s key old x late r
+          → IsErrAnd r (λ e. e ≡ f) → SplitKept d b base s key top.pages old x late r
       down_failed f known new x late two (Ok a) is = absurd is
       down_failed f known new x late two (Err e) is = record {
         ok = tt;
@@ -94,7 +94,7 @@ module _ {D : Type 0} (d : Ghosts D) (b : Base) (base : ℕ) (s : Writer) (old :
           again_of (inr (inr up)) = absurd (never_used_up f known up)
 
       -- the split
-      pub down_done : (new : List Numbered) (x : PageWriter) (late : D) → EndKept d b base one.now key mid disk new x late (Ok tt) → SplitKept d b base s key old x late (Ok new)
+      pub down_done : (new : List Numbered) (x : PageWriter) (late : D) → EndKept d b base one.now key mid disk new x late (Ok tt) → SplitKept d b base s key top.pages old x late (Ok new)
       down_done new x late two =
           let end = two.ok in
           record {

@@ -194,7 +194,11 @@ module _ (pages : Pages) (key : Key) (p : ℕ) (t : Top) (r : Bool) (was : IsPla
         path = was.here ∷ was.above;
         is_path = was.path;
         room = λ clash. absurd (cc clash);
-        splits = (was.splits (record { key = short; more = more }), was.count ∙ sym (all_pages (subst (λ (x : ℕ). 4064 < taken true (pages x).entries + (size true (key, 0) + 2)) (sym was.page) more)));
+        splits = (
+          was.splits (record { key = short; more = more }),
+          was.count ∙ sym (all_pages (subst (λ (x : ℕ). 4064 < taken true (pages x).entries + (size true (key, 0) + 2)) (sym was.page) more)),
+          record { page = p; way = was.way; lacks = λ le. omega (arith, le, more) },
+        );
       }
     where
       over : (4064 < taken true (pages p).entries + (size true (key, 0) + 2)) ⊎ (taken true (pages p).entries + (size true (key, 0) + 2) ≤ 4064) → 4064 < taken true (pages p).entries + (size true (key, 0) + 2)

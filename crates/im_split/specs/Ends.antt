@@ -1,5 +1,5 @@
 -- What the split of a key's leaf, the last one, keeps.
-use Rattle.std.specs.Prelude.{◌≡◌, ◌≢◌, ◌⊎◌, ◌≤◌, ℕ, zero, suc, List, [], ◌∷◌, length, Result, IfErr, IfOk, OnOk}
+use Rattle.std.specs.Prelude.{◌≡◌, ◌≢◌, ◌⊎◌, ◌≤◌, ◌<◌, ◌+◌, ◌-◌, ◌^◌, ℕ, zero, suc, List, [], ◌∷◌, length, Result, IfErr, IfOk, OnOk}
 use Rattle.im_types.specs.declared.fault.Fault.{Fault}
 use Rattle.im_types.specs.declared.fault.Fault.TheVariants.{Capacity, Memory, NotAStore}
 use Rattle.im_types.specs.Keys.{Key}
@@ -17,8 +17,7 @@ use Rattle.im_tree.specs.Search.{IsOnWay}
 use Rattle.im_tree.specs.KeySplits.{HasRoomOnWay}
 use Rattle.im_smo.specs.Images.{Numbered, Has, held}
 use Rattle.im_smo.specs.OnWay.{HasRoomIn}
-use Rattle.im_alloc.specs.Seen.{seen}
-use Rattle.im_split.specs.Pages.{IsUsedUp}
+use Rattle.im_alloc.specs.Seen.{bodies, seen}
 use Rattle.im_split.specs.Steps.{Brought}
 
 -- Leaf p, which held this body, is split, and the leaf behind it is told; `half` is the part that the key belongs to.
@@ -64,10 +63,10 @@ module _ {D : Type 0} (d : Ghosts D) (b : Base) (base : ℕ) where
     pub cause : IfErr result (λ e. e ≢ NotAStore)
     pub again : StaysOn d b base s old w disk result
 
-  -- What a whole split keeps, of pages that were taken for it: it is refused for want of page numbers only where they are used up.
-  pub record SplitKept (s : Writer) (key : Key) (old : D) (w : PageWriter) (disk : D) (result : Result (List Numbered) Fault) : Type 0 where
+  -- What a whole split keeps that takes so many pages: it is refused for want of page numbers only where the pages that are not free would be more than 2^32 - 1.
+  pub record SplitKept (s : Writer) (key : Key) (count : ℕ) (old : D) (w : PageWriter) (disk : D) (result : Result (List Numbered) Fault) : Type 0 where
     pub ok : IfOk result (λ images. Ended s key [] old images w disk)
     pub stops : LeavesGrown d b base s old disk
     pub cause : IfErr result (λ e. e ≢ NotAStore)
-    pub used_up : IfErr result (λ e. e ≡ Capacity → IsUsedUp s [])
+    pub used_up : IfErr result (λ e. e ≡ Capacity → 2 ^ 32 - 1 + (bodies s 0).prev < (bodies s 0).leftmost + count)
     pub again : IfErr result (λ e. (e ≡ Memory) ⊎ ((e ≡ NotAStore) ⊎ (e ≡ Capacity)) → Evicted d b base s old w disk)

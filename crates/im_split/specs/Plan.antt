@@ -1,5 +1,5 @@
 -- What a plan of a split answers and keeps.
-use Rattle.std.specs.Prelude.{◌≡◌, ◌≢◌, ◌⊎◌, ◌+◌, ◌<◌, ◌≤◌, ℕ, zero, true, List, [], length, Option, Some, Result, IfErr, IfOk, OnOk}
+use Rattle.std.specs.Prelude.{◌≡◌, ◌≢◌, ◌⊎◌, ◌+◌, ◌-◌, ◌^◌, ◌<◌, ◌≤◌, ℕ, zero, true, List, [], length, Option, Some, Result, IfErr, IfOk, OnOk}
 use Rattle.im_types.specs.declared.fault.Fault.{Fault}
 use Rattle.im_types.specs.declared.fault.Fault.TheVariants.{Capacity, Memory, NotAStore, PagesFull}
 use Rattle.im_types.specs.Keys.{Key}
@@ -17,8 +17,8 @@ use Rattle.im_tree.specs.KeySplits.{HasRoomOnWay}
 use Rattle.im_smo.specs.Images.{Numbered}
 use Rattle.im_alloc.specs.Seen.{bodies, seen}
 use Rattle.im_split.specs.Paths.{OnPath, IsPath, new_pages}
-use Rattle.im_split.specs.Pages.{IsUsedUp}
-use Rattle.im_split.specs.Tops.{HasRoomFor}
+use Rattle.im_split.specs.Tops.{HasRoomFor, LacksRoomFor}
+use Rattle.im_split.specs.Turns.{SplitsDown}
 
 -- the pages that a key's entry needs, beside those that there are and are not free, are at most so many
 pub record IsWithin (pages : Pages) (key : Key) (max : ℕ) : Type 0 where
@@ -57,13 +57,16 @@ module _ {D : Type 0} (d : Ghosts D) (b : Base) (base : ℕ) where
     pub any : (images ≡ []) ⊎ HasRoomOnWay (seen s images) zero key
     pub none : images ≡ [] → HasRoomFor (bodies s) key
     pub some : (p : ℕ) → IsOnWay (bodies s) zero key p → (HasRoom true (bodies s p).entries (key, 0) → ⊥) → 1 ≤ length images
+    pub lacks : 1 ≤ length images → LacksRoomFor (bodies s) key
     pub within : (m : ℕ) → max ≡ Some m → (images ≡ []) ⊎ IsWithin (bodies s) key m
 
-  -- what the plan of a split keeps
+  -- What the plan of a split keeps. It is refused for want of pages or page numbers only where the key's leaf lacks room for its entry, and those that the split takes are too many; or where the root is of the last level and has to be split.
   pub record PlanKept (s : Writer) (key : Key) (max : Option ℕ) (old : D) (w : PageWriter) (disk : D) (result : Result (List Numbered) Fault) : Type 0 where
     pub ok : IfOk result (λ images. Planned s key max images old w disk)
     pub full : IfErr result (λ e. e ≡ PagesFull → (m : ℕ) × (max ≡ Some m) × IsOver (bodies s) key m)
-    pub used_up : IfErr result (λ e. e ≡ Capacity → IsUsedUp s [] ⊎ (height (bodies s) ≡ 255))
+    pub used_up : IfErr result (λ e. e ≡ Capacity → IsOver (bodies s) key (2 ^ 32 - 1) ⊎ (height (bodies s) ≡ 255))
+    pub whole_way : IfErr result (λ e. e ≡ Capacity → IsOver (bodies s) key (2 ^ 32 - 1) ⊎ SplitsDown (bodies s) key 255 1)
+    pub lacks : IfErr result (λ e. (e ≡ Capacity) ⊎ (e ≡ PagesFull) → LacksRoomFor (bodies s) key)
     pub stops : LeavesGrown d b base s old disk
     pub cause : IfErr result (λ e. e ≢ NotAStore)
     pub again : IfErr result (λ e. (e ≡ Memory) ⊎ ((e ≡ NotAStore) ⊎ ((e ≡ Capacity) ⊎ (e ≡ PagesFull))) → Evicted d b base s old w disk)

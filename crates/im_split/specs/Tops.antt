@@ -34,9 +34,15 @@ pub record HasRoomFor (pages : Pages) (key : Key) : Type 0 where
   pub way : IsOnWay pages 0 key page
   pub room : HasRoom true (pages page).entries (key, 0)
 
+-- the key's leaf lacks it
+pub record LacksRoomFor (pages : Pages) (key : Key) : Type 0 where
+  pub page : ℕ
+  pub way : IsOnWay pages 0 key page
+  pub lacks : HasRoom true (pages page).entries (key, 0) → ⊥
+
 -- Where the key's leaf lacks room for its entry, the highest page that splits, and how many pages the split takes; none where it has room.
 pub record IsFound (pages : Pages) (key : Key) (found : Option Top) : Type 0 where
   pub path : List OnPath
   pub is_path : IsPath pages key 0 path
   pub room : found ≡ None → HasRoomFor pages key × (new_pages pages key path ≡ 0)
-  pub splits : IfSome found (λ t. IsTop pages key t × (t.pages ≡ new_pages pages key path))
+  pub splits : IfSome found (λ t. IsTop pages key t × (t.pages ≡ new_pages pages key path) × LacksRoomFor pages key)

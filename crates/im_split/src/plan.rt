@@ -105,7 +105,7 @@ fn split_from<D: Disk>(
     requires is_counted { IsCounted 0 top }
     ensures ready { IsReadyWriter D.Disk writer.new disk.new }
     ensures kept { (b : Base) (base : ℕ) (s : Writer) → HasTree D.Disk b base s [] writer.old disk.old → IsTop (bodies s) key.now top
-        → SplitKept D.Disk b base s key.now disk.old writer.new disk.new result }
+        → SplitKept D.Disk b base s key.now top.pages disk.old writer.new disk.new result }
     ensures works { OnOk result (writer.new.failed ≡ false) }
     ensures fails { IfErr result (λ e. (writer.new.failed ≡ false) ↔ ((e ≡ Memory) ⊎ (e ≡ NotAStore) ⊎ (e ≡ Capacity))) }
     ensures causes { IfErr result (λ e. (e ≡ Capacity) ⊎ (e ≡ LogFull) ⊎ (e ≡ Memory) ⊎ (e ≡ NotAStore) ⊎ (e ≡ Device)) }
@@ -122,8 +122,8 @@ fn split_from<D: Disk>(
 /// the place of the pages that are there they are a good tree with the same entries, whose leaf for the key has room.
 ///
 /// Refused `PagesFull` exactly where the store would have more than `max` pages that are not free, which is decided before a page is
-/// taken; `Capacity` where page numbers are used up, or the root is of level 255 and has to be split; otherwise as `image` is. No page
-/// of the pool is changed.
+/// taken; `Capacity` where it would have more than 2^32 - 1, or the root is of level 255 and has to be split; otherwise as `image` is.
+/// Where the leaf has room neither comes. No page of the pool is changed.
 pub fn plan_split<D: Disk>(
     alloc: Global,
     writer: &mut PageWriter,

@@ -39,7 +39,7 @@ pub(crate) fn take_pages<D: Disk>(
     requires working { writer.old.failed ≡ false }
     ensures ready { IsReadyWriter D.Disk writer.new disk.new }
     ensures kept { (b : Base) (base : ℕ) (s : Writer) → HasImages D.Disk b base s images.old [] writer.old disk.old
-        → TakeKept D.Disk b base s images.old disk.old images.new writer.new disk.new result (λ numbers. numbers.items) }
+        → TakeKept D.Disk b base s images.old count disk.old images.new writer.new disk.new result (λ numbers. numbers.items) }
     ensures count { IfOk result (λ numbers. length numbers.items ≡ count) }
     ensures works { OnOk result (writer.new.failed ≡ false) }
     ensures fails { IfErr result (λ e. (writer.new.failed ≡ false) ↔ ((e ≡ Memory) ⊎ (e ≡ NotAStore) ⊎ (e ≡ Capacity))) }

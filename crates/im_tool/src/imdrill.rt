@@ -2,10 +2,11 @@
 
 ghost use Rattle.std.specs.Prelude.{◌≤◌, IfOk};
 
+use crate::reason::{reason_of, refused_line};
 use clap::{Arg, ArgMatches, Command, Error};
 use im_drill::drill_text;
 use std::alloc::{AllocError, Global};
-use std::io::{BufWriter, ErrorKind, Write};
+use std::io::{BufWriter, ErrorKind, Read, Write};
 use std::rt::Files;
 use std::{fs, io};
 
@@ -33,24 +34,51 @@ pub fn drill_program<R: Files + Input + Print + Eprint + AllocGlobal>(
     let mut writer = BufWriter::new(alloc, io::writer(rt))?;
     let status = match matches.get_str("SCRIPT") {
         Some(path) => run_file(rt, path, &mut writer)?,
-        None => drill_text(alloc, &mut rt.reader(), &mut writer)?,
+        None => {
+            let mut text = Vec::new(alloc);
+            rt.reader().read_to_end(&mut text)?;
+            run_text(rt, &text, &mut writer)?
+        }
     };
     writer.flush()?;
     Ok(status)
 }
 
 // The file is read to its end before anything is printed.
-fn run_file<R: Files + AllocGlobal, W: Write>(rt: &R, path: &str, writer: &mut W) -> io::Result<u8>
+fn run_file<R: Files + Eprint + AllocGlobal, W: Write>(
+    rt: &R,
+    path: &str,
+    writer: &mut W,
+) -> io::Result<u8>
     ensures { IfOk result (λ status. status ≤ 1) }
 {
     match fs::read(rt, path) {
-        Ok(text) => drill_text(rt.alloc(), &mut text.as_slice(), writer),
+        Ok(text) => run_text(rt, &text, writer),
         Err(error) if error.kind() == ErrorKind::OutOfMemory => Err(error),
         Err(_) => {
             writeln!(writer, "script unreadable")?;
             Ok(1)
         }
     }
+}
+
+// Runs a script, and says on standard error why a line of it is bad. Where that is closed nobody reads it.
+fn run_text<R: Eprint + AllocGlobal, W: Write>(
+    rt: &R,
+    text: &[u8],
+    writer: &mut W,
+) -> io::Result<u8>
+    ensures { IfOk result (λ status. status ≤ 1) }
+{
+    let mut printed = Vec::new(rt.alloc());
+    let mut reader = text;
+    let status = drill_text(rt.alloc(), &mut reader, &mut printed)?;
+    writer.write_all(&printed)?;
+    if let Some((number, line)) = refused_line(&printed, text) {
+        let reason = reason_of(line);
+        let _ = eprintln!(rt; "imdrill: line {number}: {reason}");
+    }
+    Ok(status)
 }
 
 // Help goes to standard output, and is no error.

@@ -3,50 +3,124 @@
 ghost use Rattle.std.specs.Prelude.{◌≤◌, IfOk};
 
 use crate::imdrill::status_of;
-use crate::store::{print_refused_opening, store_text};
-use clap::{Arg, ArgMatches, Command, Error};
-use im_disk::{FileDisk, ModelDisk};
-use std::alloc::{AllocError, Global};
+use crate::options::{Options, Task, parse_options};
+use crate::store::{Manner, StoreEnd, print_refused_opening, store_text};
+use crate::tasks::{load_program, look_program};
+use im_disk::{FileDisk, ModelDisk, OpenError};
+use std::alloc::AllocError;
+use std::fmt::Display;
 use std::io;
-use std::io::{BufReader, BufWriter};
+use std::io::{BufReader, BufWriter, IsTerminal, Write};
 
 /// Opens the store in the folder that the command line names, or an empty one in memory where it names none, makes the steps
-/// that standard input asks for and prints their replies. The first word is the program's name. It answers the exit status.
+/// that standard input asks for and prints their replies. The first word is the program's name. It answers the exit status: 0,
+/// 1 where the opening was refused, 2 where the command line was, 3 where a line was refused in a batch.
 ///
-/// An error is of the program's own memory, input or output: its status is 1.
+/// Why an opening was refused stands on standard error, in words. An error is of the program's own memory, input or output: its
+/// status is 1.
 pub fn store_program(rt: &HostRuntime, words: &[String]) -> io::Result<u8>
-    ensures { IfOk result (λ status. status ≤ 2) }
+    ensures { IfOk result (λ status. status ≤ 3) }
 {
-    let alloc = rt.alloc();
-    let matches = match parse_words(alloc, words) {
-        Ok(matches) => matches,
+    match parse_options(rt.alloc(), words) {
+        Ok(options) => run_task(rt, &options),
         Err(error) => {
             if error.kind() == clap::error::ErrorKind::OutOfMemory {
                 return Err(io::Error::from(AllocError));
             }
             error.print(rt)?;
-            return Ok(status_of(&error));
+            Ok(status_of(&error))
         }
-    };
-    let mut reader = BufReader::new(alloc, rt.reader())?;
-    let mut writer = BufWriter::new(alloc, io::writer(rt))?;
-    match matches.get_str("DIR") {
-        None => {
-            let disk = ModelDisk::new(Vec::new(alloc), Vec::new(alloc));
-            store_text(alloc, disk, &mut reader, &mut writer)
-        }
-        Some(dir) => match FileDisk::open(rt, dir) {
-            Ok(disk) => store_text(alloc, disk, &mut reader, &mut writer),
-            Err(fault) => {
-                print_refused_opening(&mut writer, fault)?;
-                Ok(1)
-            }
-        },
     }
 }
 
-fn parse_words<'a>(alloc: Global, words: &'a [String]) -> Result<ArgMatches<'a>, Error> {
-    let dir = Arg::new(alloc, "DIR");
-    let command = Command::new(alloc, "imstore").arg(dir)?;
-    command.try_get_matches_from(words)
+fn run_task(rt: &HostRuntime, options: &Options) -> io::Result<u8>
+    ensures { IfOk result (λ status. status ≤ 3) }
+{
+    let Some(dir) = options.dir else {
+        return run_in_memory(rt, options);
+    };
+    match options.task {
+        Task::Steps => run_in_folder(rt, dir, options),
+        Task::Load => load_program(rt, dir, options),
+        task => look_program(rt, dir, task),
+    }
+}
+
+fn run_in_memory(rt: &HostRuntime, options: &Options) -> io::Result<u8>
+    ensures { IfOk result (λ status. status ≤ 3) }
+{
+    let alloc = rt.alloc();
+    let mut reader = BufReader::new(alloc, rt.reader())?;
+    let mut writer = BufWriter::new(alloc, io::writer(rt))?;
+    let disk = ModelDisk::new(Vec::new(alloc), Vec::new(alloc));
+    let manner = manner_of(rt, options);
+    let end = store_text(
+        alloc,
+        disk,
+        options.config(),
+        manner,
+        &mut reader,
+        &mut writer,
+    )?;
+    Ok(status_at(end))
+}
+
+fn run_in_folder(rt: &HostRuntime, dir: &str, options: &Options) -> io::Result<u8>
+    ensures { IfOk result (λ status. status ≤ 3) }
+{
+    let alloc = rt.alloc();
+    let mut reader = BufReader::new(alloc, rt.reader())?;
+    let mut writer = BufWriter::new(alloc, io::writer(rt))?;
+    match FileDisk::open(rt, dir) {
+        Ok(disk) => {
+            let manner = manner_of(rt, options);
+            let end = store_text(
+                alloc,
+                disk,
+                options.config(),
+                manner,
+                &mut reader,
+                &mut writer,
+            )?;
+            if let StoreEnd::RefusedOpening(fault) = end {
+                tell(rt, dir, &fault);
+            }
+            Ok(status_at(end))
+        }
+        Err(error) => {
+            print_refused_opening(&mut writer, error.fault())?;
+            tell_unopened(rt, dir, &error);
+            Ok(1)
+        }
+    }
+}
+
+fn status_at(end: StoreEnd) -> u8
+    ensures { result ≤ 3 }
+{
+    match end {
+        StoreEnd::Input => 0,
+        StoreEnd::RefusedOpening(_) => 1,
+        StoreEnd::RefusedLine => 3,
+    }
+}
+
+// In words where they are asked for, and between a user's keyboard and screen.
+fn manner_of(rt: &HostRuntime, options: &Options) -> Manner {
+    let has_user = rt.stdin().is_terminal() && rt.stdout().is_terminal();
+    Manner {
+        has_words: options.has_words || has_user,
+        has_prompt: has_user,
+        is_batch: options.is_batch,
+    }
+}
+
+// Says something of the folder on standard error. Where that is closed nobody reads it.
+pub(crate) fn tell<T: Display>(rt: &HostRuntime, dir: &str, words: &T) {
+    let _ = eprintln!(rt; "imstore: {dir}: {words}");
+}
+
+/// Says on standard error why a store was not opened.
+pub(crate) fn tell_unopened(rt: &HostRuntime, dir: &str, error: &OpenError) {
+    tell(rt, dir, error);
 }

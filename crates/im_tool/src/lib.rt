@@ -11,14 +11,30 @@
 
 mod imdrill;
 mod imstore;
+mod key_notation;
+mod line_input;
+mod log_bytes;
+mod log_damage;
+mod log_text;
+mod look;
+mod options;
+mod reason;
+mod recovered;
 mod store;
 #[cfg(test)]
 mod stored;
+mod tasks;
 #[cfg(test)]
 mod tests;
+mod transfer;
+mod tree_check;
+mod tree_damage;
 #[cfg(test)]
 mod tree_rows;
+mod words_step;
 
 pub use imdrill::drill_program;
 pub use imstore::store_program;
-pub use store::store_text;
+pub use line_input::LineInput;
+pub use options::{Options, Task};
+pub use store::{Manner, StoreEnd, store_text};

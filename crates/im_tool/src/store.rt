@@ -3,39 +3,78 @@
 ghost use Rattle.std.specs.Prelude.{◌≡◌, ◌≤◌, false, IfOk};
 ghost use Rattle.im_disk.specs.Runs.{IsSynced};
 
+use crate::key_notation::write_key;
+use crate::line_input::{LineInput, without_newline};
+use crate::words_step::words_step;
 use im_disk::Disk;
 use im_drill::{entries_text, reply_text, step_line};
 use im_engine::{Config, Engine};
-use im_types::{Fault, Step};
+use im_types::{Fault, Key, Reply, Rid, Step};
 use std::alloc::{AllocError, Global};
 use std::io;
-use std::io::{BufRead, Write};
+use std::io::Write;
 
-/// Opens the store of a disk, makes the steps that the reader's lines ask for, and writes each reply, one a line, before it
-/// reads the next line. It answers the exit status: 0 at the end of input, or 1 where the opening was refused.
+const HELP: &str = "begin                    a transaction begins; its number is answered
+insert N KEY ROWID       puts a key in, in transaction N
+delete N KEY             takes a key out
+fetch N KEY              answers the row id of a key
+commit N                 what transaction N did is kept from now on
+entries                  all keys with their row ids
+force                    makes the log durable
+flush PAGE               writes a page to the file of pages
+help                     this list
+KEY is text without spaces, \"text with spaces\", or x'6100'. One transaction is active at a time.
+";
+
+/// How lines are read and replies are written.
+#[derive(Clone, Copy, Debug, Default, PartialEq, Eq)]
+pub struct Manner {
+    /// Refusals are told in words, and keys are written and read so that they can be typed.
+    pub has_words: bool,
+    /// A prompt stands in front of each line.
+    pub has_prompt: bool,
+    /// The first line that is refused ends the run.
+    pub is_batch: bool,
+}
+
+/// How a run of lines ended.
+#[derive(Clone, Copy, Debug, PartialEq, Eq)]
+pub enum StoreEnd {
+    /// At the end of the input.
+    Input,
+    /// At a line that was refused, in a batch.
+    RefusedLine,
+    /// The opening was refused.
+    RefusedOpening(Fault),
+}
+
+/// Opens the store of a disk, makes the steps that the input's lines ask for, and writes each reply, one a line.
 ///
-/// The line `entries` writes how many entries there are, and each. A bad line is answered `refused 16`, and the store goes on.
-/// Empty lines are passed over. An error is of the program's own memory, input or output.
-pub fn store_text<D: Disk + Drop, R: BufRead, W: Write>(
+/// Replies are flushed before a line is waited for, behind each `committed`, and at the end. The line `entries` writes how
+/// many entries there are, and each. A bad line is answered `refused 16`, and the store goes on. Empty lines are passed over,
+/// and a carriage return in front of a newline is left out. An error is of the program's own memory, input or output.
+pub fn store_text<D: Disk + Drop, R: LineInput, W: Write>(
     alloc: Global,
     disk: D,
+    config: Config,
+    manner: Manner,
     reader: &mut R,
     writer: &mut W,
-) -> io::Result<u8>
+) -> io::Result<StoreEnd>
     requires working { D.failed disk ≡ false }
     requires synced { IsSynced D.Disk disk }
-    ensures { IfOk result (λ status. status ≤ 1) }
 {
-    match Engine::open_or_create(alloc, disk, Config::default()) {
+    match Engine::open_or_create(alloc, disk, config) {
         Ok(mut engine) => {
-            let run = run_lines(alloc, &mut engine, reader, writer);
+            let run = run_lines(alloc, &mut engine, manner, reader, writer);
             let _disk = engine.into_disk();
-            run?;
-            Ok(0)
+            let end = run?;
+            writer.flush()?;
+            Ok(end)
         }
         Err((fault, _disk)) => {
             print_refused_opening(writer, fault)?;
-            Ok(1)
+            Ok(StoreEnd::RefusedOpening(fault))
         }
     }
 }
@@ -46,63 +85,134 @@ pub(crate) fn print_refused_opening<W: Write>(writer: &mut W, fault: Fault) -> i
     writer.flush()
 }
 
-fn run_lines<D: Disk, R: BufRead, W: Write>(
+fn run_lines<D: Disk, R: LineInput, W: Write>(
     alloc: Global,
     engine: &mut Engine<D>,
+    manner: Manner,
     reader: &mut R,
     writer: &mut W,
-) -> io::Result<()> {
+) -> io::Result<StoreEnd> {
     let mut line = Vec::new(alloc);
     for _count in 0..u64::MAX {
+        if !reader.has_line() {
+            print_prompt(manner, writer)?;
+            writer.flush()?;
+        }
         line.clear();
-        if reader.read_until(b'\n', &mut line)? == 0 {
-            return Ok(());
+        if !reader.next_line(&mut line)? {
+            end_prompt(manner, writer)?;
+            return Ok(StoreEnd::Input);
         }
         let text = without_newline(&line);
         if !text.is_empty() {
-            run_line(alloc, engine, text, writer)?;
-            writer.flush()?;
+            let is_refused = run_line(alloc, engine, manner, text, writer)?;
+            if is_refused && manner.is_batch {
+                return Ok(StoreEnd::RefusedLine);
+            }
         }
+    }
+    Ok(StoreEnd::Input)
+}
+
+fn print_prompt<W: Write>(manner: Manner, writer: &mut W) -> io::Result<()> {
+    if manner.has_prompt {
+        writer.write_all(b"> ")?;
     }
     Ok(())
 }
 
-fn without_newline(line: &[u8]) -> &[u8] {
-    match line {
-        [front @ .., b'\n'] => front,
-        whole => whole,
+// The line of the last prompt, behind which the input ended.
+fn end_prompt<W: Write>(manner: Manner, writer: &mut W) -> io::Result<()> {
+    if manner.has_prompt {
+        writeln!(writer)?;
     }
+    Ok(())
 }
 
+// Makes what a line asks for, and answers whether it was refused.
 fn run_line<D: Disk, W: Write>(
     alloc: Global,
     engine: &mut Engine<D>,
+    manner: Manner,
     line: &[u8],
     writer: &mut W,
-) -> io::Result<()> {
+) -> io::Result<bool> {
     if line == b"entries".as_slice() {
         return match engine.entries(alloc) {
-            Ok(entries) => entries_text(alloc, writer, "total", &entries),
-            Err(fault) => print_refused(writer, fault),
+            Ok(entries) => {
+                print_entries(alloc, writer, manner, &entries)?;
+                Ok(false)
+            }
+            Err(fault) => print_refused(writer, manner, fault),
         };
     }
-    match step_line(alloc, line) {
-        Ok(step) => run_step(engine, &step, writer),
-        Err(Fault::BadScript) => print_refused(writer, Fault::BadScript),
+    if manner.has_words && line == b"help".as_slice() {
+        writer.write_all(HELP.as_bytes())?;
+        return Ok(false);
+    }
+    let step = if manner.has_words {
+        words_step(alloc, line)
+    } else {
+        step_line(alloc, line)
+    };
+    match step {
+        Ok(step) => run_step(engine, manner, &step, writer),
+        Err(Fault::BadScript) => print_refused(writer, manner, Fault::BadScript),
         Err(_) => Err(io::Error::from(AllocError)),
     }
 }
 
 fn run_step<D: Disk, W: Write>(
     engine: &mut Engine<D>,
+    manner: Manner,
     step: &Step,
     writer: &mut W,
-) -> io::Result<()> {
+) -> io::Result<bool> {
     let reply = engine.step(step);
+    if let Reply::Refused(fault) = reply {
+        return print_refused(writer, manner, fault);
+    }
     reply_text(writer, &reply)?;
-    writeln!(writer)
+    writeln!(writer)?;
+    if reply == Reply::Committed {
+        writer.flush()?;
+    }
+    Ok(false)
 }
 
-fn print_refused<W: Write>(writer: &mut W, fault: Fault) -> io::Result<()> {
-    writeln!(writer, "refused {}", fault.number())
+fn print_entries<W: Write>(
+    alloc: Global,
+    writer: &mut W,
+    manner: Manner,
+    entries: &[(Key, Rid)],
+) -> io::Result<()> {
+    if !manner.has_words {
+        return entries_text(alloc, writer, "total", entries);
+    }
+    writeln!(writer, "total {}", entries.len())?;
+    print_keys(alloc, writer, entries)
+}
+
+/// Writes each key as it can be typed, and its row id, one a line.
+pub(crate) fn print_keys<W: Write>(
+    alloc: Global,
+    writer: &mut W,
+    entries: &[(Key, Rid)],
+) -> io::Result<()> {
+    for (key, rid) in entries {
+        write_key(alloc, writer, key.bytes())?;
+        writeln!(writer, " {rid}")?;
+    }
+    Ok(())
+}
+
+// Writes a refusal by its number, and in words where they are wanted. It answers true.
+fn print_refused<W: Write>(writer: &mut W, manner: Manner, fault: Fault) -> io::Result<bool> {
+    let number = fault.number();
+    if manner.has_words {
+        writeln!(writer, "refused {number}: {fault}")?;
+    } else {
+        writeln!(writer, "refused {number}")?;
+    }
+    Ok(true)
 }

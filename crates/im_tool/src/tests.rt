@@ -1,6 +1,13 @@
-use crate::{drill_program, store_program, store_text};
-use im_disk::{FileDisk, ModelDisk};
+ghost use Rattle.std.specs.Prelude.{◌≡◌, false};
+ghost use Rattle.im_disk.specs.Runs.{IsSynced};
+
+use crate::{Manner, StoreEnd, drill_program, store_program, store_text};
+use im_disk::{Disk, FileDisk, ModelDisk};
 use im_drill::drill_text;
+use im_engine::Config;
+use im_types::Fault;
+use std::alloc::Global;
+use std::io::BufReader;
 use std::test::Fail;
 use std::{fs, io};
 
@@ -227,15 +234,34 @@ fn a_life_takes_no_other_line(rt: HostRuntime) -> Result<(), Fail> {
     Ok(())
 }
 
+// What a store on a disk answers to these lines, and how the run ended.
+fn answers<D: Disk + Drop>(
+    alloc: Global,
+    disk: D,
+    manner: Manner,
+    lines: &str,
+) -> io::Result<(StoreEnd, Vec<u8>)>
+    requires working { D.failed disk ≡ false }
+    requires synced { IsSynced D.Disk disk }
+{
+    let mut reader = BufReader::new(alloc, lines.as_bytes())?;
+    let mut printed = Vec::new(alloc);
+    let config = Config::default();
+    let end = store_text(alloc, disk, config, manner, &mut reader, &mut printed)?;
+    Ok((end, printed))
+}
+
 #[test]
 fn a_store_answers_each_line(rt: HostRuntime) -> Result<(), Fail> {
     let alloc = rt.alloc();
     let disk = ModelDisk::new(Vec::new(alloc), Vec::new(alloc));
-    let mut reader =
-        "begin\n\ninsert 1 a 7\ninsert 1 a 8\nfetch 1 a\nfetch 1 b\ndelete 1 b\ncalls\ninsert 1 b 1\ndelete 1 b\nbegin\ncommit 2\ncommit 1\nentries".as_bytes();
-    let mut printed = Vec::new(alloc);
-    let status = store_text(alloc, disk, &mut reader, &mut printed)?;
-    assert!(rt; status == 0);
+    let (end, printed) = answers(
+        alloc,
+        disk,
+        Manner::default(),
+        "begin\r\n\ninsert 1 a 7\ninsert 1 a 8\nfetch 1 a\nfetch 1 b\ndelete 1 b\ncalls\ninsert 1 b 1\ndelete 1 b\nbegin\ncommit 2\ncommit 1\nentries",
+    )?;
+    assert!(rt; end == StoreEnd::Input);
     assert!(rt;
         printed.as_slice()
             == "started 1\ninserted\nduplicate\nfound 7\nabsent\nabsent\nrefused 16\ninserted\ndeleted\nrefused 12\nrefused 1\ncommitted\ntotal 1\n61 7\n".as_bytes()
@@ -243,17 +269,54 @@ fn a_store_answers_each_line(rt: HostRuntime) -> Result<(), Fail> {
     let mut log = Vec::new(alloc);
     log.extend_from_slice(b"\x01A")?;
     let disk = ModelDisk::new(log, Vec::new(alloc));
-    let mut reader = "entries".as_bytes();
-    let mut printed = Vec::new(alloc);
-    let status = store_text(alloc, disk, &mut reader, &mut printed)?;
-    assert!(rt; status == 1);
+    let (end, printed) = answers(alloc, disk, Manner::default(), "entries")?;
+    assert!(rt; end == StoreEnd::RefusedOpening(Fault::NotAStore));
     assert!(rt; printed.as_slice() == "open refused 11\n".as_bytes());
+    Ok(())
+}
+
+#[test]
+fn a_store_answers_in_words(rt: HostRuntime) -> Result<(), Fail> {
+    let alloc = rt.alloc();
+    let manner = Manner {
+        has_words: true,
+        has_prompt: false,
+        is_batch: false,
+    };
+    let disk = ModelDisk::new(Vec::new(alloc), Vec::new(alloc));
+    let (end, printed) = answers(
+        alloc,
+        disk,
+        manner,
+        "begin\ninsert 1 x'6100ff' 1\ninsert 1 \"b c\" 2\ninsert 1 x'' 3\ninsert 1 x'6 3\ninsert 1 \"b+c\" 3\nfetch 1 x'622063'\ncommit 2\nentries\n",
+    )?;
+    assert!(rt; end == StoreEnd::Input);
+    assert!(rt;
+        printed.as_slice()
+            == "started 1\ninserted\ninserted\nrefused 3: a key has 1 to 255 bytes\nrefused 16: a bad line\ninserted\nfound 2\nrefused 1: no active transaction of that number\ntotal 3\nx'6100ff' 1\n\"b c\" 2\n\"b+c\" 3\n".as_bytes()
+    );
+    Ok(())
+}
+
+#[test]
+fn a_batch_ends_at_a_refused_line(rt: HostRuntime) -> Result<(), Fail> {
+    let alloc = rt.alloc();
+    let manner = Manner {
+        has_words: false,
+        has_prompt: false,
+        is_batch: true,
+    };
+    let disk = ModelDisk::new(Vec::new(alloc), Vec::new(alloc));
+    let (end, printed) = answers(alloc, disk, manner, "begin\nbegin\ncommit 1\n")?;
+    assert!(rt; end == StoreEnd::RefusedLine);
+    assert!(rt; printed.as_slice() == "started 1\nrefused 12\n".as_bytes());
     Ok(())
 }
 
 #[test]
 fn a_store_in_a_folder_keeps_its_keys(rt: HostRuntime) -> Result<(), Fail> {
     let alloc = rt.alloc();
+    let _ = fs::remove_dir_all(&rt, "im_tool_kept");
     for (lines, want) in [
         (
             "begin\ninsert 1 a 7\ncommit 1\nbegin\ninsert 2 b 8\n",
@@ -261,15 +324,9 @@ fn a_store_in_a_folder_keeps_its_keys(rt: HostRuntime) -> Result<(), Fail> {
         ),
         ("entries\n", "total 1\n61 7\n"),
     ] {
-        let mut reader = lines.as_bytes();
-        let mut printed = Vec::new(alloc);
-        let Ok(disk) = FileDisk::open(&rt, "im_tool_kept") else {
-            fs::remove_dir_all(&rt, "im_tool_kept")?;
-            assert!(rt; false, "no folder");
-            return Ok(());
-        };
-        let status = store_text(alloc, disk, &mut reader, &mut printed)?;
-        assert!(rt; status == 0, "{lines}");
+        let disk = FileDisk::open(&rt, "im_tool_kept")?;
+        let (end, printed) = answers(alloc, disk, Manner::default(), lines)?;
+        assert!(rt; end == StoreEnd::Input, "{lines}");
         assert!(rt; printed.as_slice() == want.as_bytes(), "{lines}");
     }
     fs::remove_dir_all(&rt, "im_tool_kept")?;

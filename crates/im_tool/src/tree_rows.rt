@@ -173,6 +173,84 @@ fn inner_pages_split(rt: HostRuntime) -> Result<(), Fail> {
     Ok(())
 }
 
+// ---- openings behind structure changes of a loser
+
+// Whether what the script prints ends so, with status 0.
+fn prints_at_the_end(alloc: Global, script: &[u8], end: &[u8]) -> io::Result<bool> {
+    let mut printed = Vec::new(alloc);
+    let mut reader = script;
+    let status = drill_text(alloc, &mut reader, &mut printed)?;
+    Ok(status == 0 && printed.ends_with(end))
+}
+
+// Fifteen keys fill page 1, and then a loser puts one in front of each: leaves split under both.
+fn inserted_by_a_loser(script: &mut Vec<u8>) -> io::Result<()> {
+    write!(script, "life\nbegin\n")?;
+    for n in 1..16u32 {
+        insert_key(script, n)?;
+    }
+    write!(script, "commit 1\nbegin\n")?;
+    for n in 1..16u32 {
+        writeln!(script, "insert 2 {}{}+y*253 {n}", n / 10, n % 10)?;
+    }
+    writeln!(script, "force")
+}
+
+// Sixteen keys stand in two leaves, and a loser deletes them all: the leaves go out of the tree.
+fn deleted_by_a_loser(script: &mut Vec<u8>) -> io::Result<()> {
+    write!(script, "life\nbegin\n")?;
+    for n in 1..17u32 {
+        insert_key(script, n)?;
+    }
+    write!(script, "commit 1\nbegin\n")?;
+    for n in 1..17u32 {
+        writeln!(script, "delete 2 {}{}+z*253", n / 10, n % 10)?;
+    }
+    writeln!(script, "force")
+}
+
+fn final_keys(end: &mut Vec<u8>, last: u32) -> io::Result<()> {
+    writeln!(end, "final {last}")?;
+    entries_of_keys(end, last)
+}
+
+#[test]
+fn keys_of_a_loser_are_taken_back_behind_splits(rt: HostRuntime) -> Result<(), Fail> {
+    let alloc = rt.alloc();
+    let mut script = Vec::new(alloc);
+    let mut end = Vec::new(alloc);
+    inserted_by_a_loser(&mut script)?;
+    final_keys(&mut end, 15)?;
+    assert!(rt; prints_at_the_end(alloc, &script, &end)?);
+    Ok(())
+}
+
+#[test]
+fn keys_that_a_loser_deleted_come_back(rt: HostRuntime) -> Result<(), Fail> {
+    let alloc = rt.alloc();
+    let mut script = Vec::new(alloc);
+    let mut end = Vec::new(alloc);
+    deleted_by_a_loser(&mut script)?;
+    final_keys(&mut end, 16)?;
+    assert!(rt; prints_at_the_end(alloc, &script, &end)?);
+    Ok(())
+}
+
+// An opening that takes a loser back is stopped within each of its first calls, and the next one has the same in the end.
+#[test]
+fn an_opening_that_splits_may_be_stopped(rt: HostRuntime) -> Result<(), Fail> {
+    let alloc = rt.alloc();
+    let mut end = Vec::new(alloc);
+    final_keys(&mut end, 16)?;
+    for call in 1..17u32 {
+        let mut script = Vec::new(alloc);
+        deleted_by_a_loser(&mut script)?;
+        write!(script, "life frames 8\nstop {call} long 00\n")?;
+        assert!(rt; prints_at_the_end(alloc, &script, &end)?, "{call}");
+    }
+    Ok(())
+}
+
 // ---- a thousand transactions and a loser
 
 fn thousand_transactions(script: &mut Vec<u8>) -> io::Result<()> {

@@ -1,5 +1,5 @@
 -- The rows of the table, in rising number.
-use Rattle.std.specs.Prelude.{◌≡◌, ◌<◌, ◌==◌, ℕ, Bool, not, List, [], ◌∷◌, All, if◌then◌else◌}
+use Rattle.std.specs.Prelude.{◌≡◌, ◌<◌, ◌==◌, ℕ, Bool, not, List, [], ◌∷◌, if◌then◌else◌}
 use Rattle.im_txn.specs.declared.transaction.Mark.{Mark}
 use Rattle.im_txn.specs.declared.transaction.Mark.TheVariants.{Going}
 use Rattle.im_txn.specs.declared.transaction.Transaction.{Transaction}
@@ -8,10 +8,20 @@ use Rattle.im_txn.specs.declared.transaction.Transaction.{Transaction}
 abbrev pub begun : ℕ → Transaction
 begun number = record { number = number; last = 0; undo_next = 0; mark = Going }
 
--- Numbers rise.
+-- Each of these numbers is above this one.
+abbrev pub AreAbove : ℕ → List Transaction → Type 0
+AreAbove n [] = Unit {0}
+AreAbove n (row ∷ rows) = (n < row.number) × AreAbove n rows
+
+-- Numbers rise, so that each stands once.
 abbrev pub AreRising : List Transaction → Type 0
 AreRising [] = Unit {0}
-AreRising (row ∷ rows) = All (λ later. row.number < later.number) rows × AreRising rows
+AreRising (row ∷ rows) = AreAbove row.number rows × AreRising rows
+
+-- Each of these numbers is below this one.
+abbrev pub AreBelow : ℕ → List Transaction → Type 0
+AreBelow n [] = Unit {0}
+AreBelow n (row ∷ rows) = (row.number < n) × AreBelow n rows
 
 -- Whether a row has this number.
 abbrev pub is_of : ℕ → Transaction → Bool

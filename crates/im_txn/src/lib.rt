@@ -1,13 +1,16 @@
 //! The table of active transactions: at most 64 rows, in rising number.
 //!
-//! Contracts see the table as the list of its rows. Each call says exactly which list it leaves. No call takes memory: the rows
-//! stand in the table itself.
+//! Contracts see the table as the list of its rows. Each call says exactly which list it leaves; that numbers rise, so that each
+//! stands once, is the type's invariant (`AreRising`, which `rows` hands out). `look_ups_follow` is the law of what is found in the
+//! list behind each call. No call takes memory: the rows stand in the table itself.
 #![tactic(auto)]
 
+mod look_ups;
 mod table;
 #[cfg(test)]
 mod tests;
 mod transaction;
 
+pub use look_ups::{look_ups_follow, numbers_stay_below};
 pub use table::Table;
 pub use transaction::{Mark, Transaction};

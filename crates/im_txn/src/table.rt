@@ -1,7 +1,8 @@
 //! The table.
 
-ghost use Rattle.std.specs.Prelude.{◌≡◌, true, ◌<◌, ◌≤◌, ◌++◌, ◌↔◌, [], ◌∷◌, All, not, filter, find, length, map};
-ghost use Rattle.im_txn.specs.Rows.{begun, changed, is_of, with_mark, with_record};
+ghost use Rattle.std.specs.Prelude.{◌≡◌, true, ◌<◌, ◌≤◌, ◌++◌, ◌+◌, ◌↔◌, [], ◌∷◌, not, filter, find, length, map, Some};
+ghost use Rattle.im_txn.specs.Rows.{AreBelow, AreRising, begun, changed, is_of, with_mark, with_record};
+ghost use Rattle.im_txn.specs.declared.transaction.Transaction.{Transaction as Row};
 
 use crate::transaction::{Mark, Transaction};
 use arrayvec::ArrayVec;
@@ -22,7 +23,9 @@ impl Model for Table {
 
     ghost view = { λ table. table.rows.items };
 
-    ghost invariant = { λ table. length table.rows.items ≤ 64 };
+    ghost use Rattle.im_txn.specs.Rows.{AreRising};
+
+    ghost invariant = { λ table. (length table.rows.items ≤ 64) × AreRising table.rows.items };
 }
 
 impl Table {
@@ -51,7 +54,8 @@ impl Table {
 
     /// The rows, in rising number.
     pub fn rows(&self) -> &[Transaction]
-        ensures { result.now ≡ self.now }
+        ensures rows { result.now ≡ self.now }
+        ensures rising { AreRising result.now }
     {
         self.rows.as_slice()
     }
@@ -71,7 +75,7 @@ impl Table {
     /// Adds a transaction, whose number is above all others.
     pub fn begin(&mut self, number: TxnId)
         requires room { length self.old < 64 }
-        requires above { All (λ row. row.number < number) self.old }
+        requires above { AreBelow number self.old }
         ensures { self.new ≡ self.old ++ begun number ∷ [] }
     {
         self.rows.push(Transaction {
@@ -114,9 +118,10 @@ impl Table {
         }
     }
 
-    /// Takes the transaction of this number out of the table.
+    /// Takes the transaction of this number out of the table: one row, where it is active, else none.
     pub fn end(&mut self, number: TxnId)
-        ensures { self.new ≡ filter (λ row. not (is_of number row)) self.old }
+        ensures left { self.new ≡ filter (λ row. not (is_of number row)) self.old }
+        ensures one { (row : Row) → find (is_of number) self.old ≡ Some row → length self.old ≡ length self.new + 1 }
     {
         let mut at = 0;
         while at < self.rows.len() {

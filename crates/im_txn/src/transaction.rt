@@ -12,6 +12,8 @@ pub enum Mark {
     MustRollBack,
     /// It rolls back: only a step of that is taken.
     RollingBack,
+    /// Its Commit is logged and waits for a force: no step is taken.
+    Committing,
 }
 
 /// An active transaction.

@@ -8,7 +8,7 @@ use Rattle.im_types.proofs.WriterCheckpoints.{checkpoint_kept}
 use Rattle.im_types.proofs.WriterCovers.{covers, full_copy}
 use Rattle.im_types.proofs.WriterOpenings.{opened_kept, redo_ends}
 use Rattle.im_types.proofs.WriterRedo.{imaged_kept, loaded_kept, redone_kept}
-use Rattle.im_types.proofs.WriterWrites.{forced_kept, synced_kept, written_kept}
+use Rattle.im_types.proofs.WriterWrites.{forced_kept, forgotten_kept, synced_kept, written_kept}
 
 pub redo_reaches_the_page : RedoReachesThePage redo_all
 redo_reaches_the_page b older records bound p g up low has = redo_reaches b records older bound p g up low has
@@ -29,7 +29,8 @@ page_writes_are_covered = record {
   syncs = synced_kept;
   appends = λ b s r kept may same. appended_kept b s r kept may same;
   changes = λ b s r kept may. changed_kept b s r kept may;
-  checkpoints = λ b s r e n a d kept over last is lists synced_all. checkpoint_kept b s r e n a d kept over last is lists synced_all;
+  forgets = forgotten_kept;
+  checkpoints = λ b s r e n a d kept over last is lists synced_all none. checkpoint_kept b s r e n a d kept over last is lists synced_all none;
   images = λ b s r kept going last c is ready exact same. imaged_kept b s r kept going last c is ready exact same;
   loads = λ b s p l c kept going waits found. loaded_kept b s p l c kept going waits found;
   redoes = redone_kept;

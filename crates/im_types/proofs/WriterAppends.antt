@@ -1,15 +1,15 @@
 -- After redo, a record of any kind keeps the invariant.
-use Rattle.std.proofs.Common.{◌≡◌, inl, inr, ℕ, ◌+◌, ◌<◌, ◌≤◌, ◌∷◌, true, false, refl, sym, ◌∙◌, ap, subst, arith, Option, None, Some}
-use Rattle.std.specs.Prelude.{◌==◌}
+use Rattle.std.proofs.Common.{◌≡◌, inl, inr, ℕ, ◌+◌, ◌<◌, ◌≤◌, ◌∷◌, [], Bool, true, false, refl, sym, ◌∙◌, ap, subst, arith, Option, None, Some}
+use Rattle.std.specs.Prelude.{◌==◌, ◌||◌}
 use Rattle.std.proofs.lemmas.Bool.{cases_eq, cond-true, cond-false, eq-eqb, ne_eqb}
-use Rattle.im_types.specs.Copies.{Reaches, copy_in, noted}
+use Rattle.im_types.specs.Copies.{HasCopy, Reaches, copy_in, noted}
 use Rattle.im_types.specs.Histories.{Base, History, end_of, page_after, page_at}
 use Rattle.im_types.specs.Pages.{Page}
-use Rattle.im_types.specs.Records.{Logged}
+use Rattle.im_types.specs.Records.{Checkpoint, Commit, DeleteKey, DummyClr, End, Image, InsertKey, Logged, Smo, UndoDelete, UndoInsert, UndoSmo, Unreadable, What}
 use Rattle.im_types.specs.RedoPoints.{redo_point}
 use Rattle.im_types.specs.Writer.{DirtyEntry, EntryKept, IsAfterRedo, IsLeft, IsSince, IsWritten, PageKept, PageState, PointKept, ReachesInEach, Writer, WriterKept}
-use Rattle.im_types.specs.WriterSteps.{MayAppend, appended, changed, changed_entry, changed_page, first_since, only, passed}
-use Rattle.im_types.proofs.Copies.{copied_more}
+use Rattle.im_types.specs.WriterSteps.{MayAppend, appended, changed, changed_entry, changed_page, first_since, holds_copy, only, passed}
+use Rattle.im_types.proofs.Copies.{copied_more, copy_grows, noted_here}
 use Rattle.im_types.proofs.Histories.{end_le, front_more}
 use Rattle.im_types.proofs.Redo.{at_end, reached_end, reaches_before, reaches_less, reaches_more}
 use Rattle.im_types.proofs.WriterFronts.{left_split, whole}
@@ -62,7 +62,8 @@ module _ (b : Base) (s : Writer) (r : Logged) (k : WriterKept b s) (may : MayApp
         high = up;
         own = λ t some. let own = old.own t some in let t_high : t ≤ end_of b s.log = own.high in record { from = own.from; high = omega (arith, t_high, last); own = own.own };
         untouched = λ untouched. let d = old.untouched untouched in record { since = d.since; has = elim d.has [ inl copy ↦ inl copy | inr here ↦ inr (up_to p e.rec_lsn (s.pages p).synced up here) ] };
-        copy = old.copy;
+        copy = λ unsynced. split (λ (h : History). HasCopy s.durable p (redo_point h)) (may.point.unsynced p unsynced) (old.copy unsynced);
+        copied = λ known. copy_grows s.log (r ∷ s.log) p (redo_point (r ∷ s.log)) (record { newer = r ∷ []; is = refl }) (may.point.copied p e is known);
         written = old.written;
         older = λ unsynced t some. let t_high : t ≤ end_of b s.log = (old.own t some).high in up_to p t (s.pages p).reads (omega (arith, t_high, last)) (old.older unsynced t some);
       }
@@ -89,7 +90,28 @@ module _ (b : Base) (s : Writer) (r : Logged) (k : WriterKept b s) (may : MayApp
 
   -- ---- the page that it changes
 
-  since_some : (o : Option DirtyEntry) → (changed_entry r.lsn o).since ≡ None → ⊥
+  -- where it holds a full copy, the log has one
+  own_copy : holds_copy r.what ≡ true → HasCopy (r ∷ s.log) r.page (redo_point (r ∷ s.log))
+  own_copy holds = by r.what refl holds
+    where
+      has : (c : Page) → copy_in r.lsn r.what ≡ Some c → HasCopy (r ∷ s.log) r.page (redo_point (r ∷ s.log))
+      has c is = record { lsn = r.lsn; copy = c; is = noted_here (redo_point (r ∷ s.log)) r s.log r.page c may.point.high refl is }
+
+      by : (w : What) → r.what ≡ w → holds_copy w ≡ true → HasCopy (r ∷ s.log) r.page (redo_point (r ∷ s.log))
+      by (Image c) is holds = has c (ap (λ (w : What). copy_in r.lsn w) is)
+      by (Smo old new) is holds = has (record { lsn = r.lsn; body = new }) (ap (λ (w : What). copy_in r.lsn w) is)
+      by (UndoSmo new) is holds = has (record { lsn = r.lsn; body = new }) (ap (λ (w : What). copy_in r.lsn w) is)
+      by (InsertKey k i) is holds = absurd (cc holds)
+      by (DeleteKey k i) is holds = absurd (cc holds)
+      by (UndoInsert k i) is holds = absurd (cc holds)
+      by (UndoDelete k i) is holds = absurd (cc holds)
+      by DummyClr is holds = absurd (cc holds)
+      by Commit is holds = absurd (cc holds)
+      by End is holds = absurd (cc holds)
+      by (Checkpoint n a d) is holds = absurd (cc holds)
+      by Unreadable is holds = absurd (cc holds)
+
+  since_some : (o : Option DirtyEntry) → (changed_entry (holds_copy r.what) r.lsn o).since ≡ None → ⊥
   since_some None is = cc is
   since_some (Some e) is = by e.since is
     where
@@ -97,9 +119,9 @@ module _ (b : Base) (s : Writer) (r : Logged) (k : WriterKept b s) (may : MayApp
       by None is = cc is
       by (Some t) is = cc is
 
-  entry_new : (p : ℕ) (y : PageState) → (s.pages p).entry ≡ None → y.unsynced ≡ (s.pages p).unsynced → y.synced ≡ (s.pages p).synced
-      → EntryKept b (r ∷ s.log) s.durable s.point s.redo_end p y (record { rec_lsn = r.lsn; since = Some r.lsn })
-  entry_new p y none same_unsynced same_synced =
+  entry_new : (p : ℕ) (y : PageState) (one : Bool) → (one ≡ true → HasCopy (r ∷ s.log) p (redo_point (r ∷ s.log))) → (s.pages p).entry ≡ None → y.unsynced ≡ (s.pages p).unsynced → y.synced ≡ (s.pages p).synced
+      → EntryKept b (r ∷ s.log) s.durable s.point s.redo_end p y (record { rec_lsn = r.lsn; since = Some r.lsn; copied = one })
+  entry_new p y one has none same_unsynced same_synced =
       let clean = (k.pages p).clean ((k.pages p).run may.redo_end may.over).0 none in
       let is_synced : y.unsynced ≡ false = same_unsynced ∙ clean.0 in
       record {
@@ -108,13 +130,14 @@ module _ (b : Base) (s : Writer) (r : Logged) (k : WriterKept b s) (may : MayApp
         own = λ t some. let e : r.lsn ≡ t = cc some in subst (λ (y : ℕ). IsSince b (r ∷ s.log) s.point s.redo_end r.lsn y) e (record { from = omega arith; high = omega arith; own = inr (later r.lsn may.last) });
         untouched = λ untouched. record { since = refl; has = inr (up_to_before p y.synced (same_synced ∙ clean.1) (rw none tt)) };
         copy = λ unsynced. absurd (let clash : true ≡ false = sym unsynced ∙ is_synced in cc clash);
+        copied = has;
         written = λ unsynced. absurd (let clash : true ≡ false = sym unsynced ∙ is_synced in cc clash);
         older = λ unsynced. absurd (let clash : true ≡ false = sym unsynced ∙ is_synced in cc clash);
       }
 
-  entry_again : (p : ℕ) (y : PageState) (e : DirtyEntry) → (s.pages p).entry ≡ Some e → y.unsynced ≡ (s.pages p).unsynced → y.synced ≡ (s.pages p).synced → y.reads ≡ (s.pages p).reads
-      → (t : Option ℕ) → e.since ≡ t → EntryKept b (r ∷ s.log) s.durable s.point s.redo_end p y (record { rec_lsn = e.rec_lsn; since = first_since r.lsn t })
-  entry_again p y e is same_unsynced same_synced same_reads (Some t) some =
+  entry_again : (p : ℕ) (y : PageState) (e : DirtyEntry) (one : Bool) → (one ≡ true → HasCopy (r ∷ s.log) p (redo_point (r ∷ s.log))) → (s.pages p).entry ≡ Some e → y.unsynced ≡ (s.pages p).unsynced → y.synced ≡ (s.pages p).synced → y.reads ≡ (s.pages p).reads
+      → (t : Option ℕ) → e.since ≡ t → EntryKept b (r ∷ s.log) s.durable s.point s.redo_end p y (record { rec_lsn = e.rec_lsn; since = first_since r.lsn t; copied = one })
+  entry_again p y e one has is same_unsynced same_synced same_reads (Some t) some =
       let old = entry_more p e ((k.pages p).entry e is) is in
       record {
         low = old.low;
@@ -122,10 +145,11 @@ module _ (b : Base) (s : Writer) (r : Logged) (k : WriterKept b s) (may : MayApp
         own = λ u is_u. old.own u (some ∙ is_u);
         untouched = λ untouched. let d = old.untouched (sym same_unsynced ∙ untouched) in record { since = sym some ∙ d.since; has = elim d.has [ inl copy ↦ inl copy | inr here ↦ inr (subst (λ (o : Option Page). ReachesInEach b s.durable (r ∷ s.log) p e.rec_lsn o) (sym same_synced) here) ] };
         copy = λ unsynced. old.copy (sym same_unsynced ∙ unsynced);
+        copied = has;
         written = λ unsynced none. absurd (cc none);
         older = λ unsynced u is_u. subst (λ (o : Option Page). ReachesInEach b s.durable (r ∷ s.log) p u o) (sym same_reads) (old.older (sym same_unsynced ∙ unsynced) u (some ∙ is_u));
       }
-  entry_again p y e is same_unsynced same_synced same_reads None none =
+  entry_again p y e one has is same_unsynced same_synced same_reads None none =
       let was = (k.pages p).entry e is in
       let old = entry_more p e was is in
       record {
@@ -134,6 +158,7 @@ module _ (b : Base) (s : Writer) (r : Logged) (k : WriterKept b s) (may : MayApp
         own = λ u is_u. let j : r.lsn ≡ u = cc is_u in let high : e.rec_lsn ≤ r.lsn = old.high in subst (λ (y : ℕ). IsSince b (r ∷ s.log) s.point s.redo_end e.rec_lsn y) j (record { from = high; high = omega arith; own = inr (later r.lsn may.last) });
         untouched = λ untouched. absurd (let d : e.since ≡ Some e.rec_lsn = (was.untouched (sym same_unsynced ∙ untouched)).since in let clash : None ≡ Some e.rec_lsn = sym none ∙ d in cc clash);
         copy = λ unsynced. old.copy (sym same_unsynced ∙ unsynced);
+        copied = has;
         written = λ unsynced none. absurd (cc none);
         older = λ unsynced u is_u.
             let j : r.lsn ≡ u = cc is_u in
@@ -156,17 +181,21 @@ module _ (b : Base) (s : Writer) (r : Logged) (k : WriterKept b s) (may : MayApp
         now = λ ready. at_end b (r ∷ s.log) (r.lsn + 1) r.page (page_after r.lsn r.what (s.pages r.page).page) (let k : r.lsn < r.lsn + 1 = omega arith in k) (ap (λ (g : Page). page_after r.lsn r.what g) (is_now r.page) ∙ sym at);
         written = λ ready done. absurd (since_some (s.pages r.page).entry done);
         clean = λ ready none. absurd (cc none);
-        entry = λ e is. entry (s.pages r.page).entry refl e (let same : changed_entry r.lsn (s.pages r.page).entry ≡ e = cc is in same);
+        entry = λ e is. entry (s.pages r.page).entry refl e (let same : changed_entry (holds_copy r.what) r.lsn (s.pages r.page).entry ≡ e = cc is in same);
         still = old.still;
         waiting = λ waits. absurd (not_waiting r.page waits);
         found = λ waits. absurd (not_waiting r.page waits);
       }
     where
-      entry : (o : Option DirtyEntry) → (s.pages r.page).entry ≡ o → (e : DirtyEntry) → changed_entry r.lsn o ≡ e → EntryKept b (r ∷ s.log) s.durable s.point s.redo_end r.page (passed r.lsn (changed_page r (s.pages r.page))) e
+      either : (one : Bool) → (one ≡ true → HasCopy (r ∷ s.log) r.page (redo_point (r ∷ s.log))) → (e : DirtyEntry) → (s.pages r.page).entry ≡ Some e → (one || e.copied) ≡ true → HasCopy (r ∷ s.log) r.page (redo_point (r ∷ s.log))
+      either true has e is known = has refl
+      either false has e is known = (entry_more r.page e ((k.pages r.page).entry e is) is).copied known
+
+      entry : (o : Option DirtyEntry) → (s.pages r.page).entry ≡ o → (e : DirtyEntry) → changed_entry (holds_copy r.what) r.lsn o ≡ e → EntryKept b (r ∷ s.log) s.durable s.point s.redo_end r.page (passed r.lsn (changed_page r (s.pages r.page))) e
       entry None is e same = subst (λ (x : DirtyEntry). EntryKept b (r ∷ s.log) s.durable s.point s.redo_end r.page (passed r.lsn (changed_page r (s.pages r.page))) x) same
-          (entry_new r.page (passed r.lsn (changed_page r (s.pages r.page))) is refl refl)
+          (entry_new r.page (passed r.lsn (changed_page r (s.pages r.page))) (holds_copy r.what) own_copy is refl refl)
       entry (Some old) is e same = subst (λ (x : DirtyEntry). EntryKept b (r ∷ s.log) s.durable s.point s.redo_end r.page (passed r.lsn (changed_page r (s.pages r.page))) x) same
-          (entry_again r.page (passed r.lsn (changed_page r (s.pages r.page))) old is refl refl refl old.since refl)
+          (entry_again r.page (passed r.lsn (changed_page r (s.pages r.page))) old (holds_copy r.what || old.copied) (either (holds_copy r.what) own_copy old is) is refl refl refl old.since refl)
 
   -- ---- the whole
 

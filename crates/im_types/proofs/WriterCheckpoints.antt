@@ -1,20 +1,21 @@
 -- The redo point of the longer log: as before, or that of the first record, or a Checkpoint's.
-use Rattle.std.proofs.Common.{◌≡◌, inl, inr, ◌⊎◌, ℕ, ◌<◌, ◌≤◌, List, [], ◌∷◌, false, refl, sym, ◌∙◌, ap, subst, arith, Option, None, Some}
+use Rattle.std.proofs.Common.{◌≡◌, inl, inr, ◌⊎◌, ℕ, ◌<◌, ◌≤◌, List, [], ◌∷◌, true, false, refl, sym, ◌∙◌, ap, subst, arith, Option, None, Some}
 use Rattle.std.specs.Prelude.{min}
 use Rattle.std.proofs.lemmas.Bool.{cases_eq, cases_lt}
 use Rattle.im_types.specs.declared.tables.ActiveTransaction.{ActiveTransaction}
 use Rattle.im_types.specs.declared.tables.DirtyPage.{DirtyPage}
-use Rattle.im_types.specs.Copies.{Reaches, copy_in, noted}
+use Rattle.im_types.specs.Copies.{HasCopy, Reaches, copy_in, noted}
 use Rattle.im_types.specs.Histories.{Base, History, end_of, page_after, page_at}
 use Rattle.im_types.specs.Pages.{Page}
 use Rattle.im_types.specs.Records.{Checkpoint, Logged, What}
 use Rattle.im_types.specs.RedoPoints.{is_checkpoint, least, redo_point}
 use Rattle.im_types.specs.Writer.{DirtyEntry, IsAfterRedo, Writer, WriterKept}
-use Rattle.im_types.specs.WriterSteps.{IsDirty, IsIn, Lists, MayAppend, NextPoint, appended}
+use Rattle.im_types.specs.WriterSteps.{is_copied, IsDirty, IsIn, Lists, MayAppend, NextPoint, appended}
 use Rattle.im_types.proofs.Appends.{plain}
 use Rattle.im_types.proofs.Histories.{page_here, page_other}
 use Rattle.im_types.proofs.RedoPoints.{least_start, point_checkpoint, point_first, point_same}
 use Rattle.im_types.proofs.WriterAppends.{appended_kept}
+use Rattle.im_types.proofs.WriterCovers.{full_copy}
 use Rattle.im_types.proofs.WriterFronts.{whole}
 
 -- ---- no Checkpoint
@@ -29,16 +30,21 @@ same_point b s r k last same =
       own = subst (λ (m : ℕ). (m ≡ s.point) ⊎ IsAfterRedo s.redo_end m) (sym same) now.own;
       entries = λ p e is. subst (λ (m : ℕ). m ≤ e.rec_lsn) (sym same) (((k.pages p).entry e is).low s.log w);
       copies = subst (λ (m : ℕ). (p l : ℕ) (c : Page) → noted m s.log p ≡ Some (l, c) → Reaches b s.log m p c) (sym same) (k.copied s.log w);
+      copied = λ p e is known. subst (λ (m : ℕ). HasCopy s.log p m) (sym same) (((k.pages p).entry e is).copied known);
+      unsynced = λ p unsynced. subst (λ (m : ℕ). HasCopy s.durable p m) (sym same) ((full_copy b s k p unsynced).copy s.log w);
     }
 
 -- a point after redo ended serves
 pub later_point : (b : Base) (s : Writer) (r : Logged) (q : ℕ) → WriterKept b s → s.redo_end ≡ Some q → q < redo_point (r ∷ s.log) → redo_point (r ∷ s.log) ≤ r.lsn
-    → ((p : ℕ) (e : DirtyEntry) → (s.pages p).entry ≡ Some e → redo_point (r ∷ s.log) ≤ e.rec_lsn) → NextPoint b s r
-later_point b s r q k is past high entries = record {
+    → ((p : ℕ) (e : DirtyEntry) → (s.pages p).entry ≡ Some e → redo_point (r ∷ s.log) ≤ e.rec_lsn) → ((p : ℕ) → (s.pages p).unsynced ≡ true → ⊥)
+    → ((p : ℕ) (e : DirtyEntry) → (s.pages p).entry ≡ Some e → e.copied ≡ true → ⊥) → NextPoint b s r
+later_point b s r q k is past high entries synced none = record {
   high = high;
   own = inr (subst (λ (o : Option ℕ). IsAfterRedo o (redo_point (r ∷ s.log))) (sym is) past);
   entries = entries;
   copies = k.exact q is (redo_point (r ∷ s.log)) past;
+  copied = λ p e is known. absurd (none p e is known);
+  unsynced = λ p unsynced. absurd (synced p unsynced);
 }
 
 pub next_point : (b : Base) (s : Writer) (r : Logged) (q : ℕ) → WriterKept b s → s.redo_end ≡ Some q → end_of b s.log < r.lsn → is_checkpoint r.what ≡ false → NextPoint b s r
@@ -50,6 +56,8 @@ next_point b s r q k is last plain = by s.log refl
         let here : redo_point (r ∷ s.log) ≡ r.lsn = subst (λ (l : History). redo_point (r ∷ l) ≡ r.lsn) (sym eq) (point_first r plain) in
         let low : q ≤ end_of b s.log = (k.over q is).1 in
         later_point b s r q k is (omega (arith, here, low, last)) (omega (arith, here)) (λ p e held. absurd (let clash : None ≡ Some e = sym (k.first eq p) ∙ held in cc clash))
+        (λ p unsynced. let has = full_copy b s k p unsynced in let clash : None ≡ Some has.entry = sym (k.first eq p) ∙ has.is in cc clash)
+        (λ p e held. absurd (let clash : None ≡ Some e = sym (k.first eq p) ∙ held in cc clash))
 
 -- ---- a Checkpoint
 
@@ -72,7 +80,8 @@ least_one l (y ∷ d) = elim (least_one (min l y.rec_lsn) d) [
 ]
 
 module _ (b : Base) (s : Writer) (r : Logged) (q n : ℕ) (a : List ActiveTransaction) (d : List DirtyPage) (k : WriterKept b s) (redo_end : s.redo_end ≡ Some q) (last : end_of b s.log < r.lsn)
-    (is : r.what ≡ Checkpoint n a d) (lists : Lists s.pages d) (synced : (p : ℕ) → (s.pages p).unsynced ≡ false) where
+    (is : r.what ≡ Checkpoint n a d) (lists : Lists s.pages d) (synced : (p : ℕ) → (s.pages p).unsynced ≡ false)
+    (forgotten : (p : ℕ) → is_copied (s.pages p).entry ≡ false) where
   point : redo_point (r ∷ s.log) ≡ least r.lsn d
   point = point_checkpoint r s.log n a d is
 
@@ -81,6 +90,12 @@ module _ (b : Base) (s : Writer) (r : Logged) (q n : ℕ) (a : List ActiveTransa
 
   high : redo_point (r ∷ s.log) ≤ r.lsn
   high = let low : least r.lsn d ≤ r.lsn = least_start r.lsn d in omega (arith, point, low)
+
+  none_known : (p : ℕ) (e : DirtyEntry) → (s.pages p).entry ≡ Some e → e.copied ≡ true → ⊥
+  none_known p e is known = let clash : true ≡ false = sym known ∙ ap (λ (o : Option DirtyEntry). is_copied o) (sym is) ∙ forgotten p in cc clash
+
+  still : (p : ℕ) → (s.pages p).unsynced ≡ true → ⊥
+  still p unsynced = let clash : true ≡ false = sym unsynced ∙ synced p in cc clash
 
   end_low : (s.point ≤ q) × (q ≤ end_of b s.log)
   end_low = k.over q redo_end
@@ -97,13 +112,13 @@ module _ (b : Base) (s : Writer) (r : Logged) (q n : ℕ) (a : List ActiveTransa
 
   pub checkpoint_next : NextPoint b s r
   checkpoint_next = elim (least_one r.lsn d) [
-    | inl lsn ↦ later_point b s r q k redo_end (let low : q ≤ end_of b s.log = end_low.1 in omega (arith, point, lsn, low, last)) high entries
+    | inl lsn ↦ later_point b s r q k redo_end (let low : q ≤ end_of b s.log = end_low.1 in omega (arith, point, lsn, low, last)) high entries still none_known
     | inr (x, within, same) ↦ of x (lists.each x within) same
   ]
     where
       of : (x : DirtyPage) → IsDirty s.pages x → least r.lsn d ≡ x.rec_lsn → NextPoint b s r
       of x dirty same = elim (rec_own x.page dirty.entry dirty.is) [
-        | inr past ↦ later_point b s r q k redo_end (omega (arith, point, same, dirty.rec_lsn, past)) high entries
+        | inr past ↦ later_point b s r q k redo_end (omega (arith, point, same, dirty.rec_lsn, past)) high entries still none_known
         | inl old ↦ same_point b s r k last (as_before x dirty.entry dirty.is dirty.rec_lsn same old)
       ]
         where

@@ -35,7 +35,7 @@ module _ (b : Base) (s : Writer) (kept : WriterKept b s) where
   read_entry file h p e left w none is =
       let low : redo_point h ≤ e.rec_lsn = is.low h w in
       elim (cases_Bool (s.pages p).unsynced) [
-        | inl unsynced ↦ absurd (no_copy s.durable h p e.rec_lsn (redo_point h) w.from low (is.copy unsynced) none)
+        | inl unsynced ↦ absurd (no_copy s.durable h p (redo_point h) (redo_point h) w.from (omega arith) (is.copy unsynced h w) none)
         | inr untouched ↦ elim (is.untouched untouched).has [
           | inl copy ↦ absurd (no_copy s.durable h p e.rec_lsn (redo_point h) w.from low copy none)
           | inr found ↦ record { page = found.page; here = left p untouched ∙ found.is; reaches = reaches_less b h e.rec_lsn (redo_point h) p found.page low (found.all h w) }
@@ -71,7 +71,7 @@ module _ (b : Base) (s : Writer) (kept : WriterKept b s) where
   pub covers : (file : ℕ → Option Page) → LeavesPages s file → (h : History) → IsLeft s.durable s.log h → Covers b h file
   covers file left h w = record { copied = kept.copied h w; read = λ p none. read_one file h p left w none }
 
-  -- A page written since the last sync has an entry, and the durable log a full copy of it at or after its rec_lsn.
+  -- A page written since the last sync has an entry, and the durable log a full copy of it at or after the redo point of each log that a stop can leave.
   pub full_copy : (p : ℕ) → (s.pages p).unsynced ≡ true → HasFullCopy s p
   full_copy p unsynced = elim (cases_Bool (s.pages p).waits) [
     | inl waits ↦ absurd (let clash : true ≡ false = sym unsynced ∙ ((kept.pages p).waiting waits).synced in cc clash)

@@ -2,6 +2,7 @@
 use Rattle.std.proofs.Common.{◌≡◌, inl, inr, ℕ, Option}
 use Rattle.im_types.specs.Histories.{Base, History, IsFront}
 use Rattle.im_types.specs.Pages.{Page}
+use Rattle.im_types.specs.RedoPoints.{redo_point}
 use Rattle.im_types.specs.Writer.{IsLeft, PageKept, PageState, ReachesInEach, Writer, WriterKept}
 use Rattle.im_types.proofs.Copies.{copy_grows}
 use Rattle.im_types.proofs.Histories.{front_of_front}
@@ -32,7 +33,8 @@ page_grown b log durable more point redo_end p x f k = record {
         | inr here ↦ inr (reaches_grown b log durable more p e.rec_lsn x.synced f here)
       ];
     };
-    copy = λ unsynced. copy_grows durable more p e.rec_lsn f (old.copy unsynced);
+    copy = λ unsynced h w. copy_grows durable more p (redo_point h) f (old.copy unsynced h (left_grown durable more log h f w));
+    copied = old.copied;
     written = old.written;
     older = λ unsynced t is. reaches_grown b log durable more p t x.reads f (old.older unsynced t is);
   };

@@ -1,5 +1,5 @@
 -- Restart's steps: the opening, copies, records, Images of evictions, and the end of redo.
-use Rattle.std.proofs.Common.{◌≡◌, inl, inr, ◌⊎◌, ℕ, ◌+◌, ◌<◌, ◌≤◌, ◌∷◌, ◌++◌, Bool, true, false, refl, sym, ◌∙◌, ap, subst, arith, append_assoc, Option, None, Some}
+use Rattle.std.proofs.Common.{◌≡◌, inl, inr, ◌⊎◌, ℕ, ◌+◌, ◌<◌, ◌≤◌, [], ◌∷◌, ◌++◌, Bool, true, false, refl, sym, ◌∙◌, ap, subst, arith, append_assoc, Option, None, Some}
 use Rattle.std.specs.Prelude.{if◌then◌else◌, ◌==◌, nat_le}
 use Rattle.std.proofs.lemmas.Bool.{cases_Bool, cond-true, cond-false}
 use Rattle.im_types.specs.Copies.{HasCopy, Reaches, copy_in, noted, redo_one}
@@ -8,9 +8,9 @@ use Rattle.im_types.specs.Pages.{Page}
 use Rattle.im_types.specs.Records.{Image, Logged, What}
 use Rattle.im_types.specs.RedoPoints.{redo_point}
 use Rattle.im_types.specs.Writer.{DirtyEntry, EntryKept, IsAfterRedo, IsLeft, IsSince, IsWritten, PageKept, PageState, PointKept, ReachesInEach, Writer, WriterKept}
-use Rattle.im_types.specs.WriterSteps.{applies, at_point, ended, imaged, loaded, loaded_page, passed, redone, redone_page}
+use Rattle.im_types.specs.WriterSteps.{applies, at_point, ended, imaged, is_copied, loaded, loaded_page, passed, redone, redone_page}
 use Rattle.im_types.proofs.Appends.{plain}
-use Rattle.im_types.proofs.Copies.{copied_more, copy_from, noted_none, noted_within}
+use Rattle.im_types.proofs.Copies.{copied_more, copy_from, copy_grows, noted_none, noted_within}
 use Rattle.im_types.proofs.Histories.{end_le, front_more, front_of_front, front_self, no_change, rises_in, start_low}
 use Rattle.im_types.proofs.Redo.{at_end, reaches_less, reaches_more, reaches_one}
 use Rattle.im_types.proofs.WriterFronts.{left_split, whole}
@@ -51,7 +51,8 @@ module _ (b : Base) (s : Writer) (r : Logged) (k : WriterKept b s) (going : s.re
         high = up;
         own = λ t some. let own = old.own t some in let t_high : t ≤ end_of b s.log = own.high in record { from = own.from; high = omega (arith, t_high, last); own = own.own };
         untouched = λ untouched. let d = old.untouched untouched in record { since = d.since; has = elim d.has [ inl copy ↦ inl copy | inr here ↦ inr (up_to p e.rec_lsn (s.pages p).synced up here) ] };
-        copy = old.copy;
+        copy = λ unsynced. split (λ (h : History). HasCopy s.durable p (redo_point h)) (subst (λ (m : ℕ). HasCopy s.durable p m) (sym same) (old.copy unsynced s.log all)) (old.copy unsynced);
+        copied = λ known. copy_grows s.log (r ∷ s.log) p (redo_point (r ∷ s.log)) (record { newer = r ∷ []; is = refl }) (subst (λ (m : ℕ). HasCopy s.log p m) (sym same) (old.copied known));
         written = old.written;
         older = λ unsynced t some. let t_high : t ≤ end_of b s.log = (old.own t some).high in up_to p t (s.pages p).reads (omega (arith, t_high, last)) (old.older unsynced t some);
       }
@@ -104,19 +105,20 @@ module _ (b : Base) (s : Writer) (r : Logged) (k : WriterKept b s) (going : s.re
 
 -- ---- a page enters with the redo point
 
-entry_at_point : (b : Base) (s : Writer) (p : ℕ) (x : PageState) → WriterKept b s → s.redo_end ≡ None
+entry_at_point : (b : Base) (s : Writer) (p : ℕ) (x : PageState) (one : Bool) → WriterKept b s → s.redo_end ≡ None → (one ≡ true → HasCopy s.log p (redo_point s.log))
     → (x.unsynced ≡ false → HasCopy s.durable p s.point ⊎ ReachesInEach b s.durable s.log p s.point x.synced)
     → (x.unsynced ≡ true → HasCopy s.durable p s.point)
     → (x.unsynced ≡ true → ReachesInEach b s.durable s.log p s.point x.reads)
-    → EntryKept b s.log s.durable s.point s.redo_end p x (at_point s.point)
-entry_at_point b s p x k going untouched copy older =
+    → EntryKept b s.log s.durable s.point s.redo_end p x (at_point one s.point)
+entry_at_point b s p x one k going has untouched copy older =
     let high : s.point ≤ end_of b s.log = (let w = whole s.durable s.log k.front in let e : redo_point s.log ≡ s.point = point_in_redo b s k going s.log w in let h : redo_point s.log ≤ end_of b s.log = (k.points s.log w).high in omega (arith, e, h)) in
     record {
       low = λ h w. let e : redo_point h ≡ s.point = point_in_redo b s k going h w in omega (arith, e);
       high = high;
       own = λ t some. let e : s.point ≡ t = cc some in subst (λ (y : ℕ). IsSince b s.log s.point s.redo_end s.point y) e (record { from = omega arith; high = high; own = inl refl });
       untouched = λ d. record { since = refl; has = untouched d };
-      copy = copy;
+      copy = λ unsynced h w. subst (λ (m : ℕ). HasCopy s.durable p m) (sym (point_in_redo b s k going h w)) (copy unsynced);
+      copied = has;
       written = λ unsynced none. absurd (cc none);
       older = λ unsynced t some. let e : s.point ≡ t = cc some in subst (λ (y : ℕ). ReachesInEach b s.durable s.log p y x.reads) e (older unsynced);
     }
@@ -130,6 +132,7 @@ module _ (b : Base) (s : Writer) (p l : ℕ) (c : Page) (k : WriterKept b s) (go
       let wait = old.waiting waits in
       let w = whole s.durable s.log k.front in
       let has : HasCopy s.durable p s.point = record { lsn = l; copy = c; is = old.found waits s.durable (record { from = front_self s.durable; upto = k.front }) ∙ found } in
+      let in_log : HasCopy s.log p (redo_point s.log) = subst (λ (m : ℕ). HasCopy s.log p m) (sym (point_in_redo b s k going s.log w)) (copy_grows s.durable s.log p s.point k.front has) in
       let high : s.point ≤ end_of b s.log = (let e : redo_point s.log ≡ s.point = point_in_redo b s k going s.log w in let h : redo_point s.log ≤ end_of b s.log = (k.points s.log w).high in omega (arith, e, h)) in
       record {
         low = λ ready. omega arith;
@@ -139,8 +142,8 @@ module _ (b : Base) (s : Writer) (p l : ℕ) (c : Page) (k : WriterKept b s) (go
             subst (λ (m : ℕ). Reaches b s.log m p c) e (k.copied s.log w p l c (ap (λ (m : ℕ). noted m s.log p) e ∙ old.found waits s.log w ∙ found)));
         written = λ ready done. absurd (cc done);
         clean = λ ready none. absurd (cc none);
-        entry = λ e is. (let same : at_point s.point ≡ e = cc is in subst (λ (y : DirtyEntry). EntryKept b s.log s.durable s.point s.redo_end p (loaded_page s.point c (s.pages p)) y) same
-            (entry_at_point b s p (loaded_page s.point c (s.pages p)) k going (λ untouched. inl has) (λ unsynced. has) (λ unsynced. absurd (let clash : true ≡ false = sym unsynced ∙ wait.synced in cc clash))));
+        entry = λ e is. (let same : at_point true s.point ≡ e = cc is in subst (λ (y : DirtyEntry). EntryKept b s.log s.durable s.point s.redo_end p (loaded_page s.point c (s.pages p)) y) same
+            (entry_at_point b s p (loaded_page s.point c (s.pages p)) true k going (λ known. in_log) (λ untouched. inl has) (λ unsynced. has) (λ unsynced. absurd (let clash : true ≡ false = sym unsynced ∙ wait.synced in cc clash))));
         still = old.still;
         waiting = λ still. absurd (cc still);
         found = λ still. absurd (cc still);
@@ -192,21 +195,21 @@ module _ (b : Base) (s : Writer) (r : Logged) (newer f : History) (k : WriterKep
   up_to_page : (o : Option Page) → o ≡ Some (s.pages p).page → IsWritten (s.pages p).entry → ReachesInEach b s.durable s.log p s.point o
   up_to_page o is done = record { page = (s.pages p).page; is = is; all = λ h w. reaches_less b h (s.pages p).upto s.point p (s.pages p).page ((k.pages p).low ready) ((k.pages p).written ready done h w) }
 
-  enters : (y : PageState) → y.unsynced ≡ (s.pages p).unsynced → y.synced ≡ (s.pages p).synced → y.reads ≡ (s.pages p).reads → (o : Option DirtyEntry) → (s.pages p).entry ≡ o → EntryKept b s.log s.durable s.point s.redo_end p y (at_point s.point)
+  enters : (y : PageState) → y.unsynced ≡ (s.pages p).unsynced → y.synced ≡ (s.pages p).synced → y.reads ≡ (s.pages p).reads → (o : Option DirtyEntry) → (s.pages p).entry ≡ o → EntryKept b s.log s.durable s.point s.redo_end p y (at_point (is_copied o) s.point)
   enters y same_unsynced same_synced same_reads None none =
       let (untouched, here) = (k.pages p).clean ready none in
       let y_synced : y.unsynced ≡ false = same_unsynced ∙ untouched in
-      entry_at_point b s p y k going (λ d. inr (up_to_page y.synced (same_synced ∙ here) (rw none tt)))
+      entry_at_point b s p y false k going (λ known. absurd (cc known)) (λ d. inr (up_to_page y.synced (same_synced ∙ here) (rw none tt)))
       (λ unsynced. absurd (let clash : true ≡ false = sym unsynced ∙ y_synced in cc clash)) (λ unsynced. absurd (let clash : true ≡ false = sym unsynced ∙ y_synced in cc clash))
   enters y same_unsynced same_synced same_reads (Some e) some =
       let old = (k.pages p).entry e some in
       let low = point_le e some in
-      entry_at_point b s p y k going
+      entry_at_point b s p y e.copied k going old.copied
       (λ d. elim (old.untouched (sym same_unsynced ∙ d)).has [
         | inl copy ↦ inl (copy_from s.durable p e.rec_lsn s.point low copy)
         | inr here ↦ inr (up_to_less e.rec_lsn y.synced low (subst (λ (o : Option Page). ReachesInEach b s.durable s.log p e.rec_lsn o) (sym same_synced) here))
       ])
-      (λ unsynced. copy_from s.durable p e.rec_lsn s.point low (old.copy (sym same_unsynced ∙ unsynced)))
+      (λ unsynced. let w = whole s.durable s.log k.front in subst (λ (m : ℕ). HasCopy s.durable p m) (point_in_redo b s k going s.log w) (old.copy (sym same_unsynced ∙ unsynced) s.log w))
       (λ unsynced. older old low (sym same_unsynced ∙ unsynced) e.since refl)
     where
       older : EntryKept b s.log s.durable s.point s.redo_end p (s.pages p) e → s.point ≤ e.rec_lsn → (s.pages p).unsynced ≡ true → (t : Option ℕ) → e.since ≡ t → ReachesInEach b s.durable s.log p s.point y.reads
@@ -221,15 +224,15 @@ module _ (b : Base) (s : Writer) (r : Logged) (newer f : History) (k : WriterKep
   page_redone : PageKept b s.log s.durable s.point s.redo_end p (redone_page s.point r p (s.pages p))
   page_redone = elim (cases_Bool (applies r p (s.pages p).page)) [
     | inl done ↦ subst (λ (o : Option DirtyEntry). PageKept b s.log s.durable s.point s.redo_end p (record (s.pages p) { page = redo_one r p (s.pages p).page; upto = r.lsn + 1; entry = o }))
-        (sym (cond-true (applies r p (s.pages p).page) (Some (at_point s.point)) (s.pages p).entry done)) when_applied
+        (sym (cond-true (applies r p (s.pages p).page) (Some (at_point (is_copied (s.pages p).entry) s.point)) (s.pages p).entry done)) when_applied
     | inr nil ↦ subst (λ (o : Option DirtyEntry). PageKept b s.log s.durable s.point s.redo_end p (record (s.pages p) { page = redo_one r p (s.pages p).page; upto = r.lsn + 1; entry = o }))
-        (sym (cond-false (applies r p (s.pages p).page) (Some (at_point s.point)) (s.pages p).entry nil)) (when_passed nil)
+        (sym (cond-false (applies r p (s.pages p).page) (Some (at_point (is_copied (s.pages p).entry) s.point)) (s.pages p).entry nil)) (when_passed nil)
   ]
     where
       w : IsLeft s.durable s.log s.log
       w = whole s.durable s.log k.front
 
-      when_applied : PageKept b s.log s.durable s.point s.redo_end p (record (s.pages p) { page = redo_one r p (s.pages p).page; upto = r.lsn + 1; entry = Some (at_point s.point) })
+      when_applied : PageKept b s.log s.durable s.point s.redo_end p (record (s.pages p) { page = redo_one r p (s.pages p).page; upto = r.lsn + 1; entry = Some (at_point (is_copied (s.pages p).entry) s.point) })
       when_applied = record {
         low = λ x. omega (arith, after_point);
         high = (let i : r.lsn ≤ end_of b s.log = in_log in omega (arith, i));
@@ -237,8 +240,8 @@ module _ (b : Base) (s : Writer) (r : Logged) (newer f : History) (k : WriterKep
         now = λ x. one s.log w ((k.pages p).now ready);
         written = λ x done. absurd (cc done);
         clean = λ x none. absurd (cc none);
-        entry = λ e is. (let same : at_point s.point ≡ e = cc is in subst (λ (y : DirtyEntry). EntryKept b s.log s.durable s.point s.redo_end p (record (s.pages p) { page = redo_one r p (s.pages p).page; upto = r.lsn + 1; entry = Some (at_point s.point) }) y) same
-            (enters (record (s.pages p) { page = redo_one r p (s.pages p).page; upto = r.lsn + 1; entry = Some (at_point s.point) }) refl refl refl (s.pages p).entry refl));
+        entry = λ e is. (let same : at_point (is_copied (s.pages p).entry) s.point ≡ e = cc is in subst (λ (y : DirtyEntry). EntryKept b s.log s.durable s.point s.redo_end p (record (s.pages p) { page = redo_one r p (s.pages p).page; upto = r.lsn + 1; entry = Some (at_point (is_copied (s.pages p).entry) s.point) }) y) same
+            (enters (record (s.pages p) { page = redo_one r p (s.pages p).page; upto = r.lsn + 1; entry = Some (at_point (is_copied (s.pages p).entry) s.point) }) refl refl refl (s.pages p).entry refl));
         still = (k.pages p).still;
         waiting = λ waits. absurd (let clash : true ≡ false = sym waits ∙ ready in cc clash);
         found = λ waits. absurd (let clash : true ≡ false = sym waits ∙ ready in cc clash);
@@ -260,6 +263,7 @@ module _ (b : Base) (s : Writer) (r : Logged) (newer f : History) (k : WriterKep
               own = old.own;
               untouched = old.untouched;
               copy = old.copy;
+              copied = old.copied;
               written = λ unsynced none. old.written unsynced none ∙ ap (λ (g : Page). Some g) (sym same);
               older = old.older;
             };
@@ -316,6 +320,7 @@ module _ (b : Base) (s : Writer) (k : WriterKept b s) (going : s.redo_end ≡ No
           own = λ t some. let own = was.own t some in record { from = own.from; high = own.high; own = elim own.own [ inl same ↦ inl same | inr later ↦ absurd (not_later s.redo_end t going later) ] };
           untouched = was.untouched;
           copy = was.copy;
+          copied = was.copied;
           written = was.written;
           older = was.older;
         };

@@ -9,7 +9,7 @@ use Rattle.im_types.specs.Pages.{Page}
 use Rattle.im_types.specs.Records.{Logged}
 use Rattle.im_types.specs.RedoPoints.{redo_point}
 use Rattle.im_types.specs.Writer.{DirtyEntry, EntryKept, IsLeft, IsSince, IsWritten, PageKept, PageState, ReachesInEach, Writer, WriterKept}
-use Rattle.im_types.specs.WriterSteps.{MayWrite, forced, only, synced, synced_entry, synced_page, written, written_entry, written_page}
+use Rattle.im_types.specs.WriterSteps.{MayWrite, forced, forgotten, forgotten_entry, forgotten_page, only, synced, synced_entry, synced_page, written, written_entry, written_page}
 use Rattle.im_types.proofs.Copies.{copy_grows, noted_here}
 use Rattle.im_types.proofs.Histories.{end_le, front_self}
 use Rattle.im_types.proofs.WriterFronts.{left_all, left_forced, whole}
@@ -45,7 +45,8 @@ page_forced b log durable point redo_end p x front k = record {
         | inr here ↦ inr (up_to_forced b log durable p e.rec_lsn x.synced front here)
       ];
     };
-    copy = λ unsynced. copy_grows durable log p e.rec_lsn front (old.copy unsynced);
+    copy = λ unsynced h w. copy_grows durable log p (redo_point h) front (old.copy unsynced h (left_forced durable log h front w));
+    copied = old.copied;
     written = old.written;
     older = λ unsynced t is. up_to_forced b log durable p t x.reads front (old.older unsynced t is);
   };
@@ -108,7 +109,8 @@ module _ (b : Base) (s : Writer) (p l : ℕ) (k : WriterKept b s) (may : MayWrit
         high = bounds.1;
         own = λ t some. absurd (let clash : None ≡ Some t = sym none ∙ some in cc clash);
         untouched = λ untouched. absurd (cc untouched);
-        copy = λ unsynced. may.copy;
+        copy = λ unsynced h w. subst (λ (x : History). HasCopy s.durable p (redo_point x)) (sym (all_durable h w)) may.copy;
+        copied = λ known. subst (λ (d : History). HasCopy d p (redo_point s.log)) may.durable may.copy;
         written = λ unsynced nil. refl;
         older = λ unsynced t some. absurd (let clash : None ≡ Some t = sym none ∙ some in cc clash);
       })
@@ -124,7 +126,7 @@ module _ (b : Base) (s : Writer) (p l : ℕ) (k : WriterKept b s) (may : MayWrit
     over = k.over;
     first = λ empty. absurd (
         let has = may.copy in
-        let none : noted (written_entry l (s.pages p).entry).rec_lsn s.durable p ≡ None = rw (may.durable, empty) refl in
+        let none : noted (redo_point s.log) s.durable p ≡ None = subst (λ (d : History). noted (redo_point s.log) d p ≡ None) (sym (may.durable ∙ empty)) refl in
         let clash : None ≡ Some (has.lsn, has.copy) = sym none ∙ has.is in cc clash);
     pages = only_kept (PageKept b s.log s.durable s.point s.redo_end) p (written_page l) s.pages k.pages page_written;
   }
@@ -138,7 +140,7 @@ module _ (b : Base) (s : Writer) (p : ℕ) (x : PageState) (k : PageKept b s.log
   gone (Some e) is ready none = by e.since refl
     where
       by : (t : Option ℕ) → e.since ≡ t → (e.since ≡ None) × (x.reads ≡ Some x.page)
-      by (Some t) some = absurd (let clash : synced_entry (Some e) ≡ Some (record { rec_lsn = t; since = Some t }) = rw some refl in let c : None ≡ Some (record { rec_lsn = t; since = Some t }) = sym none ∙ clash in cc c)
+      by (Some t) some = absurd (let clash : synced_entry (Some e) ≡ Some (record { rec_lsn = t; since = Some t; copied = e.copied }) = rw some refl in let c : None ≡ Some (record { rec_lsn = t; since = Some t; copied = e.copied }) = sym none ∙ clash in cc c)
       by None nil = elim (cases_Bool x.unsynced) [
         | inl unsynced ↦ (nil, (k.entry e is).written unsynced nil)
         | inr untouched ↦ absurd (let clash : None ≡ Some e.rec_lsn = sym nil ∙ ((k.entry e is).untouched untouched).since in cc clash)
@@ -154,7 +156,7 @@ module _ (b : Base) (s : Writer) (p : ℕ) (x : PageState) (k : PageKept b s.log
       by (Some t) some_t =
           let was = k.entry old is in
           let own = was.own t some_t in
-          let new : DirtyEntry = record { rec_lsn = t; since = Some t } in
+          let new : DirtyEntry = record { rec_lsn = t; since = Some t; copied = old.copied } in
           let here : synced_entry (Some old) ≡ Some new = rw some_t refl in
           let same : new ≡ e = let j : Some new ≡ Some e = sym here ∙ some in cc j in
           subst (λ (y : DirtyEntry). EntryKept b s.log s.durable s.point s.redo_end p (synced_page x) y) same (record {
@@ -175,6 +177,7 @@ module _ (b : Base) (s : Writer) (p : ℕ) (x : PageState) (k : PageKept b s.log
               ];
             };
             copy = λ unsynced. absurd (cc unsynced);
+            copied = was.copied;
             written = λ unsynced. absurd (cc unsynced);
             older = λ unsynced. absurd (cc unsynced);
           })
@@ -199,7 +202,7 @@ module _ (b : Base) (s : Writer) (p : ℕ) (x : PageState) (k : PageKept b s.log
         where
           by : (t : Option ℕ) → e.since ≡ t → e.since ≡ None
           by None nil = nil
-          by (Some t) some = absurd (let c : IsWritten (Some (record { rec_lsn = t; since = Some t })) = (rw some at done) in cc c)
+          by (Some t) some = absurd (let c : IsWritten (Some (record { rec_lsn = t; since = Some t; copied = e.copied })) = (rw some at done) in cc c)
 
 -- Pages is synced.
 pub synced_kept : (b : Base) (s : Writer) → WriterKept b s → WriterKept b (synced s)
@@ -212,6 +215,57 @@ synced_kept b s k = record {
   over = k.over;
   first = λ empty p. rw (k.first empty p) refl;
   pages = λ p. page_synced b s p (s.pages p) (k.pages p);
+}
+
+-- ---- what is known of copies is forgotten
+
+not_known : (o : Option DirtyEntry) (e : DirtyEntry) → forgotten_entry o ≡ Some e → (old : DirtyEntry) × (o ≡ Some old) × (record old { copied = false } ≡ e)
+not_known None e is = absurd (cc is)
+not_known (Some old) e is = (old, refl, let same : record old { copied = false } ≡ e = cc is in same)
+
+still_written : (o : Option DirtyEntry) → IsWritten (forgotten_entry o) → IsWritten o
+still_written None done = tt
+still_written (Some e) done = done
+
+still_none : (o : Option DirtyEntry) → forgotten_entry o ≡ None → o ≡ None
+still_none None is = refl
+still_none (Some e) is = absurd (cc is)
+
+page_forgotten : (b : Base) (log durable : History) (point : ℕ) (redo_end : Option ℕ) (p : ℕ) (x : PageState) → PageKept b log durable point redo_end p x → PageKept b log durable point redo_end p (forgotten_page x)
+page_forgotten b log durable point redo_end p x k = record {
+  low = k.low;
+  high = k.high;
+  run = k.run;
+  now = k.now;
+  written = λ ready done. k.written ready (still_written x.entry done);
+  clean = λ ready none. k.clean ready (still_none x.entry none);
+  entry = λ e is. let (old, was, same) = not_known x.entry e is in let kept = k.entry old was in
+      subst (λ (y : DirtyEntry). EntryKept b log durable point redo_end p (forgotten_page x) y) same (record {
+        low = kept.low;
+        high = kept.high;
+        own = kept.own;
+        untouched = λ untouched. let d = kept.untouched untouched in record { since = d.since; has = d.has };
+        copy = kept.copy;
+        copied = λ known. absurd (cc known);
+        written = kept.written;
+        older = kept.older;
+      });
+  still = k.still;
+  waiting = λ waits. let old = k.waiting waits in record { none = rw old.none refl; synced = old.synced; lsn = old.lsn; copy = old.copy; found = old.found };
+  found = k.found;
+}
+
+-- No copy counts as known any more.
+pub forgotten_kept : (b : Base) (s : Writer) → WriterKept b s → WriterKept b (forgotten s)
+forgotten_kept b s k = record {
+  rises = k.rises;
+  front = k.front;
+  points = k.points;
+  copied = k.copied;
+  exact = k.exact;
+  over = k.over;
+  first = λ empty p. rw (k.first empty p) refl;
+  pages = λ p. page_forgotten b s.log s.durable s.point s.redo_end p (s.pages p) (k.pages p);
 }
 
 -- ---- what a flush needs
@@ -227,35 +281,33 @@ read_back b s p k ready done = (gone b s p (s.pages p) (k.pages p) (s.pages p).e
 -- a write of one page leaves the next one's premises
 pub may_after : (b : Base) (s : Writer) (p l q m : ℕ) → MayWrite b s p l → MayWrite b s q m → MayWrite b (written p l s) q m
 may_after b s p l q m first next = record {
-  ready = both.0;
+  ready = ready;
   durable = next.durable;
-  copy = both.1;
+  copy = next.copy;
   low = next.low;
   high = next.high;
 }
   where
-    both : ((only p (written_page l) s.pages q).waits ≡ false) × HasCopy s.durable q (written_entry m (only p (written_page l) s.pages q).entry).rec_lsn
-    both = elim (cases_eq p q) [
-      | inl here ↦ subst (λ (x : PageState). (x.waits ≡ false) × HasCopy s.durable q (written_entry m x.entry).rec_lsn) (sym (cond-true (p == q) (written_page l (s.pages q)) (s.pages q) (eq-eqb p q here)))
-          (next.ready, subst (λ (x : ℕ). HasCopy s.durable x (written_entry l (s.pages x).entry).rec_lsn) here first.copy)
-      | inr other ↦ subst (λ (x : PageState). (x.waits ≡ false) × HasCopy s.durable q (written_entry m x.entry).rec_lsn) (sym (cond-false (p == q) (written_page l (s.pages q)) (s.pages q) (ne_eqb p q other)))
-          (next.ready, next.copy)
+    ready : (only p (written_page l) s.pages q).waits ≡ false
+    ready = elim (cases_eq p q) [
+      | inl here ↦ subst (λ (x : PageState). x.waits ≡ false) (sym (cond-true (p == q) (written_page l (s.pages q)) (s.pages q) (eq-eqb p q here))) next.ready
+      | inr other ↦ subst (λ (x : PageState). x.waits ≡ false) (sym (cond-false (p == q) (written_page l (s.pages q)) (s.pages q) (ne_eqb p q other))) next.ready
     ]
+
+-- a full copy at or after the redo point serves, whichever record holds it, in a log that has been forced
+pub copy_serves : (b : Base) (s : Writer) (p l : ℕ) → s.durable ≡ s.log → HasCopy s.log p (redo_point s.log) → (s.pages p).waits ≡ false → redo_point s.log ≤ l → l ≤ end_of b s.log → MayWrite b s p l
+copy_serves b s p l forced has ready low high = record {
+  ready = ready;
+  durable = forced;
+  copy = subst (λ (d : History). HasCopy d p (redo_point s.log)) (sym forced) has;
+  low = low;
+  high = high;
+}
 
 -- the Image of this flush serves, in a log that has been forced
 pub image_serves : (b : Base) (s : Writer) (newer f : History) (r : Logged) (c : Page) → WriterKept b s → s.durable ≡ s.log → newer ++ r ∷ f ≡ s.log → copy_in r.lsn r.what ≡ Some c
-    → (s.pages r.page).waits ≡ false → redo_point s.log ≤ r.lsn → ((e : DirtyEntry) → (s.pages r.page).entry ≡ Some e → e.rec_lsn ≤ r.lsn) → MayWrite b s r.page r.lsn
-image_serves b s newer f r c k forced at holds ready low entry = record {
-  ready = ready;
-  durable = forced;
-  low = low;
-  high = end_le b (r ∷ f) s.log k.rises (record { newer = newer; is = at });
-  copy = by (s.pages r.page).entry refl;
-}
-  where
-    has : (m : ℕ) → m ≤ r.lsn → HasCopy s.durable r.page m
-    has m le = copy_grows (r ∷ f) s.durable r.page m (record { newer = newer; is = at ∙ sym forced }) (record { lsn = r.lsn; copy = c; is = noted_here m r f r.page c le refl holds })
-
-    by : (o : Option DirtyEntry) → (s.pages r.page).entry ≡ o → HasCopy s.durable r.page (written_entry r.lsn o).rec_lsn
-    by None is = has r.lsn (omega arith)
-    by (Some e) is = has e.rec_lsn (entry e is)
+    → (s.pages r.page).waits ≡ false → redo_point s.log ≤ r.lsn → MayWrite b s r.page r.lsn
+image_serves b s newer f r c k forced at holds ready low =
+    copy_serves b s r.page r.lsn forced
+    (copy_grows (r ∷ f) s.log r.page (redo_point s.log) (record { newer = newer; is = at }) (record { lsn = r.lsn; copy = c; is = noted_here (redo_point s.log) r f r.page c low refl holds }))
+    ready low (end_le b (r ∷ f) s.log k.rises (record { newer = newer; is = at }))

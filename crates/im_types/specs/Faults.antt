@@ -1,7 +1,7 @@
 -- The numbers of refusals.
 use Rattle.std.specs.Prelude.{ℕ}
 use Rattle.im_types.specs.declared.fault.Fault.{Fault}
-use Rattle.im_types.specs.declared.fault.Fault.TheVariants.{NoTransaction, KeyLength, PagesFull, Capacity, LogFull, Device, Memory, Failed, NotAStore, TooMany, PoolSize, BadScript}
+use Rattle.im_types.specs.declared.fault.Fault.TheVariants.{NoTransaction, KeyLength, PagesFull, Capacity, LogFull, Device, Memory, Failed, NotAStore, TooMany, PoolSize, BadScript, Locked}
 
 -- the number of a refusal
 abbrev pub number_of : Fault → ℕ
@@ -17,3 +17,4 @@ number_of NotAStore = 11
 number_of TooMany = 12
 number_of PoolSize = 13
 number_of BadScript = 16
+number_of Locked = 19

@@ -8,7 +8,7 @@ use Rattle.im_types.specs.Histories.{Base, History, IsFront, Rises, end_of, page
 use Rattle.im_types.specs.Copies.{Reaches, AreImages, copy_in, onto}
 use Rattle.im_types.specs.RedoPoints.{CoversFrom, Covers, least, is_checkpoint, redo_point}
 use Rattle.im_types.specs.Writer.{Writer, IsLeft, LeavesPages, WriterKept, HasFullCopy}
-use Rattle.im_types.specs.WriterSteps.{MayWrite, MayAppend, Lists, forced, written, synced, imaged, appended, changed, loaded, redone, ended, opened}
+use Rattle.im_types.specs.WriterSteps.{MayWrite, MayAppend, Lists, is_copied, forced, forgotten, written, synced, imaged, appended, changed, loaded, redone, ended, opened}
 
 -- ---- redo
 
@@ -47,9 +47,12 @@ pub record PageWritesAreCovered : Type 0 where
   pub syncs : (b : Base) (s : Writer) → WriterKept b s → WriterKept b (synced s)
   pub appends : (b : Base) (s : Writer) (r : Logged) → WriterKept b s → MayAppend b s r → ((p : ℕ) → page_at b (r ∷ s.log) p ≡ page_at b s.log p) → WriterKept b (appended r s)
   pub changes : (b : Base) (s : Writer) (r : Logged) → WriterKept b s → MayAppend b s r → WriterKept b (changed r s)
-  -- a Checkpoint, taken after a sync, with the entries of the dirty table
+  -- the copies that are known are forgotten
+  pub forgets : (b : Base) (s : Writer) → WriterKept b s → WriterKept b (forgotten s)
+  -- a Checkpoint, taken after a sync, with the entries of the dirty table, none of which counts a copy as known
   pub checkpoints : (b : Base) (s : Writer) (r : Logged) (e n : ℕ) (a : List ActiveTransaction) (d : List DirtyPage) → WriterKept b s → s.redo_end ≡ Some e → end_of b s.log < r.lsn
-      → r.what ≡ Checkpoint n a d → Lists s.pages d → ((p : ℕ) → (s.pages p).unsynced ≡ false) → WriterKept b (appended r s)
+      → r.what ≡ Checkpoint n a d → Lists s.pages d → ((p : ℕ) → (s.pages p).unsynced ≡ false)
+      → ((p : ℕ) → is_copied (s.pages p).entry ≡ false) → WriterKept b (appended r s)
   -- in redo: an Image, a noted copy loaded, a record, the end
   pub images : (b : Base) (s : Writer) (r : Logged) → WriterKept b s → s.redo_end ≡ None → end_of b s.log < r.lsn → (c : Page) → r.what ≡ Image c
       → (s.pages r.page).waits ≡ false → c ≡ (s.pages r.page).page → redo_point (r ∷ s.log) ≡ redo_point s.log → WriterKept b (imaged r s)

@@ -13,6 +13,8 @@ pub record DirtyEntry : Type 0 where
   pub rec_lsn : ℕ
   -- the LSN of the first change after the last write, None where there is none
   pub since : Option ℕ
+  -- known: the log has a full copy of the page at or after its redo point
+  pub copied : Bool
 
 -- one page
 pub record PageState : Type 0 where
@@ -86,8 +88,10 @@ pub record EntryKept (b : Base) (log durable : History) (point : ℕ) (redo_end 
   pub high : e.rec_lsn ≤ end_of b log
   pub own : (l : ℕ) → e.since ≡ Some l → IsSince b log point redo_end e.rec_lsn l
   pub untouched : x.unsynced ≡ false → IsUntouched b log durable p x.synced e
-  -- written since the last sync: the durable log has a full copy at or after the rec_lsn
-  pub copy : x.unsynced ≡ true → HasCopy durable p e.rec_lsn
+  -- written since the last sync: the durable log has a full copy at or after the redo point of each log that a stop can leave
+  pub copy : x.unsynced ≡ true → (left : History) → IsLeft durable log left → HasCopy durable p (redo_point left)
+  -- where one is known, the log has a full copy at or after its redo point, durable or not
+  pub copied : e.copied ≡ true → HasCopy log p (redo_point log)
   -- what was written: the page as it is, or as it was before the first change since
   pub written : x.unsynced ≡ true → e.since ≡ None → x.reads ≡ Some x.page
   pub older : x.unsynced ≡ true → (l : ℕ) → e.since ≡ Some l → ReachesInEach b durable log p l x.reads
@@ -135,8 +139,8 @@ pub record WriterKept (b : Base) (s : Writer) : Type 0 where
   pub over : (e : ℕ) → s.redo_end ≡ Some e → (s.point ≤ e) × (e ≤ end_of b s.log)
   pub pages : (p : ℕ) → PageKept b s.log s.durable s.point s.redo_end p (s.pages p)
 
--- A page in the dirty table that has a full copy in the durable log, at or after its rec_lsn.
+-- A page in the dirty table that has a full copy in the durable log, at or after the redo point of each log that a stop can leave.
 pub record HasFullCopy (s : Writer) (p : ℕ) : Type 0 where
   pub entry : DirtyEntry
   pub is : (s.pages p).entry ≡ Some entry
-  pub copy : HasCopy s.durable p entry.rec_lsn
+  pub copy : (left : History) → IsLeft s.durable s.log left → HasCopy s.durable p (redo_point left)

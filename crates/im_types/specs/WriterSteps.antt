@@ -1,7 +1,7 @@
 -- The steps of a writer of pages, as functions of what it keeps.
-use Rattle.std.specs.Prelude.{◌≡◌, ◌≤◌, ◌<◌, ◌+◌, ◌⊎◌, ℕ, List, [], ◌∷◌, Bool, true, false, if◌then◌else◌, ◌==◌, nat_le, Option, None, Some}
+use Rattle.std.specs.Prelude.{◌≡◌, ◌≤◌, ◌<◌, ◌+◌, ◌⊎◌, ℕ, List, [], ◌∷◌, Bool, true, false, ◌||◌, if◌then◌else◌, ◌==◌, nat_le, Option, None, Some}
 use Rattle.im_types.specs.Pages.{Page}
-use Rattle.im_types.specs.Records.{Logged}
+use Rattle.im_types.specs.Records.{Image, Logged, Smo, UndoSmo, What}
 use Rattle.im_types.specs.declared.tables.DirtyPage.{DirtyPage}
 use Rattle.im_types.specs.Histories.{History, Base, end_of, page_after, page_at, changes_page}
 use Rattle.im_types.specs.Copies.{Reaches, HasCopy, noted, copy_in, redo_one}
@@ -20,8 +20,8 @@ forced s = record s { durable = s.log }
 -- ---- a page is written in place. Where it has no entry it gets one, with the LSN of its Image
 
 abbrev pub written_entry : ℕ → Option DirtyEntry → DirtyEntry
-written_entry l None = record { rec_lsn = l; since = None }
-written_entry l (Some e) = record e { since = None }
+written_entry l None = record { rec_lsn = l; since = None; copied = true }
+written_entry l (Some e) = record e { since = None; copied = true }
 
 abbrev pub written_page : ℕ → PageState → PageState
 written_page l x = record x { entry = Some (written_entry l x.entry); reads = Some x.page; unsynced = true }
@@ -29,29 +29,41 @@ written_page l x = record x { entry = Some (written_entry l x.entry); reads = So
 abbrev pub written : ℕ → ℕ → Writer → Writer
 written p l s = record s { pages = only p (written_page l) s.pages }
 
--- what a write asks: the page has its copy, the whole log is durable, and there is a full copy of the page at or after the rec_lsn
+-- what a write asks: the page has its copy, the whole log is durable, and it has a full copy of the page at or after its redo point
 pub record MayWrite (b : Base) (s : Writer) (p l : ℕ) : Type 0 where
   pub ready : (s.pages p).waits ≡ false
   pub durable : s.durable ≡ s.log
-  pub copy : HasCopy s.durable p (written_entry l (s.pages p).entry).rec_lsn
+  pub copy : HasCopy s.durable p (redo_point s.log)
   pub low : redo_point s.log ≤ l
   pub high : l ≤ end_of b s.log
 
 -- ---- Pages is synced: entries with nothing left to be written go, the others count from their first change since
 
-abbrev pub entry_since : Option ℕ → Option DirtyEntry
-entry_since None = None
-entry_since (Some l) = Some (record { rec_lsn = l; since = Some l })
+abbrev pub entry_since : Bool → Option ℕ → Option DirtyEntry
+entry_since k None = None
+entry_since k (Some l) = Some (record { rec_lsn = l; since = Some l; copied = k })
 
 abbrev pub synced_entry : Option DirtyEntry → Option DirtyEntry
 synced_entry None = None
-synced_entry (Some e) = entry_since e.since
+synced_entry (Some e) = entry_since e.copied e.since
 
 abbrev pub synced_page : PageState → PageState
 synced_page x = record x { entry = synced_entry x.entry; synced = x.reads; unsynced = false }
 
 abbrev pub synced : Writer → Writer
 synced s = record s { pages = λ q. synced_page (s.pages q) }
+
+-- ---- before a Checkpoint no copy counts as known: it may be below the redo point that comes
+
+abbrev pub forgotten_entry : Option DirtyEntry → Option DirtyEntry
+forgotten_entry None = None
+forgotten_entry (Some e) = Some (record e { copied = false })
+
+abbrev pub forgotten_page : PageState → PageState
+forgotten_page x = record x { entry = forgotten_entry x.entry }
+
+abbrev pub forgotten : Writer → Writer
+forgotten s = record s { pages = λ q. forgotten_page (s.pages q) }
 
 -- ---- records
 
@@ -70,13 +82,25 @@ abbrev pub first_since : ℕ → Option ℕ → Option ℕ
 first_since l None = Some l
 first_since l (Some k) = Some k
 
--- the entry of a page that is changed at an LSN
-abbrev pub changed_entry : ℕ → Option DirtyEntry → DirtyEntry
-changed_entry l None = record { rec_lsn = l; since = Some l }
-changed_entry l (Some e) = record e { since = first_since l e.since }
+-- whether a record of this kind holds a full copy of its page
+abbrev pub holds_copy : What → Bool
+holds_copy (Image c) = true
+holds_copy (Smo old new) = true
+holds_copy (UndoSmo new) = true
+holds_copy _ = false
+
+-- whether a full copy is known
+abbrev pub is_copied : Option DirtyEntry → Bool
+is_copied None = false
+is_copied (Some e) = e.copied
+
+-- the entry of a page that is changed at an LSN, by a record that holds a full copy or does not
+abbrev pub changed_entry : Bool → ℕ → Option DirtyEntry → DirtyEntry
+changed_entry k l None = record { rec_lsn = l; since = Some l; copied = k }
+changed_entry k l (Some e) = record e { since = first_since l e.since; copied = k || e.copied }
 
 abbrev pub changed_page : Logged → PageState → PageState
-changed_page r x = record x { page = page_after r.lsn r.what x.page; entry = Some (changed_entry r.lsn x.entry) }
+changed_page r x = record x { page = page_after r.lsn r.what x.page; entry = Some (changed_entry (holds_copy r.what) r.lsn x.entry) }
 
 -- a record that changes its page, after redo
 abbrev pub changed : Logged → Writer → Writer
@@ -88,6 +112,10 @@ pub record NextPoint (b : Base) (s : Writer) (r : Logged) : Type 0 where
   pub own : (redo_point (r ∷ s.log) ≡ s.point) ⊎ IsAfterRedo s.redo_end (redo_point (r ∷ s.log))
   pub entries : (p : ℕ) (e : DirtyEntry) → (s.pages p).entry ≡ Some e → redo_point (r ∷ s.log) ≤ e.rec_lsn
   pub copies : (p l : ℕ) (c : Page) → noted (redo_point (r ∷ s.log)) s.log p ≡ Some (l, c) → Reaches b s.log (redo_point (r ∷ s.log)) p c
+  -- a full copy that is known is at or after it
+  pub copied : (p : ℕ) (e : DirtyEntry) → (s.pages p).entry ≡ Some e → e.copied ≡ true → HasCopy s.log p (redo_point (r ∷ s.log))
+  -- a page written since the last sync has a durable copy at or after it
+  pub unsynced : (p : ℕ) → (s.pages p).unsynced ≡ true → HasCopy s.durable p (redo_point (r ∷ s.log))
 
 -- what a record asks after redo
 pub record MayAppend (b : Base) (s : Writer) (r : Logged) : Type 0 where
@@ -117,12 +145,13 @@ pub record Lists (pages : ℕ → PageState) (list : List DirtyPage) : Type 0 wh
 
 -- ---- redo
 
-abbrev pub at_point : ℕ → DirtyEntry
-at_point point = record { rec_lsn = point; since = Some point }
+-- the entry of a page that counts as changed since the redo point, with a full copy or without
+abbrev pub at_point : Bool → ℕ → DirtyEntry
+at_point k point = record { rec_lsn = point; since = Some point; copied = k }
 
 -- a noted copy is loaded, in place of the file's page
 abbrev pub loaded_page : ℕ → Page → PageState → PageState
-loaded_page point c x = record x { page = c; upto = point; waits = false; entry = Some (at_point point) }
+loaded_page point c x = record x { page = c; upto = point; waits = false; entry = Some (at_point true point) }
 
 abbrev pub loaded : ℕ → Page → Writer → Writer
 loaded p c s = record s { pages = only p (loaded_page s.point c) s.pages }
@@ -133,7 +162,7 @@ applies r p g = if r.page == p then (if nat_le r.lsn g.lsn then false else chang
 
 -- redo goes past a record, on one page
 abbrev pub redone_page : ℕ → Logged → ℕ → PageState → PageState
-redone_page point r p x = record x { page = redo_one r p x.page; upto = r.lsn + 1; entry = if applies r p x.page then Some (at_point point) else x.entry }
+redone_page point r p x = record x { page = redo_one r p x.page; upto = r.lsn + 1; entry = if applies r p x.page then Some (at_point (is_copied x.entry) point) else x.entry }
 
 -- and on the pages that are dealt to whoever does it
 abbrev pub redone : Logged → (ℕ → Bool) → Writer → Writer

@@ -44,6 +44,9 @@ pub enum Fault {
     /// A line that the grammar of scripts does not have.
     #[error("a bad line")]
     BadScript,
+    /// Another opening holds the store, in this program or in another. It can be opened once that one has ended.
+    #[error("the store is open elsewhere")]
+    Locked,
 }
 
 impl Fault {
@@ -64,6 +67,7 @@ impl Fault {
             Fault::TooMany => 12,
             Fault::PoolSize => 13,
             Fault::BadScript => 16,
+            Fault::Locked => 19,
         }
     }
 }

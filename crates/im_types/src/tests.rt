@@ -37,5 +37,6 @@ fn faults_have_numbers_and_texts(rt: HostRuntime) -> Result<(), Fail> {
     assert_eq!(rt; Fault::Device.number(), 8);
     let text = format!(in rt.alloc(); "{}", Fault::NotAStore)?;
     assert_eq!(rt; text.as_str(), "the files hold no store");
+    assert_eq!(rt; Fault::Locked.number(), 19);
     Ok(())
 }

@@ -1,9 +1,10 @@
 -- The compensation of a key record, on the page that is its key's leaf now.
-use Rattle.std.proofs.Common.{◌≡◌, ◌≢◌, ◌≤◌, ℕ, [], ◌∷◌, ◌++◌, length, true, None, Some, Result, inl, inr, refl, sym, ◌∙◌, ap, subst}
+use Rattle.std.proofs.Common.{◌≡◌, ◌≢◌, ◌⊎◌, ◌≤◌, ℕ, [], ◌∷◌, ◌++◌, length, true, None, Some, Result, inl, inr, refl, sym, ◌∙◌, ap, subst}
 use Rattle.std.proofs.Math.Path.{fun_ext}
+use Rattle.std.specs.Prelude.{IfErr}
 use Rattle.std.specs.FinMap.Entries.{find}
 use Rattle.im_types.specs.declared.fault.Fault.{Fault}
-use Rattle.im_types.specs.declared.fault.Fault.TheVariants.{Memory}
+use Rattle.im_types.specs.declared.fault.Fault.TheVariants.{Failed, Memory}
 use Rattle.im_types.specs.Keys.{Key, key_order}
 use Rattle.im_types.specs.Maps.{IndexMap}
 use Rattle.im_types.specs.Pages.{Page}
@@ -39,7 +40,8 @@ use Rattle.im_analysis.specs.Losers.{is_loser}
 use Rattle.im_analysis.specs.Undo.{Compensates, IsNext, IsUndoable, TakesBack, TakesOff}
 use Rattle.im_analysis.proofs.Undoing.{undo_goes_on}
 use Rattle.im_undo.specs.Records.{IsOfUndo, compensations, inverse_of, with_compensation}
-use Rattle.im_undo.specs.Undoing.{CompensateKept, IsGoing, IsToUndo, LeavesUndo, TakenBack, TakesIt}
+use Rattle.im_undo.specs.Undoing.{CompensateKept, HasBegun, IsGoing, IsToUndo, LeavesUndo, TakenBack, TakesIt}
+use Rattle.im_undo.proofs.Begun.{IsPlainCause, result_capacity}
 use Rattle.im_undo.proofs.Growth.{going_bodies, images_compensate, images_of_undo, left_images, loser_some, same_loser, same_row, still_undoable}
 use Rattle.im_undo.proofs.Shown.{leaf_has, shows_change}
 
@@ -110,7 +112,8 @@ module _ {D : Type 0} (d : Ghosts D) (b : Base) (base : ℕ) where
             once = ap (λ (rs : History). length rs) (counts (compensations by.images) ∙ ap (λ (rs : History). r ∷ rs) (images_compensate b by.images s.log by.all));
           }
 
-    module _ (prev was page : ℕ) (key : Key) (rid : ℕ) (w : PageWriter) (new : D) (result : Result ℕ Fault) where
+    module _ (prev was page : ℕ) (key : Key) (rid : ℕ) (w : PageWriter) (new : D) (result : Result ℕ Fault) (causes : IfErr result (λ f. (f ≡ Failed) ⊎ IsPlainCause f))
+        (works : IfErr result (λ f. f ≡ Failed → HasBegun d b base s t w new)) where
       module _ (way : IsOnWay (bodies s) 0 key page) where
         way_logged : IsOnWay (logs.bodies b s.log) 0 key page
         way_logged = subst (λ (pages : Pages). IsOnWay pages 0 key page) (going_bodies d b base s e t last undo_next v old g) way
@@ -139,6 +142,8 @@ module _ {D : Type 0} (d : Ghosts D) (b : Base) (base : ℕ) where
             stops = stops;
             cause = kept.cause has;
             again = if_err result _ (λ f. f ≡ Memory → Evicted d b base s old w new) kept.again (λ f go is. go (inl is));
+            used_up = result_capacity result _ causes;
+            begun = works;
           }
 
       pub delete_undone : IsEntry (DeleteKey t prev was key rid) → IsToUndo d b base s t (DeleteKey t prev was key rid) → TakesIt (bodies s) page (whats.DeleteKey key rid)
@@ -170,4 +175,6 @@ module _ {D : Type 0} (d : Ghosts D) (b : Base) (base : ℕ) where
             stops = stops;
             cause = kept.cause has;
             again = if_err result _ (λ f. f ≡ Memory → Evicted d b base s old w new) kept.again (λ f go is. go (inl is));
+            used_up = result_capacity result _ causes;
+            begun = works;
           }

@@ -1,8 +1,8 @@
 -- One key record taken back: the parts of it in a row.
-use Rattle.std.proofs.Common.{◌≡◌, ◌≢◌, ◌⊎◌, inl, inr, ◌≤◌, ℕ, [], ◌∷◌, ◌++◌, length, true, Result, Ok, Err, sym, ◌∙◌, ap, subst, append-nil}
+use Rattle.std.proofs.Common.{◌≡◌, ◌≢◌, ◌⊎◌, inl, inr, ◌≤◌, ℕ, [], ◌∷◌, ◌++◌, length, true, Result, Ok, Err, refl, sym, ◌∙◌, ap, subst, append-nil}
 use Rattle.std.specs.Prelude.{IfOk, IfErr, IsErrAnd}
 use Rattle.im_types.specs.declared.fault.Fault.{Fault}
-use Rattle.im_types.specs.declared.fault.Fault.TheVariants.{Device, Failed, LogFull, Memory, NotAStore}
+use Rattle.im_types.specs.declared.fault.Fault.TheVariants.{Capacity, Device, Failed, LogFull, Memory, NotAStore}
 use Rattle.im_types.specs.Keys.{Key}
 use Rattle.im_types.specs.Maps.{IndexMap}
 use Rattle.im_types.specs.Pages.{Page}
@@ -29,10 +29,12 @@ use Rattle.im_alloc.specs.Seen.{bodies}
 use Rattle.im_alloc.proofs.Goings.{bodies_stay}
 use Rattle.im_search.specs.Found.{Reached}
 use Rattle.im_split.specs.Plan.{FitsInLeaf}
+use Rattle.im_split.specs.Tops.{LacksRoomFor}
 use Rattle.im_analysis.specs.declared.rows.Loser.{Loser}
 use Rattle.im_analysis.specs.Undo.{IsNext}
 use Rattle.im_undo.specs.Records.{compensations, inverse_of}
-use Rattle.im_undo.specs.Undoing.{IsGoing, GoesTo, TakesIt, Restructured, DropKept, HasMadeRoom, SplitKept, IsToUndo, TakenBack, CompensateKept}
+use Rattle.im_undo.specs.Undoing.{IsGoing, GoesTo, TakesIt, UsesUp, HasBegun, Restructured, EmptiedKept, HasMadeRoom, SplitKept, IsToUndo, TakenBack, CompensateKept}
+use Rattle.im_undo.proofs.Begun.{IsPlainCause, never_failed, never_capacity, begun_then, begun_since}
 use Rattle.im_undo.proofs.Growth.{loser_some, grown_front, going_images, left_images, left_then, goes_images, goes_images_none, goes_then, goes_compensations}
 
 -- ---- refusals
@@ -54,6 +56,13 @@ never_memory e (inr (inl full)) is = let clash : LogFull ≡ Memory = sym full �
 never_memory e (inr (inr (inl bytes))) is = let clash : NotAStore ≡ Memory = sym bytes ∙ is in cc clash
 never_memory e (inr (inr (inr device))) is = let clash : Device ≡ Memory = sym device ∙ is in cc clash
 
+-- nor for want of page numbers
+drop_capacity : (e : Fault) → ((e ≡ Failed) ⊎ (e ≡ LogFull) ⊎ (e ≡ NotAStore) ⊎ (e ≡ Device)) → e ≡ Capacity → ⊥
+drop_capacity e (inl failed) is = let clash : Failed ≡ Capacity = sym failed ∙ is in cc clash
+drop_capacity e (inr (inl full)) is = let clash : LogFull ≡ Capacity = sym full ∙ is in cc clash
+drop_capacity e (inr (inr (inl bytes))) is = let clash : NotAStore ≡ Capacity = sym bytes ∙ is in cc clash
+drop_capacity e (inr (inr (inr device))) is = let clash : Device ≡ Capacity = sym device ∙ is in cc clash
+
 -- what a refusal is answered as behind the first record is not for want of memory
 pub late_memory : (f answer : Fault) → (f ≡ Memory → answer ≡ Failed) → (f ≢ Memory → answer ≡ f) → answer ≡ Memory → ⊥
 late_memory f answer memory others is =
@@ -65,6 +74,28 @@ pub late_cause : (f answer : Fault) → (f ≡ Memory → answer ≡ Failed) →
 late_cause f answer memory others cause is =
     let other : f ≢ Memory = λ same. (let clash : Failed ≡ NotAStore = sym (memory same) ∙ is in cc clash) in
     cause (sym (others other) ∙ is)
+
+-- it failed for want of memory
+pub late_failed : (f answer : Fault) → IsPlainCause f → (f ≡ Memory → answer ≡ Failed) → (f ≢ Memory → answer ≡ f) → answer ≡ Failed → f ≡ Memory
+late_failed f answer (inl full) memory others is =
+    let other : f ≢ Memory = λ same. (let clash : LogFull ≡ Memory = sym full ∙ same in cc clash) in
+    let clash : LogFull ≡ Failed = sym full ∙ sym (others other) ∙ is in
+    absurd (let never : ⊥ = cc clash in never)
+late_failed f answer (inr (inl wanted)) memory others is = wanted
+late_failed f answer (inr (inr (inl bytes))) memory others is =
+    let other : f ≢ Memory = λ same. (let clash : NotAStore ≡ Memory = sym bytes ∙ same in cc clash) in
+    let clash : NotAStore ≡ Failed = sym bytes ∙ sym (others other) ∙ is in
+    absurd (let never : ⊥ = cc clash in never)
+late_failed f answer (inr (inr (inr device))) memory others is =
+    let other : f ≢ Memory = λ same. (let clash : Device ≡ Memory = sym device ∙ same in cc clash) in
+    let clash : Device ≡ Failed = sym device ∙ sym (others other) ∙ is in
+    absurd (let never : ⊥ = cc clash in never)
+
+-- and not for want of page numbers
+pub late_capacity : (f answer : Fault) → IsPlainCause f → (f ≡ Memory → answer ≡ Failed) → (f ≢ Memory → answer ≡ f) → answer ≡ Capacity → ⊥
+late_capacity f answer known memory others is =
+    let other : f ≢ Memory = λ same. (let clash : Failed ≡ Capacity = sym (memory same) ∙ is in cc clash) in
+    never_capacity f known (sym (others other) ∙ is)
 
 -- ---- what is to be taken back
 
@@ -103,6 +134,14 @@ module _ {D : Type 0} (d : Ghosts D) (b : Base) (base : ℕ) where
       → HasRoom true (bodies found.now p).entries (key, 0)
   room_now s key p old w disk found room =
       subst (λ (g : Page). HasRoom true g.body.entries (key, 0)) (found.page ∙ sym (found.on.goes.keeps.pages p).page) room
+
+  -- that it lacks
+  pub lacks_now : (s : Writer) (key : Key) (p : ℕ) (old : D) (w : PageWriter) (disk : D) (found : Reached d b base s key 0 p old w disk) → (HasRoom true (page_at w.pool p).body.entries (key, 0) → ⊥) → LacksRoomFor (bodies found.now) key
+  lacks_now s key p old w disk found lacks = record {
+    page = p;
+    way = way_now s key p old w disk found;
+    lacks = subst (λ (g : Page). HasRoom true g.body.entries (key, 0) → ⊥) (found.page ∙ sym (found.on.goes.keeps.pages p).page) lacks;
+  }
 
   -- or that it has since a split
   pub room_since : (s : Writer) (key : Key) (p : ℕ) (old : D) (w : PageWriter) (disk : D) (found : Reached d b base s key 0 p old w disk) → FitsInLeaf (bodies s) key → HasRoom true (bodies found.now p).entries (key, 0)
@@ -172,13 +211,15 @@ module _ {D : Type 0} (d : Ghosts D) (b : Base) (base : ℕ) where
     -- ---- the key's leaf is looked for
 
     -- it was refused
-    pub place_refused : (w : PageWriter) (new : D) (l undo_next : ℕ) (start : PageWriter) (f : Fault) (result : Result ℕ Fault) → IsGoing d b base s e t l undo_next start old
+    pub place_refused : (w : PageWriter) (new : D) (l undo_next : ℕ) (start : PageWriter) (f : Fault) → IsPlainCause f → (result : Result ℕ Fault) → IsGoing d b base s e t l undo_next start old
         → LeavesGrown d b base s old new → f ≢ NotAStore → ((f ≡ Memory) ⊎ (f ≡ NotAStore) → Evicted d b base s old w new) → IsErrAnd result (λ x. x ≡ f) → CompensateKept d b base s e t entry old w new result
-    place_refused w new l undo_next start f result g stops cause again here = record {
+    place_refused w new l undo_next start f known result g stops cause again here = record {
       ok = not_ok result f (λ last. TakenBack d b base s e t entry last old w new) here;
       stops = left_images d b base s t old new g.can.lawful stops;
       cause = err_on result f (λ x. x ≢ NotAStore) here cause;
       again = err_on result f (λ x. x ≡ Memory → Evicted d b base s old w new) here (λ is. again (inl is));
+      used_up = err_on result f (λ x. x ≡ Capacity → UsesUp (bodies s) (what_of entry)) here (λ is. absurd (never_capacity f known is));
+      begun = err_on result f (λ x. x ≡ Failed → HasBegun d b base s t w new) here (λ is. absurd (never_failed f known is));
     }
 
     -- and behind it the key record is taken back
@@ -194,6 +235,9 @@ module _ {D : Type 0} (d : Ghosts D) (b : Base) (base : ℕ) where
           cause = kept.cause;
           again = again_on result (λ x. x ≡ Memory) (Evicted d b base now mid w new) (Evicted d b base s old w new) kept.again
               (λ is. record { now = is.now; on = goes_on_then d b base s old now v mid on is.now w new is.on });
+          used_up = again_on result (λ x. x ≡ Capacity) (UsesUp (bodies now) (what_of entry)) (UsesUp (bodies s) (what_of entry)) kept.used_up
+              (λ up. subst (λ (pages : Pages). UsesUp pages (what_of entry)) (bodies_stay b s now on.goes.keeps) up);
+          begun = again_on result (λ x. x ≡ Failed) (HasBegun d b base now t w new) (HasBegun d b base s t w new) kept.begun (λ is. begun_then d b base s now t w new made.goes.grows is);
         }
 
     module _ (last undo_next : ℕ) (start : PageWriter) (g : IsGoing d b base s e t last undo_next start old) (to : IsToUndo d b base s t entry) (key : Key) (p : ℕ) (v : PageWriter) (mid : D)
@@ -227,11 +271,13 @@ module _ {D : Type 0} (d : Ghosts D) (b : Base) (base : ℕ) where
 
     -- a leaf without room was found, and all else is done behind that
     pub full_found : (last undo_next : ℕ) (start : PageWriter) (g : IsGoing d b base s e t last undo_next start old) (to : IsToUndo d b base s t entry) (key : Key) (p : ℕ) (v : PageWriter) (mid : D)
-        (found : Reached d b base s key 0 p old v mid) (w : PageWriter) (new : D) (result : Result ℕ Fault)
-        → ((now : Writer) → IsGoing d b base now e t last undo_next v mid → IsToUndo d b base now t entry → CompensateKept d b base now e t entry mid w new result) → CompensateKept d b base s e t entry old w new result
-    full_found last undo_next start g to key p v mid found w new result kept =
+        (found : Reached d b base s key 0 p old v mid) (w : PageWriter) (new : D) (result : Result ℕ Fault) → (HasRoom true (page_at v.pool p).body.entries (key, 0) → ⊥)
+        → ((now : Writer) → IsGoing d b base now e t last undo_next v mid → IsToUndo d b base now t entry → LacksRoomFor (bodies now) key → CompensateKept d b base now e t entry mid w new result)
+        → CompensateKept d b base s e t entry old w new result
+    full_found last undo_next start g to key p v mid found w new result lacks kept =
         place_then last undo_next start v mid w new g found.now found.on result
-        (kept found.now (going_images d b base s e t last undo_next start old g old found.now v mid found.on) (to_undo_on s e t last undo_next start old g entry found.now v mid found.on to))
+        (kept found.now (going_images d b base s e t last undo_next start old g old found.now v mid found.on) (to_undo_on s e t last undo_next start old g entry found.now v mid found.on to)
+        (lacks_now s key p old v mid found lacks))
 
     -- a refusal that is handed on
     pub refused_on : (w : PageWriter) (new : D) (f : Fault) (result : Result ℕ Fault) → IsErrAnd result (λ x. x ≡ f) → CompensateKept d b base s e t entry old w new (Err f) → CompensateKept d b base s e t entry old w new result
@@ -240,35 +286,41 @@ module _ {D : Type 0} (d : Ghosts D) (b : Base) (base : ℕ) where
       stops = kept.stops;
       cause = err_on result f (λ x. x ≢ NotAStore) here kept.cause;
       again = err_on result f (λ x. x ≡ Memory → Evicted d b base s old w new) here kept.again;
+      used_up = err_on result f (λ x. x ≡ Capacity → UsesUp (bodies s) (what_of entry)) here kept.used_up;
+      begun = err_on result f (λ x. x ≡ Failed → HasBegun d b base s t w new) here kept.begun;
     }
 
     -- ---- the leaf that was left empty
 
     drop_kept : (l : ℕ) (v : PageWriter) (mid : D) (w : PageWriter) (new : D) (taken : TakenBack d b base s e t entry l old v mid) (result : Result ℕ Fault)
-        → IfErr result (λ x. (x ≡ Failed) ⊎ (x ≡ LogFull) ⊎ (x ≡ NotAStore) ⊎ (x ≡ Device)) → DropKept d b base taken.now e t (prev_of entry) mid w new result → CompensateKept d b base s e t entry old w new result
+        → IfErr result (λ x. (x ≡ Failed) ⊎ (x ≡ LogFull) ⊎ (x ≡ NotAStore) ⊎ (x ≡ Device)) → EmptiedKept d b base taken.now e t (prev_of entry) mid w new result → CompensateKept d b base s e t entry old w new result
     drop_kept l v mid w new taken (Ok last) causes kept = record {
       ok = taken_then l last v mid w new taken kept.ok;
       stops = left_then d b base s e t l (prev_of entry) old taken.now v mid taken.goes new kept.stops;
       cause = tt;
       again = tt;
+      used_up = tt;
+      begun = tt;
     }
     drop_kept l v mid w new taken (Err f) causes kept = record {
       ok = tt;
       stops = left_then d b base s e t l (prev_of entry) old taken.now v mid taken.goes new kept.stops;
       cause = kept.cause;
       again = λ is. absurd (never_memory f causes is);
+      used_up = λ is. absurd (drop_capacity f causes is);
+      begun = λ is. begun_then d b base s taken.now t w new taken.goes.grows (kept.begun is);
     }
 
     drop_as : (now : Writer) (l : ℕ) (v : PageWriter) (mid : D) (w : PageWriter) (new : D) (result : Result ℕ Fault) (u m : ℕ) → u ≡ t → m ≡ prev_of entry
-        → (IsGoing d b base now e u l m v mid → DropKept d b base now e u m mid w new result) → IsGoing d b base now e t l (prev_of entry) v mid → DropKept d b base now e t (prev_of entry) mid w new result
+        → (IsGoing d b base now e u l m v mid → EmptiedKept d b base now e u m mid w new result) → IsGoing d b base now e t l (prev_of entry) v mid → EmptiedKept d b base now e t (prev_of entry) mid w new result
     drop_as now l v mid w new result u m owner prev kept =
-        subst (λ (n : ℕ). IsGoing d b base now e n l (prev_of entry) v mid → DropKept d b base now e n (prev_of entry) mid w new result) owner
-        (subst (λ (n : ℕ). IsGoing d b base now e u l n v mid → DropKept d b base now e u n mid w new result) prev kept)
+        subst (λ (n : ℕ). IsGoing d b base now e n l (prev_of entry) v mid → EmptiedKept d b base now e n (prev_of entry) mid w new result) owner
+        (subst (λ (n : ℕ). IsGoing d b base now e u l n v mid → EmptiedKept d b base now e u n mid w new result) prev kept)
 
     -- it leaves the tree behind the compensation
     pub leaf_dropped : (l : ℕ) (v : PageWriter) (mid : D) (w : PageWriter) (new : D) → CompensateKept d b base s e t entry old v mid (Ok l) → (result : Result ℕ Fault) (u m : ℕ) → u ≡ t → m ≡ prev_of entry
         → IfErr result (λ x. (x ≡ Failed) ⊎ (x ≡ LogFull) ⊎ (x ≡ NotAStore) ⊎ (x ≡ Device))
-        → ((now : Writer) → IsGoing d b base now e u l m v mid → DropKept d b base now e u m mid w new result) → CompensateKept d b base s e t entry old w new result
+        → ((now : Writer) → IsGoing d b base now e u l m v mid → EmptiedKept d b base now e u m mid w new result) → CompensateKept d b base s e t entry old w new result
     leaf_dropped l v mid w new first result u m owner prev causes kept =
         let taken : TakenBack d b base s e t entry l old v mid = first.ok in
         drop_kept l v mid w new taken result causes (drop_as taken.now l v mid w new result u m owner prev (kept taken.now) taken.goes.going)
@@ -281,13 +333,15 @@ module _ {D : Type 0} (d : Ghosts D) (b : Base) (base : ℕ) where
         subst (λ (n : ℕ). IsGoing d b base s e n last undo_next start old → SplitKept d b base s e n undo_next key old w new result) owner kept
 
     -- it was refused
-    pub split_refused : (undo_next : ℕ) (key : Key) (w : PageWriter) (new : D) (f : Fault) (result : Result ℕ Fault) → IsErrAnd result (λ x. x ≡ f) → SplitKept d b base s e t undo_next key old w new (Err f)
-        → CompensateKept d b base s e t entry old w new result
-    split_refused undo_next key w new f result here kept = record {
+    pub split_refused : (undo_next : ℕ) (key : Key) (i : ℕ) → what_of entry ≡ DeleteKey key i → (w : PageWriter) (new : D) (f : Fault) (result : Result ℕ Fault) → IsErrAnd result (λ x. x ≡ f)
+        → SplitKept d b base s e t undo_next key old w new (Err f) → CompensateKept d b base s e t entry old w new result
+    split_refused undo_next key i same w new f result here kept = record {
       ok = not_ok result f (λ last. TakenBack d b base s e t entry last old w new) here;
       stops = kept.stops;
       cause = err_on result f (λ x. x ≢ NotAStore) here kept.cause;
       again = err_on result f (λ x. x ≡ Memory → Evicted d b base s old w new) here kept.again;
+      used_up = err_on result f (λ x. x ≡ Capacity → UsesUp (bodies s) (what_of entry)) here (λ up. subst (λ (c : What). UsesUp (bodies s) c) (sym same) (kept.used_up up));
+      begun = err_on result f (λ x. x ≡ Failed → HasBegun d b base s t w new) here kept.begun;
     }
 
     module _ (last l undo_next : ℕ) (start : PageWriter) (g : IsGoing d b base s e t last undo_next start old) (to : IsToUndo d b base s t entry) (key : Key) (v : PageWriter) (mid : D)
@@ -304,15 +358,19 @@ module _ {D : Type 0} (d : Ghosts D) (b : Base) (base : ℕ) where
         stops = left_then d b base s e t l undo_next old room.made.now v mid room.made.goes new (behind (Ok m) kept).stops;
         cause = tt;
         again = tt;
+        used_up = tt;
+        begun = tt;
       }
 
       -- or that was refused
-      pub late_refused : (f answer : Fault) → (f ≡ Memory → answer ≡ Failed) → (f ≢ Memory → answer ≡ f)
+      pub late_refused : (f answer : Fault) → IsPlainCause f → LacksRoomFor (bodies s) key → (f ≡ Memory → answer ≡ Failed) → (f ≢ Memory → answer ≡ f)
           → ((now : Writer) → IsGoing d b base now e t l undo_next v mid → IsToUndo d b base now t entry → FitsInLeaf (bodies now) key → CompensateKept d b base now e t entry mid w new (Err f))
           → CompensateKept d b base s e t entry old w new (Err answer)
-      late_refused f answer memory others kept = record {
+      late_refused f answer known lacks memory others kept = record {
         ok = tt;
         stops = left_then d b base s e t l undo_next old room.made.now v mid room.made.goes new (behind (Err f) kept).stops;
         cause = late_cause f answer memory others (behind (Err f) kept).cause;
         again = λ is. absurd (late_memory f answer memory others is);
+        used_up = λ is. absurd (late_capacity f answer known memory others is);
+        begun = λ is. begun_since d b base s room.made.now t mid w new room.made.goes.grows (room.some lacks) ((behind (Err f) kept).again (late_failed f answer known memory others is));
       }

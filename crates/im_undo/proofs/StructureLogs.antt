@@ -1,88 +1,19 @@
--- A transaction that is undone, over a structure change of its own in the log.
-use Rattle.std.proofs.Common.{◌≡◌, ◌≢◌, ◌≤◌, ℕ, Bool, true, false, [], ◌∷◌, ◌++◌, inl, inr, refl, sym, ap, ◌∙◌, ◌==◌, append_assoc, arith}
+-- What a transaction has left to undo, over a structure change in the log that is closed.
+use Rattle.std.proofs.Common.{◌≡◌, ℕ, Bool, true, false, [], ◌∷◌, ◌++◌, inl, inr, refl, sym, ap, ◌∙◌, ◌==◌}
 use Rattle.std.specs.Prelude.{not, ◌&&◌, nat_le}
 use Rattle.std.proofs.lemmas.Bool.{and_parts, cases_eq, cond-true, cond-false, eq-eqb, ne_eqb, or_right}
 use Rattle.im_types.specs.Records.{What, InsertKey, DeleteKey, UndoInsert, UndoDelete, Smo, UndoSmo, DummyClr, Commit, End, Image, Checkpoint, Unreadable, Logged}
 use Rattle.im_types.specs.Histories.{Base, History}
-use Rattle.im_types.specs.Copies.{GrowsByImages}
 use Rattle.im_types.specs.Transactions.{is_finished, is_smo, last_of, undo_next_of, stack_after, to_undo, without_smo}
 use Rattle.im_types.proofs.OpenSmo.{part, smo_goes, split}
 use Rattle.im_tree.specs.Good.{AllOf}
 use Rattle.im_tree.specs.Theory.{page_tree}
-use Rattle.im_analysis.specs.declared.rows.Loser.{Loser}
 use Rattle.im_analysis.specs.Losers.{has_record, is_loser, row_of}
 use Rattle.im_analysis.specs.Undo.{IsUndoable}
 use Rattle.im_analysis.proofs.Losers.{loser_from, loser_number}
 use Rattle.im_change.specs.Changes.{IsOfChange, GrowsByChange}
-use Rattle.im_change.proofs.ChangeLogs.{grows_images}
-use Rattle.im_undo.specs.Records.{IsOfUndo, GrowsByUndo, with_compensation, compensations}
 
--- the records that join, each of them an Image or one of a structure change of the transaction
-abbrev pub AreOfChange : ℕ → History → Type 0
-AreOfChange t more = AllOf (λ (r : Logged). IsOfChange t r r.what) more
-
--- ---- they are records of its undo, and no compensations
-
-pub of_undo : (t : ℕ) (r : Logged) (w : What) → IsOfChange t r w → IsOfUndo t r w
-of_undo t r (Smo was now) is = is
-of_undo t r DummyClr is = is
-of_undo t r (Image c) is = is
-of_undo t r (InsertKey k i) is = absurd is
-of_undo t r (DeleteKey k i) is = absurd is
-of_undo t r (UndoInsert k i) is = absurd is
-of_undo t r (UndoDelete k i) is = absurd is
-of_undo t r (UndoSmo now) is = absurd is
-of_undo t r Commit is = absurd is
-of_undo t r End is = absurd is
-of_undo t r (Checkpoint n a dirty) is = absurd is
-of_undo t r Unreadable is = absurd is
-
-pub all_of_undo : (t : ℕ) (more : History) → AreOfChange t more → AllOf (λ (r : Logged). IsOfUndo t r r.what) more
-all_of_undo t [] all = tt
-all_of_undo t (r ∷ more) all = (of_undo t r r.what all.0, all_of_undo t more all.1)
-
-unfoldable pub change_is_undo : (t : ℕ) (older longer : History) → GrowsByChange t older longer → GrowsByUndo t older longer
-change_is_undo t older longer grows = record { more = grows.more; is = grows.is; all = all_of_undo t grows.more grows.all }
-
-compensates_none : (t : ℕ) (r : Logged) (w : What) (rest : History) → IsOfChange t r w → with_compensation r w rest ≡ rest
-compensates_none t r (Smo was now) rest is = refl
-compensates_none t r DummyClr rest is = refl
-compensates_none t r (Image c) rest is = refl
-compensates_none t r (InsertKey k i) rest is = absurd is
-compensates_none t r (DeleteKey k i) rest is = absurd is
-compensates_none t r (UndoInsert k i) rest is = absurd is
-compensates_none t r (UndoDelete k i) rest is = absurd is
-compensates_none t r (UndoSmo now) rest is = absurd is
-compensates_none t r Commit rest is = absurd is
-compensates_none t r End rest is = absurd is
-compensates_none t r (Checkpoint n a dirty) rest is = absurd is
-compensates_none t r Unreadable rest is = absurd is
-
-pub no_compensations : (t : ℕ) (more : History) → AreOfChange t more → compensations more ≡ []
-no_compensations t [] all = refl
-no_compensations t (r ∷ more) all = compensates_none t r r.what (compensations more) all.0 ∙ no_compensations t more all.1
-
--- ---- the log grows so
-
-pub grows_none : (t : ℕ) (log : History) → GrowsByChange t log log
-grows_none t log = record { more = []; is = refl; all = tt }
-
-are_then : (t : ℕ) (more some : History) → AreOfChange t more → AreOfChange t some → AreOfChange t (more ++ some)
-are_then t [] some first next = next
-are_then t (r ∷ more) some first next = (first.0, are_then t more some first.1 next)
-
-pub grows_then : (t : ℕ) (one two three : History) → GrowsByChange t one two → GrowsByChange t two three → GrowsByChange t one three
-grows_then t one two three first next = record {
-  more = next.more ++ first.more;
-  is = next.is ∙ ap (λ (l : History). next.more ++ l) first.is ∙ sym (append_assoc next.more first.more one);
-  all = are_then t next.more first.more next.all first.all;
-}
-
--- by Images alone
-pub grows_by_images : (b : Base) (t : ℕ) (older longer : History) → GrowsByImages b older longer → GrowsByChange t older longer
-grows_by_images b t older longer by = grows_images b t older older longer (grows_none t older) by
-
--- ---- what the transaction has left to undo
+-- ---- stacks
 
 twice_step : (s : Logged) (rest : History) (u : Bool) → is_smo s.what ≡ u → without_smo (without_smo rest) ≡ without_smo rest → without_smo (without_smo (s ∷ rest)) ≡ without_smo (s ∷ rest)
 twice_step s rest true is so =
@@ -93,7 +24,7 @@ twice : (stack : History) → without_smo (without_smo stack) ≡ without_smo st
 twice [] = refl
 twice (s ∷ rest) = twice_step s rest (is_smo s.what) refl (twice rest)
 
--- but for Smo records on top, its stack is as it was
+-- but for Smo records on top, a record of a structure change leaves the stack as it is
 stack_without : (t : ℕ) (r : Logged) (w : What) (rest : History) → r.what ≡ w → IsOfChange t r w → without_smo (stack_after r w rest) ≡ without_smo rest
 stack_without t r (Smo was now) rest same is = cond-true (is_smo r.what) (without_smo rest) (r ∷ rest) (ap is_smo same)
 stack_without t r DummyClr rest same is = twice rest
@@ -108,7 +39,7 @@ stack_without t r End rest same is = absurd is
 stack_without t r (Checkpoint n a dirty) rest same is = absurd is
 stack_without t r Unreadable rest same is = absurd is
 
-more_stacks : (t u : ℕ) (more older : History) → AreOfChange t more → without_smo (to_undo u (more ++ older)) ≡ without_smo (to_undo u older)
+more_stacks : (t u : ℕ) (more older : History) → AllOf (λ (r : Logged). IsOfChange t r r.what) more → without_smo (to_undo u (more ++ older)) ≡ without_smo (to_undo u older)
 more_stacks t u [] older all = refl
 more_stacks t u (r ∷ more) older all = elim (cases_eq r.txn u) [
   | inl here ↦
@@ -126,12 +57,12 @@ plain_stack b log u can =
     let whole : to_undo u log ≡ s.bottom = s.is ∙ ap (λ (going : History). part u going ++ s.bottom) can.closed in
     ap without_smo whole ∙ smo_goes [] s.bottom tt s.plain ∙ sym whole
 
--- so a closed change leaves what is left to undo
+-- so a structure change that is closed leaves what each transaction has left to undo
 pub same_stack : (b : Base) (t u : ℕ) (older longer : History) → IsUndoable b page_tree older → IsUndoable b page_tree longer → GrowsByChange t older longer → to_undo u longer ≡ to_undo u older
 same_stack b t u older longer was now grows =
     sym (plain_stack b longer u now) ∙ ap (λ (l : History). without_smo (to_undo u l)) grows.is ∙ more_stacks t u grows.more older grows.all ∙ plain_stack b older u was
 
--- ---- it is a loser still
+-- ---- losers and their rows
 
 has_more : (t : ℕ) (more older : History) → has_record t older ≡ true → has_record t (more ++ older) ≡ true
 has_more t [] older has = has
@@ -141,21 +72,11 @@ loser_has : (t : ℕ) (log : History) → is_loser t log ≡ true → has_record
 loser_has t log is =
     (and_parts (has_record t log) (not (is_finished t log)) (and_parts (nat_le 1 t) (has_record t log && not (is_finished t log)) is).1).0
 
+-- a loser that is not finished is one still
 pub loser_still : (t : ℕ) (older longer : History) → GrowsByChange t older longer → is_loser t older ≡ true → is_finished t longer ≡ false → is_loser t longer ≡ true
 loser_still t older longer grows is going =
     loser_from t longer (loser_number t older is) (ap (has_record t) grows.is ∙ has_more t grows.more older (loser_has t older is)) going
 
-pub loser_some : (t : ℕ) (log : History) → is_loser t log ≡ true → t ≢ 0
-loser_some t log is none = let one : 1 ≤ t = loser_number t log is in omega (arith, one, none)
-
--- ---- its row
-
 pub row_is : (t last undo_next : ℕ) (log : History) → last_of t log ≡ last → undo_next_of t log ≡ undo_next → row_of t log ≡ record { last = last; undo_next = undo_next }
 row_is t last undo_next log one two =
     ap (λ (l : ℕ). record { last = l; undo_next = undo_next_of t log }) one ∙ ap (λ (n : ℕ). record { last = last; undo_next = n }) two
-
-pub row_last : (t last undo_next : ℕ) (log : History) → row_of t log ≡ record { last = last; undo_next = undo_next } → last_of t log ≡ last
-row_last t last undo_next log is = ap (λ (r : Loser). r.last) is
-
-pub row_next : (t last undo_next : ℕ) (log : History) → row_of t log ≡ record { last = last; undo_next = undo_next } → undo_next_of t log ≡ undo_next
-row_next t last undo_next log is = ap (λ (r : Loser). r.undo_next) is

@@ -1,5 +1,5 @@
 -- The plan to take an empty leaf out of the tree.
-use Rattle.std.proofs.Common.{◌≡◌, ℕ, List, [], Option, Some, None, Result, Ok, Err, sym, ap, subst, ◌∙◌}
+use Rattle.std.proofs.Common.{◌≡◌, ◌≢◌, ◌⊎◌, ℕ, List, [], Option, Some, None, Result, Ok, Err, sym, ap, subst, ◌∙◌, ⊎_elim}
 use Rattle.std.specs.Result.{IsErrAnd}
 use Rattle.im_types.specs.declared.fault.Fault.{Fault}
 use Rattle.im_types.specs.declared.page_kind.PageKind.TheVariants.{Free}
@@ -24,18 +24,28 @@ use Rattle.im_alloc.proofs.Goings.{bodies_stay, seen_stays}
 use Rattle.im_delete.specs.Kept.{CallKept}
 use Rattle.im_delete.specs.Plan.{DeletesChain, IsPlan, DeleteKept}
 use Rattle.im_delete.proofs.Calls.{call_refused, then_refused}
-use Rattle.im_undo.specs.DropPlan.{IsDropPlan}
+use Rattle.im_split.proofs.OneLeaf.{one_leaf}
+use Rattle.im_undo.specs.DropPlan.{IsSpare, IsDropPlan}
 
 module _ {D : Type 0} (d : Ghosts D) (b : Base) (base : ℕ) (s : Writer) (key : Key) (gets : ℕ) (v : PageWriter) (old : D) (has : HasTree d b base s [] v old) where
   -- the leaf was not found
   pub leaf_refused : (w : PageWriter) (disk : D) (f : Fault) → LeafKept d b base s key gets old w disk (Err f) → (r : Result (Option (List Numbered)) Fault) → IsErrAnd r (λ x. x ≡ f)
-      → CallKept d b base s (IsDropPlan s) old w disk r
-  leaf_refused w disk f kept r is = call_refused d b base s (IsDropPlan s) old w disk f kept.stops kept.cause kept.again r is
+      → CallKept d b base s (IsDropPlan s key) old w disk r
+  leaf_refused w disk f kept r is = call_refused d b base s (IsDropPlan s key) old w disk f kept.stops kept.cause kept.again r is
 
   module _ (frame : Frame) (w : PageWriter) (mid : D) (leaf : LeafKept d b base s key gets old w mid (Ok frame)) where
     -- it stays
-    pub leaf_stays : CallKept d b base s (IsDropPlan s) old w mid (Ok None)
-    leaf_stays = record { ok = tt; on = record { now = leaf.ok.now; on = leaf.ok.on }; stops = leaf.stops; cause = tt; again = tt }
+    entries_are : (page_at w.pool frame.number).body.entries ≡ (bodies s frame.number).entries
+    entries_are = ap (λ (g : Page). g.body.entries) leaf.ok.page
+
+    not_spare : (frame.number ≡ 1) ⊎ ((page_at w.pool frame.number).body.entries ≢ []) → IsSpare (bodies s) key → ⊥
+    not_spare other spare =
+        let same : spare.page ≡ frame.number = one_leaf (bodies s) [] key spare.page frame.number has.good spare.way leaf.ok.way in
+        ⊎_elim (λ (root : frame.number ≡ 1). spare.other (same ∙ root))
+        (λ (some : (page_at w.pool frame.number).body.entries ≢ []). some (entries_are ∙ ap (λ (p : ℕ). (bodies s p).entries) (sym same) ∙ spare.none)) other
+
+    pub leaf_stays : (frame.number ≡ 1) ⊎ ((page_at w.pool frame.number).body.entries ≢ []) → CallKept d b base s (IsDropPlan s key) old w mid (Ok None)
+    leaf_stays other = record { ok = not_spare other; on = record { now = leaf.ok.now; on = leaf.ok.on }; stops = leaf.stops; cause = tt; again = tt }
 
     -- what its deletion asks
     pub tree_then : HasTree d b base leaf.ok.now [] w mid
@@ -52,20 +62,21 @@ module _ {D : Type 0} (d : Ghosts D) (b : Base) (base : ℕ) (s : Writer) (key :
 
     -- the deletion was refused
     pub delete_refused : (x : PageWriter) (new : D) (f : Fault) → DeleteKept d b base leaf.ok.now frame.number mid x new (Err f) → (r : Result (Option (List Numbered)) Fault) → IsErrAnd r (λ y. y ≡ f)
-        → CallKept d b base s (IsDropPlan s) old x new r
+        → CallKept d b base s (IsDropPlan s key) old x new r
     delete_refused x new f kept r is =
-        then_refused d b base s (IsPlan leaf.ok.now frame.number) (IsDropPlan s) old leaf.ok.now w mid leaf.ok.on x new f
+        then_refused d b base s (IsPlan leaf.ok.now frame.number) (IsDropPlan s key) old leaf.ok.now w mid leaf.ok.on x new f
         (record { ok = tt; on = tt; stops = kept.stops; cause = kept.cause; again = kept.again }) r is
 
     -- it goes
-    pub delete_planned : (x : PageWriter) (new : D) (images : List Numbered) → DeleteKept d b base leaf.ok.now frame.number mid x new (Ok images) → CallKept d b base s (IsDropPlan s) old x new (Ok (Some images))
-    delete_planned x new images kept =
+    pub delete_planned : frame.number ≢ 1 → (page_at w.pool frame.number).body.entries ≡ [] → (x : PageWriter) (new : D) (images : List Numbered) → DeleteKept d b base leaf.ok.now frame.number mid x new (Ok images)
+        → CallKept d b base s (IsDropPlan s key) old x new (Ok (Some images))
+    delete_planned other none x new images kept =
         let t = leaf.ok.now in
         let p = frame.number in
         let stays = seen_stays b s t leaf.ok.on.goes.keeps images in
         record {
           ok = (
-            p,
+            record { page = p; way = leaf.ok.way; other = other; none = sym entries_are ∙ none },
             record {
               good = subst (λ (pages : Pages). IsGoodTree pages []) stays kept.ok.good;
               same = ap walk (sym stays) ∙ kept.ok.same ∙ ap walk still;

@@ -1,10 +1,21 @@
 -- What the plan to take an empty leaf out of the tree answers.
-use Rattle.std.specs.Prelude.{ℕ, List, Option, Some, None}
+use Rattle.std.specs.Prelude.{◌≡◌, ◌≢◌, ℕ, List, [], Option, Some, None}
+use Rattle.im_types.specs.Keys.{Key}
 use Rattle.im_types.specs.Writer.{Writer}
+use Rattle.im_tree.specs.Levels.{Pages}
+use Rattle.im_tree.specs.Search.{IsOnWay}
 use Rattle.im_smo.specs.Images.{Numbered}
+use Rattle.im_alloc.specs.Seen.{bodies}
 use Rattle.im_delete.specs.Plan.{IsPlan}
 
--- the leaf stays, or there are images that take a leaf out of the tree
-abbrev pub IsDropPlan : Writer → Option (List Numbered) → Type 0
-IsDropPlan s None = Unit {0}
-IsDropPlan s (Some images) = (p : ℕ) × IsPlan s p images
+-- The leaf of the key has no entry, and is not the root.
+pub record IsSpare (pages : Pages) (key : Key) : Type 0 where
+  pub page : ℕ
+  pub way : IsOnWay pages 0 key page
+  pub other : page ≢ 1
+  pub none : (pages page).entries ≡ []
+
+-- the leaf stays, since it is not spare, or there are images that take it out of the tree
+abbrev pub IsDropPlan : Writer → Key → Option (List Numbered) → Type 0
+IsDropPlan s key None = IsSpare (bodies s) key → ⊥
+IsDropPlan s key (Some images) = (spare : IsSpare (bodies s) key) × IsPlan s spare.page images

@@ -1,14 +1,16 @@
 -- Where the leaf of a key is found.
-use Rattle.std.specs.Prelude.{◌≡◌, ◌≢◌, ◌<◌, ℕ, List, length, Option, IfSome, Result, IfErr, IfOk}
+use Rattle.std.specs.Prelude.{◌≡◌, ◌≢◌, ◌<◌, ◌≤◌, ℕ, List, length, Option, None, IfSome, Result, IfErr, IfOk}
 use Rattle.im_types.specs.declared.fault.Fault.{Fault}
 use Rattle.im_types.specs.declared.fault.Fault.TheVariants.{NotAStore}
-use Rattle.im_types.specs.declared.page_kind.PageKind.TheVariants.{Leaf}
+use Rattle.im_types.specs.declared.page_kind.PageKind.TheVariants.{Leaf, Meta}
 use Rattle.im_types.specs.Keys.{Key, IsBelow}
-use Rattle.im_types.specs.Pages.{Entry}
+use Rattle.im_types.specs.Pages.{Body, Entry}
 use Rattle.im_types.specs.Histories.{Base}
 use Rattle.im_types.specs.Writer.{Writer}
 use Rattle.im_disk.specs.declared.disk.Disk.{Ghosts}
 use Rattle.im_page.specs.Entry.{entry_at}
+use Rattle.im_page.specs.Page.{is_leaf_kind}
+use Rattle.im_page.specs.Split.{HasRoom}
 use Rattle.im_pool.specs.declared.frame.Frame.{Frame}
 use Rattle.im_pool.specs.Pool.{page_at}
 use Rattle.im_flush.specs.declared.page_writer.PageWriter.{PageWriter}
@@ -19,9 +21,15 @@ use Rattle.im_search.specs.Found.{Reached}
 
 -- ---- what a page says of a key
 
+-- Page 0 says that there is a page of this number.
+pub record CountsPage (meta : Body) (p : ℕ) : Type 0 where
+  pub kind : meta.kind ≡ Meta
+  pub below : p < meta.leftmost
+
 -- The page is below the page count, and a leaf.
 pub record IsKnownLeaf (pages : Pages) (p : ℕ) : Type 0 where
   pub leaf : (pages p).kind ≡ Leaf
+  pub level : (pages p).level ≡ 0
   pub counted : p < (pages 0).leftmost
 
 -- One of these entries has the key.
@@ -39,6 +47,13 @@ pub record Surrounds (es : List Entry) (key : Key) : Type 0 where
   pub smaller : IsBelow (entry_at es low).0 key
   pub greater : IsBelow key (entry_at es high).0
 
+-- The page has room for a key that it lacks, between two of its keys.
+pub record HasGap (page : Body) (key : Key) : Type 0 where
+  pub short : length key ≤ 255
+  pub room : HasRoom (is_leaf_kind page.kind) page.entries (key, 0)
+  pub absent : HasKey page.entries key → ⊥
+  pub between : Surrounds page.entries key
+
 -- The page is held, is the writer's, and has this property.
 pub record IsHeldPage (s : Writer) (P : ℕ → Type 0) (w : PageWriter) (frame : Frame) : Type 0 where
   pub page : page_at w.pool frame.number ≡ (s.pages frame.number).page
@@ -47,6 +62,11 @@ pub record IsHeldPage (s : Writer) (P : ℕ → Type 0) (w : PageWriter) (frame 
 -- and so is the page that is answered, if there is one
 abbrev pub IfHeldPage : Writer → (ℕ → Type 0) → PageWriter → Option Frame → Type 0
 IfHeldPage s P w found = IfSome found (IsHeldPage s P w)
+
+-- and there is one wherever this is so
+pub record FindsPage (s : Writer) (P : ℕ → Type 0) (Wanted : Type 0) (w : PageWriter) (found : Option Frame) : Type 0 where
+  pub held : IfHeldPage s P w found
+  pub none : found ≡ None → Wanted → ⊥
 
 -- ---- the leaf of a key
 

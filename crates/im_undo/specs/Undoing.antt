@@ -1,8 +1,9 @@
 -- What it asks to take a key record back, how the log stands on the way, and what is kept.
-use Rattle.std.specs.Prelude.{◌≡◌, ◌≢◌, ◌≤◌, ◌⊎◌, ℕ, true, false, List, [], ◌∷◌, length, Some, None, Result, IfErr, IfOk}
+use Rattle.std.specs.Prelude.{◌≡◌, ◌≢◌, ◌≤◌, ◌⊎◌, ◌-◌, ◌^◌, ℕ, true, false, List, [], ◌∷◌, length, Some, None, Result, IfErr, IfOk}
 use Rattle.std.specs.FinMap.Entries.{find}
 use Rattle.im_types.specs.declared.fault.Fault.{Fault}
-use Rattle.im_types.specs.declared.fault.Fault.TheVariants.{Memory, NotAStore}
+use Rattle.im_types.specs.declared.fault.Fault.TheVariants.{Capacity, Failed, Memory, NotAStore}
+use Rattle.im_types.specs.declared.page_kind.PageKind.TheVariants.{Free}
 use Rattle.im_types.specs.Keys.{Key, key_order}
 use Rattle.im_types.specs.Records.{What, InsertKey, DeleteKey, Logged}
 use Rattle.im_types.specs.Histories.{Base, History, IsFront}
@@ -19,13 +20,16 @@ use Rattle.im_flush.specs.declared.page_writer.PageWriter.{PageWriter}
 use Rattle.im_flush.specs.Stands.{IsCovered}
 use Rattle.im_flush.specs.PageWriter.{StandsAs, Evicted}
 use Rattle.im_page.specs.Split.{HasRoom}
-use Rattle.im_tree.specs.Levels.{Pages, walk}
+use Rattle.im_tree.specs.Levels.{Pages, height, walk}
 use Rattle.im_tree.specs.Search.{IsOnWay}
 use Rattle.im_tree.specs.Theory.{page_tree}
 use Rattle.im_alloc.specs.Seen.{bodies}
-use Rattle.im_split.specs.Plan.{FitsInLeaf}
+use Rattle.im_change.specs.Changes.{HasRecordOf}
+use Rattle.im_split.specs.Tops.{LacksRoomFor}
+use Rattle.im_split.specs.Plan.{FitsInLeaf, IsOver}
 use Rattle.im_analysis.specs.Losers.{is_loser, row_of}
 use Rattle.im_analysis.specs.Undo.{IsUndoable, IsNext}
+use Rattle.im_undo.specs.DropPlan.{IsSpare}
 use Rattle.im_undo.specs.Records.{GrowsByUndo, compensations, inverse_of}
 
 -- the walk has the key with the row id that a record put, or lacks the one that it dropped
@@ -39,6 +43,16 @@ abbrev pub TakesIt : Pages → ℕ → What → Type 0
 TakesIt pages p (InsertKey k i) = IsOnWay pages 0 k p
 TakesIt pages p (DeleteKey k i) = IsOnWay pages 0 k p × HasRoom true (pages p).entries (k, 0)
 TakesIt pages p _ = Unit {0}
+
+-- The key's leaf lacks room for it, and the pages that its split takes are more than there are numbers for, or the root is of the last level.
+pub record CanNotSplit (pages : Pages) (key : Key) : Type 0 where
+  pub lacks : LacksRoomFor pages key
+  pub used_up : IsOver pages key (2 ^ 32 - 1) ⊎ (height pages ≡ 255)
+
+-- so it is with the key that a record dropped; no other record asks for room
+abbrev pub UsesUp : Pages → What → Type 0
+UsesUp pages (DeleteKey k i) = CanNotSplit pages k
+UsesUp pages _ = ⊥
 
 module _ {D : Type 0} (d : Ghosts D) (b : Base) (base : ℕ) where
   -- Redo is over, the log lawful, and no structure change open; the transaction is unfinished, its records end at this LSN, and its undo goes on at this one.
@@ -68,6 +82,13 @@ module _ {D : Type 0} (d : Ghosts D) (b : Base) (base : ℕ) where
     pub grows : GrowsByUndo t s.log now.log
     pub stops : LeavesUndo s t old disk
 
+  -- A record of the transaction joined the log, and no call has failed.
+  pub record HasBegun (s : Writer) (t : ℕ) (w : PageWriter) (disk : D) : Type 0 where
+    pub now : Writer
+    pub stands : StandsAs d b base now w disk
+    pub grows : GrowsByUndo t s.log now.log
+    pub some : HasRecordOf t grows.more
+
   -- ---- structure changes on the way
 
   -- Behind them the transaction has the same left to undo, and the tree the same entries.
@@ -78,23 +99,42 @@ module _ {D : Type 0} (d : Ghosts D) (b : Base) (base : ℕ) where
     pub map : contents b now.log ≡ contents b s.log
     pub none : compensations goes.grows.more ≡ []
 
-  -- what the deletion of the leaf keeps that a compensation left empty
-  pub record DropKept (s : Writer) (e t undo_next : ℕ) (old : D) (w : PageWriter) (disk : D) (result : Result ℕ Fault) : Type 0 where
+  -- Where the key's leaf was spare, its page is free; where it was not, no structure was changed.
+  pub record Dropped (s : Writer) (e t last undo_next : ℕ) (key : Key) (old : D) (w : PageWriter) (disk : D) : Type 0 where
+    pub made : Restructured s e t last undo_next old w disk
+    pub gone : (spare : IsSpare (bodies s) key) → (bodies made.now spare.page).kind ≡ Free
+    pub only : HasRecordOf t made.goes.grows.more → IsSpare (bodies s) key
+
+  -- what the deletion of a key's leaf keeps; a want of memory leaves all as it was, or is `Failed` behind a record
+  pub record DropKept (s : Writer) (e t undo_next : ℕ) (key : Key) (old : D) (w : PageWriter) (disk : D) (result : Result ℕ Fault) : Type 0 where
+    pub ok : IfOk result (λ last. Dropped s e t last undo_next key old w disk)
+    pub stops : LeavesUndo s t old disk
+    pub cause : IfErr result (λ e. e ≢ NotAStore)
+    pub again : IfErr result (λ e. e ≡ Memory → Evicted d b base s old w disk)
+    pub begun : IfErr result (λ e. e ≡ Failed → HasBegun s t w disk)
+
+  -- what the deletion of the leaf keeps that a compensation left empty, which may stay for want of memory
+  pub record EmptiedKept (s : Writer) (e t undo_next : ℕ) (old : D) (w : PageWriter) (disk : D) (result : Result ℕ Fault) : Type 0 where
     pub ok : IfOk result (λ last. Restructured s e t last undo_next old w disk)
     pub stops : LeavesUndo s t old disk
     pub cause : IfErr result (λ e. e ≢ NotAStore)
+    pub begun : IfErr result (λ e. e ≡ Failed → HasBegun s t w disk)
 
-  -- The leaf of the key has room.
+  -- The leaf of the key has room; a structure was changed just where it lacked that.
   pub record HasMadeRoom (s : Writer) (e t last undo_next : ℕ) (key : Key) (old : D) (w : PageWriter) (disk : D) : Type 0 where
     pub made : Restructured s e t last undo_next old w disk
     pub fits : FitsInLeaf (bodies made.now) key
+    pub some : LacksRoomFor (bodies s) key → HasRecordOf t made.goes.grows.more
+    pub only : HasRecordOf t made.goes.grows.more → LacksRoomFor (bodies s) key
 
-  -- what the split of a key's leaf keeps; a want of memory leaves all as it was
+  -- what the split of a key's leaf keeps; a want of memory leaves all as it was, or is `Failed` behind a record
   pub record SplitKept (s : Writer) (e t undo_next : ℕ) (key : Key) (old : D) (w : PageWriter) (disk : D) (result : Result ℕ Fault) : Type 0 where
     pub ok : IfOk result (λ last. HasMadeRoom s e t last undo_next key old w disk)
     pub stops : LeavesUndo s t old disk
     pub cause : IfErr result (λ e. e ≢ NotAStore)
     pub again : IfErr result (λ e. e ≡ Memory → Evicted d b base s old w disk)
+    pub used_up : IfErr result (λ e. e ≡ Capacity → CanNotSplit (bodies s) key)
+    pub begun : IfErr result (λ e. e ≡ Failed → HasBegun s t w disk)
 
   -- ---- the compensation
 
@@ -112,9 +152,11 @@ module _ {D : Type 0} (d : Ghosts D) (b : Base) (base : ℕ) where
     pub map : contents b now.log ≡ contents_after (inverse_of (what_of entry)) (contents b s.log)
     pub once : length (compensations goes.grows.more) ≡ 1
 
-  -- what a compensation keeps; a want of memory leaves all as it was
+  -- What a compensation keeps. A want of memory leaves all as it was, or is `Failed` behind a record of the transaction; `Capacity` comes only where a key that is put back finds its leaf without room, and page numbers or levels are used up.
   pub record CompensateKept (s : Writer) (e t : ℕ) (entry : Entry) (old : D) (w : PageWriter) (disk : D) (result : Result ℕ Fault) : Type 0 where
     pub ok : IfOk result (λ last. TakenBack s e t entry last old w disk)
     pub stops : LeavesUndo s t old disk
     pub cause : IfErr result (λ e. e ≢ NotAStore)
     pub again : IfErr result (λ e. e ≡ Memory → Evicted d b base s old w disk)
+    pub used_up : IfErr result (λ e. e ≡ Capacity → UsesUp (bodies s) (what_of entry))
+    pub begun : IfErr result (λ e. e ≡ Failed → HasBegun s t w disk)

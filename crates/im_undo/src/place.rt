@@ -1,6 +1,6 @@
 //! Where the leaf is that a key record is taken back in.
 
-ghost use Rattle.std.specs.Prelude.{◌≡◌, ◌<◌, ◌⊎◌, ◌↔◌, ℕ, true, false, [], Err, IfErr, IfOk, IfSome, OnOk, IsTrue};
+ghost use Rattle.std.specs.Prelude.{◌≡◌, ◌<◌, ◌⊎◌, ◌↔◌, ◌+◌, ℕ, true, false, [], Err, IfErr, IfOk, IfSome, OnOk, IsTrue};
 ghost use Rattle.im_types.specs.declared.fault.Fault.TheVariants.{Device, LogFull, Memory, NotAStore};
 ghost use Rattle.im_types.specs.declared.page_kind.PageKind.TheVariants.{Leaf};
 ghost use Rattle.im_types.specs.Histories.{Base};
@@ -12,7 +12,7 @@ ghost use Rattle.im_tree.specs.Search.{IsOnWay};
 ghost use Rattle.im_search.specs.Levels.{bodies};
 ghost use Rattle.im_search.specs.Found.{HasTree};
 ghost use Rattle.im_delete.specs.Kept.{CallKept};
-ghost use Rattle.im_undo.specs.Place.{HasKey, Surrounds, IsKnownLeaf, IfHeldPage, PlaceKept};
+ghost use Rattle.im_undo.specs.Place.{CountsPage, HasKey, HasGap, IsKnownLeaf, FindsPage, PlaceKept};
 
 use im_disk::Disk;
 use im_flush::PageWriter;
@@ -23,7 +23,7 @@ use im_types::{Fault, PageKind, PageNo};
 
 // Whether the page is below the page count, by the meta page.
 fn counts(meta: &Page, page: PageNo) -> bool
-    ensures { IsTrue result → page < meta.now.body.leftmost }
+    ensures { IsTrue result ↔ CountsPage meta.now.body page }
 {
     if meta.kind() != PageKind::Meta {
         return false;
@@ -33,7 +33,7 @@ fn counts(meta: &Page, page: PageNo) -> bool
 
 // Whether a page has a key.
 fn has_key(page: &Page, key: &[u8]) -> bool
-    ensures { IsTrue result → HasKey page.now.body.entries key.now }
+    ensures { IsTrue result ↔ HasKey page.now.body.entries key.now }
 {
     match page.find(key) {
         Ok(_) => true,
@@ -43,7 +43,7 @@ fn has_key(page: &Page, key: &[u8]) -> bool
 
 // Whether a page lacks a key, has room for it, and has a smaller one and a greater.
 fn has_gap(page: &Page, key: &[u8]) -> bool
-    ensures { IsTrue result → Surrounds page.now.body.entries key.now }
+    ensures { IsTrue result ↔ HasGap page.now.body key.now }
 {
     if 255 < key.len() || !page.has_room(key.len()) {
         return false;
@@ -64,7 +64,9 @@ fn known_leaf<D: Disk>(
     requires working { writer.old.failed ≡ false }
     ensures ready { IsReadyWriter D.Disk writer.new disk.new }
     ensures kept { (b : Base) (base : ℕ) (s : Writer) → HasTree D.Disk b base s [] writer.old disk.old
-        → CallKept D.Disk b base s (IfHeldPage s (IsKnownLeaf (bodies s)) writer.new) disk.old writer.new disk.new result }
+        → CallKept D.Disk b base s (FindsPage s (IsKnownLeaf (bodies s)) (IsKnownLeaf (bodies s) page) writer.new) disk.old writer.new disk.new result }
+    ensures frame { IfOk result (λ found. IfSome found (λ frame. frame.number ≡ page)) }
+    ensures gets { IfOk result (λ found. IfSome found (λ _. writer.new.pool.gets ≡ writer.old.pool.gets + 2)) }
     ensures at { IfOk result (λ found. IfSome found (IsAt writer.new.pool)) }
     ensures leaf { IfOk result (λ found. IfSome found (λ frame. (page_at writer.new.pool frame.number).body.kind ≡ Leaf)) }
     ensures works { OnOk result (writer.new.failed ≡ false) }
@@ -95,7 +97,9 @@ fn page_with<D: Disk>(
     requires working { writer.old.failed ≡ false }
     ensures ready { IsReadyWriter D.Disk writer.new disk.new }
     ensures kept { (b : Base) (base : ℕ) (s : Writer) → HasTree D.Disk b base s [] writer.old disk.old
-        → CallKept D.Disk b base s (IfHeldPage s (IsOnWay (bodies s) 0 key.now) writer.new) disk.old writer.new disk.new result }
+        → CallKept D.Disk b base s (FindsPage s (IsOnWay (bodies s) 0 key.now) (IsKnownLeaf (bodies s) page × HasKey (bodies s page).entries key.now) writer.new) disk.old writer.new disk.new result }
+    ensures frame { IfOk result (λ found. IfSome found (λ frame. frame.number ≡ page)) }
+    ensures gets { IfOk result (λ found. IfSome found (λ _. writer.new.pool.gets ≡ writer.old.pool.gets + 2)) }
     ensures at { IfOk result (λ found. IfSome found (IsAt writer.new.pool)) }
     ensures leaf { IfOk result (λ found. IfSome found (λ frame. (page_at writer.new.pool frame.number).body.kind ≡ Leaf)) }
     ensures works { OnOk result (writer.new.failed ≡ false) }
@@ -124,7 +128,9 @@ fn page_around<D: Disk>(
     requires working { writer.old.failed ≡ false }
     ensures ready { IsReadyWriter D.Disk writer.new disk.new }
     ensures kept { (b : Base) (base : ℕ) (s : Writer) → HasTree D.Disk b base s [] writer.old disk.old
-        → CallKept D.Disk b base s (IfHeldPage s (IsOnWay (bodies s) 0 key.now) writer.new) disk.old writer.new disk.new result }
+        → CallKept D.Disk b base s (FindsPage s (IsOnWay (bodies s) 0 key.now) (IsKnownLeaf (bodies s) page × HasGap (bodies s page) key.now) writer.new) disk.old writer.new disk.new result }
+    ensures frame { IfOk result (λ found. IfSome found (λ frame. frame.number ≡ page)) }
+    ensures gets { IfOk result (λ found. IfSome found (λ _. writer.new.pool.gets ≡ writer.old.pool.gets + 2)) }
     ensures at { IfOk result (λ found. IfSome found (IsAt writer.new.pool)) }
     ensures leaf { IfOk result (λ found. IfSome found (λ frame. (page_at writer.new.pool frame.number).body.kind ≡ Leaf)) }
     ensures works { OnOk result (writer.new.failed ≡ false) }
@@ -142,8 +148,8 @@ fn page_around<D: Disk>(
     Ok(Some(frame))
 }
 
-/// Where the leaf of a key is held from now on that is in the tree: this page, where it is a leaf of the tree that has the key, and
-/// otherwise by a search from the root.
+/// Where the leaf of a key is held from now on that is in the tree: this page, where it is a leaf of the tree that has the key, by two
+/// gets, and otherwise by a search from the root.
 pub(crate) fn leaf_with<D: Disk>(
     writer: &mut PageWriter,
     disk: &mut D,
@@ -154,6 +160,8 @@ pub(crate) fn leaf_with<D: Disk>(
     requires working { writer.old.failed ≡ false }
     ensures ready { IsReadyWriter D.Disk writer.new disk.new }
     ensures kept { (b : Base) (base : ℕ) (s : Writer) → HasTree D.Disk b base s [] writer.old disk.old → PlaceKept D.Disk b base s key.now disk.old writer.new disk.new result }
+    ensures quick { (b : Base) (base : ℕ) (s : Writer) → HasTree D.Disk b base s [] writer.old disk.old → IsKnownLeaf (bodies s) page → HasKey (bodies s page).entries key.now
+        → OnOk result (writer.new.pool.gets ≡ writer.old.pool.gets + 2) }
     ensures at { IfOk result (IsAt writer.new.pool) }
     ensures leaf { IfOk result (λ frame. (page_at writer.new.pool frame.number).body.kind ≡ Leaf) }
     ensures works { OnOk result (writer.new.failed ≡ false) }
@@ -180,6 +188,8 @@ pub(crate) fn leaf_around<D: Disk>(
     requires working { writer.old.failed ≡ false }
     ensures ready { IsReadyWriter D.Disk writer.new disk.new }
     ensures kept { (b : Base) (base : ℕ) (s : Writer) → HasTree D.Disk b base s [] writer.old disk.old → PlaceKept D.Disk b base s key.now disk.old writer.new disk.new result }
+    ensures quick { (b : Base) (base : ℕ) (s : Writer) → HasTree D.Disk b base s [] writer.old disk.old → IsKnownLeaf (bodies s) page → HasGap (bodies s page) key.now
+        → OnOk result (writer.new.pool.gets ≡ writer.old.pool.gets + 2) }
     ensures at { IfOk result (IsAt writer.new.pool) }
     ensures leaf { IfOk result (λ frame. (page_at writer.new.pool frame.number).body.kind ≡ Leaf) }
     ensures works { OnOk result (writer.new.failed ≡ false) }

@@ -9,9 +9,8 @@ ghost use Rattle.im_pool.specs.Pool.{page_at, IsAt};
 ghost use Rattle.im_flush.specs.PageWriter.{IsReadyWriter};
 ghost use Rattle.im_search.specs.Found.{HasTree};
 ghost use Rattle.im_delete.specs.Kept.{CallKept};
-ghost use Rattle.im_change.specs.Changes.{MayChange, ChangeKept};
 ghost use Rattle.im_undo.specs.DropPlan.{IsDropPlan};
-ghost use Rattle.im_undo.specs.Undoing.{IsGoing, SplitKept, DropKept};
+ghost use Rattle.im_undo.specs.Undoing.{IsGoing, SplitKept, DropKept, EmptiedKept};
 
 use im_change::run;
 use im_delete::plan_delete;
@@ -46,33 +45,6 @@ fn wants_memory(fault: Fault) -> bool
     }
 }
 
-// Logs a structure change of a transaction, and makes the pages those of its images. It answers the LSN of the record that closes it.
-fn restructure<D: Disk>(
-    writer: &mut PageWriter,
-    disk: &mut D,
-    images: &Images,
-    transaction: TxnId,
-    last: Lsn,
-    undo_next: Lsn,
-) -> Result<Lsn, Fault>
-    requires ready { IsReadyWriter D.Disk writer.old disk.old }
-    requires working { writer.old.failed ≡ false }
-    requires owner { 1 ≤ transaction }
-    ensures ready { IsReadyWriter D.Disk writer.new disk.new }
-    ensures kept { (b : Base) (base : ℕ) (s : Writer) (e : ℕ) → MayChange D.Disk b base s e images.now transaction last undo_next writer.old disk.old
-        → ChangeKept D.Disk b base s e images.now transaction undo_next disk.old writer.new disk.new result }
-    ensures works { OnOk result (writer.new.failed ≡ false) }
-    ensures fails { IfErr result (λ e. (writer.new.failed ≡ false) ↔ ((e ≡ NotAStore) ⊎ (e ≡ Failed))) }
-    ensures causes { IfErr result (λ e. (e ≡ Failed) ⊎ (e ≡ LogFull) ⊎ (e ≡ NotAStore) ⊎ (e ≡ Device)) }
-    ensures no_room { result ≡ Err LogFull → HasNoRoom writer.new.log }
-    ensures device { result ≡ Err Device ↔ (D.failed disk.new ≡ true) }
-{
-    match run(writer, disk, images, transaction, last, undo_next) {
-        Ok(lsn) => Ok(lsn),
-        Err(fault) => Err(late(fault)),
-    }
-}
-
 /// Splits the leaf of a key where it lacks room for the key, whatever limit of pages there is. It answers the LSN of the
 /// transaction's last record, which is the old one where nothing was split.
 ///
@@ -104,13 +76,14 @@ pub(crate) fn split_leaf<D: Disk>(
     if images.len() == 0 {
         return Ok(last);
     }
-    restructure(writer, disk, &images, transaction, last, undo_next)
+    run(writer, disk, &images, transaction, last, undo_next)
 }
 
 // Whether the leaf of a key is not the root, and has no entry.
 fn is_spare(writer: &PageWriter, frame: Frame) -> bool
     requires at { IsAt writer.now.pool frame }
-    ensures { result ≡ true → (frame.number ≢ 1) × ((page_at writer.now.pool frame.number).body.entries ≡ []) }
+    ensures spare { result ≡ true → (frame.number ≢ 1) × ((page_at writer.now.pool frame.number).body.entries ≡ []) }
+    ensures other { result ≡ false → (frame.number ≡ 1) ⊎ ((page_at writer.now.pool frame.number).body.entries ≢ []) }
 {
     frame.number != 1 && writer.page(frame).len() == 0
 }
@@ -125,7 +98,7 @@ fn plan_drop<D: Disk>(
     requires ready { IsReadyWriter D.Disk writer.old disk.old }
     requires working { writer.old.failed ≡ false }
     ensures ready { IsReadyWriter D.Disk writer.new disk.new }
-    ensures kept { (b : Base) (base : ℕ) (s : Writer) → HasTree D.Disk b base s [] writer.old disk.old → CallKept D.Disk b base s (IsDropPlan s) disk.old writer.new disk.new result }
+    ensures kept { (b : Base) (base : ℕ) (s : Writer) → HasTree D.Disk b base s [] writer.old disk.old → CallKept D.Disk b base s (IsDropPlan s key.now) disk.old writer.new disk.new result }
     ensures works { OnOk result (writer.new.failed ≡ false) }
     ensures fails { IfErr result (λ e. (writer.new.failed ≡ false) ↔ ((e ≡ Memory) ⊎ (e ≡ NotAStore))) }
     ensures causes { IfErr result (λ e. (e ≡ LogFull) ⊎ (e ≡ Memory) ⊎ (e ≡ NotAStore) ⊎ (e ≡ Device)) }
@@ -138,6 +111,35 @@ fn plan_drop<D: Disk>(
     }
     let images = plan_delete(alloc, writer, disk, key)?;
     Ok(Some(images))
+}
+
+// Takes the leaf of a key out of the tree where it is empty and not the root. It answers the LSN of the transaction's last record,
+// which is the old one where the leaf stays. Refused as `split_leaf` is, but for `Capacity`.
+fn drop_spare<D: Disk>(
+    alloc: Global,
+    writer: &mut PageWriter,
+    disk: &mut D,
+    transaction: TxnId,
+    last: Lsn,
+    undo_next: Lsn,
+    key: &[u8],
+) -> Result<Lsn, Fault>
+    requires ready { IsReadyWriter D.Disk writer.old disk.old }
+    requires working { writer.old.failed ≡ false }
+    requires owner { 1 ≤ transaction }
+    ensures ready { IsReadyWriter D.Disk writer.new disk.new }
+    ensures kept { (b : Base) (base : ℕ) (s : Writer) (e : ℕ) → IsGoing D.Disk b base s e transaction last undo_next writer.old disk.old
+        → DropKept D.Disk b base s e transaction undo_next key.now disk.old writer.new disk.new result }
+    ensures works { OnOk result (writer.new.failed ≡ false) }
+    ensures fails { IfErr result (λ e. (writer.new.failed ≡ false) ↔ ((e ≡ Memory) ⊎ (e ≡ NotAStore) ⊎ (e ≡ Failed))) }
+    ensures causes { IfErr result (λ e. (e ≡ Failed) ⊎ (e ≡ LogFull) ⊎ (e ≡ Memory) ⊎ (e ≡ NotAStore) ⊎ (e ≡ Device)) }
+    ensures no_room { result ≡ Err LogFull → HasNoRoom writer.new.log }
+    ensures device { result ≡ Err Device ↔ (D.failed disk.new ≡ true) }
+{
+    let Some(images) = plan_drop(alloc, writer, disk, key)? else {
+        return Ok(last);
+    };
+    run(writer, disk, &images, transaction, last, undo_next)
 }
 
 /// Takes the leaf of a key out of the tree where it is empty and not the root. It answers the LSN of the transaction's last record,
@@ -157,16 +159,15 @@ pub(crate) fn drop_leaf<D: Disk>(
     requires owner { 1 ≤ transaction }
     ensures ready { IsReadyWriter D.Disk writer.new disk.new }
     ensures kept { (b : Base) (base : ℕ) (s : Writer) (e : ℕ) → IsGoing D.Disk b base s e transaction last undo_next writer.old disk.old
-        → DropKept D.Disk b base s e transaction undo_next disk.old writer.new disk.new result }
+        → EmptiedKept D.Disk b base s e transaction undo_next disk.old writer.new disk.new result }
     ensures works { OnOk result (writer.new.failed ≡ false) }
     ensures fails { IfErr result (λ e. (writer.new.failed ≡ false) ↔ ((e ≡ NotAStore) ⊎ (e ≡ Failed))) }
     ensures causes { IfErr result (λ e. (e ≡ Failed) ⊎ (e ≡ LogFull) ⊎ (e ≡ NotAStore) ⊎ (e ≡ Device)) }
     ensures no_room { result ≡ Err LogFull → HasNoRoom writer.new.log }
     ensures device { result ≡ Err Device ↔ (D.failed disk.new ≡ true) }
 {
-    match plan_drop(alloc, writer, disk, key) {
-        Ok(None) => Ok(last),
-        Ok(Some(images)) => restructure(writer, disk, &images, transaction, last, undo_next),
+    match drop_spare(alloc, writer, disk, transaction, last, undo_next, key) {
+        Ok(lsn) => Ok(lsn),
         Err(fault) => {
             if wants_memory(fault) {
                 return Ok(last);

@@ -15,6 +15,7 @@ ghost use Rattle.im_page.specs.Split.{HasRoom};
 ghost use Rattle.im_pool.specs.Pool.{page_at, IsAt};
 ghost use Rattle.im_flush.specs.PageWriter.{IsReadyWriter};
 ghost use Rattle.im_alloc.specs.Seen.{bodies};
+ghost use Rattle.im_split.specs.Tops.{LacksRoomFor};
 ghost use Rattle.im_split.specs.Plan.{FitsInLeaf};
 ghost use Rattle.im_undo.specs.Undoing.{IsGoing, IsToUndo, CompensateKept};
 
@@ -135,7 +136,7 @@ fn put_back_behind_split<D: Disk>(
     ensures ready { IsReadyWriter D.Disk writer.new disk.new }
     ensures kept { (b : Base) (base : ℕ) (s : Writer) (e rid : ℕ) → what_of (view record.now) ≡ DeleteKey key.now rid
         → IsGoing D.Disk b base s e (transaction_of (view record.now)) last undo_next writer.old disk.old → IsToUndo D.Disk b base s (transaction_of (view record.now)) (view record.now)
-        → CompensateKept D.Disk b base s e (transaction_of (view record.now)) (view record.now) disk.old writer.new disk.new result }
+        → LacksRoomFor (bodies s) key.now → CompensateKept D.Disk b base s e (transaction_of (view record.now)) (view record.now) disk.old writer.new disk.new result }
     ensures works { OnOk result (writer.new.failed ≡ false) }
     ensures fails { IfErr result (λ e. (writer.new.failed ≡ false) ↔ ((e ≡ Memory) ⊎ (e ≡ NotAStore) ⊎ (e ≡ Capacity) ⊎ (e ≡ Failed))) }
     ensures causes { IfErr result (λ e. (e ≡ Capacity) ⊎ (e ≡ Failed) ⊎ (e ≡ LogFull) ⊎ (e ≡ Memory) ⊎ (e ≡ NotAStore) ⊎ (e ≡ Device)) }
@@ -196,8 +197,9 @@ fn undo_delete<D: Disk>(
 /// A leaf that lacks room for a key that comes back is split first, whatever limit of pages there is, and a leaf other than the root that is
 /// left empty is taken out of the tree, each in a structure change of the transaction. For want of memory an empty leaf stays.
 ///
-/// No lock is asked. Refused `Capacity` where page numbers or levels are used up, `Memory` with all as it was, and `Failed` where memory
-/// is wanted behind the first record; otherwise as `PageWriter::log_change` is.
+/// No lock is asked. Refused `Capacity` only where a key that comes back finds its leaf without room, and page numbers or levels are used
+/// up; `Memory` with all as it was; and `Failed` only where memory is wanted behind a record of the transaction that joined the log;
+/// otherwise as `PageWriter::log_change` is.
 pub fn undo_one<D: Disk>(
     alloc: Global,
     writer: &mut PageWriter,

@@ -14,6 +14,7 @@ use im_record::Record;
 use im_types::{Fault, Lsn, PageNo, Reply, Rid, TxnId};
 
 impl<D: Disk> Engine<D> {
+    ghost use Rattle.im_types.specs.Histories.{Base};
     ghost use Rattle.im_types.specs.Answers as answers;
     ghost use Rattle.im_types.specs.Changes.{Effect, Put, Drop};
     ghost use Rattle.im_types.specs.Faults.{number_of};
@@ -29,8 +30,9 @@ impl<D: Disk> Engine<D> {
     ghost use Rattle.im_log.specs.LogFile.{HasNoRoom};
     ghost use Rattle.im_tree.specs.Levels.{walk};
     ghost use Rattle.im_tree.specs.Search.{IsOnWay};
-    ghost use Rattle.im_one_page.specs.OnePage.{first_base, HasRoom};
+    ghost use Rattle.im_serial.specs.Store.{HasRoom};
     ghost use Rattle.im_engine.specs.Running.{IsLife, IsRunning};
+    ghost use Rattle.im_engine.specs.Joined.{PutJoined, TakeJoined};
     ghost use Rattle.im_engine.specs.Kept.{StepKept};
     ghost use Rattle.im_engine.specs.Changes.{EditKept, is_breaking};
     ghost use Rattle.im_engine.specs.Structure.{LimitKept, MeetsLimit, AsksChange, WantsSplit, WantsDrop};
@@ -52,7 +54,7 @@ impl<D: Disk> Engine<D> {
 
     // The row id of a key.
     pub(crate) fn fetch(&mut self, number: TxnId, key: &[u8]) -> Reply
-        ensures kept { (before : List Effect) (s : Shown) → IsLife D.Disk before s self.old → StepKept D.Disk before s (answers.Do number (answers.Fetch key.now)) (told_by result) self.old self.new }
+        ensures kept { (before : List Effect) (s : Shown) (life : IsLife D.Disk before s self.old) → StepKept D.Disk before s (answers.Do number (answers.Fetch key.now)) (told_by result) self.old life self.new }
         ensures fails { self.new.failed ≡ (self.old.failed || is_breaking (told_by result)) }
         ensures failed { self.old.failed ≡ true → (result ≡ Refused Failed) × (self.new ≡ self.old) }
         ensures answered { IsAnswered D.Disk key.now result self.old self.new (λ entries fault. OfFetch D.Disk self.old self.new result fault number key.now) (λ entries. answers.found (find key_order key.now entries)) }
@@ -60,7 +62,7 @@ impl<D: Disk> Engine<D> {
         ensures same { changes_nothing (told_by result) ≡ true → self.new ≡ self.old }
         ensures active { active_number self.new.going ≡ active_after (told_by result) (active_number self.old.going) }
         ensures numbers { self.new.next ≡ next_after (told_by result) self.old.next }
-        ensures split { self.new.split ≡ self.old.split }
+        ensures max_pages { self.new.max_pages ≡ self.old.max_pages }
     {
         if let Err(fault) = self.check(number, key) {
             return Reply::Refused(fault);
@@ -80,15 +82,15 @@ impl<D: Disk> Engine<D> {
         requires entry { IsEntry (view change.now) }
         requires working { self.old.failed ≡ false }
         requires owned { 1 ≤ transaction.number }
-        ensures kept { (now : Writer) (e : ℕ) → StandsAs D.Disk first_base 0 now self.old.writer self.old.disk → now.redo_end ≡ Some e
-            → ChangeKept D.Disk first_base 0 now (view change.now) self.old.disk self.new.writer self.new.disk result }
+        ensures kept { (b : Base) (base : ℕ) (now : Writer) (e : ℕ) → StandsAs D.Disk b base now self.old.writer self.old.disk → now.redo_end ≡ Some e
+            → ChangeKept D.Disk b base now (view change.now) self.old.disk self.new.writer self.new.disk result }
         ensures ok { IfOk result (λ lsn. (self.new.failed ≡ false) × (self.new.going ≡ Some (record { number = transaction.number; last = lsn; undo_next = lsn }))) }
         ensures fails { IfErr result (λ e. (self.new.failed ≡ breaks (number_of e)) × (self.new.going ≡ self.old.going)) }
         ensures causes { IfErr result (λ e. (e ≡ LogFull) ⊎ (e ≡ Memory) ⊎ (e ≡ NotAStore) ⊎ (e ≡ Device)) }
         ensures cause { IfErr result (HasCause D.Disk self.new.writer.log self.new.disk) }
         ensures device { D.failed self.new.disk ≡ true → result ≡ Err Device }
         ensures next { self.new.next ≡ self.old.next }
-        ensures split { self.new.split ≡ self.old.split }
+        ensures max_pages { self.new.max_pages ≡ self.old.max_pages }
     {
         self.failed = true;
         match self.writer.log_change(&mut self.disk, change) {
@@ -120,16 +122,16 @@ impl<D: Disk> Engine<D> {
         requires owned { 1 ≤ transaction.number }
         requires some { 1 ≤ length key.now }
         requires short { length key.now ≤ 255 }
-        ensures kept { (before : List Effect) (s : Shown) (r : IsRunning D.Disk before s self.old) → self.old.going ≡ Some transaction
-            → IsOnWay (bodies first_base r.now.log) 0 key.now page → find key_order key.now (walk (bodies first_base r.now.log)) ≡ None → HasRoom (bodies first_base r.now.log page).entries key.now
-            → EditKept D.Disk before s (adds transaction.number (Put key.now rid) s) self.old self.new result }
+        ensures kept { (b : Base) (before : List Effect) (s : Shown) (r : IsRunning D.Disk b before s self.old) → self.old.going ≡ Some transaction
+            → IsOnWay (bodies b r.now.log) 0 key.now page → find key_order key.now (walk (bodies b r.now.log)) ≡ None → HasRoom (bodies b r.now.log page).entries key.now
+            → EditKept D.Disk before s self.old r (adds transaction.number (Put key.now rid) s) (PutJoined transaction.number key.now rid ⊥ r.now.log) self.new result }
         ensures ok { IfOk result (λ lsn. (self.new.failed ≡ false) × (self.new.going ≡ Some (record { number = transaction.number; last = lsn; undo_next = lsn }))) }
         ensures fails { IfErr result (λ e. (self.new.failed ≡ breaks (number_of e)) × (self.new.going ≡ self.old.going)) }
         ensures causes { IfErr result (λ e. (e ≡ LogFull) ⊎ (e ≡ Memory) ⊎ (e ≡ NotAStore) ⊎ (e ≡ Device)) }
         ensures cause { IfErr result (HasCause D.Disk self.new.writer.log self.new.disk) }
         ensures device { D.failed self.new.disk ≡ true → result ≡ Err Device }
         ensures next { self.new.next ≡ self.old.next }
-        ensures split { self.new.split ≡ self.old.split }
+        ensures max_pages { self.new.max_pages ≡ self.old.max_pages }
     {
         let change = Record::InsertKey {
             transaction: transaction.number,
@@ -153,16 +155,16 @@ impl<D: Disk> Engine<D> {
         requires owned { 1 ≤ transaction.number }
         requires some { 1 ≤ length key.now }
         requires short { length key.now ≤ 255 }
-        ensures kept { (before : List Effect) (s : Shown) (r : IsRunning D.Disk before s self.old) → self.old.going ≡ Some transaction
-            → IsOnWay (bodies first_base r.now.log) 0 key.now page → find key_order key.now (walk (bodies first_base r.now.log)) ≡ Some rid
-            → EditKept D.Disk before s (adds transaction.number (Drop key.now 0) s) self.old self.new result }
+        ensures kept { (b : Base) (before : List Effect) (s : Shown) (r : IsRunning D.Disk b before s self.old) → self.old.going ≡ Some transaction
+            → IsOnWay (bodies b r.now.log) 0 key.now page → find key_order key.now (walk (bodies b r.now.log)) ≡ Some rid
+            → EditKept D.Disk before s self.old r (adds transaction.number (Drop key.now 0) s) (TakeJoined b transaction.number key.now ⊥ r.now.log) self.new result }
         ensures ok { IfOk result (λ lsn. (self.new.failed ≡ false) × (self.new.going ≡ Some (record { number = transaction.number; last = lsn; undo_next = lsn }))) }
         ensures fails { IfErr result (λ e. (self.new.failed ≡ breaks (number_of e)) × (self.new.going ≡ self.old.going)) }
         ensures causes { IfErr result (λ e. (e ≡ LogFull) ⊎ (e ≡ Memory) ⊎ (e ≡ NotAStore) ⊎ (e ≡ Device)) }
         ensures cause { IfErr result (HasCause D.Disk self.new.writer.log self.new.disk) }
         ensures device { D.failed self.new.disk ≡ true → result ≡ Err Device }
         ensures next { self.new.next ≡ self.old.next }
-        ensures split { self.new.split ≡ self.old.split }
+        ensures max_pages { self.new.max_pages ≡ self.old.max_pages }
     {
         let change = Record::DeleteKey {
             transaction: transaction.number,
@@ -180,9 +182,9 @@ impl<D: Disk> Engine<D> {
         requires owned { 1 ≤ transaction.number }
         requires some { 1 ≤ length key.now }
         requires short { length key.now ≤ 255 }
-        ensures kept { (before : List Effect) (s : Shown) (r : IsRunning D.Disk before s self.old) → self.old.going ≡ Some transaction
-            → (p : ℕ) → IsOnWay (bodies first_base r.now.log) 0 key.now p → find key_order key.now (walk (bodies first_base r.now.log)) ≡ None → LacksRoom (bodies first_base r.now.log p).entries key.now
-            → EditKept D.Disk before s (adds transaction.number (Put key.now rid) s) self.old self.new result × LimitKept D.Disk before s self.old r key.now result }
+        ensures kept { (b : Base) (before : List Effect) (s : Shown) (r : IsRunning D.Disk b before s self.old) → self.old.going ≡ Some transaction
+            → (p : ℕ) → IsOnWay (bodies b r.now.log) 0 key.now p → find key_order key.now (walk (bodies b r.now.log)) ≡ None → LacksRoom (bodies b r.now.log p).entries key.now
+            → EditKept D.Disk before s self.old r (adds transaction.number (Put key.now rid) s) (PutJoined transaction.number key.now rid (WantsSplit (bodies b r.now.log) key.now) r.now.log) self.new result × LimitKept D.Disk before s self.old r key.now result }
         ensures works { OnOk result (self.new.failed ≡ false) }
         ensures fails { IfErr result (λ e. self.new.failed ≡ breaks (number_of e)) }
         ensures still { IfErr result (λ e. self.new.failed ≡ false → self.new.going ≡ self.old.going) }
@@ -192,7 +194,7 @@ impl<D: Disk> Engine<D> {
         ensures failed { result ≡ Err Device → D.failed self.new.disk ≡ true }
         ensures no_room { result ≡ Err LogFull → HasNoRoom self.new.writer.log }
         ensures next { self.new.next ≡ self.old.next }
-        ensures split { self.old.split ≡ true → self.new.split ≡ true }
+        ensures max_pages { self.new.max_pages ≡ self.old.max_pages }
     {
         let (transaction, frame) = self.split_leaf(transaction, key)?;
         match self.put(transaction, frame.number, key, rid) {
@@ -206,9 +208,9 @@ impl<D: Disk> Engine<D> {
 
     // Puts a key with its row id.
     pub(crate) fn insert(&mut self, number: TxnId, key: &[u8], rid: Rid) -> Reply
-        ensures kept { (before : List Effect) (s : Shown) → IsLife D.Disk before s self.old → StepKept D.Disk before s (answers.Do number (answers.Insert key.now rid)) (told_by result) self.old self.new }
-        ensures limit { (before : List Effect) (s : Shown) (r : IsRunning D.Disk before s self.old) → MeetsLimit D.Disk before s self.old r key.now result }
-        ensures wanted { (before : List Effect) (s : Shown) (r : IsRunning D.Disk before s self.old) → AsksChange D.Disk before s self.old r result self.new → WantsSplit D.Disk before s self.old r key.now }
+        ensures kept { (before : List Effect) (s : Shown) (life : IsLife D.Disk before s self.old) → StepKept D.Disk before s (answers.Do number (answers.Insert key.now rid)) (told_by result) self.old life self.new }
+        ensures limit { (b : Base) (before : List Effect) (s : Shown) (r : IsRunning D.Disk b before s self.old) → MeetsLimit (bodies b r.now.log) self.old.max_pages key.now result }
+        ensures wanted { (b : Base) (before : List Effect) (s : Shown) (r : IsRunning D.Disk b before s self.old) → AsksChange self.old.failed result → WantsSplit (bodies b r.now.log) key.now }
         ensures fails { self.new.failed ≡ (self.old.failed || is_breaking (told_by result)) }
         ensures failed { self.old.failed ≡ true → (result ≡ Refused Failed) × (self.new ≡ self.old) }
         ensures answered { IsAnswered D.Disk key.now result self.old self.new (λ entries fault. OfInsert D.Disk self.old self.new result fault number key.now entries)
@@ -217,7 +219,7 @@ impl<D: Disk> Engine<D> {
         ensures same { changes_nothing (told_by result) ≡ true → self.new ≡ self.old }
         ensures active { active_number self.new.going ≡ active_after (told_by result) (active_number self.old.going) }
         ensures numbers { self.new.next ≡ next_after (told_by result) self.old.next }
-        ensures split { self.old.split ≡ true → self.new.split ≡ true }
+        ensures max_pages { self.new.max_pages ≡ self.old.max_pages }
     {
         let transaction = match self.check(number, key) {
             Ok(transaction) => transaction,
@@ -244,8 +246,8 @@ impl<D: Disk> Engine<D> {
 
     // Drops a key.
     pub(crate) fn delete(&mut self, number: TxnId, key: &[u8]) -> Reply
-        ensures kept { (before : List Effect) (s : Shown) → IsLife D.Disk before s self.old → StepKept D.Disk before s (answers.Do number (answers.Delete key.now)) (told_by result) self.old self.new }
-        ensures wanted { (before : List Effect) (s : Shown) (r : IsRunning D.Disk before s self.old) → AsksChange D.Disk before s self.old r result self.new → WantsDrop D.Disk before s self.old r key.now }
+        ensures kept { (before : List Effect) (s : Shown) (life : IsLife D.Disk before s self.old) → StepKept D.Disk before s (answers.Do number (answers.Delete key.now)) (told_by result) self.old life self.new }
+        ensures wanted { (b : Base) (before : List Effect) (s : Shown) (r : IsRunning D.Disk b before s self.old) → AsksChange self.old.failed result → WantsDrop (bodies b r.now.log) key.now }
         ensures fails { self.new.failed ≡ (self.old.failed || is_breaking (told_by result)) }
         ensures failed { self.old.failed ≡ true → (result ≡ Refused Failed) × (self.new ≡ self.old) }
         ensures answered { IsAnswered D.Disk key.now result self.old self.new (λ entries fault. OfDelete D.Disk self.old self.new result fault number key.now)
@@ -254,7 +256,7 @@ impl<D: Disk> Engine<D> {
         ensures same { changes_nothing (told_by result) ≡ true → self.new ≡ self.old }
         ensures active { active_number self.new.going ≡ active_after (told_by result) (active_number self.old.going) }
         ensures numbers { self.new.next ≡ next_after (told_by result) self.old.next }
-        ensures split { self.old.split ≡ true → self.new.split ≡ true }
+        ensures max_pages { self.new.max_pages ≡ self.old.max_pages }
     {
         let transaction = match self.check(number, key) {
             Ok(transaction) => transaction,
@@ -282,7 +284,7 @@ impl<D: Disk> Engine<D> {
             undo_next: lsn,
         };
         match self.drop_leaf(behind, key) {
-            Ok(()) => Reply::Deleted,
+            Ok(_) => Reply::Deleted,
             Err(fault) => Reply::Refused(fault),
         }
     }

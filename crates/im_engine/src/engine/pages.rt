@@ -28,6 +28,7 @@ pub(crate) fn breaks(fault: Fault) -> bool
 }
 
 impl<D: Disk> Engine<D> {
+    ghost use Rattle.im_types.specs.Histories.{Base};
     ghost use Rattle.im_types.specs.Changes.{Effect};
     ghost use Rattle.im_types.specs.Faults.{number_of};
     ghost use Rattle.im_types.specs.Keys.{key_order};
@@ -40,7 +41,7 @@ impl<D: Disk> Engine<D> {
     // Where a page is held from now on.
     pub(crate) fn get_page(&mut self, number: PageNo) -> Result<Frame, Fault>
         requires working { self.old.failed ≡ false }
-        ensures kept { (before : List Effect) (s : Shown) (r : IsRunning D.Disk before s self.old) → PageKept D.Disk before s self.old r number self.new result }
+        ensures kept { (b : Base) (before : List Effect) (s : Shown) (r : IsRunning D.Disk b before s self.old) → PageKept D.Disk before s self.old r number self.new result }
         ensures at { IfOk result (IsAt self.new.writer.pool) }
         ensures frame { IfOk result (λ frame. frame.number ≡ number) }
         ensures works { OnOk result (self.new.failed ≡ false) }
@@ -50,7 +51,7 @@ impl<D: Disk> Engine<D> {
         ensures device { D.failed self.new.disk ≡ true → result ≡ Err Device }
         ensures going { self.new.going ≡ self.old.going }
         ensures next { self.new.next ≡ self.old.next }
-        ensures split { self.new.split ≡ self.old.split }
+        ensures max_pages { self.new.max_pages ≡ self.old.max_pages }
     {
         self.failed = true;
         match self.writer.get(&mut self.disk, number) {
@@ -68,7 +69,7 @@ impl<D: Disk> Engine<D> {
     // Where the leaf is held from now on in whose range a key lies.
     pub(crate) fn leaf(&mut self, key: &[u8]) -> Result<Frame, Fault>
         requires working { self.old.failed ≡ false }
-        ensures kept { (before : List Effect) (s : Shown) (r : IsRunning D.Disk before s self.old) → LeafKept D.Disk before s self.old r key.now self.new result }
+        ensures kept { (b : Base) (before : List Effect) (s : Shown) (r : IsRunning D.Disk b before s self.old) → LeafKept D.Disk before s self.old r key.now self.new result }
         ensures at { IfOk result (IsAt self.new.writer.pool) }
         ensures leaf { IfOk result (λ frame. (page_at self.new.writer.pool frame.number).body.kind ≡ Leaf) }
         ensures works { OnOk result (self.new.failed ≡ false) }
@@ -78,8 +79,7 @@ impl<D: Disk> Engine<D> {
         ensures device { D.failed self.new.disk ≡ true → result ≡ Err Device }
         ensures going { self.new.going ≡ self.old.going }
         ensures next { self.new.next ≡ self.old.next }
-        ensures split { self.new.split ≡ self.old.split }
-        ensures limit { self.new.max_pages ≡ self.old.max_pages }
+        ensures max_pages { self.new.max_pages ≡ self.old.max_pages }
     {
         self.failed = true;
         match leaf_for(&mut self.writer, &mut self.disk, key) {

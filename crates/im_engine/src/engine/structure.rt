@@ -36,6 +36,7 @@ fn wants_memory(fault: Fault) -> bool
 }
 
 impl<D: Disk> Engine<D> {
+    ghost use Rattle.im_types.specs.Histories.{Base};
     ghost use Rattle.im_types.specs.Changes.{Effect};
     ghost use Rattle.im_types.specs.Faults.{number_of};
     ghost use Rattle.im_types.specs.Lives.{Shown, breaks};
@@ -47,17 +48,15 @@ impl<D: Disk> Engine<D> {
     ghost use Rattle.im_tree.specs.Good.{IsGoodTree};
     ghost use Rattle.im_tree.specs.Search.{IsOnWay};
     ghost use Rattle.im_alloc.specs.Seen.{seen};
-    ghost use Rattle.im_one_page.specs.OnePage.{first_base};
     ghost use Rattle.im_engine.specs.Running.{IsRunning};
-    ghost use Rattle.im_engine.specs.Changes.{EditKept};
-    ghost use Rattle.im_engine.specs.Structure.{PlanKept, StructureKept, RoomKept, SplitKept, DeletePlanKept, DropPlanKept};
+    ghost use Rattle.im_engine.specs.Structure.{PlanKept, StructureKept, RoomKept, SplitKept, DeletePlanKept, DropPlanKept, DropKept};
     ghost use Rattle.im_engine.specs.Checks.{LacksRoom, active_number};
 
     // The pages that the split of a key's leaf has to write, as images.
     fn plan_split(&mut self, key: &[u8]) -> Result<Images, Fault>
         requires working { self.old.failed ≡ false }
         requires short { length key.now ≤ 255 }
-        ensures kept { (before : List Effect) (s : Shown) (r : IsRunning D.Disk before s self.old) → PlanKept D.Disk before s self.old r key.now self.new result }
+        ensures kept { (b : Base) (before : List Effect) (s : Shown) (r : IsRunning D.Disk b before s self.old) → PlanKept D.Disk before s self.old r key.now self.new result }
         ensures works { OnOk result (self.new.failed ≡ false) }
         ensures fails { IfErr result (λ e. self.new.failed ≡ breaks (number_of e)) }
         ensures causes { IfErr result (λ e. (e ≡ PagesFull) ⊎ (e ≡ Capacity) ⊎ (e ≡ LogFull) ⊎ (e ≡ Memory) ⊎ (e ≡ NotAStore) ⊎ (e ≡ Device)) }
@@ -66,8 +65,7 @@ impl<D: Disk> Engine<D> {
         ensures no_room { result ≡ Err LogFull → HasNoRoom self.new.writer.log }
         ensures going { self.new.going ≡ self.old.going }
         ensures next { self.new.next ≡ self.old.next }
-        ensures split { self.new.split ≡ self.old.split }
-        ensures limit { self.new.max_pages ≡ self.old.max_pages }
+        ensures max_pages { self.new.max_pages ≡ self.old.max_pages }
     {
         self.failed = true;
         let limit = Some(self.max_pages);
@@ -86,7 +84,7 @@ impl<D: Disk> Engine<D> {
     // The pages that have to be written so that the empty leaf of a key leaves the tree, as images.
     fn plan_delete(&mut self, key: &[u8]) -> Result<Images, Fault>
         requires working { self.old.failed ≡ false }
-        ensures kept { (before : List Effect) (s : Shown) (r : IsRunning D.Disk before s self.old) (p : ℕ) → IsOnWay (bodies first_base r.now.log) 0 key.now p → (bodies first_base r.now.log p).entries ≡ [] → p ≢ 1
+        ensures kept { (b : Base) (before : List Effect) (s : Shown) (r : IsRunning D.Disk b before s self.old) (p : ℕ) → IsOnWay (bodies b r.now.log) 0 key.now p → (bodies b r.now.log p).entries ≡ [] → p ≢ 1
             → DeletePlanKept D.Disk before s self.old r self.new result }
         ensures works { OnOk result (self.new.failed ≡ false) }
         ensures fails { IfErr result (λ e. self.new.failed ≡ breaks (number_of e)) }
@@ -96,7 +94,7 @@ impl<D: Disk> Engine<D> {
         ensures no_room { result ≡ Err LogFull → HasNoRoom self.new.writer.log }
         ensures going { self.new.going ≡ self.old.going }
         ensures next { self.new.next ≡ self.old.next }
-        ensures split { self.new.split ≡ self.old.split }
+        ensures max_pages { self.new.max_pages ≡ self.old.max_pages }
     {
         self.failed = true;
         match plan_delete(self.alloc, &mut self.writer, &mut self.disk, key) {
@@ -120,8 +118,8 @@ impl<D: Disk> Engine<D> {
     ) -> Result<Transaction, Fault>
         requires working { self.old.failed ≡ false }
         requires owned { 1 ≤ transaction.number }
-        ensures kept { (before : List Effect) (s : Shown) (r : IsRunning D.Disk before s self.old) → self.old.going ≡ Some transaction → 1 ≤ length images.now → IsGoodTree (seen r.now images.now) []
-            → walk (seen r.now images.now) ≡ walk (bodies first_base r.now.log) → StructureKept D.Disk before s self.old r images.now self.new result }
+        ensures kept { (b : Base) (before : List Effect) (s : Shown) (r : IsRunning D.Disk b before s self.old) → self.old.going ≡ Some transaction → 1 ≤ length images.now → IsGoodTree (seen r.now images.now) []
+            → walk (seen r.now images.now) ≡ walk (bodies b r.now.log) → StructureKept D.Disk before s self.old r transaction.number images.now self.new result }
         ensures ok { IfOk result (λ t. (self.new.failed ≡ false) × (self.new.going ≡ Some t) × (t.number ≡ transaction.number)) }
         ensures fails { IfErr result (λ e. (self.new.failed ≡ true) × (self.new.going ≡ self.old.going)) }
         ensures causes { IfErr result (λ e. (e ≡ LogFull) ⊎ (e ≡ Failed) ⊎ (e ≡ NotAStore) ⊎ (e ≡ Device)) }
@@ -129,10 +127,8 @@ impl<D: Disk> Engine<D> {
         ensures failed { result ≡ Err Device → D.failed self.new.disk ≡ true }
         ensures no_room { result ≡ Err LogFull → HasNoRoom self.new.writer.log }
         ensures next { self.new.next ≡ self.old.next }
-        ensures split { self.new.split ≡ true }
-        ensures limit { self.new.max_pages ≡ self.old.max_pages }
+        ensures max_pages { self.new.max_pages ≡ self.old.max_pages }
     {
-        self.split = true;
         self.failed = true;
         match im_change::run(
             &mut self.writer,
@@ -160,7 +156,7 @@ impl<D: Disk> Engine<D> {
     fn leaf_with_room(&mut self, key: &[u8]) -> Result<Frame, Fault>
         requires working { self.old.failed ≡ false }
         requires short { length key.now ≤ 255 }
-        ensures kept { (before : List Effect) (s : Shown) (r : IsRunning D.Disk before s self.old) → RoomKept D.Disk before s self.old r key.now self.new result }
+        ensures kept { (b : Base) (before : List Effect) (s : Shown) (r : IsRunning D.Disk b before s self.old) → RoomKept D.Disk before s self.old r key.now self.new result }
         ensures at { IfOk result (IsAt self.new.writer.pool) }
         ensures leaf { IfOk result (λ frame. (page_at self.new.writer.pool frame.number).body.kind ≡ Leaf) }
         ensures room { IfOk result (λ frame. ¬ (LacksRoom (page_at self.new.writer.pool frame.number).body.entries key.now)) }
@@ -172,7 +168,7 @@ impl<D: Disk> Engine<D> {
         ensures no_room { result ≡ Err LogFull → HasNoRoom self.new.writer.log }
         ensures going { self.new.going ≡ self.old.going }
         ensures next { self.new.next ≡ self.old.next }
-        ensures split { self.new.split ≡ self.old.split }
+        ensures max_pages { self.new.max_pages ≡ self.old.max_pages }
     {
         match self.leaf(key) {
             Ok(frame) => {
@@ -198,12 +194,12 @@ impl<D: Disk> Engine<D> {
         requires working { self.old.failed ≡ false }
         requires owned { 1 ≤ transaction.number }
         requires short { length key.now ≤ 255 }
-        ensures kept { (before : List Effect) (s : Shown) (r : IsRunning D.Disk before s self.old) → self.old.going ≡ Some transaction
-            → (p : ℕ) → IsOnWay (bodies first_base r.now.log) 0 key.now p → LacksRoom (bodies first_base r.now.log p).entries key.now → SplitKept D.Disk before s self.old r key.now self.new result }
+        ensures kept { (b : Base) (before : List Effect) (s : Shown) (r : IsRunning D.Disk b before s self.old) → self.old.going ≡ Some transaction
+            → (p : ℕ) → IsOnWay (bodies b r.now.log) 0 key.now p → LacksRoom (bodies b r.now.log p).entries key.now → SplitKept D.Disk before s self.old r transaction.number key.now self.new result }
         ensures at { IfOk result (λ x. IsAt self.new.writer.pool x.1) }
         ensures leaf { IfOk result (λ x. (page_at self.new.writer.pool x.1.number).body.kind ≡ Leaf) }
         ensures room { IfOk result (λ x. ¬ (LacksRoom (page_at self.new.writer.pool x.1.number).body.entries key.now)) }
-        ensures ok { IfOk result (λ x. (self.new.failed ≡ false) × (self.new.going ≡ Some x.0) × (x.0.number ≡ transaction.number) × (self.new.split ≡ true)) }
+        ensures ok { IfOk result (λ x. (self.new.failed ≡ false) × (self.new.going ≡ Some x.0) × (x.0.number ≡ transaction.number)) }
         ensures fails { IfErr result (λ e. self.new.failed ≡ breaks (number_of e)) }
         ensures still { IfErr result (λ e. self.new.failed ≡ false → self.new.going ≡ self.old.going) }
         ensures active { active_number self.old.going ≡ Some transaction.number → active_number self.new.going ≡ Some transaction.number }
@@ -212,7 +208,7 @@ impl<D: Disk> Engine<D> {
         ensures failed { result ≡ Err Device → D.failed self.new.disk ≡ true }
         ensures no_room { result ≡ Err LogFull → HasNoRoom self.new.writer.log }
         ensures next { self.new.next ≡ self.old.next }
-        ensures split { self.old.split ≡ true → self.new.split ≡ true }
+        ensures max_pages { self.new.max_pages ≡ self.old.max_pages }
     {
         let images = self.plan_split(key)?;
         let transaction = self.restructure(transaction, &images)?;
@@ -223,7 +219,8 @@ impl<D: Disk> Engine<D> {
     // Whether the leaf of a key is not the root, and has no entry.
     fn is_spare(&self, frame: Frame) -> bool
         requires at { IsAt self.now.writer.pool frame }
-        ensures { result ≡ true → (frame.number ≢ 1) × ((page_at self.now.writer.pool frame.number).body.entries ≡ []) }
+        ensures spare { result ≡ true → (frame.number ≢ 1) × ((page_at self.now.writer.pool frame.number).body.entries ≡ []) }
+        ensures other { result ≡ false → (frame.number ≡ 1) ⊎ ((page_at self.now.writer.pool frame.number).body.entries ≢ []) }
     {
         frame.number != 1 && self.writer.page(frame).len() == 0
     }
@@ -231,7 +228,7 @@ impl<D: Disk> Engine<D> {
     // The pages that have to be written so that the leaf of a key leaves the tree, as images, where it is empty and not the root.
     fn plan_drop(&mut self, key: &[u8]) -> Result<Option<Images>, Fault>
         requires working { self.old.failed ≡ false }
-        ensures kept { (before : List Effect) (s : Shown) (r : IsRunning D.Disk before s self.old) → DropPlanKept D.Disk before s self.old r self.new result }
+        ensures kept { (b : Base) (before : List Effect) (s : Shown) (r : IsRunning D.Disk b before s self.old) → DropPlanKept D.Disk before s self.old r key.now self.new result }
         ensures works { OnOk result (self.new.failed ≡ false) }
         ensures fails { IfErr result (λ e. self.new.failed ≡ breaks (number_of e)) }
         ensures causes { IfErr result (λ e. (e ≡ LogFull) ⊎ (e ≡ Memory) ⊎ (e ≡ NotAStore) ⊎ (e ≡ Device)) }
@@ -240,7 +237,7 @@ impl<D: Disk> Engine<D> {
         ensures no_room { result ≡ Err LogFull → HasNoRoom self.new.writer.log }
         ensures going { self.new.going ≡ self.old.going }
         ensures next { self.new.next ≡ self.old.next }
-        ensures split { self.new.split ≡ self.old.split }
+        ensures max_pages { self.new.max_pages ≡ self.old.max_pages }
     {
         let frame = self.leaf(key)?;
         if !self.is_spare(frame) {
@@ -250,11 +247,11 @@ impl<D: Disk> Engine<D> {
         Ok(Some(images))
     }
 
-    // Takes the leaf of a key out of the tree, where it is empty and not the root. For want of memory it stays.
-    pub(crate) fn drop_leaf(&mut self, transaction: Transaction, key: &[u8]) -> Result<(), Fault>
+    // Takes the leaf of a key out of the tree, where it is empty and not the root. For want of memory it stays, and the answer is false.
+    pub(crate) fn drop_leaf(&mut self, transaction: Transaction, key: &[u8]) -> Result<bool, Fault>
         requires working { self.old.failed ≡ false }
         requires owned { 1 ≤ transaction.number }
-        ensures kept { (before : List Effect) (s : Shown) → IsRunning D.Disk before s self.old → self.old.going ≡ Some transaction → EditKept D.Disk before s s self.old self.new result }
+        ensures kept { (b : Base) (before : List Effect) (s : Shown) (r : IsRunning D.Disk b before s self.old) → self.old.going ≡ Some transaction → DropKept D.Disk before s self.old r transaction.number key.now self.new result }
         ensures works { OnOk result (self.new.failed ≡ false) }
         ensures fails { IfErr result (λ e. self.new.failed ≡ true) }
         ensures causes { IfErr result (λ e. (e ≡ LogFull) ⊎ (e ≡ Failed) ⊎ (e ≡ NotAStore) ⊎ (e ≡ Device)) }
@@ -263,17 +260,17 @@ impl<D: Disk> Engine<D> {
         ensures no_room { result ≡ Err LogFull → HasNoRoom self.new.writer.log }
         ensures active { active_number self.old.going ≡ Some transaction.number → active_number self.new.going ≡ Some transaction.number }
         ensures next { self.new.next ≡ self.old.next }
-        ensures split { self.old.split ≡ true → self.new.split ≡ true }
+        ensures max_pages { self.new.max_pages ≡ self.old.max_pages }
     {
         match self.plan_drop(key) {
-            Ok(None) => Ok(()),
+            Ok(None) => Ok(true),
             Ok(Some(images)) => match self.restructure(transaction, &images) {
-                Ok(_) => Ok(()),
+                Ok(_) => Ok(true),
                 Err(fault) => Err(fault),
             },
             Err(fault) => {
                 if wants_memory(fault) {
-                    return Ok(());
+                    return Ok(false);
                 }
                 Err(fault)
             }

@@ -11,6 +11,7 @@ use im_record::Record;
 use im_types::{Fault, PageNo, Reply, TxnId};
 
 impl<D: Disk> Engine<D> {
+    ghost use Rattle.im_types.specs.Histories.{Base};
     ghost use Rattle.im_types.specs.Answers as answers;
     ghost use Rattle.im_types.specs.Changes.{Effect};
     ghost use Rattle.im_types.specs.Lives.{Shown};
@@ -26,8 +27,8 @@ impl<D: Disk> Engine<D> {
     fn log_commit(&mut self, transaction: Transaction) -> Result<(), Fault>
         requires working { self.old.failed ≡ false }
         requires owned { 1 ≤ transaction.number }
-        ensures kept { (before : List Effect) (s : Shown) → IsRunning D.Disk before s self.old → self.old.going ≡ Some transaction → (s.running transaction.number).effect ≢ []
-            → CommitKept D.Disk before s transaction.number self.old self.new result }
+        ensures kept { (b : Base) (before : List Effect) (s : Shown) (r : IsRunning D.Disk b before s self.old) → self.old.going ≡ Some transaction → (s.running transaction.number).effect ≢ []
+            → CommitKept D.Disk before s self.old r transaction.number self.new result }
         ensures failed { self.new.failed ≡ not (is_ok result) }
         ensures causes { IfErr result (λ e. (e ≡ LogFull) ⊎ (e ≡ Device)) }
         ensures full { result ≡ Err LogFull ↔ (2 ^ 62 < end_with self.old.writer.log 33) }
@@ -35,7 +36,7 @@ impl<D: Disk> Engine<D> {
         ensures ended { OnOk result (self.new.going ≡ None) }
         ensures going { OnErr result (self.new.going ≡ self.old.going) }
         ensures next { self.new.next ≡ self.old.next }
-        ensures split { self.new.split ≡ self.old.split }
+        ensures max_pages { self.new.max_pages ≡ self.old.max_pages }
     {
         self.failed = true;
         let commit = Record::Commit {
@@ -51,7 +52,7 @@ impl<D: Disk> Engine<D> {
 
     // Ends a transaction, all of which is then durable.
     pub(crate) fn commit(&mut self, number: TxnId) -> Reply
-        ensures kept { (before : List Effect) (s : Shown) → IsLife D.Disk before s self.old → StepKept D.Disk before s (answers.Commit number) (told_by result) self.old self.new }
+        ensures kept { (before : List Effect) (s : Shown) (life : IsLife D.Disk before s self.old) → StepKept D.Disk before s (answers.Commit number) (told_by result) self.old life self.new }
         ensures fails { self.new.failed ≡ (self.old.failed || is_breaking (told_by result)) }
         ensures failed { self.old.failed ≡ true → (result ≡ Refused Failed) × (self.new ≡ self.old) }
         ensures answered { IsAnswered D.Disk [] result self.old self.new (λ entries fault. OfCommit D.Disk self.old self.new result fault number) (λ entries. answers.Committed) }
@@ -60,7 +61,7 @@ impl<D: Disk> Engine<D> {
         ensures same { changes_nothing (told_by result) ≡ true → self.new ≡ self.old }
         ensures active { active_number self.new.going ≡ active_after (told_by result) (active_number self.old.going) }
         ensures numbers { self.new.next ≡ next_after (told_by result) self.old.next }
-        ensures split { self.new.split ≡ self.old.split }
+        ensures max_pages { self.new.max_pages ≡ self.old.max_pages }
     {
         let transaction = match self.active_of(number) {
             Ok(transaction) => transaction,
@@ -78,7 +79,7 @@ impl<D: Disk> Engine<D> {
 
     // Makes every record durable.
     pub(crate) fn force(&mut self) -> Reply
-        ensures kept { (before : List Effect) (s : Shown) → IsLife D.Disk before s self.old → StepKept D.Disk before s answers.Force (told_by result) self.old self.new }
+        ensures kept { (before : List Effect) (s : Shown) (life : IsLife D.Disk before s self.old) → StepKept D.Disk before s answers.Force (told_by result) self.old life self.new }
         ensures fails { self.new.failed ≡ (self.old.failed || is_breaking (told_by result)) }
         ensures failed { self.old.failed ≡ true → (result ≡ Refused Failed) × (self.new ≡ self.old) }
         ensures answered { IsAnswered D.Disk [] result self.old self.new (λ entries fault. OfForce D.Disk self.old self.new result fault) (λ entries. answers.Done) }
@@ -87,7 +88,7 @@ impl<D: Disk> Engine<D> {
         ensures same { changes_nothing (told_by result) ≡ true → self.new ≡ self.old }
         ensures active { active_number self.new.going ≡ active_after (told_by result) (active_number self.old.going) }
         ensures numbers { self.new.next ≡ next_after (told_by result) self.old.next }
-        ensures split { self.new.split ≡ self.old.split }
+        ensures max_pages { self.new.max_pages ≡ self.old.max_pages }
     {
         if self.failed {
             return Reply::Refused(Fault::Failed);
@@ -104,7 +105,7 @@ impl<D: Disk> Engine<D> {
 
     // Writes a page, where something of it is left to be written.
     pub(crate) fn flush_page(&mut self, page: PageNo) -> Reply
-        ensures kept { (before : List Effect) (s : Shown) → IsLife D.Disk before s self.old → StepKept D.Disk before s (answers.FlushPage page) (told_by result) self.old self.new }
+        ensures kept { (before : List Effect) (s : Shown) (life : IsLife D.Disk before s self.old) → StepKept D.Disk before s (answers.FlushPage page) (told_by result) self.old life self.new }
         ensures fails { self.new.failed ≡ (self.old.failed || is_breaking (told_by result)) }
         ensures failed { self.old.failed ≡ true → (result ≡ Refused Failed) × (self.new ≡ self.old) }
         ensures answered { IsAnswered D.Disk [] result self.old self.new (λ entries fault. OfFlush D.Disk self.old self.new result fault) (λ entries. answers.Done) }
@@ -113,7 +114,7 @@ impl<D: Disk> Engine<D> {
         ensures same { changes_nothing (told_by result) ≡ true → self.new ≡ self.old }
         ensures active { active_number self.new.going ≡ active_after (told_by result) (active_number self.old.going) }
         ensures numbers { self.new.next ≡ next_after (told_by result) self.old.next }
-        ensures split { self.new.split ≡ self.old.split }
+        ensures max_pages { self.new.max_pages ≡ self.old.max_pages }
     {
         if self.failed {
             return Reply::Refused(Fault::Failed);

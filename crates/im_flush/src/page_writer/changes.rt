@@ -1,5 +1,5 @@
 //! Records that change a leaf: logged, and then the page changed by them.
-ghost use Rattle.std.specs.Prelude.{◌≡◌, ◌≢◌, ◌≤◌, ◌<◌, ◌+◌, ◌⊎◌, ◌↔◌, ℕ, List, None, Some, Ok, Err, false, true, not, is_ok, length, IfErr, IfOk, OnOk};
+ghost use Rattle.std.specs.Prelude.{◌≡◌, ◌≢◌, ◌≤◌, ◌<◌, ◌+◌, ◌^◌, ◌⊎◌, ◌↔◌, ℕ, List, None, Some, Ok, Err, false, true, not, is_ok, length, IfErr, IfOk, OnOk};
 ghost use Rattle.im_types.specs.declared.fault.Fault.TheVariants.{Device, Failed, LogFull, Memory, NotAStore};
 ghost use Rattle.im_types.specs.Histories.{Base};
 ghost use Rattle.im_types.specs.Writer.{Writer};
@@ -14,13 +14,14 @@ use im_types::{Fault, Lsn, PageNo};
 impl PageWriter {
     ghost use Rattle.im_types.specs.Records.{InsertKey, DeleteKey};
     ghost use Rattle.im_record.specs.Entry.{view, page_of};
-    ghost use Rattle.im_record.specs.Spelling.{IsEntry};
-    ghost use Rattle.im_log.specs.LogFile.{HasNoRoom};
+    ghost use Rattle.im_record.specs.Spelling.{IsEntry, size_of};
+    ghost use Rattle.im_log.specs.LogFile.{HasNoRoom, end_with};
     ghost use Rattle.im_log.specs.Whats.{what_of};
     ghost use Rattle.im_pool.specs.Pool.{held_of, page_at, IsAt};
     ghost use Rattle.im_flush.specs.DirtyTable.{entry_in};
     ghost use Rattle.im_flush.specs.PageWriter.{IsReadyWriter, StandsAs};
     ghost use Rattle.im_flush.specs.LeafChange.{HasPlaceFor, HasKey};
+    ghost use Rattle.im_flush.specs.LogEnds.{EndsNoSooner};
     ghost use Rattle.im_flush.specs.LoggedChange.{IsLike, HeldKept, LoggedKept, ChangeKept};
 
     // Whether the dirty table can't take the page's entry.
@@ -65,6 +66,8 @@ impl PageWriter {
         ensures fails { IfErr result (λ e. (self.new.failed ≡ false) ↔ ((e ≡ Memory) ⊎ (e ≡ NotAStore))) }
         ensures causes { IfErr result (λ e. (e ≡ Failed) ⊎ (e ≡ LogFull) ⊎ (e ≡ Memory) ⊎ (e ≡ NotAStore) ⊎ (e ≡ Device)) }
         ensures no_room { result ≡ Err LogFull → HasNoRoom self.new.log }
+        ensures full { result ≡ Err LogFull → 2 ^ 62 < end_with self.new.log 4129 }
+        ensures later { OnOk result (EndsNoSooner self.old.log self.new.log) }
         ensures already { result ≡ Err Failed ↔ (self.old.failed ≡ true) }
         ensures device { self.old.failed ≡ false → result ≡ Err Device ↔ (D.failed disk.new ≡ true) }
     {
@@ -97,12 +100,14 @@ impl PageWriter {
         ensures failed { self.new.failed ≡ not (is_ok result) }
         ensures causes { IfErr result (λ e. (e ≡ LogFull) ⊎ (e ≡ Device)) }
         ensures no_room { result ≡ Err LogFull → HasNoRoom self.new.log }
+        ensures full { result ≡ Err LogFull ↔ (2 ^ 62 < end_with self.old.log (size_of (view record.now))) }
+        ensures left { result ≡ Err LogFull → 2 ^ 62 < end_with self.new.log (size_of (view record.now)) }
         ensures device { result ≡ Err Device ↔ (D.failed disk.new ≡ true) }
     {
         self.failed = true;
         let lsn = self.log.append(disk, record)?;
         put_key(&mut self.pool, frame, i, key, rid, lsn);
-        self.table.enter(frame.number, lsn);
+        self.table.enter(frame.number, lsn, false);
         self.failed = false;
         Ok(lsn)
     }
@@ -131,12 +136,14 @@ impl PageWriter {
         ensures failed { self.new.failed ≡ not (is_ok result) }
         ensures causes { IfErr result (λ e. (e ≡ LogFull) ⊎ (e ≡ Device)) }
         ensures no_room { result ≡ Err LogFull → HasNoRoom self.new.log }
+        ensures full { result ≡ Err LogFull ↔ (2 ^ 62 < end_with self.old.log (size_of (view record.now))) }
+        ensures left { result ≡ Err LogFull → 2 ^ 62 < end_with self.new.log (size_of (view record.now)) }
         ensures device { result ≡ Err Device ↔ (D.failed disk.new ≡ true) }
     {
         self.failed = true;
         let lsn = self.log.append(disk, record)?;
         take_key(&mut self.pool, frame, i, key, rid, lsn);
-        self.table.enter(frame.number, lsn);
+        self.table.enter(frame.number, lsn, false);
         self.failed = false;
         Ok(lsn)
     }
@@ -145,8 +152,8 @@ impl PageWriter {
     /// dirty table, the record is appended, the key put in and the page given the record's LSN, and the page entered. It answers
     /// the LSN.
     ///
-    /// Refused `NotAStore`, before the append, where the page is no leaf, has the key, or has no room for it; otherwise as `get`
-    /// is.
+    /// Refused `NotAStore`, before the append, where the page is no leaf, has the key, or has no room for it; `LogFull` where the
+    /// record, or an Image before it, would end above LSN 2^62 (a record that would is never logged); otherwise as `get` is.
     pub fn log_put<D: Disk>(
         &mut self,
         disk: &mut D,
@@ -167,6 +174,8 @@ impl PageWriter {
         ensures fails { IfErr result (λ e. (self.new.failed ≡ false) ↔ ((e ≡ Memory) ⊎ (e ≡ NotAStore))) }
         ensures causes { IfErr result (λ e. (e ≡ Failed) ⊎ (e ≡ LogFull) ⊎ (e ≡ Memory) ⊎ (e ≡ NotAStore) ⊎ (e ≡ Device)) }
         ensures no_room { result ≡ Err LogFull → HasNoRoom self.new.log }
+        ensures full { result ≡ Err LogFull → (2 ^ 62 < end_with self.new.log (size_of (view record.now))) ⊎ (2 ^ 62 < end_with self.new.log 4129) }
+        ensures fits { OnOk result (end_with self.old.log (size_of (view record.now)) ≤ 2 ^ 62) }
         ensures already { result ≡ Err Failed ↔ (self.old.failed ≡ true) }
         ensures device { self.old.failed ≡ false → result ≡ Err Device ↔ (D.failed disk.new ≡ true) }
     {
@@ -177,7 +186,8 @@ impl PageWriter {
 
     /// Logs a record that takes a key out of a leaf, and changes the page by it, in the same order.
     ///
-    /// Refused `NotAStore`, before the append, where the page is no leaf or lacks the key; otherwise as `get` is.
+    /// Refused `NotAStore`, before the append, where the page is no leaf or lacks the key; `LogFull` as `log_put` is; otherwise as
+    /// `get` is.
     pub fn log_take<D: Disk>(
         &mut self,
         disk: &mut D,
@@ -198,6 +208,8 @@ impl PageWriter {
         ensures fails { IfErr result (λ e. (self.new.failed ≡ false) ↔ ((e ≡ Memory) ⊎ (e ≡ NotAStore))) }
         ensures causes { IfErr result (λ e. (e ≡ Failed) ⊎ (e ≡ LogFull) ⊎ (e ≡ Memory) ⊎ (e ≡ NotAStore) ⊎ (e ≡ Device)) }
         ensures no_room { result ≡ Err LogFull → HasNoRoom self.new.log }
+        ensures full { result ≡ Err LogFull → (2 ^ 62 < end_with self.new.log (size_of (view record.now))) ⊎ (2 ^ 62 < end_with self.new.log 4129) }
+        ensures fits { OnOk result (end_with self.old.log (size_of (view record.now)) ≤ 2 ^ 62) }
         ensures already { result ≡ Err Failed ↔ (self.old.failed ≡ true) }
         ensures device { self.old.failed ≡ false → result ≡ Err Device ↔ (D.failed disk.new ≡ true) }
     {
@@ -223,7 +235,7 @@ impl PageWriter {
     /// entered. It answers the LSN.
     ///
     /// Refused `NotAStore`, before the append, for a record of another kind, and where the page does not take it: it is no leaf,
-    /// it has the key already or has no room, or it lacks the key; otherwise as `get` is.
+    /// it has the key already or has no room, or it lacks the key; `LogFull` as `log_put` is; otherwise as `get` is.
     pub fn log_change<D: Disk>(&mut self, disk: &mut D, record: &Record) -> Result<Lsn, Fault>
         requires entry { IsEntry (view record.now) }
         requires ready { IsReadyWriter D.Disk self.old disk.old }
@@ -235,6 +247,8 @@ impl PageWriter {
         ensures fails { IfErr result (λ e. (self.new.failed ≡ false) ↔ ((e ≡ Memory) ⊎ (e ≡ NotAStore))) }
         ensures causes { IfErr result (λ e. (e ≡ Failed) ⊎ (e ≡ LogFull) ⊎ (e ≡ Memory) ⊎ (e ≡ NotAStore) ⊎ (e ≡ Device)) }
         ensures no_room { result ≡ Err LogFull → HasNoRoom self.new.log }
+        ensures full { result ≡ Err LogFull → (2 ^ 62 < end_with self.new.log (size_of (view record.now))) ⊎ (2 ^ 62 < end_with self.new.log 4129) }
+        ensures fits { OnOk result (end_with self.old.log (size_of (view record.now)) ≤ 2 ^ 62) }
         ensures already { result ≡ Err Failed ↔ (self.old.failed ≡ true) }
         ensures device { self.old.failed ≡ false → result ≡ Err Device ↔ (D.failed disk.new ≡ true) }
     {

@@ -1,5 +1,5 @@
 //! Redo: noted copies loaded, records applied to their pages by LSN, and records read again.
-ghost use Rattle.std.specs.Prelude.{◌≡◌, ◌≤◌, ◌<◌, ◌⊎◌, ◌↔◌, ◌++◌, ◌∷◌, ℕ, None, Some, Ok, Err, true, false, not, is_ok, length, IfErr, IfOk, OnOk};
+ghost use Rattle.std.specs.Prelude.{◌≡◌, ◌≤◌, ◌<◌, ◌^◌, ◌⊎◌, ◌↔◌, ◌++◌, ◌∷◌, ℕ, None, Some, Ok, Err, true, false, not, is_ok, length, IfErr, IfOk, OnOk};
 ghost use Rattle.im_types.specs.declared.fault.Fault.TheVariants.{Device, Failed, LogFull, Memory, NotAStore};
 ghost use Rattle.im_types.specs.Histories.{Base, History, changes_page};
 ghost use Rattle.im_types.specs.Writer.{Writer};
@@ -24,7 +24,7 @@ impl PageWriter {
     ghost use Rattle.im_types.specs.Histories.{IsRecordOf, end_of};
     ghost use Rattle.im_record.specs.Entry.{view, page_of};
     ghost use Rattle.im_record.specs.Spelling.{IsEntry};
-    ghost use Rattle.im_log.specs.LogFile.{HasNoRoom};
+    ghost use Rattle.im_log.specs.LogFile.{HasNoRoom, end_with};
     ghost use Rattle.im_log.specs.Spelled.{logged_at};
     ghost use Rattle.im_log.specs.Whats.{what_of};
     ghost use Rattle.im_log.specs.Reading.{FoundKept};
@@ -72,8 +72,9 @@ impl PageWriter {
         ensures ready { IsReadyWriter D.Disk self.new disk.new }
         ensures kept { (b : Base) (base : ℕ) (s : Writer) → StandsAs D.Disk b base s self.old disk.old → EvictKept D.Disk b base s disk.old self.new disk.new result }
         ensures works { OnOk result (self.new.failed ≡ false) }
-        ensures causes { IfErr result (λ e. (e ≡ Failed) ⊎ (e ≡ Memory) ⊎ (e ≡ LogFull) ⊎ (e ≡ Device)) }
+        ensures causes { IfErr result (λ e. (e ≡ Failed) ⊎ (e ≡ LogFull) ⊎ (e ≡ Device)) }
         ensures no_room { result ≡ Err LogFull → HasNoRoom self.new.log }
+        ensures full { result ≡ Err LogFull → 2 ^ 62 < end_with self.new.log 4129 }
         ensures fails { IfErr result (λ e. (self.new.failed ≡ false) ↔ ((e ≡ Memory) ⊎ (e ≡ NotAStore))) }
         ensures already { result ≡ Err Failed ↔ (self.old.failed ≡ true) }
         ensures device { self.old.failed ≡ false → result ≡ Err Device ↔ (D.failed disk.new ≡ true) }
@@ -110,7 +111,7 @@ impl PageWriter {
             return Err(Fault::NotAStore);
         }
         self.pool.hold_copy(number, self.spare.bytes())?;
-        self.table.enter_at_point(number, point);
+        self.table.enter_at_point(number, point, true);
         Ok(())
     }
 
@@ -136,6 +137,7 @@ impl PageWriter {
         ensures works { OnOk result (self.new.failed ≡ false) }
         ensures causes { IfErr result (λ e. (e ≡ Failed) ⊎ (e ≡ LogFull) ⊎ (e ≡ Memory) ⊎ (e ≡ NotAStore) ⊎ (e ≡ Device)) }
         ensures no_room { result ≡ Err LogFull → HasNoRoom self.new.log }
+        ensures full { result ≡ Err LogFull → 2 ^ 62 < end_with self.new.log 4129 }
         ensures fails { IfErr result (λ e. (self.new.failed ≡ false) ↔ ((e ≡ Memory) ⊎ (e ≡ NotAStore))) }
         ensures already { result ≡ Err Failed ↔ (self.old.failed ≡ true) }
         ensures device { self.old.failed ≡ false → result ≡ Err Device ↔ (D.failed disk.new ≡ true) }
@@ -180,7 +182,7 @@ impl PageWriter {
         if !redo_record(&mut self.pool, &mut self.spare, frame, lsn, record)? {
             return Ok(false);
         }
-        self.table.enter_at_point(frame.number, point);
+        self.table.enter_at_point(frame.number, point, false);
         Ok(true)
     }
 
@@ -203,6 +205,7 @@ impl PageWriter {
         ensures works { OnOk result (self.new.failed ≡ false) }
         ensures causes { IfErr result (λ e. (e ≡ Failed) ⊎ (e ≡ LogFull) ⊎ (e ≡ Memory) ⊎ (e ≡ NotAStore) ⊎ (e ≡ Device)) }
         ensures no_room { result ≡ Err LogFull → HasNoRoom self.new.log }
+        ensures full { result ≡ Err LogFull → 2 ^ 62 < end_with self.new.log 4129 }
         ensures fails { IfErr result (λ e. (self.new.failed ≡ false) ↔ ((e ≡ Memory) ⊎ (e ≡ NotAStore))) }
         ensures already { result ≡ Err Failed ↔ (self.old.failed ≡ true) }
         ensures device { self.old.failed ≡ false → result ≡ Err Device ↔ (D.failed disk.new ≡ true) }
@@ -230,6 +233,7 @@ impl PageWriter {
         ensures works { OnOk result (self.new.failed ≡ false) }
         ensures causes { IfErr result (λ e. (e ≡ Failed) ⊎ (e ≡ LogFull) ⊎ (e ≡ Memory) ⊎ (e ≡ NotAStore) ⊎ (e ≡ Device)) }
         ensures no_room { result ≡ Err LogFull → HasNoRoom self.new.log }
+        ensures full { result ≡ Err LogFull → 2 ^ 62 < end_with self.new.log 4129 }
         ensures fails { IfErr result (λ e. (self.new.failed ≡ false) ↔ ((e ≡ Memory) ⊎ (e ≡ NotAStore))) }
         ensures already { result ≡ Err Failed ↔ (self.old.failed ≡ true) }
         ensures device { self.old.failed ≡ false → result ≡ Err Device ↔ (D.failed disk.new ≡ true) }
@@ -262,6 +266,7 @@ impl PageWriter {
         ensures works { OnOk result (self.new.failed ≡ false) }
         ensures causes { IfErr result (λ e. (e ≡ Failed) ⊎ (e ≡ LogFull) ⊎ (e ≡ Memory) ⊎ (e ≡ NotAStore) ⊎ (e ≡ Device)) }
         ensures no_room { result ≡ Err LogFull → HasNoRoom self.new.log }
+        ensures full { result ≡ Err LogFull → 2 ^ 62 < end_with self.new.log 4129 }
         ensures fails { IfErr result (λ e. (self.new.failed ≡ false) ↔ ((e ≡ Memory) ⊎ (e ≡ NotAStore))) }
         ensures already { result ≡ Err Failed ↔ (self.old.failed ≡ true) }
         ensures device { self.old.failed ≡ false → result ≡ Err Device ↔ (D.failed disk.new ≡ true) }

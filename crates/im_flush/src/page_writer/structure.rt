@@ -1,5 +1,5 @@
 //! Records of structure changes: logged, and then the page made the one after.
-ghost use Rattle.std.specs.Prelude.{◌≡◌, ◌≢◌, ◌<◌, ◌⊎◌, ◌↔◌, ℕ, None, Some, Err, false, true, length, IfErr, IfOk, OnOk};
+ghost use Rattle.std.specs.Prelude.{◌≡◌, ◌≢◌, ◌<◌, ◌≤◌, ◌^◌, ◌⊎◌, ◌↔◌, ℕ, None, Some, Err, false, true, length, IfErr, IfOk, OnOk};
 ghost use Rattle.im_types.specs.declared.fault.Fault.TheVariants.{Device, Failed, LogFull, Memory, NotAStore};
 ghost use Rattle.im_types.specs.Histories.{Base};
 ghost use Rattle.im_types.specs.Writer.{Writer};
@@ -14,8 +14,8 @@ use im_types::{Fault, Lsn, PageNo};
 
 impl PageWriter {
     ghost use Rattle.im_record.specs.Entry.{view, page_of};
-    ghost use Rattle.im_record.specs.Spelling.{IsEntry};
-    ghost use Rattle.im_log.specs.LogFile.{HasNoRoom};
+    ghost use Rattle.im_record.specs.Spelling.{IsEntry, size_of};
+    ghost use Rattle.im_log.specs.LogFile.{HasNoRoom, end_with};
     ghost use Rattle.im_log.specs.Whats.{what_of};
     ghost use Rattle.im_pool.specs.Pool.{held_of, IsAt};
     ghost use Rattle.im_flush.specs.DirtyTable.{entry_in};
@@ -45,6 +45,8 @@ impl PageWriter {
         ensures images { OnOk result (after_in (what_of (view record.now)) ≢ None) }
         ensures causes { IfErr result (λ e. (e ≡ NotAStore) ⊎ (e ≡ LogFull) ⊎ (e ≡ Device)) }
         ensures no_room { result ≡ Err LogFull → HasNoRoom self.new.log }
+        ensures full { result ≡ Err LogFull ↔ ((after_in (what_of (view record.now)) ≢ None) × (2 ^ 62 < end_with self.old.log (size_of (view record.now)))) }
+        ensures left { result ≡ Err LogFull → 2 ^ 62 < end_with self.new.log (size_of (view record.now)) }
         ensures device { result ≡ Err Device ↔ (D.failed disk.new ≡ true) }
     {
         if !read_after(&mut self.spare, record) {
@@ -53,7 +55,7 @@ impl PageWriter {
         self.failed = true;
         let lsn = self.log.append(disk, record)?;
         set_page(&mut self.pool, frame, lsn, &self.spare);
-        self.table.enter(frame.number, lsn);
+        self.table.enter(frame.number, lsn, true);
         self.failed = false;
         Ok(lsn)
     }
@@ -74,6 +76,8 @@ impl PageWriter {
         ensures works { OnOk result (self.new.failed ≡ false) }
         ensures causes { IfErr result (λ e. (e ≡ Failed) ⊎ (e ≡ LogFull) ⊎ (e ≡ Memory) ⊎ (e ≡ NotAStore) ⊎ (e ≡ Device)) }
         ensures no_room { result ≡ Err LogFull → HasNoRoom self.new.log }
+        ensures full { result ≡ Err LogFull → (2 ^ 62 < end_with self.new.log (size_of (view record.now))) ⊎ (2 ^ 62 < end_with self.new.log 4129) }
+        ensures fits { OnOk result (end_with self.old.log (size_of (view record.now)) ≤ 2 ^ 62) }
         ensures already { result ≡ Err Failed ↔ (self.old.failed ≡ true) }
         ensures device { self.old.failed ≡ false → result ≡ Err Device ↔ (D.failed disk.new ≡ true) }
         ensures fails { IfErr result (λ e. (self.new.failed ≡ false) ↔ ((e ≡ Memory) ⊎ (e ≡ NotAStore))) }
@@ -88,8 +92,8 @@ impl PageWriter {
     /// entry in the dirty table, the record is appended, the page made the record's with the record's LSN, and entered. It answers
     /// the LSN.
     ///
-    /// Refused `NotAStore`, before the append, for a record of another kind, and where its images are no pages; otherwise as `get`
-    /// is.
+    /// Refused `NotAStore`, before the append, for a record of another kind, and where its images are no pages; `LogFull` as
+    /// `log_put` is; otherwise as `get` is.
     pub fn log_image<D: Disk>(&mut self, disk: &mut D, record: &Record) -> Result<Lsn, Fault>
         requires entry { IsEntry (view record.now) }
         requires ready { IsReadyWriter D.Disk self.old disk.old }
@@ -99,6 +103,8 @@ impl PageWriter {
         ensures works { OnOk result (self.new.failed ≡ false) }
         ensures causes { IfErr result (λ e. (e ≡ Failed) ⊎ (e ≡ LogFull) ⊎ (e ≡ Memory) ⊎ (e ≡ NotAStore) ⊎ (e ≡ Device)) }
         ensures no_room { result ≡ Err LogFull → HasNoRoom self.new.log }
+        ensures full { result ≡ Err LogFull → (2 ^ 62 < end_with self.new.log (size_of (view record.now))) ⊎ (2 ^ 62 < end_with self.new.log 4129) }
+        ensures fits { OnOk result (end_with self.old.log (size_of (view record.now)) ≤ 2 ^ 62) }
         ensures already { result ≡ Err Failed ↔ (self.old.failed ≡ true) }
         ensures device { self.old.failed ≡ false → result ≡ Err Device ↔ (D.failed disk.new ≡ true) }
         ensures fails { IfErr result (λ e. (self.new.failed ≡ false) ↔ ((e ≡ Memory) ⊎ (e ≡ NotAStore))) }

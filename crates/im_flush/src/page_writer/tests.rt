@@ -37,7 +37,7 @@ fn change<D: Disk>(writer: &mut PageWriter, disk: &mut D, page: PageNo) -> Resul
     let lsn = writer.log.append(disk, &record)?;
     writer.pool.set_lsn(frame, lsn);
     if writer.table.len() < 1_024 {
-        writer.table.enter(page, lsn);
+        writer.table.enter(page, lsn, false);
     }
     Ok(lsn)
 }

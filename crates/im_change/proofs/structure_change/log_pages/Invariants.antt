@@ -10,6 +10,7 @@ invariant-loop-i g l = record {
   ready : IsReadyWriter g.D.Disk l.writer l.disk;
   works : l.writer.failed ≡ false;
   count : l.len ≡ length l.images;
+  first : l.i ≡ 0 → (l.writer ≡ l.fn.writer) × (l.disk ≡ l.fn.disk);
   kept : (b : Base) (base : ℕ) (s : Writer) (e undo_next : ℕ) → MayChange g.D.Disk b base s e l.images l.transaction l.last undo_next l.fn.writer l.fn.disk
       → PagesLogged g.D.Disk b base s e l.images l.transaction undo_next l.i l.prev l.fn.disk l.writer l.disk;
 }

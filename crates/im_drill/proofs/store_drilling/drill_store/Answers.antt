@@ -1,4 +1,4 @@
-use Rattle.std.proofs.Common.{◌≡◌, ◌<◌, List, ℕ, ◌+◌, length, get_or, [], ◌∷◌, ◌++◌, take, Bool, false, refl, sym, ◌∙◌, ap, subst, arith}
+use Rattle.std.proofs.Common.{◌≡◌, ◌<◌, List, ℕ, ◌+◌, length, get_or, [], ◌∷◌, ◌++◌, take, refl, sym, ◌∙◌, ap, subst, arith}
 use Rattle.std.proofs.lemmas.Grind.{common_steps}
 use Rattle.std.proofs.lemmas.List.{take_more}
 use Rattle.im_types.specs.Lives.{Lives}
@@ -7,8 +7,8 @@ use Rattle.im_disk.specs.Disk.{Files, both}
 use Rattle.im_engine.specs.Stands.{StandsFor}
 use Rattle.im_drill.specs.declared.store_life.StoreLife.{StoreLife}
 use Rattle.im_drill.specs.declared.store_answers.StoreAnswers.{StoreAnswers}
-use Rattle.im_drill.specs.StoreLives.{asked_in_each, EachStoreAnswered, NoneSplit, AreStores}
-use Rattle.im_drill.proofs.StoreAsked.{store_lives_push, store_answered_push, none_split_front, none_split_last, stores_push}
+use Rattle.im_drill.specs.StoreLives.{asked_in_each, EachStoreAnswered, AreStores}
+use Rattle.im_drill.proofs.StoreAsked.{store_lives_push, store_answered_push, stores_push}
 use Rattle.im_drill.proofs.store_drilling.drill_store.Goals as goal
 
 pub loop-life-init : goal.loop-life-init
@@ -16,11 +16,11 @@ loop-life-init c = record {
   working = c.new-disk.ensures.working;
   synced = c.new-disk.ensures.synced;
   answered = subst (λ (l : List StoreAnswers). EachStoreAnswered [] l) (sym c.new-lives.ensures.items) tt;
-  kept = λ before stands none.
+  kept = λ before stands.
       let log = c.in_ok-log.ensures.items ∙ c.deref.ensures.value in
       let seen = c.new-disk.ensures.seen ∙ ap (λ (l : List ℕ). both l c.new.result.items) log ∙ ap (λ (l : List ℕ). both c.args.script.now.log.items l) c.new.ensures.items in (
         before,
-        subst (λ (s : Files). StandsFor false before s) (sym seen) stands,
+        subst (λ (s : Files). StandsFor before s) (sym seen) stands,
         subst (λ (l : List StoreAnswers). Lives before (asked_in_each [] l) before) (sym c.new-lives.ensures.items) refl,
       );
   stores = λ before stands. subst (λ (l : List StoreAnswers). AreStores l) (sym c.new-lives.ensures.items) tt;
@@ -40,25 +40,24 @@ loop-life-preserved c =
           subst (λ (l : List StoreLife). EachStoreAnswered l c.push.new.self.items) (sym more)
           (subst (λ (l : List StoreAnswers). EachStoreAnswered (take i all ++ c.life-item.result ∷ []) l) (sym c.in_ok-push.ensures.items)
           (store_answered_push (take i all) c.loop-life.lives.items c.life-item.result c.in_ok-told.told c.loop-life.invariant.answered c.in_ok-told.ensures.answered));
-      kept = λ before stands none.
+      kept = λ before stands.
           let told = c.loop-life.lives.items in
-          let all_none : NoneSplit (told ++ c.in_ok-told.told ∷ []) = subst (λ (l : List StoreAnswers). NoneSplit l) c.in_ok-push.ensures.items none in
-          let k = c.loop-life.invariant.kept before stands (none_split_front told c.in_ok-told.told all_none) in
+          let k = c.loop-life.invariant.kept before stands in
           let s = c.in_ok-told.ensures.kept k.0 k.1 (ghosts.seen c.in-Ok.left) c.in-Ok.ensures.left in (
             s.0,
-            subst (λ (split : Bool). StandsFor split s.0 (ghosts.seen c.in-Ok.left)) (none_split_last told c.in_ok-told.told all_none) s.2,
+            s.2,
             subst (λ (l : List StoreLife). Lives before (asked_in_each l c.push.new.self.items) s.0) (sym more)
                 (subst (λ (l : List StoreAnswers). Lives before (asked_in_each (take i all ++ c.life-item.result ∷ []) l) s.0) (sym c.in_ok-push.ensures.items)
                 (store_lives_push (take i all) told c.life-item.result c.in_ok-told.told before k.0 s.0 c.loop-life.invariant.answered k.2 s.1)),
           );
       stores = λ before stands.
           subst (λ (l : List StoreAnswers). AreStores l) (sym c.in_ok-push.ensures.items)
-          (stores_push c.loop-life.lives.items c.in_ok-told.told (c.loop-life.invariant.stores before stands) (λ none. let k = c.loop-life.invariant.kept before stands none in c.in_ok-told.ensures.opened k.0 k.1));
+          (stores_push c.loop-life.lives.items c.in_ok-told.told (c.loop-life.invariant.stores before stands) (let k = c.loop-life.invariant.kept before stands in c.in_ok-told.ensures.opened k.0 k.1));
     }
 
 pub returns-clause-kept : goal.returns-clause-kept
-returns-clause-kept c before stands none =
-    let k = c.loop-life.invariant.kept before stands none in
+returns-clause-kept c before stands =
+    let k = c.loop-life.invariant.kept before stands in
     let all : take c.loop-life.life-index c.args.script.now.lives.items ≡ c.args.script.now.lives.items = grind (arith, common_steps) in
     (k.0, subst (λ (l : List StoreLife). Lives before (asked_in_each l c.loop-life.lives.items) k.0) all k.2, c.last_entries-last.ensures k.0 k.1)
 

@@ -5,7 +5,7 @@ use Rattle.im_disk.specs.contracts.model_disk.ModelDiskDisk.TheImpl.{ghosts}
 use Rattle.im_disk.specs.Disk.{both}
 use Rattle.im_disk.specs.Runs.{IsSynced}
 use Rattle.im_engine.specs.Stands.{StandsFor}
-use Rattle.im_drill.specs.StoreLives.{asked_in_each, EachStoreAnswered, NoneSplit, AreStores}
+use Rattle.im_drill.specs.StoreLives.{asked_in_each, EachStoreAnswered, AreStores}
 use Rattle.im_drill.proofs.store_drilling.drill_store.Given as goal
 
 -- the lives so far, and what the last of them has left
@@ -14,7 +14,7 @@ invariant-loop-life l = record {
   working : ghosts.failed l.disk ≡ false;
   synced : IsSynced ghosts l.disk;
   answered : EachStoreAnswered (take l.life-index l.script.lives.items) l.lives.items;
-  kept : (before : List Effect) → StandsFor false before (both l.script.log.items []) → NoneSplit l.lives.items
-      → (mid : List Effect) × StandsFor false mid (ghosts.seen l.disk) × Lives before (asked_in_each (take l.life-index l.script.lives.items) l.lives.items) mid;
-  stores : (before : List Effect) → StandsFor false before (both l.script.log.items []) → AreStores l.lives.items;
+  kept : (before : List Effect) → StandsFor before (both l.script.log.items [])
+      → (mid : List Effect) × StandsFor mid (ghosts.seen l.disk) × Lives before (asked_in_each (take l.life-index l.script.lives.items) l.lives.items) mid;
+  stores : (before : List Effect) → StandsFor before (both l.script.log.items []) → AreStores l.lives.items;
 }

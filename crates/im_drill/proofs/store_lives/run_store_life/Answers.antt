@@ -1,4 +1,4 @@
-use Rattle.std.proofs.Common.{List, Bool, false, sym, subst, ◌∙◌, inl}
+use Rattle.std.proofs.Common.{List, sym, subst, ◌∙◌, inl}
 use Rattle.im_types.specs.Lives.{Shown, nothing_shown}
 use Rattle.im_disk.specs.contracts.model_disk.ModelDiskDisk.TheImpl.{ghosts}
 use Rattle.im_disk.specs.declared.model_disk.ModelDisk.{ModelDisk}
@@ -18,19 +18,18 @@ returns-in_ok-replies-in-Ok-clause-answered c = subst (λ (l : List StoreLine). 
 
 pub returns-in_ok-replies-in-Ok-clause-kept : goal.returns-in_ok-replies-in-Ok-clause-kept
 returns-in_ok-replies-in-Ok-clause-kept c before stands files left =
-    let k = c.in-Ok.ensures.kept before tt (c.in_ok-arm.ensures.synced c.requires.synced) (subst (λ (s : Files). StandsFor false before s) (sym c.in_ok-arm.ensures.reads.seen) stands) in
+    let k = c.in-Ok.ensures.kept before tt (c.in_ok-arm.ensures.synced c.requires.synced) (subst (λ (s : Files). StandsFor before s) (sym c.in_ok-arm.ensures.reads.seen) stands) in
     let now = subst (λ (disk : ModelDisk). ghosts.may_leave disk files) c.into_disk-disk.ensures left in
-    subst (λ (split : Bool). Allowed split before (shown_in nothing_shown c.args.life.now.lines.items c.in_ok-replies-in-Ok.replies.items) files) (sym c.has_begun_change-split.ensures)
-    (subst (λ (l : List StoreLine). Allowed c.run_store_lines-replies.new.engine.split before (shown_in nothing_shown l c.in_ok-replies-in-Ok.replies.items) files) c.deref.ensures.value
-    (c.in_ok-replies-in-Ok.ensures.kept before k.ok.0 files now))
+    subst (λ (l : List StoreLine). Allowed before (shown_in nothing_shown l c.in_ok-replies-in-Ok.replies.items) files) c.deref.ensures.value
+    (c.in_ok-replies-in-Ok.ensures.kept before k.ok.0 files now)
 
 pub returns-in-Err-clause-kept : goal.returns-in-Err-clause-kept
 returns-in-Err-clause-kept c before stands files left =
-    let k = c.in-Err.ensures.kept before tt (c.in_ok-arm.ensures.synced c.requires.synced) (subst (λ (s : Files). StandsFor false before s) (sym c.in_ok-arm.ensures.reads.seen) stands) in
-    subst (λ (l : List StoreReply). Allowed false before (shown_in nothing_shown c.args.life.now.lines.items l) files) (sym c.new-replies.ensures.items)
-    (subst (λ (s : Shown). Allowed false before s files) (sym (shown_none nothing_shown c.args.life.now.lines.items)) (k.stops.each tt files (inl left)))
+    let k = c.in-Err.ensures.kept before tt (c.in_ok-arm.ensures.synced c.requires.synced) (subst (λ (s : Files). StandsFor before s) (sym c.in_ok-arm.ensures.reads.seen) stands) in
+    subst (λ (l : List StoreReply). Allowed before (shown_in nothing_shown c.args.life.now.lines.items l) files) (sym c.new-replies.ensures.items)
+    (subst (λ (s : Shown). Allowed before s files) (sym (shown_none nothing_shown c.args.life.now.lines.items)) (k.stops.each tt files (inl left)))
 
 pub returns-in-Err-clause-opened : goal.returns-in-Err-clause-opened
 returns-in-Err-clause-opened c before stands is =
-    let k = c.in-Err.ensures.kept before tt (c.in_ok-arm.ensures.synced c.requires.synced) (subst (λ (s : Files). StandsFor false before s) (sym c.in_ok-arm.ensures.reads.seen) stands) in
+    let k = c.in-Err.ensures.kept before tt (c.in_ok-arm.ensures.synced c.requires.synced) (subst (λ (s : Files). StandsFor before s) (sym c.in_ok-arm.ensures.reads.seen) stands) in
     still_a_store (model_stopped c.in-Err.disk) c.in-Err.fault k.cause (sym c.refused_opening-opening.ensures ∙ is)

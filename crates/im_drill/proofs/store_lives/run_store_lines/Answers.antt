@@ -54,6 +54,11 @@ returns-then-is_stopped-clause-kept c before living files left =
     let reply = c.run_store_line-reply.result in
     let k = c.run_store_line-reply.ensures.kept before (shown_in nothing_shown (take i all) told) (c.loop-line.invariant.life before living) in
     let count : length c.push.new.self.items ≡ i + 1 = ap length c.in_ok-push.ensures.items ∙ length-append told (reply ∷ []) ∙ ap (λ (n : ℕ). n + 1) c.loop-line.invariant.count in
-    subst (λ (s : Shown). Allowed c.run_store_line-reply.new.engine.split before s files)
+    subst (λ (s : Shown). Allowed before s files)
     (sym (sym (shown_whole nothing_shown all c.push.new.self.items (i + 1) count) ∙ ap (λ (l : List StoreReply). shown_in nothing_shown (take (i + 1) all) l) c.in_ok-push.ensures.items ∙ shown_to nothing_shown all i told c.line-item.result reply c.line-item.is c.loop-line.invariant.count c.loop-line-test.true))
     (k.stops files left)
+
+pub returns-clause-kept : goal.returns-clause-kept
+returns-clause-kept c before living files left =
+    subst (λ (s : Shown). Allowed before s files) (shown_whole nothing_shown c.args.lines.now c.loop-line.replies.items c.loop-line.line-index c.loop-line.invariant.count)
+    ((c.loop-line.invariant.life before living).stops files left)

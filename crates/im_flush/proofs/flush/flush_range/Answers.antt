@@ -5,11 +5,11 @@ use Rattle.im_flush.proofs.Flushing.{flushed_then, may_write}
 use Rattle.im_flush.proofs.flush.flush_range.Goals as goal
 
 pub returns-in_err-log_images-clause-kept : goal.returns-in_err-log_images-clause-kept
-returns-in_err-log_images-clause-kept g c b base s w all = record { ok = search rules; stops = (c.in_err-log_images.ensures.kept b base s c.args.table.now w all).stops }
+returns-in_err-log_images-clause-kept g c b base s w all = record { ok = search rules; stops = (c.in_err-log_images.ensures.kept b base s w all).stops }
 
 pub returns-in_err-write_out-clause-kept : goal.returns-in_err-write_out-clause-kept
 returns-in_err-write_out-clause-kept g c b base s w all =
-    let so = (c.in_ok-log_images.ensures.kept b base s c.args.table.now w all).ok in
+    let so = (c.in_ok-log_images.ensures.kept b base s w all).ok in
     let asks = subst (λ (l : List ℕ). (q : ℕ) → c.args.first ≤ q → q ≤ c.args.last → MayWriteHere b so.now c.args.table.now c.args.pool.now q (lsn_for l (q - c.args.first))) (sym c.deref.ensures.value)
     (may_write g.D.Disk b base s c.args.first c.args.last c.log_images.new.lsns.items c.args.disk.now c.log_images.new.log c.args.table.now c.args.pool.now c.log_images.new.disk so all) in
     let done = c.in_err-write_out.ensures.kept b base so.now c.log_images.new.log so.goes.writing so.all asks in
@@ -17,7 +17,7 @@ returns-in_err-write_out-clause-kept g c b base s w all =
 
 pub returns-clause-kept : goal.returns-clause-kept
 returns-clause-kept g c b base s w all =
-    let so = (c.in_ok-log_images.ensures.kept b base s c.args.table.now w all).ok in
+    let so = (c.in_ok-log_images.ensures.kept b base s w all).ok in
     let asks = subst (λ (l : List ℕ). (q : ℕ) → c.args.first ≤ q → q ≤ c.args.last → MayWriteHere b so.now c.args.table.now c.args.pool.now q (lsn_for l (q - c.args.first))) (sym c.deref.ensures.value)
     (may_write g.D.Disk b base s c.args.first c.args.last c.log_images.new.lsns.items c.args.disk.now c.log_images.new.log c.args.table.now c.args.pool.now c.log_images.new.disk so all) in
     let done = c.in_ok-write_out.ensures.kept b base so.now c.log_images.new.log so.goes.writing so.all asks in

@@ -3,6 +3,7 @@ use Rattle.im_types.specs.declared.file_id.FileId.TheVariants.{Log}
 use Rattle.im_disk.proofs.Runs.{changes_reads, changes_then, reads_none}
 use Rattle.im_flush.specs.Writing.{ImagesTo}
 use Rattle.im_flush.proofs.Goings.{leaves_last, leaves_so_far}
+use Rattle.im_flush.proofs.LogEnds.{ends_same, ends_then}
 use Rattle.im_flush.proofs.Imaging.{image_still, images_more, images_start}
 use Rattle.im_flush.proofs.image_range.append_images.Goals as goal
 
@@ -13,9 +14,10 @@ loop-number-init g c = record {
   working = c.requires.working;
   room = omega (arith, c.requires.room, c.clear.ensures);
   changes = changes_reads g.D.Disk Log c.args.disk.now c.args.disk.now (reads_none g.D.Disk c.args.disk.now);
-  kept = λ b base s table w all.
-      subst (λ (l : List ℕ). ImagesTo g.D.Disk b base s c.args.first c.args.first l c.args.disk.now c.args.log.now table c.args.pool.now c.args.disk.now) (search rules)
-      (images_start g.D.Disk b base s c.args.first c.args.disk.now c.args.log.now table c.args.pool.now (g.met.D.Disk.only_now c.args.disk.now) w);
+  later = ends_same c.args.log.now;
+  kept = λ b base s w all.
+      subst (λ (l : List ℕ). ImagesTo g.D.Disk b base s c.args.first c.args.first l c.args.disk.now c.args.log.now c.args.table.now c.args.pool.now c.args.disk.now) (search rules)
+      (images_start g.D.Disk b base s c.args.first c.args.disk.now c.args.log.now c.args.table.now c.args.pool.now (g.met.D.Disk.only_now c.args.disk.now) w);
 }
 
 pub loop-number-preserved : goal.loop-number-preserved
@@ -27,27 +29,31 @@ loop-number-preserved g c =
       working = c.in_ok-lsn.ensures.failed;
       room = c.note.ensures.room;
       changes = changes_then g.D.Disk Log c.args.disk.now l.disk c.append_one.new.disk l.invariant.changes c.append_one.ensures.changes;
-      kept = λ b base s table w all.
-          let so = l.invariant.kept b base s table w all in
+      later = ends_then c.args.log.now l.log c.append_one.new.log l.invariant.later c.in_ok-lsn.ensures.later;
+      kept = λ b base s w all.
+          let so = l.invariant.kept b base s w all in
           let asked = image_still b s so.now c.args.pool.now l.number so.goes.keeps (all l.number l.invariant.low (omega (arith, c.loop-number-test.true))) in
-          let done = c.in_ok-lsn.ensures.kept b base so.now table so.goes.writing asked in
-          subst (λ (lsns : List ℕ). ImagesTo g.D.Disk b base s c.args.first (l.number + 1) lsns c.args.disk.now c.append_one.new.log table c.args.pool.now c.append_one.new.disk) (sym c.note.ensures.items)
-          (images_more g.D.Disk b base s c.args.first c.args.disk.now l.number l.lsns.items l.log table c.args.pool.now l.disk l.invariant.low so c.in_ok-lsn.lsn c.append_one.new.log c.append_one.new.disk done.ok asked);
+          let done = c.in_ok-lsn.ensures.kept b base so.now so.goes.writing asked in
+          subst (λ (lsns : List ℕ). ImagesTo g.D.Disk b base s c.args.first (l.number + 1) lsns c.args.disk.now c.append_one.new.log c.args.table.now c.args.pool.now c.append_one.new.disk) (sym c.note.ensures.items)
+          (images_more g.D.Disk b base s c.args.first c.args.disk.now l.number l.lsns.items l.log c.args.table.now c.args.pool.now l.disk l.invariant.low so c.in_ok-lsn.lsn c.append_one.new.log c.append_one.new.disk done.ok asked);
     }
 
 pub returns-in_err-lsn-clause-kept : goal.returns-in_err-lsn-clause-kept
-returns-in_err-lsn-clause-kept g c b base s table w all =
+returns-in_err-lsn-clause-kept g c b base s w all =
     let l = c.loop-number in
-    let so = l.invariant.kept b base s table w all in
+    let so = l.invariant.kept b base s w all in
     let asked = image_still b s so.now c.args.pool.now l.number so.goes.keeps (all l.number l.invariant.low (omega (arith, c.loop-number-test.true))) in
-    let done = c.in_err-lsn.ensures.kept b base so.now table so.goes.writing asked in
-    record { ok = search rules; stops = leaves_last g.D.Disk b base s c.args.disk.now so.now l.log table c.args.pool.now l.disk so.goes c.append_one.new.disk done.stops }
+    let done = c.in_err-lsn.ensures.kept b base so.now so.goes.writing asked in
+    record { ok = search rules; stops = leaves_last g.D.Disk b base s c.args.disk.now so.now l.log c.args.table.now c.args.pool.now l.disk so.goes c.append_one.new.disk done.stops }
 
 pub returns-clause-kept : goal.returns-clause-kept
-returns-clause-kept g c b base s table w all =
+returns-clause-kept g c b base s w all =
     let l = c.loop-number in
-    let so = l.invariant.kept b base s table w all in
+    let so = l.invariant.kept b base s w all in
     record {
-      ok = subst (λ (n : ℕ). ImagesTo g.D.Disk b base s c.args.first n l.lsns.items c.args.disk.now l.log table c.args.pool.now l.disk) (omega (arith, c.loop-number-test.false, c.requires.order)) so;
-      stops = leaves_so_far g.D.Disk b base s c.args.disk.now so.now l.log table c.args.pool.now l.disk so.goes;
+      ok = subst (λ (n : ℕ). ImagesTo g.D.Disk b base s c.args.first n l.lsns.items c.args.disk.now l.log c.args.table.now c.args.pool.now l.disk) (omega (arith, c.loop-number-test.false, c.requires.order)) so;
+      stops = leaves_so_far g.D.Disk b base s c.args.disk.now so.now l.log c.args.table.now c.args.pool.now l.disk so.goes;
     }
+
+pub returns-clause-later : goal.returns-clause-later
+returns-clause-later g c = c.loop-number.invariant.later

@@ -4,8 +4,8 @@ use Rattle.im_types.specs.Histories.{Base}
 use Rattle.im_types.specs.Writer.{Writer}
 use Rattle.im_disk.specs.Runs.{ChangesOnly}
 use Rattle.im_log.specs.LogFile.{IsOpen}
-use Rattle.im_flush.specs.declared.table_entry.TableEntry.{TableEntry}
 use Rattle.im_flush.specs.declared.image_range.TheConstants.{NOTED}
+use Rattle.im_flush.specs.LogEnds.{EndsNoSooner}
 use Rattle.im_flush.specs.Writing.{IsWriting, ImagesTo, MayCopy}
 use Rattle.im_flush.proofs.image_range.append_images.Given as goal
 
@@ -16,6 +16,7 @@ invariant-loop-number g l = record {
   working : l.log.failed ≡ false;
   room : NOTED ≤ vec_capacity l.lsns;
   changes : ChangesOnly g.D.Disk Log l.fn.disk l.disk;
-  kept : (b : Base) (base : ℕ) (s : Writer) (table : List TableEntry) → IsWriting g.D.Disk b base s l.fn.log table l.fn.pool l.fn.disk → ((q : ℕ) → l.fn.first ≤ q → q ≤ l.fn.last → MayCopy s l.fn.pool q)
-      → ImagesTo g.D.Disk b base s l.fn.first l.number l.lsns.items l.fn.disk l.log table l.fn.pool l.disk;
+  later : EndsNoSooner l.fn.log l.log;
+  kept : (b : Base) (base : ℕ) (s : Writer) → IsWriting g.D.Disk b base s l.fn.log l.fn.table l.fn.pool l.fn.disk → ((q : ℕ) → l.fn.first ≤ q → q ≤ l.fn.last → MayCopy s l.fn.pool q)
+      → ImagesTo g.D.Disk b base s l.fn.first l.number l.lsns.items l.fn.disk l.log l.fn.table l.fn.pool l.disk;
 }

@@ -5,22 +5,22 @@ use Rattle.im_flush.proofs.Imaging.{goes_forced, images_durable}
 use Rattle.im_flush.proofs.image_range.log_images.Goals as goal
 
 pub returns-in_err-append_images-clause-kept : goal.returns-in_err-append_images-clause-kept
-returns-in_err-append_images-clause-kept g c b base s table w all = record { ok = search rules; stops = (c.in_err-append_images.ensures.kept b base s table w all).stops }
+returns-in_err-append_images-clause-kept g c b base s w all = record { ok = search rules; stops = (c.in_err-append_images.ensures.kept b base s w all).stops }
 
 pub returns-in_err-force-clause-kept : goal.returns-in_err-force-clause-kept
-returns-in_err-force-clause-kept g c b base s table w all =
-    let so = (c.in_ok-append_images.ensures.kept b base s table w all).ok in
+returns-in_err-force-clause-kept g c b base s w all =
+    let so = (c.in_ok-append_images.ensures.kept b base s w all).ok in
     let forced = c.in_err-force.ensures.kept base so.now.log so.now.durable so.goes.writing.stands.log_is in
     record {
       ok = search rules;
-      stops = leaves_last g.D.Disk b base s c.args.disk.now so.now c.append_images.new.log table c.args.pool.now c.append_images.new.disk so.goes c.force.new.disk
-          (log_stops g.D.Disk b base so.now c.append_images.new.log table c.append_images.new.disk so.goes.writing.stands c.force.new.disk forced.stops);
+      stops = leaves_last g.D.Disk b base s c.args.disk.now so.now c.append_images.new.log c.args.table.now c.args.pool.now c.append_images.new.disk so.goes c.force.new.disk
+          (log_stops g.D.Disk b base so.now c.append_images.new.log c.args.table.now c.append_images.new.disk so.goes.writing.stands c.force.new.disk forced.stops);
     }
 
 pub returns-clause-kept : goal.returns-clause-kept
-returns-clause-kept g c b base s table w all =
-    let so = (c.in_ok-append_images.ensures.kept b base s table w all).ok in
+returns-clause-kept g c b base s w all =
+    let so = (c.in_ok-append_images.ensures.kept b base s w all).ok in
     let forced = c.in_ok-force.ensures.kept base so.now.log so.now.durable so.goes.writing.stands.log_is in
-    let goes = goes_forced g.D.Disk b base so.now c.append_images.new.log c.force.new.self table c.args.pool.now c.append_images.new.disk c.force.new.disk so.goes.writing forced.ok.log c.force.ensures.ready c.force.ensures.changes forced.stops in
-    let all_durable = images_durable g.D.Disk b base s c.args.first c.args.last c.append_images.new.lsns.items c.args.disk.now c.append_images.new.log c.force.new.self table c.args.pool.now c.append_images.new.disk c.force.new.disk so goes in
-    record { ok = all_durable; stops = leaves_so_far g.D.Disk b base s c.args.disk.now all_durable.now c.force.new.self table c.args.pool.now c.force.new.disk all_durable.goes }
+    let goes = goes_forced g.D.Disk b base so.now c.append_images.new.log c.force.new.self c.args.table.now c.args.pool.now c.append_images.new.disk c.force.new.disk so.goes.writing forced.ok.log c.force.ensures.ready c.force.ensures.changes forced.stops in
+    let all_durable = images_durable g.D.Disk b base s c.args.first c.args.last c.append_images.new.lsns.items c.args.disk.now c.append_images.new.log c.force.new.self c.args.table.now c.args.pool.now c.append_images.new.disk c.force.new.disk so goes in
+    record { ok = all_durable; stops = leaves_so_far g.D.Disk b base s c.args.disk.now all_durable.now c.force.new.self c.args.table.now c.args.pool.now c.force.new.disk all_durable.goes }

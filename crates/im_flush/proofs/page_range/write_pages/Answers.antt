@@ -34,7 +34,7 @@ loop-number-preserved g c =
           writes_more g.D.Disk b base s c.args.first c.args.last c.args.lsns.now c.args.disk.now log l.number l.table l.pool l.disk l.entered (omega (arith, c.loop-number-test.true)) l.invariant.low so
           c.write_one.new.table c.write_one.new.pool c.write_one.new.disk c.in_ok-has.has c.both-entered.result done.stops
           (subst (λ (m : ℕ). WrittenHere g.D.Disk b base so.now l.number m log l.table c.write_one.new.table c.write_one.new.pool c.write_one.new.disk c.in_ok-has.has) lsn done.ok) one.pool
-          (one.table ∙ ap (λ (m : ℕ). written_in l.number m l.table) lsn) c.both-entered.ensures;
+          (one.table ∙ ap (λ (m : ℕ). written_in l.number m l.table) lsn) c.both-entered.ensures.0;
     }
 
 pub returns-in_err-has-clause-kept : goal.returns-in_err-has-clause-kept

@@ -74,12 +74,13 @@ fn entry(writer: &PageWriter) -> Option<TableEntry> {
     writer.table.get(1)
 }
 
-// The entry of page 1 where it is changed from an LSN on.
-fn from(lsn: Lsn) -> Option<TableEntry> {
+// The entry of page 1 where it is changed from an LSN on, with a copy that is known or without.
+fn from(lsn: Lsn, copied: bool) -> Option<TableEntry> {
     Some(TableEntry {
         page: 1,
         rec_lsn: lsn,
         since: Some(lsn),
+        copied,
     })
 }
 
@@ -91,7 +92,7 @@ fn a_loaded_copy_is_the_page_whatever_the_file_has(rt: HostRuntime) -> Result<()
     assert_eq!(rt; got(&mut writer, &mut disk, 1), Err(Fault::NotAStore));
     load(&mut writer, &mut disk, 400)?;
     assert_eq!(rt; got(&mut writer, &mut disk, 1)?, (400, 0));
-    assert_eq!(rt; entry(&writer), from(POINT));
+    assert_eq!(rt; entry(&writer), from(POINT, true));
     assert_eq!(rt; load(&mut writer, &mut disk, 400), Err(Fault::NotAStore));
     Ok(())
 }
@@ -126,7 +127,7 @@ fn a_redone_page_counts_as_changed_from_the_redo_point_on(rt: HostRuntime) -> Re
     assert!(rt; !writer.redo_change(&mut disk, POINT, 400, &insert(b"a"))?);
     assert_eq!(rt; entry(&writer), None);
     assert!(rt; writer.redo_change(&mut disk, POINT, 401, &insert(b"a"))?);
-    assert_eq!(rt; entry(&writer), from(POINT));
+    assert_eq!(rt; entry(&writer), from(POINT, false));
     Ok(())
 }
 

@@ -1,4 +1,4 @@
-use Rattle.im_lock.proofs.Theorem.{isolates}
+use Rattle.im_lock.proofs.Isolates.{isolates}
 use Rattle.im_lock.proofs.isolated.isolation.Goals as goal
 
 pub returns : goal.returns

@@ -14,21 +14,20 @@ returns-in_err-found-clause-kept g c b all told may =
     let other : c.in_err-found.field-0.0 ≢ NotAStore = k.cause in
     record {
       ok = search rules;
-      stops = left_opening d b g.T.PageTree.tree all old c.open_log.new.disk (g.met.D.Disk.only_now old) told (c.requires.synced Log) (c.requires.synced Pages) may k.stops c.in_err-found.ensures.reads;
+      stops = left_opening d b all old c.open_log.new.disk (g.met.D.Disk.only_now old) told (c.requires.synced Log) (c.requires.synced Pages) may k.stops c.in_err-found.ensures.reads;
       cause = search (rules, other);
     }
 
 pub returns-clause-kept : goal.returns-clause-kept
 returns-clause-kept g c b all told may =
     let d = g.D.Disk in
-    let tree = g.T.PageTree.tree in
     let old = c.args.disk.now in
     let mid = c.open_log.new.disk in
     let k = c.in_ok-found.ensures.kept b all told may.has.log may.has.bare may.lawful in
-    let opening = left_opening d b tree all old mid (g.met.D.Disk.only_now old) told (c.requires.synced Log) (c.requires.synced Pages) may k.stops c.in_ok-found.ensures.reads in
-    let behind = may_behind d b tree all old mid c.in_ok-found.found.log may c.in_ok-found.ensures.changes k.ok.log in
-    let r = c.restart.ensures.kept b all behind (pages_synced d b tree all old mid c.in_ok-found.ensures.changes (c.requires.synced Pages)) k.ok in
-    record { ok = r.ok; stops = left_then d b tree all old mid c.restart.new.disk opening r.stops; cause = r.cause }
+    let opening = left_opening d b all old mid (g.met.D.Disk.only_now old) told (c.requires.synced Log) (c.requires.synced Pages) may k.stops c.in_ok-found.ensures.reads in
+    let behind = may_behind d b all old mid c.in_ok-found.found.log may c.in_ok-found.ensures.changes k.ok.log in
+    let r = c.restart.ensures.kept b all behind (pages_synced d b all old mid c.in_ok-found.ensures.changes (c.requires.synced Pages)) k.ok in
+    record { ok = r.ok; stops = left_then d b all old mid c.restart.new.disk opening r.stops; cause = r.cause }
 
 pub returns-clause-spelled : goal.returns-clause-spelled
 returns-clause-spelled g c = holds_if_ok c.restart.result c.in_ok-found.ensures.spelled

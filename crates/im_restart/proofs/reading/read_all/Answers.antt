@@ -8,6 +8,7 @@ use Rattle.im_log.proofs.Backward.{has_read, none_read, some_read}
 use Rattle.im_log.proofs.Openings.{none_kept, some_kept}
 use Rattle.im_analysis.specs.Analysis.{IsAnalysed}
 use Rattle.im_redo.specs.Redo.{lsns_from}
+use Rattle.im_tree.specs.Theory.{page_tree}
 use Rattle.im_restart.proofs.Openings.{next_read, same_entry}
 use Rattle.im_restart.proofs.reading.read_all.Goals as goal
 
@@ -21,7 +22,7 @@ loop-lsns-preserved g c = record {
       let n = some_kept g.D.Disk 0 all h.0 c.next.new.self c.next.new.disk c.in_ok-next.field-0 c.in-Some.lsn c.in-Some.is (c.in_ok-next.ensures.kept 0 all h.0 h.1) in
       let said = view c.in_ok-record-in-Some.record in
       let same : n.entry ≡ said = same_entry _ n.entry said n.is c.in_ok-record-in-Some.ensures.record in
-      let next = next_read g.D.Disk b g.T.PageTree.tree all h.0 c.in-Some.lsn n.entry said c.next.new.self c.next.new.disk same law n.front n.opening in
+      let next = next_read g.D.Disk b page_tree all h.0 c.in-Some.lsn n.entry said c.next.new.self c.next.new.disk same law n.front n.opening in
       (logged_at c.in-Some.lsn said ∷ h.0, next.2, (c.in_ok-take-in-Some.ensures.kept h.0 h.2 next.0).ok, c.in_ok-note_change-in-Some.ensures.kept h.0 next.0.readable h.3)
       );
   back = λ start.
@@ -51,7 +52,7 @@ returns-in_err-take-in-Some-clause-kept g c b all start law =
     let n = some_kept g.D.Disk 0 all h.0 c.next.new.self c.next.new.disk c.in_ok-next.field-0 c.in-Some.lsn c.in-Some.is (c.in_ok-next.ensures.kept 0 all h.0 h.1) in
     let said = view c.in_ok-record-in-Some.record in
     let same : n.entry ≡ said = same_entry _ n.entry said n.is c.in_ok-record-in-Some.ensures.record in
-    let next = next_read g.D.Disk b g.T.PageTree.tree all h.0 c.in-Some.lsn n.entry said c.next.new.self c.next.new.disk same law n.front n.opening in
+    let next = next_read g.D.Disk b page_tree all h.0 c.in-Some.lsn n.entry said c.next.new.self c.next.new.disk same law n.front n.opening in
     let k = c.in_err-take-in-Some.ensures.kept h.0 h.2 next.0 in
     let other : c.in_err-take-in-Some.field-0.0 ≢ NotAStore = λ e. next.1 (k.refused.0 (ap Rattle.std.proofs.Common.Err e)) in
     record { ok = search rules; cause = search (rules, other) }

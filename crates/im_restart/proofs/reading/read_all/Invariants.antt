@@ -5,6 +5,7 @@ use Rattle.im_disk.specs.Runs.{Reads}
 use Rattle.im_log.specs.Opening.{IsBegun, IsOpening, HasRead, position_of}
 use Rattle.im_analysis.specs.Analysis.{IsAnalysed}
 use Rattle.im_redo.specs.Redo.{lsns_from}
+use Rattle.im_tree.specs.Theory.{page_tree}
 use Rattle.im_restart.proofs.reading.read_all.Given as goal
 
 abbrev pub invariant-loop-lsns : goal.invariant-loop-lsns
@@ -12,7 +13,7 @@ invariant-loop-lsns g l = record {
   begun : IsBegun g.D.Disk l.opening l.disk;
   reads : Reads g.D.Disk l.fn.disk l.disk;
   working : l.opening.failed ≡ false;
-  kept : (b : Base) (all : History) → IsOpening g.D.Disk 0 all [] l.fn.opening l.fn.disk → IsLawful b g.T.PageTree.tree all
+  kept : (b : Base) (all : History) → IsOpening g.D.Disk 0 all [] l.fn.opening l.fn.disk → IsLawful b page_tree all
       → (older : History) × IsOpening g.D.Disk 0 all older l.opening l.disk × IsAnalysed older l.analysis × (l.lsns.items ≡ lsns_from 0 older);
   back : HasRead g.D.Disk 0 [] l.fn.opening l.fn.disk → (older : History) × HasRead g.D.Disk 0 older l.opening l.disk;
 }

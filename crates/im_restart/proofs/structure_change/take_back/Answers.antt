@@ -4,6 +4,7 @@ use Rattle.im_types.specs.Transactions.{is_smo, last_of}
 use Rattle.im_record.specs.Entry.{Entry, Smo, view, prev_of, transaction_of}
 use Rattle.im_record.specs.declared.record.Record.{Record}
 use Rattle.im_log.specs.Spelled.{logged_at}
+use Rattle.im_tree.specs.Theory.{page_tree}
 use Rattle.im_restart.specs.StructureChange.{TakeBackKept}
 use Rattle.im_restart.proofs.KeyRecords.{no_smo}
 use Rattle.im_restart.proofs.OpenChanges.{open_is_smo, taken_so}
@@ -17,11 +18,11 @@ returns-in-Smo-clause-kept g c b all s lsn rest stands is =
     let k = c.log_image.ensures.kept b 0 s is.redo_end stands is.over in
     subst
     (λ (x : Entry). open_smo s.log ≡ logged_at lsn x ∷ rest → c.args.last ≡ last_of (transaction_of x) s.log
-    → TakeBackKept g.D.Disk b g.T.PageTree.tree all s (transaction_of x) (prev_of x) rest c.args.disk.now c.log_image.new.self c.log_image.new.disk c.log_image.result)
+    → TakeBackKept g.D.Disk b all s (transaction_of x) (prev_of x) rest c.args.disk.now c.log_image.new.self c.log_image.new.disk c.log_image.result)
     (sym same)
-    (λ going behind. taken_so g.D.Disk b g.T.PageTree.tree all g.T.PageTree.laws s is a.transaction c.args.last a.prev a.page a.before.now a.after.now lsn rest going behind c.args.disk.now c.log_image.new.self c.log_image.new.disk c.log_image.result k)
+    (λ going behind. taken_so g.D.Disk b all s is a.transaction c.args.last a.prev a.page a.before.now a.after.now lsn rest going behind c.args.disk.now c.log_image.new.self c.log_image.new.disk c.log_image.result k)
 
 pub returns-in_default-clause-kept : goal.returns-in_default-clause-kept
 returns-in_default-clause-kept g c b all s lsn rest stands is going behind =
-    let smo = open_is_smo b g.T.PageTree.tree s.log (logged_at lsn (view c.args.«record».now)) rest is.lawful going in
+    let smo = open_is_smo b page_tree s.log (logged_at lsn (view c.args.«record».now)) rest is.lawful going in
     absurd (no_smo c.args.«record».now c.in_default.not-Smo (ap is_smo smo.2))

@@ -12,7 +12,7 @@ loop-newest-init g c = record {
   ready = c.requires.ready;
   working = c.requires.working;
   same_room = search rules;
-  kept = λ b all s stands is rows are. (s, change_start g.D.Disk b g.T.PageTree.tree all s c.args.writer.now c.args.disk.now (g.met.D.Disk.only_now c.args.disk.now) stands is, rows, are);
+  kept = λ b all s stands is rows are. (s, change_start g.D.Disk b all s c.args.writer.now c.args.disk.now (g.met.D.Disk.only_now c.args.disk.now) stands is, rows, are);
 }
 
 pub loop-newest-preserved : goal.loop-newest-preserved
@@ -25,7 +25,7 @@ loop-newest-preserved g c = record {
       let row = last_is (open_smo h.0.log) c.loop-newest.open_change.items c.pop.new.self.items c.in-Some.newest h.2 c.in-Some.ensures.items in
       let k = c.in_ok-undo_page_at.ensures.kept b all h.0 row.rest h.1.stands h.1.taking (record { newest = row.newest; going = row.is; here = row.here }) h.3 in (
         k.ok.now,
-        change_then g.D.Disk b g.T.PageTree.tree all s c.args.disk.now h.0 c.loop-newest.writer c.loop-newest.disk k.ok.now c.undo_page_at.new.writer c.undo_page_at.new.disk h.1 k.ok.goes,
+        change_then g.D.Disk b all s c.args.disk.now h.0 c.loop-newest.writer c.loop-newest.disk k.ok.now c.undo_page_at.new.writer c.undo_page_at.new.disk h.1 k.ok.goes,
         row.rows_are ∙ ap oldest_first (sym k.ok.going),
         k.ok.are,
       )
@@ -38,7 +38,7 @@ returns-in_err-undo_page_at-clause-kept g c b all s stands is rows are =
     let row = last_is (open_smo h.0.log) c.loop-newest.open_change.items c.pop.new.self.items c.in-Some.newest h.2 c.in-Some.ensures.items in
     let k = c.in_err-undo_page_at.ensures.kept b all h.0 row.rest h.1.stands h.1.taking (record { newest = row.newest; going = row.is; here = row.here }) h.3 in
     let other : c.in_err-undo_page_at.field-0.0 ≢ NotAStore = k.cause in
-    record { ok = search rules; stops = left_then g.D.Disk b g.T.PageTree.tree all c.args.disk.now c.loop-newest.disk c.undo_page_at.new.disk h.1.stops k.stops; cause = search (rules, other) }
+    record { ok = search rules; stops = left_then g.D.Disk b all c.args.disk.now c.loop-newest.disk c.undo_page_at.new.disk h.1.stops k.stops; cause = search (rules, other) }
 
 pub returns-clause-kept : goal.returns-clause-kept
 returns-clause-kept g c b all s stands is rows are =

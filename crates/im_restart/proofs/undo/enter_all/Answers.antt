@@ -1,5 +1,6 @@
 use Rattle.std.proofs.Common.{rules, ◌≢◌}
 use Rattle.im_types.specs.declared.fault.Fault.TheVariants.{NotAStore}
+use Rattle.im_tree.specs.Theory.{page_tree}
 use Rattle.im_restart.proofs.Bounds.{none_left}
 use Rattle.im_restart.proofs.Losers.{waiting, waiting_first, waiting_longer, waiting_none, waiting_taken}
 use Rattle.im_restart.proofs.Steps.{left_then, undo_start, undo_then}
@@ -11,7 +12,7 @@ loop-transaction-init g c = record {
   working = c.requires.working;
   kept = λ b all s stands is are. (
       let first = waiting_first c.args.losers.now c.args.chains.now s.log are c.requires.none in
-      (s, undo_start g.D.Disk b g.T.PageTree.tree all s c.args.writer.now c.args.disk.now (g.met.D.Disk.only_now c.args.disk.now) stands is, first.0, first.1)
+      (s, undo_start g.D.Disk b all s c.args.writer.now c.args.disk.now (g.met.D.Disk.only_now c.args.disk.now) stands is, first.0, first.1)
       );
 }
 
@@ -21,10 +22,10 @@ loop-transaction-preserved g c = record {
   working = c.in_ok-go_on.ensures.works;
   kept = λ b all s stands is are. (
       let h = c.loop-transaction.invariant.kept b all s stands is are in
-      let t = waiting_taken b g.T.PageTree.tree c.loop-transaction.losers c.pop_first.new.self c.loop-transaction.chains h.0.log c.in-Some.transaction c.in-Some.row h.1.undoing.can.lawful h.2 h.3 c.in-Some.ensures.value c.in-Some.ensures.updates.0 in
+      let t = waiting_taken b page_tree c.loop-transaction.losers c.pop_first.new.self c.loop-transaction.chains h.0.log c.in-Some.transaction c.in-Some.row h.1.undoing.can.lawful h.2 h.3 c.in-Some.ensures.value c.in-Some.ensures.updates.0 in
       let k = c.in_ok-go_on.ensures.kept b all h.0 (waiting c.pop_first.new.self) h.1.stands h.1.undoing t.0 t.1 t.2 in (
         k.ok.now,
-        undo_then g.D.Disk b g.T.PageTree.tree all s c.args.disk.now h.0 c.loop-transaction.writer c.loop-transaction.disk k.ok.now c.go_on.new.writer c.go_on.new.disk h.1 k.ok.goes,
+        undo_then g.D.Disk b all s c.args.disk.now h.0 c.loop-transaction.writer c.loop-transaction.disk k.ok.now c.go_on.new.writer c.go_on.new.disk h.1 k.ok.goes,
         k.ok.are,
         waiting_longer c.in-Some.transaction c.pop_first.new.self h.0.log k.ok.now.log t.1 k.ok.others t.3,
       )
@@ -34,10 +35,10 @@ loop-transaction-preserved g c = record {
 pub returns-in_err-go_on-clause-kept : goal.returns-in_err-go_on-clause-kept
 returns-in_err-go_on-clause-kept g c b all s stands is are =
     let h = c.loop-transaction.invariant.kept b all s stands is are in
-    let t = waiting_taken b g.T.PageTree.tree c.loop-transaction.losers c.pop_first.new.self c.loop-transaction.chains h.0.log c.in-Some.transaction c.in-Some.row h.1.undoing.can.lawful h.2 h.3 c.in-Some.ensures.value c.in-Some.ensures.updates.0 in
+    let t = waiting_taken b page_tree c.loop-transaction.losers c.pop_first.new.self c.loop-transaction.chains h.0.log c.in-Some.transaction c.in-Some.row h.1.undoing.can.lawful h.2 h.3 c.in-Some.ensures.value c.in-Some.ensures.updates.0 in
     let k = c.in_err-go_on.ensures.kept b all h.0 (waiting c.pop_first.new.self) h.1.stands h.1.undoing t.0 t.1 t.2 in
     let other : c.in_err-go_on.field-0.0 ≢ NotAStore = k.cause in
-    record { ok = search rules; stops = left_then g.D.Disk b g.T.PageTree.tree all c.args.disk.now c.loop-transaction.disk c.go_on.new.disk h.1.stops k.stops; cause = search (rules, other) }
+    record { ok = search rules; stops = left_then g.D.Disk b all c.args.disk.now c.loop-transaction.disk c.go_on.new.disk h.1.stops k.stops; cause = search (rules, other) }
 
 pub returns-clause-kept : goal.returns-clause-kept
 returns-clause-kept g c b all s stands is are =

@@ -12,8 +12,8 @@ abbrev pub invariant-loop-transaction : goal.invariant-loop-transaction
 invariant-loop-transaction g l = record {
   ready : IsReadyWriter g.D.Disk l.writer l.disk;
   working : l.writer.failed ≡ false;
-  kept : (b : Base) (all : History) (s : Writer) → StandsAs g.D.Disk b 0 s l.fn.writer l.fn.disk → IsUndoing b g.T.PageTree.tree all s → AreLosers l.fn.losers s.log
-      → (now : Writer) × UndoGoes g.D.Disk b g.T.PageTree.tree all s l.fn.disk now l.writer l.disk × AreChains (waiting l.losers) l.chains now.log × AreWaiting l.losers now.log;
+  kept : (b : Base) (all : History) (s : Writer) → StandsAs g.D.Disk b 0 s l.fn.writer l.fn.disk → IsUndoing b all s → AreLosers l.fn.losers s.log
+      → (now : Writer) × UndoGoes g.D.Disk b all s l.fn.disk now l.writer l.disk × AreChains (waiting l.losers) l.chains now.log × AreWaiting l.losers now.log;
 }
 
 abbrev pub decreases-loop-transaction : goal.decreases-loop-transaction

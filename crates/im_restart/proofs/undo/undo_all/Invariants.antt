@@ -3,7 +3,7 @@ use Rattle.im_types.specs.Histories.{Base, History}
 use Rattle.im_types.specs.Writer.{Writer}
 use Rattle.im_flush.specs.PageWriter.{IsReadyWriter, StandsAs}
 use Rattle.im_restart.specs.LoserChains.{AreChains, above, nobody}
-use Rattle.im_restart.specs.Undoing.{IsUndoing, MayUndo, UndoGoes}
+use Rattle.im_restart.specs.Undoing.{IsUndoing, UndoGoes}
 use Rattle.im_restart.proofs.undo.undo_all.Given as goal
 
 abbrev pub invariant-loop-lsn : goal.invariant-loop-lsn
@@ -11,8 +11,8 @@ invariant-loop-lsn g l = record {
   room : 16384 ≤ length l.room;
   ready : IsReadyWriter g.D.Disk l.writer l.disk;
   working : l.writer.failed ≡ false;
-  kept : (b : Base) (all : History) (s : Writer) → StandsAs g.D.Disk b 0 s l.fn.writer l.fn.disk → MayUndo b g.T.PageTree.tree all → IsUndoing b g.T.PageTree.tree all s → AreChains nobody l.fn.chains s.log
-      → (now : Writer) × UndoGoes g.D.Disk b g.T.PageTree.tree all s l.fn.disk now l.writer l.disk × AreChains nobody l.chains now.log;
+  kept : (b : Base) (all : History) (s : Writer) → StandsAs g.D.Disk b 0 s l.fn.writer l.fn.disk → IsUndoing b all s → AreChains nobody l.fn.chains s.log
+      → (now : Writer) × UndoGoes g.D.Disk b all s l.fn.disk now l.writer l.disk × AreChains nobody l.chains now.log;
 }
 
 abbrev pub decreases-loop-lsn : goal.decreases-loop-lsn

@@ -6,7 +6,7 @@ use Rattle.im_tree.specs.Levels.{Pages}
 use Rattle.im_search.specs.Levels.{bodies}
 use Rattle.im_search.proofs.Pages.{bodies_stay, tree_stays}
 use Rattle.im_split.specs.Tops.{IsTop}
-use Rattle.im_split.proofs.Founds.{none_found, top_found, few_found, last_level, never_up, never_pages_full}
+use Rattle.im_split.proofs.Founds.{none_found, top_found, few_found, last_level, last_splits, never_up, never_pages_full}
 use Rattle.im_split.proofs.Plans.{plan_refused, read_failed, planned_none, plan_then, room_failed}
 use Rattle.im_split.proofs.plan.plan_split.Goals as goal
 
@@ -48,6 +48,7 @@ returns-then-top-2-clause-kept g c b base s has =
     plan_refused g.D.Disk b base s c.args.key.now c.args.max c.args.disk.now v late Capacity
     (λ same. absurd (let never : ⊥ = cc same in never))
     (λ same. inr (last_level (bodies s) c.args.key.now c.in-Some.top found c.if-top.true (omega (arith, c.if-top-2.true))))
+    (λ same. inr (last_splits (bodies s) c.args.key.now c.in-Some.top found c.if-top.true (omega (arith, c.if-top-2.true)))) (λ any. found.splits.2)
     (leaves_so_far g.D.Disk b base s c.args.disk.now ev.now v.log v.table v.pool late on.goes)
     (λ same. cc same) (λ why. record { now = ev.now; on = on }) _ refl
 
@@ -65,7 +66,7 @@ returns-clause-kept g c b base s has =
     let on = goes_on_then g.D.Disk b base s c.args.disk.now t w mid one.on.on ev.now v late ev.on in
     let there = tree_stays g.D.Disk b base s [] c.args.writer.now c.args.disk.now ev.now v late has on in
     let found = top_found (bodies s) c.args.key.now c.in_ok-top.field-0 c.in-Some.top c.in-Some.is one.ok in
-    plan_then g.D.Disk b base s c.args.key.now c.args.max c.args.disk.now ev.now v late on c.requires.short
+    plan_then g.D.Disk b base s c.args.key.now c.args.max c.args.disk.now ev.now v late on c.requires.short c.in-Some.top found
     (λ m is. few_found (bodies s) c.args.key.now c.in-Some.top m found
     (subst (λ (pages : Pages). (pages 0).leftmost + c.in-Some.top.pages ≤ m + (pages 0).prev) (bodies_stay b s t one.on.on.goes.keeps) (two.few m is)))
     c.split_from.new.writer c.split_from.new.disk c.split_from.result (never_pages_full c.split_from.result c.split_from.ensures.causes)

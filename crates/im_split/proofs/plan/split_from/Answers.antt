@@ -4,7 +4,7 @@ use Rattle.im_split.proofs.plan.split_from.Goals as goal
 pub returns-in_err-numbers-clause-kept : goal.returns-in_err-numbers-clause-kept
 returns-in_err-numbers-clause-kept g c b base s has top =
     let first = c.new-images.result in
-    take_failed g.D.Disk b base s c.args.disk.now c.args.writer.now has c.args.key.now first c.new-images.ensures c.in_err-numbers.field-0.0 c.take_pages.new.images c.take_pages.new.writer c.take_pages.new.disk _
+    take_failed g.D.Disk b base s c.args.disk.now c.args.writer.now has c.args.key.now first c.new-images.ensures c.args.top.pages c.in_err-numbers.field-0.0 c.take_pages.new.images c.take_pages.new.writer c.take_pages.new.disk _
     (c.in_err-numbers.ensures.kept b base s (has_none g.D.Disk b base s c.args.disk.now c.args.writer.now has first c.new-images.ensures)) c.from_residual.result c.from_residual.ensures.1
 
 pub returns-in_err-split_down-clause-kept : goal.returns-in_err-split_down-clause-kept

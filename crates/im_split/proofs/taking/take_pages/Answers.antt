@@ -23,7 +23,7 @@ pub returns-in_err-number-clause-kept : goal.returns-in_err-number-clause-kept
 returns-in_err-number-clause-kept g c b base s has =
     let l = c.loop-taken in
     let so = l.invariant.kept b base s has in
-    take_refused g.D.Disk b base s c.args.images.now c.args.disk.now l.numbers.items l.images l.writer l.disk so c.in_err-number.field-0.0 c.allocate.new.images c.allocate.new.writer c.allocate.new.disk
+    take_refused g.D.Disk b base s c.args.images.now c.args.disk.now l.numbers.items l.images l.writer l.disk so c.args.count (omega (arith, l.invariant.len, c.loop-taken-test.true)) c.in_err-number.field-0.0 c.allocate.new.images c.allocate.new.writer c.allocate.new.disk
     (c.in_err-number.ensures.kept b base so.now _ (has_taken g.D.Disk b base s c.args.images.now c.args.disk.now l.numbers.items l.images l.writer l.disk so has.ready)) c.from_residual.result c.from_residual.ensures.1 _
 
 pub returns-in_err-note-clause-kept : goal.returns-in_err-note-clause-kept
@@ -32,7 +32,7 @@ returns-in_err-note-clause-kept g c b base s has =
     let so = l.invariant.kept b base s has in
     let one = taken_more g.D.Disk b base s c.args.images.now c.args.disk.now l.numbers.items l.images l.writer l.disk so c.in_ok-number.number (l.numbers.items ++ c.in_ok-number.number ∷ []) c.allocate.new.images c.allocate.new.writer c.allocate.new.disk refl
     (c.in_ok-number.ensures.kept b base so.now _ (has_taken g.D.Disk b base s c.args.images.now c.args.disk.now l.numbers.items l.images l.writer l.disk so has.ready)).ok in
-    note_refused g.D.Disk b base s c.args.images.now c.args.disk.now (l.numbers.items ++ c.in_ok-number.number ∷ []) c.allocate.new.images c.allocate.new.writer c.allocate.new.disk one c.in_err-note.field-0.0 c.in_err-note.ensures.refused
+    note_refused g.D.Disk b base s c.args.images.now c.args.disk.now (l.numbers.items ++ c.in_ok-number.number ∷ []) c.allocate.new.images c.allocate.new.writer c.allocate.new.disk one c.args.count c.in_err-note.field-0.0 c.in_err-note.ensures.refused
     c.from_residual-in_err-note.result c.from_residual-in_err-note.ensures.1 _
 
 pub loop-taken-preserved : goal.loop-taken-preserved
@@ -54,4 +54,4 @@ loop-taken-preserved g c =
 pub returns-clause-kept : goal.returns-clause-kept
 returns-clause-kept g c b base s has =
     let l = c.loop-taken in
-    taken_end g.D.Disk b base s c.args.images.now c.args.disk.now l.numbers.items l.images l.writer l.disk (l.invariant.kept b base s has) _ _ refl
+    taken_end g.D.Disk b base s c.args.images.now c.args.disk.now l.numbers.items l.images l.writer l.disk (l.invariant.kept b base s has) c.args.count _ _ refl

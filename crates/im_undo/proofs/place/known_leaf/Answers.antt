@@ -1,4 +1,6 @@
-use Rattle.std.proofs.Common.{◌≡◌, ℕ, [], None, Some, Ok, refl, ap, ◌∙◌}
+use Rattle.std.proofs.Common.{◌≡◌, ◌<◌, ℕ, [], None, Some, Ok, false, refl, sym, ap, subst, ◌∙◌}
+use Rattle.std.specs.Bool.{IsTrue}
+use Rattle.im_types.specs.Pages.{Page}
 use Rattle.im_pool.specs.declared.frame.Frame.{Frame}
 use Rattle.im_pool.specs.Pool.{page_at}
 use Rattle.im_flush.proofs.Writers.{goes_on_then}
@@ -15,7 +17,15 @@ returns-in_err-meta-clause-kept g c b base s has =
 pub returns-then-not-counts-clause-kept : goal.returns-then-not-counts-clause-kept
 returns-then-not-counts-clause-kept g c b base s has =
     let got = (c.in_ok-meta.ensures.kept b base s has.stands (λ q le. has.ready q)).ok in
-    call_here g.D.Disk b base s _ c.args.disk.now got.now c.get.new.self c.get.new.disk got.on (Ok None) tt tt
+    let first : c.page.result.now ≡ (s.pages 0).page = c.page.ensures.page ∙ ap (λ (n : ℕ). page_at c.get.new.self.pool n) c.in_ok-meta.ensures.frame ∙ got.page in
+    call_here g.D.Disk b base s _ c.args.disk.now got.now c.get.new.self c.get.new.disk got.on (Ok None)
+    (record {
+      held = tt;
+      none = λ none known.
+          let no : IsTrue false =
+          c.if-not-counts.ensures.1 (record { kind = ap (λ (x : Page). x.body.kind) first ∙ has.good.meta; below = subst (λ (x : Page). c.args.page < x.body.leftmost) (sym first) known.counted }) in
+          absurd (let never : ⊥ = cc no in never);
+    }) tt
 
 pub returns-in_err-frame-clause-kept : goal.returns-in_err-frame-clause-kept
 returns-in_err-frame-clause-kept g c b base s has =
@@ -31,7 +41,15 @@ returns-then-not-has_level-clause-kept g c b base s has =
     let still = tree_stays g.D.Disk b base s [] c.args.writer.now c.args.disk.now got.now c.get.new.self c.get.new.disk has got.on in
     let two = (c.in_ok-frame.ensures.kept b base got.now still.stands (λ q le. still.ready q)).ok in
     let on = goes_on_then g.D.Disk b base s c.args.disk.now got.now c.get.new.self c.get.new.disk got.on two.now c.get-2.new.self c.get-2.new.disk two.on in
-    call_here g.D.Disk b base s _ c.args.disk.now two.now c.get-2.new.self c.get-2.new.disk on (Ok None) tt tt
+    let says : c.page-2.result.now ≡ (s.pages c.args.page).page =
+    c.page-2.ensures.page ∙ ap (λ (n : ℕ). page_at c.get-2.new.self.pool n) c.in_ok-frame.ensures.frame ∙ two.page ∙ (got.on.goes.keeps.pages c.args.page).page in
+    call_here g.D.Disk b base s _ c.args.disk.now two.now c.get-2.new.self c.get-2.new.disk on (Ok None)
+    (record {
+      held = tt;
+      none = λ none known.
+          let no : IsTrue false = c.if-not-has_level.ensures.1 (record { kind = ap (λ (x : Page). x.body.kind) says ∙ known.leaf; level = ap (λ (x : Page). x.body.level) says ∙ known.level }) in
+          absurd (let never : ⊥ = cc no in never);
+    }) tt
 
 pub returns-clause-kept : goal.returns-clause-kept
 returns-clause-kept g c b base s has =
@@ -43,4 +61,8 @@ returns-clause-kept g c b base s has =
     let says : c.page-2.result.now ≡ (s.pages c.args.page).page =
     c.page-2.ensures.page ∙ ap (λ (n : ℕ). page_at c.get-2.new.self.pool n) c.in_ok-frame.ensures.frame ∙ two.page ∙ (got.on.goes.keeps.pages c.args.page).page in
     call_here g.D.Disk b base s _ c.args.disk.now two.now c.get-2.new.self c.get-2.new.disk on (Ok (Some c.in_ok-frame.frame))
-    (known_held s c.get-2.new.self c.in_ok-frame.frame c.page.result.now c.page-2.result.now c.args.page c.in_ok-frame.ensures.frame c.page-2.ensures.page says (c.if-not-has_level.ensures.0 refl) first (c.if-not-counts.ensures refl)) tt
+    (record {
+      held = known_held s c.get-2.new.self c.in_ok-frame.frame c.page.result.now c.page-2.result.now c.args.page c.in_ok-frame.ensures.frame c.page-2.ensures.page says (c.if-not-has_level.ensures.0 refl) first
+          (c.if-not-counts.ensures.0 refl).below;
+      none = λ clash. absurd (let never : ⊥ = cc clash in never);
+    }) tt

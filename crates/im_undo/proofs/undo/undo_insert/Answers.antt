@@ -8,7 +8,7 @@ pub returns-in_err-frame-clause-kept : goal.returns-in_err-frame-clause-kept
 returns-in_err-frame-clause-kept g c b base s e undo_next rid same going to =
     let entry : Entry = view c.args.«record».now in
     let kept = c.in_err-frame.ensures.kept b base s (going_tree g.D.Disk b base s e (transaction_of entry) c.args.last undo_next c.args.writer.now c.args.disk.now going) in
-    place_refused g.D.Disk b base s e (transaction_of entry) entry c.args.disk.now c.leaf_with.new.writer c.leaf_with.new.disk c.args.last undo_next c.args.writer.now c.in_err-frame.field-0.0 c.from_residual.result going
+    place_refused g.D.Disk b base s e (transaction_of entry) entry c.args.disk.now c.leaf_with.new.writer c.leaf_with.new.disk c.args.last undo_next c.args.writer.now c.in_err-frame.field-0.0 c.in_err-frame.ensures.causes c.from_residual.result going
     kept.stops kept.cause kept.again c.from_residual.ensures.1
 
 pub returns-in_err-lsn-clause-kept : goal.returns-in_err-lsn-clause-kept

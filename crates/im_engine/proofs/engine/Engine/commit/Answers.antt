@@ -12,21 +12,21 @@ returns-in-Err-clause-kept g c before s life =
 pub returns-then-transaction-eq0-clause-kept : goal.returns-then-transaction-eq0-clause-kept
 returns-then-transaction-eq0-clause-kept g c before s life =
     let checked = c.in-Ok.ensures.ok in
-    commit_empty g.D.Disk before s c.in-Ok.transaction c.args.number checked.2 c.args.self.now _ life checked.0 checked.1 c.if-transaction-eq0.true refl refl refl refl refl checked.0 (g.met.D.Disk.only_now c.args.self.now.disk)
+    commit_empty g.D.Disk before s c.in-Ok.transaction c.args.number checked.2 c.args.self.now _ life checked.0 checked.1 c.if-transaction-eq0.true refl refl refl refl checked.0 (g.met.D.Disk.only_now c.args.self.now.disk)
 
 pub returns-in-Ok-log_commit-clause-kept : goal.returns-in-Ok-log_commit-clause-kept
 returns-in-Ok-log_commit-clause-kept g c before s life =
     let checked = c.in-Ok.ensures.ok in
     let made = c.in-Ok-log_commit.ensures in
     commit_ends g.D.Disk before s c.in-Ok.transaction c.args.number checked.2 c.args.self.now c.log_commit.new.self life checked.0 _
-    (made.kept before s (life.running checked.0) checked.1 (has_changed s c.args.self.now.going c.in-Ok.transaction checked.1 (life.changed checked.0) (omega (arith, c.if-transaction-eq0.false)))) refl made.failed made.ended
+    (made.kept (life.running checked.0).0 before s (life.running checked.0).1 checked.1 (has_changed s c.args.self.now.going c.in-Ok.transaction checked.1 (life.changed checked.0) (omega (arith, c.if-transaction-eq0.false)))) refl made.failed made.ended
 
 pub returns-in-Err-log_commit-clause-kept : goal.returns-in-Err-log_commit-clause-kept
 returns-in-Err-log_commit-clause-kept g c before s life =
     let checked = c.in-Ok.ensures.ok in
     let made = c.in-Err-log_commit.ensures in
     commit_breaks g.D.Disk before s c.in-Ok.transaction c.args.number checked.2 c.args.self.now c.log_commit.new.self life checked.0 _
-    (made.kept before s (life.running checked.0) checked.1 (has_changed s c.args.self.now.going c.in-Ok.transaction checked.1 (life.changed checked.0) (omega (arith, c.if-transaction-eq0.false)))) _ (causes made.causes) made.failed (λ t f le left. g.met.D.Disk.counts_now c.log_commit.new.self.disk t f le left)
+    (made.kept (life.running checked.0).0 before s (life.running checked.0).1 checked.1 (has_changed s c.args.self.now.going c.in-Ok.transaction checked.1 (life.changed checked.0) (omega (arith, c.if-transaction-eq0.false)))) _ (causes made.causes) made.failed (λ t f le left. g.met.D.Disk.counts_now c.log_commit.new.self.disk t f le left)
 
 pub returns-then-transaction-eq0-clause-answered : goal.returns-then-transaction-eq0-clause-answered
 returns-then-transaction-eq0-clause-answered g c =

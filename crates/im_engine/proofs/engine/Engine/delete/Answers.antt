@@ -1,4 +1,4 @@
-use Rattle.std.proofs.Common.{[], inl, inr, ⊎_elim, ℕ, Bool, Option, Some, Err, refl, sym, ap, subst, ◌∙◌, ◌≡◌, true, false}
+use Rattle.std.proofs.Common.{[], inl, ℕ, Option, Some, Err, refl, sym, ap, ◌∙◌, ◌≡◌, true, false}
 use Rattle.std.specs.Prelude.{is_some, if◌then◌else◌}
 use Rattle.im_types.specs.Answers as answers
 use Rattle.im_types.specs.Changes.{Drop}
@@ -6,8 +6,9 @@ use Rattle.im_types.specs.Lives.{adds}
 use Rattle.im_types.specs.declared.reply.Reply.TheVariants.{Absent, Deleted}
 use Rattle.im_pool.specs.Pool.{page_at}
 use Rattle.im_engine.specs.Checks.{active_number}
-use Rattle.im_engine.proofs.Running.{looks, leaf_says, leaf_now, says_now, leaves_then}
+use Rattle.im_engine.proofs.Running.{looks, leaf_settled, leaf_now, says_now, leaves_then}
 use Rattle.im_engine.proofs.Steps.{edit_made}
+use Rattle.im_engine.proofs.Joins.{rests_behind, take_joins, drop_joins}
 use Rattle.im_engine.proofs.Wanted.{asks_none, asks_none_early, asks_none_late, wants_drop}
 use Rattle.im_engine.proofs.Refusals.{early_kept, late_kept, edit_kept}
 use Rattle.im_engine.proofs.Checks.{access_refused, delete_refused, delete_none, unread, unread_late, unread_edit, writer_cause, change_cause, drop_edit, drop_wants, drop_breaks}
@@ -31,7 +32,7 @@ returns-in-Err-clause-answered g c =
 pub returns-in-Err-leaf-clause-kept : goal.returns-in-Err-leaf-clause-kept
 returns-in-Err-leaf-clause-kept g c before s life =
     let checked = c.in-Ok.ensures.ok in
-    let kept = c.in-Err-leaf.ensures.kept before s (life.running checked.0) in
+    let kept = c.in-Err-leaf.ensures.kept (life.running checked.0).0 before s (life.running checked.0).1 in
     late_kept g.D.Disk before s (answers.Do c.args.number (answers.Delete c.args.key.now)) refl (λ n. refl) c.args.self.now c.leaf.new.self life checked.0 (λ _. c.in-Err-leaf.ensures.going) kept.stops
     (λ t f le left. g.met.D.Disk.counts_now c.leaf.new.self.disk t f le left) c.in-Err-leaf.fault c.in-Err-leaf.ensures.causes kept.again kept.cause c.in-Err-leaf.ensures.fails
 
@@ -49,9 +50,9 @@ returns-in-Err-leaf-clause-answered g c =
 pub returns-in-None-clause-kept : goal.returns-in-None-clause-kept
 returns-in-None-clause-kept g c before s life =
     let checked = c.in-Ok.ensures.ok in
-    let kept = c.in-Ok-leaf.ensures.kept before s (life.running checked.0) in
-    looks g.D.Disk before s (answers.Do c.args.number (answers.Delete c.args.key.now)) answers.Absent refl (λ e. cc e) c.args.self.now c.leaf.new.self kept.stops
-    checked.0 life c.in-Ok-leaf.ensures.works refl tt kept.ok.looked.running c.in-Ok-leaf.ensures.going
+    let kept = c.in-Ok-leaf.ensures.kept (life.running checked.0).0 before s (life.running checked.0).1 in
+    looks g.D.Disk before s (answers.Do c.args.number (answers.Delete c.args.key.now)) answers.Absent refl (λ e. cc e) c.args.self.now c.leaf.new.self life checked.0 kept.stops
+    c.in-Ok-leaf.ensures.works refl tt (record { running = kept.ok.looked.running; joins = kept.ok.looked.grows }) c.in-Ok-leaf.ensures.going
 
 pub returns-in-None-clause-answered : goal.returns-in-None-clause-answered
 returns-in-None-clause-answered g c =
@@ -61,7 +62,7 @@ returns-in-None-clause-answered g c =
       entries = (page_at c.leaf.new.self.writer.pool c.in-Ok-leaf.frame.number).body.entries;
       read = record {
         shown = λ _. (c.in-Ok-leaf.frame.number, c.in-Ok-leaf.ensures.leaf, refl);
-        logged = λ h before s r. leaf_says g.D.Disk before s old r c.args.key.now c.in-Ok-leaf.frame.number c.leaf.new.self (c.in-Ok-leaf.ensures.kept before s r).ok;
+        logged = λ h b before s r. leaf_settled g.D.Disk before s old r c.args.key.now c.in-Ok-leaf.frame.number c.leaf.new.self (c.in-Ok-leaf.ensures.kept b before s r).ok;
       };
       refused = λ other. delete_none g.D.Disk old c.args.number c.in-Ok.transaction checked.0 checked.1 checked.2 c.leaf.new.self c.args.key.now checked.3 checked.4 Absent (λ x e. cc e) other;
       answers = ap (λ (o : Option ℕ). if is_some o then answers.Deleted else answers.Absent) c.in-None.ensures;
@@ -71,15 +72,16 @@ pub returns-in-Err-take-clause-kept : goal.returns-in-Err-take-clause-kept
 returns-in-Err-take-clause-kept g c before s life =
     let old = c.args.self.now in
     let checked = c.in-Ok.ensures.ok in
-    let r = life.running checked.0 in
-    let found = c.in-Ok-leaf.ensures.kept before s r in
+    let b = (life.running checked.0).0 in
+    let r = (life.running checked.0).1 in
+    let found = c.in-Ok-leaf.ensures.kept b before s r in
     let l = found.ok in
     let p = c.in-Ok-leaf.frame.number in
-    let kept = c.in-Err-take.ensures.kept before s l.looked.running (c.in-Ok-leaf.ensures.going ∙ checked.1) (leaf_now g.D.Disk before s old r c.args.key.now p c.leaf.new.self l)
+    let kept = c.in-Err-take.ensures.kept b before s l.looked.running (c.in-Ok-leaf.ensures.going ∙ checked.1) (leaf_now g.D.Disk before s old r c.args.key.now p c.leaf.new.self l)
     (sym (says_now g.D.Disk before s old r c.args.key.now p c.leaf.new.self l) ∙ sym c.in-Some.ensures) in
     late_kept g.D.Disk before s (answers.Do c.args.number (answers.Delete c.args.key.now)) refl (λ n. refl) old c.take.new.self life checked.0 (λ _. c.in-Err-take.ensures.fails.1 ∙ c.in-Ok-leaf.ensures.going)
-    (leaves_then g.D.Disk before c.leaf.new.self.split c.take.new.self.split (λ is. c.in-Err-take.ensures.split ∙ is) s old.disk c.leaf.new.self.disk c.take.new.self.disk found.stops kept.stops)
-    (λ t f le left. g.met.D.Disk.counts_now c.take.new.self.disk t f le left) c.in-Err-take.fault c.in-Err-take.ensures.causes (λ is. kept.again (inl is)) kept.cause c.in-Err-take.ensures.fails.0
+    (leaves_then g.D.Disk before s old.disk c.leaf.new.self.disk c.take.new.self.disk found.stops kept.stops)
+    (λ t f le left. g.met.D.Disk.counts_now c.take.new.self.disk t f le left) c.in-Err-take.fault c.in-Err-take.ensures.causes (λ is. rests_behind g.D.Disk before s old r c.args.key.now p c.leaf.new.self l _ (kept.again (inl is))) kept.cause c.in-Err-take.ensures.fails.0
 
 pub returns-in-Err-take-clause-answered : goal.returns-in-Err-take-clause-answered
 returns-in-Err-take-clause-answered g c =
@@ -96,15 +98,17 @@ pub returns-then-not-last_entry-clause-kept : goal.returns-then-not-last_entry-c
 returns-then-not-last_entry-clause-kept g c before s life =
     let old = c.args.self.now in
     let checked = c.in-Ok.ensures.ok in
-    let r = life.running checked.0 in
-    let found = c.in-Ok-leaf.ensures.kept before s r in
+    let b = (life.running checked.0).0 in
+    let r = (life.running checked.0).1 in
+    let found = c.in-Ok-leaf.ensures.kept b before s r in
     let l = found.ok in
     let p = c.in-Ok-leaf.frame.number in
-    let kept = c.in-Ok-take.ensures.kept before s l.looked.running (c.in-Ok-leaf.ensures.going ∙ checked.1) (leaf_now g.D.Disk before s old r c.args.key.now p c.leaf.new.self l)
+    let kept = c.in-Ok-take.ensures.kept b before s l.looked.running (c.in-Ok-leaf.ensures.going ∙ checked.1) (leaf_now g.D.Disk before s old r c.args.key.now p c.leaf.new.self l)
     (sym (says_now g.D.Disk before s old r c.args.key.now p c.leaf.new.self l) ∙ sym c.in-Some.ensures) in
     edit_made g.D.Disk before s (answers.Do c.args.number (answers.Delete c.args.key.now)) answers.Deleted c.args.number (Drop c.args.key.now 0) refl (λ e. cc e) refl old c.take.new.self life checked.0 tt
-    (leaves_then g.D.Disk before c.leaf.new.self.split c.take.new.self.split (λ is. c.in-Ok-take.ensures.split ∙ is) s old.disk c.leaf.new.self.disk c.take.new.self.disk found.stops kept.stops)
-    c.in-Ok-take.ensures.ok.0 c.in-Ok.transaction.number checked.2 kept.ok (ap active_number c.in-Ok-take.ensures.ok.1 ∙ ap (λ (n : ℕ). Some n) checked.2)
+    (leaves_then g.D.Disk before s old.disk c.leaf.new.self.disk c.take.new.self.disk found.stops kept.stops)
+    c.in-Ok-take.ensures.ok.0 c.in-Ok.transaction.number checked.2
+    (take_joins g.D.Disk before s old r c.args.key.now p c.leaf.new.self l c.in-Ok.transaction.number c.args.number checked.2 _ c.take.new.self kept.ok) (ap active_number c.in-Ok-take.ensures.ok.1 ∙ ap (λ (n : ℕ). Some n) checked.2)
 
 pub returns-then-not-last_entry-clause-answered : goal.returns-then-not-last_entry-clause-answered
 returns-then-not-last_entry-clause-answered g c =
@@ -114,7 +118,7 @@ returns-then-not-last_entry-clause-answered g c =
       entries = (page_at c.leaf.new.self.writer.pool c.in-Ok-leaf.frame.number).body.entries;
       read = record {
         shown = λ h. cc h;
-        logged = λ h before s r. leaf_says g.D.Disk before s old r c.args.key.now c.in-Ok-leaf.frame.number c.leaf.new.self (c.in-Ok-leaf.ensures.kept before s r).ok;
+        logged = λ h b before s r. leaf_settled g.D.Disk before s old r c.args.key.now c.in-Ok-leaf.frame.number c.leaf.new.self (c.in-Ok-leaf.ensures.kept b before s r).ok;
       };
       refused = λ other. delete_none g.D.Disk old c.args.number c.in-Ok.transaction checked.0 checked.1 checked.2 c.take.new.self c.args.key.now checked.3 checked.4 Deleted (λ x e. cc e) other;
       answers = ap (λ (o : Option ℕ). if is_some o then answers.Deleted else answers.Absent) c.in-Some.ensures;
@@ -124,18 +128,22 @@ pub returns-in-Ok-drop_leaf-clause-kept : goal.returns-in-Ok-drop_leaf-clause-ke
 returns-in-Ok-drop_leaf-clause-kept g c before s life =
     let old = c.args.self.now in
     let checked = c.in-Ok.ensures.ok in
-    let r = life.running checked.0 in
-    let found = c.in-Ok-leaf.ensures.kept before s r in
+    let b = (life.running checked.0).0 in
+    let r = (life.running checked.0).1 in
+    let found = c.in-Ok-leaf.ensures.kept b before s r in
     let l = found.ok in
     let p = c.in-Ok-leaf.frame.number in
-    let kept = c.in-Ok-take.ensures.kept before s l.looked.running (c.in-Ok-leaf.ensures.going ∙ checked.1) (leaf_now g.D.Disk before s old r c.args.key.now p c.leaf.new.self l)
+    let kept = c.in-Ok-take.ensures.kept b before s l.looked.running (c.in-Ok-leaf.ensures.going ∙ checked.1) (leaf_now g.D.Disk before s old r c.args.key.now p c.leaf.new.self l)
     (sym (says_now g.D.Disk before s old r c.args.key.now p c.leaf.new.self l) ∙ sym c.in-Some.ensures) in
     let shown = adds c.in-Ok.transaction.number (Drop c.args.key.now 0) s in
-    let gone = c.in-Ok-drop_leaf.ensures.kept before shown kept.ok c.in-Ok-take.ensures.ok.1 in
-    let leaves = leaves_then g.D.Disk before c.leaf.new.self.split c.drop_leaf.new.self.split (λ is. c.drop_leaf.ensures.split (c.in-Ok-take.ensures.split ∙ is)) s old.disk c.leaf.new.self.disk c.drop_leaf.new.self.disk found.stops
-    (leaves_then g.D.Disk before c.take.new.self.split c.drop_leaf.new.self.split c.drop_leaf.ensures.split s c.leaf.new.self.disk c.take.new.self.disk c.drop_leaf.new.self.disk kept.stops gone.stops) in
+    let gone = (c.in-Ok-drop_leaf.ensures.kept b before shown kept.ok.running c.in-Ok-take.ensures.ok.1).edit in
+    let last = c.is_last_entry-last_entry.ensures.last c.if-not-last_entry.false in
+    let want = wants_drop g.D.Disk before s old r c.args.key.now p c.leaf.new.self l c.in-Some.rid c.in-Some.ensures last.0 last.1 in
+    let leaves = leaves_then g.D.Disk before s old.disk c.leaf.new.self.disk c.drop_leaf.new.self.disk found.stops
+    (leaves_then g.D.Disk before s c.leaf.new.self.disk c.take.new.self.disk c.drop_leaf.new.self.disk kept.stops gone.stops) in
     edit_made g.D.Disk before s (answers.Do c.args.number (answers.Delete c.args.key.now)) answers.Deleted c.args.number (Drop c.args.key.now 0) refl (λ e. cc e) refl old c.drop_leaf.new.self life checked.0 tt
-    leaves c.in-Ok-drop_leaf.ensures.works c.in-Ok.transaction.number checked.2 gone.ok (c.in-Ok-drop_leaf.ensures.active (ap active_number c.in-Ok-take.ensures.ok.1) ∙ ap (λ (n : ℕ). Some n) checked.2)
+    leaves c.in-Ok-drop_leaf.ensures.works c.in-Ok.transaction.number checked.2
+    (drop_joins g.D.Disk before s old r c.args.key.now p c.leaf.new.self l c.in-Ok.transaction.number c.args.number checked.2 shown c.drop_leaf.new.self c.take.new.self kept.ok want gone.ok) (c.in-Ok-drop_leaf.ensures.active (ap active_number c.in-Ok-take.ensures.ok.1) ∙ ap (λ (n : ℕ). Some n) checked.2)
 
 pub returns-in-Ok-drop_leaf-clause-answered : goal.returns-in-Ok-drop_leaf-clause-answered
 returns-in-Ok-drop_leaf-clause-answered g c =
@@ -145,7 +153,7 @@ returns-in-Ok-drop_leaf-clause-answered g c =
       entries = (page_at c.leaf.new.self.writer.pool c.in-Ok-leaf.frame.number).body.entries;
       read = record {
         shown = λ h. cc h;
-        logged = λ h before s r. leaf_says g.D.Disk before s old r c.args.key.now c.in-Ok-leaf.frame.number c.leaf.new.self (c.in-Ok-leaf.ensures.kept before s r).ok;
+        logged = λ h b before s r. leaf_settled g.D.Disk before s old r c.args.key.now c.in-Ok-leaf.frame.number c.leaf.new.self (c.in-Ok-leaf.ensures.kept b before s r).ok;
       };
       refused = λ other. delete_none g.D.Disk old c.args.number c.in-Ok.transaction checked.0 checked.1 checked.2 c.drop_leaf.new.self c.args.key.now checked.3 checked.4 Deleted (λ x e. cc e) other;
       answers = ap (λ (o : Option ℕ). if is_some o then answers.Deleted else answers.Absent) c.in-Some.ensures;
@@ -155,16 +163,17 @@ pub returns-in-Err-drop_leaf-clause-kept : goal.returns-in-Err-drop_leaf-clause-
 returns-in-Err-drop_leaf-clause-kept g c before s life =
     let old = c.args.self.now in
     let checked = c.in-Ok.ensures.ok in
-    let r = life.running checked.0 in
-    let found = c.in-Ok-leaf.ensures.kept before s r in
+    let b = (life.running checked.0).0 in
+    let r = (life.running checked.0).1 in
+    let found = c.in-Ok-leaf.ensures.kept b before s r in
     let l = found.ok in
     let p = c.in-Ok-leaf.frame.number in
-    let kept = c.in-Ok-take.ensures.kept before s l.looked.running (c.in-Ok-leaf.ensures.going ∙ checked.1) (leaf_now g.D.Disk before s old r c.args.key.now p c.leaf.new.self l)
+    let kept = c.in-Ok-take.ensures.kept b before s l.looked.running (c.in-Ok-leaf.ensures.going ∙ checked.1) (leaf_now g.D.Disk before s old r c.args.key.now p c.leaf.new.self l)
     (sym (says_now g.D.Disk before s old r c.args.key.now p c.leaf.new.self l) ∙ sym c.in-Some.ensures) in
     let shown = adds c.in-Ok.transaction.number (Drop c.args.key.now 0) s in
-    let gone = c.in-Err-drop_leaf.ensures.kept before shown kept.ok c.in-Ok-take.ensures.ok.1 in
-    let leaves = leaves_then g.D.Disk before c.leaf.new.self.split c.drop_leaf.new.self.split (λ is. c.drop_leaf.ensures.split (c.in-Ok-take.ensures.split ∙ is)) s old.disk c.leaf.new.self.disk c.drop_leaf.new.self.disk found.stops
-    (leaves_then g.D.Disk before c.take.new.self.split c.drop_leaf.new.self.split c.drop_leaf.ensures.split s c.leaf.new.self.disk c.take.new.self.disk c.drop_leaf.new.self.disk kept.stops gone.stops) in
+    let gone = (c.in-Err-drop_leaf.ensures.kept b before shown kept.ok.running c.in-Ok-take.ensures.ok.1).edit in
+    let leaves = leaves_then g.D.Disk before s old.disk c.leaf.new.self.disk c.drop_leaf.new.self.disk found.stops
+    (leaves_then g.D.Disk before s c.leaf.new.self.disk c.take.new.self.disk c.drop_leaf.new.self.disk kept.stops gone.stops) in
     edit_kept g.D.Disk before s (answers.Do c.args.number (answers.Delete c.args.key.now)) refl (λ n. refl) old c.drop_leaf.new.self life checked.0
     (λ on. let never : true ≡ false = sym c.in-Err-drop_leaf.ensures.fails ∙ on in absurd (cc never)) leaves
     (λ t f le left. g.met.D.Disk.counts_now c.drop_leaf.new.self.disk t f le left) c.in-Err-drop_leaf.fault (drop_edit c.in-Err-drop_leaf.fault c.in-Err-drop_leaf.ensures.causes)
@@ -177,32 +186,32 @@ returns-in-Err-drop_leaf-clause-answered g c =
     record {
       entries = (page_at c.leaf.new.self.writer.pool c.in-Ok-leaf.frame.number).body.entries;
       read = unread_edit g.D.Disk old c.drop_leaf.new.self c.args.key.now c.in-Err-drop_leaf.fault _ (drop_edit c.in-Err-drop_leaf.fault c.in-Err-drop_leaf.ensures.causes)
-          (λ before s r. leaf_says g.D.Disk before s old r c.args.key.now c.in-Ok-leaf.frame.number c.leaf.new.self (c.in-Ok-leaf.ensures.kept before s r).ok);
+          (λ b before s r. leaf_settled g.D.Disk before s old r c.args.key.now c.in-Ok-leaf.frame.number c.leaf.new.self (c.in-Ok-leaf.ensures.kept b before s r).ok);
       refused = λ other. delete_refused g.D.Disk old c.args.number c.in-Ok.transaction checked.0 checked.1 checked.2 c.drop_leaf.new.self c.args.key.now checked.3 checked.4 c.in-Err-drop_leaf.fault (change_cause g.D.Disk c.drop_leaf.new.self.writer.log c.drop_leaf.new.self.disk c.in-Err-drop_leaf.fault c.in-Err-drop_leaf.ensures.causes (λ is. c.in-Err-drop_leaf.ensures.failed (λ j. Err (is j))) (λ is. c.in-Err-drop_leaf.ensures.no_room (λ j. Err (is j)))) other;
       answers = tt;
     }
 
 pub returns-in-Err-clause-wanted : goal.returns-in-Err-clause-wanted
-returns-in-Err-clause-wanted g c before s r asks = asks_none_early g.D.Disk before s c.args.self.now r c.in-Err.fault c.in-Err.ensures.causes (λ is. c.in-Err.ensures.failed.0 (λ j. Err (is j))) asks
+returns-in-Err-clause-wanted g c b before s r asks = asks_none_early g.D.Disk before s c.args.self.now r c.in-Err.fault c.in-Err.ensures.causes (λ is. c.in-Err.ensures.failed.0 (λ j. Err (is j))) asks
 
 pub returns-in-Err-leaf-clause-wanted : goal.returns-in-Err-leaf-clause-wanted
-returns-in-Err-leaf-clause-wanted g c before s r asks = asks_none_late g.D.Disk before s c.args.self.now r c.in-Err-leaf.fault c.leaf.new.self c.in-Err-leaf.ensures.causes c.in-Err-leaf.ensures.split asks
+returns-in-Err-leaf-clause-wanted g c b before s r asks = asks_none_late g.D.Disk before s c.args.self.now r c.in-Err-leaf.fault c.in-Err-leaf.ensures.causes asks
 
 pub returns-in-None-clause-wanted : goal.returns-in-None-clause-wanted
-returns-in-None-clause-wanted g c before s r asks = asks_none g.D.Disk before s c.args.self.now r Absent c.leaf.new.self refl c.in-Ok-leaf.ensures.split asks
+returns-in-None-clause-wanted g c b before s r asks = asks_none g.D.Disk before s c.args.self.now r Absent refl asks
 
 pub returns-in-Err-take-clause-wanted : goal.returns-in-Err-take-clause-wanted
-returns-in-Err-take-clause-wanted g c before s r asks = asks_none_late g.D.Disk before s c.args.self.now r c.in-Err-take.fault c.take.new.self c.in-Err-take.ensures.causes (c.in-Err-take.ensures.split ∙ c.in-Ok-leaf.ensures.split) asks
+returns-in-Err-take-clause-wanted g c b before s r asks = asks_none_late g.D.Disk before s c.args.self.now r c.in-Err-take.fault c.in-Err-take.ensures.causes asks
 
 pub returns-then-not-last_entry-clause-wanted : goal.returns-then-not-last_entry-clause-wanted
-returns-then-not-last_entry-clause-wanted g c before s r asks = asks_none g.D.Disk before s c.args.self.now r Deleted c.take.new.self refl (c.in-Ok-take.ensures.split ∙ c.in-Ok-leaf.ensures.split) asks
+returns-then-not-last_entry-clause-wanted g c b before s r asks = asks_none g.D.Disk before s c.args.self.now r Deleted refl asks
 
 pub returns-in-Ok-drop_leaf-clause-wanted : goal.returns-in-Ok-drop_leaf-clause-wanted
-returns-in-Ok-drop_leaf-clause-wanted g c before s r asks =
+returns-in-Ok-drop_leaf-clause-wanted g c b before s r asks =
     let last = c.is_last_entry-last_entry.ensures.last c.if-not-last_entry.false in
-    wants_drop g.D.Disk before s c.args.self.now r c.args.key.now c.in-Ok-leaf.frame.number c.leaf.new.self (c.in-Ok-leaf.ensures.kept before s r).ok c.in-Some.rid c.in-Some.ensures last.0 last.1
+    wants_drop g.D.Disk before s c.args.self.now r c.args.key.now c.in-Ok-leaf.frame.number c.leaf.new.self (c.in-Ok-leaf.ensures.kept b before s r).ok c.in-Some.rid c.in-Some.ensures last.0 last.1
 
 pub returns-in-Err-drop_leaf-clause-wanted : goal.returns-in-Err-drop_leaf-clause-wanted
-returns-in-Err-drop_leaf-clause-wanted g c before s r asks =
+returns-in-Err-drop_leaf-clause-wanted g c b before s r asks =
     let last = c.is_last_entry-last_entry.ensures.last c.if-not-last_entry.false in
-    wants_drop g.D.Disk before s c.args.self.now r c.args.key.now c.in-Ok-leaf.frame.number c.leaf.new.self (c.in-Ok-leaf.ensures.kept before s r).ok c.in-Some.rid c.in-Some.ensures last.0 last.1
+    wants_drop g.D.Disk before s c.args.self.now r c.args.key.now c.in-Ok-leaf.frame.number c.leaf.new.self (c.in-Ok-leaf.ensures.kept b before s r).ok c.in-Some.rid c.in-Some.ensures last.0 last.1

@@ -1,8 +1,8 @@
-use Rattle.std.proofs.Common.{[], inl, inr, ⊎_elim, ℕ, Bool, Option, Some, Err, refl, sym, ap, subst, ◌∙◌, ◌≡◌}
+use Rattle.std.proofs.Common.{[], ℕ, Option, Err, refl, ap}
 use Rattle.im_types.specs.Answers as answers
 use Rattle.im_types.specs.declared.reply.Reply.TheVariants.{Found, Absent}
 use Rattle.im_pool.specs.Pool.{page_at}
-use Rattle.im_engine.proofs.Running.{looks, leaf_says}
+use Rattle.im_engine.proofs.Running.{looks, leaf_settled}
 use Rattle.im_engine.proofs.Refusals.{early_kept, late_kept}
 use Rattle.im_engine.proofs.Checks.{access_refused, access_late, access_none, unread, unread_late}
 use Rattle.im_engine.proofs.engine.Engine.fetch.Goals as goal
@@ -25,7 +25,7 @@ returns-in-Err-clause-answered g c =
 pub returns-in-Err-leaf-clause-kept : goal.returns-in-Err-leaf-clause-kept
 returns-in-Err-leaf-clause-kept g c before s life =
     let checked = c.in_default.ensures.ok in
-    let kept = c.in-Err-leaf.ensures.kept before s (life.running checked.0) in
+    let kept = c.in-Err-leaf.ensures.kept (life.running checked.0).0 before s (life.running checked.0).1 in
     late_kept g.D.Disk before s (answers.Do c.args.number (answers.Fetch c.args.key.now)) refl (λ n. refl) c.args.self.now c.leaf.new.self life checked.0 (λ _. c.in-Err-leaf.ensures.going) kept.stops
     (λ t f le left. g.met.D.Disk.counts_now c.leaf.new.self.disk t f le left) c.in-Err-leaf.fault c.in-Err-leaf.ensures.causes kept.again kept.cause c.in-Err-leaf.ensures.fails
 
@@ -43,9 +43,9 @@ returns-in-Err-leaf-clause-answered g c =
 pub returns-in-Some-clause-kept : goal.returns-in-Some-clause-kept
 returns-in-Some-clause-kept g c before s life =
     let checked = c.in_default.ensures.ok in
-    let kept = c.in-Ok.ensures.kept before s (life.running checked.0) in
-    looks g.D.Disk before s (answers.Do c.args.number (answers.Fetch c.args.key.now)) (answers.Found c.in-Some.rid) refl (λ e. cc e) c.args.self.now c.leaf.new.self kept.stops
-    checked.0 life c.in-Ok.ensures.works refl tt kept.ok.looked.running c.in-Ok.ensures.going
+    let kept = c.in-Ok.ensures.kept (life.running checked.0).0 before s (life.running checked.0).1 in
+    looks g.D.Disk before s (answers.Do c.args.number (answers.Fetch c.args.key.now)) (answers.Found c.in-Some.rid) refl (λ e. cc e) c.args.self.now c.leaf.new.self life checked.0 kept.stops
+    c.in-Ok.ensures.works refl tt (record { running = kept.ok.looked.running; joins = kept.ok.looked.grows }) c.in-Ok.ensures.going
 
 pub returns-in-Some-clause-answered : goal.returns-in-Some-clause-answered
 returns-in-Some-clause-answered g c =
@@ -55,7 +55,7 @@ returns-in-Some-clause-answered g c =
       entries = (page_at c.leaf.new.self.writer.pool c.in-Ok.frame.number).body.entries;
       read = record {
         shown = λ _. (c.in-Ok.frame.number, c.in-Ok.ensures.leaf, refl);
-        logged = λ h before s r. leaf_says g.D.Disk before s old r c.args.key.now c.in-Ok.frame.number c.leaf.new.self (c.in-Ok.ensures.kept before s r).ok;
+        logged = λ h b before s r. leaf_settled g.D.Disk before s old r c.args.key.now c.in-Ok.frame.number c.leaf.new.self (c.in-Ok.ensures.kept b before s r).ok;
       };
       refused = λ other. access_none g.D.Disk old c.args.number c.in_default.field-0 checked.0 checked.1 checked.2 c.leaf.new.self c.args.key.now checked.3 checked.4 (Found c.in-Some.rid) (λ x e. cc e) other;
       answers = ap (λ (o : Option ℕ). answers.found o) c.in-Some.ensures;
@@ -64,9 +64,9 @@ returns-in-Some-clause-answered g c =
 pub returns-in-None-clause-kept : goal.returns-in-None-clause-kept
 returns-in-None-clause-kept g c before s life =
     let checked = c.in_default.ensures.ok in
-    let kept = c.in-Ok.ensures.kept before s (life.running checked.0) in
-    looks g.D.Disk before s (answers.Do c.args.number (answers.Fetch c.args.key.now)) answers.Absent refl (λ e. cc e) c.args.self.now c.leaf.new.self kept.stops
-    checked.0 life c.in-Ok.ensures.works refl tt kept.ok.looked.running c.in-Ok.ensures.going
+    let kept = c.in-Ok.ensures.kept (life.running checked.0).0 before s (life.running checked.0).1 in
+    looks g.D.Disk before s (answers.Do c.args.number (answers.Fetch c.args.key.now)) answers.Absent refl (λ e. cc e) c.args.self.now c.leaf.new.self life checked.0 kept.stops
+    c.in-Ok.ensures.works refl tt (record { running = kept.ok.looked.running; joins = kept.ok.looked.grows }) c.in-Ok.ensures.going
 
 pub returns-in-None-clause-answered : goal.returns-in-None-clause-answered
 returns-in-None-clause-answered g c =
@@ -76,7 +76,7 @@ returns-in-None-clause-answered g c =
       entries = (page_at c.leaf.new.self.writer.pool c.in-Ok.frame.number).body.entries;
       read = record {
         shown = λ _. (c.in-Ok.frame.number, c.in-Ok.ensures.leaf, refl);
-        logged = λ h before s r. leaf_says g.D.Disk before s old r c.args.key.now c.in-Ok.frame.number c.leaf.new.self (c.in-Ok.ensures.kept before s r).ok;
+        logged = λ h b before s r. leaf_settled g.D.Disk before s old r c.args.key.now c.in-Ok.frame.number c.leaf.new.self (c.in-Ok.ensures.kept b before s r).ok;
       };
       refused = λ other. access_none g.D.Disk old c.args.number c.in_default.field-0 checked.0 checked.1 checked.2 c.leaf.new.self c.args.key.now checked.3 checked.4 Absent (λ x e. cc e) other;
       answers = ap (λ (o : Option ℕ). answers.found o) c.in-None.ensures;

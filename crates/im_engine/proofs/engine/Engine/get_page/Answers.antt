@@ -1,27 +1,26 @@
 use Rattle.std.proofs.Common.{inl, refl, sym, ◌∙◌, Err}
-use Rattle.im_one_page.specs.OnePage.{first_base}
 use Rattle.im_engine.proofs.Running.{none_waits, grown_stops, runs_evicted, looked}
 use Rattle.im_engine.proofs.Checks.{of_writer, has_cause}
 use Rattle.im_engine.proofs.engine.Engine.get_page.Goals as goal
 
 pub returns-in-Ok-clause-kept : goal.returns-in-Ok-clause-kept
-returns-in-Ok-clause-kept g c before s r =
+returns-in-Ok-clause-kept g c b before s r =
     let old = c.args.self.now in
-    let kept = c.in-Ok.ensures.kept first_base 0 r.now r.stands (λ q le. none_waits g.D.Disk before s old r q) in
+    let kept = c.in-Ok.ensures.kept b 0 r.now r.stands (λ q le. none_waits g.D.Disk before s old r q) in
     record {
-      ok = looked g.D.Disk before s old r _ refl refl refl c.args.number kept.ok;
+      ok = looked g.D.Disk before s old r _ refl refl c.args.number kept.ok;
       again = tt;
       stops = grown_stops g.D.Disk before s old r c.get.new.disk kept.stops;
       cause = tt;
     }
 
 pub returns-in-Err-clause-kept : goal.returns-in-Err-clause-kept
-returns-in-Err-clause-kept g c before s r =
+returns-in-Err-clause-kept g c b before s r =
     let old = c.args.self.now in
-    let kept = c.in-Err.ensures.kept first_base 0 r.now r.stands (λ q le. none_waits g.D.Disk before s old r q) in
+    let kept = c.in-Err.ensures.kept b 0 r.now r.stands (λ q le. none_waits g.D.Disk before s old r q) in
     record {
       ok = tt;
-      again = λ is. runs_evicted g.D.Disk before s old r _ refl refl refl (kept.again (inl is));
+      again = λ is. runs_evicted g.D.Disk before s old r _ refl refl (kept.again (inl is));
       stops = grown_stops g.D.Disk before s old r c.get.new.disk kept.stops;
       cause = kept.cause;
     }

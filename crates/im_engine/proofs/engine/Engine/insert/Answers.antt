@@ -1,15 +1,15 @@
-use Rattle.std.proofs.Common.{[], inl, inr, ⊎_elim, ℕ, Bool, Option, Some, Err, refl, sym, ap, subst, ◌∙◌, ◌≡◌, true, false}
+use Rattle.std.proofs.Common.{[], inl, ℕ, Bool, Option, Some, Err, refl, sym, ap, ◌∙◌}
 use Rattle.std.specs.Prelude.{is_some, if◌then◌else◌}
 use Rattle.im_types.specs.Answers as answers
 use Rattle.im_types.specs.Changes.{Put}
-use Rattle.im_types.specs.Lives.{adds}
 use Rattle.im_types.specs.declared.reply.Reply.TheVariants.{Duplicate, Inserted}
 use Rattle.im_pool.specs.Pool.{page_at}
 use Rattle.im_engine.specs.Checks.{active_number}
-use Rattle.im_engine.proofs.Shown.{none_of, some_of}
-use Rattle.im_engine.proofs.Running.{looks, leaf_says, leaf_now, says_now, leaves_then}
+use Rattle.im_engine.proofs.Shown.{none_of}
+use Rattle.im_engine.proofs.Running.{looks, leaf_says, leaf_settled, leaf_now, says_now, leaves_then}
 use Rattle.im_engine.proofs.Steps.{edit_made}
 use Rattle.im_engine.proofs.Keys.{room_now, lacks_now}
+use Rattle.im_engine.proofs.Joins.{rests_behind, put_joins, split_joins}
 use Rattle.im_engine.proofs.Limits.{limit_early, limit_late, limit_there, limit_room, limit_split, limit_refused}
 use Rattle.im_engine.proofs.Wanted.{asks_none, asks_none_early, asks_none_late, wants_split}
 use Rattle.im_engine.proofs.Refusals.{early_kept, late_kept, edit_kept}
@@ -32,12 +32,12 @@ returns-in-Err-clause-answered g c =
     }
 
 pub returns-in-Err-clause-limit : goal.returns-in-Err-clause-limit
-returns-in-Err-clause-limit g c before s r = limit_early g.D.Disk before s c.args.self.now r c.args.key.now c.in-Err.fault c.in-Err.ensures.causes
+returns-in-Err-clause-limit g c b before s r = limit_early g.D.Disk before s c.args.self.now r c.args.key.now c.in-Err.fault c.in-Err.ensures.causes
 
 pub returns-in-Err-leaf-clause-kept : goal.returns-in-Err-leaf-clause-kept
 returns-in-Err-leaf-clause-kept g c before s life =
     let checked = c.in-Ok.ensures.ok in
-    let kept = c.in-Err-leaf.ensures.kept before s (life.running checked.0) in
+    let kept = c.in-Err-leaf.ensures.kept (life.running checked.0).0 before s (life.running checked.0).1 in
     late_kept g.D.Disk before s (answers.Do c.args.number (answers.Insert c.args.key.now c.args.rid)) refl (λ n. refl) c.args.self.now c.leaf.new.self life checked.0 (λ _. c.in-Err-leaf.ensures.going) kept.stops
     (λ t f le left. g.met.D.Disk.counts_now c.leaf.new.self.disk t f le left) c.in-Err-leaf.fault c.in-Err-leaf.ensures.causes kept.again kept.cause c.in-Err-leaf.ensures.fails
 
@@ -53,14 +53,14 @@ returns-in-Err-leaf-clause-answered g c =
     }
 
 pub returns-in-Err-leaf-clause-limit : goal.returns-in-Err-leaf-clause-limit
-returns-in-Err-leaf-clause-limit g c before s r = limit_late g.D.Disk before s c.args.self.now r c.args.key.now c.in-Err-leaf.fault c.in-Err-leaf.ensures.causes
+returns-in-Err-leaf-clause-limit g c b before s r = limit_late g.D.Disk before s c.args.self.now r c.args.key.now c.in-Err-leaf.fault c.in-Err-leaf.ensures.causes
 
 pub returns-then-is_some-clause-kept : goal.returns-then-is_some-clause-kept
 returns-then-is_some-clause-kept g c before s life =
     let checked = c.in-Ok.ensures.ok in
-    let kept = c.in-Ok-leaf.ensures.kept before s (life.running checked.0) in
-    looks g.D.Disk before s (answers.Do c.args.number (answers.Insert c.args.key.now c.args.rid)) answers.Duplicate refl (λ e. cc e) c.args.self.now c.leaf.new.self kept.stops
-    checked.0 life c.in-Ok-leaf.ensures.works refl tt kept.ok.looked.running c.in-Ok-leaf.ensures.going
+    let kept = c.in-Ok-leaf.ensures.kept (life.running checked.0).0 before s (life.running checked.0).1 in
+    looks g.D.Disk before s (answers.Do c.args.number (answers.Insert c.args.key.now c.args.rid)) answers.Duplicate refl (λ e. cc e) c.args.self.now c.leaf.new.self life checked.0 kept.stops
+    c.in-Ok-leaf.ensures.works refl tt (record { running = kept.ok.looked.running; joins = kept.ok.looked.grows }) c.in-Ok-leaf.ensures.going
 
 pub returns-then-is_some-clause-answered : goal.returns-then-is_some-clause-answered
 returns-then-is_some-clause-answered g c =
@@ -70,28 +70,30 @@ returns-then-is_some-clause-answered g c =
       entries = (page_at c.leaf.new.self.writer.pool c.in-Ok-leaf.frame.number).body.entries;
       read = record {
         shown = λ _. (c.in-Ok-leaf.frame.number, c.in-Ok-leaf.ensures.leaf, refl);
-        logged = λ h before s r. leaf_says g.D.Disk before s old r c.args.key.now c.in-Ok-leaf.frame.number c.leaf.new.self (c.in-Ok-leaf.ensures.kept before s r).ok;
+        logged = λ h b before s r. leaf_settled g.D.Disk before s old r c.args.key.now c.in-Ok-leaf.frame.number c.leaf.new.self (c.in-Ok-leaf.ensures.kept b before s r).ok;
       };
       refused = λ other. insert_none g.D.Disk old c.args.number c.in-Ok.transaction checked.0 checked.1 checked.2 c.leaf.new.self c.args.key.now checked.3 checked.4 _ Duplicate (λ x e. cc e) other;
       answers = sym (ap (λ (b : Bool). if b then answers.Duplicate else answers.Inserted) (ap (λ (o : Option ℕ). is_some o) (sym c.row_id.ensures) ∙ sym c.is_some.ensures ∙ c.if-is_some.true));
     }
 
 pub returns-then-is_some-clause-limit : goal.returns-then-is_some-clause-limit
-returns-then-is_some-clause-limit g c before s r = limit_there g.D.Disk before s c.args.self.now r c.args.key.now
+returns-then-is_some-clause-limit g c b before s r = limit_there g.D.Disk before s c.args.self.now r c.args.key.now
 
 pub returns-in-Ok-put-clause-kept : goal.returns-in-Ok-put-clause-kept
 returns-in-Ok-put-clause-kept g c before s life =
     let old = c.args.self.now in
     let checked = c.in-Ok.ensures.ok in
-    let r = life.running checked.0 in
-    let found = c.in-Ok-leaf.ensures.kept before s r in
+    let b = (life.running checked.0).0 in
+    let r = (life.running checked.0).1 in
+    let found = c.in-Ok-leaf.ensures.kept b before s r in
     let l = found.ok in
     let p = c.in-Ok-leaf.frame.number in
-    let kept = c.in-Ok-put.ensures.kept before s l.looked.running (c.in-Ok-leaf.ensures.going ∙ checked.1) (leaf_now g.D.Disk before s old r c.args.key.now p c.leaf.new.self l)
+    let kept = c.in-Ok-put.ensures.kept b before s l.looked.running (c.in-Ok-leaf.ensures.going ∙ checked.1) (leaf_now g.D.Disk before s old r c.args.key.now p c.leaf.new.self l)
     (sym (says_now g.D.Disk before s old r c.args.key.now p c.leaf.new.self l) ∙ (sym c.row_id.ensures ∙ none_of c.row_id.result (sym c.is_some.ensures ∙ c.if-is_some.false))) (room_now g.D.Disk before s old r c.args.key.now p c.leaf.new.self l checked.3 checked.4 (c.has_room.ensures.room c.if-has_room.true)) in
     edit_made g.D.Disk before s (answers.Do c.args.number (answers.Insert c.args.key.now c.args.rid)) answers.Inserted c.args.number (Put c.args.key.now c.args.rid) refl (λ e. cc e) refl old c.put.new.self life checked.0 tt
-    (leaves_then g.D.Disk before c.leaf.new.self.split c.put.new.self.split (λ is. c.in-Ok-put.ensures.split ∙ is) s old.disk c.leaf.new.self.disk c.put.new.self.disk found.stops kept.stops)
-    c.in-Ok-put.ensures.ok.0 c.in-Ok.transaction.number checked.2 kept.ok (ap active_number c.in-Ok-put.ensures.ok.1 ∙ ap (λ (n : ℕ). Some n) checked.2)
+    (leaves_then g.D.Disk before s old.disk c.leaf.new.self.disk c.put.new.self.disk found.stops kept.stops)
+    c.in-Ok-put.ensures.ok.0 c.in-Ok.transaction.number checked.2
+    (put_joins g.D.Disk before s old r c.args.key.now p c.leaf.new.self l c.in-Ok.transaction.number c.args.number checked.2 _ c.put.new.self c.args.rid kept.ok) (ap active_number c.in-Ok-put.ensures.ok.1 ∙ ap (λ (n : ℕ). Some n) checked.2)
 
 pub returns-in-Ok-put-clause-answered : goal.returns-in-Ok-put-clause-answered
 returns-in-Ok-put-clause-answered g c =
@@ -101,29 +103,30 @@ returns-in-Ok-put-clause-answered g c =
       entries = (page_at c.leaf.new.self.writer.pool c.in-Ok-leaf.frame.number).body.entries;
       read = record {
         shown = λ h. cc h;
-        logged = λ h before s r. leaf_says g.D.Disk before s old r c.args.key.now c.in-Ok-leaf.frame.number c.leaf.new.self (c.in-Ok-leaf.ensures.kept before s r).ok;
+        logged = λ h b before s r. leaf_settled g.D.Disk before s old r c.args.key.now c.in-Ok-leaf.frame.number c.leaf.new.self (c.in-Ok-leaf.ensures.kept b before s r).ok;
       };
       refused = λ other. insert_none g.D.Disk old c.args.number c.in-Ok.transaction checked.0 checked.1 checked.2 c.put.new.self c.args.key.now checked.3 checked.4 _ Inserted (λ x e. cc e) other;
       answers = sym (ap (λ (o : Option ℕ). if is_some o then answers.Duplicate else answers.Inserted) (sym c.row_id.ensures ∙ none_of c.row_id.result (sym c.is_some.ensures ∙ c.if-is_some.false)));
     }
 
 pub returns-in-Ok-put-clause-limit : goal.returns-in-Ok-put-clause-limit
-returns-in-Ok-put-clause-limit g c before s r =
-    limit_room g.D.Disk before s c.args.self.now r c.args.key.now c.in-Ok-leaf.frame.number c.leaf.new.self (c.in-Ok-leaf.ensures.kept before s r).ok (c.has_room.ensures.room c.if-has_room.true)
+returns-in-Ok-put-clause-limit g c b before s r =
+    limit_room g.D.Disk before s c.args.self.now r c.args.key.now c.in-Ok-leaf.frame.number c.leaf.new.self (c.in-Ok-leaf.ensures.kept b before s r).ok (c.has_room.ensures.room c.if-has_room.true)
 
 pub returns-in-Err-put-clause-kept : goal.returns-in-Err-put-clause-kept
 returns-in-Err-put-clause-kept g c before s life =
     let old = c.args.self.now in
     let checked = c.in-Ok.ensures.ok in
-    let r = life.running checked.0 in
-    let found = c.in-Ok-leaf.ensures.kept before s r in
+    let b = (life.running checked.0).0 in
+    let r = (life.running checked.0).1 in
+    let found = c.in-Ok-leaf.ensures.kept b before s r in
     let l = found.ok in
     let p = c.in-Ok-leaf.frame.number in
-    let kept = c.in-Err-put.ensures.kept before s l.looked.running (c.in-Ok-leaf.ensures.going ∙ checked.1) (leaf_now g.D.Disk before s old r c.args.key.now p c.leaf.new.self l)
+    let kept = c.in-Err-put.ensures.kept b before s l.looked.running (c.in-Ok-leaf.ensures.going ∙ checked.1) (leaf_now g.D.Disk before s old r c.args.key.now p c.leaf.new.self l)
     (sym (says_now g.D.Disk before s old r c.args.key.now p c.leaf.new.self l) ∙ (sym c.row_id.ensures ∙ none_of c.row_id.result (sym c.is_some.ensures ∙ c.if-is_some.false))) (room_now g.D.Disk before s old r c.args.key.now p c.leaf.new.self l checked.3 checked.4 (c.has_room.ensures.room c.if-has_room.true)) in
     late_kept g.D.Disk before s (answers.Do c.args.number (answers.Insert c.args.key.now c.args.rid)) refl (λ n. refl) old c.put.new.self life checked.0 (λ _. c.in-Err-put.ensures.fails.1 ∙ c.in-Ok-leaf.ensures.going)
-    (leaves_then g.D.Disk before c.leaf.new.self.split c.put.new.self.split (λ is. c.in-Err-put.ensures.split ∙ is) s old.disk c.leaf.new.self.disk c.put.new.self.disk found.stops kept.stops)
-    (λ t f le left. g.met.D.Disk.counts_now c.put.new.self.disk t f le left) c.in-Err-put.fault c.in-Err-put.ensures.causes (λ is. kept.again (inl is)) kept.cause c.in-Err-put.ensures.fails.0
+    (leaves_then g.D.Disk before s old.disk c.leaf.new.self.disk c.put.new.self.disk found.stops kept.stops)
+    (λ t f le left. g.met.D.Disk.counts_now c.put.new.self.disk t f le left) c.in-Err-put.fault c.in-Err-put.ensures.causes (λ is. rests_behind g.D.Disk before s old r c.args.key.now p c.leaf.new.self l _ (kept.again (inl is))) kept.cause c.in-Err-put.ensures.fails.0
 
 pub returns-in-Err-put-clause-answered : goal.returns-in-Err-put-clause-answered
 returns-in-Err-put-clause-answered g c =
@@ -137,22 +140,24 @@ returns-in-Err-put-clause-answered g c =
     }
 
 pub returns-in-Err-put-clause-limit : goal.returns-in-Err-put-clause-limit
-returns-in-Err-put-clause-limit g c before s r = limit_late g.D.Disk before s c.args.self.now r c.args.key.now c.in-Err-put.fault c.in-Err-put.ensures.causes
+returns-in-Err-put-clause-limit g c b before s r = limit_late g.D.Disk before s c.args.self.now r c.args.key.now c.in-Err-put.fault c.in-Err-put.ensures.causes
 
 pub returns-in-Ok-split_and_put-clause-kept : goal.returns-in-Ok-split_and_put-clause-kept
 returns-in-Ok-split_and_put-clause-kept g c before s life =
     let old = c.args.self.now in
     let checked = c.in-Ok.ensures.ok in
-    let r = life.running checked.0 in
-    let found = c.in-Ok-leaf.ensures.kept before s r in
+    let b = (life.running checked.0).0 in
+    let r = (life.running checked.0).1 in
+    let found = c.in-Ok-leaf.ensures.kept b before s r in
     let l = found.ok in
     let p = c.in-Ok-leaf.frame.number in
-    let both = c.in-Ok-split_and_put.ensures.kept before s l.looked.running (c.in-Ok-leaf.ensures.going ∙ checked.1) p (leaf_now g.D.Disk before s old r c.args.key.now p c.leaf.new.self l)
+    let both = c.in-Ok-split_and_put.ensures.kept b before s l.looked.running (c.in-Ok-leaf.ensures.going ∙ checked.1) p (leaf_now g.D.Disk before s old r c.args.key.now p c.leaf.new.self l)
     (sym (says_now g.D.Disk before s old r c.args.key.now p c.leaf.new.self l) ∙ (sym c.row_id.ensures ∙ none_of c.row_id.result (sym c.is_some.ensures ∙ c.if-is_some.false))) (lacks_now g.D.Disk before s old r c.args.key.now p c.leaf.new.self l (c.has_room.ensures.full c.if-has_room.false)) in
     let kept = both.0 in
-    let leaves = leaves_then g.D.Disk before c.leaf.new.self.split c.split_and_put.new.self.split c.split_and_put.ensures.split s old.disk c.leaf.new.self.disk c.split_and_put.new.self.disk found.stops kept.stops in
+    let leaves = leaves_then g.D.Disk before s old.disk c.leaf.new.self.disk c.split_and_put.new.self.disk found.stops kept.stops in
     edit_made g.D.Disk before s (answers.Do c.args.number (answers.Insert c.args.key.now c.args.rid)) answers.Inserted c.args.number (Put c.args.key.now c.args.rid) refl (λ e. cc e) refl old c.split_and_put.new.self life checked.0 tt
-    leaves c.in-Ok-split_and_put.ensures.works c.in-Ok.transaction.number checked.2 kept.ok (c.in-Ok-split_and_put.ensures.active (ap active_number (c.in-Ok-leaf.ensures.going ∙ checked.1)) ∙ ap (λ (n : ℕ). Some n) checked.2)
+    leaves c.in-Ok-split_and_put.ensures.works c.in-Ok.transaction.number checked.2
+    (split_joins g.D.Disk before s old r c.args.key.now p c.leaf.new.self l c.in-Ok.transaction.number c.args.number checked.2 _ c.split_and_put.new.self c.args.rid kept.ok) (c.in-Ok-split_and_put.ensures.active (ap active_number (c.in-Ok-leaf.ensures.going ∙ checked.1)) ∙ ap (λ (n : ℕ). Some n) checked.2)
 
 pub returns-in-Ok-split_and_put-clause-answered : goal.returns-in-Ok-split_and_put-clause-answered
 returns-in-Ok-split_and_put-clause-answered g c =
@@ -162,38 +167,39 @@ returns-in-Ok-split_and_put-clause-answered g c =
       entries = (page_at c.leaf.new.self.writer.pool c.in-Ok-leaf.frame.number).body.entries;
       read = record {
         shown = λ h. cc h;
-        logged = λ h before s r. leaf_says g.D.Disk before s old r c.args.key.now c.in-Ok-leaf.frame.number c.leaf.new.self (c.in-Ok-leaf.ensures.kept before s r).ok;
+        logged = λ h b before s r. leaf_settled g.D.Disk before s old r c.args.key.now c.in-Ok-leaf.frame.number c.leaf.new.self (c.in-Ok-leaf.ensures.kept b before s r).ok;
       };
       refused = λ other. insert_none g.D.Disk old c.args.number c.in-Ok.transaction checked.0 checked.1 checked.2 c.split_and_put.new.self c.args.key.now checked.3 checked.4 _ Inserted (λ x e. cc e) other;
       answers = sym (ap (λ (o : Option ℕ). if is_some o then answers.Duplicate else answers.Inserted) (sym c.row_id.ensures ∙ none_of c.row_id.result (sym c.is_some.ensures ∙ c.if-is_some.false)));
     }
 
 pub returns-in-Ok-split_and_put-clause-limit : goal.returns-in-Ok-split_and_put-clause-limit
-returns-in-Ok-split_and_put-clause-limit g c before s r =
+returns-in-Ok-split_and_put-clause-limit g c b before s r =
     let old = c.args.self.now in
     let checked = c.in-Ok.ensures.ok in
-    let found = c.in-Ok-leaf.ensures.kept before s r in
+    let found = c.in-Ok-leaf.ensures.kept b before s r in
     let l = found.ok in
     let p = c.in-Ok-leaf.frame.number in
-    let both = c.in-Ok-split_and_put.ensures.kept before s l.looked.running (c.in-Ok-leaf.ensures.going ∙ checked.1) p (leaf_now g.D.Disk before s old r c.args.key.now p c.leaf.new.self l)
+    let both = c.in-Ok-split_and_put.ensures.kept b before s l.looked.running (c.in-Ok-leaf.ensures.going ∙ checked.1) p (leaf_now g.D.Disk before s old r c.args.key.now p c.leaf.new.self l)
     (sym (says_now g.D.Disk before s old r c.args.key.now p c.leaf.new.self l) ∙ (sym c.row_id.ensures ∙ none_of c.row_id.result (sym c.is_some.ensures ∙ c.if-is_some.false))) (lacks_now g.D.Disk before s old r c.args.key.now p c.leaf.new.self l (c.has_room.ensures.full c.if-has_room.false)) in
-    limit_split g.D.Disk before s old r c.args.key.now p c.leaf.new.self l.looked c.in-Ok-leaf.ensures.limit both.1.within
+    limit_split g.D.Disk before s old r c.args.key.now p c.leaf.new.self l.looked c.in-Ok-leaf.ensures.max_pages both.1.within
 
 pub returns-in-Err-split_and_put-clause-kept : goal.returns-in-Err-split_and_put-clause-kept
 returns-in-Err-split_and_put-clause-kept g c before s life =
     let old = c.args.self.now in
     let checked = c.in-Ok.ensures.ok in
-    let r = life.running checked.0 in
-    let found = c.in-Ok-leaf.ensures.kept before s r in
+    let b = (life.running checked.0).0 in
+    let r = (life.running checked.0).1 in
+    let found = c.in-Ok-leaf.ensures.kept b before s r in
     let l = found.ok in
     let p = c.in-Ok-leaf.frame.number in
-    let both = c.in-Err-split_and_put.ensures.kept before s l.looked.running (c.in-Ok-leaf.ensures.going ∙ checked.1) p (leaf_now g.D.Disk before s old r c.args.key.now p c.leaf.new.self l)
+    let both = c.in-Err-split_and_put.ensures.kept b before s l.looked.running (c.in-Ok-leaf.ensures.going ∙ checked.1) p (leaf_now g.D.Disk before s old r c.args.key.now p c.leaf.new.self l)
     (sym (says_now g.D.Disk before s old r c.args.key.now p c.leaf.new.self l) ∙ (sym c.row_id.ensures ∙ none_of c.row_id.result (sym c.is_some.ensures ∙ c.if-is_some.false))) (lacks_now g.D.Disk before s old r c.args.key.now p c.leaf.new.self l (c.has_room.ensures.full c.if-has_room.false)) in
     let kept = both.0 in
-    let leaves = leaves_then g.D.Disk before c.leaf.new.self.split c.split_and_put.new.self.split c.split_and_put.ensures.split s old.disk c.leaf.new.self.disk c.split_and_put.new.self.disk found.stops kept.stops in
+    let leaves = leaves_then g.D.Disk before s old.disk c.leaf.new.self.disk c.split_and_put.new.self.disk found.stops kept.stops in
     edit_kept g.D.Disk before s (answers.Do c.args.number (answers.Insert c.args.key.now c.args.rid)) refl (λ n. refl) old c.split_and_put.new.self life checked.0
     (λ on. c.in-Err-split_and_put.ensures.still on ∙ c.in-Ok-leaf.ensures.going) leaves
-    (λ t f le left. g.met.D.Disk.counts_now c.split_and_put.new.self.disk t f le left) c.in-Err-split_and_put.fault c.in-Err-split_and_put.ensures.causes kept.again kept.cause c.in-Err-split_and_put.ensures.fails
+    (λ t f le left. g.met.D.Disk.counts_now c.split_and_put.new.self.disk t f le left) c.in-Err-split_and_put.fault c.in-Err-split_and_put.ensures.causes (λ is. rests_behind g.D.Disk before s old r c.args.key.now p c.leaf.new.self l _ (kept.again is)) kept.cause c.in-Err-split_and_put.ensures.fails
 
 pub returns-in-Err-split_and_put-clause-answered : goal.returns-in-Err-split_and_put-clause-answered
 returns-in-Err-split_and_put-clause-answered g c =
@@ -202,42 +208,42 @@ returns-in-Err-split_and_put-clause-answered g c =
     record {
       entries = (page_at c.leaf.new.self.writer.pool c.in-Ok-leaf.frame.number).body.entries;
       read = unread_edit g.D.Disk old c.split_and_put.new.self c.args.key.now c.in-Err-split_and_put.fault _ c.in-Err-split_and_put.ensures.causes
-          (λ before s r. leaf_says g.D.Disk before s old r c.args.key.now c.in-Ok-leaf.frame.number c.leaf.new.self (c.in-Ok-leaf.ensures.kept before s r).ok);
+          (λ b before s r. leaf_settled g.D.Disk before s old r c.args.key.now c.in-Ok-leaf.frame.number c.leaf.new.self (c.in-Ok-leaf.ensures.kept b before s r).ok);
       refused = λ other. insert_refused g.D.Disk old c.args.number c.in-Ok.transaction checked.0 checked.1 checked.2 c.split_and_put.new.self c.args.key.now checked.3 checked.4 _ c.in-Err-split_and_put.fault (insert_cause g.D.Disk c.split_and_put.new.self.writer.log c.split_and_put.new.self.disk (page_at c.leaf.new.self.writer.pool c.in-Ok-leaf.frame.number).body.entries c.args.key.now c.in-Err-split_and_put.fault c.in-Err-split_and_put.ensures.causes (λ _. ((sym c.row_id.ensures ∙ none_of c.row_id.result (sym c.is_some.ensures ∙ c.if-is_some.false)), c.has_room.ensures.full c.if-has_room.false)) (λ is. c.in-Err-split_and_put.ensures.failed (λ j. Err (is j))) (λ is. c.in-Err-split_and_put.ensures.no_room (λ j. Err (is j)))) other;
       answers = tt;
     }
 
 pub returns-in-Err-split_and_put-clause-limit : goal.returns-in-Err-split_and_put-clause-limit
-returns-in-Err-split_and_put-clause-limit g c before s r =
+returns-in-Err-split_and_put-clause-limit g c b before s r =
     let old = c.args.self.now in
     let checked = c.in-Ok.ensures.ok in
-    let found = c.in-Ok-leaf.ensures.kept before s r in
+    let found = c.in-Ok-leaf.ensures.kept b before s r in
     let l = found.ok in
     let p = c.in-Ok-leaf.frame.number in
-    let both = c.in-Err-split_and_put.ensures.kept before s l.looked.running (c.in-Ok-leaf.ensures.going ∙ checked.1) p (leaf_now g.D.Disk before s old r c.args.key.now p c.leaf.new.self l)
+    let both = c.in-Err-split_and_put.ensures.kept b before s l.looked.running (c.in-Ok-leaf.ensures.going ∙ checked.1) p (leaf_now g.D.Disk before s old r c.args.key.now p c.leaf.new.self l)
     (sym (says_now g.D.Disk before s old r c.args.key.now p c.leaf.new.self l) ∙ (sym c.row_id.ensures ∙ none_of c.row_id.result (sym c.is_some.ensures ∙ c.if-is_some.false))) (lacks_now g.D.Disk before s old r c.args.key.now p c.leaf.new.self l (c.has_room.ensures.full c.if-has_room.false)) in
-    limit_refused g.D.Disk before s old r c.args.key.now p c.leaf.new.self l.looked c.in-Ok-leaf.ensures.limit c.in-Err-split_and_put.fault both.1.full both.1.used_up
+    limit_refused g.D.Disk before s old r c.args.key.now p c.leaf.new.self l.looked c.in-Ok-leaf.ensures.max_pages c.in-Err-split_and_put.fault both.1.full both.1.used_up
     (sym (leaf_says g.D.Disk before s old r c.args.key.now p c.leaf.new.self l) ∙ (sym c.row_id.ensures ∙ none_of c.row_id.result (sym c.is_some.ensures ∙ c.if-is_some.false)))
 
 pub returns-in-Err-clause-wanted : goal.returns-in-Err-clause-wanted
-returns-in-Err-clause-wanted g c before s r asks = asks_none_early g.D.Disk before s c.args.self.now r c.in-Err.fault c.in-Err.ensures.causes (λ is. c.in-Err.ensures.failed.0 (λ j. Err (is j))) asks
+returns-in-Err-clause-wanted g c b before s r asks = asks_none_early g.D.Disk before s c.args.self.now r c.in-Err.fault c.in-Err.ensures.causes (λ is. c.in-Err.ensures.failed.0 (λ j. Err (is j))) asks
 
 pub returns-in-Err-leaf-clause-wanted : goal.returns-in-Err-leaf-clause-wanted
-returns-in-Err-leaf-clause-wanted g c before s r asks = asks_none_late g.D.Disk before s c.args.self.now r c.in-Err-leaf.fault c.leaf.new.self c.in-Err-leaf.ensures.causes c.in-Err-leaf.ensures.split asks
+returns-in-Err-leaf-clause-wanted g c b before s r asks = asks_none_late g.D.Disk before s c.args.self.now r c.in-Err-leaf.fault c.in-Err-leaf.ensures.causes asks
 
 pub returns-then-is_some-clause-wanted : goal.returns-then-is_some-clause-wanted
-returns-then-is_some-clause-wanted g c before s r asks = asks_none g.D.Disk before s c.args.self.now r Duplicate c.leaf.new.self refl c.in-Ok-leaf.ensures.split asks
+returns-then-is_some-clause-wanted g c b before s r asks = asks_none g.D.Disk before s c.args.self.now r Duplicate refl asks
 
 pub returns-in-Ok-put-clause-wanted : goal.returns-in-Ok-put-clause-wanted
-returns-in-Ok-put-clause-wanted g c before s r asks = asks_none g.D.Disk before s c.args.self.now r Inserted c.put.new.self refl (c.in-Ok-put.ensures.split ∙ c.in-Ok-leaf.ensures.split) asks
+returns-in-Ok-put-clause-wanted g c b before s r asks = asks_none g.D.Disk before s c.args.self.now r Inserted refl asks
 
 pub returns-in-Err-put-clause-wanted : goal.returns-in-Err-put-clause-wanted
-returns-in-Err-put-clause-wanted g c before s r asks = asks_none_late g.D.Disk before s c.args.self.now r c.in-Err-put.fault c.put.new.self c.in-Err-put.ensures.causes (c.in-Err-put.ensures.split ∙ c.in-Ok-leaf.ensures.split) asks
+returns-in-Err-put-clause-wanted g c b before s r asks = asks_none_late g.D.Disk before s c.args.self.now r c.in-Err-put.fault c.in-Err-put.ensures.causes asks
 
 pub returns-in-Ok-split_and_put-clause-wanted : goal.returns-in-Ok-split_and_put-clause-wanted
-returns-in-Ok-split_and_put-clause-wanted g c before s r asks =
-    wants_split g.D.Disk before s c.args.self.now r c.args.key.now c.in-Ok-leaf.frame.number c.leaf.new.self (c.in-Ok-leaf.ensures.kept before s r).ok (sym c.row_id.ensures ∙ none_of c.row_id.result (sym c.is_some.ensures ∙ c.if-is_some.false)) (c.has_room.ensures.full c.if-has_room.false)
+returns-in-Ok-split_and_put-clause-wanted g c b before s r asks =
+    wants_split g.D.Disk before s c.args.self.now r c.args.key.now c.in-Ok-leaf.frame.number c.leaf.new.self (c.in-Ok-leaf.ensures.kept b before s r).ok (sym c.row_id.ensures ∙ none_of c.row_id.result (sym c.is_some.ensures ∙ c.if-is_some.false)) (c.has_room.ensures.full c.if-has_room.false)
 
 pub returns-in-Err-split_and_put-clause-wanted : goal.returns-in-Err-split_and_put-clause-wanted
-returns-in-Err-split_and_put-clause-wanted g c before s r asks =
-    wants_split g.D.Disk before s c.args.self.now r c.args.key.now c.in-Ok-leaf.frame.number c.leaf.new.self (c.in-Ok-leaf.ensures.kept before s r).ok (sym c.row_id.ensures ∙ none_of c.row_id.result (sym c.is_some.ensures ∙ c.if-is_some.false)) (c.has_room.ensures.full c.if-has_room.false)
+returns-in-Err-split_and_put-clause-wanted g c b before s r asks =
+    wants_split g.D.Disk before s c.args.self.now r c.args.key.now c.in-Ok-leaf.frame.number c.leaf.new.self (c.in-Ok-leaf.ensures.kept b before s r).ok (sym c.row_id.ensures ∙ none_of c.row_id.result (sym c.is_some.ensures ∙ c.if-is_some.false)) (c.has_room.ensures.full c.if-has_room.false)

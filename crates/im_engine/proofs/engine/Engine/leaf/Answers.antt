@@ -1,27 +1,26 @@
 use Rattle.std.proofs.Common.{[], inl, refl, sym, ◌∙◌, Err}
-use Rattle.im_one_page.specs.OnePage.{first_base}
 use Rattle.im_engine.proofs.Running.{has_tree, grown_stops, runs_evicted, leaf_looked}
 use Rattle.im_engine.proofs.Checks.{of_writer, has_cause}
 use Rattle.im_engine.proofs.engine.Engine.leaf.Goals as goal
 
 pub returns-in-Ok-clause-kept : goal.returns-in-Ok-clause-kept
-returns-in-Ok-clause-kept g c before s r =
+returns-in-Ok-clause-kept g c b before s r =
     let old = c.args.self.now in
-    let kept = c.in-Ok.ensures.kept first_base 0 r.now [] (has_tree g.D.Disk before s old r) in
+    let kept = c.in-Ok.ensures.kept b 0 r.now [] (has_tree g.D.Disk before s old r) in
     record {
-      ok = leaf_looked g.D.Disk before s old r _ refl refl refl c.args.key.now c.in-Ok.frame.number kept.ok;
+      ok = leaf_looked g.D.Disk before s old r _ refl refl c.args.key.now c.in-Ok.frame.number kept.ok;
       again = tt;
       stops = grown_stops g.D.Disk before s old r c.leaf_for.new.disk kept.stops;
       cause = tt;
     }
 
 pub returns-in-Err-clause-kept : goal.returns-in-Err-clause-kept
-returns-in-Err-clause-kept g c before s r =
+returns-in-Err-clause-kept g c b before s r =
     let old = c.args.self.now in
-    let kept = c.in-Err.ensures.kept first_base 0 r.now [] (has_tree g.D.Disk before s old r) in
+    let kept = c.in-Err.ensures.kept b 0 r.now [] (has_tree g.D.Disk before s old r) in
     record {
       ok = tt;
-      again = λ is. runs_evicted g.D.Disk before s old r _ refl refl refl (kept.again (inl is));
+      again = λ is. runs_evicted g.D.Disk before s old r _ refl refl (kept.again (inl is));
       stops = grown_stops g.D.Disk before s old r c.leaf_for.new.disk kept.stops;
       cause = kept.cause;
     }

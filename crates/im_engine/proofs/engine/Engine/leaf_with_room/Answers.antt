@@ -3,13 +3,13 @@ use Rattle.im_engine.proofs.Checks.{room_of}
 use Rattle.im_engine.proofs.engine.Engine.leaf_with_room.Goals as goal
 
 pub returns-then-has_room-clause-kept : goal.returns-then-has_room-clause-kept
-returns-then-has_room-clause-kept g c before s r =
-    let kept = c.in-Ok.ensures.kept before s r in
+returns-then-has_room-clause-kept g c b before s r =
+    let kept = c.in-Ok.ensures.kept b before s r in
     record { ok = has_leaf g.D.Disk before s c.args.self.now r c.args.key.now c.in-Ok.frame.number c.leaf.new.self kept.ok; stops = kept.stops; cause = λ _. tt }
 
 pub returns-else-has_room-clause-kept : goal.returns-else-has_room-clause-kept
-returns-else-has_room-clause-kept g c before s r =
-    let kept = c.in-Ok.ensures.kept before s r in
+returns-else-has_room-clause-kept g c b before s r =
+    let kept = c.in-Ok.ensures.kept b before s r in
     record {
       ok = tt;
       stops = kept.stops;
@@ -17,8 +17,8 @@ returns-else-has_room-clause-kept g c before s r =
     }
 
 pub returns-in-Err-clause-kept : goal.returns-in-Err-clause-kept
-returns-in-Err-clause-kept g c before s r =
-    let kept = c.in-Err.ensures.kept before s r in
+returns-in-Err-clause-kept g c b before s r =
+    let kept = c.in-Err.ensures.kept b before s r in
     record { ok = tt; stops = kept.stops; cause = λ _. not_late c.in-Err.fault c.late.result c.in-Err.ensures.causes c.late.ensures.memory c.late.ensures.others kept.cause }
 
 pub returns-in-Err-clause-no_room : goal.returns-in-Err-clause-no_room

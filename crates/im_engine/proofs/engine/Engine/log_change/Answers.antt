@@ -3,10 +3,10 @@ use Rattle.im_engine.proofs.Checks.{of_writer, has_cause}
 use Rattle.im_engine.proofs.engine.Engine.log_change.Goals as goal
 
 pub returns-in-Ok-clause-kept : goal.returns-in-Ok-clause-kept
-returns-in-Ok-clause-kept g c now e stands over = c.in-Ok.ensures.kept _ 0 now e stands over
+returns-in-Ok-clause-kept g c b base now e stands over = c.in-Ok.ensures.kept b base now e stands over
 
 pub returns-in-Err-clause-kept : goal.returns-in-Err-clause-kept
-returns-in-Err-clause-kept g c now e stands over = c.in-Err.ensures.kept _ 0 now e stands over
+returns-in-Err-clause-kept g c b base now e stands over = c.in-Err.ensures.kept b base now e stands over
 
 pub returns-in-Err-clause-cause : goal.returns-in-Err-clause-cause
 returns-in-Err-clause-cause g c =

@@ -1,31 +1,31 @@
 use Rattle.std.proofs.Common.{refl}
-use Rattle.im_one_page.specs.OnePage.{first_base}
-use Rattle.im_engine.proofs.Openings.{l, may_restart, none_opened, opening_stops, engine_opened}
+use Rattle.im_engine.proofs.Openings.{may_restart, none_opened, opening_stops, engine_opened}
 use Rattle.im_engine.proofs.engine.Engine.open_or_create.Goals as goal
 
 pub returns-then-config-lt8-clause-kept : goal.returns-then-config-lt8-clause-kept
 returns-then-config-lt8-clause-kept g c before told synced stands = record {
   ok = tt;
+  next = tt;
   stops = none_opened g.D.Disk before c.args.disk stands synced (g.met.D.Disk.only_now c.args.disk);
   cause = λ e. cc e;
 }
 
 pub returns-in-Err-clause-kept : goal.returns-in-Err-clause-kept
 returns-in-Err-clause-kept g c before told synced stands =
-    let on = l g.D.Disk before c.args.disk stands in
-    let kept = c.in-Err.ensures.kept first_base on.all told (may_restart before (g.D.Disk.seen c.args.disk) on) in
+    let kept = c.in-Err.ensures.kept stands.b stands.log told (may_restart before (g.D.Disk.seen c.args.disk) stands) in
     record {
       ok = tt;
+      next = tt;
       stops = opening_stops g.D.Disk before c.args.disk stands c.open_or_create.new.disk kept.stops;
       cause = kept.cause;
     }
 
 pub returns-in-Ok-clause-kept : goal.returns-in-Ok-clause-kept
 returns-in-Ok-clause-kept g c before told synced stands =
-    let on = l g.D.Disk before c.args.disk stands in
-    let kept = c.in-Ok.ensures.kept first_base on.all told (may_restart before (g.D.Disk.seen c.args.disk) on) in
+    let kept = c.in-Ok.ensures.kept stands.b stands.log told (may_restart before (g.D.Disk.seen c.args.disk) stands) in
     record {
-      ok = (engine_opened g.D.Disk before c.args.disk stands _ c.in-Ok.restarted kept.ok refl refl refl refl refl, refl);
+      ok = (engine_opened g.D.Disk before c.args.disk stands _ c.in-Ok.restarted kept.ok refl refl refl refl, refl);
+      next = kept.ok.next;
       stops = opening_stops g.D.Disk before c.args.disk stands c.open_or_create.new.disk kept.stops;
       cause = tt;
     }

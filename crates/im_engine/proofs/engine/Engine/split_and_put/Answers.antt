@@ -1,38 +1,43 @@
-use Rattle.std.proofs.Common.{ℕ, ◌≡◌, Ok, Err, refl, sym, subst, ◌∙◌}
+use Rattle.std.proofs.Common.{ℕ, Ok, Err, subst}
+use Rattle.im_types.specs.LogLaws.{bodies}
 use Rattle.im_types.specs.Changes.{Put}
 use Rattle.im_types.specs.Lives.{adds}
 use Rattle.im_engine.specs.Changes.{EditKept}
+use Rattle.im_engine.specs.Joined.{PutJoined}
+use Rattle.im_engine.specs.Structure.{WantsSplit}
 use Rattle.im_engine.proofs.Checks.{drop_wants}
 use Rattle.im_engine.proofs.Structure.{not_late}
 use Rattle.im_engine.proofs.SplitPuts.{late_of, split_handed_on, split_room, split_absent, put_behind, put_refused}
 use Rattle.im_engine.proofs.engine.Engine.split_and_put.Goals as goal
 
 pub returns-in_err-transaction-clause-kept : goal.returns-in_err-transaction-clause-kept
-returns-in_err-transaction-clause-kept g c before s r going p way absent lacks =
-    split_handed_on g.D.Disk before s _ c.args.self.now r c.args.key.now c.split_leaf.new.self c.in_err-transaction.field-0.0 (c.in_err-transaction.ensures.kept before s r going p way lacks) c.from_residual.result c.from_residual.ensures.1
+returns-in_err-transaction-clause-kept g c b before s r going p way absent lacks =
+    split_handed_on g.D.Disk before s _ c.args.self.now r c.args.transaction.number c.args.key.now c.args.rid _ c.split_leaf.new.self c.in_err-transaction.field-0.0 (c.in_err-transaction.ensures.kept b before s r going p way lacks) c.from_residual.result c.from_residual.ensures.1
 
 pub returns-in-Ok-clause-kept : goal.returns-in-Ok-clause-kept
-returns-in-Ok-clause-kept g c before s r going p way absent lacks =
+returns-in-Ok-clause-kept g c b before s r going p way absent lacks =
     let old = c.args.self.now in
     let made = c.in_ok-transaction.ensures in
-    let kept = made.kept before s r going p way lacks in
+    let kept = made.kept b before s r going p way lacks in
     let t = c.in_ok-transaction.transaction in
     let frame = c.in_ok-transaction.frame in
-    let put = c.in-Ok.ensures.kept before s kept.ok.running made.ok.1 kept.ok.way (split_absent g.D.Disk before s s old r c.args.key.now c.split_leaf.new.self t frame kept absent)
-    (split_room g.D.Disk before s s old r c.args.key.now c.split_leaf.new.self t frame kept c.requires.some c.requires.short made.room) in
-    put_behind g.D.Disk before s (adds c.args.transaction.number (Put c.args.key.now c.args.rid) s) old r c.args.key.now c.split_leaf.new.self t frame kept c.put.new.self c.in-Ok.ensures.split c.in-Ok.field-0
-    (subst (λ (n : ℕ). EditKept g.D.Disk before s (adds n (Put c.args.key.now c.args.rid) s) c.split_leaf.new.self c.put.new.self (Ok c.in-Ok.field-0)) made.ok.2 put)
+    let put = c.in-Ok.ensures.kept b before s kept.ok.leaf.running made.ok.1 kept.ok.leaf.way (split_absent g.D.Disk before s s old r c.args.transaction.number c.args.key.now c.args.rid (Unit {0}) c.split_leaf.new.self t frame kept absent)
+    (split_room g.D.Disk before s s old r c.args.transaction.number c.args.key.now c.args.rid (Unit {0}) c.split_leaf.new.self t frame kept c.requires.some c.requires.short made.room) in
+    put_behind g.D.Disk before s (adds c.args.transaction.number (Put c.args.key.now c.args.rid) s) old r c.args.transaction.number c.args.key.now c.args.rid (WantsSplit (bodies b r.now.log) c.args.key.now)
+    c.split_leaf.new.self t frame kept c.put.new.self c.in-Ok.field-0 (record { absent = absent; page = p; way = way; lacks = lacks })
+    (subst (λ (n : ℕ). EditKept g.D.Disk before s c.split_leaf.new.self kept.ok.leaf.running {A = ℕ} (adds n (Put c.args.key.now c.args.rid) s) (PutJoined n c.args.key.now c.args.rid ⊥ kept.ok.leaf.running.now.log) c.put.new.self (Ok c.in-Ok.field-0)) made.ok.2 put)
 
 pub returns-in-Err-clause-kept : goal.returns-in-Err-clause-kept
-returns-in-Err-clause-kept g c before s r going p way absent lacks =
+returns-in-Err-clause-kept g c b before s r going p way absent lacks =
     let old = c.args.self.now in
     let made = c.in_ok-transaction.ensures in
-    let kept = made.kept before s r going p way lacks in
+    let kept = made.kept b before s r going p way lacks in
     let t = c.in_ok-transaction.transaction in
     let frame = c.in_ok-transaction.frame in
-    let put = c.in-Err.ensures.kept before s kept.ok.running made.ok.1 kept.ok.way (split_absent g.D.Disk before s s old r c.args.key.now c.split_leaf.new.self t frame kept absent)
-    (split_room g.D.Disk before s s old r c.args.key.now c.split_leaf.new.self t frame kept c.requires.some c.requires.short made.room) in
+    let put = c.in-Err.ensures.kept b before s kept.ok.leaf.running made.ok.1 kept.ok.leaf.way (split_absent g.D.Disk before s s old r c.args.transaction.number c.args.key.now c.args.rid (Unit {0}) c.split_leaf.new.self t frame kept absent)
+    (split_room g.D.Disk before s s old r c.args.transaction.number c.args.key.now c.args.rid (Unit {0}) c.split_leaf.new.self t frame kept c.requires.some c.requires.short made.room) in
     let of = late_of c.in-Err.fault c.late.result c.in-Err.ensures.causes c.late.ensures.memory c.late.ensures.others in
-    let whole = put_refused g.D.Disk before s (adds t.number (Put c.args.key.now c.args.rid) s) old r c.args.key.now c.split_leaf.new.self t frame kept c.put.new.self c.in-Err.ensures.split c.in-Err.fault c.late.result of
-    (not_late c.in-Err.fault c.late.result c.in-Err.ensures.causes c.late.ensures.memory c.late.ensures.others put.cause) put in
+    let whole = put_refused g.D.Disk before s (adds c.args.transaction.number (Put c.args.key.now c.args.rid) s) old r c.args.transaction.number c.args.key.now c.args.rid (WantsSplit (bodies b r.now.log) c.args.key.now) c.split_leaf.new.self t frame kept c.put.new.self c.in-Err.fault c.late.result of
+    (not_late c.in-Err.fault c.late.result c.in-Err.ensures.causes c.late.ensures.memory c.late.ensures.others put.cause)
+    (subst (λ (n : ℕ). EditKept g.D.Disk before s c.split_leaf.new.self kept.ok.leaf.running {A = ℕ} (adds n (Put c.args.key.now c.args.rid) s) (PutJoined n c.args.key.now c.args.rid ⊥ kept.ok.leaf.running.now.log) c.put.new.self (Err c.in-Err.fault)) made.ok.2 put) in
     (record { ok = tt; again = drop_wants c.late.result of; stops = whole.0.stops; cause = whole.0.cause }, whole.1)

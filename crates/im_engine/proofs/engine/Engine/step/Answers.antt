@@ -1,40 +1,169 @@
 use Rattle.std.proofs.Common.{subst}
-use Rattle.std.specs.Prelude.{is_some, if◌then◌else◌}
-use Rattle.std.specs.FinMap.Entries.{find}
-use Rattle.im_types.specs.Answers as answers
-use Rattle.im_types.specs.Keys.{Key, key_order}
-use Rattle.im_engine.specs.Checks.{IsAnswered, OfFetch, OfInsert, OfDelete}
-use Rattle.im_engine.specs.Structure.{AsksChange, WantsSplit, WantsDrop}
+use Rattle.im_types.specs.Keys.{Key}
+use Rattle.im_engine.proofs.Joins.{limit_seen, split_seen, drop_seen}
+use Rattle.im_engine.proofs.StepFacts.{FetchStep, InsertStep, DeleteStep, fetch_alone, insert_alone, delete_alone, failed_works}
 use Rattle.im_engine.proofs.engine.Engine.step.Goals as goal
 
-pub returns-in-Begin-clause-answered : goal.returns-in-Begin-clause-answered
-returns-in-Begin-clause-answered g c = rw c.in-Begin.is c.begin.ensures.answered
+pub returns-in-Begin : goal.returns-in-Begin
+returns-in-Begin g c =
+    let m = c.begin.ensures in
+    rw c.in-Begin.is (record {
+      kept = m.kept;
+      alone = λ before s life. tt;
+      answered = m.answered;
+      same = m.same;
+      failed = m.failed;
+      fails = m.fails;
+      device = m.device;
+      works = failed_works g.D.Disk c.begin.result c.args.self.now c.begin.new.self m.fails m.device;
+      active = m.active;
+      numbers = m.numbers;
+      max_pages = m.max_pages;
+      limit = λ b before s r. tt;
+      wanted = λ b before s r. tt;
+      quiet = λ none. m.quiet;
+    })
 
-pub returns-in-Commit-clause-answered : goal.returns-in-Commit-clause-answered
-returns-in-Commit-clause-answered g c = rw c.in-Commit.is c.commit.ensures.answered
+pub returns-in-Fetch : goal.returns-in-Fetch
+returns-in-Fetch g c =
+    let m = c.fetch.ensures in
+    let old = c.args.self.now in
+    let new = c.fetch.new.self in
+    let made = subst (λ (k : Key). FetchStep g.D.Disk c.in-Fetch.number k c.fetch.result old new) c.deref.ensures.value (record {
+      step = record { same = m.same; failed = m.failed; fails = m.fails; device = m.device; active = m.active; numbers = m.numbers; max_pages = m.max_pages };
+      kept = m.kept;
+      answered = m.answered;
+    }) in
+    rw c.in-Fetch.is (record {
+      kept = made.kept;
+      alone = λ before s life. fetch_alone g.D.Disk before s old new life c.in-Fetch.number _ c.fetch.result made;
+      answered = made.answered;
+      same = made.step.same;
+      failed = made.step.failed;
+      fails = made.step.fails;
+      device = made.step.device;
+      works = failed_works g.D.Disk c.fetch.result old new made.step.fails made.step.device;
+      active = made.step.active;
+      numbers = made.step.numbers;
+      max_pages = made.step.max_pages;
+      limit = λ b before s r. tt;
+      wanted = λ b before s r. tt;
+      quiet = λ none. absurd (none tt);
+    })
 
-pub returns-in-Fetch-clause-answered : goal.returns-in-Fetch-clause-answered
-returns-in-Fetch-clause-answered g c =
-    rw c.in-Fetch.is (subst (λ (k : Key). IsAnswered g.D.Disk k c.fetch.result c.args.self.now c.fetch.new.self (λ entries fault. OfFetch g.D.Disk c.args.self.now c.fetch.new.self c.fetch.result fault c.in-Fetch.number k)
-    (λ entries. answers.found (find key_order k entries))) c.deref.ensures.value c.fetch.ensures.answered)
+pub returns-in-Insert : goal.returns-in-Insert
+returns-in-Insert g c =
+    let m = c.insert.ensures in
+    let old = c.args.self.now in
+    let new = c.insert.new.self in
+    let made = subst (λ (k : Key). InsertStep g.D.Disk c.in-Insert.number k c.insert.result old new c.in-Insert.rid) c.deref-in-Insert.ensures.value (record {
+      step = record { same = m.same; failed = m.failed; fails = m.fails; device = m.device; active = m.active; numbers = m.numbers; max_pages = m.max_pages };
+      kept = m.kept;
+      answered = m.answered;
+      limit = m.limit;
+      wanted = m.wanted;
+    }) in
+    rw c.in-Insert.is (record {
+      kept = made.kept;
+      alone = λ before s life. insert_alone g.D.Disk before s old new life c.in-Insert.number _ c.insert.result c.in-Insert.rid made;
+      answered = made.answered;
+      same = made.step.same;
+      failed = made.step.failed;
+      fails = made.step.fails;
+      device = made.step.device;
+      works = failed_works g.D.Disk c.insert.result old new made.step.fails made.step.device;
+      active = made.step.active;
+      numbers = made.step.numbers;
+      max_pages = made.step.max_pages;
+      limit = λ b before s r. limit_seen g.D.Disk before s old r _ c.insert.result (made.limit b before s r);
+      wanted = λ b before s r asks. split_seen g.D.Disk before s old r _ (made.wanted b before s r asks);
+      quiet = λ none. absurd (none tt);
+    })
 
-pub returns-in-Insert-clause-answered : goal.returns-in-Insert-clause-answered
-returns-in-Insert-clause-answered g c =
-    rw c.in-Insert.is (subst (λ (k : Key). IsAnswered g.D.Disk k c.insert.result c.args.self.now c.insert.new.self (λ entries fault. OfInsert g.D.Disk c.args.self.now c.insert.new.self c.insert.result fault c.in-Insert.number k entries)
-    (λ entries. if is_some (find key_order k entries) then answers.Duplicate else answers.Inserted)) c.deref-in-Insert.ensures.value c.insert.ensures.answered)
+pub returns-in-Delete : goal.returns-in-Delete
+returns-in-Delete g c =
+    let m = c.delete.ensures in
+    let old = c.args.self.now in
+    let new = c.delete.new.self in
+    let made = subst (λ (k : Key). DeleteStep g.D.Disk c.in-Delete.number k c.delete.result old new) c.deref-in-Delete.ensures.value (record {
+      step = record { same = m.same; failed = m.failed; fails = m.fails; device = m.device; active = m.active; numbers = m.numbers; max_pages = m.max_pages };
+      kept = m.kept;
+      answered = m.answered;
+      wanted = m.wanted;
+    }) in
+    rw c.in-Delete.is (record {
+      kept = made.kept;
+      alone = λ before s life. delete_alone g.D.Disk before s old new life c.in-Delete.number _ c.delete.result made;
+      answered = made.answered;
+      same = made.step.same;
+      failed = made.step.failed;
+      fails = made.step.fails;
+      device = made.step.device;
+      works = failed_works g.D.Disk c.delete.result old new made.step.fails made.step.device;
+      active = made.step.active;
+      numbers = made.step.numbers;
+      max_pages = made.step.max_pages;
+      limit = λ b before s r. tt;
+      wanted = λ b before s r asks. drop_seen g.D.Disk before s old r _ (made.wanted b before s r asks);
+      quiet = λ none. absurd (none tt);
+    })
 
-pub returns-in-Delete-clause-answered : goal.returns-in-Delete-clause-answered
-returns-in-Delete-clause-answered g c =
-    rw c.in-Delete.is (subst (λ (k : Key). IsAnswered g.D.Disk k c.delete.result c.args.self.now c.delete.new.self (λ entries fault. OfDelete g.D.Disk c.args.self.now c.delete.new.self c.delete.result fault c.in-Delete.number k)
-    (λ entries. if is_some (find key_order k entries) then answers.Deleted else answers.Absent)) c.deref-in-Delete.ensures.value c.delete.ensures.answered)
+pub returns-in-Commit : goal.returns-in-Commit
+returns-in-Commit g c =
+    let m = c.commit.ensures in
+    rw c.in-Commit.is (record {
+      kept = m.kept;
+      alone = λ before s life. tt;
+      answered = m.answered;
+      same = m.same;
+      failed = m.failed;
+      fails = m.fails;
+      device = m.device;
+      works = failed_works g.D.Disk c.commit.result c.args.self.now c.commit.new.self m.fails m.device;
+      active = m.active;
+      numbers = m.numbers;
+      max_pages = m.max_pages;
+      limit = λ b before s r. tt;
+      wanted = λ b before s r. tt;
+      quiet = m.quiet;
+    })
 
-pub returns-in-Force-clause-answered : goal.returns-in-Force-clause-answered
-returns-in-Force-clause-answered g c = rw c.in-Force.is c.force.ensures.answered
+pub returns-in-FlushPage : goal.returns-in-FlushPage
+returns-in-FlushPage g c =
+    let m = c.flush_page.ensures in
+    rw c.in-FlushPage.is (record {
+      kept = m.kept;
+      alone = λ before s life. tt;
+      answered = m.answered;
+      same = m.same;
+      failed = m.failed;
+      fails = m.fails;
+      device = m.device;
+      works = failed_works g.D.Disk c.flush_page.result c.args.self.now c.flush_page.new.self m.fails m.device;
+      active = m.active;
+      numbers = m.numbers;
+      max_pages = m.max_pages;
+      limit = λ b before s r. tt;
+      wanted = λ b before s r. tt;
+      quiet = m.quiet;
+    })
 
-pub returns-in-Insert-clause-wanted : goal.returns-in-Insert-clause-wanted
-returns-in-Insert-clause-wanted g c before s r =
-    rw c.in-Insert.is (subst (λ (k : Key). AsksChange g.D.Disk before s c.args.self.now r c.insert.result c.insert.new.self → WantsSplit g.D.Disk before s c.args.self.now r k) c.deref-in-Insert.ensures.value (c.insert.ensures.wanted before s r))
-
-pub returns-in-Delete-clause-wanted : goal.returns-in-Delete-clause-wanted
-returns-in-Delete-clause-wanted g c before s r =
-    rw c.in-Delete.is (subst (λ (k : Key). AsksChange g.D.Disk before s c.args.self.now r c.delete.result c.delete.new.self → WantsDrop g.D.Disk before s c.args.self.now r k) c.deref-in-Delete.ensures.value (c.delete.ensures.wanted before s r))
+pub returns-in-Force : goal.returns-in-Force
+returns-in-Force g c =
+    let m = c.force.ensures in
+    rw c.in-Force.is (record {
+      kept = m.kept;
+      alone = λ before s life. tt;
+      answered = m.answered;
+      same = m.same;
+      failed = m.failed;
+      fails = m.fails;
+      device = m.device;
+      works = failed_works g.D.Disk c.force.result c.args.self.now c.force.new.self m.fails m.device;
+      active = m.active;
+      numbers = m.numbers;
+      max_pages = m.max_pages;
+      limit = λ b before s r. tt;
+      wanted = λ b before s r. tt;
+      quiet = m.quiet;
+    })

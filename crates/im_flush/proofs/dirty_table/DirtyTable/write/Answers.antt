@@ -3,7 +3,7 @@ use Rattle.im_flush.specs.declared.table_entry.TableEntry.{TableEntry}
 use Rattle.im_flush.specs.DirtyTable.{put, IsRising, IsFound, IsAbsent}
 use Rattle.im_types.specs.WriterSteps.{written_entry}
 use Rattle.im_flush.specs.declared.dirty_table.TheConstants.{MOST}
-use Rattle.im_flush.proofs.Tables.{changes_entry, write_set, put_absent, put_rising, absent_none, found_entry, room_found, room_free, room_none, written_with, written_not}
+use Rattle.im_flush.proofs.Tables.{changes_entry, put_set, put_absent, put_rising, absent_none, found_entry, room_found, room_free, room_none, written_with, written_not}
 use Rattle.im_flush.proofs.dirty_table.DirtyTable.write.Goals as goal
 
 -- ---- where the page has its entry
@@ -12,27 +12,27 @@ pub invariant_of-self : goal.invariant_of-self
 invariant_of-self c =
     let v : c.self.inside.entries.items ≡ c.args.self.now = c.self.view_is in
     let found : IsFound c.self.inside.entries.items c.args.page c.in-Ok.at = subst (λ (l : List TableEntry). IsFound l c.args.page c.in-Ok.at) (sym v) c.in-Ok.ensures.found in
-    let is = write_set c.self.inside.entries.items c.in-Ok.at c.args.page c.args.lsn c.index_mut.result.now found c.index_mut.ensures.value in
+    let is = put_set (written_entry c.args.lsn) c.self.inside.entries.items c.in-Ok.at c.args.page c.index-entry.result.now c.written.result found c.index-entry.ensures c.written.ensures in
     (subst (λ (l : List TableEntry). IsRising l) (sym is) (put_rising (written_entry c.args.lsn) c.args.page c.self.inside.entries.items c.self.invariant.0), c.self.invariant.1, c.self.invariant.2)
 
 pub returns-in-Ok-clause-entered : goal.returns-in-Ok-clause-entered
 returns-in-Ok-clause-entered c =
     let rising : IsRising c.args.self.now = subst (λ (l : List TableEntry). IsRising l) c.self.view_is c.self.invariant.0 in
-    sym (room_found c.args.self.now c.args.page _ (found_entry c.args.self.now c.in-Ok.at c.args.page c.index_mut.result.now rising c.in-Ok.ensures.found))
+    sym (room_found c.args.self.now c.args.page _ (found_entry c.args.self.now c.in-Ok.at c.args.page c.index-entry.result.now rising c.in-Ok.ensures.found))
 
 pub returns-in-Ok-clause-table : goal.returns-in-Ok-clause-table
 returns-in-Ok-clause-table c =
     let v : c.self.inside.entries.items ≡ c.args.self.now = c.self.view_is in
     let found : IsFound c.self.inside.entries.items c.args.page c.in-Ok.at = subst (λ (l : List TableEntry). IsFound l c.args.page c.in-Ok.at) (sym v) c.in-Ok.ensures.found in
     written_with c.args.lsn c.args.page c.args.self.now _ (sym (returns-in-Ok-clause-entered c))
-    (write_set c.self.inside.entries.items c.in-Ok.at c.args.page c.args.lsn c.index_mut.result.now found c.index_mut.ensures.value ∙ ap (λ (l : List TableEntry). put c.args.page (written_entry c.args.lsn) l) v)
+    (put_set (written_entry c.args.lsn) c.self.inside.entries.items c.in-Ok.at c.args.page c.index-entry.result.now c.written.result found c.index-entry.ensures c.written.ensures ∙ ap (λ (l : List TableEntry). put c.args.page (written_entry c.args.lsn) l) v)
 
 pub returns-in-Ok-clause-entry : goal.returns-in-Ok-clause-entry
 returns-in-Ok-clause-entry c entered =
     let v : c.self.inside.entries.items ≡ c.args.self.now = c.self.view_is in
     let found : IsFound c.self.inside.entries.items c.args.page c.in-Ok.at = subst (λ (l : List TableEntry). IsFound l c.args.page c.in-Ok.at) (sym v) c.in-Ok.ensures.found in
     changes_entry (written_entry c.args.lsn) c.args.page c.args.self.now _ (subst (λ (l : List TableEntry). IsRising l) c.self.view_is c.self.invariant.0)
-    (write_set c.self.inside.entries.items c.in-Ok.at c.args.page c.args.lsn c.index_mut.result.now found c.index_mut.ensures.value ∙ ap (λ (l : List TableEntry). put c.args.page (written_entry c.args.lsn) l) v)
+    (put_set (written_entry c.args.lsn) c.self.inside.entries.items c.in-Ok.at c.args.page c.index-entry.result.now c.written.result found c.index-entry.ensures c.written.ensures ∙ ap (λ (l : List TableEntry). put c.args.page (written_entry c.args.lsn) l) v)
 
 -- ---- where it has none, and there is no room
 

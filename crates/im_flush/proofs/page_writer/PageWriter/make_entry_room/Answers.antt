@@ -3,7 +3,8 @@ use Rattle.im_types.specs.WriterSteps.{synced}
 use Rattle.im_pool.specs.Pool.{last_changed}
 use Rattle.im_flush.specs.declared.table_entry.TableEntry.{TableEntry}
 use Rattle.im_flush.proofs.Goings.{leaves_last, leaves_so_far}
-use Rattle.im_flush.proofs.LoggedChanges.{ok_with}
+use Rattle.im_flush.proofs.LogEnds.{ends_as, ends_then}
+use Rattle.im_flush.proofs.LoggedChanges.{ok_of, ok_with}
 use Rattle.im_flush.proofs.TableRoom.{oldest_synced, room_left}
 use Rattle.im_flush.proofs.Writers.{goes_on_start, goes_on_then}
 use Rattle.im_flush.proofs.page_writer.PageWriter.make_entry_room.Goals as goal
@@ -43,3 +44,9 @@ returns-clause-kept g c b base s is =
       });
       stops = leaves_last g.D.Disk b base s c.args.disk.now t mid.log mid.table mid.pool c.flush_oldest.new.disk first.ok.on.goes c.sync_pages.new.disk sync.stops;
     }
+
+pub returns-clause-later : goal.returns-clause-later
+returns-clause-later g c =
+    let mid = c.flush_oldest.new.self.log in
+    let new = c.sync_pages.new.self.log in
+    ok_of c.sync_pages.result _ (ends_then c.args.self.now.log mid new c.in_ok-flush_oldest.ensures.later (ends_as mid new c.sync_pages.ensures.log))

@@ -1,5 +1,5 @@
 use Rattle.std.proofs.Common.{refl, subst}
-use Rattle.im_lock.specs.Table.{Table, locks_of, row, IsGrown}
+use Rattle.im_lock.specs.Table.{Table, locks_of, row, IsGrown, SameTable}
 use Rattle.im_lock.specs.Locks.{WaitsFor, MustDie, IsFree}
 use Rattle.im_lock.specs.InStep.{owned}
 use Rattle.im_lock.proofs.Conflicts.{free-by, waits-by, dies-by}
@@ -26,4 +26,12 @@ returns-clause-decided c = (
   subst (λ (table : Table). IsFree (locks_of table) c.args.t (row c.args.requests.now)) c.self.view_is
       (free-by c.self.inside.names (owned c.self.inside.owners) c.self.invariant c.args.t (row c.args.requests.now) c.in_default.ensures),
   subst (λ (table : Table). IsGrown table c.args.t (row c.args.requests.now) (owned c.grant_to.new.owners)) c.self.view_is c.in_default-grant_to.ensures.granted,
+)
+
+pub returns-in-Err-clause-refused : goal.returns-in-Err-clause-refused
+returns-in-Err-clause-refused c = (
+  refl,
+  subst (λ (table : Table). IsFree (locks_of table) c.args.t (row c.args.requests.now)) c.self.view_is
+      (free-by c.self.inside.names (owned c.self.inside.owners) c.self.invariant c.args.t (row c.args.requests.now) c.in_default.ensures),
+  subst (λ (table : Table). SameTable table (owned c.grant_to.new.owners)) c.self.view_is c.in-Err.ensures.err,
 )

@@ -1,5 +1,7 @@
-use Rattle.std.proofs.Common.{◌<◌, ◌++◌, length, filter, take, drop, get_or, not, sym, ◌∙◌, ap, arith}
+use Rattle.std.proofs.Common.{rules, ◌<◌, ◌++◌, length, filter, take, drop, get_or, not, sym, ◌∙◌, ap, arith}
+use Rattle.std.proofs.lemmas.Grind.{common_steps}
 use Rattle.im_txn.specs.Rows.{begun, is_of}
+use Rattle.im_txn.proofs.LookUps.{table_left, one_left}
 use Rattle.im_txn.proofs.RowLemmas.{removed, not_kept}
 use Rattle.im_txn.proofs.table.Table.end.Goals as goal
 
@@ -16,3 +18,9 @@ loop-at-preserved-then-as_slice-at c =
           ∙ removed (λ row. not (is_of c.args.number row)) items at (begun 0) within (not_kept c.args.number (get_or items at (begun 0)) is)
           ∙ c.loop-at.invariant.same;
     }
+
+pub invariant_of-self : goal.invariant_of-self
+invariant_of-self c = table_left c.args.number c.loop-at.self-inside.rows.items c.args.self.now c.self.inside.rows.items (first_of (search rules, grind (arith, common_steps))) c.self.view_is c.self.invariant
+
+pub returns-clause-one : goal.returns-clause-one
+returns-clause-one c = one_left c.args.number c.loop-at.self-inside.rows.items c.args.self.now c.self.inside.rows.items (first_of (search rules, grind (arith, common_steps))) c.self.view_is c.self.invariant

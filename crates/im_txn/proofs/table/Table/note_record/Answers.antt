@@ -1,5 +1,7 @@
-use Rattle.std.proofs.Common.{◌<◌, length, get_or, sym, ◌∙◌, ap, arith}
+use Rattle.std.proofs.Common.{rules, refl, ◌<◌, length, get_or, sym, ◌∙◌, ap, arith}
+use Rattle.std.proofs.lemmas.Grind.{common_steps}
 use Rattle.im_txn.specs.Rows.{begun, changed, with_record, with_mark}
+use Rattle.im_txn.proofs.LookUps.{table_changed}
 use Rattle.im_txn.proofs.RowLemmas.{map_step, changed_here, changed_other}
 use Rattle.im_txn.proofs.table.Table.note_record.Goals as goal
 use Rattle.im_txn.proofs.table.Table.note_record.Goals.{then-row-number, else-row-number}
@@ -18,3 +20,6 @@ loop-row-preserved c =
           w.row-items-is
           ∙ map_step (changed c.args.number change) rows c.loop-row.row-items c.loop-row.row-index _ (begun 0) c.loop-row.invariant within (sym (changed_other c.args.number change row w.if-row-number.false))
     ]
+
+pub invariant_of-self : goal.invariant_of-self
+invariant_of-self c = table_changed c.args.number (with_record c.args.lsn c.args.undo_next) (λ row. refl) _ c.args.self.now c.self.inside.rows.items (first_of (search rules, grind (arith, common_steps))) c.self.view_is c.self.invariant

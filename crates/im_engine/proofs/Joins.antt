@@ -1,0 +1,112 @@
+-- Which records joined the log in the parts of a step, put together.
+use Rattle.std.proofs.Common.{◌≡◌, ◌≢◌, ℕ, List, [], ◌∷◌, ◌++◌, Option, refl, sym, ap, subst, ◌∙◌}
+use Rattle.im_types.specs.Keys.{Key}
+use Rattle.im_types.specs.Changes.{Effect}
+use Rattle.im_types.specs.Records.{Logged}
+use Rattle.im_types.specs.Histories.{Base, History}
+use Rattle.im_types.specs.Copies.{GrowsByImages}
+use Rattle.im_types.specs.Structure.{settled}
+use Rattle.im_types.specs.LogLaws.{bodies}
+use Rattle.im_types.specs.Lives.{Shown}
+use Rattle.im_types.specs.declared.reply.Reply.{Reply}
+use Rattle.im_disk.specs.declared.disk.Disk.{Ghosts}
+use Rattle.im_flush.proofs.Growing.{grows_then}
+use Rattle.im_tree.specs.Levels.{Pages}
+use Rattle.im_change.specs.Changes.{GrowsByChange, marks}
+use Rattle.im_engine.specs.declared.engine.Engine.{Engine}
+use Rattle.im_engine.specs.Joined.{PutJoined, TakeJoined}
+use Rattle.im_engine.specs.Running.{IsRunning}
+use Rattle.im_engine.specs.Changes.{Rests, LeafLooked, Edited}
+use Rattle.im_engine.specs.Structure.{MeetsLimit, WantsSplit, WantsDrop}
+use Rattle.im_engine.proofs.Keys.{of_images, images_as_change, change_then, marks_behind}
+use Rattle.im_engine.proofs.Running.{bodies_still, settled_now}
+
+-- a key put, or dropped, behind Images
+put_behind_images : (b : Base) (t : ℕ) (key : Key) (rid : ℕ) (wants then : Type 0) → (wants → then) → (older mid newer : History) → GrowsByImages b older mid → PutJoined t key rid wants mid newer → PutJoined t key rid then older newer
+put_behind_images b t key rid wants then so older mid newer images put = record {
+  between = put.between;
+  change = change_then t older mid put.between (images_as_change b t older mid images) put.change;
+  wanted = λ some. so (put.wanted (λ none. some (marks_behind put.change.more images.images none (of_images b t older images.images images.all).1)));
+  put = put.put;
+  is = put.is;
+  what = put.what;
+  owner = put.owner;
+}
+
+take_behind_images : (b : Base) (t : ℕ) (key : Key) (wants then : Type 0) → (wants → then) → (older mid newer : History) → GrowsByImages b older mid → TakeJoined b t key wants mid newer → TakeJoined b t key then older newer
+take_behind_images b t key wants then so older mid newer images take = record {
+  before = take.before;
+  images = grows_then b older mid take.before images take.images;
+  taken = take.taken;
+  rid = take.rid;
+  what = take.what;
+  owner = take.owner;
+  change = take.change;
+  wanted = λ some. so (take.wanted some);
+}
+
+-- a structure change behind it, which is wanted
+take_and_change : (b : Base) (t : ℕ) (key : Key) (wants : Type 0) → wants → (older mid newer : History) → TakeJoined b t key ⊥ older mid → GrowsByChange t mid newer → TakeJoined b t key wants older newer
+take_and_change b t key wants want older mid newer take grows = record {
+  before = take.before;
+  images = take.images;
+  taken = take.taken;
+  rid = take.rid;
+  what = take.what;
+  owner = take.owner;
+  change = change_then t (take.taken ∷ take.before) mid newer take.change grows;
+  wanted = λ some. want;
+}
+
+module _ {D : Type 0} (d : Ghosts D) {b : Base} (before : List Effect) (s : Shown) (old : Engine D d) (r : IsRunning d b before s old) where
+  -- what is wanted of the pages that there are is wanted of those that users see
+  pub split_seen : (key : Key) → WantsSplit (bodies b r.now.log) key → WantsSplit (settled b r.now.log) key
+  split_seen key w = subst (λ (pages : Pages). WantsSplit pages key) (sym (settled_now d before s old r)) w
+
+  pub limit_seen : (key : Key) (reply : Reply) → MeetsLimit (bodies b r.now.log) old.max_pages key reply → MeetsLimit (settled b r.now.log) old.max_pages key reply
+  limit_seen key reply m = subst (λ (pages : Pages). MeetsLimit pages old.max_pages key reply) (sym (settled_now d before s old r)) m
+
+  pub drop_seen : (key : Key) → WantsDrop (bodies b r.now.log) key → WantsDrop (settled b r.now.log) key
+  drop_seen key w = subst (λ (pages : Pages). WantsDrop pages key) (sym (settled_now d before s old r)) w
+
+  module _ (key : Key) (p : ℕ) (mid : Engine D d) (l : LeafLooked d before s old r key p mid) where
+    -- a refusal behind the look at a leaf
+    pub rests_behind : (new : Engine D d) → Rests d before s mid l.looked.running new → Rests d before s old r new
+    rests_behind new rests = record { running = rests.running; grows = grows_then b r.now.log l.looked.running.now.log rests.running.now.log l.looked.grows rests.grows }
+
+    module _ (m n : ℕ) (same : m ≡ n) (then : Shown) (new : Engine D d) where
+      -- a key put into its leaf
+      pub put_joins : (rid : ℕ) → Edited d b before then (PutJoined m key rid ⊥ l.looked.running.now.log) new → Edited d b before then (PutJoined n key rid (WantsSplit (settled b r.now.log) key) r.now.log) new
+      put_joins rid e = record {
+        running = e.running;
+        joins = subst (λ (t : ℕ). PutJoined t key rid (WantsSplit (settled b r.now.log) key) r.now.log e.running.now.log) same
+            (put_behind_images b m key rid ⊥ (WantsSplit (settled b r.now.log) key) (λ x. absurd x) r.now.log l.looked.running.now.log e.running.now.log l.looked.grows e.joins);
+      }
+
+      -- behind a split
+      pub split_joins : (rid : ℕ) → Edited d b before then (PutJoined m key rid (WantsSplit (bodies b l.looked.running.now.log) key) l.looked.running.now.log) new
+          → Edited d b before then (PutJoined n key rid (WantsSplit (settled b r.now.log) key) r.now.log) new
+      split_joins rid e = record {
+        running = e.running;
+        joins = subst (λ (t : ℕ). PutJoined t key rid (WantsSplit (settled b r.now.log) key) r.now.log e.running.now.log) same
+            (put_behind_images b m key rid (WantsSplit (bodies b l.looked.running.now.log) key) (WantsSplit (settled b r.now.log) key)
+            (λ w. split_seen key (subst (λ (pages : Pages). WantsSplit pages key) (bodies_still d before s old r p mid l.looked) w)) r.now.log l.looked.running.now.log e.running.now.log l.looked.grows e.joins);
+      }
+
+      -- one dropped
+      pub take_joins : Edited d b before then (TakeJoined b m key ⊥ l.looked.running.now.log) new → Edited d b before then (TakeJoined b n key (WantsDrop (settled b r.now.log) key) r.now.log) new
+      take_joins e = record {
+        running = e.running;
+        joins = subst (λ (t : ℕ). TakeJoined b t key (WantsDrop (settled b r.now.log) key) r.now.log e.running.now.log) same
+            (take_behind_images b m key ⊥ (WantsDrop (settled b r.now.log) key) (λ x. absurd x) r.now.log l.looked.running.now.log e.running.now.log l.looked.grows e.joins);
+      }
+
+      -- and its leaf
+      pub drop_joins : (taken : Engine D d) (e : Edited d b before then (TakeJoined b m key ⊥ l.looked.running.now.log) taken) → WantsDrop (bodies b r.now.log) key
+          → Edited d b before then (GrowsByChange m e.running.now.log) new → Edited d b before then (TakeJoined b n key (WantsDrop (settled b r.now.log) key) r.now.log) new
+      drop_joins taken e want f = record {
+        running = f.running;
+        joins = subst (λ (t : ℕ). TakeJoined b t key (WantsDrop (settled b r.now.log) key) r.now.log f.running.now.log) same
+            (take_behind_images b m key (WantsDrop (settled b r.now.log) key) (WantsDrop (settled b r.now.log) key) (λ x. x) r.now.log l.looked.running.now.log f.running.now.log l.looked.grows
+            (take_and_change b m key (WantsDrop (settled b r.now.log) key) (drop_seen key want) l.looked.running.now.log e.running.now.log f.running.now.log e.joins f.joins));
+      }

@@ -1,0 +1,250 @@
+-- In a run of the machine, what was started has ended or is active.
+use Rattle.std.proofs.Common.{◌≡◌, ◌≢◌, ℕ, zero, suc, ◌+◌, ◌-◌, ◌≤◌, ◌<◌, Bool, true, false, true≢false, List, [], ◌∷◌, Option, Some, None, ◌⊎◌, refl, ap, sym, subst, ◌∙◌, inl, inr, arith}
+use Rattle.std.proofs.lemmas.Bool.{cases_lt, eq-eqb, ne_eqb}
+use Rattle.std.specs.Prelude.{cond, is_some}
+use Rattle.std.specs.FinMap.{get}
+use Rattle.im_types.specs.Keys.{Key}
+use Rattle.im_types.specs.Maps.{IndexMap, From, Above, first}
+use Rattle.im_types.specs.Answers.{Access, Fetch, Seek, Next, Scan, Insert, Delete, Step, Reply, Started, Committed, RolledBack, More, Blocked, Die, Done, Refused, Absent, Inserted, Duplicate, Deleted, Mark, Idle, Going, MustRollBack, RollingBack, Committing, found, entry, answer}
+use Rattle.im_lock.specs.Locks.{Lock}
+use Rattle.im_lock.specs.View.{Txn, View, idle, set_txn, begun, did, did_txn, marked, committed_by, dropped_by, undid_more, undid_last, broken, MayRollBack}
+use Rattle.im_lock.specs.Machine.{barred, Answers, Goes, Moves, begins, does, waits, dies, commits, drops, turns, undoes, ends, flushes, forces, checkpoints, lacks, breaks, start}
+use Rattle.im_front.specs.Held.{started_in, committed_in, rolled_back_in}
+use Rattle.im_front.specs.Events.{Event, Made, Broke, Runs}
+
+pub cases_number : (s t : ℕ) → (s ≡ t) ⊎ (s ≢ t)
+cases_number s t = elim (cases_lt s t) [
+  | inl l ↦ inr (λ e. absurd (omega arith))
+  | inr l ↦ elim (cases_lt t s) [ inl k ↦ inr (λ e. absurd (omega arith)) | inr k ↦ inl (omega arith) ]
+]
+
+-- 1 where a transaction is active
+abbrev busy : Mark → ℕ
+busy Idle = 0
+busy Going = 1
+busy MustRollBack = 1
+busy RollingBack = 1
+busy Committing = 1
+
+-- how many below a number are active
+abbrev busy_below : (ℕ → Txn) → ℕ → ℕ
+busy_below txns zero = 0
+busy_below txns (suc n) = busy ((txns n).mark) + busy_below txns n
+
+busy_below-same : (f g : ℕ → Txn) (n : ℕ) → ((s : ℕ) → s < n → (f s).mark ≡ (g s).mark) → busy_below f n ≡ busy_below g n
+busy_below-same f g zero same = refl
+busy_below-same f g (suc n) same =
+    let here : busy ((f n).mark) ≡ busy ((g n).mark) = ap busy (same n (omega arith)) in
+    let rest : busy_below f n ≡ busy_below g n = busy_below-same f g n (λ s l. same s (omega arith)) in
+    omega arith
+
+set_txn-same : (txns : ℕ → Txn) (t : ℕ) (x : Txn) (s : ℕ) → s ≡ t → set_txn txns t x s ≡ x
+set_txn-same txns t x s e = rw (eq-eqb s t e) refl
+
+set_txn-other : (txns : ℕ → Txn) (t : ℕ) (x : Txn) (s : ℕ) → s ≢ t → set_txn txns t x s ≡ txns s
+set_txn-other txns t x s ne = rw (ne_eqb s t ne) refl
+
+busy_below-set : (txns : ℕ → Txn) (t : ℕ) (x : Txn) (n : ℕ) → t < n → busy_below (set_txn txns t x) n + busy ((txns t).mark) ≡ busy_below txns n + busy x.mark
+busy_below-set txns t x zero l = absurd (omega arith)
+busy_below-set txns t x (suc n) l =
+    elim (cases_number n t) [
+      | inl e ↦
+          (let here : busy ((set_txn txns t x n).mark) ≡ busy x.mark = ap (λ (y : Txn). busy y.mark) (set_txn-same txns t x n e) in
+          let was : busy ((txns t).mark) ≡ busy ((txns n).mark) = ap (λ s. busy ((txns s).mark)) (sym e) in
+          let rest : busy_below (set_txn txns t x) n ≡ busy_below txns n = busy_below-same (set_txn txns t x) txns n (λ s k. ap (λ (y : Txn). y.mark) (set_txn-other txns t x s (λ q. omega arith))) in
+          omega arith)
+      | inr ne ↦
+          (let here : busy ((set_txn txns t x n).mark) ≡ busy ((txns n).mark) = ap (λ (y : Txn). busy y.mark) (set_txn-other txns t x n ne) in
+          let rest : busy_below (set_txn txns t x) n + busy ((txns t).mark) ≡ busy_below txns n + busy x.mark = busy_below-set txns t x n (omega arith) in
+          omega arith)
+    ]
+
+-- the number of active transactions is how many are not idle; an idle one has nothing, unless the engine has failed
+pub record Busy (txns : ℕ → Txn) (next active : ℕ) (failed : Bool) : Type 0 where
+  pub active_is : active ≡ busy_below txns next
+  pub fresh : (s : ℕ) → next ≤ s → (txns s).mark ≡ Idle
+  pub rest : failed ≡ false → (s : ℕ) → (txns s).mark ≡ Idle → txns s ≡ idle
+
+abbrev pub IsBusy : View → Type 0
+IsBusy v = Busy v.txns v.next v.active v.failed
+
+idle_free : (m : Mark) → busy m ≡ 1 → m ≡ Idle → ⊥
+idle_free m b e = let z : busy m ≡ 0 = ap busy e in absurd (omega arith)
+
+busy_may : (m : Mark) → MayRollBack m → busy m ≡ 1
+busy_may m (inl e) = ap busy e
+busy_may m (inr e) = ap busy e
+
+module _ (txns : ℕ → Txn) (next active : ℕ) (failed : Bool) (h : Busy txns next active failed) where
+  given_out : (t : ℕ) → busy ((txns t).mark) ≡ 1 → t < next
+  given_out t b =
+      elim (cases_lt t next) [
+        | inl l ↦ l
+        | inr l ↦ absurd (idle_free ((txns t).mark) b (h.fresh t l))
+      ]
+
+  some_active : (t : ℕ) → busy ((txns t).mark) ≡ 1 → 0 < active
+  some_active t b =
+      let at : t < next = given_out t b in
+      let sum = busy_below-set txns t idle next at in
+      let is = h.active_is in
+      omega arith
+
+  -- one that is busy stays so
+  set_busy : (t : ℕ) (x : Txn) → busy ((txns t).mark) ≡ 1 → busy x.mark ≡ 1 → Busy (set_txn txns t x) next active failed
+  set_busy t x was now =
+      let at : t < next = given_out t was in
+      let sum = busy_below-set txns t x next at in
+      let is = h.active_is in
+      record {
+        active_is = omega arith;
+        fresh = λ s l. ap (λ (y : Txn). y.mark) (set_txn-other txns t x s (λ e. omega arith)) ∙ h.fresh s l;
+        rest = λ f s e.
+            elim (cases_number s t) [
+              | inl q ↦ absurd (idle_free x.mark now (sym (ap (λ (y : Txn). y.mark) (set_txn-same txns t x s q)) ∙ e))
+              | inr ne ↦ set_txn-other txns t x s ne ∙ h.rest f s (sym (ap (λ (y : Txn). y.mark) (set_txn-other txns t x s ne)) ∙ e)
+            ];
+      }
+
+  -- one that is busy ends
+  set_idle : (t : ℕ) → busy ((txns t).mark) ≡ 1 → Busy (set_txn txns t idle) next (active - 1) failed
+  set_idle t was =
+      let at : t < next = given_out t was in
+      let sum = busy_below-set txns t idle next at in
+      let is = h.active_is in
+      record {
+        active_is = omega arith;
+        fresh = λ s l. ap (λ (y : Txn). y.mark) (set_txn-other txns t idle s (λ e. omega arith)) ∙ h.fresh s l;
+        rest = λ f s e.
+            elim (cases_number s t) [
+              | inl q ↦ set_txn-same txns t idle s q
+              | inr ne ↦ set_txn-other txns t idle s ne ∙ h.rest f s (sym (ap (λ (y : Txn). y.mark) (set_txn-other txns t idle s ne)) ∙ e)
+            ];
+      }
+
+  begin_busy : (x : Txn) → busy x.mark ≡ 1 → Busy (set_txn txns next x) (suc next) (suc active) failed
+  begin_busy x now =
+      let here : busy ((set_txn txns next x next).mark) ≡ busy x.mark = ap (λ (y : Txn). busy y.mark) (set_txn-same txns next x next refl) in
+      let others : busy_below (set_txn txns next x) next ≡ busy_below txns next = busy_below-same (set_txn txns next x) txns next (λ s l. ap (λ (y : Txn). y.mark) (set_txn-other txns next x s (λ e. omega arith))) in
+      let is = h.active_is in
+      record {
+        active_is = omega arith;
+        fresh = λ s l. ap (λ (y : Txn). y.mark) (set_txn-other txns next x s (λ e. omega arith)) ∙ h.fresh s (omega arith);
+        rest = λ f s e.
+            elim (cases_number s next) [
+              | inl q ↦ absurd (idle_free x.mark now (sym (ap (λ (y : Txn). y.mark) (set_txn-same txns next x s q)) ∙ e))
+              | inr ne ↦ set_txn-other txns next x s ne ∙ h.rest f s (sym (ap (λ (y : Txn). y.mark) (set_txn-other txns next x s ne)) ∙ e)
+            ];
+      }
+
+-- a reply that begins and ends nothing
+abbrev IsPlain : Reply → Type 0
+IsPlain r = (started_in r ≡ 0) × (committed_in r ≡ 0) × (rolled_back_in r ≡ 0)
+
+plain_found : (o : Option ℕ) → IsPlain (found o)
+plain_found None = (refl, refl, refl)
+plain_found (Some r) = (refl, refl, refl)
+
+plain_entry : (o : Option (Key × ℕ)) → IsPlain (entry o)
+plain_entry None = (refl, refl, refl)
+plain_entry (Some r) = (refl, refl, refl)
+
+plain_insert : (b : Bool) → IsPlain (cond b Duplicate Inserted)
+plain_insert true = (refl, refl, refl)
+plain_insert false = (refl, refl, refl)
+
+plain_delete : (b : Bool) → IsPlain (cond b Deleted Absent)
+plain_delete true = (refl, refl, refl)
+plain_delete false = (refl, refl, refl)
+
+answer_plain : (a : Access) (m : IndexMap) → IsPlain (answer a m)
+answer_plain (Fetch k) m = plain_found (get m k)
+answer_plain (Seek k) m = plain_entry (first (From k) m)
+answer_plain (Next k) m = plain_entry (first (Above k) m)
+answer_plain (Scan lo hi n) m = (refl, refl, refl)
+answer_plain (Insert k r) m = plain_insert (is_some (get m k))
+answer_plain (Delete k) m = plain_delete (is_some (get m k))
+
+-- what a step leaves, and what its reply began and ended
+abbrev pub Leaves : View → Reply → View → Type 0
+Leaves v r w = IsBusy w × (started_in r + v.active ≡ (committed_in r + rolled_back_in r) + w.active)
+
+leaves_at : (v w w' : View) (r r' : Reply) → r ≡ r' → w ≡ w' → Leaves v r' w' → Leaves v r w
+leaves_at v w w' r r' e is h = subst (λ (x : Reply × View). Leaves v x.0 x.1) (λ i. (sym e i, sym is i)) h
+
+plain_leaves : (v w : View) (r : Reply) → IsPlain r → IsBusy w → w.active ≡ v.active → Leaves v r w
+plain_leaves v w r p h e = let a = p.0 in let b = p.1 in let c = p.2 in (h, omega arith)
+
+pub broken_busy : (v : View) (ls : ℕ → List Lock) → IsBusy v → IsBusy (broken v ls)
+broken_busy v ls h = record {
+  active_is = h.active_is ∙ busy_below-same v.txns (λ s. record (v.txns s) { locks = ls s }) v.next (λ s l. refl);
+  fresh = h.fresh;
+  rest = λ f. absurd (true≢false f);
+}
+
+goes_leaves : (v w : View) (s : Step) (r : Reply) → IsBusy v → Goes v s r w → Leaves v r w
+goes_leaves v w s r h (begins a limit b c) = leaves_at v w (begun v) r (Started v.next) b c (begin_busy v.txns v.next v.active v.failed h (record idle { mark = Going }) refl, omega arith)
+goes_leaves v w s r h (does t a ls b going free same d e) =
+    leaves_at v w (did v t a ls) r (answer a v.walk) d e (plain_leaves v (did v t a ls) (answer a v.walk) (answer_plain a v.walk) (set_busy v.txns v.next v.active v.failed h t (did_txn (v.txns t) a v.walk ls) (ap busy going) refl) refl)
+goes_leaves v w s r h (waits t a holder b going wait d e) = leaves_at v w v r (Blocked holder) d e (h, refl)
+goes_leaves v w s r h (dies t a b going die d e) =
+    leaves_at v w (marked v t MustRollBack) r Die d e (set_busy v.txns v.next v.active v.failed h t (record (v.txns t) { mark = MustRollBack }) (ap busy going) refl, refl)
+goes_leaves v w s r h (commits t b going d e) =
+    let some = some_active v.txns v.next v.active v.failed h t (ap busy going) in
+    leaves_at v w (committed_by v t) r Committed d e (set_idle v.txns v.next v.active v.failed h t (ap busy going), omega arith)
+goes_leaves v w s r h (drops t b may none d e) =
+    let some = some_active v.txns v.next v.active v.failed h t (busy_may ((v.txns t).mark) may) in
+    leaves_at v w (dropped_by v t) r RolledBack d e (set_idle v.txns v.next v.active v.failed h t (busy_may ((v.txns t).mark) may), omega arith)
+goes_leaves v w s r h (turns t x xs b may net d e) =
+    leaves_at v w (marked v t RollingBack) r More d e (set_busy v.txns v.next v.active v.failed h t (record (v.txns t) { mark = RollingBack }) (busy_may ((v.txns t).mark) may) refl, refl)
+goes_leaves v w s r h (undoes t x y xs b rolling net d e) =
+    leaves_at v w (undid_more v t x (y ∷ xs)) r More d e (set_busy v.txns v.next v.active v.failed h t (record (v.txns t) { net = y ∷ xs }) (ap busy rolling) (ap busy rolling), refl)
+goes_leaves v w s r h (ends t x b rolling net d e) =
+    let some = some_active v.txns v.next v.active v.failed h t (ap busy rolling) in
+    leaves_at v w (undid_last v t x) r RolledBack d e (set_idle v.txns v.next v.active v.failed h t (ap busy rolling), omega arith)
+goes_leaves v w s r h (flushes p b d e) = leaves_at v w v r Done d e (h, refl)
+goes_leaves v w s r h (forces b d e) = leaves_at v w v r Done d e (h, refl)
+goes_leaves v w s r h (checkpoints b d e) = leaves_at v w v r Done d e (h, refl)
+goes_leaves v w s r h (lacks fault want d e) = leaves_at v w v r (Refused fault) d e (h, refl)
+goes_leaves v w s r h (breaks fault ls break d e) = leaves_at v w (broken v ls) r (Refused fault) d e (broken_busy v ls h, refl)
+
+answers_leaves : (v w : View) (s : Step) (r : Reply) → IsBusy v → (o : Option ℕ) → Answers v s r w o → Leaves v r w
+answers_leaves v w s r h None a = goes_leaves v w s r h a
+answers_leaves v w s r h (Some f) a = leaves_at v w v r (Refused f) a.0 a.1 (h, refl)
+
+pub moves_leaves : (v w : View) (s : Step) (r : Reply) → IsBusy v → Moves v s r w → Leaves v r w
+moves_leaves v w s r h m = answers_leaves v w s r h (barred v s) m
+
+pub runs_busy : (v w : View) (events : List Event) → IsBusy v → Runs v events w → IsBusy w
+runs_busy v w [] h run = subst IsBusy (sym run) h
+runs_busy v w (Made step reply ∷ events) h run = runs_busy run.0 w events ((moves_leaves v run.0 step reply h run.1).0) run.2
+runs_busy v w (Broke locks ∷ events) h run = runs_busy (broken v locks) w events (broken_busy v locks h) run
+
+none_busy : (n : ℕ) → 0 ≡ busy_below (λ t. idle) n
+none_busy zero = refl
+none_busy (suc n) = let e = none_busy n in omega arith
+
+pub start_busy : (base : IndexMap) (n : ℕ) → IsBusy (start base n)
+start_busy base n = record { active_is = none_busy n; fresh = λ s l. refl; rest = λ f s e. refl }
+
+idle_at : (m : Mark) → busy m ≡ 0 → m ≡ Idle
+idle_at Idle e = refl
+idle_at Going e = absurd (omega arith)
+idle_at MustRollBack e = absurd (omega arith)
+idle_at RollingBack e = absurd (omega arith)
+idle_at Committing e = absurd (omega arith)
+
+idle_below : (txns : ℕ → Txn) (n t : ℕ) → busy_below txns n ≡ 0 → t < n → (txns t).mark ≡ Idle
+idle_below txns zero t none l = absurd (omega arith)
+idle_below txns (suc n) t none l =
+    elim (cases_number n t) [
+      | inl e ↦ subst (λ s. (txns s).mark ≡ Idle) e (idle_at ((txns n).mark) (omega arith))
+      | inr ne ↦ idle_below txns n t (omega arith) (omega arith)
+    ]
+
+-- where nothing is active, every transaction is as if it never was
+pub all_idle : (v : View) → IsBusy v → v.failed ≡ false → v.active ≡ 0 → (t : ℕ) → v.txns t ≡ idle
+all_idle v h f none t = h.rest f t (elim (cases_lt t v.next) [
+  | inl l ↦ idle_below v.txns v.next t (sym h.active_is ∙ none) l
+  | inr l ↦ h.fresh t l
+])

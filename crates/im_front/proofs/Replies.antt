@@ -1,0 +1,286 @@
+-- What the machine never answers: a full trace, more entries than a scan's limit. And a machine that has failed stays so.
+use Rattle.std.proofs.Common.{◌≡◌, ℕ, zero, suc, ◌≤◌, Bool, true, false, true≢false, List, [], ◌∷◌, length, take, Option, Some, None, refl, ap, sym, subst, ◌∙◌, inl, inr, arith}
+use Rattle.std.specs.Prelude.{◌==◌, cond, is_some}
+use Rattle.std.specs.FinMap.{get}
+use Rattle.im_types.specs.Pages as pages
+use Rattle.im_types.specs.Maps.{IndexMap, From, Above, first}
+use Rattle.im_types.specs.Refusals.{failed as has_failed}
+use Rattle.im_types.specs.Answers.{Access, Fetch, Seek, Next, Scan, Insert, Delete, Step, Begin, Do, Commit, Rollback, Continue, FlushPage, Force, Checkpoint, Reply, Started, Found, Absent, Entry, End, Entries, Inserted, Duplicate, Deleted, Committed, RolledBack, More, Blocked, BlockedTree, Die, Done, Refused, Mark, Idle, Going, MustRollBack, RollingBack, Committing, found, entry, answer, limit_of}
+use Rattle.im_types.specs.Lives.{Shown, shows, accessed}
+use Rattle.im_lock.specs.View.{View}
+use Rattle.im_lock.specs.Machine.{barred, barred_to, barred_to_rollback, barred_to_continue, or_else, fault_if, Answers, Goes, Moves, Wants, Breaks, begins, does, waits, dies, commits, drops, turns, undoes, ends, flushes, forces, checkpoints, lacks, breaks}
+use Rattle.im_front.specs.Calls.{most_of, most_entries, entries_in, is_blocked}
+use Rattle.im_front.specs.Held.{is_full}
+
+-- ---- no reply is a full trace
+
+abbrev NotFull : Option ℕ → Type 0
+NotFull None = Unit {0}
+NotFull (Some f) = (f == 14) ≡ false
+
+or_else-full : (a b : Option ℕ) → NotFull a → NotFull b → NotFull (or_else a b)
+or_else-full None b x y = y
+or_else-full (Some f) b x y = x
+
+fault_if-full : (b : Bool) (f : ℕ) → (f == 14) ≡ false → NotFull (fault_if b f)
+fault_if-full true f e = e
+fault_if-full false f e = tt
+
+mark-full : (m : Mark) → NotFull (barred_to m) × NotFull (barred_to_rollback m) × NotFull (barred_to_continue m)
+mark-full Idle = (refl, refl, refl)
+mark-full Going = (tt, tt, refl)
+mark-full MustRollBack = (refl, tt, refl)
+mark-full RollingBack = (refl, refl, tt)
+mark-full Committing = (refl, refl, refl)
+
+barred-full : (v : View) (s : Step) → NotFull (barred v s)
+barred-full v Begin = or_else-full _ _ (fault_if-full v.failed 10 refl) (fault_if-full _ 12 refl)
+barred-full v (Do t a) = or_else-full _ _ (fault_if-full v.failed 10 refl) (or_else-full _ _ ((mark-full ((v.txns t).mark)).0) (fault_if-full _ 3 refl))
+barred-full v (Commit t) = or_else-full _ _ (fault_if-full v.failed 10 refl) ((mark-full ((v.txns t).mark)).0)
+barred-full v (Rollback t) = or_else-full _ _ (fault_if-full v.failed 10 refl) ((mark-full ((v.txns t).mark)).1)
+barred-full v (Continue t) = or_else-full _ _ (fault_if-full v.failed 10 refl) ((mark-full ((v.txns t).mark)).2)
+barred-full v (FlushPage p) = fault_if-full v.failed 10 refl
+barred-full v Force = fault_if-full v.failed 10 refl
+barred-full v Checkpoint = fault_if-full v.failed 10 refl
+
+wants-full : (s : Step) (f : ℕ) → Wants s f → (f == 14) ≡ false
+wants-full (Do t (Insert k r)) f (inl e) = ap (λ n. n == 14) e
+wants-full (Do t (Insert k r)) f (inr e) = ap (λ n. n == 14) e
+wants-full Begin f e = ap (λ n. n == 14) e
+wants-full (Do t (Fetch k)) f e = ap (λ n. n == 14) e
+wants-full (Do t (Seek k)) f e = ap (λ n. n == 14) e
+wants-full (Do t (Next k)) f e = ap (λ n. n == 14) e
+wants-full (Do t (Scan lo hi n)) f e = ap (λ n. n == 14) e
+wants-full (Do t (Delete k)) f e = ap (λ n. n == 14) e
+wants-full (Commit t) f e = ap (λ n. n == 14) e
+wants-full (Rollback t) f e = ap (λ n. n == 14) e
+wants-full (Continue t) f e = ap (λ n. n == 14) e
+wants-full (FlushPage p) f e = ap (λ n. n == 14) e
+wants-full Force f e = ap (λ n. n == 14) e
+wants-full Checkpoint f e = ap (λ n. n == 14) e
+
+breaks-full : (f : ℕ) → Breaks f → (f == 14) ≡ false
+breaks-full f (inl e) = ap (λ n. n == 14) e
+breaks-full f (inr (inl e)) = ap (λ n. n == 14) e
+breaks-full f (inr (inr (inl e))) = ap (λ n. n == 14) e
+breaks-full f (inr (inr (inr e))) = ap (λ n. n == 14) e
+
+full_found : (o : Option ℕ) → is_full (found o) ≡ false
+full_found None = refl
+full_found (Some r) = refl
+
+full_entry : (o : Option pages.Entry) → is_full (entry o) ≡ false
+full_entry None = refl
+full_entry (Some e) = refl
+
+full_insert : (b : Bool) → is_full (cond b Duplicate Inserted) ≡ false
+full_insert true = refl
+full_insert false = refl
+
+full_delete : (b : Bool) → is_full (cond b Deleted Absent) ≡ false
+full_delete true = refl
+full_delete false = refl
+
+answer-full : (a : Access) (m : IndexMap) → is_full (answer a m) ≡ false
+answer-full (Fetch k) m = full_found (get m k)
+answer-full (Seek k) m = full_entry (first (From k) m)
+answer-full (Next k) m = full_entry (first (Above k) m)
+answer-full (Scan lo hi n) m = refl
+answer-full (Insert k r) m = full_insert (is_some (get m k))
+answer-full (Delete k) m = full_delete (is_some (get m k))
+
+goes-full : (v w : View) (s : Step) (r : Reply) → Goes v s r w → is_full r ≡ false
+goes-full v w s r (begins a limit b c) = ap is_full b
+goes-full v w s r (does t a ls b going free same d e) = ap is_full d ∙ answer-full a v.walk
+goes-full v w s r (waits t a holder b going wait d e) = ap is_full d
+goes-full v w s r (dies t a b going die d e) = ap is_full d
+goes-full v w s r (commits t b going d e) = ap is_full d
+goes-full v w s r (drops t b may none d e) = ap is_full d
+goes-full v w s r (turns t x xs b may net d e) = ap is_full d
+goes-full v w s r (undoes t x y xs b rolling net d e) = ap is_full d
+goes-full v w s r (ends t x b rolling net d e) = ap is_full d
+goes-full v w s r (flushes p b d e) = ap is_full d
+goes-full v w s r (forces b d e) = ap is_full d
+goes-full v w s r (checkpoints b d e) = ap is_full d
+goes-full v w s r (lacks fault want d e) = ap is_full d ∙ wants-full s fault want
+goes-full v w s r (breaks fault ls break d e) = ap is_full d ∙ breaks-full fault break
+
+answers-full : (v w : View) (s : Step) (r : Reply) (o : Option ℕ) → NotFull o → Answers v s r w o → is_full r ≡ false
+answers-full v w s r None n a = goes-full v w s r a
+answers-full v w s r (Some f) n a = ap is_full a.0 ∙ n
+
+pub never_full : (v w : View) (s : Step) (r : Reply) → Moves v s r w → is_full r ≡ false
+never_full v w s r m = answers-full v w s r (barred v s) (barred-full v s) m
+
+-- ---- no reply has more entries than its step allows
+
+few_at : (r q : Reply) (n : ℕ) → r ≡ q → entries_in q ≡ [] → length (entries_in r) ≤ n
+few_at r q n e none = let z : length (entries_in r) ≡ 0 = ap (λ (x : Reply). length (entries_in x)) e ∙ ap length none in omega arith
+
+taken : (n : ℕ) (l : List pages.Entry) → length (take n l) ≤ n
+taken zero l = omega arith
+taken (suc n) [] = omega arith
+taken (suc n) (x ∷ xs) = let e : length (take n xs) ≤ n = taken n xs in omega arith
+
+none_found : (o : Option ℕ) → entries_in (found o) ≡ []
+none_found None = refl
+none_found (Some r) = refl
+
+none_entry : (o : Option pages.Entry) → entries_in (entry o) ≡ []
+none_entry None = refl
+none_entry (Some e) = refl
+
+none_insert : (b : Bool) → entries_in (cond b Duplicate Inserted) ≡ []
+none_insert true = refl
+none_insert false = refl
+
+none_delete : (b : Bool) → entries_in (cond b Deleted Absent) ≡ []
+none_delete true = refl
+none_delete false = refl
+
+answer-few : (a : Access) (m : IndexMap) → length (entries_in (answer a m)) ≤ most_of a
+answer-few (Fetch k) m = few_at (answer (Fetch k) m) (answer (Fetch k) m) 0 refl (none_found (get m k))
+answer-few (Seek k) m = few_at (answer (Seek k) m) (answer (Seek k) m) 0 refl (none_entry (first (From k) m))
+answer-few (Next k) m = few_at (answer (Next k) m) (answer (Next k) m) 0 refl (none_entry (first (Above k) m))
+answer-few (Scan lo hi n) m = taken (limit_of n) _
+answer-few (Insert k r) m = few_at (answer (Insert k r) m) (answer (Insert k r) m) 0 refl (none_insert (is_some (get m k)))
+answer-few (Delete k) m = few_at (answer (Delete k) m) (answer (Delete k) m) 0 refl (none_delete (is_some (get m k)))
+
+goes-few : (v w : View) (s : Step) (r : Reply) → Goes v s r w → length (entries_in r) ≤ most_entries s
+goes-few v w s r (begins a limit b c) = few_at r _ _ b refl
+goes-few v w s r (does t a ls b going free same d e) =
+    let most : most_entries s ≡ most_of a = ap most_entries b in
+    let many : length (entries_in r) ≡ length (entries_in (answer a v.walk)) = ap (λ (x : Reply). length (entries_in x)) d in
+    let bound = answer-few a v.walk in
+    omega arith
+goes-few v w s r (waits t a holder b going wait d e) = few_at r _ _ d refl
+goes-few v w s r (dies t a b going die d e) = few_at r _ _ d refl
+goes-few v w s r (commits t b going d e) = few_at r _ _ d refl
+goes-few v w s r (drops t b may none d e) = few_at r _ _ d refl
+goes-few v w s r (turns t x xs b may net d e) = few_at r _ _ d refl
+goes-few v w s r (undoes t x y xs b rolling net d e) = few_at r _ _ d refl
+goes-few v w s r (ends t x b rolling net d e) = few_at r _ _ d refl
+goes-few v w s r (flushes p b d e) = few_at r _ _ d refl
+goes-few v w s r (forces b d e) = few_at r _ _ d refl
+goes-few v w s r (checkpoints b d e) = few_at r _ _ d refl
+goes-few v w s r (lacks fault want d e) = few_at r (Refused fault) _ d refl
+goes-few v w s r (breaks fault ls break d e) = few_at r (Refused fault) _ d refl
+
+answers-few : (v w : View) (s : Step) (r : Reply) (o : Option ℕ) → Answers v s r w o → length (entries_in r) ≤ most_entries s
+answers-few v w s r None a = goes-few v w s r a
+answers-few v w s r (Some f) a = few_at r (Refused f) _ a.0 refl
+
+pub few_entries : (v w : View) (s : Step) (r : Reply) → Moves v s r w → length (entries_in r) ≤ most_entries s
+few_entries v w s r m = answers-few v w s r (barred v s) m
+
+-- ---- a machine that has failed stays as it is
+
+or_else-first : (o : Option ℕ) (f : ℕ) (b : Bool) → b ≡ true → or_else (fault_if b f) o ≡ Some f
+or_else-first o f b e = ap (λ (x : Bool). or_else (fault_if x f) o) e
+
+fault_if-true : (f : ℕ) (b : Bool) → b ≡ true → fault_if b f ≡ Some f
+fault_if-true f b e = ap (λ (x : Bool). fault_if x f) e
+
+barred-failed : (v : View) (s : Step) → v.failed ≡ true → barred v s ≡ Some has_failed
+barred-failed v Begin e = or_else-first _ _ _ e
+barred-failed v (Do t a) e = or_else-first _ _ _ e
+barred-failed v (Commit t) e = or_else-first _ _ _ e
+barred-failed v (Rollback t) e = or_else-first _ _ _ e
+barred-failed v (Continue t) e = or_else-first _ _ _ e
+barred-failed v (FlushPage p) e = fault_if-true _ _ e
+barred-failed v Force e = fault_if-true _ _ e
+barred-failed v Checkpoint e = fault_if-true _ _ e
+
+pub stays_failed : (v w : View) (s : Step) (r : Reply) → Moves v s r w → v.failed ≡ true → w.failed ≡ true
+stays_failed v w s r m e =
+    let a : Answers v s r w (Some has_failed) = subst (λ (o : Option ℕ). Answers v s r w o) (barred-failed v s e) m in
+    ap (λ (u : View). u.failed) a.1 ∙ e
+
+-- ---- a reply that blocks changes nothing and shows nothing
+
+unblocked : (v w : View) (r q : Reply) → r ≡ q → is_blocked q ≡ false → is_blocked r ≡ true → w ≡ v
+unblocked v w r q e none b = absurd (true≢false (sym b ∙ ap is_blocked e ∙ none))
+
+unblocked_found : (o : Option ℕ) → is_blocked (found o) ≡ false
+unblocked_found None = refl
+unblocked_found (Some r) = refl
+
+unblocked_entry : (o : Option pages.Entry) → is_blocked (entry o) ≡ false
+unblocked_entry None = refl
+unblocked_entry (Some e) = refl
+
+unblocked_insert : (b : Bool) → is_blocked (cond b Duplicate Inserted) ≡ false
+unblocked_insert true = refl
+unblocked_insert false = refl
+
+unblocked_delete : (b : Bool) → is_blocked (cond b Deleted Absent) ≡ false
+unblocked_delete true = refl
+unblocked_delete false = refl
+
+answer-unblocked : (a : Access) (m : IndexMap) → is_blocked (answer a m) ≡ false
+answer-unblocked (Fetch k) m = unblocked_found (get m k)
+answer-unblocked (Seek k) m = unblocked_entry (first (From k) m)
+answer-unblocked (Next k) m = unblocked_entry (first (Above k) m)
+answer-unblocked (Scan lo hi n) m = refl
+answer-unblocked (Insert k r) m = unblocked_insert (is_some (get m k))
+answer-unblocked (Delete k) m = unblocked_delete (is_some (get m k))
+
+goes-blocked : (v w : View) (s : Step) (r : Reply) → Goes v s r w → is_blocked r ≡ true → w ≡ v
+goes-blocked v w s r (begins a limit b c) = unblocked v w r _ b refl
+goes-blocked v w s r (does t a ls b going free same d e) = unblocked v w r (answer a v.walk) d (answer-unblocked a v.walk)
+goes-blocked v w s r (waits t a holder b going wait d e) = λ q. e
+goes-blocked v w s r (dies t a b going die d e) = unblocked v w r _ d refl
+goes-blocked v w s r (commits t b going d e) = unblocked v w r _ d refl
+goes-blocked v w s r (drops t b may none d e) = unblocked v w r _ d refl
+goes-blocked v w s r (turns t x xs b may net d e) = unblocked v w r _ d refl
+goes-blocked v w s r (undoes t x y xs b rolling net d e) = unblocked v w r _ d refl
+goes-blocked v w s r (ends t x b rolling net d e) = unblocked v w r _ d refl
+goes-blocked v w s r (flushes p b d e) = λ q. e
+goes-blocked v w s r (forces b d e) = λ q. e
+goes-blocked v w s r (checkpoints b d e) = λ q. e
+goes-blocked v w s r (lacks fault want d e) = λ q. e
+goes-blocked v w s r (breaks fault ls break d e) = unblocked v w r (Refused fault) d refl
+
+answers-blocked : (v w : View) (s : Step) (r : Reply) (o : Option ℕ) → Answers v s r w o → is_blocked r ≡ true → w ≡ v
+answers-blocked v w s r None a = goes-blocked v w s r a
+answers-blocked v w s r (Some f) a = λ q. a.1
+
+pub blocked_stays : (v w : View) (s : Step) (r : Reply) → Moves v s r w → is_blocked r ≡ true → w ≡ v
+blocked_stays v w s r m = answers-blocked v w s r (barred v s) m
+
+accessed-blocked : (t : ℕ) (a : Access) (s : Shown) (h : ℕ) → (accessed t a (Blocked h) s ≡ s) × (accessed t a BlockedTree s ≡ s)
+accessed-blocked t (Fetch k) s h = (refl, refl)
+accessed-blocked t (Seek k) s h = (refl, refl)
+accessed-blocked t (Next k) s h = (refl, refl)
+accessed-blocked t (Scan lo hi n) s h = (refl, refl)
+accessed-blocked t (Insert k r) s h = (refl, refl)
+accessed-blocked t (Delete k) s h = (refl, refl)
+
+at_blocked : (step : Step) (s : Shown) (h : ℕ) → (shows s step (Some (Blocked h)) ≡ s) × (shows s step (Some BlockedTree) ≡ s)
+at_blocked Begin s h = (refl, refl)
+at_blocked (Do t a) s h = accessed-blocked t a s h
+at_blocked (Commit t) s h = (refl, refl)
+at_blocked (Rollback t) s h = (refl, refl)
+at_blocked (Continue t) s h = (refl, refl)
+at_blocked (FlushPage p) s h = (refl, refl)
+at_blocked Force s h = (refl, refl)
+at_blocked Checkpoint s h = (refl, refl)
+
+pub blocked_shows : (step : Step) (r : Reply) (s : Shown) → is_blocked r ≡ true → shows s step (Some r) ≡ s
+blocked_shows step (Blocked h) s b = (at_blocked step s h).0
+blocked_shows step BlockedTree s b = (at_blocked step s 0).1
+blocked_shows step (Started t) s b = absurd (true≢false (sym b))
+blocked_shows step (Found t) s b = absurd (true≢false (sym b))
+blocked_shows step Absent s b = absurd (true≢false (sym b))
+blocked_shows step (Entry k r) s b = absurd (true≢false (sym b))
+blocked_shows step End s b = absurd (true≢false (sym b))
+blocked_shows step (Entries l) s b = absurd (true≢false (sym b))
+blocked_shows step Inserted s b = absurd (true≢false (sym b))
+blocked_shows step Duplicate s b = absurd (true≢false (sym b))
+blocked_shows step Deleted s b = absurd (true≢false (sym b))
+blocked_shows step Committed s b = absurd (true≢false (sym b))
+blocked_shows step RolledBack s b = absurd (true≢false (sym b))
+blocked_shows step More s b = absurd (true≢false (sym b))
+blocked_shows step Die s b = absurd (true≢false (sym b))
+blocked_shows step Done s b = absurd (true≢false (sym b))
+blocked_shows step (Refused f) s b = absurd (true≢false (sym b))

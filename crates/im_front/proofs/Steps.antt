@@ -1,0 +1,251 @@
+-- What a step, a cut and a refused look do to what lies under the lock.
+use Rattle.std.proofs.Common.{◌≡◌, ℕ, ◌+◌, ◌≤◌, ◌^◌, true, false, true≢false, List, [], ◌∷◌, ◌++◌, length, slice_index, Some, refl, ap, sym, subst, ◌∙◌, inl, inr, arith, length-append}
+use Rattle.std.specs.FinMap.{empty, entries}
+use Rattle.im_types.specs.Pages.{Entry}
+use Rattle.im_types.specs.Answers as answers
+use Rattle.im_types.specs.Answers.{Step, Reply}
+use Rattle.im_types.specs.Changes.{Effect, apply_all}
+use Rattle.im_types.specs.Maps.{IndexMap}
+use Rattle.im_types.specs.Lives.{Shown, shows, effects, nothing_shown, shown_by}
+use Rattle.im_lock.specs.Locks.{Lock}
+use Rattle.im_lock.specs.View.{Txn, View, broken}
+use Rattle.im_lock.specs.Machine.{Moves, Run, start}
+use Rattle.im_lock.specs.Isolation.{Isolates}
+use Rattle.im_front.specs.declared.recorded.Recorded.{Recorded}
+use Rattle.im_front.specs.Calls.{asked_by, told_by, trace_of}
+use Rattle.im_front.specs.Events.{Event, Made, Broke, made_in, Runs, shown_in}
+use Rattle.im_front.specs.Store.{StepKept, LookKept}
+use Rattle.im_front.specs.Held.{started_in, committed_in, rolled_back_in, after_reply, after_trace, Stands, IsRun, IsCut}
+use Rattle.im_front.proofs.Balance.{runs_busy, start_busy, moves_leaves, all_idle}
+use Rattle.im_front.proofs.Replies.{stays_failed}
+
+-- ---- lists of events
+
+pub Runs-push : (v mid w : View) (events : List Event) (step : Step) (reply : Reply) → Runs v events mid → Moves mid step reply w → Runs v (events ++ Made step reply ∷ []) w
+Runs-push v mid w [] step reply run m = (w, subst (λ (u : View). Moves u step reply w) run m, refl)
+Runs-push v mid w (Made s r ∷ events) step reply run m = (run.0, run.1, Runs-push run.0 mid w events step reply run.2 m)
+Runs-push v mid w (Broke locks ∷ events) step reply run m = Runs-push (broken v locks) mid w events step reply run m
+
+pub Runs-broke : (v mid : View) (events : List Event) (locks : ℕ → List Lock) → Runs v events mid → Runs v (events ++ Broke locks ∷ []) (broken mid locks)
+Runs-broke v mid [] locks run = ap (λ (u : View). broken u locks) run
+Runs-broke v mid (Made s r ∷ events) locks run = (run.0, run.1, Runs-broke run.0 mid events locks run.2)
+Runs-broke v mid (Broke ls ∷ events) locks run = Runs-broke (broken v ls) mid events locks run
+
+made_in-push : (events : List Event) (step : Step) (reply : Reply) → made_in (events ++ Made step reply ∷ []) ≡ made_in events ++ (step, reply) ∷ []
+made_in-push [] step reply = refl
+made_in-push (Made s r ∷ events) step reply = ap (λ l. (s, r) ∷ l) (made_in-push events step reply)
+made_in-push (Broke locks ∷ events) step reply = made_in-push events step reply
+
+made_in-broke : (events : List Event) (locks : ℕ → List Lock) → made_in (events ++ Broke locks ∷ []) ≡ made_in events
+made_in-broke [] locks = refl
+made_in-broke (Made s r ∷ events) locks = ap (λ l. (s, r) ∷ l) (made_in-broke events locks)
+made_in-broke (Broke ls ∷ events) locks = made_in-broke events locks
+
+shown_in-push : (s : Shown) (events : List Event) (step : Step) (reply : Reply) → shown_in s (events ++ Made step reply ∷ []) ≡ shows (shown_in s events) step (Some reply)
+shown_in-push s [] step reply = refl
+shown_in-push s (Made a r ∷ events) step reply = shown_in-push (shows s a (Some r)) events step reply
+shown_in-push s (Broke locks ∷ events) step reply = shown_in-push (record s { failed = true }) events step reply
+
+shown_in-broke : (s : Shown) (events : List Event) (locks : ℕ → List Lock) → shown_in s (events ++ Broke locks ∷ []) ≡ record (shown_in s events) { failed = true }
+shown_in-broke s [] locks = refl
+shown_in-broke s (Made a r ∷ events) locks = shown_in-broke (shows s a (Some r)) events locks
+shown_in-broke s (Broke ls ∷ events) locks = shown_in-broke (record s { failed = true }) events locks
+
+runs_failed : (v w : View) (events : List Event) → v.failed ≡ true → Runs v events w → w.failed ≡ true
+runs_failed v w [] f run = ap (λ (u : View). u.failed) run ∙ f
+runs_failed v w (Made s r ∷ events) f run = runs_failed run.0 w events (stays_failed v run.0 s r run.1 f) run.2
+runs_failed v w (Broke locks ∷ events) f run = runs_failed (broken v locks) w events refl run
+
+-- where the engine works in the end, nothing broke it: what was done is a run
+pub works : (v w : View) (events : List Event) → Runs v events w → w.failed ≡ false → Run v (made_in events) w
+works v w [] run f = run
+works v w (Made s r ∷ events) run f = (run.0, run.1, works run.0 w events run.2 f)
+works v w (Broke locks ∷ events) run f = absurd (true≢false (sym (runs_failed (broken v locks) w events refl run) ∙ f))
+
+-- and it shows what a run shows
+pub shown_plainly : (s : Shown) (v w : View) (events : List Event) → Runs v events w → w.failed ≡ false → shown_in s events ≡ shown_by s (made_in events)
+shown_plainly s v w [] run f = refl
+shown_plainly s v w (Made a r ∷ events) run f = shown_plainly (shows s a (Some r)) run.0 w events run.2 f
+shown_plainly s v w (Broke locks ∷ events) run f = absurd (true≢false (sym (runs_failed (broken v locks) w events refl run) ∙ f))
+
+-- ---- traces
+
+after_trace-push : (c : List ℕ) (trace : List (Step × Reply)) (e : Step × Reply) → after_trace c (trace ++ e ∷ []) ≡ after_reply (after_trace c trace) e.1
+after_trace-push c [] e = refl
+after_trace-push c (x ∷ xs) e = after_trace-push (after_reply c x.1) xs e
+
+pub trace_of-push : (rs : List Recorded) (r : Recorded) → trace_of (rs ++ r ∷ []) ≡ trace_of rs ++ (asked_by r.step, told_by r.reply) ∷ []
+trace_of-push [] r = refl
+trace_of-push (x ∷ xs) r = ap (λ l. (asked_by x.step, told_by x.reply) ∷ l) (trace_of-push xs r)
+
+pub trace_of-recorded : (olds news : List Recorded) (r : Recorded) (step : Step) (reply : Reply) → news ≡ olds ++ r ∷ [] → asked_by r.step ≡ step → told_by r.reply ≡ reply → trace_of news ≡ trace_of olds ++ (step, reply) ∷ []
+trace_of-recorded olds news r step reply is asked told = ap trace_of is ∙ trace_of-push olds r ∙ (λ i. trace_of olds ++ (asked i, told i) ∷ [])
+
+pub length-trace_of : (rs : List Recorded) → length (trace_of rs) ≡ length rs
+length-trace_of [] = refl
+length-trace_of (x ∷ xs) = let e : length (trace_of xs) ≡ length xs = length-trace_of xs in omega arith
+
+at_most_one : (r : Reply) → (started_in r ≤ 1) × (committed_in r ≤ 1) × (rolled_back_in r ≤ 1)
+at_most_one (answers.Started t) = (omega arith, omega arith, omega arith)
+at_most_one answers.Committed = (omega arith, omega arith, omega arith)
+at_most_one answers.RolledBack = (omega arith, omega arith, omega arith)
+at_most_one (answers.Blocked h) = (omega arith, omega arith, omega arith)
+at_most_one answers.BlockedTree = (omega arith, omega arith, omega arith)
+at_most_one (answers.Found t) = (omega arith, omega arith, omega arith)
+at_most_one answers.Absent = (omega arith, omega arith, omega arith)
+at_most_one (answers.Entry k r) = (omega arith, omega arith, omega arith)
+at_most_one answers.End = (omega arith, omega arith, omega arith)
+at_most_one (answers.Entries l) = (omega arith, omega arith, omega arith)
+at_most_one answers.Inserted = (omega arith, omega arith, omega arith)
+at_most_one answers.Duplicate = (omega arith, omega arith, omega arith)
+at_most_one answers.Deleted = (omega arith, omega arith, omega arith)
+at_most_one answers.More = (omega arith, omega arith, omega arith)
+at_most_one answers.Die = (omega arith, omega arith, omega arith)
+at_most_one answers.Done = (omega arith, omega arith, omega arith)
+at_most_one (answers.Refused f) = (omega arith, omega arith, omega arith)
+
+-- ---- what stands under the lock
+
+module _ {E : Type 0} (life : List Effect → Shown → View → E → Type 0) (base : List Entry) (trace : List (Step × Reply)) (engine : E) (cut : ℕ) (kept counts : List ℕ) (h : Stands life base trace engine cut kept counts) where
+  -- a step that is recorded
+  pub stands_push : (new : E) (now : List ℕ) (step : Step) (reply : Reply) → StepKept life h.before (shown_in nothing_shown h.events) h.view step reply new → now ≡ after_reply counts reply →
+      Stands life base (trace ++ (step, reply) ∷ []) new cut kept now
+  stands_push new now step reply made e =
+      let busy = runs_busy (start (apply_all empty h.before) h.first) h.view h.events (start_busy (apply_all empty h.before) h.first) h.runs in
+      let leaves = moves_leaves h.view made.next step reply busy made.moves in
+      let one = at_most_one reply in
+      let a : slice_index now 0 ≡ slice_index counts 0 + started_in reply = ap (λ l. slice_index l 0) e in
+      let b : slice_index now 1 ≡ slice_index counts 1 + committed_in reply = ap (λ l. slice_index l 1) e in
+      let c : slice_index now 2 ≡ slice_index counts 2 + rolled_back_in reply = ap (λ l. slice_index l 2) e in
+      let longer : length (trace ++ (step, reply) ∷ []) ≡ length trace + 1 = length-append trace ((step, reply) ∷ []) in
+      let small = h.counts_small in
+      let was = h.balanced in
+      record {
+        before = h.before;
+        first = h.first;
+        events = h.events ++ Made step reply ∷ [];
+        view = made.next;
+        based = h.based;
+        made = made_in-push h.events step reply ∙ ap (λ l. l ++ (step, reply) ∷ []) h.made;
+        runs = Runs-push (start (apply_all empty h.before) h.first) h.view made.next h.events step reply h.runs made.moves;
+        life_is = subst (λ (s : Shown). life h.before s made.next new) (sym (shown_in-push nothing_shown h.events step reply)) made.after;
+        counted = e ∙ ap (λ l. after_reply l reply) h.counted ∙ sym (after_trace-push kept trace (step, reply));
+        long = ap length e;
+        cut_small = h.cut_small;
+        counts_small = (omega (arith, one.0, small.0), omega (arith, one.1, small.1), omega (arith, one.2, small.2));
+        balanced = omega (arith, leaves.1);
+      }
+
+  -- the engine went on with nothing shown
+  pub stands_life : (new : E) → life h.before (shown_in nothing_shown h.events) h.view new → Stands life base trace new cut kept counts
+  stands_life new now = record {
+    before = h.before;
+    first = h.first;
+    events = h.events;
+    view = h.view;
+    based = h.based;
+    made = h.made;
+    runs = h.runs;
+    life_is = now;
+    counted = h.counted;
+    long = h.long;
+    cut_small = h.cut_small;
+    counts_small = h.counts_small;
+    balanced = h.balanced;
+  }
+
+  -- a look at the entries that was refused
+  pub stands_look : (new : E) → LookKept life h.before (shown_in nothing_shown h.events) h.view new → Stands life base trace new cut kept counts
+  stands_look new (inl same) = stands_life new same
+  stands_look new (inr broke) = record {
+    before = h.before;
+    first = h.first;
+    events = h.events ++ Broke broke.0 ∷ [];
+    view = broken h.view broke.0;
+    based = h.based;
+    made = made_in-broke h.events broke.0 ∙ h.made;
+    runs = Runs-broke (start (apply_all empty h.before) h.first) h.view h.events broke.0 h.runs;
+    life_is = subst (λ (s : Shown). life h.before s (broken h.view broke.0) new) (sym (shown_in-broke nothing_shown h.events broke.0)) broke.1;
+    counted = h.counted;
+    long = h.long;
+    cut_small = h.cut_small;
+    counts_small = h.counts_small;
+    balanced = h.balanced;
+  }
+
+  -- an engine at rest: its walk is the committed map
+  pub rest_walk : Isolates (apply_all empty h.before) h.first → h.view.failed ≡ false → h.view.active ≡ 0 → h.view.walk ≡ h.view.committed
+  rest_walk isolates f none =
+      let busy = runs_busy (start (apply_all empty h.before) h.first) h.view h.events (start_busy (apply_all empty h.before) h.first) h.runs in
+      isolates.quiet (made_in h.events) h.view (works (start (apply_all empty h.before) h.first) h.view h.events h.runs f) (λ t. ap (λ (x : Txn). x.net) (all_idle h.view busy f none t))
+
+  -- the trace is cut: a new run begins with what was committed
+  pub stands_cut : (new : E) (list : List Entry) → h.view.active ≡ 0
+      → (h.view.committed ≡ apply_all empty (h.before ++ effects (shown_in nothing_shown h.events).asked)) × life (h.before ++ effects (shown_in nothing_shown h.events).asked) nothing_shown (start h.view.committed h.view.next) new
+      → list ≡ entries h.view.committed → cut + length trace ≤ 2 ^ 62 → Stands life list [] new (cut + length trace) counts counts
+  stands_cut new list none settled is small =
+      let after : List Effect = h.before ++ effects (shown_in nothing_shown h.events).asked in
+      let few = h.counts_small in
+      let was = h.balanced in
+      record {
+        before = after;
+        first = h.view.next;
+        events = [];
+        view = start h.view.committed h.view.next;
+        based = is ∙ ap entries settled.0;
+        made = refl;
+        runs = ap (λ (m : IndexMap). start m h.view.next) settled.0;
+        life_is = settled.1;
+        counted = refl;
+        long = h.long;
+        cut_small = small;
+        counts_small = (omega (arith, few.0), omega (arith, few.1), omega (arith, few.2));
+        balanced = omega arith;
+      }
+
+  -- what was cut
+  pub is_cut : (list : List Entry) → h.view.failed ≡ false → h.view.committed ≡ apply_all empty (h.before ++ effects (shown_in nothing_shown h.events).asked) → list ≡ entries h.view.committed → IsCut base list trace
+  is_cut list f settled is =
+      let plain : shown_in nothing_shown h.events ≡ shown_by nothing_shown trace = shown_plainly nothing_shown (start (apply_all empty h.before) h.first) h.view h.events h.runs f ∙ ap (shown_by nothing_shown) h.made in
+      record {
+        before = h.before;
+        based = h.based;
+        next = is ∙ ap entries (settled ∙ ap (λ (s : Shown). apply_all empty (h.before ++ effects s.asked)) plain);
+      }
+
+  -- the trace is a run
+  pub run_of : IsRun life base trace engine
+  run_of = record {
+    before = h.before;
+    first = h.first;
+    events = h.events;
+    view = h.view;
+    based = h.based;
+    made = h.made;
+    runs = h.runs;
+    works = λ f. subst (λ (l : List (Step × Reply)). Run (start (apply_all empty h.before) h.first) l h.view) h.made (works (start (apply_all empty h.before) h.first) h.view h.events h.runs f);
+    life_is = h.life_is;
+  }
+
+-- an engine at rest, and an empty trace
+pub stands_new : {E : Type 0} (life : List Effect → Shown → View → E → Type 0) (base : List Entry) (engine : E) (counts : List ℕ) (before : List Effect) (first : ℕ)
+    → life before nothing_shown (start (apply_all empty before) first) engine → base ≡ entries (apply_all empty before) → counts ≡ 0 ∷ 0 ∷ 0 ∷ [] → Stands life base [] engine 0 counts counts
+stands_new life base engine counts before first resting is zeros =
+    let x : slice_index counts 0 ≡ 0 = ap (λ l. slice_index l 0) zeros in
+    let y : slice_index counts 1 ≡ 0 = ap (λ l. slice_index l 1) zeros in
+    let z : slice_index counts 2 ≡ 0 = ap (λ l. slice_index l 2) zeros in
+    record {
+      before = before;
+      first = first;
+      events = [];
+      view = start (apply_all empty before) first;
+      based = is;
+      made = refl;
+      runs = refl;
+      life_is = resting;
+      counted = refl;
+      long = ap length zeros;
+      cut_small = omega arith;
+      counts_small = (omega arith, omega arith, omega arith);
+      balanced = omega arith;
+    }

@@ -1,0 +1,145 @@
+-- What lies under the lock: an engine, and a trace of its steps that is a run.
+use Rattle.std.specs.Prelude.{◌≡◌, ℕ, ◌+◌, ◌<◌, ◌≤◌, ◌^◌, ◌==◌, Bool, true, false, List, [], ◌∷◌, ◌++◌, length, ◌⊎◌}
+use Rattle.std.specs.FinMap.{empty, entries}
+use Rattle.im_types.specs.Pages.{Entry}
+use Rattle.im_types.specs.Answers.{Step, Reply, Started, Committed, RolledBack, Refused}
+use Rattle.im_types.specs.Changes.{Effect, apply_all}
+use Rattle.im_types.specs.Lives.{Shown, Survives, effects, nothing_shown, shown_by}
+use Rattle.im_types.specs.Refusals.{memory}
+use Rattle.im_lock.specs.View.{View}
+use Rattle.im_lock.specs.Machine.{Run, start}
+use Rattle.im_stats.specs.Counts.{started, committed, rolled_back}
+use Rattle.im_front.specs.declared.fault.Fault.{Fault}
+use Rattle.im_front.specs.declared.fault.Fault.TheVariants.{Failed, Busy, TraceFull}
+use Rattle.im_front.specs.declared.recorded.Recorded.{Recorded}
+use Rattle.im_front.specs.Calls.{trace_of, is_blocked}
+use Rattle.im_front.specs.Events.{Event, made_in, Runs, shown_in}
+
+-- the value behind the lock, as contracts see it
+pub record State (E : Type 0) : Type 0 where
+  pub engine : E
+  -- the entries from which the trace begins
+  pub base : List Entry
+  pub trace : List Recorded
+  -- how many steps were cut, and how many transactions they started, committed and rolled back
+  pub cut : ℕ
+  pub kept : List ℕ
+  -- the counts that were written last to the cell of statistics
+  pub counts : List ℕ
+  -- how many shares were handed out
+  pub handed : ℕ
+
+-- ---- counts
+
+abbrev pub started_in : Reply → ℕ
+started_in (Started t) = 1
+started_in _ = 0
+
+abbrev pub committed_in : Reply → ℕ
+committed_in Committed = 1
+committed_in _ = 0
+
+abbrev pub rolled_back_in : Reply → ℕ
+rolled_back_in RolledBack = 1
+rolled_back_in _ = 0
+
+-- the counts after a step with this reply
+abbrev pub after_reply : List ℕ → Reply → List ℕ
+after_reply counts reply = (started counts + started_in reply) ∷ (committed counts + committed_in reply) ∷ (rolled_back counts + rolled_back_in reply) ∷ []
+
+-- the counts after a trace
+abbrev pub after_trace : List ℕ → List (Step × Reply) → List ℕ
+after_trace counts [] = counts
+after_trace counts (e ∷ es) = after_trace (after_reply counts e.1) es
+
+-- ---- a step
+
+-- refused for a full trace
+abbrev pub is_full : Reply → Bool
+is_full (Refused fault) = fault == 14
+is_full _ = false
+
+-- refused for want of memory
+abbrev pub lacks_memory : Reply → Bool
+lacks_memory (Refused fault) = fault == memory
+lacks_memory _ = false
+
+module _ {E : Type 0} (step : Step) (reply : Reply) (old new : State E) (before after : ℕ) where
+  -- the step with its reply stands at the end of the trace, and is counted once
+  abbrev pub Adds : Type 0
+  Adds = (trace_of new.trace ≡ trace_of old.trace ++ (step, reply) ∷ []) × (after ≡ before + 1)
+
+  -- neither recorded nor counted
+  abbrev pub Stays : Type 0
+  Stays = (new.trace ≡ old.trace) × (after ≡ before)
+
+  -- A step under the lock: it is recorded with the reply that is answered, and counted in the share; not where it is Blocked or the trace is
+  -- full, and perhaps not where memory is wanting. Where the trace is full, or has no memory for it, it is not made.
+  pub record Records : Type 0 where
+    pub base : (new.base ≡ old.base) × (new.cut ≡ old.cut) × (new.kept ≡ old.kept) × (new.handed ≡ old.handed)
+    pub adds : is_blocked reply ≡ false → is_full reply ≡ false → lacks_memory reply ≡ false → Adds
+    pub blocked : is_blocked reply ≡ true → Stays
+    pub full : is_full reply ≡ true → Stays × (new.engine ≡ old.engine)
+    pub memory : lacks_memory reply ≡ true → Adds ⊎ (Stays × (new.engine ≡ old.engine))
+    pub either : Adds ⊎ Stays
+
+-- ---- what always holds
+
+module _ {E : Type 0} (life : List Effect → Shown → View → E → Type 0) where
+  -- The trace is what was done since the base entries, it leads to a view of the engine, and the counts are those of the trace.
+  pub record Stands (base : List Entry) (trace : List (Step × Reply)) (engine : E) (cut : ℕ) (kept counts : List ℕ) : Type 0 where
+    pub before : List Effect
+    pub first : ℕ
+    pub events : List Event
+    pub view : View
+    pub based : base ≡ entries (apply_all empty before)
+    pub made : made_in events ≡ trace
+    pub runs : Runs (start (apply_all empty before) first) events view
+    pub life_is : life before (shown_in nothing_shown events) view engine
+    pub counted : counts ≡ after_trace kept trace
+    pub long : length counts ≡ 3
+    pub cut_small : cut ≤ 2 ^ 62
+    pub counts_small : (started counts ≤ cut + length trace) × (committed counts ≤ cut + length trace) × (rolled_back counts ≤ cut + length trace)
+    -- what was started has ended or is active
+    pub balanced : started counts ≡ committed counts + rolled_back counts + view.active
+
+  -- The trace is a run from the map with the base entries, and ends in a view of the engine. Where a look broke the engine the machine broke
+  -- with it, at that place of the trace.
+  pub record IsRun (base : List Entry) (trace : List (Step × Reply)) (engine : E) : Type 0 where
+    pub before : List Effect
+    pub first : ℕ
+    pub events : List Event
+    pub view : View
+    pub based : base ≡ entries (apply_all empty before)
+    pub made : made_in events ≡ trace
+    pub runs : Runs (start (apply_all empty before) first) events view
+    pub works : view.failed ≡ false → Run (start (apply_all empty before) first) trace view
+    pub life_is : life before (shown_in nothing_shown events) view engine
+
+-- A stop now leaves files that stand for the effects of the base entries, then a front of those that the trace asked with each acknowledged one.
+pub record StopKeeps {E : Type 0} (leaves : E → (List Effect → Type 0) → Type 0) (base : List Entry) (trace : List (Step × Reply)) (engine : E) : Type 0 where
+  pub before : List Effect
+  pub events : List Event
+  pub based : base ≡ entries (apply_all empty before)
+  pub made : made_in events ≡ trace
+  pub files : leaves engine (λ after. Survives before (shown_in nothing_shown events).asked after)
+
+-- The new base entries are the old ones with what was asked in the trace.
+pub record IsCut (old new : List Entry) (trace : List (Step × Reply)) : Type 0 where
+  pub before : List Effect
+  pub based : old ≡ entries (apply_all empty before)
+  pub next : new ≡ entries (apply_all empty (before ++ effects (shown_by nothing_shown trace).asked))
+
+-- Why a cut is refused: the engine has failed; a transaction is active; too many steps were cut; as the entries are.
+module _ {E : Type 0} (life : List Effect → Shown → View → E → Type 0) (refuses : E → E → Fault → Type 0) (old new : State E) where
+  abbrev pub WhyFailed : Fault → Type 0
+  WhyFailed fault = (new ≡ old) × (fault ≡ Failed) × ((before : List Effect) (s : Shown) (v : View) → life before s v old.engine → v.failed ≡ true)
+
+  abbrev pub WhyBusy : Fault → Type 0
+  WhyBusy fault = (new ≡ old) × (fault ≡ Busy) × ((before : List Effect) (s : Shown) (v : View) → life before s v old.engine → (v.failed ≡ false) × (0 < v.active))
+
+  abbrev pub WhyFull : Fault → Type 0
+  WhyFull fault = (new ≡ old) × (fault ≡ TraceFull) × (2 ^ 62 < old.cut + length old.trace)
+
+  abbrev pub WhyNotCut : Fault → Type 0
+  WhyNotCut fault = WhyFailed fault ⊎ (WhyBusy fault ⊎ (WhyFull fault ⊎ refuses old.engine new.engine fault))

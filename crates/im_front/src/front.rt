@@ -1,0 +1,104 @@
+//! The lock.
+
+ghost use Rattle.std.specs.Prelude.{◌≡◌, ◌≤◌, ◌+◌, ◌⊎◌, List, true, false, length, IfOk, IfErr, IfSome};
+ghost use Rattle.std.specs.List.{sum_by};
+ghost use Rattle.im_types.specs.Changes.{Effect};
+ghost use Rattle.im_types.specs.Lives.{Shown};
+ghost use Rattle.im_lock.specs.View.{View};
+ghost use Rattle.im_stats.specs.Counts.{NoLess};
+ghost use Rattle.im_front.specs.declared.fault.Fault.TheVariants.{Memory};
+ghost use Rattle.im_front.specs.Calls.{told_by, trace_of, is_blocked, counts_of};
+ghost use Rattle.im_front.specs.Store.{IsResting, LookKept};
+ghost use Rattle.im_front.specs.Held.{IsRun, StopKeeps, is_full, lacks_memory};
+
+use crate::fault::Fault;
+use crate::held::{Closed, Held};
+use crate::reply::Reply;
+use crate::share::Share;
+use crate::stats::Stats;
+use crate::step::Step;
+use crate::store::Store;
+use std::alloc::Global;
+use std::sync::ledger::{Blank, Ledger};
+use std::sync::{Condvar, Mutex, Wait};
+
+/// An engine that threads share. Each call takes the lock, and waits for its turn.
+#[derive(Drop)]
+pub struct Front<E: Store, L: Ledger> {
+    held: Mutex<Held<E, L>>,
+    ended: Condvar,
+}
+
+impl<E: Store, L: Ledger> Front<E, L> {
+    /// A front over an engine at rest: it works, and no transaction is active. The blank is of a ledger of 1,024 parts, one for each
+    /// share. Refused as `entries` is, and `Memory`; engine and blank come back then.
+    pub fn new(alloc: Global, engine: E, blank: Blank) -> Result<Front<E, L>, (Fault, E, Blank)>
+        requires resting { IsResting E.life engine }
+        requires blank { (blank.name ≡ L.name) × (blank.parts ≡ L.parts) × (blank.parts ≡ 1024) }
+        ensures engine { IfErr result (λ e. (before : List Effect) (s : Shown) (v : View) → E.life before s v engine → LookKept E.life before s v e.1) }
+        ensures blank { IfErr result (λ e. e.2 ≡ blank) }
+        ensures cause { IfErr result (λ e. (e.0 ≡ Memory) ⊎ E.refuses engine e.1 e.0) }
+    {
+        let held = Held::new(alloc, engine, blank)?;
+        Ok(Front {
+            held: Mutex::new(held),
+            ended: Condvar::new(),
+        })
+    }
+
+    /// A share, which has made no step: one for each thread. Refused `TooMany` after the 1,024th, and `Memory`.
+    pub fn share<R: Wait>(&self, rt: &R) -> Result<Share<L>, Fault>
+        ensures { IfOk result (λ s. s.made.amount ≡ 0) }
+    {
+        self.held.lock(rt).share()
+    }
+
+    /// Makes a step as `Held::step` does, and makes it again each time that a transaction has ended while it is `Blocked`. The last
+    /// reply is recorded, and counted in the share.
+    pub fn call<R: Wait>(&self, rt: &R, mine: &mut Share<L>, step: Step) -> Reply
+        ensures unblocked { is_blocked (told_by result) ≡ false }
+        ensures counted { is_full (told_by result) ≡ false → lacks_memory (told_by result) ≡ false → mine.new.made.amount ≡ mine.old.made.amount + 1 }
+        ensures full { is_full (told_by result) ≡ true → mine.new.made.amount ≡ mine.old.made.amount }
+        ensures once { (mine.new.made.amount ≡ mine.old.made.amount + 1) ⊎ (mine.new.made.amount ≡ mine.old.made.amount) }
+    {
+        let mut held = self.held.lock(rt);
+        for _ in rt.forever() {
+            let reply = held.step(rt, mine, &step);
+            if !reply.is_blocked() {
+                if reply.may_unblock() {
+                    self.ended.notify_all();
+                }
+                return reply;
+            }
+            held = self.ended.wait(rt, held);
+        }
+        unreachable!()
+    }
+
+    /// Makes what is committed the base of the trace, and empties it. Refused `Failed`, then `Busy` while a transaction is active,
+    /// then `TraceFull` where the steps cut would pass 2^62, then as `entries` is.
+    pub fn cut_trace<R: Wait>(&self, rt: &R) -> Result<(), Fault> {
+        self.held.lock(rt).cut_trace()
+    }
+
+    /// Started, committed and rolled back: as they were at one moment, and never less than this share read before. It takes no lock
+    /// and never waits.
+    pub fn stats(&self, share: &mut Share<L>) -> Stats
+        ensures sound { result.committed + result.rolled_back ≤ result.started }
+        ensures rises { NoLess share.old.read (counts_of result) }
+        ensures read { (share.new.read ≡ counts_of result) × (share.new.made ≡ share.old.made) }
+    {
+        share.stats()
+    }
+
+    /// Ends the front. There is a sum where as many shares came back as were handed out, and it is the number of all steps.
+    pub fn close(self, shares: Vec<Share<L>>) -> Closed<E>
+        requires { L.parts ≡ 1024 }
+        ensures run { IsRun E.life result.base.items (trace_of result.trace.items) result.engine }
+        ensures stops { StopKeeps E.leaves result.base.items (trace_of result.trace.items) result.engine }
+        ensures sum { IfSome result.sum (λ n. (n ≡ result.cut + length result.trace.items) × (n ≡ sum_by (λ s. s.made.amount) shares.items)) }
+    {
+        let Front { held, ended: _ } = self;
+        held.into_inner().close(shares)
+    }
+}

@@ -1,0 +1,341 @@
+//! What lies under the lock.
+
+ghost use Rattle.std.specs.Prelude.{◌≡◌, ◌≢◌, ◌<◌, ◌≤◌, ◌^◌, ◌+◌, ◌↔◌, ◌⊎◌, List, true, false, [], length, vec_len, vec_capacity, slice_index, Err, IfOk, IfErr, OnErr, IfSome, IsSome};
+ghost use Rattle.std.specs.List.{sum_by};
+ghost use Rattle.std.specs.FinMap.{entries};
+ghost use Rattle.im_types.specs.Changes.{Effect};
+ghost use Rattle.im_types.specs.Lives.{Shown};
+ghost use Rattle.im_lock.specs.View.{View};
+ghost use Rattle.im_stats.specs.Counts.{nothing, IsSound};
+ghost use Rattle.im_front.specs.declared.fault.Fault.TheVariants.{Failed, Busy, TooMany, TraceFull, Memory};
+ghost use Rattle.im_front.specs.Calls.{asked_by, told_by, trace_of, is_blocked, may_end, most_entries};
+ghost use Rattle.im_front.specs.Store.{IsResting, LookKept};
+ghost use Rattle.im_front.specs.Held.{Records, is_full, IsRun, StopKeeps, IsCut, WhyNotCut, after_reply, after_trace};
+
+use crate::fault::Fault;
+use crate::recorded::Recorded;
+use crate::reply::Reply;
+use crate::share::Share;
+use crate::step::Step;
+use crate::store::Store;
+use im_lock::isolation;
+use im_stats::{Pass, StatsCell};
+use im_types::{Key, Rid};
+use std::alloc::Global;
+use std::marker::Model;
+use std::sync::ledger::{Blank, Book, Ledger, Share as Part};
+use std::sync::{Arc, Wait};
+
+/// The most steps that the trace takes before it is cut.
+const FULL: usize = 65_536;
+
+/// The most steps that are ever cut.
+const MOST_CUT: u64 = 1 << 62;
+
+/// How many shares there are.
+const SHARES: u64 = 1024;
+
+/// The value behind the lock: an engine, and the trace of its steps from the base entries on.
+#[derive(Drop)]
+pub struct Held<E: Store, L: Ledger> {
+    alloc: Global,
+    engine: E,
+    base: Vec<(Key, Rid)>,
+    trace: Vec<Recorded>,
+    cut: u64,
+    kept: [u64; 3],
+    counts: [u64; 3],
+    book: Book<L>,
+    rest: Part<L>,
+    handed: u64,
+    cell: Arc<StatsCell, Global>,
+    pass: Pass,
+}
+
+impl<E: Store, L: Ledger> Model for Held<E, L> {
+    ghost use Rattle.std.specs.Prelude.{◌≡◌, ◌+◌, length};
+    ghost use Rattle.std.specs.Arc.{arc_value};
+    ghost use Rattle.crossbeam_utils.specs.Seq.{cell_view};
+    ghost use Rattle.im_stats.specs.Counts.{writer};
+    ghost use Rattle.im_front.specs.Calls.{trace_of};
+    ghost use Rattle.im_front.specs.Held.{State, Stands};
+
+    ghost Value = { State E };
+
+    ghost view = { λ h. record { engine = h.engine; base = h.base.items; trace = h.trace.items; cut = h.cut; kept = h.kept; counts = (cell_view h.pass).seen; handed = h.handed } };
+
+    ghost invariant = { λ h. Stands E.life h.base.items (trace_of h.trace.items) h.engine h.cut h.kept h.counts × (h.book.total ≡ h.cut + length h.trace.items) × (h.rest.parts + h.handed ≡ 1024) × (h.rest.amount ≡ 0) × (h.pass.table_id ≡ (arc_value h.cell).table.shared.table_id) × (cell_view h.pass ≡ writer h.counts) };
+}
+
+/// What is left of a front.
+#[derive(Drop)]
+pub struct Closed<E: Store> {
+    /// The engine.
+    pub engine: E,
+    /// The entries from which the trace begins.
+    pub base: Vec<(Key, Rid)>,
+    /// How many steps were cut before.
+    pub cut: u64,
+    /// The steps with their replies.
+    pub trace: Vec<Recorded>,
+    /// How many steps the shares made in all, where every share came back.
+    pub sum: Option<u64>,
+}
+
+impl<E: Store, L: Ledger> Held<E, L> {
+    /// An engine at rest, with an empty trace that begins from its entries. Refused as `entries` is, and `Memory`; engine and
+    /// blank come back then.
+    pub fn new(alloc: Global, engine: E, blank: Blank) -> Result<Held<E, L>, (Fault, E, Blank)>
+        requires resting { IsResting E.life engine }
+        requires blank { (blank.name ≡ L.name) × (blank.parts ≡ L.parts) × (blank.parts ≡ 1024) }
+        ensures ok { IfOk result (λ h. (h.trace ≡ []) × (h.cut ≡ 0) × (h.handed ≡ 0) × (h.counts ≡ nothing)) }
+        ensures engine { IfErr result (λ e. (before : List Effect) (s : Shown) (v : View) → E.life before s v engine → LookKept E.life before s v e.1) }
+        ensures blank { IfErr result (λ e. e.2 ≡ blank) }
+        ensures cause { IfErr result (λ e. (e.0 ≡ Memory) ⊎ E.refuses engine e.1 e.0) }
+    {
+        let mut engine = engine;
+        let base = match engine.entries(alloc) {
+            Ok(base) => base,
+            Err(fault) => return Err((fault, engine, blank)),
+        };
+        let Ok((cell, pass)) = StatsCell::new(alloc) else {
+            return Err((Fault::Memory, engine, blank));
+        };
+        let Ok(cell) = Arc::new(alloc, cell) else {
+            return Err((Fault::Memory, engine, blank));
+        };
+        let (book, rest) = blank.open::<L>();
+        Ok(Held {
+            alloc,
+            engine,
+            base,
+            trace: Vec::new(alloc),
+            cut: 0,
+            kept: [0; 3],
+            counts: [0; 3],
+            book,
+            rest,
+            handed: 0,
+            cell,
+            pass,
+        })
+    }
+
+    /// What always holds of the value behind the lock: its trace is a run that ends in its engine, a stop keeps what the trace
+    /// acknowledged, and the counts that were written last to the cell are those of the trace, added to those of the steps cut.
+    /// It does nothing: its contract says so.
+    pub fn holds_always(&self)
+        ensures run { IsRun E.life self.now.base (trace_of self.now.trace) self.now.engine }
+        ensures stops { StopKeeps E.leaves self.now.base (trace_of self.now.trace) self.now.engine }
+        ensures counts { self.now.counts ≡ after_trace self.now.kept (trace_of self.now.trace) }
+        ensures sound { IsSound self.now.counts }
+        ensures handed { self.now.handed ≤ 1024 }
+    {
+        let _handed = self.handed;
+    }
+
+    /// A share, which has made no step and read the counts as they are. Refused `TooMany` after the 1,024th, and `Memory`.
+    pub fn share(&mut self) -> Result<Share<L>, Fault>
+        ensures ok { IfOk result (λ s. self.new ≡ record self.old { handed = self.old.handed + 1 }) }
+        ensures none { IfOk result (λ s. (s.made.amount ≡ 0) × (s.read ≡ self.old.counts)) }
+        ensures err { OnErr result (self.new ≡ self.old) }
+        ensures many { result ≡ Err TooMany ↔ (self.old.handed ≡ 1024) }
+        ensures causes { IfErr result (λ e. (e ≡ TooMany) ⊎ (e ≡ Memory)) }
+    {
+        if self.handed >= SHARES {
+            return Err(Fault::TooMany);
+        }
+        let Held {
+            rest,
+            handed,
+            counts,
+            cell,
+            pass,
+            ..
+        } = self;
+        let Ok(cell) = Arc::try_clone(cell) else {
+            return Err(Fault::Memory);
+        };
+        let made = rest.split_off(1, 0);
+        let pass = cell.reader(pass);
+        *handed += 1;
+        Ok(Share {
+            made,
+            cell,
+            pass,
+            read: *counts,
+        })
+    }
+
+    /// Makes what is committed the base entries, and empties the trace. Refused `Failed` where the engine has failed, then `Busy`
+    /// while a transaction is active, then `TraceFull` where the steps cut would pass 2^62, then as `entries` is; the trace and
+    /// its base stay then.
+    pub fn cut_trace(&mut self) -> Result<(), Fault>
+        ensures ok { IfOk result (λ _. (self.new.trace ≡ []) × (self.new.cut ≡ self.old.cut + length self.old.trace) × (self.new.kept ≡ self.old.counts)) }
+        ensures base { IfOk result (λ _. IsCut self.old.base self.new.base (trace_of self.old.trace)) }
+        ensures same { (self.new.counts ≡ self.old.counts) × (self.new.handed ≡ self.old.handed) }
+        ensures err { OnErr result ((self.new.trace ≡ self.old.trace) × (self.new.base ≡ self.old.base) × (self.new.cut ≡ self.old.cut) × (self.new.kept ≡ self.old.kept)) }
+        ensures cause { IfErr result (λ fault. WhyNotCut E.life E.refuses self.old self.new fault) }
+    {
+        if self.engine.failed() {
+            return Err(Fault::Failed);
+        }
+        if is_busy(self.engine.active()) {
+            return Err(Fault::Busy);
+        }
+        if self.trace.len() as u64 > MOST_CUT - self.cut {
+            return Err(Fault::TraceFull);
+        }
+        isolation();
+        let Held {
+            alloc,
+            engine,
+            base,
+            trace,
+            cut,
+            kept,
+            counts,
+            ..
+        } = self;
+        *base = engine.entries(*alloc)?;
+        *cut += trace.len() as u64;
+        *kept = *counts;
+        trace.clear();
+        Ok(())
+    }
+
+    /// Ends the front. There is a sum where as many shares came back as were handed out, and it is the number of all steps.
+    pub fn close(self, shares: Vec<Share<L>>) -> Closed<E>
+        requires { L.parts ≡ 1024 }
+        ensures run { IsRun E.life result.base.items (trace_of result.trace.items) result.engine }
+        ensures stops { StopKeeps E.leaves result.base.items (trace_of result.trace.items) result.engine }
+        ensures same { (result.base.items ≡ self.base) × (result.trace.items ≡ self.trace) × (result.cut ≡ self.cut) × (result.engine ≡ self.engine) }
+        ensures sum { IfSome result.sum (λ n. (n ≡ self.cut + length self.trace) × (n ≡ sum_by (λ s. s.made.amount) shares.items)) }
+        ensures all { IsSome result.sum ↔ (length shares.items ≡ self.handed) }
+    {
+        let Held {
+            engine,
+            base,
+            trace,
+            cut,
+            mut book,
+            mut rest,
+            handed,
+            ..
+        } = self;
+        let back = gather(&mut rest, shares);
+        let sum = if back == handed {
+            book.audit(&mut rest);
+            Some(cut + trace.len() as u64)
+        } else {
+            None
+        };
+        Closed {
+            engine,
+            base,
+            cut,
+            trace,
+            sum,
+        }
+    }
+
+    /// Makes a step, and puts it with its reply at the end of the trace. The room for both is made first.
+    ///
+    /// Refused `TraceFull` where the trace holds 65,536 steps or more and the step ends no transaction, then `Memory` where
+    /// there is no room; the step is not made then. Every other reply is the engine's.
+    pub fn step<R: Wait>(&mut self, rt: &R, mine: &mut Share<L>, step: &Step) -> Reply
+        ensures records { Records (asked_by step.now) (told_by result) self.old self.new mine.old.made.amount mine.new.made.amount }
+        ensures full { is_full (told_by result) ≡ true ↔ ((65536 ≤ length self.old.trace) × (may_end (asked_by step.now) ≡ false)) }
+    {
+        if is_refused(self.trace.len(), step) {
+            return Reply::Refused(Fault::TraceFull);
+        }
+        let Held {
+            alloc,
+            engine,
+            trace,
+            counts,
+            book,
+            cell,
+            pass,
+            ..
+        } = self;
+        let Some((asked, room)) = room_for(*alloc, trace, step) else {
+            return Reply::Refused(Fault::Memory);
+        };
+        let reply = engine.step(step);
+        if reply.is_blocked() {
+            return reply;
+        }
+        let told = reply.copy_into(room);
+        let now = counted(*counts, &reply);
+        trace.push_reserved(Recorded {
+            step: asked,
+            reply: told,
+        });
+        book.add(&mut mine.made, 1);
+        cell.store(rt, pass, now);
+        *counts = now;
+        reply
+    }
+}
+
+// Whether so many active transactions keep the trace from being cut.
+fn is_busy(active: usize) -> bool
+    ensures busy { result ≡ true → 0 < active }
+    ensures free { result ≡ false → active ≡ 0 }
+{
+    active > 0
+}
+
+// Whether a step is refused for a trace of this length: a step that may end a transaction never is.
+fn is_refused(len: usize, step: &Step) -> bool
+    ensures { result ≡ true ↔ ((65536 ≤ len) × (may_end (asked_by step.now) ≡ false)) }
+{
+    len >= FULL && !step.may_end()
+}
+
+// Room for a step and its reply: one place more in the trace, a copy of the step, and places for as many entries as it may be
+// answered.
+fn room_for(
+    alloc: Global,
+    trace: &mut Vec<Recorded>,
+    step: &Step,
+) -> Option<(Step, Vec<(Key, Rid)>)>
+    ensures kept { trace.new.items ≡ trace.old.items }
+    ensures place { IfSome result (λ r. vec_len trace.new < vec_capacity trace.new) }
+    ensures step { IfSome result (λ r. asked_by r.0 ≡ asked_by step.now) }
+    ensures entries { IfSome result (λ r. (r.1.items ≡ []) × (most_entries (asked_by step.now) ≤ vec_capacity r.1)) }
+{
+    trace.reserve(1).ok()?;
+    let copy = step.try_clone(alloc).ok()?;
+    let room = Vec::with_capacity(alloc, step.most_entries()).ok()?;
+    Some((copy, room))
+}
+
+// Puts the shares together, and says how many there were.
+fn gather<L: Ledger>(rest: &mut Part<L>, shares: Vec<Share<L>>) -> u64
+    ensures count { result ≡ length shares.items }
+    ensures parts { rest.new.parts ≡ rest.old.parts + length shares.items }
+    ensures amount { rest.new.amount ≡ rest.old.amount + sum_by (λ s. s.made.amount) shares.items }
+{
+    let back = shares.len() as u64;
+    for share in shares {
+        let Share { made, .. } = share;
+        rest.merge(made);
+    }
+    back
+}
+
+// The counts after a step with this reply.
+fn counted(counts: [u64; 3], reply: &Reply) -> [u64; 3]
+    requires { (slice_index counts 0 < 2 ^ 63) × (slice_index counts 1 < 2 ^ 63) × (slice_index counts 2 < 2 ^ 63) × (length counts ≡ 3) }
+    ensures { result ≡ after_reply counts (told_by reply.now) }
+{
+    match reply {
+        Reply::Started(_) => [counts[0] + 1, counts[1], counts[2]],
+        Reply::Committed => [counts[0], counts[1] + 1, counts[2]],
+        Reply::RolledBack => [counts[0], counts[1], counts[2] + 1],
+        _ => [counts[0], counts[1], counts[2]],
+    }
+}

@@ -1,0 +1,57 @@
+//! What a front asks of an engine.
+
+ghost use Rattle.std.specs.Prelude.{◌≡◌, List, false, ◌++◌, IfOk, IfErr};
+ghost use Rattle.std.specs.FinMap.{empty, entries as entries_of};
+ghost use Rattle.im_types.specs.Changes.{Effect, apply_all};
+ghost use Rattle.im_types.specs.Lives.{Shown, Survives, effects, nothing_shown};
+ghost use Rattle.im_lock.specs.View.{View};
+ghost use Rattle.im_lock.specs.Machine.{start};
+ghost use Rattle.im_front.specs.declared.fault.Fault as faults;
+ghost use Rattle.im_front.specs.Calls.{asked_by, told_by};
+ghost use Rattle.im_front.specs.Store.{StepKept, LookKept};
+
+use crate::fault::Fault;
+use crate::reply::Reply;
+use crate::step::Step;
+use im_types::{Key, Rid};
+use std::alloc::Global;
+
+/// A store of many transactions over one map, whose steps are those of the machine, and which a stop leaves with what it
+/// acknowledged.
+pub trait Store: Drop {
+    /// It goes on from these effects, has shown this since, and is this view of the machine.
+    ghost life: { List Effect → Shown → View → Self → Type 0 };
+
+    /// Whatever a stop now leaves stands for such effects.
+    ghost leaves: { Self → (List Effect → Type 0) → Type 0 };
+
+    /// Why the entries are refused.
+    ghost refuses: { Self → Self → faults.Fault → Type 0 };
+
+    /// Makes a step, and answers it.
+    fn step(&mut self, step: &Step) -> Reply
+        ensures kept { (before : List Effect) (s : Shown) (v : View) → life before s v self.old
+            → StepKept life before s v (asked_by step.now) (told_by result) self.new };
+
+    /// The entries of the map, those of active transactions included, in rising key order. A refusal may break the store.
+    fn entries(&mut self, alloc: Global) -> Result<Vec<(Key, Rid)>, Fault>
+        ensures list { IfOk result (λ list. (before : List Effect) (s : Shown) (v : View) → life before s v self.old
+            → (list.items ≡ entries_of v.walk) × life before s v self.new) }
+        ensures kept { IfErr result (λ fault. (before : List Effect) (s : Shown) (v : View) → life before s v self.old → LookKept life before s v self.new) }
+        ensures cause { IfErr result (λ fault. refuses self.old self.new fault) };
+
+    /// How many transactions are active.
+    fn active(&self) -> usize
+        ensures { (before : List Effect) (s : Shown) (v : View) → life before s v self.now → result ≡ v.active };
+
+    /// Whether an earlier call broke it.
+    fn failed(&self) -> bool
+        ensures { (before : List Effect) (s : Shown) (v : View) → life before s v self.now → result ≡ v.failed };
+
+    /// What was acknowledged survives a stop: it leaves a front of what was asked, with each acknowledged one.
+    ghost stops: { (before : List Effect) (s : Shown) (v : View) (e : Self) → life before s v e → leaves e (λ after. Survives before s.asked after) };
+
+    /// Where nothing is active and the store works, what was asked is committed, and a new life begins with it.
+    ghost settles: { (before : List Effect) (s : Shown) (v : View) (e : Self) → life before s v e → v.failed ≡ false → v.active ≡ 0
+        → (v.committed ≡ apply_all empty (before ++ effects s.asked)) × life (before ++ effects s.asked) nothing_shown (start v.committed v.next) e };
+}

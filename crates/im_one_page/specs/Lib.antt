@@ -1,5 +1,0 @@
-pub mod OnePage
-pub mod OneAtATime
-pub mod OnePageLaws
-pub mod Variants
-pub mod Worked

@@ -1,5 +1,0 @@
-use Rattle.im_serial.proofs.Promises.{unsplit_logs_are_closed}
-use Rattle.im_serial.proofs.laws.unsplit_logs_are_closed.Goals as goal
-
-pub returns : goal.returns
-returns c = unsplit_logs_are_closed

@@ -1,0 +1,11 @@
+pub mod Together
+pub mod Records
+pub mod Growth
+pub mod Showing
+pub mod Asking
+pub mod Acknowledged
+pub mod Promises
+pub mod Rows
+pub mod Steps
+pub mod Logging
+pub mod WorkedSteps

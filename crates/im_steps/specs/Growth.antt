@@ -1,0 +1,106 @@
+-- How a log grows by a step.
+use Rattle.std.specs.Prelude.{◌≡◌, ◌≢◌, ◌≤◌, ◌⊎◌, ℕ, true, false, List, [], ◌∷◌, ◌++◌}
+use Rattle.im_types.specs.Pages.{Page}
+use Rattle.im_types.specs.Changes.{Change, applied, undone}
+use Rattle.im_types.specs.Records.{Image, Logged}
+use Rattle.im_types.specs.Histories.{History, Base}
+use Rattle.im_types.specs.Transactions.{committed, contents, net, last_of, undo_next_of, to_undo, is_finished, is_rolling_back, is_end}
+
+-- ---- what both halves of a step say of it: the committed effects, the tree's map and the nets
+
+-- by Images, structure changes, or an End
+pub record Stays (b : Base) (older longer : History) : Type 0 where
+  pub commits : committed longer ≡ committed older
+  pub walk : contents b longer ≡ contents b older
+  pub nets : (t : ℕ) → net t longer ≡ net t older
+
+-- by a change of transaction t
+pub record Adds (b : Base) (t : ℕ) (c : Change) (older longer : History) : Type 0 where
+  pub commits : committed longer ≡ committed older
+  pub walk : contents b longer ≡ applied (contents b older) c
+  pub own : net t longer ≡ c ∷ net t older
+  pub others : (u : ℕ) → u ≢ t → net u longer ≡ net u older
+
+-- its newest change is taken back
+pub record TakesBack (b : Base) (t : ℕ) (c : Change) (older longer : History) : Type 0 where
+  pub commits : committed longer ≡ committed older
+  pub walk : contents b longer ≡ undone (contents b older) c
+  pub own : net t older ≡ c ∷ net t longer
+  pub others : (u : ℕ) → u ≢ t → net u longer ≡ net u older
+
+-- it commits
+pub record Commits (b : Base) (t : ℕ) (older longer : History) : Type 0 where
+  pub commits : committed longer ≡ committed older ++ net t older ∷ []
+  pub walk : contents b longer ≡ contents b older
+  pub own : net t longer ≡ []
+  pub others : (u : ℕ) → u ≢ t → net u longer ≡ net u older
+
+-- ---- what the log says of one transaction
+
+-- of this one it says what it said
+pub record IsSameOf (u : ℕ) (older longer : History) : Type 0 where
+  pub last : 1 ≤ u → last_of u longer ≡ last_of u older
+  pub undo : 1 ≤ u → undo_next_of u longer ≡ undo_next_of u older
+  pub finished : is_finished u longer ≡ is_finished u older
+  pub rolling : is_rolling_back u longer ≡ is_rolling_back u older
+  pub stack : to_undo u longer ≡ to_undo u older
+
+-- of each but t
+abbrev pub IsOfOthers : ℕ → History → History → Type 0
+IsOfOthers t older longer = (u : ℕ) → u ≢ t → IsSameOf u older longer
+
+-- of each
+abbrev pub IsOfAll : History → History → Type 0
+IsOfAll older longer = (u : ℕ) → IsSameOf u older longer
+
+-- it has no record, or a Commit or an End
+abbrev pub IsOver : ℕ → History → Type 0
+IsOver t log = 1 ≤ t → 1 ≤ last_of t log → is_finished t log ≡ true
+
+-- no record is this transaction's
+abbrev pub HasNone : ℕ → History → Type 0
+HasNone t [] = Unit {0}
+HasNone t (r ∷ older) = (r.txn ≢ t) × HasNone t older
+
+-- ---- by which records
+
+-- an Image
+pub record IsImage (r : Logged) : Type 0 where
+  pub copy : Page
+  pub what : r.what ≡ Image copy
+  pub no_owner : r.txn ≡ 0
+
+-- an Image, or a record of t that neither commits nor ends it
+abbrev pub IsWithin : ℕ → Logged → Type 0
+IsWithin t r = IsImage r ⊎ ((r.txn ≡ t) × (is_end r.what ≡ false))
+
+-- these records come on top
+abbrev pub AreWithin : ℕ → History → Type 0
+AreWithin t [] = Unit {0}
+AreWithin t (r ∷ rs) = IsWithin t r × AreWithin t rs
+
+abbrev pub AreImages : History → Type 0
+AreImages [] = Unit {0}
+AreImages (r ∷ rs) = IsImage r × AreImages rs
+
+-- The log has grown within t.
+pub record GrowsWithin (t : ℕ) (older longer : History) : Type 0 where
+  pub more : History
+  pub is : more ++ older ≡ longer
+  pub within : AreWithin t more
+
+-- The log has grown by Images.
+pub record GrowsByImages (older longer : History) : Type 0 where
+  pub more : History
+  pub is : more ++ older ≡ longer
+  pub images : AreImages more
+
+-- ---- laws
+
+-- what growth within t leaves of the others, and of what is committed
+abbrev pub GrowthWithinLeavesOthers : Type 0
+GrowthWithinLeavesOthers = (t : ℕ) (older longer : History) → GrowsWithin t older longer → IsOfOthers t older longer × (committed longer ≡ committed older)
+
+-- Images change nothing of any transaction
+abbrev pub ImagesChangeNothing : Type 0
+ImagesChangeNothing = (b : Base) (older longer : History) → GrowsByImages older longer → Stays b older longer × IsOfAll older longer

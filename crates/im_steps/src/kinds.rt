@@ -1,0 +1,100 @@
+//! Each kind of step keeps what holds between steps. These functions do nothing: their contracts are the laws.
+
+ghost use Rattle.im_steps.specs.Steps.{NewStoresServe, OpenedStoresServe, BeginsAreServed, ChangesAreServed, InsertsAreServed, DeletesAreServed, ReadsAreServed, WaitsAreServed, DiesAreServed, CommitsAreServed, UnloggedCommitsAreServed, DropsAreServed, TurnsAreServed, UndoIsServed, EndsAreServed, FlushesAreServed, ForcesAreServed, BarredStepsAreServed, LacksAreServed};
+
+use im_types::laws::logs::PageTree;
+
+/// A new store serves.
+pub fn new_stores_serve()
+    ensures { NewStoresServe }
+{}
+
+/// So does one that was opened, with no transaction going on.
+pub fn opened_stores_serve()
+    ensures { OpenedStoresServe }
+{}
+
+/// A transaction begins.
+pub fn begins_are_served()
+    ensures { BeginsAreServed }
+{}
+
+/// A change that was granted and logged.
+pub fn changes_are_served()
+    ensures { ChangesAreServed }
+{}
+
+/// An insert that was granted its locks leaves a lawful log.
+pub fn inserts_are_served<T: PageTree>()
+    ensures { InsertsAreServed T.tree }
+{}
+
+/// So does a delete.
+pub fn deletes_are_served<T: PageTree>()
+    ensures { DeletesAreServed T.tree }
+{}
+
+/// An access that changes nothing.
+pub fn reads_are_served()
+    ensures { ReadsAreServed }
+{}
+
+/// An access that has to wait.
+pub fn waits_are_served()
+    ensures { WaitsAreServed }
+{}
+
+/// An access that must die.
+pub fn dies_are_served()
+    ensures { DiesAreServed }
+{}
+
+/// A Commit that was logged: the effect comes behind the others.
+pub fn commits_are_served()
+    ensures { CommitsAreServed }
+{}
+
+/// A Commit of a transaction without a record.
+pub fn unlogged_commits_are_served()
+    ensures { UnloggedCommitsAreServed }
+{}
+
+/// A Rollback of a transaction without a record.
+pub fn drops_are_served()
+    ensures { DropsAreServed }
+{}
+
+/// A Rollback of one that has a record.
+pub fn turns_are_served()
+    ensures { TurnsAreServed }
+{}
+
+/// A change that was taken back, with more to take back.
+pub fn undo_is_served()
+    ensures { UndoIsServed }
+{}
+
+/// The last change that was taken back, and the End.
+pub fn ends_are_served()
+    ensures { EndsAreServed }
+{}
+
+/// A page that was written.
+pub fn flushes_are_served()
+    ensures { FlushesAreServed }
+{}
+
+/// A force of the log.
+pub fn forces_are_served()
+    ensures { ForcesAreServed }
+{}
+
+/// A step that a check refuses.
+pub fn barred_steps_are_served()
+    ensures { BarredStepsAreServed }
+{}
+
+/// A step for which pages or memory are wanting.
+pub fn lacks_are_served()
+    ensures { LacksAreServed }
+{}

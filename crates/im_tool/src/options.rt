@@ -1,0 +1,156 @@
+//! The command line of the program that keeps a store.
+
+use clap::builder::ValueParser;
+use clap::{Arg, ArgAction, ArgMatches, Command, Error};
+use im_engine::Config;
+use std::alloc::Global;
+
+/// The frames of a store in a folder, where the words name no number.
+const FRAMES: usize = 1_024;
+
+/// What the program is asked for.
+#[derive(Clone, Copy, Debug, PartialEq, Eq)]
+pub enum Task {
+    /// Steps, which standard input asks for.
+    Steps,
+    /// Whether the store is whole, and what is broken where it is not.
+    Check,
+    /// What the store has, in numbers.
+    Stat,
+    /// The records of the log.
+    Log,
+    /// The entries, as text that `Load` takes.
+    Dump,
+    /// Entries put in, as `Dump` wrote them.
+    Load,
+}
+
+/// What the words of the command line say.
+#[derive(Clone, Copy, Debug)]
+pub struct Options<'a> {
+    /// The folder of the store. Without one the store is in memory.
+    pub dir: Option<&'a str>,
+    pub task: Task,
+    /// The frames of the pool, 8 to 1,024.
+    pub frames: Option<u64>,
+    /// The most pages.
+    pub pages: Option<u64>,
+    /// Refusals are told in words, and keys are written and read so that they can be typed.
+    pub has_words: bool,
+    /// The program ends at the first line that is refused.
+    pub is_batch: bool,
+}
+
+impl<'a> Options<'a> {
+    /// The limits of the engine: 1,024 frames for a folder and 64 in memory, and a million pages, where the words say nothing else.
+    pub(crate) fn config(&self) -> Config {
+        let mut config = Config::default();
+        if self.dir.is_some() {
+            config.frames = FRAMES;
+        }
+        if let Some(frames) = self.frames {
+            config.frames = frames as usize;
+        }
+        if let Some(pages) = self.pages {
+            config.max_pages = u32::try_from(pages).unwrap_or(u32::MAX);
+        }
+        config
+    }
+}
+
+/// Reads the words of the command line, of which the first is the program's name.
+pub(crate) fn parse_options<'a>(alloc: Global, words: &'a [String]) -> Result<Options<'a>, Error> {
+    let matches = command(alloc)?.try_get_matches_from(words)?;
+    Ok(Options {
+        dir: matches.get_str("DIR"),
+        task: task_of(&matches),
+        frames: matches.get_one::<u64>("frames"),
+        pages: matches.get_one::<u64>("pages"),
+        has_words: matches.get_flag("words"),
+        is_batch: matches.get_flag("batch"),
+    })
+}
+
+fn task_of(matches: &ArgMatches) -> Task {
+    if matches.get_flag("check") {
+        Task::Check
+    } else if matches.get_flag("stat") {
+        Task::Stat
+    } else if matches.get_flag("log") {
+        Task::Log
+    } else if matches.get_flag("dump") {
+        Task::Dump
+    } else if matches.get_flag("load") {
+        Task::Load
+    } else {
+        Task::Steps
+    }
+}
+
+fn command<'a>(alloc: Global) -> Result<Command<'a>, Error> {
+    let dir = Arg::new(alloc, "DIR").help(
+        "The folder of the store; without one the store is in memory",
+    );
+    let frames = Arg::new(alloc, "frames")
+        .long("frames")
+        .value_parser(ValueParser::unsigned(8, 1_024))
+        .help("Pages held in memory at once, 8 to 1024 [1024 with DIR, 64 without]");
+    let pages = Arg::new(alloc, "pages")
+        .long("pages")
+        .value_parser(ValueParser::unsigned(2, 4_294_967_295))
+        .help("The most pages that the store may have [1000000]");
+    let command = Command::new(alloc, "imstore")
+        .version("1")
+        .about(
+            "Keeps keys with their row ids in a store, and makes the steps that standard input asks for",
+        )
+        .arg(dir)?
+        .arg(frames)?
+        .arg(pages)?
+        .arg(flag(
+            alloc,
+            "words",
+            "Tell refusals in words, and write keys so that they can be typed",
+        ))?
+        .arg(flag(
+            alloc,
+            "batch",
+            "End with status 3 at the first line that is refused",
+        ))?
+        .arg(task_flag(alloc, "check", "Check the store, and change nothing")?)?
+        .arg(task_flag(
+            alloc,
+            "stat",
+            "Print what the store has, in numbers, and change nothing",
+        )?)?
+        .arg(task_flag(
+            alloc,
+            "log",
+            "Print the records of the log, and change nothing",
+        )?)?
+        .arg(task_flag(alloc, "dump", "Print all entries as text")?)?
+        .arg(task_flag(
+            alloc,
+            "load",
+            "Put in the entries that standard input has, as --dump prints them",
+        )?)?;
+    Ok(command)
+}
+
+fn flag<'a>(alloc: Global, name: &'a str, help: &'a str) -> Arg<'a> {
+    Arg::new(alloc, name)
+        .long(name)
+        .action(ArgAction::SetTrue)
+        .help(help)
+}
+
+// A flag of which one at most is given, and which needs the folder.
+fn task_flag<'a>(alloc: Global, name: &'a str, help: &'a str) -> Result<Arg<'a>, Error> {
+    let mut arg = flag(alloc, name, help).requires_arg("DIR")?;
+    for other in ["check", "stat", "log", "dump", "load"] {
+        if other != name {
+            arg = arg.conflicts_with(other)?;
+        }
+    }
+    Ok(arg)
+}

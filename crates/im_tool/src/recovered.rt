@@ -1,0 +1,66 @@
+//! A store as an opening finds it, in memory: the files are read, and nothing of them is changed.
+
+ghost use Rattle.std.specs.Prelude.{◌≡◌, false, OnOk};
+
+use im_disk::{Disk, ModelDisk, read_vec};
+use im_engine::{Config, Engine};
+use im_types::{Fault, FileId, Key, PageNo, Reply, Rid, Step};
+use std::alloc::Global;
+
+/// The bytes of both files.
+#[derive(Drop)]
+pub(crate) struct Copies {
+    pub(crate) log: Vec<u8>,
+    pub(crate) pages: Vec<u8>,
+}
+
+/// Reads both files of a store.
+pub(crate) fn copies_of<D: Disk>(alloc: Global, disk: &mut D) -> Result<Copies, Fault>
+    requires { D.failed disk.old ≡ false }
+{
+    let log = whole_file(alloc, disk, FileId::Log)?;
+    let pages = whole_file(alloc, disk, FileId::Pages)?;
+    Ok(Copies { log, pages })
+}
+
+fn whole_file<D: Disk>(alloc: Global, disk: &mut D, file: FileId) -> Result<Vec<u8>, Fault>
+    requires { D.failed disk.old ≡ false }
+    ensures { OnOk result (D.failed disk.new ≡ false) }
+{
+    let len = disk.len(file)?;
+    let Ok(len) = usize::try_from(len) else {
+        return Err(Fault::Memory);
+    };
+    read_vec(alloc, disk, file, 0, len)
+}
+
+// The store of the copies, opened in memory.
+fn opened(alloc: Global, copies: Copies) -> Result<Engine<ModelDisk>, Fault> {
+    let disk = ModelDisk::new(copies.log, copies.pages);
+    let config = Config {
+        frames: 1_024,
+        max_pages: u32::MAX,
+    };
+    match Engine::open_or_create(alloc, disk, config) {
+        Ok(engine) => Ok(engine),
+        Err((fault, _disk)) => Err(fault),
+    }
+}
+
+/// The entries that an opening finds.
+pub(crate) fn entries_of(alloc: Global, copies: Copies) -> Result<Vec<(Key, Rid)>, Fault> {
+    let mut engine = opened(alloc, copies)?;
+    engine.entries(alloc)
+}
+
+/// The file of pages as it is once an opening is done and so many pages were written.
+pub(crate) fn pages_of(alloc: Global, copies: Copies, count: PageNo) -> Result<Vec<u8>, Fault> {
+    let mut engine = opened(alloc, copies)?;
+    for page in 0..count {
+        if let Reply::Refused(fault) = engine.step(&Step::FlushPage(page)) {
+            return Err(fault);
+        }
+    }
+    let mut left = engine.into_disk().after_stop(alloc)?;
+    whole_file(alloc, &mut left, FileId::Pages)
+}

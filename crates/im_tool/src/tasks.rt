@@ -1,0 +1,115 @@
+//! The tasks over a store in a folder that take no steps.
+
+ghost use Rattle.std.specs.Prelude.{◌≤◌, IfOk};
+
+use crate::imstore::{tell, tell_unopened};
+use crate::log_text::log_text;
+use crate::look::{check_text, stat_text};
+use crate::options::{Options, Task};
+use crate::recovered::{Copies, copies_of, entries_of};
+use crate::store::print_refused_opening;
+use crate::transfer::{Loaded, dump_text, load_text};
+use im_disk::FileDisk;
+use im_types::Fault;
+use std::io;
+use std::io::{BufReader, BufWriter, Write};
+
+/// Does a task that only looks at the store in a folder, and changes no byte of it. It answers the exit status: 0, or 1 where
+/// the store is broken or could not be read.
+pub(crate) fn look_program(rt: &HostRuntime, dir: &str, task: Task) -> io::Result<u8>
+    ensures { IfOk result (λ status. status ≤ 1) }
+{
+    let alloc = rt.alloc();
+    let mut writer = BufWriter::new(alloc, io::writer(rt))?;
+    let mut disk = match FileDisk::open_to_read(rt, dir) {
+        Ok(disk) => disk,
+        Err(error) => {
+            print_refused_opening(&mut writer, error.fault())?;
+            tell_unopened(rt, dir, &error);
+            return Ok(1);
+        }
+    };
+    let copies = match copies_of(alloc, &mut disk) {
+        Ok(copies) => copies,
+        Err(fault) => return refused(rt, dir, &mut writer, fault),
+    };
+    let status = match task {
+        Task::Check => check_text(alloc, &mut writer, copies)?,
+        Task::Stat => stat_text(alloc, &mut writer, copies)?,
+        Task::Log => print_log(rt, dir, &mut writer, &copies)?,
+        _ => dump(rt, dir, &mut writer, copies)?,
+    };
+    writer.flush()?;
+    Ok(status)
+}
+
+fn refused<W: Write>(rt: &HostRuntime, dir: &str, writer: &mut W, fault: Fault) -> io::Result<u8>
+    ensures { IfOk result (λ status. status ≤ 1) }
+{
+    print_refused_opening(writer, fault)?;
+    tell(rt, dir, &fault);
+    Ok(1)
+}
+
+fn print_log<W: Write>(
+    rt: &HostRuntime,
+    dir: &str,
+    writer: &mut W,
+    copies: &Copies,
+) -> io::Result<u8>
+    ensures { IfOk result (λ status. status ≤ 1) }
+{
+    match log_text(rt.alloc(), writer, &copies.log)? {
+        Ok(()) => Ok(0),
+        Err(damage) => {
+            writer.flush()?;
+            tell(rt, dir, &damage);
+            Ok(1)
+        }
+    }
+}
+
+fn dump<W: Write>(rt: &HostRuntime, dir: &str, writer: &mut W, copies: Copies) -> io::Result<u8>
+    ensures { IfOk result (λ status. status ≤ 1) }
+{
+    match entries_of(rt.alloc(), copies) {
+        Ok(entries) => {
+            dump_text(rt.alloc(), writer, &entries)?;
+            Ok(0)
+        }
+        Err(fault) => refused(rt, dir, writer, fault),
+    }
+}
+
+/// Loads the entries that standard input has into the store of a folder. It answers the exit status: 0, 1 where the opening was
+/// refused, 3 where a line was.
+pub(crate) fn load_program(rt: &HostRuntime, dir: &str, options: &Options) -> io::Result<u8>
+    ensures { IfOk result (λ status. status ≤ 3) }
+{
+    let alloc = rt.alloc();
+    let mut reader = BufReader::new(alloc, rt.reader())?;
+    let mut writer = BufWriter::new(alloc, io::writer(rt))?;
+    let disk = match FileDisk::open(rt, dir) {
+        Ok(disk) => disk,
+        Err(error) => {
+            print_refused_opening(&mut writer, error.fault())?;
+            tell_unopened(rt, dir, &error);
+            return Ok(1);
+        }
+    };
+    let loaded = load_text(alloc, disk, options.config(), &mut reader)?;
+    let status = match loaded {
+        Loaded::All(_) => 0,
+        Loaded::RefusedOpening(fault) => return refused(rt, dir, &mut writer, fault),
+        _ => 3,
+    };
+    match loaded {
+        Loaded::All(count) => writeln!(writer, "loaded {count}")?,
+        Loaded::BadLine(line) => writeln!(writer, "refused 16 line {line}")?,
+        Loaded::Duplicate(line) => writeln!(writer, "duplicate line {line}")?,
+        Loaded::Refused(line, fault) => writeln!(writer, "refused {} line {line}", fault.number())?,
+        Loaded::RefusedOpening(_) => {}
+    }
+    writer.flush()?;
+    Ok(status)
+}

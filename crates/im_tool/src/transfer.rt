@@ -1,0 +1,175 @@
+//! Entries as text, out of a store and into one.
+
+ghost use Rattle.std.specs.Prelude.{◌≡◌, false};
+ghost use Rattle.im_disk.specs.Runs.{IsSynced};
+
+use crate::key_notation::noted_key;
+use crate::line_input::{LineInput, without_newline};
+use crate::store::print_keys;
+use im_disk::Disk;
+use im_engine::{Config, Engine};
+use im_types::{Fault, Key, Reply, Rid, Step, TxnId};
+use std::alloc::Global;
+use std::io;
+use std::io::Write;
+
+/// How many entries are put in between one commit and the next.
+const A_COMMIT: u64 = 1_000;
+
+const TITLE: &[u8] = b"imstore entries ";
+
+/// How a load ended.
+#[derive(Clone, Copy, Debug, PartialEq, Eq)]
+pub(crate) enum Loaded {
+    /// All entries of the text are in the store.
+    All(u64),
+    /// This line of the text, counted from 1, is none of a dump, or the text ends before it.
+    BadLine(u64),
+    /// The store refused the entry of this line, or the commit behind it. Those in front of the last commit are kept.
+    Refused(u64, Fault),
+    /// The key of this line is in the store already.
+    Duplicate(u64),
+    /// The opening was refused.
+    RefusedOpening(Fault),
+}
+
+/// Writes how many entries there are, and each: the key as it can be typed, and its row id.
+pub(crate) fn dump_text<W: Write>(
+    alloc: Global,
+    writer: &mut W,
+    entries: &[(Key, Rid)],
+) -> io::Result<()> {
+    writer.write_all(TITLE)?;
+    writeln!(writer, "{}", entries.len())?;
+    print_keys(alloc, writer, entries)
+}
+
+/// Puts the entries of such a text into a store, and commits them a thousand at a time.
+pub(crate) fn load_text<D: Disk + Drop, R: LineInput>(
+    alloc: Global,
+    disk: D,
+    config: Config,
+    reader: &mut R,
+) -> io::Result<Loaded>
+    requires working { D.failed disk ≡ false }
+    requires synced { IsSynced D.Disk disk }
+{
+    match Engine::open_or_create(alloc, disk, config) {
+        Ok(mut engine) => {
+            let loaded = load_lines(alloc, &mut engine, reader);
+            let _disk = engine.into_disk();
+            loaded
+        }
+        Err((fault, _disk)) => Ok(Loaded::RefusedOpening(fault)),
+    }
+}
+
+fn load_lines<D: Disk, R: LineInput>(
+    alloc: Global,
+    engine: &mut Engine<D>,
+    reader: &mut R,
+) -> io::Result<Loaded> {
+    let mut line = Vec::new(alloc);
+    let Some(count) = next_count(reader, &mut line)? else {
+        return Ok(Loaded::BadLine(1));
+    };
+    let mut number = 0;
+    for place in 0..count {
+        let at = place.saturating_add(2);
+        if place % A_COMMIT == 0 {
+            match engine.step(&Step::Begin) {
+                Reply::Started(started) => number = started,
+                reply => return Ok(Loaded::Refused(at, fault_of(reply))),
+            }
+        }
+        line.clear();
+        if !reader.next_line(&mut line)? {
+            return Ok(Loaded::BadLine(at));
+        }
+        if let Some(end) = load_entry(alloc, engine, number, without_newline(&line), at)? {
+            return Ok(end);
+        }
+        let is_last = place.saturating_add(1) == count;
+        if is_last || place % A_COMMIT == A_COMMIT - 1 {
+            match engine.step(&Step::Commit(number)) {
+                Reply::Committed => {}
+                reply => return Ok(Loaded::Refused(at, fault_of(reply))),
+            }
+        }
+    }
+    Ok(Loaded::All(count))
+}
+
+// The number in the first line.
+fn next_count<R: LineInput>(reader: &mut R, line: &mut Vec<u8>) -> io::Result<Option<u64>> {
+    if !reader.next_line(line)? {
+        return Ok(None);
+    }
+    match without_newline(line).strip_prefix(TITLE) {
+        Some(digits) => Ok(number_of(digits)),
+        None => Ok(None),
+    }
+}
+
+fn load_entry<D: Disk>(
+    alloc: Global,
+    engine: &mut Engine<D>,
+    number: TxnId,
+    line: &[u8],
+    at: u64,
+) -> io::Result<Option<Loaded>> {
+    let (key, rid) = match entry_of(alloc, line) {
+        Ok(entry) => entry,
+        Err(Fault::BadScript) => return Ok(Some(Loaded::BadLine(at))),
+        Err(fault) => return Ok(Some(Loaded::Refused(at, fault))),
+    };
+    match engine.step(&Step::Insert(number, key, rid)) {
+        Reply::Inserted => Ok(None),
+        Reply::Duplicate => Ok(Some(Loaded::Duplicate(at))),
+        reply => Ok(Some(Loaded::Refused(at, fault_of(reply)))),
+    }
+}
+
+// A key and its row id.
+fn entry_of(alloc: Global, line: &[u8]) -> Result<(Vec<u8>, Rid), Fault> {
+    let (key, behind) = match noted_key(alloc, line)? {
+        Some(noted) => noted,
+        None => plain_key(alloc, line)?,
+    };
+    match behind {
+        [b' ', digits @ ..] => match number_of(digits) {
+            Some(rid) => Ok((key, rid)),
+            None => Err(Fault::BadScript),
+        },
+        _ => Err(Fault::BadScript),
+    }
+}
+
+// The text in front of the first space, and what stands from that space on.
+fn plain_key(alloc: Global, line: &[u8]) -> Result<(Vec<u8>, &[u8]), Fault> {
+    for place in 0..line.len() {
+        if line[place] == b' ' {
+            let key = Vec::from_slice(alloc, &line[..place]).map_err(|_| Fault::Memory)?;
+            return Ok((key, &line[place..]));
+        }
+    }
+    Err(Fault::BadScript)
+}
+
+fn number_of(digits: &[u8]) -> Option<u64> {
+    if digits.first().copied() == Some(b'+') {
+        return None;
+    }
+    match std::str::from_utf8(digits) {
+        Ok(text) => text.parse::<u64>().ok(),
+        Err(_) => None,
+    }
+}
+
+// The refusal of a step that was to be made.
+fn fault_of(reply: Reply) -> Fault {
+    match reply {
+        Reply::Refused(fault) => fault,
+        _ => Fault::Failed,
+    }
+}

@@ -1,0 +1,321 @@
+//! The tree and the free list of a store, page by page.
+
+use crate::tree_damage::TreeDamage;
+use im_page::Page;
+use im_types::{Fault, Key, PageKind, PageNo, compare};
+use std::alloc::Global;
+use std::cmp::Ordering;
+
+const PAGE_SIZE: usize = 4_096;
+
+const ROOT: PageNo = 1;
+
+/// The bytes of cells and slots that a page of the tree may have.
+pub(crate) const ROOM: u64 = 4_064;
+
+/// What the pages of a store are, in numbers, and what is broken in them.
+#[derive(Drop)]
+pub(crate) struct TreeSurvey {
+    pub(crate) height: u64,
+    pub(crate) leaves: u64,
+    pub(crate) inner: u64,
+    pub(crate) free: u64,
+    pub(crate) entries: u64,
+    /// The bytes of cells and slots in all leaves, and in all inner pages.
+    pub(crate) leaf_bytes: u64,
+    pub(crate) inner_bytes: u64,
+    pub(crate) damages: Vec<TreeDamage>,
+}
+
+// A page in a level of the tree, and the keys between which its keys lie.
+#[derive(Drop)]
+struct Place {
+    page: PageNo,
+    low: Option<Key>,
+    high: Option<Key>,
+}
+
+#[derive(Drop)]
+struct Walk<'a> {
+    alloc: Global,
+    pages: &'a [u8],
+    count: PageNo,
+    seen: Vec<bool>,
+    survey: TreeSurvey,
+}
+
+/// Checks all pages of a store. Refused `Memory`.
+pub(crate) fn check_pages(alloc: Global, pages: &[u8]) -> Result<TreeSurvey, Fault> {
+    let mut survey = TreeSurvey {
+        height: 0,
+        leaves: 0,
+        inner: 0,
+        free: 0,
+        entries: 0,
+        leaf_bytes: 0,
+        inner_bytes: 0,
+        damages: Vec::new(alloc),
+    };
+    let Some(meta) = page_of(pages, 0) else {
+        push(&mut survey.damages, TreeDamage::NoPage(0))?;
+        return Ok(survey);
+    };
+    if meta.kind() != PageKind::Meta {
+        push(&mut survey.damages, TreeDamage::NoMeta)?;
+        return Ok(survey);
+    }
+    let count = meta.leftmost();
+    let places = (pages.len() / PAGE_SIZE).max(2);
+    if count as usize > places {
+        push(&mut survey.damages, TreeDamage::PastCount(count))?;
+        return Ok(survey);
+    }
+    let mut walk = Walk {
+        alloc,
+        pages,
+        count,
+        seen: vec![in alloc; false; places].map_err(|_| Fault::Memory)?,
+        survey,
+    };
+    walk.levels()?;
+    walk.free_list(meta.next(), meta.prev())?;
+    walk.lost()?;
+    let Walk { survey, .. } = walk;
+    Ok(survey)
+}
+
+// A page of the file; past its end the initial one. None where its bytes are no page.
+fn page_of(pages: &[u8], number: PageNo) -> Option<Page> {
+    let from = (number as usize).checked_mul(PAGE_SIZE)?;
+    let to = from.checked_add(PAGE_SIZE)?;
+    match pages.get(from..to) {
+        Some(bytes) => Page::read(bytes).ok(),
+        None => Some(Page::initial(number)),
+    }
+}
+
+fn push<T: Drop>(list: &mut Vec<T>, item: T) -> Result<(), Fault> {
+    match list.push(item) {
+        Ok(()) => Ok(()),
+        Err(_) => Err(Fault::Memory),
+    }
+}
+
+fn key_of(bytes: &[u8]) -> Option<Key> {
+    Key::new(bytes).ok()
+}
+
+// Whether the key lies at or above the one and below the other.
+fn is_between(key: &[u8], low: &Option<Key>, high: &Option<Key>) -> bool {
+    let is_above = match low {
+        Some(low) => compare(low.bytes(), key) != Ordering::Greater,
+        None => true,
+    };
+    let is_below = match high {
+        Some(high) => compare(key, high.bytes()) == Ordering::Less,
+        None => true,
+    };
+    is_above && is_below
+}
+
+impl<'a> Walk<'a> {
+    fn note(&mut self, damage: TreeDamage) -> Result<(), Fault> {
+        push(&mut self.survey.damages, damage)
+    }
+
+    // Marks a page as met. False where it was met before, or is past the number of pages.
+    fn meet(&mut self, page: PageNo) -> Result<bool, Fault> {
+        if page >= self.count {
+            self.note(TreeDamage::PastCount(page))?;
+            return Ok(false);
+        }
+        let met = match self.seen.get_mut(page as usize) {
+            Some(seen) => {
+                let before = *seen;
+                *seen = true;
+                before
+            }
+            None => true,
+        };
+        if met {
+            self.note(TreeDamage::Twice(page))?;
+        }
+        Ok(!met)
+    }
+
+    // Each level of the tree, from the root down.
+    fn levels(&mut self) -> Result<(), Fault> {
+        let Some(root) = page_of(self.pages, ROOT) else {
+            return self.note(TreeDamage::NoPage(ROOT));
+        };
+        let top = root.level();
+        self.survey.height = u64::from(top).saturating_add(1);
+        let mut row = Vec::new(self.alloc);
+        push(
+            &mut row,
+            Place {
+                page: ROOT,
+                low: None,
+                high: None,
+            },
+        )?;
+        for depth in 0..=top {
+            let mut below = Vec::new(self.alloc);
+            for place in &row {
+                self.look(place, top.saturating_sub(depth), &mut below)?;
+            }
+            if depth == top {
+                self.chain(&row)?;
+            }
+            row = below;
+        }
+        Ok(())
+    }
+
+    // A page of a level, and its children.
+    fn look(&mut self, place: &Place, level: u8, below: &mut Vec<Place>) -> Result<(), Fault> {
+        let number = place.page;
+        if !self.meet(number)? {
+            return Ok(());
+        }
+        let Some(page) = page_of(self.pages, number) else {
+            return self.note(TreeDamage::NoPage(number));
+        };
+        let kind = if level == 0 {
+            PageKind::Leaf
+        } else {
+            PageKind::Inner
+        };
+        if page.kind() != kind || page.level() != level {
+            return self.note(TreeDamage::WrongLevel(number));
+        }
+        if page.is_marked() {
+            self.note(TreeDamage::Marked(number))?;
+        }
+        self.keys(place, &page)?;
+        if level == 0 {
+            self.leaf(number, &page)
+        } else {
+            self.children(place, &page, below)
+        }
+    }
+
+    fn keys(&mut self, place: &Place, page: &Page) -> Result<(), Fault> {
+        for i in 0..page.len() {
+            if !is_between(page.key(i), &place.low, &place.high) {
+                return self.note(TreeDamage::KeyOutOfPlace(place.page));
+            }
+        }
+        Ok(())
+    }
+
+    fn leaf(&mut self, number: PageNo, page: &Page) -> Result<(), Fault> {
+        self.survey.leaves = self.survey.leaves.saturating_add(1);
+        self.survey.entries = self.survey.entries.saturating_add(page.len() as u64);
+        for i in 0..page.len() {
+            let size = (page.key(i).len() as u64).saturating_add(11);
+            self.survey.leaf_bytes = self.survey.leaf_bytes.saturating_add(size);
+        }
+        if page.len() == 0 && number != ROOT {
+            self.note(TreeDamage::EmptyLeaf(number))?;
+        }
+        Ok(())
+    }
+
+    fn children(
+        &mut self,
+        place: &Place,
+        page: &Page,
+        below: &mut Vec<Place>,
+    ) -> Result<(), Fault> {
+        self.survey.inner = self.survey.inner.saturating_add(1);
+        let len = page.len();
+        let first = if len > 0 {
+            key_of(page.key(0))
+        } else {
+            copy_of(&place.high)
+        };
+        push(
+            below,
+            Place {
+                page: page.leftmost(),
+                low: copy_of(&place.low),
+                high: first,
+            },
+        )?;
+        for i in 0..len {
+            let size = (page.key(i).len() as u64).saturating_add(7);
+            self.survey.inner_bytes = self.survey.inner_bytes.saturating_add(size);
+            let high = if i + 1 < len {
+                key_of(page.key(i + 1))
+            } else {
+                copy_of(&place.high)
+            };
+            push(
+                below,
+                Place {
+                    page: PageNo::try_from(page.value(i)).unwrap_or(PageNo::MAX),
+                    low: key_of(page.key(i)),
+                    high,
+                },
+            )?;
+        }
+        Ok(())
+    }
+
+    // The neighbours of the leaves.
+    fn chain(&mut self, row: &[Place]) -> Result<(), Fault> {
+        for (i, place) in row.iter().enumerate() {
+            let Some(page) = page_of(self.pages, place.page) else {
+                continue;
+            };
+            let before = match row.get(i.wrapping_sub(1)) {
+                Some(last) => last.page,
+                None => 0,
+            };
+            let behind = match row.get(i.wrapping_add(1)) {
+                Some(next) => next.page,
+                None => 0,
+            };
+            if page.prev() != before || page.next() != behind {
+                self.note(TreeDamage::WrongNeighbours(place.page))?;
+            }
+        }
+        Ok(())
+    }
+
+    fn free_list(&mut self, first: PageNo, count: PageNo) -> Result<(), Fault> {
+        let mut at = first;
+        for _step in 0..self.count {
+            if at == 0 || !self.meet(at)? {
+                break;
+            }
+            match page_of(self.pages, at) {
+                Some(page) if page.kind() == PageKind::Free => at = page.next(),
+                _ => return self.note(TreeDamage::NotFree(at)),
+            }
+            self.survey.free = self.survey.free.saturating_add(1);
+        }
+        if self.survey.free != u64::from(count) {
+            self.note(TreeDamage::FreeCount)?;
+        }
+        Ok(())
+    }
+
+    // The pages that were not met.
+    fn lost(&mut self) -> Result<(), Fault> {
+        for page in 1..self.count {
+            if self.seen.get(page as usize).copied() == Some(false) {
+                self.note(TreeDamage::Lost(page))?;
+            }
+        }
+        Ok(())
+    }
+}
+
+fn copy_of(key: &Option<Key>) -> Option<Key> {
+    match key {
+        Some(key) => key_of(key.bytes()),
+        None => None,
+    }
+}

@@ -1,0 +1,31 @@
+//! How a program keeps keys in a folder: it opens the store, makes a transaction, and lists what is there.
+#![tactic(auto)]
+
+use im_disk::FileDisk;
+use im_engine::{Config, Engine};
+use im_types::{Reply, Step};
+use std::fs;
+
+const DIR: &str = "store_example_files";
+
+fn main(rt: HostRuntime) -> anyhow::Result<()> {
+    let alloc = rt.alloc();
+    let disk = FileDisk::open(&rt, DIR)?;
+    let mut engine = match Engine::open_or_create(alloc, disk, Config::default()) {
+        Ok(engine) => engine,
+        Err((fault, _disk)) => return Err(anyhow::Error::from(fault)),
+    };
+    if let Reply::Started(number) = engine.step(&Step::Begin) {
+        let key = Vec::from_slice(alloc, b"apple")?;
+        let inserted = engine.step(&Step::Insert(number, key, 7));
+        let committed = engine.step(&Step::Commit(number));
+        println!(rt; "{inserted:?} {committed:?}")?;
+    }
+    for (key, rid) in &engine.entries(alloc)? {
+        let name = std::str::from_utf8(key.bytes())?;
+        println!(rt; "{name} {rid}")?;
+    }
+    let _disk = engine.into_disk();
+    fs::remove_dir_all(&rt, DIR)?;
+    Ok(())
+}
