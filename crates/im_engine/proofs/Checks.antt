@@ -83,6 +83,13 @@ not_used_up e (inr (inl is)) full = let never : Memory ≡ Capacity = sym is ∙
 not_used_up e (inr (inr (inl is))) full = let never : NotAStore ≡ Capacity = sym is ∙ full in cc never
 not_used_up e (inr (inr (inr is))) full = let never : Device ≡ Capacity = sym is ∙ full in cc never
 
+-- nor had it failed
+pub not_failed : (e : Fault) → IsOfWriter e → e ≢ Failed
+not_failed e (inl is) failed = let never : LogFull ≡ Failed = sym is ∙ failed in cc never
+not_failed e (inr (inl is)) failed = let never : Memory ≡ Failed = sym is ∙ failed in cc never
+not_failed e (inr (inr (inl is))) failed = let never : NotAStore ≡ Failed = sym is ∙ failed in cc never
+not_failed e (inr (inr (inr is))) failed = let never : Device ≡ Failed = sym is ∙ failed in cc never
+
 -- of a writer that had not failed
 pub of_writer : (e : Fault) → (e ≡ Failed) ⊎ IsOfWriter e → (e ≡ Failed → true ≡ false) → IsOfWriter e
 of_writer e (inl is) not = absurd (let never = not is in cc)

@@ -10,15 +10,16 @@ use Rattle.im_types.specs.LogLaws.{bodies}
 use Rattle.im_types.specs.Lives.{Shown}
 use Rattle.im_types.specs.declared.reply.Reply.{Reply}
 use Rattle.im_disk.specs.declared.disk.Disk.{Ghosts}
+use Rattle.im_flush.specs.declared.page_writer.PageWriter.{PageWriter}
 use Rattle.im_flush.proofs.Growing.{grows_then}
 use Rattle.im_tree.specs.Levels.{Pages}
 use Rattle.im_change.specs.Changes.{GrowsByChange, marks}
 use Rattle.im_engine.specs.declared.engine.Engine.{Engine}
-use Rattle.im_engine.specs.Joined.{PutJoined, TakeJoined}
+use Rattle.im_engine.specs.Joined.{PutJoined, TakeJoined, ChangeJoined, DropJoined}
 use Rattle.im_engine.specs.Running.{IsRunning}
-use Rattle.im_engine.specs.Changes.{Rests, LeafLooked, Edited}
+use Rattle.im_engine.specs.Changes.{Rests, LeafLooked, Edited, StandsBehind}
 use Rattle.im_engine.specs.Structure.{MeetsLimit, WantsSplit, WantsDrop}
-use Rattle.im_engine.proofs.Keys.{of_images, images_as_change, change_then, marks_behind}
+use Rattle.im_engine.proofs.Keys.{of_images, images_as_change, change_then, change_behind_images, none_in_front, marks_behind}
 use Rattle.im_engine.proofs.Running.{bodies_still, settled_now}
 
 -- a key put, or dropped, behind Images
@@ -33,7 +34,7 @@ put_behind_images b t key rid wants then so older mid newer images put = record 
   owner = put.owner;
 }
 
-take_behind_images : (b : Base) (t : ℕ) (key : Key) (wants then : Type 0) → (wants → then) → (older mid newer : History) → GrowsByImages b older mid → TakeJoined b t key wants mid newer → TakeJoined b t key then older newer
+abbrev pub take_behind_images : (b : Base) (t : ℕ) (key : Key) (wants then : Type 0) → (wants → then) → (older mid newer : History) → GrowsByImages b older mid → TakeJoined b t key wants mid newer → TakeJoined b t key then older newer
 take_behind_images b t key wants then so older mid newer images take = record {
   before = take.before;
   images = grows_then b older mid take.before images take.images;
@@ -46,7 +47,7 @@ take_behind_images b t key wants then so older mid newer images take = record {
 }
 
 -- a structure change behind it, which is wanted
-take_and_change : (b : Base) (t : ℕ) (key : Key) (wants : Type 0) → wants → (older mid newer : History) → TakeJoined b t key ⊥ older mid → GrowsByChange t mid newer → TakeJoined b t key wants older newer
+abbrev pub take_and_change : (b : Base) (t : ℕ) (key : Key) (wants : Type 0) → wants → (older mid newer : History) → TakeJoined b t key ⊥ older mid → GrowsByChange t mid newer → TakeJoined b t key wants older newer
 take_and_change b t key wants want older mid newer take grows = record {
   before = take.before;
   images = take.images;
@@ -109,4 +110,25 @@ module _ {D : Type 0} (d : Ghosts D) {b : Base} (before : List Effect) (s : Show
         joins = subst (λ (t : ℕ). TakeJoined b t key (WantsDrop (settled b r.now.log) key) r.now.log f.running.now.log) same
             (take_behind_images b m key (WantsDrop (settled b r.now.log) key) (WantsDrop (settled b r.now.log) key) (λ x. x) r.now.log l.looked.running.now.log f.running.now.log l.looked.grows
             (take_and_change b m key (WantsDrop (settled b r.now.log) key) (drop_seen key want) l.looked.running.now.log e.running.now.log f.running.now.log e.joins f.joins));
+      }
+
+      -- records of a structure change joined, and the step was refused as failed: of an insert
+      pub split_failed : (w : PageWriter) (disk : D) → StandsBehind d b (ChangeJoined m l.looked.running.now.log) w disk → StandsBehind d b (ChangeJoined n r.now.log) w disk
+      split_failed w disk begun = record {
+        now = begun.now;
+        stands = begun.stands;
+        joins = subst (λ (t : ℕ). ChangeJoined t r.now.log begun.now.log) same (change_behind_images b m r.now.log l.looked.running.now.log begun.now.log l.looked.grows begun.joins);
+      }
+
+      -- of a delete
+      pub drop_failed : (taken : Engine D d) (e : Edited d b before then (TakeJoined b m key ⊥ l.looked.running.now.log) taken) → WantsDrop (bodies b r.now.log) key
+          → (w : PageWriter) (disk : D) → StandsBehind d b (ChangeJoined m e.running.now.log) w disk → StandsBehind d b (DropJoined b n key (WantsDrop (settled b r.now.log) key) r.now.log) w disk
+      drop_failed taken e want w disk begun = record {
+        now = begun.now;
+        stands = begun.stands;
+        joins = subst (λ (t : ℕ). DropJoined b t key (WantsDrop (settled b r.now.log) key) r.now.log begun.now.log) same (record {
+          taken = take_behind_images b m key (WantsDrop (settled b r.now.log) key) (WantsDrop (settled b r.now.log) key) (λ x. x) r.now.log l.looked.running.now.log begun.now.log l.looked.grows
+              (take_and_change b m key (WantsDrop (settled b r.now.log) key) (drop_seen key want) l.looked.running.now.log e.running.now.log begun.now.log e.joins begun.joins.change);
+          some = λ none. begun.joins.some (none_in_front begun.joins.change.more e.joins.change.more none);
+        });
       }

@@ -1,5 +1,5 @@
 -- A key put or dropped.
-use Rattle.std.proofs.Common.{◌≡◌, ◌⊎◌, inl, inr, ℕ, ◌≤◌, List, [], ◌∷◌, length, Option, Some, None, Result, Ok, Err, IfOk, IfErr, refl, sym, ap, subst, ◌∙◌, append_assoc, arith, ◌++◌}
+use Rattle.std.proofs.Common.{◌≡◌, ◌≢◌, ◌⊎◌, inl, inr, ℕ, ◌≤◌, List, [], ◌∷◌, length, Option, Some, None, Result, Ok, Err, IfOk, IfErr, refl, sym, ap, subst, ◌∙◌, append_assoc, arith, ◌++◌}
 use Rattle.std.specs.FinMap.Entries.{find}
 use Rattle.im_types.specs.Keys.{Key, key_order}
 use Rattle.im_types.specs.Pages.{Page}
@@ -26,9 +26,9 @@ use Rattle.im_serial.proofs.Promises.{keys_are_put, keys_are_dropped, tree_shows
 use Rattle.im_engine.specs.declared.engine.Engine.{Engine}
 use Rattle.im_engine.specs.declared.transaction.Transaction.{Transaction}
 use Rattle.im_engine.specs.Running.{IsRunning}
-use Rattle.im_change.specs.Changes.{IsOfChange, GrowsByChange, marks, with_mark}
+use Rattle.im_change.specs.Changes.{IsOfChange, GrowsByChange, HasRecordOf, marks, with_mark}
 use Rattle.im_engine.specs.Changes.{LeafLooked, EditKept}
-use Rattle.im_engine.specs.Joined.{PutJoined, TakeJoined}
+use Rattle.im_engine.specs.Joined.{PutJoined, TakeJoined, ChangeJoined}
 use Rattle.im_engine.specs.Checks.{LacksRoom}
 use Rattle.im_engine.proofs.Running.{page_is, grown_stops, runs_evicted}
 use Rattle.im_engine.proofs.Steps.{active_is, key_step}
@@ -62,7 +62,7 @@ change_then t older mid newer first second = record {
 }
 
 -- where the longer has no page of a structure change the newer records have none
-marks_none : (r : Logged) (w : What) (ms : List (Option ℕ)) → with_mark r w ms ≡ [] → ms ≡ []
+pub marks_none : (r : Logged) (w : What) (ms : List (Option ℕ)) → with_mark r w ms ≡ [] → ms ≡ []
 marks_none r (Smo was now) ms none = absurd (cc none)
 marks_none r DummyClr ms none = absurd (cc none)
 marks_none r (InsertKey k i) ms none = none
@@ -93,6 +93,43 @@ same_marks r Unreadable ms ns none is = is
 pub none_in_front : (more before : History) → marks (more ++ before) ≡ [] → marks more ≡ []
 none_in_front [] before none = refl
 none_in_front (r ∷ more) before none = same_marks r r.what (marks (more ++ before)) (marks more) none (none_in_front more before (marks_none r r.what (marks (more ++ before)) none))
+
+pub none_behind : (more before : History) → marks (more ++ before) ≡ [] → marks before ≡ []
+none_behind [] before none = none
+none_behind (r ∷ more) before none = none_behind more before (marks_none r r.what (marks (more ++ before)) none)
+
+-- a structure change behind Images, and one in front of them
+abbrev pub change_behind_images : (b : Base) (t : ℕ) (older mid newer : History) → GrowsByImages b older mid → ChangeJoined t mid newer → ChangeJoined t older newer
+change_behind_images b t older mid newer images c = record {
+  change = change_then t older mid newer (images_as_change b t older mid images) c.change;
+  some = λ none. c.some (none_in_front c.change.more images.images none);
+}
+
+abbrev pub change_before_images : (b : Base) (t : ℕ) (older mid newer : History) → ChangeJoined t older mid → GrowsByImages b mid newer → ChangeJoined t older newer
+change_before_images b t older mid newer c images = record {
+  change = change_then t older mid newer c.change (images_as_change b t mid newer images);
+  some = λ none. c.some (none_behind images.images c.change.more none);
+}
+
+-- a record of the transaction of a structure change is one of its pages, or the one that closes it
+marked : (t : ℕ) (r : Logged) (w : What) (ms : List (Option ℕ)) → 1 ≤ t → IsOfChange t r w → r.txn ≡ t → with_mark r w ms ≢ []
+marked t r (Smo was now) ms some of is none = cc none
+marked t r DummyClr ms some of is none = cc none
+marked t r (InsertKey k i) ms some of is none = absurd of
+marked t r (DeleteKey k i) ms some of is none = absurd of
+marked t r (UndoInsert k i) ms some of is none = absurd of
+marked t r (UndoDelete k i) ms some of is none = absurd of
+marked t r (UndoSmo now) ms some of is none = absurd of
+marked t r Commit ms some of is none = absurd of
+marked t r End ms some of is none = absurd of
+marked t r (Image c) ms some of is none = omega (arith, some, of, is)
+marked t r (Checkpoint n a x) ms some of is none = absurd of
+marked t r Unreadable ms some of is none = absurd of
+
+pub some_marks : (t : ℕ) → 1 ≤ t → (more : History) → AllOf (λ (r : Logged). IsOfChange t r r.what) more → HasRecordOf t more → marks more ≢ []
+some_marks t some [] all is = absurd is
+some_marks t some (r ∷ more) all (inl is) = marked t r r.what (marks more) some all.0 is
+some_marks t some (r ∷ more) all (inr is) = λ none. some_marks t some more all.1 is (marks_none r r.what (marks more) none)
 
 -- and with none in front of it either the whole has none
 pub marks_behind : (more before : History) → marks more ≡ [] → marks before ≡ [] → marks (more ++ before) ≡ []

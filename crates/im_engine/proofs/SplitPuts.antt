@@ -19,12 +19,14 @@ use Rattle.im_engine.specs.declared.engine.Engine.{Engine}
 use Rattle.im_engine.specs.declared.transaction.Transaction.{Transaction}
 use Rattle.im_engine.specs.Running.{IsRunning}
 use Rattle.im_change.specs.Changes.{GrowsByChange}
-use Rattle.im_engine.specs.Joined.{PutJoined}
-use Rattle.im_engine.specs.Changes.{Rests, EditKept}
-use Rattle.im_engine.specs.Structure.{SplitKept, LimitKept}
+use Rattle.im_engine.specs.Joined.{PutJoined, ChangeJoined}
+use Rattle.im_engine.specs.Changes.{Rests, EditKept, StandsBehind}
+use Rattle.im_engine.specs.Structure.{SplitKept, LimitKept, BegunKept}
 use Rattle.im_engine.specs.Checks.{LacksRoom}
 use Rattle.im_engine.proofs.Checks.{IsOfWriter, IsOfDrop, drop_wants, drop_capacity}
-use Rattle.im_engine.proofs.Keys.{change_then}
+use Rattle.im_engine.proofs.Refusals.{handed_on}
+use Rattle.im_engine.proofs.Structure.{late_memory}
+use Rattle.im_engine.proofs.Keys.{change_then, change_before_images}
 use Rattle.im_engine.proofs.Running.{leaves_then}
 
 -- what a refusal is answered as behind the first record of a structure change
@@ -74,7 +76,7 @@ module _ {D : Type 0} (d : Ghosts D) {b : Base} (before : List Effect) (s then :
       pub put_behind : (lsn : ℕ) → wants → EditKept d before s mid kept.ok.leaf.running {A = ℕ} then (PutJoined n key rid ⊥ kept.ok.leaf.running.now.log) new (Ok lsn)
           → EditKept d before s old r {A = Unit {0}} then (PutJoined n key rid wants r.now.log) new (Ok tt) × LimitKept d before s old r {A = Unit {0}} key (Ok tt)
       put_behind lsn want put = (
-        record { ok = record { running = put.ok.running; joins = put_behind_change n key rid wants want r.now.log kept.ok.leaf.running.now.log kept.ok.grows put.ok.running.now.log put.ok.joins }; again = tt; stops = leaves_then d before s old.disk mid.disk new.disk kept.stops put.stops; cause = tt },
+        record { ok = record { running = put.ok.running; joins = put_behind_change n key rid wants want r.now.log kept.ok.leaf.running.now.log kept.ok.joins.change put.ok.running.now.log put.ok.joins }; again = tt; stops = leaves_then d before s old.disk mid.disk new.disk kept.stops put.stops; cause = tt },
         record { within = kept.within; full = tt; used_up = tt },
       )
 
@@ -85,3 +87,14 @@ module _ {D : Type 0} (d : Ghosts D) {b : Base} (before : List Effect) (s then :
         record { ok = tt; again = drop_wants answer of; stops = leaves_then d before s old.disk mid.disk new.disk kept.stops put.stops; cause = cause },
         record { within = tt; full = λ w. drop_wants answer of (inr w); used_up = drop_capacity answer of },
       )
+
+      -- as failed behind the split
+      pub put_begun : (e answer : Fault) → IsOfWriter e → (e ≢ Memory → answer ≡ e) → EditKept d before s mid kept.ok.leaf.running {A = ℕ} then (PutJoined n key rid ⊥ kept.ok.leaf.running.now.log) new (Err e)
+          → answer ≡ Failed → StandsBehind d b (ChangeJoined n r.now.log) new.writer new.disk
+      put_begun e answer of others put is =
+          let rests = put.again (inl (late_memory e answer of others is)) in
+          record { now = rests.running.now; stands = rests.running.stands; joins = change_before_images b n r.now.log kept.ok.leaf.running.now.log rests.running.now.log kept.ok.joins rests.grows }
+
+  -- and where the split was refused so
+  pub split_begun : (new : Engine D d) (e : Fault) → SplitKept d before s old r n key new (Err e) → (result : Result Unit Fault) → IsErrAnd result (λ x. x ≡ e) → BegunKept d before s old r n new result
+  split_begun new e kept result is = handed_on result e (λ x. x ≡ Failed → StandsBehind d b (ChangeJoined n r.now.log) new.writer new.disk) is kept.begun

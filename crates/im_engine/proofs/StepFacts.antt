@@ -1,5 +1,5 @@
 -- A step, from what its function says of it.
-use Rattle.std.proofs.Common.{◌≡◌, ◌≢◌, ℕ, List, [], ◌∷◌, ◌++◌, Bool, true, false, Option, None, Some, refl, sym, ap, subst, ◌∙◌}
+use Rattle.std.proofs.Common.{◌≡◌, ◌≢◌, ◌⊎◌, inl, inr, ℕ, List, [], ◌∷◌, ◌++◌, Bool, true, false, Option, None, Some, refl, sym, ap, subst, ◌∙◌}
 use Rattle.std.specs.Prelude.{◌||◌, is_some, cond, if◌then◌else◌}
 use Rattle.std.specs.FinMap.{empty, get}
 use Rattle.std.specs.FinMap.Entries.{find}
@@ -15,7 +15,7 @@ use Rattle.im_types.specs.LogLaws.{bodies}
 use Rattle.im_types.specs.Lives.{Shown, effects}
 use Rattle.im_types.specs.Steps.{told_by}
 use Rattle.im_types.specs.declared.fault.Fault.{Fault}
-use Rattle.im_types.specs.declared.fault.Fault.TheVariants.{Failed, Device}
+use Rattle.im_types.specs.declared.fault.Fault.TheVariants.{Failed, NoTransaction, KeyLength, TooMany, Capacity, LogFull, Device}
 use Rattle.im_types.specs.declared.reply.Reply.{Reply}
 use Rattle.im_types.specs.declared.reply.Reply.TheVariants.{Started, Found, Absent, Inserted, Duplicate, Deleted, Committed, Done, Refused}
 use Rattle.im_types.proofs.Maps.{sorted_find}
@@ -24,10 +24,12 @@ use Rattle.im_tree.specs.Levels.{Pages, walk}
 use Rattle.im_engine.specs.declared.engine.Engine.{Engine}
 use Rattle.im_engine.specs.Running.{IsRunning, IsLife}
 use Rattle.im_engine.specs.Kept.{StepKept}
-use Rattle.im_engine.specs.Changes.{is_breaking}
-use Rattle.im_engine.specs.Checks.{IsAnswered, IsUnlessRefused, has_read, OfFetch, OfInsert, OfDelete, active_number, active_after, changes_nothing, next_after}
+use Rattle.im_engine.specs.Joined.{ChangeJoined, DropJoined}
+use Rattle.im_engine.specs.Changes.{is_breaking, StandsBehind}
+use Rattle.im_engine.specs.Checks.{Where, IsAnswered, IsUnlessRefused, has_read, OfOwn, OfBegin, OfFetch, OfInsert, OfDelete, OfCommit, OfFlush, OfForce, active_number, active_after, changes_nothing, next_after}
 use Rattle.im_engine.specs.Structure.{MeetsLimit, AsksChange, WantsSplit, WantsDrop}
 use Rattle.im_engine.proofs.Running.{settled_now}
+use Rattle.im_engine.proofs.Checks.{not_true}
 use Rattle.im_engine.specs.Turns.{AnswersAlone}
 use Rattle.im_engine.proofs.Lists.{entries_kept}
 
@@ -121,12 +123,44 @@ module _ {D : Type 0} (d : Ghosts D) (t : ℕ) (key : Key) (reply : Reply) (old 
     pub answered : IsAnswered d key reply old new (λ entries fault. OfInsert d old new reply fault t key entries) (λ entries. if is_some (find key_order key entries) then answers.Duplicate else answers.Inserted)
     pub limit : (b : Base) (before : List Effect) (s : Shown) (r : IsRunning d b before s old) → MeetsLimit (bodies b r.now.log) old.max_pages key reply
     pub wanted : (b : Base) (before : List Effect) (s : Shown) (r : IsRunning d b before s old) → AsksChange old.failed reply → WantsSplit (bodies b r.now.log) key
+    pub begun : (b : Base) (before : List Effect) (s : Shown) (r : IsRunning d b before s old) → old.failed ≡ false → reply ≡ Refused Failed → StandsBehind d b (ChangeJoined t r.now.log) new.writer new.disk
 
   pub record DeleteStep : Type 0 where
     pub step : KeyStep
     pub kept : (before : List Effect) (s : Shown) (life : IsLife d before s old) → StepKept d before s (answers.Do t (answers.Delete key)) (told_by reply) old life new
     pub answered : IsAnswered d key reply old new (λ entries fault. OfDelete d old new reply fault t key) (λ entries. if is_some (find key_order key entries) then answers.Deleted else answers.Absent)
     pub wanted : (b : Base) (before : List Effect) (s : Shown) (r : IsRunning d b before s old) → AsksChange old.failed reply → WantsDrop (bodies b r.now.log) key
+    pub begun : (b : Base) (before : List Effect) (s : Shown) (r : IsRunning d b before s old) → old.failed ≡ false → reply ≡ Refused Failed
+        → StandsBehind d b (DropJoined b t key (WantsDrop (settled b r.now.log) key) r.now.log) new.writer new.disk
+
+-- ---- steps that are never refused as failed where the engine worked
+
+-- neither way
+neither : {P A B : Type 0} → (P → A → ⊥) → (B → ⊥) → Where P A B → ⊥
+neither one other (inl x) = one x.0 x.1
+neither one other (inr x) = other x.1
+
+module _ {D : Type 0} (d : Ghosts D) (old new : Engine D d) (reply : Reply) (works : old.failed ≡ false) where
+  own_not_failed : (number : ℕ) (later : Type 0) → (later → ⊥) → OfOwn d old Failed number later → ⊥
+  own_not_failed number later not = neither (λ was is. not_true old.failed works was) (neither (λ idle is. let never : Failed ≡ NoTransaction = is in cc never) not)
+
+  pub begin_not_failed : OfBegin d old Failed → ⊥
+  begin_not_failed =
+      neither (λ was is. not_true old.failed works was)
+      (neither (λ busy is. let never : Failed ≡ TooMany = is in cc never) (neither (λ over is. let never : Failed ≡ Capacity = is in cc never) (λ x. x)))
+
+  pub fetch_not_failed : (number : ℕ) (key : Key) → OfFetch d old new reply Failed number key → ⊥
+  fetch_not_failed number key = own_not_failed number _ (neither (λ no_key is. let never : Failed ≡ KeyLength = is in cc never) (λ x. x.1))
+
+  pub commit_not_failed : (number : ℕ) → OfCommit d old new reply Failed number → ⊥
+  commit_not_failed number =
+      own_not_failed number _ (neither (λ has later. neither (λ over is. let never : Failed ≡ LogFull = is in cc never) (neither (λ broken is. let never : Failed ≡ Device = is in cc never) (λ x. x)) later) (λ x. x))
+
+  pub flush_not_failed : OfFlush d old new reply Failed → ⊥
+  flush_not_failed = neither (λ was is. not_true old.failed works was) (λ x. x.1)
+
+  pub force_not_failed : OfForce d old new reply Failed → ⊥
+  force_not_failed = neither (λ was is. not_true old.failed works was) (neither (λ broken is. let never : Failed ≡ Device = is in cc never) (λ x. x))
 
 -- a failed disk: the engine has failed
 pub failed_works : {D : Type 0} (d : Ghosts D) (reply : Reply) (old new : Engine D d) → new.failed ≡ (old.failed || is_breaking (told_by reply)) → (old.failed ≡ false → d.failed new.disk ≡ true → reply ≡ Refused Device)

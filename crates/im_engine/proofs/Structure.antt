@@ -17,6 +17,7 @@ use Rattle.im_page.specs.Split.{HasRoom}
 use Rattle.im_tree.specs.Levels.{Pages, walk}
 use Rattle.im_tree.specs.Good.{IsGoodTree}
 use Rattle.im_tree.specs.Search.{IsOnWay}
+use Rattle.im_flush.specs.declared.page_writer.PageWriter.{PageWriter}
 use Rattle.im_flush.specs.PageWriter.{GoesOn}
 use Rattle.std.specs.Result.{IsErrAnd}
 use Rattle.im_pool.specs.Pool as pools
@@ -33,15 +34,16 @@ use Rattle.im_engine.specs.declared.engine.Engine.{Engine}
 use Rattle.im_engine.specs.declared.transaction.Transaction.{Transaction}
 use Rattle.im_engine.specs.Stands.{Allowed}
 use Rattle.im_engine.specs.Running.{IsTransaction, IsRunning}
-use Rattle.im_engine.specs.Changes.{Rests, LeafLooked}
+use Rattle.im_engine.specs.Changes.{Rests, LeafLooked, StandsBehind}
+use Rattle.im_engine.specs.Joined.{ChangeJoined}
 use Rattle.im_engine.specs.Structure.{IsUsedUp, AreImages, AreForKey, PlanKept, DeletePlanKept, Restructured, LeafHeld, HasSplitLeaf, SplitKept}
 use Rattle.im_engine.specs.Checks.{LacksRoom}
 use Rattle.im_engine.proofs.Refusals.{handed_on}
-use Rattle.im_engine.proofs.Checks.{IsOfWriter, IsOfDrop, drop_wants, drop_capacity}
+use Rattle.im_engine.proofs.Checks.{IsOfWriter, IsOfDrop, drop_wants, drop_capacity, not_full, not_used_up, not_failed}
 use Rattle.im_engine.proofs.Shown.{some_inj}
 use Rattle.im_engine.proofs.Running.{bodies_are, bodies_still, leaf_now, left_on, runs_on, runs_goes, runs_evicted, grown_stops}
 use Rattle.im_engine.proofs.Steps.{active_is}
-use Rattle.im_engine.proofs.Keys.{change_then, images_as_change}
+use Rattle.im_engine.proofs.Keys.{change_behind_images, change_before_images, some_marks}
 
 -- a fault as it is answered behind a structure change's first record is that of no store only where it was
 pub not_late : (e answer : Fault) → IsOfWriter e → (e ≡ Memory → answer ≡ Failed) → (e ≢ Memory → answer ≡ e) → e ≢ NotAStore → answer ≢ NotAStore
@@ -57,14 +59,21 @@ late_full e answer memory others (inr (inl is)) full = absurd (let never : Faile
 late_full e answer memory others (inr (inr (inl is))) full = sym (others (λ w. let never : NotAStore ≡ Memory = sym is ∙ w in cc never)) ∙ full
 late_full e answer memory others (inr (inr (inr is))) full = sym (others (λ w. let never : Device ≡ Memory = sym is ∙ w in cc never)) ∙ full
 
--- of a structure change that was begun
-pub change_not_late : (e answer : Fault) → (e ≡ Failed) ⊎ IsOfWriter e → (e ≡ Memory → answer ≡ Failed) → (e ≢ Memory → answer ≡ e) → e ≢ NotAStore → answer ≢ NotAStore
-change_not_late e answer (inl is) memory others not store = not (sym (others (λ w. let never : Failed ≡ Memory = sym is ∙ w in cc never)) ∙ store)
-change_not_late e answer (inr of) memory others not store = not_late e answer of memory others not store
+-- as failed only where memory was wanted
+pub late_memory : (e answer : Fault) → IsOfWriter e → (e ≢ Memory → answer ≡ e) → answer ≡ Failed → e ≡ Memory
+late_memory e answer (inl is) others failed = absurd (let never : LogFull ≡ Failed = sym is ∙ sym (others (λ w. let not : LogFull ≡ Memory = sym is ∙ w in cc not)) ∙ failed in cc never)
+late_memory e answer (inr (inl is)) others failed = is
+late_memory e answer (inr (inr (inl is))) others failed = absurd (let never : NotAStore ≡ Failed = sym is ∙ sym (others (λ w. let not : NotAStore ≡ Memory = sym is ∙ w in cc not)) ∙ failed in cc never)
+late_memory e answer (inr (inr (inr is))) others failed = absurd (let never : Device ≡ Failed = sym is ∙ sym (others (λ w. let not : Device ≡ Memory = sym is ∙ w in cc not)) ∙ failed in cc never)
 
-pub change_late_full : (e answer : Fault) → (e ≡ Memory → answer ≡ Failed) → (e ≢ Memory → answer ≡ e) → (e ≡ Failed) ⊎ IsOfWriter e → answer ≡ LogFull → e ≡ LogFull
-change_late_full e answer memory others (inl is) full = sym (others (λ w. let never : Failed ≡ Memory = sym is ∙ w in cc never)) ∙ full
-change_late_full e answer memory others (inr of) full = late_full e answer memory others of full
+-- a structure change is not refused for pages, nor for page numbers
+pub change_full : {A : Type 0} (e : Fault) → (e ≡ Failed) ⊎ IsOfWriter e → e ≡ PagesFull → A
+change_full e (inl is) full = absurd (let never : Failed ≡ PagesFull = sym is ∙ full in cc never)
+change_full e (inr of) full = absurd (not_full e of full)
+
+pub change_used_up : {A : Type 0} (e : Fault) → (e ≡ Failed) ⊎ IsOfWriter e → e ≡ Capacity → A
+change_used_up e (inl is) used = absurd (let never : Failed ≡ Capacity = sym is ∙ used in cc never)
+change_used_up e (inr of) used = absurd (not_used_up e of used)
 
 -- a refusal of some result
 abbrev pub err_in : (A : Type 0) → Fault → Result A Fault
@@ -141,6 +150,10 @@ module _ {D : Type 0} (d : Ghosts D) {b : Base} (before : List Effect) (s : Show
       let keeps = changes_go_on b t.number r.now.log left.high left.grows r.serial left.lawful in
       left_on d before s old r left.high keeps.log keeps.committed c left.covered)
 
+  -- a record of it joined the log
+  pub change_begun : (t : ℕ) → 1 ≤ t → (w : PageWriter) (disk : D) → changes.Begun d b 0 r.now t w disk → StandsBehind d b (ChangeJoined t r.now.log) w disk
+  change_begun t some w disk begun = record { now = begun.now; stands = begun.stands; joins = record { change = begun.grows; some = some_marks t some begun.grows.more begun.grows.all begun.some } }
+
   module _ (new : Engine D d) (next : new.next ≡ old.next) (t : Transaction) (going : old.going ≡ Some t) where
     -- behind it
     pub restructured : (images : List Numbered) (lsn : ℕ) → changes.Changed d b 0 r.now r.redo_end images t.number t.undo_next lsn old.disk new.writer new.disk
@@ -201,15 +214,20 @@ module _ {D : Type 0} (d : Ghosts D) {b : Base} (before : List Effect) (s : Show
       way = held.leaf.way;
       same = held.leaf.same ∙ ap (λ (pages : Pages). walk pages) made.pages ∙ planned.are.same ∙ ap (λ (pages : Pages). walk pages) planned.are.still;
     };
-    grows = change_then t r.now.log made.running.now.log held.leaf.running.now.log
-        (change_then t r.now.log planned.are.running.now.log made.running.now.log (images_as_change b t r.now.log planned.are.running.now.log planned.are.grows) made.grows)
-        (images_as_change b t made.running.now.log held.leaf.running.now.log held.grows);
+    joins = change_before_images b t r.now.log made.running.now.log held.leaf.running.now.log
+        (change_behind_images b t r.now.log planned.are.running.now.log made.running.now.log planned.are.grows (record { change = made.grows; some = made.some })) held.grows;
   }
 
   -- in which the key fits
   pub split_fits : (t : ℕ) (key : Key) (images : List Numbered) (mid : Engine D d) (planned : AreForKey d before s old r key images mid) (then : Engine D d)
       (made : Restructured d before s mid planned.are.running t images then) → splits.FitsInLeaf (bodies b made.running.now.log) key
   split_fits t key images mid planned then made = subst (λ (pages : Pages). splits.FitsInLeaf pages key) (sym made.pages) planned.fits
+
+-- a plan of a split is not refused as failed
+plan_failed : {A : Type 0} (e : Fault) → (e ≡ PagesFull) ⊎ (e ≡ Capacity) ⊎ IsOfWriter e → e ≡ Failed → A
+plan_failed e (inl is) failed = absurd (let never : PagesFull ≡ Failed = sym is ∙ failed in cc never)
+plan_failed e (inr (inl is)) failed = absurd (let never : Capacity ≡ Failed = sym is ∙ failed in cc never)
+plan_failed e (inr (inr of)) failed = absurd (not_failed e of failed)
 
 -- no result where it is a refusal
 pub not_ok : {A : Type 0} (result : Result A Fault) (e : Fault) (P : A → Type 0) → IsErrAnd result (λ x. x ≡ e) → IfOk result P
@@ -218,11 +236,12 @@ not_ok (Err x) e P is = tt
 
 module _ {D : Type 0} (d : Ghosts D) {b : Base} (before : List Effect) (s : Shown) (old : Engine D d) (r : IsRunning d b before s old) (t : ℕ) (key : Key) (new : Engine D d) (result : Result (Transaction × Frame) Fault) where
   -- the plan of a split was refused
-  pub plan_refused : (plan : Result (List Numbered) Fault) (e : Fault) → plan ≡ Err e → IsErrAnd result (λ x. x ≡ e) → PlanKept d before s old r key new plan → SplitKept d before s old r t key new result
-  plan_refused plan e is here kept =
+  pub plan_refused : (plan : Result (List Numbered) Fault) (e : Fault) → (e ≡ PagesFull) ⊎ (e ≡ Capacity) ⊎ IsOfWriter e → plan ≡ Err e → IsErrAnd result (λ x. x ≡ e) → PlanKept d before s old r key new plan → SplitKept d before s old r t key new result
+  plan_refused plan e causes is here kept =
       let k : PlanKept d before s old r key new (Err e) = subst (λ (x : Result (List Numbered) Fault). PlanKept d before s old r key new x) is kept in
       record {
         ok = not_ok result e (λ x. HasSplitLeaf d before s old r t key x.1.number new) here;
+        begun = handed_on result e (λ x. x ≡ Failed → StandsBehind d b (ChangeJoined t r.now.log) new.writer new.disk) here (λ is. plan_failed e causes is);
         again = handed_on result e (λ x. (x ≡ Memory) ⊎ (x ≡ PagesFull) → Rests d before s old r new) here k.again;
         stops = k.stops;
         cause = handed_on result e (λ x. x ≢ NotAStore) here k.cause;
@@ -232,9 +251,11 @@ module _ {D : Type 0} (d : Ghosts D) {b : Base} (before : List Effect) (s : Show
       }
 
   -- or what follows was
-  pub split_refused : (e : Fault) → IsOfDrop e → IsErrAnd result (λ x. x ≡ e) → LeavesOnly d old.disk new.disk (Allowed before s) → e ≢ NotAStore → SplitKept d before s old r t key new result
-  split_refused e of here leaves cause = record {
+  pub split_refused : (e : Fault) → IsOfDrop e → IsErrAnd result (λ x. x ≡ e) → LeavesOnly d old.disk new.disk (Allowed before s) → e ≢ NotAStore
+      → (e ≡ Failed → StandsBehind d b (ChangeJoined t r.now.log) new.writer new.disk) → SplitKept d before s old r t key new result
+  split_refused e of here leaves cause begun = record {
     ok = not_ok result e (λ x. HasSplitLeaf d before s old r t key x.1.number new) here;
+    begun = handed_on result e (λ x. x ≡ Failed → StandsBehind d b (ChangeJoined t r.now.log) new.writer new.disk) here begun;
     again = handed_on result e (λ x. (x ≡ Memory) ⊎ (x ≡ PagesFull) → Rests d before s old r new) here (drop_wants e of);
     stops = leaves;
     cause = handed_on result e (λ x. x ≢ NotAStore) here cause;

@@ -3,31 +3,44 @@ use Rattle.std.proofs.Common.{◌≡◌, ◌≢◌, ◌⊎◌, inl, inr, ⊎_eli
 use Rattle.std.specs.Result.{IsErrAnd}
 use Rattle.im_types.specs.Keys.{Key}
 use Rattle.im_types.specs.Pages.{Page}
-use Rattle.im_types.specs.Histories.{Base}
+use Rattle.im_types.specs.Histories.{Base, History}
+use Rattle.im_types.specs.Copies.{GrowsByImages}
 use Rattle.im_types.specs.Changes.{Effect}
 use Rattle.im_types.specs.LogLaws.{bodies}
 use Rattle.im_types.specs.Lives.{Shown}
 use Rattle.im_types.specs.declared.fault.Fault.{Fault}
-use Rattle.im_types.specs.declared.fault.Fault.TheVariants.{Memory, PagesFull}
+use Rattle.im_types.specs.declared.fault.Fault.TheVariants.{Memory, Failed, NotAStore, PagesFull, Capacity}
 use Rattle.im_disk.specs.declared.disk.Disk.{Ghosts}
 use Rattle.im_disk.specs.Runs.{LeavesOnly}
+use Rattle.im_flush.specs.declared.page_writer.PageWriter.{PageWriter}
 use Rattle.im_pool.specs.Pool as pools
 use Rattle.im_pool.specs.declared.frame.Frame.{Frame}
 use Rattle.im_smo.specs.Images.{Numbered}
+use Rattle.im_split.specs.Plan as splits
 use Rattle.im_engine.specs.declared.engine.Engine.{Engine}
 use Rattle.im_engine.specs.declared.transaction.Transaction.{Transaction}
 use Rattle.im_engine.specs.Stands.{Allowed}
 use Rattle.im_engine.specs.Running.{IsRunning}
 use Rattle.im_change.specs.Changes.{GrowsByChange}
-use Rattle.im_engine.specs.Changes.{Rests, LeafKept, Edited}
-use Rattle.im_engine.specs.Structure.{PlanKept, DeletePlanKept, DropPlanKept, Restructured, StructureKept, RoomKept, SplitKept, DropKept}
-use Rattle.im_engine.proofs.Checks.{IsOfDrop, IsOfWriter, not_full, drop_wants}
+use Rattle.im_engine.specs.Changes.{Rests, LeafKept, Edited, StandsBehind}
+use Rattle.im_engine.specs.Joined.{ChangeJoined}
+use Rattle.im_engine.specs.Structure.{IsUsedUp, PlanKept, DeletePlanKept, DropPlanKept, Restructured, StructureKept, HasSplitLeaf, RoomKept, SplitKept, DropKept}
+use Rattle.im_engine.proofs.Checks.{IsOfDrop, IsOfWriter, not_full, not_failed}
+use Rattle.im_engine.proofs.Refusals.{handed_on}
 use Rattle.im_flush.proofs.Growing.{grows_then}
-use Rattle.im_engine.proofs.Keys.{images_as_change, change_then, none_in_front}
+use Rattle.im_engine.proofs.Keys.{images_as_change, change_then, change_behind_images, change_before_images, none_in_front}
 use Rattle.im_engine.proofs.Running.{bodies_still, leaves_then}
-use Rattle.im_engine.proofs.Structure.{split_leaf, split_fits, split_refused}
+use Rattle.im_engine.proofs.Structure.{split_leaf, split_fits, split_refused, not_ok, change_full, change_used_up}
+
+-- Images in front of a structure change that was begun
+begun_behind : {D : Type 0} (d : Ghosts D) (b : Base) (t : ℕ) (older mid : History) → GrowsByImages b older mid → (w : PageWriter) (disk : D) → StandsBehind d b (ChangeJoined t mid) w disk → StandsBehind d b (ChangeJoined t older) w disk
+begun_behind d b t older mid images w disk begun = record { now = begun.now; stands = begun.stands; joins = change_behind_images b t older mid begun.now.log images begun.joins }
 
 module _ {D : Type 0} (d : Ghosts D) {b : Base} (before : List Effect) (s : Shown) (old : Engine D d) (r : IsRunning d b before s old) where
+  -- Images, and more of them
+  rests_behind_images : (mid : Engine D d) (now : IsRunning d b before s mid) → GrowsByImages b r.now.log now.now.log → (new : Engine D d) → Rests d before s mid now new → Rests d before s old r new
+  rests_behind_images mid now images new rests = record { running = rests.running; grows = grows_then b r.now.log now.now.log rests.running.now.log images rests.grows }
+
   -- ---- the split of a leaf
 
   module _ (key : Key) (images : List Numbered) (mid : Engine D d) (plan : PlanKept d before s old r key mid (Ok images)) (then : Engine D d)
@@ -36,17 +49,41 @@ module _ {D : Type 0} (d : Ghosts D) {b : Base} (before : List Effect) (s : Show
     pub change_left : LeavesOnly d old.disk then.disk (Allowed before s)
     change_left = leaves_then d before s old.disk mid.disk then.disk plan.stops change
 
+    -- it was refused
+    pub change_refused : (t : ℕ) (e : Fault) → (e ≡ Failed) ⊎ IsOfWriter e → StructureKept d before s mid plan.ok.are.running t images then (Err e) → (result : Result (Transaction × Frame) Fault) → IsErrAnd result (λ x. x ≡ e)
+        → SplitKept d before s old r t key then result
+    change_refused t e of run result here = record {
+      ok = not_ok result e (λ x. HasSplitLeaf d before s old r t key x.1.number then) here;
+      begun = handed_on result e (λ x. x ≡ Failed → StandsBehind d b (ChangeJoined t r.now.log) then.writer then.disk) here (λ is. begun_behind d b t r.now.log plan.ok.are.running.now.log plan.ok.are.grows then.writer then.disk (run.begun is));
+      again = handed_on result e (λ x. (x ≡ Memory) ⊎ (x ≡ PagesFull) → Rests d before s old r then) here
+          (λ w. ⊎_elim (λ is. rests_behind_images d before s old r mid plan.ok.are.running plan.ok.are.grows then (run.again is)) (λ is. change_full e of is) w);
+      stops = change_left;
+      cause = handed_on result e (λ x. x ≢ NotAStore) here run.cause;
+      within = not_ok result e (λ x. splits.IsWithin (bodies b r.now.log) key old.max_pages) here;
+      full = handed_on result e (λ x. x ≡ PagesFull → splits.IsOver (bodies b r.now.log) key old.max_pages) here (λ is. change_full e of is);
+      used_up = handed_on result e (λ x. x ≡ Capacity → IsUsedUp (bodies b r.now.log) key) here (λ is. change_used_up e of is);
+    }
+
     module _ (t : ℕ) (made : Restructured d before s mid plan.ok.are.running t images then) (new : Engine D d) where
       -- the leaf was not found
       pub leaf_refused : (f : Fault) → RoomKept d before s then made.running key new (Err f) → IsOfDrop f → (result : Result (Transaction × Frame) Fault) → IsErrAnd result (λ e. e ≡ f) → SplitKept d before s old r t key new result
       leaf_refused f room of result here =
           split_refused d before s old r t key new result f of here (leaves_then d before s old.disk then.disk new.disk change_left room.stops)
           (room.cause (split_fits d before s old r t key images mid plan.ok then made))
+          (λ is.
+          let late = room.late is in
+          record {
+            now = late.now;
+            stands = late.stands;
+            joins = change_before_images b t r.now.log made.running.now.log late.now.log
+                (change_behind_images b t r.now.log plan.ok.are.running.now.log made.running.now.log plan.ok.are.grows (record { change = made.grows; some = made.some })) late.joins;
+          })
 
       -- it has room
       pub leaf_made : 1 ≤ length images → (x : Transaction) (frame : Frame) → RoomKept d before s then made.running key new (Ok frame) → SplitKept d before s old r t key new (Ok (x, frame))
       leaf_made some x frame room = record {
         ok = split_leaf d before s old r t key images mid plan.ok then made frame.number new room.ok;
+        begun = tt;
         again = tt;
         stops = leaves_then d before s old.disk then.disk new.disk change_left room.stops;
         cause = tt;
@@ -135,11 +172,26 @@ module _ {D : Type 0} (d : Ghosts D) {b : Base} (before : List Effect) (s : Show
         record {
           edit = record { ok = record { running = run.ok.running; joins = grows }; again = tt; stops = drop_change run.stops; cause = tt };
           gone = λ is. inr (record { running = run.ok.running; grows = grows; some = λ none. run.ok.some (none_in_front run.ok.grows.more first.more none) });
+          begun = tt;
         }
 
     -- or refused
-    pub not_dropped : (n : ℕ) (f : Fault) → IsOfDrop f → StructureKept d before s mid plan.ok.are.running n image new (Err f) → DropKept d before s old r n key new (Err f)
-    not_dropped n f of run = record { edit = record { ok = tt; again = drop_wants f of; stops = drop_change run.stops; cause = run.cause }; gone = tt }
+    pub not_dropped : (n : ℕ) (f : Fault) → (f ≡ Failed) ⊎ IsOfWriter f → f ≢ Memory → StructureKept d before s mid plan.ok.are.running n image new (Err f) → DropKept d before s old r n key new (Err f)
+    not_dropped n f of other run = record {
+      edit = record { ok = tt; again = λ w. ⊎_elim (λ is. absurd (other is)) (λ is. change_full f of is) w; stops = drop_change run.stops; cause = run.cause };
+      gone = tt;
+      begun = λ is. begun_behind d b n r.now.log plan.ok.are.running.now.log plan.ok.are.grows new.writer new.disk (run.begun is);
+    }
+
+    -- and so for want of memory in front of its first record
+    pub drop_wanted : (n : ℕ) (f : Fault) → f ≡ Memory → StructureKept d before s mid plan.ok.are.running n image new (Err f) → DropKept d before s old r n key new (Ok false)
+    drop_wanted n f memory run =
+        let rests = rests_behind_images mid plan.ok.are.running plan.ok.are.grows new (run.again memory) in
+        record {
+          edit = record { ok = record { running = rests.running; joins = images_as_change b n r.now.log rests.running.now.log rests.grows }; again = tt; stops = drop_change run.stops; cause = tt };
+          gone = λ is. absurd (cc is);
+          begun = tt;
+        }
 
   -- it changes nothing
   rests_joined : (n : ℕ) (new : Engine D d) → Rests d before s old r new → Edited d b before s (GrowsByChange n r.now.log) new
@@ -147,13 +199,13 @@ module _ {D : Type 0} (d : Ghosts D) {b : Base} (before : List Effect) (s : Show
 
   -- the leaf stays
   pub stays : (n : ℕ) (key : Key) (new : Engine D d) → DropPlanKept d before s old r key new (Ok None) → DropKept d before s old r n key new (Ok true)
-  stays n key new kept = record { edit = record { ok = rests_joined n new kept.ok.rests; again = tt; stops = kept.stops; cause = tt }; gone = λ is. inl kept.ok }
+  stays n key new kept = record { edit = record { ok = rests_joined n new kept.ok.rests; again = tt; stops = kept.stops; cause = tt }; gone = λ is. inl kept.ok; begun = tt }
 
   pub stays_for_memory : (n : ℕ) (key : Key) (new : Engine D d) (f : Fault) → f ≡ Memory → DropPlanKept d before s old r key new (Err f) → DropKept d before s old r n key new (Ok false)
-  stays_for_memory n key new f memory kept = record { edit = record { ok = rests_joined n new (kept.again memory); again = tt; stops = kept.stops; cause = tt }; gone = λ is. absurd (cc is) }
+  stays_for_memory n key new f memory kept = record { edit = record { ok = rests_joined n new (kept.again memory); again = tt; stops = kept.stops; cause = tt }; gone = λ is. absurd (cc is); begun = tt }
 
   pub drop_failed : (n : ℕ) (key : Key) (new : Engine D d) (f : Fault) → f ≢ Memory → IsOfWriter f → DropPlanKept d before s old r key new (Err f) → DropKept d before s old r n key new (Err f)
-  drop_failed n key new f other of kept = record { edit = record { ok = tt; again = never; stops = kept.stops; cause = kept.cause }; gone = tt }
+  drop_failed n key new f other of kept = record { edit = record { ok = tt; again = never; stops = kept.stops; cause = kept.cause }; gone = tt; begun = λ is. absurd (not_failed f of is) }
     where
       never : (f ≡ Memory) ⊎ (f ≡ PagesFull) → Rests d before s old r new
       never (inl memory) = absurd (other memory)

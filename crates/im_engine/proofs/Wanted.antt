@@ -19,7 +19,7 @@ use Rattle.im_engine.specs.Changes.{LeafLooked}
 use Rattle.im_engine.specs.Structure.{AsksChange, WantsSplit, WantsDrop, is_of_change}
 use Rattle.im_engine.specs.Checks.{LacksRoom}
 use Rattle.im_engine.proofs.Running.{leaf_says}
-use Rattle.im_engine.proofs.Checks.{IsOfWriter}
+use Rattle.im_engine.proofs.Checks.{IsOfWriter, refused_inj}
 
 is_answer : (b : Bool) → b ≡ false → b ≡ true → ⊥
 is_answer b f t = let never : true ≡ false = sym t ∙ f in cc never
@@ -64,3 +64,14 @@ module _ {D : Type 0} (d : Ghosts D) {b : Base} (before : List Effect) (s : Show
       one = subst (λ (g : Page). length g.body.entries ≡ 1) (l.looked.page ∙ l.looked.still p) one;
       there = λ none. let never : Some rid ≡ None = some ∙ (leaf_says d before s old r key p new l ∙ none) in cc never;
     }
+
+-- the reply is no refusal as failed
+pub never_begun : {A : Type 0} (reply : Reply) → is_of_change reply ≡ false → reply ≡ Refused Failed → A
+never_begun reply other is = absurd (is_answer (is_of_change reply) other (ap (λ (x : Reply). is_of_change x) is))
+
+pub never_begun_late : {A : Type 0} (e : Fault) → IsOfWriter e → Refused e ≡ Refused Failed → A
+never_begun_late e of is = never_begun (Refused e) (no_change e of) is
+
+-- or it is one for an engine that had failed
+pub never_begun_early : {A : Type 0} (e : Fault) (failed : Bool) → (e ≡ Failed → failed ≡ true) → failed ≡ false → Refused e ≡ Refused Failed → A
+never_begun_early e failed was works is = absurd (is_answer failed works (was (refused_inj e Failed is)))

@@ -12,6 +12,9 @@ use Rattle.im_types.specs.declared.fault.Fault.{Fault}
 use Rattle.im_types.specs.declared.fault.Fault.TheVariants.{Memory, NotAStore, PagesFull}
 use Rattle.im_disk.specs.declared.disk.Disk.{Ghosts}
 use Rattle.im_disk.specs.Runs.{LeavesOnly}
+use Rattle.im_types.specs.Writer.{Writer}
+use Rattle.im_flush.specs.declared.page_writer.PageWriter.{PageWriter}
+use Rattle.im_flush.specs.PageWriter.{StandsAs}
 use Rattle.im_pool.specs.Pool as pools
 use Rattle.im_pool.specs.declared.frame.Frame.{Frame}
 use Rattle.im_tree.specs.Search.{IsOnWay}
@@ -45,6 +48,12 @@ active_in (Some t) = 1
 pub record Edited {D : Type 0} (d : Ghosts D) (b : Base) (before : List Effect) (then : Shown) (joined : History → Type 0) (new : Engine D d) : Type 0 where
   pub running : IsRunning d b before then new
   pub joins : joined running.now.log
+
+-- Of an engine that may have failed: its writer of pages stands as one whose log such records joined.
+pub record StandsBehind {D : Type 0} (d : Ghosts D) (b : Base) (joined : History → Type 0) (w : PageWriter) (disk : D) : Type 0 where
+  pub now : Writer
+  pub stands : StandsAs d b 0 now w disk
+  pub joins : joined now.log
 
 module _ {D : Type 0} (d : Ghosts D) {b : Base} (before : List Effect) (s : Shown) (old : Engine D d) (was : IsRunning d b before s old) where
   -- The engine works as it did, and its log has Images more.

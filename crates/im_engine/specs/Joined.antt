@@ -27,6 +27,16 @@ pub record TakeJoined (b : Base) (t : ℕ) (key : Key) (wants : Type 0) (older l
   pub change : GrowsByChange t (taken ∷ before) log
   pub wanted : marks change.more ≢ [] → wants
 
+-- Records of a structure change of this transaction, and Images.
+pub record ChangeJoined (t : ℕ) (older log : History) : Type 0 where
+  pub change : GrowsByChange t older log
+  pub some : marks change.more ≢ []
+
+-- Such records behind one record of a key that is dropped.
+pub record DropJoined (b : Base) (t : ℕ) (key : Key) (wants : Type 0) (older log : History) : Type 0 where
+  pub taken : TakeJoined b t key wants older log
+  pub some : marks taken.change.more ≢ []
+
 -- One record, the Commit.
 pub record IsCommitOf (t : ℕ) (older log : History) : Type 0 where
   pub commit : Logged

@@ -3,7 +3,8 @@ use Rattle.std.specs.Prelude.{◌≡◌, ◌≢◌, ◌⊎◌, ◌≤◌, ◌-�
 use Rattle.std.specs.FinMap.Entries.{find}
 use Rattle.im_types.specs.Keys.{Key, key_order}
 use Rattle.im_types.specs.LogLaws.{bodies}
-use Rattle.im_types.specs.Histories.{Base, page_at}
+use Rattle.im_types.specs.Histories.{Base, History, page_at}
+use Rattle.im_types.specs.Structure.{settled}
 use Rattle.im_types.specs.Copies.{GrowsByImages}
 use Rattle.im_types.specs.Changes.{Effect}
 use Rattle.im_types.specs.Lives.{Shown}
@@ -15,6 +16,7 @@ use Rattle.im_types.specs.declared.step.Step.{Step}
 use Rattle.im_types.specs.declared.step.Step.TheVariants.{Insert, Delete}
 use Rattle.im_disk.specs.declared.disk.Disk.{Ghosts}
 use Rattle.im_disk.specs.Runs.{LeavesOnly}
+use Rattle.im_flush.specs.declared.page_writer.PageWriter.{PageWriter}
 use Rattle.im_pool.specs.Pool as pools
 use Rattle.im_pool.specs.declared.frame.Frame.{Frame}
 use Rattle.im_tree.specs.Levels.{Pages, height, walk}
@@ -29,7 +31,8 @@ use Rattle.im_engine.specs.declared.engine.Engine.{Engine}
 use Rattle.im_engine.specs.declared.transaction.Transaction.{Transaction}
 use Rattle.im_engine.specs.Stands.{Allowed}
 use Rattle.im_engine.specs.Running.{IsRunning}
-use Rattle.im_engine.specs.Changes.{Rests, EditKept}
+use Rattle.im_engine.specs.Changes.{Rests, EditKept, StandsBehind}
+use Rattle.im_engine.specs.Joined.{ChangeJoined, DropJoined}
 use Rattle.im_engine.specs.Checks.{LacksRoom}
 
 -- the refusals of a structure change
@@ -106,9 +109,15 @@ module _ {D : Type 0} (d : Ghosts D) {b : Base} (before : List Effect) (s : Show
     pub some : marks grows.more ≢ []
     pub pages : bodies b running.now.log ≡ seen was.now images
 
-  -- what a structure change keeps
+  -- A refusal as failed comes behind records of a structure change.
+  abbrev pub BegunKept : {A : Type 0} → ℕ → Engine D d → Result A Fault → Type 0
+  BegunKept t new result = IfErr result (λ e. e ≡ Failed → StandsBehind d b (ChangeJoined t was.now.log) new.writer new.disk)
+
+  -- What a structure change keeps. A want of memory leaves all as it was, or is `Failed` behind a record of the change.
   pub record StructureKept (t : ℕ) (images : List Numbered) (new : Engine D d) (result : Result Transaction Fault) : Type 0 where
     pub ok : OnOk result (Restructured t images new)
+    pub again : IfErr result (λ e. e ≡ Memory → Rests d before s old was new)
+    pub begun : BegunKept t new result
     pub stops : LeavesOnly d old.disk new.disk (Allowed before s)
     pub cause : IfErr result (λ e. e ≢ NotAStore)
 
@@ -122,6 +131,7 @@ module _ {D : Type 0} (d : Ghosts D) {b : Base} (before : List Effect) (s : Show
   pub record DropKept (t : ℕ) (key : Key) (new : Engine D d) (result : Result Bool Fault) : Type 0 where
     pub edit : EditKept d before s old was s (GrowsByChange t was.now.log) new result
     pub gone : IfOk result (λ done. done ≡ true → LeafStays key new ⊎ LeafLeft t new)
+    pub begun : BegunKept t new result
 
   -- The leaf of a key is held.
   pub record HasLeaf (key : Key) (p : ℕ) (new : Engine D d) : Type 0 where
@@ -138,17 +148,19 @@ module _ {D : Type 0} (d : Ghosts D) {b : Base} (before : List Effect) (s : Show
   -- So it is behind a structure change of the transaction.
   pub record HasSplitLeaf (t : ℕ) (key : Key) (p : ℕ) (new : Engine D d) : Type 0 where
     pub leaf : HasLeaf key p new
-    pub grows : GrowsByChange t was.now.log leaf.running.now.log
+    pub joins : ChangeJoined t was.now.log leaf.running.now.log
 
   -- what the search for a leaf keeps that has room for its key
   pub record RoomKept (key : Key) (new : Engine D d) (result : Result Frame Fault) : Type 0 where
     pub ok : IfOk result (λ frame. LeafHeld key frame.number new)
     pub stops : LeavesOnly d old.disk new.disk (Allowed before s)
     pub cause : FitsInLeaf (bodies b was.now.log) key → IfErr result (λ e. e ≢ NotAStore)
+    pub late : IfErr result (λ e. e ≡ Failed → StandsBehind d b (GrowsByImages b was.now.log) new.writer new.disk)
 
   -- what the split of a key's leaf keeps
   pub record SplitKept (t : ℕ) (key : Key) (new : Engine D d) (result : Result (Transaction × Frame) Fault) : Type 0 where
     pub ok : IfOk result (λ x. HasSplitLeaf t key x.1.number new)
+    pub begun : BegunKept t new result
     pub again : IfErr result (λ e. (e ≡ Memory) ⊎ (e ≡ PagesFull) → Rests d before s old was new)
     pub stops : LeavesOnly d old.disk new.disk (Allowed before s)
     pub cause : IfErr result (λ e. e ≢ NotAStore)
@@ -202,3 +214,9 @@ module _ (pages : Pages) where
   AsksWhereWanted failed (Insert t key rid) reply = AsksChange failed reply → WantsSplit key.items
   AsksWhereWanted failed (Delete t key) reply = AsksChange failed reply → WantsDrop key.items
   AsksWhereWanted failed _ reply = Unit {0}
+
+-- Where a step of a working engine is refused as failed, records of a structure change of its transaction joined the log, of a delete behind the record of its key. No other step is refused so.
+abbrev pub IsBegun : {D : Type 0} (d : Ghosts D) → Base → History → Step → PageWriter → D → Type 0
+IsBegun d b older (Insert t key rid) w disk = StandsBehind d b (ChangeJoined t older) w disk
+IsBegun d b older (Delete t key) w disk = StandsBehind d b (DropJoined b t key.items (WantsDrop (settled b older) key.items) older) w disk
+IsBegun d b older _ w disk = ⊥

@@ -19,7 +19,7 @@ use Rattle.im_engine.specs.Stands.{Allowed}
 use Rattle.im_engine.specs.Running.{IsRunning, IsLife}
 use Rattle.im_engine.specs.Changes.{is_breaking}
 use Rattle.im_engine.specs.Checks.{AnswersStep, CallsDevice, changes_nothing, active_number, active_after, next_after}
-use Rattle.im_engine.specs.Structure.{KeepsLimit, AsksWhereWanted}
+use Rattle.im_engine.specs.Structure.{KeepsLimit, AsksWhereWanted, IsBegun}
 use Rattle.im_engine.specs.Kept.{StepKept}
 
 -- An access that is answered, of a transaction that is going, has the answer of one user alone on the map of all effects so far with its own on top.
@@ -44,6 +44,7 @@ module _ {D : Type 0} (d : Ghosts D) where
     pub max_pages : new.max_pages ≡ old.max_pages
     pub limit : (b : Base) (before : List Effect) (s : Shown) (r : IsRunning d b before s old) → KeepsLimit (settled b r.now.log) old.max_pages step reply
     pub wanted : (b : Base) (before : List Effect) (s : Shown) (r : IsRunning d b before s old) → AsksWhereWanted (settled b r.now.log) old.failed step reply
+    pub begun : (b : Base) (before : List Effect) (s : Shown) (r : IsRunning d b before s old) → old.failed ≡ false → reply ≡ Refused Failed → IsBegun d b r.now.log step new.writer new.disk
     pub quiet : (CallsDevice d step old → ⊥) → new.disk ≡ old.disk
 
   -- Each step was made by the engine that the one before it left.

@@ -32,10 +32,11 @@ impl<D: Disk> Engine<D> {
     ghost use Rattle.im_tree.specs.Search.{IsOnWay};
     ghost use Rattle.im_serial.specs.Store.{HasRoom};
     ghost use Rattle.im_engine.specs.Running.{IsLife, IsRunning};
-    ghost use Rattle.im_engine.specs.Joined.{PutJoined, TakeJoined};
+    ghost use Rattle.im_types.specs.Structure.{settled};
+    ghost use Rattle.im_engine.specs.Joined.{PutJoined, TakeJoined, ChangeJoined, DropJoined};
     ghost use Rattle.im_engine.specs.Kept.{StepKept};
-    ghost use Rattle.im_engine.specs.Changes.{EditKept, is_breaking};
-    ghost use Rattle.im_engine.specs.Structure.{LimitKept, MeetsLimit, AsksChange, WantsSplit, WantsDrop};
+    ghost use Rattle.im_engine.specs.Changes.{EditKept, StandsBehind, is_breaking};
+    ghost use Rattle.im_engine.specs.Structure.{LimitKept, BegunKept, MeetsLimit, AsksChange, WantsSplit, WantsDrop};
     ghost use Rattle.im_engine.specs.Checks.{HasCause, LacksRoom, IsAnswered, OfFetch, OfInsert, OfDelete, OfAccess, active_after, active_number, changes_nothing, next_after};
 
     // The checks with which an access begins.
@@ -185,6 +186,9 @@ impl<D: Disk> Engine<D> {
         ensures kept { (b : Base) (before : List Effect) (s : Shown) (r : IsRunning D.Disk b before s self.old) → self.old.going ≡ Some transaction
             → (p : ℕ) → IsOnWay (bodies b r.now.log) 0 key.now p → find key_order key.now (walk (bodies b r.now.log)) ≡ None → LacksRoom (bodies b r.now.log p).entries key.now
             → EditKept D.Disk before s self.old r (adds transaction.number (Put key.now rid) s) (PutJoined transaction.number key.now rid (WantsSplit (bodies b r.now.log) key.now) r.now.log) self.new result × LimitKept D.Disk before s self.old r key.now result }
+        ensures begun { (b : Base) (before : List Effect) (s : Shown) (r : IsRunning D.Disk b before s self.old) → self.old.going ≡ Some transaction
+            → (p : ℕ) → IsOnWay (bodies b r.now.log) 0 key.now p → find key_order key.now (walk (bodies b r.now.log)) ≡ None → LacksRoom (bodies b r.now.log p).entries key.now
+            → BegunKept D.Disk before s self.old r transaction.number self.new result }
         ensures works { OnOk result (self.new.failed ≡ false) }
         ensures fails { IfErr result (λ e. self.new.failed ≡ breaks (number_of e)) }
         ensures still { IfErr result (λ e. self.new.failed ≡ false → self.new.going ≡ self.old.going) }
@@ -211,6 +215,8 @@ impl<D: Disk> Engine<D> {
         ensures kept { (before : List Effect) (s : Shown) (life : IsLife D.Disk before s self.old) → StepKept D.Disk before s (answers.Do number (answers.Insert key.now rid)) (told_by result) self.old life self.new }
         ensures limit { (b : Base) (before : List Effect) (s : Shown) (r : IsRunning D.Disk b before s self.old) → MeetsLimit (bodies b r.now.log) self.old.max_pages key.now result }
         ensures wanted { (b : Base) (before : List Effect) (s : Shown) (r : IsRunning D.Disk b before s self.old) → AsksChange self.old.failed result → WantsSplit (bodies b r.now.log) key.now }
+        ensures begun { (b : Base) (before : List Effect) (s : Shown) (r : IsRunning D.Disk b before s self.old) → self.old.failed ≡ false → result ≡ Refused Failed
+            → StandsBehind D.Disk b (ChangeJoined number r.now.log) self.new.writer self.new.disk }
         ensures fails { self.new.failed ≡ (self.old.failed || is_breaking (told_by result)) }
         ensures failed { self.old.failed ≡ true → (result ≡ Refused Failed) × (self.new ≡ self.old) }
         ensures answered { IsAnswered D.Disk key.now result self.old self.new (λ entries fault. OfInsert D.Disk self.old self.new result fault number key.now entries)
@@ -248,6 +254,8 @@ impl<D: Disk> Engine<D> {
     pub(crate) fn delete(&mut self, number: TxnId, key: &[u8]) -> Reply
         ensures kept { (before : List Effect) (s : Shown) (life : IsLife D.Disk before s self.old) → StepKept D.Disk before s (answers.Do number (answers.Delete key.now)) (told_by result) self.old life self.new }
         ensures wanted { (b : Base) (before : List Effect) (s : Shown) (r : IsRunning D.Disk b before s self.old) → AsksChange self.old.failed result → WantsDrop (bodies b r.now.log) key.now }
+        ensures begun { (b : Base) (before : List Effect) (s : Shown) (r : IsRunning D.Disk b before s self.old) → self.old.failed ≡ false → result ≡ Refused Failed
+            → StandsBehind D.Disk b (DropJoined b number key.now (WantsDrop (settled b r.now.log) key.now) r.now.log) self.new.writer self.new.disk }
         ensures fails { self.new.failed ≡ (self.old.failed || is_breaking (told_by result)) }
         ensures failed { self.old.failed ≡ true → (result ≡ Refused Failed) × (self.new ≡ self.old) }
         ensures answered { IsAnswered D.Disk key.now result self.old self.new (λ entries fault. OfDelete D.Disk self.old self.new result fault number key.now)

@@ -109,8 +109,8 @@ impl<D: Disk> Engine<D> {
         }
     }
 
-    // Logs a structure change of the active transaction, and makes its pages so. Answers the transaction behind it. After a refusal the
-    // engine has failed: the change may be open in the log.
+    // Logs a structure change of the active transaction, and makes its pages so. Answers the transaction behind it. Refused `Memory` with
+    // all as it was; after another refusal the engine has failed, as the change may be open in the log.
     fn restructure(
         &mut self,
         transaction: Transaction,
@@ -121,8 +121,8 @@ impl<D: Disk> Engine<D> {
         ensures kept { (b : Base) (before : List Effect) (s : Shown) (r : IsRunning D.Disk b before s self.old) → self.old.going ≡ Some transaction → 1 ≤ length images.now → IsGoodTree (seen r.now images.now) []
             → walk (seen r.now images.now) ≡ walk (bodies b r.now.log) → StructureKept D.Disk before s self.old r transaction.number images.now self.new result }
         ensures ok { IfOk result (λ t. (self.new.failed ≡ false) × (self.new.going ≡ Some t) × (t.number ≡ transaction.number)) }
-        ensures fails { IfErr result (λ e. (self.new.failed ≡ true) × (self.new.going ≡ self.old.going)) }
-        ensures causes { IfErr result (λ e. (e ≡ LogFull) ⊎ (e ≡ Failed) ⊎ (e ≡ NotAStore) ⊎ (e ≡ Device)) }
+        ensures fails { IfErr result (λ e. (self.new.failed ≡ breaks (number_of e)) × (self.new.going ≡ self.old.going)) }
+        ensures causes { IfErr result (λ e. (e ≡ Failed) ⊎ (e ≡ LogFull) ⊎ (e ≡ Memory) ⊎ (e ≡ NotAStore) ⊎ (e ≡ Device)) }
         ensures device { D.failed self.new.disk ≡ true → result ≡ Err Device }
         ensures failed { result ≡ Err Device → D.failed self.new.disk ≡ true }
         ensures no_room { result ≡ Err LogFull → HasNoRoom self.new.writer.log }
@@ -148,7 +148,10 @@ impl<D: Disk> Engine<D> {
                 self.failed = false;
                 Ok(behind)
             }
-            Err(fault) => Err(late(fault)),
+            Err(refused) => {
+                self.failed = breaks(refused);
+                Err(refused)
+            }
         }
     }
 
@@ -266,7 +269,12 @@ impl<D: Disk> Engine<D> {
             Ok(None) => Ok(true),
             Ok(Some(images)) => match self.restructure(transaction, &images) {
                 Ok(_) => Ok(true),
-                Err(fault) => Err(fault),
+                Err(fault) => {
+                    if wants_memory(fault) {
+                        return Ok(false);
+                    }
+                    Err(fault)
+                }
             },
             Err(fault) => {
                 if wants_memory(fault) {

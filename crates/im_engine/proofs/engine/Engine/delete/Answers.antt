@@ -3,15 +3,16 @@ use Rattle.std.specs.Prelude.{is_some, if◌then◌else◌}
 use Rattle.im_types.specs.Answers as answers
 use Rattle.im_types.specs.Changes.{Drop}
 use Rattle.im_types.specs.Lives.{adds}
+use Rattle.im_types.specs.declared.fault.Fault.TheVariants.{Failed}
 use Rattle.im_types.specs.declared.reply.Reply.TheVariants.{Absent, Deleted}
 use Rattle.im_pool.specs.Pool.{page_at}
 use Rattle.im_engine.specs.Checks.{active_number}
 use Rattle.im_engine.proofs.Running.{looks, leaf_settled, leaf_now, says_now, leaves_then}
 use Rattle.im_engine.proofs.Steps.{edit_made}
-use Rattle.im_engine.proofs.Joins.{rests_behind, take_joins, drop_joins}
-use Rattle.im_engine.proofs.Wanted.{asks_none, asks_none_early, asks_none_late, wants_drop}
+use Rattle.im_engine.proofs.Joins.{rests_behind, take_joins, drop_joins, drop_failed}
+use Rattle.im_engine.proofs.Wanted.{asks_none, asks_none_early, asks_none_late, never_begun, never_begun_early, never_begun_late, wants_drop}
 use Rattle.im_engine.proofs.Refusals.{early_kept, late_kept, edit_kept}
-use Rattle.im_engine.proofs.Checks.{access_refused, delete_refused, delete_none, unread, unread_late, unread_edit, writer_cause, change_cause, drop_edit, drop_wants, drop_breaks}
+use Rattle.im_engine.proofs.Checks.{access_refused, delete_refused, delete_none, unread, unread_late, unread_edit, writer_cause, change_cause, drop_edit, drop_wants, drop_breaks, refused_inj}
 use Rattle.im_engine.proofs.engine.Engine.delete.Goals as goal
 
 pub returns-in-Err-clause-kept : goal.returns-in-Err-clause-kept
@@ -215,3 +216,37 @@ pub returns-in-Err-drop_leaf-clause-wanted : goal.returns-in-Err-drop_leaf-claus
 returns-in-Err-drop_leaf-clause-wanted g c b before s r asks =
     let last = c.is_last_entry-last_entry.ensures.last c.if-not-last_entry.false in
     wants_drop g.D.Disk before s c.args.self.now r c.args.key.now c.in-Ok-leaf.frame.number c.leaf.new.self (c.in-Ok-leaf.ensures.kept b before s r).ok c.in-Some.rid c.in-Some.ensures last.0 last.1
+
+pub returns-in-Err-clause-begun : goal.returns-in-Err-clause-begun
+returns-in-Err-clause-begun g c b before s r works is = never_begun_early c.in-Err.fault c.args.self.now.failed (λ j. c.in-Err.ensures.failed.0 (λ k. Err (j k))) works is
+
+pub returns-in-Err-leaf-clause-begun : goal.returns-in-Err-leaf-clause-begun
+returns-in-Err-leaf-clause-begun g c b before s r works is = never_begun_late c.in-Err-leaf.fault c.in-Err-leaf.ensures.causes is
+
+pub returns-in-None-clause-begun : goal.returns-in-None-clause-begun
+returns-in-None-clause-begun g c b before s r works is = never_begun Absent refl is
+
+pub returns-in-Err-take-clause-begun : goal.returns-in-Err-take-clause-begun
+returns-in-Err-take-clause-begun g c b before s r works is = never_begun_late c.in-Err-take.fault c.in-Err-take.ensures.causes is
+
+pub returns-then-not-last_entry-clause-begun : goal.returns-then-not-last_entry-clause-begun
+returns-then-not-last_entry-clause-begun g c b before s r works is = never_begun Deleted refl is
+
+pub returns-in-Ok-drop_leaf-clause-begun : goal.returns-in-Ok-drop_leaf-clause-begun
+returns-in-Ok-drop_leaf-clause-begun g c b before s r works is = never_begun Deleted refl is
+
+pub returns-in-Err-drop_leaf-clause-begun : goal.returns-in-Err-drop_leaf-clause-begun
+returns-in-Err-drop_leaf-clause-begun g c b before s r works is =
+    let old = c.args.self.now in
+    let checked = c.in-Ok.ensures.ok in
+    let found = c.in-Ok-leaf.ensures.kept b before s r in
+    let l = found.ok in
+    let p = c.in-Ok-leaf.frame.number in
+    let kept = c.in-Ok-take.ensures.kept b before s l.looked.running (c.in-Ok-leaf.ensures.going ∙ checked.1) (leaf_now g.D.Disk before s old r c.args.key.now p c.leaf.new.self l)
+    (sym (says_now g.D.Disk before s old r c.args.key.now p c.leaf.new.self l) ∙ sym c.in-Some.ensures) in
+    let shown = adds c.in-Ok.transaction.number (Drop c.args.key.now 0) s in
+    let gone = c.in-Err-drop_leaf.ensures.kept b before shown kept.ok.running c.in-Ok-take.ensures.ok.1 in
+    let last = c.is_last_entry-last_entry.ensures.last c.if-not-last_entry.false in
+    let want = wants_drop g.D.Disk before s old r c.args.key.now p c.leaf.new.self l c.in-Some.rid c.in-Some.ensures last.0 last.1 in
+    drop_failed g.D.Disk before s old r c.args.key.now p c.leaf.new.self l c.in-Ok.transaction.number c.args.number checked.2 shown c.drop_leaf.new.self c.take.new.self kept.ok want c.drop_leaf.new.self.writer c.drop_leaf.new.self.disk
+    (gone.begun (refused_inj c.in-Err-drop_leaf.fault Failed is))

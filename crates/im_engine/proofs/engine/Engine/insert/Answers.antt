@@ -2,6 +2,7 @@ use Rattle.std.proofs.Common.{[], inl, ℕ, Bool, Option, Some, Err, refl, sym, 
 use Rattle.std.specs.Prelude.{is_some, if◌then◌else◌}
 use Rattle.im_types.specs.Answers as answers
 use Rattle.im_types.specs.Changes.{Put}
+use Rattle.im_types.specs.declared.fault.Fault.TheVariants.{Failed}
 use Rattle.im_types.specs.declared.reply.Reply.TheVariants.{Duplicate, Inserted}
 use Rattle.im_pool.specs.Pool.{page_at}
 use Rattle.im_engine.specs.Checks.{active_number}
@@ -9,11 +10,11 @@ use Rattle.im_engine.proofs.Shown.{none_of}
 use Rattle.im_engine.proofs.Running.{looks, leaf_says, leaf_settled, leaf_now, says_now, leaves_then}
 use Rattle.im_engine.proofs.Steps.{edit_made}
 use Rattle.im_engine.proofs.Keys.{room_now, lacks_now}
-use Rattle.im_engine.proofs.Joins.{rests_behind, put_joins, split_joins}
+use Rattle.im_engine.proofs.Joins.{rests_behind, put_joins, split_joins, split_failed}
 use Rattle.im_engine.proofs.Limits.{limit_early, limit_late, limit_there, limit_room, limit_split, limit_refused}
-use Rattle.im_engine.proofs.Wanted.{asks_none, asks_none_early, asks_none_late, wants_split}
+use Rattle.im_engine.proofs.Wanted.{asks_none, asks_none_early, asks_none_late, never_begun, never_begun_early, never_begun_late, wants_split}
 use Rattle.im_engine.proofs.Refusals.{early_kept, late_kept, edit_kept}
-use Rattle.im_engine.proofs.Checks.{access_refused, insert_refused, insert_none, unread, unread_late, unread_edit, writer_edit, insert_cause, device_of, room_of, full_never}
+use Rattle.im_engine.proofs.Checks.{access_refused, insert_refused, insert_none, unread, unread_late, unread_edit, writer_edit, insert_cause, device_of, room_of, full_never, refused_inj}
 use Rattle.im_engine.proofs.engine.Engine.insert.Goals as goal
 
 pub returns-in-Err-clause-kept : goal.returns-in-Err-clause-kept
@@ -247,3 +248,33 @@ returns-in-Ok-split_and_put-clause-wanted g c b before s r asks =
 pub returns-in-Err-split_and_put-clause-wanted : goal.returns-in-Err-split_and_put-clause-wanted
 returns-in-Err-split_and_put-clause-wanted g c b before s r asks =
     wants_split g.D.Disk before s c.args.self.now r c.args.key.now c.in-Ok-leaf.frame.number c.leaf.new.self (c.in-Ok-leaf.ensures.kept b before s r).ok (sym c.row_id.ensures ∙ none_of c.row_id.result (sym c.is_some.ensures ∙ c.if-is_some.false)) (c.has_room.ensures.full c.if-has_room.false)
+
+pub returns-in-Err-clause-begun : goal.returns-in-Err-clause-begun
+returns-in-Err-clause-begun g c b before s r works is = never_begun_early c.in-Err.fault c.args.self.now.failed (λ j. c.in-Err.ensures.failed.0 (λ k. Err (j k))) works is
+
+pub returns-in-Err-leaf-clause-begun : goal.returns-in-Err-leaf-clause-begun
+returns-in-Err-leaf-clause-begun g c b before s r works is = never_begun_late c.in-Err-leaf.fault c.in-Err-leaf.ensures.causes is
+
+pub returns-then-is_some-clause-begun : goal.returns-then-is_some-clause-begun
+returns-then-is_some-clause-begun g c b before s r works is = never_begun Duplicate refl is
+
+pub returns-in-Ok-put-clause-begun : goal.returns-in-Ok-put-clause-begun
+returns-in-Ok-put-clause-begun g c b before s r works is = never_begun Inserted refl is
+
+pub returns-in-Err-put-clause-begun : goal.returns-in-Err-put-clause-begun
+returns-in-Err-put-clause-begun g c b before s r works is = never_begun_late c.in-Err-put.fault c.in-Err-put.ensures.causes is
+
+pub returns-in-Ok-split_and_put-clause-begun : goal.returns-in-Ok-split_and_put-clause-begun
+returns-in-Ok-split_and_put-clause-begun g c b before s r works is = never_begun Inserted refl is
+
+pub returns-in-Err-split_and_put-clause-begun : goal.returns-in-Err-split_and_put-clause-begun
+returns-in-Err-split_and_put-clause-begun g c b before s r works is =
+    let old = c.args.self.now in
+    let checked = c.in-Ok.ensures.ok in
+    let found = c.in-Ok-leaf.ensures.kept b before s r in
+    let l = found.ok in
+    let p = c.in-Ok-leaf.frame.number in
+    split_failed g.D.Disk before s old r c.args.key.now p c.leaf.new.self l c.in-Ok.transaction.number c.args.number checked.2 s c.split_and_put.new.self c.split_and_put.new.self.writer c.split_and_put.new.self.disk
+    (c.in-Err-split_and_put.ensures.begun b before s l.looked.running (c.in-Ok-leaf.ensures.going ∙ checked.1) p (leaf_now g.D.Disk before s old r c.args.key.now p c.leaf.new.self l)
+    (sym (says_now g.D.Disk before s old r c.args.key.now p c.leaf.new.self l) ∙ (sym c.row_id.ensures ∙ none_of c.row_id.result (sym c.is_some.ensures ∙ c.if-is_some.false))) (lacks_now g.D.Disk before s old r c.args.key.now p c.leaf.new.self l (c.has_room.ensures.full c.if-has_room.false))
+    (refused_inj c.in-Err-split_and_put.fault Failed is))

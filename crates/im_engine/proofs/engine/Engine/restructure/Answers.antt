@@ -1,5 +1,6 @@
-use Rattle.std.proofs.Common.{refl, Err}
-use Rattle.im_engine.proofs.Structure.{may_change, change_stops, restructured, change_not_late, change_late_full, of_err}
+use Rattle.std.proofs.Common.{refl}
+use Rattle.im_engine.proofs.Running.{runs_evicted}
+use Rattle.im_engine.proofs.Structure.{may_change, change_stops, change_begun, restructured}
 use Rattle.im_engine.proofs.engine.Engine.restructure.Goals as goal
 
 pub returns-in-Ok-clause-kept : goal.returns-in-Ok-clause-kept
@@ -8,6 +9,8 @@ returns-in-Ok-clause-kept g c b before s r going some good same =
     let kept = c.in-Ok.ensures.kept b 0 r.now r.redo_end (may_change g.D.Disk before s old r c.args.transaction going c.args.images.now some good same) in
     record {
       ok = restructured g.D.Disk before s old r _ refl c.args.transaction going c.args.images.now c.in-Ok.lsn kept.ok refl;
+      again = tt;
+      begun = tt;
       stops = change_stops g.D.Disk before s old r c.args.transaction c.run.new.disk kept.stops;
       cause = tt;
     }
@@ -18,9 +21,8 @@ returns-in-Err-clause-kept g c b before s r going some good same =
     let kept = c.in-Err.ensures.kept b 0 r.now r.redo_end (may_change g.D.Disk before s old r c.args.transaction going c.args.images.now some good same) in
     record {
       ok = tt;
+      again = λ is. runs_evicted g.D.Disk before s old r _ refl refl (kept.again is);
+      begun = λ is. change_begun g.D.Disk before s old r c.args.transaction.number c.requires.owned c.run.new.writer c.run.new.disk (kept.begun is);
       stops = change_stops g.D.Disk before s old r c.args.transaction c.run.new.disk kept.stops;
-      cause = change_not_late c.in-Err.fault c.late.result c.in-Err.ensures.causes c.late.ensures.memory c.late.ensures.others kept.cause;
+      cause = kept.cause;
     }
-
-pub returns-in-Err-clause-no_room : goal.returns-in-Err-clause-no_room
-returns-in-Err-clause-no_room g c is = c.in-Err.ensures.no_room (λ j. Err (change_late_full c.in-Err.fault c.late.result c.late.ensures.memory c.late.ensures.others c.in-Err.ensures.causes (of_err _ c.late.result _ is) j))

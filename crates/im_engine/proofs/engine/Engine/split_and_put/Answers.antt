@@ -7,7 +7,7 @@ use Rattle.im_engine.specs.Joined.{PutJoined}
 use Rattle.im_engine.specs.Structure.{WantsSplit}
 use Rattle.im_engine.proofs.Checks.{drop_wants}
 use Rattle.im_engine.proofs.Structure.{not_late}
-use Rattle.im_engine.proofs.SplitPuts.{late_of, split_handed_on, split_room, split_absent, put_behind, put_refused}
+use Rattle.im_engine.proofs.SplitPuts.{late_of, split_handed_on, split_room, split_absent, put_behind, put_refused, put_begun, split_begun}
 use Rattle.im_engine.proofs.engine.Engine.split_and_put.Goals as goal
 
 pub returns-in_err-transaction-clause-kept : goal.returns-in_err-transaction-clause-kept
@@ -41,3 +41,21 @@ returns-in-Err-clause-kept g c b before s r going p way absent lacks =
     (not_late c.in-Err.fault c.late.result c.in-Err.ensures.causes c.late.ensures.memory c.late.ensures.others put.cause)
     (subst (λ (n : ℕ). EditKept g.D.Disk before s c.split_leaf.new.self kept.ok.leaf.running {A = ℕ} (adds n (Put c.args.key.now c.args.rid) s) (PutJoined n c.args.key.now c.args.rid ⊥ kept.ok.leaf.running.now.log) c.put.new.self (Err c.in-Err.fault)) made.ok.2 put) in
     (record { ok = tt; again = drop_wants c.late.result of; stops = whole.0.stops; cause = whole.0.cause }, whole.1)
+
+pub returns-in_err-transaction-clause-begun : goal.returns-in_err-transaction-clause-begun
+returns-in_err-transaction-clause-begun g c b before s r going p way absent lacks =
+    split_begun g.D.Disk before s s c.args.self.now r c.args.transaction.number c.args.key.now c.args.rid (Unit {0}) c.split_leaf.new.self c.in_err-transaction.field-0.0
+    (c.in_err-transaction.ensures.kept b before s r going p way lacks) c.from_residual.result c.from_residual.ensures.1
+
+pub returns-in-Err-clause-begun : goal.returns-in-Err-clause-begun
+returns-in-Err-clause-begun g c b before s r going p way absent lacks =
+    let old = c.args.self.now in
+    let made = c.in_ok-transaction.ensures in
+    let kept = made.kept b before s r going p way lacks in
+    let t = c.in_ok-transaction.transaction in
+    let frame = c.in_ok-transaction.frame in
+    let put = c.in-Err.ensures.kept b before s kept.ok.leaf.running made.ok.1 kept.ok.leaf.way (split_absent g.D.Disk before s s old r c.args.transaction.number c.args.key.now c.args.rid (Unit {0}) c.split_leaf.new.self t frame kept absent)
+    (split_room g.D.Disk before s s old r c.args.transaction.number c.args.key.now c.args.rid (Unit {0}) c.split_leaf.new.self t frame kept c.requires.some c.requires.short made.room) in
+    put_begun g.D.Disk before s (adds c.args.transaction.number (Put c.args.key.now c.args.rid) s) old r c.args.transaction.number c.args.key.now c.args.rid (Unit {0}) c.split_leaf.new.self t frame kept c.put.new.self
+    c.in-Err.fault c.late.result c.in-Err.ensures.causes c.late.ensures.others
+    (subst (λ (n : ℕ). EditKept g.D.Disk before s c.split_leaf.new.self kept.ok.leaf.running {A = ℕ} (adds n (Put c.args.key.now c.args.rid) s) (PutJoined n c.args.key.now c.args.rid ⊥ kept.ok.leaf.running.now.log) c.put.new.self (Err c.in-Err.fault)) made.ok.2 put)

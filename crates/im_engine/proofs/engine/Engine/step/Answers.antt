@@ -1,7 +1,8 @@
 use Rattle.std.proofs.Common.{subst}
 use Rattle.im_types.specs.Keys.{Key}
+use Rattle.im_types.specs.declared.fault.Fault.TheVariants.{Failed}
 use Rattle.im_engine.proofs.Joins.{limit_seen, split_seen, drop_seen}
-use Rattle.im_engine.proofs.StepFacts.{FetchStep, InsertStep, DeleteStep, fetch_alone, insert_alone, delete_alone, failed_works}
+use Rattle.im_engine.proofs.StepFacts.{FetchStep, InsertStep, DeleteStep, fetch_alone, insert_alone, delete_alone, begin_not_failed, fetch_not_failed, commit_not_failed, flush_not_failed, force_not_failed, failed_works}
 use Rattle.im_engine.proofs.engine.Engine.step.Goals as goal
 
 pub returns-in-Begin : goal.returns-in-Begin
@@ -21,6 +22,7 @@ returns-in-Begin g c =
       max_pages = m.max_pages;
       limit = λ b before s r. tt;
       wanted = λ b before s r. tt;
+      begun = λ b before s r works is. begin_not_failed g.D.Disk c.args.self.now c.begin.new.self c.begin.result works ((m.answered.refused Failed).0 is);
       quiet = λ none. m.quiet;
     })
 
@@ -48,6 +50,7 @@ returns-in-Fetch g c =
       max_pages = made.step.max_pages;
       limit = λ b before s r. tt;
       wanted = λ b before s r. tt;
+      begun = λ b before s r works is. fetch_not_failed g.D.Disk c.args.self.now c.fetch.new.self c.fetch.result works c.in-Fetch.number _ ((made.answered.refused Failed).0 is);
       quiet = λ none. absurd (none tt);
     })
 
@@ -62,6 +65,7 @@ returns-in-Insert g c =
       answered = m.answered;
       limit = m.limit;
       wanted = m.wanted;
+      begun = m.begun;
     }) in
     rw c.in-Insert.is (record {
       kept = made.kept;
@@ -77,6 +81,7 @@ returns-in-Insert g c =
       max_pages = made.step.max_pages;
       limit = λ b before s r. limit_seen g.D.Disk before s old r _ c.insert.result (made.limit b before s r);
       wanted = λ b before s r asks. split_seen g.D.Disk before s old r _ (made.wanted b before s r asks);
+      begun = made.begun;
       quiet = λ none. absurd (none tt);
     })
 
@@ -90,6 +95,7 @@ returns-in-Delete g c =
       kept = m.kept;
       answered = m.answered;
       wanted = m.wanted;
+      begun = m.begun;
     }) in
     rw c.in-Delete.is (record {
       kept = made.kept;
@@ -105,6 +111,7 @@ returns-in-Delete g c =
       max_pages = made.step.max_pages;
       limit = λ b before s r. tt;
       wanted = λ b before s r asks. drop_seen g.D.Disk before s old r _ (made.wanted b before s r asks);
+      begun = made.begun;
       quiet = λ none. absurd (none tt);
     })
 
@@ -125,6 +132,7 @@ returns-in-Commit g c =
       max_pages = m.max_pages;
       limit = λ b before s r. tt;
       wanted = λ b before s r. tt;
+      begun = λ b before s r works is. commit_not_failed g.D.Disk c.args.self.now c.commit.new.self c.commit.result works _ ((m.answered.refused Failed).0 is);
       quiet = m.quiet;
     })
 
@@ -145,6 +153,7 @@ returns-in-FlushPage g c =
       max_pages = m.max_pages;
       limit = λ b before s r. tt;
       wanted = λ b before s r. tt;
+      begun = λ b before s r works is. flush_not_failed g.D.Disk c.args.self.now c.flush_page.new.self c.flush_page.result works ((m.answered.refused Failed).0 is);
       quiet = m.quiet;
     })
 
@@ -165,5 +174,6 @@ returns-in-Force g c =
       max_pages = m.max_pages;
       limit = λ b before s r. tt;
       wanted = λ b before s r. tt;
+      begun = λ b before s r works is. force_not_failed g.D.Disk c.args.self.now c.force.new.self c.force.result works ((m.answered.refused Failed).0 is);
       quiet = m.quiet;
     })
