@@ -1,5 +1,6 @@
 -- Which records joined the log in the parts of a step, put together.
-use Rattle.std.proofs.Common.{◌≡◌, ◌≢◌, ℕ, List, [], ◌∷◌, ◌++◌, Option, refl, sym, ap, subst, ◌∙◌}
+use Rattle.std.proofs.Common.{◌≡◌, ◌≢◌, ◌⊎◌, inl, inr, ⊎_elim, Bool, true, false, ℕ, ◌+◌, ◌^◌, List, [], ◌∷◌, ◌++◌, length, Option, refl, sym, ap, subst, ◌∙◌}
+use Rattle.std.specs.Prelude.{◌%◌}
 use Rattle.im_types.specs.Keys.{Key}
 use Rattle.im_types.specs.Changes.{Effect}
 use Rattle.im_types.specs.Records.{Logged}
@@ -12,13 +13,16 @@ use Rattle.im_types.specs.declared.reply.Reply.{Reply}
 use Rattle.im_disk.specs.declared.disk.Disk.{Ghosts}
 use Rattle.im_flush.specs.declared.page_writer.PageWriter.{PageWriter}
 use Rattle.im_flush.proofs.Growing.{grows_then}
+use Rattle.im_types.specs.Pages.{Page}
+use Rattle.im_pool.specs.Pool as pools
+use Rattle.im_serial.proofs.Promises.{images_change_nothing}
 use Rattle.im_tree.specs.Levels.{Pages}
 use Rattle.im_change.specs.Changes.{GrowsByChange, marks}
 use Rattle.im_engine.specs.declared.engine.Engine.{Engine}
 use Rattle.im_engine.specs.Joined.{PutJoined, TakeJoined, ChangeJoined, DropJoined}
 use Rattle.im_engine.specs.Running.{IsRunning}
 use Rattle.im_engine.specs.Changes.{Rests, LeafLooked, Edited, StandsBehind}
-use Rattle.im_engine.specs.Structure.{MeetsLimit, WantsSplit, WantsDrop}
+use Rattle.im_engine.specs.Structure.{LeafStays, LeafLeft, MeetsLimit, WantsSplit, WantsDrop, HasMore, HasEntries, DropEnded, EndsDrop}
 use Rattle.im_engine.proofs.Keys.{of_images, images_as_change, change_then, change_behind_images, none_in_front, marks_behind}
 use Rattle.im_engine.proofs.Running.{bodies_still, settled_now}
 
@@ -132,3 +136,60 @@ module _ {D : Type 0} (d : Ghosts D) {b : Base} (before : List Effect) (s : Show
           some = λ none. begun.joins.some (none_in_front begun.joins.change.more e.joins.change.more none);
         });
       }
+
+      -- how a delete ends whose leaf was the root or had more entries
+      pub take_ends : (p ≡ 1) ⊎ (length (pools.page_at mid.writer.pool p).body.entries ≢ 1) → Edited d b before then (TakeJoined b m key ⊥ l.looked.running.now.log) new → new.leaves_kept ≡ old.leaves_kept → EndsDrop d b n key r.now.log old new
+      take_ends more e was =
+          let joined = take_joins e in
+          inr (
+            was,
+            record {
+              now = joined.running.now;
+              stands = joined.running.stands;
+              joins = record {
+                taken = joined.joins;
+                leaf = inl (subst (λ (pages : Pages). HasMore pages key) (sym (settled_now d before s old r)) (record {
+                  page = p;
+                  way = l.way;
+                  more = ⊎_elim (λ x. inl x) (λ x. inr (λ one. x (ap (λ (g : Page). length g.body.entries) (l.looked.page ∙ l.looked.still p) ∙ one))) more;
+                }));
+              };
+            },
+          )
+
+      module _ (taken : Engine D d) (e : Edited d b before then (TakeJoined b m key ⊥ l.looked.running.now.log) taken) (want : WantsDrop (bodies b r.now.log) key) where
+        abbrev taken_then : (log : History) → GrowsByChange m e.running.now.log log → TakeJoined b m key (WantsDrop (settled b r.now.log) key) r.now.log log
+        taken_then log change =
+            take_behind_images b m key (WantsDrop (settled b r.now.log) key) (WantsDrop (settled b r.now.log) key) (λ x. x) r.now.log l.looked.running.now.log log l.looked.grows
+            (take_and_change b m key (WantsDrop (settled b r.now.log) key) (drop_seen key want) l.looked.running.now.log e.running.now.log log e.joins change)
+
+        -- its leaf stays, as it is the root or has entries
+        stays_ends : LeafStays d before then taken e.running key new → StandsBehind d b (DropEnded b n key r.now.log) new.writer new.disk
+        stays_ends stays =
+            let log = stays.rests.running.now.log in
+            let pages = settled_now d before then new stays.rests.running ∙ (images_change_nothing b e.running.now.log log stays.rests.grows e.running.serial).bodies in
+            record {
+              now = stays.rests.running.now;
+              stands = stays.rests.running.stands;
+              joins = subst (λ (t : ℕ). DropEnded b t key r.now.log log) same (record {
+                taken = taken_then log (images_as_change b m e.running.now.log log stays.rests.grows);
+                leaf = inr (inl (subst (λ (x : Pages). HasEntries x key) (sym pages) (record { page = stays.page; way = stays.way; kept = stays.kept })));
+              });
+            }
+
+        -- or it is gone
+        left_ends : LeafLeft d before then taken e.running m new → StandsBehind d b (DropEnded b n key r.now.log) new.writer new.disk
+        left_ends left = record {
+          now = left.running.now;
+          stands = left.running.stands;
+          joins = subst (λ (t : ℕ). DropEnded b t key r.now.log left.running.now.log) same (record {
+            taken = taken_then left.running.now.log left.grows;
+            leaf = inr (inr (λ none. left.some (none_in_front left.grows.more e.joins.change.more none)));
+          });
+        }
+
+        -- how a delete ends whose leaf had to go
+        pub drop_ends : (done : Bool) → (done ≡ false → new.leaves_kept ≡ (taken.leaves_kept + 1) % 2 ^ 64) → (done ≡ true → new.leaves_kept ≡ taken.leaves_kept) → taken.leaves_kept ≡ old.leaves_kept
+            → (done ≡ true → LeafStays d before then taken e.running key new ⊎ LeafLeft d before then taken e.running m new) → EndsDrop d b n key r.now.log old new
+        drop_ends true counted still was gone = inr (still refl ∙ was, ⊎_elim stays_ends left_ends (gone refl))
+        drop_ends false counted still was gone = inl (counted refl ∙ ap (λ (k : ℕ). (k + 1) % 2 ^ 64) was)

@@ -21,6 +21,7 @@ use Rattle.im_disk.proofs.Runs.{started, then_on, weakened}
 use Rattle.im_flush.specs.Stands.{IsCovered, LeavesCovered}
 use Rattle.im_flush.specs.Growth.{Keeps}
 use Rattle.im_flush.specs.Writing.{LeavesGrown}
+use Rattle.im_flush.specs.declared.page_writer.PageWriter.{PageWriter}
 use Rattle.im_flush.specs.PageWriter.{StandsAs, GoesOn, Evicted, Got}
 use Rattle.im_flush.proofs.Standing.{stop_now}
 use Rattle.im_serial.specs.Store.{AreBelow}
@@ -97,6 +98,23 @@ module _ {D : Type 0} (d : Ghosts D) {b : Base} (before : List Effect) (s : Show
     -- and within a call that adds none
     pub covered_stops : (new : D) → LeavesCovered d b 0 r.now.durable r.now.log e.disk new → LeavesOnly d e.disk new (Allowed before s)
     covered_stops new run = weakened d e.disk new (IsCovered b 0 r.now.durable r.now.log) (Allowed before s) run (λ told c is. left_on r.now.log r.serial refl c is)
+
+    -- another engine over the same writer, disk and transactions
+    abbrev pub same_runs : (new : Engine D d) → new.writer ≡ e.writer → new.disk ≡ e.disk → new.next ≡ e.next → new.going ≡ e.going → IsRunning d b before s new
+    same_runs new writer disk next going = record {
+      start = r.start;
+      earlier = r.earlier;
+      made = r.made;
+      now = r.now;
+      stands = subst (λ (w : PageWriter). StandsAs d b 0 r.now w new.disk) (sym writer) (subst (λ (x : D). StandsAs d b 0 r.now e.writer x) (sym disk) r.stands);
+      redo_end = r.redo_end;
+      over = r.over;
+      serial = r.serial;
+      closed = r.closed;
+      commits = r.commits;
+      numbered = subst (λ (n : ℕ). n ≤ 2 ^ 62 → AreBelow n r.now.log) (sym next) r.numbered;
+      transaction = subst (λ (n : ℕ). IsTransaction s new.going n r.now.log) (sym next) (subst (λ (g : Option Transaction). IsTransaction s g e.next r.now.log) (sym going) r.transaction);
+    }
 
     module _ (new : Engine D d) (going : new.going ≡ e.going) (next : new.next ≡ e.next) where
       -- the writer's pages are as they were, and its log has Images more

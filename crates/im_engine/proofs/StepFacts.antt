@@ -27,7 +27,7 @@ use Rattle.im_engine.specs.Kept.{StepKept}
 use Rattle.im_engine.specs.Joined.{ChangeJoined, DropJoined}
 use Rattle.im_engine.specs.Changes.{is_breaking, StandsBehind}
 use Rattle.im_engine.specs.Checks.{Where, IsAnswered, IsUnlessRefused, has_read, OfOwn, OfBegin, OfFetch, OfInsert, OfDelete, OfCommit, OfFlush, OfForce, active_number, active_after, changes_nothing, next_after}
-use Rattle.im_engine.specs.Structure.{MeetsLimit, AsksChange, WantsSplit, WantsDrop}
+use Rattle.im_engine.specs.Structure.{MeetsLimit, AsksChange, WantsSplit, WantsDrop, EndsDrop}
 use Rattle.im_engine.proofs.Running.{settled_now}
 use Rattle.im_engine.proofs.Checks.{not_true}
 use Rattle.im_engine.specs.Turns.{AnswersAlone}
@@ -111,6 +111,7 @@ module _ {D : Type 0} (d : Ghosts D) (t : ℕ) (key : Key) (reply : Reply) (old 
     pub active : active_number new.going ≡ active_after (told_by reply) (active_number old.going)
     pub numbers : new.next ≡ next_after (told_by reply) old.next
     pub max_pages : new.max_pages ≡ old.max_pages
+    pub leaves_kept : reply ≢ Deleted → new.leaves_kept ≡ old.leaves_kept
 
   pub record FetchStep : Type 0 where
     pub step : KeyStep
@@ -132,6 +133,7 @@ module _ {D : Type 0} (d : Ghosts D) (t : ℕ) (key : Key) (reply : Reply) (old 
     pub wanted : (b : Base) (before : List Effect) (s : Shown) (r : IsRunning d b before s old) → AsksChange old.failed reply → WantsDrop (bodies b r.now.log) key
     pub begun : (b : Base) (before : List Effect) (s : Shown) (r : IsRunning d b before s old) → old.failed ≡ false → reply ≡ Refused Failed
         → StandsBehind d b (DropJoined b t key (WantsDrop (settled b r.now.log) key) r.now.log) new.writer new.disk
+    pub gone : (b : Base) (before : List Effect) (s : Shown) (r : IsRunning d b before s old) → reply ≡ Deleted → EndsDrop d b t key r.now.log old new
 
 -- ---- steps that are never refused as failed where the engine worked
 

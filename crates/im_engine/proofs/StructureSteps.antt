@@ -1,5 +1,5 @@
 -- The parts of a structure change within a step, put together.
-use Rattle.std.proofs.Common.{◌≡◌, ◌≢◌, ◌⊎◌, inl, inr, ⊎_elim, ℕ, ◌≤◌, List, [], length, true, false, Option, Some, None, Result, Ok, Err, sym, ap, ◌∙◌}
+use Rattle.std.proofs.Common.{◌≡◌, ◌≢◌, ◌⊎◌, inl, inr, ⊎_elim, ℕ, ◌≤◌, List, [], length, true, false, Option, Some, None, Result, Ok, Err, sym, ap, subst, ◌∙◌}
 use Rattle.std.specs.Result.{IsErrAnd}
 use Rattle.im_types.specs.Keys.{Key}
 use Rattle.im_types.specs.Pages.{Page}
@@ -29,7 +29,7 @@ use Rattle.im_engine.proofs.Checks.{IsOfDrop, IsOfWriter, not_full, not_failed}
 use Rattle.im_engine.proofs.Refusals.{handed_on}
 use Rattle.im_flush.proofs.Growing.{grows_then}
 use Rattle.im_engine.proofs.Keys.{images_as_change, change_then, change_behind_images, change_before_images, none_in_front}
-use Rattle.im_engine.proofs.Running.{bodies_still, leaves_then}
+use Rattle.im_engine.proofs.Running.{bodies_still, leaves_then, same_runs}
 use Rattle.im_engine.proofs.Structure.{split_leaf, split_fits, split_refused, not_ok, change_full, change_used_up}
 
 -- Images in front of a structure change that was begun
@@ -56,7 +56,7 @@ module _ {D : Type 0} (d : Ghosts D) {b : Base} (before : List Effect) (s : Show
       ok = not_ok result e (λ x. HasSplitLeaf d before s old r t key x.1.number then) here;
       begun = handed_on result e (λ x. x ≡ Failed → StandsBehind d b (ChangeJoined t r.now.log) then.writer then.disk) here (λ is. begun_behind d b t r.now.log plan.ok.are.running.now.log plan.ok.are.grows then.writer then.disk (run.begun is));
       again = handed_on result e (λ x. (x ≡ Memory) ⊎ (x ≡ PagesFull) → Rests d before s old r then) here
-          (λ w. ⊎_elim (λ is. rests_behind_images d before s old r mid plan.ok.are.running plan.ok.are.grows then (run.again is)) (λ is. change_full e of is) w);
+          (λ w. ⊎_elim (λ is. rests_behind_images mid plan.ok.are.running plan.ok.are.grows then (run.again is)) (λ is. change_full e of is) w);
       stops = change_left;
       cause = handed_on result e (λ x. x ≢ NotAStore) here run.cause;
       within = not_ok result e (λ x. splits.IsWithin (bodies b r.now.log) key old.max_pages) here;
@@ -210,3 +210,16 @@ module _ {D : Type 0} (d : Ghosts D) {b : Base} (before : List Effect) (s : Show
       never : (f ≡ Memory) ⊎ (f ≡ PagesFull) → Rests d before s old r new
       never (inl memory) = absurd (other memory)
       never (inr full) = absurd (not_full f of full)
+
+  -- it is counted
+  pub counted : (n : ℕ) (key : Key) (mid new : Engine D d) → new.writer ≡ mid.writer → new.disk ≡ mid.disk → new.next ≡ mid.next → new.going ≡ mid.going → DropKept d before s old r n key mid (Ok false) → DropKept d before s old r n key new (Ok false)
+  counted n key mid new writer disk next going kept = record {
+    edit = record {
+      ok = record { running = same_runs d before s mid kept.edit.ok.running new writer disk next going; joins = kept.edit.ok.joins };
+      again = tt;
+      stops = subst (λ (x : D). LeavesOnly d old.disk x (Allowed before s)) (sym disk) kept.edit.stops;
+      cause = tt;
+    };
+    gone = λ is. absurd (cc is);
+    begun = tt;
+  }

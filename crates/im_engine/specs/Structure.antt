@@ -1,5 +1,5 @@
 -- Structure changes within a step, and the limit of pages.
-use Rattle.std.specs.Prelude.{◌≡◌, ◌≢◌, ◌⊎◌, ◌≤◌, ◌-◌, ◌^◌, ℕ, Bool, true, false, List, [], Option, None, Some, Result, IfErr, IfOk, OnOk, length}
+use Rattle.std.specs.Prelude.{◌≡◌, ◌≢◌, ◌⊎◌, ◌≤◌, ◌-◌, ◌+◌, ◌%◌, ◌^◌, ℕ, Bool, true, false, List, [], Option, None, Some, Result, IfErr, IfOk, OnOk, length}
 use Rattle.std.specs.FinMap.Entries.{find}
 use Rattle.im_types.specs.Keys.{Key, key_order}
 use Rattle.im_types.specs.LogLaws.{bodies}
@@ -11,7 +11,7 @@ use Rattle.im_types.specs.Lives.{Shown}
 use Rattle.im_types.specs.declared.fault.Fault.{Fault}
 use Rattle.im_types.specs.declared.fault.Fault.TheVariants.{Memory, NotAStore, PagesFull, Capacity, Failed}
 use Rattle.im_types.specs.declared.reply.Reply.{Reply}
-use Rattle.im_types.specs.declared.reply.Reply.TheVariants.{Inserted, Refused}
+use Rattle.im_types.specs.declared.reply.Reply.TheVariants.{Inserted, Deleted, Refused}
 use Rattle.im_types.specs.declared.step.Step.{Step}
 use Rattle.im_types.specs.declared.step.Step.TheVariants.{Insert, Delete}
 use Rattle.im_disk.specs.declared.disk.Disk.{Ghosts}
@@ -32,7 +32,7 @@ use Rattle.im_engine.specs.declared.transaction.Transaction.{Transaction}
 use Rattle.im_engine.specs.Stands.{Allowed}
 use Rattle.im_engine.specs.Running.{IsRunning}
 use Rattle.im_engine.specs.Changes.{Rests, EditKept, StandsBehind}
-use Rattle.im_engine.specs.Joined.{ChangeJoined, DropJoined}
+use Rattle.im_engine.specs.Joined.{TakeJoined, ChangeJoined, DropJoined}
 use Rattle.im_engine.specs.Checks.{LacksRoom}
 
 -- the refusals of a structure change
@@ -209,6 +209,18 @@ module _ (pages : Pages) where
     pub one : length (pages page).entries ≡ 1
     pub there : find key_order key (walk pages) ≢ None
 
+  -- The key's leaf is the root, or has more entries than one.
+  pub record HasMore (key : Key) : Type 0 where
+    pub page : ℕ
+    pub way : IsOnWay pages 0 key page
+    pub more : (page ≡ 1) ⊎ (length (pages page).entries ≢ 1)
+
+  -- The key's leaf is the root, or has entries.
+  pub record HasEntries (key : Key) : Type 0 where
+    pub page : ℕ
+    pub way : IsOnWay pages 0 key page
+    pub kept : (page ≡ 1) ⊎ ((pages page).entries ≢ [])
+
   -- A step asks for a structure change only where it wants one.
   abbrev pub AsksWhereWanted : Bool → Step → Reply → Type 0
   AsksWhereWanted failed (Insert t key rid) reply = AsksChange failed reply → WantsSplit key.items
@@ -220,3 +232,18 @@ abbrev pub IsBegun : {D : Type 0} (d : Ghosts D) → Base → History → Step �
 IsBegun d b older (Insert t key rid) w disk = StandsBehind d b (ChangeJoined t older) w disk
 IsBegun d b older (Delete t key) w disk = StandsBehind d b (DropJoined b t key.items (WantsDrop (settled b older) key.items) older) w disk
 IsBegun d b older _ w disk = ⊥
+
+-- The records of a delete joined the log, and it left no leaf empty: the key's leaf was the root or had more entries, or it is the root or has entries, or a structure change joined behind the key's record.
+pub record DropEnded (b : Base) (t : ℕ) (key : Key) (older log : History) : Type 0 where
+  pub taken : TakeJoined b t key (WantsDrop (settled b older) key) older log
+  pub leaf : HasMore (settled b older) key ⊎ HasEntries (settled b log) key ⊎ (marks taken.change.more ≢ [])
+
+-- What a delete that was made leaves: one more leaf is counted that stays for want of memory, or none and no leaf is left empty.
+abbrev pub EndsDrop : {D : Type 0} (d : Ghosts D) → Base → ℕ → Key → History → Engine D d → Engine D d → Type 0
+EndsDrop d b t key older old new =
+    (new.leaves_kept ≡ (old.leaves_kept + 1) % 2 ^ 64) ⊎ ((new.leaves_kept ≡ old.leaves_kept) × StandsBehind d b (DropEnded b t key older) new.writer new.disk)
+
+-- no other step has that to say
+abbrev pub EndsStep : {D : Type 0} (d : Ghosts D) → Base → History → Step → Reply → Engine D d → Engine D d → Type 0
+EndsStep d b older (Delete t key) reply old new = reply ≡ Deleted → EndsDrop d b t key.items older old new
+EndsStep d b older _ reply old new = Unit {0}

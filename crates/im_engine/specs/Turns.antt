@@ -10,7 +10,7 @@ use Rattle.im_types.specs.Lives.{Shown, effects, shows}
 use Rattle.im_types.specs.declared.fault.Fault.TheVariants.{Failed, Device}
 use Rattle.im_types.specs.declared.step.Step.{Step}
 use Rattle.im_types.specs.declared.reply.Reply.{Reply}
-use Rattle.im_types.specs.declared.reply.Reply.TheVariants.{Refused}
+use Rattle.im_types.specs.declared.reply.Reply.TheVariants.{Deleted, Refused}
 use Rattle.im_types.specs.Steps.{asked_by, told_by}
 use Rattle.im_disk.specs.declared.disk.Disk.{Ghosts}
 use Rattle.im_disk.specs.Disk.{Files}
@@ -19,7 +19,7 @@ use Rattle.im_engine.specs.Stands.{Allowed}
 use Rattle.im_engine.specs.Running.{IsRunning, IsLife}
 use Rattle.im_engine.specs.Changes.{is_breaking}
 use Rattle.im_engine.specs.Checks.{AnswersStep, CallsDevice, changes_nothing, active_number, active_after, next_after}
-use Rattle.im_engine.specs.Structure.{KeepsLimit, AsksWhereWanted, IsBegun}
+use Rattle.im_engine.specs.Structure.{KeepsLimit, AsksWhereWanted, IsBegun, EndsStep}
 use Rattle.im_engine.specs.Kept.{StepKept}
 
 -- An access that is answered, of a transaction that is going, has the answer of one user alone on the map of all effects so far with its own on top.
@@ -45,6 +45,8 @@ module _ {D : Type 0} (d : Ghosts D) where
     pub limit : (b : Base) (before : List Effect) (s : Shown) (r : IsRunning d b before s old) → KeepsLimit (settled b r.now.log) old.max_pages step reply
     pub wanted : (b : Base) (before : List Effect) (s : Shown) (r : IsRunning d b before s old) → AsksWhereWanted (settled b r.now.log) old.failed step reply
     pub begun : (b : Base) (before : List Effect) (s : Shown) (r : IsRunning d b before s old) → old.failed ≡ false → reply ≡ Refused Failed → IsBegun d b r.now.log step new.writer new.disk
+    pub leaves_kept : reply ≢ Deleted → new.leaves_kept ≡ old.leaves_kept
+    pub gone : (b : Base) (before : List Effect) (s : Shown) (r : IsRunning d b before s old) → EndsStep d b r.now.log step reply old new
     pub quiet : (CallsDevice d step old → ⊥) → new.disk ≡ old.disk
 
   -- Each step was made by the engine that the one before it left.

@@ -32,6 +32,7 @@ pub struct Engine<D: Disk> {
     max_pages: PageNo,
     going: Option<Transaction>,
     next: TxnId,
+    leaves_kept: u64,
     failed: bool,
     ghost ready: { IsReadyWriter D.Disk writer disk },
     ghost working: { failed ≡ false → writer.failed ≡ false },
@@ -93,6 +94,7 @@ impl<D: Disk> Engine<D> {
         ensures active { active_number self.new.going ≡ active_after (told_by result) (active_number self.old.going) }
         ensures numbers { self.new.next ≡ next_after (told_by result) self.old.next }
         ensures max_pages { self.new.max_pages ≡ self.old.max_pages }
+        ensures leaves_kept { self.new.leaves_kept ≡ self.old.leaves_kept }
     {
         if self.failed {
             return Reply::Refused(Fault::Failed);
@@ -127,6 +129,7 @@ impl<D: Disk> Engine<D> {
         ensures untouched { IfErr result (λ x. x.0 ≡ PoolSize → x.1 ≡ disk) }
         ensures opened { IfOk result (λ e. (e.failed ≡ false) × (e.going ≡ None) × (D.failed e.disk ≡ false)) }
         ensures limit { IfOk result (λ e. e.max_pages ≡ config.max_pages) }
+        ensures leaves_kept { IfOk result (λ e. e.leaves_kept ≡ 0) }
         ensures spelled { IfOk result (λ _. D.tells → SpellsLog (D.seen disk)) }
         ensures causes { IfErr result (λ x. (x.0 ≡ PoolSize) ⊎ (x.0 ≡ Memory) ⊎ (x.0 ≡ Device) ⊎ (x.0 ≡ NotAStore) ⊎ (x.0 ≡ LogFull) ⊎ (x.0 ≡ Capacity)) }
         ensures device { IsErrAnd result (λ x. x.0 ≡ Device) ↔ (D.failed (disk_of D.Disk result) ≡ true) }
@@ -144,6 +147,7 @@ impl<D: Disk> Engine<D> {
                 max_pages: config.max_pages,
                 going: None,
                 next: restarted.next,
+                leaves_kept: 0,
                 failed: false,
             }),
         }
@@ -211,6 +215,7 @@ impl<D: Disk> Engine<D> {
         ensures going { self.new.going ≡ self.old.going }
         ensures next { self.new.next ≡ self.old.next }
         ensures max_pages { self.new.max_pages ≡ self.old.max_pages }
+        ensures leaves_kept { self.new.leaves_kept ≡ self.old.leaves_kept }
     {
         if self.failed {
             return Err(Fault::Failed);
@@ -242,6 +247,7 @@ impl<D: Disk> Engine<D> {
         ensures going { self.new.going ≡ self.old.going }
         ensures next { self.new.next ≡ self.old.next }
         ensures max_pages { self.new.max_pages ≡ self.old.max_pages }
+        ensures leaves_kept { self.new.leaves_kept ≡ self.old.leaves_kept }
     {
         if self.failed {
             return Err(Fault::Failed);
@@ -260,6 +266,13 @@ impl<D: Disk> Engine<D> {
         ensures { result ≡ active_in self.now.going }
     {
         self.going.is_some() as usize
+    }
+
+    /// How many leaves that a delete of this life left empty stayed in the tree for want of memory, modulo 2^64.
+    pub fn leaves_kept(&self) -> u64
+        ensures { result ≡ self.now.leaves_kept }
+    {
+        self.leaves_kept
     }
 
     /// Whether an earlier call made it fail.
@@ -287,6 +300,7 @@ impl<D: Disk> Engine<D> {
             max_pages: _max_pages,
             going: _going,
             next: _next,
+            leaves_kept: _leaves_kept,
             failed: _failed,
         } = self;
         disk

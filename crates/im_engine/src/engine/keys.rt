@@ -3,7 +3,7 @@
 ghost use Rattle.std.specs.Prelude.{◌≡◌, ◌⊎◌, ◌≤◌, ◌↔◌, ◌||◌, ℕ, List, Some, Ok, Err, true, false, is_some, if◌then◌else◌, length, ◌≢◌, ◌∷◌, IfOk, IfErr, OnOk, None};
 ghost use Rattle.std.specs.FinMap.Entries.{find};
 ghost use Rattle.im_types.specs.declared.fault.Fault.TheVariants.{LogFull, Device, Memory, NotAStore, Failed, NoTransaction, KeyLength, PagesFull, Capacity};
-ghost use Rattle.im_types.specs.declared.reply.Reply.TheVariants.{Refused};
+ghost use Rattle.im_types.specs.declared.reply.Reply.TheVariants.{Deleted, Refused};
 
 use crate::Engine;
 use crate::engine::pages::breaks;
@@ -36,7 +36,7 @@ impl<D: Disk> Engine<D> {
     ghost use Rattle.im_engine.specs.Joined.{PutJoined, TakeJoined, ChangeJoined, DropJoined};
     ghost use Rattle.im_engine.specs.Kept.{StepKept};
     ghost use Rattle.im_engine.specs.Changes.{EditKept, StandsBehind, is_breaking};
-    ghost use Rattle.im_engine.specs.Structure.{LimitKept, BegunKept, MeetsLimit, AsksChange, WantsSplit, WantsDrop};
+    ghost use Rattle.im_engine.specs.Structure.{LimitKept, BegunKept, MeetsLimit, AsksChange, WantsSplit, WantsDrop, EndsDrop};
     ghost use Rattle.im_engine.specs.Checks.{HasCause, LacksRoom, IsAnswered, OfFetch, OfInsert, OfDelete, OfAccess, active_after, active_number, changes_nothing, next_after};
 
     // The checks with which an access begins.
@@ -64,6 +64,7 @@ impl<D: Disk> Engine<D> {
         ensures active { active_number self.new.going ≡ active_after (told_by result) (active_number self.old.going) }
         ensures numbers { self.new.next ≡ next_after (told_by result) self.old.next }
         ensures max_pages { self.new.max_pages ≡ self.old.max_pages }
+        ensures leaves_kept { self.new.leaves_kept ≡ self.old.leaves_kept }
     {
         if let Err(fault) = self.check(number, key) {
             return Reply::Refused(fault);
@@ -92,6 +93,7 @@ impl<D: Disk> Engine<D> {
         ensures device { D.failed self.new.disk ≡ true → result ≡ Err Device }
         ensures next { self.new.next ≡ self.old.next }
         ensures max_pages { self.new.max_pages ≡ self.old.max_pages }
+        ensures leaves_kept { self.new.leaves_kept ≡ self.old.leaves_kept }
     {
         self.failed = true;
         match self.writer.log_change(&mut self.disk, change) {
@@ -133,6 +135,7 @@ impl<D: Disk> Engine<D> {
         ensures device { D.failed self.new.disk ≡ true → result ≡ Err Device }
         ensures next { self.new.next ≡ self.old.next }
         ensures max_pages { self.new.max_pages ≡ self.old.max_pages }
+        ensures leaves_kept { self.new.leaves_kept ≡ self.old.leaves_kept }
     {
         let change = Record::InsertKey {
             transaction: transaction.number,
@@ -166,6 +169,7 @@ impl<D: Disk> Engine<D> {
         ensures device { D.failed self.new.disk ≡ true → result ≡ Err Device }
         ensures next { self.new.next ≡ self.old.next }
         ensures max_pages { self.new.max_pages ≡ self.old.max_pages }
+        ensures leaves_kept { self.new.leaves_kept ≡ self.old.leaves_kept }
     {
         let change = Record::DeleteKey {
             transaction: transaction.number,
@@ -199,6 +203,7 @@ impl<D: Disk> Engine<D> {
         ensures no_room { result ≡ Err LogFull → HasNoRoom self.new.writer.log }
         ensures next { self.new.next ≡ self.old.next }
         ensures max_pages { self.new.max_pages ≡ self.old.max_pages }
+        ensures leaves_kept { self.new.leaves_kept ≡ self.old.leaves_kept }
     {
         let (transaction, frame) = self.split_leaf(transaction, key)?;
         match self.put(transaction, frame.number, key, rid) {
@@ -226,6 +231,7 @@ impl<D: Disk> Engine<D> {
         ensures active { active_number self.new.going ≡ active_after (told_by result) (active_number self.old.going) }
         ensures numbers { self.new.next ≡ next_after (told_by result) self.old.next }
         ensures max_pages { self.new.max_pages ≡ self.old.max_pages }
+        ensures leaves_kept { self.new.leaves_kept ≡ self.old.leaves_kept }
     {
         let transaction = match self.check(number, key) {
             Ok(transaction) => transaction,
@@ -265,6 +271,8 @@ impl<D: Disk> Engine<D> {
         ensures active { active_number self.new.going ≡ active_after (told_by result) (active_number self.old.going) }
         ensures numbers { self.new.next ≡ next_after (told_by result) self.old.next }
         ensures max_pages { self.new.max_pages ≡ self.old.max_pages }
+        ensures leaves_kept { result ≢ Deleted → self.new.leaves_kept ≡ self.old.leaves_kept }
+        ensures gone { (b : Base) (before : List Effect) (s : Shown) (r : IsRunning D.Disk b before s self.old) → result ≡ Deleted → EndsDrop D.Disk b number key.now r.now.log self.old self.new }
     {
         let transaction = match self.check(number, key) {
             Ok(transaction) => transaction,

@@ -52,6 +52,7 @@ impl<D: Disk> Engine<D> {
         ensures going { self.new.going ≡ self.old.going }
         ensures next { self.new.next ≡ self.old.next }
         ensures max_pages { self.new.max_pages ≡ self.old.max_pages }
+        ensures leaves_kept { self.new.leaves_kept ≡ self.old.leaves_kept }
     {
         self.failed = true;
         match self.writer.get(&mut self.disk, number) {
@@ -80,6 +81,7 @@ impl<D: Disk> Engine<D> {
         ensures going { self.new.going ≡ self.old.going }
         ensures next { self.new.next ≡ self.old.next }
         ensures max_pages { self.new.max_pages ≡ self.old.max_pages }
+        ensures leaves_kept { self.new.leaves_kept ≡ self.old.leaves_kept }
     {
         self.failed = true;
         match leaf_for(&mut self.writer, &mut self.disk, key) {

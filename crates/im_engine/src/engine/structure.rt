@@ -1,6 +1,6 @@
 //! Structure changes of the active transaction.
 
-ghost use Rattle.std.specs.Prelude.{◌≡◌, ◌≢◌, ◌⊎◌, ◌≤◌, ℕ, List, [], Some, Err, true, false, length, IfOk, IfErr, OnOk};
+ghost use Rattle.std.specs.Prelude.{◌≡◌, ◌≢◌, ◌⊎◌, ◌≤◌, ◌+◌, ◌%◌, ◌^◌, ℕ, List, [], Some, Err, true, false, length, IfOk, IfErr, OnOk};
 ghost use Rattle.im_types.specs.declared.fault.Fault.TheVariants.{LogFull, Device, Memory, NotAStore, Failed, PagesFull, Capacity};
 
 use crate::Engine;
@@ -66,6 +66,7 @@ impl<D: Disk> Engine<D> {
         ensures going { self.new.going ≡ self.old.going }
         ensures next { self.new.next ≡ self.old.next }
         ensures max_pages { self.new.max_pages ≡ self.old.max_pages }
+        ensures leaves_kept { self.new.leaves_kept ≡ self.old.leaves_kept }
     {
         self.failed = true;
         let limit = Some(self.max_pages);
@@ -95,6 +96,7 @@ impl<D: Disk> Engine<D> {
         ensures going { self.new.going ≡ self.old.going }
         ensures next { self.new.next ≡ self.old.next }
         ensures max_pages { self.new.max_pages ≡ self.old.max_pages }
+        ensures leaves_kept { self.new.leaves_kept ≡ self.old.leaves_kept }
     {
         self.failed = true;
         match plan_delete(self.alloc, &mut self.writer, &mut self.disk, key) {
@@ -128,6 +130,7 @@ impl<D: Disk> Engine<D> {
         ensures no_room { result ≡ Err LogFull → HasNoRoom self.new.writer.log }
         ensures next { self.new.next ≡ self.old.next }
         ensures max_pages { self.new.max_pages ≡ self.old.max_pages }
+        ensures leaves_kept { self.new.leaves_kept ≡ self.old.leaves_kept }
     {
         self.failed = true;
         match im_change::run(
@@ -172,6 +175,7 @@ impl<D: Disk> Engine<D> {
         ensures going { self.new.going ≡ self.old.going }
         ensures next { self.new.next ≡ self.old.next }
         ensures max_pages { self.new.max_pages ≡ self.old.max_pages }
+        ensures leaves_kept { self.new.leaves_kept ≡ self.old.leaves_kept }
     {
         match self.leaf(key) {
             Ok(frame) => {
@@ -212,6 +216,7 @@ impl<D: Disk> Engine<D> {
         ensures no_room { result ≡ Err LogFull → HasNoRoom self.new.writer.log }
         ensures next { self.new.next ≡ self.old.next }
         ensures max_pages { self.new.max_pages ≡ self.old.max_pages }
+        ensures leaves_kept { self.new.leaves_kept ≡ self.old.leaves_kept }
     {
         let images = self.plan_split(key)?;
         let transaction = self.restructure(transaction, &images)?;
@@ -241,6 +246,7 @@ impl<D: Disk> Engine<D> {
         ensures going { self.new.going ≡ self.old.going }
         ensures next { self.new.next ≡ self.old.next }
         ensures max_pages { self.new.max_pages ≡ self.old.max_pages }
+        ensures leaves_kept { self.new.leaves_kept ≡ self.old.leaves_kept }
     {
         let frame = self.leaf(key)?;
         if !self.is_spare(frame) {
@@ -250,7 +256,7 @@ impl<D: Disk> Engine<D> {
         Ok(Some(images))
     }
 
-    // Takes the leaf of a key out of the tree, where it is empty and not the root. For want of memory it stays, and the answer is false.
+    // Takes the leaf of a key out of the tree, where it is empty and not the root. For want of memory it stays, is counted, and the answer is false.
     pub(crate) fn drop_leaf(&mut self, transaction: Transaction, key: &[u8]) -> Result<bool, Fault>
         requires working { self.old.failed ≡ false }
         requires owned { 1 ≤ transaction.number }
@@ -264,6 +270,9 @@ impl<D: Disk> Engine<D> {
         ensures active { active_number self.old.going ≡ Some transaction.number → active_number self.new.going ≡ Some transaction.number }
         ensures next { self.new.next ≡ self.old.next }
         ensures max_pages { self.new.max_pages ≡ self.old.max_pages }
+        ensures counted { IfOk result (λ done. done ≡ false → self.new.leaves_kept ≡ (self.old.leaves_kept + 1) % 2 ^ 64) }
+        ensures uncounted { IfOk result (λ done. done ≡ true → self.new.leaves_kept ≡ self.old.leaves_kept) }
+        ensures refused { IfErr result (λ e. self.new.leaves_kept ≡ self.old.leaves_kept) }
     {
         match self.plan_drop(key) {
             Ok(None) => Ok(true),
@@ -271,6 +280,7 @@ impl<D: Disk> Engine<D> {
                 Ok(_) => Ok(true),
                 Err(fault) => {
                     if wants_memory(fault) {
+                        self.leaves_kept = self.leaves_kept.wrapping_add(1);
                         return Ok(false);
                     }
                     Err(fault)
@@ -278,6 +288,7 @@ impl<D: Disk> Engine<D> {
             },
             Err(fault) => {
                 if wants_memory(fault) {
+                    self.leaves_kept = self.leaves_kept.wrapping_add(1);
                     return Ok(false);
                 }
                 Err(fault)

@@ -37,6 +37,7 @@ impl<D: Disk> Engine<D> {
         ensures going { OnErr result (self.new.going ≡ self.old.going) }
         ensures next { self.new.next ≡ self.old.next }
         ensures max_pages { self.new.max_pages ≡ self.old.max_pages }
+        ensures leaves_kept { self.new.leaves_kept ≡ self.old.leaves_kept }
     {
         self.failed = true;
         let commit = Record::Commit {
@@ -62,6 +63,7 @@ impl<D: Disk> Engine<D> {
         ensures active { active_number self.new.going ≡ active_after (told_by result) (active_number self.old.going) }
         ensures numbers { self.new.next ≡ next_after (told_by result) self.old.next }
         ensures max_pages { self.new.max_pages ≡ self.old.max_pages }
+        ensures leaves_kept { self.new.leaves_kept ≡ self.old.leaves_kept }
     {
         let transaction = match self.active_of(number) {
             Ok(transaction) => transaction,
@@ -89,6 +91,7 @@ impl<D: Disk> Engine<D> {
         ensures active { active_number self.new.going ≡ active_after (told_by result) (active_number self.old.going) }
         ensures numbers { self.new.next ≡ next_after (told_by result) self.old.next }
         ensures max_pages { self.new.max_pages ≡ self.old.max_pages }
+        ensures leaves_kept { self.new.leaves_kept ≡ self.old.leaves_kept }
     {
         if self.failed {
             return Reply::Refused(Fault::Failed);
@@ -115,6 +118,7 @@ impl<D: Disk> Engine<D> {
         ensures active { active_number self.new.going ≡ active_after (told_by result) (active_number self.old.going) }
         ensures numbers { self.new.next ≡ next_after (told_by result) self.old.next }
         ensures max_pages { self.new.max_pages ≡ self.old.max_pages }
+        ensures leaves_kept { self.new.leaves_kept ≡ self.old.leaves_kept }
     {
         if self.failed {
             return Reply::Refused(Fault::Failed);

@@ -9,7 +9,7 @@ use Rattle.im_pool.specs.Pool.{page_at}
 use Rattle.im_engine.specs.Checks.{active_number}
 use Rattle.im_engine.proofs.Running.{looks, leaf_settled, leaf_now, says_now, leaves_then}
 use Rattle.im_engine.proofs.Steps.{edit_made}
-use Rattle.im_engine.proofs.Joins.{rests_behind, take_joins, drop_joins, drop_failed}
+use Rattle.im_engine.proofs.Joins.{rests_behind, take_joins, drop_joins, drop_failed, take_ends, drop_ends}
 use Rattle.im_engine.proofs.Wanted.{asks_none, asks_none_early, asks_none_late, never_begun, never_begun_early, never_begun_late, wants_drop}
 use Rattle.im_engine.proofs.Refusals.{early_kept, late_kept, edit_kept}
 use Rattle.im_engine.proofs.Checks.{access_refused, delete_refused, delete_none, unread, unread_late, unread_edit, writer_cause, change_cause, drop_edit, drop_wants, drop_breaks, refused_inj}
@@ -250,3 +250,46 @@ returns-in-Err-drop_leaf-clause-begun g c b before s r works is =
     let want = wants_drop g.D.Disk before s old r c.args.key.now p c.leaf.new.self l c.in-Some.rid c.in-Some.ensures last.0 last.1 in
     drop_failed g.D.Disk before s old r c.args.key.now p c.leaf.new.self l c.in-Ok.transaction.number c.args.number checked.2 shown c.drop_leaf.new.self c.take.new.self kept.ok want c.drop_leaf.new.self.writer c.drop_leaf.new.self.disk
     (gone.begun (refused_inj c.in-Err-drop_leaf.fault Failed is))
+
+pub returns-in-Err-clause-gone : goal.returns-in-Err-clause-gone
+returns-in-Err-clause-gone g c b before s r is = absurd (cc is)
+
+pub returns-in-Err-leaf-clause-gone : goal.returns-in-Err-leaf-clause-gone
+returns-in-Err-leaf-clause-gone g c b before s r is = absurd (cc is)
+
+pub returns-in-None-clause-gone : goal.returns-in-None-clause-gone
+returns-in-None-clause-gone g c b before s r is = absurd (cc is)
+
+pub returns-in-Err-take-clause-gone : goal.returns-in-Err-take-clause-gone
+returns-in-Err-take-clause-gone g c b before s r is = absurd (cc is)
+
+pub returns-then-not-last_entry-clause-gone : goal.returns-then-not-last_entry-clause-gone
+returns-then-not-last_entry-clause-gone g c b before s r is =
+    let old = c.args.self.now in
+    let checked = c.in-Ok.ensures.ok in
+    let found = c.in-Ok-leaf.ensures.kept b before s r in
+    let l = found.ok in
+    let p = c.in-Ok-leaf.frame.number in
+    let kept = c.in-Ok-take.ensures.kept b before s l.looked.running (c.in-Ok-leaf.ensures.going ∙ checked.1) (leaf_now g.D.Disk before s old r c.args.key.now p c.leaf.new.self l)
+    (sym (says_now g.D.Disk before s old r c.args.key.now p c.leaf.new.self l) ∙ sym c.in-Some.ensures) in
+    take_ends g.D.Disk before s old r c.args.key.now p c.leaf.new.self l c.in-Ok.transaction.number c.args.number checked.2 _ c.take.new.self (c.is_last_entry-last_entry.ensures.more c.if-not-last_entry.true) kept.ok
+    (c.in-Ok-take.ensures.leaves_kept ∙ c.in-Ok-leaf.ensures.leaves_kept)
+
+pub returns-in-Ok-drop_leaf-clause-gone : goal.returns-in-Ok-drop_leaf-clause-gone
+returns-in-Ok-drop_leaf-clause-gone g c b before s r is =
+    let old = c.args.self.now in
+    let checked = c.in-Ok.ensures.ok in
+    let found = c.in-Ok-leaf.ensures.kept b before s r in
+    let l = found.ok in
+    let p = c.in-Ok-leaf.frame.number in
+    let kept = c.in-Ok-take.ensures.kept b before s l.looked.running (c.in-Ok-leaf.ensures.going ∙ checked.1) (leaf_now g.D.Disk before s old r c.args.key.now p c.leaf.new.self l)
+    (sym (says_now g.D.Disk before s old r c.args.key.now p c.leaf.new.self l) ∙ sym c.in-Some.ensures) in
+    let shown = adds c.in-Ok.transaction.number (Drop c.args.key.now 0) s in
+    let last = c.is_last_entry-last_entry.ensures.last c.if-not-last_entry.false in
+    let want = wants_drop g.D.Disk before s old r c.args.key.now p c.leaf.new.self l c.in-Some.rid c.in-Some.ensures last.0 last.1 in
+    drop_ends g.D.Disk before s old r c.args.key.now p c.leaf.new.self l c.in-Ok.transaction.number c.args.number checked.2 shown c.drop_leaf.new.self c.take.new.self kept.ok want c.in-Ok-drop_leaf.field-0
+    c.in-Ok-drop_leaf.ensures.counted c.in-Ok-drop_leaf.ensures.uncounted (c.in-Ok-take.ensures.leaves_kept ∙ c.in-Ok-leaf.ensures.leaves_kept)
+    (c.in-Ok-drop_leaf.ensures.kept b before shown kept.ok.running c.in-Ok-take.ensures.ok.1).gone
+
+pub returns-in-Err-drop_leaf-clause-gone : goal.returns-in-Err-drop_leaf-clause-gone
+returns-in-Err-drop_leaf-clause-gone g c b before s r is = absurd (cc is)

@@ -23,6 +23,8 @@ returns-in-Begin g c =
       limit = λ b before s r. tt;
       wanted = λ b before s r. tt;
       begun = λ b before s r works is. begin_not_failed g.D.Disk c.args.self.now c.begin.new.self c.begin.result works ((m.answered.refused Failed).0 is);
+      leaves_kept = λ _. m.leaves_kept;
+      gone = λ b before s r. tt;
       quiet = λ none. m.quiet;
     })
 
@@ -32,7 +34,7 @@ returns-in-Fetch g c =
     let old = c.args.self.now in
     let new = c.fetch.new.self in
     let made = subst (λ (k : Key). FetchStep g.D.Disk c.in-Fetch.number k c.fetch.result old new) c.deref.ensures.value (record {
-      step = record { same = m.same; failed = m.failed; fails = m.fails; device = m.device; active = m.active; numbers = m.numbers; max_pages = m.max_pages };
+      step = record { same = m.same; failed = m.failed; fails = m.fails; device = m.device; active = m.active; numbers = m.numbers; max_pages = m.max_pages; leaves_kept = (λ _. m.leaves_kept) };
       kept = m.kept;
       answered = m.answered;
     }) in
@@ -51,6 +53,8 @@ returns-in-Fetch g c =
       limit = λ b before s r. tt;
       wanted = λ b before s r. tt;
       begun = λ b before s r works is. fetch_not_failed g.D.Disk c.args.self.now c.fetch.new.self c.fetch.result works c.in-Fetch.number _ ((made.answered.refused Failed).0 is);
+      leaves_kept = made.step.leaves_kept;
+      gone = λ b before s r. tt;
       quiet = λ none. absurd (none tt);
     })
 
@@ -60,7 +64,7 @@ returns-in-Insert g c =
     let old = c.args.self.now in
     let new = c.insert.new.self in
     let made = subst (λ (k : Key). InsertStep g.D.Disk c.in-Insert.number k c.insert.result old new c.in-Insert.rid) c.deref-in-Insert.ensures.value (record {
-      step = record { same = m.same; failed = m.failed; fails = m.fails; device = m.device; active = m.active; numbers = m.numbers; max_pages = m.max_pages };
+      step = record { same = m.same; failed = m.failed; fails = m.fails; device = m.device; active = m.active; numbers = m.numbers; max_pages = m.max_pages; leaves_kept = (λ _. m.leaves_kept) };
       kept = m.kept;
       answered = m.answered;
       limit = m.limit;
@@ -82,6 +86,8 @@ returns-in-Insert g c =
       limit = λ b before s r. limit_seen g.D.Disk before s old r _ c.insert.result (made.limit b before s r);
       wanted = λ b before s r asks. split_seen g.D.Disk before s old r _ (made.wanted b before s r asks);
       begun = made.begun;
+      leaves_kept = made.step.leaves_kept;
+      gone = λ b before s r. tt;
       quiet = λ none. absurd (none tt);
     })
 
@@ -91,11 +97,12 @@ returns-in-Delete g c =
     let old = c.args.self.now in
     let new = c.delete.new.self in
     let made = subst (λ (k : Key). DeleteStep g.D.Disk c.in-Delete.number k c.delete.result old new) c.deref-in-Delete.ensures.value (record {
-      step = record { same = m.same; failed = m.failed; fails = m.fails; device = m.device; active = m.active; numbers = m.numbers; max_pages = m.max_pages };
+      step = record { same = m.same; failed = m.failed; fails = m.fails; device = m.device; active = m.active; numbers = m.numbers; max_pages = m.max_pages; leaves_kept = m.leaves_kept };
       kept = m.kept;
       answered = m.answered;
       wanted = m.wanted;
       begun = m.begun;
+      gone = m.gone;
     }) in
     rw c.in-Delete.is (record {
       kept = made.kept;
@@ -112,6 +119,8 @@ returns-in-Delete g c =
       limit = λ b before s r. tt;
       wanted = λ b before s r asks. drop_seen g.D.Disk before s old r _ (made.wanted b before s r asks);
       begun = made.begun;
+      leaves_kept = made.step.leaves_kept;
+      gone = made.gone;
       quiet = λ none. absurd (none tt);
     })
 
@@ -133,6 +142,8 @@ returns-in-Commit g c =
       limit = λ b before s r. tt;
       wanted = λ b before s r. tt;
       begun = λ b before s r works is. commit_not_failed g.D.Disk c.args.self.now c.commit.new.self c.commit.result works _ ((m.answered.refused Failed).0 is);
+      leaves_kept = λ _. m.leaves_kept;
+      gone = λ b before s r. tt;
       quiet = m.quiet;
     })
 
@@ -154,6 +165,8 @@ returns-in-FlushPage g c =
       limit = λ b before s r. tt;
       wanted = λ b before s r. tt;
       begun = λ b before s r works is. flush_not_failed g.D.Disk c.args.self.now c.flush_page.new.self c.flush_page.result works ((m.answered.refused Failed).0 is);
+      leaves_kept = λ _. m.leaves_kept;
+      gone = λ b before s r. tt;
       quiet = m.quiet;
     })
 
@@ -175,5 +188,7 @@ returns-in-Force g c =
       limit = λ b before s r. tt;
       wanted = λ b before s r. tt;
       begun = λ b before s r works is. force_not_failed g.D.Disk c.args.self.now c.force.new.self c.force.result works ((m.answered.refused Failed).0 is);
+      leaves_kept = λ _. m.leaves_kept;
+      gone = λ b before s r. tt;
       quiet = m.quiet;
     })
