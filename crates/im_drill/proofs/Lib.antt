@@ -5,6 +5,7 @@ pub mod Lines
 pub mod OpenedLogs
 pub mod Passed
 pub mod Putting
+pub mod RawRunning
 pub mod RawTexts
 pub mod ReadLines
 pub mod ReadStoreLines
@@ -14,5 +15,6 @@ pub mod Standing
 pub mod Stands
 pub mod StepSpelled
 pub mod StoreAsked
+pub mod StoreRunning
 pub mod StoreShown
 pub mod StoreSpelled

@@ -1,5 +1,5 @@
 -- What lives of a store show, line by line.
-use Rattle.std.proofs.Common.{◌≡◌, ℕ, suc, ◌+◌, ◌<◌, zero, List, [], ◌∷◌, ◌++◌, length, take, get_or, refl, sym, ◌∙◌, ap, subst, arith, Result, Ok, Err, IfOk, IfErr, MatchResult, ◌≢◌, Bool, true, false, if◌then◌else◌}
+use Rattle.std.proofs.Common.{◌≡◌, ℕ, suc, ◌+◌, ◌<◌, zero, List, [], ◌∷◌, ◌++◌, length, take, get_or, refl, sym, ◌∙◌, ap, subst, arith, Result, Ok, Err, IfOk, IfErr, MatchResult, ◌≢◌, Bool, true, false}
 use Rattle.std.proofs.lemmas.List.{append-nil, take_more, length-take-le}
 use Rattle.std.specs.FinMap.{empty, entries}
 use Rattle.im_types.specs.declared.fault.Fault.{Fault}
@@ -10,7 +10,6 @@ use Rattle.im_types.specs.Lives.{Shown, nothing_shown}
 use Rattle.im_engine.specs.Kept.{EntriesKept}
 use Rattle.im_drill.specs.declared.store_life.StoreLine.{StoreLine}
 use Rattle.im_drill.specs.declared.store_answers.StoreReply.{StoreReply}
-use Rattle.im_drill.specs.declared.life_answers.Opening.TheVariants as openings
 use Rattle.im_drill.specs.StoreLives.{shown_after, shown_in}
 
 -- one line more
@@ -49,11 +48,6 @@ pub shown_none : (s : Shown) (all : List StoreLine) → shown_in s all [] ≡ s
 shown_none s [] = refl
 shown_none s (line ∷ all) = refl
 
--- an opening that was stopped, or refused for another cause
-pub still_a_store : (stopped : Bool) (fault : Fault) → fault ≢ NotAStore → (if stopped then openings.Stopped else openings.Refused fault) ≢ openings.Refused NotAStore
-still_a_store true fault other is = absurd (cc)
-still_a_store false fault other is = other (cc)
-
 pub not_failed : (failed : Bool) → (failed ≡ true → ⊥) → failed ≡ false
 not_failed true never = absurd (never refl)
 not_failed false never = refl
@@ -61,3 +55,8 @@ not_failed false never = refl
 -- what is shown of an engine that fails just where it did
 pub same_shown : (s : Shown) (failed : Bool) → failed ≡ s.failed → record s { failed = failed } ≡ s
 same_shown s failed is = ap (λ (f : Bool). record s { failed = f }) is
+
+-- why a call of an engine that works was refused
+pub caused : {A : Type 0} (Cause : Fault → Type 0) (failed : Bool) (r : Result A Fault) → IfErr r (λ f. failed ≡ false → Cause f) → failed ≡ false → IfErr r (λ f. Cause f)
+caused Cause failed (Ok a) cause works = tt
+caused Cause failed (Err f) cause works = cause works

@@ -1,5 +1,6 @@
 -- Which lines of a life are answered.
-use Rattle.std.specs.Prelude.{◌≡◌, ◌⊎◌, ℕ, ◌<◌, List, [], ◌∷◌, ◌++◌, length, take}
+use Rattle.std.specs.Prelude.{◌≡◌, ◌≢◌, ◌⊎◌, ℕ, ◌<◌, List, [], ◌∷◌, ◌++◌, length, take}
+use Rattle.im_types.specs.declared.fault.Fault.TheVariants.{NotAStore}
 use Rattle.im_drill.specs.declared.raw_line.RawLine.{RawLine}
 use Rattle.im_drill.specs.declared.raw_line.RawLine.TheVariants as lines
 use Rattle.im_drill.specs.declared.raw_life.RawLife.{RawLife}
@@ -58,3 +59,8 @@ EachAnswered [] [] = Unit {0}
 EachAnswered [] (told ∷ others) = ⊥
 EachAnswered (life ∷ rest) [] = ⊥
 EachAnswered (life ∷ rest) (told ∷ others) = AnsweredBehind told.opening life.lines.items told.replies.items × EachAnswered rest others
+
+-- No opening said that the files are no store.
+abbrev pub AreRawStores : List LifeAnswers → Type 0
+AreRawStores [] = Unit {0}
+AreRawStores (told ∷ others) = (told.opening ≢ openings.Refused NotAStore) × AreRawStores others

@@ -1,10 +1,12 @@
 pub mod Lives
 pub mod Living
+pub mod RawRuns
 pub mod Lines
 pub mod Scripts
 pub mod Reading
 pub mod Answered
 pub mod StoreLives
+pub mod StoreRuns
 pub mod Steps
 pub mod StoreScripts
 pub mod StoreReading

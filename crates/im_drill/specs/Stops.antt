@@ -1,10 +1,16 @@
 -- The stop of a life, as it is armed.
-use Rattle.std.specs.Prelude.{◌≡◌, Option, Some, None}
+use Rattle.std.specs.Prelude.{◌≡◌, ◌≢◌, ◌⊎◌, true, Option, Some, None}
+use Rattle.im_types.specs.declared.fault.Fault.{Fault}
+use Rattle.im_types.specs.declared.file_id.FileId.{FileId}
+use Rattle.im_disk.specs.declared.disk.Disk.{Ghosts}
 use Rattle.im_disk.specs.declared.stop.Stop.{Stop}
 use Rattle.im_disk.specs.declared.stop.Fill.{Fill}
 use Rattle.im_disk.specs.declared.stop.Fill.TheVariants as fills
 use Rattle.im_disk.specs.declared.model_disk.ModelDisk.{ModelDisk}
-use Rattle.im_disk.specs.Model.{IsArmed, armed_of}
+use Rattle.im_disk.specs.Left.{IsLeftBy}
+use Rattle.im_disk.specs.Model.{IsArmed, IsFresh, armed_of, file_of, model_stop, model_stopped}
+use Rattle.im_drill.specs.declared.life_answers.Opening.{Opening}
+use Rattle.im_drill.specs.declared.life_answers.Opening.TheVariants as openings
 
 -- The same fill, which may lie elsewhere in memory.
 abbrev pub IsSameFill : Fill → Fill → Type 0
@@ -22,3 +28,17 @@ pub record IsSameStop (stop other : Stop) : Type 0 where
 abbrev pub IsArmedWith : Option Stop → ModelDisk → ModelDisk → Type 0
 IsArmedWith None old new = new ≡ old
 IsArmedWith (Some stop) old new = (armed : Stop) × IsSameStop stop armed × IsArmed (record (armed_of old) { stop = Some armed }) old new
+
+-- The life's stop fell into a device call. One of call 0 falls into none, and a life without a stop has none.
+abbrev pub HasCome : Option Stop → ModelDisk → Type 0
+HasCome None disk = ⊥
+HasCome (Some stop) disk = (stop.call ≢ 0) × (model_stopped disk ≡ true)
+
+-- What is told of an opening that did not succeed: that the stop fell into it, where it did, or the fault.
+abbrev pub IsOpenedOr : Option Stop → ModelDisk → Opening → Fault → Type 0
+IsOpenedOr stop disk opening fault = (HasCome stop disk × (opening ≡ openings.Stopped)) ⊎ ((HasCome stop disk → ⊥) × (opening ≡ openings.Refused fault))
+
+-- The disk that the stop leaves, byte for byte, begins the next life.
+pub record IsNextDisk (d : Ghosts ModelDisk) (old new : ModelDisk) : Type 0 where
+  pub bytes : (file : FileId) → IsLeftBy (model_stop old) (file_of old file) (d.seen new file)
+  pub fresh : IsFresh new

@@ -1,17 +1,20 @@
 //! Lives over the gate alone, on the model disk.
 
-ghost use Rattle.std.specs.Prelude.{◌≡◌, ◌++◌, ◌∷◌, ◌⊎◌, [], ℕ, List, true, false, is_ok, if◌then◌else◌, IfOk, OnOk};
+ghost use Rattle.std.specs.Prelude.{◌≡◌, ◌≢◌, ◌++◌, ◌∷◌, ◌⊎◌, ◌↔◌, ◌+◌, ◌<◌, ◌^◌, [], ℕ, List, true, false, not, is_ok, length, if◌then◌else◌, IfOk, IfErr, OnOk, Err};
 ghost use Rattle.im_disk.specs.Disk.{Files};
 ghost use Rattle.im_disk.specs.Runs.{IsSynced, Reads};
-ghost use Rattle.im_disk.specs.Model.{model_stopped};
-ghost use Rattle.im_gate.specs.Gate.{IsReady};
+ghost use Rattle.im_types.specs.declared.fault.Fault.TheVariants.{Device, Failed, LogFull, NotAStore};
+ghost use Rattle.im_gate.specs.declared.gate.Gate.{Gate};
+ghost use Rattle.im_gate.specs.Batches.{with_batch};
+ghost use Rattle.im_gate.specs.Gate.{IsReady, logged, place_of, has_failed};
 ghost use Rattle.im_drill.specs.Lives.{StandsFor, Survives, asked_of, acked_of};
 ghost use Rattle.im_drill.specs.Living.{IsLiving};
-ghost use Rattle.im_drill.specs.Stops.{IsArmedWith};
+ghost use Rattle.im_drill.specs.Stops.{IsArmedWith, HasCome, IsOpenedOr};
+ghost use Rattle.im_drill.specs.RawRuns.{IsPutRun, IsRawLineRun, AreRawLinesRun, IsRawLifeRun};
 ghost use Rattle.im_drill.specs.Answered.{IsReply, Answered, AnsweredBehind};
 
 use crate::opening::open_batches;
-use crate::stop::copy_of;
+use crate::stop::{copy_of, has_come};
 use crate::{Batch, LifeAnswers, Opening, RawLife, RawLine, RawReply};
 use im_disk::{Disk, ModelDisk, Stop};
 use im_gate::Gate;
@@ -30,6 +33,8 @@ pub(crate) fn run_life(
 ) -> Result<LifeAnswers, AllocError>
     requires working { ⟦<ModelDisk as Disk>⟧.failed disk.old ≡ false }
     requires synced { IsSynced ⟦<ModelDisk as Disk>⟧ disk.old }
+    ensures run { IfOk result (λ told. IsRawLifeRun ⟦<ModelDisk as Disk>⟧ life.now told disk.old disk.new) }
+    ensures opened { IfOk result (λ told. (before : List (List ℕ)) → StandsFor (⟦<ModelDisk as Disk>⟧.seen disk.old) before → told.opening ≢ Opening.Refused NotAStore) }
     ensures answered { IfOk result (λ told. AnsweredBehind told.opening life.now.lines.items told.replies.items) }
     ensures kept { IfOk result (λ told. (before : List (List ℕ)) → StandsFor (⟦<ModelDisk as Disk>⟧.seen disk.old) before
         → (c : Files) → ⟦<ModelDisk as Disk>⟧.may_leave disk.new c
@@ -39,21 +44,21 @@ pub(crate) fn run_life(
     match open_batches(alloc, disk) {
         Ok((mut gate, _before)) => {
             let opening = Opening::Open(disk.calls());
-            let replies = run_lines(alloc, disk, &mut gate, &life.lines)?;
+            let replies = run_lines(alloc, disk, &mut gate, &life.lines, &life.stop)?;
             Ok(LifeAnswers { opening, replies })
         }
         Err(fault) => Ok(LifeAnswers {
-            opening: refused_opening(disk, fault),
+            opening: refused_opening(disk, &life.stop, fault),
             replies: Vec::new(alloc),
         }),
     }
 }
 
 // What an opening answers that did not succeed.
-pub(crate) fn refused_opening(disk: &ModelDisk, fault: Fault) -> Opening
-    ensures { result ≡ (if model_stopped disk.now then Opening.Stopped else Opening.Refused fault) }
+pub(crate) fn refused_opening(disk: &ModelDisk, stop: &Option<Stop>, fault: Fault) -> Opening
+    ensures { IsOpenedOr stop.now disk.now result fault }
 {
-    if disk.stopped() {
+    if has_come(stop, disk) {
         Opening::Stopped
     } else {
         Opening::Refused(fault)
@@ -86,8 +91,10 @@ fn run_lines(
     disk: &mut ModelDisk,
     gate: &mut Gate,
     lines: &[RawLine],
+    stop: &Option<Stop>,
 ) -> Result<Vec<RawReply>, AllocError>
     requires { IsReady ⟦<ModelDisk as Disk>⟧ gate.old disk.old }
+    ensures run { IfOk result (λ told. (last : Gate) × AreRawLinesRun ⟦<ModelDisk as Disk>⟧ stop.now lines.now told.items gate.old last disk.old disk.new) }
     ensures answered { IfOk result (λ told. Answered lines.now told.items) }
     ensures kept { IfOk result (λ told. (before : List (List ℕ)) → IsLiving ⟦<ModelDisk as Disk>⟧ before [] [] gate.old disk.old
         → (c : Files) → ⟦<ModelDisk as Disk>⟧.may_leave disk.new c
@@ -95,7 +102,7 @@ fn run_lines(
 {
     let mut replies = Vec::new(alloc);
     for line in lines {
-        let reply = run_line(disk, gate, line);
+        let reply = run_line(disk, gate, line, stop);
         replies.push(reply)?;
         if reply == RawReply::Stopped {
             return Ok(replies);
@@ -104,10 +111,10 @@ fn run_lines(
     Ok(replies)
 }
 
-fn run_line(disk: &mut ModelDisk, gate: &mut Gate, line: &RawLine) -> RawReply
+fn run_line(disk: &mut ModelDisk, gate: &mut Gate, line: &RawLine, stop: &Option<Stop>) -> RawReply
     requires { IsReady ⟦<ModelDisk as Disk>⟧ gate.old disk.old }
+    ensures run { IsRawLineRun ⟦<ModelDisk as Disk>⟧ stop.now line.now result gate.old gate.new disk.old disk.new }
     ensures fits { (result ≡ RawReply.Stopped) ⊎ IsReply line.now result }
-    ensures stop { result ≡ RawReply.Stopped → model_stopped disk.new ≡ true }
     ensures ready { IsReady ⟦<ModelDisk as Disk>⟧ gate.new disk.new }
     ensures living { (before asked acked : List (List ℕ)) → IsLiving ⟦<ModelDisk as Disk>⟧ before asked acked gate.old disk.old
         → IsLiving ⟦<ModelDisk as Disk>⟧ before (asked ++ asked_of (line.now ∷ [])) (acked ++ acked_of (line.now ∷ []) (result ∷ [])) gate.new disk.new }
@@ -118,7 +125,7 @@ fn run_line(disk: &mut ModelDisk, gate: &mut Gate, line: &RawLine) -> RawReply
     };
     match put(disk, gate, batch) {
         Ok(()) => RawReply::Put,
-        Err(_) if disk.stopped() => RawReply::Stopped,
+        Err(_) if has_come(stop, disk) => RawReply::Stopped,
         Err(fault) => RawReply::Refused(fault),
     }
 }
@@ -127,6 +134,12 @@ fn run_line(disk: &mut ModelDisk, gate: &mut Gate, line: &RawLine) -> RawReply
 fn put<D: Disk>(disk: &mut D, gate: &mut Gate, batch: &Batch) -> Result<(), Fault>
     requires { IsReady D.Disk gate.old disk.old }
     ensures ready { IsReady D.Disk gate.new disk.new }
+    ensures put { OnOk result (D.tells → logged D.Disk gate.new disk.new ≡ with_batch batch.now.records.items (logged D.Disk gate.old disk.old)) }
+    ensures failed { has_failed gate.new ≡ not (is_ok result) }
+    ensures already { result ≡ Err Failed ↔ (has_failed gate.old ≡ true) }
+    ensures causes { IfErr result (λ e. (e ≡ Failed) ⊎ (e ≡ LogFull) ⊎ (e ≡ Device)) }
+    ensures full { result ≡ Err LogFull ↔ ((has_failed gate.old ≡ false) × (2 ^ 62 < place_of gate.old + 5 + length batch.now.records.items)) }
+    ensures device { has_failed gate.old ≡ false → result ≡ Err Device ↔ (D.failed disk.new ≡ true) }
     ensures living { (before asked acked : List (List ℕ)) → IsLiving D.Disk before asked acked gate.old disk.old
         → IsLiving D.Disk before (asked ++ batch.now.records.items ∷ []) (if is_ok result then acked ++ batch.now.records.items ∷ [] else acked) gate.new disk.new }
 {

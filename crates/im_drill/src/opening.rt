@@ -2,14 +2,15 @@
 
 ghost use Rattle.std.specs.Prelude.{◌≡◌, ◌≢◌, ◌⊎◌, ◌↔◌, ℕ, [], Some, List, true, false, map, IfOk, IfErr, MatchResult};
 ghost use Rattle.im_types.specs.declared.file_id.FileId.TheVariants.{Log};
-ghost use Rattle.im_types.specs.declared.fault.Fault.TheVariants.{Device, LogFull, Memory, NotAStore};
+ghost use Rattle.im_types.specs.declared.fault.Fault.TheVariants.{Device, Memory, NotAStore};
 ghost use Rattle.im_disk.specs.Disk.{Files};
 ghost use Rattle.im_disk.specs.Runs.{IsSynced, Reads};
 ghost use Rattle.im_gate.specs.Gate.{IsReading, IsReady, InOneFile, unread, has_failed};
 ghost use Rattle.im_drill.specs.Lives.{StandsFor};
 ghost use Rattle.im_drill.specs.Living.{IsLiving};
+ghost use Rattle.im_drill.specs.RawRuns.{IsRawLastRun};
 
-use im_disk::Disk;
+use im_disk::{Disk, ModelDisk};
 use im_gate::Gate;
 use im_types::{Fault, FileId};
 use std::alloc::Global;
@@ -17,8 +18,7 @@ use std::alloc::Global;
 /// Opens the log, or makes it where no store was made yet. It answers the closed gate and the batches in front
 /// of it.
 ///
-/// Refused `NotAStore` where the files stand for no batches; `Memory`; `Device`; `LogFull` where the log has more batches
-/// than numbers go. What a stop then leaves stands for the same batches.
+/// Refused `NotAStore` where the files stand for no batches; `Memory`; `Device`. What a stop then leaves stands for the same batches.
 pub fn open_batches<D: Disk>(alloc: Global, disk: &mut D) -> Result<(Gate, Vec<Vec<u8>>), Fault>
     requires working { D.failed disk.old ≡ false }
     requires synced { IsSynced D.Disk disk.old }
@@ -26,7 +26,7 @@ pub fn open_batches<D: Disk>(alloc: Global, disk: &mut D) -> Result<(Gate, Vec<V
     ensures found { IfOk result (λ opened. D.tells → StandsFor (D.seen disk.old) (map (λ batch. batch.items) opened.1.items)) }
     ensures leaves { D.tells → (found : List (List ℕ)) → StandsFor (D.seen disk.old) found → (c : Files) → D.may_leave disk.new c → StandsFor c found }
     ensures refused { result ≡ Err NotAStore → D.tells → (found : List (List ℕ)) → ¬ (StandsFor (D.seen disk.old) found) }
-    ensures causes { IfErr result (λ e. (e ≡ Memory) ⊎ (e ≡ Device) ⊎ (e ≡ NotAStore) ⊎ (e ≡ LogFull)) }
+    ensures causes { IfErr result (λ e. (e ≡ Memory) ⊎ (e ≡ Device) ⊎ (e ≡ NotAStore)) }
     ensures device { result ≡ Err Device ↔ (D.failed disk.new ≡ true) }
 {
     match Gate::open(alloc, disk, FileId::Log)? {
@@ -39,10 +39,11 @@ pub fn open_batches<D: Disk>(alloc: Global, disk: &mut D) -> Result<(Gate, Vec<V
 }
 
 // The batches that an opening finds.
-pub(crate) fn last_batches<D: Disk>(alloc: Global, disk: &mut D) -> Result<Vec<Vec<u8>>, Fault>
-    requires working { D.failed disk.old ≡ false }
-    requires synced { IsSynced D.Disk disk.old }
-    ensures { D.tells → (after : List (List ℕ)) → StandsFor (D.seen disk.old) after
+pub(crate) fn last_batches(alloc: Global, disk: &mut ModelDisk) -> Result<Vec<Vec<u8>>, Fault>
+    requires working { ⟦<ModelDisk as Disk>⟧.failed disk.old ≡ false }
+    requires synced { IsSynced ⟦<ModelDisk as Disk>⟧ disk.old }
+    ensures run { IsRawLastRun ⟦<ModelDisk as Disk>⟧ disk.old result }
+    ensures found { (after : List (List ℕ)) → StandsFor (⟦<ModelDisk as Disk>⟧.seen disk.old) after
         → MatchResult result (λ found. map (λ batch. batch.items) found.items ≡ after) (λ fault. fault ≢ NotAStore) }
 {
     match open_batches(alloc, disk) {
@@ -51,7 +52,7 @@ pub(crate) fn last_batches<D: Disk>(alloc: Global, disk: &mut D) -> Result<Vec<V
     }
 }
 
-// The batches from the gate on, and the gate behind the last.
+// The batches from the gate on, and the gate behind the last. No list has more than numbers go.
 fn read_batches<D: Disk>(
     alloc: Global,
     disk: &mut D,
@@ -64,7 +65,7 @@ fn read_batches<D: Disk>(
     ensures same { IfOk result (λ opened. InOneFile gate opened.0) }
     ensures found { IfOk result (λ opened. D.tells → unread D.Disk gate disk.old ≡ Some (map (λ batch. batch.items) opened.1.items)) }
     ensures refused { result ≡ Err NotAStore → D.tells → unread D.Disk gate disk.old ≡ None }
-    ensures causes { IfErr result (λ e. (e ≡ Memory) ⊎ (e ≡ Device) ⊎ (e ≡ NotAStore) ⊎ (e ≡ LogFull)) }
+    ensures causes { IfErr result (λ e. (e ≡ Memory) ⊎ (e ≡ Device) ⊎ (e ≡ NotAStore)) }
     ensures device { result ≡ Err Device ↔ (D.failed disk.new ≡ true) }
 {
     let mut gate = gate;
@@ -79,5 +80,5 @@ fn read_batches<D: Disk>(
             return Err(Fault::Memory);
         }
     }
-    Err(Fault::LogFull)
+    Err(Fault::Memory)
 }

@@ -1,15 +1,15 @@
 //! The last line of a life.
 
-ghost use Rattle.std.specs.Prelude.{◌≡◌, ◌⊎◌, ℕ, IfOk, IfErr, MatchOption};
+ghost use Rattle.std.specs.Prelude.{◌≡◌, ◌⊎◌, ◌↔◌, ℕ, true, IfOk, IfErr, MatchOption};
 ghost use Rattle.im_types.specs.declared.fault.Fault.TheVariants.{BadScript, Memory};
 ghost use Rattle.im_disk.specs.declared.stop.Fill.{Fill};
 ghost use Rattle.im_disk.specs.declared.stop.Length.{Length};
-ghost use Rattle.im_drill.specs.Stops.{IsSameStop};
+ghost use Rattle.im_drill.specs.Stops.{IsSameStop, HasCome};
 ghost use Rattle.im_drill.specs.Lines.{IsCall, IsLengthWord, IsFillWord};
 
 use crate::digits::bytes_of;
 use crate::number::number_of;
-use im_disk::{Fill, Length, Stop};
+use im_disk::{Fill, Length, ModelDisk, Stop};
 use im_types::Fault;
 use std::alloc::{AllocError, Global};
 
@@ -65,4 +65,14 @@ pub(crate) fn copy_of(alloc: Global, stop: &Stop) -> Result<Stop, AllocError>
         length: stop.length,
         fill,
     })
+}
+
+/// The life's stop fell into a device call.
+pub(crate) fn has_come(stop: &Option<Stop>, disk: &ModelDisk) -> bool
+    ensures { result ≡ true ↔ HasCome stop.now disk.now }
+{
+    match stop {
+        Some(stop) => stop.call != 0 && disk.stopped(),
+        None => false,
+    }
 }

@@ -8,15 +8,20 @@ ghost use Rattle.im_types.specs.Lives.{Lives};
 ghost use Rattle.im_disk.specs.Disk.{both};
 ghost use Rattle.im_engine.specs.Stands.{StandsFor};
 ghost use Rattle.im_drill.specs.StoreLives.{asked_in_each, EachStoreAnswered, AreStores};
+ghost use Rattle.im_drill.specs.StoreRuns.{IsRun};
 
 use crate::store_answers::StoreDrilled;
 use crate::store_lives::{last_entries, run_store_life};
 use crate::store_script::StoreScript;
-use im_disk::ModelDisk;
+use im_disk::{Disk, ModelDisk};
 use std::alloc::{AllocError, Global};
 
 /// Runs the lives of a script on a model disk, each on what the stop of the one before has left, and opens once
 /// more behind the last.
+///
+/// Every answer comes from a call: in each life the stop is armed, an engine is opened with the life's options on the disk that the stop before has
+/// left, and its steps and headers are what the lines answer, up to one into which the stop fell. `Stopped` is told only where the life has a
+/// stop within a device call, and it has come; an opening is refused only for its cause.
 ///
 /// Where the script's files stand for some effects at first, as two empty ones do for none, each life leaves those from before it and
 /// behind them a front of those whose Commit its steps asked, as its own replies show, with all that were acknowledged; the last
@@ -25,6 +30,7 @@ use std::alloc::{AllocError, Global};
 ///
 /// On any bytes, each life has its answers and each of its lines its reply, up to a line into which the stop fell.
 pub fn drill_store(alloc: Global, script: &StoreScript) -> Result<StoreDrilled, AllocError>
+    ensures run { IfOk result (λ told. IsRun ⟦<ModelDisk as Disk>⟧ script.now told) }
     ensures answered { IfOk result (λ told. EachStoreAnswered script.now.lives.items told.lives.items) }
     ensures kept { IfOk result (λ told. (before : List Effect) → StandsFor before (both script.now.log.items [])
         → (after : List Effect) × Lives before (asked_in_each script.now.lives.items told.lives.items) after

@@ -5,39 +5,39 @@ ghost use Rattle.std.specs.FinMap.{empty, entries};
 ghost use Rattle.im_types.specs.declared.fault.Fault.TheVariants.{NotAStore};
 ghost use Rattle.im_types.specs.Changes.{Effect, apply_all};
 ghost use Rattle.im_types.specs.Lives.{Shown, nothing_shown, StandsForMore};
-ghost use Rattle.im_types.specs.declared.reply.Reply.{Reply};
-ghost use Rattle.im_types.specs.declared.step.Step.{Step};
 ghost use Rattle.im_disk.specs.Disk.{Files};
 ghost use Rattle.im_disk.specs.Runs.{IsSynced};
-ghost use Rattle.im_disk.specs.Model.{model_calls, model_stopped};
 ghost use Rattle.im_engine.specs.Stands.{StandsFor, Allowed};
 ghost use Rattle.im_engine.specs.Running.{IsLife};
-ghost use Rattle.im_engine.specs.Checks.{AnswersStep};
 ghost use Rattle.im_drill.specs.declared.store_answers.StoreReply.TheVariants.{Stopped};
 ghost use Rattle.im_drill.specs.Answered.{AnsweredBy};
 ghost use Rattle.im_drill.specs.StoreLives.{asked_in, shown_in, IsConfigOf, LineKept, IsStoreReply, StoreAnswered};
+ghost use Rattle.im_drill.specs.StoreRuns.{IsOpening, IsLifeRun, AreLinesRun, IsLineRun, IsStepRun, IsLookRun, IsLastRun};
 
 use crate::Opening;
 use crate::lives::{arm, refused_opening};
+use crate::stop::has_come;
 use crate::store_answers::{StoreAnswers, StoreReply};
 use crate::store_life::{LifeOptions, StoreLife, StoreLine};
-use im_disk::{Disk, ModelDisk};
+use im_disk::{Disk, ModelDisk, Stop};
 use im_engine::{Config, Engine};
 use im_types::{Fault, Key, PageNo, Rid, Step};
 use std::alloc::{AllocError, Global};
 
 /// Runs one life on the disk, and gives the disk back as it was when the stop came or the lines ended.
 ///
-/// Where the files stood for some effects, whatever a stop then leaves stands for these effects and a front of those whose Commit
-/// the life asked, with all that were acknowledged; and the opening does not say that the files are no store. Each line has its reply,
-/// unless the stop came before or the opening did not succeed.
-pub(crate) fn run_store_life(
+/// The stop is armed, an engine is opened on the disk, and it makes the lines: the answers are its own. Where the files stood for some
+/// effects, whatever a stop then leaves stands for these effects and a front of those whose Commit the life asked, with all that were
+/// acknowledged; and the opening does not say that the files are no store. Each line has its reply, unless the stop came before or the
+/// opening did not succeed.
+pub fn run_store_life(
     alloc: Global,
     disk: ModelDisk,
     life: &StoreLife,
 ) -> Result<(StoreAnswers, ModelDisk), AllocError>
     requires working { ⟦<ModelDisk as Disk>⟧.failed disk ≡ false }
     requires synced { IsSynced ⟦<ModelDisk as Disk>⟧ disk }
+    ensures run { IfOk result (λ run. IsLifeRun ⟦<ModelDisk as Disk>⟧ life.now run.0 disk run.1) }
     ensures answered { IfOk result (λ run. StoreAnswered run.0.opening life.now.lines.items run.0.replies.items) }
     ensures opened { IfOk result (λ run. (before : List Effect) → StandsFor before (⟦<ModelDisk as Disk>⟧.seen disk) → run.0.opening ≢ Opening.Refused NotAStore) }
     ensures kept { IfOk result (λ run. (before : List Effect) → StandsFor before (⟦<ModelDisk as Disk>⟧.seen disk)
@@ -45,20 +45,33 @@ pub(crate) fn run_store_life(
 {
     let mut disk = disk;
     arm(alloc, &mut disk, &life.stop)?;
-    match Engine::open_or_create(alloc, disk, config_of(life.options)) {
+    match open_store(alloc, disk, life.options) {
         Ok(mut engine) => {
             let opening = Opening::Open(engine.disk().calls());
-            let replies = run_store_lines(alloc, &mut engine, &life.lines);
+            let replies = run_store_lines(alloc, &mut engine, &life.lines, &life.stop);
             let disk = engine.into_disk();
             let replies = replies?;
             Ok((StoreAnswers { opening, replies }, disk))
         }
         Err((fault, disk)) => {
-            let opening = refused_opening(&disk, fault);
+            let opening = refused_opening(&disk, &life.stop, fault);
             let replies = Vec::new(alloc);
             Ok((StoreAnswers { opening, replies }, disk))
         }
     }
+}
+
+/// Opens the store of a disk by these options.
+pub fn open_store(
+    alloc: Global,
+    disk: ModelDisk,
+    options: LifeOptions,
+) -> Result<Engine<ModelDisk>, (Fault, ModelDisk)>
+    requires working { ⟦<ModelDisk as Disk>⟧.failed disk ≡ false }
+    requires synced { IsSynced ⟦<ModelDisk as Disk>⟧ disk }
+    ensures { IsOpening ⟦<ModelDisk as Disk>⟧ options disk result }
+{
+    Engine::open_or_create(alloc, disk, config_of(options))
 }
 
 // How an engine is opened by these options.
@@ -81,14 +94,16 @@ fn run_store_lines(
     alloc: Global,
     engine: &mut Engine<ModelDisk>,
     lines: &[StoreLine],
+    stop: &Option<Stop>,
 ) -> Result<Vec<StoreReply>, AllocError>
+    ensures run { IfOk result (λ told. AreLinesRun ⟦<ModelDisk as Disk>⟧ stop.now lines.now told.items engine.old engine.new) }
     ensures answered { IfOk result (λ told. AnsweredBy IsStoreReply Stopped lines.now told.items) }
     ensures kept { IfOk result (λ told. (before : List Effect) → IsLife ⟦<ModelDisk as Disk>⟧ before nothing_shown engine.old
         → (c : Files) → ⟦<ModelDisk as Disk>⟧.may_leave engine.new.disk c → Allowed before (shown_in nothing_shown lines.now told.items) c) }
 {
     let mut replies = Vec::new(alloc);
     for line in lines {
-        let reply = run_store_line(engine, line);
+        let reply = run_store_line(engine, line, stop);
         replies.push(reply)?;
         if is_stopped(reply) {
             return Ok(replies);
@@ -97,30 +112,31 @@ fn run_store_lines(
     Ok(replies)
 }
 
-fn run_store_line(engine: &mut Engine<ModelDisk>, line: &StoreLine) -> StoreReply
+fn run_store_line(
+    engine: &mut Engine<ModelDisk>,
+    line: &StoreLine,
+    stop: &Option<Stop>,
+) -> StoreReply
+    ensures run { IsLineRun ⟦<ModelDisk as Disk>⟧ stop.now line.now result engine.old engine.new }
     ensures fits { (result ≡ Stopped) ⊎ IsStoreReply line.now result }
-    ensures stopped { line.now ≢ StoreLine.Calls → (result ≡ Stopped ↔ model_stopped engine.new.disk ≡ true) }
-    ensures calls { line.now ≡ StoreLine.Calls → (result ≡ StoreReply.Calls (model_calls engine.old.disk)) × (engine.new ≡ engine.old) }
-    ensures tells { (step : Step) (reply : Reply) → line.now ≡ StoreLine.Step step → result ≡ StoreReply.Step reply → AnswersStep ⟦<ModelDisk as Disk>⟧ step reply engine.old engine.new }
     ensures kept { (before : List Effect) (s : Shown) → IsLife ⟦<ModelDisk as Disk>⟧ before s engine.old
         → LineKept ⟦<ModelDisk as Disk>⟧ before s line.now result engine.new }
 {
     match line {
         StoreLine::Calls => StoreReply::Calls(engine.disk().calls()),
-        StoreLine::Step(step) => run_step(engine, step),
-        StoreLine::Page(page) => look_at(engine, *page),
+        StoreLine::Step(step) => run_step(engine, step, stop),
+        StoreLine::Page(page) => look_at(engine, *page, stop),
     }
 }
 
-fn run_step(engine: &mut Engine<ModelDisk>, step: &Step) -> StoreReply
+fn run_step(engine: &mut Engine<ModelDisk>, step: &Step, stop: &Option<Stop>) -> StoreReply
+    ensures run { IsStepRun ⟦<ModelDisk as Disk>⟧ stop.now step.now result engine.old engine.new }
     ensures fits { (result ≡ Stopped) ⊎ IsStoreReply (StoreLine.Step step.now) result }
-    ensures stopped { result ≡ Stopped ↔ model_stopped engine.new.disk ≡ true }
-    ensures tells { (reply : Reply) → result ≡ StoreReply.Step reply → AnswersStep ⟦<ModelDisk as Disk>⟧ step.now reply engine.old engine.new }
     ensures kept { (before : List Effect) (s : Shown) → IsLife ⟦<ModelDisk as Disk>⟧ before s engine.old
         → LineKept ⟦<ModelDisk as Disk>⟧ before s (StoreLine.Step step.now) result engine.new }
 {
     let reply = engine.step(step);
-    if engine.disk().stopped() {
+    if has_come(stop, engine.disk()) {
         StoreReply::Stopped
     } else {
         StoreReply::Step(reply)
@@ -128,14 +144,14 @@ fn run_step(engine: &mut Engine<ModelDisk>, step: &Step) -> StoreReply
 }
 
 // What a page is for.
-fn look_at(engine: &mut Engine<ModelDisk>, page: PageNo) -> StoreReply
+fn look_at(engine: &mut Engine<ModelDisk>, page: PageNo, stop: &Option<Stop>) -> StoreReply
+    ensures run { IsLookRun ⟦<ModelDisk as Disk>⟧ stop.now page result engine.old engine.new }
     ensures fits { (result ≡ Stopped) ⊎ IsStoreReply (StoreLine.Page page) result }
-    ensures stopped { result ≡ Stopped ↔ model_stopped engine.new.disk ≡ true }
     ensures kept { (before : List Effect) (s : Shown) → IsLife ⟦<ModelDisk as Disk>⟧ before s engine.old
         → LineKept ⟦<ModelDisk as Disk>⟧ before s (StoreLine.Page page) result engine.new }
 {
     let header = engine.header(page);
-    if engine.disk().stopped() {
+    if has_come(stop, engine.disk()) {
         return StoreReply::Stopped;
     }
     match header {
@@ -155,10 +171,15 @@ fn is_stopped(reply: StoreReply) -> bool
 pub(crate) fn last_entries(alloc: Global, disk: ModelDisk) -> Result<Vec<(Key, Rid)>, Fault>
     requires working { ⟦<ModelDisk as Disk>⟧.failed disk ≡ false }
     requires synced { IsSynced ⟦<ModelDisk as Disk>⟧ disk }
-    ensures { (after : List Effect) → StandsFor after (⟦<ModelDisk as Disk>⟧.seen disk)
+    ensures run { IsLastRun ⟦<ModelDisk as Disk>⟧ disk result }
+    ensures found { (after : List Effect) → StandsFor after (⟦<ModelDisk as Disk>⟧.seen disk)
         → MatchResult result (λ found. found.items ≡ entries (apply_all empty after)) (λ fault. fault ≢ NotAStore) }
 {
-    match Engine::open_or_create(alloc, disk, Config::default()) {
+    let options = LifeOptions {
+        frames: None,
+        max_pages: None,
+    };
+    match open_store(alloc, disk, options) {
         Ok(mut engine) => {
             let entries = engine.entries(alloc);
             let _disk = engine.into_disk();

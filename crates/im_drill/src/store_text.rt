@@ -16,7 +16,7 @@ use std::io;
 use std::io::Write;
 
 /// A `raw` line stands in the script, and no `life` line in front of it.
-pub(crate) fn is_raw(text: &[u8]) -> bool
+pub fn is_raw(text: &[u8]) -> bool
     ensures { result ≡ true ↔ IsRaw (lines_of text.now) }
 {
     let mut left = Some(text);

@@ -3,7 +3,8 @@ use Rattle.im_disk.specs.contracts.model_disk.ModelDiskDisk.TheImpl.{ghosts}
 use Rattle.im_disk.specs.Disk.{both}
 use Rattle.im_disk.specs.Runs.{IsSynced}
 use Rattle.im_drill.specs.Lives.{StandsFor, Lives}
-use Rattle.im_drill.specs.Answered.{EachAnswered}
+use Rattle.im_drill.specs.Answered.{EachAnswered, AreRawStores}
+use Rattle.im_drill.specs.RawRuns.{AreRawLivesRun}
 use Rattle.im_drill.proofs.drilling.drill.Given as goal
 
 -- the lives so far, and what the last of them has left
@@ -11,6 +12,8 @@ abbrev pub invariant-loop-life : goal.invariant-loop-life
 invariant-loop-life l = record {
   working : ghosts.failed l.disk ≡ false;
   synced : IsSynced ghosts l.disk;
+  run : AreRawLivesRun ghosts (take l.life-index l.script.lives.items) l.lives.items l.initial.disk l.disk;
   answered : EachAnswered (take l.life-index l.script.lives.items) l.lives.items;
+  stores : (before : List (List ℕ)) → StandsFor (both l.script.log.items []) before → AreRawStores l.lives.items;
   kept : (before : List (List ℕ)) → StandsFor (both l.script.log.items []) before → (mid : List (List ℕ)) × StandsFor (ghosts.seen l.disk) mid × Lives (take l.life-index l.script.lives.items) l.lives.items before mid;
 }

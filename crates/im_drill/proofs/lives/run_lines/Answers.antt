@@ -9,11 +9,26 @@ use Rattle.im_drill.specs.declared.raw_line.RawLine.{RawLine}
 use Rattle.im_drill.specs.declared.life_answers.RawReply.TheVariants as replies
 use Rattle.im_drill.specs.Answered.{IsReply, Replied}
 use Rattle.im_drill.proofs.Replied.{replied_push}
+use Rattle.im_drill.specs.RawRuns.{AreRawLinesRun}
+use Rattle.im_drill.proofs.RawRunning.{no_raw_line_run, raw_lines_run_push}
 use Rattle.im_drill.proofs.Acked.{one_more_line, whole_life}
 use Rattle.im_drill.proofs.lives.run_lines.Goals as goal
 
+pub loop-line-init : goal.loop-line-init
+loop-line-init c = record {
+  run = subst (λ (l : List RawReply). AreRawLinesRun ghosts c.args.stop.now c.args.lines.now l c.args.gate.now c.args.gate.now c.args.disk.now c.args.disk.now) (sym c.new-replies.ensures.items)
+      (no_raw_line_run ghosts c.args.stop.now c.args.lines.now c.args.gate.now c.args.disk.now);
+  ready = c.requires;
+  replied = subst (λ (l : List RawReply). Replied [] l) (sym c.new-replies.ensures.items) tt;
+  count = ap length c.new-replies.ensures.items;
+  living = λ before living. subst (λ (l : List RawReply). IsLiving ghosts before [] (acked_of [] l) c.args.gate.now c.args.disk.now) (sym c.new-replies.ensures.items) living;
+}
+
 pub loop-line-preserved : goal.loop-line-preserved
 loop-line-preserved c = record {
+  run = subst (λ (l : List RawReply). AreRawLinesRun ghosts c.args.stop.now c.args.lines.now l c.args.gate.now c.run_line-reply.new.gate c.args.disk.now c.run_line-reply.new.disk) (sym c.in_ok-push.ensures.items)
+      (raw_lines_run_push ghosts c.args.stop.now c.args.lines.now c.loop-line.replies.items c.loop-line.line-index c.line-item.result c.run_line-reply.result c.args.gate.now c.loop-line.gate c.run_line-reply.new.gate c.args.disk.now c.loop-line.disk
+      c.run_line-reply.new.disk c.line-item.is c.loop-line.invariant.count c.loop-line-test.true c.loop-line.invariant.run c.run_line-reply.ensures.run);
   ready = c.run_line-reply.ensures.ready;
   replied =
       let some : ¬ (c.run_line-reply.result ≡ replies.Stopped) = grind (arith, common_steps) in
@@ -29,6 +44,14 @@ loop-line-preserved c = record {
       (one_more_line (λ a k. IsLiving ghosts before a k c.run_line-reply.new.gate c.run_line-reply.new.disk) c.args.lines.now c.loop-line.line-index c.loop-line.replies.items c.line-item.result c.run_line-reply.result c.line-item.is c.loop-line.invariant.count c.loop-line-test.true
       (c.run_line-reply.ensures.living before (asked_of (take c.loop-line.line-index c.args.lines.now)) (acked_of (take c.loop-line.line-index c.args.lines.now) c.loop-line.replies.items) (c.loop-line.invariant.living before living)));
 }
+
+pub returns-then-eq-clause-run : goal.returns-then-eq-clause-run
+returns-then-eq-clause-run c = (
+  c.run_line-reply.new.gate,
+  subst (λ (l : List RawReply). AreRawLinesRun ghosts c.args.stop.now c.args.lines.now l c.args.gate.now c.run_line-reply.new.gate c.args.disk.now c.run_line-reply.new.disk) (sym c.in_ok-push.ensures.items)
+      (raw_lines_run_push ghosts c.args.stop.now c.args.lines.now c.loop-line.replies.items c.loop-line.line-index c.line-item.result c.run_line-reply.result c.args.gate.now c.loop-line.gate c.run_line-reply.new.gate c.args.disk.now c.loop-line.disk
+      c.run_line-reply.new.disk c.line-item.is c.loop-line.invariant.count c.loop-line-test.true c.loop-line.invariant.run c.run_line-reply.ensures.run),
+)
 
 pub returns-then-eq-clause-kept : goal.returns-then-eq-clause-kept
 returns-then-eq-clause-kept c before living files left =

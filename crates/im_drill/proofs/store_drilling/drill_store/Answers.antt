@@ -8,6 +8,8 @@ use Rattle.im_engine.specs.Stands.{StandsFor}
 use Rattle.im_drill.specs.declared.store_life.StoreLife.{StoreLife}
 use Rattle.im_drill.specs.declared.store_answers.StoreAnswers.{StoreAnswers}
 use Rattle.im_drill.specs.StoreLives.{asked_in_each, EachStoreAnswered, AreStores}
+use Rattle.im_drill.specs.StoreRuns.{AreLivesRun}
+use Rattle.im_drill.proofs.StoreRunning.{lives_run_push}
 use Rattle.im_drill.proofs.StoreAsked.{store_lives_push, store_answered_push, stores_push}
 use Rattle.im_drill.proofs.store_drilling.drill_store.Goals as goal
 
@@ -15,6 +17,7 @@ pub loop-life-init : goal.loop-life-init
 loop-life-init c = record {
   working = c.new-disk.ensures.working;
   synced = c.new-disk.ensures.synced;
+  run = subst (λ (l : List StoreAnswers). AreLivesRun ghosts [] l c.new-disk.result c.new-disk.result) (sym c.new-lives.ensures.items) refl;
   answered = subst (λ (l : List StoreAnswers). EachStoreAnswered [] l) (sym c.new-lives.ensures.items) tt;
   kept = λ before stands.
       let log = c.in_ok-log.ensures.items ∙ c.deref.ensures.value in
@@ -36,6 +39,11 @@ loop-life-preserved c =
     record {
       working = c.in-Ok.ensures.working;
       synced = c.in-Ok.ensures.synced;
+      run =
+          subst (λ (l : List StoreLife). AreLivesRun ghosts l c.push.new.self.items c.new-disk.result c.in-Ok.left) (sym more)
+          (subst (λ (l : List StoreAnswers). AreLivesRun ghosts (take i all ++ c.life-item.result ∷ []) l c.new-disk.result c.in-Ok.left) (sym c.in_ok-push.ensures.items)
+          (lives_run_push ghosts (take i all) c.loop-life.lives.items c.life-item.result c.in_ok-told.told c.new-disk.result c.loop-life.disk c.in_ok-told.after c.in-Ok.left c.loop-life.invariant.run c.in_ok-told.ensures.run
+          (record { bytes = c.in-Ok.ensures.bytes; fresh = c.in-Ok.ensures.fresh })));
       answered =
           subst (λ (l : List StoreLife). EachStoreAnswered l c.push.new.self.items) (sym more)
           (subst (λ (l : List StoreAnswers). EachStoreAnswered (take i all ++ c.life-item.result ∷ []) l) (sym c.in_ok-push.ensures.items)
@@ -59,9 +67,22 @@ pub returns-clause-kept : goal.returns-clause-kept
 returns-clause-kept c before stands =
     let k = c.loop-life.invariant.kept before stands in
     let all : take c.loop-life.life-index c.args.script.now.lives.items ≡ c.args.script.now.lives.items = grind (arith, common_steps) in
-    (k.0, subst (λ (l : List StoreLife). Lives before (asked_in_each l c.loop-life.lives.items) k.0) all k.2, c.last_entries-last.ensures k.0 k.1)
+    (k.0, subst (λ (l : List StoreLife). Lives before (asked_in_each l c.loop-life.lives.items) k.0) all k.2, c.last_entries-last.ensures.found k.0 k.1)
 
 pub returns-clause-answered : goal.returns-clause-answered
 returns-clause-answered c =
     let all : take c.loop-life.life-index c.args.script.now.lives.items ≡ c.args.script.now.lives.items = grind (arith, common_steps) in
     subst (λ (l : List StoreLife). EachStoreAnswered l c.loop-life.lives.items) all c.loop-life.invariant.answered
+
+pub returns-clause-run : goal.returns-clause-run
+returns-clause-run c =
+    let all : take c.loop-life.life-index c.args.script.now.lives.items ≡ c.args.script.now.lives.items = grind (arith, common_steps) in
+    let log = c.in_ok-log.ensures.items ∙ c.deref.ensures.value in
+    record {
+      first = c.new-disk.result;
+      fresh = c.new-disk.ensures.fresh;
+      seen = c.new-disk.ensures.seen ∙ ap (λ (l : List ℕ). both l c.new.result.items) log ∙ ap (λ (l : List ℕ). both c.args.script.now.log.items l) c.new.ensures.items;
+      end = c.loop-life.disk;
+      lives = subst (λ (l : List StoreLife). AreLivesRun ghosts l c.loop-life.lives.items c.new-disk.result c.loop-life.disk) all c.loop-life.invariant.run;
+      last = c.last_entries-last.ensures.run;
+    }

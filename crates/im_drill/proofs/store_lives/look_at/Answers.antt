@@ -1,8 +1,12 @@
-use Rattle.std.proofs.Common.{◌≡◌, Bool, false, refl, inl, sym, ◌∙◌, subst}
+use Rattle.std.proofs.Common.{◌≡◌, Bool, true, false, refl, inl, inr, sym, ◌∙◌, subst}
 use Rattle.im_types.specs.Lives.{Shown}
 use Rattle.im_disk.specs.contracts.model_disk.ModelDiskDisk.TheImpl.{ghosts}
 use Rattle.im_engine.specs.Stands.{Allowed}
 use Rattle.im_engine.specs.Running.{IsLife}
+use Rattle.im_disk.specs.declared.model_disk.ModelDisk.{ModelDisk}
+use Rattle.im_drill.specs.declared.store_answers.StoreReply.TheVariants as replies
+use Rattle.im_drill.specs.Stops.{HasCome}
+use Rattle.im_drill.proofs.StoreRunning.{look_run}
 use Rattle.im_drill.proofs.StoreShown.{not_failed, same_shown}
 use Rattle.im_drill.proofs.store_lives.look_at.Goals as goal
 
@@ -18,8 +22,8 @@ returns-in-Ok-clause-kept c before s life =
       stops = λ files left. subst (λ (t : Shown). Allowed before t files) same (k.after.stops files left);
     }
 
-pub returns-then-stopped-clause-kept : goal.returns-then-stopped-clause-kept
-returns-then-stopped-clause-kept c before s life =
+pub returns-then-has_come-clause-kept : goal.returns-then-has_come-clause-kept
+returns-then-has_come-clause-kept c before s life =
     let k = c.header-header.ensures.kept before s life in
     record { after = λ no. absurd (no refl); stops = λ files left. k.stops.each tt files (inl left) }
 
@@ -32,3 +36,31 @@ returns-in-Err-clause-kept c before s life =
       after = λ going. subst (λ (failed : Bool). IsLife ghosts before (record s { failed = failed }) new) breaks k.after;
       stops = λ files left. subst (λ (failed : Bool). Allowed before (record s { failed = failed }) files) breaks (k.after.stops files left);
     }
+
+pub returns-then-has_come-clause-run : goal.returns-then-has_come-clause-run
+returns-then-has_come-clause-run c =
+    let e = c.header-header.ensures in
+    look_run ghosts c.args.stop.now c.args.page replies.Stopped c.args.engine.now c.header-header.new.self c.header-header.result e.header e.cause e.kept
+    (inl (subst (λ (disk : ModelDisk). HasCome c.args.stop.now disk) c.disk.ensures (c.has_come.ensures.0 c.if-has_come.true), refl))
+
+pub returns-in-Ok-clause-run : goal.returns-in-Ok-clause-run
+returns-in-Ok-clause-run c =
+    let e = c.header-header.ensures in
+    look_run ghosts c.args.stop.now c.args.page (replies.Page c.args.page c.in-Ok.header) c.args.engine.now c.header-header.new.self c.header-header.result e.header e.cause e.kept
+    (inr (
+      (λ come.
+          let yes : c.has_come.result ≡ true = c.has_come.ensures.1 (subst (λ (disk : ModelDisk). HasCome c.args.stop.now disk) (sym c.disk.ensures) come) in
+          let no = c.if-has_come.false in absurd (cc)),
+      rw c.in-Ok.is refl,
+    ))
+
+pub returns-in-Err-clause-run : goal.returns-in-Err-clause-run
+returns-in-Err-clause-run c =
+    let e = c.header-header.ensures in
+    look_run ghosts c.args.stop.now c.args.page (replies.Refused c.in-Err.fault) c.args.engine.now c.header-header.new.self c.header-header.result e.header e.cause e.kept
+    (inr (
+      (λ come.
+          let yes : c.has_come.result ≡ true = c.has_come.ensures.1 (subst (λ (disk : ModelDisk). HasCome c.args.stop.now disk) (sym c.disk.ensures) come) in
+          let no = c.if-has_come.false in absurd (cc)),
+      rw c.in-Err.is refl,
+    ))

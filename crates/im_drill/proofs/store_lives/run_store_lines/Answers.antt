@@ -10,8 +10,18 @@ use Rattle.im_drill.specs.declared.store_answers.StoreReply.TheVariants.{Stopped
 use Rattle.im_drill.specs.Answered.{RepliedBy}
 use Rattle.im_drill.specs.StoreLives.{shown_in, IsStoreReply}
 use Rattle.im_drill.proofs.Replied.{replied_push}
+use Rattle.im_drill.specs.StoreRuns.{AreLinesRun}
 use Rattle.im_drill.proofs.StoreShown.{shown_to, shown_whole}
+use Rattle.im_drill.proofs.StoreRunning.{no_line_run, lines_run_push}
 use Rattle.im_drill.proofs.store_lives.run_store_lines.Goals as goal
+
+pub loop-line-init : goal.loop-line-init
+loop-line-init c = record {
+  replied = subst (λ (l : List StoreReply). RepliedBy IsStoreReply [] l) (sym c.new-replies.ensures.items) tt;
+  count = ap length c.new-replies.ensures.items;
+  run = subst (λ (l : List StoreReply). AreLinesRun ghosts c.args.stop.now c.args.lines.now l c.args.engine.now c.args.engine.now) (sym c.new-replies.ensures.items) (no_line_run ghosts c.args.stop.now c.args.lines.now c.args.engine.now);
+  life = λ before living. subst (λ (l : List StoreReply). IsLife ghosts before (shown_in nothing_shown [] l) c.args.engine.now) (sym c.new-replies.ensures.items) living;
+}
 
 pub loop-line-preserved : goal.loop-line-preserved
 loop-line-preserved c =
@@ -28,6 +38,10 @@ loop-line-preserved c =
           (subst (λ (l : List StoreReply). RepliedBy IsStoreReply (take i all ++ c.line-item.result ∷ []) l) (sym c.in_ok-push.ensures.items)
           (replied_push IsStoreReply (take i all) told c.line-item.result reply c.loop-line.invariant.replied fits));
       count = ap length c.in_ok-push.ensures.items ∙ length-append told (reply ∷ []) ∙ ap (λ (n : ℕ). n + 1) c.loop-line.invariant.count;
+      run =
+          subst (λ (l : List StoreReply). AreLinesRun ghosts c.args.stop.now all l c.args.engine.now c.run_store_line-reply.new.engine) (sym c.in_ok-push.ensures.items)
+          (lines_run_push ghosts c.args.stop.now all told i c.line-item.result reply c.args.engine.now c.loop-line.engine c.run_store_line-reply.new.engine c.line-item.is c.loop-line.invariant.count c.loop-line-test.true
+          c.loop-line.invariant.run c.run_store_line-reply.ensures.run);
       life = λ before living.
           let k = c.run_store_line-reply.ensures.kept before (shown_in nothing_shown (take i all) told) (c.loop-line.invariant.life before living) in
           subst (λ (s : Shown). IsLife ghosts before s c.run_store_line-reply.new.engine)
@@ -45,6 +59,14 @@ returns-then-is_stopped-clause-answered c =
       replied = c.loop-line.invariant.replied;
       is = c.in_ok-push.ensures.items ∙ ap (λ (reply : StoreReply). c.loop-line.replies.items ++ reply ∷ []) stopped;
     })
+
+pub returns-then-is_stopped-clause-run : goal.returns-then-is_stopped-clause-run
+returns-then-is_stopped-clause-run c =
+    let told = c.loop-line.replies.items in
+    let reply = c.run_store_line-reply.result in
+    subst (λ (l : List StoreReply). AreLinesRun ghosts c.args.stop.now c.args.lines.now l c.args.engine.now c.run_store_line-reply.new.engine) (sym c.in_ok-push.ensures.items)
+    (lines_run_push ghosts c.args.stop.now c.args.lines.now told c.loop-line.line-index c.line-item.result reply c.args.engine.now c.loop-line.engine c.run_store_line-reply.new.engine c.line-item.is c.loop-line.invariant.count c.loop-line-test.true
+    c.loop-line.invariant.run c.run_store_line-reply.ensures.run)
 
 pub returns-then-is_stopped-clause-kept : goal.returns-then-is_stopped-clause-kept
 returns-then-is_stopped-clause-kept c before living files left =

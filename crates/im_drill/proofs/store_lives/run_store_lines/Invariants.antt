@@ -5,6 +5,7 @@ use Rattle.im_disk.specs.contracts.model_disk.ModelDiskDisk.TheImpl.{ghosts}
 use Rattle.im_engine.specs.Running.{IsLife}
 use Rattle.im_drill.specs.Answered.{RepliedBy}
 use Rattle.im_drill.specs.StoreLives.{shown_in, IsStoreReply}
+use Rattle.im_drill.specs.StoreRuns.{AreLinesRun}
 use Rattle.im_drill.proofs.store_lives.run_store_lines.Given as goal
 
 -- each line so far was answered, and the life goes on
@@ -12,5 +13,6 @@ abbrev pub invariant-loop-line : goal.invariant-loop-line
 invariant-loop-line l = record {
   replied : RepliedBy IsStoreReply (take l.line-index l.lines) l.replies.items;
   count : length l.replies.items ≡ l.line-index;
+  run : AreLinesRun ghosts l.stop l.lines l.replies.items l.fn.engine l.engine;
   life : (before : List Effect) → IsLife ghosts before nothing_shown l.fn.engine → IsLife ghosts before (shown_in nothing_shown (take l.line-index l.lines) l.replies.items) l.engine;
 }

@@ -1,0 +1,17 @@
+use Rattle.std.proofs.Common.{false}
+use Rattle.im_disk.specs.contracts.model_disk.ModelDiskDisk.TheImpl.{ghosts}
+use Rattle.im_drill.proofs.StoreRunning.{opened_as}
+use Rattle.im_drill.proofs.store_lives.open_store.Goals as goal
+
+pub returns : goal.returns
+returns c =
+    let e = c.open_or_create.ensures in
+    record {
+      config = c.config_of.result;
+      of = c.config_of.ensures;
+      kept = λ before stands. e.kept before tt c.requires.synced stands;
+      opened = opened_as ghosts c.config_of.result.max_pages c.open_or_create.result e.opened e.limit;
+      frames = e.frames;
+      device = e.device;
+      causes = e.causes;
+    }

@@ -1,0 +1,120 @@
+-- Lives of a store in a script, as engines run them: which calls the answers come from, and on which disks.
+use Rattle.std.specs.Prelude.{◌≡◌, ◌⊎◌, ◌↔◌, ◌<◌, ℕ, true, false, List, [], ◌∷◌, Option, Some, None, Result, Ok, Err, IfOk, IfErr, MatchResult}
+use Rattle.std.specs.Global.{Vec}
+use Rattle.std.specs.Result.{IsErrAnd}
+use Rattle.im_types.specs.declared.fault.Fault.{Fault}
+use Rattle.im_types.specs.declared.fault.Fault.TheVariants.{Memory, Device, LogFull, NotAStore, PoolSize, Capacity}
+use Rattle.im_types.specs.declared.step.Step.{Step}
+use Rattle.im_types.specs.declared.reply.Reply.{Reply}
+use Rattle.im_types.specs.Changes.{Effect}
+use Rattle.im_types.specs.Lives.{Shown}
+use Rattle.im_types.specs.Pages.{Entry}
+use Rattle.im_disk.specs.declared.disk.Disk.{Ghosts}
+use Rattle.im_disk.specs.declared.model_disk.ModelDisk.{ModelDisk}
+use Rattle.im_disk.specs.declared.stop.Stop.{Stop}
+use Rattle.im_disk.specs.Disk.{both}
+use Rattle.im_disk.specs.Model.{IsFresh, model_calls}
+use Rattle.im_pool.specs.Pool.{page_at}
+use Rattle.im_engine.specs.declared.config.Config.{Config}
+use Rattle.im_engine.specs.declared.header.Header.{Header}
+use Rattle.im_engine.specs.declared.engine.Engine.{Engine}
+use Rattle.im_engine.specs.Changes.{header_of}
+use Rattle.im_engine.specs.Checks.{Where, HasCause}
+use Rattle.im_engine.specs.Kept.{OpenKept, LookKept, disk_of}
+use Rattle.im_engine.specs.Running.{IsLife}
+use Rattle.im_engine.specs.Stands.{StandsFor}
+use Rattle.im_engine.specs.Turns.{IsStep}
+use Rattle.im_drill.specs.declared.life_answers.Opening.TheVariants as openings
+use Rattle.im_drill.specs.declared.store_life.StoreLine.{StoreLine}
+use Rattle.im_drill.specs.declared.store_life.StoreLine.TheVariants as lines
+use Rattle.im_drill.specs.declared.store_life.LifeOptions.{LifeOptions}
+use Rattle.im_drill.specs.declared.store_life.StoreLife.{StoreLife}
+use Rattle.im_drill.specs.declared.store_script.StoreScript.{StoreScript}
+use Rattle.im_drill.specs.declared.store_answers.StoreReply.{StoreReply}
+use Rattle.im_drill.specs.declared.store_answers.StoreReply.TheVariants as replies
+use Rattle.im_drill.specs.declared.store_answers.StoreAnswers.{StoreAnswers}
+use Rattle.im_drill.specs.declared.store_answers.StoreDrilled.{StoreDrilled}
+use Rattle.im_drill.specs.Stops.{IsArmedWith, HasCome, IsNextDisk, IsOpenedOr}
+use Rattle.im_drill.specs.StoreLives.{IsConfigOf}
+
+-- a life whose options are left out
+abbrev pub no_options : LifeOptions
+no_options = record { frames = None; max_pages = None }
+
+module _ (d : Ghosts ModelDisk) where
+  -- A step was made by the engine, and its reply is the engine's, unless the stop fell into it.
+  pub record IsStepRun (stop : Option Stop) (step : Step) (told : StoreReply) (old new : Engine ModelDisk d) : Type 0 where
+    pub reply : Reply
+    pub made : IsStep d step reply old new
+    pub says : Where (HasCome stop new.disk) (told ≡ replies.Stopped) (told ≡ replies.Step reply)
+
+  -- The engine was asked what a page is for, and what is told is its answer, unless the stop fell into it.
+  pub record IsLookRun (stop : Option Stop) (page : ℕ) (told : StoreReply) (old new : Engine ModelDisk d) : Type 0 where
+    pub header : Result Header Fault
+    pub shows : IfOk header (λ h. h ≡ header_of (page_at new.writer.pool page))
+    pub refused : IfErr header (λ f. old.failed ≡ false → HasCause d new.writer.log new.disk f)
+    pub kept : (before : List Effect) (s : Shown) → IsLife d before s old → LookKept d before s old new
+    pub says : Where (HasCome stop new.disk) (told ≡ replies.Stopped) (MatchResult header (λ h. told ≡ replies.Page page h) (λ f. told ≡ replies.Refused f))
+
+  -- A line was run by the engine. `calls` counts the device calls so far.
+  abbrev pub IsLineRun : Option Stop → StoreLine → StoreReply → Engine ModelDisk d → Engine ModelDisk d → Type 0
+  IsLineRun stop (lines.Step step) told old new = IsStepRun stop step told old new
+  IsLineRun stop (lines.Page page) told old new = IsLookRun stop page told old new
+  IsLineRun stop lines.Calls told old new = (told ≡ replies.Calls (model_calls old.disk)) × (new ≡ old)
+
+  -- The lines that have replies were run in turn, each by the engine that the one before it left.
+  abbrev pub AreLinesRun : Option Stop → List StoreLine → List StoreReply → Engine ModelDisk d → Engine ModelDisk d → Type 0
+  AreLinesRun stop [] [] old new = new ≡ old
+  AreLinesRun stop (line ∷ rest) [] old new = new ≡ old
+  AreLinesRun stop (line ∷ rest) (told ∷ others) old new = (mid : Engine ModelDisk d) × IsLineRun stop line told old mid × AreLinesRun stop rest others mid new
+  AreLinesRun stop [] (told ∷ others) old new = ⊥
+
+  -- What an engine that is opened with these options answers. It is refused only for want of memory, by the disk, because the files are no store,
+  -- for want of room in the log or of page numbers, or by the number of its frames, and by these exactly where they are too few or too many.
+  pub record IsOpening (options : LifeOptions) (old : ModelDisk) (result : Result (Engine ModelDisk d) (Fault × ModelDisk)) : Type 0 where
+    pub config : Config
+    pub of : IsConfigOf options config
+    pub kept : (before : List Effect) (stands : StandsFor before (d.seen old)) → OpenKept d before old stands result
+    pub opened : IfOk result (λ e. (e.failed ≡ false) × (e.going ≡ None) × (e.max_pages ≡ config.max_pages))
+    pub frames : IsErrAnd result (λ x. x.0 ≡ PoolSize) ↔ ((config.frames < 8) ⊎ (1024 < config.frames))
+    pub device : IsErrAnd result (λ x. x.0 ≡ Device) ↔ (d.failed (disk_of d result) ≡ true)
+    pub causes : IfErr result (λ x. (x.0 ≡ PoolSize) ⊎ (x.0 ≡ Memory) ⊎ (x.0 ≡ Device) ⊎ (x.0 ≡ NotAStore) ⊎ (x.0 ≡ LogFull) ⊎ (x.0 ≡ Capacity))
+
+  -- The answers of a life whose opening came out so: its number of device calls, and the replies of its lines; or why there is no engine, and no reply.
+  abbrev pub AreAnswersOf : Option Stop → List StoreLine → StoreAnswers → ModelDisk → Result (Engine ModelDisk d) (Fault × ModelDisk) → Type 0
+  AreAnswersOf stop all told new (Ok e) = (told.opening ≡ openings.Open (model_calls e.disk)) × (last : Engine ModelDisk d) × AreLinesRun stop all told.replies.items e last × (new ≡ last.disk)
+  AreAnswersOf stop all told new (Err x) = IsOpenedOr stop x.1 told.opening x.0 × (told.replies.items ≡ []) × (new ≡ x.1)
+
+  -- A life was run: its stop was armed, an engine was opened on the disk, and it made the lines.
+  pub record IsLifeRun (life : StoreLife) (told : StoreAnswers) (old new : ModelDisk) : Type 0 where
+    pub armed : ModelDisk
+    pub arms : IsArmedWith life.stop old armed
+    pub result : Result (Engine ModelDisk d) (Fault × ModelDisk)
+    pub opening : IsOpening life.options armed result
+    pub answers : AreAnswersOf life.stop life.lines.items told new result
+
+  -- The lives were run in turn, each on what the stop of the one before it left.
+  abbrev pub AreLivesRun : List StoreLife → List StoreAnswers → ModelDisk → ModelDisk → Type 0
+  AreLivesRun [] [] old new = new ≡ old
+  AreLivesRun (life ∷ rest) (told ∷ others) old new = (left : ModelDisk) × (next : ModelDisk) × IsLifeRun life told old left × IsNextDisk d left next × AreLivesRun rest others next new
+  AreLivesRun _ _ old new = ⊥
+
+  -- What stands behind the last life: the engine's entries, or why it has none.
+  abbrev pub IsFoundBy : Result (Vec Entry) Fault → Result (Engine ModelDisk d) (Fault × ModelDisk) → Type 0
+  IsFoundBy last (Ok e) = (new : Engine ModelDisk d) × IfErr last (λ f. HasCause d new.writer.log new.disk f)
+  IsFoundBy last (Err x) = last ≡ Err x.0
+
+  -- The last opening was made on this disk.
+  pub record IsLastRun (old : ModelDisk) (last : Result (Vec Entry) Fault) : Type 0 where
+    pub result : Result (Engine ModelDisk d) (Fault × ModelDisk)
+    pub opening : IsOpening no_options old result
+    pub found : IsFoundBy last result
+
+  -- The lives of a script were run on a disk that begins with the script's files, and then one opening more.
+  pub record IsRun (script : StoreScript) (told : StoreDrilled) : Type 0 where
+    pub first : ModelDisk
+    pub fresh : IsFresh first
+    pub seen : d.seen first ≡ both script.log.items []
+    pub end : ModelDisk
+    pub lives : AreLivesRun script.lives.items told.lives.items first end
+    pub last : IsLastRun end told.last
