@@ -3,7 +3,7 @@
 //! `drill_program` is all of `imdrill` but its `main`: it reads the words of the command line, finds the script, has it run by
 //! `im_drill`, and answers the exit status, 2 at most. `store_program` is all of `imstore`: it opens the folder that its words name, or an
 //! empty model disk, and hands the disk on to `store_text`, which opens the store of any disk, makes the steps that a
-//! reader's lines ask for, and writes and flushes each reply before it reads the next line. What goes to which stream is
+//! reader's lines ask for, and has written and flushed all replies before it waits for a line. What goes to which stream is
 //! tested, by stored outputs word for word among other tests, and stands in no clause.
 //!
 //! It stands on `im_drill` for scripts, for the lines of steps and for the words of replies, on the engine, and on `clap` for command lines.
@@ -18,6 +18,7 @@ mod log_damage;
 mod log_text;
 mod look;
 mod options;
+mod progress;
 mod reason;
 mod recovered;
 mod store;

@@ -144,13 +144,17 @@ fn flag<'a>(alloc: Global, name: &'a str, help: &'a str) -> Arg<'a> {
         .help(help)
 }
 
-// A flag of which one at most is given, and which needs the folder.
+// A flag of which one at most is given, which needs the folder, and which takes no option of steps that it would not heed.
 fn task_flag<'a>(alloc: Global, name: &'a str, help: &'a str) -> Result<Arg<'a>, Error> {
     let mut arg = flag(alloc, name, help).requires_arg("DIR")?;
     for other in ["check", "stat", "log", "dump", "load"] {
         if other != name {
             arg = arg.conflicts_with(other)?;
         }
+    }
+    arg = arg.conflicts_with("batch")?;
+    if name != "load" {
+        arg = arg.conflicts_with("frames")?.conflicts_with("pages")?;
     }
     Ok(arg)
 }

@@ -6,13 +6,14 @@ use crate::imstore::{tell, tell_unopened};
 use crate::log_text::log_text;
 use crate::look::{check_text, stat_text};
 use crate::options::{Options, Task};
+use crate::progress::Progress;
 use crate::recovered::{Copies, copies_of, entries_of};
 use crate::store::print_refused_opening;
 use crate::transfer::{Loaded, dump_text, load_text};
 use im_disk::FileDisk;
 use im_types::Fault;
 use std::io;
-use std::io::{BufReader, BufWriter, Write};
+use std::io::{BufReader, BufWriter, IsTerminal, Write};
 
 /// Does a task that only looks at the store in a folder, and changes no byte of it. It answers the exit status: 0, or 1 where
 /// the store is broken or could not be read.
@@ -72,9 +73,14 @@ fn print_log<W: Write>(
 fn dump<W: Write>(rt: &HostRuntime, dir: &str, writer: &mut W, copies: Copies) -> io::Result<u8>
     ensures { IfOk result (λ status. status ≤ 1) }
 {
+    let mut progress = Progress {
+        writer: rt.stderr(),
+        is_shown: rt.stderr().is_terminal() && !rt.stdout().is_terminal(),
+    };
+    progress.say("opening a copy of the store");
     match entries_of(rt.alloc(), copies) {
         Ok(entries) => {
-            dump_text(rt.alloc(), writer, &entries)?;
+            dump_text(rt.alloc(), writer, &entries, &mut progress)?;
             Ok(0)
         }
         Err(fault) => refused(rt, dir, writer, fault),
@@ -97,7 +103,12 @@ pub(crate) fn load_program(rt: &HostRuntime, dir: &str, options: &Options) -> io
             return Ok(1);
         }
     };
-    let loaded = load_text(alloc, disk, options.config(), &mut reader)?;
+    let has_words = options.has_words || rt.stdout().is_terminal();
+    let mut progress = Progress {
+        writer: rt.stderr(),
+        is_shown: rt.stderr().is_terminal(),
+    };
+    let loaded = load_text(alloc, disk, options.config(), &mut reader, &mut progress)?;
     let status = match loaded {
         Loaded::All(_) => 0,
         Loaded::RefusedOpening(fault) => return refused(rt, dir, &mut writer, fault),
@@ -105,11 +116,31 @@ pub(crate) fn load_program(rt: &HostRuntime, dir: &str, options: &Options) -> io
     };
     match loaded {
         Loaded::All(count) => writeln!(writer, "loaded {count}")?,
-        Loaded::BadLine(line) => writeln!(writer, "refused 16 line {line}")?,
+        Loaded::BadLine(line) => print_refused_line(
+            &mut writer,
+            has_words,
+            line,
+            Fault::BadScript,
+        )?,
         Loaded::Duplicate(line) => writeln!(writer, "duplicate line {line}")?,
-        Loaded::Refused(line, fault) => writeln!(writer, "refused {} line {line}", fault.number())?,
+        Loaded::Refused(line, fault) => print_refused_line(&mut writer, has_words, line, fault)?,
         Loaded::RefusedOpening(_) => {}
     }
     writer.flush()?;
     Ok(status)
+}
+
+// Writes that a line was refused by its number, and in words where they are wanted.
+fn print_refused_line<W: Write>(
+    writer: &mut W,
+    has_words: bool,
+    line: u64,
+    fault: Fault,
+) -> io::Result<()> {
+    let number = fault.number();
+    if has_words {
+        writeln!(writer, "refused {number} line {line}: {fault}")
+    } else {
+        writeln!(writer, "refused {number} line {line}")
+    }
 }

@@ -1,13 +1,15 @@
 ghost use Rattle.std.specs.Prelude.{◌≡◌, false};
 ghost use Rattle.im_disk.specs.Runs.{IsSynced};
 
+use crate::progress::Progress;
+use crate::transfer::{Loaded, load_text};
 use crate::{Manner, StoreEnd, drill_program, store_program, store_text};
 use im_disk::{Disk, FileDisk, ModelDisk};
 use im_drill::drill_text;
 use im_engine::Config;
 use im_types::Fault;
 use std::alloc::Global;
-use std::io::BufReader;
+use std::io::{BufReader, Write};
 use std::test::Fail;
 use std::{fs, io};
 
@@ -352,5 +354,35 @@ fn the_store_program_answers_its_status(rt: HostRuntime) -> Result<(), Fail> {
     assert!(rt; store_program(&rt, &words)? == 2);
     fs::remove_file(&rt, "im_tool_no_folder")?;
     fs::remove_dir_all(&rt, "im_tool_store")?;
+    Ok(())
+}
+
+// What a load of so many entries answers, and what it tells of how far it is.
+fn loaded(alloc: Global, count: u32, is_shown: bool) -> io::Result<(Loaded, Vec<u8>)> {
+    let mut text = Vec::new(alloc);
+    writeln!(text, "imstore entries {count}")?;
+    for n in 0..count {
+        writeln!(text, "k{n} {n}")?;
+    }
+    let mut reader = BufReader::new(alloc, text.as_slice())?;
+    let mut progress = Progress {
+        writer: Vec::new(alloc),
+        is_shown,
+    };
+    let disk = ModelDisk::new(Vec::new(alloc), Vec::new(alloc));
+    let config = Config::default();
+    let end = load_text(alloc, disk, config, &mut reader, &mut progress)?;
+    let Progress { writer, .. } = progress;
+    Ok((end, writer))
+}
+
+#[test]
+fn a_load_tells_how_far_it_is(rt: HostRuntime) -> Result<(), Fail> {
+    let (end, told) = loaded(rt.alloc(), 1_003, true)?;
+    assert!(rt; end == Loaded::All(1_003));
+    assert!(rt; told.as_slice() == "\r1000 of 1003 entries\r1003 of 1003 entries\n".as_bytes());
+    let (end, told) = loaded(rt.alloc(), 3, false)?;
+    assert!(rt; end == Loaded::All(3));
+    assert!(rt; told.is_empty());
     Ok(())
 }

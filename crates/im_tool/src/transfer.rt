@@ -5,6 +5,7 @@ ghost use Rattle.im_disk.specs.Runs.{IsSynced};
 
 use crate::key_notation::noted_key;
 use crate::line_input::{LineInput, without_newline};
+use crate::progress::Progress;
 use crate::store::print_keys;
 use im_disk::Disk;
 use im_engine::{Config, Engine};
@@ -15,6 +16,9 @@ use std::io::Write;
 
 /// How many entries are put in between one commit and the next.
 const A_COMMIT: u64 = 1_000;
+
+/// How many entries are written between one word of the progress and the next.
+const A_PART: usize = 10_000;
 
 const TITLE: &[u8] = b"imstore entries ";
 
@@ -34,40 +38,52 @@ pub(crate) enum Loaded {
 }
 
 /// Writes how many entries there are, and each: the key as it can be typed, and its row id.
-pub(crate) fn dump_text<W: Write>(
+pub(crate) fn dump_text<W: Write, P: Write>(
     alloc: Global,
     writer: &mut W,
     entries: &[(Key, Rid)],
+    progress: &mut Progress<P>,
 ) -> io::Result<()> {
+    let all = entries.len() as u64;
+    let mut done = 0u64;
     writer.write_all(TITLE)?;
-    writeln!(writer, "{}", entries.len())?;
-    print_keys(alloc, writer, entries)
+    writeln!(writer, "{all}")?;
+    for part in entries.chunks(A_PART) {
+        print_keys(alloc, writer, part)?;
+        done = done.saturating_add(part.len() as u64);
+        progress.show(done, all);
+    }
+    progress.end();
+    Ok(())
 }
 
-/// Puts the entries of such a text into a store, and commits them a thousand at a time.
-pub(crate) fn load_text<D: Disk + Drop, R: LineInput>(
+/// Puts the entries of such a text into a store, commits them a thousand at a time, and tells of each commit.
+pub(crate) fn load_text<D: Disk + Drop, R: LineInput, P: Write>(
     alloc: Global,
     disk: D,
     config: Config,
     reader: &mut R,
+    progress: &mut Progress<P>,
 ) -> io::Result<Loaded>
     requires working { D.failed disk ≡ false }
     requires synced { IsSynced D.Disk disk }
 {
     match Engine::open_or_create(alloc, disk, config) {
         Ok(mut engine) => {
-            let loaded = load_lines(alloc, &mut engine, reader);
+            let loaded = load_lines(alloc, &mut engine, reader, progress);
             let _disk = engine.into_disk();
+            progress.end();
             loaded
         }
         Err((fault, _disk)) => Ok(Loaded::RefusedOpening(fault)),
     }
 }
 
-fn load_lines<D: Disk, R: LineInput>(
+fn load_lines<D: Disk, R: LineInput, P: Write>(
     alloc: Global,
     engine: &mut Engine<D>,
     reader: &mut R,
+    progress: &mut Progress<P>,
 ) -> io::Result<Loaded> {
     let mut line = Vec::new(alloc);
     let Some(count) = next_count(reader, &mut line)? else {
@@ -92,7 +108,7 @@ fn load_lines<D: Disk, R: LineInput>(
         let is_last = place.saturating_add(1) == count;
         if is_last || place % A_COMMIT == A_COMMIT - 1 {
             match engine.step(&Step::Commit(number)) {
-                Reply::Committed => {}
+                Reply::Committed => progress.show(place.saturating_add(1), count),
                 reply => return Ok(Loaded::Refused(at, fault_of(reply))),
             }
         }

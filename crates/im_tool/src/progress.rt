@@ -1,0 +1,40 @@
+//! How far a long task is, in a line that is written over.
+ghost use Rattle.std.specs.Prelude.{◌≡◌, false};
+
+use std::io::Write;
+
+/// Where a task tells how far it is, if somebody reads it there.
+#[derive(Drop)]
+pub(crate) struct Progress<W> {
+    pub(crate) writer: W,
+    pub(crate) is_shown: bool,
+}
+
+impl<W: Write> Progress<W> {
+    /// Tells how many of all entries are done. Where that cannot be written nobody reads it, and the task goes on.
+    pub(crate) fn show(&mut self, done: u64, all: u64)
+        ensures quiet { self.old.is_shown ≡ false → self.new ≡ self.old }
+    {
+        if self.is_shown {
+            let _ = write!(self.writer, "\r{done} of {all} entries");
+        }
+    }
+
+    /// Tells what is done before the entries can be counted.
+    pub(crate) fn say(&mut self, words: &str)
+        ensures quiet { self.old.is_shown ≡ false → self.new ≡ self.old }
+    {
+        if self.is_shown {
+            let _ = writeln!(self.writer, "{words}");
+        }
+    }
+
+    /// Ends the line.
+    pub(crate) fn end(&mut self)
+        ensures quiet { self.old.is_shown ≡ false → self.new ≡ self.old }
+    {
+        if self.is_shown {
+            let _ = writeln!(self.writer);
+        }
+    }
+}
