@@ -79,7 +79,7 @@ pub use store_answers::{StoreAnswers, StoreDrilled, StoreReply};
 pub use store_drilling::drill_store;
 pub use store_grammar::parse_store_line;
 pub use store_life::{LifeOptions, StoreLife, StoreLine};
-pub use store_lives::{open_store, run_store_life};
+pub use store_lives::{config_of, open_store, run_store_life};
 pub use store_script::StoreScript;
 pub use store_script_line::StoreScriptLine;
 pub use store_text::is_raw;

@@ -74,8 +74,8 @@ pub fn open_store(
     Engine::open_or_create(alloc, disk, config_of(options))
 }
 
-// How an engine is opened by these options.
-fn config_of(options: LifeOptions) -> Config
+/// How an engine is opened by these options: 64 frames and 1,000,000 pages where they are left out.
+pub fn config_of(options: LifeOptions) -> Config
     ensures { IsConfigOf options result }
 {
     let config = Config::default();
