@@ -3,15 +3,17 @@
 ghost use Rattle.std.specs.Prelude.{◌≤◌, IfOk};
 
 use crate::reason::{reason_of, refused_line};
-use clap::{Arg, ArgMatches, Command, Error};
+use clap::{Arg, ArgAction, ArgMatches, Command, Error};
 use im_drill::drill_text;
+use im_every::every_text;
 use std::alloc::{AllocError, Global};
 use std::io::{BufWriter, ErrorKind, Read, Write};
 use std::rt::Files;
 use std::{fs, io};
 
 /// Runs the script that the command line names, or standard input where it names none, and prints what its
-/// lives answer. The first word is the program's name. It answers the exit status.
+/// lives answer. With `--every` it stops the script's one life everywhere, and prints how often, and how many openings were bad. The first
+/// word is the program's name. It answers the exit status.
 ///
 /// An error is of the program's own memory, input or output: its status is 1.
 pub fn drill_program<R: Files + Input + Print + Eprint + AllocGlobal>(
@@ -32,12 +34,13 @@ pub fn drill_program<R: Files + Input + Print + Eprint + AllocGlobal>(
         }
     };
     let mut writer = BufWriter::new(alloc, io::writer(rt))?;
+    let every = matches.get_flag("every");
     let status = match matches.get_str("SCRIPT") {
-        Some(path) => run_file(rt, path, &mut writer)?,
+        Some(path) => run_file(rt, path, every, &mut writer)?,
         None => {
             let mut text = Vec::new(alloc);
             rt.reader().read_to_end(&mut text)?;
-            run_text(rt, &text, &mut writer)?
+            run_text(rt, &text, every, &mut writer)?
         }
     };
     writer.flush()?;
@@ -48,12 +51,13 @@ pub fn drill_program<R: Files + Input + Print + Eprint + AllocGlobal>(
 fn run_file<R: Files + Eprint + AllocGlobal, W: Write>(
     rt: &R,
     path: &str,
+    every: bool,
     writer: &mut W,
 ) -> io::Result<u8>
     ensures { IfOk result (λ status. status ≤ 1) }
 {
     match fs::read(rt, path) {
-        Ok(text) => run_text(rt, &text, writer),
+        Ok(text) => run_text(rt, &text, every, writer),
         Err(error) if error.kind() == ErrorKind::OutOfMemory => Err(error),
         Err(_) => {
             writeln!(writer, "script unreadable")?;
@@ -66,13 +70,18 @@ fn run_file<R: Files + Eprint + AllocGlobal, W: Write>(
 fn run_text<R: Eprint + AllocGlobal, W: Write>(
     rt: &R,
     text: &[u8],
+    every: bool,
     writer: &mut W,
 ) -> io::Result<u8>
     ensures { IfOk result (λ status. status ≤ 1) }
 {
     let mut printed = Vec::new(rt.alloc());
     let mut reader = text;
-    let status = drill_text(rt.alloc(), &mut reader, &mut printed)?;
+    let status = if every {
+        every_text(rt.alloc(), &mut reader, &mut printed)?
+    } else {
+        drill_text(rt.alloc(), &mut reader, &mut printed)?
+    };
     writer.write_all(&printed)?;
     if let Some((number, line)) = refused_line(&printed, text) {
         let reason = reason_of(line);
@@ -90,6 +99,9 @@ pub(crate) fn status_of(error: &Error) -> u8
 
 fn parse_words<'a>(alloc: Global, words: &'a [String]) -> Result<ArgMatches<'a>, Error> {
     let script = Arg::new(alloc, "SCRIPT");
-    let command = Command::new(alloc, "imdrill").arg(script)?;
+    let every = Arg::new(alloc, "every")
+        .long("every")
+        .action(ArgAction::SetTrue);
+    let command = Command::new(alloc, "imdrill").arg(every)?.arg(script)?;
     command.try_get_matches_from(words)
 }

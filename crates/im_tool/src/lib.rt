@@ -21,6 +21,8 @@ mod options;
 mod progress;
 mod reason;
 mod recovered;
+#[cfg(test)]
+mod restarts;
 mod store;
 #[cfg(test)]
 mod stored;

@@ -1,4 +1,5 @@
-//! `imdrill [SCRIPT]`: runs a script of lives on a model disk and prints what they answer.
+//! `imdrill [--every] [SCRIPT]`: runs a script of lives on a model disk and prints what they answer; or stops its one life everywhere, and
+//! prints how many openings behind that were bad.
 #![tactic(auto)]
 
 use im_tool::drill_program;

@@ -1,0 +1,3 @@
+pub mod Judged
+pub mod Opened
+pub mod Shows
