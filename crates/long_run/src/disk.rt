@@ -1,0 +1,139 @@
+//! A disk in memory that counts its calls.
+
+ghost use Rattle.std.specs.Prelude.{◌≡◌, [], false};
+
+use im_disk::Disk;
+use im_types::{Fault, FileId};
+use std::alloc::{AllocError, Global};
+
+/// How often a disk was called, each kind by itself.
+#[derive(Clone, Copy, Debug, Default, PartialEq, Eq)]
+pub struct Calls {
+    pub log_writes: u64,
+    pub log_syncs: u64,
+    pub page_writes: u64,
+    pub page_syncs: u64,
+    /// Reads of either file.
+    pub reads: u64,
+}
+
+/// Two files in memory, whose calls never fail but for want of memory. Nothing is told of their bytes.
+#[derive(Drop)]
+pub struct CountingDisk {
+    log: Vec<u8>,
+    pages: Vec<u8>,
+    calls: Calls,
+    has_failed: bool,
+}
+
+impl CountingDisk {
+    /// Two empty files.
+    pub fn new(alloc: Global) -> CountingDisk
+        ensures { ⟦<CountingDisk as Disk>⟧.failed result ≡ false }
+    {
+        CountingDisk {
+            log: Vec::new(alloc),
+            pages: Vec::new(alloc),
+            calls: Calls::default(),
+            has_failed: false,
+        }
+    }
+
+    /// The same files at the beginning of another life: all that was written is there, and no call was made.
+    pub fn at_rest(self) -> CountingDisk
+        ensures { ⟦<CountingDisk as Disk>⟧.failed result ≡ false }
+    {
+        CountingDisk {
+            log: self.log,
+            pages: self.pages,
+            calls: Calls::default(),
+            has_failed: false,
+        }
+    }
+
+    /// The calls of this life so far.
+    pub fn calls(&self) -> Calls {
+        self.calls
+    }
+
+    /// The length of a file, in bytes.
+    pub fn size(&self, file: FileId) -> usize {
+        self.file(file).len()
+    }
+
+    fn file(&self, file: FileId) -> &Vec<u8> {
+        match file {
+            FileId::Log => &self.log,
+            FileId::Pages => &self.pages,
+        }
+    }
+}
+
+// Puts bytes into a file, over what is there and past its end. A place past the end is taken for the end.
+fn put(file: &mut Vec<u8>, at: u64, bytes: &[u8]) -> Result<(), AllocError> {
+    let at = (at as usize).min(file.len());
+    let over = bytes.len().min(file.len() - at);
+    file[at..at + over].copy_from_slice(&bytes[..over]);
+    file.extend_from_slice(&bytes[over..])?;
+    Ok(())
+}
+
+// Takes bytes out of a file. Where the file has fewer, the rest of the buffer stays as it is.
+fn take(file: &[u8], at: u64, buf: &mut [u8]) {
+    let at = (at as usize).min(file.len());
+    let size = buf.len().min(file.len() - at);
+    buf[..size].copy_from_slice(&file[at..at + size]);
+}
+
+impl Disk for CountingDisk {
+    ghost tells = { ⊥ };
+
+    ghost seen = { λ _ _. [] };
+
+    ghost may_leave = { λ _ _. ⊥ };
+
+    ghost moment = { λ _. 0 };
+
+    ghost left_since = { λ _ _ _. ⊥ };
+
+    ghost failed = { λ d. d.has_failed };
+
+    ghost counts_now = { λ _ _ _ _ none. none };
+
+    ghost only_now = { λ _ _ none. none };
+
+    ghost seen_may_stay = { λ _ none. absurd none };
+
+    fn len(&mut self, file: FileId) -> Result<u64, Fault> {
+        Ok(self.file(file).len() as u64)
+    }
+
+    fn read(&mut self, file: FileId, at: u64, buf: &mut [u8]) -> Result<(), Fault> {
+        self.calls.reads = self.calls.reads.wrapping_add(1);
+        take(self.file(file), at, buf);
+        Ok(())
+    }
+
+    fn write_at(&mut self, file: FileId, at: u64, bytes: &[u8]) -> Result<(), Fault> {
+        let outcome = match file {
+            FileId::Log => {
+                self.calls.log_writes = self.calls.log_writes.wrapping_add(1);
+                put(&mut self.log, at, bytes)
+            }
+            FileId::Pages => {
+                self.calls.page_writes = self.calls.page_writes.wrapping_add(1);
+                put(&mut self.pages, at, bytes)
+            }
+        };
+        self.has_failed = outcome.is_err();
+        outcome.map_err(|_| Fault::Device)
+    }
+
+    fn sync(&mut self, file: FileId) -> Result<(), Fault> {
+        match file {
+            FileId::Log => self.calls.log_syncs = self.calls.log_syncs.wrapping_add(1),
+            FileId::Pages => self.calls.page_syncs = self.calls.page_syncs.wrapping_add(1),
+        }
+        Ok(())
+    }
+}
