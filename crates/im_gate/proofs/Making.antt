@@ -1,12 +1,12 @@
 -- What a stop leaves while a log file is made.
-use Rattle.std.proofs.Common.{◌≡◌, ◌≢◌, inl, inr, ℕ, ◌<◌, ◌≤◌, List, [], ◌∷◌, ◌++◌, length, take, drop, get_or, Option, Some, None, refl, sym, ◌∙◌, ap, subst, arith, length-append}
+use Rattle.std.proofs.Common.{◌≡◌, ◌≢◌, inl, inr, ℕ, ◌<◌, ◌≤◌, List, [], ◌∷◌, ◌++◌, length, take, drop, get_or, slice_index, Option, Some, None, refl, sym, ◌∙◌, ap, subst, arith, length-append}
 use Rattle.std.proofs.lemmas.Bool.{cases_eq}
 use Rattle.std.proofs.lemmas.List.{get_or-take, drop_at, length-take-le}
 use Rattle.im_gate.proofs.BatchLemmas.{from_drop}
 use Rattle.im_gate.proofs.Places.{reaches_by}
 use Rattle.im_disk.specs.Disk.{Holds, Torn}
 use Rattle.im_gate.specs.Batches.{in_front, batches_from, batches, Reaches}
-use Rattle.im_gate.specs.Header.{header, IsUnmade, IsMade, IsBlank}
+use Rattle.im_gate.specs.Header.{header, first_gate, IsUnmade, IsMade, IsBlank}
 
 -- a file of at most one byte, while its first byte is written
 pub torn_short : (file c : List ℕ) → length file ≤ 1 → Torn 0 1 file c → IsUnmade c
@@ -25,18 +25,25 @@ in_front-nil : (bs : Option (List (List ℕ))) → bs ≡ in_front [] bs
 in_front-nil None = refl
 in_front-nil (Some bs) = refl
 
-pub no_batches : (first : ℕ) (junk : List ℕ) → batches 31 (made_with first junk) ≡ Some []
+pub no_batches : (first : ℕ) (junk : List ℕ) → batches (first_gate (made_with first junk)) (made_with first junk) ≡ Some []
+unfolding first_gate
 no_batches first junk = refl
 
 pub is_made : (junk : List ℕ) → IsMade (made_with 1 junk)
+unfolding first_gate
 is_made junk = record { within = omega (arith, length-append header (0 ∷ junk)); made = refl; named = refl }
 
-pub reaches_first : (junk : List ℕ) → Reaches 31 (made_with 1 junk) 31
+pub reaches_first : (junk : List ℕ) → Reaches (first_gate (made_with 1 junk)) (made_with 1 junk) (first_gate (made_with 1 junk))
+unfolding first_gate
 reaches_first junk = record { within = omega (arith, length-append header (0 ∷ junk)); placed = refl; front = λ rest. in_front-nil (batches_from 0 rest) }
+
+pub gate_closed : (junk : List ℕ) → slice_index (made_with 1 junk) (first_gate (made_with 1 junk)) ≢ 1
+unfolding first_gate
+gate_closed junk one = let clash : 0 ≡ 1 = one in omega (arith, clash)
 
 blank : (first : ℕ) (junk : List ℕ) → IsBlank (made_with first junk)
 blank first junk = elim (cases_eq first 1) [
-  | inl one ↦ subst (λ (f : ℕ). IsBlank (made_with f junk)) (sym one) (inr (is_made junk, refl))
+  | inl one ↦ subst (λ (f : ℕ). IsBlank (made_with f junk)) (sym one) (inr (is_made junk, no_batches 1 junk))
   | inr other ↦ inl (inr other)
 ]
 

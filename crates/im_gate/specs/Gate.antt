@@ -5,6 +5,7 @@ use Rattle.im_disk.specs.declared.disk.Disk.{Ghosts}
 use Rattle.im_disk.specs.Disk.{Only}
 use Rattle.im_gate.specs.declared.gate.Gate.{Gate}
 use Rattle.im_gate.specs.Batches.{batches, batches_from, Reaches}
+use Rattle.im_gate.specs.Header.{first_gate, base_of, least_number}
 
 -- The file that the gate stands in.
 abbrev pub file_of : Gate → FileId
@@ -13,6 +14,14 @@ file_of gate = gate.file
 -- The place of that file's first gate.
 abbrev pub first_of : Gate → ℕ
 first_of gate = gate.first
+
+-- The LSN of that file's first byte.
+abbrev pub base_at : Gate → ℕ
+base_at gate = gate.base
+
+-- The least number that a transaction of that log may have.
+abbrev pub least_at : Gate → ℕ
+least_at gate = gate.least
 
 -- The place of the gate.
 abbrev pub place_of : Gate → ℕ
@@ -26,6 +35,14 @@ has_failed gate = gate.failed
 pub record InOneFile (some other : Gate) : Type 0 where
   pub file : file_of other ≡ file_of some
   pub first : first_of other ≡ first_of some
+  pub base : base_at other ≡ base_at some
+  pub least : least_at other ≡ least_at some
+
+-- The gate says where the log of these bytes starts.
+pub record StartsAs (gate : Gate) (bytes : List ℕ) : Type 0 where
+  pub first : first_of gate ≡ first_gate bytes
+  pub base : base_at gate ≡ base_of bytes
+  pub least : least_at gate ≡ least_number bytes
 
 module _ {D : Type 0} (d : Ghosts D) where
   -- The batches of the gate's file as it reads; none where it is refused.

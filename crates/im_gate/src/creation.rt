@@ -5,7 +5,7 @@ ghost use Rattle.std.specs.Prelude.{◌≡◌, ◌≢◌, ◌≤◌, ◌⊎◌, 
 ghost use Rattle.im_disk.specs.Disk.{Only, Answers};
 ghost use Rattle.im_disk.specs.Runs.{LeavesIn, ChangesOnly};
 ghost use Rattle.im_gate.specs.Batches.{batches, Reaches};
-ghost use Rattle.im_gate.specs.Header.{IsUnmade, IsMade, IsBlank};
+ghost use Rattle.im_gate.specs.Header.{first_gate, IsUnmade, IsMade, IsBlank};
 
 use im_disk::{Disk, write_synced};
 use im_types::{Fault, FileId};
@@ -40,9 +40,9 @@ pub(crate) fn make<D: Disk>(disk: &mut D, file: FileId) -> Result<(), Fault>
     requires closed { D.tells → slice_index (D.seen disk.old file) 0 ≢ 1 }
     requires durable { Only file (D.seen disk.old) (D.may_leave disk.old) }
     ensures made { OnOk result (D.tells → IsMade (D.seen disk.new file)) }
-    ensures empty { OnOk result (D.tells → batches 31 (D.seen disk.new file) ≡ Some []) }
-    ensures reaches { OnOk result (D.tells → Reaches 31 (D.seen disk.new file) 31) }
-    ensures gate { OnOk result (D.tells → slice_index (D.seen disk.new file) 31 ≢ 1) }
+    ensures empty { OnOk result (D.tells → batches (first_gate (D.seen disk.new file)) (D.seen disk.new file) ≡ Some []) }
+    ensures reaches { OnOk result (D.tells → Reaches (first_gate (D.seen disk.new file)) (D.seen disk.new file) (first_gate (D.seen disk.new file))) }
+    ensures gate { OnOk result (D.tells → slice_index (D.seen disk.new file) (first_gate (D.seen disk.new file)) ≢ 1) }
     ensures durable { OnOk result (Only file (D.seen disk.new) (D.may_leave disk.new)) }
     ensures any_moment { LeavesIn D.Disk file disk.old disk.new IsBlank }
     ensures changes { ChangesOnly D.Disk file disk.old disk.new }

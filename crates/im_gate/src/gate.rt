@@ -1,13 +1,13 @@
 //! The gate of a log file: opening and making the file, reading its batches, and putting one more.
 
-ghost use Rattle.std.specs.Prelude.{◌≡◌, ◌+◌, ◌*◌, ◌^◌, ◌<◌, ◌≤◌, ◌↔◌, ◌⊎◌, ◌++◌, false, true, not, is_ok, length, take, IfErr, IfOk, IfSome, OnOk, MatchOption, [], ◌∷◌};
+ghost use Rattle.std.specs.Prelude.{◌≡◌, ◌+◌, ◌*◌, ◌^◌, ◌<◌, ◌≤◌, ◌↔◌, ◌⊎◌, ◌++◌, ℕ, List, false, true, not, is_ok, length, take, IfErr, IfOk, IfSome, OnOk, MatchOption, [], ◌∷◌};
 
 use crate::creation::{close_made, make};
 use crate::opening::{has_header, is_made};
 use crate::put::put_behind;
 use crate::size::batch_size;
 use im_disk::{Disk, read_vec};
-use im_types::{Fault, FileId};
+use im_types::{Fault, FileId, TxnId};
 use std::alloc::Global;
 
 // No record ends past this place.
@@ -16,18 +16,25 @@ const PLACES: u64 = 1 << 62;
 // The most that stands behind a gate and is written with a batch: a length, 16,384 bytes of records and the next gate.
 const ROOM: usize = 16_389;
 
+// Where the log of a file of this format starts: its first gate, the LSN of its first byte, and the least number of a transaction.
 const FIRST_GATE: u64 = 31;
+const BASE: u64 = 0;
+const LEAST_NUMBER: TxnId = 1;
 
-/// A gate of a log file, with the room from which every batch is written. It carries its file and the place of that file's
-/// first gate. It has failed once a call failed otherwise than for want of memory, and refuses every call from then on.
+/// A gate of a log file, with the room from which every batch is written. It carries its file and what that file says of where its
+/// log starts: the place of its first gate, the LSN of its first byte, and the least number of a transaction. It has failed once a call failed otherwise than for want of memory, and refuses every call from then on.
 #[derive(Drop)]
 pub struct Gate {
     file: FileId,
     first: u64,
+    base: u64,
+    least: TxnId,
     place: u64,
     room: Vec<u8>,
     failed: bool,
     ghost sized: { length room.items ≡ 16389 },
+    ghost low: { base + first ≤ 2 ^ 62 },
+    ghost numbered: { 1 ≤ least },
 }
 
 // The room from which every batch is written.
@@ -45,7 +52,25 @@ impl Gate {
     ghost use Rattle.im_types.specs.declared.fault.Fault.TheVariants.{Device, Failed, LogFull, Memory, NotAStore};
     ghost use Rattle.im_gate.specs.Batches.{with_batch, in_front, IsBeforeOrWith};
     ghost use Rattle.im_gate.specs.Header.{IsUnmade, IsMade, IsBlank};
-    ghost use Rattle.im_gate.specs.Gate.{file_of, first_of, place_of, has_failed, InOneFile, logged, unread, IsReading, IsReady};
+    ghost use Rattle.im_gate.specs.Gate.{file_of, first_of, base_at, least_at, place_of, has_failed, InOneFile, StartsAs, logged, unread, IsReading, IsReady};
+
+    // The first gate of a made file, with this room.
+    #[tactic(auto, unfolding(crate::specs::Header::first_gate, crate::specs::Header::base_of, crate::specs::Header::least_number))]
+    fn at_start(file: FileId, room: Vec<u8>) -> Gate
+        requires size { length room.items ≡ 16389 }
+        ensures starts { (bytes : List ℕ) → IsMade bytes → StartsAs result bytes }
+        ensures gate { (file_of result ≡ file) × (place_of result ≡ first_of result) × (has_failed result ≡ false) }
+    {
+        Gate {
+            file,
+            first: FIRST_GATE,
+            base: BASE,
+            least: LEAST_NUMBER,
+            place: FIRST_GATE,
+            room,
+            failed: false,
+        }
+    }
 
     /// Makes a log without batches of a file that is none yet, and answers its closed gate: by six device calls, or four where
     /// the file has two bytes or more. It takes the room from which every batch is written, before the first call.
@@ -57,7 +82,8 @@ impl Gate {
         requires durable { Only file (D.seen disk.old) (D.may_leave disk.old) }
         ensures ready { IfOk result (λ gate. IsReady D.Disk gate disk.new) }
         ensures usable { IfOk result (λ gate. has_failed gate ≡ false) }
-        ensures first { IfOk result (λ gate. (file_of gate ≡ file) × (first_of gate ≡ 31) × (place_of gate ≡ 31)) }
+        ensures first { IfOk result (λ gate. (file_of gate ≡ file) × (place_of gate ≡ first_of gate)) }
+        ensures starts { IfOk result (λ gate. D.tells → StartsAs gate (D.seen disk.new file)) }
         ensures made { OnOk result (D.tells → IsMade (D.seen disk.new file)) }
         ensures empty { IfOk result (λ gate. D.tells → logged D.Disk gate disk.new ≡ Some []) }
         ensures any_moment { LeavesIn D.Disk file disk.old disk.new IsBlank }
@@ -69,13 +95,7 @@ impl Gate {
         let room = make_room(alloc)?;
         close_made(disk, file)?;
         make(disk, file)?;
-        Ok(Gate {
-            file,
-            first: FIRST_GATE,
-            place: FIRST_GATE,
-            room,
-            failed: false,
-        })
+        Ok(Gate::at_start(file, room))
     }
 
     /// Opens a made log at its first gate, or answers none where no store was made yet: the log is unmade, and the file of
@@ -89,7 +109,8 @@ impl Gate {
         ensures reads { Reads D.Disk disk.old disk.new }
         ensures reading { IfOk result (λ opened. IfSome opened (λ gate. IsReading D.Disk gate disk.new)) }
         ensures usable { IfOk result (λ opened. IfSome opened (λ gate. has_failed gate ≡ false)) }
-        ensures first { IfOk result (λ opened. IfSome opened (λ gate. (file_of gate ≡ file) × (first_of gate ≡ 31) × (place_of gate ≡ 31))) }
+        ensures first { IfOk result (λ opened. IfSome opened (λ gate. (file_of gate ≡ file) × (place_of gate ≡ first_of gate))) }
+        ensures starts { IfOk result (λ opened. IfSome opened (λ gate. D.tells → StartsAs gate (D.seen disk.old file))) }
         ensures all { IfOk result (λ opened. IfSome opened (λ gate. unread D.Disk gate disk.new ≡ logged D.Disk gate disk.new)) }
         ensures made { IfOk result (λ opened. IfSome opened (λ _. D.tells → IsMade (D.seen disk.old file))) }
         ensures unmade { result ≡ Ok None → D.tells → IsUnmade (D.seen disk.old file) × (length (D.seen disk.old Pages) ≡ 0) }
@@ -109,13 +130,7 @@ impl Gate {
         if !has_header(disk, file)? {
             return Err(Fault::NotAStore);
         }
-        Ok(Some(Gate {
-            file,
-            first: FIRST_GATE,
-            place: FIRST_GATE,
-            room,
-            failed: false,
-        }))
+        Ok(Some(Gate::at_start(file, room)))
     }
 
     /// Where the gate stands in its file, in bytes.
@@ -123,6 +138,22 @@ impl Gate {
         ensures { result ≡ place_of self.now }
     {
         self.place
+    }
+
+    /// The LSN of its file's first byte. A gate stands at LSN 2^62 at most when its file begins.
+    pub fn base(&self) -> u64
+        ensures base { result ≡ base_at self.now }
+        ensures low { result + first_of self.now ≤ 2 ^ 62 }
+    {
+        self.base
+    }
+
+    /// The least number that a transaction of its log may have, from 1 on.
+    pub fn least_number(&self) -> TxnId
+        ensures number { result ≡ least_at self.now }
+        ensures least { 1 ≤ result }
+    {
+        self.least
     }
 
     /// The next batch, or none at the closed gate, which ends the log.

@@ -3,7 +3,7 @@
 ghost use Rattle.std.specs.Prelude.{◌≡◌, ◌≢◌, ◌⊎◌, ◌↔◌, ◌+◌, ◌*◌, ◌<◌, ◌≤◌, true, false, length, take, drop, slice_index, IfOk, IfErr};
 ghost use Rattle.im_types.specs.declared.fault.Fault.TheVariants.{Device};
 ghost use Rattle.im_disk.specs.Runs.{Reads};
-ghost use Rattle.im_gate.specs.Header.{header, IsUnmade};
+ghost use Rattle.im_gate.specs.Header.{header, first_gate, IsUnmade};
 
 use crate::creation::HEADER;
 use im_disk::Disk;
@@ -27,10 +27,11 @@ pub(crate) fn is_made<D: Disk>(disk: &mut D, file: FileId) -> Result<bool, Fault
 }
 
 // The header is the format's, and a gate stands behind it.
+#[tactic(auto, unfolding(crate::specs::Header::first_gate))]
 pub(crate) fn has_header<D: Disk>(disk: &mut D, file: FileId) -> Result<bool, Fault>
     requires { D.failed disk.old ≡ false }
-    ensures there { result ≡ Ok true → D.tells → (31 < length (D.seen disk.old file)) × (take 30 (drop 1 (D.seen disk.old file)) ≡ header) }
-    ensures not_there { result ≡ Ok false → D.tells → 31 < length (D.seen disk.old file) → take 30 (drop 1 (D.seen disk.old file)) ≢ header }
+    ensures there { result ≡ Ok true → D.tells → (first_gate (D.seen disk.old file) < length (D.seen disk.old file)) × (take 30 (drop 1 (D.seen disk.old file)) ≡ header) }
+    ensures not_there { result ≡ Ok false → D.tells → first_gate (D.seen disk.old file) < length (D.seen disk.old file) → take 30 (drop 1 (D.seen disk.old file)) ≢ header }
     ensures reads { Reads D.Disk disk.old disk.new }
     ensures causes { IfErr result (λ e. e ≡ Device) }
     ensures device { result ≡ Err Device ↔ (D.failed disk.new ≡ true) }

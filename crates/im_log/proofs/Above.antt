@@ -1,5 +1,6 @@
 -- What the layers above compose.
 use Rattle.std.proofs.Common.{false, ◌≡◌, inl, inr, ℕ, ◌≤◌, List, [], ◌∷◌, ◌++◌, Ok, Some, refl, sym, ◌∙◌, ap, subst, append_assoc}
+use Rattle.im_types.specs.declared.file_id.FileId.{FileId}
 use Rattle.im_types.specs.declared.file_id.FileId.TheVariants.{Log, Pages}
 use Rattle.im_types.specs.Records.{Logged}
 use Rattle.im_types.specs.Histories.{IsFront}
@@ -7,14 +8,15 @@ use Rattle.im_disk.specs.declared.disk.Disk.{Ghosts}
 use Rattle.im_disk.specs.Disk.{Files, InFile, Stepped, Only}
 use Rattle.im_disk.specs.Runs.{LeavesIn, LeavesOnly, ChangesOnly, Spares}
 use Rattle.im_disk.proofs.Runs.{in_weakened, in_then, weakened, then_on, changes_then}
-use Rattle.im_gate.specs.Header.{IsMade}
+use Rattle.im_gate.specs.Gate.{StartsAs}
+use Rattle.im_gate.specs.Header.{base_of, IsMade}
 use Rattle.im_gate.proofs.Frames.{ready_spared}
 use Rattle.im_record.specs.Entry.{Entry}
 use Rattle.im_log.specs.declared.log_file.LogFile.{LogFile}
 use Rattle.im_log.specs.Spelled.{logged_at, log_of}
 use Rattle.im_log.specs.LogFile.{IsOpen, IsLog}
 use Rattle.im_log.specs.Kept.{HasMore, SpellsEither, SpellsBetween, AppendKept, ForceKept, Run}
-use Rattle.im_log.proofs.Runs.{unmoved, of_log}
+use Rattle.im_log.proofs.Runs.{unmoved}
 
 pub front_none : (log : List Logged) → IsFront log log
 front_none log = record { newer = []; is = refl }
@@ -116,6 +118,7 @@ module _ {D : Type 0} (d : Ghosts D) where
     working = h.working;
     based = h.based;
     made = subst IsMade (sym spares.seen) h.made;
+    starts = ap base_of spares.seen ∙ h.starts;
     on_disk = ap (log_of base) spares.seen ∙ h.on_disk;
     in_buffer = h.in_buffer;
     front = h.front;
@@ -125,6 +128,7 @@ module _ {D : Type 0} (d : Ghosts D) where
   pub open_spared : (file : LogFile) (old new : D) → Spares d Log old new → d.failed new ≡ false → IsOpen d file old → IsOpen d file new
   open_spared file old new spares works is_open = record {
     ready = ready_spared d file.gate old new (subst (λ f. Spares d f old new) (sym file.of_log.file) spares) works is_open.ready;
+    starts = λ told. subst (λ (l : List ℕ). StartsAs file.gate l) (sym spares.seen) (is_open.starts told);
     working = is_open.working;
     placed = is_open.placed;
     room = is_open.room;
@@ -134,13 +138,13 @@ module _ {D : Type 0} (d : Ghosts D) where
   pub pages_stops : (base : ℕ) (all durable : List Logged) (file : LogFile) (old new : D) (step : List ℕ → List ℕ → Type 0) → IsOpen d file old → IsLog d base all durable file old
       → LeavesOnly d old new (Stepped (InFile Pages step) (d.may_leave old)) → LeavesOnly d old new (λ c. SpellsBetween base durable all (c Log))
   pages_stops base all durable file old new step is_open h run =
-      let synced = of_log file.gate file.of_log (λ f n. Only f (d.seen old) (d.may_leave old)) (is_open.ready.reading.durable (is_open.working h.working)) in
+      let synced = subst (λ (f : FileId). Only f (d.seen old) (d.may_leave old)) file.of_log.file (is_open.ready.reading.durable (is_open.working h.working)) in
       weakened d old new (Stepped (InFile Pages step) (d.may_leave old)) (λ c. SpellsBetween base durable all (c Log)) run
       (λ told c left.
       let same = left.2.others Log (λ same. cc) ∙ synced left.0 left.1 in
       record {
         left = durable;
-        has = record { made = subst IsMade (sym same) h.made; spells = ap (log_of base) same ∙ h.on_disk };
+        has = record { made = subst IsMade (sym same) h.made; starts = ap base_of same ∙ h.starts; spells = ap (log_of base) same ∙ h.on_disk };
         longer = front_none durable;
         shorter = h.front;
       })

@@ -7,8 +7,8 @@ use Rattle.im_disk.specs.declared.disk.Disk.{Ghosts}
 use Rattle.im_disk.specs.Disk.{Files}
 use Rattle.im_gate.specs.declared.gate.Gate.{Gate}
 use Rattle.im_gate.specs.Batches.{batches, batches_from, in_front, size_of}
-use Rattle.im_gate.specs.Gate.{place_of, unread}
-use Rattle.im_gate.specs.Header.{IsMade}
+use Rattle.im_gate.specs.Gate.{base_at, first_of, place_of, unread, StartsAs}
+use Rattle.im_gate.specs.Header.{base_of, first_gate, IsMade}
 use Rattle.im_record.specs.Entry.{Entry}
 use Rattle.im_record.specs.Reading.{entry_of}
 use Rattle.im_log.specs.declared.opening.Opening.{Opening}
@@ -50,6 +50,7 @@ module _ {D : Type 0} (d : Ghosts D) (base : ℕ) (older : List Logged) where
         working = works;
         based = same ∙ h.based;
         made = h.made;
+        starts = h.starts;
         spells = λ all log ahead in_batch unread_is onward room.
             h.spells all log ahead
             (with_first (base + position_of mid) (rest_of mid) older all entry f
@@ -80,6 +81,7 @@ module _ {D : Type 0} (d : Ghosts D) (base : ℕ) (older : List Logged) where
         working = works;
         based = same ∙ h.based;
         made = subst (λ (s : Files). IsMade (s Log)) (sym seen) h.made;
+        starts = ap (λ (s : Files). base_of (s Log)) seen ∙ h.starts;
         spells = λ all log ahead in_batch unread_is onward room.
             ap (λ (s : Files). log_of base (s Log)) seen
             ∙ h.spells older log (rest_of new ∷ ahead) (nothing_left old done) (is ∙ ap (in_front (rest_of new ∷ [])) unread_is)
@@ -97,27 +99,31 @@ module _ {D : Type 0} (d : Ghosts D) (base : ℕ) (older : List Logged) where
     tells = h.tells;
     based = same ∙ h.based;
     made = subst (λ (s : Files). IsMade (s Log)) (sym seen) h.made;
+    starts = ap (λ (s : Files). base_of (s Log)) seen ∙ h.starts;
     spells = ap (λ (s : Files). log_of base (s Log)) seen ∙ h.spells older older [] (nothing_left old done) is refl (omega (arith, old.placed, h.based));
   }
 
 -- before the first record
-pub read_none : {D : Type 0} (d : Ghosts D) (base : ℕ) (gate : Gate) (opening : Opening) (disk : D) → IsOfLog gate → place_of gate ≡ 31 → d.tells → IsMade (d.seen disk Log)
-    → (opening.gate ≡ gate) × (opening.base ≡ base) × (opening.at ≡ 0) × (opening.end ≡ 0) × (opening.behind ≡ 31) × (opening.failed ≡ false) → HasRead d base [] opening disk
-read_none d base gate opening disk of first told made is =
+pub read_none : {D : Type 0} (d : Ghosts D) (base : ℕ) (gate : Gate) (opening : Opening) (disk : D) → IsOfLog gate → StartsAs gate (d.seen disk Log) → base_of (d.seen disk Log) ≡ base → place_of gate ≡ first_of gate → d.tells → IsMade (d.seen disk Log)
+    → (opening.gate ≡ gate) × (opening.base ≡ base_at gate) × (opening.at ≡ 0) × (opening.end ≡ 0) × (opening.behind ≡ place_of gate) × (opening.failed ≡ false) → HasRead d base [] opening disk
+read_none d base gate opening disk of starts low first told made is =
     let nothing : opening.end - opening.at ≡ 0 = omega (arith, is.2, is.3) in
+    let at : place_of gate ≡ first_gate (d.seen disk Log) = first ∙ starts.first in
+    let behind : opening.behind ≡ first_gate (d.seen disk Log) = is.4 ∙ at in
     record {
       tells = told;
       working = is.5;
-      based = is.1;
+      based = is.1 ∙ starts.base ∙ low;
       made = made;
+      starts = low;
       spells = λ all log ahead in_batch unread_is onward room.
           let here : unread d gate disk ≡ Some ahead = ap (λ (g : Gate). unread d g disk) (sym is.0) ∙ unread_is in
           let in_log : batches_from (place_of gate) (d.seen disk Log) ≡ Some ahead = subst (λ (f : FileId). batches_from (place_of gate) (d.seen disk f) ≡ Some ahead) of.file here in
-          let bs : batches 31 (d.seen disk Log) ≡ Some ahead = ap (λ (n : ℕ). batches_from n (d.seen disk Log)) (sym first) ∙ in_log in
+          let bs : batches (first_gate (d.seen disk Log)) (d.seen disk Log) ≡ Some ahead = ap (λ (n : ℕ). batches_from n (d.seen disk Log)) (sym at) ∙ in_log in
           let empty : Some [] ≡ Some all = ap (λ (k : ℕ). records_from 0 (base + position_of opening) (take k (drop opening.at opening.bytes.items)) []) (sym nothing) ∙ in_batch in
           let none : [] ≡ all = cc in
-          log_is base (d.seen disk Log) ahead log bs (omega (arith, room, is.4))
-          (ap (λ (k : ℕ). batches_records (base + k) ahead []) (sym is.4) ∙ ap (λ (l : List Logged). batches_records (base + opening.behind) ahead l) none ∙ onward);
+          log_is base (d.seen disk Log) ahead log bs (omega (arith, room, behind))
+          (ap (λ (k : ℕ). batches_records (base + k) ahead []) (sym behind) ∙ ap (λ (l : List Logged). batches_records (base + opening.behind) ahead l) none ∙ onward);
     }
 
 -- what an answer of none says, and one of some
@@ -130,4 +136,4 @@ some_read d base older new disk next lsn entry is on = subst (λ (o : Option ℕ
 
 -- the file as it stood before, with what was read
 pub has_read : {D : Type 0} (d : Ghosts D) (base : ℕ) (older : List Logged) (opening : Opening) (old new : D) → d.seen new ≡ d.seen old → Ended d base older older opening new → HasLog base older (d.seen old Log)
-has_read d base older opening old new seen e = subst (λ (s : Files). HasLog base older (s Log)) seen (record { made = e.made; spells = e.spells })
+has_read d base older opening old new seen e = subst (λ (s : Files). HasLog base older (s Log)) seen (record { made = e.made; starts = e.starts; spells = e.spells })

@@ -8,8 +8,8 @@ use Rattle.im_disk.specs.declared.disk.Disk.{Ghosts}
 use Rattle.im_disk.specs.Disk.{Files}
 use Rattle.im_gate.specs.declared.gate.Gate.{Gate}
 use Rattle.im_gate.specs.Batches.{batches, batches_from, in_front, size_of}
-use Rattle.im_gate.specs.Gate.{place_of, has_failed, unread, IsReading, IsReady}
-use Rattle.im_gate.specs.Header.{IsMade}
+use Rattle.im_gate.specs.Gate.{base_at, first_of, place_of, has_failed, unread, StartsAs, IsReading, IsReady}
+use Rattle.im_gate.specs.Header.{base_of, first_gate, IsMade}
 use Rattle.im_record.specs.Reading.{entry_of}
 use Rattle.im_log.specs.declared.opening.Opening.{Opening}
 use Rattle.im_log.specs.Spelled.{logged_at, record_size, first_record, records_from, batches_records, spelled_by, log_of}
@@ -69,6 +69,7 @@ module _ {D : Type 0} (d : Ghosts D) (base : ℕ) (all older : List Logged) wher
           working = works;
           based = same ∙ h.based;
           made = h.made;
+          starts = h.starts;
           spells = h.spells;
           mid = h.mid;
           in_batch = onward;
@@ -110,6 +111,7 @@ module _ {D : Type 0} (d : Ghosts D) (base : ℕ) (all older : List Logged) wher
         working = works;
         based = same ∙ h.based;
         made = subst (λ (s : Files). IsMade (s Log)) (sym seen) h.made;
+        starts = ap (λ (s : Files). base_of (s Log)) seen ∙ h.starts;
         spells = ap (λ (s : Files). log_of base (s Log)) seen ∙ h.spells;
         mid = t.mid;
         in_batch = ap (λ (k : ℕ). records_from 0 k (rest_of new) older) start ∙ t.in_batch;
@@ -129,6 +131,7 @@ module _ {D : Type 0} (d : Ghosts D) (base : ℕ) (all older : List Logged) wher
         tells = h.tells;
         based = same ∙ h.based;
         made = subst (λ (s : Files). IsMade (s Log)) (sym seen) h.made;
+        starts = ap (λ (s : Files). base_of (s Log)) seen ∙ h.starts;
         spells = ap (λ (s : Files). log_of base (s Log)) seen ∙ h.spells;
       }
 
@@ -137,10 +140,10 @@ module _ {D : Type 0} (d : Ghosts D) (base : ℕ) (all older : List Logged) wher
   batch_taken_here old disk h place refused = omega (arith, refused.refused h.ahead h.unread, h.room, place, h.based)
 
 -- behind the last batch, with nothing in the buffer
-pub opened : {D : Type 0} (d : Ghosts D) (base : ℕ) (all older : List Logged) (opening : Opening) (log : LogFile) (disk : D) → IsReady d opening.gate disk → has_failed opening.gate ≡ false → Ended d base all older opening disk
+pub opened : {D : Type 0} (d : Ghosts D) (base : ℕ) (all older : List Logged) (opening : Opening) (log : LogFile) (disk : D) → StartsAs opening.gate (d.seen disk Log) → IsReady d opening.gate disk → has_failed opening.gate ≡ false → Ended d base all older opening disk
     → (log.gate ≡ opening.gate) × (log.base ≡ opening.base) × (log.used ≡ 0) × (log.failed ≡ false) → IsLog d base all all log disk
-opened d base all older opening log disk ready usable e is =
-    let at = placed d opening.gate disk opening.of_log ready usable e.tells in
+opened d base all older opening log disk starts ready usable e is =
+    let at = placed d opening.gate disk opening.of_log starts ready usable e.tells in
     let place : place_of log.gate ≡ place_of opening.gate = ap place_of is.0 in
     let below = log_end base (d.seen disk Log) at.before all at.is e.spells in
     record {
@@ -148,6 +151,7 @@ opened d base all older opening log disk ready usable e is =
       working = is.3;
       based = is.1 ∙ e.based;
       made = e.made;
+      starts = e.starts;
       on_disk = e.spells;
       in_buffer = ap (λ (k : ℕ). records_from 0 (batch_lsn log) (take k log.buffer.items) all) is.2;
       front = record { newer = []; is = refl };
@@ -155,43 +159,47 @@ opened d base all older opening log disk ready usable e is =
     }
 
 -- the batches of a file that has a list
-by_batches : (base : ℕ) (o : Option (List (List ℕ))) (all : List Logged) → spelled_by base o ≡ Some all → (bs : List (List ℕ)) × (o ≡ Some bs)
-by_batches base None all is = let never : None ≡ Some all = is in cc
-by_batches base (Some bs) all is = (bs, refl)
+by_batches : (base place : ℕ) (o : Option (List (List ℕ))) (all : List Logged) → spelled_by base place o ≡ Some all → (bs : List (List ℕ)) × (o ≡ Some bs)
+by_batches base place None all is = let never : None ≡ Some all = is in cc
+by_batches base place (Some bs) all is = (bs, refl)
 
-pub log_batches : (base : ℕ) (file : List ℕ) (all : List Logged) → log_of base file ≡ Some all → (bs : List (List ℕ)) × (batches 31 file ≡ Some bs)
-log_batches base file all is = by_batches base (batches 31 file) all is
+pub log_batches : (base : ℕ) (file : List ℕ) (all : List Logged) → log_of base file ≡ Some all → (bs : List (List ℕ)) × (batches (first_gate file) file ≡ Some bs)
+log_batches base file all is = by_batches base (first_gate file) (batches (first_gate file) file) all is
 
 -- an opening before its first record
-pub started : {D : Type 0} (d : Ghosts D) (base : ℕ) (all : List Logged) (gate : Gate) (opening : Opening) (disk : D) → IsOfLog gate → place_of gate ≡ 31 → d.tells → HasLog base all (d.seen disk Log)
-    → (opening.gate ≡ gate) × (opening.base ≡ base) × (opening.at ≡ 0) × (opening.end ≡ 0) × (opening.behind ≡ 31) × (opening.failed ≡ false) → IsOpening d base all [] opening disk
-started d base all gate opening disk of first told has is =
+pub started : {D : Type 0} (d : Ghosts D) (base : ℕ) (all : List Logged) (gate : Gate) (opening : Opening) (disk : D) → IsOfLog gate → StartsAs gate (d.seen disk Log) → place_of gate ≡ first_of gate → d.tells → HasLog base all (d.seen disk Log)
+    → (opening.gate ≡ gate) × (opening.base ≡ base_at gate) × (opening.at ≡ 0) × (opening.end ≡ 0) × (opening.behind ≡ place_of gate) × (opening.failed ≡ false) → IsOpening d base all [] opening disk
+started d base all gate opening disk of starts first told has is =
     let bs = log_batches base (d.seen disk Log) all has.spells in
     let nothing : 0 ≡ opening.end - opening.at = omega (arith, is.2, is.3) in
+    let at : place_of gate ≡ first_gate (d.seen disk Log) = first ∙ starts.first in
+    let behind : opening.behind ≡ first_gate (d.seen disk Log) = is.4 ∙ at in
     let unread_is : unread d gate disk ≡ Some bs.0 =
-    subst (λ (f : FileId). batches_from (place_of gate) (d.seen disk f) ≡ Some bs.0) (sym of.file) (ap (λ (n : ℕ). batches_from n (d.seen disk Log)) first ∙ bs.1) in
+    subst (λ (f : FileId). batches_from (place_of gate) (d.seen disk f) ≡ Some bs.0) (sym of.file) (ap (λ (n : ℕ). batches_from n (d.seen disk Log)) at ∙ bs.1) in
     let room = log_room base (d.seen disk Log) bs.0 all bs.1 has.spells in
     record {
       tells = told;
       working = is.5;
-      based = is.1;
+      based = is.1 ∙ starts.base ∙ has.starts;
       made = has.made;
+      starts = has.starts;
       spells = has.spells;
       mid = [];
       in_batch = ap (λ (k : ℕ). records_from 0 (base + position_of opening) (take k (drop opening.at opening.bytes.items)) []) (sym nothing);
       ahead = bs.0;
       unread = ap (λ (g : Gate). unread d g disk) is.0 ∙ unread_is;
-      onward = ap (λ (k : ℕ). batches_records (base + k) bs.0 []) is.4 ∙ log_records base (d.seen disk Log) bs.0 all bs.1 has.spells;
-      room = omega (arith, room, is.4);
+      onward = ap (λ (k : ℕ). batches_records (base + k) bs.0 []) behind ∙ log_records base (d.seen disk Log) bs.0 all bs.1 has.spells;
+      room = omega (arith, room, behind);
     }
 
 -- the opening on any bytes, before its first record
-pub begun_start : {D : Type 0} (d : Ghosts D) (base : ℕ) (gate : Gate) (opening : Opening) (disk : D) → place_of gate ≡ 31 → has_failed gate ≡ false → IsReading d gate disk
-    → (opening.gate ≡ gate) × (opening.base ≡ base) × (opening.at ≡ 0) × (opening.end ≡ 0) × (opening.behind ≡ 31) × (opening.failed ≡ false) → IsBegun d opening disk
-begun_start d base gate opening disk first usable reading is = record {
+pub begun_start : {D : Type 0} (d : Ghosts D) (gate : Gate) (opening : Opening) (disk : D) → (d.tells → StartsAs gate (d.seen disk Log)) → has_failed gate ≡ false → IsReading d gate disk
+    → (opening.gate ≡ gate) × (opening.base ≡ base_at gate) × (opening.at ≡ 0) × (opening.end ≡ 0) × (opening.behind ≡ place_of gate) × (opening.failed ≡ false) → IsBegun d opening disk
+begun_start d gate opening disk starts usable reading is = record {
   reading = subst (λ (g : Gate). IsReading d g disk) (sym is.0) reading;
+  starts = λ told. subst (λ (g : Gate). StartsAs g (d.seen disk Log)) (sym is.0) (starts told);
   working = λ works. ap has_failed is.0 ∙ usable;
-  behind = λ works. is.4 ∙ sym (ap place_of is.0 ∙ first);
+  behind = λ works. is.4 ∙ sym (ap place_of is.0);
 }
 
 -- what an answer of none says, and one of some

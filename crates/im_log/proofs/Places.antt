@@ -9,6 +9,7 @@ use Rattle.im_types.specs.Histories.{IsRecordOf}
 use Rattle.im_disk.specs.declared.disk.Disk.{Ghosts}
 use Rattle.im_gate.specs.Batches.{batches_from, batch, batch_length, is_whole, size_of}
 use Rattle.im_gate.specs.Gate.{place_of}
+use Rattle.im_gate.specs.Header.{first_gate}
 use Rattle.im_gate.proofs.BatchLemmas.{Sizes, sizes, from_drop, opened, refused, shut, batch_long}
 use Rattle.im_record.specs.Entry.{Entry}
 use Rattle.im_record.specs.Reading.{entry_of}
@@ -152,10 +153,10 @@ found_in base place file (b ∷ bs) end older log r there le is has =
 pub stands : {D : Type 0} (d : Ghosts D) (base : ℕ) (all durable : List Logged) (log : LogFile) (disk : D) (r : Logged) → IsOpen d log disk → IsLog d base all durable log disk → IsRecordOf r all
     → InFile base (d.seen disk Log) (place_of log.gate) r ⊎ InBytes (batch_lsn log) (buffered log) r
 stands d base all durable log disk r is_open h has =
-    let at = placed d log.gate disk log.of_log is_open.ready (is_open.working h.working) h.tells in
+    let at = placed d log.gate disk log.of_log (is_open.starts h.tells) is_open.ready (is_open.working h.working) h.tells in
     ⊎_elim
     (λ (was : IsRecordOf r durable). ⊎_elim (λ (never : ⊥). absurd never) (λ (i : InFile base (d.seen disk Log) (place_of log.gate) r). inl i)
-    (found_in base 31 (d.seen disk Log) at.before (place_of log.gate) [] durable r at.is (omega (arith, at.place)) (log_records base (d.seen disk Log) at.before durable at.is h.on_disk) was))
+    (found_in base (first_gate (d.seen disk Log)) (d.seen disk Log) at.before (place_of log.gate) [] durable r at.is (omega (arith, at.place)) (log_records base (d.seen disk Log) at.before durable at.is h.on_disk) was))
     (λ (i : InBytes (batch_lsn log) (buffered log) r). inr i)
     (found 0 (batch_lsn log) (buffered log) durable all r h.in_buffer has)
 

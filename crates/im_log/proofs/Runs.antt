@@ -10,10 +10,11 @@ use Rattle.im_disk.specs.Disk.{Files, Only}
 use Rattle.im_disk.specs.Runs.{LeavesIn}
 use Rattle.im_disk.proofs.Runs.{in_started, in_weakened}
 use Rattle.im_gate.specs.Batches.{batches, batches_from, with_batch, IsBeforeOrWith, size_of}
-use Rattle.im_gate.specs.Header.{IsMade}
-use Rattle.im_gate.specs.Gate.{file_of, first_of, place_of, has_failed, logged, IsReady}
+use Rattle.im_gate.specs.Header.{base_of, first_gate, StartsAlike, IsMade}
+use Rattle.im_gate.specs.Gate.{file_of, first_of, place_of, has_failed, logged, InOneFile, StartsAs, IsReady}
 use Rattle.im_gate.specs.declared.gate.Gate.{Gate}
 use Rattle.im_gate.proofs.Frames.{ready_place}
+use Rattle.im_gate.proofs.Starts.{front_starts, front_made}
 use Rattle.im_record.specs.Entry.{Entry}
 use Rattle.im_record.specs.Reading.{entry_of}
 use Rattle.im_log.specs.declared.log_file.LogFile.{LogFile}
@@ -21,28 +22,28 @@ use Rattle.im_log.specs.Gates.{IsOfLog}
 use Rattle.im_log.specs.Spelled.{logged_at, records_from, spelled_by, log_of, last_lsn}
 use Rattle.im_log.specs.LogFile.{buffered, batch_lsn, next_lsn, IsOpen, IsLog}
 use Rattle.im_log.specs.Kept.{HasLog, HasMore, SpellsEither, Appended, Forced}
-use Rattle.im_log.proofs.Spells.{Whole, push, log_with}
+use Rattle.im_log.proofs.Spells.{Whole, push, log_same, log_with}
 
 pub waiting : (log : LogFile) → length (buffered log) ≡ log.used
 waiting log = length-take-le log.used log.buffer.items (omega (arith, log.sized, log.within))
 
 -- a fact of the gate's file and first gate is one of the log's
-pub of_log : (gate : Gate) → IsOfLog gate → (P : FileId → ℕ → Type 0) → P (file_of gate) (first_of gate) → P Log 31
-of_log gate is P p = subst (λ (f : FileId). P f 31) is.file (subst (λ (n : ℕ). P (file_of gate) n) is.first p)
+pub of_log : (gate : Gate) (first : ℕ) → IsOfLog gate → first_of gate ≡ first → (P : FileId → ℕ → Type 0) → P (file_of gate) (first_of gate) → P Log first
+of_log gate first is at P p = subst (λ (f : FileId). P f first) is.file (subst (λ (n : ℕ). P (file_of gate) n) at p)
 
 -- where the last gate stands
 pub record Placed {D : Type 0} (d : Ghosts D) (gate : Gate) (disk : D) : Type 0 where
   pub before : List (List ℕ)
-  pub is : batches 31 (d.seen disk Log) ≡ Some before
-  pub place : place_of gate ≡ 31 + size_of before
+  pub is : batches (first_gate (d.seen disk Log)) (d.seen disk Log) ≡ Some before
+  pub place : place_of gate ≡ first_gate (d.seen disk Log) + size_of before
 
-pub placed : {D : Type 0} (d : Ghosts D) (gate : Gate) (disk : D) → IsOfLog gate → IsReady d gate disk → has_failed gate ≡ false → d.tells → Placed d gate disk
-placed d gate disk of ready works told =
+pub placed : {D : Type 0} (d : Ghosts D) (gate : Gate) (disk : D) → IsOfLog gate → StartsAs gate (d.seen disk Log) → IsReady d gate disk → has_failed gate ≡ false → d.tells → Placed d gate disk
+placed d gate disk of starts ready works told =
     let at = ready_place d gate disk ready works told in
     record {
       before = at.0;
-      is = of_log gate of (λ f n. batches n (d.seen disk f) ≡ Some at.0) at.1;
-      place = omega (arith, at.2, of.first);
+      is = of_log gate (first_gate (d.seen disk Log)) of starts.first (λ f n. batches n (d.seen disk f) ≡ Some at.0) at.1;
+      place = omega (arith, at.2, starts.first);
     }
 
 -- a gate whose batches can be told lies within its file
@@ -52,12 +53,8 @@ gate_within zero (byte ∷ file) bs is = omega arith
 gate_within (suc place) (byte ∷ file) bs is = omega (arith, gate_within place file bs is)
 
 -- what stands before a gate makes it a made file
-pub made_kept : (file c : List ℕ) (bs : List (List ℕ)) → take 31 c ≡ take 31 file → batches 31 c ≡ Some bs → IsMade file → IsMade c
-made_kept file c bs same is made = record {
-  within = gate_within 31 c bs is;
-  made = sym (get_or-take 31 c 0 0 (omega arith)) ∙ ap (λ (l : List ℕ). get_or l 0 0) same ∙ get_or-take 31 file 0 0 (omega arith) ∙ made.made;
-  named = sym (drop-take 1 30 c) ∙ ap (λ (l : List ℕ). drop 1 l) same ∙ drop-take 1 30 file ∙ made.named;
-}
+pub made_kept : (file c : List ℕ) (bs : List (List ℕ)) → take (first_gate file) c ≡ take (first_gate file) file → batches (first_gate file) c ≡ Some bs → IsMade file → IsMade c
+made_kept file c bs same is made = front_made file c same (gate_within (first_gate file) c bs is) made
 
 -- two facts of one run
 pub both_leave : {D : Type 0} (d : Ghosts D) (file : FileId) (old new : D) (P Q : List ℕ → Type 0) → LeavesIn d file old new P → LeavesIn d file old new Q → LeavesIn d file old new (λ c. P c × Q c)
@@ -79,16 +76,34 @@ seen_now d file old new P counts_now may_stay run told =
     let left = run.each told (d.seen new) (counts_now (d.moment old) (d.seen new) run.later (may_stay told)) in
     left.2.changed
 
+-- behind a put the file says where the log starts as before
+pub alike_now : {D : Type 0} (d : Ghosts D) (gate : Gate) (old new : D) → IsOfLog gate → StartsAs gate (d.seen old Log)
+    → ((t : ℕ) (c : Files) → t ≤ d.moment new → d.may_leave new c → d.left_since new t c) → (d.tells → d.may_leave new (d.seen new))
+    → LeavesIn d (file_of gate) old new (λ c. take (first_of gate) c ≡ take (first_of gate) (d.seen old (file_of gate))) → d.tells → StartsAlike (d.seen old Log) (d.seen new Log)
+alike_now d gate old new of starts counts_now may_stay front told =
+    let file = d.seen old Log in
+    let Q : List ℕ → Type 0 = λ bytes. take (first_gate file) bytes ≡ take (first_gate file) file in
+    let front_log = of_log gate (first_gate file) of starts.first (λ f n. LeavesIn d f old new (λ c. take n c ≡ take n (d.seen old f))) front in
+    front_starts file (d.seen new Log) (seen_now d Log old new Q counts_now may_stay front_log told)
+
+pub starts_kept : (gate new : Gate) (file c : List ℕ) → StartsAs gate file → InOneFile gate new → StartsAlike file c → StartsAs new c
+starts_kept gate new file c starts same alike = record {
+  first = same.first ∙ starts.first ∙ sym alike.gate;
+  base = same.base ∙ starts.base ∙ sym alike.base;
+  least = same.least ∙ starts.least ∙ sym alike.number;
+}
+
 pub either_made : (base : ℕ) (durable all : List Logged) (file : List ℕ) → SpellsEither base durable all file → IsMade file
 either_made base durable all file has = ⊎_elim (λ (h : HasLog base durable file). h.made) (λ (h : HasLog base all file). h.made) has
 
 module _ {D : Type 0} (d : Ghosts D) (base : ℕ) (all durable : List Logged) where
   -- the file with the buffer as a batch of its own
-  with_buffer : (log : LogFile) (disk : D) → IsOpen d log disk → IsLog d base all durable log disk → 1 ≤ log.used → (c : List ℕ) → batches 31 c ≡ with_batch (buffered log) (batches 31 (d.seen disk Log)) → log_of base c ≡ Some all
-  with_buffer log disk is_open h some c put =
-      let at = placed d log.gate disk log.of_log is_open.ready (is_open.working h.working) h.tells in
-      log_with base (place_of log.gate) (d.seen disk Log) c (buffered log) at.before durable all at.is at.place (omega (arith, is_open.room h.working some, h.based, waiting log)) h.on_disk
-      (ap (λ (k : ℕ). records_from 0 (k + (place_of log.gate + 5)) (buffered log) durable) (sym h.based) ∙ h.in_buffer) put
+  with_buffer : (log : LogFile) (disk : D) → IsOpen d log disk → IsLog d base all durable log disk → 1 ≤ log.used → (c : List ℕ) → first_gate c ≡ first_gate (d.seen disk Log)
+      → batches (first_gate (d.seen disk Log)) c ≡ with_batch (buffered log) (batches (first_gate (d.seen disk Log)) (d.seen disk Log)) → log_of base c ≡ Some all
+  with_buffer log disk is_open h some c same put =
+      let at = placed d log.gate disk log.of_log (is_open.starts h.tells) is_open.ready (is_open.working h.working) h.tells in
+      log_with base (place_of log.gate) (d.seen disk Log) c (buffered log) at.before durable all same at.is at.place (omega (arith, is_open.room h.working some, h.based, waiting log)) h.on_disk
+      (ap (λ (k : ℕ). records_from 0 (k + (place_of log.gate + 5)) (buffered log) durable) (sym h.based) ∙ h.in_buffer) (ap (λ (n : ℕ). batches n c) same ∙ put)
 
   -- what a stop within a force leaves
   pub force_stops : (log : LogFile) (disk new_disk : D) (records : List ℕ) → records ≡ buffered log → 1 ≤ log.used → IsOpen d log disk → IsLog d base all durable log disk
@@ -96,49 +111,66 @@ module _ {D : Type 0} (d : Ghosts D) (base : ℕ) (all durable : List Logged) wh
       → LeavesIn d (file_of log.gate) disk new_disk (λ bytes. take (first_of log.gate) bytes ≡ take (first_of log.gate) (d.seen disk (file_of log.gate)))
       → LeavesIn d Log disk new_disk (SpellsEither base durable all)
   force_stops log disk new_disk records are some is_open h run front =
-      let run_log = of_log log.gate log.of_log (λ f n. LeavesIn d f disk new_disk (IsBeforeOrWith n records (batches n (d.seen disk f)))) run in
-      let front_log = of_log log.gate log.of_log (λ f n. LeavesIn d f disk new_disk (λ bytes. take n bytes ≡ take n (d.seen disk f))) front in
-      let at = placed d log.gate disk log.of_log is_open.ready (is_open.working h.working) h.tells in
-      let P = IsBeforeOrWith 31 records (batches 31 (d.seen disk Log)) in
-      let Q : List ℕ → Type 0 = λ bytes. take 31 bytes ≡ take 31 (d.seen disk Log) in
+      let file = d.seen disk Log in
+      let starts = is_open.starts h.tells in
+      let run_log = of_log log.gate (first_gate file) log.of_log starts.first (λ f n. LeavesIn d f disk new_disk (IsBeforeOrWith n records (batches n (d.seen disk f)))) run in
+      let front_log = of_log log.gate (first_gate file) log.of_log starts.first (λ f n. LeavesIn d f disk new_disk (λ bytes. take n bytes ≡ take n (d.seen disk f))) front in
+      let at = placed d log.gate disk log.of_log starts is_open.ready (is_open.working h.working) h.tells in
+      let P = IsBeforeOrWith (first_gate file) records (batches (first_gate file) file) in
+      let Q : List ℕ → Type 0 = λ bytes. take (first_gate file) bytes ≡ take (first_gate file) file in
       in_weakened d Log disk new_disk (λ c. P c × Q c) (SpellsEither base durable all) (both_leave d Log disk new_disk P Q run_log front_log)
       (λ told c left. ⊎_elim
-      (λ before. inl (record { made = made_kept (d.seen disk Log) c at.before left.1 (before ∙ at.is) h.made; spells = ap (spelled_by base) before ∙ h.on_disk }))
+      (λ before. inl (record {
+        made = made_kept file c at.before left.1 (before ∙ at.is) h.made;
+        starts = (front_starts file c left.1).base ∙ h.starts;
+        spells = log_same base file c (front_starts file c left.1).gate (ap (λ (n : ℕ). batches n c) (front_starts file c left.1).gate ∙ before) ∙ h.on_disk;
+      }))
       (λ put. inr (record {
-        made = made_kept (d.seen disk Log) c (at.before ++ records ∷ []) left.1 (put ∙ ap (with_batch records) at.is) h.made;
-        spells = with_buffer log disk is_open h some c (put ∙ ap (λ (l : List ℕ). with_batch l (batches 31 (d.seen disk Log))) are);
+        made = made_kept file c (at.before ++ records ∷ []) left.1 (put ∙ ap (with_batch records) at.is) h.made;
+        starts = (front_starts file c left.1).base ∙ h.starts;
+        spells = with_buffer log disk is_open h some c (front_starts file c left.1).gate (put ∙ ap (λ (l : List ℕ). with_batch l (batches (first_gate file) file)) are);
       }))
       left.0)
 
   -- behind a force
   pub forced : (log new : LogFile) (disk new_disk : D) (records : List ℕ) → records ≡ buffered log → 1 ≤ log.used → IsOpen d log disk → IsLog d base all durable log disk
-      → (d.tells → logged d new.gate new_disk ≡ with_batch records (logged d log.gate disk)) → IsMade (d.seen new_disk Log)
+      → (d.tells → logged d new.gate new_disk ≡ with_batch records (logged d log.gate disk)) → first_of new.gate ≡ first_of log.gate → StartsAlike (d.seen disk Log) (d.seen new_disk Log) → IsMade (d.seen new_disk Log)
       → new.failed ≡ false → new.base ≡ log.base → new.used ≡ 0 → place_of new.gate ≡ place_of log.gate + (length records + 5) → Forced d base all durable disk new new_disk
-  forced log new disk new_disk records are some is_open h put made works same used place =
-      let put_log : batches 31 (d.seen new_disk Log) ≡ with_batch records (batches 31 (d.seen disk Log)) =
-      of_log log.gate log.of_log (λ f n. batches 31 (d.seen new_disk Log) ≡ with_batch records (batches n (d.seen disk f)))
-      (of_log new.gate new.of_log (λ f n. batches n (d.seen new_disk f) ≡ with_batch records (logged d log.gate disk)) (put h.tells)) in
+  forced log new disk new_disk records are some is_open h put first alike made works same used place =
+      let file = d.seen disk Log in
+      let starts = is_open.starts h.tells in
+      let put_log : batches (first_gate file) (d.seen new_disk Log) ≡ with_batch records (batches (first_gate file) file) =
+      of_log log.gate (first_gate file) log.of_log starts.first (λ f n. batches (first_gate file) (d.seen new_disk Log) ≡ with_batch records (batches n (d.seen disk f)))
+      (of_log new.gate (first_gate file) new.of_log (first ∙ starts.first) (λ f n. batches n (d.seen new_disk f) ≡ with_batch records (logged d log.gate disk)) (put h.tells)) in
       record {
         log = record {
           tells = h.tells;
           working = works;
           based = same ∙ h.based;
           made = made;
-          on_disk = with_buffer log disk is_open h some (d.seen new_disk Log) (put_log ∙ ap (λ (l : List ℕ). with_batch l (batches 31 (d.seen disk Log))) are);
+          starts = alike.base ∙ h.starts;
+          on_disk = with_buffer log disk is_open h some (d.seen new_disk Log) alike.gate (put_log ∙ ap (λ (l : List ℕ). with_batch l (batches (first_gate file) file)) are);
           in_buffer = ap (λ (k : ℕ). records_from 0 (batch_lsn new) (take k new.buffer.items) all) used;
           front = record { newer = []; is = refl };
           below = omega (arith, h.below, same, used, place, waiting log, ap length are);
         };
-        file = record { more = records ∷ []; grown = λ bs is. put_log ∙ ap (with_batch records) is };
+        file = record { more = records ∷ []; grown = λ bs is. ap (λ (n : ℕ). batches n (d.seen new_disk Log)) alike.gate ∙ put_log ∙ ap (with_batch records) is };
       }
+
+  -- with nothing buffered all is durable
+  pub all_durable : (log : LogFile) (disk : D) → log.used ≡ 0 → IsLog d base all durable log disk → IsLog d base all all log disk
+  all_durable log disk none h =
+      let empty : Some all ≡ Some durable = sym h.in_buffer ∙ ap (λ (k : ℕ). records_from 0 (batch_lsn log) (take k log.buffer.items) durable) none in
+      let same : all ≡ durable = cc in
+      subst (λ (l : List Logged). IsLog d base all l log disk) (sym same) h
 
   -- before the first call
   pub unmoved : (log : LogFile) (disk : D) → ((c : Files) → d.left_since disk (d.moment disk) c → d.may_leave disk c) → IsOpen d log disk → IsLog d base all durable log disk
       → LeavesIn d Log disk disk (SpellsEither base durable all)
   unmoved log disk only_now is_open h =
       in_started d Log disk (SpellsEither base durable all) only_now
-      (of_log log.gate log.of_log (λ f n. Only f (d.seen disk) (d.may_leave disk)) (is_open.ready.reading.durable (is_open.working h.working)))
-      (λ told. inl (record { made = h.made; spells = h.on_disk }))
+      (subst (λ (f : FileId). Only f (d.seen disk) (d.may_leave disk)) log.of_log.file (is_open.ready.reading.durable (is_open.working h.working)))
+      (λ told. inl (record { made = h.made; starts = h.starts; spells = h.on_disk }))
 
   put_ok : (log new : LogFile) (disk : D) (bytes : List ℕ) (entry : Entry) → IsLog d base all durable log disk → entry_of bytes ≡ Some entry → Whole bytes → buffered new ≡ buffered log ++ bytes → new.used ≡ log.used + length bytes
       → new.base ≡ log.base → new.gate ≡ log.gate → new.failed ≡ log.failed → IsLog d base (logged_at (next_lsn log) entry ∷ all) durable new disk
@@ -151,6 +183,7 @@ module _ {D : Type 0} (d : Ghosts D) (base : ℕ) (all durable : List Logged) wh
         working = failed ∙ h.working;
         based = same ∙ h.based;
         made = h.made;
+        starts = h.starts;
         on_disk = h.on_disk;
         in_buffer =
             ap (λ (k : ℕ). records_from 0 k (buffered new) durable) first

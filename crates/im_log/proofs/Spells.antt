@@ -4,7 +4,9 @@ use Rattle.std.proofs.lemmas.Bool.Decides.{nat_tests}
 use Rattle.std.proofs.lemmas.List.{take_all, take-append-le}
 use Rattle.std.specs.Int.{w32, from_be_bytes}
 use Rattle.im_gate.specs.Batches.{batches, size_of, with_batch}
+use Rattle.im_gate.specs.Header.{first_gate}
 use Rattle.im_gate.proofs.BatchLemmas.{size_of-push}
+use Rattle.im_gate.proofs.Starts.{gate_behind}
 use Rattle.im_types.specs.Records.{Logged}
 use Rattle.im_record.specs.Entry.{Entry}
 use Rattle.im_record.specs.Reading.{entry_of}
@@ -118,31 +120,37 @@ batch_push lsn at (b ∷ bs) last older log all is place more =
     by_first lsn b bs last older log all (records_from 0 (lsn + 5) b older) refl is (λ mid here. batch_push (lsn + (5 + length b)) at bs last mid log all here (omega (arith, place)) more)
 
 -- the last gate lies at 2^62 or below
-spelled_room : (base : ℕ) (bs : List (List ℕ)) (log : List Logged) → spelled_by base (Some bs) ≡ Some log → base + (31 + size_of bs) ≤ 2 ^ 62
-spelled_room base bs log is = grind (arith, nat_tests)
+spelled_room : (base place : ℕ) (bs : List (List ℕ)) (log : List Logged) → spelled_by base place (Some bs) ≡ Some log → base + (place + size_of bs) ≤ 2 ^ 62
+spelled_room base place bs log is = grind (arith, nat_tests)
 
-spelled_records : (base : ℕ) (bs : List (List ℕ)) (log : List Logged) → spelled_by base (Some bs) ≡ Some log → batches_records (base + 31) bs [] ≡ Some log
-spelled_records base bs log is = grind (arith, nat_tests)
+spelled_records : (base place : ℕ) (bs : List (List ℕ)) (log : List Logged) → spelled_by base place (Some bs) ≡ Some log → batches_records (base + place) bs [] ≡ Some log
+spelled_records base place bs log is = grind (arith, nat_tests)
 
-spelled_is : (base : ℕ) (bs : List (List ℕ)) (log : List Logged) → base + (31 + size_of bs) ≤ 2 ^ 62 → batches_records (base + 31) bs [] ≡ Some log → spelled_by base (Some bs) ≡ Some log
-spelled_is base bs log room is = grind (arith, nat_tests, room, is)
+spelled_is : (base place : ℕ) (bs : List (List ℕ)) (log : List Logged) → base + (place + size_of bs) ≤ 2 ^ 62 → batches_records (base + place) bs [] ≡ Some log → spelled_by base place (Some bs) ≡ Some log
+spelled_is base place bs log room is = grind (arith, nat_tests, room, is)
 
 -- the log of a file with these batches
-pub log_room : (base : ℕ) (file : List ℕ) (bs : List (List ℕ)) (log : List Logged) → batches 31 file ≡ Some bs → log_of base file ≡ Some log → base + (31 + size_of bs) ≤ 2 ^ 62
-log_room base file bs log is spells = spelled_room base bs log (sym (ap (spelled_by base) is) ∙ spells)
+pub log_room : (base : ℕ) (file : List ℕ) (bs : List (List ℕ)) (log : List Logged) → batches (first_gate file) file ≡ Some bs → log_of base file ≡ Some log → base + (first_gate file + size_of bs) ≤ 2 ^ 62
+log_room base file bs log is spells = spelled_room base (first_gate file) bs log (sym (ap (spelled_by base (first_gate file)) is) ∙ spells)
 
-pub log_records : (base : ℕ) (file : List ℕ) (bs : List (List ℕ)) (log : List Logged) → batches 31 file ≡ Some bs → log_of base file ≡ Some log → batches_records (base + 31) bs [] ≡ Some log
-log_records base file bs log is spells = spelled_records base bs log (sym (ap (spelled_by base) is) ∙ spells)
+pub log_records : (base : ℕ) (file : List ℕ) (bs : List (List ℕ)) (log : List Logged) → batches (first_gate file) file ≡ Some bs → log_of base file ≡ Some log → batches_records (base + first_gate file) bs [] ≡ Some log
+log_records base file bs log is spells = spelled_records base (first_gate file) bs log (sym (ap (spelled_by base (first_gate file)) is) ∙ spells)
 
-pub log_is : (base : ℕ) (file : List ℕ) (bs : List (List ℕ)) (log : List Logged) → batches 31 file ≡ Some bs → base + (31 + size_of bs) ≤ 2 ^ 62 → batches_records (base + 31) bs [] ≡ Some log → log_of base file ≡ Some log
-log_is base file bs log is room records = ap (spelled_by base) is ∙ spelled_is base bs log room records
+pub log_is : (base : ℕ) (file : List ℕ) (bs : List (List ℕ)) (log : List Logged) → batches (first_gate file) file ≡ Some bs → base + (first_gate file + size_of bs) ≤ 2 ^ 62 → batches_records (base + first_gate file) bs [] ≡ Some log
+    → log_of base file ≡ Some log
+log_is base file bs log is room records = ap (spelled_by base (first_gate file)) is ∙ spelled_is base (first_gate file) bs log room records
+
+-- the log of a file with the same batches behind a first gate at the same place
+pub log_same : (base : ℕ) (file new : List ℕ) → first_gate new ≡ first_gate file → batches (first_gate new) new ≡ batches (first_gate file) file → log_of base new ≡ log_of base file
+log_same base file new same put = ap (λ (n : ℕ). spelled_by base n (batches (first_gate new) new)) same ∙ ap (spelled_by base (first_gate file)) put
 
 -- one batch more
-pub log_with : (base place : ℕ) (file new last : List ℕ) (before : List (List ℕ)) (durable all : List Logged) → batches 31 file ≡ Some before → place ≡ 31 + size_of before → base + (place + 5) + length last ≤ 2 ^ 62
-    → log_of base file ≡ Some durable → records_from 0 (base + (place + 5)) last durable ≡ Some all → batches 31 new ≡ with_batch last (batches 31 file) → log_of base new ≡ Some all
-log_with base place file new last before durable all is placed room spells more put =
-    log_is base new (before ++ last ∷ []) all (put ∙ ap (with_batch last) is) (omega (arith, room, placed, size_of-push before last))
-    (batch_push (base + 31) (base + (place + 5)) before last [] durable all (log_records base file before durable is spells) (omega (arith, placed)) more)
+pub log_with : (base place : ℕ) (file new last : List ℕ) (before : List (List ℕ)) (durable all : List Logged) → first_gate new ≡ first_gate file → batches (first_gate file) file ≡ Some before → place ≡ first_gate file + size_of before
+    → base + (place + 5) + length last ≤ 2 ^ 62 → log_of base file ≡ Some durable → records_from 0 (base + (place + 5)) last durable ≡ Some all → batches (first_gate new) new ≡ with_batch last (batches (first_gate file) file) → log_of base new ≡ Some all
+log_with base place file new last before durable all same is placed room spells more put =
+    log_is base new (before ++ last ∷ []) all (put ∙ ap (with_batch last) is) (omega (arith, room, placed, same, size_of-push before last))
+    (batch_push (base + first_gate new) (base + (place + 5)) before last [] durable all
+    (ap (λ (n : ℕ). batches_records (base + n) before []) same ∙ log_records base file before durable is spells) (omega (arith, placed, same)) more)
 
 ends_at : (base : ℕ) (o : Option Entry) (lsn byte : ℕ) (bytes : List ℕ) (older log : List Logged) → first_record (byte ∷ bytes) ≡ o → records_from 0 lsn (byte ∷ bytes) older ≡ Some log
     → ((now : List Logged) → last_lsn base now < suc lsn → records_from (record_size (byte ∷ bytes) - 1) (suc lsn) bytes now ≡ Some log → last_lsn base log < suc lsn + length bytes) → last_lsn base log < suc lsn + length bytes
@@ -167,8 +175,8 @@ batches_end base lsn [] older log below is = let e : older ≡ log = cc in omega
 batches_end base lsn (b ∷ bs) older log below is =
     omega (arith, end_by base (records_from 0 (lsn + 5) b older) lsn b bs older log below refl is (λ mid so here. batches_end base (lsn + (5 + length b)) bs mid log so here))
 
-pub log_end : (base : ℕ) (file : List ℕ) (bs : List (List ℕ)) (log : List Logged) → batches 31 file ≡ Some bs → log_of base file ≡ Some log → last_lsn base log < base + 31 + size_of bs
-log_end base file bs log is spells = batches_end base (base + 31) bs [] log (omega arith) (log_records base file bs log is spells)
+pub log_end : (base : ℕ) (file : List ℕ) (bs : List (List ℕ)) (log : List Logged) → batches (first_gate file) file ≡ Some bs → log_of base file ≡ Some log → last_lsn base log < base + first_gate file + size_of bs
+log_end base file bs log is spells = batches_end base (base + first_gate file) bs [] log (omega (arith, gate_behind file)) (log_records base file bs log is spells)
 
-pub not_refused : (base : ℕ) (file : List ℕ) (log : List Logged) → log_of base file ≡ Some log → batches 31 file ≡ None → ⊥
-not_refused base file log spells is = let never : None ≡ Some log = sym (ap (spelled_by base) is) ∙ spells in cc
+pub not_refused : (base : ℕ) (file : List ℕ) (log : List Logged) → log_of base file ≡ Some log → batches (first_gate file) file ≡ None → ⊥
+not_refused base file log spells is = let never : None ≡ Some log = sym (ap (spelled_by base (first_gate file)) is) ∙ spells in cc

@@ -9,25 +9,26 @@ use Rattle.im_disk.specs.declared.disk.Disk.{Ghosts}
 use Rattle.im_disk.specs.Disk.{Files}
 use Rattle.im_disk.specs.Runs.{LeavesIn, ChangesOnly}
 use Rattle.im_gate.specs.Batches.{batches}
-use Rattle.im_gate.specs.Header.{IsMade, IsUnmade}
+use Rattle.im_gate.specs.Header.{base_of, first_gate, IsMade, IsUnmade}
 use Rattle.im_record.specs.Entry.{Entry}
 use Rattle.im_log.specs.declared.log_file.LogFile.{LogFile}
 use Rattle.im_log.specs.Spelled.{logged_at, log_of}
 use Rattle.im_log.specs.LogFile.{IsLog}
 
--- The bytes are those of a made log, and spell this list.
+-- The bytes are those of a made log that starts at this LSN, and spell this list.
 pub record HasLog (base : ℕ) (all : List Logged) (bytes : List ℕ) : Type 0 where
   pub made : IsMade bytes
+  pub starts : base_of bytes ≡ base
   pub spells : log_of base bytes ≡ Some all
 
--- The bytes stand for this list: that of a made log, or none where no log was made yet.
+-- The bytes stand for this list: that of a made log, or none where no log was made yet. An unmade one starts where it will once it is made.
 abbrev pub IsLogOf : ℕ → List Logged → List ℕ → Type 0
-IsLogOf base all bytes = (IsUnmade bytes × (all ≡ [])) ⊎ HasLog base all bytes
+IsLogOf base all bytes = (IsUnmade bytes × (all ≡ []) × (base_of bytes ≡ base)) ⊎ HasLog base all bytes
 
 -- The files' bytes are a store's: those of a made log that spell this list, or no log and no pages.
 pub record IsStore (files : Files) : Type 0 where
   pub all : List Logged
-  pub spelled : IsLogOf 0 all (files Log)
+  pub spelled : IsLogOf (base_of (files Log)) all (files Log)
   pub bare : IsUnmade (files Log) → length (files Pages) ≡ 0
 
 -- The bytes have the one list or the other.
@@ -44,7 +45,7 @@ pub record SpellsBetween (base : ℕ) (durable all : List Logged) (bytes : List 
 -- The one file's batches are the other's and more at the end.
 pub record HasMore (old new : List ℕ) : Type 0 where
   pub more : List (List ℕ)
-  pub grown : (before : List (List ℕ)) → batches 31 old ≡ Some before → batches 31 new ≡ Some (before ++ more)
+  pub grown : (before : List (List ℕ)) → batches (first_gate old) old ≡ Some before → batches (first_gate new) new ≡ Some (before ++ more)
 
 module _ {D : Type 0} (d : Ghosts D) (base : ℕ) (all durable : List Logged) where
   -- The record joined the list, with an LSN above all before. What is durable may have grown.

@@ -4,8 +4,8 @@ use Rattle.im_types.specs.declared.file_id.FileId.TheVariants.{Log}
 use Rattle.im_types.specs.Records.{Logged}
 use Rattle.im_types.specs.Histories.{IsFront}
 use Rattle.im_disk.specs.declared.disk.Disk.{Ghosts}
-use Rattle.im_gate.specs.Gate.{IsReady, place_of, has_failed}
-use Rattle.im_gate.specs.Header.{IsMade}
+use Rattle.im_gate.specs.Gate.{IsReady, StartsAs, place_of, has_failed}
+use Rattle.im_gate.specs.Header.{base_of, IsMade}
 use Rattle.im_log.specs.declared.log_file.LogFile.{LogFile}
 use Rattle.im_log.specs.Spelled.{records_from, log_of, last_lsn}
 
@@ -32,9 +32,11 @@ pub record HasNoRoom (log : LogFile) : Type 0 where
   pub above : 2 ^ 62 < end_with log size
 
 module _ {D : Type 0} (d : Ghosts D) where
-  -- On any bytes: the gate is the last, and what is buffered ends at LSN 2^62 or below. After a failure it says nothing.
+  -- On any bytes: the gate is the last and says where the log starts, and what is buffered ends at LSN 2^62 or below. After a failure it
+  -- says no more than where the log starts.
   pub record IsOpen (log : LogFile) (disk : D) : Type 0 where
     pub ready : IsReady d log.gate disk
+    pub starts : d.tells → StartsAs log.gate (d.seen disk Log)
     pub working : log.failed ≡ false → has_failed log.gate ≡ false
     pub placed : log.failed ≡ false → log.base + place_of log.gate ≤ 2 ^ 62
     pub room : log.failed ≡ false → 1 ≤ log.used → next_lsn log ≤ 2 ^ 62
@@ -45,6 +47,7 @@ module _ {D : Type 0} (d : Ghosts D) where
     pub working : log.failed ≡ false
     pub based : log.base ≡ base
     pub made : IsMade (d.seen disk Log)
+    pub starts : base_of (d.seen disk Log) ≡ base
     pub on_disk : log_of base (d.seen disk Log) ≡ Some durable
     pub in_buffer : records_from 0 (batch_lsn log) (buffered log) durable ≡ Some all
     pub front : IsFront durable all

@@ -7,8 +7,8 @@ use Rattle.im_types.specs.Records.{Logged}
 use Rattle.im_types.specs.Histories.{IsFront}
 use Rattle.im_disk.specs.declared.disk.Disk.{Ghosts}
 use Rattle.im_gate.specs.Batches.{size_of}
-use Rattle.im_gate.specs.Gate.{IsReading, has_failed, place_of, unread}
-use Rattle.im_gate.specs.Header.{IsMade}
+use Rattle.im_gate.specs.Gate.{IsReading, StartsAs, has_failed, place_of, unread}
+use Rattle.im_gate.specs.Header.{base_of, IsMade}
 use Rattle.im_record.specs.Entry.{Entry}
 use Rattle.im_record.specs.Reading.{entry_of}
 use Rattle.im_log.specs.declared.opening.Opening.{Opening}
@@ -49,6 +49,7 @@ module _ {D : Type 0} (d : Ghosts D) where
   -- On any bytes.
   pub record IsBegun (opening : Opening) (disk : D) : Type 0 where
     pub reading : IsReading d opening.gate disk
+    pub starts : d.tells → StartsAs opening.gate (d.seen disk Log)
     pub working : opening.failed ≡ false → has_failed opening.gate ≡ false
     pub behind : opening.failed ≡ false → opening.behind ≡ place_of opening.gate
 
@@ -58,6 +59,7 @@ module _ {D : Type 0} (d : Ghosts D) where
     pub working : opening.failed ≡ false
     pub based : opening.base ≡ base
     pub made : IsMade (d.seen disk Log)
+    pub starts : base_of (d.seen disk Log) ≡ base
     pub spells : log_of base (d.seen disk Log) ≡ Some all
     -- those of the batch, and of the batches that were not read
     pub mid : List Logged
@@ -73,6 +75,7 @@ module _ {D : Type 0} (d : Ghosts D) where
     pub working : opening.failed ≡ false
     pub based : opening.base ≡ base
     pub made : IsMade (d.seen disk Log)
+    pub starts : base_of (d.seen disk Log) ≡ base
     pub spells : (mid all : List Logged) (ahead : List (List ℕ)) → records_from 0 (base + position_of opening) (rest_of opening) older ≡ Some mid → unread d opening.gate disk ≡ Some ahead
         → batches_records (base + opening.behind) ahead mid ≡ Some all → base + (opening.behind + size_of ahead) ≤ 2 ^ 62 → log_of base (d.seen disk Log) ≡ Some all
 
@@ -90,6 +93,7 @@ module _ {D : Type 0} (d : Ghosts D) where
       pub tells : d.tells
       pub based : new.base ≡ base
       pub made : IsMade (d.seen disk Log)
+      pub starts : base_of (d.seen disk Log) ≡ base
       pub spells : log_of base (d.seen disk Log) ≡ Some all
 
     pub record NextKept (new : Opening) (disk : D) (result : Result (Option ℕ) Fault) : Type 0 where

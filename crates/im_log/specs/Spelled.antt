@@ -3,6 +3,7 @@ use Rattle.std.specs.Prelude.{ℕ, zero, suc, ◌+◌, ◌-◌, ◌^◌, nat_le,
 use Rattle.std.specs.Int.{w32, from_be_bytes}
 use Rattle.im_types.specs.Records.{Logged}
 use Rattle.im_gate.specs.Batches.{batches, size_of}
+use Rattle.im_gate.specs.Header.{first_gate}
 use Rattle.im_record.specs.Entry.{Entry, transaction_of, prev_of, undo_next_of, page_of}
 use Rattle.im_record.specs.Reading.{entry_of}
 use Rattle.im_log.specs.Whats.{what_of}
@@ -41,14 +42,14 @@ batches_records lsn (batch ∷ rest) older =
       | Some log ↦ batches_records (lsn + (5 + length batch)) rest log
     ]
 
--- The same of a file's batches; none where the last gate would have an LSN above 2^62.
-abbrev pub spelled_by : ℕ → Option (List (List ℕ)) → Option (List Logged)
-spelled_by base None = None
-spelled_by base (Some bs) = if nat_le (base + (31 + size_of bs)) (2 ^ 62) then batches_records (base + 31) bs [] else None
+-- The same of a file's batches, whose first gate stands at this place; none where the last gate would have an LSN above 2^62.
+abbrev pub spelled_by : ℕ → ℕ → Option (List (List ℕ)) → Option (List Logged)
+spelled_by base place None = None
+spelled_by base place (Some bs) = if nat_le (base + (place + size_of bs)) (2 ^ 62) then batches_records (base + place) bs [] else None
 
 -- The log that a file's bytes spell, the newest first; an LSN is the base and the place in the file.
 abbrev pub log_of : ℕ → List ℕ → Option (List Logged)
-log_of base file = spelled_by base (batches 31 file)
+log_of base file = spelled_by base (first_gate file) (batches (first_gate file) file)
 
 -- The greatest LSN, or that of the file's first byte.
 abbrev pub last_lsn : ℕ → List Logged → ℕ

@@ -6,7 +6,7 @@ ghost use Rattle.im_types.specs.declared.file_id.FileId.TheVariants.{Log, Pages}
 ghost use Rattle.im_types.specs.Records.{Logged};
 ghost use Rattle.im_disk.specs.Disk.{Only};
 ghost use Rattle.im_disk.specs.Runs.{ChangesOnly};
-ghost use Rattle.im_gate.specs.Header.{IsUnmade};
+ghost use Rattle.im_gate.specs.Header.{base_of, IsUnmade};
 ghost use Rattle.im_log.specs.LogFile.{IsOpen, IsLog};
 ghost use Rattle.im_log.specs.Kept.{IsLogOf, IsStore, OpenKept};
 
@@ -17,27 +17,27 @@ use im_types::{Fault, FileId};
 use std::alloc::Global;
 
 /// Opens the log of a store, or makes it where no store was made yet: the log is unmade, and the file of pages is empty. Its
-/// first byte has LSN 0.
+/// first byte has the LSN that the file says.
 ///
 /// Refused `NotAStore` where the files' bytes are no store, with no device call made; `Device`; `Memory`.
 pub fn open_or_create<D: Disk>(alloc: Global, disk: &mut D) -> Result<LogFile, Fault>
     requires working { D.failed disk.old ≡ false }
     requires durable { Only Log (D.seen disk.old) (D.may_leave disk.old) }
     ensures ready { IfOk result (λ log. IsOpen D.Disk log disk.new) }
-    ensures kept { (all : List Logged) → D.tells → IsLogOf 0 all (D.seen disk.old Log) → (IsUnmade (D.seen disk.old Log) → length (D.seen disk.old Pages) ≡ 0)
-        → OpenKept D.Disk 0 all disk.old disk.new result }
-    ensures store { IfOk result (λ log. D.tells → (store : IsStore (D.seen disk.old)) × IsLog D.Disk 0 store.all store.all log disk.new) }
+    ensures kept { (base : ℕ) (all : List Logged) → D.tells → IsLogOf base all (D.seen disk.old Log) → (IsUnmade (D.seen disk.old Log) → length (D.seen disk.old Pages) ≡ 0)
+        → OpenKept D.Disk base all disk.old disk.new result }
+    ensures store { IfOk result (λ log. D.tells → (store : IsStore (D.seen disk.old)) × IsLog D.Disk (base_of (D.seen disk.old Log)) store.all store.all log disk.new) }
     ensures refused { result ≡ Err NotAStore → D.tells → ¬ (IsStore (D.seen disk.old)) }
     ensures changes { ChangesOnly D.Disk Log disk.old disk.new }
-    ensures working { IfOk result (λ log. (log.failed ≡ false) × (log.base ≡ 0)) }
+    ensures working { IfOk result (λ log. log.failed ≡ false) }
     ensures causes { IfErr result (λ e. (e ≡ Memory) ⊎ (e ≡ Device) ⊎ (e ≡ NotAStore)) }
     ensures device { result ≡ Err Device ↔ (D.failed disk.new ≡ true) }
 {
     match Gate::open(alloc, disk, FileId::Log)? {
-        Some(gate) => open_log(alloc, disk, gate, 0),
+        Some(gate) => open_log(alloc, disk, gate),
         None => {
             let gate = Gate::create(alloc, disk, FileId::Log)?;
-            open_log(alloc, disk, gate, 0)
+            open_log(alloc, disk, gate)
         }
     }
 }

@@ -1,6 +1,7 @@
 //! The log file with its buffer. A record's LSN is the base and its place in the file.
 
 ghost use Rattle.std.specs.Prelude.{◌≡◌, ◌≢◌, ◌+◌, ◌*◌, ◌^◌, ◌<◌, ◌≤◌, ◌↔◌, ◌⊎◌, ◌++◌, false, true, not, is_ok, length, take, min, ◌-◌, IfErr, IfOk, OnOk, List, ℕ, Some};
+ghost use Rattle.im_gate.specs.Gate.{base_at};
 ghost use Rattle.im_log.specs.Gates.{IsOfLog};
 
 use crate::reading::{copy_front, read_front};
@@ -32,6 +33,7 @@ pub struct LogFile {
     ghost sized: { length buffer.items ≡ 16384 },
     ghost within: { used ≤ 16384 },
     ghost based: { base ≤ 2 ^ 62 },
+    ghost of_gate: { base ≡ base_at gate },
 }
 
 impl LogFile {
@@ -49,12 +51,12 @@ impl LogFile {
     ghost use Rattle.im_log.specs.Scan.{place_of_scan, bound_of, IsScanning, ScanBegun};
 
     // A log with nothing buffered, behind this gate.
-    pub(crate) fn at_end(gate: Gate, base: u64, buffer: Vec<u8>) -> LogFile
+    pub(crate) fn at_end(gate: Gate, buffer: Vec<u8>) -> LogFile
         requires of_log { IsOfLog gate }
-        requires base { base ≤ 2 ^ 62 }
         requires room { length buffer.items ≡ 16384 }
-        ensures log { (result.gate ≡ gate) × (result.base ≡ base) × (result.used ≡ 0) × (result.failed ≡ false) }
+        ensures log { (result.gate ≡ gate) × (result.base ≡ base_at gate) × (result.used ≡ 0) × (result.failed ≡ false) }
     {
+        let base = gate.base();
         LogFile {
             gate,
             base,
@@ -249,13 +251,10 @@ impl LogFile {
         if self.failed {
             return Err(Fault::Failed);
         }
-        if self.base > LSNS - 31 {
-            return Err(Fault::NotAStore);
-        }
         match Gate::open(alloc, disk, FileId::Log)? {
             None => Err(Fault::NotAStore),
             Some(gate) => {
-                let opening = Opening::start(alloc, gate, self.base)?;
+                let opening = Opening::start(alloc, gate)?;
                 Ok(Scan::start(opening, from))
             }
         }

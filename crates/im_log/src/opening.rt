@@ -6,8 +6,8 @@ ghost use Rattle.im_types.specs.declared.fault.Fault.TheVariants.{Device, Memory
 ghost use Rattle.im_types.specs.declared.file_id.FileId.TheVariants.{Log};
 ghost use Rattle.im_types.specs.Records.{Logged};
 ghost use Rattle.im_disk.specs.Runs.{Reads};
-ghost use Rattle.im_gate.specs.Gate.{place_of, has_failed, IsReading};
-ghost use Rattle.im_gate.specs.Header.{IsMade};
+ghost use Rattle.im_gate.specs.Gate.{base_at, first_of, place_of, has_failed, StartsAs, IsReading};
+ghost use Rattle.im_gate.specs.Header.{base_of, IsMade};
 ghost use Rattle.im_log.specs.LogFile.{IsOpen, IsLog};
 ghost use Rattle.im_log.specs.Kept.{HasLog, ReadKept};
 
@@ -44,6 +44,7 @@ pub struct Opening {
     ghost ends: { end ≤ 16384 },
     ghost after: { end ≤ behind },
     ghost placed: { base + behind ≤ 2 ^ 62 },
+    ghost of_gate: { base ≡ base_at gate },
 }
 
 // The room for a batch.
@@ -70,13 +71,14 @@ impl Opening {
     /// Begins to read a log at its first gate. It takes the room for a batch, in which the log's records will wait.
     ///
     /// Refused `Memory`.
-    pub fn start(alloc: Global, gate: Gate, base: u64) -> Result<Opening, Fault>
-        requires base { base + 31 ≤ 2 ^ 62 }
+    pub fn start(alloc: Global, gate: Gate) -> Result<Opening, Fault>
         requires of_log { IsOfLog gate }
-        requires first { place_of gate ≡ 31 }
-        ensures opening { IfOk result (λ opening. (opening.gate ≡ gate) × (opening.base ≡ base) × (opening.at ≡ 0) × (opening.end ≡ 0) × (opening.behind ≡ 31) × (opening.failed ≡ false)) }
+        requires first { place_of gate ≡ first_of gate }
+        ensures opening { IfOk result (λ opening. (opening.gate ≡ gate) × (opening.base ≡ base_at gate) × (opening.at ≡ 0) × (opening.end ≡ 0) × (opening.behind ≡ place_of gate) × (opening.failed ≡ false)) }
         ensures causes { IfErr result (λ e. e ≡ Memory) }
     {
+        let base = gate.base();
+        let behind = gate.place();
         Ok(Opening {
             gate,
             base,
@@ -84,7 +86,7 @@ impl Opening {
             from: 0,
             at: 0,
             end: 0,
-            behind: 31,
+            behind,
             failed: false,
         })
     }
@@ -193,11 +195,10 @@ impl Opening {
         let _ = disk;
         let Opening {
             gate,
-            base,
             bytes,
             ..
         } = self;
-        LogFile::at_end(gate, base, bytes)
+        LogFile::at_end(gate, bytes)
     }
 }
 
@@ -208,22 +209,22 @@ pub fn open_log<D: Disk>(
     alloc: Global,
     disk: &mut D,
     gate: Gate,
-    base: u64,
 ) -> Result<LogFile, Fault>
-    requires base { base + 31 ≤ 2 ^ 62 }
     requires of_log { IsOfLog gate }
-    requires first { place_of gate ≡ 31 }
+    requires first { place_of gate ≡ first_of gate }
+    requires starts { D.tells → StartsAs gate (D.seen disk.old Log) }
     requires usable { has_failed gate ≡ false }
     requires reading { IsReading D.Disk gate disk.old }
     ensures reads { Reads D.Disk disk.old disk.new }
     ensures ready { IfOk result (λ log. IsOpen D.Disk log disk.new) }
-    ensures kept { (all : List Logged) → D.tells → HasLog base all (D.seen disk.old Log) → ReadKept D.Disk base all disk.new result }
-    ensures spelled { IfOk result (λ log. D.tells → IsMade (D.seen disk.old Log) → (all : List Logged) × HasLog base all (D.seen disk.old Log) × IsLog D.Disk base all all log disk.new) }
-    ensures working { IfOk result (λ log. (log.failed ≡ false) × (log.base ≡ base)) }
+    ensures kept { (base : ℕ) (all : List Logged) → D.tells → HasLog base all (D.seen disk.old Log) → ReadKept D.Disk base all disk.new result }
+    ensures spelled { IfOk result (λ log. D.tells → IsMade (D.seen disk.old Log) → (all : List Logged) × HasLog (base_of (D.seen disk.old Log)) all (D.seen disk.old Log)
+        × IsLog D.Disk (base_of (D.seen disk.old Log)) all all log disk.new) }
+    ensures working { IfOk result (λ log. (log.failed ≡ false) × (log.base ≡ base_at gate)) }
     ensures causes { IfErr result (λ e. (e ≡ Memory) ⊎ (e ≡ Device) ⊎ (e ≡ NotAStore)) }
     ensures device { result ≡ Err Device ↔ (D.failed disk.new ≡ true) }
 {
-    let mut opening = Opening::start(alloc, gate, base)?;
+    let mut opening = Opening::start(alloc, gate)?;
     loop {
         match opening.next(disk)? {
             None => return Ok(opening.finish(disk)),

@@ -1,4 +1,4 @@
-use Rattle.std.proofs.Common.{◌≡◌, List, [], Option, IfSome, Ok, Some, sym, ◌∙◌, ap, subst, rules}
+use Rattle.std.proofs.Common.{◌≡◌, ℕ, List, [], Option, IfSome, Ok, Some, inr, sym, ◌∙◌, ap, subst, rules}
 use Rattle.im_types.specs.declared.file_id.FileId.{FileId}
 use Rattle.im_types.specs.declared.file_id.FileId.TheVariants.{Log}
 use Rattle.im_types.specs.Records.{Logged}
@@ -6,52 +6,58 @@ use Rattle.im_disk.specs.Disk.{Files, Stepped, InFile}
 use Rattle.im_disk.proofs.Runs.{reads_on}
 use Rattle.im_gate.specs.declared.gate.Gate.{Gate}
 use Rattle.im_gate.specs.Batches.{batches}
-use Rattle.im_gate.specs.Header.{IsMade}
+use Rattle.im_gate.specs.Header.{base_of, first_gate, IsMade}
+use Rattle.im_gate.proofs.Starts.{blank_starts}
 use Rattle.im_log.specs.Kept.{HasLog, IsLogOf}
-use Rattle.im_log.proofs.Creations.{made_has, unmade_none, blank_has, reads_stops, creation_stops, store_opened, store_made, not_refused_so}
+use Rattle.im_log.proofs.Creations.{made_has, unmade_none, unmade_starts, blank_has, reads_stops, creation_stops, store_opened, store_made, not_refused_so}
+use Rattle.im_log.proofs.Runs.{of_log}
 use Rattle.im_log.proofs.creation.open_or_create.Goals as goal
 
 pub returns-in_err-gate-in-None-clause-kept : goal.returns-in_err-gate-in-None-clause-kept
-returns-in_err-gate-in-None-clause-kept g c all told is empty =
+returns-in_err-gate-in-None-clause-kept g c base all told is empty =
     let unmade = c.in_ok-gate.ensures.unmade (ap Ok c.in-None.is) told in
-    let none = unmade_none 0 all (g.D.Disk.seen c.args.disk.now Log) unmade.0 is in
-    let opened = reads_stops g.D.Disk 0 all c.args.disk.now c.open.new.disk (g.met.D.Disk.only_now c.args.disk.now) c.requires.durable is c.open.ensures.reads in
+    let none = unmade_none base all (g.D.Disk.seen c.args.disk.now Log) unmade.0 is in
+    let low = unmade_starts base all (g.D.Disk.seen c.args.disk.now Log) unmade.0 is in
+    let opened = reads_stops g.D.Disk base all c.args.disk.now c.open.new.disk (g.met.D.Disk.only_now c.args.disk.now) c.requires.durable is c.open.ensures.reads in
     record {
       ok = search rules;
-      stops = creation_stops g.D.Disk all c.args.disk.now c.open.new.disk c.create.new.disk opened c.open.ensures.reads none c.create.ensures.any_moment;
+      stops = creation_stops g.D.Disk base all c.args.disk.now c.open.new.disk c.create.new.disk opened c.open.ensures.reads none unmade.0 low c.create.ensures.any_moment;
       cause = search rules;
     }
 
 pub returns-in-Some-clause-kept : goal.returns-in-Some-clause-kept
-returns-in-Some-clause-kept g c all told is empty =
+returns-in-Some-clause-kept g c base all told is empty =
     let old = c.args.disk.now in
     let mid = c.open.new.disk in
     let made : IsMade (g.D.Disk.seen old Log) = subst (λ (o : Option Gate). IfSome o (λ _. g.D.Disk.tells → IsMade (g.D.Disk.seen old Log))) c.in-Some.is c.in_ok-gate.ensures.made told in
-    let has = subst (λ (s : Files). HasLog 0 all (s Log)) (sym c.open.ensures.reads.seen) (made_has 0 all (g.D.Disk.seen old Log) made is) in
-    let kept = c.open_log.ensures.kept all told has in
+    let has = subst (λ (s : Files). HasLog base all (s Log)) (sym c.open.ensures.reads.seen) (made_has base all (g.D.Disk.seen old Log) made is) in
+    let kept = c.open_log.ensures.kept base all told has in
     record {
       ok = kept.ok;
-      stops = reads_on g.D.Disk old mid c.open_log.new.disk (Stepped (InFile Log (λ _ bytes. IsLogOf 0 all bytes)) (g.D.Disk.may_leave old))
-          (reads_stops g.D.Disk 0 all old mid (g.met.D.Disk.only_now old) c.requires.durable is c.open.ensures.reads) c.open_log.ensures.reads;
+      stops = reads_on g.D.Disk old mid c.open_log.new.disk (Stepped (InFile Log (λ _ bytes. IsLogOf base all bytes)) (g.D.Disk.may_leave old))
+          (reads_stops g.D.Disk base all old mid (g.met.D.Disk.only_now old) c.requires.durable is c.open.ensures.reads) c.open_log.ensures.reads;
       cause = kept.cause;
     }
 
 pub returns-in_ok-gate-in-None-clause-kept : goal.returns-in_ok-gate-in-None-clause-kept
-returns-in_ok-gate-in-None-clause-kept g c all told is empty =
+returns-in_ok-gate-in-None-clause-kept g c base all told is empty =
     let unmade = c.in_ok-gate.ensures.unmade (ap Ok c.in-None.is) told in
-    let none = unmade_none 0 all (g.D.Disk.seen c.args.disk.now Log) unmade.0 is in
-    let opened = reads_stops g.D.Disk 0 all c.args.disk.now c.open.new.disk (g.met.D.Disk.only_now c.args.disk.now) c.requires.durable is c.open.ensures.reads in
+    let none = unmade_none base all (g.D.Disk.seen c.args.disk.now Log) unmade.0 is in
+    let low = unmade_starts base all (g.D.Disk.seen c.args.disk.now Log) unmade.0 is in
+    let opened = reads_stops g.D.Disk base all c.args.disk.now c.open.new.disk (g.met.D.Disk.only_now c.args.disk.now) c.requires.durable is c.open.ensures.reads in
     let gate = c.in_ok-gate-in-None.gate in
     let mid = c.create.new.disk in
-    let first = c.in_ok-gate-in-None.ensures.first in
-    let batches_none : batches 31 (g.D.Disk.seen mid Log) ≡ Some [] =
-    ap (λ (f : FileId). batches 31 (g.D.Disk.seen mid f)) (sym first.0) ∙ ap (λ n. batches n (g.D.Disk.seen mid gate.file)) (sym first.1) ∙ c.in_ok-gate-in-None.ensures.empty told in
-    let has = subst (λ (l : List Logged). HasLog 0 l (g.D.Disk.seen mid Log)) (sym none) (blank_has (g.D.Disk.seen mid Log) (c.in_ok-gate-in-None.ensures.made told) batches_none) in
-    let kept = c.open_log-in-None.ensures.kept all told has in
+    let starts = c.in_ok-gate-in-None.ensures.starts told in
+    let batches_none : batches (first_gate (g.D.Disk.seen mid Log)) (g.D.Disk.seen mid Log) ≡ Some [] =
+    of_log gate (first_gate (g.D.Disk.seen mid Log)) (record { file = c.in_ok-gate-in-None.ensures.first.0 }) starts.first (λ (f : FileId) (n : ℕ). batches n (g.D.Disk.seen mid f) ≡ Some []) (c.in_ok-gate-in-None.ensures.empty told) in
+    let made = c.in_ok-gate-in-None.ensures.made told in
+    let low_now = (blank_starts (g.D.Disk.seen c.args.disk.now Log) (g.D.Disk.seen mid Log) unmade.0 (inr (made, batches_none))).base ∙ low in
+    let has = subst (λ (l : List Logged). HasLog base l (g.D.Disk.seen mid Log)) (sym none) (blank_has base (g.D.Disk.seen mid Log) made low_now batches_none) in
+    let kept = c.open_log-in-None.ensures.kept base all told has in
     record {
       ok = kept.ok;
-      stops = reads_on g.D.Disk c.args.disk.now mid c.open_log-in-None.new.disk (Stepped (InFile Log (λ _ bytes. IsLogOf 0 all bytes)) (g.D.Disk.may_leave c.args.disk.now))
-          (creation_stops g.D.Disk all c.args.disk.now c.open.new.disk mid opened c.open.ensures.reads none c.create.ensures.any_moment) c.open_log-in-None.ensures.reads;
+      stops = reads_on g.D.Disk c.args.disk.now mid c.open_log-in-None.new.disk (Stepped (InFile Log (λ _ bytes. IsLogOf base all bytes)) (g.D.Disk.may_leave c.args.disk.now))
+          (creation_stops g.D.Disk base all c.args.disk.now c.open.new.disk mid opened c.open.ensures.reads none unmade.0 low c.create.ensures.any_moment) c.open_log-in-None.ensures.reads;
       cause = kept.cause;
     }
 
@@ -62,11 +68,11 @@ returns-in-Some-clause-store g c =
     store_opened g.D.Disk old c.open.new.disk c.open_log.new.disk c.open_log.result made c.open.ensures.reads.seen c.open_log.ensures.spelled
 
 pub returns-in-Some-clause-refused : goal.returns-in-Some-clause-refused
-returns-in-Some-clause-refused g c is told store = not_refused_so c.open_log.result (returns-in-Some-clause-kept g c store.all told store.spelled store.bare).cause is
+returns-in-Some-clause-refused g c is told store = not_refused_so c.open_log.result (returns-in-Some-clause-kept g c (base_of (g.D.Disk.seen c.args.disk.now Log)) store.all told store.spelled store.bare).cause is
 
 pub returns-in_ok-gate-in-None-clause-store : goal.returns-in_ok-gate-in-None-clause-store
 returns-in_ok-gate-in-None-clause-store g c =
-    store_made g.D.Disk c.args.disk.now c.open_log-in-None.new.disk c.open_log-in-None.result (c.in_ok-gate.ensures.unmade (ap Ok c.in-None.is)) (λ told is bare. (returns-in_ok-gate-in-None-clause-kept g c [] told is bare).ok)
+    store_made g.D.Disk c.args.disk.now c.open_log-in-None.new.disk c.open_log-in-None.result (c.in_ok-gate.ensures.unmade (ap Ok c.in-None.is)) (λ told is bare. (returns-in_ok-gate-in-None-clause-kept g c (base_of (g.D.Disk.seen c.args.disk.now Log)) [] told is bare).ok)
 
 pub returns-in_ok-gate-in-None-clause-refused : goal.returns-in_ok-gate-in-None-clause-refused
-returns-in_ok-gate-in-None-clause-refused g c is told store = not_refused_so c.open_log-in-None.result (returns-in_ok-gate-in-None-clause-kept g c store.all told store.spelled store.bare).cause is
+returns-in_ok-gate-in-None-clause-refused g c is told store = not_refused_so c.open_log-in-None.result (returns-in_ok-gate-in-None-clause-kept g c (base_of (g.D.Disk.seen c.args.disk.now Log)) store.all told store.spelled store.bare).cause is
