@@ -1,6 +1,7 @@
 -- How a writer of pages stands behind each of its calls, and what a stop within one leaves.
 use Rattle.std.proofs.Common.{◌≡◌, inl, inr, ⊎_elim, ℕ, ◌*◌, ◌≤◌, false, true, List, length, Option, None, Some, refl, sym, ◌∙◌, ap, subst}
 use Rattle.std.proofs.lemmas.Bool.{cases_Bool, cases_eq, cond-false}
+use Rattle.im_types.specs.declared.file_id.FileId.{FileId}
 use Rattle.im_types.specs.declared.file_id.FileId.TheVariants.{Log, Pages}
 use Rattle.im_types.specs.Histories.{Base, History, IsFront}
 use Rattle.im_types.specs.Writer.{DirtyEntry, PageState, Writer, IsWritten, WriterKept}
@@ -12,13 +13,12 @@ use Rattle.im_disk.specs.declared.disk.Disk.{Ghosts}
 use Rattle.im_disk.specs.Disk.{Files, Only, Holds, Torn, InFile, Stepped, Follows}
 use Rattle.im_disk.specs.Runs.{ChangesOnly, LeavesIn, LeavesOnly, Reads, Spares}
 use Rattle.im_disk.proofs.Runs.{reads_on, spared, spares_reads, started, then_on, weakened}
-use Rattle.im_gate.specs.Header.{IsMade}
+use Rattle.im_gate.specs.Header.{base_of, IsMade}
 use Rattle.im_log.specs.declared.log_file.LogFile.{LogFile}
 use Rattle.im_log.specs.LogFile.{IsOpen, IsLog}
 use Rattle.im_log.specs.Spelled.{log_of}
 use Rattle.im_log.specs.Kept.{HasLog, SpellsEither}
 use Rattle.im_log.proofs.Above.{front_then, log_spared, open_spared}
-use Rattle.im_log.proofs.Runs.{of_log}
 use Rattle.im_page.specs.PageFile.{file_page}
 use Rattle.im_flush.specs.declared.table_entry.TableEntry.{TableEntry}
 use Rattle.im_flush.specs.DirtyTable.{entry_in, has_room, put, written_in, ChangesEntry}
@@ -119,10 +119,10 @@ module _ {D : Type 0} (d : Ghosts D) (b : Base) (base : ℕ) where
   module _ (s : Writer) (log : LogFile) (table : List TableEntry) (old : D) (st : Stands d b base s log table old) where
     -- the log's file is all on the disk
     log_durable : Only Log (d.seen old) (d.may_leave old)
-    log_durable = of_log log.gate log.of_log (λ f n. Only f (d.seen old) (d.may_leave old)) (st.ready.ready.reading.durable (st.ready.working st.log_is.working))
+    log_durable = subst (λ (f : FileId). Only f (d.seen old) (d.may_leave old)) log.of_log.file (st.ready.ready.reading.durable (st.ready.working st.log_is.working))
 
     has_log : (c : Files) → c Log ≡ d.seen old Log → HasLog base s.durable (c Log)
-    has_log c same = record { made = subst IsMade (sym same) st.log_is.made; spells = ap (log_of base) same ∙ st.log_is.on_disk }
+    has_log c same = record { made = subst IsMade (sym same) st.log_is.made; starts = ap base_of same ∙ st.log_is.starts; spells = ap (log_of base) same ∙ st.log_is.on_disk }
 
     -- a stop now
     pub stop_now : (c : Files) → d.may_leave old c → IsCovered b base s.durable s.log c

@@ -31,11 +31,13 @@ IsOldestWritten None pages = (p : ℕ) → IsWritten (pages p).entry
 IsOldestWritten (Some e) pages = IsWritten (pages e.0).entry
 
 module _ {D : Type 0} (d : Ghosts D) where
-  -- On any bytes: the log is open, and works, and the pool has at most as many frames as the dirty table has entries. After a failure it says nothing.
+  -- On any bytes: the log is open, and works, and the pool has at most as many frames as the dirty table has entries. After a failure it says
+  -- only that the log's last gate stands in its file, unless the disk has failed.
   pub record IsReadyWriter (w : PageWriter) (disk : D) : Type 0 where
     pub opened : w.failed ≡ false → IsOpen d w.log disk
     pub works : w.failed ≡ false → w.log.failed ≡ false
     pub few : w.failed ≡ false → w.pool.frames ≤ 1024
+    pub still : d.failed disk ≡ false → IsOpen d w.log disk
 
   module _ (b : Base) (base : ℕ) where
     -- No call has failed, and it stands as this writer.

@@ -68,6 +68,7 @@ fn flush_range<D: Disk>(
     ensures kept { (b : Base) (base : ℕ) (s : Writer) → IsWriting D.Disk b base s log.old table.old pool.old disk.old
         → ((q : ℕ) → first ≤ q → q ≤ last → MayCopy s pool.old q) → FlushKept D.Disk b base s first last disk.old log.new table.new pool.new disk.new result }
     ensures ready { OnOk result (IsOpen D.Disk log.new disk.new) }
+    ensures still { D.failed disk.new ≡ false → IsOpen D.Disk log.new disk.new }
     ensures works { OnOk result (log.new.failed ≡ false) }
     ensures room { 1024 ≤ vec_capacity lsns.new }
     ensures held { OnOk result (SameHeld pool.old pool.new) }
@@ -102,6 +103,7 @@ pub(crate) fn flush_page<D: Disk>(
     ensures kept { (b : Base) (base : ℕ) (s : Writer) → IsWriting D.Disk b base s log.old table.old pool.old disk.old
         → FlushKept D.Disk b base s number number disk.old log.new table.new pool.new disk.new result }
     ensures ready { OnOk result (IsOpen D.Disk log.new disk.new) }
+    ensures still { D.failed disk.new ≡ false → IsOpen D.Disk log.new disk.new }
     ensures works { OnOk result (log.new.failed ≡ false) }
     ensures room { 1024 ≤ vec_capacity lsns.new }
     ensures held { OnOk result (SameHeld pool.old pool.new) }

@@ -25,8 +25,9 @@ next_lsn log = batch_lsn log + log.used
 abbrev pub end_with : LogFile → ℕ → ℕ
 end_with log size = if nat_le (log.used + size) 16384 then next_lsn log + size else next_lsn log + 5 + size
 
--- A record of some length would end above LSN 2^62.
+-- A record of some length would end above LSN 2^62; the gate works still.
 pub record HasNoRoom (log : LogFile) : Type 0 where
+  pub gate : has_failed log.gate ≡ false
   pub size : ℕ
   pub most : size ≤ 16384
   pub above : 2 ^ 62 < end_with log size
