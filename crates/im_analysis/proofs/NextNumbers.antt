@@ -22,26 +22,26 @@ larger_is m n = by (nat_cmp n m) refl
     by Greater is = let lt : m < n = ranked n m Greater (sym is) in let e : ord_max nat_cmp m n ≡ n = ap (λ (o : Ordering). cond (is_lt o) m n) is in omega (arith, lt, e)
 
 -- what a new number is at least, for a record's kind
-named : (n : ℕ) (r : Logged) (older : History) (w : What) → r.what ≡ w → IsNew n (r ∷ older) → next_in w ≤ n
-named n r older (Checkpoint m a d) is new = new.noted r m a d (inl refl) is
-named n r older (InsertKey k i) is new = omega arith
-named n r older (DeleteKey k i) is new = omega arith
-named n r older (UndoInsert k i) is new = omega arith
-named n r older (UndoDelete k i) is new = omega arith
-named n r older (Smo a b) is new = omega arith
-named n r older (UndoSmo a) is new = omega arith
-named n r older DummyClr is new = omega arith
-named n r older Commit is new = omega arith
-named n r older End is new = omega arith
-named n r older (Image c) is new = omega arith
-named n r older Unreadable is new = omega arith
+named : (low n : ℕ) (r : Logged) (older : History) (w : What) → r.what ≡ w → IsNew low n (r ∷ older) → next_in w ≤ n
+named low n r older (Checkpoint m a d) is new = new.noted r m a d (inl refl) is
+named low n r older (InsertKey k i) is new = omega arith
+named low n r older (DeleteKey k i) is new = omega arith
+named low n r older (UndoInsert k i) is new = omega arith
+named low n r older (UndoDelete k i) is new = omega arith
+named low n r older (Smo a b) is new = omega arith
+named low n r older (UndoSmo a) is new = omega arith
+named low n r older DummyClr is new = omega arith
+named low n r older Commit is new = omega arith
+named low n r older End is new = omega arith
+named low n r older (Image c) is new = omega arith
+named low n r older Unreadable is new = omega arith
 
-new_before : (n : ℕ) (r : Logged) (older : History) → IsNew n (r ∷ older) → IsNew n older
-new_before n r older new = record { least = new.least; above = λ s h. new.above s (inr h); noted = λ s m a d h is. new.noted s m a d (inr h) is }
+new_before : (low n : ℕ) (r : Logged) (older : History) → IsNew low n (r ∷ older) → IsNew low n older
+new_before low n r older new = record { least = new.least; above = λ s h. new.above s (inr h); noted = λ s m a d h is. new.noted s m a d (inr h) is }
 
-new_more : (n m : ℕ) (r : Logged) (older : History) → n ≤ m → r.txn < m → next_in r.what ≤ m → IsNew n older → IsNew m (r ∷ older)
-new_more n m r older le lt named new = record {
-  least = (let one : 1 ≤ n = new.least in omega (arith, one, le));
+new_more : (low n m : ℕ) (r : Logged) (older : History) → n ≤ m → r.txn < m → next_in r.what ≤ m → IsNew low n older → IsNew low m (r ∷ older)
+new_more low n m r older le lt named new = record {
+  least = (let one : low ≤ n = new.least in omega (arith, one, le));
   above = λ s h. elim h [
     | inl same ↦ subst (λ (x : Logged). x.txn < m) same lt
     | inr old ↦ (let less : s.txn < n = new.above s old in omega (arith, less, le))
@@ -58,15 +58,15 @@ counted : (next number t c most n : ℕ) → next ≡ min number most → c ≤ 
 counted next number t c most n a b e = omega (arith, a, b, e)
 
 -- the numbers go up to a greatest one
-pub next_more : (most next n : ℕ) (r : Logged) (older : History) → next_in r.what ≤ most → n ≡ max next (max (min (r.txn + 1) most) (next_in r.what))
-    → (was : IsNextNumber next older) → next ≡ min was.number most → (number : ℕ) × IsNew number (r ∷ older) × ((m : ℕ) → IsNew m (r ∷ older) → number ≤ m) × (n ≡ min number most)
-next_more most next n r older fits is was old = (
+pub next_more : (low most next n : ℕ) (r : Logged) (older : History) → next_in r.what ≤ most → n ≡ max next (max (min (r.txn + 1) most) (next_in r.what))
+    → (was : IsNextNumber low next older) → next ≡ min was.number most → (number : ℕ) × IsNew low number (r ∷ older) × ((m : ℕ) → IsNew low m (r ∷ older) → number ≤ m) × (n ≡ min number most)
+next_more low most next n r older fits is was old = (
   max was.number (max (r.txn + 1) (next_in r.what)),
-  new_more was.number (max was.number (max (r.txn + 1) (next_in r.what))) r older (omega arith) (omega arith) (omega arith) was.new,
+  new_more low was.number (max was.number (max (r.txn + 1) (next_in r.what))) r older (omega arith) (omega arith) (omega arith) was.new,
   (λ m new. (
-      let a : was.number ≤ m = was.least m (new_before m r older new) in
+      let a : was.number ≤ m = was.least m (new_before low m r older new) in
       let b : r.txn < m = new.above r (inl refl) in
-      let c : next_in r.what ≤ m = named m r older r.what refl new in
+      let c : next_in r.what ≤ m = named low m r older r.what refl new in
       omega (arith, a, b, c)
       )),
   counted next was.number r.txn (next_in r.what) most n old fits is,

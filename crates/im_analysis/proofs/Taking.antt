@@ -1,5 +1,5 @@
 -- What taking a record answers, by whether it opens a structure change beside another's.
-use Rattle.std.proofs.Common.{◌≡◌, Bool, true, false, Result, Ok, Err, refl, sym, ◌∙◌}
+use Rattle.std.proofs.Common.{◌≡◌, ℕ, Bool, true, false, Result, Ok, Err, refl, sym, ◌∙◌}
 use Rattle.std.specs.Prelude.{◌∷◌, ◌↔◌, IsTrue, IsErr, IfErr}
 use Rattle.im_types.specs.declared.fault.Fault.{Fault}
 use Rattle.im_types.specs.declared.fault.Fault.TheVariants.{Memory, NotAStore}
@@ -9,19 +9,19 @@ use Rattle.im_analysis.specs.declared.analysis.Analysis.{Analysis}
 use Rattle.im_analysis.specs.OpenChange.{OpensAnother}
 use Rattle.im_analysis.specs.Analysis.{IsAnalysed, TakeKept}
 
-module _ (older : History) (r : Logged) (opens : Bool) (tells : IsTrue opens ↔ OpensAnother r older) (new : Analysis) where
+module _ (low : ℕ) (older : History) (r : Logged) (opens : Bool) (tells : IsTrue opens ↔ OpensAnother r older) (new : Analysis) where
   not_open : opens ≡ false → OpensAnother r older → ⊥
   not_open shut another = let clash : true ≡ false = sym (tells.1 another) ∙ shut in cc clash
 
-  pub refused : opens ≡ true → TakeKept older r new (Err NotAStore)
+  pub refused : opens ≡ true → TakeKept low older r new (Err NotAStore)
   refused wide = record { ok = tt; refused = (λ _. tells.0 wide, λ _. refl) }
 
-  pub failed : (result : Result Unit Fault) → opens ≡ false → IsErr result → IfErr result (λ e. e ≡ Memory) → TakeKept older r new result
+  pub failed : (result : Result Unit Fault) → opens ≡ false → IsErr result → IfErr result (λ e. e ≡ Memory) → TakeKept low older r new result
   failed (Ok u) shut err memory = absurd (cc err)
   failed (Err e) shut err memory = record {
     ok = tt;
     refused = ((λ is. (let same : e ≡ NotAStore = cc is in let clash : Memory ≡ NotAStore = sym memory ∙ same in absurd (cc clash))), λ another. absurd (not_open shut another));
   }
 
-  pub taken : opens ≡ false → IsAnalysed (r ∷ older) new → TakeKept older r new (Ok tt)
+  pub taken : opens ≡ false → IsAnalysed low (r ∷ older) new → TakeKept low older r new (Ok tt)
   taken shut is = record { ok = is; refused = ((λ e. absurd (cc e)), λ another. absurd (not_open shut another)) }

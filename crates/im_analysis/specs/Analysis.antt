@@ -19,18 +19,18 @@ pub record Continues (r : Logged) (older : History) : Type 0 where
   pub readable : r.what ≢ Unreadable
   pub unfinished : 1 ≤ r.txn → is_finished r.txn older ≡ false
 
--- Behind these records.
-pub record IsAnalysed (log : History) (a : Analysis) : Type 0 where
+-- Behind these records of a log whose transaction numbers begin at the lowest.
+pub record IsAnalysed (lowest : ℕ) (log : History) (a : Analysis) : Type 0 where
   pub rises : LsnsRise log
-  pub next : IsNextNumber a.next log
+  pub next : IsNextNumber lowest a.next log
   pub point : a.point ≡ point_of log
   pub losers : AreLosers a.losers log
   pub copies : AreCopies 0 a.copies log
   pub open_change : IsOpenChange a.open_change.items log
 
 -- The record is taken, or refused where it opens a structure change beside another's.
-pub record TakeKept (older : History) (r : Logged) (new : Analysis) (result : Result Unit Fault) : Type 0 where
-  pub ok : OnOk result (IsAnalysed (r ∷ older) new)
+pub record TakeKept (lowest : ℕ) (older : History) (r : Logged) (new : Analysis) (result : Result Unit Fault) : Type 0 where
+  pub ok : OnOk result (IsAnalysed lowest (r ∷ older) new)
   pub refused : (result ≡ Err NotAStore) ↔ OpensAnother r older
 
 -- nothing is changed
@@ -41,9 +41,9 @@ pub record IsUnchanged (old new : Analysis) : Type 0 where
   pub copies : new.copies.entries ≡ old.copies.entries
   pub open_change : new.open_change.items ≡ old.open_change.items
 
--- What a restart has to know of the log.
-pub record IsAnalysis (log : History) (a : Analysed) : Type 0 where
-  pub next : IsNextNumber a.next log
+-- What a restart has to know of the log, whose transaction numbers begin at the lowest.
+pub record IsAnalysis (lowest : ℕ) (log : History) (a : Analysed) : Type 0 where
+  pub next : IsNextNumber lowest a.next log
   pub point : a.redo_point ≡ redo_point log
   pub losers : AreLosers a.losers log
   pub copies : AreCopies (redo_point log) a.copies log

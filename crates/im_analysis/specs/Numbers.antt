@@ -6,17 +6,17 @@ use Rattle.im_types.specs.declared.tables.DirtyPage.{DirtyPage}
 use Rattle.im_types.specs.Histories.{History, IsRecordOf}
 use Rattle.im_types.specs.RedoPoints.{redo_point}
 
--- The number is from 1 on, above every transaction number of the log, and not below the next number of any of its Checkpoints.
-pub record IsNew (n : ℕ) (log : History) : Type 0 where
-  pub least : 1 ≤ n
+-- The number is not below the least one, above every transaction number of the log, and not below the next number of any of its Checkpoints.
+pub record IsNew (lowest n : ℕ) (log : History) : Type 0 where
+  pub least : lowest ≤ n
   pub above : (r : Logged) → IsRecordOf r log → r.txn < n
   pub noted : (r : Logged) (m : ℕ) (a : List ActiveTransaction) (d : List DirtyPage) → IsRecordOf r log → r.what ≡ Checkpoint m a d → m ≤ n
 
--- The next number: the least new one, or 2^64 - 1 where that is no u64.
-pub record IsNextNumber (next : ℕ) (log : History) : Type 0 where
+-- The next number of a log whose numbers begin at the lowest: the least new one, or 2^64 - 1 where that is no u64.
+pub record IsNextNumber (lowest next : ℕ) (log : History) : Type 0 where
   pub number : ℕ
-  pub new : IsNew number log
-  pub least : (n : ℕ) → IsNew n log → number ≤ n
+  pub new : IsNew lowest number log
+  pub least : (n : ℕ) → IsNew lowest n log → number ≤ n
   pub is : next ≡ min number (2 ^ 64 - 1)
 
 -- the redo point of a log that has records

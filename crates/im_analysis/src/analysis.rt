@@ -35,7 +35,7 @@ pub struct Analysed {
 }
 
 impl Analysis {
-    ghost use Rattle.std.specs.Prelude.{◌≡◌, ◌⊎◌, [], ◌∷◌, OnErr, IfErr};
+    ghost use Rattle.std.specs.Prelude.{◌≡◌, ◌⊎◌, ℕ, [], ◌∷◌, OnErr, IfErr};
     ghost use Rattle.im_types.specs.declared.fault.Fault.TheVariants.{Memory, NotAStore};
     ghost use Rattle.im_types.specs.Histories.{History};
     ghost use Rattle.im_types.specs.RedoPoints.{redo_point};
@@ -44,12 +44,12 @@ impl Analysis {
     ghost use Rattle.im_analysis.specs.Numbers.{IsNextNumber};
     ghost use Rattle.im_analysis.specs.Analysis.{Continues, IsAnalysed, TakeKept, IsUnchanged, IsAnalysis};
 
-    /// Before the first record.
-    pub fn new(alloc: Global) -> Self
-        ensures { IsAnalysed [] result }
+    /// Before the first record of a log whose transaction numbers begin at this one.
+    pub fn new(alloc: Global, least: TxnId) -> Self
+        ensures { IsAnalysed least [] result }
     {
         Analysis {
-            next: 1,
+            next: least,
             point: None,
             losers: BTreeMap::new(alloc),
             copies: BTreeMap::new(alloc),
@@ -57,17 +57,17 @@ impl Analysis {
         }
     }
 
-    /// The number of the next transaction: the least from 1 on that is above every transaction number in the records
+    /// The number of the next transaction: the least from the log's first on that is above every transaction number in the records
     /// and not below the next number of any of their Checkpoints, or 2^64 - 1 where that is no u64.
     pub fn next(&self) -> TxnId
-        ensures { (log : History) → IsAnalysed log self.now → IsNextNumber result log }
+        ensures { (least : ℕ) (log : History) → IsAnalysed least log self.now → IsNextNumber least result log }
     {
         self.next
     }
 
     /// The LSN from which redo begins, 0 without records.
     pub fn redo_point(&self) -> Lsn
-        ensures { (log : History) → IsAnalysed log self.now → result ≡ redo_point log }
+        ensures { (least : ℕ) (log : History) → IsAnalysed least log self.now → result ≡ redo_point log }
     {
         match self.point {
             None => 0,
@@ -80,8 +80,8 @@ impl Analysis {
     /// Refused `NotAStore` where a structure change opens while another transaction's is open, and `Memory`; then
     /// nothing is changed.
     pub fn take(&mut self, lsn: Lsn, record: &Record) -> Result<(), Fault>
-        ensures kept { (older : History) → IsAnalysed older self.old → Continues (logged_at lsn (view record.now)) older
-            → TakeKept older (logged_at lsn (view record.now)) self.new result }
+        ensures kept { (least : ℕ) (older : History) → IsAnalysed least older self.old → Continues (logged_at lsn (view record.now)) older
+            → TakeKept least older (logged_at lsn (view record.now)) self.new result }
         ensures same { OnErr result (IsUnchanged self.old self.new) }
         ensures causes { IfErr result (λ e. (e ≡ Memory) ⊎ (e ≡ NotAStore)) }
     {
@@ -98,7 +98,7 @@ impl Analysis {
 
     /// What is known behind the last record.
     pub fn finish(self) -> Analysed
-        ensures { (log : History) → IsAnalysed log self → IsAnalysis log result }
+        ensures { (least : ℕ) (log : History) → IsAnalysed least log self → IsAnalysis least log result }
     {
         let redo_point = self.redo_point();
         let Analysis {

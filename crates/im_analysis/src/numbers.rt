@@ -34,7 +34,7 @@ fn checkpoint_next(record: &Record) -> TxnId
 
 /// The next transaction number once this record is taken.
 pub fn next_after(next: TxnId, record: &Record) -> TxnId
-    ensures { (lsn : ℕ) (older : History) → IsNextNumber next older → IsNextNumber result (logged_at lsn (view record.now) ∷ older) }
+    ensures { (lsn least : ℕ) (older : History) → IsNextNumber least next older → IsNextNumber least result (logged_at lsn (view record.now) ∷ older) }
 {
     let above = record.transaction().saturating_add(1);
     max(next, max(above, checkpoint_next(record)))

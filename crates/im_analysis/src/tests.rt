@@ -55,7 +55,7 @@ fn copies(alloc: Global, found: &Analysed) -> Result<Vec<(u32, u64)>, AllocError
 #[test]
 fn a_log_without_records(rt: HostRuntime) -> Result<(), Fail> {
     let alloc = rt.alloc();
-    let analysis = Analysis::new(alloc);
+    let analysis = Analysis::new(alloc, 1);
     assert_eq!(rt; (analysis.next(), analysis.redo_point()), (1, 0));
     let found = analysis.finish();
     assert_eq!(rt; (found.next, found.redo_point), (1, 0));
@@ -68,7 +68,7 @@ fn a_log_without_records(rt: HostRuntime) -> Result<(), Fail> {
 #[test]
 fn a_committed_insert(rt: HostRuntime) -> Result<(), Fail> {
     let alloc = rt.alloc();
-    let mut analysis = Analysis::new(alloc);
+    let mut analysis = Analysis::new(alloc, 1);
     analysis.take(36, &insert(1, 0))?;
     analysis.take(
         79,
@@ -86,7 +86,7 @@ fn a_committed_insert(rt: HostRuntime) -> Result<(), Fail> {
 #[test]
 fn images_behind_an_unfinished_insert(rt: HostRuntime) -> Result<(), Fail> {
     let alloc = rt.alloc();
-    let mut analysis = Analysis::new(alloc);
+    let mut analysis = Analysis::new(alloc, 1);
     analysis.take(36, &insert(1, 0))?;
     analysis.take(
         79,
@@ -123,7 +123,7 @@ fn images_behind_an_unfinished_insert(rt: HostRuntime) -> Result<(), Fail> {
 #[test]
 fn a_checkpoint_under_way(rt: HostRuntime) -> Result<(), Fail> {
     let alloc = rt.alloc();
-    let mut analysis = Analysis::new(alloc);
+    let mut analysis = Analysis::new(alloc, 1);
     analysis.take(36, &insert(1, 0))?;
     let active = [ActiveTransaction {
         transaction: 1,
@@ -152,7 +152,7 @@ fn a_checkpoint_under_way(rt: HostRuntime) -> Result<(), Fail> {
 #[test]
 fn a_checkpoint_leaves_older_copies_behind(rt: HostRuntime) -> Result<(), Fail> {
     let alloc = rt.alloc();
-    let mut analysis = Analysis::new(alloc);
+    let mut analysis = Analysis::new(alloc, 1);
     analysis.take(
         36,
         &Record::Image {
@@ -187,7 +187,7 @@ fn a_checkpoint_leaves_older_copies_behind(rt: HostRuntime) -> Result<(), Fail> 
 #[test]
 fn a_half_undone_loser(rt: HostRuntime) -> Result<(), Fail> {
     let alloc = rt.alloc();
-    let mut analysis = Analysis::new(alloc);
+    let mut analysis = Analysis::new(alloc, 1);
     analysis.take(36, &insert(5, 0))?;
     analysis.take(79, &insert(5, 36))?;
     analysis.take(
@@ -210,7 +210,7 @@ fn a_half_undone_loser(rt: HostRuntime) -> Result<(), Fail> {
 #[test]
 fn an_open_structure_change(rt: HostRuntime) -> Result<(), Fail> {
     let alloc = rt.alloc();
-    let mut analysis = Analysis::new(alloc);
+    let mut analysis = Analysis::new(alloc, 1);
     analysis.take(36, &change(1, 0, 1, &BODY))?;
     analysis.take(8261, &change(1, 36, 2, &BODY))?;
     assert_eq!(rt;
@@ -241,7 +241,7 @@ fn an_open_structure_change(rt: HostRuntime) -> Result<(), Fail> {
 #[test]
 fn a_closed_structure_change(rt: HostRuntime) -> Result<(), Fail> {
     let alloc = rt.alloc();
-    let mut analysis = Analysis::new(alloc);
+    let mut analysis = Analysis::new(alloc, 1);
     analysis.take(36, &change(1, 0, 1, &BODY))?;
     analysis.take(
         8261,
@@ -268,7 +268,7 @@ fn a_closed_structure_change(rt: HostRuntime) -> Result<(), Fail> {
 #[test]
 fn more_losers_than_may_be_active(rt: HostRuntime) -> Result<(), Fail> {
     let alloc = rt.alloc();
-    let mut analysis = Analysis::new(alloc);
+    let mut analysis = Analysis::new(alloc, 1);
     for i in 1..101u64 {
         analysis.take(36 + 43 * i, &insert(i, 0))?;
     }

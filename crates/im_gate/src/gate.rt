@@ -18,7 +18,9 @@ const ROOM: usize = 16_389;
 
 // Where the log of a file of this format starts: its first gate, the LSN of its first byte, and the least number of a transaction.
 const FIRST_GATE: u64 = 31;
+
 const BASE: u64 = 0;
+
 const LEAST_NUMBER: TxnId = 1;
 
 /// A gate of a log file, with the room from which every batch is written. It carries its file and what that file says of where its

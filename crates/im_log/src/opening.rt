@@ -193,11 +193,7 @@ impl Opening {
         ensures working { result.failed ≡ false }
     {
         let _ = disk;
-        let Opening {
-            gate,
-            bytes,
-            ..
-        } = self;
+        let Opening { gate, bytes, .. } = self;
         LogFile::at_end(gate, bytes)
     }
 }
@@ -205,11 +201,7 @@ impl Opening {
 /// Opens a log at its first gate: reads its records to the last, and checks each. The file is read once.
 ///
 /// Refused `NotAStore` where the bytes are no log; `Device`; `Memory`.
-pub fn open_log<D: Disk>(
-    alloc: Global,
-    disk: &mut D,
-    gate: Gate,
-) -> Result<LogFile, Fault>
+pub fn open_log<D: Disk>(alloc: Global, disk: &mut D, gate: Gate) -> Result<LogFile, Fault>
     requires of_log { IsOfLog gate }
     requires first { place_of gate ≡ first_of gate }
     requires starts { D.tells → StartsAs gate (D.seen disk.old Log) }
