@@ -4,6 +4,7 @@ ghost use Rattle.std.specs.Prelude.{◌≡◌, ◌≤◌, ◌⊎◌, ◌↔◌, 
 ghost use Rattle.im_types.specs.declared.fault.Fault.TheVariants.{Device, LogFull, Memory, NotAStore};
 ghost use Rattle.im_types.specs.Histories.{Base, History};
 ghost use Rattle.im_types.specs.RedoPoints.{redo_point};
+ghost use Rattle.im_log.specs.LogFile.{HasNoRoom};
 ghost use Rattle.im_flush.specs.PageWriter.{IsReadyWriter};
 ghost use Rattle.im_redo.specs.Redo.{AreApplicable};
 ghost use Rattle.im_redo.specs.Applying.{IsApplying, ApplyingKept};
@@ -30,6 +31,7 @@ fn redo_one<D: Disk>(
         → AreApplicable b begun → point ≡ redo_point begun → ApplyingKept D.Disk b base begun left from writer.new disk.new result }
     ensures works { OnOk result (writer.new.failed ≡ false) }
     ensures causes { IfErr result (λ e. (e ≡ LogFull) ⊎ (e ≡ Memory) ⊎ (e ≡ NotAStore) ⊎ (e ≡ Device)) }
+    ensures no_room { result ≡ Err LogFull → HasNoRoom writer.new.log }
     ensures device { result ≡ Err Device ↔ (D.failed disk.new ≡ true) }
 {
     let size = writer.read_at(disk, lsn, room)?;
@@ -55,6 +57,7 @@ pub(crate) fn redo_all<D: Disk>(
         → AreApplicable b begun → point ≡ redo_point begun → ApplyingKept D.Disk b base begun [] from writer.new disk.new result }
     ensures works { OnOk result (writer.new.failed ≡ false) }
     ensures causes { IfErr result (λ e. (e ≡ LogFull) ⊎ (e ≡ Memory) ⊎ (e ≡ NotAStore) ⊎ (e ≡ Device)) }
+    ensures no_room { result ≡ Err LogFull → HasNoRoom writer.new.log }
     ensures device { result ≡ Err Device ↔ (D.failed disk.new ≡ true) }
 {
     for lsn in lsns {

@@ -7,6 +7,7 @@ ghost use Rattle.im_types.specs.Histories.{Base, History};
 ghost use Rattle.im_types.specs.RedoPoints.{redo_point};
 ghost use Rattle.im_types.specs.WriterSteps.{opened};
 ghost use Rattle.im_analysis.specs.CopyLsns.{AreCopies};
+ghost use Rattle.im_log.specs.LogFile.{HasNoRoom};
 ghost use Rattle.im_flush.specs.PageWriter.{IsReadyWriter, StandsAs};
 ghost use Rattle.im_redo.specs.Redo.{AreApplicable, lsns_from, RedoneKept};
 
@@ -41,6 +42,7 @@ pub fn redo<D: Disk>(
         → RedoneKept D.Disk b base begun disk.old writer.new disk.new result }
     ensures works { OnOk result (writer.new.failed ≡ false) }
     ensures causes { IfErr result (λ e. (e ≡ Failed) ⊎ (e ≡ LogFull) ⊎ (e ≡ Memory) ⊎ (e ≡ NotAStore) ⊎ (e ≡ Device)) }
+    ensures no_room { result ≡ Err LogFull → HasNoRoom writer.new.log }
     ensures already { result ≡ Err Failed ↔ (writer.old.failed ≡ true) }
     ensures device { writer.old.failed ≡ false → result ≡ Err Device ↔ (D.failed disk.new ≡ true) }
 {

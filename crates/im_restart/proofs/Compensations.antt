@@ -150,11 +150,11 @@ spares_key t old new by = record {
 answered_cause : (f answer : Fault) → (f ≡ Failed → answer ≡ Memory) → (f ≢ Failed → answer ≡ f) → f ≢ NotAStore → answer ≢ NotAStore
 answered_cause f answer memory others cause is = cause (sym (others (λ failed. (let clash : Memory ≡ NotAStore = sym (memory failed) ∙ is in cc clash))) ∙ is)
 
-module _ {D : Type 0} (d : Ghosts D) (b : Base) (all : History) where
+module _ {D : Type 0} (d : Ghosts D) (b : Base) (base : ℕ) (all : History) where
   -- what a stop leaves
-  pub left_key : (s : Writer) (t : ℕ) (old new : D) → IsUndoing b all s → is_loser t s.log ≡ true → LeavesUndo d b 0 s t old new → LeavesOnly d old new (IsLeftUndoing b all)
+  pub left_key : (s : Writer) (t : ℕ) (old new : D) → IsUndoing b all s → is_loser t s.log ≡ true → LeavesUndo d b base s t old new → LeavesOnly d old new (IsLeftUndoing b base all)
   left_key s t old new is loser stops =
-      weakened d old new (LeftByUndo d b 0 s t) (IsLeftUndoing b all) stops
+      weakened d old new (LeftByUndo d b base s t) (IsLeftUndoing b base all) stops
       (λ told c by.
       let on = by.covered in
       record {
@@ -164,8 +164,8 @@ module _ {D : Type 0} (d : Ghosts D) (b : Base) (all : History) where
         lawful = fronts_lawful b page_tree on.log.left by.high on.log.shorter by.lawful;
       })
 
-  module _ (s : Writer) (c : Chain) (said : Entry) (w : PageWriter) (old : D) (stands : StandsAs d b 0 s w old) (is : IsUndoing b all s) (to : IsToUndo s.log c said) where
-    going : IsGoing d b 0 s is.redo_end c.transaction c.last c.undo_next w old
+  module _ (s : Writer) (c : Chain) (said : Entry) (w : PageWriter) (old : D) (stands : StandsAs d b base s w old) (is : IsUndoing b all s) (to : IsToUndo s.log c said) where
+    going : IsGoing d b base s is.redo_end c.transaction c.last c.undo_next w old
     going = record {
       stands = stands;
       over = is.over;
@@ -174,7 +174,7 @@ module _ {D : Type 0} (d : Ghosts D) (b : Base) (all : History) where
       row = sym (ap (λ (l : ℕ). record { last = l; undo_next = c.undo_next }) to.last ∙ ap (λ (n : ℕ). record { last = last_of c.transaction s.log; undo_next = n }) to.undo);
     }
 
-    done : (last : ℕ) (x : PageWriter) (new : D) → TakenBack d b 0 s is.redo_end c.transaction said last old x new → Compensated d b all s c.transaction (prev_of said) last old x new
+    done : (last : ℕ) (x : PageWriter) (new : D) → TakenBack d b base s is.redo_end c.transaction said last old x new → Compensated d b base all s c.transaction (prev_of said) last old x new
     done last x new back =
         let now : Writer = back.now in
         let goes = back.goes in
@@ -188,7 +188,7 @@ module _ {D : Type 0} (d : Ghosts D) (b : Base) (all : History) where
               grown = grows_key all s.log now.log c.transaction is.grown to.loser goes.grows;
               found = front_then all s.durable now.durable is.found goes.durable;
               can = goes.going.can;
-              pages = going_page d b 0 now is.redo_end c.transaction last (prev_of said) x new goes.going;
+              pages = going_page d b base now is.redo_end c.transaction last (prev_of said) x new goes.going;
             };
             stops = left_key s c.transaction old new is to.loser goes.stops;
             on = growth.grown_front c.transaction s.log now.log goes.grows;
@@ -200,20 +200,20 @@ module _ {D : Type 0} (d : Ghosts D) (b : Base) (all : History) where
 
     -- what undo of a key record keeps, and that is what it keeps for a restart
     abbrev pub KeepsKey : ℕ → PageWriter → D → Result ℕ Fault → Type 0
-    KeepsKey t x new result = (e : ℕ) → IsGoing d b 0 s e t c.last c.undo_next w old → undoing.IsToUndo d b 0 s t said → undoing.CompensateKept d b 0 s e t said old x new result
+    KeepsKey t x new result = (e : ℕ) → IsGoing d b base s e t c.last c.undo_next w old → undoing.IsToUndo d b base s t said → undoing.CompensateKept d b base s e t said old x new result
 
-    pub compensated_so : (t : ℕ) (x : PageWriter) (new : D) (result : Result ℕ Fault) → t ≡ c.transaction → KeepsKey t x new result → CompensateKept d b all s c.transaction (prev_of said) old x new result
+    pub compensated_so : (t : ℕ) (x : PageWriter) (new : D) (result : Result ℕ Fault) → t ≡ c.transaction → KeepsKey t x new result → CompensateKept d b base all s c.transaction (prev_of said) old x new result
     compensated_so t x new result same keeps =
         let k = subst (λ (u : ℕ). KeepsKey u x new result) same keeps is.redo_end going (record { lsn = to.lsn; next = to.next }) in
         record {
-          ok = if_ok result (λ last. TakenBack d b 0 s is.redo_end c.transaction said last old x new) (λ last. Compensated d b all s c.transaction (prev_of said) last old x new) k.ok (λ last back. done last x new back);
+          ok = if_ok result (λ last. TakenBack d b base s is.redo_end c.transaction said last old x new) (λ last. Compensated d b base all s c.transaction (prev_of said) last old x new) k.ok (λ last back. done last x new back);
           stops = left_key s c.transaction old new is to.loser k.stops;
           cause = k.cause;
         }
 
     -- and where it was refused, however that is answered
     pub refused_so : (t : ℕ) (x : PageWriter) (new : D) (f answer : Fault) → t ≡ c.transaction → (f ≡ Failed → answer ≡ Memory) → (f ≢ Failed → answer ≡ f) → KeepsKey t x new (Err f)
-        → CompensateKept d b all s c.transaction (prev_of said) old x new (Err answer)
+        → CompensateKept d b base all s c.transaction (prev_of said) old x new (Err answer)
     refused_so t x new f answer same memory others keeps =
         let k = compensated_so t x new (Err f) same keeps in
         record { ok = tt; stops = k.stops; cause = answered_cause f answer memory others k.cause }

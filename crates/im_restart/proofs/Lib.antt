@@ -12,3 +12,4 @@ pub mod Openings
 pub mod Changes
 pub mod Restarts
 pub mod OpenChanges
+mod FullLog

@@ -121,47 +121,47 @@ pub none_open : (going : History) (all : List OpenRecord) → all ≡ oldest_fir
 none_open [] all are none = refl
 none_open (x ∷ rest) all are none = absurd (nothing_before (oldest_first rest) (open_row x) (sym none ∙ are))
 
-module _ {D : Type 0} (d : Ghosts D) (b : Base) (all : History) where
+module _ {D : Type 0} (d : Ghosts D) (b : Base) (base : ℕ) (all : History) where
   -- what a stop leaves
-  pub taking_grown : (s : Writer) (old new : D) → IsTakingBack b all s → LeavesGrown d b 0 s old new → LeavesOnly d old new (IsLeftUndoing b all)
+  pub taking_grown : (s : Writer) (old new : D) → IsTakingBack b all s → LeavesGrown d b base s old new → LeavesOnly d old new (IsLeftUndoing b base all)
   taking_grown s old new is grown =
-      left_covered d b all s.durable grown.high old new grown.stops is.found (grows_images b all s.log grown.high is.grown grown.grows)
+      left_covered d b base all s.durable grown.high old new grown.stops is.found (grows_images b all s.log grown.high is.grown grown.grows)
       (subst (λ (l : History). IsLawful b page_tree l) (sym grown.grows.is) (lawful_images b page_tree grown.grows.images s.log grown.grows.all is.lawful))
 
-  pub change_start : (s : Writer) (w : PageWriter) (disk : D) → ((c : Files) → d.left_since disk (d.moment disk) c → d.may_leave disk c) → StandsAs d b 0 s w disk → IsTakingBack b all s → ChangeGoes d b all s disk s w disk
+  pub change_start : (s : Writer) (w : PageWriter) (disk : D) → ((c : Files) → d.left_since disk (d.moment disk) c → d.may_leave disk c) → StandsAs d b base s w disk → IsTakingBack b all s → ChangeGoes d b base all s disk s w disk
   change_start s w disk only_now stands is = record {
     stands = stands;
     taking = is;
-    stops = left_covered d b all s.durable s.log disk disk (goes_start d b 0 s w.log w.table w.pool disk only_now stands.writing).stops is.found is.grown is.lawful;
+    stops = left_covered d b base all s.durable s.log disk disk (goes_start d b base s w.log w.table w.pool disk only_now stands.writing).stops is.found is.grown is.lawful;
     on = front_none s.log;
   }
 
-  pub change_then : (s : Writer) (old : D) (t : Writer) (w : PageWriter) (mid : D) (u : Writer) (x : PageWriter) (new : D) → ChangeGoes d b all s old t w mid → ChangeGoes d b all t mid u x new → ChangeGoes d b all s old u x new
+  pub change_then : (s : Writer) (old : D) (t : Writer) (w : PageWriter) (mid : D) (u : Writer) (x : PageWriter) (new : D) → ChangeGoes d b base all s old t w mid → ChangeGoes d b base all t mid u x new → ChangeGoes d b base all s old u x new
   change_then s old t w mid u x new first next = record {
     stands = next.stands;
     taking = next.taking;
-    stops = left_then d b all old mid new first.stops next.stops;
+    stops = left_then d b base all old mid new first.stops next.stops;
     on = front_then s.log t.log u.log first.on next.on;
   }
 
   -- calls that only read
-  pub change_read : (s : Writer) (w x : PageWriter) (old new : D) → ((c : Files) → d.left_since old (d.moment old) c → d.may_leave old c) → StandsAs d b 0 s w old → IsTakingBack b all s → Reads d old new → StandsAs d b 0 s x new
-      → ChangeGoes d b all s old s x new
+  pub change_read : (s : Writer) (w x : PageWriter) (old new : D) → ((c : Files) → d.left_since old (d.moment old) c → d.may_leave old c) → StandsAs d b base s w old → IsTakingBack b all s → Reads d old new → StandsAs d b base s x new
+      → ChangeGoes d b base all s old s x new
   change_read s w x old new only_now stands is reads after =
-      record { stands = after; taking = is; stops = reads_on d old old new (IsLeftUndoing b all) (change_start s w old only_now stands is).stops reads; on = front_none s.log }
+      record { stands = after; taking = is; stops = reads_on d old old new (IsLeftUndoing b base all) (change_start s w old only_now stands is).stops reads; on = front_none s.log }
 
   -- a page behind calls in a row
-  pub page_then : (s : Writer) (old : D) (t : Writer) (w : PageWriter) (mid : D) (rest : History) (x : PageWriter) (losers : LoserMap) (new : D) (result : Result Unit Fault) → ChangeGoes d b all s old t w mid
-      → PageKept d b all t rest mid x losers new result → PageKept d b all s rest old x losers new result
+  pub page_then : (s : Writer) (old : D) (t : Writer) (w : PageWriter) (mid : D) (rest : History) (x : PageWriter) (losers : LoserMap) (new : D) (result : Result Unit Fault) → ChangeGoes d b base all s old t w mid
+      → PageKept d b base all t rest mid x losers new result → PageKept d b base all s rest old x losers new result
   page_then s old t w mid rest x losers new result goes k = record {
-    ok = on_ok result (PageUndone d b all t rest mid x losers new) (PageUndone d b all s rest old x losers new) k.ok
+    ok = on_ok result (PageUndone d b base all t rest mid x losers new) (PageUndone d b base all s rest old x losers new) k.ok
         (λ e. record { now = e.now; goes = change_then s old t w mid e.now x new goes e.goes; going = e.going; are = e.are });
-    stops = left_then d b all old mid new goes.stops k.stops;
+    stops = left_then d b base all old mid new goes.stops k.stops;
     cause = k.cause;
   }
 
   -- none is open any more
-  pub change_over : (s : Writer) (old : D) (t : Writer) (w : PageWriter) (disk : D) → ChangeGoes d b all s old t w disk → open_smo t.log ≡ [] → UndoGoes d b all s old t w disk
+  pub change_over : (s : Writer) (old : D) (t : Writer) (w : PageWriter) (disk : D) → ChangeGoes d b base all s old t w disk → open_smo t.log ≡ [] → UndoGoes d b base all s old t w disk
   change_over s old t w disk goes closed = record {
     stands = goes.stands;
     undoing = record {
@@ -186,7 +186,7 @@ module _ {D : Type 0} (d : Ghosts D) (b : Base) (all : History) where
     undo_is : what_of (UndoSmo t last prev page before) ≡ whats.UndoSmo smo.0
     undo_is = smo_before (page_behind before) (page_behind after) smo.0 smo.1 smo.2
 
-    done : (at : ℕ) → LeavesOnly d old new (IsLeftUndoing b all) → ChangedFrom d b 0 s (UndoSmo t last prev page before) at old w new → TakenBack d b all s t prev rest at old w new
+    done : (at : ℕ) → LeavesOnly d old new (IsLeftUndoing b base all) → ChangedFrom d b base s (UndoSmo t last prev page before) at old w new → TakenBack d b base all s t prev rest at old w new
     done at stops from =
         let x : Logged = logged_at lsn (Smo t prev page before after) in
         let r : Logged = logged_at at (UndoSmo t last prev page before) in
@@ -226,20 +226,20 @@ module _ {D : Type 0} (d : Ghosts D) (b : Base) (all : History) where
           losers = λ m n are up. row_changed m n log t x r (subst (λ (l : History). AreLosers m l) (sym by.is) (images_table b m by.images s.log by.all are)) next.2 up.0;
         }
 
-    pub taken_so : (result : Result ℕ Fault) → LeftKept d b 0 s (UndoSmo t last prev page before) old w new result → TakeBackKept d b all s t prev rest old w new result
+    pub taken_so : (result : Result ℕ Fault) → LeftKept d b base s (UndoSmo t last prev page before) old w new result → TakeBackKept d b base all s t prev rest old w new result
     taken_so result k =
         let stops = taking_grown s old new is k.stops in
         record {
-          ok = if_ok result (λ at. ChangedFrom d b 0 s (UndoSmo t last prev page before) at old w new) (λ at. TakenBack d b all s t prev rest at old w new) k.ok (λ at from. done at stops from);
+          ok = if_ok result (λ at. ChangedFrom d b base s (UndoSmo t last prev page before) at old w new) (λ at. TakenBack d b base all s t prev rest at old w new) k.ok (λ at from. done at stops from);
           stops = stops;
           cause = k.cause (λ none. (let clash : Some smo.0 ≡ None = sym (ap after_in undo_is) ∙ none in cc clash));
         }
 
   -- the row is noted
-  pub page_noted : (s : Writer) (t on : ℕ) (rest : History) (lsn : ℕ) (old : D) (w : PageWriter) (m n : LoserMap) (new : D) (result : Result Unit Fault) → TakenBack d b all s t on rest lsn old w new → AreLosers m s.log
-      → (u v : ℕ) → u ≡ t → v ≡ on → OnOk result (Updates nat_cmp m n u (Some (record { last = lsn; undo_next = v }))) → IfErr result (λ e. e ≡ Memory) → PageKept d b all s rest old w n new result
+  pub page_noted : (s : Writer) (t on : ℕ) (rest : History) (lsn : ℕ) (old : D) (w : PageWriter) (m n : LoserMap) (new : D) (result : Result Unit Fault) → TakenBack d b base all s t on rest lsn old w new → AreLosers m s.log
+      → (u v : ℕ) → u ≡ t → v ≡ on → OnOk result (Updates nat_cmp m n u (Some (record { last = lsn; undo_next = v }))) → IfErr result (λ e. e ≡ Memory) → PageKept d b base all s rest old w n new result
   page_noted s t on rest lsn old w m n new result done are u v who where_on up refused = record {
-    ok = on_ok result _ (PageUndone d b all s rest old w n new) up
+    ok = on_ok result _ (PageUndone d b base all s rest old w n new) up
         (λ is. record {
           now = done.now;
           goes = done.goes;

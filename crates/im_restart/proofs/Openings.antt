@@ -1,5 +1,5 @@
 -- The log at an opening: its first gate, and its records in turn.
-use Rattle.std.proofs.Common.{◌≡◌, ◌⊎◌, inl, inr, ℕ, [], ◌∷◌, Some, Option, Result, Ok, Err, sym, ◌∙◌, ap, subst}
+use Rattle.std.proofs.Common.{◌≡◌, ◌⊎◌, inl, inr, ℕ, List, [], ◌∷◌, Some, Option, Result, Ok, Err, sym, ◌∙◌, ap, subst}
 use Rattle.std.specs.Prelude.{IfOk, OnOk}
 use Rattle.im_types.specs.declared.fault.Fault.{Fault}
 use Rattle.im_types.specs.declared.file_id.FileId.{FileId}
@@ -14,26 +14,48 @@ use Rattle.im_disk.specs.Disk.{Files}
 use Rattle.im_disk.specs.Runs.{Reads}
 use Rattle.im_gate.specs.declared.gate.Gate.{Gate}
 use Rattle.im_gate.specs.Batches.{batches}
-use Rattle.im_gate.specs.Gate.{file_of, first_of, place_of, logged}
-use Rattle.im_gate.specs.Header.{IsMade}
+use Rattle.im_gate.specs.Gate.{file_of, first_of, place_of, logged, StartsAs}
+use Rattle.im_gate.specs.Header.{base_of, first_gate, least_number, StartsAlike, IsMade, IsUnmade}
+use Rattle.im_gate.proofs.Starts.{blank_starts}
 use Rattle.im_record.specs.Entry.{Entry}
 use Rattle.im_log.specs.Spelled.{logged_at}
 use Rattle.im_log.specs.declared.opening.Opening.{Opening}
 use Rattle.im_log.specs.Opening.{HasRead, IsOpening}
 use Rattle.im_log.specs.Kept.{HasLog}
 use Rattle.im_log.proofs.Creations.{blank_has, not_both}
+use Rattle.im_log.proofs.Runs.{of_log}
 use Rattle.im_analysis.specs.Analysis.{Continues}
 use Rattle.im_analysis.specs.OpenChange.{OpensAnother}
 use Rattle.im_analysis.proofs.LawfulLogs.{taken_when_lawful}
 use Rattle.im_restart.specs.Restart.{IsFresh, SpellsLog}
 
--- a log that was made has no record
-pub created : {D : Type 0} (d : Ghosts D) (all : History) (disk : D) (result : Result Gate Fault) → all ≡ [] → d.tells → OnOk result (d.tells → IsMade (d.seen disk Log))
-    → IfOk result (λ gate. d.tells → logged d gate disk ≡ Some []) → IfOk result (λ gate. (file_of gate ≡ Log) × (first_of gate ≡ 31) × (place_of gate ≡ 31)) → IfOk result (λ gate. HasLog 0 all (d.seen disk Log))
-created d all disk (Err e) none told made empty first = tt
-created d all disk (Ok gate) none told made empty first =
-    let same : batches 31 (d.seen disk Log) ≡ Some [] = sym (ap (λ (f : FileId). batches (first_of gate) (d.seen disk f)) first.0 ∙ ap (λ (n : ℕ). batches n (d.seen disk Log)) first.1) ∙ empty told in
-    subst (λ (l : History). HasLog 0 l (d.seen disk Log)) (sym none) (blank_has (d.seen disk Log) (made told) same)
+-- a log that was made has no record, and starts where the unmade one would
+made_blank : {D : Type 0} (d : Ghosts D) (disk : D) (gate : Gate) → d.tells → (d.tells → logged d gate disk ≡ Some []) → file_of gate ≡ Log → StartsAs gate (d.seen disk Log) → batches (first_gate (d.seen disk Log)) (d.seen disk Log) ≡ Some []
+made_blank d disk gate told empty file starts =
+    of_log gate (first_gate (d.seen disk Log)) (record { file = file }) starts.first (λ (f : FileId) (n : ℕ). batches n (d.seen disk f) ≡ Some []) (empty told)
+
+pub created : {D : Type 0} (d : Ghosts D) (base : ℕ) (all : History) (old disk : D) (result : Result Gate Fault) → all ≡ [] → IsUnmade (d.seen old Log) → base_of (d.seen old Log) ≡ base → d.tells → OnOk result (d.tells → IsMade (d.seen disk Log))
+    → IfOk result (λ gate. d.tells → logged d gate disk ≡ Some []) → IfOk result (λ gate. (file_of gate ≡ Log) × (place_of gate ≡ first_of gate)) → IfOk result (λ gate. d.tells → StartsAs gate (d.seen disk Log))
+    → IfOk result (λ gate. HasLog base all (d.seen disk Log))
+created d base all old disk (Err e) none unmade low told made empty first starts = tt
+created d base all old disk (Ok gate) none unmade low told made empty first starts =
+    let blank = made_blank d disk gate told empty first.0 (starts told) in
+    let low_now = (blank_starts (d.seen old Log) (d.seen disk Log) unmade (inr (made told, blank))).base ∙ low in
+    subst (λ (l : History). HasLog base l (d.seen disk Log)) (sym none) (blank_has base (d.seen disk Log) (made told) low_now blank)
+
+pub created_alike : {D : Type 0} (d : Ghosts D) (old disk : D) (result : Result Gate Fault) → (d.tells → IsUnmade (d.seen old Log)) → OnOk result (d.tells → IsMade (d.seen disk Log)) → IfOk result (λ gate. d.tells → logged d gate disk ≡ Some [])
+    → IfOk result (λ gate. (file_of gate ≡ Log) × (place_of gate ≡ first_of gate)) → IfOk result (λ gate. d.tells → StartsAs gate (d.seen disk Log)) → IfOk result (λ _. d.tells → StartsAlike (d.seen old Log) (d.seen disk Log))
+created_alike d old disk (Err e) unmade made empty first starts = tt
+created_alike d old disk (Ok gate) unmade made empty first starts = λ told.
+    blank_starts (d.seen old Log) (d.seen disk Log) (unmade told) (inr (made told, made_blank d disk gate told empty first.0 (starts told)))
+
+-- files that are the same start alike
+pub same_alike : (some other : List ℕ) → other ≡ some → StartsAlike some other
+same_alike some other same = record { gate = ap first_gate same; base = ap base_of same; number = ap least_number same }
+
+pub alike_if_ok : {T : Type 0} {P Q : Type 0} (result : Result T Fault) → (P → Q) → P → IfOk result (λ _. Q)
+alike_if_ok (Ok x) f p = f p
+alike_if_ok (Err e) f p = tt
 
 -- the record that was read is the next one of the list
 pub same_entry : (read : Option Entry) (some other : Entry) → read ≡ Some some → read ≡ Some other → some ≡ other
@@ -44,11 +66,11 @@ pub continues : (b : Base) (tree : Tree) (all older : History) (r : Logged) → 
 continues b tree all older r law front = taken_when_lawful tree b older r (fronts_lawful b tree (r ∷ older) all front law)
 
 -- the next record of a lawful log, as it was decoded
-pub next_read : {D : Type 0} (d : Ghosts D) (b : Base) (tree : Tree) (all older : History) (lsn : ℕ) (entry said : Entry) (new : Opening) (disk : D) → entry ≡ said → IsLawful b tree all → IsFront (logged_at lsn entry ∷ older) all
-    → IsOpening d 0 all (logged_at lsn entry ∷ older) new disk
-    → Continues (logged_at lsn said) older × (OpensAnother (logged_at lsn said) older → ⊥) × IsOpening d 0 all (logged_at lsn said ∷ older) new disk
-next_read d b tree all older lsn entry said new disk same law front opening =
-    let is = subst (λ (e : Entry). IsFront (logged_at lsn e ∷ older) all × IsOpening d 0 all (logged_at lsn e ∷ older) new disk) same (front, opening) in
+pub next_read : {D : Type 0} (d : Ghosts D) (b : Base) (base : ℕ) (tree : Tree) (all older : History) (lsn : ℕ) (entry said : Entry) (new : Opening) (disk : D) → entry ≡ said → IsLawful b tree all → IsFront (logged_at lsn entry ∷ older) all
+    → IsOpening d base all (logged_at lsn entry ∷ older) new disk
+    → Continues (logged_at lsn said) older × (OpensAnother (logged_at lsn said) older → ⊥) × IsOpening d base all (logged_at lsn said ∷ older) new disk
+next_read d b base tree all older lsn entry said new disk same law front opening =
+    let is = subst (λ (e : Entry). IsFront (logged_at lsn e ∷ older) all × IsOpening d base all (logged_at lsn e ∷ older) new disk) same (front, opening) in
     let next = continues b tree all older (logged_at lsn said) law is.0 in
     (next.0, next.1, is.1)
 
@@ -63,9 +85,9 @@ made_known files made fresh = not_both (files Log) made fresh.0
 
 -- an opening that did not make the log read all of it
 pub spelled_so : {D T : Type 0} (d : Ghosts D) (old mid : D) (opening : Opening) (result : Result T Fault) → (d.tells → IsFresh (d.seen old) ⊎ IsMade (d.seen old Log)) → (d.tells → ¬ (IsFresh (d.seen old)) → Reads d old mid)
-    → (d.tells → HasRead d 0 [] opening mid) → IfOk result (λ _. HasRead d 0 [] opening mid → (found : History) × HasLog 0 found (d.seen mid Log)) → IfOk result (λ _. d.tells → SpellsLog (d.seen old))
+    → (d.tells → HasRead d (base_of (d.seen mid Log)) [] opening mid) → IfOk result (λ _. (base : ℕ) → HasRead d base [] opening mid → (found : History) × HasLog base found (d.seen mid Log)) → IfOk result (λ _. d.tells → SpellsLog (d.seen old))
 spelled_so d old mid opening (Err e) store reads start spelled = tt
 spelled_so d old mid opening (Ok x) store reads start spelled = λ told. elim (store told) [
   | inl fresh ↦ inl fresh
-  | inr made ↦ let s = spelled (start told) in inr (s.0, subst (λ (f : Files). HasLog 0 s.0 (f Log)) (reads told (made_known (d.seen old) made)).seen s.1)
+  | inr made ↦ let s = spelled (base_of (d.seen mid Log)) (start told) in inr (s.0, subst (λ (f : Files). HasLog (base_of (f Log)) s.0 (f Log)) (reads told (made_known (d.seen old) made)).seen s.1)
 ]

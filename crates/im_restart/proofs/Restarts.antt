@@ -1,8 +1,9 @@
 -- A restart: what redo, undo and the last force leave, put together.
 use Rattle.std.proofs.Common.{◌≡◌, ◌≢◌, ◌⊎◌, ◌≤◌, ◌-◌, ◌^◌, ℕ, min, inl, inr, [], List, false, length, Option, Result, Ok, Err, refl, sym, ◌∙◌, ap, subst, arith}
-use Rattle.std.specs.Prelude.{IfErr}
+use Rattle.std.specs.Prelude.{IfErr, IfOk}
 use Rattle.im_types.specs.declared.fault.Fault.{Fault}
 use Rattle.im_types.specs.declared.fault.Fault.TheVariants.{Device, Failed, NotAStore}
+use Rattle.im_types.specs.declared.file_id.FileId.{FileId}
 use Rattle.im_types.specs.declared.file_id.FileId.TheVariants.{Log, Pages}
 use Rattle.im_types.specs.Pages.{Page}
 use Rattle.im_types.specs.Histories.{Base, History, end_of}
@@ -23,7 +24,6 @@ use Rattle.im_log.specs.Kept.{IsLogOf}
 use Rattle.im_log.specs.LogFile.{IsOpen, IsLog}
 use Rattle.im_log.proofs.Above.{front_none}
 use Rattle.im_log.proofs.Creations.{not_both}
-use Rattle.im_log.proofs.Runs.{of_log}
 use Rattle.im_log.specs.declared.log_file.LogFile.{LogFile}
 use Rattle.im_flush.specs.declared.page_writer.PageWriter.{PageWriter}
 use Rattle.im_flush.specs.PageWriter.{GoesOn, StandsAs, StepKept}
@@ -38,6 +38,7 @@ use Rattle.im_analysis.specs.OpenChange.{IsOpenChange, oldest_first}
 use Rattle.im_analysis.proofs.Tables.{images_table}
 use Rattle.im_tree.specs.Theory.{page_tree}
 use Rattle.im_restart.specs.Restart.{HasStore, IsFresh, IsLeftUndoing, IsRestarted, IsSettled, MayRestart, SettleKept}
+use Rattle.im_restart.specs.declared.restarted.Restarted.{Restarted}
 use Rattle.im_restart.specs.StructureChange.{ChangeGoes}
 use Rattle.im_restart.specs.Undoing.{AllUndone}
 use Rattle.im_restart.proofs.Growth.{grows_images, grows_none}
@@ -45,9 +46,9 @@ use Rattle.im_restart.proofs.Steps.{left_covered, left_here, left_then}
 
 -- ---- the files
 
-pub has_same : (b : Base) (all : History) (files c : Files) → c Log ≡ files Log → c Pages ≡ files Pages → HasStore b all files → HasStore b all c
-has_same b all files c log pages has = record {
-  log = subst (λ (bytes : List ℕ). IsLogOf 0 all bytes) (sym log) has.log;
+pub has_same : (b : Base) (base : ℕ) (all : History) (files c : Files) → c Log ≡ files Log → c Pages ≡ files Pages → HasStore b base all files → HasStore b base all c
+has_same b base all files c log pages has = record {
+  log = subst (λ (bytes : List ℕ). IsLogOf base all bytes) (sym log) has.log;
   bare = λ unmade. ap (λ (bytes : List ℕ). length bytes) pages ∙ has.bare (subst (λ (bytes : List ℕ). IsUnmade bytes) log unmade);
   covers = subst (λ (bytes : List ℕ). Covers b all (file_page bytes)) (sym pages) has.covers;
 }
@@ -58,28 +59,28 @@ not_no_store (Ok x) is = tt
 not_no_store (Err e) (inl is) = λ same. (let clash : Failed ≡ NotAStore = sym is ∙ same in cc clash)
 not_no_store (Err e) (inr is) = λ same. (let clash : Device ≡ NotAStore = sym is ∙ same in cc clash)
 
-module _ {D : Type 0} (d : Ghosts D) (b : Base) (all : History) where
+module _ {D : Type 0} (d : Ghosts D) (b : Base) (base : ℕ) (all : History) where
   -- ---- before any call
 
-  pub left_unmoved : (disk : D) → ((c : Files) → d.left_since disk (d.moment disk) c → d.may_leave disk c) → Only Log (d.seen disk) (d.may_leave disk) → Only Pages (d.seen disk) (d.may_leave disk) → HasStore b all (d.seen disk)
-      → IsLawful b page_tree all → LeavesOnly d disk disk (IsLeftUndoing b all)
+  pub left_unmoved : (disk : D) → ((c : Files) → d.left_since disk (d.moment disk) c → d.may_leave disk c) → Only Log (d.seen disk) (d.may_leave disk) → Only Pages (d.seen disk) (d.may_leave disk) → HasStore b base all (d.seen disk)
+      → IsLawful b page_tree all → LeavesOnly d disk disk (IsLeftUndoing b base all)
   left_unmoved disk only_now log pages has law =
-      started d disk (IsLeftUndoing b all)
-      (λ told c left. record { left = all; has = has_same b all (d.seen disk) c (log c (only_now c left)) (pages c (only_now c left)) has; grown = grows_none all; lawful = law })
+      started d disk (IsLeftUndoing b base all)
+      (λ told c left. record { left = all; has = has_same b base all (d.seen disk) c (log c (only_now c left)) (pages c (only_now c left)) has; grown = grows_none all; lawful = law })
 
   -- an open log is on the disk
   pub log_synced : (file : LogFile) (disk : D) → IsOpen d file disk → file.failed ≡ false → Only Log (d.seen disk) (d.may_leave disk)
-  log_synced file disk is_open working = of_log file.gate file.of_log (λ f n. Only f (d.seen disk) (d.may_leave disk)) (is_open.ready.reading.durable (is_open.working working))
+  log_synced file disk is_open working = subst (λ (f : FileId). Only f (d.seen disk) (d.may_leave disk)) file.of_log.file (is_open.ready.reading.durable (is_open.working working))
 
   -- ---- the log is opened or made
 
   pub left_opening : (old mid : D) → ((c : Files) → d.left_since old (d.moment old) c → d.may_leave old c) → d.tells → Only Log (d.seen old) (d.may_leave old) → Only Pages (d.seen old) (d.may_leave old)
-      → MayRestart b all (d.seen old) → LeavesIn d Log old mid (IsLogOf 0 all) → (d.tells → ¬ (IsFresh (d.seen old)) → Reads d old mid) → LeavesOnly d old mid (IsLeftUndoing b all)
+      → MayRestart b base all (d.seen old) → LeavesIn d Log old mid (IsLogOf base all) → (d.tells → ¬ (IsFresh (d.seen old)) → Reads d old mid) → LeavesOnly d old mid (IsLeftUndoing b base all)
   left_opening old mid only_now told log pages may stops reads = by may.has.log
     where
-      by : IsLogOf 0 all (d.seen old Log) → LeavesOnly d old mid (IsLeftUndoing b all)
+      by : IsLogOf base all (d.seen old Log) → LeavesOnly d old mid (IsLeftUndoing b base all)
       by (inl fresh) =
-          weakened d old mid _ (IsLeftUndoing b all) stops
+          weakened d old mid _ (IsLeftUndoing b base all) stops
           (λ t c left.
           let same : c Pages ≡ d.seen old Pages = left.2.others Pages (λ e. cc e) ∙ pages left.0 left.1 in
           record {
@@ -93,14 +94,14 @@ module _ {D : Type 0} (d : Ghosts D) (b : Base) (all : History) where
             lawful = may.lawful;
           })
       by (inr made) =
-          reads_on d old old mid (IsLeftUndoing b all) (left_unmoved old only_now log pages may.has may.lawful) (reads told (λ fresh. not_both (d.seen old Log) made.made fresh.0))
+          reads_on d old old mid (IsLeftUndoing b base all) (left_unmoved old only_now log pages may.has may.lawful) (reads told (λ fresh. not_both (d.seen old Log) made.made fresh.0))
 
   -- what the restart finds behind it
-  pub may_behind : (old mid : D) (file : LogFile) → MayRestart b all (d.seen old) → ChangesOnly d Log old mid → IsLog d 0 all all file mid → MayRestart b all (d.seen mid)
+  pub may_behind : (old mid : D) (file : LogFile) → MayRestart b base all (d.seen old) → ChangesOnly d Log old mid → IsLog d base all all file mid → MayRestart b base all (d.seen mid)
   may_behind old mid file may changes log = record {
     start = may.start;
     has = record {
-      log = inr (record { made = log.made; spells = log.on_disk });
+      log = inr (record { made = log.made; starts = log.starts; spells = log.on_disk });
       bare = λ unmade. absurd (not_both (d.seen mid Log) log.made unmade);
       covers = subst (λ (bytes : List ℕ). Covers b all (file_page bytes)) (sym (changes.seen Pages (λ e. cc e))) may.has.covers;
     };
@@ -114,20 +115,20 @@ module _ {D : Type 0} (d : Ghosts D) (b : Base) (all : History) where
 
   -- ---- redo
 
-  pub left_redoing : (old new : D) → MayRestart b all (d.seen old) → LeavesRedoing d b 0 all old new → LeavesOnly d old new (IsLeftUndoing b all)
+  pub left_redoing : (old new : D) → MayRestart b base all (d.seen old) → LeavesRedoing d b base all old new → LeavesOnly d old new (IsLeftUndoing b base all)
   left_redoing old new may leaves =
-      left_covered d b all all leaves.high old new leaves.stops (front_none all) (grows_images b all all leaves.high (grows_none all) leaves.grows)
+      left_covered d b base all all leaves.high old new leaves.stops (front_none all) (grows_images b all all leaves.high (grows_none all) leaves.grows)
       (subst (λ (l : History). IsLawful b page_tree l) (sym leaves.grows.is) (lawful_images b page_tree leaves.grows.images all leaves.grows.all may.lawful))
 
   -- undo begins
-  pub taking_begins : (file : ℕ → Option Page) (old : D) (w : PageWriter) (disk : D) (files : Files) → MayRestart b all files → (done : Redone d b 0 all old w disk) → ChangeGoes d b all (opened b all file) old done.now w disk
+  pub taking_begins : (file : ℕ → Option Page) (old : D) (w : PageWriter) (disk : D) (files : Files) → MayRestart b base all files → (done : Redone d b base all old w disk) → ChangeGoes d b base all (opened b all file) old done.now w disk
   taking_begins file old w disk files may done =
       let law : IsLawful b page_tree done.now.log = subst (λ (l : History). IsLawful b page_tree l) (sym done.log.is) (lawful_images b page_tree done.log.images all done.log.all may.lawful) in
       let grown = grows_images b all all done.now.log (grows_none all) done.log in
       record {
         stands = done.stands;
         taking = record { redo_end = end_of b done.now.log; over = done.over; grown = grown; found = done.durable; lawful = law; pages = done.pages };
-        stops = left_covered d b all all done.now.log old disk done.stops (front_none all) grown law;
+        stops = left_covered d b base all all done.now.log old disk done.stops (front_none all) grown law;
         on = grown_front b all done.now.log done.log;
       }
 
@@ -139,10 +140,10 @@ module _ {D : Type 0} (d : Ghosts D) (b : Base) (all : History) where
 
   -- ---- the last force
 
-  pub settled_so : (s : Writer) (old : D) (w : PageWriter) (mid : D) (x : PageWriter) (new : D) (result : Result Unit Fault) → (done : AllUndone d b all s old w mid) → StepKept d b 0 done.now (forced done.now) mid x new result
-      → IfErr result (λ e. (e ≡ Failed) ⊎ (e ≡ Device)) → SettleKept d b all old x new result
+  pub settled_so : (s : Writer) (old : D) (w : PageWriter) (mid : D) (x : PageWriter) (new : D) (result : Result Unit Fault) → (done : AllUndone d b base all s old w mid) → StepKept d b base done.now (forced done.now) mid x new result
+      → IfErr result (λ e. (e ≡ Failed) ⊎ (e ≡ Device)) → SettleKept d b base all old x new result
   settled_so s old w mid x new result done k causes = record {
-    ok = on_ok result (GoesOn d b 0 done.now mid (forced done.now) x new) (IsSettled d b all x new) k.ok
+    ok = on_ok result (GoesOn d b base done.now mid (forced done.now) x new) (IsSettled d b base all x new) k.ok
         (λ on. record {
           now = forced done.now;
           stands = record { working = on.working; writing = on.goes.writing };
@@ -154,21 +155,20 @@ module _ {D : Type 0} (d : Ghosts D) (b : Base) (all : History) where
           ended = done.ended;
           pages = done.goes.undoing.pages;
         });
-    stops = left_then d b all old mid new done.goes.stops (left_here d b all done.now mid new done.goes.undoing k.stops);
+    stops = left_then d b base all old mid new done.goes.stops (left_here d b base all done.now mid new done.goes.undoing k.stops);
     cause = not_no_store result causes;
   }
 
   -- ---- the writer
 
-  pub writer_starts : (file : LogFile) (w : PageWriter) (frames : ℕ) (disk : D) → MayRestart b all (d.seen disk) → Only Pages (d.seen disk) (d.may_leave disk) → IsOpen d file disk → IsLog d 0 all all file disk → w.log ≡ file
-      → w.pool ≡ record { held = []; frames = frames; gets = 0 } → w.table ≡ [] → w.failed ≡ false → StandsAs d b 0 (opened b all (file_page (d.seen disk Pages))) w disk
+  pub writer_starts : (file : LogFile) (w : PageWriter) (frames : ℕ) (disk : D) → MayRestart b base all (d.seen disk) → Only Pages (d.seen disk) (d.may_leave disk) → IsOpen d file disk → IsLog d base all all file disk → w.log ≡ file
+      → w.pool ≡ record { held = []; frames = frames; gets = 0 } → w.table ≡ [] → w.failed ≡ false → StandsAs d b base (opened b all (file_page (d.seen disk Pages))) w disk
   writer_starts file w frames disk may pages is_open log same pool table working =
-      let start : b.start ≡ 0 = may.start in
-      writer_opens d b 0 all w frames disk (omega (arith, start)) (rises b page_tree all may.lawful) may.has.covers (subst (λ (f : LogFile). IsOpen d f disk) (sym same) is_open) (subst (λ (f : LogFile). IsLog d 0 all all f disk) (sym same) log) pages pool
+      writer_opens d b base all w frames disk may.start (rises b page_tree all may.lawful) may.has.covers (subst (λ (f : LogFile). IsOpen d f disk) (sym same) is_open) (subst (λ (f : LogFile). IsLog d base all all f disk) (sym same) log) pages pool
       table working
 
-  pub restarted_so : (w : PageWriter) (next : ℕ) (disk : D) → IsSettled d b all w disk → IsNextNumber next all → IsRestarted d b all (record { writer = w; next = next }) disk
-  restarted_so w next disk is number = record {
+  pub restarted_so : (w : PageWriter) (next : ℕ) (disk : D) → IsSettled d b base all w disk → IsRestarted d b base all (record { writer = w; next = next }) disk
+  restarted_so w next disk is = record {
     now = is.now;
     stands = is.stands;
     redo_end = is.redo_end;
@@ -178,13 +178,17 @@ module _ {D : Type 0} (d : Ghosts D) (b : Base) (all : History) where
     lawful = is.lawful;
     ended = is.ended;
     pages = is.pages;
-    next = number;
   }
 
--- the next number is at least 1
-pub next_least : (next : ℕ) (log : History) → IsNextNumber next log → 1 ≤ next
-next_least next log is = let least : 1 ≤ is.number = is.new.least in let same : next ≡ min is.number (2 ^ 64 - 1) = is.is in omega (arith, least, same)
+-- the next number is not below the least, nor is that 0
+pub next_least : (lowest next : ℕ) (log : History) → 1 ≤ lowest → IsNextNumber lowest next log → 1 ≤ next
+next_least lowest next log some is = let least : lowest ≤ is.number = is.new.least in let same : next ≡ min is.number (2 ^ 64 - 1) = is.is in omega (arith, some, least, same)
+
+-- the next number of a log that starts as it did before
+pub next_before : (result : Result Restarted Fault) (low now : ℕ) (log : History) → now ≡ low → IfOk result (λ r. IsNextNumber now r.next log) → IfOk result (λ r. IsNextNumber low r.next log)
+next_before (Err e) low now log same is = tt
+next_before (Ok r) low now log same is = subst (λ (n : ℕ). IsNextNumber n r.next log) same is
 
 -- what a stop within a restart leaves, a restart can start from again
-pub may_again : (b : Base) (all : History) (files left : Files) → MayRestart b all files → (is : IsLeftUndoing b all left) → MayRestart b is.left left
-may_again b all files left may is = record { start = may.start; has = is.has; lawful = is.lawful }
+pub may_again : (b : Base) (base : ℕ) (all : History) (files left : Files) → MayRestart b base all files → (is : IsLeftUndoing b base all left) → MayRestart b base is.left left
+may_again b base all files left may is = record { start = may.start; has = is.has; lawful = is.lawful }

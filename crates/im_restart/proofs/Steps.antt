@@ -54,11 +54,11 @@ pub nothing_left : (b : Base) (tree : Tree) → TreeLaws tree → (log : History
 nothing_left b tree laws log c can goes =
     subst (λ (o : Option Logged). ComesTo c.transaction log o) (reads_none b log (rises b tree log can.lawful)) (comes_to b tree laws log c 0 can goes)
 
-module _ {D : Type 0} (d : Ghosts D) (b : Base) (all : History) where
+module _ {D : Type 0} (d : Ghosts D) (b : Base) (base : ℕ) (all : History) where
   -- what a stop leaves between two fronts of the log
-  pub left_covered : (low high : History) (old new : D) → LeavesCovered d b 0 low high old new → IsFront all low → GrowsByUndo all high → IsLawful b page_tree high → LeavesOnly d old new (IsLeftUndoing b all)
+  pub left_covered : (low high : History) (old new : D) → LeavesCovered d b base low high old new → IsFront all low → GrowsByUndo all high → IsLawful b page_tree high → LeavesOnly d old new (IsLeftUndoing b base all)
   left_covered low high old new stops found grown law =
-      weakened d old new (IsCovered b 0 low high) (IsLeftUndoing b all) stops
+      weakened d old new (IsCovered b base low high) (IsLeftUndoing b base all) stops
       (λ told c is. record {
         left = is.log.left;
         has = record { log = inr is.log.has; bare = λ unmade. absurd (not_both (c Log) is.log.has.made unmade); covers = is.pages };
@@ -66,29 +66,29 @@ module _ {D : Type 0} (d : Ghosts D) (b : Base) (all : History) where
         lawful = fronts_lawful b page_tree is.log.left high is.log.shorter law;
       })
 
-  pub left_here : (s : Writer) (old new : D) → IsUndoing b all s → LeavesCovered d b 0 s.durable s.log old new → LeavesOnly d old new (IsLeftUndoing b all)
+  pub left_here : (s : Writer) (old new : D) → IsUndoing b all s → LeavesCovered d b base s.durable s.log old new → LeavesOnly d old new (IsLeftUndoing b base all)
   left_here s old new is stops = left_covered s.durable s.log old new stops is.found is.grown is.can.lawful
 
   -- and with Images more
-  pub left_grown : (s : Writer) (old new : D) → IsUndoing b all s → LeavesGrown d b 0 s old new → LeavesOnly d old new (IsLeftUndoing b all)
+  pub left_grown : (s : Writer) (old new : D) → IsUndoing b all s → LeavesGrown d b base s old new → LeavesOnly d old new (IsLeftUndoing b base all)
   left_grown s old new is grown =
       left_covered s.durable grown.high old new grown.stops is.found (grows_images b all s.log grown.high is.grown grown.grows)
       (subst (λ (l : History). IsLawful b page_tree l) (sym grown.grows.is) (lawful_images b page_tree grown.grows.images s.log grown.grows.all is.can.lawful))
 
-  pub left_then : (old mid new : D) → LeavesOnly d old mid (IsLeftUndoing b all) → LeavesOnly d mid new (IsLeftUndoing b all) → LeavesOnly d old new (IsLeftUndoing b all)
-  left_then old mid new first next = then_on d old mid new (IsLeftUndoing b all) (IsLeftUndoing b all) first next (λ told c is. is)
+  pub left_then : (old mid new : D) → LeavesOnly d old mid (IsLeftUndoing b base all) → LeavesOnly d mid new (IsLeftUndoing b base all) → LeavesOnly d old new (IsLeftUndoing b base all)
+  left_then old mid new first next = then_on d old mid new (IsLeftUndoing b base all) (IsLeftUndoing b base all) first next (λ told c is. is)
 
   -- ---- calls in a row
 
-  pub undo_start : (s : Writer) (w : PageWriter) (disk : D) → ((c : Files) → d.left_since disk (d.moment disk) c → d.may_leave disk c) → StandsAs d b 0 s w disk → IsUndoing b all s → UndoGoes d b all s disk s w disk
+  pub undo_start : (s : Writer) (w : PageWriter) (disk : D) → ((c : Files) → d.left_since disk (d.moment disk) c → d.may_leave disk c) → StandsAs d b base s w disk → IsUndoing b all s → UndoGoes d b base all s disk s w disk
   undo_start s w disk only_now stands is = record {
     stands = stands;
     undoing = is;
-    stops = left_here s disk disk is (goes_start d b 0 s w.log w.table w.pool disk only_now stands.writing).stops;
+    stops = left_here s disk disk is (goes_start d b base s w.log w.table w.pool disk only_now stands.writing).stops;
     on = front_none s.log;
   }
 
-  pub undo_then : (s : Writer) (old : D) (t : Writer) (w : PageWriter) (mid : D) (u : Writer) (x : PageWriter) (new : D) → UndoGoes d b all s old t w mid → UndoGoes d b all t mid u x new → UndoGoes d b all s old u x new
+  pub undo_then : (s : Writer) (old : D) (t : Writer) (w : PageWriter) (mid : D) (u : Writer) (x : PageWriter) (new : D) → UndoGoes d b base all s old t w mid → UndoGoes d b base all t mid u x new → UndoGoes d b base all s old u x new
   undo_then s old t w mid u x new first next = record {
     stands = next.stands;
     undoing = next.undoing;
@@ -98,8 +98,8 @@ module _ {D : Type 0} (d : Ghosts D) (b : Base) (all : History) where
 
   -- ---- an End
 
-  pub ended_so : (s : Writer) (c : Chain) (lsn : ℕ) (old : D) (w : PageWriter) (new : D) → IsUndoing b all s → GoesOnAt c 0 s.log → LeavesCovered d b 0 s.durable s.log old new
-      → LoggedOnly d b 0 s (End c.transaction c.last) lsn w new → Ended d b all s c.transaction old w new
+  pub ended_so : (s : Writer) (c : Chain) (lsn : ℕ) (old : D) (w : PageWriter) (new : D) → IsUndoing b all s → GoesOnAt c 0 s.log → LeavesCovered d b base s.durable s.log old new
+      → LoggedOnly d b base s (End c.transaction c.last) lsn w new → Ended d b base all s c.transaction old w new
   ended_so s c lsn old w new is goes stops logged =
       let r : Logged = logged_at lsn (End c.transaction c.last) in
       let none : to_undo c.transaction s.log ≡ [] = nothing_left b page_tree page_tree_laws s.log c is.can goes in

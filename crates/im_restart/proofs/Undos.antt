@@ -24,60 +24,60 @@ use Rattle.im_restart.proofs.Steps.{left_then, undo_start, undo_then}
 pub disk_works : {D : Type 0} (d : Ghosts D) (w : PageWriter) (disk : D) → IsReadyWriter d w disk → w.failed ≡ false → d.failed disk ≡ false
 disk_works d w disk ready working = (ready.opened working).ready.reading.working ((ready.opened working).working (ready.works working))
 
-module _ {D : Type 0} (d : Ghosts D) (b : Base) (all : History) where
+module _ {D : Type 0} (d : Ghosts D) (b : Base) (base : ℕ) (all : History) where
   -- the map of the others' chains behind calls in a row
-  pub chains_then : (s : Writer) (t : ℕ) (out : ℕ → Bool) (chains : ChainMap) (old : D) (now : Writer) (w : PageWriter) (disk : D) → IsUndoing b all s → UndoGoes d b all s old now w disk → SparesOthers t s.log now.log
+  pub chains_then : (s : Writer) (t : ℕ) (out : ℕ → Bool) (chains : ChainMap) (old : D) (now : Writer) (w : PageWriter) (disk : D) → IsUndoing b all s → UndoGoes d b base all s old now w disk → SparesOthers t s.log now.log
       → AreChains (and_also t out) chains s.log → AreChains (and_also t out) chains now.log
   chains_then s t out chains old now w disk is goes others are =
       chains_longer b page_tree t out chains s.log now.log is.can.lawful (rises b page_tree s.log is.can.lawful) (rises b page_tree now.log goes.undoing.can.lawful) goes.on others are
 
   pub step_end : (s : Writer) (t : ℕ) (out : ℕ → Bool) (chains : ChainMap) (old : D) (w : PageWriter) (new : D) (result : Result Unit Fault) → IsUndoing b all s → AreChains (and_also t out) chains s.log
-      → EndKept d b all s t old w new result → StepKept d b all s t out old w chains new result
+      → EndKept d b base all s t old w new result → StepKept d b base all s t out old w chains new result
   step_end s t out chains old w new result is are k = record {
-    ok = on_ok result (Ended d b all s t old w new) (Stepped d b all s t out old w chains new) k.ok
+    ok = on_ok result (Ended d b base all s t old w new) (Stepped d b base all s t out old w chains new) k.ok
         (λ e. record { now = e.now; goes = e.goes; others = e.others; are = chains_ended t out chains e.now.log (chains_then s t out chains old e.now w new is e.goes e.others are) e.ended });
     stops = k.stops;
     cause = k.cause;
   }
 
   pub step_put : (s : Writer) (t : ℕ) (out : ℕ → Bool) (chains : ChainMap) (w : PageWriter) (disk : D) (result : Result Unit Fault) → ((c : Files) → d.left_since disk (d.moment disk) c → d.may_leave disk c)
-      → StandsAs d b 0 s w disk → IsUndoing b all s → PutKept out s.log chains result → StepKept d b all s t out disk w chains disk result
+      → StandsAs d b base s w disk → IsUndoing b all s → PutKept out s.log chains result → StepKept d b base all s t out disk w chains disk result
   step_put s t out chains w disk result only_now stands is k =
-      let start = undo_start d b all s w disk only_now stands is in
+      let start = undo_start d b base all s w disk only_now stands is in
       record {
-        ok = on_ok result (AreChains out chains s.log) (Stepped d b all s t out disk w chains disk) k.ok (λ are. record { now = s; goes = start; others = spares_none t s.log; are = are });
+        ok = on_ok result (AreChains out chains s.log) (Stepped d b base all s t out disk w chains disk) k.ok (λ are. record { now = s; goes = start; others = spares_none t s.log; are = are });
         stops = start.stops;
         cause = k.cause;
       }
 
   -- a step behind calls in a row
-  pub step_then : (s : Writer) (t : ℕ) (out : ℕ → Bool) (old : D) (now : Writer) (w : PageWriter) (mid : D) (x : PageWriter) (chains : ChainMap) (new : D) (result : Result Unit Fault) → UndoGoes d b all s old now w mid
-      → SparesOthers t s.log now.log → StepKept d b all now t out mid x chains new result → StepKept d b all s t out old x chains new result
+  pub step_then : (s : Writer) (t : ℕ) (out : ℕ → Bool) (old : D) (now : Writer) (w : PageWriter) (mid : D) (x : PageWriter) (chains : ChainMap) (new : D) (result : Result Unit Fault) → UndoGoes d b base all s old now w mid
+      → SparesOthers t s.log now.log → StepKept d b base all now t out mid x chains new result → StepKept d b base all s t out old x chains new result
   step_then s t out old now w mid x chains new result goes others k = record {
-    ok = on_ok result (Stepped d b all now t out mid x chains new) (Stepped d b all s t out old x chains new) k.ok
-        (λ e. record { now = e.now; goes = undo_then d b all s old now w mid e.now x new goes e.goes; others = spares_then t s.log now.log e.now.log others e.others; are = e.are });
-    stops = left_then d b all old mid new goes.stops k.stops;
+    ok = on_ok result (Stepped d b base all now t out mid x chains new) (Stepped d b base all s t out old x chains new) k.ok
+        (λ e. record { now = e.now; goes = undo_then d b base all s old now w mid e.now x new goes e.goes; others = spares_then t s.log now.log e.now.log others e.others; are = e.are });
+    stops = left_then d b base all old mid new goes.stops k.stops;
     cause = k.cause;
   }
 
   -- calls that only read
-  pub undo_read : (s : Writer) (w x : PageWriter) (old new : D) → ((c : Files) → d.left_since old (d.moment old) c → d.may_leave old c) → StandsAs d b 0 s w old → IsUndoing b all s → Reads d old new → StandsAs d b 0 s x new
-      → UndoGoes d b all s old s x new
+  pub undo_read : (s : Writer) (w x : PageWriter) (old new : D) → ((c : Files) → d.left_since old (d.moment old) c → d.may_leave old c) → StandsAs d b base s w old → IsUndoing b all s → Reads d old new → StandsAs d b base s x new
+      → UndoGoes d b base all s old s x new
   undo_read s w x old new only_now stands is reads after = record {
     stands = after;
     undoing = is;
-    stops = reads_on d old old new (IsLeftUndoing b all) (undo_start d b all s w old only_now stands is).stops reads;
+    stops = reads_on d old old new (IsLeftUndoing b base all) (undo_start d b base all s w old only_now stands is).stops reads;
     on = front_none s.log;
   }
 
-  pub read_stops : (s : Writer) (w : PageWriter) (old new : D) → ((c : Files) → d.left_since old (d.moment old) c → d.may_leave old c) → StandsAs d b 0 s w old → IsUndoing b all s → Reads d old new → LeavesOnly d old new (IsLeftUndoing b all)
-  read_stops s w old new only_now stands is reads = reads_on d old old new (IsLeftUndoing b all) (undo_start d b all s w old only_now stands is).stops reads
+  pub read_stops : (s : Writer) (w : PageWriter) (old new : D) → ((c : Files) → d.left_since old (d.moment old) c → d.may_leave old c) → StandsAs d b base s w old → IsUndoing b all s → Reads d old new → LeavesOnly d old new (IsLeftUndoing b base all)
+  read_stops s w old new only_now stands is reads = reads_on d old old new (IsLeftUndoing b base all) (undo_start d b base all s w old only_now stands is).stops reads
 
   -- all of undo behind calls in a row
-  pub undo_behind : (s : Writer) (old : D) (now : Writer) (w : PageWriter) (mid : D) (x : PageWriter) (new : D) (result : Result Unit Fault) → UndoGoes d b all s old now w mid → UndoKept d b all now mid x new result
-      → UndoKept d b all s old x new result
+  pub undo_behind : (s : Writer) (old : D) (now : Writer) (w : PageWriter) (mid : D) (x : PageWriter) (new : D) (result : Result Unit Fault) → UndoGoes d b base all s old now w mid → UndoKept d b base all now mid x new result
+      → UndoKept d b base all s old x new result
   undo_behind s old now w mid x new result goes k = record {
-    ok = on_ok result (AllUndone d b all now mid x new) (AllUndone d b all s old x new) k.ok (λ e. record { now = e.now; goes = undo_then d b all s old now w mid e.now x new goes e.goes; ended = e.ended });
-    stops = left_then d b all old mid new goes.stops k.stops;
+    ok = on_ok result (AllUndone d b base all now mid x new) (AllUndone d b base all s old x new) k.ok (λ e. record { now = e.now; goes = undo_then d b base all s old now w mid e.now x new goes e.goes; ended = e.ended });
+    stops = left_then d b base all old mid new goes.stops k.stops;
     cause = k.cause;
   }

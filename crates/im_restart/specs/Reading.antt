@@ -1,5 +1,5 @@
 -- What reading the log keeps.
-use Rattle.std.specs.Prelude.{◌≡◌, ◌≢◌, Result, IfErr, IfOk}
+use Rattle.std.specs.Prelude.{◌≡◌, ◌≢◌, ◌≤◌, ℕ, Result, IfErr, IfOk}
 use Rattle.im_types.specs.declared.fault.Fault.{Fault}
 use Rattle.im_types.specs.declared.fault.Fault.TheVariants.{NotAStore}
 use Rattle.im_types.specs.declared.file_id.FileId.TheVariants.{Log}
@@ -8,23 +8,25 @@ use Rattle.im_types.specs.RedoPoints.{redo_point}
 use Rattle.im_disk.specs.declared.disk.Disk.{Ghosts}
 use Rattle.im_disk.specs.Runs.{LeavesIn}
 use Rattle.im_gate.specs.declared.gate.Gate.{Gate}
+use Rattle.im_gate.specs.Header.{least_number}
 use Rattle.im_log.specs.Kept.{HasLog, IsLogOf}
 use Rattle.im_log.specs.LogFile.{IsLog}
 use Rattle.im_analysis.specs.Analysis.{IsAnalysis}
 use Rattle.im_redo.specs.Redo.{lsns_from}
 use Rattle.im_restart.specs.declared.found.Found.{Found}
 
-module _ {D : Type 0} (d : Ghosts D) (all : History) where
+module _ {D : Type 0} (d : Ghosts D) (base : ℕ) (all : History) where
   -- What the first gate of a log is, that was opened or made.
   pub record GateKept (old new : D) (result : Result Gate Fault) : Type 0 where
-    pub ok : IfOk result (λ gate. HasLog 0 all (d.seen new Log))
-    pub stops : LeavesIn d Log old new (IsLogOf 0 all)
+    pub ok : IfOk result (λ gate. HasLog base all (d.seen new Log))
+    pub stops : LeavesIn d Log old new (IsLogOf base all)
     pub cause : IfErr result (λ e. e ≢ NotAStore)
 
   -- The log is open behind all its records, which are durable, and this is what they say.
   pub record IsFound (found : Found) (disk : D) : Type 0 where
-    pub log : IsLog d 0 all all found.log disk
-    pub analysis : IsAnalysis all found.analysed
+    pub log : IsLog d base all all found.log disk
+    pub analysis : IsAnalysis (least_number (d.seen disk Log)) all found.analysed
+    pub numbers : 1 ≤ least_number (d.seen disk Log)
     pub lsns : found.lsns.items ≡ lsns_from (redo_point all) all
 
   -- what reading the records keeps
@@ -35,5 +37,5 @@ module _ {D : Type 0} (d : Ghosts D) (all : History) where
   -- what opening a log keeps
   pub record OpenKept (old new : D) (result : Result Found Fault) : Type 0 where
     pub ok : IfOk result (λ found. IsFound found new)
-    pub stops : LeavesIn d Log old new (IsLogOf 0 all)
+    pub stops : LeavesIn d Log old new (IsLogOf base all)
     pub cause : IfErr result (λ e. e ≢ NotAStore)

@@ -1,5 +1,5 @@
 -- What a restart asks of the files, and what it keeps.
-use Rattle.std.specs.Prelude.{◌≡◌, ◌≢◌, ◌⊎◌, ℕ, length, Some, false, Result, IfErr, IfOk, OnOk}
+use Rattle.std.specs.Prelude.{◌≡◌, ◌≢◌, ◌⊎◌, ◌+◌, ◌<◌, ◌≤◌, ◌^◌, ℕ, length, Some, false, Result, IfErr, IfOk, OnOk}
 use Rattle.im_types.specs.declared.fault.Fault.{Fault}
 use Rattle.im_types.specs.declared.fault.Fault.TheVariants.{NotAStore}
 use Rattle.im_types.specs.declared.file_id.FileId.TheVariants.{Log, Pages}
@@ -10,7 +10,7 @@ use Rattle.im_types.specs.Writer.{Writer}
 use Rattle.im_disk.specs.declared.disk.Disk.{Ghosts}
 use Rattle.im_disk.specs.Disk.{Files}
 use Rattle.im_disk.specs.Runs.{LeavesOnly}
-use Rattle.im_gate.specs.Header.{IsUnmade}
+use Rattle.im_gate.specs.Header.{base_of, least_number, IsUnmade}
 use Rattle.im_log.specs.Kept.{HasLog, IsLogOf}
 use Rattle.im_page.specs.PageFile.{file_page}
 use Rattle.im_flush.specs.declared.page_writer.PageWriter.{PageWriter}
@@ -27,32 +27,36 @@ IsFresh files = IsUnmade (files Log) × (length (files Pages) ≡ 0)
 
 -- No store was made yet, or the log's bytes spell a list of records to the last: a damaged log spells none.
 abbrev pub SpellsLog : Files → Type 0
-SpellsLog files = IsFresh files ⊎ ((found : History) × HasLog 0 found (files Log))
+SpellsLog files = IsFresh files ⊎ ((found : History) × HasLog (base_of (files Log)) found (files Log))
 
--- The files have this log, which covers the pages; without a log there are no pages.
-pub record HasStore (b : Base) (all : History) (files : Files) : Type 0 where
-  pub log : IsLogOf 0 all (files Log)
+-- Less than 32,778 bytes are left below LSN 2^62 behind the log's file: a full buffer, the longest record, and what stands round them.
+abbrev pub IsFullLog : Files → Type 0
+IsFullLog files = 2 ^ 62 < base_of (files Log) + (length (files Log) + 32778)
+
+-- The files have this log, which starts at this LSN and covers the pages; without a log there are no pages.
+pub record HasStore (b : Base) (base : ℕ) (all : History) (files : Files) : Type 0 where
+  pub log : IsLogOf base all (files Log)
   pub bare : IsUnmade (files Log) → length (files Pages) ≡ 0
   pub covers : Covers b all (file_page (files Pages))
 
--- What a restart can start from: a lawful log that covers the pages.
-pub record MayRestart (b : Base) (all : History) (files : Files) : Type 0 where
-  pub start : b.start ≡ 0
-  pub has : HasStore b all files
+-- What a restart can start from: a lawful log that covers the pages. What the log is over has no LSN above its first byte.
+pub record MayRestart (b : Base) (base : ℕ) (all : History) (files : Files) : Type 0 where
+  pub start : b.start ≤ base
+  pub has : HasStore b base all files
   pub lawful : IsLawful b page_tree all
 
 -- A stop left what a restart can start from again: the log, or it with records of undo more.
-pub record IsLeftUndoing (b : Base) (all : History) (files : Files) : Type 0 where
+pub record IsLeftUndoing (b : Base) (base : ℕ) (all : History) (files : Files) : Type 0 where
   pub left : History
-  pub has : HasStore b left files
+  pub has : HasStore b base left files
   pub grown : GrowsByUndo all left
   pub lawful : IsLawful b page_tree left
 
-module _ {D : Type 0} (d : Ghosts D) (b : Base) (all : History) where
+module _ {D : Type 0} (d : Ghosts D) (b : Base) (base : ℕ) (all : History) where
   -- All is undone and ended that was unfinished; the pages are what the whole log made of them, and all of it is durable.
   pub record IsRestarted (r : Restarted) (disk : D) : Type 0 where
     pub now : Writer
-    pub stands : StandsAs d b 0 now r.writer disk
+    pub stands : StandsAs d b base now r.writer disk
     pub redo_end : ℕ
     pub over : now.redo_end ≡ Some redo_end
     pub durable : now.durable ≡ now.log
@@ -60,12 +64,11 @@ module _ {D : Type 0} (d : Ghosts D) (b : Base) (all : History) where
     pub lawful : IsLawful b page_tree now.log
     pub ended : (t : ℕ) → is_loser t now.log ≡ false
     pub pages : (p : ℕ) → (now.pages p).page ≡ page_at b now.log p
-    pub next : IsNextNumber r.next all
 
   -- The same of the writer alone.
   pub record IsSettled (w : PageWriter) (disk : D) : Type 0 where
     pub now : Writer
-    pub stands : StandsAs d b 0 now w disk
+    pub stands : StandsAs d b base now w disk
     pub redo_end : ℕ
     pub over : now.redo_end ≡ Some redo_end
     pub durable : now.durable ≡ now.log
@@ -77,11 +80,12 @@ module _ {D : Type 0} (d : Ghosts D) (b : Base) (all : History) where
   -- what redo, undo and the last force keep
   pub record SettleKept (old : D) (w : PageWriter) (new : D) (result : Result Unit Fault) : Type 0 where
     pub ok : OnOk result (IsSettled w new)
-    pub stops : LeavesOnly d old new (IsLeftUndoing b all)
+    pub stops : LeavesOnly d old new (IsLeftUndoing b base all)
     pub cause : IfErr result (λ e. e ≢ NotAStore)
 
   -- what a restart keeps
   pub record RestartKept (old new : D) (result : Result Restarted Fault) : Type 0 where
     pub ok : IfOk result (λ r. IsRestarted r new)
-    pub stops : LeavesOnly d old new (IsLeftUndoing b all)
+    pub next : IfOk result (λ r. IsNextNumber (least_number (d.seen old Log)) r.next all)
+    pub stops : LeavesOnly d old new (IsLeftUndoing b base all)
     pub cause : IfErr result (λ e. e ≢ NotAStore)

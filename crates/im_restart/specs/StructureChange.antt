@@ -33,12 +33,12 @@ pub record IsNewestAt (lsn : ℕ) (log rest : History) : Type 0 where
   pub going : open_smo log ≡ newest ∷ rest
   pub here : newest.lsn ≡ lsn
 
-module _ {D : Type 0} (d : Ghosts D) (b : Base) (all : History) where
+module _ {D : Type 0} (d : Ghosts D) (b : Base) (base : ℕ) (all : History) where
   -- Calls in a row, since the writer stood so: how it stands now, and what a stop since then has left.
   pub record ChangeGoes (s : Writer) (old : D) (t : Writer) (w : PageWriter) (disk : D) : Type 0 where
-    pub stands : StandsAs d b 0 t w disk
+    pub stands : StandsAs d b base t w disk
     pub taking : IsTakingBack b all t
-    pub stops : LeavesOnly d old disk (IsLeftUndoing b all)
+    pub stops : LeavesOnly d old disk (IsLeftUndoing b base all)
     pub on : IsFront s.log t.log
 
   -- The newest page is taken back by a record at this LSN, which leads the transaction's undo on to that one.
@@ -51,7 +51,7 @@ module _ {D : Type 0} (d : Ghosts D) (b : Base) (all : History) where
   -- what that keeps
   pub record TakeBackKept (s : Writer) (t on : ℕ) (rest : History) (old : D) (w : PageWriter) (disk : D) (result : Result ℕ Fault) : Type 0 where
     pub ok : IfOk result (λ lsn. TakenBack s t on rest lsn old w disk)
-    pub stops : LeavesOnly d old disk (IsLeftUndoing b all)
+    pub stops : LeavesOnly d old disk (IsLeftUndoing b base all)
     pub cause : IfErr result (λ e. e ≢ NotAStore)
 
   -- The table of the losers says so too.
@@ -64,11 +64,11 @@ module _ {D : Type 0} (d : Ghosts D) (b : Base) (all : History) where
   -- what the undo of a page keeps
   pub record PageKept (s : Writer) (rest : History) (old : D) (w : PageWriter) (losers : LoserMap) (disk : D) (result : Result Unit Fault) : Type 0 where
     pub ok : OnOk result (PageUndone s rest old w losers disk)
-    pub stops : LeavesOnly d old disk (IsLeftUndoing b all)
+    pub stops : LeavesOnly d old disk (IsLeftUndoing b base all)
     pub cause : IfErr result (λ e. e ≢ NotAStore)
 
   -- what the undo of all of them keeps
   pub record ChangeKept (s : Writer) (old : D) (w : PageWriter) (losers : LoserMap) (disk : D) (result : Result Unit Fault) : Type 0 where
     pub ok : OnOk result (PageUndone s [] old w losers disk)
-    pub stops : LeavesOnly d old disk (IsLeftUndoing b all)
+    pub stops : LeavesOnly d old disk (IsLeftUndoing b base all)
     pub cause : IfErr result (λ e. e ≢ NotAStore)

@@ -26,12 +26,12 @@ pub record IsUndoing (b : Base) (all : History) (now : Writer) : Type 0 where
   pub can : IsUndoable b page_tree now.log
   pub pages : (p : ℕ) → (now.pages p).page ≡ page_at b now.log p
 
-module _ {D : Type 0} (d : Ghosts D) (b : Base) (all : History) where
+module _ {D : Type 0} (d : Ghosts D) (b : Base) (base : ℕ) (all : History) where
   -- Calls in a row, since the writer stood so: how it stands now, and what a stop since then has left.
   pub record UndoGoes (s : Writer) (old : D) (t : Writer) (w : PageWriter) (disk : D) : Type 0 where
-    pub stands : StandsAs d b 0 t w disk
+    pub stands : StandsAs d b base t w disk
     pub undoing : IsUndoing b all t
-    pub stops : LeavesOnly d old disk (IsLeftUndoing b all)
+    pub stops : LeavesOnly d old disk (IsLeftUndoing b base all)
     pub on : IsFront s.log t.log
 
   -- ---- a compensation
@@ -47,7 +47,7 @@ module _ {D : Type 0} (d : Ghosts D) (b : Base) (all : History) where
   -- what a compensation keeps
   pub record CompensateKept (s : Writer) (t on : ℕ) (old : D) (w : PageWriter) (disk : D) (result : Result ℕ Fault) : Type 0 where
     pub ok : IfOk result (λ lsn. Compensated s t on lsn old w disk)
-    pub stops : LeavesOnly d old disk (IsLeftUndoing b all)
+    pub stops : LeavesOnly d old disk (IsLeftUndoing b base all)
     pub cause : IfErr result (λ e. e ≢ NotAStore)
 
   -- ---- an End
@@ -62,7 +62,7 @@ module _ {D : Type 0} (d : Ghosts D) (b : Base) (all : History) where
   -- what an End keeps
   pub record EndKept (s : Writer) (t : ℕ) (old : D) (w : PageWriter) (disk : D) (result : Result Unit Fault) : Type 0 where
     pub ok : OnOk result (Ended s t old w disk)
-    pub stops : LeavesOnly d old disk (IsLeftUndoing b all)
+    pub stops : LeavesOnly d old disk (IsLeftUndoing b base all)
     pub cause : IfErr result (λ e. e ≢ NotAStore)
 
   -- ---- a step
@@ -77,7 +77,7 @@ module _ {D : Type 0} (d : Ghosts D) (b : Base) (all : History) where
   -- what a step keeps
   pub record StepKept (s : Writer) (t : ℕ) (out : ℕ → Bool) (old : D) (w : PageWriter) (chains : ChainMap) (disk : D) (result : Result Unit Fault) : Type 0 where
     pub ok : OnOk result (Stepped s t out old w chains disk)
-    pub stops : LeavesOnly d old disk (IsLeftUndoing b all)
+    pub stops : LeavesOnly d old disk (IsLeftUndoing b base all)
     pub cause : IfErr result (λ e. e ≢ NotAStore)
 
   -- ---- all of them
@@ -91,7 +91,7 @@ module _ {D : Type 0} (d : Ghosts D) (b : Base) (all : History) where
   -- what entering them keeps
   pub record EnterKept (s : Writer) (old : D) (w : PageWriter) (chains : ChainMap) (disk : D) (result : Result Unit Fault) : Type 0 where
     pub ok : OnOk result (Entered s old w chains disk)
-    pub stops : LeavesOnly d old disk (IsLeftUndoing b all)
+    pub stops : LeavesOnly d old disk (IsLeftUndoing b base all)
     pub cause : IfErr result (λ e. e ≢ NotAStore)
 
   -- No loser is left.
@@ -103,5 +103,5 @@ module _ {D : Type 0} (d : Ghosts D) (b : Base) (all : History) where
   -- what undo keeps
   pub record UndoKept (s : Writer) (old : D) (w : PageWriter) (disk : D) (result : Result Unit Fault) : Type 0 where
     pub ok : OnOk result (AllUndone s old w disk)
-    pub stops : LeavesOnly d old disk (IsLeftUndoing b all)
+    pub stops : LeavesOnly d old disk (IsLeftUndoing b base all)
     pub cause : IfErr result (λ e. e ≢ NotAStore)

@@ -8,10 +8,10 @@ ghost use Rattle.im_types.specs.RedoPoints.{redo_point};
 ghost use Rattle.im_types.specs.Writer.{Writer};
 ghost use Rattle.im_types.specs.WriterSteps.{opened};
 ghost use Rattle.im_disk.specs.Disk.{Only};
-ghost use Rattle.im_disk.specs.Runs.{IsSynced};
+ghost use Rattle.im_disk.specs.Runs.{IsSynced, Reads};
 ghost use Rattle.im_gate.specs.Header.{IsMade};
 ghost use Rattle.im_page.specs.PageFile.{file_page};
-ghost use Rattle.im_log.specs.LogFile.{IsOpen};
+ghost use Rattle.im_log.specs.LogFile.{HasNoRoom, IsOpen};
 ghost use Rattle.im_analysis.specs.Analysis.{IsAnalysis};
 ghost use Rattle.im_analysis.specs.Losers.{AreLosers};
 ghost use Rattle.im_analysis.specs.OpenChange.{IsOpenChange};
@@ -20,7 +20,7 @@ ghost use Rattle.im_flush.specs.PageWriter.{IsReadyWriter, StandsAs};
 ghost use Rattle.im_restart.specs.Reading.{IsFound};
 ghost use Rattle.im_restart.specs.StructureChange.{IsTakingBack};
 ghost use Rattle.im_restart.specs.Undoing.{UndoKept};
-ghost use Rattle.im_restart.specs.Restart.{IsFresh, SpellsLog, MayRestart, RestartKept, SettleKept};
+ghost use Rattle.im_restart.specs.Restart.{IsFresh, IsFullLog, SpellsLog, MayRestart, RestartKept, SettleKept};
 
 use crate::found::Found;
 use crate::reading::open_log;
@@ -65,11 +65,12 @@ fn undo_found<D: Disk>(
     requires ready { IsReadyWriter D.Disk writer.old disk.old }
     requires working { writer.old.failed ≡ false }
     ensures ready { IsReadyWriter D.Disk writer.new disk.new }
-    ensures kept { (b : Base) (all : History) (s : Writer) → StandsAs D.Disk b 0 s writer.old disk.old → IsTakingBack b all s
-        → IsOpenChange analysed.old.open_change.items s.log → AreLosers analysed.old.losers s.log → UndoKept D.Disk b all s disk.old writer.new disk.new result }
+    ensures kept { (b : Base) (base : ℕ) (all : History) (s : Writer) → StandsAs D.Disk b base s writer.old disk.old → IsTakingBack b all s
+        → IsOpenChange analysed.old.open_change.items s.log → AreLosers analysed.old.losers s.log → UndoKept D.Disk b base all s disk.old writer.new disk.new result }
     ensures works { OnOk result (writer.new.failed ≡ false) }
     ensures next { analysed.new.next ≡ analysed.old.next }
     ensures causes { IfErr result (λ e. (e ≡ LogFull) ⊎ (e ≡ Memory) ⊎ (e ≡ NotAStore) ⊎ (e ≡ Device) ⊎ (e ≡ Capacity)) }
+    ensures no_room { result ≡ Err LogFull → HasNoRoom writer.new.log }
     ensures device { result ≡ Err Device ↔ (D.failed disk.new ≡ true) }
 {
     undo_change(
@@ -95,11 +96,12 @@ fn settle<D: Disk>(
     requires ready { IsReadyWriter D.Disk writer.old disk.old }
     requires working { writer.old.failed ≡ false }
     ensures ready { IsReadyWriter D.Disk writer.new disk.new }
-    ensures kept { (b : Base) (all : History) → StandsAs D.Disk b 0 (opened b all (file_page (D.seen disk.old Pages))) writer.old disk.old → MayRestart b all (D.seen disk.old)
-        → IsAnalysis all analysed.old → lsns.now ≡ lsns_from (redo_point all) all → SettleKept D.Disk b all disk.old writer.new disk.new result }
+    ensures kept { (b : Base) (base : ℕ) (all : History) → StandsAs D.Disk b base (opened b all (file_page (D.seen disk.old Pages))) writer.old disk.old → MayRestart b base all (D.seen disk.old)
+        → (least : ℕ) → IsAnalysis least all analysed.old → lsns.now ≡ lsns_from (redo_point all) all → SettleKept D.Disk b base all disk.old writer.new disk.new result }
     ensures works { OnOk result (writer.new.failed ≡ false) }
     ensures next { analysed.new.next ≡ analysed.old.next }
     ensures causes { IfErr result (λ e. (e ≡ LogFull) ⊎ (e ≡ Memory) ⊎ (e ≡ NotAStore) ⊎ (e ≡ Device) ⊎ (e ≡ Capacity)) }
+    ensures no_room { result ≡ Err LogFull → HasNoRoom writer.new.log }
     ensures device { result ≡ Err Device ↔ (D.failed disk.new ≡ true) }
 {
     redo(
@@ -128,9 +130,10 @@ fn restart<D: Disk>(
     ensures ready { IfOk result (λ r. IsReadyWriter D.Disk r.writer disk.new) }
     ensures works { IfOk result (λ r. r.writer.failed ≡ false) }
     ensures least { IfOk result (λ r. 1 ≤ r.next) }
-    ensures kept { (b : Base) (all : History) → MayRestart b all (D.seen disk.old) → Only Pages (D.seen disk.old) (D.may_leave disk.old) → IsFound D.Disk all found disk.old
-        → RestartKept D.Disk b all disk.old disk.new result }
+    ensures kept { (b : Base) (base : ℕ) (all : History) → MayRestart b base all (D.seen disk.old) → Only Pages (D.seen disk.old) (D.may_leave disk.old) → IsFound D.Disk base all found disk.old
+        → RestartKept D.Disk b base all disk.old disk.new result }
     ensures causes { IfErr result (λ e. (e ≡ Memory) ⊎ (e ≡ Device) ⊎ (e ≡ NotAStore) ⊎ (e ≡ LogFull) ⊎ (e ≡ Capacity)) }
+    ensures full { result ≡ Err LogFull → D.tells → IsFullLog (D.seen disk.new) }
     ensures device { result ≡ Err Device ↔ (D.failed disk.new ≡ true) }
 {
     let Found {
@@ -153,7 +156,8 @@ fn restart<D: Disk>(
 /// anything, it is made durable.
 ///
 /// Refused `NotAStore` where the bytes are no store, or there are pages without a log; `Capacity` where the key of a delete is put back into
-/// a full leaf, and page numbers or levels are used up, so that the leaf can't be split; `Memory`; `LogFull`; `Device`.
+/// a full leaf, and page numbers or levels are used up, so that the leaf can't be split; `LogFull` only where the log's file then ends less
+/// than 32,778 bytes below LSN 2^62; `Memory`; `Device`. Where the log's bytes are no log's nothing is written.
 pub fn open_or_create<D: Disk>(
     alloc: Global,
     disk: &mut D,
@@ -168,8 +172,10 @@ pub fn open_or_create<D: Disk>(
     ensures least { IfOk result (λ r. 1 ≤ r.next) }
     ensures made { IfOk result (λ _. D.tells → IsFresh (D.seen disk.old) ⊎ IsMade (D.seen disk.old Log)) }
     ensures spelled { IfOk result (λ _. D.tells → SpellsLog (D.seen disk.old)) }
-    ensures kept { (b : Base) (all : History) → D.tells → MayRestart b all (D.seen disk.old) → RestartKept D.Disk b all disk.old disk.new result }
+    ensures kept { (b : Base) (base : ℕ) (all : History) → D.tells → MayRestart b base all (D.seen disk.old) → RestartKept D.Disk b base all disk.old disk.new result }
     ensures causes { IfErr result (λ e. (e ≡ Memory) ⊎ (e ≡ Device) ⊎ (e ≡ NotAStore) ⊎ (e ≡ LogFull) ⊎ (e ≡ Capacity)) }
+    ensures unspelled { D.tells → ¬ (SpellsLog (D.seen disk.old)) → Reads D.Disk disk.old disk.new × IfErr result (λ e. (e ≡ Memory) ⊎ (e ≡ Device) ⊎ (e ≡ NotAStore)) }
+    ensures full { result ≡ Err LogFull → D.tells → IsFullLog (D.seen disk.new) }
     ensures device { result ≡ Err Device ↔ (D.failed disk.new ≡ true) }
 {
     let found = open_log(alloc, disk)?;

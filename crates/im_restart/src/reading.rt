@@ -8,8 +8,8 @@ ghost use Rattle.im_types.specs.Histories.{Base, History, changes_page};
 ghost use Rattle.im_types.specs.Lawful.{IsLawful};
 ghost use Rattle.im_disk.specs.Disk.{Only};
 ghost use Rattle.im_disk.specs.Runs.{ChangesOnly, Reads};
-ghost use Rattle.im_gate.specs.Gate.{place_of, has_failed, IsReading};
-ghost use Rattle.im_gate.specs.Header.{IsMade, IsUnmade};
+ghost use Rattle.im_gate.specs.Gate.{first_of, place_of, has_failed, StartsAs, IsReading};
+ghost use Rattle.im_gate.specs.Header.{least_number, StartsAlike, IsMade, IsUnmade};
 ghost use Rattle.im_record.specs.Entry.{view};
 ghost use Rattle.im_log.specs.Gates.{IsOfLog};
 ghost use Rattle.im_log.specs.Whats.{what_of};
@@ -28,7 +28,7 @@ use im_disk::Disk;
 use im_gate::Gate;
 use im_log::Opening;
 use im_record::Record;
-use im_types::{Fault, FileId, Lsn};
+use im_types::{Fault, FileId, Lsn, TxnId};
 use std::alloc::Global;
 
 // The first gate of the log, which is made where there is none yet and the file of pages is empty.
@@ -38,9 +38,11 @@ fn first_gate<D: Disk>(alloc: Global, disk: &mut D) -> Result<Gate, Fault>
     ensures reading { IfOk result (λ gate. IsReading D.Disk gate disk.new) }
     ensures usable { IfOk result (λ gate. has_failed gate ≡ false) }
     ensures of_log { IfOk result (λ gate. IsOfLog gate) }
-    ensures place { IfOk result (λ gate. place_of gate ≡ 31) }
-    ensures kept { (all : History) → D.tells → IsLogOf 0 all (D.seen disk.old Log) → (IsUnmade (D.seen disk.old Log) → length (D.seen disk.old Pages) ≡ 0)
-        → GateKept D.Disk all disk.old disk.new result }
+    ensures place { IfOk result (λ gate. place_of gate ≡ first_of gate) }
+    ensures starts { IfOk result (λ gate. D.tells → StartsAs gate (D.seen disk.new Log)) }
+    ensures alike { IfOk result (λ _. D.tells → StartsAlike (D.seen disk.old Log) (D.seen disk.new Log)) }
+    ensures kept { (base : ℕ) (all : History) → D.tells → IsLogOf base all (D.seen disk.old Log) → (IsUnmade (D.seen disk.old Log) → length (D.seen disk.old Pages) ≡ 0)
+        → GateKept D.Disk base all disk.old disk.new result }
     ensures made { IfOk result (λ _. D.tells → IsMade (D.seen disk.new Log)) }
     ensures changes { ChangesOnly D.Disk Log disk.old disk.new }
     ensures store { IfOk result (λ _. D.tells → IsFresh (D.seen disk.old) ⊎ IsMade (D.seen disk.old Log)) }
@@ -98,21 +100,26 @@ fn since(lsns: Vec<Lsn>, point: Lsn) -> Vec<Lsn>
     lsns
 }
 
-// Reads the records, and takes each in turn.
-fn read_all<D: Disk>(alloc: Global, disk: &mut D, opening: Opening) -> Result<Found, Fault>
+// Reads the records, and takes each in turn. The numbers of transactions begin at the least.
+fn read_all<D: Disk>(
+    alloc: Global,
+    disk: &mut D,
+    opening: Opening,
+    least: TxnId,
+) -> Result<Found, Fault>
     requires begun { IsBegun D.Disk opening disk.old }
     requires usable { opening.failed ≡ false }
-    requires based { opening.base ≡ 0 }
     ensures reads { Reads D.Disk disk.old disk.new }
     ensures ready { IfOk result (λ found. IsOpen D.Disk found.log disk.new) }
     ensures usable { IfOk result (λ found. found.log.failed ≡ false) }
-    ensures kept { (b : Base) (all : History) → IsOpening D.Disk 0 all [] opening disk.old → IsLawful b page_tree all → ReadKept D.Disk all disk.new result }
-    ensures spelled { IfOk result (λ _. HasRead D.Disk 0 [] opening disk.old → (found : History) × HasLog 0 found (D.seen disk.old Log)) }
+    ensures kept { (b : Base) (base : ℕ) (all : History) → IsOpening D.Disk base all [] opening disk.old → IsLawful b page_tree all → least ≡ least_number (D.seen disk.old Log) → 1 ≤ least
+        → ReadKept D.Disk base all disk.new result }
+    ensures spelled { IfOk result (λ _. (base : ℕ) → HasRead D.Disk base [] opening disk.old → (found : History) × HasLog base found (D.seen disk.old Log)) }
     ensures causes { IfErr result (λ e. (e ≡ Memory) ⊎ (e ≡ Device) ⊎ (e ≡ NotAStore)) }
     ensures device { result ≡ Err Device ↔ (D.failed disk.new ≡ true) }
 {
     let mut opening = opening;
-    let mut analysis = Analysis::new(alloc);
+    let mut analysis = Analysis::new(alloc, least);
     let mut lsns = Vec::new(alloc);
     loop {
         match opening.next(disk)? {
@@ -142,9 +149,10 @@ pub(crate) fn open_log<D: Disk>(alloc: Global, disk: &mut D) -> Result<Found, Fa
     requires durable { Only Log (D.seen disk.old) (D.may_leave disk.old) }
     ensures ready { IfOk result (λ found. IsOpen D.Disk found.log disk.new) }
     ensures usable { IfOk result (λ found. found.log.failed ≡ false) }
-    ensures kept { (b : Base) (all : History) → D.tells → IsLogOf 0 all (D.seen disk.old Log) → (IsUnmade (D.seen disk.old Log) → length (D.seen disk.old Pages) ≡ 0) → IsLawful b page_tree all
-        → OpenKept D.Disk all disk.old disk.new result }
+    ensures kept { (b : Base) (base : ℕ) (all : History) → D.tells → IsLogOf base all (D.seen disk.old Log) → (IsUnmade (D.seen disk.old Log) → length (D.seen disk.old Pages) ≡ 0) → IsLawful b page_tree all
+        → OpenKept D.Disk base all disk.old disk.new result }
     ensures spelled { IfOk result (λ _. D.tells → SpellsLog (D.seen disk.old)) }
+    ensures alike { IfOk result (λ _. D.tells → StartsAlike (D.seen disk.old Log) (D.seen disk.new Log)) }
     ensures changes { ChangesOnly D.Disk Log disk.old disk.new }
     ensures store { IfOk result (λ _. D.tells → IsFresh (D.seen disk.old) ⊎ IsMade (D.seen disk.old Log)) }
     ensures reads { D.tells → ¬ (IsFresh (D.seen disk.old)) → Reads D.Disk disk.old disk.new }
@@ -152,6 +160,7 @@ pub(crate) fn open_log<D: Disk>(alloc: Global, disk: &mut D) -> Result<Found, Fa
     ensures device { result ≡ Err Device ↔ (D.failed disk.new ≡ true) }
 {
     let gate = first_gate(alloc, disk)?;
-    let opening = Opening::start(alloc, gate, 0)?;
-    read_all(alloc, disk, opening)
+    let least = gate.least_number();
+    let opening = Opening::start(alloc, gate)?;
+    read_all(alloc, disk, opening, least)
 }

@@ -10,6 +10,7 @@ ghost use Rattle.im_types.specs.Transactions.{last_of};
 ghost use Rattle.im_types.specs.Writer.{Writer};
 ghost use Rattle.im_record.specs.Entry.{view, prev_of, transaction_of};
 ghost use Rattle.im_record.specs.Spelling.{IsEntry};
+ghost use Rattle.im_log.specs.LogFile.{HasNoRoom};
 ghost use Rattle.im_log.specs.Spelled.{logged_at};
 ghost use Rattle.im_analysis.specs.Losers.{AreLosers, is_loser};
 ghost use Rattle.im_analysis.specs.OpenChange.{IsOpenChange};
@@ -35,11 +36,12 @@ fn take_back<D: Disk>(
     requires ready { IsReadyWriter D.Disk writer.old disk.old }
     requires working { writer.old.failed ≡ false }
     ensures ready { IsReadyWriter D.Disk writer.new disk.new }
-    ensures kept { (b : Base) (all : History) (s : Writer) (lsn : ℕ) (rest : History) → StandsAs D.Disk b 0 s writer.old disk.old → IsTakingBack b all s
+    ensures kept { (b : Base) (base : ℕ) (all : History) (s : Writer) (lsn : ℕ) (rest : History) → StandsAs D.Disk b base s writer.old disk.old → IsTakingBack b all s
         → open_smo s.log ≡ logged_at lsn (view record.now) ∷ rest → last ≡ last_of (transaction_of (view record.now)) s.log
-        → TakeBackKept D.Disk b all s (transaction_of (view record.now)) (prev_of (view record.now)) rest disk.old writer.new disk.new result }
+        → TakeBackKept D.Disk b base all s (transaction_of (view record.now)) (prev_of (view record.now)) rest disk.old writer.new disk.new result }
     ensures works { OnOk result (writer.new.failed ≡ false) }
     ensures causes { IfErr result (λ e. (e ≡ LogFull) ⊎ (e ≡ Memory) ⊎ (e ≡ NotAStore) ⊎ (e ≡ Device)) }
+    ensures no_room { result ≡ Err LogFull → HasNoRoom writer.new.log }
     ensures device { result ≡ Err Device ↔ (D.failed disk.new ≡ true) }
 {
     match record {
@@ -100,10 +102,11 @@ fn undo_page<D: Disk>(
     requires ready { IsReadyWriter D.Disk writer.old disk.old }
     requires working { writer.old.failed ≡ false }
     ensures ready { IsReadyWriter D.Disk writer.new disk.new }
-    ensures kept { (b : Base) (all : History) (s : Writer) (lsn : ℕ) (rest : History) → StandsAs D.Disk b 0 s writer.old disk.old → IsTakingBack b all s
-        → open_smo s.log ≡ logged_at lsn (view record.now) ∷ rest → AreLosers losers.old s.log → PageKept D.Disk b all s rest disk.old writer.new losers.new disk.new result }
+    ensures kept { (b : Base) (base : ℕ) (all : History) (s : Writer) (lsn : ℕ) (rest : History) → StandsAs D.Disk b base s writer.old disk.old → IsTakingBack b all s
+        → open_smo s.log ≡ logged_at lsn (view record.now) ∷ rest → AreLosers losers.old s.log → PageKept D.Disk b base all s rest disk.old writer.new losers.new disk.new result }
     ensures works { OnOk result (writer.new.failed ≡ false) }
     ensures causes { IfErr result (λ e. (e ≡ LogFull) ⊎ (e ≡ Memory) ⊎ (e ≡ NotAStore) ⊎ (e ≡ Device)) }
+    ensures no_room { result ≡ Err LogFull → HasNoRoom writer.new.log }
     ensures device { result ≡ Err Device ↔ (D.failed disk.new ≡ true) }
 {
     let last = last_of(losers, record.transaction())?;
@@ -128,10 +131,11 @@ fn undo_page_at<D: Disk>(
     requires working { writer.old.failed ≡ false }
     ensures ready { IsReadyWriter D.Disk writer.new disk.new }
     ensures room { length room.new ≡ length room.old }
-    ensures kept { (b : Base) (all : History) (s : Writer) (rest : History) → StandsAs D.Disk b 0 s writer.old disk.old → IsTakingBack b all s → IsNewestAt lsn s.log rest
-        → AreLosers losers.old s.log → PageKept D.Disk b all s rest disk.old writer.new losers.new disk.new result }
+    ensures kept { (b : Base) (base : ℕ) (all : History) (s : Writer) (rest : History) → StandsAs D.Disk b base s writer.old disk.old → IsTakingBack b all s → IsNewestAt lsn s.log rest
+        → AreLosers losers.old s.log → PageKept D.Disk b base all s rest disk.old writer.new losers.new disk.new result }
     ensures works { OnOk result (writer.new.failed ≡ false) }
     ensures causes { IfErr result (λ e. (e ≡ LogFull) ⊎ (e ≡ Memory) ⊎ (e ≡ NotAStore) ⊎ (e ≡ Device)) }
+    ensures no_room { result ≡ Err LogFull → HasNoRoom writer.new.log }
     ensures device { result ≡ Err Device ↔ (D.failed disk.new ≡ true) }
 {
     let size = writer.read_at(disk, lsn, room)?;
@@ -153,10 +157,11 @@ pub(crate) fn undo_change<D: Disk>(
     requires working { writer.old.failed ≡ false }
     ensures ready { IsReadyWriter D.Disk writer.new disk.new }
     ensures room { length room.new ≡ length room.old }
-    ensures kept { (b : Base) (all : History) (s : Writer) → StandsAs D.Disk b 0 s writer.old disk.old → IsTakingBack b all s → IsOpenChange open_change.old.items s.log
-        → AreLosers losers.old s.log → ChangeKept D.Disk b all s disk.old writer.new losers.new disk.new result }
+    ensures kept { (b : Base) (base : ℕ) (all : History) (s : Writer) → StandsAs D.Disk b base s writer.old disk.old → IsTakingBack b all s → IsOpenChange open_change.old.items s.log
+        → AreLosers losers.old s.log → ChangeKept D.Disk b base all s disk.old writer.new losers.new disk.new result }
     ensures works { OnOk result (writer.new.failed ≡ false) }
     ensures causes { IfErr result (λ e. (e ≡ LogFull) ⊎ (e ≡ Memory) ⊎ (e ≡ NotAStore) ⊎ (e ≡ Device)) }
+    ensures no_room { result ≡ Err LogFull → HasNoRoom writer.new.log }
     ensures device { result ≡ Err Device ↔ (D.failed disk.new ≡ true) }
 {
     while let Some(newest) = open_change.pop() {

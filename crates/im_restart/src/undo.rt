@@ -7,6 +7,7 @@ ghost use Rattle.im_types.specs.Transactions.{is_key};
 ghost use Rattle.im_types.specs.Writer.{Writer};
 ghost use Rattle.im_record.specs.Entry.{view, prev_of, transaction_of, undo_next_of};
 ghost use Rattle.im_record.specs.Spelling.{IsEntry};
+ghost use Rattle.im_log.specs.LogFile.{HasNoRoom};
 ghost use Rattle.im_log.specs.Whats.{what_of};
 ghost use Rattle.im_log.specs.Spelled.{logged_at};
 ghost use Rattle.im_analysis.specs.Losers.{AreLosers};
@@ -28,6 +29,7 @@ use std::collections::BTreeMap;
 fn answered(fault: Fault) -> Fault
     ensures memory { fault ≡ Failed → result ≡ Memory }
     ensures others { fault ≢ Failed → result ≡ fault }
+    ensures full { result ≡ LogFull → fault ≡ LogFull }
 {
     match fault {
         Fault::Failed => Fault::Memory,
@@ -49,10 +51,11 @@ fn compensate<D: Disk>(
     requires key { is_key (what_of (view record.now)) ≡ true }
     requires owner { transaction_of (view record.now) ≡ chain.transaction }
     ensures ready { IsReadyWriter D.Disk writer.new disk.new }
-    ensures kept { (b : Base) (all : History) (s : Writer) → StandsAs D.Disk b 0 s writer.old disk.old → IsUndoing b all s → IsToUndo s.log chain (view record.now)
-        → CompensateKept D.Disk b all s chain.transaction (prev_of (view record.now)) disk.old writer.new disk.new result }
+    ensures kept { (b : Base) (base : ℕ) (all : History) (s : Writer) → StandsAs D.Disk b base s writer.old disk.old → IsUndoing b all s → IsToUndo s.log chain (view record.now)
+        → CompensateKept D.Disk b base all s chain.transaction (prev_of (view record.now)) disk.old writer.new disk.new result }
     ensures works { OnOk result (writer.new.failed ≡ false) }
     ensures causes { IfErr result (λ e. (e ≡ LogFull) ⊎ (e ≡ Memory) ⊎ (e ≡ NotAStore) ⊎ (e ≡ Device) ⊎ (e ≡ Capacity)) }
+    ensures no_room { result ≡ Err LogFull → HasNoRoom writer.new.log }
     ensures device { result ≡ Err Device ↔ (D.failed disk.new ≡ true) }
 {
     if chain.transaction == 0 {
@@ -69,10 +72,11 @@ fn end<D: Disk>(disk: &mut D, writer: &mut PageWriter, chain: Chain) -> Result<(
     requires ready { IsReadyWriter D.Disk writer.old disk.old }
     requires working { writer.old.failed ≡ false }
     ensures ready { IsReadyWriter D.Disk writer.new disk.new }
-    ensures kept { (b : Base) (all : History) (s : Writer) → StandsAs D.Disk b 0 s writer.old disk.old → IsUndoing b all s → GoesOnAt chain 0 s.log
-        → EndKept D.Disk b all s chain.transaction disk.old writer.new disk.new result }
+    ensures kept { (b : Base) (base : ℕ) (all : History) (s : Writer) → StandsAs D.Disk b base s writer.old disk.old → IsUndoing b all s → GoesOnAt chain 0 s.log
+        → EndKept D.Disk b base all s chain.transaction disk.old writer.new disk.new result }
     ensures works { OnOk result (writer.new.failed ≡ false) }
     ensures causes { IfErr result (λ e. (e ≡ LogFull) ⊎ (e ≡ NotAStore) ⊎ (e ≡ Device)) }
+    ensures no_room { result ≡ Err LogFull → HasNoRoom writer.new.log }
     ensures device { result ≡ Err Device ↔ (D.failed disk.new ≡ true) }
 {
     if chain.transaction == 0 {
@@ -113,12 +117,13 @@ fn go_on<D: Disk>(
     requires ready { IsReadyWriter D.Disk writer.old disk.old }
     requires working { writer.old.failed ≡ false }
     ensures ready { IsReadyWriter D.Disk writer.new disk.new }
-    ensures kept { (b : Base) (all : History) (s : Writer) (out : ℕ → Bool) → StandsAs D.Disk b 0 s writer.old disk.old → IsUndoing b all s
+    ensures kept { (b : Base) (base : ℕ) (all : History) (s : Writer) (out : ℕ → Bool) → StandsAs D.Disk b base s writer.old disk.old → IsUndoing b all s
         → AreChains (and_also chain.transaction out) chains.old s.log → out chain.transaction ≡ false → GoesOnAt chain lsn s.log
-        → StepKept D.Disk b all s chain.transaction out disk.old writer.new chains.new disk.new result }
+        → StepKept D.Disk b base all s chain.transaction out disk.old writer.new chains.new disk.new result }
     ensures above { OnOk result ((n : ℕ) → lsn < n → above chains.old.entries ≤ n → above chains.new.entries ≤ n) }
     ensures works { OnOk result (writer.new.failed ≡ false) }
     ensures causes { IfErr result (λ e. (e ≡ LogFull) ⊎ (e ≡ Memory) ⊎ (e ≡ NotAStore) ⊎ (e ≡ Device)) }
+    ensures no_room { result ≡ Err LogFull → HasNoRoom writer.new.log }
     ensures device { result ≡ Err Device ↔ (D.failed disk.new ≡ true) }
 {
     if lsn == 0 {
@@ -191,12 +196,13 @@ fn undo_key<D: Disk>(
     requires owner { transaction_of (view record.now) ≡ chain.transaction }
     requires next { next ≡ prev_of (view record.now) }
     ensures ready { IsReadyWriter D.Disk writer.new disk.new }
-    ensures kept { (b : Base) (all : History) (s : Writer) (out : ℕ → Bool) → StandsAs D.Disk b 0 s writer.old disk.old → IsUndoing b all s
+    ensures kept { (b : Base) (base : ℕ) (all : History) (s : Writer) (out : ℕ → Bool) → StandsAs D.Disk b base s writer.old disk.old → IsUndoing b all s
         → AreChains (and_also chain.transaction out) chains.old s.log → out chain.transaction ≡ false → IsToUndo s.log chain (view record.now)
-        → StepKept D.Disk b all s chain.transaction out disk.old writer.new chains.new disk.new result }
+        → StepKept D.Disk b base all s chain.transaction out disk.old writer.new chains.new disk.new result }
     ensures above { OnOk result ((n : ℕ) → next < n → above chains.old.entries ≤ n → above chains.new.entries ≤ n) }
     ensures works { OnOk result (writer.new.failed ≡ false) }
     ensures causes { IfErr result (λ e. (e ≡ LogFull) ⊎ (e ≡ Memory) ⊎ (e ≡ NotAStore) ⊎ (e ≡ Device) ⊎ (e ≡ Capacity)) }
+    ensures no_room { result ≡ Err LogFull → HasNoRoom writer.new.log }
     ensures device { result ≡ Err Device ↔ (D.failed disk.new ≡ true) }
 {
     let last = compensate(alloc, disk, writer, chain, record)?;
@@ -224,13 +230,14 @@ fn undo_record<D: Disk>(
     requires ready { IsReadyWriter D.Disk writer.old disk.old }
     requires working { writer.old.failed ≡ false }
     ensures ready { IsReadyWriter D.Disk writer.new disk.new }
-    ensures kept { (b : Base) (all : History) (s : Writer) (out : ℕ → Bool) → StandsAs D.Disk b 0 s writer.old disk.old → IsUndoing b all s
+    ensures kept { (b : Base) (base : ℕ) (all : History) (s : Writer) (out : ℕ → Bool) → StandsAs D.Disk b base s writer.old disk.old → IsUndoing b all s
         → AreChains (and_also chain.transaction out) chains.old s.log → out chain.transaction ≡ false → GoesOnAt chain lsn s.log
         → IsRecordOf (logged_at lsn (view record.now)) s.log → transaction_of (view record.now) ≡ chain.transaction
-        → StepKept D.Disk b all s chain.transaction out disk.old writer.new chains.new disk.new result }
+        → StepKept D.Disk b base all s chain.transaction out disk.old writer.new chains.new disk.new result }
     ensures above { OnOk result (above chains.old.entries ≤ lsn → above chains.new.entries ≤ lsn) }
     ensures works { OnOk result (writer.new.failed ≡ false) }
     ensures causes { IfErr result (λ e. (e ≡ LogFull) ⊎ (e ≡ Memory) ⊎ (e ≡ NotAStore) ⊎ (e ≡ Device) ⊎ (e ≡ Capacity)) }
+    ensures no_room { result ≡ Err LogFull → HasNoRoom writer.new.log }
     ensures device { result ≡ Err Device ↔ (D.failed disk.new ≡ true) }
 {
     if record.transaction() != chain.transaction {
@@ -259,12 +266,13 @@ fn undo_at<D: Disk>(
     requires working { writer.old.failed ≡ false }
     ensures ready { IsReadyWriter D.Disk writer.new disk.new }
     ensures room { length room.new ≡ length room.old }
-    ensures kept { (b : Base) (all : History) (s : Writer) (out : ℕ → Bool) → StandsAs D.Disk b 0 s writer.old disk.old → IsUndoing b all s
+    ensures kept { (b : Base) (base : ℕ) (all : History) (s : Writer) (out : ℕ → Bool) → StandsAs D.Disk b base s writer.old disk.old → IsUndoing b all s
         → AreChains (and_also chain.transaction out) chains.old s.log → out chain.transaction ≡ false → lsn ≢ 0 → GoesOnAt chain lsn s.log
-        → StepKept D.Disk b all s chain.transaction out disk.old writer.new chains.new disk.new result }
+        → StepKept D.Disk b base all s chain.transaction out disk.old writer.new chains.new disk.new result }
     ensures above { OnOk result (above chains.old.entries ≤ lsn → above chains.new.entries ≤ lsn) }
     ensures works { OnOk result (writer.new.failed ≡ false) }
     ensures causes { IfErr result (λ e. (e ≡ LogFull) ⊎ (e ≡ Memory) ⊎ (e ≡ NotAStore) ⊎ (e ≡ Device) ⊎ (e ≡ Capacity)) }
+    ensures no_room { result ≡ Err LogFull → HasNoRoom writer.new.log }
     ensures device { result ≡ Err Device ↔ (D.failed disk.new ≡ true) }
 {
     let size = writer.read_at(disk, lsn, room)?;
@@ -284,10 +292,11 @@ fn undo_all<D: Disk>(
     requires ready { IsReadyWriter D.Disk writer.old disk.old }
     requires working { writer.old.failed ≡ false }
     ensures ready { IsReadyWriter D.Disk writer.new disk.new }
-    ensures kept { (b : Base) (all : History) (s : Writer) → StandsAs D.Disk b 0 s writer.old disk.old → IsUndoing b all s
-        → AreChains nobody chains.old s.log → UndoKept D.Disk b all s disk.old writer.new disk.new result }
+    ensures kept { (b : Base) (base : ℕ) (all : History) (s : Writer) → StandsAs D.Disk b base s writer.old disk.old → IsUndoing b all s
+        → AreChains nobody chains.old s.log → UndoKept D.Disk b base all s disk.old writer.new disk.new result }
     ensures works { OnOk result (writer.new.failed ≡ false) }
     ensures causes { IfErr result (λ e. (e ≡ LogFull) ⊎ (e ≡ Memory) ⊎ (e ≡ NotAStore) ⊎ (e ≡ Device) ⊎ (e ≡ Capacity)) }
+    ensures no_room { result ≡ Err LogFull → HasNoRoom writer.new.log }
     ensures device { result ≡ Err Device ↔ (D.failed disk.new ≡ true) }
 {
     while let Some((lsn, chain)) = chains.pop_last() {
@@ -307,10 +316,11 @@ fn enter_all<D: Disk>(
     requires working { writer.old.failed ≡ false }
     requires none { chains.old.entries ≡ [] }
     ensures ready { IsReadyWriter D.Disk writer.new disk.new }
-    ensures kept { (b : Base) (all : History) (s : Writer) → StandsAs D.Disk b 0 s writer.old disk.old → IsUndoing b all s → AreLosers losers.old s.log
-        → EnterKept D.Disk b all s disk.old writer.new chains.new disk.new result }
+    ensures kept { (b : Base) (base : ℕ) (all : History) (s : Writer) → StandsAs D.Disk b base s writer.old disk.old → IsUndoing b all s → AreLosers losers.old s.log
+        → EnterKept D.Disk b base all s disk.old writer.new chains.new disk.new result }
     ensures works { OnOk result (writer.new.failed ≡ false) }
     ensures causes { IfErr result (λ e. (e ≡ LogFull) ⊎ (e ≡ Memory) ⊎ (e ≡ NotAStore) ⊎ (e ≡ Device)) }
+    ensures no_room { result ≡ Err LogFull → HasNoRoom writer.new.log }
     ensures device { result ≡ Err Device ↔ (D.failed disk.new ≡ true) }
 {
     while let Some((transaction, row)) = losers.pop_first() {
@@ -339,10 +349,11 @@ pub(crate) fn undo<D: Disk>(
     requires ready { IsReadyWriter D.Disk writer.old disk.old }
     requires working { writer.old.failed ≡ false }
     ensures ready { IsReadyWriter D.Disk writer.new disk.new }
-    ensures kept { (b : Base) (all : History) (s : Writer) → StandsAs D.Disk b 0 s writer.old disk.old → IsUndoing b all s
-        → AreLosers losers.old s.log → UndoKept D.Disk b all s disk.old writer.new disk.new result }
+    ensures kept { (b : Base) (base : ℕ) (all : History) (s : Writer) → StandsAs D.Disk b base s writer.old disk.old → IsUndoing b all s
+        → AreLosers losers.old s.log → UndoKept D.Disk b base all s disk.old writer.new disk.new result }
     ensures works { OnOk result (writer.new.failed ≡ false) }
     ensures causes { IfErr result (λ e. (e ≡ LogFull) ⊎ (e ≡ Memory) ⊎ (e ≡ NotAStore) ⊎ (e ≡ Device) ⊎ (e ≡ Capacity)) }
+    ensures no_room { result ≡ Err LogFull → HasNoRoom writer.new.log }
     ensures device { result ≡ Err Device ↔ (D.failed disk.new ≡ true) }
 {
     let mut chains = BTreeMap::new(alloc);

@@ -1,8 +1,10 @@
-use Rattle.std.proofs.Common.{◌≡◌, ◌-◌, ◌^◌, false, []}
+use Rattle.std.proofs.Common.{◌≡◌, ◌-◌, ◌≤◌, ◌^◌, ℕ, false, []}
+use Rattle.im_types.specs.declared.file_id.FileId.TheVariants.{Log}
 use Rattle.im_types.specs.Histories.{Base, History}
 use Rattle.im_types.specs.Lawful.{IsLawful}
 use Rattle.im_disk.specs.Runs.{Reads}
 use Rattle.im_log.specs.Opening.{IsBegun, IsOpening, HasRead, position_of}
+use Rattle.im_gate.specs.Header.{least_number}
 use Rattle.im_analysis.specs.Analysis.{IsAnalysed}
 use Rattle.im_redo.specs.Redo.{lsns_from}
 use Rattle.im_tree.specs.Theory.{page_tree}
@@ -13,9 +15,9 @@ invariant-loop-lsns g l = record {
   begun : IsBegun g.D.Disk l.opening l.disk;
   reads : Reads g.D.Disk l.fn.disk l.disk;
   working : l.opening.failed ≡ false;
-  kept : (b : Base) (all : History) → IsOpening g.D.Disk 0 all [] l.fn.opening l.fn.disk → IsLawful b page_tree all
-      → (older : History) × IsOpening g.D.Disk 0 all older l.opening l.disk × IsAnalysed older l.analysis × (l.lsns.items ≡ lsns_from 0 older);
-  back : HasRead g.D.Disk 0 [] l.fn.opening l.fn.disk → (older : History) × HasRead g.D.Disk 0 older l.opening l.disk;
+  kept : (b : Base) (base : ℕ) (all : History) → IsOpening g.D.Disk base all [] l.fn.opening l.fn.disk → IsLawful b page_tree all → l.fn.least ≡ least_number (g.D.Disk.seen l.fn.disk Log) → 1 ≤ l.fn.least
+      → (older : History) × IsOpening g.D.Disk base all older l.opening l.disk × IsAnalysed l.fn.least older l.analysis × (l.lsns.items ≡ lsns_from 0 older);
+  back : (base : ℕ) → HasRead g.D.Disk base [] l.fn.opening l.fn.disk → (older : History) × HasRead g.D.Disk base older l.opening l.disk;
 }
 
 abbrev pub decreases-loop-lsns : goal.decreases-loop-lsns

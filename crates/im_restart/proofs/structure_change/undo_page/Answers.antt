@@ -9,25 +9,25 @@ use Rattle.im_restart.proofs.OpenChanges.{open_loser, page_noted}
 use Rattle.im_restart.proofs.structure_change.undo_page.Goals as goal
 
 pub returns-in_err-last-clause-kept : goal.returns-in_err-last-clause-kept
-returns-in_err-last-clause-kept g c b all s lsn rest stands is going are =
+returns-in_err-last-clause-kept g c b base all s lsn rest stands is going are =
     let loser = subst (λ t. is_loser t s.log ≡ true) (sym c.transaction.ensures) (open_loser b page_tree s.log (logged_at lsn (view c.args.«record».now)) rest is.lawful going) in
     let clash = c.in_err-last.ensures.last s.log are loser in
     absurd (cc clash)
 
 pub returns-in_err-lsn-clause-kept : goal.returns-in_err-lsn-clause-kept
-returns-in_err-lsn-clause-kept g c b all s lsn rest stands is going are =
+returns-in_err-lsn-clause-kept g c b base all s lsn rest stands is going are =
     let loser = subst (λ t. is_loser t s.log ≡ true) (sym c.transaction.ensures) (open_loser b page_tree s.log (logged_at lsn (view c.args.«record».now)) rest is.lawful going) in
     let one = c.in_ok-last.ensures.last s.log are loser in
     let behind : c.in_ok-last.last ≡ last_of c.transaction.result s.log = cc one in
-    let k = c.in_err-lsn.ensures.kept b all s lsn rest stands is going (behind ∙ ap (λ t. last_of t s.log) c.transaction.ensures) in
+    let k = c.in_err-lsn.ensures.kept b base all s lsn rest stands is going (behind ∙ ap (λ t. last_of t s.log) c.transaction.ensures) in
     let other : c.in_err-lsn.field-0.0 ≢ NotAStore = k.cause in
     record { ok = search rules; stops = k.stops; cause = search (rules, other) }
 
 pub returns-clause-kept : goal.returns-clause-kept
-returns-clause-kept g c b all s lsn rest stands is going are =
+returns-clause-kept g c b base all s lsn rest stands is going are =
     let loser = subst (λ t. is_loser t s.log ≡ true) (sym c.transaction.ensures) (open_loser b page_tree s.log (logged_at lsn (view c.args.«record».now)) rest is.lawful going) in
     let one = c.in_ok-last.ensures.last s.log are loser in
     let behind : c.in_ok-last.last ≡ last_of c.transaction.result s.log = cc one in
-    let k = c.in_ok-lsn.ensures.kept b all s lsn rest stands is going (behind ∙ ap (λ t. last_of t s.log) c.transaction.ensures) in
-    page_noted g.D.Disk b all s (transaction_of (view c.args.«record».now)) (prev_of (view c.args.«record».now)) rest c.in_ok-lsn.lsn c.args.disk.now c.take_back.new.writer c.args.losers.now c.note_row.new.losers c.take_back.new.disk
+    let k = c.in_ok-lsn.ensures.kept b base all s lsn rest stands is going (behind ∙ ap (λ t. last_of t s.log) c.transaction.ensures) in
+    page_noted g.D.Disk b base all s (transaction_of (view c.args.«record».now)) (prev_of (view c.args.«record».now)) rest c.in_ok-lsn.lsn c.args.disk.now c.take_back.new.writer c.args.losers.now c.note_row.new.losers c.take_back.new.disk
     c.note_row.result k.ok are c.transaction-2.result c.prev.result c.transaction-2.ensures c.prev.ensures c.note_row.ensures.updates c.note_row.ensures.refused

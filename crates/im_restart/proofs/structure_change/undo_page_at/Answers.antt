@@ -8,28 +8,28 @@ use Rattle.im_disk.proofs.Runs.{reads_on}
 use Rattle.im_restart.proofs.structure_change.undo_page_at.Goals as goal
 
 pub returns-in_err-size-clause-kept : goal.returns-in_err-size-clause-kept
-returns-in_err-size-clause-kept g c b all s rest stands is at are =
+returns-in_err-size-clause-kept g c b base all s rest stands is at are =
     let there = open_record b page_tree s.log at.newest rest is.lawful at.going in
-    let cause : c.in_err-size.field-0.0 ≡ Device = (c.in_err-size.ensures.found b 0 s at.newest stands there (sym at.here)).cause in
+    let cause : c.in_err-size.field-0.0 ≡ Device = (c.in_err-size.ensures.found b base s at.newest stands there (sym at.here)).cause in
     let other : c.in_err-size.field-0.0 ≢ NotAStore = λ e. (let clash : Device ≡ NotAStore = sym cause ∙ e in cc clash) in
     record {
       ok = search rules;
-      stops = reads_on g.D.Disk c.args.disk.now c.args.disk.now c.read_at.new.disk _ (change_start g.D.Disk b all s c.args.writer.now c.args.disk.now (g.met.D.Disk.only_now c.args.disk.now) stands is).stops c.read_at.ensures.reads;
+      stops = reads_on g.D.Disk c.args.disk.now c.args.disk.now c.read_at.new.disk _ (change_start g.D.Disk b base all s c.args.writer.now c.args.disk.now (g.met.D.Disk.only_now c.args.disk.now) stands is).stops c.read_at.ensures.reads;
       cause = search (rules, other);
     }
 
 pub returns-in_err-record-clause-kept : goal.returns-in_err-record-clause-kept
-returns-in_err-record-clause-kept g c b all s rest stands is at are =
+returns-in_err-record-clause-kept g c b base all s rest stands is at are =
     let there = open_record b page_tree s.log at.newest rest is.lawful at.going in
-    let found = c.in_ok-size.ensures.found b 0 s at.newest stands there (sym at.here) in
+    let found = c.in_ok-size.ensures.found b base s at.newest stands there (sym at.here) in
     absurd (spelled_none at.newest _ found.ok c.in_err-record.ensures.entry.1)
 
 pub returns-clause-kept : goal.returns-clause-kept
-returns-clause-kept g c b all s rest stands is at are =
+returns-clause-kept g c b base all s rest stands is at are =
     let there = open_record b page_tree s.log at.newest rest is.lawful at.going in
-    let found = c.in_ok-size.ensures.found b 0 s at.newest stands there (sym at.here) in
+    let found = c.in_ok-size.ensures.found b base s at.newest stands there (sym at.here) in
     let same = spelled_is at.newest c.args.lsn _ found.ok at.here (view c.in_ok-record.record) c.in_ok-record.ensures.entry in
-    let after = c.in_ok-size.ensures.kept b 0 s stands in
-    let read = change_read g.D.Disk b all s c.args.writer.now c.read_at.new.self c.args.disk.now c.read_at.new.disk (g.met.D.Disk.only_now c.args.disk.now) stands is c.read_at.ensures.reads after in
-    page_then g.D.Disk b all s c.args.disk.now s c.read_at.new.self c.read_at.new.disk rest c.undo_page.new.writer c.undo_page.new.losers c.undo_page.new.disk c.undo_page.result read
-    (c.undo_page.ensures.kept b all s c.args.lsn rest after is (at.going ∙ ap (λ x. x ∷ rest) (sym same)) are)
+    let after = c.in_ok-size.ensures.kept b base s stands in
+    let read = change_read g.D.Disk b base all s c.args.writer.now c.read_at.new.self c.args.disk.now c.read_at.new.disk (g.met.D.Disk.only_now c.args.disk.now) stands is c.read_at.ensures.reads after in
+    page_then g.D.Disk b base all s c.args.disk.now s c.read_at.new.self c.read_at.new.disk rest c.undo_page.new.writer c.undo_page.new.losers c.undo_page.new.disk c.undo_page.result read
+    (c.undo_page.ensures.kept b base all s c.args.lsn rest after is (at.going ∙ ap (λ x. x ∷ rest) (sym same)) are)

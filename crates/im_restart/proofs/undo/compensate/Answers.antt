@@ -5,17 +5,17 @@ use Rattle.im_restart.proofs.Compensations.{compensated_so, refused_so}
 use Rattle.im_restart.proofs.undo.compensate.Goals as goal
 
 pub returns-then-chain-eq0-clause-kept : goal.returns-then-chain-eq0-clause-kept
-returns-then-chain-eq0-clause-kept g c b all s stands is to =
+returns-then-chain-eq0-clause-kept g c b base all s stands is to =
     let one : 1 ≤ c.args.chain.transaction = loser_number c.args.chain.transaction s.log to.loser in
     let none : c.args.chain.transaction ≡ 0 = c.if-chain-eq0.true in
     absurd (omega (arith, one, none))
 
 pub returns-in-Ok-clause-kept : goal.returns-in-Ok-clause-kept
-returns-in-Ok-clause-kept g c b all s stands is to =
-    compensated_so g.D.Disk b all s c.args.chain (view c.args.«record».now) c.args.writer.now c.args.disk.now stands is to (transaction_of (view c.args.«record».now)) c.undo_one.new.writer c.undo_one.new.disk (Ok c.in-Ok.lsn)
-    c.requires.owner (λ e going next. c.in-Ok.ensures.kept b 0 s e going next)
+returns-in-Ok-clause-kept g c b base all s stands is to =
+    compensated_so g.D.Disk b base all s c.args.chain (view c.args.«record».now) c.args.writer.now c.args.disk.now stands is to (transaction_of (view c.args.«record».now)) c.undo_one.new.writer c.undo_one.new.disk (Ok c.in-Ok.lsn)
+    c.requires.owner (λ e going next. c.in-Ok.ensures.kept b base s e going next)
 
 pub returns-in-Err-clause-kept : goal.returns-in-Err-clause-kept
-returns-in-Err-clause-kept g c b all s stands is to =
-    refused_so g.D.Disk b all s c.args.chain (view c.args.«record».now) c.args.writer.now c.args.disk.now stands is to (transaction_of (view c.args.«record».now)) c.undo_one.new.writer c.undo_one.new.disk c.in-Err.fault c.answered.result
-    c.requires.owner c.answered.ensures.memory c.answered.ensures.others (λ e going next. c.in-Err.ensures.kept b 0 s e going next)
+returns-in-Err-clause-kept g c b base all s stands is to =
+    refused_so g.D.Disk b base all s c.args.chain (view c.args.«record».now) c.args.writer.now c.args.disk.now stands is to (transaction_of (view c.args.«record».now)) c.undo_one.new.writer c.undo_one.new.disk c.in-Err.fault c.answered.result
+    c.requires.owner c.answered.ensures.memory c.answered.ensures.others (λ e going next. c.in-Err.ensures.kept b base s e going next)

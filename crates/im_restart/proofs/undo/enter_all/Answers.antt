@@ -10,9 +10,9 @@ pub loop-transaction-init : goal.loop-transaction-init
 loop-transaction-init g c = record {
   ready = c.requires.ready;
   working = c.requires.working;
-  kept = λ b all s stands is are. (
+  kept = λ b base all s stands is are. (
       let first = waiting_first c.args.losers.now c.args.chains.now s.log are c.requires.none in
-      (s, undo_start g.D.Disk b all s c.args.writer.now c.args.disk.now (g.met.D.Disk.only_now c.args.disk.now) stands is, first.0, first.1)
+      (s, undo_start g.D.Disk b base all s c.args.writer.now c.args.disk.now (g.met.D.Disk.only_now c.args.disk.now) stands is, first.0, first.1)
       );
 }
 
@@ -20,12 +20,12 @@ pub loop-transaction-preserved : goal.loop-transaction-preserved
 loop-transaction-preserved g c = record {
   ready = c.go_on.ensures.ready;
   working = c.in_ok-go_on.ensures.works;
-  kept = λ b all s stands is are. (
-      let h = c.loop-transaction.invariant.kept b all s stands is are in
+  kept = λ b base all s stands is are. (
+      let h = c.loop-transaction.invariant.kept b base all s stands is are in
       let t = waiting_taken b page_tree c.loop-transaction.losers c.pop_first.new.self c.loop-transaction.chains h.0.log c.in-Some.transaction c.in-Some.row h.1.undoing.can.lawful h.2 h.3 c.in-Some.ensures.value c.in-Some.ensures.updates.0 in
-      let k = c.in_ok-go_on.ensures.kept b all h.0 (waiting c.pop_first.new.self) h.1.stands h.1.undoing t.0 t.1 t.2 in (
+      let k = c.in_ok-go_on.ensures.kept b base all h.0 (waiting c.pop_first.new.self) h.1.stands h.1.undoing t.0 t.1 t.2 in (
         k.ok.now,
-        undo_then g.D.Disk b all s c.args.disk.now h.0 c.loop-transaction.writer c.loop-transaction.disk k.ok.now c.go_on.new.writer c.go_on.new.disk h.1 k.ok.goes,
+        undo_then g.D.Disk b base all s c.args.disk.now h.0 c.loop-transaction.writer c.loop-transaction.disk k.ok.now c.go_on.new.writer c.go_on.new.disk h.1 k.ok.goes,
         k.ok.are,
         waiting_longer c.in-Some.transaction c.pop_first.new.self h.0.log k.ok.now.log t.1 k.ok.others t.3,
       )
@@ -33,15 +33,15 @@ loop-transaction-preserved g c = record {
 }
 
 pub returns-in_err-go_on-clause-kept : goal.returns-in_err-go_on-clause-kept
-returns-in_err-go_on-clause-kept g c b all s stands is are =
-    let h = c.loop-transaction.invariant.kept b all s stands is are in
+returns-in_err-go_on-clause-kept g c b base all s stands is are =
+    let h = c.loop-transaction.invariant.kept b base all s stands is are in
     let t = waiting_taken b page_tree c.loop-transaction.losers c.pop_first.new.self c.loop-transaction.chains h.0.log c.in-Some.transaction c.in-Some.row h.1.undoing.can.lawful h.2 h.3 c.in-Some.ensures.value c.in-Some.ensures.updates.0 in
-    let k = c.in_err-go_on.ensures.kept b all h.0 (waiting c.pop_first.new.self) h.1.stands h.1.undoing t.0 t.1 t.2 in
+    let k = c.in_err-go_on.ensures.kept b base all h.0 (waiting c.pop_first.new.self) h.1.stands h.1.undoing t.0 t.1 t.2 in
     let other : c.in_err-go_on.field-0.0 ≢ NotAStore = k.cause in
-    record { ok = search rules; stops = left_then g.D.Disk b all c.args.disk.now c.loop-transaction.disk c.go_on.new.disk h.1.stops k.stops; cause = search (rules, other) }
+    record { ok = search rules; stops = left_then g.D.Disk b base all c.args.disk.now c.loop-transaction.disk c.go_on.new.disk h.1.stops k.stops; cause = search (rules, other) }
 
 pub returns-clause-kept : goal.returns-clause-kept
-returns-clause-kept g c b all s stands is are =
-    let h = c.loop-transaction.invariant.kept b all s stands is are in
+returns-clause-kept g c b base all s stands is are =
+    let h = c.loop-transaction.invariant.kept b base all s stands is are in
     let none = none_left c.loop-transaction.losers.entries (λ some. (let clash = c.in_default.ensures.variant.1 some in absurd (cc clash))) in
     record { ok = record { now = h.0; goes = h.1; are = waiting_none c.loop-transaction.losers c.loop-transaction.chains h.0.log none h.2 }; stops = h.1.stops; cause = tt }

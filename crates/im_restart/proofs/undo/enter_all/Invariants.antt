@@ -1,4 +1,4 @@
-use Rattle.std.proofs.Common.{◌≡◌, false, length}
+use Rattle.std.proofs.Common.{ℕ, ◌≡◌, false, length}
 use Rattle.im_types.specs.Histories.{Base, History}
 use Rattle.im_types.specs.Writer.{Writer}
 use Rattle.im_flush.specs.PageWriter.{IsReadyWriter, StandsAs}
@@ -12,8 +12,8 @@ abbrev pub invariant-loop-transaction : goal.invariant-loop-transaction
 invariant-loop-transaction g l = record {
   ready : IsReadyWriter g.D.Disk l.writer l.disk;
   working : l.writer.failed ≡ false;
-  kept : (b : Base) (all : History) (s : Writer) → StandsAs g.D.Disk b 0 s l.fn.writer l.fn.disk → IsUndoing b all s → AreLosers l.fn.losers s.log
-      → (now : Writer) × UndoGoes g.D.Disk b all s l.fn.disk now l.writer l.disk × AreChains (waiting l.losers) l.chains now.log × AreWaiting l.losers now.log;
+  kept : (b : Base) (base : ℕ) (all : History) (s : Writer) → StandsAs g.D.Disk b base s l.fn.writer l.fn.disk → IsUndoing b all s → AreLosers l.fn.losers s.log
+      → (now : Writer) × UndoGoes g.D.Disk b base all s l.fn.disk now l.writer l.disk × AreChains (waiting l.losers) l.chains now.log × AreWaiting l.losers now.log;
 }
 
 abbrev pub decreases-loop-transaction : goal.decreases-loop-transaction

@@ -12,7 +12,7 @@ loop-lsn-init g c = record {
   room = c.requires.room;
   ready = c.requires.ready;
   working = c.requires.working;
-  kept = λ b all s stands is are. (s, undo_start g.D.Disk b all s c.args.writer.now c.args.disk.now (g.met.D.Disk.only_now c.args.disk.now) stands is, are);
+  kept = λ b base all s stands is are. (s, undo_start g.D.Disk b base all s c.args.writer.now c.args.disk.now (g.met.D.Disk.only_now c.args.disk.now) stands is, are);
 }
 
 pub loop-lsn-smaller : goal.loop-lsn-smaller
@@ -25,24 +25,24 @@ loop-lsn-preserved g c = record {
   room = first_of (search rules, grind (arith, common_steps));
   ready = c.undo_at.ensures.ready;
   working = c.in_ok-undo_at.ensures.works;
-  kept = λ b all s stands is are. (
-      let h = c.loop-lsn.invariant.kept b all s stands is are in
+  kept = λ b base all s stands is are. (
+      let h = c.loop-lsn.invariant.kept b base all s stands is are in
       let t = chains_taken c.loop-lsn.chains c.pop_last.new.self h.0.log c.in-Some.lsn c.in-Some.chain h.2 c.in-Some.ensures.value c.in-Some.ensures.updates.0 in
-      let k = c.in_ok-undo_at.ensures.kept b all h.0 nobody h.1.stands h.1.undoing t.0 refl t.1 t.2 in
-      (k.ok.now, undo_then g.D.Disk b all s c.args.disk.now h.0 c.loop-lsn.writer c.loop-lsn.disk k.ok.now c.undo_at.new.writer c.undo_at.new.disk h.1 k.ok.goes, k.ok.are)
+      let k = c.in_ok-undo_at.ensures.kept b base all h.0 nobody h.1.stands h.1.undoing t.0 refl t.1 t.2 in
+      (k.ok.now, undo_then g.D.Disk b base all s c.args.disk.now h.0 c.loop-lsn.writer c.loop-lsn.disk k.ok.now c.undo_at.new.writer c.undo_at.new.disk h.1 k.ok.goes, k.ok.are)
       );
 }
 
 pub returns-in_err-undo_at-clause-kept : goal.returns-in_err-undo_at-clause-kept
-returns-in_err-undo_at-clause-kept g c b all s stands is are =
-    let h = c.loop-lsn.invariant.kept b all s stands is are in
+returns-in_err-undo_at-clause-kept g c b base all s stands is are =
+    let h = c.loop-lsn.invariant.kept b base all s stands is are in
     let t = chains_taken c.loop-lsn.chains c.pop_last.new.self h.0.log c.in-Some.lsn c.in-Some.chain h.2 c.in-Some.ensures.value c.in-Some.ensures.updates.0 in
-    let k = c.in_err-undo_at.ensures.kept b all h.0 nobody h.1.stands h.1.undoing t.0 refl t.1 t.2 in
+    let k = c.in_err-undo_at.ensures.kept b base all h.0 nobody h.1.stands h.1.undoing t.0 refl t.1 t.2 in
     let other : c.in_err-undo_at.field-0.0 ≢ NotAStore = k.cause in
-    record { ok = search rules; stops = left_then g.D.Disk b all c.args.disk.now c.loop-lsn.disk c.undo_at.new.disk h.1.stops k.stops; cause = search (rules, other) }
+    record { ok = search rules; stops = left_then g.D.Disk b base all c.args.disk.now c.loop-lsn.disk c.undo_at.new.disk h.1.stops k.stops; cause = search (rules, other) }
 
 pub returns-clause-kept : goal.returns-clause-kept
-returns-clause-kept g c b all s stands is are =
-    let h = c.loop-lsn.invariant.kept b all s stands is are in
+returns-clause-kept g c b base all s stands is are =
+    let h = c.loop-lsn.invariant.kept b base all s stands is are in
     let none = none_left c.loop-lsn.chains.entries (λ some. (let clash = c.in_default.ensures.variant.1 some in absurd (cc clash))) in
     record { ok = record { now = h.0; goes = h.1; ended = chains_none c.loop-lsn.chains h.0.log h.2 none }; stops = h.1.stops; cause = tt }

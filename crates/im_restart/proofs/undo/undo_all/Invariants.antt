@@ -1,4 +1,4 @@
-use Rattle.std.proofs.Common.{◌≡◌, ◌≤◌, false, length}
+use Rattle.std.proofs.Common.{ℕ, ◌≡◌, ◌≤◌, false, length}
 use Rattle.im_types.specs.Histories.{Base, History}
 use Rattle.im_types.specs.Writer.{Writer}
 use Rattle.im_flush.specs.PageWriter.{IsReadyWriter, StandsAs}
@@ -11,8 +11,8 @@ invariant-loop-lsn g l = record {
   room : 16384 ≤ length l.room;
   ready : IsReadyWriter g.D.Disk l.writer l.disk;
   working : l.writer.failed ≡ false;
-  kept : (b : Base) (all : History) (s : Writer) → StandsAs g.D.Disk b 0 s l.fn.writer l.fn.disk → IsUndoing b all s → AreChains nobody l.fn.chains s.log
-      → (now : Writer) × UndoGoes g.D.Disk b all s l.fn.disk now l.writer l.disk × AreChains nobody l.chains now.log;
+  kept : (b : Base) (base : ℕ) (all : History) (s : Writer) → StandsAs g.D.Disk b base s l.fn.writer l.fn.disk → IsUndoing b all s → AreChains nobody l.fn.chains s.log
+      → (now : Writer) × UndoGoes g.D.Disk b base all s l.fn.disk now l.writer l.disk × AreChains nobody l.chains now.log;
 }
 
 abbrev pub decreases-loop-lsn : goal.decreases-loop-lsn

@@ -8,18 +8,18 @@ use Rattle.im_restart.proofs.Undos.{chains_then, step_then}
 use Rattle.im_restart.proofs.undo.undo_key.Goals as goal
 
 pub returns-in_err-last-clause-kept : goal.returns-in_err-last-clause-kept
-returns-in_err-last-clause-kept g c b all s out stands is are left to =
-    let k = c.in_err-last.ensures.kept b all s stands is to in
+returns-in_err-last-clause-kept g c b base all s out stands is are left to =
+    let k = c.in_err-last.ensures.kept b base all s stands is to in
     let other : c.in_err-last.field-0.0 ≢ NotAStore = k.cause in
     record { ok = search rules; stops = k.stops; cause = search (rules, other) }
 
 pub returns-clause-kept : goal.returns-clause-kept
-returns-clause-kept g c b all s out stands is are left to =
+returns-clause-kept g c b base all s out stands is are left to =
     let t = c.args.chain.transaction in
-    let done = (c.in_ok-last.ensures.kept b all s stands is to).ok in
+    let done = (c.in_ok-last.ensures.kept b base all s stands is to).ok in
     let lsn = c.in_ok-last.last in
     let now = done.now in
     let goes : GoesOnAt (chain_of t lsn c.args.next) c.args.next now.log =
     subst (λ n. GoesOnAt (chain_of t lsn n) n now.log) (sym c.requires.next) (goes_behind b page_tree now.log t lsn (prev_of (view c.args.«record».now)) done.goes.undoing.can.lawful done.loser done.row) in
-    step_then g.D.Disk b all s t out c.args.disk.now now c.compensate.new.writer c.compensate.new.disk c.go_on.new.writer c.go_on.new.chains c.go_on.new.disk c.go_on.result done.goes done.others
-    (c.go_on.ensures.kept b all now out done.goes.stands done.goes.undoing (chains_then g.D.Disk b all s t out c.args.chains.now c.args.disk.now now c.compensate.new.writer c.compensate.new.disk is done.goes done.others are) left goes)
+    step_then g.D.Disk b base all s t out c.args.disk.now now c.compensate.new.writer c.compensate.new.disk c.go_on.new.writer c.go_on.new.chains c.go_on.new.disk c.go_on.result done.goes done.others
+    (c.go_on.ensures.kept b base all now out done.goes.stands done.goes.undoing (chains_then g.D.Disk b base all s t out c.args.chains.now c.args.disk.now now c.compensate.new.writer c.compensate.new.disk is done.goes done.others are) left goes)
