@@ -306,6 +306,35 @@ pub or_none : (k : Bool) → (k || false) ≡ k
 or_none true = refl
 or_none false = refl
 
+-- a page that is put has an entry, whatever the list is
+pub put_some : (f : Option DirtyEntry → DirtyEntry) (p : ℕ) (xs : List TableEntry) → is_some (entry_in (put p f xs) p) ≡ true
+put_some f p [] = ap (λ (o : Option DirtyEntry). is_some o) (cond-true (p == p) (Some (f None)) None (eq-eqb p p refl))
+put_some f p (x ∷ xs) = elim (cases_order x.page p) [
+  | inl here ↦
+      ap (λ (l : List TableEntry). is_some (entry_in l p))
+      (cond-false (nat_lt x.page p) (x ∷ put p f xs) (if x.page == p then table_entry p (f (Some (dirty_entry x))) ∷ xs else table_entry p (f None) ∷ x ∷ xs) (le-ltb x.page p (omega (arith, here)))
+      ∙ cond-true (x.page == p) (table_entry p (f (Some (dirty_entry x))) ∷ xs) (table_entry p (f None) ∷ x ∷ xs) (eq-eqb x.page p here))
+      ∙ ap (λ (o : Option DirtyEntry). is_some o) (cond-true (p == p) (Some (f (Some (dirty_entry x)))) (entry_in xs p) (eq-eqb p p refl))
+  | inr (inl less) ↦
+      ap (λ (l : List TableEntry). is_some (entry_in l p))
+      (cond-true (nat_lt x.page p) (x ∷ put p f xs) (if x.page == p then table_entry p (f (Some (dirty_entry x))) ∷ xs else table_entry p (f None) ∷ x ∷ xs) (lt-ltb x.page p less))
+      ∙ ap (λ (o : Option DirtyEntry). is_some o) (cond-false (x.page == p) (Some (dirty_entry x)) (entry_in (put p f xs) p) (ne_eqb x.page p (λ e. absurd (omega (arith, e, less)))))
+      ∙ put_some f p xs
+  | inr (inr more) ↦
+      ap (λ (l : List TableEntry). is_some (entry_in l p))
+      (cond-false (nat_lt x.page p) (x ∷ put p f xs) (if x.page == p then table_entry p (f (Some (dirty_entry x))) ∷ xs else table_entry p (f None) ∷ x ∷ xs) (le-ltb x.page p (omega (arith, more)))
+      ∙ cond-false (x.page == p) (table_entry p (f (Some (dirty_entry x))) ∷ xs) (table_entry p (f None) ∷ x ∷ xs) (ne_eqb x.page p (λ e. absurd (omega (arith, e, more)))))
+      ∙ ap (λ (o : Option DirtyEntry). is_some o) (cond-true (p == p) (Some (f None)) (entry_in (x ∷ xs) p) (eq-eqb p p refl))
+]
+
+-- a page that has its entry has room, and keeps an entry when it is written
+pub room_there : (p : ℕ) (xs : List TableEntry) → is_some (entry_in xs p) ≡ true → has_room p xs ≡ true
+room_there p xs some = ap (λ (t : Bool). t || nat_lt (length xs) MOST) some
+
+pub written_stays : (p l : ℕ) (old new : List TableEntry) → new ≡ written_in p l old → is_some (entry_in old p) ≡ true → is_some (entry_in new p) ≡ true
+written_stays p l old new is some =
+    ap (λ (t : List TableEntry). is_some (entry_in t p)) (is ∙ cond-true (has_room p old) (put p (written_entry l) old) old (room_there p old some)) ∙ put_some (written_entry l) p old
+
 -- whether there is room
 pub room_found : (xs : List TableEntry) (p : ℕ) (e : DirtyEntry) → entry_in xs p ≡ Some e → has_room p xs ≡ true
 room_found xs p e is = ap (λ (o : Option DirtyEntry). is_some o || nat_lt (length xs) MOST) is

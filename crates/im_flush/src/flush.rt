@@ -9,6 +9,7 @@ ghost use Rattle.im_log.specs.declared.log_file.LogFile.{LogFile};
 ghost use Rattle.im_log.specs.LogFile.{HasNoRoom, end_with, IsOpen};
 ghost use Rattle.im_page.specs.PageFile.{page_count};
 ghost use Rattle.im_pool.specs.Pool.{held_of, is_changed};
+ghost use Rattle.im_flush.specs.DirtyTable.{entry_in};
 ghost use Rattle.im_flush.specs.LogEnds.{EndsNoSooner};
 ghost use Rattle.im_flush.specs.Writing.{lsn_for, SameHeld, IsWriting, MayCopy, MayWriteHere, WriteOutKept, FlushKept};
 
@@ -38,6 +39,7 @@ fn write_out<D: Disk>(
         → ((q : ℕ) → first ≤ q → q ≤ last → MayWriteHere b s table.old pool.old q (lsn_for lsns.now (q - first)))
         → WriteOutKept D.Disk b base s first last disk.old log table.new pool.new disk.new result }
     ensures ready { (log : LogFile) → IsOpen D.Disk log disk.old → D.failed disk.new ≡ false → IsOpen D.Disk log disk.new }
+    ensures stays { first ≡ last → is_some (entry_in table.old first) ≡ true → OnOk result (is_some (entry_in table.new first) ≡ true) }
     ensures held { OnOk result (SameHeld pool.old pool.new) }
     ensures answers { Answers (D.failed disk.new) result }
 {
@@ -71,6 +73,7 @@ fn flush_range<D: Disk>(
     ensures still { D.failed disk.new ≡ false → IsOpen D.Disk log.new disk.new }
     ensures works { OnOk result (log.new.failed ≡ false) }
     ensures room { 1024 ≤ vec_capacity lsns.new }
+    ensures stays { first ≡ last → is_some (entry_in table.old first) ≡ true → OnOk result (is_some (entry_in table.new first) ≡ true) }
     ensures held { OnOk result (SameHeld pool.old pool.new) }
     ensures causes { IfErr result (λ e. (e ≡ LogFull) ⊎ (e ≡ Device)) }
     ensures no_room { result ≡ Err LogFull → HasNoRoom log.new }
@@ -106,6 +109,7 @@ pub(crate) fn flush_page<D: Disk>(
     ensures still { D.failed disk.new ≡ false → IsOpen D.Disk log.new disk.new }
     ensures works { OnOk result (log.new.failed ≡ false) }
     ensures room { 1024 ≤ vec_capacity lsns.new }
+    ensures stays { D.tells → number ≤ page_count (D.seen disk.old Pages) → is_some (entry_in table.old number) ≡ true → OnOk result (is_some (entry_in table.new number) ≡ true) }
     ensures held { OnOk result (SameHeld pool.old pool.new) }
     ensures causes { IfErr result (λ e. (e ≡ LogFull) ⊎ (e ≡ Device)) }
     ensures no_room { result ≡ Err LogFull → HasNoRoom log.new }

@@ -73,7 +73,8 @@ fn write_one<D: Disk>(
 
 // Whether this page and all before it have their entries.
 fn both(before: bool, has: bool) -> bool
-    ensures { (result ≡ true) ↔ ((before ≡ true) × (has ≡ true)) }
+    ensures both { (result ≡ true) ↔ ((before ≡ true) × (has ≡ true)) }
+    ensures first { before ≡ true → result ≡ has }
 {
     before && has
 }
@@ -97,6 +98,7 @@ pub(crate) fn write_pages<D: Disk>(
     ensures kept { (b : Base) (base : ℕ) (s : Writer) (log : LogFile) → IsWriting D.Disk b base s log table.old pool.old disk.old → s.durable ≡ s.log
         → ((q : ℕ) → first ≤ q → q ≤ last → MayWriteHere b s table.old pool.old q (lsn_for lsns.now (q - first)))
         → WritesKept D.Disk b base s first last lsns.now disk.old log table.new pool.new disk.new result }
+    ensures one { first ≡ last → IfOk result (λ entered. (table.new ≡ written_in first (lsn_for lsns.now 0) table.old) × (entered ≡ has_room first table.old)) }
     ensures held { OnOk result (SameHeld pool.old pool.new) }
     ensures changes { ChangesOnly D.Disk Pages disk.old disk.new }
     ensures answers { Answers (D.failed disk.new) result }

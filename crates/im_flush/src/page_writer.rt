@@ -37,10 +37,10 @@ pub struct PageWriter {
 }
 
 impl PageWriter {
-    ghost use Rattle.im_page.specs.PageFile.{file_page};
+    ghost use Rattle.im_page.specs.PageFile.{file_page, page_count};
     ghost use Rattle.im_pool.specs.Pool.{held_of, is_changed, page_at, Evicts, Holds, IsAt, MovesFirst};
     ghost use Rattle.im_types.specs.WriterSteps.{forced, synced};
-    ghost use Rattle.im_flush.specs.DirtyTable.{synced_entries};
+    ghost use Rattle.im_flush.specs.DirtyTable.{entry_in, synced_entries};
     ghost use Rattle.im_record.specs.Entry.{view};
     ghost use Rattle.im_record.specs.Spelling.{IsEntry, size_of};
     ghost use Rattle.im_log.specs.Whats.{what_of};
@@ -51,7 +51,8 @@ impl PageWriter {
     /// Writes a page in place, if it was changed since it was read or written: it alone, where the file has it, and past the file's
     /// end every page from the page count up to it, unchanged ones too. First the Images of those pages join the log of which it is
     /// not known to have a full copy at or after its redo point, in rising page number, then the log is forced, then the pages are
-    /// written in rising number. A page without a change takes no call.
+    /// written in rising number. A page without a change takes no call. The file is not synced for a page that has its entry in the
+    /// dirty table, which stays.
     ///
     /// Refused `LogFull`, where an Image would end above LSN 2^62, `Device`, or `Failed` after a call that failed so; every later call is
     /// then refused `Failed`.
@@ -60,6 +61,7 @@ impl PageWriter {
         ensures ready { IsReadyWriter D.Disk self.new disk.new }
         ensures kept { (b : Base) (base : ℕ) (s : Writer) → StandsAs D.Disk b base s self.old disk.old → FlushOneKept D.Disk b base s number disk.old self.new disk.new result }
         ensures unchanged { self.old.failed ≡ false → is_changed self.old.pool number ≡ false → (result ≡ Ok tt) × (self.new ≡ self.old) × (disk.new ≡ disk.old) }
+        ensures stays { D.tells → number ≤ page_count (D.seen disk.old Pages) → is_some (entry_in self.old.table number) ≡ true → OnOk result (is_some (entry_in self.new.table number) ≡ true) }
         ensures held { OnOk result (SameHeld self.old.pool self.new.pool) }
         ensures failed { self.new.failed ≡ not (is_ok result) }
         ensures causes { IfErr result (λ e. (e ≡ Failed) ⊎ (e ≡ LogFull) ⊎ (e ≡ Device)) }
@@ -91,6 +93,7 @@ impl PageWriter {
         requires changed { is_changed self.old.pool number ≡ true }
         ensures ready { IsReadyWriter D.Disk self.new disk.new }
         ensures kept { (b : Base) (base : ℕ) (s : Writer) → StandsAs D.Disk b base s self.old disk.old → FlushOneKept D.Disk b base s number disk.old self.new disk.new result }
+        ensures stays { D.tells → number ≤ page_count (D.seen disk.old Pages) → is_some (entry_in self.old.table number) ≡ true → OnOk result (is_some (entry_in self.new.table number) ≡ true) }
         ensures held { OnOk result (SameHeld self.old.pool self.new.pool) }
         ensures failed { self.new.failed ≡ not (is_ok result) }
         ensures causes { IfErr result (λ e. (e ≡ LogFull) ⊎ (e ≡ Device)) }

@@ -1,7 +1,9 @@
-use Rattle.std.proofs.Common.{◌≡◌, inl, inr, refl, sym, ap, ◌∙◌, rules, arith}
+use Rattle.std.proofs.Common.{◌≡◌, ◌≤◌, ℕ, true, inl, inr, refl, sym, ap, subst, ◌∙◌, rules, arith}
+use Rattle.std.specs.Prelude.{is_some, OnOk}
 use Rattle.im_types.specs.declared.file_id.FileId.TheVariants.{Pages}
 use Rattle.im_disk.specs.Disk.{Files}
 use Rattle.im_page.specs.PageFile.{page_count}
+use Rattle.im_flush.specs.DirtyTable.{entry_in}
 use Rattle.im_flush.proofs.Growing.{on_ok}
 use Rattle.im_flush.proofs.Goings.{leaves_then}
 use Rattle.im_flush.proofs.Flushing.{flushed_last, flushed_then, goes_read, leaves_read, may_flush}
@@ -41,3 +43,14 @@ returns-clause-kept g c b base s w =
           c.flush_range-2.new.pool goes is));
       stops = leaves_then g.D.Disk b base s c.args.disk.now s c.args.log.now c.args.table.now c.args.pool.now c.count_pages.new.disk goes c.flush_range-2.new.disk k.stops;
     }
+
+pub returns-then-number-count-clause-stays : goal.returns-then-number-count-clause-stays
+returns-then-number-count-clause-stays g c tells within some = c.flush_range.ensures.stays refl some
+
+pub returns-clause-stays : goal.returns-clause-stays
+returns-clause-stays g c tells within some =
+    let is : c.in_ok-count.count ≡ page_count (g.D.Disk.seen c.args.disk.now Pages) = c.in_ok-count.ensures.count tells in
+    let past : c.in_ok-count.count ≤ c.args.number = c.if-number-count.false in
+    let at : c.args.number ≡ c.in_ok-count.count = omega (arith, is, past, within) in
+    subst (λ (n : ℕ). OnOk c.flush_range-2.result (is_some (entry_in c.flush_range-2.new.table n) ≡ true)) (sym at)
+    (c.flush_range-2.ensures.stays (sym at) (subst (λ (n : ℕ). is_some (entry_in c.args.table.now n) ≡ true) at some))

@@ -26,3 +26,6 @@ returns-clause-kept g c b base s w all =
           c.write_out.new.pool so.goes done.ok;
       stops = leaves_last g.D.Disk b base s c.args.disk.now so.now c.log_images.new.log c.args.table.now c.args.pool.now c.log_images.new.disk so.goes c.write_out.new.disk done.stops;
     }
+
+pub returns-clause-stays : goal.returns-clause-stays
+returns-clause-stays g c alone some = c.in_ok-write_out.ensures.stays alone some

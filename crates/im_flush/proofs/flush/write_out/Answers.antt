@@ -1,5 +1,6 @@
-use Rattle.std.proofs.Common.{Bool, rules, ◌+◌, subst}
-use Rattle.im_flush.specs.Writing.{WritesTo}
+use Rattle.std.proofs.Common.{◌≡◌, Bool, true, false, rules, ◌+◌, sym, ◌∙◌, subst}
+use Rattle.im_flush.specs.Writing.{lsn_for, WritesTo}
+use Rattle.im_flush.proofs.Tables.{room_there, written_stays}
 use Rattle.im_flush.proofs.Growing.{on_ok}
 use Rattle.im_flush.proofs.Placing.{writes_end, writes_stop, writes_sync}
 use Rattle.im_flush.proofs.flush.write_out.Goals as goal
@@ -24,3 +25,10 @@ returns-clause-kept g c b base s log w all may =
           w.based so is synced.stops);
       stops = writes_stop g.D.Disk b base s c.args.first c.args.last c.args.lsns.now c.args.disk.now log (c.args.last + 1) c.write_pages.new.table c.write_pages.new.pool c.write_pages.new.disk c.in_ok-entered.entered so c.sync_pages.new.disk synced.stops;
     }
+
+pub returns-then-entered-clause-stays : goal.returns-then-entered-clause-stays
+returns-then-entered-clause-stays g c alone some = written_stays c.args.first (lsn_for c.args.lsns.now 0) c.args.table.now c.write_pages.new.table (c.in_ok-entered.ensures.one alone).0 some
+
+pub returns-clause-stays : goal.returns-clause-stays
+returns-clause-stays g c alone some = absurd (
+    let clash : true ≡ false = sym (room_there c.args.first c.args.table.now some) ∙ sym (c.in_ok-entered.ensures.one alone).1 ∙ c.if-entered.false in cc clash)
