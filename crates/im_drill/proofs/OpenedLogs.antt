@@ -5,14 +5,14 @@ use Rattle.im_types.specs.declared.fault.Fault.{Fault}
 use Rattle.im_disk.proofs.Runs.{reads_then}
 use Rattle.im_gate.specs.declared.gate.Gate.{Gate}
 use Rattle.im_gate.specs.Batches.{batches, batches_from}
-use Rattle.im_gate.specs.Gate.{IsReady, InOneFile, logged, unread, file_of, first_of, place_of}
+use Rattle.im_gate.specs.Gate.{IsReady, InOneFile, StartsAs, logged, unread, file_of, first_of, place_of}
 use Rattle.im_drill.specs.Living.{IsLiving}
 use Rattle.im_types.specs.declared.file_id.FileId.{FileId}
 use Rattle.im_types.specs.declared.file_id.FileId.TheVariants.{Log, Pages}
 use Rattle.im_disk.specs.declared.disk.Disk.{Ghosts}
 use Rattle.im_disk.specs.Disk.{Files}
 use Rattle.im_disk.specs.Runs.{IsSynced, LeavesIn, Reads}
-use Rattle.im_gate.specs.Header.{IsUnmade, IsMade, IsBlank}
+use Rattle.im_gate.specs.Header.{first_gate, IsUnmade, IsMade, IsBlank}
 use Rattle.im_drill.specs.Lives.{StandsFor}
 use Rattle.im_drill.proofs.Stands.{stands_same, stands_once, stands_blank, survives_none}
 
@@ -39,24 +39,25 @@ module _ {D : Type 0} (d : Ghosts D) (old mid : D) (synced : IsSynced d old) (re
         subst (λ (l : List (List ℕ)). StandsFor c l) none (made_leaves told c left)
 
 -- a log that was read to its end
-module _ {D : Type 0} (d : Ghosts D) (old mid new : D) (synced : IsSynced d old) (opened : Reads d old mid) (read : Reads d mid new) (gate : Gate) (at : (file_of gate ≡ Log) × (first_of gate ≡ 31) × (place_of gate ≡ 31))
-    (made : d.tells → IsMade (d.seen old Log)) where
+module _ {D : Type 0} (d : Ghosts D) (old mid new : D) (synced : IsSynced d old) (opened : Reads d old mid) (read : Reads d mid new) (gate : Gate) (at : (file_of gate ≡ Log) × (place_of gate ≡ first_of gate))
+    (starts : d.tells → StartsAs gate (d.seen old Log)) (made : d.tells → IsMade (d.seen old Log)) where
   read_living : (next : Gate) (found : List (List ℕ)) → IsReady d next new → InOneFile gate next → (d.tells → unread d gate mid ≡ Some found) → IsLiving d found [] [] next new
   read_living next found ready same is =
       let seen : d.seen new ≡ d.seen old = read.seen ∙ opened.seen in
-      let in_mid : d.tells → batches 31 (d.seen mid Log) ≡ Some found = λ told.
-      subst (λ (file : FileId). batches 31 (d.seen mid file) ≡ Some found) at.0 (subst (λ (place : ℕ). batches_from place (d.seen mid (file_of gate)) ≡ Some found) at.2 (is told)) in
-      let in_new : d.tells → batches 31 (d.seen new Log) ≡ Some found = λ told. ap (λ (s : Files). batches 31 (s Log)) read.seen ∙ in_mid told in
-      let in_old : d.tells → batches 31 (d.seen old Log) ≡ Some found = λ told. ap (λ (s : Files). batches 31 (s Log)) (sym seen) ∙ in_new told in
+      let in_mid : d.tells → batches (first_of gate) (d.seen mid Log) ≡ Some found = λ told.
+      subst (λ (file : FileId). batches (first_of gate) (d.seen mid file) ≡ Some found) at.0 (subst (λ (place : ℕ). batches_from place (d.seen mid (file_of gate)) ≡ Some found) at.1 (is told)) in
+      let in_new : d.tells → batches (first_of gate) (d.seen new Log) ≡ Some found = λ told. ap (λ (s : Files). batches (first_of gate) (s Log)) read.seen ∙ in_mid told in
+      let in_old : d.tells → batches (first_gate (d.seen old Log)) (d.seen old Log) ≡ Some found = λ told.
+      subst (λ (n : ℕ). batches n (d.seen old Log) ≡ Some found) (starts told).first (ap (λ (s : Files). batches (first_of gate) (s Log)) (sym seen) ∙ in_new told) in
       record {
         ready = ready;
         file = same.file ∙ at.0;
-        first = same.first ∙ at.1;
+        starts = λ works told. same.first ∙ (starts told).first ∙ ap (λ (s : Files). first_gate (s Log)) (sym seen);
         leaves = λ told c left. (found, read_leaves d old new synced (reads_then d old mid new opened read) told found (inl (made told, in_old told)) c left, survives_none found []);
         made = λ works told. subst (λ (s : Files). IsMade (s Log)) (sym seen) (made told);
         holds = λ works told.
-            subst (λ (first : ℕ). batches first (d.seen new (file_of next)) ≡ Some (found ++ [])) (sym (same.first ∙ at.1))
-            (subst (λ (file : FileId). batches 31 (d.seen new file) ≡ Some (found ++ [])) (sym (same.file ∙ at.0)) (in_new told ∙ ap Some (sym (append-nil found))));
+            subst (λ (first : ℕ). batches first (d.seen new (file_of next)) ≡ Some (found ++ [])) (sym same.first)
+            (subst (λ (file : FileId). batches (first_of gate) (d.seen new file) ≡ Some (found ++ [])) (sym (same.file ∙ at.0)) (in_new told ∙ ap Some (sym (append-nil found))));
         all = λ works. refl;
       }
 
@@ -68,11 +69,11 @@ module _ {D : Type 0} (d : Ghosts D) (old mid new : D) (synced : IsSynced d old)
 -- a log that was made
 module _ {D : Type 0} (d : Ghosts D) (old mid new : D) (synced : IsSynced d old) (opened : Reads d old mid) (moment : LeavesIn d Log mid new IsBlank) (counts_now : (disk : D) (t : ℕ) (c : Files) → t ≤ d.moment disk → d.may_leave disk c → d.left_since disk t c)
     (unmade : d.tells → IsUnmade (d.seen old Log) × (length (d.seen old Pages) ≡ 0)) where
-  pub made_living : (gate : Gate) → IsReady d gate new → (file_of gate ≡ Log) × (first_of gate ≡ 31) × (place_of gate ≡ 31) → (d.tells → IsMade (d.seen new Log)) → (d.tells → logged d gate new ≡ Some []) → IsLiving d [] [] [] gate new
-  made_living gate ready at made empty = record {
+  pub made_living : (gate : Gate) → IsReady d gate new → (file_of gate ≡ Log) × (place_of gate ≡ first_of gate) → (d.tells → StartsAs gate (d.seen new Log)) → (d.tells → IsMade (d.seen new Log)) → (d.tells → logged d gate new ≡ Some []) → IsLiving d [] [] [] gate new
+  made_living gate ready at starts made empty = record {
     ready = ready;
     file = at.0;
-    first = at.1;
+    starts = λ works told. (starts told).first;
     leaves = λ told c left. ([], made_leaves d old mid synced opened new moment counts_now unmade told c left, survives_none [] []);
     made = λ works told. made told;
     holds = λ works told. empty told;

@@ -8,10 +8,11 @@ use Rattle.im_disk.specs.Runs.{LeavesIn}
 use Rattle.im_gate.specs.declared.gate.Gate.{Gate}
 use Rattle.im_gate.specs.Batches.{batches, with_batch, IsBeforeOrWith}
 use Rattle.im_gate.specs.Gate.{IsReady, InOneFile, logged, file_of, first_of, has_failed}
-use Rattle.im_gate.specs.Header.{IsMade}
+use Rattle.im_gate.specs.Header.{first_gate, IsMade}
+use Rattle.im_gate.proofs.Starts.{front_made, front_starts}
 use Rattle.im_drill.specs.Lives.{Survives}
 use Rattle.im_drill.specs.Living.{IsLiving}
-use Rattle.im_drill.proofs.Stands.{made_same, long, survives_more, survives_all, stopped_put}
+use Rattle.im_drill.proofs.Stands.{long, survives_more, survives_all, stopped_put}
 
 module _ {D : Type 0} (d : Ghosts D) (counts_now : (disk : D) (t : ℕ) (c : Files) → t ≤ d.moment disk → d.may_leave disk c → d.left_since disk t c) (seen_may_stay : (disk : D) → d.tells → d.may_leave disk (d.seen disk))
     (before asked acked : List (List ℕ)) (records : List ℕ) (gate next : Gate) (old new : D) (living : IsLiving d before asked acked gate old) (ready : IsReady d next new) (same : InOneFile gate next) where
@@ -20,7 +21,7 @@ module _ {D : Type 0} (d : Ghosts D) (counts_now : (disk : D) (t : ℕ) (c : Fil
   still_failed was is kept = record {
     ready = ready;
     file = same.file ∙ living.file;
-    first = same.first ∙ living.first;
+    starts = λ works. absurd (cc);
     leaves = λ told c left. let s = living.leaves told c (subst (λ (disk : D). d.may_leave disk c) kept left) in (s.0, s.1, survives_more before asked acked s.0 (records ∷ []) s.2);
     made = λ works. absurd (cc);
     holds = λ works. absurd (cc);
@@ -29,16 +30,16 @@ module _ {D : Type 0} (d : Ghosts D) (counts_now : (disk : D) (t : ℕ) (c : Fil
 
   module _ (works : has_failed gate ≡ false) (moment : LeavesIn d (file_of gate) old new (IsBeforeOrWith (first_of gate) records (logged d gate old)))
       (front : LeavesIn d (file_of gate) old new (λ c. take (first_of gate) c ≡ take (first_of gate) (d.seen old (file_of gate)))) where
-    fronts : d.tells → (c : Files) → d.may_leave new c → take 31 (c Log) ≡ take 31 (d.seen old Log)
+    fronts : d.tells → (c : Files) → d.may_leave new c → take (first_gate (d.seen old Log)) (c Log) ≡ take (first_gate (d.seen old Log)) (d.seen old Log)
     fronts told c left =
         let f = front.each told c (counts_now new (d.moment old) c front.later left) in
-        subst (λ (k : ℕ). take k (c Log) ≡ take k (d.seen old Log)) living.first
+        subst (λ (k : ℕ). take k (c Log) ≡ take k (d.seen old Log)) (living.starts works told)
         (subst (λ (file : FileId). take (first_of gate) (c file) ≡ take (first_of gate) (d.seen old file)) living.file f.2.changed)
 
-    either : d.tells → (c : Files) → d.may_leave new c → IsBeforeOrWith 31 records (Some (before ++ asked)) (c Log)
+    either : d.tells → (c : Files) → d.may_leave new c → IsBeforeOrWith (first_gate (d.seen old Log)) records (Some (before ++ asked)) (c Log)
     either told c left =
         let b = moment.each told c (counts_now new (d.moment old) c moment.later left) in
-        subst (λ (k : ℕ). IsBeforeOrWith k records (Some (before ++ asked)) (c Log)) living.first
+        subst (λ (k : ℕ). IsBeforeOrWith k records (Some (before ++ asked)) (c Log)) (living.starts works told)
         (subst (λ (file : FileId). IsBeforeOrWith (first_of gate) records (Some (before ++ asked)) (c file)) living.file
         (subst (λ (o : Option (List (List ℕ))). IsBeforeOrWith (first_of gate) records o (c (file_of gate))) (living.holds works told) b.2.changed))
 
@@ -47,7 +48,7 @@ module _ {D : Type 0} (d : Ghosts D) (counts_now : (disk : D) (t : ℕ) (c : Fil
     refused_put is = record {
       ready = ready;
       file = same.file ∙ living.file;
-      first = same.first ∙ living.first;
+      starts = λ usable. absurd (cc);
       leaves = λ told c left.
           let s = stopped_put c (d.seen old Log) before asked records (living.made works told) (fronts told c left) (either told c left) in
           (s.0, s.1, subst (λ (l : List (List ℕ)). Survives before (asked ++ records ∷ []) l s.0) (sym (living.all works)) s.2);
@@ -60,13 +61,19 @@ module _ {D : Type 0} (d : Ghosts D) (counts_now : (disk : D) (t : ℕ) (c : Fil
       holds_now : d.tells → logged d next new ≡ Some (before ++ (asked ++ records ∷ []))
       holds_now told = put told ∙ ap (with_batch records) (living.holds works told) ∙ ap Some (append_assoc before asked (records ∷ []))
 
-      log_now : d.tells → batches 31 (d.seen new Log) ≡ Some (before ++ (asked ++ records ∷ []))
+      log_now : d.tells → batches (first_gate (d.seen old Log)) (d.seen new Log) ≡ Some (before ++ (asked ++ records ∷ []))
       log_now told =
-          subst (λ (k : ℕ). batches k (d.seen new Log) ≡ Some (before ++ (asked ++ records ∷ []))) (same.first ∙ living.first)
+          subst (λ (k : ℕ). batches k (d.seen new Log) ≡ Some (before ++ (asked ++ records ∷ []))) (same.first ∙ living.starts works told)
           (subst (λ (file : FileId). batches (first_of next) (d.seen new file) ≡ Some (before ++ (asked ++ records ∷ []))) (same.file ∙ living.file) (holds_now told))
 
       made_now : d.tells → IsMade (d.seen new Log)
-      made_now told = made_same (d.seen old Log) (d.seen new Log) (fronts told (d.seen new) (seen_may_stay new told)) (long 31 (d.seen new Log) (before ++ (asked ++ records ∷ [])) (log_now told)) (living.made works told)
+      made_now told =
+          front_made (d.seen old Log) (d.seen new Log) (fronts told (d.seen new) (seen_may_stay new told)) (long (first_gate (d.seen old Log)) (d.seen new Log) (before ++ (asked ++ records ∷ [])) (log_now told))
+          (living.made works told)
+
+      -- the log starts where it did
+      gate_now : d.tells → first_gate (d.seen new Log) ≡ first_gate (d.seen old Log)
+      gate_now told = (front_starts (d.seen old Log) (d.seen new Log) (fronts told (d.seen new) (seen_may_stay new told))).gate
 
       only_log : (c : Files) → d.may_leave new c → c Log ≡ d.seen new Log
       only_log c left = subst (λ (file : FileId). c file ≡ d.seen new file) (same.file ∙ living.file) (ready.reading.durable usable c left)
@@ -76,10 +83,10 @@ module _ {D : Type 0} (d : Ghosts D) (counts_now : (disk : D) (t : ℕ) (c : Fil
       acknowledged = record {
         ready = ready;
         file = same.file ∙ living.file;
-        first = same.first ∙ living.first;
+        starts = λ works_now told. same.first ∙ living.starts works told ∙ sym (gate_now told);
         leaves = λ told c left. (
           before ++ (asked ++ records ∷ []),
-          inl (subst (λ (l : List ℕ). IsMade l) (sym (only_log c left)) (made_now told), ap (λ (l : List ℕ). batches 31 l) (only_log c left) ∙ log_now told),
+          inl (subst (λ (l : List ℕ). IsMade l) (sym (only_log c left)) (made_now told), ap (λ (l : List ℕ). batches (first_gate l) l) (only_log c left) ∙ ap (λ (n : ℕ). batches n (d.seen new Log)) (gate_now told) ∙ log_now told),
           subst (λ (l : List (List ℕ)). Survives before (asked ++ records ∷ []) (l ++ records ∷ []) (before ++ (asked ++ records ∷ []))) (sym (living.all works)) (survives_all before (asked ++ records ∷ [])),
         );
         made = λ works_now told. made_now told;

@@ -1,14 +1,15 @@
 -- What files stand for.
-use Rattle.std.proofs.Common.{lit<, ◌≡◌, inl, inr, ℕ, zero, suc, ◌<◌, List, [], ◌∷◌, ◌++◌, length, take, drop, get_or, Some, refl, sym, ◌∙◌, ap, subst, arith, append_assoc, length-append}
-use Rattle.std.proofs.lemmas.List.{append-nil, get_or-take, drop-take}
+use Rattle.std.proofs.Common.{◌≡◌, inl, inr, ℕ, zero, suc, ◌<◌, List, [], ◌∷◌, ◌++◌, length, take, Some, refl, sym, ◌∙◌, ap, subst, arith, append_assoc, length-append}
+use Rattle.std.proofs.lemmas.List.{append-nil}
 use Rattle.im_types.specs.declared.file_id.FileId.TheVariants.{Log, Pages}
 use Rattle.im_disk.specs.Disk.{Files}
 use Rattle.im_gate.specs.Batches.{batches, batches_from, IsBeforeOrWith}
-use Rattle.im_gate.specs.Header.{IsUnmade, IsMade, IsBlank}
+use Rattle.im_gate.specs.Header.{first_gate, IsUnmade, IsMade, IsBlank}
+use Rattle.im_gate.proofs.Starts.{front_made, front_starts, gate_behind}
 use Rattle.im_drill.specs.Lives.{StandsFor, IsFront, Survives}
 
 pub clash : (file : List ℕ) → IsMade file → IsUnmade file → ⊥
-clash file made (inl short) = let long = made.within in omega arith
+clash file made (inl short) = let long = made.within in omega (arith, short, long, gate_behind file)
 clash file made (inr not_made) = not_made made.made
 
 -- files stand for one list of batches
@@ -19,15 +20,8 @@ stands_once c some other (inr a) (inl b) = absurd (clash (c Log) b.0 a.0)
 stands_once c some other (inr a) (inr b) = a.2 ∙ sym b.2
 
 pub stands_same : (c e : Files) → c Log ≡ e Log → c Pages ≡ e Pages → (found : List (List ℕ)) → StandsFor e found → StandsFor c found
-stands_same c e log pages found (inl a) = inl (subst (λ (l : List ℕ). IsMade l) (sym log) a.0, ap (λ (l : List ℕ). batches 31 l) log ∙ a.1)
+stands_same c e log pages found (inl a) = inl (subst (λ (l : List ℕ). IsMade l) (sym log) a.0, ap (λ (l : List ℕ). batches (first_gate l) l) log ∙ a.1)
 stands_same c e log pages found (inr a) = inr (subst (λ (l : List ℕ). IsUnmade l) (sym log) a.0, ap (λ (l : List ℕ). length l) pages ∙ a.1, a.2)
-
-pub made_same : (file other : List ℕ) → take 31 other ≡ take 31 file → 31 < length other → IsMade file → IsMade other
-made_same file other same long made = record {
-  within = long;
-  made = sym (get_or-take 31 other 0 0 (lit< tt)) ∙ ap (λ (l : List ℕ). get_or l 0 0) same ∙ get_or-take 31 file 0 0 (lit< tt) ∙ made.made;
-  named = sym (drop-take 1 30 other) ∙ ap (λ (l : List ℕ). drop 1 l) same ∙ drop-take 1 30 file ∙ made.named;
-}
 
 -- a file with batches reaches past its first gate
 pub long : (place : ℕ) (file : List ℕ) (found : List (List ℕ)) → batches_from place file ≡ Some found → place < length file
@@ -71,14 +65,18 @@ survives_with before asked last = record {
   one_more = omega (arith, length-append asked (last ∷ []));
 }
 
+-- a file that keeps what stands in front of its first gate, and has batches behind it
+pub stands_front : (c : Files) (file : List ℕ) (found : List (List ℕ)) → IsMade file → take (first_gate file) (c Log) ≡ take (first_gate file) file → batches (first_gate file) (c Log) ≡ Some found → StandsFor c found
+stands_front c file found made same e = inl (front_made file (c Log) same (long (first_gate file) (c Log) found e) made, ap (λ (n : ℕ). batches n (c Log)) (front_starts file (c Log) same).gate ∙ e)
+
 -- a stop while a batch is put
-pub stopped_put : (c : Files) (file : List ℕ) (before asked : List (List ℕ)) (records : List ℕ) → IsMade file → take 31 (c Log) ≡ take 31 file → IsBeforeOrWith 31 records (Some (before ++ asked)) (c Log)
+pub stopped_put : (c : Files) (file : List ℕ) (before asked : List (List ℕ)) (records : List ℕ) → IsMade file → take (first_gate file) (c Log) ≡ take (first_gate file) file → IsBeforeOrWith (first_gate file) records (Some (before ++ asked)) (c Log)
     → (after : List (List ℕ)) × StandsFor c after × Survives before (asked ++ records ∷ []) asked after
 stopped_put c file before asked records made same (inl e) =
-    (before ++ asked, inl (made_same file (c Log) same (long 31 (c Log) (before ++ asked) e) made, e), survives_without before asked records)
+    (before ++ asked, stands_front c file (before ++ asked) made same e, survives_without before asked records)
 stopped_put c file before asked records made same (inr e) = (
   before ++ (asked ++ records ∷ []),
-  inl (made_same file (c Log) same (long 31 (c Log) ((before ++ asked) ++ records ∷ []) e) made, e ∙ ap Some (append_assoc before asked (records ∷ []))),
+  stands_front c file (before ++ (asked ++ records ∷ [])) made same (e ∙ ap Some (append_assoc before asked (records ∷ []))),
   survives_with before asked records,
 )
 

@@ -3,7 +3,7 @@ use Rattle.std.specs.Prelude.{◌≡◌, ◌⊎◌, ℕ, suc, ◌≤◌, List, [
 use Rattle.im_types.specs.declared.file_id.FileId.TheVariants.{Log, Pages}
 use Rattle.im_disk.specs.Disk.{Files}
 use Rattle.im_gate.specs.Batches.{batches}
-use Rattle.im_gate.specs.Header.{IsUnmade, IsMade}
+use Rattle.im_gate.specs.Header.{first_gate, IsUnmade, IsMade}
 use Rattle.im_drill.specs.declared.raw_line.RawLine.{RawLine}
 use Rattle.im_drill.specs.declared.raw_line.RawLine.TheVariants as lines
 use Rattle.im_drill.specs.declared.raw_life.RawLife.{RawLife}
@@ -13,7 +13,7 @@ use Rattle.im_drill.specs.declared.life_answers.LifeAnswers.{LifeAnswers}
 
 -- The files stand for these batches: those of a made log, or none where no log was made yet.
 abbrev pub StandsFor : Files → List (List ℕ) → Type 0
-StandsFor c found = (IsMade (c Log) × (batches 31 (c Log) ≡ Some found)) ⊎ (IsUnmade (c Log) × (length (c Pages) ≡ 0) × (found ≡ []))
+StandsFor c found = (IsMade (c Log) × (batches (first_gate (c Log)) (c Log) ≡ Some found)) ⊎ (IsUnmade (c Log) × (length (c Pages) ≡ 0) × (found ≡ []))
 
 -- These come first in a list.
 pub record IsFront (front whole : List (List ℕ)) : Type 0 where

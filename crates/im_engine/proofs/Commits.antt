@@ -59,12 +59,12 @@ module _ {D : Type 0} (d : Ghosts D) {b : Base} (before : List Effect) (s : Show
   asked_is acked = asks_one s t.number acked a.effect a.shown has_effect
 
   -- a stop before the record is in the log leaves what was there before the Commit
-  pub unlogged_stops : (new : D) → LeavesCovered d b 0 r.now.durable r.now.log old.disk new → LeavesOnly d old.disk new (Allowed before (asks t.number false s))
+  pub unlogged_stops : (new : D) → LeavesCovered d b r.base r.now.durable r.now.log old.disk new → LeavesOnly d old.disk new (Allowed before (asks t.number false s))
   unlogged_stops new run =
       weakened d old.disk new (Allowed before s) (Allowed before (asks t.number false s)) (covered_stops d before s old r new run)
       (λ told c is. (is.0, subst (λ (l : List Asked). Survives before l is.0) (sym (asked_is false)) (loses_more before s.asked (asked_with t.number false a.effect) refl is.0 is.1), is.2))
 
-  module _ (lsn : ℕ) (w : PageWriter) (mid : D) (logged : LoggedOnly d b 0 r.now (entries.Commit t.number t.last) lsn w mid) where
+  module _ (lsn : ℕ) (w : PageWriter) (mid : D) (logged : LoggedOnly d b r.base r.now (entries.Commit t.number t.last) lsn w mid) where
     -- the log with its Commit
     abbrev pub with_commit : History
     with_commit = logged_at lsn (entries.Commit t.number t.last) ∷ r.now.log
@@ -93,21 +93,22 @@ module _ {D : Type 0} (d : Ghosts D) {b : Base} (before : List Effect) (s : Show
     }
 
     -- a stop within the force leaves the Commit, or it does not
-    with_or_without : (c : Files) → IsCovered b 0 logged.durable with_commit c → Allowed before (asks t.number false s) c
+    with_or_without : (c : Files) → IsCovered b r.base logged.durable with_commit c → Allowed before (asks t.number false s) c
     with_or_without c is =
-        covered_allowed b r.earlier before (asks t.number false s) logged.durable with_commit r.start r.made law.log
+        covered_allowed b r.base r.earlier before (asks t.number false s) logged.durable with_commit r.start r.made law.log
         (commits_stay b r.earlier before (asks t.number false s).asked r.now.durable with_commit logged.durable with_commit law.log waits refl (record { from = logged.grows; upto = logged.stands.writing.stands.kept.front })) c is
 
     -- a stop within both calls
-    pub commit_stops : (new : D) → LeavesCovered d b 0 r.now.durable r.now.log old.disk mid → LeavesCovered d b 0 logged.durable with_commit mid new → LeavesOnly d old.disk new (Allowed before (asks t.number false s))
+    pub commit_stops : (new : D) → LeavesCovered d b r.base r.now.durable r.now.log old.disk mid → LeavesCovered d b r.base logged.durable with_commit mid new → LeavesOnly d old.disk new (Allowed before (asks t.number false s))
     commit_stops new first second =
-        then_on d old.disk mid new (Allowed before (asks t.number false s)) (IsCovered b 0 logged.durable with_commit) (unlogged_stops mid first) second (λ told c is. with_or_without c is)
+        then_on d old.disk mid new (Allowed before (asks t.number false s)) (IsCovered b r.base logged.durable with_commit) (unlogged_stops mid first) second (λ told c is. with_or_without c is)
 
     -- after them
-    pub commit_made : (new : Engine D d) → StandsAs d b 0 (forced (record (appended (logged_at lsn (entries.Commit t.number t.last)) r.now) { durable = logged.durable })) new.writer new.disk
+    pub commit_made : (new : Engine D d) → StandsAs d b r.base (forced (record (appended (logged_at lsn (entries.Commit t.number t.last)) r.now) { durable = logged.durable })) new.writer new.disk
         → new.next ≡ old.next → new.going ≡ None → Edited d b before (with_running t.number idle (asks t.number true s)) (CommitJoined t.number r.now.log) new
     commit_made new stands next going = record {
       running = record {
+        base = r.base;
         start = r.start;
         earlier = r.earlier;
         made = r.made;
@@ -149,11 +150,12 @@ module _ {D : Type 0} (d : Ghosts D) {b : Base} (before : List Effect) (s : Show
       let was = unlogged_effects_are_empty b t.number t.undo_next a.effect r.now.log r.serial (subst (λ (n : ℕ). IsGoingIn t.number n t.undo_next a.effect r.now.log) zero_is a.going) in
       record {
         running = record {
+          base = r.base;
           start = r.start;
           earlier = r.earlier;
           made = r.made;
           now = r.now;
-          stands = subst (λ (w : PageWriter). StandsAs d b 0 r.now w new.disk) (sym writer) (subst (λ (x : D). StandsAs d b 0 r.now old.writer x) (sym disk) r.stands);
+          stands = subst (λ (w : PageWriter). StandsAs d b r.base r.now w new.disk) (sym writer) (subst (λ (x : D). StandsAs d b r.base r.now old.writer x) (sym disk) r.stands);
           redo_end = r.redo_end;
           over = r.over;
           serial = r.serial;

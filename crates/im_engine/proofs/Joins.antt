@@ -119,6 +119,7 @@ module _ {D : Type 0} (d : Ghosts D) {b : Base} (before : List Effect) (s : Show
       -- records of a structure change joined, and the step was refused as failed: of an insert
       pub split_failed : (w : PageWriter) (disk : D) → StandsBehind d b (ChangeJoined m l.looked.running.now.log) w disk → StandsBehind d b (ChangeJoined n r.now.log) w disk
       split_failed w disk begun = record {
+        base = begun.base;
         now = begun.now;
         stands = begun.stands;
         joins = subst (λ (t : ℕ). ChangeJoined t r.now.log begun.now.log) same (change_behind_images b m r.now.log l.looked.running.now.log begun.now.log l.looked.grows begun.joins);
@@ -128,6 +129,7 @@ module _ {D : Type 0} (d : Ghosts D) {b : Base} (before : List Effect) (s : Show
       pub drop_failed : (taken : Engine D d) (e : Edited d b before then (TakeJoined b m key ⊥ l.looked.running.now.log) taken) → WantsDrop (bodies b r.now.log) key
           → (w : PageWriter) (disk : D) → StandsBehind d b (ChangeJoined m e.running.now.log) w disk → StandsBehind d b (DropJoined b n key (WantsDrop (settled b r.now.log) key) r.now.log) w disk
       drop_failed taken e want w disk begun = record {
+        base = begun.base;
         now = begun.now;
         stands = begun.stands;
         joins = subst (λ (t : ℕ). DropJoined b t key (WantsDrop (settled b r.now.log) key) r.now.log begun.now.log) same (record {
@@ -144,6 +146,7 @@ module _ {D : Type 0} (d : Ghosts D) {b : Base} (before : List Effect) (s : Show
           inr (
             was,
             record {
+              base = joined.running.base;
               now = joined.running.now;
               stands = joined.running.stands;
               joins = record {
@@ -169,6 +172,7 @@ module _ {D : Type 0} (d : Ghosts D) {b : Base} (before : List Effect) (s : Show
             let log = stays.rests.running.now.log in
             let pages = settled_now d before then new stays.rests.running ∙ (images_change_nothing b e.running.now.log log stays.rests.grows e.running.serial).bodies in
             record {
+              base = stays.rests.running.base;
               now = stays.rests.running.now;
               stands = stays.rests.running.stands;
               joins = subst (λ (t : ℕ). DropEnded b t key r.now.log log) same (record {
@@ -180,6 +184,7 @@ module _ {D : Type 0} (d : Ghosts D) {b : Base} (before : List Effect) (s : Show
         -- or it is gone
         left_ends : LeafLeft d before then taken e.running m new → StandsBehind d b (DropEnded b n key r.now.log) new.writer new.disk
         left_ends left = record {
+          base = left.running.base;
           now = left.running.now;
           stands = left.running.stands;
           joins = subst (λ (t : ℕ). DropEnded b t key r.now.log left.running.now.log) same (record {

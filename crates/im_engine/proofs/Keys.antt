@@ -169,7 +169,7 @@ module _ {D : Type 0} (d : Ghosts D) {b : Base} (before : List Effect) (s : Show
 
   -- a key is put
   pub put_kept : find key_order key (walk (bodies b r.now.log)) ≡ None → HasRoom (bodies b r.now.log p).entries key → (result : Result ℕ Fault)
-      → ChangeKept d b 0 r.now (entries.InsertKey t.number t.last p key rid) old.disk new.writer new.disk result → GoesAt result → IfErr result (λ e. new.going ≡ old.going) → IfErr result IsOfWriter
+      → ChangeKept d b r.base r.now (entries.InsertKey t.number t.last p key rid) old.disk new.writer new.disk result → GoesAt result → IfErr result (λ e. new.going ≡ old.going) → IfErr result IsOfWriter
       → EditKept d before s old r (adds t.number (Put key rid) s) (PutJoined t.number key rid ⊥ r.now.log) new result
   put_kept absent room (Ok lsn) kept now same of =
       let a = active_is d before s old r t going in
@@ -191,7 +191,7 @@ module _ {D : Type 0} (d : Ghosts D) {b : Base} (before : List Effect) (s : Show
 
   -- one is dropped
   pub take_kept : find key_order key (walk (bodies b r.now.log)) ≡ Some rid → (result : Result ℕ Fault)
-      → ChangeKept d b 0 r.now (entries.DeleteKey t.number t.last p key rid) old.disk new.writer new.disk result → GoesAt result → IfErr result (λ e. new.going ≡ old.going) → IfErr result IsOfWriter
+      → ChangeKept d b r.base r.now (entries.DeleteKey t.number t.last p key rid) old.disk new.writer new.disk result → GoesAt result → IfErr result (λ e. new.going ≡ old.going) → IfErr result IsOfWriter
       → EditKept d before s old r (adds t.number (Drop key 0) s) (TakeJoined b t.number key ⊥ r.now.log) new result
   take_kept there (Ok lsn) kept now same of =
       let a = active_is d before s old r t going in

@@ -73,7 +73,7 @@ module _ {D : Type 0} (d : Ghosts D) {b : Base} (before : List Effect) (s : Show
     bodies_are = fun_ext (λ (p : ℕ). ap (λ (g : Page). g.body) (page_is p))
 
     -- the pages are a good tree
-    pub has_tree : HasTree d b 0 r.now [] e.writer e.disk
+    pub has_tree : HasTree d b r.base r.now [] e.writer e.disk
     has_tree = record {
       stands = r.stands;
       ready = none_waits;
@@ -81,32 +81,33 @@ module _ {D : Type 0} (d : Ghosts D) {b : Base} (before : List Effect) (s : Show
     }
 
     -- what a stop leaves of a longer log that committed no more
-    pub left_on : (high : History) → IsSerialLog b high → committed high ≡ committed r.now.log → (c : Files) → IsCovered b 0 r.now.durable high c → Allowed before s c
+    pub left_on : (high : History) → IsSerialLog b high → committed high ≡ committed r.now.log → (c : Files) → IsCovered b r.base r.now.durable high c → Allowed before s c
     left_on high log same c is =
-        covered_allowed b r.earlier before s r.now.durable high r.start r.made log (commits_in r.earlier before s r.now.durable r.now.log high same r.commits) c is
+        covered_allowed b r.base r.earlier before s r.now.durable high r.start r.made log (commits_in r.earlier before s r.now.durable r.now.log high same r.commits) c is
 
     -- a stop now
     pub stops_now : (c : Files) → d.may_leave e.disk c → Allowed before s c
-    stops_now c left = left_on r.now.log r.serial refl c (stop_now d b 0 r.now e.writer.log e.writer.table e.disk r.stands.writing.stands c left)
+    stops_now c left = left_on r.now.log r.serial refl c (stop_now d b r.base r.now e.writer.log e.writer.table e.disk r.stands.writing.stands c left)
 
     -- a stop within calls that add Images
-    pub grown_stops : (new : D) → LeavesGrown d b 0 r.now e.disk new → LeavesOnly d e.disk new (Allowed before s)
+    pub grown_stops : (new : D) → LeavesGrown d b r.base r.now e.disk new → LeavesOnly d e.disk new (Allowed before s)
     grown_stops new run =
         let same = images_change_nothing b r.now.log run.high run.grows r.serial in
-        weakened d e.disk new (IsCovered b 0 r.now.durable run.high) (Allowed before s) run.stops (λ told c is. left_on run.high same.log same.committed c is)
+        weakened d e.disk new (IsCovered b r.base r.now.durable run.high) (Allowed before s) run.stops (λ told c is. left_on run.high same.log same.committed c is)
 
     -- and within a call that adds none
-    pub covered_stops : (new : D) → LeavesCovered d b 0 r.now.durable r.now.log e.disk new → LeavesOnly d e.disk new (Allowed before s)
-    covered_stops new run = weakened d e.disk new (IsCovered b 0 r.now.durable r.now.log) (Allowed before s) run (λ told c is. left_on r.now.log r.serial refl c is)
+    pub covered_stops : (new : D) → LeavesCovered d b r.base r.now.durable r.now.log e.disk new → LeavesOnly d e.disk new (Allowed before s)
+    covered_stops new run = weakened d e.disk new (IsCovered b r.base r.now.durable r.now.log) (Allowed before s) run (λ told c is. left_on r.now.log r.serial refl c is)
 
     -- another engine over the same writer, disk and transactions
     abbrev pub same_runs : (new : Engine D d) → new.writer ≡ e.writer → new.disk ≡ e.disk → new.next ≡ e.next → new.going ≡ e.going → IsRunning d b before s new
     same_runs new writer disk next going = record {
+      base = r.base;
       start = r.start;
       earlier = r.earlier;
       made = r.made;
       now = r.now;
-      stands = subst (λ (w : PageWriter). StandsAs d b 0 r.now w new.disk) (sym writer) (subst (λ (x : D). StandsAs d b 0 r.now e.writer x) (sym disk) r.stands);
+      stands = subst (λ (w : PageWriter). StandsAs d b r.base r.now w new.disk) (sym writer) (subst (λ (x : D). StandsAs d b r.base r.now e.writer x) (sym disk) r.stands);
       redo_end = r.redo_end;
       over = r.over;
       serial = r.serial;
@@ -118,10 +119,11 @@ module _ {D : Type 0} (d : Ghosts D) {b : Base} (before : List Effect) (s : Show
 
     module _ (new : Engine D d) (going : new.going ≡ e.going) (next : new.next ≡ e.next) where
       -- the writer's pages are as they were, and its log has Images more
-      unfoldable pub runs_on : (t : Writer) → StandsAs d b 0 t new.writer new.disk → Keeps b r.now t → IsRunning d b before s new
+      unfoldable pub runs_on : (t : Writer) → StandsAs d b r.base t new.writer new.disk → Keeps b r.now t → IsRunning d b before s new
       runs_on t stands keeps =
           let same = images_change_nothing b r.now.log t.log keeps.log r.serial in
           record {
+            base = r.base;
             start = r.start;
             earlier = r.earlier;
             made = r.made;
@@ -137,16 +139,16 @@ module _ {D : Type 0} (d : Ghosts D) {b : Base} (before : List Effect) (s : Show
                 (subst (λ (g : Option Transaction). IsTransaction s g e.next t.log) (sym going) (transaction_on s e.going e.next r.now.log t.log same r.transaction));
           }
 
-      pub runs_evicted : Evicted d b 0 r.now e.disk new.writer new.disk → Rests d before s e r new
+      pub runs_evicted : Evicted d b r.base r.now e.disk new.writer new.disk → Rests d before s e r new
       unfolding runs_on
       runs_evicted is = record { running = runs_on is.now (record { working = is.on.working; writing = is.on.goes.writing }) is.on.goes.keeps; grows = is.on.goes.keeps.log }
 
       -- calls in a row
-      unfoldable pub runs_goes : (t : Writer) → GoesOn d b 0 r.now e.disk t new.writer new.disk → IsRunning d b before s new
+      unfoldable pub runs_goes : (t : Writer) → GoesOn d b r.base r.now e.disk t new.writer new.disk → IsRunning d b before s new
       runs_goes t on = runs_on t (record { working = on.working; writing = on.goes.writing }) on.goes.keeps
 
       -- a page was got
-      pub looked : (p : ℕ) → Got d b 0 r.now p e.disk new.writer new.disk → Looked d before s e r p new
+      pub looked : (p : ℕ) → Got d b r.base r.now p e.disk new.writer new.disk → Looked d before s e r p new
       unfolding runs_on
       looked p got =
           let same = images_change_nothing b r.now.log got.now.log got.on.goes.keeps.log r.serial in
@@ -158,7 +160,7 @@ module _ {D : Type 0} (d : Ghosts D) {b : Base} (before : List Effect) (s : Show
           }
 
       -- a key's leaf was found
-      pub leaf_looked : (key : Key) (p : ℕ) → Reached d b 0 r.now key 0 p e.disk new.writer new.disk → LeafLooked d before s e r key p new
+      pub leaf_looked : (key : Key) (p : ℕ) → Reached d b r.base r.now key 0 p e.disk new.writer new.disk → LeafLooked d before s e r key p new
       leaf_looked key p found = record {
         looked = looked p (record { now = found.now; on = found.on; page = found.page });
         way = subst (λ (pages : Pages). IsOnWay pages 0 key p) bodies_are found.way;

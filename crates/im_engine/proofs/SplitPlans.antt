@@ -23,7 +23,7 @@ use Rattle.im_engine.proofs.Structure.{are_images, room_not, some_images}
 module _ {D : Type 0} (d : Ghosts D) {b : Base} (before : List Effect) (s : Shown) (old : Engine D d) (r : IsRunning d b before s old) where
   module _ (new : Engine D d) (going : new.going ≡ old.going) (next : new.next ≡ old.next) where
     -- the plan of a split
-    pub plan_kept : (key : Key) (result : Result (List Numbered) Fault) → splits.PlanKept d b 0 r.now key (Some old.max_pages) old.disk new.writer new.disk result → PlanKept d before s old r key new result
+    pub plan_kept : (key : Key) (result : Result (List Numbered) Fault) → splits.PlanKept d b r.base r.now key (Some old.max_pages) old.disk new.writer new.disk result → PlanKept d before s old r key new result
     unfolding are_images runs_goes runs_on
     plan_kept key (Ok images) kept =
         let p = kept.ok in

@@ -93,7 +93,7 @@ module _ {D : Type 0} (d : Ghosts D) {b : Base} (before : List Effect) (s then :
           → answer ≡ Failed → StandsBehind d b (ChangeJoined n r.now.log) new.writer new.disk
       put_begun e answer of others put is =
           let rests = put.again (inl (late_memory e answer of others is)) in
-          record { now = rests.running.now; stands = rests.running.stands; joins = change_before_images b n r.now.log kept.ok.leaf.running.now.log rests.running.now.log kept.ok.joins rests.grows }
+          record { base = rests.running.base; now = rests.running.now; stands = rests.running.stands; joins = change_before_images b n r.now.log kept.ok.leaf.running.now.log rests.running.now.log kept.ok.joins rests.grows }
 
   -- and where the split was refused so
   pub split_begun : (new : Engine D d) (e : Fault) → SplitKept d before s old r n key new (Err e) → (result : Result Unit Fault) → IsErrAnd result (λ x. x ≡ e) → BegunKept d before s old r n new result

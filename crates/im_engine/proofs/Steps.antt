@@ -54,11 +54,12 @@ module _ {D : Type 0} (d : Ghosts D) {b : Base} (before : List Effect) (s : Show
       let was = subst (λ (g : Option Transaction). IsTransaction s g old.next r.now.log) none r.transaction in
       record {
         running = record {
+          base = r.base;
           start = r.start;
           earlier = r.earlier;
           made = r.made;
           now = r.now;
-          stands = subst (λ (w : PageWriter). StandsAs d b 0 r.now w new.disk) (sym writer) (subst (λ (x : D). StandsAs d b 0 r.now old.writer x) (sym disk) r.stands);
+          stands = subst (λ (w : PageWriter). StandsAs d b r.base r.now w new.disk) (sym writer) (subst (λ (x : D). StandsAs d b r.base r.now old.writer x) (sym disk) r.stands);
           redo_end = r.redo_end;
           over = r.over;
           serial = r.serial;
@@ -78,7 +79,7 @@ module _ {D : Type 0} (d : Ghosts D) {b : Base} (before : List Effect) (s : Show
 
   -- a key record joined the log
   pub key_step : (t : Transaction) (c : Change) (entry : Entry) (lsn : ℕ) (joined : History → Type 0) (old new : Engine D d) (r : IsRunning d b before s old) (a : IsActive s t old.next r.now.log)
-      → (made : ChangedFrom d b 0 r.now entry lsn old.disk new.writer new.disk) → joined (logged_at lsn entry ∷ made.before.log) → new.next ≡ old.next → new.going ≡ Some (record { number = t.number; last = lsn; undo_next = lsn }) → transaction_of entry ≡ t.number
+      → (made : ChangedFrom d b r.base r.now entry lsn old.disk new.writer new.disk) → joined (logged_at lsn entry ∷ made.before.log) → new.next ≡ old.next → new.going ≡ Some (record { number = t.number; last = lsn; undo_next = lsn }) → transaction_of entry ≡ t.number
       → ((log : History) → IsSerialLog b log → open_smo log ≡ [] → IsGoingIn t.number t.last t.undo_next a.effect log → end_of b log < lsn → bodies b log ≡ bodies b r.now.log
       → GoesOn b t.number (c ∷ a.effect) (logged_at lsn entry) log)
       → Edited d b before (adds t.number c s) joined new
@@ -89,6 +90,7 @@ module _ {D : Type 0} (d : Ghosts D) {b : Base} (before : List Effect) (s : Show
       let full = logged_at lsn entry ∷ was.log in
       record {
         running = record {
+          base = r.base;
           start = r.start;
           earlier = r.earlier;
           made = r.made;

@@ -93,7 +93,7 @@ some_images images some (inr p) = p
 module _ {D : Type 0} (d : Ghosts D) {b : Base} (before : List Effect) (s : Shown) (old : Engine D d) (r : IsRunning d b before s old) where
   module _ (new : Engine D d) (going : new.going ≡ old.going) (next : new.next ≡ old.next) where
     -- images over pages that are as they were
-    unfoldable pub are_images : (t : Writer) (on : GoesOn d b 0 r.now old.disk t new.writer new.disk) (images : List Numbered) → IsGoodTree (alloc.seen r.now images) []
+    unfoldable pub are_images : (t : Writer) (on : GoesOn d b r.base r.now old.disk t new.writer new.disk) (images : List Numbered) → IsGoodTree (alloc.seen r.now images) []
         → walk (alloc.seen r.now images) ≡ walk (alloc.bodies r.now) → AreImages d before s old r images new
     unfolding runs_goes runs_on
     are_images t on images good same =
@@ -108,7 +108,7 @@ module _ {D : Type 0} (d : Ghosts D) {b : Base} (before : List Effect) (s : Show
         }
 
     -- the plan of a deletion
-    pub delete_plan_kept : (p : ℕ) (result : Result (List Numbered) Fault) → deletes.DeleteKept d b 0 r.now p old.disk new.writer new.disk result → DeletePlanKept d before s old r new result
+    pub delete_plan_kept : (p : ℕ) (result : Result (List Numbered) Fault) → deletes.DeleteKept d b r.base r.now p old.disk new.writer new.disk result → DeletePlanKept d before s old r new result
     delete_plan_kept p (Ok images) kept = record {
       ok = record { are = are_images kept.ok.now kept.ok.on images kept.ok.good kept.ok.same; some = kept.ok.some };
       again = tt;
@@ -126,7 +126,7 @@ module _ {D : Type 0} (d : Ghosts D) {b : Base} (before : List Effect) (s : Show
 
   -- what it asks
   pub may_change : (t : Transaction) → old.going ≡ Some t → (images : List Numbered) → 1 ≤ length images → IsGoodTree (alloc.seen r.now images) [] → walk (alloc.seen r.now images) ≡ walk (bodies b r.now.log)
-      → changes.MayChange d b 0 r.now r.redo_end images t.number t.last t.undo_next old.writer old.disk
+      → changes.MayChange d b r.base r.now r.redo_end images t.number t.last t.undo_next old.writer old.disk
   may_change t going images some good same =
       let a = active_is d before s old r t going in
       record {
@@ -143,25 +143,26 @@ module _ {D : Type 0} (d : Ghosts D) {b : Base} (before : List Effect) (s : Show
       }
 
   -- a stop within it
-  pub change_stops : (t : Transaction) (disk : D) → changes.LeavesChange d b 0 r.now t.number old.disk disk → LeavesOnly d old.disk disk (Allowed before s)
+  pub change_stops : (t : Transaction) (disk : D) → changes.LeavesChange d b r.base r.now t.number old.disk disk → LeavesOnly d old.disk disk (Allowed before s)
   change_stops t disk run =
-      weakened d old.disk disk (changes.LeftByChange d b 0 r.now t.number) (Allowed before s) run
+      weakened d old.disk disk (changes.LeftByChange d b r.base r.now t.number) (Allowed before s) run
       (λ told c left.
       let keeps = changes_go_on b t.number r.now.log left.high left.grows r.serial left.lawful in
       left_on d before s old r left.high keeps.log keeps.committed c left.covered)
 
   -- a record of it joined the log
-  pub change_begun : (t : ℕ) → 1 ≤ t → (w : PageWriter) (disk : D) → changes.Begun d b 0 r.now t w disk → StandsBehind d b (ChangeJoined t r.now.log) w disk
-  change_begun t some w disk begun = record { now = begun.now; stands = begun.stands; joins = record { change = begun.grows; some = some_marks t some begun.grows.more begun.grows.all begun.some } }
+  pub change_begun : (t : ℕ) → 1 ≤ t → (w : PageWriter) (disk : D) → changes.Begun d b r.base r.now t w disk → StandsBehind d b (ChangeJoined t r.now.log) w disk
+  change_begun t some w disk begun = record { base = r.base; now = begun.now; stands = begun.stands; joins = record { change = begun.grows; some = some_marks t some begun.grows.more begun.grows.all begun.some } }
 
   module _ (new : Engine D d) (next : new.next ≡ old.next) (t : Transaction) (going : old.going ≡ Some t) where
     -- behind it
-    pub restructured : (images : List Numbered) (lsn : ℕ) → changes.Changed d b 0 r.now r.redo_end images t.number t.undo_next lsn old.disk new.writer new.disk
+    pub restructured : (images : List Numbered) (lsn : ℕ) → changes.Changed d b r.base r.now r.redo_end images t.number t.undo_next lsn old.disk new.writer new.disk
         → new.going ≡ Some (record { number = t.number; last = lsn; undo_next = t.undo_next }) → Restructured d before s old r t.number images new
     restructured images lsn made now =
         let a = active_is d before s old r t going in
         let keeps = changes_go_on b t.number r.now.log made.now.log made.grows r.serial made.lawful in
         let running : IsRunning d b before s new = record {
+          base = r.base;
           start = r.start;
           earlier = r.earlier;
           made = r.made;

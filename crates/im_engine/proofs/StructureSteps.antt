@@ -34,7 +34,7 @@ use Rattle.im_engine.proofs.Structure.{split_leaf, split_fits, split_refused, no
 
 -- Images in front of a structure change that was begun
 begun_behind : {D : Type 0} (d : Ghosts D) (b : Base) (t : ℕ) (older mid : History) → GrowsByImages b older mid → (w : PageWriter) (disk : D) → StandsBehind d b (ChangeJoined t mid) w disk → StandsBehind d b (ChangeJoined t older) w disk
-begun_behind d b t older mid images w disk begun = record { now = begun.now; stands = begun.stands; joins = change_behind_images b t older mid begun.now.log images begun.joins }
+begun_behind d b t older mid images w disk begun = record { base = begun.base; now = begun.now; stands = begun.stands; joins = change_behind_images b t older mid begun.now.log images begun.joins }
 
 module _ {D : Type 0} (d : Ghosts D) {b : Base} (before : List Effect) (s : Shown) (old : Engine D d) (r : IsRunning d b before s old) where
   -- Images, and more of them
@@ -73,6 +73,7 @@ module _ {D : Type 0} (d : Ghosts D) {b : Base} (before : List Effect) (s : Show
           (λ is.
           let late = room.late is in
           record {
+            base = late.base;
             now = late.now;
             stands = late.stands;
             joins = change_before_images b t r.now.log made.running.now.log late.now.log

@@ -36,12 +36,13 @@ module _ {D : Type 0} (d : Ghosts D) (before : List Effect) (s : Shown) (old new
   run = life.running works
 
   -- the log was forced
-  pub force_kept : writers.StepKept d run.0 0 run.1.now (forced run.1.now) old.disk new.writer new.disk (Ok tt) → StepKept d before s Force Done old life new
+  pub force_kept : writers.StepKept d run.0 run.1.base run.1.now (forced run.1.now) old.disk new.writer new.disk (Ok tt) → StepKept d before s Force Done old life new
   force_kept kept =
       let b = run.0 in
       let r = run.1 in
       let whole : r.earlier ++ seen (committed r.now.log) ≡ before ++ effects (all_acked s.asked) = r.commits.whole ∙ ap (λ (l : List Effect). before ++ l) (sym (effects_acked s.asked)) in
       let running : IsRunning d b before (record s { asked = all_acked s.asked }) new = record {
+        base = r.base;
         start = r.start;
         earlier = r.earlier;
         made = r.made;
@@ -61,13 +62,13 @@ module _ {D : Type 0} (d : Ghosts D) (before : List Effect) (s : Shown) (old new
       (shown_as s (all_acked s.asked) new.going (subst (λ (g : Option Transaction). HasShown s g) (sym going) (life.changed works)))
 
   -- a page was flushed
-  pub flush_kept : (p : ℕ) → writers.FlushOneKept d run.0 0 run.1.now p old.disk new.writer new.disk (Ok tt) → StepKept d before s (FlushPage p) Done old life new
+  pub flush_kept : (p : ℕ) → writers.FlushOneKept d run.0 run.1.base run.1.now p old.disk new.writer new.disk (Ok tt) → StepKept d before s (FlushPage p) Done old life new
   unfolding runs_on
   flush_kept p kept =
       let b = run.0 in
       let r = run.1 in
       let f = kept.ok in
-      let stands : writers.StandsAs d b 0 f.now new.writer new.disk = record { working = f.on.working; writing = f.on.goes.writing } in
+      let stands : writers.StandsAs d b r.base f.now new.writer new.disk = record { working = f.on.working; writing = f.on.goes.writing } in
       let same = images_change_nothing b r.now.log f.now.log f.on.goes.keeps.log r.serial in
       let on = runs_on d before s old r new going next f.now stands f.on.goes.keeps in
       looks d before s (FlushPage p) Done refl (λ e. cc e) old new life works (grown_stops d before s old r new.disk kept.stops) works_on refl

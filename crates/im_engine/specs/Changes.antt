@@ -52,7 +52,8 @@ pub record Edited {D : Type 0} (d : Ghosts D) (b : Base) (before : List Effect) 
 -- Of an engine that may have failed: its writer of pages stands as one whose log such records joined.
 pub record StandsBehind {D : Type 0} (d : Ghosts D) (b : Base) (joined : History → Type 0) (w : PageWriter) (disk : D) : Type 0 where
   pub now : Writer
-  pub stands : StandsAs d b 0 now w disk
+  pub base : ℕ
+  pub stands : StandsAs d b base now w disk
   pub joins : joined now.log
 
 module _ {D : Type 0} (d : Ghosts D) {b : Base} (before : List Effect) (s : Shown) (old : Engine D d) (was : IsRunning d b before s old) where

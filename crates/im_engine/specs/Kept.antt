@@ -2,7 +2,7 @@
 use Rattle.std.specs.Prelude.{◌≡◌, ◌≢◌, ◌++◌, ℕ, List, [], ◌∷◌, Some, None, Result, Ok, Err, IfOk, IfErr, false}
 use Rattle.std.specs.FinMap.{empty, entries}
 use Rattle.im_types.specs.Answers.{Step, Do, Commit, Insert, Delete, Reply, Inserted, Deleted, Committed, Refused, FlushPage, Force, Going, Done}
-use Rattle.im_types.specs.declared.file_id.FileId.TheVariants.{Pages}
+use Rattle.im_types.specs.declared.file_id.FileId.TheVariants.{Log, Pages}
 use Rattle.im_types.specs.declared.step.Step as steps
 use Rattle.im_types.specs.declared.reply.Reply as replies
 use Rattle.im_types.specs.Steps.{asked_by, told_by}
@@ -17,6 +17,7 @@ use Rattle.im_types.specs.Refusals.{not_a_store}
 use Rattle.im_types.specs.Lives.{Shown, idle, effects, nothing_shown, shows}
 use Rattle.im_disk.specs.declared.disk.Disk.{Ghosts}
 use Rattle.im_disk.specs.Runs.{LeavesOnly}
+use Rattle.im_gate.specs.Header.{least_number}
 use Rattle.im_analysis.specs.Numbers.{IsNextNumber}
 use Rattle.im_page.specs.PageFile.{file_page}
 use Rattle.im_engine.specs.declared.engine.Engine.{Engine}
@@ -46,7 +47,7 @@ module _ {D : Type 0} (d : Ghosts D) where
   -- a stop within leaves files that stand for the same, and the files are never found to be no store.
   pub record OpenKept (before : List Effect) (old : D) (stands : StandsFor before (d.seen old)) (result : Result (Engine D d) (Fault × D)) : Type 0 where
     pub ok : IfOk result (λ e. IsLife d before nothing_shown e × (e.failed ≡ false))
-    pub next : IfOk result (λ e. IsNextNumber e.next stands.log)
+    pub next : IfOk result (λ e. IsNextNumber (least_number (d.seen old Log)) e.next stands.log)
     pub stops : LeavesOnly d old (disk_of result) (Allowed before nothing_shown)
     pub cause : IfErr result (λ x. x.0 ≢ NotAStore)
 

@@ -40,11 +40,12 @@ module _ {D : Type 0} (d : Ghosts D) where
   -- The engine works over a log that begins so: its writer of pages stands as one whose redo is over, and no structure change is open; the log's Commits are those of the
   -- effects before the life and of those asked in it, and of each that was acknowledged the Commit is durable.
   pub record IsRunning (b : Base) (before : List Effect) (s : Shown) (e : Engine D d) : Type 0 where
-    pub start : b.start ≡ 0
+    pub base : ℕ
+    pub start : b.start ≤ base
     pub earlier : List Effect
     pub made : apply_all empty earlier ≡ b.map
     pub now : Writer
-    pub stands : StandsAs d b 0 now e.writer e.disk
+    pub stands : StandsAs d b base now e.writer e.disk
     pub redo_end : ℕ
     pub over : now.redo_end ≡ Some redo_end
     pub serial : IsSerialLog b now.log

@@ -1,5 +1,5 @@
 -- What the files of a store stand for.
-use Rattle.std.specs.Prelude.{◌≡◌, List, ◌++◌}
+use Rattle.std.specs.Prelude.{◌≡◌, ◌≤◌, ℕ, List, ◌++◌}
 use Rattle.std.specs.FinMap.{empty}
 use Rattle.im_types.specs.Changes.{Effect, seen, apply_all}
 use Rattle.im_types.specs.Histories.{Base, History}
@@ -10,12 +10,13 @@ use Rattle.im_restart.specs.Restart.{HasStore}
 use Rattle.im_serial.specs.Serial.{IsSerialLog}
 
 -- The files stand for these effects, in the order of their Commits: those that made the map that the log begins with, and then those of the log, which
--- covers the pages. Two files without a log and without pages have the log of no record, and stand for no effect.
+-- starts at some LSN and covers the pages. Two files without a log and without pages have the log of no record, and stand for no effect.
 pub record StandsFor (effects : List Effect) (files : Files) : Type 0 where
   pub b : Base
-  pub start : b.start ≡ 0
+  pub base : ℕ
+  pub start : b.start ≤ base
   pub log : History
-  pub has : HasStore b log files
+  pub has : HasStore b base log files
   pub serial : IsSerialLog b log
   pub earlier : List Effect
   pub made : apply_all empty earlier ≡ b.map

@@ -47,13 +47,13 @@ impl<D: Disk> Engine<D> {
     ghost use Rattle.im_types.specs.Changes.{Effect};
     ghost use Rattle.im_types.specs.Faults.{number_of};
     ghost use Rattle.im_types.specs.Lives.{Shown, breaks, shown_by};
-    ghost use Rattle.im_disk.specs.Runs.{IsSynced, LeavesOnly};
+    ghost use Rattle.im_disk.specs.Runs.{IsSynced, LeavesOnly, Reads};
     ghost use Rattle.im_types.specs.Answers as answers;
     ghost use Rattle.im_types.specs.Steps.{asked_by, told_by};
     ghost use Rattle.im_pool.specs.Pool.{page_at};
     ghost use Rattle.im_types.specs.Structure.{settled};
     ghost use Rattle.im_tree.specs.Levels.{walk};
-    ghost use Rattle.im_restart.specs.Restart.{SpellsLog};
+    ghost use Rattle.im_restart.specs.Restart.{IsFullLog, SpellsLog};
     ghost use Rattle.im_engine.specs.Stands.{StandsFor};
     ghost use Rattle.im_types.specs.Histories as histories;
     ghost use Rattle.im_engine.specs.Running.{IsLife, IsRunning};
@@ -120,7 +120,8 @@ impl<D: Disk> Engine<D> {
     /// taken back. Gives the disk back with a refusal.
     ///
     /// Refused `PoolSize`, with no device call, where the frames are not 8 to 1,024; `NotAStore` where the bytes are no store;
-    /// `Memory`; `LogFull`; `Device`; `Capacity` where what is taken back needs a page and page numbers or levels are used up.
+    /// `LogFull` only where the log's file then ends less than 32,778 bytes below LSN 2^62; `Capacity` where what is taken back needs
+    /// a page and page numbers or levels are used up; `Memory`; `Device`. Where the log's bytes are no log's nothing is written.
     pub fn open_or_create(alloc: Global, disk: D, config: Config) -> Result<Engine<D>, (Fault, D)>
         requires working { D.failed disk ≡ false }
         requires synced { IsSynced D.Disk disk }
@@ -132,6 +133,8 @@ impl<D: Disk> Engine<D> {
         ensures leaves_kept { IfOk result (λ e. e.leaves_kept ≡ 0) }
         ensures spelled { IfOk result (λ _. D.tells → SpellsLog (D.seen disk)) }
         ensures causes { IfErr result (λ x. (x.0 ≡ PoolSize) ⊎ (x.0 ≡ Memory) ⊎ (x.0 ≡ Device) ⊎ (x.0 ≡ NotAStore) ⊎ (x.0 ≡ LogFull) ⊎ (x.0 ≡ Capacity)) }
+        ensures unspelled { D.tells → ¬ (SpellsLog (D.seen disk)) → Reads D.Disk disk (disk_of D.Disk result) × IfErr result (λ x. (x.0 ≡ PoolSize) ⊎ (x.0 ≡ Memory) ⊎ (x.0 ≡ Device) ⊎ (x.0 ≡ NotAStore)) }
+        ensures full { IfErr result (λ x. x.0 ≡ LogFull → D.tells → IsFullLog (D.seen x.1)) }
         ensures device { IsErrAnd result (λ x. x.0 ≡ Device) ↔ (D.failed (disk_of D.Disk result) ≡ true) }
     {
         if config.frames < 8 || config.frames > 1024 {

@@ -6,20 +6,21 @@ use Rattle.std.proofs.lemmas.Bool.Decides.{nat_tests}
 use Rattle.std.proofs.lemmas.List.{append-nil}
 use Rattle.im_types.specs.Keys.{key_order}
 use Rattle.im_types.specs.Pages.{Entry}
-use Rattle.im_types.specs.declared.file_id.FileId.TheVariants.{Pages}
+use Rattle.im_types.specs.declared.file_id.FileId.TheVariants.{Log, Pages}
 use Rattle.im_types.specs.Histories.{Base, History, IsFront}
 use Rattle.im_types.specs.LogLaws.{bodies}
 use Rattle.im_types.proofs.Fronts.{fronts_lawful}
 use Rattle.im_types.proofs.Histories.{at_front}
 use Rattle.im_types.proofs.RedoPoints.{covers_base}
 use Rattle.im_disk.specs.Disk.{Files}
+use Rattle.im_gate.specs.Header.{base_of}
 use Rattle.im_page.specs.Header.{initial}
 use Rattle.im_page.specs.PageFile.{file_page}
 use Rattle.im_page.proofs.PageFileLemmas.{page_past}
 use Rattle.im_restart.specs.Restart.{IsFresh, HasStore}
 use Rattle.im_tree.specs.Good.{times, IsGoodTree}
 use Rattle.im_tree.specs.Theory.{page_tree}
-use Rattle.im_serial.specs.Store.{first_base, first_pages}
+use Rattle.im_serial.specs.Store.{new_from, first_pages}
 use Rattle.im_serial.specs.OneAtATime.{IsSerial}
 use Rattle.im_serial.specs.Serial.{IsSerialLog}
 
@@ -30,15 +31,15 @@ no_entries [] h = refl
 no_entries (e ∷ es) h = absurd (omega (arith, h))
 
 -- a map without a key lists none
-pub none_in_empty : entries (first_base.map) ≡ []
-none_in_empty = no_entries (entries (first_base.map)) (sym (len-entries first_base.map) ∙ len-empty key_order ℕ)
+pub none_in_empty : (start : ℕ) → entries ((new_from start).map) ≡ []
+none_in_empty start = no_entries (entries ((new_from start).map)) (sym (len-entries (new_from start).map) ∙ len-empty key_order ℕ)
 
 two_once : (p : ℕ) → times p (0 ∷ 1 ∷ []) ≡ (if nat_lt p 2 then 1 else 0)
 two_once p = grind (arith, nat_tests)
 
 -- the pages that a new store finds: the meta page, and the root as an empty leaf
-pub first_good : IsGoodTree (bodies first_base []) []
-first_good = record {
+pub first_good : (start : ℕ) → IsGoodTree (bodies (new_from start) []) []
+first_good start = record {
   meta = refl;
   levels = ((refl, refl), tt);
   ordered = (tt, tt, tt);
@@ -47,8 +48,8 @@ first_good = record {
   cover = λ p. two_once p;
 }
 
-lsn_low : (p : ℕ) → (first_base.pages p).lsn ≤ 0
-lsn_low p = elim (cases_eq p 0) [
+lsn_low : (start p : ℕ) → ((new_from start).pages p).lsn ≤ start
+lsn_low start p = elim (cases_eq p 0) [
   | inl zero_is ↦ rw zero_is (omega arith)
   | inr other ↦ elim (cases_eq p 1) [
     | inl one_is ↦ rw one_is (omega arith)
@@ -56,9 +57,9 @@ lsn_low p = elim (cases_eq p 0) [
   ]
 ]
 
-pub empty_log : IsSerialLog first_base []
-empty_log = record {
-  lawful = record { lsns = λ p. lsn_low p; stands = record { good = first_good; walk = sym none_in_empty } };
+pub empty_log : (start : ℕ) → IsSerialLog (new_from start) []
+empty_log start = record {
+  lawful = record { lsns = λ p. lsn_low start p; stands = record { good = first_good start; walk = sym (none_in_empty start) } };
   serial = tt;
 }
 
@@ -72,11 +73,11 @@ first_is p = elim (cases_eq p 0) [
   ]
 ]
 
-pub fresh_store : (files : Files) → IsFresh files → HasStore first_base [] files
+pub fresh_store : (files : Files) → IsFresh files → HasStore (new_from (base_of (files Log))) (base_of (files Log)) [] files
 fresh_store files fresh = record {
-  log = inl (fresh.0, refl);
+  log = inl (fresh.0, refl, refl);
   bare = λ _. fresh.1;
-  covers = covers_base first_base (file_page (files Pages)) (λ p. page_past (files Pages) p (let none = fresh.1 in omega (arith, none)) ∙ ap (λ x. Some x) (first_is p));
+  covers = covers_base (new_from (base_of (files Log))) (file_page (files Pages)) (λ p. page_past (files Pages) p (let none = fresh.1 in omega (arith, none)) ∙ ap (λ x. Some x) (first_is p));
 }
 
 -- ---- fronts

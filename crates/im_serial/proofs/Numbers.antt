@@ -47,8 +47,8 @@ below_of n t (r ∷ older) h has = elim (cases_eq r.txn t) [
 ]
 
 -- the next number that analysis finds, as long as there are any
-pub next_is_above : (n : ℕ) (log : History) → IsNextNumber n log → n < 2 ^ 64 - 1 → AreBelow n log
-next_is_above n log next lt =
+pub next_is_above : (lowest n : ℕ) (log : History) → IsNextNumber lowest n log → n < 2 ^ 64 - 1 → AreBelow n log
+next_is_above lowest n log next lt =
     let is : n ≡ min next.number (2 ^ 64 - 1) = next.is in
     let same : next.number ≡ n = omega (arith, is, lt) in
     below_each n log (λ r is. subst (λ (x : ℕ). r.txn < x) same (next.new.above r is))

@@ -12,7 +12,7 @@ use Rattle.im_serial.proofs.Changes.{keeps_through}
 use Rattle.im_serial.proofs.Restarts.{may_restart, carries_on}
 
 pub empty_log_is_idle : EmptyLogIsIdle
-empty_log_is_idle = (empty_log, λ u. refl)
+empty_log_is_idle start = (empty_log start, λ u. refl)
 
 pub fresh_files_hold_the_empty_log : FreshFilesHoldTheEmptyLog
 fresh_files_hold_the_empty_log = fresh_store

@@ -22,8 +22,8 @@ use Rattle.im_serial.specs.SerialLaws.{IsCarriedOn}
 
 -- ---- where one can begin
 
-pub may_restart : (b : Base) (log : History) (files : Files) → b.start ≡ 0 → IsSerialLog b log → HasStore b log files → MayRestart b log files
-may_restart b log files start l has = record { start = start; has = has; lawful = l.lawful }
+pub may_restart : (b : Base) (base : ℕ) (log : History) (files : Files) → b.start ≤ base → IsSerialLog b log → HasStore b base log files → MayRestart b base log files
+may_restart b base log files start l has = record { start = start; has = has; lawful = l.lawful }
 
 -- ---- one record of a restart
 

@@ -10,7 +10,7 @@ use Rattle.im_types.specs.Structure.{open_smo}
 use Rattle.im_types.specs.Transactions.{committed}
 use Rattle.im_change.specs.Logged.{smo_at, dummy_at}
 use Rattle.im_restart.specs.Undone.{GrowsByUndo}
-use Rattle.im_serial.specs.Store.{first_base, blank}
+use Rattle.im_serial.specs.Store.{new_from, blank}
 use Rattle.im_serial.specs.OneAtATime.{IsIdleIn, commit_record}
 use Rattle.im_serial.specs.Serial.{IsSerialLog, key_record}
 use Rattle.im_serial.specs.SerialLaws.{walk_at}
@@ -66,12 +66,12 @@ undone_log = ended ∷ taken_back ∷ stopped_log
 -- Each is the log of such a store, and the second is the first with records of undo more. The key goes from another page than its record names; in
 -- the end nothing is active, and the two keys that were committed are there.
 pub record IsMovedAndTakenBack : Type 0 where
-  pub stopped : IsSerialLog first_base stopped_log
-  pub before : walk_at first_base stopped_log ≡ (key_a, 7) ∷ (key_b, 8) ∷ (key_c, 9) ∷ []
+  pub stopped : IsSerialLog (new_from 0) stopped_log
+  pub before : walk_at (new_from 0) stopped_log ≡ (key_a, 7) ∷ (key_b, 8) ∷ (key_c, 9) ∷ []
   pub grown : GrowsByUndo stopped_log undone_log
   pub moved : taken_back.page ≢ third.page
-  pub log : IsSerialLog first_base undone_log
+  pub log : IsSerialLog (new_from 0) undone_log
   pub idle : IsIdleIn undone_log
   pub shut : open_smo undone_log ≡ []
-  pub entries : walk_at first_base undone_log ≡ (key_a, 7) ∷ (key_b, 8) ∷ []
+  pub entries : walk_at (new_from 0) undone_log ≡ (key_a, 7) ∷ (key_b, 8) ∷ []
   pub committed : seen (committed undone_log) ≡ (Put key_b 8 ∷ Put key_a 7 ∷ []) ∷ []

@@ -14,7 +14,9 @@ use Rattle.im_types.specs.Structure.{open_smo}
 use Rattle.im_types.specs.Transactions.{last_of, undo_next_of, to_undo, net, is_finished, is_rolling_back, committed}
 use Rattle.im_types.specs.Lawful.{IsLawful}
 use Rattle.im_types.specs.LogLaws.{bodies}
+use Rattle.im_types.specs.declared.file_id.FileId.TheVariants.{Log}
 use Rattle.im_disk.specs.Disk.{Files}
+use Rattle.im_gate.specs.Header.{base_of}
 use Rattle.im_analysis.specs.Losers.{is_loser}
 use Rattle.im_analysis.specs.Numbers.{IsNextNumber}
 use Rattle.im_flush.specs.LeafChange.{CanPutKey, CanTakeKey}
@@ -24,7 +26,7 @@ use Rattle.im_tree.specs.Theory.{page_tree}
 use Rattle.im_change.specs.Changes.{GrowsByChange}
 use Rattle.im_restart.specs.Restart.{IsFresh, HasStore, MayRestart}
 use Rattle.im_restart.specs.Undone.{GrowsByUndo}
-use Rattle.im_serial.specs.Store.{first_base, HasRoom, AreBelow}
+use Rattle.im_serial.specs.Store.{new_from, HasRoom, AreBelow}
 use Rattle.im_serial.specs.Commits.{AreCommitted}
 use Rattle.im_serial.specs.OneAtATime.{IsIdleIn, commit_record}
 use Rattle.im_serial.specs.Serial.{IsSerialLog, IsGoingIn, IsLeafOf, key_record}
@@ -35,13 +37,13 @@ walk_at b log = walk (bodies b log)
 
 -- ---- where a log begins, and fronts
 
--- The log of a new store: nothing is active.
+-- The log of a new store, wherever it starts: nothing is active.
 abbrev pub EmptyLogIsIdle : Type 0
-EmptyLogIsIdle = IsSerialLog first_base [] × IsIdleIn []
+EmptyLogIsIdle = (start : ℕ) → IsSerialLog (new_from start) [] × IsIdleIn []
 
--- Files without a log and without pages hold it.
+-- Files without a log and without pages hold it, from where their bytes say that it will start.
 abbrev pub FreshFilesHoldTheEmptyLog : Type 0
-FreshFilesHoldTheEmptyLog = (files : Files) → IsFresh files → HasStore first_base [] files
+FreshFilesHoldTheEmptyLog = (files : Files) → IsFresh files → HasStore (new_from (base_of (files Log))) (base_of (files Log)) [] files
 
 -- Each front of such a log is one.
 abbrev pub FrontsAreSerialLogs : Type 0
@@ -161,7 +163,7 @@ TreeShowsEffects = (b : Base) (log : History) → IsSerialLog b log → open_smo
 
 -- One can start from each log of such a store.
 abbrev pub RestartsCanBegin : Type 0
-RestartsCanBegin = (b : Base) (log : History) (files : Files) → b.start ≡ 0 → IsSerialLog b log → HasStore b log files → MayRestart b log files
+RestartsCanBegin = (b : Base) (base : ℕ) (log : History) (files : Files) → b.start ≤ base → IsSerialLog b log → HasStore b base log files → MayRestart b base log files
 
 -- what a restart, or one that a stop cut off, makes of such a log
 pub record IsCarriedOn (b : Base) (older longer : History) : Type 0 where
@@ -176,4 +178,4 @@ RestartsCarryOn = (b : Base) (older longer : History) → IsSerialLog b older �
 
 -- The next number that a restart finds is above all of the log, as long as there are any.
 abbrev pub NextNumbersAreAbove : Type 0
-NextNumbersAreAbove = (n : ℕ) (log : History) → IsNextNumber n log → n < 2 ^ 64 - 1 → AreBelow n log
+NextNumbersAreAbove = (lowest n : ℕ) (log : History) → IsNextNumber lowest n log → n < 2 ^ 64 - 1 → AreBelow n log

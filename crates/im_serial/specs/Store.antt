@@ -1,4 +1,4 @@
--- The store over the tree as a new one begins: the pages that it finds, and where its log starts; the room of a leaf, and the numbers of a log's transactions.
+-- The store over the tree as a new one begins: the pages that it finds, and what its log starts from; the room of a leaf, and the numbers of a log's transactions.
 use Rattle.std.specs.Prelude.{◌≤◌, ◌<◌, ◌+◌, ℕ, List, [], ◌∷◌, length, ◌==◌, if◌then◌else◌, true, false}
 use Rattle.std.specs.FinMap.{empty}
 use Rattle.im_types.specs.Keys.{Key}
@@ -17,9 +17,9 @@ first_pages p =
     if p == 0 then record { lsn = 0; body = record blank { kind = Meta; leftmost = 2 } }
     else (if p == 1 then record { lsn = 0; body = record blank { kind = Leaf } } else record { lsn = 0; body = blank })
 
--- where the log of a new store starts
-abbrev pub first_base : Base
-first_base = record { pages = first_pages; map = empty; start = 0 }
+-- where the log of a new store starts: with these pages, no key, and LSNs above this one
+abbrev pub new_from : ℕ → Base
+new_from start = record { pages = first_pages; map = empty; start = start }
 
 -- a leaf with these entries has room for one more
 pub record HasRoom (entries : List Entry) (key : Key) : Type 0 where

@@ -9,7 +9,7 @@ use Rattle.im_types.specs.Histories.{History}
 use Rattle.im_types.specs.Structure.{open_smo}
 use Rattle.im_types.specs.Transactions.{committed}
 use Rattle.im_change.specs.Logged.{smo_at, dummy_at}
-use Rattle.im_serial.specs.Store.{first_base, blank}
+use Rattle.im_serial.specs.Store.{new_from, blank}
 use Rattle.im_serial.specs.OneAtATime.{IsIdleIn, commit_record}
 use Rattle.im_serial.specs.Serial.{IsSerialLog, key_record}
 use Rattle.im_serial.specs.SerialLaws.{walk_at}
@@ -81,12 +81,12 @@ done_log = commit_record 1 480 520 ∷ put_c ∷ split_log
 
 -- Each is the log of such a store; the split leaves the walk as it was, and in the end the three keys are committed.
 pub record IsSplitAndDone : Type 0 where
-  pub full : IsSerialLog first_base full_log
-  pub half : IsSerialLog first_base half_log
-  pub split : IsSerialLog first_base split_log
-  pub same : walk_at first_base split_log ≡ walk_at first_base full_log
-  pub done : IsSerialLog first_base done_log
+  pub full : IsSerialLog (new_from 0) full_log
+  pub half : IsSerialLog (new_from 0) half_log
+  pub split : IsSerialLog (new_from 0) split_log
+  pub same : walk_at (new_from 0) split_log ≡ walk_at (new_from 0) full_log
+  pub done : IsSerialLog (new_from 0) done_log
   pub idle : IsIdleIn done_log
   pub closed : open_smo done_log ≡ []
-  pub entries : walk_at first_base done_log ≡ (key_a, 7) ∷ (key_b, 8) ∷ (key_c, 9) ∷ []
+  pub entries : walk_at (new_from 0) done_log ≡ (key_a, 7) ∷ (key_b, 8) ∷ (key_c, 9) ∷ []
   pub committed : seen (committed done_log) ≡ (Put key_c 9 ∷ Put key_b 8 ∷ Put key_a 7 ∷ []) ∷ []

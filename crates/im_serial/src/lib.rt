@@ -2,7 +2,7 @@
 //!
 //! Nothing here runs. Its contract is what the logs of such a store are (`IsSerialLog`) and what is promised of them: the
 //! functions of `laws` do nothing, and each carries one law of a log and what joins it (a key's record, Images, a structure
-//! change, a Commit, the records of a restart), or of what the tree then holds. `first_base` is where the log of a new store
+//! change, a Commit, the records of a restart), or of what the tree then holds. `new_from` is where the log of a new store
 //! starts, and which pages it finds.
 //!
 //! What a stop leaves of every such store is a lawful log with all that was committed, and a restart can start from it: it

@@ -3,11 +3,14 @@
 use crate::log_damage::LogDamage;
 use im_analysis::{Analysed, Analysis};
 use im_record::{Record, decode_front};
-use im_types::{Fault, PageNo};
+use im_types::{Fault, PageNo, TxnId};
 use std::alloc::Global;
 
 /// The place of the first gate.
 const FIRST_GATE: usize = 31;
+
+/// The least number of a transaction.
+const LEAST_NUMBER: TxnId = 1;
 
 /// What stands behind the first byte: the name of the format, and the size of a page.
 const HEADER: &[u8] = b"ARIESIM1\0\0\x10\0";
@@ -81,7 +84,7 @@ pub(crate) fn next_gate(gate: usize, records: &[u8]) -> usize {
 /// Reads the log to its closed gate.
 pub(crate) fn read_log(alloc: Global, log: &[u8]) -> Result<Survey, LogDamage> {
     let mut counts = Counts::default();
-    let mut analysis = Analysis::new(alloc);
+    let mut analysis = Analysis::new(alloc, LEAST_NUMBER);
     let mut gate = 0;
     if is_made(log) {
         gate = first_gate(log)?;

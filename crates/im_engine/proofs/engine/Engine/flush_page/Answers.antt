@@ -13,7 +13,7 @@ pub returns-in-Ok-clause-kept : goal.returns-in-Ok-clause-kept
 returns-in-Ok-clause-kept g c before s life =
     let b = (life.running c.if-self.false).0 in
     let r = (life.running c.if-self.false).1 in
-    flush_kept g.D.Disk before s c.args.self.now _ life c.if-self.false refl refl refl c.args.page (c.in-Ok.ensures.kept b 0 r.now r.stands)
+    flush_kept g.D.Disk before s c.args.self.now _ life c.if-self.false refl refl refl c.args.page (c.in-Ok.ensures.kept b r.base r.now r.stands)
 
 pub returns-in-Err-clause-kept : goal.returns-in-Err-clause-kept
 returns-in-Err-clause-kept g c before s life =
@@ -21,7 +21,7 @@ returns-in-Err-clause-kept g c before s life =
     let r = (life.running c.if-self.false).1 in
     let old = c.args.self.now in
     let is = of_flush c.in-Err.fault c.in-Err.ensures.causes (λ is. sym (c.in-Err.ensures.already.0 (λ j. Err (is j))) ∙ old.working c.if-self.false) in
-    late_kept g.D.Disk before s (answers.FlushPage c.args.page) refl (λ n. refl) old _ life c.if-self.false (λ _. refl) (grown_stops g.D.Disk before s old r c.flush_one.new.disk (c.in-Err.ensures.kept b 0 r.now r.stands).stops)
+    late_kept g.D.Disk before s (answers.FlushPage c.args.page) refl (λ n. refl) old _ life c.if-self.false (λ _. refl) (grown_stops g.D.Disk before s old r c.flush_one.new.disk (c.in-Err.ensures.kept b r.base r.now r.stands).stops)
     (λ t f le left. g.met.D.Disk.counts_now c.flush_one.new.disk t f le left) c.in-Err.fault (⊎_elim (λ e. inl e) (λ e. inr (inr (inr e))) is) (λ e. absurd (not_memory c.in-Err.fault is e)) (not_no_store c.in-Err.fault is)
     (broken_flush c.in-Err.fault is)
 

@@ -14,7 +14,7 @@ pub returns-in-Ok-clause-kept : goal.returns-in-Ok-clause-kept
 returns-in-Ok-clause-kept g c before s life =
     let b = (life.running c.if-self.false).0 in
     let r = (life.running c.if-self.false).1 in
-    force_kept g.D.Disk before s c.args.self.now _ life c.if-self.false refl refl refl (c.in-Ok.ensures.kept b 0 r.now r.stands)
+    force_kept g.D.Disk before s c.args.self.now _ life c.if-self.false refl refl refl (c.in-Ok.ensures.kept b r.base r.now r.stands)
 
 pub returns-in-Err-clause-kept : goal.returns-in-Err-clause-kept
 returns-in-Err-clause-kept g c before s life =
@@ -22,7 +22,7 @@ returns-in-Err-clause-kept g c before s life =
     let r = (life.running c.if-self.false).1 in
     let old = c.args.self.now in
     let is = of_force c.in-Err.fault c.in-Err.ensures.causes (λ is. sym (c.in-Err.ensures.already.0 (λ j. Err (is j))) ∙ old.working c.if-self.false) in
-    late_kept g.D.Disk before s answers.Force refl (λ n. refl) old _ life c.if-self.false (λ _. refl) (covered_stops g.D.Disk before s old r c.force.new.disk (c.in-Err.ensures.kept b 0 r.now r.stands).stops)
+    late_kept g.D.Disk before s answers.Force refl (λ n. refl) old _ life c.if-self.false (λ _. refl) (covered_stops g.D.Disk before s old r c.force.new.disk (c.in-Err.ensures.kept b r.base r.now r.stands).stops)
     (λ t f le left. g.met.D.Disk.counts_now c.force.new.disk t f le left) c.in-Err.fault (inr (inr (inr is))) (λ e. absurd (let never = sym is ∙ e in cc never)) (λ e. let never = sym is ∙ e in cc never)
     (sym (ap (λ (f : Fault). breaks (number_of f)) is))
 

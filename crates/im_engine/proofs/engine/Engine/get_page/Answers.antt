@@ -6,7 +6,7 @@ use Rattle.im_engine.proofs.engine.Engine.get_page.Goals as goal
 pub returns-in-Ok-clause-kept : goal.returns-in-Ok-clause-kept
 returns-in-Ok-clause-kept g c b before s r =
     let old = c.args.self.now in
-    let kept = c.in-Ok.ensures.kept b 0 r.now r.stands (λ q le. none_waits g.D.Disk before s old r q) in
+    let kept = c.in-Ok.ensures.kept b r.base r.now r.stands (λ q le. none_waits g.D.Disk before s old r q) in
     record {
       ok = looked g.D.Disk before s old r _ refl refl c.args.number kept.ok;
       again = tt;
@@ -17,7 +17,7 @@ returns-in-Ok-clause-kept g c b before s r =
 pub returns-in-Err-clause-kept : goal.returns-in-Err-clause-kept
 returns-in-Err-clause-kept g c b before s r =
     let old = c.args.self.now in
-    let kept = c.in-Err.ensures.kept b 0 r.now r.stands (λ q le. none_waits g.D.Disk before s old r q) in
+    let kept = c.in-Err.ensures.kept b r.base r.now r.stands (λ q le. none_waits g.D.Disk before s old r q) in
     record {
       ok = tt;
       again = λ is. runs_evicted g.D.Disk before s old r _ refl refl (kept.again (inl is));

@@ -6,7 +6,7 @@ use Rattle.im_engine.proofs.engine.Engine.leaf.Goals as goal
 pub returns-in-Ok-clause-kept : goal.returns-in-Ok-clause-kept
 returns-in-Ok-clause-kept g c b before s r =
     let old = c.args.self.now in
-    let kept = c.in-Ok.ensures.kept b 0 r.now [] (has_tree g.D.Disk before s old r) in
+    let kept = c.in-Ok.ensures.kept b r.base r.now [] (has_tree g.D.Disk before s old r) in
     record {
       ok = leaf_looked g.D.Disk before s old r _ refl refl c.args.key.now c.in-Ok.frame.number kept.ok;
       again = tt;
@@ -17,7 +17,7 @@ returns-in-Ok-clause-kept g c b before s r =
 pub returns-in-Err-clause-kept : goal.returns-in-Err-clause-kept
 returns-in-Err-clause-kept g c b before s r =
     let old = c.args.self.now in
-    let kept = c.in-Err.ensures.kept b 0 r.now [] (has_tree g.D.Disk before s old r) in
+    let kept = c.in-Err.ensures.kept b r.base r.now [] (has_tree g.D.Disk before s old r) in
     record {
       ok = tt;
       again = λ is. runs_evicted g.D.Disk before s old r _ refl refl (kept.again (inl is));

@@ -26,7 +26,7 @@ returns-in-Err-clause-kept g c b before s r =
       cause = λ _. not_late c.in-Err.fault c.late.result c.in-Err.ensures.causes c.late.ensures.memory c.late.ensures.others kept.cause;
       late = λ is.
           let rests = kept.again (late_memory c.in-Err.fault c.late.result c.in-Err.ensures.causes c.late.ensures.others is) in
-          record { now = rests.running.now; stands = rests.running.stands; joins = rests.grows };
+          record { base = rests.running.base; now = rests.running.now; stands = rests.running.stands; joins = rests.grows };
     }
 
 pub returns-in-Err-clause-no_room : goal.returns-in-Err-clause-no_room

@@ -11,7 +11,7 @@ returns-in_err-log_only-clause-kept g c b before s r going some =
     let old = c.args.self.now in
     let t = c.args.transaction in
     let a = active_is g.D.Disk before s old r t going in
-    let kept = c.log_only.ensures.kept b 0 r.now r.redo_end r.stands r.over (record { page = λ l p. refl; copy = λ l. refl; point = refl }) in
+    let kept = c.log_only.ensures.kept b r.base r.now r.redo_end r.stands r.over (record { page = λ l p. refl; copy = λ l. refl; point = refl }) in
     record { ok = search rules; stops = unlogged_stops g.D.Disk before s t old r a some c.log_only.new.disk kept.stops }
 
 pub returns-in_err-force-clause-kept : goal.returns-in_err-force-clause-kept
@@ -20,8 +20,8 @@ returns-in_err-force-clause-kept g c b before s r going some =
     let t = c.args.transaction in
     let a = active_is g.D.Disk before s old r t going in
     let lsn = c.in_ok-log_only.field-0 in
-    let kept = c.in_ok-log_only.ensures.kept b 0 r.now r.redo_end r.stands r.over (record { page = λ l p. refl; copy = λ l. refl; point = refl }) in
-    let forced = c.force.ensures.kept b 0 (record (appended (logged_at lsn (Commit t.number t.last)) r.now) { durable = kept.ok.durable }) kept.ok.stands in
+    let kept = c.in_ok-log_only.ensures.kept b r.base r.now r.redo_end r.stands r.over (record { page = λ l p. refl; copy = λ l. refl; point = refl }) in
+    let forced = c.force.ensures.kept b r.base (record (appended (logged_at lsn (Commit t.number t.last)) r.now) { durable = kept.ok.durable }) kept.ok.stands in
     record { ok = search rules; stops = commit_stops g.D.Disk before s t old r a some lsn c.log_only.new.self c.log_only.new.disk kept.ok c.force.new.disk kept.stops forced.stops }
 
 pub returns-clause-kept : goal.returns-clause-kept
@@ -30,8 +30,8 @@ returns-clause-kept g c b before s r going some =
     let t = c.args.transaction in
     let a = active_is g.D.Disk before s old r t going in
     let lsn = c.in_ok-log_only.field-0 in
-    let kept = c.in_ok-log_only.ensures.kept b 0 r.now r.redo_end r.stands r.over (record { page = λ l p. refl; copy = λ l. refl; point = refl }) in
-    let forced = c.in_ok-force.ensures.kept b 0 (record (appended (logged_at lsn (Commit t.number t.last)) r.now) { durable = kept.ok.durable }) kept.ok.stands in
+    let kept = c.in_ok-log_only.ensures.kept b r.base r.now r.redo_end r.stands r.over (record { page = λ l p. refl; copy = λ l. refl; point = refl }) in
+    let forced = c.in_ok-force.ensures.kept b r.base (record (appended (logged_at lsn (Commit t.number t.last)) r.now) { durable = kept.ok.durable }) kept.ok.stands in
     record {
       ok = commit_made g.D.Disk before s t old r a some lsn c.log_only.new.self c.log_only.new.disk kept.ok _ (record { working = forced.ok.working; writing = forced.ok.goes.writing }) refl refl;
       stops = commit_stops g.D.Disk before s t old r a some lsn c.log_only.new.self c.log_only.new.disk kept.ok c.force.new.disk kept.stops forced.stops;

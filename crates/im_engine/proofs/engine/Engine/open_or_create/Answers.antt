@@ -1,4 +1,5 @@
-use Rattle.std.proofs.Common.{refl}
+use Rattle.std.proofs.Common.{Err, inl, inr, refl, ap}
+use Rattle.im_disk.proofs.Runs.{reads_none}
 use Rattle.im_engine.proofs.Openings.{may_restart, none_opened, opening_stops, engine_opened}
 use Rattle.im_engine.proofs.engine.Engine.open_or_create.Goals as goal
 
@@ -12,7 +13,7 @@ returns-then-config-lt8-clause-kept g c before told synced stands = record {
 
 pub returns-in-Err-clause-kept : goal.returns-in-Err-clause-kept
 returns-in-Err-clause-kept g c before told synced stands =
-    let kept = c.in-Err.ensures.kept stands.b stands.log told (may_restart before (g.D.Disk.seen c.args.disk) stands) in
+    let kept = c.in-Err.ensures.kept stands.b stands.base stands.log told (may_restart before (g.D.Disk.seen c.args.disk) stands) in
     record {
       ok = tt;
       next = tt;
@@ -22,13 +23,25 @@ returns-in-Err-clause-kept g c before told synced stands =
 
 pub returns-in-Ok-clause-kept : goal.returns-in-Ok-clause-kept
 returns-in-Ok-clause-kept g c before told synced stands =
-    let kept = c.in-Ok.ensures.kept stands.b stands.log told (may_restart before (g.D.Disk.seen c.args.disk) stands) in
+    let kept = c.in-Ok.ensures.kept stands.b stands.base stands.log told (may_restart before (g.D.Disk.seen c.args.disk) stands) in
     record {
-      ok = (engine_opened g.D.Disk before c.args.disk stands _ c.in-Ok.restarted kept.ok refl refl refl refl, refl);
-      next = kept.ok.next;
+      ok = (engine_opened g.D.Disk before c.args.disk stands _ c.in-Ok.restarted kept.ok kept.next refl refl refl refl, refl);
+      next = kept.next;
       stops = opening_stops g.D.Disk before c.args.disk stands c.open_or_create.new.disk kept.stops;
       cause = tt;
     }
 
 pub returns-in-Ok-clause-spelled : goal.returns-in-Ok-clause-spelled
 returns-in-Ok-clause-spelled g c = c.in-Ok.ensures.spelled
+
+pub returns-then-config-lt8-clause-unspelled : goal.returns-then-config-lt8-clause-unspelled
+returns-then-config-lt8-clause-unspelled g c told none = (reads_none g.D.Disk c.args.disk, inl refl)
+
+pub returns-in-Err-clause-unspelled : goal.returns-in-Err-clause-unspelled
+returns-in-Err-clause-unspelled g c told none = let r = c.in-Err.ensures.unspelled told none in (r.0, inr r.1)
+
+pub returns-in-Ok-clause-unspelled : goal.returns-in-Ok-clause-unspelled
+returns-in-Ok-clause-unspelled g c told none = c.in-Ok.ensures.unspelled told none
+
+pub returns-in-Err-clause-full : goal.returns-in-Err-clause-full
+returns-in-Err-clause-full g c is told = c.in-Err.ensures.full (ap Err is) told

@@ -5,4 +5,4 @@ pub returns-clause-kept : goal.returns-clause-kept
 returns-clause-kept g c b before s r going way absent room =
     let made = c.log_change.ensures in
     put_kept g.D.Disk before s c.args.self.now r c.log_change.new.self made.next c.args.transaction going c.args.page c.args.key.now c.args.rid way absent room c.log_change.result
-    (made.kept b 0 r.now r.redo_end r.stands r.over) (ok_part _ _ c.log_change.result made.ok) (err_part _ _ c.log_change.result made.fails) made.causes
+    (made.kept b r.base r.now r.redo_end r.stands r.over) (ok_part _ _ c.log_change.result made.ok) (err_part _ _ c.log_change.result made.fails) made.causes

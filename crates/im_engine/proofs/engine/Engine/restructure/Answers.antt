@@ -6,7 +6,7 @@ use Rattle.im_engine.proofs.engine.Engine.restructure.Goals as goal
 pub returns-in-Ok-clause-kept : goal.returns-in-Ok-clause-kept
 returns-in-Ok-clause-kept g c b before s r going some good same =
     let old = c.args.self.now in
-    let kept = c.in-Ok.ensures.kept b 0 r.now r.redo_end (may_change g.D.Disk before s old r c.args.transaction going c.args.images.now some good same) in
+    let kept = c.in-Ok.ensures.kept b r.base r.now r.redo_end (may_change g.D.Disk before s old r c.args.transaction going c.args.images.now some good same) in
     record {
       ok = restructured g.D.Disk before s old r _ refl c.args.transaction going c.args.images.now c.in-Ok.lsn kept.ok refl;
       again = tt;
@@ -18,7 +18,7 @@ returns-in-Ok-clause-kept g c b before s r going some good same =
 pub returns-in-Err-clause-kept : goal.returns-in-Err-clause-kept
 returns-in-Err-clause-kept g c b before s r going some good same =
     let old = c.args.self.now in
-    let kept = c.in-Err.ensures.kept b 0 r.now r.redo_end (may_change g.D.Disk before s old r c.args.transaction going c.args.images.now some good same) in
+    let kept = c.in-Err.ensures.kept b r.base r.now r.redo_end (may_change g.D.Disk before s old r c.args.transaction going c.args.images.now some good same) in
     record {
       ok = tt;
       again = λ is. runs_evicted g.D.Disk before s old r _ refl refl (kept.again is);
