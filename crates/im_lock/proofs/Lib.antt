@@ -21,3 +21,4 @@ pub mod Callers
 pub mod Isolates
 pub mod Later
 pub mod Serving
+pub mod WorkedRuns

@@ -9,3 +9,4 @@ pub mod Machine
 pub mod Isolation
 pub mod Found
 pub mod Serving
+pub mod Worked

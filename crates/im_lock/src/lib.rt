@@ -43,6 +43,7 @@ mod stored_lock;
 #[cfg(test)]
 mod tests;
 mod verdict;
+mod worked;
 
 pub use isolated::{granted_changes_are_free, isolation, table_serves};
 pub use lock_table::LockTable;
@@ -52,3 +53,4 @@ pub use row::Row;
 pub use rows::{delete_row, fetch_row, insert_row, seek_row, shared};
 pub use scan_requests::scan_row;
 pub use verdict::Verdict;
+pub use worked::a_gap_that_was_read_stays;
