@@ -1,5 +1,6 @@
 -- Undo goes on at ever smaller LSNs.
-use Rattle.std.proofs.Common.{◌≡◌, ◌≤◌, ◌<◌, ℕ, List, [], ◌∷◌, ◌++◌, length, refl, sym, ap, arith}
+use Rattle.std.proofs.Common.{◌≡◌, ◌≤◌, ◌<◌, ℕ, List, [], ◌∷◌, ◌++◌, length, Option, None, Some, refl, sym, ap, arith}
+use Rattle.std.specs.Prelude.{IfSome}
 use Rattle.std.specs.declared.cmp.Ordering.{Ordering}
 use Rattle.std.specs.declared.cmp.Ordering.TheVariants.{Less, Equal, Greater}
 use Rattle.std.specs.Ordering.{match_ordering, nat_cmp}
@@ -43,3 +44,8 @@ none_left (e ∷ es) none = absurd (none (omega arith))
 pub empty_list : {X : Type 0} (n : ℕ) (es : List X) → n ≡ length es → n ≡ 0 → es ≡ []
 empty_list n [] is none = refl
 empty_list n (e ∷ es) is none = absurd (omega (arith, is, none))
+
+-- so where the greatest was taken out
+pub above_rest : (o : Option (ℕ × Chain)) (es : List (ℕ × Chain)) → IfSome o (λ p. All (λ q. nat_cmp q p.0 ≡ Less) (keys_of es)) → IfSome o (λ p. above es ≤ p.0)
+above_rest None es all = tt
+above_rest (Some p) es all = above_below es p.0 all

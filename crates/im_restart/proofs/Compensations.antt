@@ -1,5 +1,5 @@
 -- The undo of a key record in the tree as it is now, and pages behind a record.
-use Rattle.std.proofs.Common.{◌≡◌, ◌≢◌, ◌≤◌, ℕ, zero, suc, [], ◌∷◌, ◌++◌, Bool, true, false, Result, Err, inl, inr, refl, sym, ◌∙◌, ap, subst, arith}
+use Rattle.std.proofs.Common.{◌≡◌, ◌≢◌, ℕ, [], ◌∷◌, ◌++◌, Bool, true, false, Result, Err, inl, inr, refl, sym, ◌∙◌, ap, subst}
 use Rattle.std.specs.Prelude.{◌&&◌, not, nat_le, if◌then◌else◌}
 use Rattle.std.proofs.lemmas.Bool.{and_parts, cases_eq}
 use Rattle.im_types.specs.declared.file_id.FileId.TheVariants.{Log}
@@ -9,7 +9,7 @@ use Rattle.im_types.specs.Pages.{Page}
 use Rattle.im_types.specs.Records.{What, InsertKey, DeleteKey, UndoInsert, UndoDelete, Smo, UndoSmo, DummyClr, Commit, End, Image, Checkpoint, Unreadable, Logged}
 use Rattle.im_types.specs.Histories.{Base, History, page_after, page_at}
 use Rattle.im_types.specs.Copies.{GrowsByImages}
-use Rattle.im_types.specs.Transactions.{is_end, is_finished, last_of, undo_next_of}
+use Rattle.im_types.specs.Transactions.{is_end, is_finished, last_of}
 use Rattle.im_types.specs.Writer.{PageState, Writer}
 use Rattle.im_types.specs.WriterSteps.{changed_page}
 use Rattle.im_types.proofs.Fronts.{fronts_lawful}
@@ -19,6 +19,7 @@ use Rattle.im_disk.specs.Runs.{LeavesOnly}
 use Rattle.im_disk.proofs.Runs.{weakened}
 use Rattle.im_record.specs.Entry.{Entry, prev_of}
 use Rattle.im_log.proofs.Above.{front_then}
+use Rattle.im_log.specs.Spelled.{logged_at}
 use Rattle.im_log.proofs.Creations.{not_both}
 use Rattle.im_flush.specs.declared.page_writer.PageWriter.{PageWriter}
 use Rattle.im_flush.specs.PageWriter.{StandsAs}
@@ -33,13 +34,14 @@ use Rattle.im_undo.specs.Undoing as undoing
 use Rattle.im_undo.specs.Undoing.{IsGoing, LeavesUndo, LeftByUndo, TakenBack}
 use Rattle.im_undo.proofs.Growth as growth
 use Rattle.im_undo.proofs.Growth.{going_page}
-use Rattle.im_undo.proofs.Keeping.{undo_others}
 use Rattle.im_restart.specs.declared.chains.Chain.{Chain}
 use Rattle.im_restart.specs.Undone.{AreUndo, GrowsByUndo, IsUndo}
 use Rattle.im_restart.specs.Restart.{IsLeftUndoing}
-use Rattle.im_restart.specs.LoserChains.{IsToUndo, SparesOthers}
+use Rattle.im_restart.specs.LoserChains.{IsToUndo}
 use Rattle.im_restart.specs.Undoing.{Compensated, CompensateKept, IsUndoing}
 use Rattle.im_restart.proofs.Growth.{grows_front, grows_then}
+use Rattle.im_restart.proofs.Orders.{order_key}
+use Rattle.im_restart.proofs.Others.{spares_key}
 
 -- ---- pages
 
@@ -111,39 +113,6 @@ are_of_restart t (r ∷ more) older all loser =
 pub grows_key : (all old new : History) (t : ℕ) → GrowsByUndo all old → is_loser t old ≡ true → undone.GrowsByUndo t old new → GrowsByUndo all new
 grows_key all old new t grown loser by = grows_then all old new grown (record { more = by.more; is = by.is; all = (are_of_restart t by.more old by.all loser).all })
 
--- ---- the other losers
-
-not_mine : (t u : ℕ) (r : Logged) (w : What) → u ≢ 0 → u ≢ t → IsOfUndo t r w → r.txn ≢ u
-not_mine t u r (UndoInsert k i) some other is e = other (sym e ∙ is)
-not_mine t u r (UndoDelete k i) some other is e = other (sym e ∙ is)
-not_mine t u r (Smo was now) some other is e = other (sym e ∙ is)
-not_mine t u r DummyClr some other is e = other (sym e ∙ is)
-not_mine t u r (Image c) some other is e = some (sym e ∙ is)
-not_mine t u r (InsertKey k i) some other is e = absurd is
-not_mine t u r (DeleteKey k i) some other is e = absurd is
-not_mine t u r (UndoSmo now) some other is e = absurd is
-not_mine t u r Commit some other is e = absurd is
-not_mine t u r End some other is e = absurd is
-not_mine t u r (Checkpoint n a dirty) some other is e = absurd is
-not_mine t u r Unreadable some other is e = absurd is
-
-others_losers : (t u : ℕ) (more older : History) → u ≢ 0 → u ≢ t → AllOf (λ (r : Logged). IsOfUndo t r r.what) more → is_loser u (more ++ older) ≡ is_loser u older
-others_losers t u [] older some other all = refl
-others_losers t u (r ∷ more) older some other all = same_loser r (more ++ older) u (not_mine t u r r.what some other all.0) ∙ others_losers t u more older some other all.1
-
-spared_losers : (t u : ℕ) (old new : History) → undone.GrowsByUndo t old new → u ≢ t → is_loser u new ≡ is_loser u old
-spared_losers t zero old new by other = refl
-spared_losers t (suc u) old new by other = ap (λ (l : History). is_loser (suc u) l) by.is ∙ others_losers t (suc u) by.more old (λ e. cc e) other by.all
-
-pub spares_key : (t : ℕ) (old new : History) → undone.GrowsByUndo t old new → SparesOthers t old new
-spares_key t old new by = record {
-  losers = λ u other. spared_losers t u old new by other;
-  rows = λ u other loser.
-      let one : 1 ≤ u = loser_number u old loser in
-      let same = undo_others t u old new (λ none. (let clash : u ≡ 0 = none in omega (arith, one, clash))) other by in
-      ap (λ (l : ℕ). record { last = l; undo_next = undo_next_of u new }) same.last ∙ ap (λ (n : ℕ). record { last = last_of u old; undo_next = n }) same.undo;
-}
-
 -- ---- one record taken back
 
 -- an answer for want of memory is no refusal as no store
@@ -186,6 +155,7 @@ module _ {D : Type 0} (d : Ghosts D) (b : Base) (base : ℕ) (all : History) whe
               redo_end = is.redo_end;
               over = goes.going.over;
               grown = grows_key all s.log now.log c.transaction is.grown to.loser goes.grows;
+              order = order_key b all s.log now.log c.transaction (logged_at to.lsn said) is.order to.next to.latest goes.grows back.once goes.going.can.lawful;
               found = front_then all s.durable now.durable is.found goes.durable;
               can = goes.going.can;
               pages = going_page d b base now is.redo_end c.transaction last (prev_of said) x new goes.going;

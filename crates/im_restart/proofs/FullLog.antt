@@ -1,5 +1,5 @@
 -- A log without room, over the length of its file.
-use Rattle.std.proofs.Common.{◌≡◌, ℕ, ◌+◌, ◌^◌, ◌<◌, ◌≤◌, Bool, true, false, length, refl, sym, ◌∙◌, subst, arith}
+use Rattle.std.proofs.Common.{◌≡◌, ℕ, ◌+◌, ◌<◌, ◌≤◌, Bool, true, false, length, refl, ◌∙◌, subst, arith}
 use Rattle.std.specs.Prelude.{nat_le, if◌then◌else◌}
 use Rattle.im_types.specs.declared.file_id.FileId.{FileId}
 use Rattle.im_types.specs.declared.file_id.FileId.TheVariants.{Log}

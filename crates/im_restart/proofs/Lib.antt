@@ -12,4 +12,6 @@ pub mod Openings
 pub mod Changes
 pub mod Restarts
 pub mod OpenChanges
+pub mod Orders
+pub mod Latest
 mod FullLog

@@ -25,7 +25,7 @@ use Rattle.im_restart.proofs.Others.{goes_longer}
 
 -- ---- maps
 
-at_cases : (t q : ℕ) → ((t ≡ q) × (is_at (nat_cmp t) q ≡ true)) ⊎ ((t ≢ q) × (is_at (nat_cmp t) q ≡ false))
+pub at_cases : (t q : ℕ) → ((t ≡ q) × (is_at (nat_cmp t) q ≡ true)) ⊎ ((t ≢ q) × (is_at (nat_cmp t) q ≡ false))
 at_cases t q = by (nat_cmp t q) refl
   where
     by : (o : Ordering) → nat_cmp t q ≡ o → ((t ≡ q) × (is_at (nat_cmp t) q ≡ true)) ⊎ ((t ≢ q) × (is_at (nat_cmp t) q ≡ false))

@@ -13,7 +13,7 @@ use Rattle.im_types.specs.Tree.{Tree}
 use Rattle.im_types.specs.Histories.{Base, History, IsRecordOf, page_at}
 use Rattle.im_types.specs.Copies.{GrowsByImages}
 use Rattle.im_types.specs.Structure.{open_smo}
-use Rattle.im_types.specs.Transactions.{is_finished, last_of, to_undo}
+use Rattle.im_types.specs.Transactions.{is_compensation, is_finished, last_of, to_undo}
 use Rattle.im_types.specs.Lawful.{IsLawful, has_owner}
 use Rattle.im_types.specs.Writer.{Writer}
 use Rattle.im_types.proofs.Compensated.{in_log}
@@ -52,6 +52,7 @@ use Rattle.im_restart.specs.StructureChange.{ChangeGoes, IsTakingBack, PageKept,
 use Rattle.im_restart.specs.Undoing.{UndoGoes}
 use Rattle.im_restart.proofs.Compensations.{page_changed, page_longer}
 use Rattle.im_restart.proofs.Growth.{grows_images, grows_one}
+use Rattle.im_restart.proofs.Orders.{order_images, order_one}
 use Rattle.im_restart.proofs.Others.{images_same_row}
 use Rattle.im_restart.proofs.Steps.{left_covered, left_then}
 
@@ -168,6 +169,7 @@ module _ {D : Type 0} (d : Ghosts D) (b : Base) (base : ℕ) (all : History) whe
       redo_end = goes.taking.redo_end;
       over = goes.taking.over;
       grown = goes.taking.grown;
+      order = goes.taking.order;
       found = goes.taking.found;
       can = record { lawful = goes.taking.lawful; closed = closed };
       pages = goes.taking.pages;
@@ -215,6 +217,7 @@ module _ {D : Type 0} (d : Ghosts D) (b : Base) (base : ℕ) (all : History) whe
               redo_end = is.redo_end;
               over = from.keeps.redo_end ∙ is.over;
               grown = grows_one all log r (grows_images b all s.log log is.grown by) back;
+              order = order_one all log r (order_images b all s.log log is.order by) (ap is_compensation undo_is);
               found = front_then all from.before.durable from.logged.durable (front_then all s.durable from.before.durable is.found from.keeps.durable) from.logged.grows;
               lawful = next.0;
               pages = λ q. page_changed r (r.page == q) (from.before.pages q) (page_at b log q) ((from.keeps.pages q).page ∙ is.pages q ∙ sym (page_longer b s.log log q by));

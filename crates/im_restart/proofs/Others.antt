@@ -2,18 +2,22 @@
 use Rattle.std.proofs.Common.{◌≡◌, ◌≢◌, ◌≤◌, ◌<◌, ℕ, zero, suc, [], ◌∷◌, ◌++◌, true, inl, inr, refl, sym, ◌∙◌, ap, subst, arith}
 use Rattle.std.specs.Prelude.{◌==◌}
 use Rattle.std.proofs.lemmas.Bool.{cases_eq, ne_eqb, cond-false}
-use Rattle.im_types.specs.Records.{What, Logged}
+use Rattle.im_types.specs.Records.{What, InsertKey, DeleteKey, UndoInsert, UndoDelete, Smo, UndoSmo, DummyClr, Commit, End, Image, Checkpoint, Unreadable, Logged}
 use Rattle.im_types.specs.Tree.{Tree}
 use Rattle.im_types.specs.Histories.{Base, History, IsFront, IsRecordOf, Rises, end_of}
 use Rattle.im_types.specs.Copies.{AreImages, GrowsByImages}
-use Rattle.im_types.specs.Transactions.{committed, committed_after, net, reads_on, undo_next_of, undo_reads}
+use Rattle.im_types.specs.Transactions.{committed, committed_after, last_of, net, reads_on, undo_next_of, undo_reads}
 use Rattle.im_types.specs.Lawful.{IsLawful}
 use Rattle.im_analysis.specs.declared.rows.Loser.{Loser}
 use Rattle.im_analysis.specs.Losers.{is_loser, row_of}
 use Rattle.im_analysis.specs.Undo.{HasRecordAt, LeavesOthers}
-use Rattle.im_analysis.proofs.Losers.{leaves_others, loser_number}
+use Rattle.im_analysis.proofs.Losers.{leaves_others, loser_number, same_loser}
 use Rattle.im_analysis.proofs.LawfulLogs.{low}
 use Rattle.im_analysis.proofs.Readings.{goes_on_at}
+use Rattle.im_tree.specs.Good.{AllOf}
+use Rattle.im_undo.specs.Records as undone
+use Rattle.im_undo.specs.Records.{IsOfUndo}
+use Rattle.im_undo.proofs.Keeping.{undo_others}
 use Rattle.im_restart.specs.declared.chains.Chain.{Chain}
 use Rattle.im_restart.specs.LoserChains.{GoesOnAt, SparesOthers}
 
@@ -116,3 +120,36 @@ goes_longer b tree t c l old new law up_old up front spares other goes =
       at = λ some. has_longer c.transaction l old new front (goes.at some);
       same = reads_longer b old new l front up here ∙ goes.same ∙ sym (ap (λ (n : ℕ). undo_reads n new) next ∙ reads_longer b old new (undo_next_of c.transaction old) front up there);
     }
+
+-- ---- the other losers
+
+not_mine : (t u : ℕ) (r : Logged) (w : What) → u ≢ 0 → u ≢ t → IsOfUndo t r w → r.txn ≢ u
+not_mine t u r (UndoInsert k i) some other is e = other (sym e ∙ is)
+not_mine t u r (UndoDelete k i) some other is e = other (sym e ∙ is)
+not_mine t u r (Smo was now) some other is e = other (sym e ∙ is)
+not_mine t u r DummyClr some other is e = other (sym e ∙ is)
+not_mine t u r (Image c) some other is e = some (sym e ∙ is)
+not_mine t u r (InsertKey k i) some other is e = absurd is
+not_mine t u r (DeleteKey k i) some other is e = absurd is
+not_mine t u r (UndoSmo now) some other is e = absurd is
+not_mine t u r Commit some other is e = absurd is
+not_mine t u r End some other is e = absurd is
+not_mine t u r (Checkpoint n a dirty) some other is e = absurd is
+not_mine t u r Unreadable some other is e = absurd is
+
+others_losers : (t u : ℕ) (more older : History) → u ≢ 0 → u ≢ t → AllOf (λ (r : Logged). IsOfUndo t r r.what) more → is_loser u (more ++ older) ≡ is_loser u older
+others_losers t u [] older some other all = refl
+others_losers t u (r ∷ more) older some other all = same_loser r (more ++ older) u (not_mine t u r r.what some other all.0) ∙ others_losers t u more older some other all.1
+
+spared_losers : (t u : ℕ) (old new : History) → undone.GrowsByUndo t old new → u ≢ t → is_loser u new ≡ is_loser u old
+spared_losers t zero old new by other = refl
+spared_losers t (suc u) old new by other = ap (λ (l : History). is_loser (suc u) l) by.is ∙ others_losers t (suc u) by.more old (λ e. cc e) other by.all
+
+pub spares_key : (t : ℕ) (old new : History) → undone.GrowsByUndo t old new → SparesOthers t old new
+spares_key t old new by = record {
+  losers = λ u other. spared_losers t u old new by other;
+  rows = λ u other loser.
+      let one : 1 ≤ u = loser_number u old loser in
+      let same = undo_others t u old new (λ none. (let clash : u ≡ 0 = none in omega (arith, one, clash))) other by in
+      ap (λ (l : ℕ). record { last = l; undo_next = undo_next_of u new }) same.last ∙ ap (λ (n : ℕ). record { last = last_of u old; undo_next = n }) same.undo;
+}

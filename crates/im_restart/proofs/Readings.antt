@@ -20,6 +20,7 @@ use Rattle.im_analysis.proofs.Losers.{loser_number, loser_unfinished}
 use Rattle.im_analysis.proofs.Readings.{goes_on_at}
 use Rattle.im_analysis.proofs.Undoing.{undo_goes_on}
 use Rattle.im_restart.specs.declared.chains.Chain.{Chain}
+use Rattle.im_restart.specs.UndoOrder.{IsLatest}
 use Rattle.im_restart.specs.LoserChains.{GoesOnAt, IsToUndo, LeadsNowhere, MayLeadOn, chain_of}
 use Rattle.im_restart.proofs.Steps.{comes_to}
 
@@ -117,8 +118,15 @@ module _ (b : Base) (tree : Tree) (laws : TreeLaws tree) (log : History) (c : Ch
 -- ---- the same of a record as it is spelled
 
 module _ (b : Base) (tree : Tree) (laws : TreeLaws tree) (log : History) (c : Chain) (l : ℕ) (said : Entry) (can : IsUndoable b tree log) (goes : GoesOnAt c l log) (is : IsRecordOf (logged_at l said) log) (mine : transaction_of said ≡ c.transaction) where
-  pub to_undo_here : is_key (what_of said) ≡ true → IsToUndo log c said
-  to_undo_here key = record { loser = goes.loser; last = goes.last; undo = goes.undo; lsn = l; next = next_here b tree laws log c l can goes (logged_at l said) is refl mine key }
+  pub to_undo_here : is_key (what_of said) ≡ true → IsLatest l log → IsToUndo log c said
+  to_undo_here key latest = record {
+    loser = goes.loser;
+    last = goes.last;
+    undo = goes.undo;
+    lsn = l;
+    next = next_here b tree laws log c l can goes (logged_at l said) is refl mine key;
+    latest = latest;
+  }
 
   leads_said : leads_on (what_of said) ≡ true → GoesOnAt c (named_next said) log × (named_next said < l)
   leads_said on = leads_here b tree laws log c l can goes (logged_at l said) is refl mine on
@@ -131,7 +139,6 @@ module _ (b : Base) (tree : Tree) (laws : TreeLaws tree) (log : History) (c : Ch
   leads_somewhere nowhere = elim (kind_here b tree laws log c l can goes (logged_at l said) is refl mine) [
     | inl key ↦
         let low : l ≤ prev_of said = nowhere.key key in
-        let next = to_undo_here key in
         let falls : prev_of said < l = (next_here b tree laws log c l can goes (logged_at l said) is refl mine key).falls in omega (arith, low, falls)
     | inr on ↦ let low : l ≤ named_next said = nowhere.on on in let falls : named_next said < l = (leads_said on).1 in omega (arith, low, falls)
   ]

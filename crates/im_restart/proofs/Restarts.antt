@@ -42,6 +42,7 @@ use Rattle.im_restart.specs.declared.restarted.Restarted.{Restarted}
 use Rattle.im_restart.specs.StructureChange.{ChangeGoes}
 use Rattle.im_restart.specs.Undoing.{AllUndone}
 use Rattle.im_restart.proofs.Growth.{grows_images, grows_none}
+use Rattle.im_restart.proofs.Orders.{order_images, order_none}
 use Rattle.im_restart.proofs.Steps.{left_covered, left_here, left_then}
 
 -- ---- the files
@@ -127,7 +128,7 @@ module _ {D : Type 0} (d : Ghosts D) (b : Base) (base : ℕ) (all : History) whe
       let grown = grows_images b all all done.now.log (grows_none all) done.log in
       record {
         stands = done.stands;
-        taking = record { redo_end = end_of b done.now.log; over = done.over; grown = grown; found = done.durable; lawful = law; pages = done.pages };
+        taking = record { redo_end = end_of b done.now.log; over = done.over; grown = grown; order = order_images b all all done.now.log (order_none all) done.log; found = done.durable; lawful = law; pages = done.pages };
         stops = left_covered d b base all all done.now.log old disk done.stops (front_none all) grown law;
         on = grown_front b all done.now.log done.log;
       }
@@ -151,6 +152,7 @@ module _ {D : Type 0} (d : Ghosts D) (b : Base) (base : ℕ) (all : History) whe
           over = done.goes.undoing.over;
           durable = refl;
           grown = done.goes.undoing.grown;
+          order = done.goes.undoing.order;
           lawful = done.goes.undoing.can.lawful;
           ended = done.ended;
           pages = done.goes.undoing.pages;
@@ -175,6 +177,7 @@ module _ {D : Type 0} (d : Ghosts D) (b : Base) (base : ℕ) (all : History) whe
     over = is.over;
     durable = is.durable;
     grown = is.grown;
+    order = is.order;
     lawful = is.lawful;
     ended = is.ended;
     pages = is.pages;

@@ -35,6 +35,7 @@ use Rattle.im_restart.specs.Restart.{IsLeftUndoing}
 use Rattle.im_restart.specs.LoserChains.{GoesOnAt}
 use Rattle.im_restart.specs.Undoing.{Ended, IsUndoing, UndoGoes}
 use Rattle.im_restart.proofs.Growth.{grows_front, grows_images, grows_one}
+use Rattle.im_restart.proofs.Orders.{order_one}
 use Rattle.im_restart.proofs.Others.{spares_one}
 
 -- ---- reading from 0
@@ -114,6 +115,7 @@ module _ {D : Type 0} (d : Ghosts D) (b : Base) (base : ℕ) (all : History) whe
             redo_end = is.redo_end;
             over = is.over;
             grown = grown;
+            order = order_one all s.log r is.order refl;
             found = front_then all s.durable logged.durable is.found logged.grows;
             can = after.0;
             pages = λ p. is.pages p ∙ sym (page_same b r s.log (λ g. refl) p);

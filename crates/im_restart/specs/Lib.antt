@@ -1,4 +1,5 @@
 pub mod Undone
+pub mod UndoOrder
 pub mod Restart
 pub mod LoserChains
 pub mod Undoing

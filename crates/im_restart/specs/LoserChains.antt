@@ -15,6 +15,7 @@ use Rattle.im_analysis.specs.declared.rows.Loser.{Loser}
 use Rattle.im_analysis.specs.Losers.{LoserMap, is_loser, row_of}
 use Rattle.im_analysis.specs.Undo.{HasRecordAt, IsNext, leads_on}
 use Rattle.im_restart.specs.declared.chains.Chain.{Chain}
+use Rattle.im_restart.specs.UndoOrder.{IsLatest}
 
 -- ---- the losers
 
@@ -85,10 +86,11 @@ pub record LeadsNowhere (entry : Entry) (lsn : ℕ) : Type 0 where
   pub key : is_key (what_of entry) ≡ true → lsn ≤ prev_of entry
   pub on : leads_on (what_of entry) ≡ true → lsn ≤ named_next entry
 
--- What is undone: the next that a loser has to undo, which the record spells.
+-- What is undone: the next that a loser has to undo, the latest of what losers have left, which the record spells.
 pub record IsToUndo (log : History) (c : Chain) (entry : Entry) : Type 0 where
   pub loser : is_loser c.transaction log ≡ true
   pub last : c.last ≡ last_of c.transaction log
   pub undo : c.undo_next ≡ undo_next_of c.transaction log
   pub lsn : ℕ
   pub next : IsNext c.transaction log (logged_at lsn entry)
+  pub latest : IsLatest lsn log

@@ -20,6 +20,7 @@ use Rattle.im_analysis.specs.Losers.{is_loser}
 use Rattle.im_analysis.specs.Numbers.{IsNextNumber}
 use Rattle.im_restart.specs.declared.restarted.Restarted.{Restarted}
 use Rattle.im_restart.specs.Undone.{GrowsByUndo}
+use Rattle.im_restart.specs.UndoOrder.{IsInOrder}
 
 -- No store was made yet: the log is unmade, and there are no pages.
 abbrev pub IsFresh : Files → Type 0
@@ -61,6 +62,7 @@ module _ {D : Type 0} (d : Ghosts D) (b : Base) (base : ℕ) (all : History) whe
     pub over : now.redo_end ≡ Some redo_end
     pub durable : now.durable ≡ now.log
     pub grown : GrowsByUndo all now.log
+    pub order : IsInOrder all now.log
     pub lawful : IsLawful b page_tree now.log
     pub ended : (t : ℕ) → is_loser t now.log ≡ false
     pub pages : (p : ℕ) → (now.pages p).page ≡ page_at b now.log p
@@ -73,6 +75,7 @@ module _ {D : Type 0} (d : Ghosts D) (b : Base) (base : ℕ) (all : History) whe
     pub over : now.redo_end ≡ Some redo_end
     pub durable : now.durable ≡ now.log
     pub grown : GrowsByUndo all now.log
+    pub order : IsInOrder all now.log
     pub lawful : IsLawful b page_tree now.log
     pub ended : (t : ℕ) → is_loser t now.log ≡ false
     pub pages : (p : ℕ) → (now.pages p).page ≡ page_at b now.log p

@@ -16,6 +16,7 @@ use Rattle.im_flush.specs.PageWriter.{StandsAs}
 use Rattle.im_tree.specs.Theory.{page_tree}
 use Rattle.im_analysis.specs.Losers.{AreLosers, LoserMap}
 use Rattle.im_restart.specs.Undone.{GrowsByUndo}
+use Rattle.im_restart.specs.UndoOrder.{IsInOrder}
 use Rattle.im_restart.specs.Restart.{IsLeftUndoing}
 
 -- Redo is over, the log is the one that was found with records of undo, and each page is what the log made of it.
@@ -23,6 +24,7 @@ pub record IsTakingBack (b : Base) (all : History) (now : Writer) : Type 0 where
   pub redo_end : ℕ
   pub over : now.redo_end ≡ Some redo_end
   pub grown : GrowsByUndo all now.log
+  pub order : IsInOrder all now.log
   pub found : IsFront all now.durable
   pub lawful : IsLawful b page_tree now.log
   pub pages : (p : ℕ) → (now.pages p).page ≡ page_at b now.log p

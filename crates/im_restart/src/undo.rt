@@ -1,6 +1,8 @@
 //! What was unfinished is undone: the losers all together, the record with the greatest LSN first.
 
-ghost use Rattle.std.specs.Prelude.{◌≡◌, [], ◌≢◌, ◌≤◌, ◌<◌, ◌⊎◌, ◌↔◌, ℕ, Bool, true, false, length, Option, None, Some, Ok, Err, IfErr, IfOk, IfSome, OnOk};
+ghost use Rattle.std.specs.Prelude.{◌≡◌, [], ◌∷◌, ◌++◌, ◌≢◌, ◌≤◌, ◌<◌, ◌⊎◌, ◌↔◌, ℕ, Bool, true, false, length, Option, None, Some, Ok, Err, IfErr, IfOk, IfSome, IsSome, OnOk};
+ghost use Rattle.std.specs.Ordering.{nat_cmp};
+ghost use Rattle.std.specs.BTreeMap.{Updates, btree_map_len, get};
 ghost use Rattle.im_types.specs.declared.fault.Fault.TheVariants.{Capacity, Device, Failed, LogFull, Memory, NotAStore};
 ghost use Rattle.im_types.specs.Histories.{Base, History, IsRecordOf, Rises};
 ghost use Rattle.im_types.specs.Transactions.{is_key};
@@ -12,6 +14,7 @@ ghost use Rattle.im_log.specs.Whats.{what_of};
 ghost use Rattle.im_log.specs.Spelled.{logged_at};
 ghost use Rattle.im_analysis.specs.Losers.{AreLosers};
 ghost use Rattle.im_flush.specs.PageWriter.{IsReadyWriter, StandsAs};
+ghost use Rattle.im_restart.specs.UndoOrder.{IsLatest};
 ghost use Rattle.im_restart.specs.LoserChains.{AreChains, GoesOnAt, IsToUndo, LeadsNowhere, MayLeadOn, PutKept, above, and_also, nobody};
 ghost use Rattle.im_restart.specs.Undoing.{CompensateKept, EndKept, IsUndoing, EnterKept, StepKept, UndoKept};
 
@@ -232,7 +235,7 @@ fn undo_record<D: Disk>(
     ensures ready { IsReadyWriter D.Disk writer.new disk.new }
     ensures kept { (b : Base) (base : ℕ) (all : History) (s : Writer) (out : ℕ → Bool) → StandsAs D.Disk b base s writer.old disk.old → IsUndoing b all s
         → AreChains (and_also chain.transaction out) chains.old s.log → out chain.transaction ≡ false → GoesOnAt chain lsn s.log
-        → IsRecordOf (logged_at lsn (view record.now)) s.log → transaction_of (view record.now) ≡ chain.transaction
+        → IsRecordOf (logged_at lsn (view record.now)) s.log → transaction_of (view record.now) ≡ chain.transaction → IsLatest lsn s.log
         → StepKept D.Disk b base all s chain.transaction out disk.old writer.new chains.new disk.new result }
     ensures above { OnOk result (above chains.old.entries ≤ lsn → above chains.new.entries ≤ lsn) }
     ensures works { OnOk result (writer.new.failed ≡ false) }
@@ -267,7 +270,7 @@ fn undo_at<D: Disk>(
     ensures ready { IsReadyWriter D.Disk writer.new disk.new }
     ensures room { length room.new ≡ length room.old }
     ensures kept { (b : Base) (base : ℕ) (all : History) (s : Writer) (out : ℕ → Bool) → StandsAs D.Disk b base s writer.old disk.old → IsUndoing b all s
-        → AreChains (and_also chain.transaction out) chains.old s.log → out chain.transaction ≡ false → lsn ≢ 0 → GoesOnAt chain lsn s.log
+        → AreChains (and_also chain.transaction out) chains.old s.log → out chain.transaction ≡ false → lsn ≢ 0 → GoesOnAt chain lsn s.log → IsLatest lsn s.log
         → StepKept D.Disk b base all s chain.transaction out disk.old writer.new chains.new disk.new result }
     ensures above { OnOk result (above chains.old.entries ≤ lsn → above chains.new.entries ≤ lsn) }
     ensures works { OnOk result (writer.new.failed ≡ false) }
@@ -278,6 +281,17 @@ fn undo_at<D: Disk>(
     let size = writer.read_at(disk, lsn, room)?;
     let record = decode(&room[..size])?;
     undo_record(alloc, disk, writer, chains, chain, lsn, &record)
+}
+
+// Takes out the chain whose undo goes on at the greatest LSN.
+fn take_last(chains: &mut BTreeMap<Lsn, Chain>) -> Option<(Lsn, Chain)>
+    ensures variant { IsSome result ↔ (0 < btree_map_len chains.old) }
+    ensures removal { IfSome result (λ e. chains.old.entries ≡ chains.new.entries ++ e ∷ []) }
+    ensures value { IfSome result (λ e. get nat_cmp chains.old e.0 ≡ Some e.1) }
+    ensures updates { IfSome result (λ e. Updates nat_cmp chains.old chains.new e.0 None) }
+    ensures others { IfSome result (λ e. above chains.new.entries ≤ e.0) }
+{
+    chains.pop_last()
 }
 
 // Undoes and ends the transactions of these chains, the record with the greatest LSN first.
@@ -299,7 +313,7 @@ fn undo_all<D: Disk>(
     ensures no_room { result ≡ Err LogFull → HasNoRoom writer.new.log }
     ensures device { result ≡ Err Device ↔ (D.failed disk.new ≡ true) }
 {
-    while let Some((lsn, chain)) = chains.pop_last() {
+    while let Some((lsn, chain)) = take_last(chains) {
         undo_at(alloc, disk, writer, chains, chain, lsn, room)?;
     }
     Ok(())

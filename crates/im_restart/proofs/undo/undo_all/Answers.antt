@@ -1,8 +1,11 @@
-use Rattle.std.proofs.Common.{rules, ◌≢◌, ◌≤◌, refl, arith}
+use Rattle.std.proofs.Common.{rules, ◌≢◌, refl, arith}
 use Rattle.std.proofs.lemmas.Grind.{common_steps}
 use Rattle.im_types.specs.declared.fault.Fault.TheVariants.{NotAStore}
-use Rattle.im_restart.specs.LoserChains.{above, nobody}
-use Rattle.im_restart.proofs.Bounds.{above_below, falls, none_left}
+use Rattle.im_tree.specs.Theory.{page_tree}
+use Rattle.im_tree.proofs.TheoryLaws.{page_tree_laws}
+use Rattle.im_restart.specs.LoserChains.{nobody}
+use Rattle.im_restart.proofs.Bounds.{falls, none_left}
+use Rattle.im_restart.proofs.Latest.{latest_here}
 use Rattle.im_restart.proofs.Losers.{chains_none, chains_taken}
 use Rattle.im_restart.proofs.Steps.{left_then, undo_start, undo_then}
 use Rattle.im_restart.proofs.undo.undo_all.Goals as goal
@@ -17,8 +20,7 @@ loop-lsn-init g c = record {
 
 pub loop-lsn-smaller : goal.loop-lsn-smaller
 loop-lsn-smaller g c =
-    let taken : above c.pop_last.new.self.entries ≤ c.in-Some.lsn = above_below c.pop_last.new.self.entries c.in-Some.lsn c.in-Some.ensures.all_below in
-    falls c.loop-lsn.chains.entries c.undo_at.new.chains.entries c.pop_last.new.self.entries c.in-Some.lsn c.in-Some.chain c.in-Some.ensures.removal (c.in_ok-undo_at.ensures.above taken)
+    falls c.loop-lsn.chains.entries c.undo_at.new.chains.entries c.take_last.new.chains.entries c.in-Some.lsn c.in-Some.chain c.in-Some.ensures.removal (c.in_ok-undo_at.ensures.above c.in-Some.ensures.others)
 
 pub loop-lsn-preserved : goal.loop-lsn-preserved
 loop-lsn-preserved g c = record {
@@ -27,8 +29,9 @@ loop-lsn-preserved g c = record {
   working = c.in_ok-undo_at.ensures.works;
   kept = λ b base all s stands is are. (
       let h = c.loop-lsn.invariant.kept b base all s stands is are in
-      let t = chains_taken c.loop-lsn.chains c.pop_last.new.self h.0.log c.in-Some.lsn c.in-Some.chain h.2 c.in-Some.ensures.value c.in-Some.ensures.updates.0 in
-      let k = c.in_ok-undo_at.ensures.kept b base all h.0 nobody h.1.stands h.1.undoing t.0 refl t.1 t.2 in
+      let t = chains_taken c.loop-lsn.chains c.take_last.new.chains h.0.log c.in-Some.lsn c.in-Some.chain h.2 c.in-Some.ensures.value c.in-Some.ensures.updates.0 in
+      let latest = latest_here b page_tree page_tree_laws h.0.log c.in-Some.chain c.in-Some.lsn c.take_last.new.chains h.1.undoing.can t.2 t.0 c.in-Some.ensures.others in
+      let k = c.in_ok-undo_at.ensures.kept b base all h.0 nobody h.1.stands h.1.undoing t.0 refl t.1 t.2 latest in
       (k.ok.now, undo_then g.D.Disk b base all s c.args.disk.now h.0 c.loop-lsn.writer c.loop-lsn.disk k.ok.now c.undo_at.new.writer c.undo_at.new.disk h.1 k.ok.goes, k.ok.are)
       );
 }
@@ -36,8 +39,9 @@ loop-lsn-preserved g c = record {
 pub returns-in_err-undo_at-clause-kept : goal.returns-in_err-undo_at-clause-kept
 returns-in_err-undo_at-clause-kept g c b base all s stands is are =
     let h = c.loop-lsn.invariant.kept b base all s stands is are in
-    let t = chains_taken c.loop-lsn.chains c.pop_last.new.self h.0.log c.in-Some.lsn c.in-Some.chain h.2 c.in-Some.ensures.value c.in-Some.ensures.updates.0 in
-    let k = c.in_err-undo_at.ensures.kept b base all h.0 nobody h.1.stands h.1.undoing t.0 refl t.1 t.2 in
+    let t = chains_taken c.loop-lsn.chains c.take_last.new.chains h.0.log c.in-Some.lsn c.in-Some.chain h.2 c.in-Some.ensures.value c.in-Some.ensures.updates.0 in
+    let latest = latest_here b page_tree page_tree_laws h.0.log c.in-Some.chain c.in-Some.lsn c.take_last.new.chains h.1.undoing.can t.2 t.0 c.in-Some.ensures.others in
+    let k = c.in_err-undo_at.ensures.kept b base all h.0 nobody h.1.stands h.1.undoing t.0 refl t.1 t.2 latest in
     let other : c.in_err-undo_at.field-0.0 ≢ NotAStore = k.cause in
     record { ok = search rules; stops = left_then g.D.Disk b base all c.args.disk.now c.loop-lsn.disk c.undo_at.new.disk h.1.stops k.stops; cause = search (rules, other) }
 

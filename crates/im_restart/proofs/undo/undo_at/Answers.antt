@@ -7,7 +7,7 @@ use Rattle.im_restart.proofs.Undos.{read_stops, step_then, undo_read}
 use Rattle.im_restart.proofs.undo.undo_at.Goals as goal
 
 pub returns-in_err-size-clause-kept : goal.returns-in_err-size-clause-kept
-returns-in_err-size-clause-kept g c b base all s out stands is are left some goes =
+returns-in_err-size-clause-kept g c b base all s out stands is are left some goes latest =
     let at = goes.at some in
     let cause : c.in_err-size.field-0.0 ≡ Device = (c.in_err-size.ensures.found b base s at.found stands at.logged (sym at.here)).cause in
     let other : c.in_err-size.field-0.0 ≢ NotAStore = λ e. (let clash : Device ≡ NotAStore = sym cause ∙ e in cc clash) in
@@ -18,13 +18,13 @@ returns-in_err-size-clause-kept g c b base all s out stands is are left some goe
     }
 
 pub returns-in_err-record-clause-kept : goal.returns-in_err-record-clause-kept
-returns-in_err-record-clause-kept g c b base all s out stands is are left some goes =
+returns-in_err-record-clause-kept g c b base all s out stands is are left some goes latest =
     let at = goes.at some in
     let found = c.in_ok-size.ensures.found b base s at.found stands at.logged (sym at.here) in
     absurd (spelled_none at.found _ found.ok c.in_err-record.ensures.entry.1)
 
 pub returns-clause-kept : goal.returns-clause-kept
-returns-clause-kept g c b base all s out stands is are left some goes =
+returns-clause-kept g c b base all s out stands is are left some goes latest =
     let t = c.args.chain.transaction in
     let at = goes.at some in
     let found = c.in_ok-size.ensures.found b base s at.found stands at.logged (sym at.here) in
@@ -32,4 +32,4 @@ returns-clause-kept g c b base all s out stands is are left some goes =
     let after = c.in_ok-size.ensures.kept b base s stands in
     let read = undo_read g.D.Disk b base all s c.args.writer.now c.read_at.new.self c.args.disk.now c.read_at.new.disk (g.met.D.Disk.only_now c.args.disk.now) stands is c.read_at.ensures.reads after in
     step_then g.D.Disk b base all s t out c.args.disk.now s c.read_at.new.self c.read_at.new.disk c.undo_record.new.writer c.undo_record.new.chains c.undo_record.new.disk c.undo_record.result read (spares_none t s.log)
-    (c.undo_record.ensures.kept b base all s out after is are left goes here.0 here.1)
+    (c.undo_record.ensures.kept b base all s out after is are left goes here.0 here.1 latest)

@@ -7,16 +7,16 @@ use Rattle.im_record.specs.Entry.{view}
 use Rattle.im_restart.proofs.undo.undo_record.Goals as goal
 
 pub returns-in_err-next-clause-kept : goal.returns-in_err-next-clause-kept
-returns-in_err-next-clause-kept g c b base all s out stands is are left goes there mine =
+returns-in_err-next-clause-kept g c b base all s out stands is are left goes there mine latest =
     absurd (leads_somewhere b page_tree page_tree_laws s.log c.args.chain c.args.lsn (view c.args.«record».now) is.can goes there mine c.in_err-next.ensures.refused.1)
 
 pub returns-then-is_key-clause-kept : goal.returns-then-is_key-clause-kept
-returns-then-is_key-clause-kept g c b base all s out stands is are left goes there mine =
+returns-then-is_key-clause-kept g c b base all s out stands is are left goes there mine latest =
     let key = sym c.is_key.ensures ∙ c.if-is_key.true in
-    c.undo_key.ensures.kept b base all s out stands is are left (to_undo_here b page_tree page_tree_laws s.log c.args.chain c.args.lsn (view c.args.«record».now) is.can goes there mine key)
+    c.undo_key.ensures.kept b base all s out stands is are left (to_undo_here b page_tree page_tree_laws s.log c.args.chain c.args.lsn (view c.args.«record».now) is.can goes there mine key latest)
 
 pub returns-else-is_key-clause-kept : goal.returns-else-is_key-clause-kept
-returns-else-is_key-clause-kept g c b base all s out stands is are left goes there mine =
+returns-else-is_key-clause-kept g c b base all s out stands is are left goes there mine latest =
     let other = c.in_ok-next.ensures.other (sym c.is_key.ensures ∙ c.if-is_key.false) in
     let on = leads_so b page_tree page_tree_laws s.log c.args.chain c.args.lsn (view c.args.«record».now) is.can goes there mine other.0 in
     c.go_on.ensures.kept b base all s out stands is are left (subst (λ n. GoesOnAt c.args.chain n s.log) (sym other.1) on)
