@@ -6,6 +6,7 @@ pub mod InsertLemmas
 pub mod RemoveLemmas
 pub mod EntryLemmas
 pub mod ChildLemmas
+pub mod CoverLemmas
 pub mod SoundLemmas
 pub mod FormLemmas
 pub mod HeaderLemmas

@@ -1,12 +1,14 @@
 -- One more slot of the test, and what the whole test says.
-use Rattle.std.proofs.Common.{zero, suc, ◌≡◌, ◌⊎◌, ℕ, ◌+◌, ◌-◌, ◌*◌, ◌<◌, ◌≤◌, Bool, true, false, List, length, replicate, slice_index, refl, sym, ap, subst, ◌∙◌, inl, inr, ⊎_elim, arith}
-use Rattle.std.proofs.lemmas.Bool.{cases_lt, true≢false}
+use Rattle.std.proofs.Common.{zero, suc, ◌≡◌, ◌⊎◌, ℕ, ◌+◌, ◌-◌, ◌*◌, ◌<◌, ◌≤◌, Bool, true, false, List, length, replicate, slice_index, slice_set, refl, sym, ap, subst, ◌∙◌, inl, inr, ⊎_elim, arith}
+use Rattle.std.proofs.lemmas.Bool.{cases_eq, cases_lt, cases_order, true≢false}
+use Rattle.std.proofs.lemmas.List.{get_or-set_other, get_or-set_same, length-set}
 use Rattle.std.proofs.lemmas.List.FromFn.{sum_by-map-range_with_len_more}
 use Rattle.im_page.specs.Entry.{size}
 use Rattle.im_types.specs.Keys.{IsBelow}
 use Rattle.im_page.specs.Form.{count_of, start_of, slot_at, cell_size, key_from, entry_from, entries_of, IsPacked}
-use Rattle.im_page.specs.Sound.{is_taken, IsClear, Marks, IsCell, AreSound, AreMarked, total_of, SlotsSound}
-use Rattle.im_page.proofs.Order.{below_trans}
+use Rattle.im_page.specs.Sound.{is_taken, AreSound, AreStarts, AreStartsTo, HasSlots, IsCell, MarksOne, SlotsSound, total_of}
+use Rattle.im_page.proofs.Order.{below_irrefl, below_trans}
+use Rattle.im_page.proofs.CoverLemmas.{covered, spans}
 use Rattle.im_page.proofs.RemoveLemmas.{key_len}
 
 pub all_false : (n k : ℕ) → is_taken (replicate n false) k ≡ false
@@ -17,42 +19,108 @@ all_false (suc n) (suc k) = all_false n k
 pub none_sound : (leaf : Bool) (bytes : List ℕ) → AreSound leaf bytes 0
 none_sound leaf bytes = record { cells = λ i lt. absurd (omega arith); apart = λ i j lt. absurd (omega arith); rises = λ i j ij lt. absurd (omega arith) }
 
-pub none_marked : (leaf : Bool) (bytes : List ℕ) (flags : List Bool) → flags ≡ replicate 4096 false → AreMarked leaf bytes flags 0
-none_marked leaf bytes flags e =
+pub total_more : (leaf : Bool) (bytes : List ℕ) (n at : ℕ) → at ≡ slot_at bytes n → at + 1 + slice_index bytes at ≤ length bytes
+    → total_of leaf bytes (n + 1) ≡ total_of leaf bytes n + cell_size leaf bytes at
+total_more leaf bytes n at is_at fits =
+    sum_by-map-range_with_len_more (size leaf) (λ i. entry_from leaf bytes (slot_at bytes i)) 0 n n (omega arith)
+    ∙ ap (λ a. total_of leaf bytes n + size leaf (entry_from leaf bytes a)) (sym is_at)
+    ∙ ap (λ m. total_of leaf bytes n + m) (key_len leaf bytes at fits)
+
+spans_total : (leaf : Bool) (bytes : List ℕ) (n : ℕ) → length bytes ≡ 4096 → AreSound leaf bytes n
+    → spans (slot_at bytes) (λ i. slot_at bytes i + cell_size leaf bytes (slot_at bytes i)) n ≡ total_of leaf bytes n
+unfolding spans
+spans_total leaf bytes zero len h = refl
+spans_total leaf bytes (suc n) len h =
+    let cell = h.cells n (omega arith) in
+    let rest = spans_total leaf bytes n len (record { cells = λ i lt. h.cells i (omega arith); apart = λ i j li lj ne. h.apart i j (omega arith) (omega arith) ne; rises = λ i j ij lj. h.rises i j ij (omega arith) }) in
+    let at : ℕ = slot_at bytes n in
+    let next : n + 1 ≡ suc n = omega arith in
+    let more : total_of leaf bytes (suc n) ≡ total_of leaf bytes n + cell_size leaf bytes at = ap (total_of leaf bytes) (sym next) ∙ total_more leaf bytes n at refl (omega (arith, cell.high, len)) in
+    added _ _ _ at (cell_size leaf bytes at) rest more
+  where
+    added : (a b c at more : ℕ) → a ≡ b → c ≡ b + more → a + (at + more - at) ≡ c
+    added a b c at m same more = omega (arith, same, more)
+
+-- the cells of a packed page leave no byte out: where all before a byte end there, one begins there
+begun_at : (leaf : Bool) (bytes : List ℕ) (flags : List Bool) (at : ℕ) → length bytes ≡ 4096 → AreStartsTo leaf bytes flags at → at < 4096
+    → SlotsSound leaf bytes → (j : ℕ) × (j < count_of bytes) × (slot_at bytes j ≡ at)
+begun_at leaf bytes flags at len walk lt h =
+    let all : start_of bytes + spans (slot_at bytes) (λ i. slot_at bytes i + cell_size leaf bytes (slot_at bytes i)) (count_of bytes) ≡ 4096 = omega (arith, h.full, spans_total leaf bytes (count_of bytes) len h.sound) in
+    let some = covered (slot_at bytes) (λ i. slot_at bytes i + cell_size leaf bytes (slot_at bytes i)) (count_of bytes) (start_of bytes) 4096
+    (λ i li. ((h.sound.cells i li).low, omega arith, (h.sound.cells i li).high)) h.sound.apart all at walk.low lt in
+    (some.0, some.1, ⊎_elim (λ (x : slot_at bytes some.0 < at). absurd (omega (arith, (walk.found h some.0 some.1 x).1, some.3))) (λ (x : at ≤ slot_at bytes some.0). omega (arith, x, some.2)) (cases_lt (slot_at bytes some.0) at))
+
+pub walk_begins : (leaf : Bool) (bytes : List ℕ) (flags : List Bool) → start_of bytes ≤ 4096 → flags ≡ replicate 4096 false → length flags ≡ 4096 → AreStartsTo leaf bytes flags (start_of bytes)
+walk_begins leaf bytes flags start clear long =
+    let none : (k : ℕ) → is_taken flags k ≡ true → ⊥ = λ k t. true≢false (sym t ∙ ap (λ f. is_taken f k) clear ∙ all_false 4096 k) in
     record {
-      of = λ k t. absurd (true≢false (sym t ∙ ap (λ f. is_taken f k) e ∙ all_false 4096 k));
-      at = λ j k lt. absurd (omega arith);
+      low = omega arith;
+      high = start;
+      len = long;
+      starts = record { cells = λ k t. absurd (none k t); apart = λ k j t u lt. absurd (none k t) };
+      ends = λ k t. absurd (none k t);
+      found = λ h i li lt. absurd (omega (arith, lt, (h.sound.cells i li).low));
     }
 
--- a cell over clear flags is apart from each cell before it
-pub apart_from : (leaf : Bool) (bytes : List ℕ) (flags : List Bool) (n at end j : ℕ) → AreMarked leaf bytes flags n → IsClear flags at end → at < end → j < n
-    → 1 ≤ cell_size leaf bytes (slot_at bytes j)
-    → (slot_at bytes j + cell_size leaf bytes (slot_at bytes j) ≤ at) ⊎ (end ≤ slot_at bytes j)
-apart_from leaf bytes flags n at end j marked clear some lt size =
-    let s : ℕ = slot_at bytes j in
-    let e : ℕ = s + cell_size leaf bytes s in
-    ⊎_elim
-    (λ (x : at < e). ⊎_elim
-    (λ (y : s < end). ⊎_elim
-    (λ (z : at < s). absurd (true≢false (sym (marked.at j s lt (omega arith) (omega arith)) ∙ clear s (omega arith) y)))
-    (λ (z : s ≤ at). absurd (true≢false (sym (marked.at j at lt z x) ∙ clear at (omega arith) some)))
-    (cases_lt at s))
-    (λ (y : end ≤ s). inr y)
-    (cases_lt s end))
-    (λ (x : e ≤ at). inl x)
-    (cases_lt at e)
-
-pub sound_more : (leaf : Bool) (bytes : List ℕ) (flags : List Bool) (n at end : ℕ) → AreSound leaf bytes n → AreMarked leaf bytes flags n → at ≡ slot_at bytes n
-    → end ≡ at + cell_size leaf bytes at → IsCell leaf bytes at → IsClear flags at end
-    → (0 < n → IsBelow (key_from bytes (slot_at bytes (n - 1))) (key_from bytes at)) → AreSound leaf bytes (n + 1)
-sound_more leaf bytes flags n at end h marked is_at is_end cell clear below =
-    let here : IsCell leaf bytes (slot_at bytes n) = subst (IsCell leaf bytes) is_at cell in
-    let beside : (j : ℕ) → j < n → (slot_at bytes j + cell_size leaf bytes (slot_at bytes j) ≤ slot_at bytes n) ⊎ (slot_at bytes n + cell_size leaf bytes (slot_at bytes n) ≤ slot_at bytes j) =
-    λ j lt. ⊎_elim (λ (x : slot_at bytes j + cell_size leaf bytes (slot_at bytes j) ≤ at). inl (omega arith))
-    (λ (x : end ≤ slot_at bytes j). inr (subst (λ a. a + cell_size leaf bytes a ≤ slot_at bytes j) is_at (omega arith)))
-    (apart_from leaf bytes flags n at end j marked clear (omega arith) lt (omega arith)) in
+pub walk_goes : (leaf : Bool) (bytes : List ℕ) (flags new : List Bool) (at : ℕ) → length bytes ≡ 4096 → AreStartsTo leaf bytes flags at → at < 4096
+    → IsCell leaf bytes at → MarksOne flags new at → AreStartsTo leaf bytes new (at + cell_size leaf bytes at)
+walk_goes leaf bytes flags new at len walk lt cell marks =
+    let old : (k : ℕ) → is_taken new k ≡ true → (k ≡ at) ⊎ (is_taken flags k ≡ true) = λ k t. ⊎_elim (λ (e : k ≡ at). inl e) (λ ne. inr (sym (marks.others k ne) ∙ t)) (cases_eq k at) in
     record {
-      cells = λ i lt. ⊎_elim (λ (x : i < n). h.cells i x) (λ (x : n ≤ i). let e : n ≡ i = omega arith in subst (λ k. IsCell leaf bytes (slot_at bytes k)) e here) (cases_lt i n);
+      low = omega (arith, walk.low);
+      high = cell.high;
+      len = marks.len ∙ walk.len;
+      starts = record {
+        cells = λ k t. ⊎_elim (λ (e : k ≡ at). subst (IsCell leaf bytes) (sym e) cell) (λ o. walk.starts.cells k o) (old k t);
+        apart = λ k j t u kj. ⊎_elim
+            (λ (e : k ≡ at). ⊎_elim (λ (f : j ≡ at). absurd (omega arith)) (λ o. absurd (omega (arith, e, kj, walk.ends j o))) (old j u))
+            (λ o. ⊎_elim (λ (f : j ≡ at). omega (arith, f, walk.ends k o)) (λ p. walk.starts.apart k j o p kj) (old j u))
+            (old k t);
+      };
+      ends = λ k t. ⊎_elim (λ (e : k ≡ at). subst (λ m. m + cell_size leaf bytes m ≤ at + cell_size leaf bytes at) (sym e) (omega arith)) (λ o. omega (arith, walk.ends k o)) (old k t);
+      found = λ h i li below. ⊎_elim
+          (λ (x : slot_at bytes i < at). let f = walk.found h i li x in (marks.others (slot_at bytes i) (λ e. omega arith) ∙ f.0, omega (arith, f.1)))
+          (λ (x : at ≤ slot_at bytes i).
+          let first = begun_at leaf bytes flags at len walk lt h in
+          ⊎_elim
+          (λ (e : slot_at bytes i ≡ at). (subst (λ m. is_taken new m ≡ true) (sym e) marks.here, subst (λ m. m + cell_size leaf bytes m ≤ at + cell_size leaf bytes at) (sym e) (omega arith)))
+          (λ ne. absurd (⊎_elim (λ y. omega (arith, y, first.2, x)) (λ y. ne (omega (arith, subst (λ m. m + cell_size leaf bytes m ≤ slot_at bytes i) first.2 y, below)))
+          (h.sound.apart i first.0 li first.1 (λ same. ne (ap (slot_at bytes) same ∙ first.2)))))
+          (cases_eq (slot_at bytes i) at))
+          (cases_lt (slot_at bytes i) at);
+    }
+
+pub marks_set : (flags : List Bool) (at : ℕ) → at < length flags → MarksOne flags (slice_set flags at true) at
+marks_set flags at lt = record { len = length-set flags at true; here = get_or-set_same flags at true false lt; others = λ k ne. get_or-set_other flags at k true false ne }
+
+-- where the walk goes on, a packed page has a cell
+pub cell_there : (leaf : Bool) (bytes : List ℕ) (flags : List Bool) (at : ℕ) → length bytes ≡ 4096 → AreStartsTo leaf bytes flags at → at < 4096
+    → SlotsSound leaf bytes → IsCell leaf bytes at
+cell_there leaf bytes flags at len walk lt h = let first = begun_at leaf bytes flags at len walk lt h in subst (IsCell leaf bytes) first.2 (h.sound.cells first.0 first.1)
+
+pub all_flagged : (leaf : Bool) (bytes : List ℕ) (flags : List Bool) (at : ℕ) → AreStartsTo leaf bytes flags at → 4096 ≤ at → SlotsSound leaf bytes → HasSlots bytes flags
+all_flagged leaf bytes flags at walk end h = λ i li. (walk.found h i li (omega (arith, (h.sound.cells i li).high))).0
+
+pub sound_more : (leaf : Bool) (bytes : List ℕ) (flags : List Bool) (n at : ℕ) → AreSound leaf bytes n → AreStarts leaf bytes flags
+    → ((i : ℕ) → i < n → is_taken flags (slot_at bytes i) ≡ true) → at ≡ slot_at bytes n → is_taken flags at ≡ true
+    → (0 < n → IsBelow (key_from bytes (slot_at bytes (n - 1))) (key_from bytes at)) → AreSound leaf bytes (n + 1)
+sound_more leaf bytes flags n at h starts flagged is_at taken below =
+    let here : is_taken flags (slot_at bytes n) ≡ true = subst (λ k. is_taken flags k ≡ true) is_at taken in
+    let last : 0 < n → IsBelow (key_from bytes (slot_at bytes (n - 1))) (key_from bytes (slot_at bytes n)) = λ some. subst (λ a. IsBelow (key_from bytes (slot_at bytes (n - 1))) (key_from bytes a)) is_at (below some) in
+    let up : (i : ℕ) → i < n → IsBelow (key_from bytes (slot_at bytes i)) (key_from bytes (slot_at bytes n)) =
+    λ i lt. ⊎_elim (λ (z : i < n - 1). below_trans _ _ _ (h.rises i (n - 1) z (omega arith)) (last (omega arith)))
+    (λ (z : n - 1 ≤ i). let f : n - 1 ≡ i = omega arith in subst (λ k. IsBelow (key_from bytes (slot_at bytes k)) (key_from bytes (slot_at bytes n))) f (last (omega arith)))
+    (cases_lt i (n - 1)) in
+    let beside : (j : ℕ) → j < n → (slot_at bytes j + cell_size leaf bytes (slot_at bytes j) ≤ slot_at bytes n) ⊎ (slot_at bytes n + cell_size leaf bytes (slot_at bytes n) ≤ slot_at bytes j) =
+    λ j lt. ⊎_elim
+    (λ (e : slot_at bytes j ≡ slot_at bytes n). absurd (below_irrefl _ (subst (λ a. IsBelow (key_from bytes a) (key_from bytes (slot_at bytes n))) e (up j lt))))
+    (λ rest. ⊎_elim
+    (λ (x : slot_at bytes j < slot_at bytes n). inl (starts.apart (slot_at bytes j) (slot_at bytes n) (flagged j lt) here x))
+    (λ (x : slot_at bytes n < slot_at bytes j). inr (starts.apart (slot_at bytes n) (slot_at bytes j) here (flagged j lt) x))
+    rest)
+    (cases_order (slot_at bytes j) (slot_at bytes n)) in
+    record {
+      cells = λ i lt. ⊎_elim (λ (x : i < n). h.cells i x) (λ (x : n ≤ i). let e : n ≡ i = omega arith in subst (λ k. IsCell leaf bytes (slot_at bytes k)) e (starts.cells (slot_at bytes n) here)) (cases_lt i n);
       apart = λ i j li lj ne. ⊎_elim
           (λ (x : i < n). ⊎_elim (λ (y : j < n). h.apart i j x y ne)
           (λ (y : n ≤ j). let e : n ≡ j = omega arith in subst (λ k. (slot_at bytes i + cell_size leaf bytes (slot_at bytes i) ≤ slot_at bytes k) ⊎ (slot_at bytes k + cell_size leaf bytes (slot_at bytes k) ≤ slot_at bytes i)) e (beside i x))
@@ -64,39 +132,15 @@ sound_more leaf bytes flags n at end h marked is_at is_end cell clear below =
           (cases_lt j n))
           (cases_lt i n);
       rises = λ i j ij lj. ⊎_elim (λ (y : j < n). h.rises i j ij y)
-          (λ (y : n ≤ j). let e : n ≡ j = omega arith in
-          let last : IsBelow (key_from bytes (slot_at bytes (n - 1))) (key_from bytes (slot_at bytes n)) = subst (λ a. IsBelow (key_from bytes (slot_at bytes (n - 1))) (key_from bytes a)) is_at (below (omega arith)) in
-          subst (λ k. IsBelow (key_from bytes (slot_at bytes i)) (key_from bytes (slot_at bytes k))) e
-          (⊎_elim (λ (z : i < n - 1). below_trans _ _ _ (h.rises i (n - 1) z (omega arith)) last)
-          (λ (z : n - 1 ≤ i). let f : n - 1 ≡ i = omega arith in subst (λ k. IsBelow (key_from bytes (slot_at bytes k)) (key_from bytes (slot_at bytes n))) f last)
-          (cases_lt i (n - 1))))
+          (λ (y : n ≤ j). let e : n ≡ j = omega arith in subst (λ k. IsBelow (key_from bytes (slot_at bytes i)) (key_from bytes (slot_at bytes k))) e (up i (omega arith)))
           (cases_lt j n);
     }
 
-pub marked_more : (leaf : Bool) (bytes : List ℕ) (flags new : List Bool) (n at end : ℕ) → AreMarked leaf bytes flags n → at ≡ slot_at bytes n
-    → end ≡ at + cell_size leaf bytes at → Marks flags new at end → AreMarked leaf bytes new (n + 1)
-marked_more leaf bytes flags new n at end h is_at is_end marks =
-    let is_size : cell_size leaf bytes at ≡ cell_size leaf bytes (slot_at bytes n) = ap (cell_size leaf bytes) is_at in
-    let old : (k : ℕ) → is_taken flags k ≡ true → (j : ℕ) × (j < n + 1) × (slot_at bytes j ≤ k) × (k < slot_at bytes j + cell_size leaf bytes (slot_at bytes j)) =
-    λ k t. let x = h.of k t in (x.0, omega (arith, x.1), x.2, x.3) in
-    record {
-      of = λ k t. ⊎_elim (λ (x : k < at). old k (sym (marks.below k x) ∙ t))
-          (λ (x : at ≤ k). ⊎_elim (λ (y : k < end). (n, omega arith, omega arith, omega arith)) (λ (y : end ≤ k). old k (sym (marks.above k y) ∙ t)) (cases_lt k end))
-          (cases_lt k at);
-      at = λ j k lt low high. ⊎_elim (λ (x : k < at). ⊎_elim (λ (z : j < n). marks.below k x ∙ h.at j k z low high) (λ (z : n ≤ j). let e : j ≡ n = omega arith in absurd (omega (arith, ap (slot_at bytes) e))) (cases_lt j n))
-          (λ (x : at ≤ k). ⊎_elim (λ (y : k < end). marks.is_set k x y)
-          (λ (y : end ≤ k). ⊎_elim (λ (z : j < n). marks.above k y ∙ h.at j k z low high)
-          (λ (z : n ≤ j). let e : j ≡ n = omega arith in absurd (omega (arith, ap (slot_at bytes) e, ap (λ i. cell_size leaf bytes (slot_at bytes i)) e))) (cases_lt j n))
-          (cases_lt k end))
-          (cases_lt k at);
-    }
-
-pub total_more : (leaf : Bool) (bytes : List ℕ) (n at : ℕ) → at ≡ slot_at bytes n → at + 1 + slice_index bytes at ≤ length bytes
-    → total_of leaf bytes (n + 1) ≡ total_of leaf bytes n + cell_size leaf bytes at
-total_more leaf bytes n at is_at fits =
-    sum_by-map-range_with_len_more (size leaf) (λ i. entry_from leaf bytes (slot_at bytes i)) 0 n n (omega arith)
-    ∙ ap (λ a. total_of leaf bytes n + size leaf (entry_from leaf bytes a)) (sym is_at)
-    ∙ ap (λ m. total_of leaf bytes n + m) (key_len leaf bytes at fits)
+-- a slot more is flagged
+pub flagged_more : (bytes : List ℕ) (flags : List Bool) (n at : ℕ) → ((i : ℕ) → i < n → is_taken flags (slot_at bytes i) ≡ true) → at ≡ slot_at bytes n → is_taken flags at ≡ true
+    → (i : ℕ) → i < n + 1 → is_taken flags (slot_at bytes i) ≡ true
+flagged_more bytes flags n at flagged is_at taken i lt =
+    ⊎_elim (λ (x : i < n). flagged i x) (λ (x : n ≤ i). let e : n ≡ i = omega arith in subst (λ k. is_taken flags (slot_at bytes k) ≡ true) e (subst (λ k. is_taken flags k ≡ true) is_at taken)) (cases_lt i n)
 
 -- the whole form, from the slots
 pub packed_from : (leaf : Bool) (bytes : List ℕ) → length bytes ≡ 4096 → 32 + 2 * count_of bytes ≤ start_of bytes → start_of bytes ≤ 4096

@@ -8,19 +8,6 @@ use Rattle.im_page.specs.Form.{count_of, start_of, slot_at, cell_size, key_from,
 abbrev pub is_taken : List Bool → ℕ → Bool
 is_taken flags k = slice_index_or flags k false
 
-abbrev pub HasTaken : List Bool → ℕ → ℕ → Type 0
-HasTaken flags from to = (k : ℕ) × (from ≤ k) × (k < to) × (is_taken flags k ≡ true)
-
-abbrev pub IsClear : List Bool → ℕ → ℕ → Type 0
-IsClear flags from to = (k : ℕ) → from ≤ k → k < to → is_taken flags k ≡ false
-
--- the flags of the range are set, and the others stay
-pub record Marks (old new : List Bool) (from to : ℕ) : Type 0 where
-  pub len : length new ≡ length old
-  pub is_set : (k : ℕ) → from ≤ k → k < to → is_taken new k ≡ true
-  pub below : (k : ℕ) → k < from → is_taken new k ≡ is_taken old k
-  pub above : (k : ℕ) → to ≤ k → is_taken new k ≡ is_taken old k
-
 -- a cell lies in the area, and has a key
 pub record IsCell (leaf : Bool) (bytes : List ℕ) (at : ℕ) : Type 0 where
   pub low : start_of bytes ≤ at
@@ -35,15 +22,36 @@ pub record AreSound (leaf : Bool) (bytes : List ℕ) (n : ℕ) : Type 0 where
       ⊎ (slot_at bytes j + cell_size leaf bytes (slot_at bytes j) ≤ slot_at bytes i)
   pub rises : (i j : ℕ) → i < j → j < n → IsBelow (key_from bytes (slot_at bytes i)) (key_from bytes (slot_at bytes j))
 
--- a flag is set exactly where one of the first n cells lies
-pub record AreMarked (leaf : Bool) (bytes : List ℕ) (flags : List Bool) (n : ℕ) : Type 0 where
-  pub of : (k : ℕ) → is_taken flags k ≡ true → (j : ℕ) × (j < n) × (slot_at bytes j ≤ k) × (k < slot_at bytes j + cell_size leaf bytes (slot_at bytes j))
-  pub at : (j k : ℕ) → j < n → slot_at bytes j ≤ k → k < slot_at bytes j + cell_size leaf bytes (slot_at bytes j) → is_taken flags k ≡ true
+-- the flagged bytes begin cells, of which none reaches into another
+pub record AreStarts (leaf : Bool) (bytes : List ℕ) (flags : List Bool) : Type 0 where
+  pub cells : (k : ℕ) → is_taken flags k ≡ true → IsCell leaf bytes k
+  pub apart : (k j : ℕ) → is_taken flags k ≡ true → is_taken flags j ≡ true → k < j → k + cell_size leaf bytes k ≤ j
+
+-- the first byte of each slot's cell is flagged
+abbrev pub HasSlots : List ℕ → List Bool → Type 0
+HasSlots bytes flags = (i : ℕ) → i < count_of bytes → is_taken flags (slot_at bytes i) ≡ true
 
 -- what the first n cells take
 abbrev pub total_of : Bool → List ℕ → ℕ → ℕ
 total_of leaf bytes n = sum_by (size leaf) (map (λ i. entry_from leaf bytes (slot_at bytes i)) (range_with_len 0 n))
 
+-- all slots are those of a packed page, and no byte is left over
 pub record SlotsSound (leaf : Bool) (bytes : List ℕ) : Type 0 where
   pub sound : AreSound leaf bytes (count_of bytes)
   pub full : start_of bytes + total_of leaf bytes (count_of bytes) ≡ 4096
+
+-- The cells up to here are flagged, one behind the other: a packed page has no other cell there.
+pub record AreStartsTo (leaf : Bool) (bytes : List ℕ) (flags : List Bool) (at : ℕ) : Type 0 where
+  pub low : start_of bytes ≤ at
+  pub high : at ≤ 4096
+  pub len : length flags ≡ 4096
+  pub starts : AreStarts leaf bytes flags
+  pub ends : (k : ℕ) → is_taken flags k ≡ true → k + cell_size leaf bytes k ≤ at
+  pub found : SlotsSound leaf bytes → (i : ℕ) → i < count_of bytes → slot_at bytes i < at
+      → (is_taken flags (slot_at bytes i) ≡ true) × (slot_at bytes i + cell_size leaf bytes (slot_at bytes i) ≤ at)
+
+-- one flag is set
+pub record MarksOne (old new : List Bool) (at : ℕ) : Type 0 where
+  pub len : length new ≡ length old
+  pub here : is_taken new at ≡ true
+  pub others : (k : ℕ) → k ≢ at → is_taken new k ≡ is_taken old k

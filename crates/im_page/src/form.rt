@@ -1,41 +1,15 @@
 //! The test of a page's form.
 
-ghost use Rattle.std.specs.Prelude.{◌≡◌, ◌↔◌, IsTrue, ℕ, ◌+◌, ◌*◌, ◌<◌, ◌≤◌, false, length, slice_index, replicate};
-ghost use Rattle.std.specs.Bool.{OnTrue, OnFalse};
+ghost use Rattle.std.specs.Prelude.{◌≡◌, ◌↔◌, IsTrue, ℕ, ◌+◌, ◌*◌, ◌<◌, ◌≤◌, false, true, length, slice_index, replicate};
 ghost use Rattle.im_types.specs.Keys.{IsBelow};
 ghost use Rattle.im_page.specs.Form.{count_of, start_of, slot_at, key_from, cell_size, IsPacked};
 ghost use Rattle.im_page.specs.Page.{IsHeader, IsForm};
-ghost use Rattle.im_page.specs.Sound.{IsClear, HasTaken, Marks, IsCell, AreSound, SlotsSound};
+ghost use Rattle.im_page.specs.Sound.{AreStarts, HasSlots, IsCell, SlotsSound};
 
 use crate::cells::{cell_len, key_at};
 use crate::number::{get_u16, get_u32};
 use im_types::compare;
 use std::cmp::Ordering;
-
-/// Whether no flag of a range is set.
-fn is_clear(flags: &[bool], from: usize, to: usize) -> bool
-    requires order { from ≤ to }
-    requires inside { to ≤ length flags.now }
-    ensures clear { OnTrue result (IsClear flags.now from to) }
-    ensures taken { OnFalse result (HasTaken flags.now from to) }
-{
-    let mut any = false;
-    for k in from..to {
-        any = any | flags[k];
-    }
-    !any
-}
-
-/// Sets the flags of a range.
-fn mark(flags: &mut [bool], from: usize, to: usize)
-    requires order { from ≤ to }
-    requires inside { to ≤ length flags.old }
-    ensures { Marks flags.old flags.new from to }
-{
-    for k in from..to {
-        flags[k] = true;
-    }
-}
 
 /// Whether a cell with a key begins at `at`.
 fn is_cell(leaf: bool, bytes: &[u8], at: usize) -> bool
@@ -61,7 +35,29 @@ fn is_below(bytes: &[u8], a: usize, b: usize) -> bool
     }
 }
 
-/// Whether the slots are those of a packed page.
+/// Sets the flag of each cell's first byte, one cell behind the other from where the cells begin, and answers whether they end with
+/// the page.
+fn mark_cells(leaf: bool, bytes: &[u8], flags: &mut [bool]) -> bool
+    requires len { length bytes.now ≡ 4096 }
+    requires start { start_of bytes.now ≤ 4096 }
+    requires flags { flags.old ≡ replicate 4096 false }
+    ensures cells { result ≡ true → AreStarts leaf bytes.now flags.new }
+    ensures whole { SlotsSound leaf bytes.now → (result ≡ true) × HasSlots bytes.now flags.new }
+    ensures len { length flags.new ≡ 4096 }
+{
+    let mut at = get_u16(bytes, 14);
+    while at < 4096 {
+        if !is_cell(leaf, bytes, at) {
+            return false;
+        }
+        flags[at] = true;
+        at += cell_len(leaf, bytes[at] as usize);
+    }
+    true
+}
+
+/// Whether the slots are those of a packed page: each at a cell of its own, their keys rising, and all cells have a slot. Where two
+/// keys rise, they are not one cell's.
 fn are_slots_sound(leaf: bool, bytes: &[u8], flags: &mut [bool]) -> bool
     requires len { length bytes.now ≡ 4096 }
     requires slots { 32 + 2 * count_of bytes.now ≤ start_of bytes.now }
@@ -69,22 +65,20 @@ fn are_slots_sound(leaf: bool, bytes: &[u8], flags: &mut [bool]) -> bool
     requires flags { flags.old ≡ replicate 4096 false }
     ensures { IsTrue result ↔ SlotsSound leaf bytes.now }
 {
+    if !mark_cells(leaf, bytes, flags) {
+        return false;
+    }
     let mut total = 0usize;
     let mut before = 0usize;
     for i in 0..get_u16(bytes, 12) {
         let at = get_u16(bytes, 32 + 2 * i);
-        if !is_cell(leaf, bytes, at) {
-            return false;
-        }
-        let end = at + cell_len(leaf, bytes[at] as usize);
-        if !is_clear(flags, at, end) {
+        if 4096 <= at || !flags[at] {
             return false;
         }
         if 0 < i && !is_below(bytes, before, at) {
             return false;
         }
-        mark(flags, at, end);
-        total += end - at;
+        total += cell_len(leaf, bytes[at] as usize);
         before = at;
     }
     get_u16(bytes, 14) + total == 4096
@@ -92,15 +86,15 @@ fn are_slots_sound(leaf: bool, bytes: &[u8], flags: &mut [bool]) -> bool
 
 /// Whether all bytes of a range are zero.
 fn is_zero(bytes: &[u8], from: usize, to: usize) -> bool
-    requires { to ≤ length bytes.now }
+    requires order { from ≤ to }
+    requires inside { to ≤ length bytes.now }
     ensures { IsTrue result ↔ ((k : ℕ) → from ≤ k → k < to → slice_index bytes.now k ≡ 0) }
 {
+    let mut any = false;
     for k in from..to {
-        if bytes[k] != 0 {
-            return false;
-        }
+        any = any | (bytes[k] != 0);
     }
-    true
+    !any
 }
 
 /// Whether bytes are packed.

@@ -49,16 +49,17 @@
 //! |---|---|---|---|---|---|---|
 //! | find a key, and its value | 27 | 67 | 0.40 | 36 | 87 | 0.41 |
 //! | find, remove, find, insert again | 415 | 379 | 1.10 | 552 | 446 | 1.24 |
-//! | read a full page in place | 2,500 | 2,727 | 0.92 | 2,646 | 2,292 | 1.15 |
+//! | read a full page in place | 635 | 1,076 | 0.59 | 786 | 1,131 | 0.69 |
 //! | split into two pages | 1,794 | 2,542 | 0.71 | 2,315 | 3,445 | 0.67 |
 //!
-//! On a second machine the ratios were, in the same order, 0.22 and 0.22, 0.91 and 0.97, 0.99 and 1.12, and between 1.1 and 1.6
-//! for a split, which took 2,763 to 4,141 there with 150 entries from run to run, where C took 2,554.
+//! The row of reads is of another machine than the others, with a load of eight to ten on its four cores. On that or a like one
+//! the other ratios were, in the same order, 0.22 and 0.22, 0.91 and 0.97, and between 1.1 and 1.6 for a split, which took
+//! 2,763 to 4,141 there with 150 entries from run to run, where C took 2,554.
 //!
 //! Slower than C are a removal and an insertion, as cells and slots move by a rotation, which keeps the shorter side in
-//! a buffer meanwhile and moves the rest at once, and as each slot is written again; the test of a page with many
-//! small cells, as it keeps a flag for each byte and not one for each cell; and on the second machine a split, as each
-//! entry is put by an insertion of its own. Keys are compared eight bytes at a time.
+//! a buffer meanwhile and moves the rest at once, and as each slot is written again; and on the second machine a split,
+//! as each entry is put by an insertion of its own. Keys are compared eight bytes at a time. The test of a page's form goes once over
+//! the cells, from where they begin to the end, and once over the slots: each slot has to name the first byte of a cell.
 #![tactic(auto)]
 
 mod cells;
