@@ -5,3 +5,4 @@ pub mod Places
 pub mod Chain
 pub mod Walks
 pub mod NextNames
+pub mod Ranges

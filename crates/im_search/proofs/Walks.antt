@@ -42,7 +42,7 @@ listed_begins pages spare p good way =
     }
 
 -- the page ahead is a leaf below the page count, and fewer leaves than pages have been passed
-leaf_facts : (pages : Pages) (spare : List ℕ) (before : List Node) (node : Node) (after : List Node) (passed p : ℕ) → IsGoodTree pages spare → leaves_under pages (height pages) the_root ≡ before ++ node ∷ after
+pub leaf_facts : (pages : Pages) (spare : List ℕ) (before : List Node) (node : Node) (after : List Node) (passed p : ℕ) → IsGoodTree pages spare → leaves_under pages (height pages) the_root ≡ before ++ node ∷ after
     → node.page ≡ p → passed ≤ length before → IsLeafAhead pages passed p
 leaf_facts pages spare before node after passed p good leaves page count =
     let all : AllOf (IsLeafPage pages) (before ++ node ∷ after) = subst (AllOf (IsLeafPage pages)) leaves (leaves_are_leaves pages (height pages) the_root good.levels) in

@@ -1,3 +1,4 @@
 pub mod Levels
 pub mod Found
 pub mod NextKeys
+pub mod Ranges

@@ -11,6 +11,7 @@ ghost use Rattle.im_flush.specs.PageWriter.{IsReadyWriter};
 ghost use Rattle.im_tree.specs.Lookups.{IsAhead, IsFirstAt};
 ghost use Rattle.im_search.specs.Levels.{bodies, start_at};
 ghost use Rattle.im_search.specs.Found.{HasTree, CountKept, NextKept, IsFirstOf};
+ghost use Rattle.im_search.specs.Ranges.{IsParted};
 
 use crate::descent::leaf_for;
 use crate::entry_place::EntryPlace;
@@ -21,8 +22,9 @@ use im_page::Page;
 use im_types::{Fault, PageKind, PageNo};
 
 // The place of the first entry at or above a key, or above it: the number of entries where there is none.
-fn place_past(page: &Page, key: &[u8], inclusive: bool) -> usize
-    ensures { IsFirstAt (start_at inclusive key.now) page.now.body.entries result }
+pub(crate) fn place_past(page: &Page, key: &[u8], inclusive: bool) -> usize
+    ensures first { IsFirstAt (start_at inclusive key.now) page.now.body.entries result }
+    ensures parted { IsParted (start_at inclusive key.now) page.now.body.entries result }
 {
     page.content();
     let _len = page.len();
@@ -51,6 +53,7 @@ pub(crate) fn page_count<D: Disk>(writer: &mut PageWriter, disk: &mut D) -> Resu
     ensures ready { IsReadyWriter D.Disk writer.new disk.new }
     ensures kept { (b : Base) (base : ℕ) (s : Writer) (spare : List ℕ) → HasTree D.Disk b base s spare writer.old disk.old
         → CountKept D.Disk b base s disk.old writer.new disk.new result }
+    ensures gets { OnOk result (writer.new.pool.gets ≡ writer.old.pool.gets + 1) }
     ensures works { OnOk result (writer.new.failed ≡ false) }
     ensures fails { IfErr result (λ e. (writer.new.failed ≡ false) ↔ ((e ≡ Memory) ⊎ (e ≡ NotAStore))) }
     ensures causes { IfErr result (λ e. (e ≡ Failed) ⊎ (e ≡ LogFull) ⊎ (e ≡ Memory) ⊎ (e ≡ NotAStore) ⊎ (e ≡ Device)) }

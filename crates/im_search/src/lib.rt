@@ -4,7 +4,9 @@
 //! - `locate` answers the row id of a key.
 //! - `next_entry` answers where the first entry at or above a key stands, or the first above it: it goes down to the key's
 //!   leaf, and from there along the leaf chain past leaves that have no such entry.
+//! - `leaf_and_next` answers the leaf of a key, and the key behind it.
 //! - `entries` answers copies of all entries, along the leaf chain.
+//! - `entries_between` answers copies of the entries of a range, at most so many, and the key behind them.
 //! - `tree_page` gets a page that is to be of a level, and `has_level` tests whether a page is.
 //!
 //! The contract: where the pages are a good tree, all with their copies loaded (`HasTree`), the answers are those of the
@@ -15,7 +17,7 @@
 //! On any bytes each search ends: levels are read from the pages and have to fall by one, a page of another kind than its
 //! level asks for is refused, and a chain of leaves that goes on longer than there are pages is a ring.
 //!
-//! But for `entries`, no key and no page is copied. A leaf is answered as its frame, an entry as its leaf's frame and its
+//! But for `entries` and `entries_between`, no key and no page is copied. A leaf is answered as its frame, an entry as its leaf's frame and its
 //! place there: both are right as long as the leaf is held.
 //!
 //! It stands on `im_flush` for pages and their gets, on `im_page` for what a page has of a key, and on `im_tree` for the
@@ -30,6 +32,7 @@ mod levels;
 mod listing;
 mod lookup;
 mod next_key;
+mod range;
 #[cfg(test)]
 mod tests;
 
@@ -40,3 +43,4 @@ pub use levels::{has_level, tree_page};
 pub use listing::entries;
 pub use lookup::locate;
 pub use next_key::{NextKey, leaf_and_next};
+pub use range::entries_between;

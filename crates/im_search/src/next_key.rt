@@ -33,7 +33,7 @@ pub enum NextKey {
 }
 
 // The key of an entry, copied.
-fn copied(page: &Page, i: usize) -> NextKey
+pub(crate) fn copied(page: &Page, i: usize) -> NextKey
     requires { i < length page.now.body.entries }
     ensures { result ≡ There (entry_at page.now.body.entries i).0 }
 {

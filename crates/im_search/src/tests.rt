@@ -98,6 +98,56 @@ fn next<D: Disk>(
     }
 }
 
+// The number of a key's leaf, and the first byte of the next key.
+fn beside<D: Disk>(
+    writer: &mut PageWriter,
+    disk: &mut D,
+    key: &[u8],
+) -> Result<(PageNo, Option<u8>), Fault>
+    requires ready { IsReadyWriter D.Disk writer.old disk.old }
+    ensures ready { IsReadyWriter D.Disk writer.new disk.new }
+{
+    let (frame, next) = leaf_and_next(writer, disk, key)?;
+    match next {
+        NextKey::Here(at) => Ok((frame.number, Some(writer.page(frame).key(at)[0]))),
+        NextKey::There(key) => Ok((frame.number, Some(key.bytes()[0]))),
+        NextKey::End => Ok((frame.number, None)),
+    }
+}
+
+// Whether the entries of a range are those of these keys of one byte, and this stands behind them: 0 where nothing is said of it, 1
+// at the end, else the first byte of the next key.
+fn is_range<D: Disk>(
+    alloc: Global,
+    writer: &mut PageWriter,
+    disk: &mut D,
+    bounds: (&[u8], &[u8]),
+    limit: usize,
+    keys: &[u8],
+    behind: u8,
+) -> Result<bool, Fault>
+    requires ready { IsReadyWriter D.Disk writer.old disk.old }
+    ensures ready { IsReadyWriter D.Disk writer.new disk.new }
+{
+    let (list, next) = entries_between(alloc, writer, disk, bounds.0, bounds.1, limit)?;
+    let mark = match next {
+        None => 0,
+        Some(NextKey::There(key)) => key.bytes()[0],
+        Some(_) => 1,
+    };
+    Ok(has_entries(&list, keys) && mark == behind)
+}
+
+// The bytes of a tree of a root and three leaves, of which the second is empty.
+fn three_leaves(alloc: Global) -> Result<Vec<u8>, Fail> {
+    let mut pages = Vec::new(alloc);
+    add_root(&mut pages, 5)?;
+    add_leaf(&mut pages, b"ab", 0, 3)?;
+    add_leaf(&mut pages, b"", 2, 4)?;
+    add_leaf(&mut pages, b"mx", 3, 0)?;
+    Ok(pages)
+}
+
 #[test]
 fn keys_are_found_in_their_leaves(rt: HostRuntime) -> Result<(), Fail> {
     let alloc = rt.alloc();
@@ -135,6 +185,52 @@ fn the_next_entry_stands_past_an_empty_leaf(rt: HostRuntime) -> Result<(), Fail>
     assert_eq!(rt; next(&mut writer, &mut disk, b"d", true)?, Some((109, 109)));
     assert_eq!(rt; next(&mut writer, &mut disk, b"x", true)?, Some((120, 120)));
     assert_eq!(rt; next(&mut writer, &mut disk, b"x", false)?, None);
+    Ok(())
+}
+
+#[test]
+fn the_next_key_stands_in_the_leaf(rt: HostRuntime) -> Result<(), Fail> {
+    let alloc = rt.alloc();
+    let pages = three_leaves(alloc)?;
+    let mut disk = disk_of(alloc, pages)?;
+    let mut writer = open(alloc, &mut disk)?;
+    assert_eq!(rt; beside(&mut writer, &mut disk, b"a")?, (2, Some(98)));
+    assert_eq!(rt; beside(&mut writer, &mut disk, b"x")?, (4, None));
+    Ok(())
+}
+
+#[test]
+fn the_next_key_stands_in_a_later_leaf(rt: HostRuntime) -> Result<(), Fail> {
+    let alloc = rt.alloc();
+    let pages = three_leaves(alloc)?;
+    let mut disk = disk_of(alloc, pages)?;
+    let mut writer = open(alloc, &mut disk)?;
+    assert_eq!(rt; beside(&mut writer, &mut disk, b"b")?, (2, Some(109)));
+    assert_eq!(rt; beside(&mut writer, &mut disk, b"d")?, (3, Some(109)));
+    Ok(())
+}
+
+#[test]
+fn a_range_goes_over_leaves(rt: HostRuntime) -> Result<(), Fail> {
+    let alloc = rt.alloc();
+    let pages = three_leaves(alloc)?;
+    let mut disk = disk_of(alloc, pages)?;
+    let mut writer = open(alloc, &mut disk)?;
+    assert!(rt; is_range(alloc, &mut writer, &mut disk, (b"b", b"m"), 9, b"bm", 120)?);
+    assert!(rt; is_range(alloc, &mut writer, &mut disk, (b"aa", b"c"), 9, b"b", 109)?);
+    assert!(rt; is_range(alloc, &mut writer, &mut disk, (b"m", b"z"), 9, b"mx", 1)?);
+    Ok(())
+}
+
+#[test]
+fn a_range_ends_at_its_limit(rt: HostRuntime) -> Result<(), Fail> {
+    let alloc = rt.alloc();
+    let pages = three_leaves(alloc)?;
+    let mut disk = disk_of(alloc, pages)?;
+    let mut writer = open(alloc, &mut disk)?;
+    assert!(rt; is_range(alloc, &mut writer, &mut disk, (b"a", b"z"), 3, b"abm", 0)?);
+    assert!(rt; is_range(alloc, &mut writer, &mut disk, (b"a", b"z"), 0, b"", 0)?);
+    assert!(rt; is_range(alloc, &mut writer, &mut disk, (b"m", b"b"), 9, b"", 0)?);
     Ok(())
 }
 

@@ -1,4 +1,4 @@
-use Rattle.std.proofs.Common.{◌≡◌, ◌<◌, ℕ, length, false, sym, ◌∙◌, ap, subst, refl, rules}
+use Rattle.std.proofs.Common.{◌<◌, ℕ, length, false, sym, ◌∙◌, ap, subst, refl, rules}
 use Rattle.im_types.specs.Maps.{Above, first_in}
 use Rattle.im_types.specs.Pages.{Page}
 use Rattle.im_pool.specs.Pool.{page_at}

@@ -1,4 +1,4 @@
-use Rattle.std.proofs.Common.{◌≡◌, ◌<◌, Option, Some, length, sym, ◌∙◌, ap, subst, rules}
+use Rattle.std.proofs.Common.{◌<◌, Option, length, sym, ◌∙◌, ap, subst, rules}
 use Rattle.std.specs.Prelude.{IfSome}
 use Rattle.im_types.specs.Maps.{Above, first_in}
 use Rattle.im_types.specs.Pages.{Page}
