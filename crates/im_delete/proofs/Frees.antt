@@ -24,7 +24,7 @@ use Rattle.im_smo.proofs.Updates.{at_here}
 use Rattle.im_alloc.specs.Seen.{seen, GivesPage}
 use Rattle.im_alloc.specs.Kept.{HasImages, Freed, FreeKept}
 use Rattle.im_alloc.proofs.Goings.{seen_stays, images_on}
-use Rattle.im_delete.specs.Kept.{CallKept}
+use Rattle.im_search.specs.Kept.{CallKept}
 use Rattle.im_delete.specs.Given.{IsGiven, GivenTo}
 
 -- the last page of a list in front of it

@@ -22,8 +22,8 @@ use Rattle.im_smo.proofs.DropSteps.{entry_step, leftmost_step, root_step}
 use Rattle.im_smo.proofs.Updates.{at_other, next_tree}
 use Rattle.im_alloc.specs.Seen.{seen, page_in}
 use Rattle.im_alloc.proofs.Seeing.{page_says, put_back}
-use Rattle.im_delete.specs.declared.child_place.ChildPlace.{ChildPlace}
-use Rattle.im_delete.specs.declared.child_place.ChildPlace.TheVariants.{Entry, Leftmost, Only}
+use Rattle.im_search.specs.declared.child_place.ChildPlace.{ChildPlace}
+use Rattle.im_search.specs.declared.child_place.ChildPlace.TheVariants.{Entry, Leftmost, Only}
 use Rattle.im_delete.specs.Chains.{out_of_tree, without_child, AreLeavesBeside}
 use Rattle.im_delete.specs.Ways.{Hangs}
 

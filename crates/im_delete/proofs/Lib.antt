@@ -1,4 +1,3 @@
-pub mod Calls
 pub mod Placing
 pub mod OneLeaf
 pub mod Leaving

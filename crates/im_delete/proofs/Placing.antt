@@ -7,11 +7,12 @@ use Rattle.im_tree.specs.Good.{IsGoodTree}
 use Rattle.im_tree.specs.Search.{IsOnWay}
 use Rattle.im_tree.specs.KeyDeletions.{HasNone, chain_down, leaf_down}
 use Rattle.im_tree.proofs.Way.{step_way, way_begins}
-use Rattle.im_delete.specs.declared.child_place.ChildPlace.{ChildPlace}
-use Rattle.im_delete.specs.declared.child_place.ChildPlace.TheVariants.{Entry, Leftmost, Only}
-use Rattle.im_delete.specs.declared.reading.Child.{Child}
+use Rattle.im_search.specs.declared.child_place.ChildPlace.{ChildPlace}
+use Rattle.im_search.specs.declared.child_place.ChildPlace.TheVariants.{Entry, Leftmost, Only}
+use Rattle.im_search.specs.declared.child_place.Child.{Child}
 use Rattle.im_delete.specs.declared.way.Place.{Place}
-use Rattle.im_delete.specs.Chains.{StandsAt, IsChildOf, OnlyUnderRoot}
+use Rattle.im_search.specs.Children.{StandsAt, IsChildOf}
+use Rattle.im_delete.specs.Chains.{OnlyUnderRoot}
 use Rattle.im_delete.specs.Ways.{Hangs, IsPlaced, IsNext}
 
 -- a page with one child joins the chain

@@ -16,12 +16,12 @@ use Rattle.im_tree.proofs.LookupLemmas.{way_inner}
 use Rattle.im_smo.specs.Images.{Numbered}
 use Rattle.im_smo.specs.Changed.{SamePages}
 use Rattle.im_alloc.specs.Seen.{bodies, seen}
-use Rattle.im_delete.specs.declared.child_place.ChildPlace.{ChildPlace}
+use Rattle.im_search.specs.declared.child_place.ChildPlace.{ChildPlace}
 use Rattle.im_delete.specs.declared.reading.Beside.{Beside}
 use Rattle.im_delete.specs.Chains.{IsBeside, out_of_tree}
 use Rattle.im_delete.specs.Ways.{Hangs, IsPlaced}
 use Rattle.im_delete.specs.Given.{given_pages, IsGiven}
-use Rattle.im_delete.specs.Kept.{CallKept}
+use Rattle.im_search.specs.Kept.{CallKept}
 use Rattle.im_delete.specs.Plan.{IsPlan, DeleteKept}
 use Rattle.im_delete.proofs.OneLeaf.{one_leaf}
 use Rattle.im_delete.proofs.Leaving.{chain_drops, chain_keeps}

@@ -1,29 +1,14 @@
 -- The chain of pages that goes with an empty leaf.
-use Rattle.std.specs.Prelude.{◌≡◌, ℕ, ◌<◌, ◌≤◌, [], length}
-use Rattle.im_types.specs.Keys.{Key}
+use Rattle.std.specs.Prelude.{◌≡◌, ℕ, ◌≤◌, []}
 use Rattle.im_types.specs.Pages.{Body}
 use Rattle.im_types.specs.Tree.{with_body}
 use Rattle.im_types.specs.declared.page_kind.PageKind.TheVariants.{Leaf}
-use Rattle.im_page.specs.Entry.{entry_at}
-use Rattle.im_page.specs.Child.{IsChild}
 use Rattle.im_tree.specs.Levels.{Pages}
 use Rattle.im_smo.specs.Bodies.{leaf_body, without_entry, without_leftmost}
 use Rattle.im_smo.specs.Changed.{unlinked_pages}
-use Rattle.im_delete.specs.declared.child_place.ChildPlace.{ChildPlace}
-use Rattle.im_delete.specs.declared.child_place.ChildPlace.TheVariants.{Entry, Leftmost, Only}
-use Rattle.im_delete.specs.declared.reading.Child.{Child}
+use Rattle.im_search.specs.declared.child_place.ChildPlace.{ChildPlace}
+use Rattle.im_search.specs.declared.child_place.ChildPlace.TheVariants.{Entry, Leftmost, Only}
 use Rattle.im_delete.specs.declared.reading.Beside.{Beside}
-
--- page c stands there in an inner page
-abbrev pub StandsAt : Body → ChildPlace → ℕ → Type 0
-StandsAt b (Entry i) c = (i < length b.entries) × ((entry_at b.entries i).1 ≡ c)
-StandsAt b Leftmost c = (0 < length b.entries) × (b.leftmost ≡ c)
-StandsAt b Only c = (b.entries ≡ []) × (b.leftmost ≡ c)
-
--- the child of an inner page on a key's way
-pub record IsChildOf (b : Body) (key : Key) (child : Child) : Type 0 where
-  pub way : IsChild b key child.number
-  pub at : StandsAt b child.place child.number
 
 -- the leaves beside a leaf without entries
 pub record IsBeside (b : Body) (beside : Beside) : Type 0 where

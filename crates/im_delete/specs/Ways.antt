@@ -10,11 +10,12 @@ use Rattle.im_tree.specs.Levels.{Pages}
 use Rattle.im_tree.specs.Search.{IsOnWay}
 use Rattle.im_tree.specs.KeyDeletions.{HasNone, chain_down, leaf_down}
 use Rattle.im_alloc.specs.Seen.{bodies}
-use Rattle.im_delete.specs.declared.child_place.ChildPlace.{ChildPlace}
-use Rattle.im_delete.specs.declared.child_place.ChildPlace.TheVariants.{Only}
-use Rattle.im_delete.specs.declared.reading.Child.{Child}
+use Rattle.im_search.specs.declared.child_place.ChildPlace.{ChildPlace}
+use Rattle.im_search.specs.declared.child_place.ChildPlace.TheVariants.{Only}
+use Rattle.im_search.specs.declared.child_place.Child.{Child}
 use Rattle.im_delete.specs.declared.way.Place.{Place}
-use Rattle.im_delete.specs.Chains.{StandsAt, OnlyUnderRoot}
+use Rattle.im_search.specs.Children.{StandsAt}
+use Rattle.im_delete.specs.Chains.{OnlyUnderRoot}
 
 -- Page n of level k on a key's way stands at the end of a chain that hangs from a page on it: down from the parent's child the pages `above` have one child each. Where page n has no entry, and has such a chain under it down to a leaf, all of these go.
 pub record Hangs (pages : Pages) (key : Key) (parent : ℕ) (place : ChildPlace) (k n : ℕ) (above : List ℕ) : Type 0 where

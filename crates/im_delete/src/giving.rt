@@ -7,7 +7,7 @@ ghost use Rattle.im_types.specs.Writer.{Writer};
 ghost use Rattle.im_log.specs.LogFile.{HasNoRoom};
 ghost use Rattle.im_flush.specs.PageWriter.{IsReadyWriter};
 ghost use Rattle.im_alloc.specs.Kept.{HasImages};
-ghost use Rattle.im_delete.specs.Kept.{CallKept};
+ghost use Rattle.im_search.specs.Kept.{CallKept};
 ghost use Rattle.im_delete.specs.Given.{IsGiven};
 
 use im_alloc::free;

@@ -6,7 +6,7 @@
 //! empty leaf. The leaves beside the leaf name each other then. The pages that went are given back, the leaf first and then
 //! upward, so that the highest is the first free one. An inner page with one child left stays.
 //!
-//! - `reading`: what a page says of its child on the way, and of the leaves beside it; nothing is changed.
+//! - `reading`: what an empty leaf says of the leaves beside it; nothing is changed.
 //! - `way`: one pass down from the root notes the pages that go, and where they hang (`IsPlaced`).
 //! - `dropping`: the parent loses the child, and the leaf goes out of the chain of leaves.
 //! - `giving`: the pages are given back.
@@ -17,11 +17,10 @@
 //! they are given back, is said too (`DeletesChain`). A key has one leaf, so the leaf that the pass down finds is the one of
 //! which the contract speaks.
 //!
-//! It stands on `im_search` for what the pages of a level are, on `im_alloc` for images and for pages that are given back, on
+//! It stands on `im_search` for the way down (`level_of`, `child_of`), on `im_alloc` for images and for pages that are given back, on
 //! `im_smo` for what a deletion makes of pages, and on `im_tree` for the laws of a deletion.
 #![tactic(auto)]
 
-mod child_place;
 mod dropping;
 mod giving;
 mod plan;

@@ -8,14 +8,13 @@ ghost use Rattle.im_log.specs.LogFile.{HasNoRoom};
 ghost use Rattle.im_flush.specs.PageWriter.{IsReadyWriter};
 ghost use Rattle.im_search.specs.Found.{HasTree};
 ghost use Rattle.im_alloc.specs.Seen.{bodies};
-ghost use Rattle.im_delete.specs.declared.child_place.ChildPlace.TheVariants.{Only};
-ghost use Rattle.im_delete.specs.Kept.{CallKept};
+ghost use Rattle.im_search.specs.declared.child_place.ChildPlace.TheVariants.{Only};
+ghost use Rattle.im_search.specs.Kept.{CallKept};
 ghost use Rattle.im_delete.specs.Ways.{IsNext, IsPlaced};
 
-use crate::child_place::ChildPlace;
-use crate::reading::{Child, child_of, level_of};
 use im_disk::Disk;
 use im_flush::PageWriter;
+use im_search::{Child, ChildPlace, child_of, level_of};
 use im_types::{Fault, PageNo};
 use std::alloc::Global;
 

@@ -1,4 +1,5 @@
 pub mod Pages
+pub mod Calls
 pub mod Steps
 pub mod Ways
 pub mod Places

@@ -1,4 +1,6 @@
 pub mod Levels
+pub mod Kept
+pub mod Children
 pub mod Found
 pub mod NextKeys
 pub mod Ranges

@@ -7,6 +7,8 @@
 //! - `leaf_and_next` answers the leaf of a key, and the key behind it.
 //! - `entries` answers copies of all entries, along the leaf chain.
 //! - `entries_between` answers copies of the entries of a range, at most so many, and the key behind them.
+//! - `level_of` answers the level of a page of the tree, `child_of` the child of an inner page on a key's way, and where it
+//!   stands there; `child_in` answers it of a page that the caller has.
 //! - `tree_page` gets a page that is to be of a level, and `has_level` tests whether a page is.
 //!
 //! The contract: where the pages are a good tree, all with their copies loaded (`HasTree`), the answers are those of the
@@ -25,6 +27,7 @@
 //! calls that keep each page.
 #![tactic(auto)]
 
+mod child_place;
 mod descent;
 mod entry_place;
 mod leaf_chain;
@@ -33,9 +36,11 @@ mod listing;
 mod lookup;
 mod next_key;
 mod range;
+mod reading;
 #[cfg(test)]
 mod tests;
 
+pub use child_place::{Child, ChildPlace};
 pub use descent::leaf_for;
 pub use entry_place::EntryPlace;
 pub use leaf_chain::next_entry;
@@ -44,3 +49,4 @@ pub use listing::entries;
 pub use lookup::locate;
 pub use next_key::{NextKey, leaf_and_next};
 pub use range::entries_between;
+pub use reading::{child_in, child_of, level_of};

@@ -1,27 +1,12 @@
 //! Deletions: what the parent of a page that goes says behind it, and a root left without a child.
 
-ghost use Rattle.std.specs.Prelude.{◌≡◌, ◌<◌, ◌↔◌, [], OnOk, OnErr, IfErr, IsOk, IfSome, IsNone, length};
+ghost use Rattle.std.specs.Prelude.{◌≡◌, ◌<◌, ◌↔◌, [], OnOk, OnErr, IfErr, IsOk, length};
 ghost use Rattle.im_types.specs.declared.fault.Fault.TheVariants.{NotAStore};
 ghost use Rattle.im_types.specs.declared.page_kind.PageKind.TheVariants.{Inner};
-ghost use Rattle.im_page.specs.Entry.{entry_at};
-ghost use Rattle.im_page.specs.Child.{IsChild, StartAbove};
 ghost use Rattle.im_smo.specs.Bodies.{says, leaf_body, without_entry, without_leftmost};
 
 use im_page::Page;
 use im_types::{Fault, PageKind, PageNo};
-
-/// Where the child on a key's way stands in an inner page: the place of its entry, or none where it is the leftmost one.
-pub fn child_place(page: &Page, key: &[u8]) -> Option<usize>
-    ensures entry { IfSome result (λ i. (i < length page.now.body.entries) × IsChild page.now.body key.now (entry_at page.now.body.entries i).1) }
-    ensures leftmost { IsNone result → StartAbove key.now page.now.body.entries × IsChild page.now.body key.now page.now.body.leftmost }
-{
-    page.content();
-    match page.find(key) {
-        Ok(i) => Some(i),
-        Err(0) => None,
-        Err(i) => Some(i - 1),
-    }
-}
 
 /// Takes the entry of a child that goes out of its parent: the child at place i, which is not the leftmost one.
 /// Refused `NotAStore` exactly where the page is no inner page or has no such entry; it then stays as it was.

@@ -7,8 +7,7 @@
 //!   was, and put the separator into the parent. The left part has the longest front of entries whose cells and slots take
 //!   at most 2,032 bytes; of an inner page the entry behind it moves up. No page is copied whole.
 //! - `link_prev`, `link_next` change one link of a leaf.
-//! - `drop_entry`, `drop_leftmost` take a child out of its parent; `child_place` says where it stands; `empty_root` is the
-//!   root left without a child.
+//! - `drop_entry`, `drop_leftmost` take a child out of its parent; `empty_root` is the root left without a child.
 //! - `take_free`, `take_count`, `give_free` change the meta page: the first free page is taken, else the page of the number
 //!   that the page count is; a page given back is the first free one.
 //!
@@ -54,7 +53,7 @@ mod way_splits;
 
 pub use allocations::{give_free, take_count, take_free};
 pub use chain::{link_next, link_prev};
-pub use deletions::{child_place, drop_entry, drop_leftmost, empty_root};
+pub use deletions::{drop_entry, drop_leftmost, empty_root};
 pub use images::Images;
 pub use splits::{split_inner, split_leaf, split_root_inner, split_root_leaf};
 

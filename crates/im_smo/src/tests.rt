@@ -1,4 +1,4 @@
-use crate::{Images, child_place, split_leaf};
+use crate::{Images, split_leaf};
 use im_page::Page;
 use im_types::{Fault, PageKind, PageNo};
 use std::alloc::Global;
@@ -154,7 +154,7 @@ fn no_page_is_taken_past_the_free_ones(rt: HostRuntime) -> Result<(), Fail> {
 }
 
 // A leaf under a parent, split twice: the second time its separator is there already.
-fn split_twice() -> ([usize; 3], bool) {
+fn split_twice() -> ([u64; 3], bool) {
     let page = leaf_of(15);
     let mut left = Page::initial(2);
     let mut right = Page::initial(3);
@@ -162,14 +162,14 @@ fn split_twice() -> ([usize; 3], bool) {
     parent.become_inner(1, 2);
     let kept = split_leaf(&page, &mut left, &mut right, &mut parent, 2, 3).unwrap_or(0);
     let again = split_leaf(&page, &mut left, &mut right, &mut parent, 2, 4);
-    let low = child_place(&parent, b"").is_none() as usize;
-    let high = child_place(&parent, &[7, 0x62]).is_some() as usize;
-    ([kept, low, high], again == Err(Fault::NotAStore))
+    let low = parent.child(b"");
+    let high = parent.child(&[7, 0x62]);
+    ([kept as u64, low, high], again == Err(Fault::NotAStore))
 }
 
 #[test]
 fn a_parent_takes_a_separator_once(rt: HostRuntime) {
     let (found, once) = split_twice();
-    assert_eq!(rt; found, [7, 1, 1]);
+    assert_eq!(rt; found, [7, 2, 3]);
     assert!(rt; once);
 }

@@ -22,7 +22,7 @@ use Rattle.im_split.specs.Turns.{IsTurn}
 use Rattle.im_split.specs.Steps.{Turned, TurnKept}
 use Rattle.im_split.specs.Ends.{EndKept}
 use Rattle.im_split.specs.declared.turns.Turn.{Turn}
-use Rattle.im_split.proofs.ReadSteps.{on_ok}
+use Rattle.im_search.proofs.Calls.{on_ok}
 use Rattle.im_split.proofs.EndRuns.{end_refused}
 
 module _ {D : Type 0} (d : Ghosts D) (b : Base) (base : ℕ) (s : Writer) (key : Key) (images : List Numbered) (old : D) where

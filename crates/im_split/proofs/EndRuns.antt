@@ -20,7 +20,7 @@ use Rattle.im_alloc.proofs.Goings.{seen_stays}
 use Rattle.im_split.specs.Steps.{Brought, BringKept}
 use Rattle.im_split.specs.Ends.{BringBothKept, EndKept}
 use Rattle.im_split.proofs.Ends.{IsEnd}
-use Rattle.im_split.proofs.ReadSteps.{on_ok}
+use Rattle.im_search.proofs.Calls.{on_ok}
 
 -- a call that is not refused so
 pub not_refused : {A : Type 0} (r : Result A Fault) (f : Fault) → (r ≡ Err f → ⊥) → IfErr r (λ e. e ≢ f)

@@ -1,7 +1,6 @@
 pub mod Points
 pub mod Chains
 pub mod Turning
-pub mod ReadSteps
 pub mod Placing
 pub mod Takings
 pub mod TakenOut

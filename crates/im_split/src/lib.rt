@@ -20,7 +20,7 @@
 //! A split is decided before a page is taken, and pages are taken before any is split: what is refused up to there leaves
 //! each page as it was.
 //!
-//! It stands on `im_search` for what the pages of a level are, on `im_alloc` for pages that are taken, on `im_smo` for what
+//! It stands on `im_search` for the way down (`level_of`, `child_of`), on `im_alloc` for pages that are taken, on `im_smo` for what
 //! a split makes of pages, and on `im_tree` for the laws of one split.
 #![tactic(auto)]
 

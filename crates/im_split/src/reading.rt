@@ -6,14 +6,13 @@ ghost use Rattle.im_types.specs.declared.page_kind.PageKind.TheVariants.{Meta};
 ghost use Rattle.im_types.specs.Histories.{Base};
 ghost use Rattle.im_types.specs.Writer.{Writer};
 ghost use Rattle.im_page.specs.Entry.{entry_at, taken, width};
-ghost use Rattle.im_page.specs.Child.{IsChild};
 ghost use Rattle.im_page.specs.Page.{is_leaf_kind};
 ghost use Rattle.im_page.specs.Split.{IsSplitPoint};
 ghost use Rattle.im_log.specs.LogFile.{HasNoRoom};
 ghost use Rattle.im_flush.specs.PageWriter.{IsReadyWriter, StandsAs};
 ghost use Rattle.im_search.specs.Levels.{HasLevel, kind_at};
+ghost use Rattle.im_search.specs.Kept.{CallKept};
 ghost use Rattle.im_alloc.specs.Seen.{bodies};
-ghost use Rattle.im_split.specs.Kept.{ReadKept};
 ghost use Rattle.im_split.specs.Readings.{HasUp, IsRoom, IsFull};
 
 use im_disk::Disk;
@@ -21,19 +20,6 @@ use im_flush::PageWriter;
 use im_page::Page;
 use im_search::has_level;
 use im_types::{Fault, PageKind, PageNo};
-
-/// The child of an inner page of this level on a key's way. Refused `NotAStore` where it is none.
-pub(crate) fn child_in(page: &Page, level: u8, key: &[u8]) -> Result<PageNo, Fault>
-    ensures child { IfOk result (λ c. IsChild page.now.body key.now c) }
-    ensures level { IfOk result (λ _. HasLevel level page.now.body) }
-    ensures refused { IfErr result (λ e. e ≡ NotAStore) }
-    ensures sound { 1 ≤ level → HasLevel level page.now.body → IfErr result (λ _. ⊥) }
-{
-    if level == 0 || !has_level(page, level) {
-        return Err(Fault::NotAStore);
-    }
-    Ok(page.child(key) as PageNo)
-}
 
 // How many bytes the key has that moves up where a page of this level is split.
 fn up_in(page: &Page, level: u8) -> Result<usize, Fault>
@@ -65,64 +51,6 @@ fn room_in(page: &Page, level: u8, key: usize) -> Result<bool, Fault>
     Ok(page.has_room(key))
 }
 
-// The level of a page of the tree.
-fn level_in(page: &Page) -> Result<u8, Fault>
-    ensures level { IfOk result (λ h. h ≡ page.now.body.level) }
-    ensures refused { IfErr result (λ e. e ≡ NotAStore) }
-    ensures sound { HasLevel page.now.body.level page.now.body → IfErr result (λ _. ⊥) }
-{
-    let level = page.level();
-    if !has_level(page, level) {
-        return Err(Fault::NotAStore);
-    }
-    Ok(level)
-}
-
-/// The level of a page of the tree. Refused as `child_of` is.
-pub(crate) fn level_of<D: Disk>(
-    writer: &mut PageWriter,
-    disk: &mut D,
-    number: PageNo,
-) -> Result<u8, Fault>
-    requires ready { IsReadyWriter D.Disk writer.old disk.old }
-    requires working { writer.old.failed ≡ false }
-    ensures ready { IsReadyWriter D.Disk writer.new disk.new }
-    ensures kept { (b : Base) (base : ℕ) (s : Writer) → StandsAs D.Disk b base s writer.old disk.old → ((q : ℕ) → (s.pages q).waits ≡ false)
-        → HasLevel (bodies s number).level (bodies s number) → ReadKept D.Disk b base s (λ h. h ≡ (bodies s number).level) disk.old writer.new disk.new result }
-    ensures works { OnOk result (writer.new.failed ≡ false) }
-    ensures fails { IfErr result (λ e. (writer.new.failed ≡ false) ↔ ((e ≡ Memory) ⊎ (e ≡ NotAStore))) }
-    ensures causes { IfErr result (λ e. (e ≡ LogFull) ⊎ (e ≡ Memory) ⊎ (e ≡ NotAStore) ⊎ (e ≡ Device)) }
-    ensures device { result ≡ Err Device ↔ (D.failed disk.new ≡ true) }
-    ensures no_room { result ≡ Err LogFull → HasNoRoom writer.new.log }
-{
-    let frame = writer.get(disk, number)?;
-    level_in(writer.page(frame))
-}
-
-/// The child on a key's way of an inner page, which has to be of this level. Refused `NotAStore` where it is not, otherwise as
-/// `PageWriter::get` is.
-pub(crate) fn child_of<D: Disk>(
-    writer: &mut PageWriter,
-    disk: &mut D,
-    number: PageNo,
-    level: u8,
-    key: &[u8],
-) -> Result<PageNo, Fault>
-    requires ready { IsReadyWriter D.Disk writer.old disk.old }
-    requires working { writer.old.failed ≡ false }
-    ensures ready { IsReadyWriter D.Disk writer.new disk.new }
-    ensures kept { (b : Base) (base : ℕ) (s : Writer) → StandsAs D.Disk b base s writer.old disk.old → ((q : ℕ) → (s.pages q).waits ≡ false)
-        → 1 ≤ level → HasLevel level (bodies s number) → ReadKept D.Disk b base s (λ c. IsChild (bodies s number) key.now c) disk.old writer.new disk.new result }
-    ensures works { OnOk result (writer.new.failed ≡ false) }
-    ensures fails { IfErr result (λ e. (writer.new.failed ≡ false) ↔ ((e ≡ Memory) ⊎ (e ≡ NotAStore))) }
-    ensures causes { IfErr result (λ e. (e ≡ LogFull) ⊎ (e ≡ Memory) ⊎ (e ≡ NotAStore) ⊎ (e ≡ Device)) }
-    ensures device { result ≡ Err Device ↔ (D.failed disk.new ≡ true) }
-    ensures no_room { result ≡ Err LogFull → HasNoRoom writer.new.log }
-{
-    let frame = writer.get(disk, number)?;
-    child_in(writer.page(frame), level, key)
-}
-
 /// How many bytes the key has that moves up where a page of this level is split. Refused as `child_of` is.
 pub(crate) fn up_of<D: Disk>(
     writer: &mut PageWriter,
@@ -134,7 +62,7 @@ pub(crate) fn up_of<D: Disk>(
     requires working { writer.old.failed ≡ false }
     ensures ready { IsReadyWriter D.Disk writer.new disk.new }
     ensures kept { (b : Base) (base : ℕ) (s : Writer) → StandsAs D.Disk b base s writer.old disk.old → ((q : ℕ) → (s.pages q).waits ≡ false)
-        → HasLevel level (bodies s number) → ReadKept D.Disk b base s (HasUp (is_leaf_kind (kind_at level)) (bodies s number)) disk.old writer.new disk.new result }
+        → HasLevel level (bodies s number) → CallKept D.Disk b base s (HasUp (is_leaf_kind (kind_at level)) (bodies s number)) disk.old writer.new disk.new result }
     ensures short { IfOk result (λ n. n ≤ 255) }
     ensures works { OnOk result (writer.new.failed ≡ false) }
     ensures fails { IfErr result (λ e. (writer.new.failed ≡ false) ↔ ((e ≡ Memory) ⊎ (e ≡ NotAStore))) }
@@ -159,7 +87,7 @@ pub(crate) fn has_room<D: Disk>(
     requires short { key ≤ 255 }
     ensures ready { IsReadyWriter D.Disk writer.new disk.new }
     ensures kept { (b : Base) (base : ℕ) (s : Writer) → StandsAs D.Disk b base s writer.old disk.old → ((q : ℕ) → (s.pages q).waits ≡ false)
-        → HasLevel level (bodies s number) → ReadKept D.Disk b base s (IsRoom (is_leaf_kind (kind_at level)) (bodies s number) key) disk.old writer.new disk.new result }
+        → HasLevel level (bodies s number) → CallKept D.Disk b base s (IsRoom (is_leaf_kind (kind_at level)) (bodies s number) key) disk.old writer.new disk.new result }
     ensures works { OnOk result (writer.new.failed ≡ false) }
     ensures fails { IfErr result (λ e. (writer.new.failed ≡ false) ↔ ((e ≡ Memory) ⊎ (e ≡ NotAStore))) }
     ensures causes { IfErr result (λ e. (e ≡ LogFull) ⊎ (e ≡ Memory) ⊎ (e ≡ NotAStore) ⊎ (e ≡ Device)) }
@@ -196,7 +124,7 @@ pub(crate) fn is_full<D: Disk>(
     requires working { writer.old.failed ≡ false }
     ensures ready { IsReadyWriter D.Disk writer.new disk.new }
     ensures kept { (b : Base) (base : ℕ) (s : Writer) → StandsAs D.Disk b base s writer.old disk.old → ((q : ℕ) → (s.pages q).waits ≡ false)
-        → (bodies s 0).kind ≡ Meta → ReadKept D.Disk b base s (IsFull (bodies s 0) pages max) disk.old writer.new disk.new result }
+        → (bodies s 0).kind ≡ Meta → CallKept D.Disk b base s (IsFull (bodies s 0) pages max) disk.old writer.new disk.new result }
     ensures works { OnOk result (writer.new.failed ≡ false) }
     ensures fails { IfErr result (λ e. (writer.new.failed ≡ false) ↔ ((e ≡ Memory) ⊎ (e ≡ NotAStore))) }
     ensures causes { IfErr result (λ e. (e ≡ LogFull) ⊎ (e ≡ Memory) ⊎ (e ≡ NotAStore) ⊎ (e ≡ Device)) }

@@ -8,12 +8,13 @@ ghost use Rattle.im_log.specs.LogFile.{HasNoRoom};
 ghost use Rattle.im_flush.specs.PageWriter.{IsReadyWriter};
 ghost use Rattle.im_search.specs.Found.{HasTree};
 ghost use Rattle.im_alloc.specs.Seen.{bodies};
-ghost use Rattle.im_split.specs.Kept.{ReadKept};
+ghost use Rattle.im_search.specs.Kept.{CallKept};
 ghost use Rattle.im_split.specs.Tops.{IsCounted, IsPlaced, IsFound};
 
-use crate::reading::{child_of, has_room, level_of, up_of};
+use crate::reading::{has_room, up_of};
 use im_disk::Disk;
 use im_flush::PageWriter;
+use im_search::{child_of, level_of};
 use im_types::{Fault, PageNo};
 
 /// The highest page that splits, where a page on a key's way does, with its level and its parent; and how many pages have to be
@@ -48,7 +49,7 @@ fn step_down<D: Disk>(
     requires counted { IsCounted place.level place.top }
     ensures ready { IsReadyWriter D.Disk writer.new disk.new }
     ensures kept { (b : Base) (base : ℕ) (s : Writer) → HasTree D.Disk b base s [] writer.old disk.old → IsPlaced (bodies s) key.now place.level place.number place.top
-        → ReadKept D.Disk b base s (λ next. IsPlaced (bodies s) key.now next.level next.number next.top) disk.old writer.new disk.new result }
+        → CallKept D.Disk b base s (λ next. IsPlaced (bodies s) key.now next.level next.number next.top) disk.old writer.new disk.new result }
     ensures counted { IfOk result (λ next. IsCounted next.level next.top) }
     ensures level { IfOk result (λ next. next.level + 1 ≡ place.level) }
     ensures works { OnOk result (writer.new.failed ≡ false) }
@@ -59,9 +60,9 @@ fn step_down<D: Disk>(
 {
     let level = place.level - 1;
     let child = child_of(writer, disk, place.number, place.level, key)?;
-    let bytes = up_of(writer, disk, child, level)?;
+    let bytes = up_of(writer, disk, child.number, level)?;
     let fits = has_room(writer, disk, place.number, place.level, bytes)?;
-    Ok(next_place(place, child, fits))
+    Ok(next_place(place, child.number, fits))
 }
 
 // The child's place, whose separator fits into its parent or not.
@@ -106,7 +107,7 @@ pub(crate) fn find_top<D: Disk>(
     requires working { writer.old.failed ≡ false }
     requires short { length key.now ≤ 255 }
     ensures ready { IsReadyWriter D.Disk writer.new disk.new }
-    ensures kept { (b : Base) (base : ℕ) (s : Writer) → HasTree D.Disk b base s [] writer.old disk.old → ReadKept D.Disk b base s (IsFound (bodies s) key.now) disk.old writer.new disk.new result }
+    ensures kept { (b : Base) (base : ℕ) (s : Writer) → HasTree D.Disk b base s [] writer.old disk.old → CallKept D.Disk b base s (IsFound (bodies s) key.now) disk.old writer.new disk.new result }
     ensures counted { IfOk result (λ found. IfSome found (IsCounted 0)) }
     ensures works { OnOk result (writer.new.failed ≡ false) }
     ensures fails { IfErr result (λ e. (writer.new.failed ≡ false) ↔ ((e ≡ Memory) ⊎ (e ≡ NotAStore))) }

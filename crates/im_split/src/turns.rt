@@ -22,12 +22,12 @@ ghost use Rattle.im_split.specs.Steps.{BringKept, HalvesInner, HalvesRoot, TurnK
 ghost use Rattle.im_split.specs.Tops.{IsCounted};
 ghost use Rattle.im_split.specs.Turns.{IsTurn, IsRootTurn};
 
-use crate::reading::child_in;
 use crate::top::Top;
 use im_alloc::image;
 use im_disk::Disk;
 use im_flush::PageWriter;
 use im_page::Page;
+use im_search::child_in;
 use im_smo::Images;
 use im_types::{Fault, PageNo, compare};
 use std::alloc::Global;
@@ -100,7 +100,7 @@ fn part_inner(
     Ok(Turn {
         level: turn.level - 1,
         parent: part_of(page, n, key, turn.page, q),
-        page: child,
+        page: child.number,
     })
 }
 
@@ -127,7 +127,7 @@ fn part_root(
     Ok(Turn {
         level: level - 1,
         parent: part_of(page, n, key, left, right),
-        page: child,
+        page: child.number,
     })
 }
 

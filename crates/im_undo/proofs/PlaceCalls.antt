@@ -17,7 +17,7 @@ use Rattle.im_tree.specs.Search.{IsOnWay}
 use Rattle.im_search.specs.Levels.{HasLevel, bodies}
 use Rattle.im_search.specs.Found.{Reached, LeafKept}
 use Rattle.im_search.proofs.Ways.{evicted_past, stops_past, reached_then}
-use Rattle.im_delete.specs.Kept.{CallKept}
+use Rattle.im_search.specs.Kept.{CallKept}
 use Rattle.im_undo.specs.Place.{IsKnownLeaf, IsHeldPage, FindsPage, PlaceKept}
 
 -- a page that was got is a leaf below the page count

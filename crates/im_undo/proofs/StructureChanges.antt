@@ -3,14 +3,13 @@ use Rattle.std.proofs.Common.{◌≡◌, ◌≢◌, ◌⊎◌, inl, inr, ℕ, �
 use Rattle.std.specs.Result.{IsErrAnd}
 use Rattle.std.proofs.Math.Path.{fun_ext}
 use Rattle.im_types.specs.declared.fault.Fault.{Fault}
-use Rattle.im_types.specs.declared.fault.Fault.TheVariants.{Capacity, Device, Failed, LogFull, Memory, NotAStore, PagesFull}
-use Rattle.im_types.specs.declared.page_kind.PageKind.TheVariants.{Free}
+use Rattle.im_types.specs.declared.fault.Fault.TheVariants.{Capacity, Failed, Memory, PagesFull}
 use Rattle.im_types.specs.Keys.{Key}
 use Rattle.im_types.specs.Histories.{Base, History}
 use Rattle.im_types.specs.Writer.{Writer}
 use Rattle.im_disk.specs.declared.disk.Disk.{Ghosts}
 use Rattle.im_flush.specs.declared.page_writer.PageWriter.{PageWriter}
-use Rattle.im_flush.specs.PageWriter.{GoesOn, Evicted}
+use Rattle.im_flush.specs.PageWriter.{GoesOn}
 use Rattle.im_flush.proofs.Writers.{goes_on_then}
 use Rattle.im_tree.specs.Levels.{Pages, walk}
 use Rattle.im_tree.specs.Good.{IsGoodTree}
@@ -23,9 +22,8 @@ use Rattle.im_change.specs.Changes.{HasRecordOf, LeavesChange, MayChange, Change
 use Rattle.im_change.proofs.Closing.{change_contents}
 use Rattle.im_change.proofs.Runs.{marked_is}
 use Rattle.im_split.specs.Plan.{FitsInLeaf, PlanKept}
-use Rattle.im_split.specs.Tops.{LacksRoomFor}
 use Rattle.im_split.proofs.OneLeaf.{one_leaf}
-use Rattle.im_delete.specs.Kept.{CallKept}
+use Rattle.im_search.specs.Kept.{CallKept}
 use Rattle.im_undo.specs.Records.{compensations}
 use Rattle.im_undo.specs.DropPlan.{IsSpare, IsDropPlan}
 use Rattle.im_undo.specs.Undoing.{IsGoing, LeavesUndo, Restructured, SplitKept, DropKept, EmptiedKept}

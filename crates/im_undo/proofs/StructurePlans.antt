@@ -21,9 +21,9 @@ use Rattle.im_pool.specs.declared.frame.Frame.{Frame}
 use Rattle.im_smo.specs.Images.{Numbered}
 use Rattle.im_alloc.specs.Seen.{bodies, seen}
 use Rattle.im_alloc.proofs.Goings.{bodies_stay, seen_stays}
-use Rattle.im_delete.specs.Kept.{CallKept}
+use Rattle.im_search.specs.Kept.{CallKept}
 use Rattle.im_delete.specs.Plan.{DeletesChain, IsPlan, DeleteKept}
-use Rattle.im_delete.proofs.Calls.{call_refused, then_refused}
+use Rattle.im_search.proofs.Calls.{call_refused, then_refused}
 use Rattle.im_split.proofs.OneLeaf.{one_leaf}
 use Rattle.im_undo.specs.DropPlan.{IsSpare, IsDropPlan}
 

@@ -11,7 +11,7 @@ ghost use Rattle.im_flush.specs.PageWriter.{IsReadyWriter};
 ghost use Rattle.im_tree.specs.Search.{IsOnWay};
 ghost use Rattle.im_search.specs.Levels.{bodies};
 ghost use Rattle.im_search.specs.Found.{HasTree};
-ghost use Rattle.im_delete.specs.Kept.{CallKept};
+ghost use Rattle.im_search.specs.Kept.{CallKept};
 ghost use Rattle.im_undo.specs.Place.{CountsPage, HasKey, HasGap, IsKnownLeaf, FindsPage, PlaceKept};
 
 use im_disk::Disk;

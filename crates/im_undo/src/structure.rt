@@ -8,7 +8,7 @@ ghost use Rattle.im_log.specs.LogFile.{HasNoRoom};
 ghost use Rattle.im_pool.specs.Pool.{page_at, IsAt};
 ghost use Rattle.im_flush.specs.PageWriter.{IsReadyWriter};
 ghost use Rattle.im_search.specs.Found.{HasTree};
-ghost use Rattle.im_delete.specs.Kept.{CallKept};
+ghost use Rattle.im_search.specs.Kept.{CallKept};
 ghost use Rattle.im_undo.specs.DropPlan.{IsDropPlan};
 ghost use Rattle.im_undo.specs.Undoing.{IsGoing, SplitKept, DropKept, EmptiedKept};
 

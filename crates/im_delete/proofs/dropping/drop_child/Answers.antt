@@ -2,8 +2,9 @@ use Rattle.std.proofs.Common.{◌≡◌, sym, subst}
 use Rattle.im_types.specs.Pages.{Body, Page}
 use Rattle.im_types.specs.declared.page_kind.PageKind.TheVariants.{Inner}
 use Rattle.im_alloc.specs.Seen.{seen}
-use Rattle.im_delete.specs.Chains.{StandsAt, without_child}
-use Rattle.im_delete.proofs.Calls.{call_refused, call_here, ok_done}
+use Rattle.im_search.specs.Children.{StandsAt}
+use Rattle.im_delete.specs.Chains.{without_child}
+use Rattle.im_search.proofs.Calls.{call_refused, call_here, ok_done}
 use Rattle.im_delete.proofs.Leaving.{edited, says_seen}
 use Rattle.im_delete.proofs.dropping.drop_child.Goals as goal
 

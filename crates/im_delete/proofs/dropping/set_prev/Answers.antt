@@ -4,7 +4,7 @@ use Rattle.im_types.specs.declared.page_kind.PageKind.TheVariants.{Leaf}
 use Rattle.im_flush.proofs.Writers.{goes_on_start}
 use Rattle.im_smo.specs.Bodies.{with_prev}
 use Rattle.im_alloc.specs.Seen.{seen}
-use Rattle.im_delete.proofs.Calls.{call_refused, call_here, ok_done}
+use Rattle.im_search.proofs.Calls.{call_refused, call_here, ok_done}
 use Rattle.im_delete.proofs.Leaving.{edited, says_seen, linked_prev_is, linked_prev_none}
 use Rattle.im_delete.proofs.dropping.set_prev.Goals as goal
 

@@ -5,7 +5,7 @@ use Rattle.im_smo.specs.Changed.{unlinked_pages}
 use Rattle.im_alloc.specs.Seen.{seen}
 use Rattle.im_alloc.proofs.Goings.{seen_stays, stands_on, ready_on}
 use Rattle.im_delete.specs.Chains.{AreLeavesBeside, without_child}
-use Rattle.im_delete.proofs.Calls.{call_refused, call_then, call_here}
+use Rattle.im_search.proofs.Calls.{call_refused, call_then, call_here}
 use Rattle.im_delete.proofs.Leaving.{beside_stay, out_only, out_by, seen_moves}
 use Rattle.im_delete.proofs.dropping.take_out.Goals as goal
 

@@ -4,7 +4,7 @@ use Rattle.im_tree.specs.Levels.{Pages}
 use Rattle.im_smo.specs.Changed.{linked_prev}
 use Rattle.im_alloc.specs.Seen.{seen}
 use Rattle.im_alloc.proofs.Goings.{seen_stays, stands_on, ready_on}
-use Rattle.im_delete.proofs.Calls.{call_refused, call_then}
+use Rattle.im_search.proofs.Calls.{call_refused, call_then}
 use Rattle.im_delete.proofs.Leaving.{kind_linked, unlinked_by, seen_moves}
 use Rattle.im_delete.proofs.dropping.unlink.Goals as goal
 

@@ -1,6 +1,6 @@
 use Rattle.std.proofs.Common.{◌≡◌, [], subst}
 use Rattle.im_delete.specs.Given.{IsGiven}
-use Rattle.im_delete.proofs.Calls.{call_refused, call_here, then_refused}
+use Rattle.im_search.proofs.Calls.{call_refused, call_here, then_refused}
 use Rattle.im_delete.proofs.Frees.{last_first, first_given, has_given, more_given, free_call, none_left}
 use Rattle.im_delete.proofs.giving.give_back.Goals as goal
 

@@ -7,8 +7,9 @@ use Rattle.im_search.proofs.Pages.{bodies_stay, tree_stays, level_stays}
 use Rattle.im_search.proofs.Steps.{way_level}
 use Rattle.im_alloc.specs.Seen.{bodies, seen}
 use Rattle.im_alloc.proofs.Goings.{seen_stays, stands_on, ready_on, images_on}
-use Rattle.im_delete.specs.Chains.{StandsAt, IsBeside, AreLeavesBeside, out_of_tree}
-use Rattle.im_delete.proofs.Calls.{call_refused, call_here, then_refused}
+use Rattle.im_search.specs.Children.{StandsAt}
+use Rattle.im_delete.specs.Chains.{IsBeside, AreLeavesBeside, out_of_tree}
+use Rattle.im_search.proofs.Calls.{call_refused, call_here, then_refused}
 use Rattle.im_delete.proofs.Leaving.{leaves_beside, chain_keeps}
 use Rattle.im_delete.proofs.Plans.{the_leaf, hanging, parent_kind, taken_out, none_seen, moved, planned, plan_kept}
 use Rattle.im_delete.proofs.plan.plan_delete.Goals as goal

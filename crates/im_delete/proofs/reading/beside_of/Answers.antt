@@ -5,7 +5,7 @@ use Rattle.im_pool.specs.Pool.{page_at}
 use Rattle.im_delete.specs.Chains.{IsBeside}
 use Rattle.im_search.specs.Levels.{HasLevel}
 use Rattle.im_alloc.specs.Seen.{bodies}
-use Rattle.im_delete.proofs.Calls.{call_got, call_refused}
+use Rattle.im_search.proofs.Calls.{call_got, call_refused}
 use Rattle.im_delete.proofs.reading.beside_of.Goals as goal
 
 pub returns-in_err-frame-clause-kept : goal.returns-in_err-frame-clause-kept

@@ -5,9 +5,9 @@ use Rattle.im_tree.proofs.Way.{way_begins}
 use Rattle.im_search.proofs.Pages.{bodies_stay, tree_stays, level_stays}
 use Rattle.im_search.proofs.Steps.{way_level}
 use Rattle.im_alloc.specs.Seen.{bodies}
-use Rattle.im_delete.specs.Chains.{IsChildOf}
+use Rattle.im_search.specs.Children.{IsChildOf}
 use Rattle.im_delete.specs.Ways.{IsPlaced}
-use Rattle.im_delete.proofs.Calls.{call_refused, call_here, then_refused, memory_refused}
+use Rattle.im_search.proofs.Calls.{call_refused, call_here, then_refused, memory_refused}
 use Rattle.im_delete.proofs.Placing.{placed, root_placed}
 use Rattle.im_delete.proofs.way.find_chain.Goals as goal
 

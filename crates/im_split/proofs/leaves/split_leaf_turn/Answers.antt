@@ -6,7 +6,7 @@ use Rattle.im_split.specs.Turns.{IsTurn}
 use Rattle.im_split.proofs.TakenOut.{beneath}
 use Rattle.im_split.proofs.Ends.{last_one, leaf_ended, leaf_partable}
 use Rattle.im_split.proofs.EndRuns.{not_refused, end_refused, end_here}
-use Rattle.im_split.proofs.ReadSteps.{on_ok}
+use Rattle.im_search.proofs.Calls.{on_ok}
 use Rattle.im_split.proofs.leaves.split_leaf_turn.Goals as goal
 
 pub returns-in_err-bring_both-clause-kept : goal.returns-in_err-bring_both-clause-kept

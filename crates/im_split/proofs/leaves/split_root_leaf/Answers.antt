@@ -4,7 +4,7 @@ use Rattle.im_alloc.specs.Seen.{seen}
 use Rattle.im_split.specs.Turns.{IsRootTurn}
 use Rattle.im_split.proofs.Ends.{last_two, root_ended, root_leaf, can_part_root}
 use Rattle.im_split.proofs.EndRuns.{not_refused, end_refused, end_here}
-use Rattle.im_split.proofs.ReadSteps.{on_ok}
+use Rattle.im_search.proofs.Calls.{on_ok}
 use Rattle.im_split.proofs.leaves.split_root_leaf.Goals as goal
 
 pub returns-in_err-page-clause-kept : goal.returns-in_err-page-clause-kept

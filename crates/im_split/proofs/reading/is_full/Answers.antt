@@ -5,17 +5,17 @@ use Rattle.im_pool.specs.Pool.{page_at}
 use Rattle.im_types.specs.declared.page_kind.PageKind.TheVariants.{Meta}
 use Rattle.im_split.specs.Readings.{IsFull}
 use Rattle.im_alloc.specs.Seen.{bodies}
-use Rattle.im_split.proofs.ReadSteps.{read_of, read_refused}
+use Rattle.im_search.proofs.Calls.{call_got, call_refused}
 use Rattle.im_split.proofs.reading.is_full.Goals as goal
 
 pub returns-in_err-frame-clause-kept : goal.returns-in_err-frame-clause-kept
 returns-in_err-frame-clause-kept g c b base s is ready level =
     let got = c.in_err-frame.ensures.kept b base s is (λ q le. ready q) in
-    read_refused g.D.Disk b base s _ c.args.disk.now c.get.new.self c.get.new.disk c.in_err-frame.field-0.0 got.stops got.cause got.again c.from_residual.result c.from_residual.ensures.1
+    call_refused g.D.Disk b base s _ c.args.disk.now c.get.new.self c.get.new.disk c.in_err-frame.field-0.0 got.stops got.cause got.again c.from_residual.result c.from_residual.ensures.1
 
 pub returns-clause-kept : goal.returns-clause-kept
 returns-clause-kept g c b base s is ready level =
     let got = (c.in_ok-frame.ensures.kept b base s is (λ q le. ready q)).ok in
     let same : c.page.result.now.body ≡ bodies s 0 = ap (λ (p : Page). p.body) (c.page.ensures.page ∙ ap (λ (n : ℕ). page_at c.get.new.self.pool n) c.in_ok-frame.ensures.frame ∙ got.page) in
-    read_of g.D.Disk b base s _ 0 c.args.disk.now c.get.new.self c.get.new.disk c.full_in.result got
+    call_got g.D.Disk b base s _ 0 c.args.disk.now c.get.new.self c.get.new.disk c.full_in.result got
     (subst (λ (y : Body). IfOk c.full_in.result (IsFull y c.args.pages c.args.max)) same c.full_in.ensures.full) (c.full_in.ensures.sound (subst (λ (y : Body). y.kind ≡ Meta) (sym same) level))

@@ -7,17 +7,17 @@ use Rattle.im_search.specs.Levels.{kind_at}
 use Rattle.im_split.specs.Readings.{HasUp}
 use Rattle.im_search.specs.Levels.{HasLevel}
 use Rattle.im_alloc.specs.Seen.{bodies}
-use Rattle.im_split.proofs.ReadSteps.{read_of, read_refused}
+use Rattle.im_search.proofs.Calls.{call_got, call_refused}
 use Rattle.im_split.proofs.reading.up_of.Goals as goal
 
 pub returns-in_err-frame-clause-kept : goal.returns-in_err-frame-clause-kept
 returns-in_err-frame-clause-kept g c b base s is ready level =
     let got = c.in_err-frame.ensures.kept b base s is (λ q le. ready q) in
-    read_refused g.D.Disk b base s _ c.args.disk.now c.get.new.self c.get.new.disk c.in_err-frame.field-0.0 got.stops got.cause got.again c.from_residual.result c.from_residual.ensures.1
+    call_refused g.D.Disk b base s _ c.args.disk.now c.get.new.self c.get.new.disk c.in_err-frame.field-0.0 got.stops got.cause got.again c.from_residual.result c.from_residual.ensures.1
 
 pub returns-clause-kept : goal.returns-clause-kept
 returns-clause-kept g c b base s is ready level =
     let got = (c.in_ok-frame.ensures.kept b base s is (λ q le. ready q)).ok in
     let same : c.page.result.now.body ≡ bodies s c.args.number = ap (λ (p : Page). p.body) (c.page.ensures.page ∙ ap (λ (n : ℕ). page_at c.get.new.self.pool n) c.in_ok-frame.ensures.frame ∙ got.page) in
-    read_of g.D.Disk b base s _ c.args.number c.args.disk.now c.get.new.self c.get.new.disk c.up_in.result got
+    call_got g.D.Disk b base s _ c.args.number c.args.disk.now c.get.new.self c.get.new.disk c.up_in.result got
     (subst (λ (y : Body). IfOk c.up_in.result ((λ (y : Body). HasUp (is_leaf_kind (kind_at c.args.level)) y) y)) same c.up_in.ensures.up) (c.up_in.ensures.sound (subst (HasLevel c.args.level) (sym same) level))

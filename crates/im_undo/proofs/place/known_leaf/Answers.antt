@@ -5,7 +5,7 @@ use Rattle.im_pool.specs.declared.frame.Frame.{Frame}
 use Rattle.im_pool.specs.Pool.{page_at}
 use Rattle.im_flush.proofs.Writers.{goes_on_then}
 use Rattle.im_search.proofs.Pages.{tree_stays}
-use Rattle.im_delete.proofs.Calls.{call_here, call_refused, then_refused}
+use Rattle.im_search.proofs.Calls.{call_here, call_refused, then_refused}
 use Rattle.im_undo.proofs.PlaceCalls.{known_held, get_refused}
 use Rattle.im_undo.proofs.place.known_leaf.Goals as goal
 

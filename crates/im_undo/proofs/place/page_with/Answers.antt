@@ -1,9 +1,9 @@
-use Rattle.std.proofs.Common.{◌≡◌, ℕ, false, refl, sym, ap, subst, ◌∙◌}
+use Rattle.std.proofs.Common.{◌≡◌, false, refl, sym, subst}
 use Rattle.std.specs.Bool.{IsTrue}
-use Rattle.im_types.specs.Pages.{Body, Page}
+use Rattle.im_types.specs.Pages.{Body}
 use Rattle.im_tree.specs.Search.{IsOnWay}
 use Rattle.im_search.specs.Levels.{bodies}
-use Rattle.im_delete.proofs.Calls.{call_refused}
+use Rattle.im_search.proofs.Calls.{call_refused}
 use Rattle.im_undo.specs.Place.{IsKnownLeaf, HasKey}
 use Rattle.im_undo.proofs.PlaceLaws.{way_of_key}
 use Rattle.im_undo.proofs.PlaceCalls.{lent_says, looked_none, none_of, way_held}

@@ -1,6 +1,6 @@
-use Rattle.std.proofs.Common.{List, Option, None, Ok, subst}
+use Rattle.std.proofs.Common.{List, Option, Ok, subst}
 use Rattle.im_smo.specs.Images.{Numbered}
-use Rattle.im_delete.specs.Kept.{CallKept}
+use Rattle.im_search.specs.Kept.{CallKept}
 use Rattle.im_undo.specs.DropPlan.{IsDropPlan}
 use Rattle.im_undo.proofs.Growth.{going_tree}
 use Rattle.im_undo.proofs.PlaceCalls.{none_of}

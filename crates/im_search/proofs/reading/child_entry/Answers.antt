@@ -1,6 +1,6 @@
 use Rattle.std.proofs.Common.{arith, ◌≤◌}
 use Rattle.im_page.proofs.ChildLemmas.{child_found, child_before}
-use Rattle.im_smo.proofs.deletions.child_place.Goals as goal
+use Rattle.im_search.proofs.reading.child_entry.Goals as goal
 
 pub returns-in-Ok-clause-entry : goal.returns-in-Ok-clause-entry
 returns-in-Ok-clause-entry c =

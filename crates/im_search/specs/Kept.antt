@@ -1,4 +1,4 @@
--- What the calls of a plan keep.
+-- What calls over a writer keep, where the pages are only read, or changed among images.
 use Rattle.std.specs.Prelude.{◌≢◌, ℕ, Result, IfErr, IfOk, OnOk}
 use Rattle.im_types.specs.declared.fault.Fault.{Fault}
 use Rattle.im_types.specs.declared.fault.Fault.TheVariants.{NotAStore}

@@ -12,18 +12,21 @@ use Rattle.im_flush.specs.PageWriter.{GoesOn, Got, Evicted}
 use Rattle.im_flush.proofs.Goings.{leaves_then, leaves_so_far}
 use Rattle.im_flush.proofs.LoggedChanges.{ok_of, again_here, again_on}
 use Rattle.im_flush.proofs.Writers.{goes_on_then}
-use Rattle.im_delete.specs.Kept.{CallKept}
+use Rattle.im_tree.specs.Levels.{Pages}
+use Rattle.im_search.specs.Levels.{bodies}
+use Rattle.im_search.specs.Kept.{CallKept}
+use Rattle.im_search.proofs.Pages.{bodies_stay}
 
 pub if_ok : {A E : Type 0} (r : Result A E) (P Q : A → Type 0) → IfOk r P → ((a : A) → P a → Q a) → IfOk r Q
 if_ok (Ok a) P Q is to = to a is
 if_ok (Err e) P Q is to = tt
 
-on_ok : {A E : Type 0} (r : Result A E) (P Q : Type 0) → OnOk r P → (P → Q) → OnOk r Q
+pub on_ok : {A E : Type 0} (r : Result A E) (P Q : Type 0) → OnOk r P → (P → Q) → OnOk r Q
 on_ok (Ok a) P Q is to = to is
 on_ok (Err e) P Q is to = tt
 
 -- a call that is refused in no case that it is called in
-never_err : {A E : Type 0} (r : Result A E) (P : E → Type 0) → IfErr r (λ e. ⊥) → IfErr r P
+pub never_err : {A E : Type 0} (r : Result A E) (P : E → Type 0) → IfErr r (λ e. ⊥) → IfErr r P
 never_err (Ok a) P never = tt
 never_err (Err e) P never = absurd never
 
@@ -73,6 +76,12 @@ module _ {D : Type 0} (d : Ghosts D) (b : Base) (base : ℕ) where
         cause = two.cause;
         again = again_on r _ _ _ two.again more;
       }
+
+  -- what is read of pages behind other calls is read of them as they were
+  pub call_past : {A : Type 0} (s : Writer) (P : Pages → A → Type 0) (old : D) (t : Writer) (w : PageWriter) (mid : D) → GoesOn d b base s old t w mid → (v : PageWriter) (new : D) (r : Result A Fault)
+      → CallKept d b base t (P (bodies t)) mid v new r → CallKept d b base s (P (bodies s)) old v new r
+  call_past s P old t w mid on v new r two =
+      call_then s (P (bodies t)) (P (bodies s)) old t w mid on v new r two (λ a is. subst (λ (pages : Pages). P pages a) (bodies_stay b s t on.goes.keeps) is)
 
   -- a refusal of a call behind others, handed on
   pub then_refused : {A B : Type 0} (s : Writer) (P : A → Type 0) (Q : B → Type 0) (old : D) (t : Writer) (w : PageWriter) (mid : D) → GoesOn d b base s old t w mid → (v : PageWriter) (new : D) (f : Fault)

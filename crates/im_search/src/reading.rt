@@ -1,0 +1,124 @@
+//! What a page on a key's way says: its level, and its child on the way.
+
+ghost use Rattle.std.specs.Prelude.{◌≡◌, ◌<◌, ◌≤◌, ◌⊎◌, ◌↔◌, ℕ, true, false, length, Ok, Err, IfErr, IfOk, OnOk, IsNone, IfSome};
+ghost use Rattle.im_types.specs.declared.fault.Fault.TheVariants.{Device, LogFull, Memory, NotAStore};
+ghost use Rattle.im_types.specs.declared.page_kind.PageKind.TheVariants.{Inner};
+ghost use Rattle.im_types.specs.Histories.{Base};
+ghost use Rattle.im_types.specs.Writer.{Writer};
+ghost use Rattle.im_page.specs.Entry.{entry_at};
+ghost use Rattle.im_page.specs.Child.{IsChild, StartAbove};
+ghost use Rattle.im_log.specs.LogFile.{HasNoRoom};
+ghost use Rattle.im_flush.specs.PageWriter.{IsReadyWriter, StandsAs};
+ghost use Rattle.im_search.specs.Levels.{HasLevel, bodies};
+ghost use Rattle.im_search.specs.Kept.{CallKept};
+ghost use Rattle.im_search.specs.Children.{IsChildOf};
+
+use crate::child_place::{Child, ChildPlace};
+use crate::levels::has_level;
+use im_disk::Disk;
+use im_flush::PageWriter;
+use im_page::Page;
+use im_types::{Fault, PageNo};
+
+// The place of the entry of an inner page's child on a key's way; none where it is the leftmost one.
+fn child_entry(page: &Page, key: &[u8]) -> Option<usize>
+    ensures entry { IfSome result (λ i. (i < length page.now.body.entries) × IsChild page.now.body key.now (entry_at page.now.body.entries i).1) }
+    ensures leftmost { IsNone result → StartAbove key.now page.now.body.entries × IsChild page.now.body key.now page.now.body.leftmost }
+{
+    page.content();
+    match page.find(key) {
+        Ok(i) => Some(i),
+        Err(0) => None,
+        Err(i) => Some(i - 1),
+    }
+}
+
+// The child of an inner page on a key's way.
+fn child_on_way(page: &Page, key: &[u8]) -> Child
+    requires { page.now.body.kind ≡ Inner }
+    ensures { IsChildOf page.now.body key.now result }
+{
+    if page.len() == 0 {
+        return Child {
+            number: page.leftmost(),
+            place: ChildPlace::Only,
+        };
+    }
+    match child_entry(page, key) {
+        Some(i) => Child {
+            number: page.value(i) as PageNo,
+            place: ChildPlace::Entry(i),
+        },
+        None => Child {
+            number: page.leftmost(),
+            place: ChildPlace::Leftmost,
+        },
+    }
+}
+
+/// The child of an inner page of this level on a key's way. Refused `NotAStore` where the page is none.
+pub fn child_in(page: &Page, level: u8, key: &[u8]) -> Result<Child, Fault>
+    ensures child { IfOk result (IsChildOf page.now.body key.now) }
+    ensures level { IfOk result (λ _. HasLevel level page.now.body) }
+    ensures refused { IfErr result (λ e. e ≡ NotAStore) }
+    ensures sound { 1 ≤ level → HasLevel level page.now.body → IfErr result (λ _. ⊥) }
+{
+    if level == 0 || !has_level(page, level) {
+        return Err(Fault::NotAStore);
+    }
+    Ok(child_on_way(page, key))
+}
+
+// The level of a page of the tree.
+fn level_in(page: &Page) -> Result<u8, Fault>
+    ensures level { IfOk result (λ h. h ≡ page.now.body.level) }
+    ensures refused { IfErr result (λ e. e ≡ NotAStore) }
+    ensures sound { HasLevel page.now.body.level page.now.body → IfErr result (λ _. ⊥) }
+{
+    let level = page.level();
+    if !has_level(page, level) {
+        return Err(Fault::NotAStore);
+    }
+    Ok(level)
+}
+
+/// The level of a page of the tree. Refused as `child_of` is.
+pub fn level_of<D: Disk>(writer: &mut PageWriter, disk: &mut D, number: PageNo) -> Result<u8, Fault>
+    requires ready { IsReadyWriter D.Disk writer.old disk.old }
+    requires working { writer.old.failed ≡ false }
+    ensures ready { IsReadyWriter D.Disk writer.new disk.new }
+    ensures kept { (b : Base) (base : ℕ) (s : Writer) → StandsAs D.Disk b base s writer.old disk.old → ((q : ℕ) → (s.pages q).waits ≡ false)
+        → HasLevel (bodies s number).level (bodies s number) → CallKept D.Disk b base s (λ h. h ≡ (bodies s number).level) disk.old writer.new disk.new result }
+    ensures works { OnOk result (writer.new.failed ≡ false) }
+    ensures fails { IfErr result (λ e. (writer.new.failed ≡ false) ↔ ((e ≡ Memory) ⊎ (e ≡ NotAStore))) }
+    ensures causes { IfErr result (λ e. (e ≡ LogFull) ⊎ (e ≡ Memory) ⊎ (e ≡ NotAStore) ⊎ (e ≡ Device)) }
+    ensures device { result ≡ Err Device ↔ (D.failed disk.new ≡ true) }
+    ensures no_room { result ≡ Err LogFull → HasNoRoom writer.new.log }
+{
+    let frame = writer.get(disk, number)?;
+    level_in(writer.page(frame))
+}
+
+/// The child on a key's way of an inner page, which has to be of this level. Refused `NotAStore` where it is not, otherwise as
+/// `PageWriter::get` is.
+pub fn child_of<D: Disk>(
+    writer: &mut PageWriter,
+    disk: &mut D,
+    number: PageNo,
+    level: u8,
+    key: &[u8],
+) -> Result<Child, Fault>
+    requires ready { IsReadyWriter D.Disk writer.old disk.old }
+    requires working { writer.old.failed ≡ false }
+    ensures ready { IsReadyWriter D.Disk writer.new disk.new }
+    ensures kept { (b : Base) (base : ℕ) (s : Writer) → StandsAs D.Disk b base s writer.old disk.old → ((q : ℕ) → (s.pages q).waits ≡ false)
+        → 1 ≤ level → HasLevel level (bodies s number) → CallKept D.Disk b base s (IsChildOf (bodies s number) key.now) disk.old writer.new disk.new result }
+    ensures works { OnOk result (writer.new.failed ≡ false) }
+    ensures fails { IfErr result (λ e. (writer.new.failed ≡ false) ↔ ((e ≡ Memory) ⊎ (e ≡ NotAStore))) }
+    ensures causes { IfErr result (λ e. (e ≡ LogFull) ⊎ (e ≡ Memory) ⊎ (e ≡ NotAStore) ⊎ (e ≡ Device)) }
+    ensures device { result ≡ Err Device ↔ (D.failed disk.new ≡ true) }
+    ensures no_room { result ≡ Err LogFull → HasNoRoom writer.new.log }
+{
+    let frame = writer.get(disk, number)?;
+    child_in(writer.page(frame), level, key)
+}
