@@ -1,6 +1,7 @@
 pub mod Applicable
 pub mod Applying
 pub mod Loading
+pub mod Counting
 pub mod Passing
 pub mod Raised
 pub mod Reached

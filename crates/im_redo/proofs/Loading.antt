@@ -34,7 +34,9 @@ use Rattle.im_flush.specs.Redoing.{LoadKept}
 use Rattle.im_flush.proofs.Growing.{on_ok}
 use Rattle.im_flush.proofs.PageFiles.{only_here, only_other}
 use Rattle.im_redo.specs.Loading.{AreWaiting, IsLoading, LoadingKept, WaitsFor, lsn_at}
+use Rattle.im_redo.specs.Redo.{first_lsn}
 use Rattle.im_redo.specs.Within.{IsWithinRedo}
+use Rattle.im_redo.proofs.Counting.{first_loaded}
 use Rattle.im_redo.proofs.Within.{leaves_more, record_still, within_more}
 
 -- ---- pairs of a page and an LSN, in rising page number
@@ -140,7 +142,7 @@ pub record AsksLoad (s : Writer) (lsn n : ℕ) (what : What) : Type 0 where
   pub found : (s.pages n).found ≡ Some (lsn, copy)
   pub low : (q : ℕ) → q < n → (s.pages q).waits ≡ false
 
-module _ {D : Type 0} (d : Ghosts D) (b : Base) (base : ℕ) (begun : History) (from : D) (p lsn : ℕ) (left : List (ℕ × ℕ)) (w : PageWriter) (disk : D) (so : IsLoading d b base begun ((p, lsn) ∷ left) from w disk) where
+module _ {D : Type 0} (d : Ghosts D) (b : Base) (base : ℕ) (begun : History) (file : ℕ → Option Page) (from : D) (p lsn : ℕ) (left : List (ℕ × ℕ)) (w : PageWriter) (disk : D) (so : IsLoading d b base begun file ((p, lsn) ∷ left) from w disk) where
   pub waiting_here : WaitsFor begun p lsn (so.now.pages p)
   waiting_here = so.waiting.these p lsn (lsn_first p lsn left so.rising)
 
@@ -165,10 +167,16 @@ module _ {D : Type 0} (d : Ghosts D) (b : Base) (base : ℕ) (begun : History) (
         low = λ q under. so.waiting.others q (lsn_below p lsn left so.rising q (subst (λ (n : ℕ). q < n) (sym here) under));
       }
 
+  -- it is loaded where its page waits for it
+  same_copy : (entry : Entry) → logged_at holds_copy.holder.lsn entry ≡ holds_copy.holder → (copy : Page) → (so.now.pages (page_of entry)).found ≡ Some (lsn, copy) → copy ≡ waiting_here.copy
+  same_copy entry same copy found =
+      let one : Some (lsn, copy) ≡ Some (lsn, waiting_here.copy) = sym found ∙ ap (λ (n : ℕ). (so.now.pages n).found) (page_here entry same) ∙ waiting_here.found in
+      ap (λ (o : Option (ℕ × Page)). page_in copy o) one
+
   pub loads : (entry : Entry) (same : logged_at holds_copy.holder.lsn entry ≡ holds_copy.holder) (copy : Page) (v : PageWriter) (mid : D) → IsWithinRedo d b base begun from so.now v mid
-      → (t : PageWriter) (new : D) (result : Result Unit Fault) → LoadKept d b base so.now (page_of entry) copy mid t new result → LoadingKept d b base begun left from t new result
-  loads entry same copy v mid within t new result kept = record {
-    ok = on_ok result _ (IsLoading d b base begun left from t new) kept.ok
+      → (t : PageWriter) (new : D) (result : Result Unit Fault) → LoadKept d b base so.now (page_of entry) copy mid t new result → (so.now.pages (page_of entry)).found ≡ Some (lsn, copy) → LoadingKept d b base begun file left from t new result
+  loads entry same copy v mid within t new result kept mine = record {
+    ok = on_ok result _ (IsLoading d b base begun file left from t new) kept.ok
         (λ done. let here : page_of entry ≡ p = page_here entry same in record {
           now = loaded (page_of entry) copy done.before;
           within = within_more d b base begun from so.now v mid within done.before (loaded (page_of entry) copy done.before) t new done.keeps done.stops done.stands refl refl refl refl;
@@ -178,6 +186,15 @@ module _ {D : Type 0} (d : Ghosts D) (b : Base) (base : ℕ) (begun : History) (
               (λ q other.
               let e = only_other (loaded_page done.before.point copy) done.before.pages (page_of entry) q (λ is. other (sym is ∙ here)) in
               (ap (λ (x : PageState). x.waits) e ∙ (done.keeps.pages q).waits, ap (λ (x : PageState). x.found) e ∙ (done.keeps.pages q).found));
+          first = λ q ready. elim (cases_eq q p) [
+            | inl at ↦
+                ap (λ (x : PageState). x.page.lsn) (only_here (loaded_page done.before.point copy) done.before.pages (page_of entry) q (here ∙ sym at))
+                ∙ ap (λ (g : Page). g.lsn) (same_copy entry same copy mine) ∙ first_loaded b begun file p lsn waiting_here.copy waiting_here.noted ∙ ap (λ (n : ℕ). first_lsn b begun file n) (sym at)
+            | inr other ↦
+                let e = only_other (loaded_page done.before.point copy) done.before.pages (page_of entry) q (λ is. other (sym is ∙ here)) in
+                ap (λ (x : PageState). x.page.lsn) e ∙ ap (λ (g : Page). g.lsn) (done.keeps.pages q).page
+                ∙ so.first q (sym (done.keeps.pages q).waits ∙ sym (ap (λ (x : PageState). x.waits) e) ∙ ready)
+          ];
         });
     stops = leaves_more d b base begun from so.now v mid within new kept.stops;
     cause = kept.cause;

@@ -1,19 +1,21 @@
 -- Redo goes past records that it does not read: those below the redo point, and those that change no page.
-use Rattle.std.proofs.Common.{◌≡◌, inl, inr, ℕ, ◌+◌, ◌≤◌, List, [], ◌∷◌, ◌++◌, Bool, true, false, refl, sym, ◌∙◌, ap, subst, arith, append_assoc}
+use Rattle.std.proofs.Common.{◌≡◌, inl, inr, ℕ, ◌+◌, ◌≤◌, List, [], ◌∷◌, ◌++◌, Bool, true, false, Option, refl, sym, ◌∙◌, ap, subst, arith, append_assoc}
 use Rattle.std.specs.Prelude.{if◌then◌else◌, ◌&&◌, nat_le}
 use Rattle.std.proofs.lemmas.Bool.{cases_lt, le-leb}
 use Rattle.im_types.specs.Pages.{Page}
 use Rattle.im_types.specs.Records.{Logged}
-use Rattle.im_types.specs.Histories.{Base, History, Rises, changes_page, end_of}
+use Rattle.im_types.specs.Histories.{Base, History, IsFront, Rises, changes_page, end_of}
 use Rattle.im_types.specs.Copies.{Reaches}
 use Rattle.im_types.specs.RedoPoints.{redo_point}
 use Rattle.im_types.specs.Writer.{IsLeft, Writer, WriterKept}
 use Rattle.im_types.proofs.Histories.{end_le, front_of_front, rises_in, start_low}
 use Rattle.im_disk.specs.declared.disk.Disk.{Ghosts}
 use Rattle.im_flush.specs.declared.page_writer.PageWriter.{PageWriter}
-use Rattle.im_redo.specs.Redo.{lsns_from}
+use Rattle.im_redo.specs.Redo.{applied_in, first_lsn, lsns_from}
 use Rattle.im_redo.specs.Within.{IsWithinRedo}
-use Rattle.im_redo.specs.Applying.{HasPassed}
+use Rattle.im_redo.specs.Loading.{HaveFirst}
+use Rattle.im_redo.specs.Applying.{HasPassed, IsLsnBehind}
+use Rattle.im_redo.proofs.Counting.{lsn_at_first, lsn_longer, none_counted}
 use Rattle.im_redo.proofs.Raised.{raised, raised_kept, stands_raised}
 use Rattle.im_redo.proofs.Reached.{reaches_past, reaches_start}
 
@@ -87,7 +89,7 @@ first_of_rest point lsn rest (r ∷ older) is = by (λ ls e. first_of_rest point
 
 -- ---- the pages
 
-module _ {D : Type 0} (d : Ghosts D) (b : Base) (base : ℕ) (begun : History) (from : D) (w : PageWriter) (disk : D) where
+module _ {D : Type 0} (d : Ghosts D) (b : Base) (base : ℕ) (begun : History) (file : ℕ → Option Page) (from : D) (w : PageWriter) (disk : D) where
   -- each page is known to have had its records below a later LSN
   within_raised : (s : Writer) (n : ℕ) → IsWithinRedo d b base begun from s w disk → s.point ≤ n → n ≤ end_of b s.log + 1
       → ((p : ℕ) (h : History) (g : Page) → IsLeft s.durable s.log h → (s.pages p).waits ≡ false → Reaches b h (s.pages p).upto p g → Reaches b h n p g)
@@ -105,9 +107,9 @@ module _ {D : Type 0} (d : Ghosts D) (b : Base) (base : ℕ) (begun : History) (
   kept_of s so = so.stands.writing.stands.kept
 
   -- before the first record
-  pub passed_none : (s : Writer) → IsWithinRedo d b base begun from s w disk → ((p : ℕ) → (s.pages p).waits ≡ false) → HasPassed d b base begun [] from w disk
-  passed_none s so ready = elim (cases_lt b.start s.point) [
-    | inl past ↦ record { now = s; within = so; had = λ p. (ready p, let low : s.point ≤ (s.pages p).upto = ((kept_of s so).pages p).low (ready p) in omega (arith, past, low)) }
+  pub passed_none : (s : Writer) → IsWithinRedo d b base begun from s w disk → ((p : ℕ) → (s.pages p).waits ≡ false) → HaveFirst b begun file s.pages → HasPassed d b base begun file [] from w disk
+  passed_none s so ready first = elim (cases_lt b.start s.point) [
+    | inl past ↦ record { now = s; within = so; had = λ p. (ready p, let low : s.point ≤ (s.pages p).upto = ((kept_of s so).pages p).low (ready p) in omega (arith, past, low)); lsns = at_first }
     | inr start ↦
         let k = kept_of s so in
         let last : b.start ≤ end_of b s.log = start_low b s.log k.rises in
@@ -116,11 +118,15 @@ module _ {D : Type 0} (d : Ghosts D) (b : Base) (base : ℕ) (begun : History) (
           within = within_raised s (b.start + 1) so (omega (arith, start)) (omega (arith, last))
               (λ p h g left waits has. reaches_start b h (s.pages p).upto p g (rises_in b h s.log left.upto k.rises) has);
           had = λ p. (ready p, omega arith);
+          lsns = at_first;
         }
   ]
+    where
+      at_first : (p : ℕ) → IsLsnBehind b (first_lsn b begun file p) [] (s.pages p).page.lsn
+      at_first p = lsn_at_first b (first_lsn b begun file p) (s.pages p).page.lsn (first p (ready p))
 
   -- past one record
-  passed_one : (after : History) (r : Logged) (front : History) → after ++ r ∷ front ≡ begun → IsPassedBy (redo_point begun) r → HasPassed d b base begun front from w disk → HasPassed d b base begun (r ∷ front) from w disk
+  passed_one : (after : History) (r : Logged) (front : History) → after ++ r ∷ front ≡ begun → IsPassedBy (redo_point begun) r → HasPassed d b base begun file front from w disk → HasPassed d b base begun file (r ∷ front) from w disk
   passed_one after r front split by_it so = elim (cases_lt r.lsn (redo_point begun)) [
     | inl before ↦ record {
       now = so.now;
@@ -131,6 +137,7 @@ module _ {D : Type 0} (d : Ghosts D) (b : Base) (base : ℕ) (begun : History) (
             let point : so.now.point ≡ redo_point begun = so.within.point in
             omega (arith, before, low, point),
       );
+      lsns = longer;
     }
     | inr past ↦
         let s = so.now in
@@ -147,13 +154,30 @@ module _ {D : Type 0} (d : Ghosts D) (b : Base) (base : ℕ) (begun : History) (
               subst (λ (l : History). Reaches b l (r.lsn + 1) p g) here.is
               (reaches_past b here.newer r front (s.pages p).upto p g up plain (so.had p).1 (subst (λ (l : History). Reaches b l (s.pages p).upto p g) (sym here.is) has)));
           had = λ p. ((so.had p).0, omega arith);
+          lsns = longer;
         }
   ]
+    where
+      whole : IsFront (r ∷ front) so.now.log
+      whole = front_of_front (r ∷ front) so.now.durable so.now.log (front_of_front (r ∷ front) begun so.now.durable (record { newer = after; is = split }) so.within.durable) (kept_of so.now so.within).front
+
+      up : Rises b (r ∷ front)
+      up = rises_in b (r ∷ front) so.now.log whole (kept_of so.now so.within).rises
+
+      longer : (p : ℕ) → IsLsnBehind b (first_lsn b begun file p) (r ∷ front) (so.now.pages p).page.lsn
+      longer p = lsn_longer b (first_lsn b begun file p) front r up.1 (so.now.pages p).page.lsn (so.lsns p)
 
   -- past all records that are passed by
-  pub passed_all : (after before front : History) → after ++ (before ++ front) ≡ begun → lsns_from (redo_point begun) before ≡ [] → HasPassed d b base begun front from w disk → HasPassed d b base begun (before ++ front) from w disk
+  pub passed_all : (after before front : History) → after ++ (before ++ front) ≡ begun → lsns_from (redo_point begun) before ≡ [] → HasPassed d b base begun file front from w disk → HasPassed d b base begun file (before ++ front) from w disk
   passed_all after [] front split none so = so
   passed_all after (r ∷ before) front split none so =
       let newest = passed_newest (redo_point begun) r before none in
       passed_one after r (before ++ front) split newest.0
       (passed_all (after ++ r ∷ []) before front (append_assoc after (r ∷ []) (before ++ front) ∙ split) newest.1 so)
+
+-- and none of them counts
+pub count_same : (lsns : ℕ → ℕ) (point : ℕ) (before front : History) → lsns_from point before ≡ [] → applied_in lsns point (before ++ front) ≡ applied_in lsns point front
+count_same lsns point [] front none = refl
+count_same lsns point (r ∷ before) front none =
+    let newest = passed_newest point r before none in
+    none_counted lsns point r (before ++ front) newest.0 ∙ count_same lsns point before front newest.1

@@ -40,7 +40,7 @@ reaches_past b newer r f m p g up plain low has =
 -- ---- the page to which a record is applied
 
 -- a record that changes a page gives it its LSN
-changed_lsn : (l : ℕ) (w : What) (g : Page) → changes_page w ≡ true → (page_after l w g).lsn ≡ l
+pub changed_lsn : (l : ℕ) (w : What) (g : Page) → changes_page w ≡ true → (page_after l w g).lsn ≡ l
 changed_lsn l (InsertKey k i) g is = refl
 changed_lsn l (DeleteKey k i) g is = refl
 changed_lsn l (UndoInsert k i) g is = refl

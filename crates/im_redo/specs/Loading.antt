@@ -13,7 +13,7 @@ use Rattle.im_types.specs.RedoPoints.{redo_point}
 use Rattle.im_types.specs.Writer.{PageState, Writer}
 use Rattle.im_disk.specs.declared.disk.Disk.{Ghosts}
 use Rattle.im_flush.specs.declared.page_writer.PageWriter.{PageWriter}
-use Rattle.im_redo.specs.Redo.{LeavesRedoing}
+use Rattle.im_redo.specs.Redo.{LeavesRedoing, first_lsn}
 use Rattle.im_redo.specs.Within.{IsWithinRedo}
 
 -- the LSN that some pairs of a page and an LSN have for a page
@@ -32,13 +32,18 @@ pub record AreWaiting (begun : History) (left : List (ℕ × ℕ)) (pages : ℕ 
   pub others : (p : ℕ) → lsn_at left p ≡ None → (pages p).waits ≡ false
   pub these : (p l : ℕ) → lsn_at left p ≡ Some l → WaitsFor begun p l (pages p)
 
-module _ {D : Type 0} (d : Ghosts D) (b : Base) (base : ℕ) (begun : History) where
+-- Each page that does not wait has the LSN that it has at first.
+abbrev pub HaveFirst : Base → History → (ℕ → Option Page) → (ℕ → PageState) → Type 0
+HaveFirst b begun file pages = (p : ℕ) → (pages p).waits ≡ false → (pages p).page.lsn ≡ first_lsn b begun file p
+
+module _ {D : Type 0} (d : Ghosts D) (b : Base) (base : ℕ) (begun : History) (file : ℕ → Option Page) where
   -- These copies are left to be loaded, in rising page number.
   pub record IsLoading (left : List (ℕ × ℕ)) (from : D) (w : PageWriter) (disk : D) : Type 0 where
     pub now : Writer
     pub within : IsWithinRedo d b base begun from now w disk
     pub rising : IsStrictlySortedBy nat_cmp (keys_of left)
     pub waiting : AreWaiting begun left now.pages
+    pub first : HaveFirst b begun file now.pages
 
   -- what it keeps, with these copies left
   pub record LoadingKept (left : List (ℕ × ℕ)) (from : D) (w : PageWriter) (disk : D) (result : Result Unit Fault) : Type 0 where

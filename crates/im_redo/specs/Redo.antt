@@ -1,13 +1,16 @@
 -- What redo asks of a log, and what it keeps.
-use Rattle.std.specs.Prelude.{◌≡◌, ◌≢◌, ℕ, List, [], ◌∷◌, ◌++◌, if◌then◌else◌, ◌&&◌, nat_le, Some, Result, IfErr, OnOk}
+use Rattle.std.specs.Prelude.{◌≡◌, ◌≢◌, ◌+◌, ℕ, List, [], ◌∷◌, ◌++◌, Bool, if◌then◌else◌, ◌&&◌, nat_le, nat_lt, Option, None, Some, Result, IfErr, IfOk}
 use Rattle.im_types.specs.declared.fault.Fault.{Fault}
 use Rattle.im_types.specs.declared.fault.Fault.TheVariants.{NotAStore}
 use Rattle.im_types.specs.Keys.{Key}
 use Rattle.im_types.specs.Pages.{Body, Page}
+use Rattle.im_types.specs.Records.{Logged}
 use Rattle.im_types.specs.Tree.{Tree}
 use Rattle.im_types.specs.Histories.{Base, History, IsFront, changes_page, end_of, page_at}
-use Rattle.im_types.specs.Copies.{GrowsByImages}
+use Rattle.im_types.specs.Copies.{GrowsByImages, noted}
+use Rattle.im_types.specs.RedoPoints.{redo_point}
 use Rattle.im_types.specs.Writer.{Writer}
+use Rattle.im_types.specs.WriterSteps.{or_else}
 use Rattle.im_disk.specs.declared.disk.Disk.{Ghosts}
 use Rattle.im_flush.specs.declared.page_writer.PageWriter.{PageWriter}
 use Rattle.im_flush.specs.Stands.{LeavesCovered}
@@ -24,6 +27,24 @@ AreApplicable b (r ∷ older) = AreApplicable b older × TakesRecord r.what (pag
 abbrev pub lsns_from : ℕ → History → List ℕ
 lsns_from point [] = []
 lsns_from point (r ∷ older) = if nat_le point r.lsn && changes_page r.what then lsns_from point older ++ r.lsn ∷ [] else lsns_from point older
+
+-- the page as redo first has it: its noted copy, else what the file has, else what the log is over
+abbrev pub first_page : Option (ℕ × Page) → Option Page → Page → Page
+first_page None file initial = or_else file initial
+first_page (Some c) file initial = c.1
+
+-- the LSN that each page has then
+abbrev pub first_lsn : Base → History → (ℕ → Option Page) → ℕ → ℕ
+first_lsn b begun file p = (first_page (noted (redo_point begun) begun p) (file p) (b.pages p)).lsn
+
+-- whether redo from a point applies a record: it changes a page that had a lower LSN at first
+abbrev pub is_applied : (ℕ → ℕ) → ℕ → Logged → Bool
+is_applied lsns point r = nat_le point r.lsn && (changes_page r.what && nat_lt (lsns r.page) r.lsn)
+
+-- how many records it applies
+abbrev pub applied_in : (ℕ → ℕ) → ℕ → History → ℕ
+applied_in lsns point [] = 0
+applied_in lsns point (r ∷ older) = applied_in lsns point older + (if is_applied lsns point r then 1 else 0)
 
 -- What the tree says that a key can be put into or taken out of is a leaf that lacks it, with room, or has it.
 pub record IsOnLeaves (tree : Tree) : Type 0 where
@@ -47,8 +68,9 @@ module _ {D : Type 0} (d : Ghosts D) (b : Base) (base : ℕ) (begun : History) w
     pub grows : GrowsByImages b begun high
     pub stops : LeavesCovered d b base begun high old new
 
-  -- what redo keeps
-  pub record RedoneKept (old : D) (w : PageWriter) (disk : D) (result : Result Unit Fault) : Type 0 where
-    pub ok : OnOk result (Redone old w disk)
+  -- what redo keeps, from a file of these pages
+  pub record RedoneKept (file : ℕ → Option Page) (old : D) (w : PageWriter) (disk : D) (result : Result ℕ Fault) : Type 0 where
+    pub ok : IfOk result (λ n. Redone old w disk)
+    pub count : IfOk result (λ n. n ≡ applied_in (first_lsn b begun file) (redo_point begun) begun)
     pub stops : LeavesRedoing old disk
     pub cause : IfErr result (λ e. e ≢ NotAStore)

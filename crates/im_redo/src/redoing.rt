@@ -21,7 +21,7 @@ use std::collections::BTreeMap;
 /// Brings the pages of a writer that was just opened to what the whole durable log made of them: the noted copies are loaded in
 /// rising page number, and then the records that change a page, from the redo point on, are applied to their pages in turn, by
 /// LSN. `copies` has the LSN of each noted copy, and `lsns` those of the records. Records are read again into `room`, of 16,384 bytes
-/// at least.
+/// at least. It answers how many records were applied: those that change a page whose LSN was lower than theirs as redo first had it.
 ///
 /// Refused `NotAStore` where a page does not take its record or no such record stands there, otherwise as the writer's `get` is.
 /// Behind a refusal redo is not over: the store is to be opened again.
@@ -32,14 +32,14 @@ pub fn redo<D: Disk>(
     copies: &BTreeMap<PageNo, Lsn>,
     lsns: &[Lsn],
     room: &mut [u8],
-) -> Result<(), Fault>
+) -> Result<u64, Fault>
     requires room { 16384 ≤ length room.old }
     requires ready { IsReadyWriter D.Disk writer.old disk.old }
     ensures ready { IsReadyWriter D.Disk writer.new disk.new }
     ensures room { length room.new ≡ length room.old }
     ensures kept { (b : Base) (base : ℕ) (begun : History) (file : ℕ → Option Page) → StandsAs D.Disk b base (opened b begun file) writer.old disk.old
         → AreApplicable b begun → point ≡ redo_point begun → AreCopies point copies.now begun → lsns.now ≡ lsns_from point begun
-        → RedoneKept D.Disk b base begun disk.old writer.new disk.new result }
+        → RedoneKept D.Disk b base begun file disk.old writer.new disk.new result }
     ensures works { OnOk result (writer.new.failed ≡ false) }
     ensures causes { IfErr result (λ e. (e ≡ Failed) ⊎ (e ≡ LogFull) ⊎ (e ≡ Memory) ⊎ (e ≡ NotAStore) ⊎ (e ≡ Device)) }
     ensures no_room { result ≡ Err LogFull → HasNoRoom writer.new.log }

@@ -85,7 +85,7 @@ fn redo_all<D: Disk>(
     writer: &mut PageWriter,
     placed: &Placed,
     copies: &BTreeMap<PageNo, Lsn>,
-) -> Result<(), Fault>
+) -> Result<u64, Fault>
     requires ready { IsReadyWriter D.Disk writer.old disk.old }
     ensures ready { IsReadyWriter D.Disk writer.new disk.new }
 {
@@ -118,9 +118,9 @@ fn a_store_is_redone_from_its_log(rt: HostRuntime) -> Result<(), Fail> {
     let mut writer = open(alloc, &mut disk)?;
     let calls = disk.calls();
     let none = BTreeMap::new(alloc);
-    redo_all(&mut disk, &mut writer, &placed, &none)?;
+    assert_eq!(rt; redo_all(&mut disk, &mut writer, &placed, &none)?, 2);
     assert_eq!(rt; got(&mut writer, &mut disk)?, (placed.inserts[1], 2));
-    redo_all(&mut disk, &mut writer, &placed, &none)?;
+    assert_eq!(rt; redo_all(&mut disk, &mut writer, &placed, &none)?, 0);
     assert_eq!(rt; got(&mut writer, &mut disk)?, (placed.inserts[1], 2));
     assert_eq!(rt; disk.calls(), calls);
     Ok(())
@@ -139,7 +139,7 @@ fn a_torn_page_is_redone_from_its_copy(rt: HostRuntime) -> Result<(), Fail> {
         Err(Fault::NotAStore)
     );
     copies.insert(1, placed.copy)?;
-    redo_all(&mut disk, &mut writer, &placed, &copies)?;
+    assert_eq!(rt; redo_all(&mut disk, &mut writer, &placed, &copies)?, 2);
     assert_eq!(rt; got(&mut writer, &mut disk)?, (placed.inserts[1], 2));
     Ok(())
 }

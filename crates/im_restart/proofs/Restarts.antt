@@ -1,6 +1,6 @@
 -- A restart: what redo, undo and the last force leave, put together.
 use Rattle.std.proofs.Common.{◌≡◌, ◌≢◌, ◌⊎◌, ◌≤◌, ◌-◌, ◌^◌, ℕ, min, inl, inr, [], List, false, length, Option, Result, Ok, Err, refl, sym, ◌∙◌, ap, subst, arith}
-use Rattle.std.specs.Prelude.{IfErr, IfOk}
+use Rattle.std.specs.Prelude.{IfErr, IfOk, OnOk}
 use Rattle.im_types.specs.declared.fault.Fault.{Fault}
 use Rattle.im_types.specs.declared.fault.Fault.TheVariants.{Device, Failed, NotAStore}
 use Rattle.im_types.specs.declared.file_id.FileId.{FileId}
@@ -37,7 +37,8 @@ use Rattle.im_analysis.specs.declared.rows.OpenRecord.{OpenRecord}
 use Rattle.im_analysis.specs.OpenChange.{IsOpenChange, oldest_first}
 use Rattle.im_analysis.proofs.Tables.{images_table}
 use Rattle.im_tree.specs.Theory.{page_tree}
-use Rattle.im_restart.specs.Restart.{HasStore, IsFresh, IsLeftUndoing, IsRestarted, IsSettled, MayRestart, SettleKept}
+use Rattle.im_restart.specs.Restart.{HasStore, IsFresh, IsLeftUndoing, IsReport, IsRestarted, IsSettled, MayRestart}
+use Rattle.im_restart.specs.declared.redo_report.RedoReport.{RedoReport}
 use Rattle.im_restart.specs.declared.restarted.Restarted.{Restarted}
 use Rattle.im_restart.specs.StructureChange.{ChangeGoes}
 use Rattle.im_restart.specs.Undoing.{AllUndone}
@@ -141,8 +142,14 @@ module _ {D : Type 0} (d : Ghosts D) (b : Base) (base : ℕ) (all : History) whe
 
   -- ---- the last force
 
+  -- what it keeps
+  pub record ForceKept (old : D) (w : PageWriter) (new : D) (result : Result Unit Fault) : Type 0 where
+    pub ok : OnOk result (IsSettled d b base all w new)
+    pub stops : LeavesOnly d old new (IsLeftUndoing b base all)
+    pub cause : IfErr result (λ e. e ≢ NotAStore)
+
   pub settled_so : (s : Writer) (old : D) (w : PageWriter) (mid : D) (x : PageWriter) (new : D) (result : Result Unit Fault) → (done : AllUndone d b base all s old w mid) → StepKept d b base done.now (forced done.now) mid x new result
-      → IfErr result (λ e. (e ≡ Failed) ⊎ (e ≡ Device)) → SettleKept d b base all old x new result
+      → IfErr result (λ e. (e ≡ Failed) ⊎ (e ≡ Device)) → ForceKept old x new result
   settled_so s old w mid x new result done k causes = record {
     ok = on_ok result (GoesOn d b base done.now mid (forced done.now) x new) (IsSettled d b base all x new) k.ok
         (λ on. record {
@@ -169,8 +176,8 @@ module _ {D : Type 0} (d : Ghosts D) (b : Base) (base : ℕ) (all : History) whe
       writer_opens d b base all w frames disk may.start (rises b page_tree all may.lawful) may.has.covers (subst (λ (f : LogFile). IsOpen d f disk) (sym same) is_open) (subst (λ (f : LogFile). IsLog d base all all f disk) (sym same) log) pages pool
       table working
 
-  pub restarted_so : (w : PageWriter) (next : ℕ) (disk : D) → IsSettled d b base all w disk → IsRestarted d b base all (record { writer = w; next = next }) disk
-  restarted_so w next disk is = record {
+  pub restarted_so : (w : PageWriter) (next : ℕ) (report : RedoReport) (disk : D) → IsSettled d b base all w disk → IsRestarted d b base all (record { writer = w; next = next; report = report }) disk
+  restarted_so w next report disk is = record {
     now = is.now;
     stands = is.stands;
     redo_end = is.redo_end;
@@ -191,6 +198,11 @@ next_least lowest next log some is = let least : lowest ≤ is.number = is.new.l
 pub next_before : (result : Result Restarted Fault) (low now : ℕ) (log : History) → now ≡ low → IfOk result (λ r. IsNextNumber now r.next log) → IfOk result (λ r. IsNextNumber low r.next log)
 next_before (Err e) low now log same is = tt
 next_before (Ok r) low now log same is = subst (λ (n : ℕ). IsNextNumber n r.next log) same is
+
+-- what redo did, over a file of pages that is as it was before
+pub report_before : (b : Base) (all : History) (result : Result Restarted Fault) (file now : List ℕ) → now ≡ file → IfOk result (λ r. IsReport b all (file_page now) r.report) → IfOk result (λ r. IsReport b all (file_page file) r.report)
+report_before b all (Err e) file now same is = tt
+report_before b all (Ok r) file now same is = subst (λ (bytes : List ℕ). IsReport b all (file_page bytes) r.report) same is
 
 -- what a stop within a restart leaves, a restart can start from again
 pub may_again : (b : Base) (base : ℕ) (all : History) (files left : Files) → MayRestart b base all files → (is : IsLeftUndoing b base all left) → MayRestart b base is.left left

@@ -1,10 +1,11 @@
 -- What a restart asks of the files, and what it keeps.
-use Rattle.std.specs.Prelude.{◌≡◌, ◌≢◌, ◌⊎◌, ◌+◌, ◌<◌, ◌≤◌, ◌^◌, ℕ, length, Some, false, Result, IfErr, IfOk, OnOk}
+use Rattle.std.specs.Prelude.{◌≡◌, ◌≢◌, ◌⊎◌, ◌+◌, ◌<◌, ◌≤◌, ◌^◌, ℕ, length, Option, Some, false, Result, IfErr, IfOk}
 use Rattle.im_types.specs.declared.fault.Fault.{Fault}
 use Rattle.im_types.specs.declared.fault.Fault.TheVariants.{NotAStore}
 use Rattle.im_types.specs.declared.file_id.FileId.TheVariants.{Log, Pages}
 use Rattle.im_types.specs.Histories.{Base, History, page_at}
-use Rattle.im_types.specs.RedoPoints.{Covers}
+use Rattle.im_types.specs.Pages.{Page}
+use Rattle.im_types.specs.RedoPoints.{Covers, redo_point}
 use Rattle.im_types.specs.Lawful.{IsLawful}
 use Rattle.im_types.specs.Writer.{Writer}
 use Rattle.im_disk.specs.declared.disk.Disk.{Ghosts}
@@ -18,9 +19,16 @@ use Rattle.im_flush.specs.PageWriter.{StandsAs}
 use Rattle.im_tree.specs.Theory.{page_tree}
 use Rattle.im_analysis.specs.Losers.{is_loser}
 use Rattle.im_analysis.specs.Numbers.{IsNextNumber}
+use Rattle.im_redo.specs.Redo.{applied_in, first_lsn}
+use Rattle.im_restart.specs.declared.redo_report.RedoReport.{RedoReport}
 use Rattle.im_restart.specs.declared.restarted.Restarted.{Restarted}
 use Rattle.im_restart.specs.Undone.{GrowsByUndo}
 use Rattle.im_restart.specs.UndoOrder.{IsInOrder}
+
+-- What redo did: where it began, and how many records it applied to pages that it first had from this file or from their noted copies.
+pub record IsReport (b : Base) (all : History) (file : ℕ → Option Page) (r : RedoReport) : Type 0 where
+  pub point : r.point ≡ redo_point all
+  pub applied : r.applied ≡ applied_in (first_lsn b all file) (redo_point all) all
 
 -- No store was made yet: the log is unmade, and there are no pages.
 abbrev pub IsFresh : Files → Type 0
@@ -81,8 +89,9 @@ module _ {D : Type 0} (d : Ghosts D) (b : Base) (base : ℕ) (all : History) whe
     pub pages : (p : ℕ) → (now.pages p).page ≡ page_at b now.log p
 
   -- what redo, undo and the last force keep
-  pub record SettleKept (old : D) (w : PageWriter) (new : D) (result : Result Unit Fault) : Type 0 where
-    pub ok : OnOk result (IsSettled w new)
+  pub record SettleKept (old : D) (w : PageWriter) (new : D) (result : Result ℕ Fault) : Type 0 where
+    pub ok : IfOk result (λ n. IsSettled w new)
+    pub count : IfOk result (λ n. n ≡ applied_in (first_lsn b all (file_page (d.seen old Pages))) (redo_point all) all)
     pub stops : LeavesOnly d old new (IsLeftUndoing b base all)
     pub cause : IfErr result (λ e. e ≢ NotAStore)
 
@@ -90,5 +99,6 @@ module _ {D : Type 0} (d : Ghosts D) (b : Base) (base : ℕ) (all : History) whe
   pub record RestartKept (old new : D) (result : Result Restarted Fault) : Type 0 where
     pub ok : IfOk result (λ r. IsRestarted r new)
     pub next : IfOk result (λ r. IsNextNumber (least_number (d.seen old Log)) r.next all)
+    pub report : IfOk result (λ r. IsReport b all (file_page (d.seen old Pages)) r.report)
     pub stops : LeavesOnly d old new (IsLeftUndoing b base all)
     pub cause : IfErr result (λ e. e ≢ NotAStore)

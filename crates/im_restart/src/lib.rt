@@ -5,7 +5,8 @@
 //! 1. **Analysis** (`reading`): the log is opened, or made where there is none yet and no page, and each record read once. That
 //!    gives the number of the next transaction, the redo point, the losers, the last full copies of pages, the structure change
 //!    that is open, and the LSNs of the records that change a page.
-//! 2. **Redo**, by `im_redo`: the pages are brought to what all of the log made of them.
+//! 2. **Redo**, by `im_redo`: the pages are brought to what all of the log made of them. How many records that took is told with the
+//!    redo point (`RedoReport`).
 //! 3. **Undo of the open structure change** (`structure_change`): its pages are put back, the newest first, each by an UndoSmo with
 //!    the page before.
 //! 4. **Undo of the losers** (`undo`), all together, the record with the greatest LSN first. Each loser's chain stands in a map at
@@ -38,11 +39,13 @@ mod chains;
 mod found;
 mod opening;
 mod reading;
+mod redo_report;
 mod restarted;
 mod structure_change;
 mod undo;
 
 pub use opening::open_or_create;
+pub use redo_report::RedoReport;
 pub use restarted::Restarted;
 
 #[cfg(test)]

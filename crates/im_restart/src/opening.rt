@@ -24,6 +24,7 @@ ghost use Rattle.im_restart.specs.Restart.{IsFresh, IsFullLog, SpellsLog, MayRes
 
 use crate::found::Found;
 use crate::reading::open_log;
+use crate::redo_report::RedoReport;
 use crate::restarted::Restarted;
 use crate::structure_change::undo_change;
 use crate::undo::undo;
@@ -83,7 +84,8 @@ fn undo_found<D: Disk>(
     undo(alloc, disk, writer, &mut analysed.losers, room)
 }
 
-// Redoes the records from the redo point on, undoes and ends the losers, and makes what was logged durable.
+// Redoes the records from the redo point on, undoes and ends the losers, and makes what was logged durable. It answers how many
+// records were redone.
 fn settle<D: Disk>(
     alloc: Global,
     disk: &mut D,
@@ -91,20 +93,20 @@ fn settle<D: Disk>(
     analysed: &mut Analysed,
     lsns: &[Lsn],
     room: &mut [u8],
-) -> Result<(), Fault>
+) -> Result<u64, Fault>
     requires room { 16384 ≤ length room.old }
     requires ready { IsReadyWriter D.Disk writer.old disk.old }
     requires working { writer.old.failed ≡ false }
     ensures ready { IsReadyWriter D.Disk writer.new disk.new }
     ensures kept { (b : Base) (base : ℕ) (all : History) → StandsAs D.Disk b base (opened b all (file_page (D.seen disk.old Pages))) writer.old disk.old → MayRestart b base all (D.seen disk.old)
         → (least : ℕ) → IsAnalysis least all analysed.old → lsns.now ≡ lsns_from (redo_point all) all → SettleKept D.Disk b base all disk.old writer.new disk.new result }
-    ensures works { OnOk result (writer.new.failed ≡ false) }
+    ensures works { IfOk result (λ _. writer.new.failed ≡ false) }
     ensures next { analysed.new.next ≡ analysed.old.next }
     ensures causes { IfErr result (λ e. (e ≡ LogFull) ⊎ (e ≡ Memory) ⊎ (e ≡ NotAStore) ⊎ (e ≡ Device) ⊎ (e ≡ Capacity)) }
     ensures no_room { result ≡ Err LogFull → HasNoRoom writer.new.log }
     ensures device { result ≡ Err Device ↔ (D.failed disk.new ≡ true) }
 {
-    redo(
+    let applied = redo(
         disk,
         writer,
         analysed.redo_point,
@@ -113,7 +115,8 @@ fn settle<D: Disk>(
         room,
     )?;
     undo_found(alloc, disk, writer, analysed, room)?;
-    writer.force(disk)
+    writer.force(disk)?;
+    Ok(applied)
 }
 
 // Restarts with the log that was found.
@@ -144,10 +147,12 @@ fn restart<D: Disk>(
     let mut analysed = analysed;
     let mut writer = PageWriter::new(alloc, log, frames)?;
     let mut room = make_room(alloc)?;
-    settle(alloc, disk, &mut writer, &mut analysed, &lsns, &mut room)?;
+    let point = analysed.redo_point;
+    let applied = settle(alloc, disk, &mut writer, &mut analysed, &lsns, &mut room)?;
     Ok(Restarted {
         writer,
         next: first_number(analysed.next),
+        report: RedoReport { point, applied },
     })
 }
 

@@ -1,11 +1,13 @@
 //! A store's log and pages behind an opening.
 
+use crate::redo_report::RedoReport;
 use im_flush::PageWriter;
 use im_types::TxnId;
 
-/// The log and the pages of a store, open behind its last record, and the number of the next transaction.
+/// The log and the pages of a store, open behind its last record, the number of the next transaction, and what redo did.
 #[derive(Drop)]
 pub struct Restarted {
     pub writer: PageWriter,
     pub next: TxnId,
+    pub report: RedoReport,
 }

@@ -78,6 +78,15 @@ fn found<D: Disk>(alloc: Global, disk: &mut D) -> Result<(TxnId, usize), Fault>
     Ok((opened.next, opened.writer.page(frame).len()))
 }
 
+// How many records redo applies in an opening.
+fn redone<D: Disk>(alloc: Global, disk: &mut D) -> Result<u64, Fault>
+    requires working { D.failed disk.old ≡ false }
+    requires synced { IsSynced D.Disk disk.old }
+{
+    let opened = open(alloc, disk)?;
+    Ok(opened.report.applied)
+}
+
 // What an opening finds behind one that was stopped within a device call, and how many such calls it makes itself.
 fn found_after(alloc: Global, disk: &ModelDisk, call: u64) -> Result<(TxnId, usize, u64), Fault> {
     let mut stopped = disk.after_stop(alloc)?;
@@ -143,5 +152,19 @@ fn an_open_structure_change_is_taken_back(rt: HostRuntime) -> Result<(), Fail> {
     let mut disk = disk.after_stop(alloc)?;
     assert_eq!(rt; found(alloc, &mut disk)?, (2, 0));
     assert_eq!(rt; disk.calls(), 0);
+    Ok(())
+}
+
+#[test]
+fn an_opening_tells_how_many_records_were_redone(rt: HostRuntime) -> Result<(), Fail> {
+    let alloc = rt.alloc();
+    let mut disk = ModelDisk::new(Vec::new(alloc), Vec::new(alloc));
+    leave_loser(alloc, &mut disk)?;
+    let mut disk = disk.after_stop(alloc)?;
+    // The insert, on a page that the file lacks.
+    assert_eq!(rt; redone(alloc, &mut disk)?, 1);
+    let mut disk = disk.after_stop(alloc)?;
+    // And its compensation.
+    assert_eq!(rt; redone(alloc, &mut disk)?, 2);
     Ok(())
 }

@@ -1,42 +1,48 @@
-use Rattle.std.proofs.Common.{rules, ℕ, List, ◌∷◌, ◌+◌, ◌≡◌, ◌≤◌, drop, length, get_or, arith, subst, refl}
+use Rattle.std.proofs.Common.{rules, ℕ, List, ◌∷◌, ◌+◌, ◌≡◌, ◌≤◌, drop, length, get_or, Bool, true, false, arith, sym, subst, refl}
+use Rattle.std.specs.Prelude.{if◌then◌else◌}
 use Rattle.std.proofs.Math.ListN.{drop_of_length-le}
 use Rattle.std.proofs.lemmas.List.{drop_more}
 use Rattle.im_redo.specs.Applying.{IsApplying}
 use Rattle.im_flush.proofs.LoggedChanges.{err_on}
-use Rattle.im_redo.proofs.Within.{not_ok}
+use Rattle.im_redo.proofs.Within.{no_ok}
 use Rattle.im_redo.proofs.Within.{leaves_now}
 use Rattle.im_redo.proofs.records.redo_all.Goals as goal
 
+few_more : (count index : ℕ) (done : Bool) (n : ℕ) → n ≡ count + (if done then 1 else 0) → count ≤ index → n ≤ index + 1
+few_more count index true n is le = omega (arith, is, le)
+few_more count index false n is le = omega (arith, is, le)
+
 pub loop-lsn-init : goal.loop-lsn-init
-loop-lsn-init g c = record { ready = c.requires.ready; working = c.requires.working; disk = (search rules); room = refl; kept = λ b base begun from is can at. is }
+loop-lsn-init g c = record { ready = c.requires.ready; working = c.requires.working; disk = (search rules); few = omega arith; room = refl; kept = λ b base begun file from is can at. is }
 
 pub loop-lsn-preserved : goal.loop-lsn-preserved
 loop-lsn-preserved g c =
     let l = c.loop-lsn in
     record {
       ready = c.redo_one.ensures.ready;
-      working = c.in_ok-redo_one.ensures.works;
+      working = c.in_ok-applied.ensures.works;
       disk = (search rules);
+      few = few_more l.count l.lsn-index c.in_ok-applied.applied c.counted-count.result c.counted-count.ensures l.invariant.few;
       room = (search rules);
-      kept = λ b base begun from is can at.
+      kept = λ b base begun file from is can at.
           let rest = drop (l.lsn-index + 1) c.args.lsns.now in
           let more : drop l.lsn-index c.args.lsns.now ≡ get_or c.args.lsns.now l.lsn-index 0 ∷ rest = drop_more c.args.lsns.now l.lsn-index 0 c.loop-lsn-test.true in
-          let so = subst (λ (left : List ℕ). IsApplying g.D.Disk b base begun left from l.writer l.disk) more (l.invariant.kept b base begun from is can at) in
-          (c.in_ok-redo_one.ensures.kept b base begun from rest so can at).ok;
+          let so = subst (λ (left : List ℕ). IsApplying g.D.Disk b base begun file left l.count from l.writer l.disk) more (l.invariant.kept b base begun file from is can at) in
+          subst (λ (n : ℕ). IsApplying g.D.Disk b base begun file rest n from c.redo_one.new.writer c.redo_one.new.disk) (sym c.counted-count.ensures) (c.in_ok-applied.ensures.kept b base begun file from rest l.count so can at).ok;
     }
 
-pub returns-in_err-redo_one-clause-kept : goal.returns-in_err-redo_one-clause-kept
-returns-in_err-redo_one-clause-kept g c b base begun from is can at =
+pub returns-in_err-applied-clause-kept : goal.returns-in_err-applied-clause-kept
+returns-in_err-applied-clause-kept g c b base begun file from is can at =
     let l = c.loop-lsn in
     let rest = drop (l.lsn-index + 1) c.args.lsns.now in
     let more : drop l.lsn-index c.args.lsns.now ≡ get_or c.args.lsns.now l.lsn-index 0 ∷ rest = drop_more c.args.lsns.now l.lsn-index 0 c.loop-lsn-test.true in
-    let so = subst (λ (left : List ℕ). IsApplying g.D.Disk b base begun left from l.writer l.disk) more (l.invariant.kept b base begun from is can at) in
-    let one = c.in_err-redo_one.ensures.kept b base begun from rest so can at in
-    record { ok = not_ok c.from_residual.result _ c.from_residual.ensures.0; stops = one.stops; cause = err_on c.from_residual.result c.in_err-redo_one.field-0.0 _ c.from_residual.ensures.1 (one.cause) }
+    let so = subst (λ (left : List ℕ). IsApplying g.D.Disk b base begun file left l.count from l.writer l.disk) more (l.invariant.kept b base begun file from is can at) in
+    let one = c.in_err-applied.ensures.kept b base begun file from rest l.count so can at in
+    record { ok = no_ok c.from_residual.result _ c.from_residual.ensures.0; stops = one.stops; cause = err_on c.from_residual.result c.in_err-applied.field-0.0 _ c.from_residual.ensures.1 (one.cause) }
 
 pub returns-clause-kept : goal.returns-clause-kept
-returns-clause-kept g c b base begun from is can at =
+returns-clause-kept g c b base begun file from is can at =
     let l = c.loop-lsn in
     let past : length c.args.lsns.now ≤ l.lsn-index = omega (arith, c.loop-lsn-test.false) in
-    let so = subst (λ (left : List ℕ). IsApplying g.D.Disk b base begun left from l.writer l.disk) (drop_of_length-le c.args.lsns.now past) (l.invariant.kept b base begun from is can at) in
+    let so = subst (λ (left : List ℕ). IsApplying g.D.Disk b base begun file left l.count from l.writer l.disk) (drop_of_length-le c.args.lsns.now past) (l.invariant.kept b base begun file from is can at) in
     record { ok = so; stops = leaves_now g.D.Disk b base begun from so.passed.now l.writer l.disk so.passed.within; cause = tt }

@@ -1,4 +1,5 @@
-use Rattle.std.proofs.Common.{◌≡◌, ℕ, false, drop, length}
+use Rattle.std.proofs.Common.{◌≡◌, ◌≤◌, ℕ, false, drop, length, Option}
+use Rattle.im_types.specs.Pages.{Page}
 use Rattle.im_types.specs.Histories.{Base, History}
 use Rattle.im_types.specs.RedoPoints.{redo_point}
 use Rattle.im_flush.specs.PageWriter.{IsReadyWriter}
@@ -11,7 +12,8 @@ invariant-loop-lsn g l = record {
   ready : IsReadyWriter g.D.Disk l.writer l.disk;
   working : l.writer.failed ≡ false;
   disk : g.D.Disk.failed l.disk ≡ false;
+  few : l.count ≤ l.lsn-index;
   room : length l.room ≡ length l.fn.room;
-  kept : (b : Base) (base : ℕ) (begun : History) (from : g.row.D.Denot) → IsApplying g.D.Disk b base begun l.lsns from l.fn.writer l.fn.disk → AreApplicable b begun → l.fn.point ≡ redo_point begun
-      → IsApplying g.D.Disk b base begun (drop l.lsn-index l.lsns) from l.writer l.disk;
+  kept : (b : Base) (base : ℕ) (begun : History) (file : ℕ → Option Page) (from : g.row.D.Denot) → IsApplying g.D.Disk b base begun file l.lsns 0 from l.fn.writer l.fn.disk → AreApplicable b begun → l.fn.point ≡ redo_point begun
+      → IsApplying g.D.Disk b base begun file (drop l.lsn-index l.lsns) l.count from l.writer l.disk;
 }

@@ -5,75 +5,75 @@ use Rattle.im_log.specs.Spelled.{logged_at}
 use Rattle.im_types.specs.declared.fault.Fault.TheVariants.{Device, NotAStore}
 use Rattle.im_redo.proofs.Applying.{applied, next_durable, next_in_log, next_is, next_record, next_taken}
 use Rattle.im_flush.proofs.LoggedChanges.{err_on}
-use Rattle.im_redo.proofs.Within.{not_ok}
+use Rattle.im_redo.proofs.Within.{no_ok}
 use Rattle.im_redo.proofs.Within.{leaves_more, leaves_read, read_is, read_some, within_read}
 use Rattle.im_redo.proofs.records.redo_one.Goals as goal
 
 pub returns-in_err-size-clause-kept : goal.returns-in_err-size-clause-kept
-returns-in_err-size-clause-kept g c b base begun from left so can at =
+returns-in_err-size-clause-kept g c b base begun file from left count so can at =
     let d = g.D.Disk in
-    let next = next_record d b base begun from c.args.lsn left c.args.writer.now c.args.disk.now so in
+    let next = next_record d b base begun file from c.args.lsn left count c.args.writer.now c.args.disk.now so in
     let within = next.passed.within in
     let read = c.in_err-size.ensures in
-    let found = read.found b base next.passed.now next.first within.stands (next_in_log d b base begun from c.args.lsn left c.args.writer.now c.args.disk.now next) next.lsn_is in
+    let found = read.found b base next.passed.now next.first within.stands (next_in_log d b base begun file from c.args.lsn left count c.args.writer.now c.args.disk.now next) next.lsn_is in
     record {
-      ok = not_ok c.from_residual.result _ c.from_residual.ensures.0;
+      ok = no_ok c.from_residual.result _ c.from_residual.ensures.0;
       stops = leaves_read d b base begun from next.passed.now c.args.writer.now c.args.disk.now within c.read_at.new.disk read.reads;
       cause = err_on c.from_residual.result c.in_err-size.field-0.0 _ c.from_residual.ensures.1 (λ same. let clash : NotAStore ≡ Device = sym same ∙ found.cause in cc clash);
     }
 
 pub returns-in_err-record-clause-kept : goal.returns-in_err-record-clause-kept
-returns-in_err-record-clause-kept g c b base begun from left so can at =
+returns-in_err-record-clause-kept g c b base begun file from left count so can at =
     let d = g.D.Disk in
-    let next = next_record d b base begun from c.args.lsn left c.args.writer.now c.args.disk.now so in
+    let next = next_record d b base begun file from c.args.lsn left count c.args.writer.now c.args.disk.now so in
     let within = next.passed.within in
     let read = c.in_ok-size.ensures in
-    let found = read.found b base next.passed.now next.first within.stands (next_in_log d b base begun from c.args.lsn left c.args.writer.now c.args.disk.now next) next.lsn_is in
+    let found = read.found b base next.passed.now next.first within.stands (next_in_log d b base begun file from c.args.lsn left count c.args.writer.now c.args.disk.now next) next.lsn_is in
     let none = c.in_err-record.ensures.entry in
     record {
-      ok = not_ok c.from_residual-in_err-record.result _ c.from_residual-in_err-record.ensures.0;
+      ok = no_ok c.from_residual-in_err-record.result _ c.from_residual-in_err-record.ensures.0;
       stops = leaves_read d b base begun from next.passed.now c.args.writer.now c.args.disk.now within c.read_at.new.disk read.reads;
       cause = absurd (read_some next.first _ found.ok none.1);
     }
 
-pub returns-in_err-redo_change-clause-kept : goal.returns-in_err-redo_change-clause-kept
-returns-in_err-redo_change-clause-kept g c b base begun from left so can at =
+pub returns-in_err-applied-clause-kept : goal.returns-in_err-applied-clause-kept
+returns-in_err-applied-clause-kept g c b base begun file from left count so can at =
     let d = g.D.Disk in
-    let next = next_record d b base begun from c.args.lsn left c.args.writer.now c.args.disk.now so in
+    let next = next_record d b base begun file from c.args.lsn left count c.args.writer.now c.args.disk.now so in
     let within = next.passed.within in
     let read = c.in_ok-size.ensures in
-    let found = read.found b base next.passed.now next.first within.stands (next_in_log d b base begun from c.args.lsn left c.args.writer.now c.args.disk.now next) next.lsn_is in
+    let found = read.found b base next.passed.now next.first within.stands (next_in_log d b base begun file from c.args.lsn left count c.args.writer.now c.args.disk.now next) next.lsn_is in
     let entry = view c.in_ok-record.record in
     let same = read_is next.first _ entry found.ok c.in_ok-record.ensures.entry in
-    let here = next_is d b base begun from c.args.lsn left c.args.writer.now c.args.disk.now next entry same in
+    let here = next_is d b base begun file from c.args.lsn left count c.args.writer.now c.args.disk.now next entry same in
     let low : c.args.point ≤ c.args.lsn = (let above : redo_point begun ≤ c.args.lsn = next.low in omega (arith, at, above)) in
     let stands = read.kept b base next.passed.now within.stands in
     let then = within_read d b base begun from next.passed.now c.args.writer.now c.args.disk.now within c.read_at.new.self c.read_at.new.disk stands read.reads in
-    let one = c.in_err-redo_change.ensures.kept b base next.passed.now (within.durable.newer ++ next.after) next.older stands within.going (within.point ∙ sym at)
-    (next_durable d b base begun from c.args.lsn left c.args.writer.now c.args.disk.now next entry same) low next.passed.had in
+    let one = c.in_err-applied.ensures.kept b base next.passed.now (within.durable.newer ++ next.after) next.older stands within.going (within.point ∙ sym at)
+    (next_durable d b base begun file from c.args.lsn left count c.args.writer.now c.args.disk.now next entry same) low next.passed.had in
     record {
-      ok = not_ok c.from_residual-in_err-redo_change.result _ c.from_residual-in_err-redo_change.ensures.0;
+      ok = no_ok c.from_residual-in_err-applied.result _ c.from_residual-in_err-applied.ensures.0;
       stops = leaves_more d b base begun from next.passed.now c.read_at.new.self c.read_at.new.disk then c.redo_change.new.disk one.stops;
-      cause = err_on c.from_residual-in_err-redo_change.result c.in_err-redo_change.field-0.0 _ c.from_residual-in_err-redo_change.ensures.1 (one.cause (next_taken d b base begun from c.args.lsn left c.args.writer.now c.args.disk.now next (logged_at c.args.lsn entry) here can));
+      cause = err_on c.from_residual-in_err-applied.result c.in_err-applied.field-0.0 _ c.from_residual-in_err-applied.ensures.1 (one.cause (next_taken d b base begun file from c.args.lsn left count c.args.writer.now c.args.disk.now next (logged_at c.args.lsn entry) here can));
     }
 
 pub returns-clause-kept : goal.returns-clause-kept
-returns-clause-kept g c b base begun from left so can at =
+returns-clause-kept g c b base begun file from left count so can at =
     let d = g.D.Disk in
-    let next = next_record d b base begun from c.args.lsn left c.args.writer.now c.args.disk.now so in
+    let next = next_record d b base begun file from c.args.lsn left count c.args.writer.now c.args.disk.now so in
     let within = next.passed.within in
     let read = c.in_ok-size.ensures in
-    let found = read.found b base next.passed.now next.first within.stands (next_in_log d b base begun from c.args.lsn left c.args.writer.now c.args.disk.now next) next.lsn_is in
+    let found = read.found b base next.passed.now next.first within.stands (next_in_log d b base begun file from c.args.lsn left count c.args.writer.now c.args.disk.now next) next.lsn_is in
     let entry = view c.in_ok-record.record in
     let same = read_is next.first _ entry found.ok c.in_ok-record.ensures.entry in
-    let here = next_is d b base begun from c.args.lsn left c.args.writer.now c.args.disk.now next entry same in
+    let here = next_is d b base begun file from c.args.lsn left count c.args.writer.now c.args.disk.now next entry same in
     let low : c.args.point ≤ c.args.lsn = (let above : redo_point begun ≤ c.args.lsn = next.low in omega (arith, at, above)) in
     let stands = read.kept b base next.passed.now within.stands in
     let then = within_read d b base begun from next.passed.now c.args.writer.now c.args.disk.now within c.read_at.new.self c.read_at.new.disk stands read.reads in
-    let one = c.in_ok-redo_change.ensures.kept b base next.passed.now (within.durable.newer ++ next.after) next.older stands within.going (within.point ∙ sym at)
-    (next_durable d b base begun from c.args.lsn left c.args.writer.now c.args.disk.now next entry same) low next.passed.had in
+    let one = c.in_ok-applied.ensures.kept b base next.passed.now (within.durable.newer ++ next.after) next.older stands within.going (within.point ∙ sym at)
+    (next_durable d b base begun file from c.args.lsn left count c.args.writer.now c.args.disk.now next entry same) low next.passed.had in
     record {
-      ok = applied d b base begun from c.args.lsn left c.args.writer.now c.args.disk.now next (logged_at c.args.lsn entry) here c.read_at.new.self c.read_at.new.disk then c.redo_change.new.self c.redo_change.new.disk one.ok;
+      ok = applied d b base begun file from c.args.lsn left count c.args.writer.now c.args.disk.now next (logged_at c.args.lsn entry) here c.read_at.new.self c.read_at.new.disk then c.redo_change.new.self c.redo_change.new.disk one.ok c.in_ok-applied.applied one.applied;
       stops = leaves_more d b base begun from next.passed.now c.read_at.new.self c.read_at.new.disk then c.redo_change.new.disk one.stops;
       cause = tt;
     }

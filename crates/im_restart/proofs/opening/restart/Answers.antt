@@ -15,6 +15,7 @@ returns-in_err-writer-clause-kept g c b base all may pages is =
     record {
       ok = search rules;
       next = search rules;
+      report = search rules;
       stops = left_unmoved d b base all c.args.disk.now (g.met.D.Disk.only_now c.args.disk.now) (log_synced d b base all c.args.found.log c.args.disk.now c.requires.ready c.requires.usable) pages may.has may.lawful;
       cause = search (rules, other);
     }
@@ -27,32 +28,33 @@ returns-in_err-room-clause-kept g c b base all may pages is =
     record {
       ok = search rules;
       next = search rules;
+      report = search rules;
       stops = left_unmoved d b base all c.args.disk.now (g.met.D.Disk.only_now c.args.disk.now) (log_synced d b base all c.args.found.log c.args.disk.now c.requires.ready c.requires.usable) pages may.has may.lawful;
       cause = search (rules, other);
     }
 
-pub returns-in_err-settle-clause-kept : goal.returns-in_err-settle-clause-kept
-returns-in_err-settle-clause-kept g c b base all may pages is =
+pub returns-in_err-applied-clause-kept : goal.returns-in_err-applied-clause-kept
+returns-in_err-applied-clause-kept g c b base all may pages is =
     let d = g.D.Disk in
     let w = c.in_ok-writer in
     let stands = writer_starts d b base all c.args.found.log w.writer c.args.frames c.args.disk.now may pages c.requires.ready is.log w.ensures.log w.ensures.pool w.ensures.table w.ensures.failed in
-    let k = c.in_err-settle.ensures.kept b base all stands may (least_number (d.seen c.args.disk.now Log)) is.analysis (c.deref.ensures.value ∙ is.lsns) in
-    let other : c.in_err-settle.field-0.0 ≢ NotAStore = k.cause in
-    record { ok = search rules; next = search rules; stops = k.stops; cause = search (rules, other) }
+    let k = c.in_err-applied.ensures.kept b base all stands may (least_number (d.seen c.args.disk.now Log)) is.analysis (c.deref.ensures.value ∙ is.lsns) in
+    let other : c.in_err-applied.field-0.0 ≢ NotAStore = k.cause in
+    record { ok = search rules; next = search rules; report = search rules; stops = k.stops; cause = search (rules, other) }
 
 pub returns-clause-kept : goal.returns-clause-kept
 returns-clause-kept g c b base all may pages is =
     let d = g.D.Disk in
     let w = c.in_ok-writer in
     let stands = writer_starts d b base all c.args.found.log w.writer c.args.frames c.args.disk.now may pages c.requires.ready is.log w.ensures.log w.ensures.pool w.ensures.table w.ensures.failed in
-    let k = c.in_ok-settle.ensures.kept b base all stands may (least_number (d.seen c.args.disk.now Log)) is.analysis (c.deref.ensures.value ∙ is.lsns) in
+    let k = c.in_ok-applied.ensures.kept b base all stands may (least_number (d.seen c.args.disk.now Log)) is.analysis (c.deref.ensures.value ∙ is.lsns) in
     let lowest = least_number (d.seen c.args.disk.now Log) in
     let least = next_least lowest c.args.found.analysed.next all is.numbers is.analysis.next in
-    let same : c.first_number.result ≡ c.args.found.analysed.next = c.first_number.ensures.same (subst (λ n. 1 ≤ n) (sym c.in_ok-settle.ensures.next) least) ∙ c.in_ok-settle.ensures.next in
+    let same : c.first_number.result ≡ c.args.found.analysed.next = c.first_number.ensures.same (subst (λ n. 1 ≤ n) (sym c.in_ok-applied.ensures.next) least) ∙ c.in_ok-applied.ensures.next in
     let number : IsNextNumber lowest c.first_number.result all = subst (λ n. IsNextNumber lowest n all) (sym same) is.analysis.next in
-    record { ok = restarted_so d b base all c.settle.new.writer _ c.settle.new.disk k.ok; next = number; stops = k.stops; cause = tt }
+    record { ok = restarted_so d b base all c.settle.new.writer _ _ c.settle.new.disk k.ok; next = number; report = record { point = is.analysis.point; applied = k.count }; stops = k.stops; cause = tt }
 
-pub returns-in_err-settle-clause-full : goal.returns-in_err-settle-clause-full
-returns-in_err-settle-clause-full g c is told =
-    let same : c.in_err-settle.field-0.0 ≡ LogFull = search (rules, is) in
-    full_log g.D.Disk c.settle.new.writer c.settle.new.disk c.settle.ensures.ready (λ failed. let clash = c.in_err-settle.ensures.device.1 failed in search (rules, clash, same)) (c.in_err-settle.ensures.no_room (ap Err same)) told
+pub returns-in_err-applied-clause-full : goal.returns-in_err-applied-clause-full
+returns-in_err-applied-clause-full g c is told =
+    let same : c.in_err-applied.field-0.0 ≡ LogFull = search (rules, is) in
+    full_log g.D.Disk c.settle.new.writer c.settle.new.disk c.settle.ensures.ready (λ failed. let clash = c.in_err-applied.ensures.device.1 failed in search (rules, clash, same)) (c.in_err-applied.ensures.no_room (ap Err same)) told
