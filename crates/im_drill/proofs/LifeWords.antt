@@ -1,8 +1,8 @@
 -- The options of a life, and what stands behind each.
-use Rattle.std.proofs.Common.{◌≡◌, ◌≢◌, ◌⊎◌, inl, inr, ℕ, ◌<◌, ◌^◌, List, [], ◌∷◌, ◌++◌, Option, None, Some, Bor, MatchOption, IfSome, is_some, true, codes, refl, sym, ◌∙◌, ap, subst, append_assoc, arith}
+use Rattle.std.proofs.Common.{◌≡◌, ◌≢◌, ◌⊎◌, inl, inr, ℕ, List, [], ◌∷◌, ◌++◌, Option, None, Some, Bor, MatchOption, is_some, true, false, codes, refl, sym, ◌∙◌, ap, subst, append_assoc, arith}
 use Rattle.std.proofs.lemmas.List.{append-nil}
 use Rattle.im_drill.specs.Lines.{Lacks, IsNumber, behind_word}
-use Rattle.im_drill.specs.StoreScripts.{SpellsOption, SpellsLife, IsBehindOption, IsOption}
+use Rattle.im_drill.specs.StoreScripts.{SpellsOption, SpellsOptions, SpellsLife, IsBehindOption, IsOption, named_options}
 use Rattle.im_drill.specs.declared.store_life.LifeOptions.{LifeOptions}
 use Rattle.im_drill.proofs.Lines.{lacks_mid, cut_once}
 use Rattle.im_drill.proofs.Spelled.{digits_lack}
@@ -56,34 +56,37 @@ word_tail text word None cut = sym cut ∙ sym (append-nil word)
 word_tail text word (Some r) cut = cut
 
 -- what stands behind `life`
-pub record AreOptions (options : LifeOptions) (text : List ℕ) : Type 0 where
-  pub frames : List ℕ
-  pub most : List ℕ
-  pub is : text ≡ frames ++ most
-  pub is_frames : SpellsOption (codes "frames") frames options.frames
-  pub is_most : SpellsOption (codes "max") most options.max_pages
-  pub fits : IfSome options.max_pages (λ n. n < 2 ^ 32)
-
-pub are_options : (rest : List ℕ) (options : LifeOptions) → SpellsLife (codes "life" ++ rest) options → AreOptions options rest
+pub are_options : (rest : List ℕ) (options : LifeOptions) → SpellsLife (codes "life" ++ rest) options → SpellsOptions (named_options options) rest
 are_options rest options s =
-    let e : codes "life" ++ rest ≡ codes "life" ++ (s.0 ++ s.1) = s.2 in
-    let same : rest ≡ s.0 ++ s.1 = cc in record { frames = s.0; most = s.1; is = same; is_frames = s.3; is_most = s.4; fits = s.5 }
+    let e : codes "life" ++ rest ≡ codes "life" ++ s.0 = s.1 in
+    let same : rest ≡ s.0 = cc in subst (λ (t : List ℕ). SpellsOptions (named_options options) t) (sym same) s.2
 
-options_tail : (options : LifeOptions) (text : List ℕ) → (s : SpellsLife text options) → IsTail (s.0 ++ s.1)
-options_tail options text s = tails s.0 s.1 (option_tail (codes "frames") s.0 options.frames s.3) (option_tail (codes "max") s.1 options.max_pages s.4)
+options_tail : (some : List (List ℕ × Option ℕ)) (text : List ℕ) → SpellsOptions some text → IsTail text
+options_tail [] text s = inl s
+options_tail (option ∷ more) text s = subst IsTail (sym s.1.is) (tails s.1.front s.0 (option_tail option.0 s.1.front option.1 s.1.spelled) (options_tail more s.0 s.2))
 
 -- a line of one word that begins a life is that word
 pub lone_life : (word : List ℕ) (options : LifeOptions) → Lacks 32 word → SpellsLife word options → word ≡ codes "life"
-lone_life word options l s = (cut_tail word (codes "life") [] (s.0 ++ s.1) l life_lacks (inl refl) (options_tail options word s) (append-nil word ∙ s.2)).0
+lone_life word options l s = (cut_tail word (codes "life") [] s.0 l life_lacks (inl refl) (options_tail (named_options options) s.0 s.2) (append-nil word ∙ s.1)).0
 
 -- and so one of several begins with it
 pub spaced_life : (word rest : List ℕ) (options : LifeOptions) → Lacks 32 word → SpellsLife (word ++ 32 ∷ rest) options → word ≡ codes "life"
-spaced_life word rest options l s = (cut_tail word (codes "life") (32 ∷ rest) (s.0 ++ s.1) l life_lacks (inr (rest, refl)) (options_tail options (word ++ 32 ∷ rest) s) s.2).0
+spaced_life word rest options l s = (cut_tail word (codes "life") (32 ∷ rest) s.0 l life_lacks (inr (rest, refl)) (options_tail (named_options options) s.0 s.2) s.1).0
 
--- what the next option leaves may stand behind `frames`
-pub behind_frames : (text : List ℕ) (option : Option ℕ) → SpellsOption (codes "max") text option → IsBehindOption (codes "frames") text
-behind_frames text None s = inl s
-behind_frames text (Some n) s = inr (codes "max", s.0, s.1, max_lacks, (λ e. absurd (cc)))
+-- these options have other names, none with a space
+abbrev pub AreOthers : List ℕ → List (List ℕ × Option ℕ) → Type 0
+AreOthers name [] = Unit {0}
+AreOthers name (option ∷ more) = Lacks 32 option.0 × (option.0 ≢ name) × AreOthers name more
+
+-- what an option of another name begins may stand behind this name's
+behind_one : (name other : List ℕ) (option : Option ℕ) (text left : List ℕ) → IsOption other text option left → Lacks 32 other → other ≢ name → IsBehindOption name left → IsBehindOption name text
+behind_one name other None text left o l differ behind = subst (λ (t : List ℕ). IsBehindOption name t) (sym (o.is ∙ ap (λ (x : List ℕ). x ++ left) o.spelled)) behind
+behind_one name other (Some n) text left o l differ behind =
+    inr (other, o.spelled.0 ++ left, o.is ∙ ap (λ (x : List ℕ). x ++ left) o.spelled.1 ∙ ap (λ (x : List ℕ). 32 ∷ x) (append_assoc other (32 ∷ o.spelled.0) left), l, differ)
+
+behind_others : (name : List ℕ) (more : List (List ℕ × Option ℕ)) (text : List ℕ) → AreOthers name more → SpellsOptions more text → IsBehindOption name text
+behind_others name [] text others s = inl s
+behind_others name (option ∷ more) text others s = behind_one name option.0 option.1 text s.0 s.1 others.0 others.1 (behind_others name more s.0 others.2 s.2)
 
 -- no words: no option
 pub none_once : (name : List ℕ) (option : Option ℕ) (left : List ℕ) → IsOption name [] option left → (option ≡ None) × (left ≡ [])
@@ -154,32 +157,52 @@ IsRefused name text = (option : Option ℕ) (left : List ℕ) → IsBehindOption
 abbrev pub IsOnlyOption : List ℕ → List ℕ → Option ℕ → List ℕ → Type 0
 IsOnlyOption name text only rest = (option : Option ℕ) (left : List ℕ) → IsOption name text option left → IsBehindOption name left → (option ≡ only) × (left ≡ rest)
 
-module _ (options : LifeOptions) (text : List ℕ) (o : AreOptions options text) (name : List ℕ) where
-  frames_option : name ≡ codes "frames" → IsOption name text options.frames o.most × IsBehindOption name o.most
-  frames_option is =
-      subst (λ (n : List ℕ). IsOption n text options.frames o.most × IsBehindOption n o.most) (sym is)
-      (record { front = o.frames; is = o.is; spelled = o.is_frames }, behind_frames o.most options.max_pages o.is_most)
+-- the first option of a text is not refused
+pub first_refused : (n name : List ℕ) (option : Option ℕ) (more : List (List ℕ × Option ℕ)) (text : List ℕ) → n ≡ name → AreOthers name more → SpellsOptions ((name, option) ∷ more) text → IsRefused n text → ⊥
+first_refused n name option more text is others s refused = subst (λ (x : List ℕ). IsRefused x text) is refused option s.0 (behind_others name more s.0 others s.2) s.1
 
-  pub frames_refused : name ≡ codes "frames" → IsRefused name text → ⊥
-  frames_refused is refused = let f = frames_option is in refused options.frames o.most f.1 f.0
+-- and where it is read, it is what was read, and the others stand in what is left
+pub first_read : (n name : List ℕ) (option : Option ℕ) (more : List (List ℕ × Option ℕ)) (text : List ℕ) (only : Option ℕ) (left : List ℕ) → n ≡ name → AreOthers name more → SpellsOptions ((name, option) ∷ more) text → IsOnlyOption n text only left → SpellsOptions more left
+first_read n name option more text only left is others s once =
+    subst (λ (t : List ℕ). SpellsOptions more t) (subst (λ (x : List ℕ). IsOnlyOption x text only left) is once option s.0 s.1 (behind_others name more s.0 others s.2)).1 s.2
 
-  pub most_is : name ≡ codes "frames" → (frames : Option ℕ) (left : List ℕ) → IsOnlyOption name text frames left → o.most ≡ left
-  most_is is frames left once = let f = frames_option is in (once options.frames o.most f.0 f.1).1
+-- the names of a life's options
+fail_lacks : Lacks 32 (codes "fail")
+fail_lacks = (λ x. omega arith, (λ x. omega arith, (λ x. omega arith, (λ x. omega arith, tt))))
 
-  last_option : name ≡ codes "max" → (left : List ℕ) → o.most ≡ left → IsOption name left options.max_pages []
-  last_option is left same =
-      subst (λ (n : List ℕ). IsOption n left options.max_pages []) (sym is)
-      (record { front = left; is = sym (append-nil left); spelled = subst (λ (x : List ℕ). SpellsOption (codes "max") x options.max_pages) same o.is_most })
+failread_lacks : Lacks 32 (codes "failread")
+failread_lacks = (λ x. omega arith, (λ x. omega arith, (λ x. omega arith, (λ x. omega arith, (λ x. omega arith, (λ x. omega arith, (λ x. omega arith, (λ x. omega arith, tt))))))))
 
-  pub most_refused : name ≡ codes "max" → (left : List ℕ) → o.most ≡ left → IsRefused name left → ⊥
-  most_refused is left same refused = refused options.max_pages [] (inl refl) (last_option is left same)
+module _ (o : LifeOptions) where
+  -- the options behind the first, the second and the third
+  abbrev pub behind_frames : List (List ℕ × Option ℕ)
+  behind_frames = (codes "max", o.max_pages) ∷ (codes "fail", o.failing_call) ∷ (codes "failread", o.failing_read) ∷ []
 
-  pub most_once : name ≡ codes "max" → (left : List ℕ) → o.most ≡ left → (most : Option ℕ) (end : List ℕ) → IsOnlyOption name left most end → (options.max_pages ≡ most) × ([] ≡ end)
-  most_once is left same most end once = once options.max_pages [] (last_option is left same) (inl refl)
+  abbrev pub behind_max : List (List ℕ × Option ℕ)
+  behind_max = (codes "fail", o.failing_call) ∷ (codes "failread", o.failing_read) ∷ []
 
-pub most_fits : (options : LifeOptions) (text : List ℕ) → AreOptions options text → (most : Option ℕ) → options.max_pages ≡ most → IfSome most (λ n. n < 2 ^ 32)
-most_fits options text o most is = subst (λ (m : Option ℕ). IfSome m (λ n. n < 2 ^ 32)) is o.fits
+  abbrev pub behind_fail : List (List ℕ × Option ℕ)
+  behind_fail = (codes "failread", o.failing_read) ∷ []
+
+  pub not_frames : AreOthers (codes "frames") behind_frames
+  not_frames = (max_lacks, (λ e. absurd (cc)), (fail_lacks, (λ e. absurd (cc)), (failread_lacks, (λ e. absurd (cc)), tt)))
+
+  pub not_max : AreOthers (codes "max") behind_max
+  not_max = (fail_lacks, (λ e. absurd (cc)), (failread_lacks, (λ e. absurd (cc)), tt))
+
+  pub not_fail : AreOthers (codes "fail") behind_fail
+  not_fail = (failread_lacks, (λ e. absurd (cc)), tt)
+
+-- a life, option by option
+pub life_spelled : (text second third fourth last : List ℕ) (options : LifeOptions) → IsOption (codes "frames") text options.frames second → IsOption (codes "max") second options.max_pages third → IsOption (codes "fail") third options.failing_call fourth
+    → IsOption (codes "failread") fourth options.failing_read last → last ≡ [] → SpellsLife (codes "life" ++ text) options
+life_spelled text second third fourth last options frames most call read end = (text, refl, (second, frames, (third, most, (fourth, call, (last, read, end)))))
 
 pub none_left : (words : Option (Bor (List ℕ))) → is_some words ≡ true → [] ≡ behind_word words → ⊥
 none_left None some is = absurd (cc)
 none_left (Some rest) some is = absurd (cc)
+
+-- no words are left
+pub all_read : (words : Option (Bor (List ℕ))) → is_some words ≡ false → behind_word words ≡ []
+all_read None none = refl
+all_read (Some rest) none = absurd (cc)

@@ -11,10 +11,10 @@ use Rattle.im_drill.specs.declared.store_life.StoreLine.TheVariants as within
 use Rattle.im_drill.specs.Lines.{Spells, Lacks, IsPageNumber}
 use Rattle.im_drill.specs.Steps.{SpellsStep}
 use Rattle.im_drill.specs.Scripts.{Kind, SetsLog, Begins, Counts, Steps, Stops}
-use Rattle.im_drill.specs.StoreScripts.{SpellsLife, SpellsStore, IsPlainLine, store_kind_of}
+use Rattle.im_drill.specs.StoreScripts.{SpellsLife, SpellsOptions, SpellsStore, IsPlainLine, named_options, store_kind_of}
 use Rattle.im_drill.specs.declared.store_life.LifeOptions.{LifeOptions}
 use Rattle.im_drill.proofs.Lines.{cut_once, lacks_mid}
-use Rattle.im_drill.proofs.LifeWords.{AreOptions, are_options, lone_life, spaced_life}
+use Rattle.im_drill.proofs.LifeWords.{are_options, lone_life, spaced_life}
 
 -- the kind of a good line, by its first bytes
 abbrev pub store_text_kind : List ℕ → Kind
@@ -26,7 +26,7 @@ store_text_kind text =
     else Steps
 
 store_kind : (text : List ℕ) (said : StoreScriptLine) → SpellsStore text said → store_kind_of said ≡ store_text_kind text
-store_kind text (lines.Life options) s = sym (ap store_text_kind s.2)
+store_kind text (lines.Life options) s = sym (ap store_text_kind s.1)
 store_kind text (lines.SetLog bytes) s = sym (ap store_text_kind s.1)
 store_kind text (lines.Within within.Calls) s = sym (ap store_text_kind s)
 store_kind text (lines.Within (within.Page page)) s = sym (ap store_text_kind s.1)
@@ -62,7 +62,7 @@ two_of (lines.Within (within.Step steps.Force)) = 26223
 two_of (lines.Stop stop) = 29556
 
 store_two : (text : List ℕ) (said : StoreScriptLine) → SpellsStore text said → first_two text ≡ two_of said
-store_two text (lines.Life options) s = ap first_two s.2
+store_two text (lines.Life options) s = ap first_two s.1
 store_two text (lines.SetLog bytes) s = ap first_two s.1
 store_two text (lines.Within within.Calls) s = ap first_two s
 store_two text (lines.Within (within.Page page)) s = ap first_two s.1
@@ -131,7 +131,7 @@ no_spaced_line text word rest (lines.Within (within.Step step)) s cut l life pag
 no_spaced_line text word rest (lines.Stop stop) s cut l life page plain = plain (lines.Stop stop) tt s
 
 -- what stands behind `life`: its options
-pub life_said : (rest : List ℕ) (said : StoreScriptLine) → SpellsStore (codes "life" ++ rest) said → (options : LifeOptions) × AreOptions options rest
+pub life_said : (rest : List ℕ) (said : StoreScriptLine) → SpellsStore (codes "life" ++ rest) said → (options : LifeOptions) × SpellsOptions (named_options options) rest
 life_said rest (lines.Life options) s = (options, are_options rest options s)
 life_said rest (lines.SetLog bytes) s = let e = store_two (codes "life" ++ rest) (lines.SetLog bytes) s in absurd (omega (arith, e))
 life_said rest (lines.Within within.Calls) s = let e = store_two (codes "life" ++ rest) (lines.Within within.Calls) s in absurd (omega (arith, e))

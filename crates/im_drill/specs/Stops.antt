@@ -1,5 +1,5 @@
 -- The stop of a life, as it is armed.
-use Rattle.std.specs.Prelude.{◌≡◌, ◌≢◌, ◌⊎◌, true, Option, Some, None}
+use Rattle.std.specs.Prelude.{◌≡◌, ◌≢◌, ◌⊎◌, ℕ, true, Option, Some, None}
 use Rattle.im_types.specs.declared.fault.Fault.{Fault}
 use Rattle.im_types.specs.declared.file_id.FileId.{FileId}
 use Rattle.im_disk.specs.declared.disk.Disk.{Ghosts}
@@ -28,6 +28,24 @@ pub record IsSameStop (stop other : Stop) : Type 0 where
 abbrev pub IsArmedWith : Option Stop → ModelDisk → ModelDisk → Type 0
 IsArmedWith None old new = new ≡ old
 IsArmedWith (Some stop) old new = (armed : Stop) × IsSameStop stop armed × IsArmed (record (armed_of old) { stop = Some armed }) old new
+
+-- The device call of this number is told to fail and nothing else changes; without a number nothing changes.
+abbrev pub IsCallArmed : Option ℕ → ModelDisk → ModelDisk → Type 0
+IsCallArmed None old new = new ≡ old
+IsCallArmed (Some n) old new = IsArmed (record (armed_of old) { failing_call = Some n }) old new
+
+-- So is the read or length call of this number.
+abbrev pub IsReadArmed : Option ℕ → ModelDisk → ModelDisk → Type 0
+IsReadArmed None old new = new ≡ old
+IsReadArmed (Some n) old new = IsArmed (record (armed_of old) { failing_read = Some n }) old new
+
+-- The stop, the device call and the read are armed in turn.
+pub record IsArmedAll (stop : Option Stop) (call read : Option ℕ) (old new : ModelDisk) : Type 0 where
+  pub stopped : ModelDisk
+  pub failing : ModelDisk
+  pub stops : IsArmedWith stop old stopped
+  pub calls : IsCallArmed call stopped failing
+  pub reads : IsReadArmed read failing new
 
 -- The life's stop fell into a device call. One of call 0 falls into none, and a life without a stop has none.
 abbrev pub HasCome : Option Stop → ModelDisk → Type 0

@@ -1,5 +1,5 @@
 -- What lives of a store in a script make of its effects.
-use Rattle.std.specs.Prelude.{◌≡◌, ◌≢◌, ℕ, List, [], ◌∷◌, Option, Some, None}
+use Rattle.std.specs.Prelude.{◌≡◌, ◌≢◌, ℕ, ◌^◌, ◌-◌, nat_lt, if◌then◌else◌, List, [], ◌∷◌, Option, Some, None}
 use Rattle.im_types.specs.Changes.{Effect}
 use Rattle.im_types.specs.Faults.{number_of}
 use Rattle.im_types.specs.Lives.{Shown, Asked, nothing_shown, breaks, shows}
@@ -81,7 +81,11 @@ abbrev pub number_or : ℕ → Option ℕ → ℕ
 number_or n None = n
 number_or n (Some given) = given
 
--- the limits that options of a life give an engine: 64 frames and 1,000,000 pages where they are left out
+-- the number, or the greatest of 32 bits where it is greater
+abbrev pub in_32_bits : ℕ → ℕ
+in_32_bits n = if nat_lt n (2 ^ 32) then n else 2 ^ 32 - 1
+
+-- The limits that options of a life give an engine: 64 frames and 1,000,000 pages where they are left out. Page numbers have 32 bits.
 pub record IsConfigOf (options : LifeOptions) (config : Config) : Type 0 where
   pub frames : config.frames ≡ number_or 64 options.frames
-  pub max_pages : config.max_pages ≡ number_or 1000000 options.max_pages
+  pub max_pages : config.max_pages ≡ in_32_bits (number_or 1000000 options.max_pages)

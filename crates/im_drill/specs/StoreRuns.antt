@@ -34,12 +34,12 @@ use Rattle.im_drill.specs.declared.store_answers.StoreReply.{StoreReply}
 use Rattle.im_drill.specs.declared.store_answers.StoreReply.TheVariants as replies
 use Rattle.im_drill.specs.declared.store_answers.StoreAnswers.{StoreAnswers}
 use Rattle.im_drill.specs.declared.store_answers.StoreDrilled.{StoreDrilled}
-use Rattle.im_drill.specs.Stops.{IsArmedWith, HasCome, IsNextDisk, IsOpenedOr}
+use Rattle.im_drill.specs.Stops.{IsArmedAll, HasCome, IsNextDisk, IsOpenedOr}
 use Rattle.im_drill.specs.StoreLives.{IsConfigOf}
 
 -- a life whose options are left out
 abbrev pub no_options : LifeOptions
-no_options = record { frames = None; max_pages = None }
+no_options = record { frames = None; max_pages = None; failing_call = None; failing_read = None }
 
 module _ (d : Ghosts ModelDisk) where
   -- A step was made by the engine, and its reply is the engine's, unless the stop fell into it.
@@ -85,10 +85,10 @@ module _ (d : Ghosts ModelDisk) where
   AreAnswersOf stop all told new (Ok e) = (told.opening ≡ openings.Open (model_calls e.disk)) × (last : Engine ModelDisk d) × AreLinesRun stop all told.replies.items e last × (new ≡ last.disk)
   AreAnswersOf stop all told new (Err x) = IsOpenedOr stop x.1 told.opening x.0 × (told.replies.items ≡ []) × (new ≡ x.1)
 
-  -- A life was run: its stop was armed, an engine was opened on the disk, and it made the lines.
+  -- A life was run: its stop, and the device call and the read that fail in it, were armed, an engine was opened on the disk, and it made the lines.
   pub record IsLifeRun (life : StoreLife) (told : StoreAnswers) (old new : ModelDisk) : Type 0 where
     pub armed : ModelDisk
-    pub arms : IsArmedWith life.stop old armed
+    pub arms : IsArmedAll life.stop life.options.failing_call life.options.failing_read old armed
     pub result : Result (Engine ModelDisk d) (Fault × ModelDisk)
     pub opening : IsOpening life.options armed result
     pub answers : AreAnswersOf life.stop life.lines.items told new result

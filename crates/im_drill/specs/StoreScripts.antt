@@ -1,5 +1,5 @@
 -- The lines of scripts of lives of a store, and what script they make.
-use Rattle.std.specs.Prelude.{◌≡◌, ◌≢◌, ◌⊎◌, ℕ, ◌<◌, ◌^◌, List, [], ◌∷◌, ◌++◌, map, codes, Option, Some, None, IfSome}
+use Rattle.std.specs.Prelude.{◌≡◌, ◌≢◌, ◌⊎◌, ℕ, List, [], ◌∷◌, ◌++◌, map, codes, Option, Some, None}
 use Rattle.std.specs.Global.{Vec}
 use Rattle.im_disk.specs.declared.stop.Stop.{Stop}
 use Rattle.im_drill.specs.declared.line.Line.TheVariants as raws
@@ -18,12 +18,6 @@ abbrev pub SpellsOption : List ℕ → List ℕ → Option ℕ → Type 0
 SpellsOption name text None = text ≡ []
 SpellsOption name text (Some n) = (word : List ℕ) × (text ≡ 32 ∷ (name ++ 32 ∷ word)) × IsNumber word n
 
--- `life`, and then its options in this order: the number of frames, and the most pages, a number of 32 bits.
-abbrev pub SpellsLife : List ℕ → LifeOptions → Type 0
-SpellsLife text options =
-    (frames : List ℕ) × (most : List ℕ) × (text ≡ codes "life" ++ (frames ++ most))
-    × SpellsOption (codes "frames") frames options.frames × SpellsOption (codes "max") most options.max_pages × IfSome options.max_pages (λ n. n < 2 ^ 32)
-
 -- What may stand behind an option of this name: nothing, or what begins with another name.
 abbrev pub IsBehindOption : List ℕ → List ℕ → Type 0
 IsBehindOption name text = (text ≡ []) ⊎ ((other : List ℕ) × (rest : List ℕ) × (text ≡ 32 ∷ (other ++ 32 ∷ rest)) × Lacks 32 other × (other ≢ name))
@@ -33,6 +27,19 @@ pub record IsOption (name text : List ℕ) (option : Option ℕ) (left : List �
   pub front : List ℕ
   pub is : text ≡ front ++ left
   pub spelled : SpellsOption name front option
+
+-- Options of these names, in this order.
+abbrev pub SpellsOptions : List (List ℕ × Option ℕ) → List ℕ → Type 0
+SpellsOptions [] text = text ≡ []
+SpellsOptions (option ∷ more) text = (left : List ℕ) × IsOption option.0 text option.1 left × SpellsOptions more left
+
+-- The options of a life in their order, each by its name: the number of frames, the most pages, and the device call and the read that fail.
+abbrev pub named_options : LifeOptions → List (List ℕ × Option ℕ)
+named_options o = (codes "frames", o.frames) ∷ (codes "max", o.max_pages) ∷ (codes "fail", o.failing_call) ∷ (codes "failread", o.failing_read) ∷ []
+
+-- `life`, and then its options.
+abbrev pub SpellsLife : List ℕ → LifeOptions → Type 0
+SpellsLife text options = (words : List ℕ) × (text ≡ codes "life" ++ words) × SpellsOptions (named_options options) words
 
 -- The bytes of a line that says this.
 abbrev pub SpellsStore : List ℕ → StoreScriptLine → Type 0

@@ -1,6 +1,6 @@
 //! The lines that scripts of lives of a store may have.
 
-ghost use Rattle.std.specs.Prelude.{◌≡◌, ◌⊎◌, ◌++◌, ◌↔◌, ◌<◌, ◌^◌, ℕ, List, Option, true, codes, IfOk, IfErr, IfSome};
+ghost use Rattle.std.specs.Prelude.{◌≡◌, ◌⊎◌, ◌++◌, ◌↔◌, ℕ, List, Option, true, codes, IfOk, IfErr};
 ghost use Rattle.im_types.specs.declared.fault.Fault.TheVariants.{BadScript, Memory};
 ghost use Rattle.im_drill.specs.declared.store_script_line.StoreScriptLine.{StoreScriptLine};
 ghost use Rattle.im_drill.specs.StoreScripts.{SpellsStore, IsOption, IsBehindOption, IsPlainLine};
@@ -43,12 +43,18 @@ fn life_line(words: Option<&[u8]>) -> Result<StoreScriptLine, Fault>
     ensures cause { IfErr result (λ e. e ≡ BadScript) }
 {
     let (frames, words) = option_of(b"frames".as_slice(), words)?;
-    let (most, words) = option_of(b"max".as_slice(), words)?;
+    let (max_pages, words) = option_of(b"max".as_slice(), words)?;
+    let (failing_call, words) = option_of(b"fail".as_slice(), words)?;
+    let (failing_read, words) = option_of(b"failread".as_slice(), words)?;
     if words.is_some() {
         return Err(Fault::BadScript);
     }
-    let max_pages = most_pages(most)?;
-    Ok(StoreScriptLine::Life(LifeOptions { frames, max_pages }))
+    Ok(StoreScriptLine::Life(LifeOptions {
+        frames,
+        max_pages,
+        failing_call,
+        failing_read,
+    }))
 }
 
 // The number of the option of this name that the words begin with, and the words behind it; none, where they begin with no such
@@ -84,21 +90,6 @@ fn is_word(word: &[u8], name: &[u8]) -> bool
     ensures { result ≡ true ↔ word.now ≡ name.now }
 {
     word == name
-}
-
-// The most pages, which are a number of 32 bits.
-fn most_pages(number: Option<u64>) -> Result<Option<u32>, Fault>
-    ensures says { IfOk result (λ most. (most ≡ number) × IfSome number (λ n. n < 2 ^ 32)) }
-    ensures refused { IfErr result (λ e. ¬ (IfSome number (λ n. n < 2 ^ 32))) }
-    ensures cause { IfErr result (λ e. e ≡ BadScript) }
-{
-    match number {
-        None => Ok(None),
-        Some(number) => match u32::try_from(number) {
-            Ok(number) => Ok(Some(number)),
-            Err(_) => Err(Fault::BadScript),
-        },
-    }
 }
 
 #[tactic(auto, using(crate::proofs::StoreSpelled::page_said))]

@@ -20,7 +20,11 @@ pub struct LifeOptions {
     /// How many pages are held at most; none for as many as the default has.
     pub frames: Option<u64>,
     /// How many pages the store has at most, as far as inserts go; none for as many as the default has.
-    pub max_pages: Option<u32>,
+    pub max_pages: Option<u64>,
+    /// The number of the device call that fails, counted from 1; none where none does.
+    pub failing_call: Option<u64>,
+    /// The number of the read or length call that fails, counted from 1; none where none does.
+    pub failing_read: Option<u64>,
 }
 
 /// A life of a store: it is opened, and then its lines are run in turn.

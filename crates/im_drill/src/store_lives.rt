@@ -1,17 +1,18 @@
 //! Lives of a store, on the model disk.
 
-ghost use Rattle.std.specs.Prelude.{◌≡◌, ◌≢◌, ◌⊎◌, ◌↔◌, true, false, List, IfOk, MatchResult};
+ghost use Rattle.std.specs.Prelude.{◌≡◌, ◌≢◌, ◌⊎◌, ◌↔◌, true, false, List, IfOk, OnOk, MatchResult};
 ghost use Rattle.std.specs.FinMap.{empty, entries};
 ghost use Rattle.im_types.specs.declared.fault.Fault.TheVariants.{NotAStore};
 ghost use Rattle.im_types.specs.Changes.{Effect, apply_all};
 ghost use Rattle.im_types.specs.Lives.{Shown, nothing_shown, StandsForMore};
 ghost use Rattle.im_disk.specs.Disk.{Files};
-ghost use Rattle.im_disk.specs.Runs.{IsSynced};
+ghost use Rattle.im_disk.specs.Runs.{IsSynced, Reads};
 ghost use Rattle.im_engine.specs.Stands.{StandsFor, Allowed};
 ghost use Rattle.im_engine.specs.Running.{IsLife};
 ghost use Rattle.im_drill.specs.declared.store_answers.StoreReply.TheVariants.{Stopped};
 ghost use Rattle.im_drill.specs.Answered.{AnsweredBy};
-ghost use Rattle.im_drill.specs.StoreLives.{asked_in, shown_in, IsConfigOf, LineKept, IsStoreReply, StoreAnswered};
+ghost use Rattle.im_drill.specs.Stops.{IsArmedAll, IsCallArmed, IsReadArmed};
+ghost use Rattle.im_drill.specs.StoreLives.{asked_in, shown_in, in_32_bits, IsConfigOf, LineKept, IsStoreReply, StoreAnswered};
 ghost use Rattle.im_drill.specs.StoreRuns.{IsOpening, IsLifeRun, AreLinesRun, IsLineRun, IsStepRun, IsLookRun, IsLastRun};
 
 use crate::Opening;
@@ -26,7 +27,7 @@ use std::alloc::{AllocError, Global};
 
 /// Runs one life on the disk, and gives the disk back as it was when the stop came or the lines ended.
 ///
-/// The stop is armed, an engine is opened on the disk, and it makes the lines: the answers are its own. Where the files stood for some
+/// The stop is armed, and the device call and the read that fail, an engine is opened on the disk, and it makes the lines: the answers are its own. Where the files stood for some
 /// effects, whatever a stop then leaves stands for these effects and a front of those whose Commit the life asked, with all that were
 /// acknowledged; and the opening does not say that the files are no store. Each line has its reply, unless the stop came before or the
 /// opening did not succeed.
@@ -44,7 +45,7 @@ pub fn run_store_life(
         → (c : Files) → ⟦<ModelDisk as Disk>⟧.may_leave run.1 c → StandsForMore StandsFor before (asked_in life.now run.0) c) }
 {
     let mut disk = disk;
-    arm(alloc, &mut disk, &life.stop)?;
+    arm_life(alloc, &mut disk, life)?;
     match open_store(alloc, disk, life.options) {
         Ok(mut engine) => {
             let opening = Opening::Open(engine.disk().calls());
@@ -74,6 +75,43 @@ pub fn open_store(
     Engine::open_or_create(alloc, disk, config_of(options))
 }
 
+// Sets the life's stop, and the device call and the read that fail in it.
+fn arm_life(alloc: Global, disk: &mut ModelDisk, life: &StoreLife) -> Result<(), AllocError>
+    ensures armed { OnOk result (IsArmedAll life.now.stop life.now.options.failing_call life.now.options.failing_read disk.old disk.new) }
+    ensures reads { Reads ⟦<ModelDisk as Disk>⟧ disk.old disk.new }
+    ensures synced { IsSynced ⟦<ModelDisk as Disk>⟧ disk.old → IsSynced ⟦<ModelDisk as Disk>⟧ disk.new }
+    ensures failed { ⟦<ModelDisk as Disk>⟧.failed disk.new ≡ ⟦<ModelDisk as Disk>⟧.failed disk.old }
+{
+    arm(alloc, disk, &life.stop)?;
+    arm_call(disk, life.options.failing_call);
+    arm_read(disk, life.options.failing_read);
+    Ok(())
+}
+
+fn arm_call(disk: &mut ModelDisk, call: Option<u64>)
+    ensures armed { IsCallArmed call disk.old disk.new }
+    ensures reads { Reads ⟦<ModelDisk as Disk>⟧ disk.old disk.new }
+    ensures synced { IsSynced ⟦<ModelDisk as Disk>⟧ disk.old → IsSynced ⟦<ModelDisk as Disk>⟧ disk.new }
+    ensures failed { ⟦<ModelDisk as Disk>⟧.failed disk.new ≡ ⟦<ModelDisk as Disk>⟧.failed disk.old }
+{
+    match call {
+        Some(call) => disk.fail_call(call),
+        None => {}
+    }
+}
+
+fn arm_read(disk: &mut ModelDisk, read: Option<u64>)
+    ensures armed { IsReadArmed read disk.old disk.new }
+    ensures reads { Reads ⟦<ModelDisk as Disk>⟧ disk.old disk.new }
+    ensures synced { IsSynced ⟦<ModelDisk as Disk>⟧ disk.old → IsSynced ⟦<ModelDisk as Disk>⟧ disk.new }
+    ensures failed { ⟦<ModelDisk as Disk>⟧.failed disk.new ≡ ⟦<ModelDisk as Disk>⟧.failed disk.old }
+{
+    match read {
+        Some(read) => disk.fail_read(read),
+        None => {}
+    }
+}
+
 /// How an engine is opened by these options: 64 frames and 1,000,000 pages where they are left out.
 pub fn config_of(options: LifeOptions) -> Config
     ensures { IsConfigOf options result }
@@ -83,11 +121,23 @@ pub fn config_of(options: LifeOptions) -> Config
         None => config.frames,
         Some(frames) => frames as usize,
     };
-    let max_pages = match options.max_pages {
-        None => config.max_pages,
+    let most = match options.max_pages {
+        None => u64::from(config.max_pages),
         Some(most) => most,
     };
+    let max_pages = in_32_bits(most);
     Config { frames, max_pages }
+}
+
+// The number, or the greatest of 32 bits.
+fn in_32_bits(number: u64) -> u32
+    ensures { result ≡ in_32_bits number }
+{
+    if number <= u32::MAX as u64 {
+        number as u32
+    } else {
+        u32::MAX
+    }
 }
 
 fn run_store_lines(
@@ -178,6 +228,8 @@ pub(crate) fn last_entries(alloc: Global, disk: ModelDisk) -> Result<Vec<(Key, R
     let options = LifeOptions {
         frames: None,
         max_pages: None,
+        failing_call: None,
+        failing_read: None,
     };
     match open_store(alloc, disk, options) {
         Ok(mut engine) => {

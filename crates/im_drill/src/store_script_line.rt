@@ -6,7 +6,7 @@ use im_disk::Stop;
 /// A line of a script of lives of a store.
 #[derive(Drop)]
 pub enum StoreScriptLine {
-    /// `life [frames N] [max N]`: a life of a store.
+    /// `life [frames N] [max N] [fail N] [failread N]`: a life of a store.
     Life(LifeOptions),
     /// `set log HEX`: the bytes of the log file before the first life.
     SetLog(Vec<u8>),
