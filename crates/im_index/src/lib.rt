@@ -1,0 +1,20 @@
+//! Steps by a key of one transaction among many: search and locks.
+//!
+//! Each step searches the tree, asks the lock table all that the access asks, by what was found there, and answers what one user alone
+//! would be answered on the tree's map; where a lock is in its way nothing is done (`Outcome`).
+//!
+//! - `fetch` answers the row id of a key.
+//! - `seek` answers the first entry at or above a key, or above it.
+//! - `scan` answers the entries of a range.
+#![tactic(auto)]
+
+mod asking;
+mod outcome;
+mod reads;
+mod scans;
+#[cfg(test)]
+mod tests;
+
+pub use outcome::Outcome;
+pub use reads::{fetch, seek};
+pub use scans::scan;

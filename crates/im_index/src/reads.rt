@@ -1,0 +1,162 @@
+//! One entry: that of a key, or the next.
+
+ghost use Rattle.std.specs.Prelude.{◌≡◌, ◌⊎◌, ◌↔◌, ◌<◌, length, ℕ, List, true, false, Ok, Err, None, IfOk, IfErr, OnOk, OnErr};
+ghost use Rattle.std.specs.FinMap.{entries, get};
+ghost use Rattle.im_types.specs.declared.fault.Fault.TheVariants.{Device, Failed, LogFull, Memory, NotAStore};
+ghost use Rattle.im_types.specs.Maps.{IndexMap};
+ghost use Rattle.im_types.specs.Answers.{Fetch, found, entry as entry_found};
+ghost use Rattle.im_types.specs.Histories.{Base};
+ghost use Rattle.im_types.specs.Writer.{Writer};
+ghost use Rattle.im_log.specs.LogFile.{HasNoRoom};
+ghost use Rattle.im_flush.specs.PageWriter.{IsReadyWriter};
+ghost use Rattle.im_tree.specs.Levels.{walk};
+ghost use Rattle.im_search.specs.Levels.{bodies, start_at};
+ghost use Rattle.im_search.specs.Found.{HasTree};
+ghost use Rattle.im_lock.specs.Table.{SameTable};
+ghost use Rattle.im_lock.specs.Table.{named};
+ghost use Rattle.im_lock.specs.Rows.{name_of};
+ghost use Rattle.im_page.specs.Entry.{entry_at};
+ghost use Rattle.im_index.specs.Outcomes.{seek_at};
+ghost use Rattle.im_index.specs.Reads.{CopiedKept, ReadKept};
+
+use crate::asking::{name_in, outcome_of};
+use crate::outcome::Outcome;
+use im_disk::Disk;
+use im_flush::PageWriter;
+use im_lock::{LockTable, Name, fetch_row, seek_row};
+use im_page::Page;
+use im_search::{leaf_and_next, locate, next_entry};
+use im_types::{Fault, Key, Rid, TxnId};
+
+// Asks the name behind a key that is not there.
+fn fetch_absent<D: Disk>(
+    writer: &mut PageWriter,
+    disk: &mut D,
+    locks: &mut LockTable,
+    transaction: TxnId,
+    key: &[u8],
+) -> Result<Outcome<Option<Rid>>, Fault>
+    requires ready { IsReadyWriter D.Disk writer.old disk.old }
+    ensures ready { IsReadyWriter D.Disk writer.new disk.new }
+    ensures kept { (b : Base) (base : ℕ) (s : Writer) (spare : List ℕ) (m : IndexMap) → HasTree D.Disk b base s spare writer.old disk.old → walk (bodies s) ≡ entries m → get m key.now ≡ None
+        → ReadKept D.Disk b base found s transaction (Fetch key.now) m locks.old locks.new disk.old writer.new disk.new result }
+    ensures table { OnErr result (SameTable locks.old locks.new) }
+    ensures works { OnOk result (writer.new.failed ≡ false) }
+    ensures fails { IfErr result (λ e. (writer.new.failed ≡ false) ↔ ((e ≡ Memory) ⊎ (e ≡ NotAStore))) }
+    ensures causes { IfErr result (λ e. (e ≡ Failed) ⊎ (e ≡ LogFull) ⊎ (e ≡ Memory) ⊎ (e ≡ NotAStore) ⊎ (e ≡ Device)) }
+    ensures no_room { result ≡ Err LogFull → HasNoRoom writer.new.log }
+    ensures already { result ≡ Err Failed ↔ (writer.old.failed ≡ true) }
+    ensures device { writer.old.failed ≡ false → result ≡ Err Device ↔ (D.failed disk.new ≡ true) }
+{
+    let (leaf, next) = leaf_and_next(writer, disk, key)?;
+    let row = fetch_row(key, false, name_in(writer.page(leaf), &next));
+    let verdict = locks.try_all(transaction, row.as_slice())?;
+    Ok(outcome_of(verdict, None))
+}
+
+/// The row id of a key, `None` where the index doesn't have it. The key's lock is asked where it is there, else that of the next
+/// name, which is looked for only then.
+///
+/// Refused as `im_search::next_entry` is, and `Memory` where the lock table wants it. Behind a refusal, `Wait` and `Die` nobody holds
+/// another lock than before.
+pub fn fetch<D: Disk>(
+    writer: &mut PageWriter,
+    disk: &mut D,
+    locks: &mut LockTable,
+    transaction: TxnId,
+    key: &[u8],
+) -> Result<Outcome<Option<Rid>>, Fault>
+    requires ready { IsReadyWriter D.Disk writer.old disk.old }
+    ensures ready { IsReadyWriter D.Disk writer.new disk.new }
+    ensures kept { (b : Base) (base : ℕ) (s : Writer) (spare : List ℕ) (m : IndexMap) → HasTree D.Disk b base s spare writer.old disk.old → walk (bodies s) ≡ entries m
+        → ReadKept D.Disk b base found s transaction (Fetch key.now) m locks.old locks.new disk.old writer.new disk.new result }
+    ensures table { OnErr result (SameTable locks.old locks.new) }
+    ensures works { OnOk result (writer.new.failed ≡ false) }
+    ensures fails { IfErr result (λ e. (writer.new.failed ≡ false) ↔ ((e ≡ Memory) ⊎ (e ≡ NotAStore))) }
+    ensures causes { IfErr result (λ e. (e ≡ Failed) ⊎ (e ≡ LogFull) ⊎ (e ≡ Memory) ⊎ (e ≡ NotAStore) ⊎ (e ≡ Device)) }
+    ensures no_room { result ≡ Err LogFull → HasNoRoom writer.new.log }
+    ensures already { result ≡ Err Failed ↔ (writer.old.failed ≡ true) }
+    ensures device { writer.old.failed ≡ false → result ≡ Err Device ↔ (D.failed disk.new ≡ true) }
+{
+    if let Some(rid) = locate(writer, disk, key)? {
+        let row = fetch_row(key, true, Name::End);
+        let verdict = locks.try_all(transaction, row.as_slice())?;
+        return Ok(outcome_of(verdict, Some(rid)));
+    }
+    fetch_absent(writer, disk, locks, transaction, key)
+}
+
+// An entry of a page, copied.
+fn entry_of(page: &Page, at: usize) -> Result<(Key, Rid), Fault>
+    requires { at < length page.now.body.entries }
+    ensures entry { IfOk result (λ entry. entry ≡ entry_at page.now.body.entries at) }
+    ensures always { IfErr result (λ e. ⊥) }
+{
+    Ok((Key::new(page.key(at))?, page.value(at)))
+}
+
+// The name of what was found.
+fn name_found(found: &Option<(Key, Rid)>) -> Name<'_>
+    ensures { named result ≡ name_of found.now }
+{
+    match found {
+        Some((key, _)) => Name::Key(key.bytes()),
+        None => Name::End,
+    }
+}
+
+// The first entry at or above a key, or above it, copied.
+fn found_by<D: Disk>(
+    writer: &mut PageWriter,
+    disk: &mut D,
+    key: &[u8],
+    inclusive: bool,
+) -> Result<Option<(Key, Rid)>, Fault>
+    requires ready { IsReadyWriter D.Disk writer.old disk.old }
+    ensures ready { IsReadyWriter D.Disk writer.new disk.new }
+    ensures kept { (b : Base) (base : ℕ) (s : Writer) (spare : List ℕ) → HasTree D.Disk b base s spare writer.old disk.old
+        → CopiedKept D.Disk b base s (start_at inclusive key.now) disk.old writer.new disk.new result }
+    ensures works { OnOk result (writer.new.failed ≡ false) }
+    ensures fails { IfErr result (λ e. (writer.new.failed ≡ false) ↔ ((e ≡ Memory) ⊎ (e ≡ NotAStore))) }
+    ensures causes { IfErr result (λ e. (e ≡ Failed) ⊎ (e ≡ LogFull) ⊎ (e ≡ Memory) ⊎ (e ≡ NotAStore) ⊎ (e ≡ Device)) }
+    ensures no_room { result ≡ Err LogFull → HasNoRoom writer.new.log }
+    ensures already { result ≡ Err Failed ↔ (writer.old.failed ≡ true) }
+    ensures device { writer.old.failed ≡ false → result ≡ Err Device ↔ (D.failed disk.new ≡ true) }
+{
+    let Some(place) = next_entry(writer, disk, key, inclusive)? else {
+        return Ok(None);
+    };
+    let entry = entry_of(writer.page(place.frame), place.at)?;
+    Ok(Some(entry))
+}
+
+/// The first entry at or above a key (`inclusive`), or the first above it, copied; `None` where the index has none. The lock of its
+/// key is asked, else that of the name past the last key.
+///
+/// Refused as `im_search::next_entry` is, and `Memory` where the lock table wants it. Behind a refusal, `Wait` and `Die` nobody holds
+/// another lock than before.
+pub fn seek<D: Disk>(
+    writer: &mut PageWriter,
+    disk: &mut D,
+    locks: &mut LockTable,
+    transaction: TxnId,
+    key: &[u8],
+    inclusive: bool,
+) -> Result<Outcome<Option<(Key, Rid)>>, Fault>
+    requires ready { IsReadyWriter D.Disk writer.old disk.old }
+    ensures ready { IsReadyWriter D.Disk writer.new disk.new }
+    ensures kept { (b : Base) (base : ℕ) (s : Writer) (spare : List ℕ) (m : IndexMap) → HasTree D.Disk b base s spare writer.old disk.old → walk (bodies s) ≡ entries m
+        → ReadKept D.Disk b base entry_found s transaction (seek_at inclusive key.now) m locks.old locks.new disk.old writer.new disk.new result }
+    ensures table { OnErr result (SameTable locks.old locks.new) }
+    ensures works { OnOk result (writer.new.failed ≡ false) }
+    ensures fails { IfErr result (λ e. (writer.new.failed ≡ false) ↔ ((e ≡ Memory) ⊎ (e ≡ NotAStore))) }
+    ensures causes { IfErr result (λ e. (e ≡ Failed) ⊎ (e ≡ LogFull) ⊎ (e ≡ Memory) ⊎ (e ≡ NotAStore) ⊎ (e ≡ Device)) }
+    ensures no_room { result ≡ Err LogFull → HasNoRoom writer.new.log }
+    ensures already { result ≡ Err Failed ↔ (writer.old.failed ≡ true) }
+    ensures device { writer.old.failed ≡ false → result ≡ Err Device ↔ (D.failed disk.new ≡ true) }
+{
+    let found = found_by(writer, disk, key, inclusive)?;
+    let row = seek_row(name_found(&found));
+    let verdict = locks.try_all(transaction, row.as_slice())?;
+    Ok(outcome_of(verdict, found))
+}
