@@ -1,5 +1,5 @@
 //! Pages taken and given back, over a store of four pages of which the last two are free, and over a new one.
-ghost use Rattle.std.specs.Prelude.{◌≡◌, false, IfOk};
+ghost use Rattle.std.specs.Prelude.{◌≡◌, false, IfOk, OnOk};
 ghost use Rattle.im_disk.specs.Runs.{IsSynced};
 ghost use Rattle.im_flush.specs.PageWriter.{IsReadyWriter};
 
@@ -135,5 +135,60 @@ fn a_page_in_the_tree_is_no_free_page(rt: HostRuntime) -> Result<(), Fail> {
         allocate(alloc, &mut images, &mut writer, &mut disk),
         Err(Fault::NotAStore)
     );
+    Ok(())
+}
+
+// Takes so many pages, and answers the last one's number.
+fn take_many<D: Disk>(
+    alloc: Global,
+    images: &mut Images,
+    writer: &mut PageWriter,
+    disk: &mut D,
+    count: u32,
+) -> Result<PageNo, Fault>
+    requires ready { IsReadyWriter D.Disk writer.old disk.old }
+    requires working { writer.old.failed ≡ false }
+    ensures ready { IsReadyWriter D.Disk writer.new disk.new }
+    ensures works { OnOk result (writer.new.failed ≡ false) }
+{
+    let mut last = 0;
+    for _taken in 0..count {
+        last = allocate(alloc, images, writer, disk)?;
+    }
+    Ok(last)
+}
+
+// Gives the pages from this one on back, so many.
+fn give_many<D: Disk>(
+    alloc: Global,
+    images: &mut Images,
+    writer: &mut PageWriter,
+    disk: &mut D,
+    first: PageNo,
+    count: u32,
+) -> Result<(), Fault>
+    requires ready { IsReadyWriter D.Disk writer.old disk.old }
+    requires working { writer.old.failed ≡ false }
+{
+    for n in 0..count {
+        free(alloc, images, writer, disk, first.wrapping_add(n))?;
+    }
+    Ok(())
+}
+
+// No run of a store comes to a structure change of so many pages: its tree would have some thirty levels.
+#[test]
+fn a_change_takes_and_gives_back_as_many_pages_as_it_wants(rt: HostRuntime) -> Result<(), Fail> {
+    let alloc = rt.alloc();
+    let mut disk = disk_of(alloc, Vec::new(alloc))?;
+    let mut writer = open(alloc, &mut disk)?;
+    let mut images = Images::new(alloc);
+    assert_eq!(rt;
+        take_many(alloc, &mut images, &mut writer, &mut disk, 30)?,
+        31
+    );
+    assert_eq!(rt; images.len(), 31);
+    give_many(alloc, &mut images, &mut writer, &mut disk, 2, 30)?;
+    assert_eq!(rt; free_list(&images), Some((31, 30)));
     Ok(())
 }
