@@ -1,3 +1,4 @@
+pub mod Disturbed
 pub mod Entries
 pub mod Fronts
 pub mod Opens

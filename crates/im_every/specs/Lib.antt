@@ -1,3 +1,4 @@
+pub mod Disturbed
 pub mod Judged
 pub mod Opened
 pub mod Shows

@@ -9,6 +9,7 @@ use crate::showing::effects_asked;
 use im_disk::{Disk, Fill, Length, ModelDisk, Stop};
 use im_drill::{LifeOptions, StoreLife, run_store_life};
 use std::alloc::{AllocError, Global};
+use std::io::Write;
 
 /// How often a life was stopped, how often an opening behind it was, and how many openings were bad.
 #[derive(Clone, Copy, Debug, Default, PartialEq, Eq)]
@@ -19,7 +20,7 @@ pub struct Counts {
 }
 
 /// The lengths and fills of the stops of one device call.
-const WAYS: [(Length, u8); 6] = [
+pub(crate) const WAYS: [(Length, u8); 6] = [
     (Length::Long, 0x00),
     (Length::Long, 0x01),
     (Length::Long, 0xFF),
@@ -28,7 +29,7 @@ const WAYS: [(Length, u8); 6] = [
     (Length::Short, 0xFF),
 ];
 
-fn stop_at(alloc: Global, call: u64, way: (Length, u8)) -> Result<Stop, AllocError> {
+pub(crate) fn stop_at(alloc: Global, call: u64, way: (Length, u8)) -> Result<Stop, AllocError> {
     let mut pattern = Vec::new(alloc);
     pattern.push(way.1)?;
     Ok(Stop {
@@ -39,30 +40,39 @@ fn stop_at(alloc: Global, call: u64, way: (Length, u8)) -> Result<Stop, AllocErr
 }
 
 /// Stops a life within each of its device calls, in each way, and judges what is behind. The life's own stop is left out.
-pub fn every_stop(alloc: Global, life: StoreLife) -> Result<Counts, AllocError> {
+///
+/// It writes to `progress` how many of the life's device calls are done, over the line before. Where that cannot be written nobody reads it.
+pub fn every_stop<P: Write>(
+    alloc: Global,
+    life: StoreLife,
+    progress: &mut P,
+) -> Result<Counts, AllocError> {
     let mut life = life;
     life.stop = None;
     let mut counts = Counts::default();
     let (_, disk) = run_store_life(alloc, new_disk(alloc), &life)?;
-    for i in 0..disk.calls() {
+    let calls = disk.calls();
+    for i in 0..calls {
         for way in WAYS {
             life.stop = Some(stop_at(alloc, i.wrapping_add(1), way)?);
             counts.stops = counts.stops.saturating_add(1);
             every_restart(alloc, &life, &mut counts)?;
         }
+        let _ = write!(progress, "\r{} of {calls} device calls", i.wrapping_add(1));
     }
+    let _ = writeln!(progress);
     Ok(counts)
 }
 
-fn new_disk(alloc: Global) -> ModelDisk
+pub(crate) fn new_disk(alloc: Global) -> ModelDisk
     ensures working { ⟦<ModelDisk as Disk>⟧.failed result ≡ false }
     ensures synced { IsSynced ⟦<ModelDisk as Disk>⟧ result }
 {
     ModelDisk::new(Vec::new(alloc), Vec::new(alloc))
 }
 
-/// Makes a life with its own stop, opens behind it, stops that opening within each of its device calls, in each way, and judges each opening that
-/// was not stopped.
+/// Makes a life with its own stop, opens behind it with the same frames and pages, stops that opening within each of its device calls, in each
+/// way, and judges each opening that was not stopped.
 pub fn every_restart(
     alloc: Global,
     life: &StoreLife,
@@ -97,8 +107,8 @@ fn restart(
     Ok(())
 }
 
-// Judges an opening of what is left of this disk, and answers how many device calls it made.
-fn judge(
+/// Judges an opening of what is left of this disk, and answers how many device calls it made.
+pub(crate) fn judge(
     alloc: Global,
     disk: &ModelDisk,
     options: LifeOptions,
@@ -112,8 +122,8 @@ fn judge(
 }
 
 impl Counts {
-    // One opening more, which is good or bad.
-    fn count(&mut self, good: bool) {
+    /// One opening more, or one life, which is good or bad.
+    pub(crate) fn count(&mut self, good: bool) {
         if !good {
             self.bad = self.bad.saturating_add(1);
         }

@@ -5,11 +5,15 @@
 //! Each opening that was not stopped is judged: its entries have to be those of a front of the effects whose Commit the life asked, with all
 //! that were acknowledged (`IsAllowed`), by the life's lines and replies alone.
 //!
+//! `every_failure` makes a life again and again, in which each time another device call fails, or another read, and judges the answers and the
+//! opening behind.
+//!
 //! It stands on `im_drill` for scripts and lives, on the engine and the model disk. What it prints is tested, and stands in no clause; the judge has one.
 #![tactic(auto)]
 
 mod change;
 mod every;
+mod failing;
 mod judge;
 mod opening;
 mod showing;
@@ -18,6 +22,7 @@ mod text;
 
 pub use change::{AskedEffect, Change};
 pub use every::{Counts, every_restart, every_stop};
+pub use failing::every_failure;
 pub use judge::is_allowed;
 pub use showing::effects_asked;
 pub use text::every_text;

@@ -43,7 +43,8 @@ pub fn effects_asked(
     Ok(asked)
 }
 
-fn reply_at(replies: &[StoreReply], i: usize) -> StoreReply
+/// The reply at a place.
+pub(crate) fn reply_at(replies: &[StoreReply], i: usize) -> StoreReply
     requires { i < length replies.now }
     ensures { result ≡ get_or replies.now i result }
 {

@@ -12,11 +12,12 @@ use std::io::{Read, Write};
 /// Reads a script, stops its life everywhere and prints the counts: `stops A restarts B bad C`. It answers the exit status: 0 where none is bad.
 ///
 /// A script that has not one `life` alone, or has a `set` line or a stop, is answered `script not single`, and a bad line is named alone; the
-/// status is 1 then.
-pub fn every_text<R: Read, W: Write>(
+/// status is 1 then. It writes to `progress` how far it is; where that cannot be written nobody reads it.
+pub fn every_text<R: Read, W: Write, P: Write>(
     alloc: Global,
     reader: &mut R,
     writer: &mut W,
+    progress: &mut P,
 ) -> io::Result<u8>
     ensures { IfOk result (λ status. status ≤ 1) }
 {
@@ -24,7 +25,7 @@ pub fn every_text<R: Read, W: Write>(
     reader.read_to_end(&mut text)?;
     match life_of(alloc, &text) {
         Ok(Some(life)) => {
-            let counts = every_stop(alloc, life)?;
+            let counts = every_stop(alloc, life, progress)?;
             writeln!(
                 writer,
                 "stops {} restarts {} bad {}",

@@ -7,19 +7,15 @@ use clap::{Arg, ArgAction, ArgMatches, Command, Error};
 use im_drill::drill_text;
 use im_every::every_text;
 use std::alloc::{AllocError, Global};
-use std::io::{BufWriter, ErrorKind, Read, Write};
-use std::rt::Files;
+use std::io::{BufWriter, ErrorKind, IsTerminal, Read, Write};
 use std::{fs, io};
 
 /// Runs the script that the command line names, or standard input where it names none, and prints what its
-/// lives answer. With `--every` it stops the script's one life everywhere, and prints how often, and how many openings were bad. The first
-/// word is the program's name. It answers the exit status.
+/// lives answer. With `--every` it stops the script's one life everywhere, tells on standard error how far it is, where that is a terminal, and
+/// prints how often, and how many openings were bad. The first word is the program's name. It answers the exit status.
 ///
 /// An error is of the program's own memory, input or output: its status is 1.
-pub fn drill_program<R: Files + Input + Print + Eprint + AllocGlobal>(
-    rt: &R,
-    words: &[String],
-) -> io::Result<u8>
+pub fn drill_program(rt: &HostRuntime, words: &[String]) -> io::Result<u8>
     ensures { IfOk result (λ status. status ≤ 2) }
 {
     let alloc = rt.alloc();
@@ -48,12 +44,7 @@ pub fn drill_program<R: Files + Input + Print + Eprint + AllocGlobal>(
 }
 
 // The file is read to its end before anything is printed.
-fn run_file<R: Files + Eprint + AllocGlobal, W: Write>(
-    rt: &R,
-    path: &str,
-    every: bool,
-    writer: &mut W,
-) -> io::Result<u8>
+fn run_file<W: Write>(rt: &HostRuntime, path: &str, every: bool, writer: &mut W) -> io::Result<u8>
     ensures { IfOk result (λ status. status ≤ 1) }
 {
     match fs::read(rt, path) {
@@ -67,19 +58,14 @@ fn run_file<R: Files + Eprint + AllocGlobal, W: Write>(
 }
 
 // Runs a script, and says on standard error why a line of it is bad. Where that is closed nobody reads it.
-fn run_text<R: Eprint + AllocGlobal, W: Write>(
-    rt: &R,
-    text: &[u8],
-    every: bool,
-    writer: &mut W,
-) -> io::Result<u8>
+fn run_text<W: Write>(rt: &HostRuntime, text: &[u8], every: bool, writer: &mut W) -> io::Result<u8>
     ensures { IfOk result (λ status. status ≤ 1) }
 {
     let mut printed = Vec::new(rt.alloc());
-    let mut reader = text;
     let status = if every {
-        every_text(rt.alloc(), &mut reader, &mut printed)?
+        run_every(rt, text, &mut printed)?
     } else {
+        let mut reader = text;
         drill_text(rt.alloc(), &mut reader, &mut printed)?
     };
     writer.write_all(&printed)?;
@@ -88,6 +74,19 @@ fn run_text<R: Eprint + AllocGlobal, W: Write>(
         let _ = eprintln!(rt; "imdrill: line {number}: {reason}");
     }
     Ok(status)
+}
+
+// Stops the script's life everywhere, and tells how far it is on standard error, where that is a terminal.
+fn run_every(rt: &HostRuntime, text: &[u8], printed: &mut Vec<u8>) -> io::Result<u8>
+    ensures { IfOk result (λ status. status ≤ 1) }
+{
+    let mut reader = text;
+    let mut progress = rt.stderr();
+    if progress.is_terminal() {
+        every_text(rt.alloc(), &mut reader, printed, &mut progress)
+    } else {
+        every_text(rt.alloc(), &mut reader, printed, &mut io::sink())
+    }
 }
 
 // Help goes to standard output, and is no error.

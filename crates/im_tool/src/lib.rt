@@ -9,6 +9,8 @@
 //! It stands on `im_drill` for scripts, for the lines of steps and for the words of replies, on the engine, and on `clap` for command lines.
 #![tactic(auto)]
 
+#[cfg(test)]
+mod damage;
 mod imdrill;
 mod imstore;
 mod key_notation;

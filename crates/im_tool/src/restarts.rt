@@ -1,5 +1,5 @@
 use im_drill::StoreScript;
-use im_every::{Counts, every_restart, every_text};
+use im_every::{Counts, every_failure, every_restart, every_text};
 use std::alloc::Global;
 use std::io;
 use std::io::Write;
@@ -108,9 +108,51 @@ fn every_stop_prints_its_counts(rt: HostRuntime) -> Result<(), Fail> {
     for (name, script, want, want_status) in EVERY {
         let mut printed = Vec::new(rt.alloc());
         let mut reader = script.as_bytes();
-        let status = every_text(rt.alloc(), &mut reader, &mut printed)?;
+        let status = every_text(rt.alloc(), &mut reader, &mut printed, &mut io::sink())?;
         assert!(rt; status == want_status, "{name}");
         assert!(rt; printed.as_slice() == want.as_bytes(), "{name}");
     }
+    Ok(())
+}
+
+// ---- lives in which each device call fails once, and each read
+
+// What comes of each failure within the one life of a script.
+fn failures(alloc: Global, script: &[u8]) -> io::Result<Counts> {
+    let Ok(script) = StoreScript::parse(alloc, script) else {
+        return Ok(Counts::default());
+    };
+    let StoreScript {
+        log: _log,
+        mut lives,
+    } = script;
+    let Some(life) = lives.pop() else {
+        return Ok(Counts::default());
+    };
+    Ok(every_failure(alloc, life)?)
+}
+
+#[test]
+fn a_failure_within_one_insert_is_told(rt: HostRuntime) -> Result<(), Fail> {
+    let script = b"life\nbegin\ninsert 1 a 7\ncommit 1\nbegin\ndelete 2 a\nflush 1\nforce\n";
+    let counts = failures(rt.alloc(), script.as_slice())?;
+    assert!(rt; counts.stops >= 96, "{}", counts.stops);
+    assert!(rt; counts.bad == 0, "{}", counts.bad);
+    Ok(())
+}
+
+// The root splits, and a leaf goes out of the tree.
+#[test]
+fn a_failure_within_structure_changes_is_told(rt: HostRuntime) -> Result<(), Fail> {
+    let alloc = rt.alloc();
+    let mut script = Vec::new(alloc);
+    write!(script, "life\nbegin\n")?;
+    inserts(&mut script, 1, 100, 116)?;
+    write!(script, "commit 1\nbegin\n")?;
+    deletes(&mut script, 2, 100, 107)?;
+    write!(script, "commit 2\n")?;
+    let counts = failures(alloc, &script)?;
+    assert!(rt; counts.stops >= 96, "{}", counts.stops);
+    assert!(rt; counts.bad == 0, "{}", counts.bad);
     Ok(())
 }

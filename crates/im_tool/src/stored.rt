@@ -2,7 +2,7 @@ use im_drill::drill_text;
 use std::test::Fail;
 
 // Scripts with what they print and their exit statuses, word for word.
-const STORED: [(&str, &str, &str, u8); 24] = [
+const STORED: [(&str, &str, &str, u8); 28] = [
     (
         "bad_line_is_named",
         "raw\nputt 61\n",
@@ -145,6 +145,30 @@ const STORED: [(&str, &str, &str, u8); 24] = [
         "log_cut_to_79_bytes",
         "set log 014152494553494d3100001000000000000000000000000000000000000000010000004c0000002b010000000000000001000000000000000000000000000000000000000101610000000000000007\nlife\n",
         "open refused 11\nfinal refused 11\n",
+        0,
+    ),
+    (
+        "failed_first_length_call",
+        "life failread 1\nlife\n",
+        "open refused 8\nopen ok 6\nfinal 0\n",
+        0,
+    ),
+    (
+        "failed_gate_write_00",
+        "life fail 9\nbegin\ninsert 1 a 7\ncommit 1\nbegin\nstop end long 00\n",
+        "open ok 6\nstarted 1\ninserted\nrefused 8\nrefused 10\nfinal 0\n",
+        0,
+    ),
+    (
+        "failed_gate_write_01",
+        "life fail 9\nbegin\ninsert 1 a 7\ncommit 1\nbegin\nstop end long 01\n",
+        "open ok 6\nstarted 1\ninserted\nrefused 8\nrefused 10\nfinal 1\n61 7\n",
+        0,
+    ),
+    (
+        "max_above_32_bits",
+        "life max 4294967296\nbegin\n",
+        "open ok 6\nstarted 1\nfinal 0\n",
         0,
     ),
 ];

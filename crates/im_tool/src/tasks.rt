@@ -10,7 +10,7 @@ use crate::progress::Progress;
 use crate::recovered::{Copies, copies_of, entries_of};
 use crate::store::print_refused_opening;
 use crate::transfer::{Loaded, dump_text, load_text};
-use im_disk::FileDisk;
+use im_disk::{FileDisk, OpenError};
 use im_types::Fault;
 use std::io;
 use std::io::{BufReader, BufWriter, IsTerminal, Write};
@@ -26,7 +26,7 @@ pub(crate) fn look_program(rt: &HostRuntime, dir: &str, task: Task) -> io::Resul
         Ok(disk) => disk,
         Err(error) => {
             print_refused_opening(&mut writer, error.fault())?;
-            tell_unopened(rt, dir, &error);
+            tell_unread(rt, dir, &error);
             return Ok(1);
         }
     };
@@ -42,6 +42,14 @@ pub(crate) fn look_program(rt: &HostRuntime, dir: &str, task: Task) -> io::Resul
     };
     writer.flush()?;
     Ok(status)
+}
+
+// Says on standard error why a store is not looked at. No folder is made for that.
+fn tell_unread(rt: &HostRuntime, dir: &str, error: &OpenError) {
+    match error {
+        OpenError::NoFolder(_) => tell(rt, dir, &"there is no such folder"),
+        _ => tell_unopened(rt, dir, error),
+    }
 }
 
 fn refused<W: Write>(rt: &HostRuntime, dir: &str, writer: &mut W, fault: Fault) -> io::Result<u8>

@@ -1,0 +1,39 @@
+-- What a life answers in which one device call, read or length call failed.
+use Rattle.std.specs.Prelude.{◌≡◌, ◌≢◌, ◌⊎◌, ◌||◌, Bool, true, false, List, [], ◌∷◌}
+use Rattle.im_types.specs.declared.fault.Fault.TheVariants as faults
+use Rattle.im_types.specs.declared.reply.Reply.TheVariants as said
+use Rattle.im_drill.specs.declared.life_answers.Opening.TheVariants as openings
+use Rattle.im_drill.specs.declared.store_answers.StoreAnswers.{StoreAnswers}
+use Rattle.im_drill.specs.declared.store_answers.StoreReply.{StoreReply}
+use Rattle.im_drill.specs.declared.store_answers.StoreReply.TheVariants as replies
+
+-- whether a line is refused by the device
+abbrev pub is_by_device : StoreReply → Bool
+is_by_device (replies.Step (said.Refused faults.Device)) = true
+is_by_device (replies.Refused faults.Device) = true
+is_by_device _ = false
+
+-- Whether an engine that has failed answers so: it refuses all, and its device calls can still be counted.
+abbrev pub is_behind_failure : StoreReply → Bool
+is_behind_failure (replies.Calls n) = true
+is_behind_failure (replies.Step (said.Refused faults.Failed)) = true
+is_behind_failure (replies.Refused faults.Failed) = true
+is_behind_failure _ = false
+
+-- Until a device call has failed a line has the reply that it has undisturbed, or is refused by the device; behind that, that of an engine which has failed.
+abbrev pub IsNext : Bool → StoreReply → StoreReply → Type 0
+IsNext true plain told = is_behind_failure told ≡ true
+IsNext false plain told = (is_by_device told ≡ true) ⊎ (told ≡ plain)
+
+-- Each line has such a reply in turn; the first refusal by the device says that a call has failed.
+abbrev pub AreDisturbed : Bool → List StoreReply → List StoreReply → Type 0
+AreDisturbed failed [] [] = Unit {0}
+AreDisturbed failed [] (told ∷ others) = ⊥
+AreDisturbed failed (plain ∷ rest) [] = ⊥
+AreDisturbed failed (plain ∷ rest) (told ∷ others) = IsNext failed plain told × AreDisturbed (failed || is_by_device told) rest others
+
+-- The opening was refused by the device, and no line has a reply; or it is as undisturbed, and the lines' replies are such.
+abbrev pub IsDisturbed : StoreAnswers → StoreAnswers → Type 0
+IsDisturbed plain told =
+    ((told.opening ≡ openings.Refused faults.Device) × (told.replies.items ≡ []))
+    ⊎ ((told.opening ≢ openings.Refused faults.Device) × (told.opening ≡ plain.opening) × AreDisturbed false plain.replies.items told.replies.items)
