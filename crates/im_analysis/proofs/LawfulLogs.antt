@@ -1,5 +1,5 @@
 -- Each record of a lawful log may stand where it stands.
-use Rattle.std.proofs.Common.{◌≡◌, ◌≢◌, ◌≤◌, ◌<◌, ℕ, [], ◌∷◌, true, false, inl, inr, refl, sym, ◌∙◌, ap, subst, arith}
+use Rattle.std.proofs.Common.{◌≡◌, ◌≢◌, ◌≤◌, ◌<◌, [], ◌∷◌, false, inl, inr, refl, ◌∙◌, ap, subst, arith}
 use Rattle.im_types.specs.Records.{What, InsertKey, DeleteKey, UndoInsert, UndoDelete, Smo, UndoSmo, DummyClr, Commit, End, Image, Checkpoint, Unreadable, Logged}
 use Rattle.im_types.specs.Tree.{Tree}
 use Rattle.im_types.specs.Histories.{History, Base, IsRecordOf, Rises, end_of}
@@ -9,7 +9,6 @@ use Rattle.im_types.specs.Lawful.{IsLawful, IsNewIn, MayCome, has_owner}
 use Rattle.im_types.proofs.Fronts.{rises}
 use Rattle.im_analysis.specs.OpenChange.{OpensAnother, IsOfAnother, IsSmo}
 use Rattle.im_analysis.specs.Analysis.{Continues}
-use Rattle.im_analysis.specs.Undo.{LawfulLogsAreTaken}
 
 -- no record stands behind the last
 pub low : (b : Base) (log : History) (s : Logged) → Rises b log → IsRecordOf s log → s.lsn ≤ end_of b log
@@ -47,7 +46,7 @@ module _ (b : Base) (tree : Tree) (older : History) (r : Logged) (law : IsLawful
           let may = subst (λ (x : What). MayCome b tree r older x) smo.2 law.1.may in
           other (subst (λ (l : History). IsNewIn r.txn r.page l) is may.new_in).0
 
-pub taken_when_lawful : (tree : Tree) → LawfulLogsAreTaken tree
+pub taken_when_lawful : (tree : Tree) (b : Base) (older : History) (r : Logged) → IsLawful b tree (r ∷ older) → Continues r older × (OpensAnother r older → ⊥)
 taken_when_lawful tree b older r law = (
   record {
     rises = λ s is. (let under : s.lsn ≤ end_of b older = low b older s (rises b tree older law.0) is in let last : end_of b older < r.lsn = law.1.rises in omega (arith, under, last));

@@ -8,3 +8,4 @@ pub mod Undoing
 pub mod LawfulLogs
 pub mod Readings
 pub mod Tables
+pub mod LeadingDown

@@ -1,14 +1,13 @@
 -- Who is a loser, and what a record more does to that.
-use Rattle.std.proofs.Common.{◌≡◌, ◌≢◌, ◌≤◌, ◌<◌, ℕ, [], ◌∷◌, Bool, true, false, not, ◌&&◌, ◌||◌, Option, None, Some, inl, inr, refl, sym, ◌∙◌, ap, subst, arith}
-use Rattle.std.specs.Prelude.{◌==◌, nat_le, if◌then◌else◌}
-use Rattle.std.proofs.lemmas.Bool.{cases_Bool, cases_eq, and_parts, and_from, not-true, not_from_true, not_from_false, or_right, eq-eqb, ne_eqb, le-leb, leb-true, cond-true, cond-false}
-use Rattle.im_types.specs.Records.{What, InsertKey, DeleteKey, UndoInsert, UndoDelete, Smo, UndoSmo, DummyClr, Commit, End, Image, Checkpoint, Unreadable, Logged}
+use Rattle.std.proofs.Common.{◌≡◌, ◌≢◌, ◌≤◌, ℕ, [], ◌∷◌, Bool, true, false, not, ◌&&◌, ◌||◌, inl, inr, sym, ◌∙◌, ap, subst}
+use Rattle.std.specs.Prelude.{◌==◌, nat_le}
+use Rattle.std.proofs.lemmas.Bool.{cases_Bool, and_parts, and_from, not-true, not_from_false, or_right, eq-eqb, ne_eqb, le-leb, leb-true, cond-true, cond-false}
+use Rattle.im_types.specs.Records.{Logged}
 use Rattle.im_types.specs.Tree.{Tree}
-use Rattle.im_types.specs.Histories.{History, Base, IsRecordOf, end_of, Rises}
+use Rattle.im_types.specs.Histories.{History, Base, IsRecordOf}
 use Rattle.im_types.specs.Transactions.{last_of, undo_next_of, undo_from, to_undo, stack_after, net, is_end, is_finished, committed, committed_after}
 use Rattle.im_types.specs.Lawful.{IsLawful, has_owner}
 use Rattle.im_types.specs.LogLaws.{AllFinished}
-use Rattle.im_analysis.specs.declared.rows.Loser.{Loser}
 use Rattle.im_analysis.specs.Losers.{has_record, is_loser, row_of}
 use Rattle.im_analysis.specs.Undo.{LeavesOthers}
 

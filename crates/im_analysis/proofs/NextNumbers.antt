@@ -1,14 +1,12 @@
 -- The next number, with one record more.
-use Rattle.std.proofs.Common.{◌≡◌, ◌≤◌, ◌<◌, ◌+◌, ℕ, List, [], ◌∷◌, inl, inr, refl, sym, ◌∙◌, ap, subst, arith}
+use Rattle.std.proofs.Common.{◌≡◌, ◌≤◌, ◌<◌, ◌+◌, ℕ, ◌∷◌, inl, inr, refl, sym, ◌∙◌, ap, subst, arith}
 use Rattle.std.specs.Prelude.{min, max, cond}
 use Rattle.std.specs.declared.cmp.Ordering.{Ordering}
 use Rattle.std.specs.declared.cmp.Ordering.TheVariants.{Less, Equal, Greater}
 use Rattle.std.specs.Ordering.{nat_cmp, is_lt, ord_max}
 use Rattle.std.proofs.lemmas.Cmp.{ranked}
 use Rattle.im_types.specs.Records.{What, InsertKey, DeleteKey, UndoInsert, UndoDelete, Smo, UndoSmo, DummyClr, Commit, End, Image, Checkpoint, Unreadable, Logged}
-use Rattle.im_types.specs.declared.tables.ActiveTransaction.{ActiveTransaction}
-use Rattle.im_types.specs.declared.tables.DirtyPage.{DirtyPage}
-use Rattle.im_types.specs.Histories.{History, IsRecordOf}
+use Rattle.im_types.specs.Histories.{History}
 use Rattle.im_analysis.specs.Records.{next_in}
 use Rattle.im_analysis.specs.Numbers.{IsNew, IsNextNumber}
 

@@ -1,10 +1,10 @@
 -- Reading on by undo_next: each record that is read is the transaction's, and stands before the one that led to it.
-use Rattle.std.proofs.Common.{◌≡◌, ◌≢◌, ◌⊎◌, ◌≤◌, ◌<◌, ℕ, [], ◌∷◌, Bool, true, false, Option, None, Some, inl, inr, refl, sym, ◌∙◌, ap, subst, arith}
+use Rattle.std.proofs.Common.{◌≡◌, ◌≢◌, ◌⊎◌, ◌≤◌, ◌<◌, ℕ, [], ◌∷◌, Bool, true, false, Option, inl, inr, refl, sym, ◌∙◌, ap, subst, arith}
 use Rattle.std.specs.Prelude.{◌==◌, nat_lt, if◌then◌else◌}
 use Rattle.std.proofs.lemmas.Bool.{cases_eq, eq-eqb, ne_eqb, cond-true, cond-false}
 use Rattle.im_types.specs.Records.{What, InsertKey, DeleteKey, UndoInsert, UndoDelete, Smo, UndoSmo, DummyClr, Commit, End, Image, Checkpoint, Unreadable, Logged}
 use Rattle.im_types.specs.Tree.{Tree}
-use Rattle.im_types.specs.Histories.{History, Base, IsRecordOf, end_of, Rises, below}
+use Rattle.im_types.specs.Histories.{History, Base, IsRecordOf, end_of, below}
 use Rattle.im_types.specs.Transactions.{last_of, undo_next_of, undo_from, undo_reads, reads_on}
 use Rattle.im_types.specs.Lawful.{IsLawful, Follows, MayCome, MayDummyClr, Undoes, has_owner}
 use Rattle.im_types.proofs.Chains.{closed_place, leads_all, undone_place}
@@ -61,7 +61,7 @@ module _ (b : Base) (tree : Tree) (r : Logged) (older : History) (law : IsLawful
       let inside : place.0 ≤ end_of b older = place.3 in let high : end_of b older < r.lsn = follows.rises in
       omega (arith, next, within, under, inside, high)
 
-  falls : (w : What) → r.what ≡ w → MayCome b tree r older w → leads_on w ≡ true → r.undo_next < r.lsn
+  pub falls : (w : What) → r.what ≡ w → MayCome b tree r older w → leads_on w ≡ true → r.undo_next < r.lsn
   falls (UndoInsert k i) is may on = falls_undone may.undoes
   falls (UndoDelete k i) is may on = falls_undone may.undoes
   falls (UndoSmo n) is may on = falls_undone may.undoes

@@ -1,19 +1,17 @@
 -- The table of the losers: what its rows say, and how it is kept along undo, beside Images that evictions append.
-use Rattle.std.proofs.Common.{◌≡◌, ◌≢◌, ◌⊎◌, ◌≤◌, ◌<◌, ◌+◌, ℕ, zero, suc, [], ◌∷◌, ◌++◌, length, Bool, true, false, Option, None, Some, inl, inr, refl, sym, ◌∙◌, ap, subst, arith}
+use Rattle.std.proofs.Common.{◌≡◌, ◌≢◌, ◌⊎◌, ◌<◌, ◌+◌, ℕ, zero, suc, [], ◌∷◌, ◌++◌, length, true, false, Option, None, Some, inl, inr, refl, sym, ◌∙◌, ap, arith}
 use Rattle.std.specs.Prelude.{cond, if◌then◌else◌}
 use Rattle.std.specs.declared.cmp.Ordering.{Ordering}
 use Rattle.std.specs.declared.cmp.Ordering.TheVariants.{Less, Equal, Greater}
 use Rattle.std.specs.Ordering.{nat_cmp, is_eq}
 use Rattle.std.specs.BTreeMap.{get, is_at}
-use Rattle.std.proofs.lemmas.Bool.{cases_Bool, cases_eq, cond-true, cond-false}
+use Rattle.std.proofs.lemmas.Bool.{cases_Bool, cond-true, cond-false}
 use Rattle.std.proofs.lemmas.Cmp.{ranked}
 use Rattle.std.proofs.lemmas.Map.Lookups.{exact_unsigned}
 use Rattle.im_types.specs.Records.{Logged}
 use Rattle.im_types.specs.Tree.{Tree}
 use Rattle.im_types.specs.Histories.{History, Base}
 use Rattle.im_types.specs.Copies.{AreImages}
-use Rattle.im_types.specs.Structure.{open_smo}
-use Rattle.im_types.specs.Transactions.{last_of, undo_next_of, to_undo}
 use Rattle.im_types.proofs.Images.{lawful_images, images_to_undo, images_last, images_undo_next, images_open}
 use Rattle.im_analysis.specs.declared.rows.Loser.{Loser}
 use Rattle.im_analysis.specs.Losers.{LoserMap, AreLosers, is_loser, row_of}

@@ -6,7 +6,8 @@ use Rattle.im_types.specs.declared.fault.Fault.TheVariants.{Memory, NotAStore}
 use Rattle.im_types.specs.Records.{Logged}
 use Rattle.im_types.specs.Histories.{History}
 use Rattle.im_analysis.specs.declared.analysis.Analysis.{Analysis}
-use Rattle.im_analysis.specs.OpenChange.{OpensAnother}
+use Rattle.im_analysis.specs.OpenChange.{IsOpenChange, OpensAnother}
+use Rattle.im_analysis.specs.Orderly.{FitKept, LeadsDown}
 use Rattle.im_analysis.specs.Analysis.{IsAnalysed, TakeKept}
 
 module _ (low : ℕ) (older : History) (r : Logged) (opens : Bool) (tells : IsTrue opens ↔ OpensAnother r older) (new : Analysis) where
@@ -25,3 +26,22 @@ module _ (low : ℕ) (older : History) (r : Logged) (opens : Bool) (tells : IsTr
 
   pub taken : opens ≡ false → IsAnalysed low (r ∷ older) new → TakeKept low older r new (Ok tt)
   taken shut is = record { ok = is; refused = ((λ e. absurd (cc e)), λ another. absurd (not_open shut another)) }
+
+-- on any records
+
+module _ (older : History) (r : Logged) (new : Analysis) where
+  pub unfit_up : (down : Bool) → IsTrue down ↔ LeadsDown r → down ≡ false → FitKept older r new (Err NotAStore)
+  unfit_up down tells up = record { ok = tt; refused = λ e fits. (let clash : true ≡ false = sym (tells.1 fits.leads) ∙ up in cc clash) }
+
+  pub unfit_beside : (opens : Bool) → IsTrue opens ↔ OpensAnother r older → opens ≡ true → FitKept older r new (Err NotAStore)
+  unfit_beside opens tells wide = record { ok = tt; refused = λ e fits. fits.alone (tells.0 wide) }
+
+  pub fit_failed : (result : Result Unit Fault) → IsErr result → IfErr result (λ e. e ≡ Memory) → FitKept older r new result
+  fit_failed (Ok u) err memory = absurd (cc err)
+  fit_failed (Err e) err memory = record { ok = tt; refused = λ is fits. (let same : e ≡ NotAStore = cc is in let clash : Memory ≡ NotAStore = sym memory ∙ same in cc clash) }
+
+  pub fit_taken : (down opens : Bool) → IsTrue down ↔ LeadsDown r → IsTrue opens ↔ OpensAnother r older → down ≡ true → opens ≡ false → IsOpenChange new.open_change.items (r ∷ older) → FitKept older r new (Ok tt)
+  fit_taken down opens leads tells falls shut is = record {
+    ok = (record { leads = leads.0 falls; alone = λ another. (let clash : true ≡ false = sym (tells.1 another) ∙ shut in cc clash) }, is);
+    refused = λ e. absurd (cc e);
+  }

@@ -1,18 +1,18 @@
 -- The records of undo may come next, and what they leave.
-use Rattle.std.proofs.Common.{◌≡◌, ◌≢◌, ◌≤◌, ◌<◌, ◌+◌, ℕ, suc, [], ◌∷◌, ◌++◌, length, Bool, true, false, inl, inr, refl, sym, ◌∙◌, ap, subst, arith}
+use Rattle.std.proofs.Common.{◌≡◌, ◌≤◌, ◌+◌, ℕ, suc, [], ◌∷◌, ◌++◌, length, true, false, inl, inr, refl, sym, ◌∙◌, ap, subst, arith}
 use Rattle.std.proofs.lemmas.Bool.{cases_Bool}
 use Rattle.im_types.specs.Pages.{Body}
 use Rattle.im_types.specs.Records.{What, InsertKey, DeleteKey, UndoInsert, UndoDelete, Smo, UndoSmo, DummyClr, Commit, End, Image, Checkpoint, Unreadable, Logged}
 use Rattle.im_types.specs.Tree.{Tree, TreeLaws}
-use Rattle.im_types.specs.Histories.{History, Base, IsRecordOf, end_of, page_at}
+use Rattle.im_types.specs.Histories.{History, Base, IsRecordOf, page_at}
 use Rattle.im_types.specs.Structure.{open_smo, open_after, settled, taken_back}
 use Rattle.im_types.specs.Transactions.{last_of, to_undo, stack_after, rest_of, undo_from, net, is_end, is_finished, committed, committed_after}
 use Rattle.im_types.specs.Lawful.{IsLawful, Follows, IsOutside, IsNotIn, MayCome, has_owner}
-use Rattle.im_types.specs.LogLaws.{bodies, HoldsCommitted}
+use Rattle.im_types.specs.LogLaws.{bodies}
 use Rattle.im_types.proofs.LogLaws.{logs_stay_lawful, on_top, finished_none, finished_tree}
 use Rattle.im_types.proofs.Compensated.{in_log}
-use Rattle.im_analysis.specs.Losers.{is_loser, row_of}
-use Rattle.im_analysis.specs.Undo.{left_of, left_below, IsUndoable, IsNext, ComesTo, IsLinked, TakesBack, Compensates, Ends, UndoesPage, LeavesOthers, TakesOff, HasEnded, UndoGoesOn}
+use Rattle.im_analysis.specs.Losers.{is_loser}
+use Rattle.im_analysis.specs.Undo.{left_of, IsUndoable, IsNext, IsLinked, TakesBack, UndoesPage, LeavesOthers, TakesOff, HasEnded, UndoGoesOn}
 use Rattle.im_analysis.proofs.Losers.{loser_number, loser_unfinished, own_stack, own_row, still_loser, loser_ends, leaves_others, numbered, has_its_record, loser_from, all_done}
 use Rattle.im_analysis.proofs.Lefts.{left_loser, left_none, one_less}
 use Rattle.im_analysis.proofs.Nexts.{comes_to}

@@ -5,3 +5,4 @@ pub mod OpenChange
 pub mod Records
 pub mod Analysis
 pub mod Undo
+pub mod Orderly

@@ -1,6 +1,6 @@
 -- What single records say to analysis.
-use Rattle.std.specs.Prelude.{ℕ, Bool, true, false, Option, None, Some}
-use Rattle.im_types.specs.Records.{What, Smo, UndoSmo, Image, Checkpoint, Logged}
+use Rattle.std.specs.Prelude.{ℕ, Option, None, Some}
+use Rattle.im_types.specs.Records.{What, Smo, UndoSmo, Image, Checkpoint}
 
 -- the page of which a record holds a full copy
 abbrev pub copied_page : ℕ → What → Option ℕ

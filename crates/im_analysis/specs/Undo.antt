@@ -8,10 +8,9 @@ use Rattle.im_types.specs.Structure.{open_smo}
 use Rattle.im_types.specs.Transactions.{last_of, undo_next_of, to_undo, undo_reads, reads_on, is_key, committed}
 use Rattle.im_types.specs.Lawful.{IsLawful}
 use Rattle.im_types.specs.LogLaws.{bodies, HoldsCommitted}
-use Rattle.im_analysis.specs.declared.rows.Loser.{Loser}
 use Rattle.im_analysis.specs.Losers.{is_loser, row_of}
-use Rattle.im_analysis.specs.OpenChange.{OpensAnother}
 use Rattle.im_analysis.specs.Analysis.{Continues}
+use Rattle.im_analysis.specs.Orderly.{FitsBehind}
 
 -- ---- what is left
 
@@ -142,4 +141,4 @@ pub record UndoGoesOn (tree : Tree) : Type 0 where
 
 -- Each record of a lawful log is taken by analysis, and never refused as no store.
 abbrev pub LawfulLogsAreTaken : Tree → Type 0
-LawfulLogsAreTaken tree = (b : Base) (older : History) (r : Logged) → IsLawful b tree (r ∷ older) → Continues r older × (OpensAnother r older → ⊥)
+LawfulLogsAreTaken tree = (b : Base) (older : History) (r : Logged) → IsLawful b tree (r ∷ older) → Continues r older × FitsBehind r older

@@ -1,5 +1,6 @@
 //! The pass over the records.
 
+use crate::chains::leads_down;
 use crate::notes::{note, since};
 use crate::numbers::{next_after, point_after};
 use crate::open_change::{make_room, note_open, opens_another};
@@ -35,14 +36,18 @@ pub struct Analysed {
 }
 
 impl Analysis {
-    ghost use Rattle.std.specs.Prelude.{◌≡◌, ◌⊎◌, ℕ, [], ◌∷◌, OnErr, IfErr};
+    ghost use Rattle.std.specs.Prelude.{◌≡◌, ◌≢◌, ◌⊎◌, ℕ, [], ◌∷◌, OnErr, IfErr};
     ghost use Rattle.im_types.specs.declared.fault.Fault.TheVariants.{Memory, NotAStore};
+    ghost use Rattle.im_types.specs.Records.{Unreadable};
     ghost use Rattle.im_types.specs.Histories.{History};
     ghost use Rattle.im_types.specs.RedoPoints.{redo_point};
     ghost use Rattle.im_record.specs.Entry.{view};
     ghost use Rattle.im_log.specs.Spelled.{logged_at};
+    ghost use Rattle.im_log.specs.Whats.{what_of};
     ghost use Rattle.im_analysis.specs.Numbers.{IsNextNumber};
     ghost use Rattle.im_analysis.specs.Analysis.{Continues, IsAnalysed, TakeKept, IsUnchanged, IsAnalysis};
+    ghost use Rattle.im_analysis.specs.OpenChange.{IsOpenChange};
+    ghost use Rattle.im_analysis.specs.Orderly.{FitKept, LeadsDown};
 
     /// Before the first record of a log whose transaction numbers begin at this one.
     pub fn new(alloc: Global, least: TxnId) -> Self
@@ -77,14 +82,19 @@ impl Analysis {
 
     /// Takes the next record of the log.
     ///
-    /// Refused `NotAStore` where a structure change opens while another transaction's is open, and `Memory`; then
-    /// nothing is changed.
+    /// Refused `NotAStore` where a structure change opens while another transaction's is open, or the record names its own LSN or a later
+    /// one as its transaction's, and `Memory`; then nothing is changed.
     pub fn take(&mut self, lsn: Lsn, record: &Record) -> Result<(), Fault>
-        ensures kept { (least : ℕ) (older : History) → IsAnalysed least older self.old → Continues (logged_at lsn (view record.now)) older
+        ensures kept { (least : ℕ) (older : History) → IsAnalysed least older self.old → Continues (logged_at lsn (view record.now)) older → LeadsDown (logged_at lsn (view record.now))
             → TakeKept least older (logged_at lsn (view record.now)) self.new result }
+        ensures fits { (older : History) → IsOpenChange self.old.open_change.items older → what_of (view record.now) ≢ Unreadable
+            → FitKept older (logged_at lsn (view record.now)) self.new result }
         ensures same { OnErr result (IsUnchanged self.old self.new) }
         ensures causes { IfErr result (λ e. (e ≡ Memory) ⊎ (e ≡ NotAStore)) }
     {
+        if !leads_down(lsn, record) {
+            return Err(Fault::NotAStore);
+        }
         if opens_another(&self.open_change, record) {
             return Err(Fault::NotAStore);
         }

@@ -6,8 +6,9 @@
 //!
 //! The contract: each of these is exactly what the definitions over logs say of the records that were taken
 //! (`IsAnalysed`, `IsAnalysis`), as long as each record may stand there (`Continues`), as it may in every lawful
-//! log. `take` is refused `NotAStore` just where a structure change opens while another transaction's is open, and
-//! `Memory`, and then changes nothing; it takes any record.
+//! log. `take` is refused `NotAStore` just where a structure change opens while another transaction's is open, or a
+//! record names its own LSN or a later one as its transaction's (`FitsBehind`), also in a log that is not lawful, and
+//! `Memory`; then it changes nothing.
 //!
 //! `laws` has what undo lives by, for every tree of pages: what the losers' chains lead to, which records may come
 //! next and what they leave, and that the tree holds the committed map alone once no loser is left.
@@ -16,6 +17,7 @@
 #![tactic(auto)]
 
 mod analysis;
+mod chains;
 pub mod laws;
 mod notes;
 mod numbers;

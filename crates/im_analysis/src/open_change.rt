@@ -1,13 +1,14 @@
 //! The structure change that the records so far leave open.
 
-ghost use Rattle.std.specs.Prelude.{◌≡◌, ℕ, ◌<◌, ◌↔◌, ◌∷◌, IsTrue, OnOk, IfErr, vec_len};
+ghost use Rattle.std.specs.Prelude.{◌≡◌, ◌≢◌, ℕ, ◌<◌, ◌↔◌, ◌∷◌, IsTrue, OnOk, IfErr, vec_len};
 ghost use Rattle.std.specs.Vec.{vec_capacity};
 ghost use Rattle.im_types.specs.declared.fault.Fault.TheVariants.{Memory};
+ghost use Rattle.im_types.specs.Records.{Unreadable};
 ghost use Rattle.im_types.specs.Histories.{History};
 ghost use Rattle.im_record.specs.Entry.{view};
 ghost use Rattle.im_log.specs.Spelled.{logged_at};
+ghost use Rattle.im_log.specs.Whats.{what_of};
 ghost use Rattle.im_analysis.specs.OpenChange.{IsOpenChange, OpensAnother};
-ghost use Rattle.im_analysis.specs.Analysis.{Continues};
 
 use crate::rows::OpenRecord;
 use im_record::Record;
@@ -15,7 +16,7 @@ use im_types::{Fault, Lsn};
 
 /// Whether the record opens a structure change while another transaction's is open.
 pub fn opens_another(rows: &[OpenRecord], record: &Record) -> bool
-    ensures { (lsn : ℕ) (older : History) → IsOpenChange rows.now older → Continues (logged_at lsn (view record.now)) older
+    ensures { (lsn : ℕ) (older : History) → IsOpenChange rows.now older → what_of (view record.now) ≢ Unreadable
         → IsTrue result ↔ OpensAnother (logged_at lsn (view record.now)) older }
 {
     match record {
@@ -51,7 +52,7 @@ pub fn make_room(rows: &mut Vec<OpenRecord>) -> Result<(), Fault>
 /// Notes the record: one of a structure change joins the open one, an undo takes off the newest, an end closes it.
 pub fn note_open(rows: &mut Vec<OpenRecord>, lsn: Lsn, record: &Record)
     requires room { vec_len rows.old < vec_capacity rows.old }
-    ensures { (older : History) → IsOpenChange rows.old.items older → Continues (logged_at lsn (view record.now)) older
+    ensures { (older : History) → IsOpenChange rows.old.items older → what_of (view record.now) ≢ Unreadable
         → IsOpenChange rows.new.items (logged_at lsn (view record.now) ∷ older) }
 {
     match record {

@@ -121,6 +121,22 @@ fn images_behind_an_unfinished_insert(rt: HostRuntime) -> Result<(), Fail> {
 }
 
 #[test]
+fn a_record_that_leads_up_is_refused(rt: HostRuntime) -> Result<(), Fail> {
+    let alloc = rt.alloc();
+    let mut analysis = Analysis::new(alloc, 1);
+    assert_eq!(rt; analysis.take(36, &insert(1, 36)), Err(Fault::NotAStore));
+    assert_eq!(rt; analysis.next(), 1);
+    analysis.take(36, &insert(1, 0))?;
+    let undo = Record::DummyClr {
+        transaction: 1,
+        prev: 36,
+        undo_next: 79,
+    };
+    assert_eq!(rt; analysis.take(79, &undo), Err(Fault::NotAStore));
+    Ok(())
+}
+
+#[test]
 fn a_checkpoint_under_way(rt: HostRuntime) -> Result<(), Fail> {
     let alloc = rt.alloc();
     let mut analysis = Analysis::new(alloc, 1);

@@ -25,8 +25,8 @@ use Rattle.im_log.specs.Kept.{HasLog}
 use Rattle.im_log.proofs.Creations.{blank_has, not_both}
 use Rattle.im_log.proofs.Runs.{of_log}
 use Rattle.im_analysis.specs.Analysis.{Continues}
-use Rattle.im_analysis.specs.OpenChange.{OpensAnother}
-use Rattle.im_analysis.proofs.LawfulLogs.{taken_when_lawful}
+use Rattle.im_analysis.specs.Orderly.{FitsBehind, IsOrderly, IsReadable}
+use Rattle.im_analysis.proofs.LeadingDown.{logs_are_taken}
 use Rattle.im_restart.specs.Restart.{IsFresh, SpellsLog}
 
 -- a log that was made has no record, and starts where the unmade one would
@@ -62,13 +62,13 @@ pub same_entry : (read : Option Entry) (some other : Entry) → read ≡ Some so
 same_entry read some other first second = let e : Some some ≡ Some other = sym first ∙ second in cc e
 
 -- a record of a lawful log may come where it comes
-pub continues : (b : Base) (tree : Tree) (all older : History) (r : Logged) → IsLawful b tree all → IsFront (r ∷ older) all → Continues r older × (OpensAnother r older → ⊥)
-continues b tree all older r law front = taken_when_lawful tree b older r (fronts_lawful b tree (r ∷ older) all front law)
+pub continues : (b : Base) (tree : Tree) (all older : History) (r : Logged) → IsLawful b tree all → IsFront (r ∷ older) all → Continues r older × FitsBehind r older
+continues b tree all older r law front = logs_are_taken tree b older r (fronts_lawful b tree (r ∷ older) all front law)
 
 -- the next record of a lawful log, as it was decoded
 pub next_read : {D : Type 0} (d : Ghosts D) (b : Base) (base : ℕ) (tree : Tree) (all older : History) (lsn : ℕ) (entry said : Entry) (new : Opening) (disk : D) → entry ≡ said → IsLawful b tree all → IsFront (logged_at lsn entry ∷ older) all
     → IsOpening d base all (logged_at lsn entry ∷ older) new disk
-    → Continues (logged_at lsn said) older × (OpensAnother (logged_at lsn said) older → ⊥) × IsOpening d base all (logged_at lsn said ∷ older) new disk
+    → Continues (logged_at lsn said) older × FitsBehind (logged_at lsn said) older × IsOpening d base all (logged_at lsn said ∷ older) new disk
 next_read d b base tree all older lsn entry said new disk same law front opening =
     let is = subst (λ (e : Entry). IsFront (logged_at lsn e ∷ older) all × IsOpening d base all (logged_at lsn e ∷ older) new disk) same (front, opening) in
     let next = continues b tree all older (logged_at lsn said) law is.0 in
@@ -85,9 +85,10 @@ made_known files made fresh = not_both (files Log) made fresh.0
 
 -- an opening that did not make the log read all of it
 pub spelled_so : {D T : Type 0} (d : Ghosts D) (old mid : D) (opening : Opening) (result : Result T Fault) → (d.tells → IsFresh (d.seen old) ⊎ IsMade (d.seen old Log)) → (d.tells → ¬ (IsFresh (d.seen old)) → Reads d old mid)
-    → (d.tells → HasRead d (base_of (d.seen mid Log)) [] opening mid) → IfOk result (λ _. (base : ℕ) → HasRead d base [] opening mid → (found : History) × HasLog base found (d.seen mid Log)) → IfOk result (λ _. d.tells → SpellsLog (d.seen old))
+    → (d.tells → HasRead d (base_of (d.seen mid Log)) [] opening mid) → IfOk result (λ _. (base : ℕ) → HasRead d base [] opening mid → (found : History) × HasLog base found (d.seen mid Log) × (IsReadable found → IsOrderly found))
+    → IfOk result (λ _. d.tells → SpellsLog (d.seen old))
 spelled_so d old mid opening (Err e) store reads start spelled = tt
 spelled_so d old mid opening (Ok x) store reads start spelled = λ told. elim (store told) [
   | inl fresh ↦ inl fresh
-  | inr made ↦ let s = spelled (base_of (d.seen mid Log)) (start told) in inr (s.0, subst (λ (f : Files). HasLog (base_of (f Log)) s.0 (f Log)) (reads told (made_known (d.seen old) made)).seen s.1)
+  | inr made ↦ let s = spelled (base_of (d.seen mid Log)) (start told) in inr (s.0, subst (λ (f : Files). HasLog (base_of (f Log)) s.0 (f Log)) (reads told (made_known (d.seen old) made)).seen s.1, s.2)
 ]

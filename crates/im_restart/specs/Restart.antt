@@ -19,6 +19,7 @@ use Rattle.im_flush.specs.PageWriter.{StandsAs}
 use Rattle.im_tree.specs.Theory.{page_tree}
 use Rattle.im_analysis.specs.Losers.{is_loser}
 use Rattle.im_analysis.specs.Numbers.{IsNextNumber}
+use Rattle.im_analysis.specs.Orderly.{IsOrderly, IsReadable}
 use Rattle.im_redo.specs.Redo.{applied_in, first_lsn}
 use Rattle.im_restart.specs.declared.redo_report.RedoReport.{RedoReport}
 use Rattle.im_restart.specs.declared.restarted.Restarted.{Restarted}
@@ -34,9 +35,10 @@ pub record IsReport (b : Base) (all : History) (file : ℕ → Option Page) (r :
 abbrev pub IsFresh : Files → Type 0
 IsFresh files = IsUnmade (files Log) × (length (files Pages) ≡ 0)
 
--- No store was made yet, or the log's bytes spell a list of records to the last: a damaged log spells none.
+-- No store was made yet, or the log's bytes spell a list of records to the last: a damaged log spells none. Where each page image in it
+-- is a page, no record leads up, and none opens a structure change beside another's.
 abbrev pub SpellsLog : Files → Type 0
-SpellsLog files = IsFresh files ⊎ ((found : History) × HasLog (base_of (files Log)) found (files Log))
+SpellsLog files = IsFresh files ⊎ ((found : History) × HasLog (base_of (files Log)) found (files Log) × (IsReadable found → IsOrderly found))
 
 -- Less than 32,778 bytes are left below LSN 2^62 behind the log's file: a full buffer, the longest record, and what stands round them.
 abbrev pub IsFullLog : Files → Type 0

@@ -17,8 +17,9 @@
 //! 5. One **force**. Where nothing was appended it makes no device call, so an opening of a store with nothing to undo makes none;
 //!    a creation takes six, or four on a half-made log. No Checkpoint is taken.
 //!
-//! Each chain must lead to earlier records of its own transaction: this is tested record by record, so that restart ends on any
-//! bytes, and is refused `NotAStore` where it is not so. Memory is taken for the frames, a room of 16,384 bytes, and the tables.
+//! Each chain must lead to earlier records of its own transaction. That it leads to earlier ones is tested as the records are read, before
+//! anything is written, and that it is its own transaction's record by record in undo: so restart ends on any bytes, and is refused
+//! `NotAStore` where it is not so. Memory is taken for the frames, a room of 16,384 bytes, and the tables.
 //!
 //! # What is kept
 //!

@@ -17,6 +17,7 @@ ghost use Rattle.im_log.specs.Spelled.{logged_at};
 ghost use Rattle.im_log.specs.Kept.{HasLog, IsLogOf};
 ghost use Rattle.im_log.specs.LogFile.{IsOpen};
 ghost use Rattle.im_log.specs.Opening.{IsBegun, IsOpening, HasRead};
+ghost use Rattle.im_analysis.specs.Orderly.{IsOrderly, IsReadable};
 ghost use Rattle.im_tree.specs.Theory.{page_tree};
 ghost use Rattle.im_redo.specs.Redo.{lsns_from};
 ghost use Rattle.im_restart.specs.Restart.{IsFresh, SpellsLog};
@@ -114,7 +115,7 @@ fn read_all<D: Disk>(
     ensures usable { IfOk result (λ found. found.log.failed ≡ false) }
     ensures kept { (b : Base) (base : ℕ) (all : History) → IsOpening D.Disk base all [] opening disk.old → IsLawful b page_tree all → least ≡ least_number (D.seen disk.old Log) → 1 ≤ least
         → ReadKept D.Disk base all disk.new result }
-    ensures spelled { IfOk result (λ _. (base : ℕ) → HasRead D.Disk base [] opening disk.old → (found : History) × HasLog base found (D.seen disk.old Log)) }
+    ensures spelled { IfOk result (λ _. (base : ℕ) → HasRead D.Disk base [] opening disk.old → (found : History) × HasLog base found (D.seen disk.old Log) × (IsReadable found → IsOrderly found)) }
     ensures causes { IfErr result (λ e. (e ≡ Memory) ⊎ (e ≡ Device) ⊎ (e ≡ NotAStore)) }
     ensures device { result ≡ Err Device ↔ (D.failed disk.new ≡ true) }
 {
@@ -142,7 +143,8 @@ fn read_all<D: Disk>(
 
 /// Opens a store's log, or makes one where there is none yet, and reads its records once.
 ///
-/// Refused `NotAStore` where the bytes are no log, a structure change opens beside another's, or there are pages without a log;
+/// Refused `NotAStore` where the bytes are no log, a structure change opens beside another's, a record leads to a later one, or there are
+/// pages without a log;
 /// `Memory`; `Device`.
 pub(crate) fn open_log<D: Disk>(alloc: Global, disk: &mut D) -> Result<Found, Fault>
     requires working { D.failed disk.old ≡ false }

@@ -1,5 +1,5 @@
-use Rattle.im_analysis.proofs.LawfulLogs.{taken_when_lawful}
+use Rattle.im_analysis.proofs.LeadingDown.{logs_are_taken}
 use Rattle.im_analysis.proofs.laws.lawful_logs_are_taken.Goals as goal
 
 pub returns : goal.returns
-returns g c = taken_when_lawful g.T.PageTree.tree
+returns g c = logs_are_taken g.T.PageTree.tree

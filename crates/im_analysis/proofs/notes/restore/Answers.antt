@@ -1,6 +1,6 @@
-use Rattle.std.proofs.Common.{◌≡◌, ℕ, Some, sym, ◌∙◌, cond}
+use Rattle.std.proofs.Common.{◌≡◌, Some}
 use Rattle.std.specs.Ordering.{nat_cmp}
-use Rattle.std.specs.BTreeMap.{get, is_at, Updates}
+use Rattle.std.specs.BTreeMap.{get, Updates}
 use Rattle.im_analysis.proofs.CopyLsns.{put_back, inserted}
 use Rattle.im_analysis.proofs.notes.restore.Goals as goal
 

@@ -1,4 +1,4 @@
-use Rattle.std.proofs.Common.{◌≡◌, ℕ, ◌≤◌, ◌+◌, ◌-◌, ◌^◌, ◌∷◌, sym, ◌∙◌, ap, arith}
+use Rattle.std.proofs.Common.{◌≡◌, ℕ, ◌≤◌, ◌+◌, ◌-◌, ◌^◌, ◌∙◌, ap, arith}
 use Rattle.std.specs.Prelude.{min, max}
 use Rattle.im_types.specs.Records.{Logged}
 use Rattle.im_record.specs.Entry.{view}

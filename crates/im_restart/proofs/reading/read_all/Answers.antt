@@ -26,12 +26,15 @@ loop-lsns-preserved g c = record {
       let said = view c.in_ok-record-in-Some.record in
       let same : n.entry ≡ said = same_entry _ n.entry said n.is c.in_ok-record-in-Some.ensures.record in
       let next = next_read g.D.Disk b base page_tree all h.0 c.in-Some.lsn n.entry said c.next.new.self c.next.new.disk same law n.front n.opening in
-      (logged_at c.in-Some.lsn said ∷ h.0, next.2, (c.in_ok-take-in-Some.ensures.kept c.args.least h.0 h.2 next.0).ok, c.in_ok-note_change-in-Some.ensures.kept h.0 next.0.readable h.3)
+      (logged_at c.in-Some.lsn said ∷ h.0, next.2, (c.in_ok-take-in-Some.ensures.kept c.args.least h.0 h.2 next.0 next.1.leads).ok, c.in_ok-note_change-in-Some.ensures.kept h.0 next.0.readable h.3)
       );
   back = λ base start.
       let h = c.loop-lsns.invariant.back base start in
-      let said = view c.in_ok-record-in-Some.record in
-      (logged_at c.in-Some.lsn said ∷ h.0, some_read g.D.Disk base h.0 c.next.new.self c.next.new.disk c.in_ok-next.field-0 c.in-Some.lsn said c.in-Some.is (c.in_ok-next.ensures.reads_on base h.0 h.1) c.in_ok-record-in-Some.ensures.record);
+      let said = view c.in_ok-record-in-Some.record in (
+        logged_at c.in-Some.lsn said ∷ h.0,
+        some_read g.D.Disk base h.0 c.next.new.self c.next.new.disk c.in_ok-next.field-0 c.in-Some.lsn said c.in-Some.is (c.in_ok-next.ensures.reads_on base h.0 h.1) c.in_ok-record-in-Some.ensures.record,
+        λ readable. (let rest = h.2 readable.1 in let fits = (c.in_ok-take-in-Some.ensures.fits h.0 rest.1 readable.0).ok in ((fits.0, rest.0), fits.1)),
+      );
 }
 
 pub returns-in_err-next-clause-kept : goal.returns-in_err-next-clause-kept
@@ -56,8 +59,8 @@ returns-in_err-take-in-Some-clause-kept g c b base all start law low some =
     let said = view c.in_ok-record-in-Some.record in
     let same : n.entry ≡ said = same_entry _ n.entry said n.is c.in_ok-record-in-Some.ensures.record in
     let next = next_read g.D.Disk b base page_tree all h.0 c.in-Some.lsn n.entry said c.next.new.self c.next.new.disk same law n.front n.opening in
-    let k = c.in_err-take-in-Some.ensures.kept c.args.least h.0 h.2 next.0 in
-    let other : c.in_err-take-in-Some.field-0.0 ≢ NotAStore = λ e. next.1 (k.refused.0 (ap Rattle.std.proofs.Common.Err e)) in
+    let k = c.in_err-take-in-Some.ensures.kept c.args.least h.0 h.2 next.0 next.1.leads in
+    let other : c.in_err-take-in-Some.field-0.0 ≢ NotAStore = λ e. next.1.alone (k.refused.0 (ap Rattle.std.proofs.Common.Err e)) in
     record { ok = search rules; cause = search (rules, other) }
 
 pub returns-clause-kept : goal.returns-clause-kept
@@ -83,4 +86,4 @@ returns-clause-spelled g c base start =
     let h = c.loop-lsns.invariant.back base start in
     let e = none_read g.D.Disk base h.0 c.next.new.self c.next.new.disk c.in_ok-next.field-0 c.in-None.is (c.in_ok-next.ensures.reads_on base h.0 h.1) in
     let seen = c.next.ensures.reads.seen ∙ c.loop-lsns.invariant.reads.seen in
-    (h.0, has_read g.D.Disk base h.0 c.next.new.self c.args.disk.now c.next.new.disk seen e)
+    (h.0, has_read g.D.Disk base h.0 c.next.new.self c.args.disk.now c.next.new.disk seen e, λ readable. (h.2 readable).0)
