@@ -14,7 +14,9 @@ use Rattle.im_disk.specs.declared.model_disk.ModelDisk.{ModelDisk}
 use Rattle.im_disk.specs.declared.stop.Stop.{Stop}
 use Rattle.im_disk.specs.Disk.{both}
 use Rattle.im_disk.specs.Model.{IsFresh, model_calls}
+use Rattle.im_disk.specs.Runs.{Reads}
 use Rattle.im_pool.specs.Pool.{page_at}
+use Rattle.im_restart.specs.Restart.{IsFullLog, SpellsLog}
 use Rattle.im_engine.specs.declared.config.Config.{Config}
 use Rattle.im_engine.specs.declared.header.Header.{Header}
 use Rattle.im_engine.specs.declared.engine.Engine.{Engine}
@@ -70,7 +72,8 @@ module _ (d : Ghosts ModelDisk) where
   AreLinesRun stop [] (told ∷ others) old new = ⊥
 
   -- What an engine that is opened with these options answers. It is refused only for want of memory, by the disk, because the files are no store,
-  -- for want of room in the log or of page numbers, or by the number of its frames, and by these exactly where they are too few or too many.
+  -- for want of room in the log or of page numbers, or by the number of its frames, and by these exactly where they are too few or too many. Where
+  -- the log's bytes are no log's it only reads and is never told that a log is full; that comes only where the log's file is full.
   pub record IsOpening (options : LifeOptions) (old : ModelDisk) (result : Result (Engine ModelDisk d) (Fault × ModelDisk)) : Type 0 where
     pub config : Config
     pub of : IsConfigOf options config
@@ -79,6 +82,9 @@ module _ (d : Ghosts ModelDisk) where
     pub frames : IsErrAnd result (λ x. x.0 ≡ PoolSize) ↔ ((config.frames < 8) ⊎ (1024 < config.frames))
     pub device : IsErrAnd result (λ x. x.0 ≡ Device) ↔ (d.failed (disk_of d result) ≡ true)
     pub causes : IfErr result (λ x. (x.0 ≡ PoolSize) ⊎ (x.0 ≡ Memory) ⊎ (x.0 ≡ Device) ⊎ (x.0 ≡ NotAStore) ⊎ (x.0 ≡ LogFull) ⊎ (x.0 ≡ Capacity))
+    pub spelled : IfOk result (λ e. d.tells → SpellsLog (d.seen old))
+    pub unspelled : d.tells → ¬ (SpellsLog (d.seen old)) → Reads d old (disk_of d result) × IfErr result (λ x. (x.0 ≡ PoolSize) ⊎ (x.0 ≡ Memory) ⊎ (x.0 ≡ Device) ⊎ (x.0 ≡ NotAStore))
+    pub full : IfErr result (λ x. x.0 ≡ LogFull → d.tells → IsFullLog (d.seen x.1))
 
   -- The answers of a life whose opening came out so: its number of device calls, and the replies of its lines; or why there is no engine, and no reply.
   abbrev pub AreAnswersOf : Option Stop → List StoreLine → StoreAnswers → ModelDisk → Result (Engine ModelDisk d) (Fault × ModelDisk) → Type 0

@@ -121,7 +121,8 @@ impl<D: Disk> Engine<D> {
     ///
     /// Refused `PoolSize`, with no device call, where the frames are not 8 to 1,024; `NotAStore` where the bytes are no store;
     /// `LogFull` only where the log's file then ends less than 32,778 bytes below LSN 2^62; `Capacity` where what is taken back needs
-    /// a page and page numbers or levels are used up; `Memory`; `Device`. Where the log's bytes are no log's nothing is written.
+    /// a page and page numbers or levels are used up; `Memory`; `Device`. Where the log's bytes are no log's, one of its records leads to a
+    /// later one, or one opens a structure change beside another's, nothing is written.
     pub fn open_or_create(alloc: Global, disk: D, config: Config) -> Result<Engine<D>, (Fault, D)>
         requires working { D.failed disk ≡ false }
         requires synced { IsSynced D.Disk disk }

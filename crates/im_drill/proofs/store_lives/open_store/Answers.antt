@@ -14,4 +14,7 @@ returns c =
       frames = e.frames;
       device = e.device;
       causes = e.causes;
+      spelled = e.spelled;
+      unspelled = e.unspelled;
+      full = e.full;
     }
