@@ -40,7 +40,8 @@ use Rattle.im_restart.specs.Restart.{IsLeftUndoing}
 use Rattle.im_restart.specs.LoserChains.{IsToUndo}
 use Rattle.im_restart.specs.Undoing.{Compensated, CompensateKept, IsUndoing}
 use Rattle.im_restart.proofs.Growth.{grows_front, grows_then}
-use Rattle.im_restart.proofs.Orders.{order_key}
+use Rattle.im_restart.specs.UndoOrder.{GoesFirst}
+use Rattle.im_restart.proofs.Orders.{order_key, order_left}
 use Rattle.im_restart.proofs.Others.{spares_key}
 
 -- ---- pages
@@ -121,8 +122,8 @@ answered_cause f answer memory others cause is = cause (sym (others (λ failed. 
 
 module _ {D : Type 0} (d : Ghosts D) (b : Base) (base : ℕ) (all : History) where
   -- what a stop leaves
-  pub left_key : (s : Writer) (t : ℕ) (old new : D) → IsUndoing b all s → is_loser t s.log ≡ true → LeavesUndo d b base s t old new → LeavesOnly d old new (IsLeftUndoing b base all)
-  left_key s t old new is loser stops =
+  pub left_key : (s : Writer) (t : ℕ) (old new : D) → IsUndoing b all s → is_loser t s.log ≡ true → GoesFirst t s.log → LeavesUndo d b base s t old new → LeavesOnly d old new (IsLeftUndoing b base all)
+  left_key s t old new is loser first stops =
       weakened d old new (LeftByUndo d b base s t) (IsLeftUndoing b base all) stops
       (λ told c by.
       let on = by.covered in
@@ -130,10 +131,14 @@ module _ {D : Type 0} (d : Ghosts D) (b : Base) (base : ℕ) (all : History) whe
         left = on.log.left;
         has = record { log = inr on.log.has; bare = λ unmade. absurd (not_both (c Log) on.log.has.made unmade); covers = on.pages };
         grown = grows_front all on.log.left by.high (grows_key all s.log by.high t is.grown loser by.grows) (front_then all s.durable on.log.left is.found on.log.longer) on.log.shorter;
+        order = order_left all s.log on.log.left by.high t is.order first by.grows (front_then all s.durable on.log.left is.found on.log.longer) on.log.shorter;
         lawful = fronts_lawful b page_tree on.log.left by.high on.log.shorter by.lawful;
       })
 
   module _ (s : Writer) (c : Chain) (said : Entry) (w : PageWriter) (old : D) (stands : StandsAs d b base s w old) (is : IsUndoing b all s) (to : IsToUndo s.log c said) where
+    goes_first : GoesFirst c.transaction s.log
+    goes_first = record { next = logged_at to.lsn said; rest = to.next.rest; stack = to.next.stack; latest = to.latest }
+
     going : IsGoing d b base s is.redo_end c.transaction c.last c.undo_next w old
     going = record {
       stands = stands;
@@ -160,7 +165,7 @@ module _ {D : Type 0} (d : Ghosts D) (b : Base) (base : ℕ) (all : History) whe
               can = goes.going.can;
               pages = going_page d b base now is.redo_end c.transaction last (prev_of said) x new goes.going;
             };
-            stops = left_key s c.transaction old new is to.loser goes.stops;
+            stops = left_key s c.transaction old new is to.loser goes_first goes.stops;
             on = growth.grown_front c.transaction s.log now.log goes.grows;
           };
           others = spares_key c.transaction s.log now.log goes.grows;
@@ -177,7 +182,7 @@ module _ {D : Type 0} (d : Ghosts D) (b : Base) (base : ℕ) (all : History) whe
         let k = subst (λ (u : ℕ). KeepsKey u x new result) same keeps is.redo_end going (record { lsn = to.lsn; next = to.next }) in
         record {
           ok = if_ok result (λ last. TakenBack d b base s is.redo_end c.transaction said last old x new) (λ last. Compensated d b base all s c.transaction (prev_of said) last old x new) k.ok (λ last back. done last x new back);
-          stops = left_key s c.transaction old new is to.loser k.stops;
+          stops = left_key s c.transaction old new is to.loser goes_first k.stops;
           cause = k.cause;
         }
 

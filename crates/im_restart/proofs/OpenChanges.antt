@@ -126,14 +126,14 @@ module _ {D : Type 0} (d : Ghosts D) (b : Base) (base : ℕ) (all : History) whe
   -- what a stop leaves
   pub taking_grown : (s : Writer) (old new : D) → IsTakingBack b all s → LeavesGrown d b base s old new → LeavesOnly d old new (IsLeftUndoing b base all)
   taking_grown s old new is grown =
-      left_covered d b base all s.durable grown.high old new grown.stops is.found (grows_images b all s.log grown.high is.grown grown.grows)
+      left_covered d b base all s.durable grown.high old new grown.stops is.found (grows_images b all s.log grown.high is.grown grown.grows) (order_images b all s.log grown.high is.order grown.grows)
       (subst (λ (l : History). IsLawful b page_tree l) (sym grown.grows.is) (lawful_images b page_tree grown.grows.images s.log grown.grows.all is.lawful))
 
   pub change_start : (s : Writer) (w : PageWriter) (disk : D) → ((c : Files) → d.left_since disk (d.moment disk) c → d.may_leave disk c) → StandsAs d b base s w disk → IsTakingBack b all s → ChangeGoes d b base all s disk s w disk
   change_start s w disk only_now stands is = record {
     stands = stands;
     taking = is;
-    stops = left_covered d b base all s.durable s.log disk disk (goes_start d b base s w.log w.table w.pool disk only_now stands.writing).stops is.found is.grown is.lawful;
+    stops = left_covered d b base all s.durable s.log disk disk (goes_start d b base s w.log w.table w.pool disk only_now stands.writing).stops is.found is.grown is.order is.lawful;
     on = front_none s.log;
   }
 

@@ -1,10 +1,11 @@
 -- The latest record first: what a log's order is behind calls.
-use Rattle.std.proofs.Common.{◌≡◌, ◌≢◌, ◌≤◌, ℕ, [], ◌∷◌, ◌++◌, length, Bool, true, false, inl, inr, refl, sym, ◌∙◌, ap, subst, append_assoc, arith}
+use Rattle.std.proofs.Common.{◌≡◌, ◌≢◌, ◌≤◌, ◌⊎◌, ℕ, [], ◌∷◌, ◌++◌, length, Bool, true, false, inl, inr, refl, sym, ◌∙◌, ap, subst, append_assoc, arith}
 use Rattle.std.specs.Prelude.{◌==◌}
+use Rattle.std.proofs.lemmas.List.{append_cancel_right}
 use Rattle.std.proofs.lemmas.Bool.{cases_eq, cond-true, cond-false, eq-eqb, ne_eqb}
 use Rattle.im_types.specs.Records.{What, InsertKey, DeleteKey, UndoInsert, UndoDelete, Smo, UndoSmo, DummyClr, Commit, End, Image, Checkpoint, Unreadable, Logged}
 use Rattle.im_types.specs.Tree.{Tree}
-use Rattle.im_types.specs.Histories.{Base, History}
+use Rattle.im_types.specs.Histories.{Base, History, IsFront}
 use Rattle.im_types.specs.Copies.{AreImages, GrowsByImages}
 use Rattle.im_types.specs.Transactions.{is_compensation, is_key, is_smo, stack_after, to_undo, without_smo}
 use Rattle.im_types.specs.Lawful.{IsLawful, MayCome}
@@ -16,7 +17,7 @@ use Rattle.im_analysis.proofs.Losers.{loser_number}
 use Rattle.im_undo.specs.Records as undone
 use Rattle.im_undo.specs.Records.{IsOfUndo, compensations, with_compensation}
 use Rattle.im_undo.proofs.Keeping.{undo_others}
-use Rattle.im_restart.specs.UndoOrder.{AreInOrder, IsInOrder, IsLatest, TakesBackLatest}
+use Rattle.im_restart.specs.UndoOrder.{AreInOrder, GoesFirst, IsInOrder, IsLatest, IsNearlyInOrder, TakesBackLatest}
 use Rattle.im_restart.proofs.Others.{spares_key}
 
 -- ---- records that are no compensations
@@ -255,3 +256,44 @@ order_key b all log now t s order next latest grows once law =
       is = grows.is;
       all = one_in_order b t log s next.rest next.stack next.key latest grows.more grows.all once (subst (λ (l : History). IsLawful b page_tree l) grows.is law);
     })
+
+-- ---- fronts
+
+order_behind : (newer more all : History) → AreInOrder (newer ++ more) all → AreInOrder more all
+order_behind [] more all order = order
+order_behind (r ∷ newer) more all order = order_behind newer more all order.1
+
+-- each front that has the older log is in order
+pub order_front : (all left high : History) → IsInOrder all high → IsFront all left → IsFront left high → IsInOrder all left
+order_front all left high order from upto =
+    let whole : (upto.newer ++ from.newer) ++ all ≡ order.more ++ all = append_assoc upto.newer from.newer all ∙ ap (λ (l : History). upto.newer ++ l) from.is ∙ upto.is ∙ order.is in
+    let same : upto.newer ++ from.newer ≡ order.more = append_cancel_right (upto.newer ++ from.newer) order.more all whole in
+    record { more = from.newer; is = sym from.is; all = order_behind upto.newer from.newer all (subst (λ (l : History). AreInOrder l all) (sym same) order.all) }
+
+-- of two fronts of a log one is a front of the other
+one_longer : (a c newer more : History) → newer ++ a ≡ more ++ c → IsFront a c ⊎ IsFront c a
+one_longer a c [] more is = inr (record { newer = more; is = sym is })
+one_longer a c (x ∷ newer) [] is = inl (record { newer = x ∷ newer; is = is })
+one_longer a c (x ∷ newer) (y ∷ more) is = let rest : newer ++ a ≡ more ++ c = cc is in one_longer a c newer more rest
+
+all_behind : (P : Logged → Type 0) (newer more : History) → AllOf P (newer ++ more) → AllOf P more
+all_behind P [] more all = all
+all_behind P (r ∷ newer) more all = all_behind P newer more all.1
+
+-- what is left of the records with which one key record was to be taken back
+grown_left : (t : ℕ) (log left high : History) → undone.GrowsByUndo t log high → IsFront log left → IsFront left high → undone.GrowsByUndo t log left
+grown_left t log left high by from upto =
+    let whole : (upto.newer ++ from.newer) ++ log ≡ by.more ++ log = append_assoc upto.newer from.newer log ∙ ap (λ (l : History). upto.newer ++ l) from.is ∙ upto.is ∙ by.is in
+    let same : upto.newer ++ from.newer ≡ by.more = append_cancel_right (upto.newer ++ from.newer) by.more log whole in
+    record {
+      more = from.newer;
+      is = sym from.is;
+      all = all_behind (λ (r : Logged). IsOfUndo t r r.what) upto.newer from.newer (subst (λ (l : History). AllOf (λ (r : Logged). IsOfUndo t r r.what) l) (sym same) by.all);
+    }
+
+-- a stop meanwhile leaves a log that is in order but for them
+pub order_left : (all log left high : History) (t : ℕ) → IsInOrder all log → GoesFirst t log → undone.GrowsByUndo t log high → IsFront all left → IsFront left high → IsNearlyInOrder all left
+order_left all log left high t order first by from upto = elim (one_longer log left by.more upto.newer (sym by.is ∙ sym upto.is)) [
+  | inl longer ↦ inr (record { before = log; order = order; txn = t; first = first; grows = grown_left t log left high by longer upto })
+  | inr shorter ↦ inl (order_front all left log order from shorter)
+]

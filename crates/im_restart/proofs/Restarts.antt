@@ -68,7 +68,7 @@ module _ {D : Type 0} (d : Ghosts D) (b : Base) (base : ℕ) (all : History) whe
       → IsLawful b page_tree all → LeavesOnly d disk disk (IsLeftUndoing b base all)
   left_unmoved disk only_now log pages has law =
       started d disk (IsLeftUndoing b base all)
-      (λ told c left. record { left = all; has = has_same b base all (d.seen disk) c (log c (only_now c left)) (pages c (only_now c left)) has; grown = grows_none all; lawful = law })
+      (λ told c left. record { left = all; has = has_same b base all (d.seen disk) c (log c (only_now c left)) (pages c (only_now c left)) has; grown = grows_none all; order = inl (order_none all); lawful = law })
 
   -- an open log is on the disk
   pub log_synced : (file : LogFile) (disk : D) → IsOpen d file disk → file.failed ≡ false → Only Log (d.seen disk) (d.may_leave disk)
@@ -93,6 +93,7 @@ module _ {D : Type 0} (d : Ghosts D) (b : Base) (base : ℕ) (all : History) whe
               covers = subst (λ (bytes : List ℕ). Covers b all (file_page bytes)) (sym same) may.has.covers;
             };
             grown = grows_none all;
+            order = inl (order_none all);
             lawful = may.lawful;
           })
       by (inr made) =
@@ -119,7 +120,7 @@ module _ {D : Type 0} (d : Ghosts D) (b : Base) (base : ℕ) (all : History) whe
 
   pub left_redoing : (old new : D) → MayRestart b base all (d.seen old) → LeavesRedoing d b base all old new → LeavesOnly d old new (IsLeftUndoing b base all)
   left_redoing old new may leaves =
-      left_covered d b base all all leaves.high old new leaves.stops (front_none all) (grows_images b all all leaves.high (grows_none all) leaves.grows)
+      left_covered d b base all all leaves.high old new leaves.stops (front_none all) (grows_images b all all leaves.high (grows_none all) leaves.grows) (order_images b all all leaves.high (order_none all) leaves.grows)
       (subst (λ (l : History). IsLawful b page_tree l) (sym leaves.grows.is) (lawful_images b page_tree leaves.grows.images all leaves.grows.all may.lawful))
 
   -- undo begins
@@ -127,10 +128,11 @@ module _ {D : Type 0} (d : Ghosts D) (b : Base) (base : ℕ) (all : History) whe
   taking_begins file old w disk files may done =
       let law : IsLawful b page_tree done.now.log = subst (λ (l : History). IsLawful b page_tree l) (sym done.log.is) (lawful_images b page_tree done.log.images all done.log.all may.lawful) in
       let grown = grows_images b all all done.now.log (grows_none all) done.log in
+      let order = order_images b all all done.now.log (order_none all) done.log in
       record {
         stands = done.stands;
-        taking = record { redo_end = end_of b done.now.log; over = done.over; grown = grown; order = order_images b all all done.now.log (order_none all) done.log; found = done.durable; lawful = law; pages = done.pages };
-        stops = left_covered d b base all all done.now.log old disk done.stops (front_none all) grown law;
+        taking = record { redo_end = end_of b done.now.log; over = done.over; grown = grown; order = order; found = done.durable; lawful = law; pages = done.pages };
+        stops = left_covered d b base all all done.now.log old disk done.stops (front_none all) grown order law;
         on = grown_front b all done.now.log done.log;
       }
 

@@ -1,5 +1,5 @@
 -- Calls of undo in a row, and single records of undo.
-use Rattle.std.proofs.Common.{◌≡◌, ◌<◌, ℕ, [], ◌∷◌, Option, None, inr, refl, sym, ◌∙◌, subst, arith}
+use Rattle.std.proofs.Common.{◌≡◌, ◌<◌, ℕ, [], ◌∷◌, Option, None, inl, inr, refl, sym, ◌∙◌, subst, arith}
 use Rattle.std.specs.Prelude.{◌==◌}
 use Rattle.std.proofs.lemmas.Bool.{cond-false, ne_eqb}
 use Rattle.im_types.specs.declared.file_id.FileId.TheVariants.{Log}
@@ -31,11 +31,12 @@ use Rattle.im_tree.specs.Theory.{page_tree}
 use Rattle.im_tree.proofs.TheoryLaws.{page_tree_laws}
 use Rattle.im_restart.specs.declared.chains.Chain.{Chain}
 use Rattle.im_restart.specs.Undone.{GrowsByUndo}
+use Rattle.im_restart.specs.UndoOrder.{IsInOrder}
 use Rattle.im_restart.specs.Restart.{IsLeftUndoing}
 use Rattle.im_restart.specs.LoserChains.{GoesOnAt}
 use Rattle.im_restart.specs.Undoing.{Ended, IsUndoing, UndoGoes}
 use Rattle.im_restart.proofs.Growth.{grows_front, grows_images, grows_one}
-use Rattle.im_restart.proofs.Orders.{order_one}
+use Rattle.im_restart.proofs.Orders.{order_front, order_images, order_one}
 use Rattle.im_restart.proofs.Others.{spares_one}
 
 -- ---- reading from 0
@@ -57,23 +58,24 @@ nothing_left b tree laws log c can goes =
 
 module _ {D : Type 0} (d : Ghosts D) (b : Base) (base : ℕ) (all : History) where
   -- what a stop leaves between two fronts of the log
-  pub left_covered : (low high : History) (old new : D) → LeavesCovered d b base low high old new → IsFront all low → GrowsByUndo all high → IsLawful b page_tree high → LeavesOnly d old new (IsLeftUndoing b base all)
-  left_covered low high old new stops found grown law =
+  pub left_covered : (low high : History) (old new : D) → LeavesCovered d b base low high old new → IsFront all low → GrowsByUndo all high → IsInOrder all high → IsLawful b page_tree high → LeavesOnly d old new (IsLeftUndoing b base all)
+  left_covered low high old new stops found grown order law =
       weakened d old new (IsCovered b base low high) (IsLeftUndoing b base all) stops
       (λ told c is. record {
         left = is.log.left;
         has = record { log = inr is.log.has; bare = λ unmade. absurd (not_both (c Log) is.log.has.made unmade); covers = is.pages };
         grown = grows_front all is.log.left high grown (front_then all low is.log.left found is.log.longer) is.log.shorter;
+        order = inl (order_front all is.log.left high order (front_then all low is.log.left found is.log.longer) is.log.shorter);
         lawful = fronts_lawful b page_tree is.log.left high is.log.shorter law;
       })
 
   pub left_here : (s : Writer) (old new : D) → IsUndoing b all s → LeavesCovered d b base s.durable s.log old new → LeavesOnly d old new (IsLeftUndoing b base all)
-  left_here s old new is stops = left_covered s.durable s.log old new stops is.found is.grown is.can.lawful
+  left_here s old new is stops = left_covered s.durable s.log old new stops is.found is.grown is.order is.can.lawful
 
   -- and with Images more
   pub left_grown : (s : Writer) (old new : D) → IsUndoing b all s → LeavesGrown d b base s old new → LeavesOnly d old new (IsLeftUndoing b base all)
   left_grown s old new is grown =
-      left_covered s.durable grown.high old new grown.stops is.found (grows_images b all s.log grown.high is.grown grown.grows)
+      left_covered s.durable grown.high old new grown.stops is.found (grows_images b all s.log grown.high is.grown grown.grows) (order_images b all s.log grown.high is.order grown.grows)
       (subst (λ (l : History). IsLawful b page_tree l) (sym grown.grows.is) (lawful_images b page_tree grown.grows.images s.log grown.grows.all is.can.lawful))
 
   pub left_then : (old mid new : D) → LeavesOnly d old mid (IsLeftUndoing b base all) → LeavesOnly d mid new (IsLeftUndoing b base all) → LeavesOnly d old new (IsLeftUndoing b base all)

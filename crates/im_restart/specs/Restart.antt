@@ -24,7 +24,7 @@ use Rattle.im_redo.specs.Redo.{applied_in, first_lsn}
 use Rattle.im_restart.specs.declared.redo_report.RedoReport.{RedoReport}
 use Rattle.im_restart.specs.declared.restarted.Restarted.{Restarted}
 use Rattle.im_restart.specs.Undone.{GrowsByUndo}
-use Rattle.im_restart.specs.UndoOrder.{IsInOrder}
+use Rattle.im_restart.specs.UndoOrder.{IsInOrder, IsNearlyInOrder}
 
 -- What redo did: where it began, and how many records it applied to pages that it first had from this file or from their noted copies.
 pub record IsReport (b : Base) (all : History) (file : ℕ → Option Page) (r : RedoReport) : Type 0 where
@@ -61,6 +61,7 @@ pub record IsLeftUndoing (b : Base) (base : ℕ) (all : History) (files : Files)
   pub left : History
   pub has : HasStore b base left files
   pub grown : GrowsByUndo all left
+  pub order : IsNearlyInOrder all left
   pub lawful : IsLawful b page_tree left
 
 module _ {D : Type 0} (d : Ghosts D) (b : Base) (base : ℕ) (all : History) where

@@ -29,7 +29,8 @@
 //! - behind an opening (`IsRestarted`) the log is the one that was found with Images and records of undo more (`GrowsByUndo`), it
 //!   is lawful and durable, no loser is left, and each page is what the whole log made of it; each compensation took back the latest
 //!   of all records that losers had left to undo (`IsInOrder`);
-//! - a stop at any moment leaves such files again (`IsLeftUndoing`): the log that was found, or it with some of these records. Nothing
+//! - a stop at any moment leaves such files again (`IsLeftUndoing`): the log that was found, or it with some of these records, in that
+//!   order but for those with which one record was being taken back, the latest of all (`IsNearlyInOrder`). Nothing
 //!   is undone twice: a compensation takes its record off what is left, and a lawful log has no second one;
 //! - it is never refused as no store.
 //!
