@@ -1,0 +1,5 @@
+pub mod Numbered
+pub mod Changed
+pub mod Listed
+pub mod Stored
+pub mod Laws
