@@ -54,7 +54,7 @@ new_in t m l (u ∷ rest) p le is = let page : u.page < m = is.0.1 in (is.0.0, (
 
 -- ---- Images
 
-images_finished : (b : Base) (t : ℕ) (images older : History) → t ≢ 0 → AreImages b images older → is_finished t (images ++ older) ≡ is_finished t older
+pub images_finished : (b : Base) (t : ℕ) (images older : History) → t ≢ 0 → AreImages b images older → is_finished t (images ++ older) ≡ is_finished t older
 images_finished b t [] older some all = refl
 images_finished b t (r ∷ images) older some all =
     cond-false (r.txn == t) (is_end r.what || is_finished t (images ++ older)) (is_finished t (images ++ older)) (ne_eqb r.txn t (λ e. some (sym e ∙ all.0.no_owner)))

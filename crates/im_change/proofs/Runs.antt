@@ -117,7 +117,7 @@ module _ {D : Type 0} (d : Ghosts D) (b : Base) (base : ℕ) where
 
   -- ---- what a stop leaves
 
-  left_grown : (s : Writer) (t : ℕ) (now : Writer) (mid new : D) → IsFront s.durable now.durable → IsLawful b page_tree now.log → GrowsByChange t s.log now.log → LeavesGrown d b base now mid new → LeavesChange d b base s t mid new
+  pub left_grown : (s : Writer) (t : ℕ) (now : Writer) (mid new : D) → IsFront s.durable now.durable → IsLawful b page_tree now.log → GrowsByChange t s.log now.log → LeavesGrown d b base now mid new → LeavesChange d b base s t mid new
   left_grown s t now mid new durable law grows stops =
       weakened d mid new (IsCovered b base now.durable stops.high) (LeftByChange d b base s t) stops.stops
       (λ told c is. record {

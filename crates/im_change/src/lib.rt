@@ -6,6 +6,7 @@
 //! the transaction. A stop at any moment leaves a front of a lawful log, and pages from which redo comes to it.
 #![tactic(auto)]
 
+mod late_fault;
 mod laws;
 mod page_bytes;
 mod page_record;
@@ -13,5 +14,6 @@ mod structure_change;
 #[cfg(test)]
 mod tests;
 
+pub use late_fault::late;
 pub use laws::changes_keep;
 pub use structure_change::run;

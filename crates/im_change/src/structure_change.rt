@@ -10,6 +10,7 @@ ghost use Rattle.im_smo.specs.Images.{image_at};
 ghost use Rattle.im_change.specs.Logged.{ImageLogKept};
 ghost use Rattle.im_change.specs.Changes.{MayChange, PagesKept, ChangeKept};
 
+use crate::late_fault::late;
 use crate::page_record::log_page;
 use im_disk::Disk;
 use im_flush::PageWriter;
@@ -26,10 +27,7 @@ fn refused_at(i: usize, fault: Fault) -> Fault
     if i == 0 {
         return fault;
     }
-    match fault {
-        Fault::Memory => Fault::Failed,
-        _ => fault,
-    }
+    late(fault)
 }
 
 // Logs the page of the image at a place, and makes it so. It answers the LSN.

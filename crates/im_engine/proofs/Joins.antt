@@ -1,9 +1,8 @@
 -- Which records joined the log in the parts of a step, put together.
-use Rattle.std.proofs.Common.{◌≡◌, ◌≢◌, ◌⊎◌, inl, inr, ⊎_elim, Bool, true, false, ℕ, ◌+◌, ◌^◌, List, [], ◌∷◌, ◌++◌, length, Option, refl, sym, ap, subst, ◌∙◌}
+use Rattle.std.proofs.Common.{◌≡◌, ◌≢◌, ◌⊎◌, inl, inr, ⊎_elim, Bool, true, false, ℕ, ◌+◌, ◌^◌, List, ◌∷◌, length, refl, sym, ap, subst, ◌∙◌}
 use Rattle.std.specs.Prelude.{◌%◌}
 use Rattle.im_types.specs.Keys.{Key}
 use Rattle.im_types.specs.Changes.{Effect}
-use Rattle.im_types.specs.Records.{Logged}
 use Rattle.im_types.specs.Histories.{Base, History}
 use Rattle.im_types.specs.Copies.{GrowsByImages}
 use Rattle.im_types.specs.Structure.{settled}
@@ -17,13 +16,14 @@ use Rattle.im_types.specs.Pages.{Page}
 use Rattle.im_pool.specs.Pool as pools
 use Rattle.im_serial.proofs.Promises.{images_change_nothing}
 use Rattle.im_tree.specs.Levels.{Pages}
-use Rattle.im_change.specs.Changes.{GrowsByChange, marks}
+use Rattle.im_change.specs.Changes.{GrowsByChange}
 use Rattle.im_engine.specs.declared.engine.Engine.{Engine}
 use Rattle.im_engine.specs.Joined.{PutJoined, TakeJoined, ChangeJoined, DropJoined}
 use Rattle.im_engine.specs.Running.{IsRunning}
 use Rattle.im_engine.specs.Changes.{Rests, LeafLooked, Edited, StandsBehind}
 use Rattle.im_engine.specs.Structure.{LeafStays, LeafLeft, MeetsLimit, WantsSplit, WantsDrop, HasMore, HasEntries, DropEnded, EndsDrop}
-use Rattle.im_engine.proofs.Keys.{of_images, images_as_change, change_then, change_behind_images, none_in_front, marks_behind}
+use Rattle.im_structure.proofs.Growth.{of_images, images_as_change, change_then}
+use Rattle.im_engine.proofs.Keys.{change_behind_images, none_in_front, marks_behind}
 use Rattle.im_engine.proofs.Running.{bodies_still, settled_now}
 
 -- a key put, or dropped, behind Images

@@ -1,12 +1,12 @@
 -- A key put or dropped.
-use Rattle.std.proofs.Common.{◌≡◌, ◌≢◌, ◌⊎◌, inl, inr, ℕ, ◌≤◌, List, [], ◌∷◌, length, Option, Some, None, Result, Ok, Err, IfOk, IfErr, refl, sym, ap, subst, ◌∙◌, append_assoc, arith, ◌++◌}
+use Rattle.std.proofs.Common.{◌≡◌, ◌≢◌, ◌⊎◌, inl, inr, ℕ, ◌≤◌, List, [], ◌∷◌, length, Option, Some, None, Result, Ok, Err, IfOk, IfErr, refl, sym, ap, subst, ◌∙◌, arith, ◌++◌}
 use Rattle.std.specs.FinMap.Entries.{find}
 use Rattle.im_types.specs.Keys.{Key, key_order}
 use Rattle.im_types.specs.Pages.{Page}
 use Rattle.im_types.specs.Histories.{Base, History}
 use Rattle.im_types.specs.Changes.{Put, Drop, Effect}
 use Rattle.im_types.specs.Records.{What, InsertKey, DeleteKey, UndoInsert, UndoDelete, Smo, UndoSmo, DummyClr, Commit, End, Image, Checkpoint, Unreadable, Logged}
-use Rattle.im_types.specs.Copies.{AreImages, GrowsByImages}
+use Rattle.im_types.specs.Copies.{GrowsByImages}
 use Rattle.im_types.specs.LogLaws.{bodies}
 use Rattle.im_types.specs.Lives.{Shown, adds}
 use Rattle.im_types.specs.declared.fault.Fault.{Fault}
@@ -26,7 +26,8 @@ use Rattle.im_serial.proofs.Promises.{keys_are_put, keys_are_dropped, tree_shows
 use Rattle.im_engine.specs.declared.engine.Engine.{Engine}
 use Rattle.im_engine.specs.declared.transaction.Transaction.{Transaction}
 use Rattle.im_engine.specs.Running.{IsRunning}
-use Rattle.im_change.specs.Changes.{IsOfChange, GrowsByChange, HasRecordOf, marks, with_mark}
+use Rattle.im_change.specs.Changes.{IsOfChange, HasRecordOf, marks, with_mark}
+use Rattle.im_structure.proofs.Growth.{of_images, images_as_change, change_then}
 use Rattle.im_engine.specs.Changes.{LeafLooked, EditKept}
 use Rattle.im_engine.specs.Joined.{PutJoined, TakeJoined, ChangeJoined}
 use Rattle.im_engine.specs.Checks.{LacksRoom}
@@ -38,28 +39,6 @@ use Rattle.im_engine.proofs.Checks.{IsOfWriter, not_full}
 wanted : {A : Type 0} (e : Fault) → IsOfWriter e → (e ≡ Memory → A) → (e ≡ Memory) ⊎ (e ≡ PagesFull) → A
 wanted e of again (inl is) = again is
 wanted e of again (inr is) = absurd (not_full e of is)
-
--- Images are records of a structure change too, and none of its pages
-pub of_images : (b : Base) (t : ℕ) (older : History) (images : History) → AreImages b images older → AllOf (λ (r : Logged). IsOfChange t r r.what) images × (marks images ≡ [])
-of_images b t older [] all = (tt, refl)
-of_images b t older (r ∷ images) all =
-    let rest = of_images b t older images all.1 in
-    ((subst (λ (w : What). IsOfChange t r w) (sym all.0.what) all.0.no_owner, rest.0), ap (λ (w : What). with_mark r w (marks images)) all.0.what ∙ rest.1)
-
-abbrev pub images_as_change : (b : Base) (t : ℕ) (older longer : History) → GrowsByImages b older longer → GrowsByChange t older longer
-images_as_change b t older longer g = record { more = g.images; is = g.is; all = (of_images b t older g.images g.all).0 }
-
--- one such growth after another
-pub all_behind : (t : ℕ) (more before : History) → AllOf (λ (r : Logged). IsOfChange t r r.what) more → AllOf (λ (r : Logged). IsOfChange t r r.what) before → AllOf (λ (r : Logged). IsOfChange t r r.what) (more ++ before)
-all_behind t [] before all rest = rest
-all_behind t (r ∷ more) before all rest = (all.0, all_behind t more before all.1 rest)
-
-abbrev pub change_then : (t : ℕ) (older mid newer : History) → GrowsByChange t older mid → GrowsByChange t mid newer → GrowsByChange t older newer
-change_then t older mid newer first second = record {
-  more = second.more ++ first.more;
-  is = second.is ∙ ap (λ (h : History). second.more ++ h) first.is ∙ sym (append_assoc second.more first.more older);
-  all = all_behind t second.more first.more second.all first.all;
-}
 
 -- where the longer has no page of a structure change the newer records have none
 pub marks_none : (r : Logged) (w : What) (ms : List (Option ℕ)) → with_mark r w ms ≡ [] → ms ≡ []

@@ -8,7 +8,6 @@ pub mod Tells
 pub mod Steps
 pub mod Keys
 pub mod Structure
-pub mod SplitPlans
 pub mod StructureSteps
 pub mod SplitPuts
 pub mod Limits

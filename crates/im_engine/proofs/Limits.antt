@@ -18,7 +18,8 @@ use Rattle.im_split.specs.Plan.{IsWithin, IsOver}
 use Rattle.im_engine.specs.declared.engine.Engine.{Engine}
 use Rattle.im_engine.specs.Running.{IsRunning}
 use Rattle.im_engine.specs.Changes.{Looked, LeafLooked}
-use Rattle.im_engine.specs.Structure.{IsUsedUp, MeetsLimit}
+use Rattle.im_structure.specs.Structure.{IsUsedUp}
+use Rattle.im_engine.specs.Structure.{MeetsLimit}
 use Rattle.im_engine.specs.Checks.{LacksRoom}
 use Rattle.im_engine.proofs.Running.{bodies_still}
 use Rattle.im_engine.proofs.Checks.{IsOfWriter, not_full, not_used_up, refused_inj}

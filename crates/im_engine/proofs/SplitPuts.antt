@@ -26,7 +26,8 @@ use Rattle.im_engine.specs.Checks.{LacksRoom}
 use Rattle.im_engine.proofs.Checks.{IsOfWriter, IsOfDrop, drop_wants, drop_capacity}
 use Rattle.im_engine.proofs.Refusals.{handed_on}
 use Rattle.im_engine.proofs.Structure.{late_memory}
-use Rattle.im_engine.proofs.Keys.{change_then, change_before_images}
+use Rattle.im_structure.proofs.Growth.{change_then}
+use Rattle.im_engine.proofs.Keys.{change_before_images}
 use Rattle.im_engine.proofs.Running.{leaves_then}
 
 -- what a refusal is answered as behind the first record of a structure change

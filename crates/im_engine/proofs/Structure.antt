@@ -1,12 +1,11 @@
 -- Structure changes within a step.
-use Rattle.std.proofs.Common.{◌≡◌, ◌≢◌, ◌⊎◌, inl, inr, ⊎_elim, ℕ, ◌<◌, ◌≤◌, ◌^◌, List, [], length, true, Option, Some, Result, Ok, Err, IfOk, refl, sym, ap, subst, ◌∙◌, arith}
-use Rattle.std.proofs.Math.Path.{fun_ext}
+use Rattle.std.proofs.Common.{◌≡◌, ◌≢◌, ◌⊎◌, inl, inr, ⊎_elim, ℕ, ◌<◌, ◌≤◌, ◌^◌, List, [], true, false, Option, Some, None, Result, Ok, Err, IfOk, refl, sym, ap, subst, ◌∙◌, arith}
 use Rattle.im_types.specs.Keys.{Key}
 use Rattle.im_types.specs.Pages.{Entry, Page}
 use Rattle.im_types.specs.Histories.{Base}
+use Rattle.im_types.specs.Copies.{GrowsByImages}
 use Rattle.im_types.specs.Changes.{Effect}
 use Rattle.im_types.specs.LogLaws.{bodies}
-use Rattle.im_types.specs.Writer.{Writer}
 use Rattle.im_types.specs.Lives.{Shown}
 use Rattle.im_types.specs.declared.fault.Fault.{Fault}
 use Rattle.im_types.specs.declared.fault.Fault.TheVariants.{Memory, Failed, LogFull, NotAStore, Device, PagesFull, Capacity}
@@ -15,35 +14,35 @@ use Rattle.im_disk.specs.Runs.{LeavesOnly}
 use Rattle.im_disk.proofs.Runs.{weakened}
 use Rattle.im_page.specs.Split.{HasRoom}
 use Rattle.im_tree.specs.Levels.{Pages, walk}
-use Rattle.im_tree.specs.Good.{IsGoodTree}
 use Rattle.im_tree.specs.Search.{IsOnWay}
 use Rattle.im_flush.specs.declared.page_writer.PageWriter.{PageWriter}
-use Rattle.im_flush.specs.PageWriter.{GoesOn}
 use Rattle.std.specs.Result.{IsErrAnd}
 use Rattle.im_pool.specs.Pool as pools
 use Rattle.im_pool.specs.declared.frame.Frame.{Frame}
-use Rattle.im_smo.specs.Images.{Numbered}
 use Rattle.im_alloc.specs.Seen as alloc
-use Rattle.im_alloc.proofs.Goings.{seen_stays}
 use Rattle.im_change.specs.Changes as changes
+use Rattle.im_change.specs.Changes.{HasRecordOf}
 use Rattle.im_split.specs.Plan as splits
-use Rattle.im_delete.specs.Plan as deletes
+use Rattle.im_split.specs.Tops.{LacksRoomFor}
+use Rattle.im_structure.specs.DropPlan.{IsKept, IsSpare}
+use Rattle.im_structure.specs.Structure as structure
+use Rattle.im_structure.proofs.Growth.{images_as_change}
 use Rattle.im_serial.specs.Store.{AreBelow}
-use Rattle.im_serial.proofs.Promises.{commits_stay, images_change_nothing, changes_go_on}
+use Rattle.im_serial.proofs.Promises.{commits_stay, changes_go_on}
 use Rattle.im_engine.specs.declared.engine.Engine.{Engine}
 use Rattle.im_engine.specs.declared.transaction.Transaction.{Transaction}
 use Rattle.im_engine.specs.Stands.{Allowed}
 use Rattle.im_engine.specs.Running.{IsTransaction, IsRunning}
 use Rattle.im_engine.specs.Changes.{Rests, LeafLooked, StandsBehind}
 use Rattle.im_engine.specs.Joined.{ChangeJoined}
-use Rattle.im_engine.specs.Structure.{IsUsedUp, AreImages, AreForKey, PlanKept, DeletePlanKept, Restructured, LeafHeld, HasSplitLeaf, SplitKept}
+use Rattle.im_engine.specs.Structure.{LeafStays, LeafLeft, DropKept, HasMadeRoom, MakeRoomKept, LeafHeld, HasSplitLeaf, SplitKept}
 use Rattle.im_engine.specs.Checks.{LacksRoom}
 use Rattle.im_engine.proofs.Refusals.{handed_on}
-use Rattle.im_engine.proofs.Checks.{IsOfWriter, IsOfDrop, drop_wants, drop_capacity, not_full, not_used_up, not_failed}
+use Rattle.im_engine.proofs.Checks.{IsOfWriter, IsOfDrop, drop_wants, drop_capacity}
 use Rattle.im_engine.proofs.Shown.{some_inj}
-use Rattle.im_engine.proofs.Running.{bodies_are, bodies_still, leaf_now, left_on, runs_on, runs_goes, runs_evicted, grown_stops}
+use Rattle.im_engine.proofs.Running.{bodies_are, bodies_still, leaf_now, left_on, runs_evicted}
 use Rattle.im_engine.proofs.Steps.{active_is}
-use Rattle.im_engine.proofs.Keys.{change_behind_images, change_before_images, some_marks}
+use Rattle.im_engine.proofs.Keys.{change_before_images, some_marks}
 
 -- a fault as it is answered behind a structure change's first record is that of no store only where it was
 pub not_late : (e answer : Fault) → IsOfWriter e → (e ≡ Memory → answer ≡ Failed) → (e ≢ Memory → answer ≡ e) → e ≢ NotAStore → answer ≢ NotAStore
@@ -66,14 +65,11 @@ late_memory e answer (inr (inl is)) others failed = is
 late_memory e answer (inr (inr (inl is))) others failed = absurd (let never : NotAStore ≡ Failed = sym is ∙ sym (others (λ w. let not : NotAStore ≡ Memory = sym is ∙ w in cc not)) ∙ failed in cc never)
 late_memory e answer (inr (inr (inr is))) others failed = absurd (let never : Device ≡ Failed = sym is ∙ sym (others (λ w. let not : Device ≡ Memory = sym is ∙ w in cc not)) ∙ failed in cc never)
 
--- a structure change is not refused for pages, nor for page numbers
-pub change_full : {A : Type 0} (e : Fault) → (e ≡ Failed) ⊎ IsOfWriter e → e ≡ PagesFull → A
-change_full e (inl is) full = absurd (let never : Failed ≡ PagesFull = sym is ∙ full in cc never)
-change_full e (inr of) full = absurd (not_full e of full)
-
-pub change_used_up : {A : Type 0} (e : Fault) → (e ≡ Failed) ⊎ IsOfWriter e → e ≡ Capacity → A
-change_used_up e (inl is) used = absurd (let never : Failed ≡ Capacity = sym is ∙ used in cc never)
-change_used_up e (inr of) used = absurd (not_used_up e of used)
+-- the refusals of a deletion
+of_drop : (e : Fault) → (e ≡ Failed) ⊎ (e ≡ LogFull) ⊎ (e ≡ NotAStore) ⊎ (e ≡ Device) → IsOfDrop e
+of_drop e (inl failed) = inr (inl failed)
+of_drop e (inr (inl full)) = inl full
+of_drop e (inr (inr rest)) = inr (inr rest)
 
 -- a refusal of some result
 abbrev pub err_in : (A : Type 0) → Fault → Result A Fault
@@ -86,48 +82,12 @@ of_err A a b e = ap (λ (x : Result A Fault). elim x as (λ _. Fault) [ Ok y ↦
 pub room_not : (es : List Entry) (key : Key) → LacksRoom es key → HasRoom true es (key, 0) → ⊥
 room_not es key lacks room = omega (arith, lacks, room)
 
-pub some_images : {P : Type 0} (images : List Numbered) → 1 ≤ length images → (images ≡ []) ⊎ P → P
-some_images images some (inl none) = absurd (let long : 1 ≤ length {A = Numbered} [] = subst (λ (l : List Numbered). 1 ≤ length l) none some in omega (arith, long))
-some_images images some (inr p) = p
-
 module _ {D : Type 0} (d : Ghosts D) {b : Base} (before : List Effect) (s : Shown) (old : Engine D d) (r : IsRunning d b before s old) where
-  module _ (new : Engine D d) (going : new.going ≡ old.going) (next : new.next ≡ old.next) where
-    -- images over pages that are as they were
-    unfoldable pub are_images : (t : Writer) (on : GoesOn d b r.base r.now old.disk t new.writer new.disk) (images : List Numbered) → IsGoodTree (alloc.seen r.now images) []
-        → walk (alloc.seen r.now images) ≡ walk (alloc.bodies r.now) → AreImages d before s old r images new
-    unfolding runs_goes runs_on
-    are_images t on images good same =
-        let still = (images_change_nothing b r.now.log t.log on.goes.keeps.log r.serial).bodies in
-        let stays = seen_stays b r.now t on.goes.keeps images in
-        record {
-          running = runs_goes d before s old r new going next t on;
-          good = subst (λ (pages : Pages). IsGoodTree pages []) (sym stays) good;
-          same = ap (λ (pages : Pages). walk pages) stays ∙ same ∙ ap (λ (pages : Pages). walk pages) (bodies_are d before s old r) ∙ ap (λ (pages : Pages). walk pages) (sym still);
-          still = still;
-          grows = on.goes.keeps.log;
-        }
-
-    -- the plan of a deletion
-    pub delete_plan_kept : (p : ℕ) (result : Result (List Numbered) Fault) → deletes.DeleteKept d b r.base r.now p old.disk new.writer new.disk result → DeletePlanKept d before s old r new result
-    delete_plan_kept p (Ok images) kept = record {
-      ok = record { are = are_images kept.ok.now kept.ok.on images kept.ok.good kept.ok.same; some = kept.ok.some };
-      again = tt;
-      stops = grown_stops d before s old r new.disk kept.stops;
-      cause = tt;
-    }
-    delete_plan_kept p (Err e) kept = record {
-      ok = tt;
-      again = λ is. runs_evicted d before s old r new going next (kept.again (inl is));
-      stops = grown_stops d before s old r new.disk kept.stops;
-      cause = kept.cause;
-    }
-
   -- ---- a structure change
 
-  -- what it asks
-  pub may_change : (t : Transaction) → old.going ≡ Some t → (images : List Numbered) → 1 ≤ length images → IsGoodTree (alloc.seen r.now images) [] → walk (alloc.seen r.now images) ≡ walk (bodies b r.now.log)
-      → changes.MayChange d b r.base r.now r.redo_end images t.number t.last t.undo_next old.writer old.disk
-  may_change t going images some good same =
+  -- the active transaction is not finished
+  pub unfinished : (t : Transaction) → old.going ≡ Some t → structure.IsUnfinished d b r.base r.now r.redo_end t.number t.last t.undo_next old.writer old.disk
+  unfinished t going =
       let a = active_is d before s old r t going in
       record {
         stands = r.stands;
@@ -137,9 +97,6 @@ module _ {D : Type 0} (d : Ghosts D) {b : Base} (before : List Effect) (s : Show
         newest = a.going.active.chain;
         undo = a.going.undo;
         unfinished = a.going.active.unfinished;
-        some = some;
-        good = good;
-        same = same ∙ ap (λ (pages : Pages). walk pages) (sym (bodies_are d before s old r));
       }
 
   -- a stop within it
@@ -156,34 +113,122 @@ module _ {D : Type 0} (d : Ghosts D) {b : Base} (before : List Effect) (s : Show
 
   module _ (new : Engine D d) (next : new.next ≡ old.next) (t : Transaction) (going : old.going ≡ Some t) where
     -- behind it
-    pub restructured : (images : List Numbered) (lsn : ℕ) → changes.Changed d b r.base r.now r.redo_end images t.number t.undo_next lsn old.disk new.writer new.disk
-        → new.going ≡ Some (record { number = t.number; last = lsn; undo_next = t.undo_next }) → Restructured d before s old r t.number images new
-    restructured images lsn made now =
+    abbrev pub runs_behind : (lsn : ℕ) → structure.Restructured d b r.base r.now r.redo_end t.number lsn t.undo_next new.writer new.disk
+        → new.going ≡ Some (record { number = t.number; last = lsn; undo_next = t.undo_next }) → IsRunning d b before s new
+    runs_behind lsn made now =
         let a = active_is d before s old r t going in
-        let keeps = changes_go_on b t.number r.now.log made.now.log made.grows r.serial made.lawful in
-        let running : IsRunning d b before s new = record {
+        let keeps = changes_go_on b t.number r.now.log made.now.log made.grows r.serial made.stands.lawful in
+        record {
           base = r.base;
           start = r.start;
           earlier = r.earlier;
           made = r.made;
           now = made.now;
-          stands = made.stands;
+          stands = made.stands.stands;
           redo_end = r.redo_end;
-          over = made.over;
+          over = made.stands.over;
           serial = keeps.log;
-          closed = made.closed;
+          closed = made.stands.closed;
           commits = commits_stay b r.earlier before s.asked r.now.durable r.now.log made.now.durable made.now.log keeps.log r.commits keeps.committed
-              (record { from = made.durable; upto = made.stands.writing.stands.kept.front });
+              (record { from = made.durable; upto = made.stands.stands.writing.stands.kept.front });
           numbered = subst (λ (n : ℕ). n ≤ 2 ^ 62 → AreBelow n made.now.log) (sym next) (λ le. keeps.below old.next a.number (r.numbered le));
           transaction = subst (λ (g : Option Transaction). IsTransaction s g new.next made.now.log) (sym now) (record {
             effect = a.effect;
-            going = keeps.going t.last t.undo_next lsn t.undo_next a.effect a.going made.last made.undo;
+            going = keeps.going t.last t.undo_next lsn t.undo_next a.effect a.going made.stands.newest made.stands.undo;
             number = subst (λ (n : ℕ). t.number < n) (sym next) a.number;
             shown = a.shown;
             others = a.others;
           });
-        } in
-        record { running = running; grows = made.grows; some = λ none. let never = sym made.order ∙ none in cc never; pages = sym (bodies_are d before s new running) ∙ fun_ext made.pages }
+        }
+
+    -- ---- the split of a leaf that lacks room for its key
+
+    module _ (owner : 1 ≤ t.number) (key : Key) (p : ℕ) (way : IsOnWay (bodies b r.now.log) 0 key p) (lacks : LacksRoom (bodies b r.now.log p).entries key) where
+      lacks_room : LacksRoomFor (alloc.bodies r.now) key
+      lacks_room = record {
+        page = p;
+        way = subst (λ (pages : Pages). IsOnWay pages 0 key p) (sym (bodies_are d before s old r)) way;
+        lacks = room_not (alloc.bodies r.now p).entries key (subst (λ (pages : Pages). LacksRoom (pages p).entries key) (sym (bodies_are d before s old r)) lacks);
+      }
+
+      room_made : (lsn : ℕ) → structure.HasMadeRoom d b r.base r.now r.redo_end t.number lsn t.undo_next key (Some old.max_pages) new.writer new.disk
+          → new.going ≡ Some (record { number = t.number; last = lsn; undo_next = t.undo_next }) → HasMadeRoom d before s old r t.number key new
+      room_made lsn has now = record {
+        running = runs_behind lsn has.made now;
+        grows = has.made.grows;
+        some = some_marks t.number owner has.made.grows.more has.made.grows.all (has.some lacks_room);
+        same = ap (λ (pages : Pages). walk pages) (sym (bodies_are d before s new (runs_behind lsn has.made now))) ∙ has.made.same ∙ ap (λ (pages : Pages). walk pages) (bodies_are d before s old r);
+        fits = subst (λ (pages : Pages). splits.FitsInLeaf pages key) (bodies_are d before s new (runs_behind lsn has.made now)) has.fits;
+        within = subst (λ (pages : Pages). splits.IsWithin pages key old.max_pages) (bodies_are d before s old r) (has.within old.max_pages refl lacks_room);
+      }
+
+      -- it was split
+      pub room_kept : (lsn : ℕ) (x : Transaction) → structure.SplitKept d b r.base r.now r.redo_end t.number t.undo_next key (Some old.max_pages) old.disk new.writer new.disk (Ok lsn)
+          → new.going ≡ Some (record { number = t.number; last = lsn; undo_next = t.undo_next }) → MakeRoomKept d before s old r t.number key new (Ok x)
+      room_kept lsn x kept now = record { ok = room_made lsn kept.ok now; begun = tt; again = tt; stops = change_stops t new.disk kept.stops; cause = tt; full = tt; used_up = tt }
+
+      -- or that was refused
+      pub room_not_made : (f : Fault) → structure.SplitKept d b r.base r.now r.redo_end t.number t.undo_next key (Some old.max_pages) old.disk new.writer new.disk (Err f)
+          → new.going ≡ old.going → MakeRoomKept d before s old r t.number key new (Err f)
+      room_not_made f kept still = record {
+        ok = tt;
+        begun = λ is. change_begun t.number owner new.writer new.disk (kept.begun is);
+        again = λ is. runs_evicted d before s old r new still next (kept.again (⊎_elim (λ x. inl x) (λ x. inr (inr x)) is));
+        stops = change_stops t new.disk kept.stops;
+        cause = kept.cause;
+        full = λ is.
+            let f = kept.full is in
+            subst (λ (pages : Pages). splits.IsOver pages key old.max_pages) (bodies_are d before s old r)
+            (subst (λ (m : ℕ). splits.IsOver (alloc.bodies r.now) key m) (sym (some_inj 0 old.max_pages f.0 f.1)) f.2);
+        used_up = λ is. subst (λ (pages : Pages). structure.IsUsedUp pages key) (bodies_are d before s old r) (kept.used_up is);
+      }
+
+    -- ---- an empty leaf
+
+    module _ (owner : 1 ≤ t.number) (key : Key) where
+      stays_or_left : (lsn : ℕ) (has : structure.Dropped d b r.base r.now r.redo_end t.number lsn t.undo_next key new.writer new.disk)
+          (now : new.going ≡ Some (record { number = t.number; last = lsn; undo_next = t.undo_next }))
+          → (IsKept (alloc.bodies r.now) key × GrowsByImages b r.now.log has.made.now.log) ⊎ (IsSpare (alloc.bodies r.now) key × HasRecordOf t.number has.made.grows.more)
+          → LeafStays d before s old r key new ⊎ LeafLeft d before s old r t.number new
+      stays_or_left lsn has now (inl still) = inl (record {
+        rests = record { running = runs_behind lsn has.made now; grows = still.1 };
+        page = still.0.page;
+        way = subst (λ (pages : Pages). IsOnWay pages 0 key still.0.page) (bodies_are d before s old r) still.0.way;
+        kept = subst (λ (pages : Pages). (still.0.page ≡ 1) ⊎ ((pages still.0.page).entries ≢ [])) (bodies_are d before s old r) still.0.kept;
+      })
+      stays_or_left lsn has now (inr gone) = inr (record {
+        running = runs_behind lsn has.made now;
+        grows = has.made.grows;
+        some = some_marks t.number owner has.made.grows.more has.made.grows.all gone.1;
+      })
+
+      -- it left the tree, or is no empty leaf
+      pub dropped : (lsn : ℕ) → structure.DropKept d b r.base r.now r.redo_end t.number t.undo_next key old.disk new.writer new.disk (Ok (Some lsn))
+          → new.going ≡ Some (record { number = t.number; last = lsn; undo_next = t.undo_next }) → DropKept d before s old r t.number key new (Ok true)
+      dropped lsn kept now = record {
+        edit = record { ok = record { running = runs_behind lsn kept.ok.made now; joins = kept.ok.made.grows }; again = tt; stops = change_stops t new.disk kept.stops; cause = tt };
+        gone = λ is. stays_or_left lsn kept.ok now kept.ok.either;
+        begun = tt;
+      }
+
+      -- it stays for want of memory
+      pub stays : structure.DropKept d b r.base r.now r.redo_end t.number t.undo_next key old.disk new.writer new.disk (Ok None) → new.going ≡ old.going → DropKept d before s old r t.number key new (Ok false)
+      stays kept still =
+          let rests = runs_evicted d before s old r new still next kept.ok in
+          record {
+            edit = record { ok = record { running = rests.running; joins = images_as_change b t.number r.now.log rests.running.now.log rests.grows }; again = tt; stops = change_stops t new.disk kept.stops; cause = tt };
+            gone = λ is. absurd (cc is);
+            begun = tt;
+          }
+
+      -- or it was refused
+      pub not_dropped : (f : Fault) → (f ≡ Failed) ⊎ (f ≡ LogFull) ⊎ (f ≡ NotAStore) ⊎ (f ≡ Device) → structure.DropKept d b r.base r.now r.redo_end t.number t.undo_next key old.disk new.writer new.disk (Err f)
+          → DropKept d before s old r t.number key new (Err f)
+      not_dropped f causes kept = record {
+        edit = record { ok = tt; again = drop_wants f (of_drop f causes); stops = change_stops t new.disk kept.stops; cause = kept.cause };
+        gone = tt;
+        begun = λ is. change_begun t.number owner new.writer new.disk (kept.begun is);
+      }
 
 module _ {D : Type 0} (d : Ghosts D) {b : Base} (before : List Effect) (s : Shown) (old : Engine D d) (r : IsRunning d b before s old) where
   -- a leaf that was found is held, with the walk that was there
@@ -206,29 +251,16 @@ module _ {D : Type 0} (d : Ghosts D) {b : Base} (before : List Effect) (s : Show
       (subst (λ (g : Page). LacksRoom g.body.entries key) (l.looked.page ∙ l.looked.still p) lacks) (fits p l.way)
 
   -- a leaf behind a split, seen from before it
-  pub split_leaf : (t : ℕ) (key : Key) (images : List Numbered) (mid : Engine D d) (planned : AreForKey d before s old r key images mid) (then : Engine D d)
-      (made : Restructured d before s mid planned.are.running t images then) (p : ℕ) (new : Engine D d) → LeafHeld d before s then made.running key p new → HasSplitLeaf d before s old r t key p new
-  split_leaf t key images mid planned then made p new held = record {
+  pub split_leaf : (t : ℕ) (key : Key) (then : Engine D d) (made : HasMadeRoom d before s old r t key then) (p : ℕ) (new : Engine D d) → LeafHeld d before s then made.running key p new → HasSplitLeaf d before s old r t key p new
+  split_leaf t key then made p new held = record {
     leaf = record {
       running = held.leaf.running;
       page = held.leaf.page;
       way = held.leaf.way;
-      same = held.leaf.same ∙ ap (λ (pages : Pages). walk pages) made.pages ∙ planned.are.same ∙ ap (λ (pages : Pages). walk pages) planned.are.still;
+      same = held.leaf.same ∙ made.same;
     };
-    joins = change_before_images b t r.now.log made.running.now.log held.leaf.running.now.log
-        (change_behind_images b t r.now.log planned.are.running.now.log made.running.now.log planned.are.grows (record { change = made.grows; some = made.some })) held.grows;
+    joins = change_before_images b t r.now.log made.running.now.log held.leaf.running.now.log (record { change = made.grows; some = made.some }) held.grows;
   }
-
-  -- in which the key fits
-  pub split_fits : (t : ℕ) (key : Key) (images : List Numbered) (mid : Engine D d) (planned : AreForKey d before s old r key images mid) (then : Engine D d)
-      (made : Restructured d before s mid planned.are.running t images then) → splits.FitsInLeaf (bodies b made.running.now.log) key
-  split_fits t key images mid planned then made = subst (λ (pages : Pages). splits.FitsInLeaf pages key) (sym made.pages) planned.fits
-
--- a plan of a split is not refused as failed
-plan_failed : {A : Type 0} (e : Fault) → (e ≡ PagesFull) ⊎ (e ≡ Capacity) ⊎ IsOfWriter e → e ≡ Failed → A
-plan_failed e (inl is) failed = absurd (let never : PagesFull ≡ Failed = sym is ∙ failed in cc never)
-plan_failed e (inr (inl is)) failed = absurd (let never : Capacity ≡ Failed = sym is ∙ failed in cc never)
-plan_failed e (inr (inr of)) failed = absurd (not_failed e of failed)
 
 -- no result where it is a refusal
 pub not_ok : {A : Type 0} (result : Result A Fault) (e : Fault) (P : A → Type 0) → IsErrAnd result (λ x. x ≡ e) → IfOk result P
@@ -236,20 +268,18 @@ not_ok (Ok x) e P is = absurd is
 not_ok (Err x) e P is = tt
 
 module _ {D : Type 0} (d : Ghosts D) {b : Base} (before : List Effect) (s : Shown) (old : Engine D d) (r : IsRunning d b before s old) (t : ℕ) (key : Key) (new : Engine D d) (result : Result (Transaction × Frame) Fault) where
-  -- the plan of a split was refused
-  pub plan_refused : (plan : Result (List Numbered) Fault) (e : Fault) → (e ≡ PagesFull) ⊎ (e ≡ Capacity) ⊎ IsOfWriter e → plan ≡ Err e → IsErrAnd result (λ x. x ≡ e) → PlanKept d before s old r key new plan → SplitKept d before s old r t key new result
-  plan_refused plan e causes is here kept =
-      let k : PlanKept d before s old r key new (Err e) = subst (λ (x : Result (List Numbered) Fault). PlanKept d before s old r key new x) is kept in
-      record {
-        ok = not_ok result e (λ x. HasSplitLeaf d before s old r t key x.1.number new) here;
-        begun = handed_on result e (λ x. x ≡ Failed → StandsBehind d b (ChangeJoined t r.now.log) new.writer new.disk) here (λ is. plan_failed e causes is);
-        again = handed_on result e (λ x. (x ≡ Memory) ⊎ (x ≡ PagesFull) → Rests d before s old r new) here k.again;
-        stops = k.stops;
-        cause = handed_on result e (λ x. x ≢ NotAStore) here k.cause;
-        within = not_ok result e (λ x. splits.IsWithin (bodies b r.now.log) key old.max_pages) here;
-        full = handed_on result e (λ x. x ≡ PagesFull → splits.IsOver (bodies b r.now.log) key old.max_pages) here k.full;
-        used_up = handed_on result e (λ x. x ≡ Capacity → IsUsedUp (bodies b r.now.log) key) here k.used_up;
-      }
+  -- no room was made
+  pub room_refused : (e : Fault) → MakeRoomKept d before s old r t key new (Err e) → IsErrAnd result (λ x. x ≡ e) → SplitKept d before s old r t key new result
+  room_refused e kept here = record {
+    ok = not_ok result e (λ x. HasSplitLeaf d before s old r t key x.1.number new) here;
+    begun = handed_on result e (λ x. x ≡ Failed → StandsBehind d b (ChangeJoined t r.now.log) new.writer new.disk) here kept.begun;
+    again = handed_on result e (λ x. (x ≡ Memory) ⊎ (x ≡ PagesFull) → Rests d before s old r new) here kept.again;
+    stops = kept.stops;
+    cause = handed_on result e (λ x. x ≢ NotAStore) here kept.cause;
+    within = not_ok result e (λ x. splits.IsWithin (bodies b r.now.log) key old.max_pages) here;
+    full = handed_on result e (λ x. x ≡ PagesFull → splits.IsOver (bodies b r.now.log) key old.max_pages) here kept.full;
+    used_up = handed_on result e (λ x. x ≡ Capacity → structure.IsUsedUp (bodies b r.now.log) key) here kept.used_up;
+  }
 
   -- or what follows was
   pub split_refused : (e : Fault) → IsOfDrop e → IsErrAnd result (λ x. x ≡ e) → LeavesOnly d old.disk new.disk (Allowed before s) → e ≢ NotAStore
@@ -262,5 +292,5 @@ module _ {D : Type 0} (d : Ghosts D) {b : Base} (before : List Effect) (s : Show
     cause = handed_on result e (λ x. x ≢ NotAStore) here cause;
     within = not_ok result e (λ x. splits.IsWithin (bodies b r.now.log) key old.max_pages) here;
     full = handed_on result e (λ x. x ≡ PagesFull → splits.IsOver (bodies b r.now.log) key old.max_pages) here (λ is. drop_wants e of (inr is));
-    used_up = handed_on result e (λ x. x ≡ Capacity → IsUsedUp (bodies b r.now.log) key) here (drop_capacity e of);
+    used_up = handed_on result e (λ x. x ≡ Capacity → structure.IsUsedUp (bodies b r.now.log) key) here (drop_capacity e of);
   }

@@ -1,5 +1,5 @@
 -- Structure changes within a step, and the limit of pages.
-use Rattle.std.specs.Prelude.{◌≡◌, ◌≢◌, ◌⊎◌, ◌≤◌, ◌-◌, ◌+◌, ◌%◌, ◌^◌, ℕ, Bool, true, false, List, [], Option, None, Some, Result, IfErr, IfOk, OnOk, length}
+use Rattle.std.specs.Prelude.{◌≡◌, ◌≢◌, ◌⊎◌, ◌+◌, ◌%◌, ◌^◌, ℕ, Bool, true, false, List, [], None, Result, IfErr, IfOk, OnOk, length}
 use Rattle.std.specs.FinMap.Entries.{find}
 use Rattle.im_types.specs.Keys.{Key, key_order}
 use Rattle.im_types.specs.LogLaws.{bodies}
@@ -19,14 +19,12 @@ use Rattle.im_disk.specs.Runs.{LeavesOnly}
 use Rattle.im_flush.specs.declared.page_writer.PageWriter.{PageWriter}
 use Rattle.im_pool.specs.Pool as pools
 use Rattle.im_pool.specs.declared.frame.Frame.{Frame}
-use Rattle.im_tree.specs.Levels.{Pages, height, walk}
-use Rattle.im_tree.specs.Good.{IsGoodTree}
+use Rattle.im_tree.specs.Levels.{Pages, walk}
 use Rattle.im_tree.specs.Search.{IsOnWay}
-use Rattle.im_smo.specs.Images.{Numbered}
-use Rattle.im_alloc.specs.Seen.{seen}
 use Rattle.im_split.specs.Plan.{IsWithin, IsOver, FitsInLeaf}
 use Rattle.im_split.specs.Tops.{HasRoomFor}
 use Rattle.im_change.specs.Changes.{GrowsByChange, marks}
+use Rattle.im_structure.specs.Structure.{IsUsedUp}
 use Rattle.im_engine.specs.declared.engine.Engine.{Engine}
 use Rattle.im_engine.specs.declared.transaction.Transaction.{Transaction}
 use Rattle.im_engine.specs.Stands.{Allowed}
@@ -42,47 +40,7 @@ is_of_change (Refused Capacity) = true
 is_of_change (Refused Failed) = true
 is_of_change _ = false
 
--- Page numbers would be used up by the pages that the split of the key's leaf takes, or levels are.
-abbrev pub IsUsedUp : Pages → Key → Type 0
-IsUsedUp pages key = IsOver pages key (2 ^ 32 - 1) ⊎ (height pages ≡ 255)
-
 module _ {D : Type 0} (d : Ghosts D) {b : Base} (before : List Effect) (s : Shown) (old : Engine D d) (was : IsRunning d b before s old) where
-  -- Images in the place of the pages are a good tree with the same walk.
-  pub record AreImages (images : List Numbered) (new : Engine D d) : Type 0 where
-    pub running : IsRunning d b before s new
-    pub good : IsGoodTree (seen running.now images) []
-    pub same : walk (seen running.now images) ≡ walk (bodies b running.now.log)
-    pub still : bodies b running.now.log ≡ bodies b was.now.log
-    pub grows : GrowsByImages b was.now.log running.now.log
-
-  -- In it the key has room in its leaf, and the pages are within the limit. There are some, where its leaf lacks that room.
-  pub record AreForKey (key : Key) (images : List Numbered) (new : Engine D d) : Type 0 where
-    pub are : AreImages images new
-    pub fits : FitsInLeaf (seen are.running.now images) key
-    pub some : (p : ℕ) → IsOnWay (bodies b was.now.log) 0 key p → LacksRoom (bodies b was.now.log p).entries key → 1 ≤ length images
-    pub within : 1 ≤ length images → IsWithin (bodies b was.now.log) key old.max_pages
-
-  -- what the plan of a split keeps
-  pub record PlanKept (key : Key) (new : Engine D d) (result : Result (List Numbered) Fault) : Type 0 where
-    pub ok : IfOk result (λ images. AreForKey key images new)
-    pub again : IfErr result (λ e. (e ≡ Memory) ⊎ (e ≡ PagesFull) → Rests d before s old was new)
-    pub stops : LeavesOnly d old.disk new.disk (Allowed before s)
-    pub cause : IfErr result (λ e. e ≢ NotAStore)
-    pub full : IfErr result (λ e. e ≡ PagesFull → IsOver (bodies b was.now.log) key old.max_pages)
-    pub used_up : IfErr result (λ e. e ≡ Capacity → IsUsedUp (bodies b was.now.log) key)
-
-  -- There are some.
-  pub record AreForDrop (images : List Numbered) (new : Engine D d) : Type 0 where
-    pub are : AreImages images new
-    pub some : 1 ≤ length images
-
-  -- what the plan of a deletion keeps
-  pub record DeletePlanKept (new : Engine D d) (result : Result (List Numbered) Fault) : Type 0 where
-    pub ok : IfOk result (λ images. AreForDrop images new)
-    pub again : IfErr result (λ e. e ≡ Memory → Rests d before s old was new)
-    pub stops : LeavesOnly d old.disk new.disk (Allowed before s)
-    pub cause : IfErr result (λ e. e ≢ NotAStore)
-
   -- The key's leaf is the root, or has entries.
   pub record LeafStays (key : Key) (new : Engine D d) : Type 0 where
     pub rests : Rests d before s old was new
@@ -90,36 +48,28 @@ module _ {D : Type 0} (d : Ghosts D) {b : Base} (before : List Effect) (s : Show
     pub way : IsOnWay (bodies b was.now.log) 0 key page
     pub kept : (page ≡ 1) ⊎ ((bodies b was.now.log page).entries ≢ [])
 
-  -- there are none where the leaf is not spare
-  abbrev pub AreIfAny : Key → Option (List Numbered) → Engine D d → Type 0
-  AreIfAny key None new = LeafStays key new
-  AreIfAny key (Some images) new = AreForDrop images new
-
-  -- what a plan of a deletion keeps that may find nothing to do
-  pub record DropPlanKept (key : Key) (new : Engine D d) (result : Result (Option (List Numbered)) Fault) : Type 0 where
-    pub ok : IfOk result (λ some. AreIfAny key some new)
-    pub again : IfErr result (λ e. e ≡ Memory → Rests d before s old was new)
-    pub stops : LeavesOnly d old.disk new.disk (Allowed before s)
-    pub cause : IfErr result (λ e. e ≢ NotAStore)
-
-  -- A structure change is logged and closed: the pages are those of its images.
-  pub record Restructured (t : ℕ) (images : List Numbered) (new : Engine D d) : Type 0 where
-    pub running : IsRunning d b before s new
-    pub grows : GrowsByChange t was.now.log running.now.log
-    pub some : marks grows.more ≢ []
-    pub pages : bodies b running.now.log ≡ seen was.now images
-
   -- A refusal as failed comes behind records of a structure change.
   abbrev pub BegunKept : {A : Type 0} → ℕ → Engine D d → Result A Fault → Type 0
   BegunKept t new result = IfErr result (λ e. e ≡ Failed → StandsBehind d b (ChangeJoined t was.now.log) new.writer new.disk)
 
-  -- What a structure change keeps. A want of memory leaves all as it was, or is `Failed` behind a record of the change.
-  pub record StructureKept (t : ℕ) (images : List Numbered) (new : Engine D d) (result : Result Transaction Fault) : Type 0 where
-    pub ok : OnOk result (Restructured t images new)
-    pub again : IfErr result (λ e. e ≡ Memory → Rests d before s old was new)
+  -- A structure change of the transaction joined, behind which the key has room in its leaf, and the pages are within the limit.
+  pub record HasMadeRoom (t : ℕ) (key : Key) (new : Engine D d) : Type 0 where
+    pub running : IsRunning d b before s new
+    pub grows : GrowsByChange t was.now.log running.now.log
+    pub some : marks grows.more ≢ []
+    pub same : walk (bodies b running.now.log) ≡ walk (bodies b was.now.log)
+    pub fits : FitsInLeaf (bodies b running.now.log) key
+    pub within : IsWithin (bodies b was.now.log) key old.max_pages
+
+  -- what the split of a leaf keeps that lacks room for its key; a want of memory or of pages leaves all as it was
+  pub record MakeRoomKept (t : ℕ) (key : Key) (new : Engine D d) (result : Result Transaction Fault) : Type 0 where
+    pub ok : OnOk result (HasMadeRoom t key new)
     pub begun : BegunKept t new result
+    pub again : IfErr result (λ e. (e ≡ Memory) ⊎ (e ≡ PagesFull) → Rests d before s old was new)
     pub stops : LeavesOnly d old.disk new.disk (Allowed before s)
     pub cause : IfErr result (λ e. e ≢ NotAStore)
+    pub full : IfErr result (λ e. e ≡ PagesFull → IsOver (bodies b was.now.log) key old.max_pages)
+    pub used_up : IfErr result (λ e. e ≡ Capacity → IsUsedUp (bodies b was.now.log) key)
 
   -- The key's leaf left the tree by a structure change of the transaction.
   pub record LeafLeft (t : ℕ) (new : Engine D d) : Type 0 where

@@ -21,8 +21,7 @@
 //! an insert, or would be left empty by a delete: nothing else joins the log than Images and the step's own record (`AsksWhereWanted`,
 //! `Joined`).
 //!
-//! It stands on `im_restart` for the opening, on `im_search`, `im_split`, `im_delete` and `im_change` for the tree, and on `im_flush` for the
-//! log and the pages; what the logs of such a store are, and the laws of a record that joins one, is `im_serial`'s. Its invariant
+//! It stands on `im_restart` for the opening, on `im_search` and `im_structure` for the tree, and on `im_flush` for the log and the pages; what the logs of such a store are, and the laws of a record that joins one, is `im_serial`'s. Its invariant
 //! (`IsRunning`): the log is one of a store over the tree in which no structure change is open, its Commits are the effects before the life
 //! and those asked in it, each of those that were acknowledged durable; the active transaction's records say what its steps have shown.
 //!

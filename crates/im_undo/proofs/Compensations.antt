@@ -41,7 +41,8 @@ use Rattle.im_analysis.specs.Undo.{Compensates, IsNext, IsUndoable, TakesBack, T
 use Rattle.im_analysis.proofs.Undoing.{undo_goes_on}
 use Rattle.im_undo.specs.Records.{IsOfUndo, compensations, inverse_of, with_compensation}
 use Rattle.im_undo.specs.Undoing.{CompensateKept, HasBegun, IsGoing, IsToUndo, LeavesUndo, TakenBack, TakesIt}
-use Rattle.im_undo.proofs.Begun.{IsPlainCause, result_capacity}
+use Rattle.im_structure.proofs.Changes.{IsPlainCause}
+use Rattle.im_undo.proofs.Begun.{result_capacity}
 use Rattle.im_undo.proofs.Growth.{going_bodies, images_compensate, images_of_undo, left_images, loser_some, same_loser, same_row, still_undoable}
 use Rattle.im_undo.proofs.Shown.{leaf_has, shows_change}
 

@@ -34,7 +34,8 @@ use Rattle.im_analysis.specs.declared.rows.Loser.{Loser}
 use Rattle.im_analysis.specs.Undo.{IsNext}
 use Rattle.im_undo.specs.Records.{compensations, inverse_of}
 use Rattle.im_undo.specs.Undoing.{IsGoing, GoesTo, TakesIt, UsesUp, HasBegun, Restructured, EmptiedKept, HasMadeRoom, SplitKept, IsToUndo, TakenBack, CompensateKept}
-use Rattle.im_undo.proofs.Begun.{IsPlainCause, never_failed, never_capacity, begun_then, begun_since}
+use Rattle.im_structure.proofs.Changes.{IsPlainCause, never_failed, never_capacity}
+use Rattle.im_undo.proofs.Begun.{begun_then, begun_since}
 use Rattle.im_undo.proofs.Growth.{loser_some, grown_front, going_images, left_images, left_then, goes_images, goes_images_none, goes_then, goes_compensations}
 
 -- ---- refusals

@@ -8,5 +8,4 @@ pub mod PlaceCalls
 pub mod Compensations
 pub mod StructureLogs
 pub mod StructureChanges
-pub mod StructurePlans
 pub mod Composing

@@ -1,4 +1,3 @@
 pub mod Records
 pub mod Place
-pub mod DropPlan
 pub mod Undoing

@@ -3,7 +3,6 @@ use Rattle.std.specs.Prelude.{◌≡◌, ◌≢◌, ◌≤◌, ◌⊎◌, ◌-�
 use Rattle.std.specs.FinMap.Entries.{find}
 use Rattle.im_types.specs.declared.fault.Fault.{Fault}
 use Rattle.im_types.specs.declared.fault.Fault.TheVariants.{Capacity, Failed, Memory, NotAStore}
-use Rattle.im_types.specs.declared.page_kind.PageKind.TheVariants.{Free}
 use Rattle.im_types.specs.Keys.{Key, key_order}
 use Rattle.im_types.specs.Records.{What, InsertKey, DeleteKey, Logged}
 use Rattle.im_types.specs.Histories.{Base, History, IsFront}
@@ -26,10 +25,10 @@ use Rattle.im_tree.specs.Theory.{page_tree}
 use Rattle.im_alloc.specs.Seen.{bodies}
 use Rattle.im_change.specs.Changes.{HasRecordOf}
 use Rattle.im_split.specs.Tops.{LacksRoomFor}
-use Rattle.im_split.specs.Plan.{FitsInLeaf, IsOver}
+use Rattle.im_split.specs.Plan.{FitsInLeaf}
+use Rattle.im_structure.specs.Structure.{IsUsedUp}
 use Rattle.im_analysis.specs.Losers.{is_loser, row_of}
 use Rattle.im_analysis.specs.Undo.{IsUndoable, IsNext}
-use Rattle.im_undo.specs.DropPlan.{IsSpare}
 use Rattle.im_undo.specs.Records.{GrowsByUndo, compensations, inverse_of}
 
 -- the walk has the key with the row id that a record put, or lacks the one that it dropped
@@ -47,7 +46,7 @@ TakesIt pages p _ = Unit {0}
 -- The key's leaf lacks room for it, and the pages that its split takes are more than there are numbers for, or the root is of the last level.
 pub record CanNotSplit (pages : Pages) (key : Key) : Type 0 where
   pub lacks : LacksRoomFor pages key
-  pub used_up : IsOver pages key (2 ^ 32 - 1) ⊎ (height pages ≡ 255)
+  pub used_up : IsUsedUp pages key
 
 -- so it is with the key that a record dropped; no other record asks for room
 abbrev pub UsesUp : Pages → What → Type 0
@@ -98,20 +97,6 @@ module _ {D : Type 0} (d : Ghosts D) (b : Base) (base : ℕ) where
     pub stack : to_undo t now.log ≡ to_undo t s.log
     pub map : contents b now.log ≡ contents b s.log
     pub none : compensations goes.grows.more ≡ []
-
-  -- Where the key's leaf was spare, its page is free; where it was not, no structure was changed.
-  pub record Dropped (s : Writer) (e t last undo_next : ℕ) (key : Key) (old : D) (w : PageWriter) (disk : D) : Type 0 where
-    pub made : Restructured s e t last undo_next old w disk
-    pub gone : (spare : IsSpare (bodies s) key) → (bodies made.now spare.page).kind ≡ Free
-    pub only : HasRecordOf t made.goes.grows.more → IsSpare (bodies s) key
-
-  -- what the deletion of a key's leaf keeps; a want of memory leaves all as it was, or is `Failed` behind a record
-  pub record DropKept (s : Writer) (e t undo_next : ℕ) (key : Key) (old : D) (w : PageWriter) (disk : D) (result : Result ℕ Fault) : Type 0 where
-    pub ok : IfOk result (λ last. Dropped s e t last undo_next key old w disk)
-    pub stops : LeavesUndo s t old disk
-    pub cause : IfErr result (λ e. e ≢ NotAStore)
-    pub again : IfErr result (λ e. e ≡ Memory → Evicted d b base s old w disk)
-    pub begun : IfErr result (λ e. e ≡ Failed → HasBegun s t w disk)
 
   -- what the deletion of the leaf keeps that a compensation left empty, which may stay for want of memory
   pub record EmptiedKept (s : Writer) (e t undo_next : ℕ) (old : D) (w : PageWriter) (disk : D) (result : Result ℕ Fault) : Type 0 where

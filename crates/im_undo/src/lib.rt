@@ -5,10 +5,10 @@
 //!
 //! - `place`: that leaf. The page that the record names is looked at first, and taken where it says itself that it is the key's leaf;
 //!   otherwise the leaf is searched from the root.
-//! - `structure`: a leaf without room for a key that comes back is split first, and a leaf other than the root that is left empty
-//!   leaves the tree. Each of these is a nested top action of the transaction that is undone: it is closed, and stays.
 //! - `compensation`: the record with which the key is put back or taken out. It leads on to what the transaction did before.
-//! - `undo`: these in a row, `undo_one`.
+//! - `undo`: these in a row, `undo_one`. A leaf without room for a key that comes back is split first, and a leaf other than the root
+//!   that is left empty leaves the tree (`im_structure`). Each of these is a nested top action of the transaction that is undone: it is
+//!   closed, and stays.
 //!
 //! The contract, for a transaction with no Commit and no End, in a lawful log whose structure changes are all closed: once the newest of
 //! its changes that are left to undo is given, the log has one compensation more, beside structure changes and Images; the
@@ -22,14 +22,13 @@
 //! The invariant, from call to call, is `IsGoing`: redo is over, the log is lawful with no structure change open, and the transaction's
 //! last record and the LSN where its undo goes on are those that the caller hands in. So `GoesTo` puts calls in a row.
 //!
-//! It stands on `im_search` for the way to a leaf, on `im_split` and `im_delete` for the plans of structure changes, on `im_change` for
-//! logging them, on `im_flush` for records that change a page, and on `im_analysis` for what a compensation does to what is left to undo.
+//! It stands on `im_search` for the way to a leaf, on `im_structure` for structure changes, on `im_flush` for records that change a
+//! page, and on `im_analysis` for what a compensation does to what is left to undo.
 #![tactic(auto)]
 
 mod compensation;
 mod laws;
 mod place;
-mod structure;
 #[cfg(test)]
 mod tests;
 mod undo;

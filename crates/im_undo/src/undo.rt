@@ -2,7 +2,6 @@
 
 ghost use Rattle.std.specs.Prelude.{◌≡◌, ◌≢◌, ◌≤◌, ◌⊎◌, ◌↔◌, ℕ, true, false, length, Err, IfErr, OnOk};
 ghost use Rattle.im_types.specs.declared.fault.Fault.TheVariants.{Capacity, Device, Failed, LogFull, Memory, NotAStore};
-ghost use Rattle.im_types.specs.declared.page_kind.PageKind.TheVariants.{Leaf};
 ghost use Rattle.im_types.specs.Histories.{Base};
 ghost use Rattle.im_types.specs.Records.{InsertKey, DeleteKey};
 ghost use Rattle.im_types.specs.Transactions.{is_key};
@@ -11,8 +10,6 @@ ghost use Rattle.im_record.specs.Entry.{view, transaction_of};
 ghost use Rattle.im_record.specs.Spelling.{IsEntry};
 ghost use Rattle.im_log.specs.LogFile.{HasNoRoom};
 ghost use Rattle.im_log.specs.Whats.{what_of};
-ghost use Rattle.im_page.specs.Split.{HasRoom};
-ghost use Rattle.im_pool.specs.Pool.{page_at, IsAt};
 ghost use Rattle.im_flush.specs.PageWriter.{IsReadyWriter};
 ghost use Rattle.im_alloc.specs.Seen.{bodies};
 ghost use Rattle.im_split.specs.Tops.{LacksRoomFor};
@@ -21,34 +18,14 @@ ghost use Rattle.im_undo.specs.Undoing.{IsGoing, IsToUndo, CompensateKept};
 
 use crate::compensation::compensate;
 use crate::place::{leaf_around, leaf_with};
-use crate::structure::{drop_leaf, late, split_leaf};
+use im_change::late;
 use im_disk::Disk;
 use im_flush::PageWriter;
-use im_pool::Frame;
 use im_record::Record;
 use im_search::leaf_for;
+use im_structure::{drop_empty_leaf, has_room, is_last_entry, split_for};
 use im_types::{Fault, Lsn};
 use std::alloc::Global;
-
-// Whether a page that is not the root would be left empty without one of its entries.
-fn is_last_entry(writer: &PageWriter, frame: Frame) -> bool
-    requires at { IsAt writer.now.pool frame }
-    ensures last { result ≡ true → (frame.number ≢ 1) × (length (page_at writer.now.pool frame.number).body.entries ≡ 1) }
-    ensures more { result ≡ false → (frame.number ≡ 1) ⊎ (length (page_at writer.now.pool frame.number).body.entries ≢ 1) }
-{
-    frame.number != 1 && writer.page(frame).len() == 1
-}
-
-// Whether a leaf has room for a key more.
-fn has_room(writer: &PageWriter, frame: Frame, key: &[u8]) -> bool
-    requires at { IsAt writer.now.pool frame }
-    requires leaf { (page_at writer.now.pool frame.number).body.kind ≡ Leaf }
-    requires short { length key.now ≤ 255 }
-    ensures room { result ≡ true → HasRoom true (page_at writer.now.pool frame.number).body.entries (key.now, 0) }
-    ensures full { result ≡ false → ¬ (HasRoom true (page_at writer.now.pool frame.number).body.entries (key.now, 0)) }
-{
-    writer.page(frame).has_room(key.len())
-}
 
 // Takes the key of an insert out of the leaf that it is in now. A leaf other than the root that is left empty leaves the tree.
 fn undo_insert<D: Disk>(
@@ -80,7 +57,7 @@ fn undo_insert<D: Disk>(
     if !spare {
         return Ok(lsn);
     }
-    drop_leaf(
+    let behind = drop_empty_leaf(
         alloc,
         writer,
         disk,
@@ -88,7 +65,11 @@ fn undo_insert<D: Disk>(
         lsn,
         record.prev(),
         key,
-    )
+    )?;
+    match behind {
+        Some(last) => Ok(last),
+        None => Ok(lsn),
+    }
 }
 
 // Puts a key back into its leaf, which has room for it.
@@ -143,7 +124,7 @@ fn put_back_behind_split<D: Disk>(
     ensures no_room { result ≡ Err LogFull → HasNoRoom writer.new.log }
     ensures device { result ≡ Err Device ↔ (D.failed disk.new ≡ true) }
 {
-    let lsn = split_leaf(
+    let lsn = split_for(
         alloc,
         writer,
         disk,
@@ -151,6 +132,7 @@ fn put_back_behind_split<D: Disk>(
         last,
         undo_next,
         key,
+        None,
     )?;
     match put_back(writer, disk, record, lsn, key) {
         Ok(lsn) => Ok(lsn),

@@ -7,10 +7,11 @@ ghost use Rattle.im_types.specs.declared.reply.Reply.TheVariants.{Deleted, Refus
 
 use crate::Engine;
 use crate::engine::pages::breaks;
-use crate::engine::structure::late;
 use crate::transaction::Transaction;
+use im_change::late;
 use im_disk::Disk;
 use im_record::Record;
+use im_structure::is_last_entry;
 use im_types::{Fault, Lsn, PageNo, Reply, Rid, TxnId};
 
 impl<D: Disk> Engine<D> {
@@ -286,7 +287,7 @@ impl<D: Disk> Engine<D> {
             Some(rid) => rid,
             None => return Reply::Absent,
         };
-        let last_entry = self.is_last_entry(frame);
+        let last_entry = is_last_entry(&self.writer, frame);
         let lsn = match self.take(transaction, frame.number, key, rid) {
             Ok(lsn) => lsn,
             Err(fault) => return Reply::Refused(fault),

@@ -11,6 +11,7 @@ use crate::Engine;
 use im_disk::Disk;
 use im_pool::Frame;
 use im_search::leaf_for;
+use im_structure::has_room;
 use im_types::{Fault, PageNo, Rid};
 
 // Whether the engine has failed behind a refusal of its writer of pages.
@@ -117,15 +118,6 @@ impl<D: Disk> Engine<D> {
         ensures room { result ≡ true → ¬ (LacksRoom (page_at self.now.writer.pool frame.number).body.entries key.now) }
         ensures full { result ≡ false → LacksRoom (page_at self.now.writer.pool frame.number).body.entries key.now }
     {
-        self.writer.page(frame).has_room(key.len())
-    }
-
-    // Whether a page that is not the root would be left empty without one of its entries.
-    pub(crate) fn is_last_entry(&self, frame: Frame) -> bool
-        requires at { IsAt self.now.writer.pool frame }
-        ensures last { result ≡ true → (frame.number ≢ 1) × (length (page_at self.now.writer.pool frame.number).body.entries ≡ 1) }
-        ensures more { result ≡ false → (frame.number ≡ 1) ⊎ (length (page_at self.now.writer.pool frame.number).body.entries ≢ 1) }
-    {
-        frame.number != 1 && self.writer.page(frame).len() == 1
+        has_room(&self.writer, frame, key)
     }
 }

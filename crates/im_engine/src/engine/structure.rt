@@ -6,34 +6,11 @@ ghost use Rattle.im_types.specs.declared.fault.Fault.TheVariants.{LogFull, Devic
 use crate::Engine;
 use crate::engine::pages::breaks;
 use crate::transaction::Transaction;
-use im_delete::plan_delete;
+use im_change::late;
 use im_disk::Disk;
 use im_pool::Frame;
-use im_smo::Images;
-use im_split::plan_split;
+use im_structure::{drop_empty_leaf, split_for};
 use im_types::Fault;
-
-// What a refusal is answered as behind the first record of a structure change: for want of memory the engine fails.
-pub(crate) fn late(fault: Fault) -> Fault
-    ensures memory { fault ≡ Memory → result ≡ Failed }
-    ensures others { fault ≢ Memory → result ≡ fault }
-{
-    match fault {
-        Fault::Memory => Fault::Failed,
-        _ => fault,
-    }
-}
-
-// Whether a refusal came for want of memory.
-fn wants_memory(fault: Fault) -> bool
-    ensures wants { result ≡ true → fault ≡ Memory }
-    ensures other { result ≡ false → fault ≢ Memory }
-{
-    match fault {
-        Fault::Memory => true,
-        _ => false,
-    }
-}
 
 impl<D: Disk> Engine<D> {
     ghost use Rattle.im_types.specs.Histories.{Base};
@@ -44,87 +21,23 @@ impl<D: Disk> Engine<D> {
     ghost use Rattle.im_types.specs.declared.page_kind.PageKind.TheVariants.{Leaf};
     ghost use Rattle.im_log.specs.LogFile.{HasNoRoom};
     ghost use Rattle.im_pool.specs.Pool.{page_at, IsAt};
-    ghost use Rattle.im_tree.specs.Levels.{walk};
-    ghost use Rattle.im_tree.specs.Good.{IsGoodTree};
     ghost use Rattle.im_tree.specs.Search.{IsOnWay};
-    ghost use Rattle.im_alloc.specs.Seen.{seen};
     ghost use Rattle.im_engine.specs.Running.{IsRunning};
-    ghost use Rattle.im_engine.specs.Structure.{PlanKept, StructureKept, RoomKept, SplitKept, DeletePlanKept, DropPlanKept, DropKept};
+    ghost use Rattle.im_engine.specs.Structure.{MakeRoomKept, RoomKept, SplitKept, DropKept};
     ghost use Rattle.im_engine.specs.Checks.{LacksRoom, active_number};
 
-    // The pages that the split of a key's leaf has to write, as images.
-    fn plan_split(&mut self, key: &[u8]) -> Result<Images, Fault>
-        requires working { self.old.failed ≡ false }
-        requires short { length key.now ≤ 255 }
-        ensures kept { (b : Base) (before : List Effect) (s : Shown) (r : IsRunning D.Disk b before s self.old) → PlanKept D.Disk before s self.old r key.now self.new result }
-        ensures works { OnOk result (self.new.failed ≡ false) }
-        ensures fails { IfErr result (λ e. self.new.failed ≡ breaks (number_of e)) }
-        ensures causes { IfErr result (λ e. (e ≡ PagesFull) ⊎ (e ≡ Capacity) ⊎ (e ≡ LogFull) ⊎ (e ≡ Memory) ⊎ (e ≡ NotAStore) ⊎ (e ≡ Device)) }
-        ensures device { D.failed self.new.disk ≡ true → result ≡ Err Device }
-        ensures failed { result ≡ Err Device → D.failed self.new.disk ≡ true }
-        ensures no_room { result ≡ Err LogFull → HasNoRoom self.new.writer.log }
-        ensures going { self.new.going ≡ self.old.going }
-        ensures next { self.new.next ≡ self.old.next }
-        ensures max_pages { self.new.max_pages ≡ self.old.max_pages }
-        ensures leaves_kept { self.new.leaves_kept ≡ self.old.leaves_kept }
-    {
-        self.failed = true;
-        let limit = Some(self.max_pages);
-        match plan_split(self.alloc, &mut self.writer, &mut self.disk, key, limit) {
-            Ok(images) => {
-                self.failed = false;
-                Ok(images)
-            }
-            Err(fault) => {
-                self.failed = breaks(fault);
-                Err(fault)
-            }
-        }
-    }
-
-    // The pages that have to be written so that the empty leaf of a key leaves the tree, as images.
-    fn plan_delete(&mut self, key: &[u8]) -> Result<Images, Fault>
-        requires working { self.old.failed ≡ false }
-        ensures kept { (b : Base) (before : List Effect) (s : Shown) (r : IsRunning D.Disk b before s self.old) (p : ℕ) → IsOnWay (bodies b r.now.log) 0 key.now p → (bodies b r.now.log p).entries ≡ [] → p ≢ 1
-            → DeletePlanKept D.Disk before s self.old r self.new result }
-        ensures works { OnOk result (self.new.failed ≡ false) }
-        ensures fails { IfErr result (λ e. self.new.failed ≡ breaks (number_of e)) }
-        ensures causes { IfErr result (λ e. (e ≡ LogFull) ⊎ (e ≡ Memory) ⊎ (e ≡ NotAStore) ⊎ (e ≡ Device)) }
-        ensures device { D.failed self.new.disk ≡ true → result ≡ Err Device }
-        ensures failed { result ≡ Err Device → D.failed self.new.disk ≡ true }
-        ensures no_room { result ≡ Err LogFull → HasNoRoom self.new.writer.log }
-        ensures going { self.new.going ≡ self.old.going }
-        ensures next { self.new.next ≡ self.old.next }
-        ensures max_pages { self.new.max_pages ≡ self.old.max_pages }
-        ensures leaves_kept { self.new.leaves_kept ≡ self.old.leaves_kept }
-    {
-        self.failed = true;
-        match plan_delete(self.alloc, &mut self.writer, &mut self.disk, key) {
-            Ok(images) => {
-                self.failed = false;
-                Ok(images)
-            }
-            Err(fault) => {
-                self.failed = breaks(fault);
-                Err(fault)
-            }
-        }
-    }
-
-    // Logs a structure change of the active transaction, and makes its pages so. Answers the transaction behind it. Refused `Memory` with
-    // all as it was; after another refusal the engine has failed, as the change may be open in the log.
-    fn restructure(
-        &mut self,
-        transaction: Transaction,
-        images: &Images,
-    ) -> Result<Transaction, Fault>
+    // Splits the leaf of a key, which lacks room for it, as a structure change of the active transaction. Answers the transaction behind
+    // it. Refused for want of memory or of pages with all as it was; after another refusal the engine has failed, as the change may be
+    // open in the log.
+    fn make_room(&mut self, transaction: Transaction, key: &[u8]) -> Result<Transaction, Fault>
         requires working { self.old.failed ≡ false }
         requires owned { 1 ≤ transaction.number }
-        ensures kept { (b : Base) (before : List Effect) (s : Shown) (r : IsRunning D.Disk b before s self.old) → self.old.going ≡ Some transaction → 1 ≤ length images.now → IsGoodTree (seen r.now images.now) []
-            → walk (seen r.now images.now) ≡ walk (bodies b r.now.log) → StructureKept D.Disk before s self.old r transaction.number images.now self.new result }
+        requires short { length key.now ≤ 255 }
+        ensures kept { (b : Base) (before : List Effect) (s : Shown) (r : IsRunning D.Disk b before s self.old) → self.old.going ≡ Some transaction
+            → (p : ℕ) → IsOnWay (bodies b r.now.log) 0 key.now p → LacksRoom (bodies b r.now.log p).entries key.now → MakeRoomKept D.Disk before s self.old r transaction.number key.now self.new result }
         ensures ok { IfOk result (λ t. (self.new.failed ≡ false) × (self.new.going ≡ Some t) × (t.number ≡ transaction.number)) }
         ensures fails { IfErr result (λ e. (self.new.failed ≡ breaks (number_of e)) × (self.new.going ≡ self.old.going)) }
-        ensures causes { IfErr result (λ e. (e ≡ Failed) ⊎ (e ≡ LogFull) ⊎ (e ≡ Memory) ⊎ (e ≡ NotAStore) ⊎ (e ≡ Device)) }
+        ensures causes { IfErr result (λ e. (e ≡ PagesFull) ⊎ (e ≡ Capacity) ⊎ (e ≡ Failed) ⊎ (e ≡ LogFull) ⊎ (e ≡ Memory) ⊎ (e ≡ NotAStore) ⊎ (e ≡ Device)) }
         ensures device { D.failed self.new.disk ≡ true → result ≡ Err Device }
         ensures failed { result ≡ Err Device → D.failed self.new.disk ≡ true }
         ensures no_room { result ≡ Err LogFull → HasNoRoom self.new.writer.log }
@@ -133,13 +46,15 @@ impl<D: Disk> Engine<D> {
         ensures leaves_kept { self.new.leaves_kept ≡ self.old.leaves_kept }
     {
         self.failed = true;
-        match im_change::run(
+        match split_for(
+            self.alloc,
             &mut self.writer,
             &mut self.disk,
-            images,
             transaction.number,
             transaction.last,
             transaction.undo_next,
+            key,
+            Some(self.max_pages),
         ) {
             Ok(lsn) => {
                 let behind = Transaction {
@@ -218,42 +133,9 @@ impl<D: Disk> Engine<D> {
         ensures max_pages { self.new.max_pages ≡ self.old.max_pages }
         ensures leaves_kept { self.new.leaves_kept ≡ self.old.leaves_kept }
     {
-        let images = self.plan_split(key)?;
-        let transaction = self.restructure(transaction, &images)?;
+        let transaction = self.make_room(transaction, key)?;
         let frame = self.leaf_with_room(key)?;
         Ok((transaction, frame))
-    }
-
-    // Whether the leaf of a key is not the root, and has no entry.
-    fn is_spare(&self, frame: Frame) -> bool
-        requires at { IsAt self.now.writer.pool frame }
-        ensures spare { result ≡ true → (frame.number ≢ 1) × ((page_at self.now.writer.pool frame.number).body.entries ≡ []) }
-        ensures other { result ≡ false → (frame.number ≡ 1) ⊎ ((page_at self.now.writer.pool frame.number).body.entries ≢ []) }
-    {
-        frame.number != 1 && self.writer.page(frame).len() == 0
-    }
-
-    // The pages that have to be written so that the leaf of a key leaves the tree, as images, where it is empty and not the root.
-    fn plan_drop(&mut self, key: &[u8]) -> Result<Option<Images>, Fault>
-        requires working { self.old.failed ≡ false }
-        ensures kept { (b : Base) (before : List Effect) (s : Shown) (r : IsRunning D.Disk b before s self.old) → DropPlanKept D.Disk before s self.old r key.now self.new result }
-        ensures works { OnOk result (self.new.failed ≡ false) }
-        ensures fails { IfErr result (λ e. self.new.failed ≡ breaks (number_of e)) }
-        ensures causes { IfErr result (λ e. (e ≡ LogFull) ⊎ (e ≡ Memory) ⊎ (e ≡ NotAStore) ⊎ (e ≡ Device)) }
-        ensures device { D.failed self.new.disk ≡ true → result ≡ Err Device }
-        ensures failed { result ≡ Err Device → D.failed self.new.disk ≡ true }
-        ensures no_room { result ≡ Err LogFull → HasNoRoom self.new.writer.log }
-        ensures going { self.new.going ≡ self.old.going }
-        ensures next { self.new.next ≡ self.old.next }
-        ensures max_pages { self.new.max_pages ≡ self.old.max_pages }
-        ensures leaves_kept { self.new.leaves_kept ≡ self.old.leaves_kept }
-    {
-        let frame = self.leaf(key)?;
-        if !self.is_spare(frame) {
-            return Ok(None);
-        }
-        let images = self.plan_delete(key)?;
-        Ok(Some(images))
     }
 
     // Takes the leaf of a key out of the tree, where it is empty and not the root. For want of memory it stays, is counted, and the answer is false.
@@ -274,25 +156,31 @@ impl<D: Disk> Engine<D> {
         ensures uncounted { IfOk result (λ done. done ≡ true → self.new.leaves_kept ≡ self.old.leaves_kept) }
         ensures refused { IfErr result (λ e. self.new.leaves_kept ≡ self.old.leaves_kept) }
     {
-        match self.plan_drop(key) {
-            Ok(None) => Ok(true),
-            Ok(Some(images)) => match self.restructure(transaction, &images) {
-                Ok(_) => Ok(true),
-                Err(fault) => {
-                    if wants_memory(fault) {
-                        self.leaves_kept = self.leaves_kept.wrapping_add(1);
-                        return Ok(false);
-                    }
-                    Err(fault)
-                }
-            },
-            Err(fault) => {
-                if wants_memory(fault) {
-                    self.leaves_kept = self.leaves_kept.wrapping_add(1);
-                    return Ok(false);
-                }
-                Err(fault)
+        self.failed = true;
+        match drop_empty_leaf(
+            self.alloc,
+            &mut self.writer,
+            &mut self.disk,
+            transaction.number,
+            transaction.last,
+            transaction.undo_next,
+            key,
+        ) {
+            Ok(Some(lsn)) => {
+                self.going = Some(Transaction {
+                    number: transaction.number,
+                    last: lsn,
+                    undo_next: transaction.undo_next,
+                });
+                self.failed = false;
+                Ok(true)
             }
+            Ok(None) => {
+                self.leaves_kept = self.leaves_kept.wrapping_add(1);
+                self.failed = false;
+                Ok(false)
+            }
+            Err(fault) => Err(fault),
         }
     }
 }

@@ -1,6 +1,8 @@
-use Rattle.std.proofs.Common.{◌≡◌, Err, Ok}
+use Rattle.std.proofs.Common.{◌≡◌, ℕ, Option, Err, Ok, subst}
 use Rattle.im_record.specs.Entry.{Entry, view, transaction_of}
+use Rattle.im_structure.specs.Structure.{DropKept}
 use Rattle.im_undo.proofs.Growth.{going_tree}
+use Rattle.im_undo.proofs.StructureChanges.{going_unfinished, emptied, emptied_none, emptied_refused}
 use Rattle.im_undo.proofs.Composing.{place_refused, insert_found, refused_on, leaf_dropped}
 use Rattle.im_undo.proofs.undo.undo_insert.Goals as goal
 
@@ -28,12 +30,54 @@ returns-then-not-spare-clause-kept g c b base s e undo_next rid same going to =
     insert_found g.D.Disk b base s e t entry c.args.disk.now c.args.last undo_next c.args.writer.now going to c.args.key.now c.in_ok-frame.frame.number c.leaf_with.new.writer c.leaf_with.new.disk found
     c.compensate.new.writer c.compensate.new.disk (Ok c.in_ok-lsn.lsn) rid same (λ now goes next takes. c.in_ok-lsn.ensures.kept b base now e undo_next goes next takes)
 
-pub returns-clause-kept : goal.returns-clause-kept
-returns-clause-kept g c b base s e undo_next rid same going to =
+pub returns-in_err-behind-clause-kept : goal.returns-in_err-behind-clause-kept
+returns-in_err-behind-clause-kept g c b base s e undo_next rid same going to =
     let entry : Entry = view c.args.«record».now in
     let t = transaction_of entry in
     let found = (c.in_ok-frame.ensures.kept b base s (going_tree g.D.Disk b base s e t c.args.last undo_next c.args.writer.now c.args.disk.now going)).ok in
     let first = insert_found g.D.Disk b base s e t entry c.args.disk.now c.args.last undo_next c.args.writer.now going to c.args.key.now c.in_ok-frame.frame.number c.leaf_with.new.writer c.leaf_with.new.disk found
     c.compensate.new.writer c.compensate.new.disk (Ok c.in_ok-lsn.lsn) rid same (λ now goes next takes. c.in_ok-lsn.ensures.kept b base now e undo_next goes next takes) in
-    leaf_dropped g.D.Disk b base s e t entry c.args.disk.now c.in_ok-lsn.lsn c.compensate.new.writer c.compensate.new.disk c.drop_leaf.new.writer c.drop_leaf.new.disk first c.drop_leaf.result
-    c.transaction.result c.prev.result c.transaction.ensures c.prev.ensures c.drop_leaf.ensures.causes (λ now goes. c.drop_leaf.ensures.kept b base now e goes)
+    let u = c.transaction.result in
+    let m = c.prev.result in
+    let v = c.compensate.new.writer in
+    let mid = c.compensate.new.disk in
+    let w = c.drop_empty_leaf.new.writer in
+    let new = c.drop_empty_leaf.new.disk in
+    let f = c.in_err-behind.field-0.0 in
+    refused_on g.D.Disk b base s e t entry c.args.disk.now w new f c.from_residual-in_err-behind.result c.from_residual-in_err-behind.ensures.1
+    (leaf_dropped g.D.Disk b base s e t entry c.args.disk.now c.in_ok-lsn.lsn v mid w new first (Err f) u m c.transaction.ensures c.prev.ensures c.in_err-behind.ensures.causes
+    (λ now goes. emptied_refused g.D.Disk b base now e u c.in_ok-lsn.lsn m v mid goes c.args.key.now w new f (c.in_err-behind.ensures.kept b base now e (going_unfinished g.D.Disk b base now e u c.in_ok-lsn.lsn m v mid goes))))
+
+pub returns-in-Some-clause-kept : goal.returns-in-Some-clause-kept
+returns-in-Some-clause-kept g c b base s e undo_next rid same going to =
+    let entry : Entry = view c.args.«record».now in
+    let t = transaction_of entry in
+    let found = (c.in_ok-frame.ensures.kept b base s (going_tree g.D.Disk b base s e t c.args.last undo_next c.args.writer.now c.args.disk.now going)).ok in
+    let first = insert_found g.D.Disk b base s e t entry c.args.disk.now c.args.last undo_next c.args.writer.now going to c.args.key.now c.in_ok-frame.frame.number c.leaf_with.new.writer c.leaf_with.new.disk found
+    c.compensate.new.writer c.compensate.new.disk (Ok c.in_ok-lsn.lsn) rid same (λ now goes next takes. c.in_ok-lsn.ensures.kept b base now e undo_next goes next takes) in
+    let u = c.transaction.result in
+    let m = c.prev.result in
+    let v = c.compensate.new.writer in
+    let mid = c.compensate.new.disk in
+    let w = c.drop_empty_leaf.new.writer in
+    let new = c.drop_empty_leaf.new.disk in
+    leaf_dropped g.D.Disk b base s e t entry c.args.disk.now c.in_ok-lsn.lsn v mid w new first (Ok c.in-Some.last) u m c.transaction.ensures c.prev.ensures tt
+    (λ now goes. emptied g.D.Disk b base now e u c.in_ok-lsn.lsn m v mid goes c.args.key.now w new c.in-Some.last
+    (subst (λ (o : Option ℕ). DropKept g.D.Disk b base now e u m c.args.key.now mid w new (Ok o)) c.in-Some.is (c.in_ok-behind.ensures.kept b base now e (going_unfinished g.D.Disk b base now e u c.in_ok-lsn.lsn m v mid goes))))
+
+pub returns-in-None-clause-kept : goal.returns-in-None-clause-kept
+returns-in-None-clause-kept g c b base s e undo_next rid same going to =
+    let entry : Entry = view c.args.«record».now in
+    let t = transaction_of entry in
+    let found = (c.in_ok-frame.ensures.kept b base s (going_tree g.D.Disk b base s e t c.args.last undo_next c.args.writer.now c.args.disk.now going)).ok in
+    let first = insert_found g.D.Disk b base s e t entry c.args.disk.now c.args.last undo_next c.args.writer.now going to c.args.key.now c.in_ok-frame.frame.number c.leaf_with.new.writer c.leaf_with.new.disk found
+    c.compensate.new.writer c.compensate.new.disk (Ok c.in_ok-lsn.lsn) rid same (λ now goes next takes. c.in_ok-lsn.ensures.kept b base now e undo_next goes next takes) in
+    let u = c.transaction.result in
+    let m = c.prev.result in
+    let v = c.compensate.new.writer in
+    let mid = c.compensate.new.disk in
+    let w = c.drop_empty_leaf.new.writer in
+    let new = c.drop_empty_leaf.new.disk in
+    leaf_dropped g.D.Disk b base s e t entry c.args.disk.now c.in_ok-lsn.lsn v mid w new first (Ok c.in_ok-lsn.lsn) u m c.transaction.ensures c.prev.ensures tt
+    (λ now goes. emptied_none g.D.Disk b base now e u c.in_ok-lsn.lsn m v mid goes c.args.key.now w new
+    (subst (λ (o : Option ℕ). DropKept g.D.Disk b base now e u m c.args.key.now mid w new (Ok o)) c.in-None.is (c.in_ok-behind.ensures.kept b base now e (going_unfinished g.D.Disk b base now e u c.in_ok-lsn.lsn m v mid goes))))

@@ -1,38 +1,33 @@
-use Rattle.std.proofs.Common.{refl, ◌∙◌, subst, List, Option, Ok}
-use Rattle.im_smo.specs.Images.{Numbered}
-use Rattle.im_engine.specs.Structure.{DropPlanKept}
-use Rattle.im_engine.proofs.StructureSteps.{dropped, not_dropped, drop_wanted, stays, stays_for_memory, drop_failed, counted}
+use Rattle.std.proofs.Common.{ℕ, Option, Ok, refl, subst}
+use Rattle.im_structure.specs.Structure as structure
+use Rattle.im_engine.proofs.Structure.{unfinished, dropped, stays, not_dropped}
 use Rattle.im_engine.proofs.engine.Engine.drop_leaf.Goals as goal
-
-pub returns-in-Ok-None-clause-kept : goal.returns-in-Ok-None-clause-kept
-returns-in-Ok-None-clause-kept g c b before s r going =
-    stays g.D.Disk before s c.args.self.now r c.args.transaction.number c.args.key.now c.plan_drop.new.self
-    (subst (λ (o : Option (List Numbered)). DropPlanKept g.D.Disk before s c.args.self.now r c.args.key.now c.plan_drop.new.self (Ok o)) c.in-Ok-None.field-0-is (c.in-Ok-None.ensures.kept b before s r))
-
-pub returns-in-Ok-clause-kept : goal.returns-in-Ok-clause-kept
-returns-in-Ok-clause-kept g c b before s r going =
-    let plan = subst (λ (o : Option (List Numbered)). DropPlanKept g.D.Disk before s c.args.self.now r c.args.key.now c.plan_drop.new.self (Ok o)) c.in-Ok-Some.field-0-is (c.in-Ok-Some.ensures.kept b before s r) in
-    dropped g.D.Disk before s c.args.self.now r c.args.key.now c.plan_drop.new.self c.in-Ok-Some.images plan c.restructure.new.self c.args.transaction.number c.in-Ok.field-0
-    (c.in-Ok.ensures.kept b before s plan.ok.are.running (c.in-Ok-Some.ensures.going ∙ going) plan.ok.some plan.ok.are.good plan.ok.are.same)
-
-pub returns-then-wants_memory-clause-kept : goal.returns-then-wants_memory-clause-kept
-returns-then-wants_memory-clause-kept g c b before s r going =
-    let plan = subst (λ (o : Option (List Numbered)). DropPlanKept g.D.Disk before s c.args.self.now r c.args.key.now c.plan_drop.new.self (Ok o)) c.in-Ok-Some.field-0-is (c.in-Ok-Some.ensures.kept b before s r) in
-    counted g.D.Disk before s c.args.self.now r c.args.transaction.number c.args.key.now c.restructure.new.self _ refl refl refl refl
-    (drop_wanted g.D.Disk before s c.args.self.now r c.args.key.now c.plan_drop.new.self c.in-Ok-Some.images plan c.restructure.new.self c.args.transaction.number c.in-Err-restructure.fault (c.wants_memory.ensures.wants c.if-wants_memory.true)
-    (c.in-Err-restructure.ensures.kept b before s plan.ok.are.running (c.in-Ok-Some.ensures.going ∙ going) plan.ok.some plan.ok.are.good plan.ok.are.same))
 
 pub returns-in-Ok-Some-clause-kept : goal.returns-in-Ok-Some-clause-kept
 returns-in-Ok-Some-clause-kept g c b before s r going =
-    let plan = subst (λ (o : Option (List Numbered)). DropPlanKept g.D.Disk before s c.args.self.now r c.args.key.now c.plan_drop.new.self (Ok o)) c.in-Ok-Some.field-0-is (c.in-Ok-Some.ensures.kept b before s r) in
-    not_dropped g.D.Disk before s c.args.self.now r c.args.key.now c.plan_drop.new.self c.in-Ok-Some.images plan c.restructure.new.self c.args.transaction.number c.in-Err-restructure.fault c.in-Err-restructure.ensures.causes (c.wants_memory.ensures.other c.if-wants_memory.false)
-    (c.in-Err-restructure.ensures.kept b before s plan.ok.are.running (c.in-Ok-Some.ensures.going ∙ going) plan.ok.some plan.ok.are.good plan.ok.are.same)
+    let old = c.args.self.now in
+    let t = c.args.transaction in
+    let key = c.args.key.now in
+    let w = c.drop_empty_leaf.new.writer in
+    let new = c.drop_empty_leaf.new.disk in
+    dropped g.D.Disk before s old r _ refl t going c.requires.owned key c.in-Ok-Some.lsn
+    (subst (λ (o : Option ℕ). structure.DropKept g.D.Disk b r.base r.now r.redo_end t.number t.undo_next key old.disk w new (Ok o)) c.in-Ok-Some.field-0-is
+    (c.in-Ok-Some.ensures.kept b r.base r.now r.redo_end (unfinished g.D.Disk before s old r t going))) refl
 
-pub returns-then-wants_memory-2-clause-kept : goal.returns-then-wants_memory-2-clause-kept
-returns-then-wants_memory-2-clause-kept g c b before s r going =
-    counted g.D.Disk before s c.args.self.now r c.args.transaction.number c.args.key.now c.plan_drop.new.self _ refl refl refl refl
-    (stays_for_memory g.D.Disk before s c.args.self.now r c.args.transaction.number c.args.key.now c.plan_drop.new.self c.in-Err.fault (c.wants_memory-in-Err.ensures.wants c.if-wants_memory-2.true) (c.in-Err.ensures.kept b before s r))
+pub returns-in-Ok-None-clause-kept : goal.returns-in-Ok-None-clause-kept
+returns-in-Ok-None-clause-kept g c b before s r going =
+    let old = c.args.self.now in
+    let t = c.args.transaction in
+    let key = c.args.key.now in
+    let w = c.drop_empty_leaf.new.writer in
+    let new = c.drop_empty_leaf.new.disk in
+    stays g.D.Disk before s old r _ refl t going c.requires.owned key
+    (subst (λ (o : Option ℕ). structure.DropKept g.D.Disk b r.base r.now r.redo_end t.number t.undo_next key old.disk w new (Ok o)) c.in-Ok-None.field-0-is
+    (c.in-Ok-None.ensures.kept b r.base r.now r.redo_end (unfinished g.D.Disk before s old r t going))) refl
 
-pub returns-clause-kept : goal.returns-clause-kept
-returns-clause-kept g c b before s r going =
-    drop_failed g.D.Disk before s c.args.self.now r c.args.transaction.number c.args.key.now c.plan_drop.new.self c.in-Err.fault (c.wants_memory-in-Err.ensures.other c.if-wants_memory-2.false) c.in-Err.ensures.causes (c.in-Err.ensures.kept b before s r)
+pub returns-in-Err-clause-kept : goal.returns-in-Err-clause-kept
+returns-in-Err-clause-kept g c b before s r going =
+    let old = c.args.self.now in
+    let t = c.args.transaction in
+    not_dropped g.D.Disk before s old r _ refl t going c.requires.owned c.args.key.now c.in-Err.fault c.in-Err.ensures.causes
+    (c.in-Err.ensures.kept b r.base r.now r.redo_end (unfinished g.D.Disk before s old r t going))

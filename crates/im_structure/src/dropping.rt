@@ -1,7 +1,7 @@
-//! Structure changes that an undo needs, as nested top actions of the transaction that is undone.
+//! An empty leaf leaves the tree.
 
-ghost use Rattle.std.specs.Prelude.{◌≡◌, ◌≢◌, ◌≤◌, ◌⊎◌, ◌↔◌, ℕ, [], true, false, length, Err, IfErr, OnOk};
-ghost use Rattle.im_types.specs.declared.fault.Fault.TheVariants.{Capacity, Device, Failed, LogFull, Memory, NotAStore};
+ghost use Rattle.std.specs.Prelude.{◌≡◌, ◌≢◌, ◌≤◌, ◌⊎◌, ◌↔◌, ℕ, [], true, false, Err, IfErr, OnOk};
+ghost use Rattle.im_types.specs.declared.fault.Fault.TheVariants.{Device, Failed, LogFull, Memory, NotAStore};
 ghost use Rattle.im_types.specs.Histories.{Base};
 ghost use Rattle.im_types.specs.Writer.{Writer};
 ghost use Rattle.im_log.specs.LogFile.{HasNoRoom};
@@ -9,8 +9,8 @@ ghost use Rattle.im_pool.specs.Pool.{page_at, IsAt};
 ghost use Rattle.im_flush.specs.PageWriter.{IsReadyWriter};
 ghost use Rattle.im_search.specs.Found.{HasTree};
 ghost use Rattle.im_search.specs.Kept.{CallKept};
-ghost use Rattle.im_undo.specs.DropPlan.{IsDropPlan};
-ghost use Rattle.im_undo.specs.Undoing.{IsGoing, SplitKept, DropKept, EmptiedKept};
+ghost use Rattle.im_structure.specs.DropPlan.{IsDropPlan};
+ghost use Rattle.im_structure.specs.Structure.{IsUnfinished, SpareKept, DropKept};
 
 use im_change::run;
 use im_delete::plan_delete;
@@ -19,20 +19,8 @@ use im_flush::PageWriter;
 use im_pool::Frame;
 use im_search::leaf_for;
 use im_smo::Images;
-use im_split::plan_split;
 use im_types::{Fault, Lsn, TxnId};
 use std::alloc::Global;
-
-// What a refusal is answered as behind the first record: for want of memory there is no way back then.
-pub(crate) fn late(fault: Fault) -> Fault
-    ensures memory { fault ≡ Memory → result ≡ Failed }
-    ensures others { fault ≢ Memory → result ≡ fault }
-{
-    match fault {
-        Fault::Memory => Fault::Failed,
-        _ => fault,
-    }
-}
 
 // Whether a refusal came for want of memory.
 fn wants_memory(fault: Fault) -> bool
@@ -43,40 +31,6 @@ fn wants_memory(fault: Fault) -> bool
         Fault::Memory => true,
         _ => false,
     }
-}
-
-/// Splits the leaf of a key where it lacks room for the key, whatever limit of pages there is. It answers the LSN of the
-/// transaction's last record, which is the old one where nothing was split.
-///
-/// Refused `Capacity` where page numbers or levels are used up, `Memory` before the first record and `Failed` where memory is wanted
-/// behind it; otherwise as `PageWriter::get` is.
-pub(crate) fn split_leaf<D: Disk>(
-    alloc: Global,
-    writer: &mut PageWriter,
-    disk: &mut D,
-    transaction: TxnId,
-    last: Lsn,
-    undo_next: Lsn,
-    key: &[u8],
-) -> Result<Lsn, Fault>
-    requires ready { IsReadyWriter D.Disk writer.old disk.old }
-    requires working { writer.old.failed ≡ false }
-    requires owner { 1 ≤ transaction }
-    requires short { length key.now ≤ 255 }
-    ensures ready { IsReadyWriter D.Disk writer.new disk.new }
-    ensures kept { (b : Base) (base : ℕ) (s : Writer) (e : ℕ) → IsGoing D.Disk b base s e transaction last undo_next writer.old disk.old
-        → SplitKept D.Disk b base s e transaction undo_next key.now disk.old writer.new disk.new result }
-    ensures works { OnOk result (writer.new.failed ≡ false) }
-    ensures fails { IfErr result (λ e. (writer.new.failed ≡ false) ↔ ((e ≡ Memory) ⊎ (e ≡ NotAStore) ⊎ (e ≡ Capacity) ⊎ (e ≡ Failed))) }
-    ensures causes { IfErr result (λ e. (e ≡ Capacity) ⊎ (e ≡ Failed) ⊎ (e ≡ LogFull) ⊎ (e ≡ Memory) ⊎ (e ≡ NotAStore) ⊎ (e ≡ Device)) }
-    ensures no_room { result ≡ Err LogFull → HasNoRoom writer.new.log }
-    ensures device { result ≡ Err Device ↔ (D.failed disk.new ≡ true) }
-{
-    let images = plan_split(alloc, writer, disk, key, None)?;
-    if images.len() == 0 {
-        return Ok(last);
-    }
-    run(writer, disk, &images, transaction, last, undo_next)
 }
 
 // Whether the leaf of a key is not the root, and has no entry.
@@ -114,7 +68,7 @@ fn plan_drop<D: Disk>(
 }
 
 // Takes the leaf of a key out of the tree where it is empty and not the root. It answers the LSN of the transaction's last record,
-// which is the old one where the leaf stays. Refused as `split_leaf` is, but for `Capacity`.
+// which is the old one where the leaf stays. Refused as `drop_empty_leaf` is, and `Memory` with all as it was.
 fn drop_spare<D: Disk>(
     alloc: Global,
     writer: &mut PageWriter,
@@ -128,8 +82,8 @@ fn drop_spare<D: Disk>(
     requires working { writer.old.failed ≡ false }
     requires owner { 1 ≤ transaction }
     ensures ready { IsReadyWriter D.Disk writer.new disk.new }
-    ensures kept { (b : Base) (base : ℕ) (s : Writer) (e : ℕ) → IsGoing D.Disk b base s e transaction last undo_next writer.old disk.old
-        → DropKept D.Disk b base s e transaction undo_next key.now disk.old writer.new disk.new result }
+    ensures kept { (b : Base) (base : ℕ) (s : Writer) (e : ℕ) → IsUnfinished D.Disk b base s e transaction last undo_next writer.old disk.old
+        → SpareKept D.Disk b base s e transaction undo_next key.now disk.old writer.new disk.new result }
     ensures works { OnOk result (writer.new.failed ≡ false) }
     ensures fails { IfErr result (λ e. (writer.new.failed ≡ false) ↔ ((e ≡ Memory) ⊎ (e ≡ NotAStore) ⊎ (e ≡ Failed))) }
     ensures causes { IfErr result (λ e. (e ≡ Failed) ⊎ (e ≡ LogFull) ⊎ (e ≡ Memory) ⊎ (e ≡ NotAStore) ⊎ (e ≡ Device)) }
@@ -142,10 +96,12 @@ fn drop_spare<D: Disk>(
     run(writer, disk, &images, transaction, last, undo_next)
 }
 
-/// Takes the leaf of a key out of the tree where it is empty and not the root. It answers the LSN of the transaction's last record,
-/// which is the old one where the leaf stays. For want of memory in front of the first record it stays; behind that the
-/// refusal is `Failed`.
-pub(crate) fn drop_leaf<D: Disk>(
+/// Takes the leaf of a key out of the tree where it is empty and not the root, as a structure change of the transaction whose
+/// records end at `last` and whose undo goes on at `undo_next`. It answers the LSN of the transaction's last record, which is the old
+/// one where the leaf is none such; and `None` where memory is wanted in front of the first record: the leaf stays then.
+///
+/// Refused `Failed` where memory is wanted behind the first record; otherwise as `PageWriter::get` is.
+pub fn drop_empty_leaf<D: Disk>(
     alloc: Global,
     writer: &mut PageWriter,
     disk: &mut D,
@@ -153,13 +109,13 @@ pub(crate) fn drop_leaf<D: Disk>(
     last: Lsn,
     undo_next: Lsn,
     key: &[u8],
-) -> Result<Lsn, Fault>
+) -> Result<Option<Lsn>, Fault>
     requires ready { IsReadyWriter D.Disk writer.old disk.old }
     requires working { writer.old.failed ≡ false }
     requires owner { 1 ≤ transaction }
     ensures ready { IsReadyWriter D.Disk writer.new disk.new }
-    ensures kept { (b : Base) (base : ℕ) (s : Writer) (e : ℕ) → IsGoing D.Disk b base s e transaction last undo_next writer.old disk.old
-        → EmptiedKept D.Disk b base s e transaction undo_next disk.old writer.new disk.new result }
+    ensures kept { (b : Base) (base : ℕ) (s : Writer) (e : ℕ) → IsUnfinished D.Disk b base s e transaction last undo_next writer.old disk.old
+        → DropKept D.Disk b base s e transaction undo_next key.now disk.old writer.new disk.new result }
     ensures works { OnOk result (writer.new.failed ≡ false) }
     ensures fails { IfErr result (λ e. (writer.new.failed ≡ false) ↔ ((e ≡ NotAStore) ⊎ (e ≡ Failed))) }
     ensures causes { IfErr result (λ e. (e ≡ Failed) ⊎ (e ≡ LogFull) ⊎ (e ≡ NotAStore) ⊎ (e ≡ Device)) }
@@ -167,10 +123,10 @@ pub(crate) fn drop_leaf<D: Disk>(
     ensures device { result ≡ Err Device ↔ (D.failed disk.new ≡ true) }
 {
     match drop_spare(alloc, writer, disk, transaction, last, undo_next, key) {
-        Ok(lsn) => Ok(lsn),
+        Ok(lsn) => Ok(Some(lsn)),
         Err(fault) => {
             if wants_memory(fault) {
-                return Ok(last);
+                return Ok(None);
             }
             Err(fault)
         }

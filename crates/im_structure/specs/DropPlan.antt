@@ -1,5 +1,5 @@
 -- What the plan to take an empty leaf out of the tree answers.
-use Rattle.std.specs.Prelude.{◌≡◌, ◌≢◌, ℕ, List, [], Option, Some, None}
+use Rattle.std.specs.Prelude.{◌≡◌, ◌≢◌, ◌⊎◌, ℕ, List, [], Option, Some, None}
 use Rattle.im_types.specs.Keys.{Key}
 use Rattle.im_types.specs.Writer.{Writer}
 use Rattle.im_tree.specs.Levels.{Pages}
@@ -15,7 +15,13 @@ pub record IsSpare (pages : Pages) (key : Key) : Type 0 where
   pub other : page ≢ 1
   pub none : (pages page).entries ≡ []
 
--- the leaf stays, since it is not spare, or there are images that take it out of the tree
+-- The leaf of the key is the root, or has entries.
+pub record IsKept (pages : Pages) (key : Key) : Type 0 where
+  pub page : ℕ
+  pub way : IsOnWay pages 0 key page
+  pub kept : (page ≡ 1) ⊎ ((pages page).entries ≢ [])
+
+-- the leaf stays, or there are images that take it out of the tree
 abbrev pub IsDropPlan : Writer → Key → Option (List Numbered) → Type 0
-IsDropPlan s key None = IsSpare (bodies s) key → ⊥
+IsDropPlan s key None = IsKept (bodies s) key
 IsDropPlan s key (Some images) = (spare : IsSpare (bodies s) key) × IsPlan s spare.page images

@@ -1,6 +1,6 @@
 use Rattle.std.proofs.Common.{[]}
-use Rattle.im_undo.proofs.StructurePlans.{leaf_refused, leaf_stays, tree_then, way_then, none_then, delete_refused, delete_planned}
-use Rattle.im_undo.proofs.structure.plan_drop.Goals as goal
+use Rattle.im_structure.proofs.DropPlans.{leaf_refused, leaf_stays, tree_then, way_then, none_then, delete_refused, delete_planned}
+use Rattle.im_structure.proofs.dropping.plan_drop.Goals as goal
 
 pub returns-in_err-frame-clause-kept : goal.returns-in_err-frame-clause-kept
 returns-in_err-frame-clause-kept g c b base s has =

@@ -1,5 +1,5 @@
 -- The plan to take an empty leaf out of the tree.
-use Rattle.std.proofs.Common.{◌≡◌, ◌≢◌, ◌⊎◌, ℕ, List, [], Option, Some, None, Result, Ok, Err, sym, ap, subst, ◌∙◌, ⊎_elim}
+use Rattle.std.proofs.Common.{◌≡◌, ◌≢◌, ◌⊎◌, ℕ, List, [], Option, Some, None, Result, Ok, Err, refl, sym, ap, subst, ◌∙◌, inl, inr}
 use Rattle.std.specs.Result.{IsErrAnd}
 use Rattle.im_types.specs.declared.fault.Fault.{Fault}
 use Rattle.im_types.specs.declared.page_kind.PageKind.TheVariants.{Free}
@@ -24,8 +24,12 @@ use Rattle.im_alloc.proofs.Goings.{bodies_stay, seen_stays}
 use Rattle.im_search.specs.Kept.{CallKept}
 use Rattle.im_delete.specs.Plan.{DeletesChain, IsPlan, DeleteKept}
 use Rattle.im_search.proofs.Calls.{call_refused, then_refused}
-use Rattle.im_split.proofs.OneLeaf.{one_leaf}
-use Rattle.im_undo.specs.DropPlan.{IsSpare, IsDropPlan}
+use Rattle.im_structure.specs.DropPlan.{IsSpare, IsDropPlan}
+
+-- what is nothing is none
+pub none_of : {A : Type 0} (o : Option A) → ((a : A) → o ≡ Some a → ⊥) → o ≡ None
+none_of None not = refl
+none_of (Some a) not = absurd (not a refl)
 
 module _ {D : Type 0} (d : Ghosts D) (b : Base) (base : ℕ) (s : Writer) (key : Key) (gets : ℕ) (v : PageWriter) (old : D) (has : HasTree d b base s [] v old) where
   -- the leaf was not found
@@ -38,14 +42,12 @@ module _ {D : Type 0} (d : Ghosts D) (b : Base) (base : ℕ) (s : Writer) (key :
     entries_are : (page_at w.pool frame.number).body.entries ≡ (bodies s frame.number).entries
     entries_are = ap (λ (g : Page). g.body.entries) leaf.ok.page
 
-    not_spare : (frame.number ≡ 1) ⊎ ((page_at w.pool frame.number).body.entries ≢ []) → IsSpare (bodies s) key → ⊥
-    not_spare other spare =
-        let same : spare.page ≡ frame.number = one_leaf (bodies s) [] key spare.page frame.number has.good spare.way leaf.ok.way in
-        ⊎_elim (λ (root : frame.number ≡ 1). spare.other (same ∙ root))
-        (λ (some : (page_at w.pool frame.number).body.entries ≢ []). some (entries_are ∙ ap (λ (p : ℕ). (bodies s p).entries) (sym same) ∙ spare.none)) other
+    kept_there : (frame.number ≡ 1) ⊎ ((page_at w.pool frame.number).body.entries ≢ []) → (frame.number ≡ 1) ⊎ ((bodies s frame.number).entries ≢ [])
+    kept_there (inl root) = inl root
+    kept_there (inr some) = inr (λ none. some (entries_are ∙ none))
 
     pub leaf_stays : (frame.number ≡ 1) ⊎ ((page_at w.pool frame.number).body.entries ≢ []) → CallKept d b base s (IsDropPlan s key) old w mid (Ok None)
-    leaf_stays other = record { ok = not_spare other; on = record { now = leaf.ok.now; on = leaf.ok.on }; stops = leaf.stops; cause = tt; again = tt }
+    leaf_stays other = record { ok = record { page = frame.number; way = leaf.ok.way; kept = kept_there other }; on = record { now = leaf.ok.now; on = leaf.ok.on }; stops = leaf.stops; cause = tt; again = tt }
 
     -- what its deletion asks
     pub tree_then : HasTree d b base leaf.ok.now [] w mid

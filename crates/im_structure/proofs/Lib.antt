@@ -1,0 +1,4 @@
+pub mod Growth
+pub mod Standing
+pub mod DropPlans
+pub mod Changes

@@ -1,0 +1,2 @@
+pub mod DropPlan
+pub mod Structure
