@@ -1,0 +1,96 @@
+use Rattle.std.proofs.Common.{◌≡◌, true, false, sym, ◌∙◌, ap, rules}
+use Rattle.im_types.specs.Transactions.{is_key}
+use Rattle.im_types.specs.Records.{Logged}
+use Rattle.im_record.specs.Entry.{view, transaction_of}
+use Rattle.im_log.specs.Whats.{what_of}
+use Rattle.im_flush.proofs.LoggedChanges.{err_on}
+use Rattle.im_undo.specs.Undoing.{IsToUndo}
+use Rattle.im_rollback.proofs.Readings.{spelled_is, spelled_none}
+use Rattle.im_rollback.proofs.Turning.{device_not, device_not_store, going_read, read_on, read_stops, take_done, take_refused, taken_as, to_undo_so}
+use Rattle.im_rollback.proofs.turn.undo_at.Goals as goal
+
+pub returns-in_err-size-clause-kept : goal.returns-in_err-size-clause-kept
+returns-in_err-size-clause-kept g c b base s e going at =
+    let t = c.args.transaction in
+    let f = c.in_err-size.field-0.0 in
+    let found = c.in_err-size.ensures.found b base s at.found going.stands at.next.logged (sym at.here) in
+    record {
+      ok = search rules;
+      stops = read_stops g.D.Disk b base s e t c.args.last c.args.undo_next c.args.writer.now c.args.disk.now c.read_at.new.disk (g.met.D.Disk.only_now c.args.disk.now) going c.read_at.ensures.reads;
+      cause = err_on c.from_residual.result f _ c.from_residual.ensures.1 (device_not_store f found.cause);
+      again = err_on c.from_residual.result f _ c.from_residual.ensures.1 (λ is. absurd (device_not f _ found.cause is (λ e. cc)));
+      used_up = err_on c.from_residual.result f _ c.from_residual.ensures.1 (λ is. absurd (device_not f _ found.cause is (λ e. cc)));
+      begun = err_on c.from_residual.result f _ c.from_residual.ensures.1 (λ is. absurd (device_not f _ found.cause is (λ e. cc)));
+    }
+
+pub returns-in_err-record-clause-kept : goal.returns-in_err-record-clause-kept
+returns-in_err-record-clause-kept g c b base s e going at =
+    let found = c.in_ok-size.ensures.found b base s at.found going.stands at.next.logged (sym at.here) in
+    absurd (spelled_none at.found _ found.ok c.in_err-record.ensures.entry.1)
+
+pub returns-then-transaction-clause-kept : goal.returns-then-transaction-clause-kept
+returns-then-transaction-clause-kept g c b base s e going at =
+    let said = view c.in_ok-record.record in
+    let found = c.in_ok-size.ensures.found b base s at.found going.stands at.next.logged (sym at.here) in
+    let same = spelled_is at.found c.args.lsn _ found.ok at.here said c.in_ok-record.ensures.entry in
+    absurd (c.if-transaction.true (c.transaction.ensures ∙ ap (λ (x : Logged). x.txn) same ∙ at.next.owner))
+
+pub returns-then-not-is_key_record-clause-kept : goal.returns-then-not-is_key_record-clause-kept
+returns-then-not-is_key_record-clause-kept g c b base s e going at =
+    let said = view c.in_ok-record.record in
+    let found = c.in_ok-size.ensures.found b base s at.found going.stands at.next.logged (sym at.here) in
+    let same = spelled_is at.found c.args.lsn _ found.ok at.here said c.in_ok-record.ensures.entry in
+    let key : is_key (what_of said) ≡ true = ap (λ (x : Logged). is_key x.what) same ∙ at.next.key in
+    let other : is_key (what_of said) ≡ false = sym c.if-not-is_key_record.ensures in
+    absurd (let clash : true ≡ false = sym key ∙ other in cc clash)
+
+pub returns-in_err-behind-clause-kept : goal.returns-in_err-behind-clause-kept
+returns-in_err-behind-clause-kept g c b base s e going at =
+    let t = c.args.transaction in
+    let last = c.args.last in
+    let next = c.args.undo_next in
+    let w = c.args.writer.now in
+    let old = c.args.disk.now in
+    let v = c.read_at.new.self in
+    let mid = c.read_at.new.disk in
+    let said = view c.in_ok-record.record in
+    let f = c.in_err-behind.field-0.0 in
+    let found = c.in_ok-size.ensures.found b base s at.found going.stands at.next.logged (sym at.here) in
+    let same = spelled_is at.found c.args.lsn _ found.ok at.here said c.in_ok-record.ensures.entry in
+    let mine : transaction_of said ≡ t = ap (λ (x : Logged). x.txn) same ∙ at.next.owner in
+    let to : IsToUndo g.D.Disk b base s t said = to_undo_so g.D.Disk b base s t c.args.lsn said at same in
+    let after = c.in_ok-size.ensures.kept b base s going.stands in
+    let only_now = g.met.D.Disk.only_now old in
+    let still = going_read g.D.Disk b base s e t last next w v old mid going after in
+    let k = taken_as g.D.Disk b base s e t last next said v mid c.undo_one.new.writer c.undo_one.new.disk _ mine (λ goes to_undo. c.in_err-behind.ensures.kept b base s e goes to_undo) still to in
+    let r = take_refused g.D.Disk b base s e t old v mid (read_on g.D.Disk b base s w v old mid only_now going.stands c.read_at.ensures.reads after) (read_stops g.D.Disk b base s e t last next w old mid only_now going c.read_at.ensures.reads) said to
+    c.undo_one.new.writer c.undo_one.new.disk f k in
+    record {
+      ok = search rules;
+      stops = r.stops;
+      cause = err_on c.from_residual-in_err-behind.result f _ c.from_residual-in_err-behind.ensures.1 r.cause;
+      again = err_on c.from_residual-in_err-behind.result f _ c.from_residual-in_err-behind.ensures.1 r.again;
+      used_up = err_on c.from_residual-in_err-behind.result f _ c.from_residual-in_err-behind.ensures.1 r.used_up;
+      begun = err_on c.from_residual-in_err-behind.result f _ c.from_residual-in_err-behind.ensures.1 r.begun;
+    }
+
+pub returns-clause-kept : goal.returns-clause-kept
+returns-clause-kept g c b base s e going at =
+    let t = c.args.transaction in
+    let last = c.args.last in
+    let next = c.args.undo_next in
+    let w = c.args.writer.now in
+    let old = c.args.disk.now in
+    let v = c.read_at.new.self in
+    let mid = c.read_at.new.disk in
+    let said = view c.in_ok-record.record in
+    let found = c.in_ok-size.ensures.found b base s at.found going.stands at.next.logged (sym at.here) in
+    let same = spelled_is at.found c.args.lsn _ found.ok at.here said c.in_ok-record.ensures.entry in
+    let mine : transaction_of said ≡ t = ap (λ (x : Logged). x.txn) same ∙ at.next.owner in
+    let to : IsToUndo g.D.Disk b base s t said = to_undo_so g.D.Disk b base s t c.args.lsn said at same in
+    let after = c.in_ok-size.ensures.kept b base s going.stands in
+    let only_now = g.met.D.Disk.only_now old in
+    let still = going_read g.D.Disk b base s e t last next w v old mid going after in
+    let k = taken_as g.D.Disk b base s e t last next said v mid c.undo_one.new.writer c.undo_one.new.disk _ mine (λ goes to_undo. c.in_ok-behind.ensures.kept b base s e goes to_undo) still to in
+    take_done g.D.Disk b base s e t old v mid (read_on g.D.Disk b base s w v old mid only_now going.stands c.read_at.ensures.reads after) (read_stops g.D.Disk b base s e t last next w old mid only_now going c.read_at.ensures.reads) said to
+    c.undo_one.new.writer c.undo_one.new.disk c.in_ok-behind.behind c.prev.result c.prev.ensures k

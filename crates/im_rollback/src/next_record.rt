@@ -1,0 +1,131 @@
+//! The next record that a transaction has to undo.
+
+ghost use Rattle.std.specs.Prelude.{◌≡◌, ◌≢◌, ◌≤◌, ◌<◌, ◌⊎◌, ◌↔◌, ℕ, length, true, false, None, Ok, Err, IfErr, IfOk, IfSome, OnOk};
+ghost use Rattle.im_types.specs.declared.fault.Fault.TheVariants.{Device, Failed, LogFull, NotAStore};
+ghost use Rattle.im_types.specs.Histories.{Base, IsRecordOf};
+ghost use Rattle.im_types.specs.Transactions.{is_key};
+ghost use Rattle.im_types.specs.Writer.{Writer};
+ghost use Rattle.im_disk.specs.Runs.{Reads};
+ghost use Rattle.im_record.specs.Entry.{view, transaction_of, undo_next_of};
+ghost use Rattle.im_log.specs.LogFile.{HasNoRoom};
+ghost use Rattle.im_log.specs.Whats.{what_of};
+ghost use Rattle.im_analysis.specs.Undo.{leads_on};
+ghost use Rattle.im_flush.specs.PageWriter.{IsReadyWriter, StandsAs};
+ghost use Rattle.im_undo.specs.Undoing.{IsGoing};
+ghost use Rattle.im_rollback.specs.Going.{FindKept, GoesOnAt, LeadsNowhere, ReadOneKept};
+
+use im_disk::Disk;
+use im_flush::PageWriter;
+use im_record::{Record, decode};
+use im_types::{Fault, Lsn, TxnId};
+
+// Whether it is an insert or a delete of a key.
+pub(crate) fn is_key_record(record: &Record) -> bool
+    ensures { result ≡ is_key (what_of (view record.now)) }
+{
+    match record {
+        Record::InsertKey { .. } | Record::DeleteKey { .. } => true,
+        Record::UndoInsert { .. }
+        | Record::UndoDelete { .. }
+        | Record::Smo { .. }
+        | Record::UndoSmo { .. }
+        | Record::DummyClr { .. }
+        | Record::Commit { .. }
+        | Record::End { .. }
+        | Record::Image { .. }
+        | Record::Checkpoint { .. } => false,
+    }
+}
+
+// Where undo goes on behind a compensation or the end of a structure change. Refused `NotAStore` for another record, and where that is
+// no earlier one.
+fn next_after(record: &Record, lsn: Lsn) -> Result<Lsn, Fault>
+    ensures next { IfOk result (λ next. next ≡ undo_next_of (view record.now)) }
+    ensures falls { IfOk result (λ next. next < lsn) }
+    ensures refused { IfErr result (λ e. (e ≡ NotAStore) × (leads_on (what_of (view record.now)) ≡ true → lsn ≤ undo_next_of (view record.now))) }
+{
+    let next = match record {
+        Record::UndoInsert { undo_next, .. }
+        | Record::UndoDelete { undo_next, .. }
+        | Record::UndoSmo { undo_next, .. }
+        | Record::DummyClr { undo_next, .. } => *undo_next,
+        Record::InsertKey { .. }
+        | Record::DeleteKey { .. }
+        | Record::Smo { .. }
+        | Record::Commit { .. }
+        | Record::End { .. }
+        | Record::Image { .. }
+        | Record::Checkpoint { .. } => return Err(Fault::NotAStore),
+    };
+    if next >= lsn {
+        return Err(Fault::NotAStore);
+    }
+    Ok(next)
+}
+
+// Reads the record of a transaction at an LSN: `None` where it is what is undone next, else where undo goes on.
+fn read_one<D: Disk>(
+    writer: &mut PageWriter,
+    disk: &mut D,
+    transaction: TxnId,
+    lsn: Lsn,
+    room: &mut [u8],
+) -> Result<Option<Lsn>, Fault>
+    requires room { 16384 ≤ length room.old }
+    requires ready { IsReadyWriter D.Disk writer.old disk.old }
+    requires working { writer.old.failed ≡ false }
+    ensures ready { IsReadyWriter D.Disk writer.new disk.new }
+    ensures room { length room.new ≡ length room.old }
+    ensures kept { (b : Base) (base : ℕ) (s : Writer) (e last undo_next : ℕ) → IsGoing D.Disk b base s e transaction last undo_next writer.old disk.old → GoesOnAt transaction lsn s.log → lsn ≢ 0
+        → ReadOneKept D.Disk b base s transaction lsn writer.new disk.new result }
+    ensures reads { Reads D.Disk disk.old disk.new }
+    ensures falls { IfOk result (λ next. IfSome next (λ l. l < lsn)) }
+    ensures works { OnOk result (writer.new.failed ≡ false) }
+    ensures causes { IfErr result (λ e. (e ≡ NotAStore) ⊎ (e ≡ Device)) }
+    ensures device { result ≡ Err Device ↔ (D.failed disk.new ≡ true) }
+{
+    let size = writer.read_at(disk, lsn, room)?;
+    let record = decode(&room[..size])?;
+    if record.transaction() != transaction {
+        return Err(Fault::NotAStore);
+    }
+    if is_key_record(&record) {
+        return Ok(None);
+    }
+    let next = next_after(&record, lsn)?;
+    Ok(Some(next))
+}
+
+/// The LSN of the next record that a transaction has to undo, 0 where nothing is left: the first insert or delete of a key that is
+/// found from an LSN on, over compensations and ends of structure changes.
+///
+/// Refused `NotAStore` where a record is none of these, is another transaction's, or leads to no earlier one; otherwise as
+/// `PageWriter::read_at` is.
+pub(crate) fn next_key_record<D: Disk>(
+    writer: &mut PageWriter,
+    disk: &mut D,
+    transaction: TxnId,
+    from: Lsn,
+    room: &mut [u8],
+) -> Result<Lsn, Fault>
+    requires room { 16384 ≤ length room.old }
+    requires ready { IsReadyWriter D.Disk writer.old disk.old }
+    requires working { writer.old.failed ≡ false }
+    ensures ready { IsReadyWriter D.Disk writer.new disk.new }
+    ensures room { length room.new ≡ length room.old }
+    ensures kept { (b : Base) (base : ℕ) (s : Writer) (e last : ℕ) → IsGoing D.Disk b base s e transaction last from writer.old disk.old
+        → FindKept D.Disk b base s transaction writer.new disk.new result }
+    ensures reads { Reads D.Disk disk.old disk.new }
+    ensures works { OnOk result (writer.new.failed ≡ false) }
+    ensures causes { IfErr result (λ e. (e ≡ NotAStore) ⊎ (e ≡ Device)) }
+    ensures device { result ≡ Err Device ↔ (D.failed disk.new ≡ true) }
+{
+    let mut lsn = from;
+    while lsn != 0 {
+        let Some(next) = read_one(writer, disk, transaction, lsn, room)? else {
+            return Ok(lsn);
+        };
+        lsn = next;
+    }
+    Ok(0)
+}
