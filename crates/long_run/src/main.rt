@@ -59,21 +59,22 @@ struct Losing {
     span: Span,
 }
 
-/// Keys between those that are there, in falling order.
+/// Keys above those that are there, in falling order. Their leaves split, so that most of them lie on other pages than their records
+/// name, and their undo leaves each such leaf empty.
 const FALLING: Losing = Losing {
     work: Work::Insert,
     span: Span {
-        first: 1,
+        first: 20_001,
         keys: 400,
         order: Order::Falling,
     },
 };
 
-/// Keys between those that are there, in scattered order.
+/// Keys above those that are there, in scattered order, whose leaves split as well.
 const SCATTERED: Losing = Losing {
     work: Work::Insert,
     span: Span {
-        first: 8_001,
+        first: 30_001,
         keys: 600,
         order: Order::Scattered,
     },
