@@ -35,6 +35,11 @@ says_as reply (Granted x) value r is says = ap reply is ∙ says
 says_as reply (Wait holder) value r is says = tt
 says_as reply Die value r is says = tt
 
+pub granted_as : {X : Type 0} (P : X → Type 0) (outcome : Outcome X) (value : X) → IfGranted outcome (λ x. x ≡ value) → P value → IfGranted outcome P
+granted_as P (Granted x) value is holds = subst P (sym is) holds
+granted_as P (Wait holder) value is holds = tt
+granted_as P Die value is holds = tt
+
 -- the walk of pages that stay
 pub walk_stays : (b : Base) (s t : Writer) (m : IndexMap) → bodies t ≡ bodies s → walk (bodies s) ≡ entries m → walk (bodies t) ≡ entries m
 walk_stays b s t m stay is = subst (λ (pages : Pages). walk pages ≡ entries m) (sym stay) is

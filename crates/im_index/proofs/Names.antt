@@ -18,7 +18,7 @@ use Rattle.im_search.specs.NextKeys.{next_name as next_key_name, far_name, IsFar
 use Rattle.im_search.specs.Ranges.{IsRange, key_if, within}
 use Rattle.im_lock.specs.Locks.{Name, Request}
 use Rattle.im_lock.specs.Rows.{asked, name_of, next_name}
-use Rattle.im_lock.specs.Found.{Finds, IsScanOf}
+use Rattle.im_lock.specs.Found.{Finds, FindsNext, IsScanOf}
 use Rattle.im_search.specs.Levels.{start_at}
 use Rattle.im_index.specs.Outcomes.{name_in, name_behind, seek_at}
 
@@ -97,3 +97,11 @@ seek_asks m key false asks name found seek next is at = next key (is ∙ ap name
 pub seek_says : (m : IndexMap) (key : Key) (inclusive : Bool) (found : Option Entry) → found ≡ first (start_at inclusive key) m → entry found ≡ answer (seek_at inclusive key) m
 seek_says m key true found at = ap entry at
 seek_says m key false found at = ap entry at
+
+-- ---- what a change finds
+
+pub finds_any : (m : IndexMap) (key : Key) (there : Bool) (next : Name) → is_some (get m key) ≡ there → next ≡ next_name m key → Finds m key there next
+finds_any m key there next is at = record { there_is = is; next_is = λ _. at }
+
+pub finds_both : (m : IndexMap) (key : Key) (there : Bool) (next : Name) → is_some (get m key) ≡ there → next ≡ next_name m key → FindsNext m key there next
+finds_both m key there next is at = record { there_is = is; next_is = at }

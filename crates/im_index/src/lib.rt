@@ -6,15 +6,20 @@
 //! - `fetch` answers the row id of a key.
 //! - `seek` answers the first entry at or above a key, or above it.
 //! - `scan` answers the entries of a range.
+//! - `ask_insert` and `ask_delete` ask the locks of a change, and hold the leaf where it goes; the change itself is not here yet.
 #![tactic(auto)]
 
 mod asking;
+mod changes;
 mod outcome;
+mod place;
 mod reads;
 mod scans;
 #[cfg(test)]
 mod tests;
 
+pub use changes::{ask_delete, ask_insert};
 pub use outcome::Outcome;
+pub use place::Place;
 pub use reads::{fetch, seek};
 pub use scans::scan;

@@ -1,0 +1,117 @@
+//! What inserts and deletes ask of the lock table, before they change anything.
+
+ghost use Rattle.std.specs.Prelude.{◌≡◌, ◌⊎◌, ◌↔◌, ℕ, List, true, false, Ok, Err, IfOk, IfErr, OnOk, OnErr, is_some};
+ghost use Rattle.std.specs.FinMap.{entries};
+ghost use Rattle.std.specs.FinMap.Entries.{find};
+ghost use Rattle.im_types.specs.declared.fault.Fault.TheVariants.{Device, Failed, LogFull, Memory, NotAStore};
+ghost use Rattle.im_types.specs.Keys.{key_order};
+ghost use Rattle.im_types.specs.Maps.{IndexMap};
+ghost use Rattle.im_types.specs.Answers.{Insert, Delete};
+ghost use Rattle.im_types.specs.Histories.{Base};
+ghost use Rattle.im_types.specs.Writer.{Writer};
+ghost use Rattle.im_pool.specs.Pool.{page_at, IsAt};
+ghost use Rattle.im_log.specs.LogFile.{HasNoRoom};
+ghost use Rattle.im_flush.specs.PageWriter.{IsReadyWriter};
+ghost use Rattle.im_tree.specs.Levels.{walk};
+ghost use Rattle.im_search.specs.Levels.{HasLevel, bodies};
+ghost use Rattle.im_search.specs.Found.{HasTree};
+ghost use Rattle.im_lock.specs.Table.{SameTable};
+ghost use Rattle.im_index.specs.Outcomes.{IfGranted};
+ghost use Rattle.im_index.specs.Asks.{AskKept};
+
+use crate::asking::{name_in, outcome_of};
+use crate::outcome::Outcome;
+use crate::place::Place;
+use im_disk::Disk;
+use im_flush::PageWriter;
+use im_lock::{LockTable, delete_row, insert_row};
+use im_page::Page;
+use im_search::leaf_and_next;
+use im_types::{Fault, Rid, TxnId};
+
+// What a leaf has of a key.
+fn value_in(page: &Page, key: &[u8]) -> Option<Rid>
+    ensures { result ≡ find key_order key.now page.now.body.entries }
+{
+    page.content();
+    match page.find(key) {
+        Ok(i) => Some(page.value(i)),
+        Err(_) => None,
+    }
+}
+
+// Whether there is a row id.
+fn is_there(rid: &Option<Rid>) -> bool
+    ensures { result ≡ is_some rid.now }
+{
+    rid.is_some()
+}
+
+/// Asks what an Insert of a key asks: where the key is there its lock, shared; else the lock of the next name for the instant and the
+/// key's own, both against every other. Where that is granted, the key's leaf is held from now on.
+///
+/// Refused as `im_search::next_entry` is, and `Memory` where the lock table wants it. Behind a refusal, `Wait` and `Die` nobody holds
+/// another lock than before.
+pub fn ask_insert<D: Disk>(
+    writer: &mut PageWriter,
+    disk: &mut D,
+    locks: &mut LockTable,
+    transaction: TxnId,
+    key: &[u8],
+) -> Result<Outcome<Place>, Fault>
+    requires ready { IsReadyWriter D.Disk writer.old disk.old }
+    ensures ready { IsReadyWriter D.Disk writer.new disk.new }
+    ensures kept { (b : Base) (base : ℕ) (s : Writer) (spare : List ℕ) (m : IndexMap) (rid : ℕ) → HasTree D.Disk b base s spare writer.old disk.old → walk (bodies s) ≡ entries m
+        → AskKept D.Disk b base s transaction (Insert key.now rid) key.now m locks.old locks.new disk.old writer.new disk.new result }
+    ensures at { IfOk result (λ outcome. IfGranted outcome (λ place. IsAt writer.new.pool place.leaf)) }
+    ensures leaf { IfOk result (λ outcome. IfGranted outcome (λ place. HasLevel 0 (page_at writer.new.pool place.leaf.number).body)) }
+    ensures table { OnErr result (SameTable locks.old locks.new) }
+    ensures works { OnOk result (writer.new.failed ≡ false) }
+    ensures fails { IfErr result (λ e. (writer.new.failed ≡ false) ↔ ((e ≡ Memory) ⊎ (e ≡ NotAStore))) }
+    ensures causes { IfErr result (λ e. (e ≡ Failed) ⊎ (e ≡ LogFull) ⊎ (e ≡ Memory) ⊎ (e ≡ NotAStore) ⊎ (e ≡ Device)) }
+    ensures no_room { result ≡ Err LogFull → HasNoRoom writer.new.log }
+    ensures already { result ≡ Err Failed ↔ (writer.old.failed ≡ true) }
+    ensures device { writer.old.failed ≡ false → result ≡ Err Device ↔ (D.failed disk.new ≡ true) }
+{
+    let (leaf, next) = leaf_and_next(writer, disk, key)?;
+    let page = writer.page(leaf);
+    let rid = value_in(page, key);
+    let there = is_there(&rid);
+    let row = insert_row(key, there, name_in(page, &next));
+    let verdict = locks.try_all(transaction, row.as_slice())?;
+    Ok(outcome_of(verdict, Place { leaf, rid }))
+}
+
+/// Asks what a Delete of a key asks: where the key is there the lock of the next name, and for the instant the key's own, both against
+/// every other; else that of the next name, shared. Where that is granted, the key's leaf is held from now on.
+///
+/// Refused as `ask_insert` is.
+pub fn ask_delete<D: Disk>(
+    writer: &mut PageWriter,
+    disk: &mut D,
+    locks: &mut LockTable,
+    transaction: TxnId,
+    key: &[u8],
+) -> Result<Outcome<Place>, Fault>
+    requires ready { IsReadyWriter D.Disk writer.old disk.old }
+    ensures ready { IsReadyWriter D.Disk writer.new disk.new }
+    ensures kept { (b : Base) (base : ℕ) (s : Writer) (spare : List ℕ) (m : IndexMap) → HasTree D.Disk b base s spare writer.old disk.old → walk (bodies s) ≡ entries m
+        → AskKept D.Disk b base s transaction (Delete key.now) key.now m locks.old locks.new disk.old writer.new disk.new result }
+    ensures at { IfOk result (λ outcome. IfGranted outcome (λ place. IsAt writer.new.pool place.leaf)) }
+    ensures leaf { IfOk result (λ outcome. IfGranted outcome (λ place. HasLevel 0 (page_at writer.new.pool place.leaf.number).body)) }
+    ensures table { OnErr result (SameTable locks.old locks.new) }
+    ensures works { OnOk result (writer.new.failed ≡ false) }
+    ensures fails { IfErr result (λ e. (writer.new.failed ≡ false) ↔ ((e ≡ Memory) ⊎ (e ≡ NotAStore))) }
+    ensures causes { IfErr result (λ e. (e ≡ Failed) ⊎ (e ≡ LogFull) ⊎ (e ≡ Memory) ⊎ (e ≡ NotAStore) ⊎ (e ≡ Device)) }
+    ensures no_room { result ≡ Err LogFull → HasNoRoom writer.new.log }
+    ensures already { result ≡ Err Failed ↔ (writer.old.failed ≡ true) }
+    ensures device { writer.old.failed ≡ false → result ≡ Err Device ↔ (D.failed disk.new ≡ true) }
+{
+    let (leaf, next) = leaf_and_next(writer, disk, key)?;
+    let page = writer.page(leaf);
+    let rid = value_in(page, key);
+    let there = is_there(&rid);
+    let row = delete_row(key, there, name_in(page, &next));
+    let verdict = locks.try_all(transaction, row.as_slice())?;
+    Ok(outcome_of(verdict, Place { leaf, rid }))
+}
