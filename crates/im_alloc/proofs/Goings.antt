@@ -49,7 +49,7 @@ module _ {D : Type 0} (d : Ghosts D) (b : Base) (base : ℕ) where
   module _ (s : Writer) (old : D) (t : Writer) (w : PageWriter) (mid : D) (on : GoesOn d b base s old t w mid) where
     -- the writer stands still
     pub stands_on : StandsAs d b base t w mid
-    stands_on = record { working = on.working; writing = on.goes.writing }
+    stands_on = record { working = on.working; writing = on.goes.writing; known = on.known }
 
     pub ready_on : ((q : ℕ) → (s.pages q).waits ≡ false) → (q : ℕ) → (t.pages q).waits ≡ false
     ready_on ready q = (on.goes.keeps.pages q).waits ∙ ready q

@@ -5,7 +5,7 @@ use Rattle.im_types.specs.Records as whats
 use Rattle.im_types.specs.Records.{What, Logged}
 use Rattle.im_types.specs.Histories.{Base}
 use Rattle.im_types.specs.Writer.{Writer}
-use Rattle.im_types.specs.WriterSteps.{changed}
+use Rattle.im_flush.specs.KnownCopies.{changed_as}
 use Rattle.im_disk.specs.declared.disk.Disk.{Ghosts}
 use Rattle.im_record.specs.Entry.{Smo}
 use Rattle.im_log.specs.Whats.{page_behind, smo_of, what_of}
@@ -37,5 +37,6 @@ module _ {D : Type 0} (d : Ghosts D) (b : Base) (base : ℕ) where
     durable = done.logged.durable;
     grows = done.logged.grows;
     high = done.logged.high;
-    stands = subst (λ (v : What). StandsAs d b base (record (changed (record (logged_at lsn (Smo n prev p before after)) { what = v }) done.before) { durable = done.logged.durable }) w disk) what done.logged.stands;
+    known = done.logged.known;
+    stands = subst (λ (v : What). StandsAs d b base (record (changed_as done.logged.known (record (logged_at lsn (Smo n prev p before after)) { what = v }) done.before) { durable = done.logged.durable }) w disk) what done.logged.stands;
   }

@@ -9,7 +9,8 @@ use Rattle.im_types.specs.Histories.{Base, History, IsFront, end_of, page_at}
 use Rattle.im_types.specs.Lawful.{IsLawful, resumes}
 use Rattle.im_types.specs.Tree.{with_body}
 use Rattle.im_types.specs.Writer.{PageState, Writer}
-use Rattle.im_types.specs.WriterSteps.{appended, changed, changed_page}
+use Rattle.im_types.specs.WriterSteps.{appended}
+use Rattle.im_flush.specs.KnownCopies.{changed_as, changed_page_as}
 use Rattle.im_types.proofs.Histories.{front_self}
 use Rattle.im_types.proofs.Images.{images_pages}
 use Rattle.im_types.proofs.Redo.{reached_end}
@@ -96,15 +97,15 @@ seen_step s t x rest up step q = applied_image (bodies t) rest q ∙ (elim (case
       ∙ sym (cond-false (x.0 == q) x.1.body (seen s rest q) (ne_eqb x.0 q other))
 ])
 
-changed_bodies : (lsn t prev p : ℕ) (was now : Body) (s : Writer) (q : ℕ) → bodies (changed (smo_at lsn t prev p was now) s) q ≡ with_body (bodies s) p now q
-changed_bodies lsn t prev p was now s q = by (p == q) refl
+changed_bodies : (known : Bool) (lsn t prev p : ℕ) (was now : Body) (s : Writer) (q : ℕ) → bodies (changed_as known (smo_at lsn t prev p was now) s) q ≡ with_body (bodies s) p now q
+changed_bodies known lsn t prev p was now s q = by (p == q) refl
   where
-    by : (u : Bool) → (p == q) ≡ u → bodies (changed (smo_at lsn t prev p was now) s) q ≡ with_body (bodies s) p now q
+    by : (u : Bool) → (p == q) ≡ u → bodies (changed_as known (smo_at lsn t prev p was now) s) q ≡ with_body (bodies s) p now q
     by true is =
-        ap (λ (x : PageState). x.page.body) (cond-true (p == q) (changed_page (smo_at lsn t prev p was now) (s.pages q)) (s.pages q) is)
+        ap (λ (x : PageState). x.page.body) (cond-true (p == q) (changed_page_as known (smo_at lsn t prev p was now) (s.pages q)) (s.pages q) is)
         ∙ sym (cond-true (p == q) now (bodies s q) is)
     by false is =
-        ap (λ (x : PageState). x.page.body) (cond-false (p == q) (changed_page (smo_at lsn t prev p was now) (s.pages q)) (s.pages q) is)
+        ap (λ (x : PageState). x.page.body) (cond-false (p == q) (changed_page_as known (smo_at lsn t prev p was now) (s.pages q)) (s.pages q) is)
         ∙ sym (cond-false (p == q) now (bodies s q) is)
 
 module _ {D : Type 0} (d : Ghosts D) (b : Base) (base : ℕ) where
@@ -188,7 +189,7 @@ module _ {D : Type 0} (d : Ghosts D) (b : Base) (base : ℕ) where
         p = (image_at xs i).0
 
         after : Writer
-        after = record (changed (smo_at lsn t prev p (now.pages p).page.body x.1.body) done.before) { durable = done.durable }
+        after = record (changed_as done.known (smo_at lsn t prev p (now.pages p).page.body x.1.body) done.before) { durable = done.durable }
 
         front : drop i xs ≡ x ∷ drop (i + 1) xs
         front = drop_more xs i (0, initial 0) within
@@ -201,7 +202,7 @@ module _ {D : Type 0} (d : Ghosts D) (b : Base) (base : ℕ) where
 
         step : (q : ℕ) → bodies after q ≡ with_body (bodies now) p x.1.body q
         step q =
-            changed_bodies lsn t prev p (now.pages p).page.body x.1.body done.before q
+            changed_bodies done.known lsn t prev p (now.pages p).page.body x.1.body done.before q
             ∙ ap (λ (c : Body). if p == q then x.1.body else c) (ap (λ (g : Page). g.body) (done.keeps.pages q).page)
 
     -- a page was not logged, behind the first one
@@ -211,7 +212,7 @@ module _ {D : Type 0} (d : Ghosts D) (b : Base) (base : ℕ) where
         let way = images_under_way b t undo_next xs s.log some i prev so.now.log ev.now.log ev.on.goes.keeps.log so.log in
         record {
           now = ev.now;
-          stands = record { working = ev.on.working; writing = ev.on.goes.writing };
+          stands = record { working = ev.on.working; writing = ev.on.goes.writing; known = ev.on.known };
           grows = way.grows;
           some = images_begun t i xs way.grows.more first way.grows.all way.order;
         }

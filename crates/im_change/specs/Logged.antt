@@ -1,14 +1,14 @@
 -- The records of a structure change, and what logging one of its pages keeps.
-use Rattle.std.specs.Prelude.{◌≡◌, ◌≢◌, ◌<◌, ◌≤◌, ℕ, Result, IfErr, IfOk}
+use Rattle.std.specs.Prelude.{◌≡◌, ◌≢◌, ◌<◌, ◌≤◌, ℕ, Bool, Result, IfErr, IfOk}
 use Rattle.im_types.specs.declared.fault.Fault.{Fault}
 use Rattle.im_types.specs.declared.fault.Fault.TheVariants.{Failed, Memory, NotAStore}
 use Rattle.im_types.specs.Pages.{Body}
 use Rattle.im_types.specs.Records.{Logged, Smo, DummyClr}
 use Rattle.im_types.specs.Histories.{Base, History, IsFront, end_of}
 use Rattle.im_types.specs.Writer.{Writer}
-use Rattle.im_types.specs.WriterSteps.{changed}
 use Rattle.im_disk.specs.declared.disk.Disk.{Ghosts}
 use Rattle.im_flush.specs.declared.page_writer.PageWriter.{PageWriter}
+use Rattle.im_flush.specs.KnownCopies.{changed_as}
 use Rattle.im_flush.specs.Growth.{Keeps}
 use Rattle.im_flush.specs.Writing.{LeavesGrown}
 use Rattle.im_flush.specs.PageWriter.{StandsAs, Evicted}
@@ -29,7 +29,9 @@ module _ {D : Type 0} (d : Ghosts D) (b : Base) (base : ℕ) where
     pub durable : History
     pub grows : IsFront before.durable durable
     pub high : end_of b before.log < lsn
-    pub stands : StandsAs d b base (record (changed (smo_at lsn t prev p (s.pages p).page.body after) before) { durable = durable }) w disk
+    -- whether a full copy of the page is known
+    pub known : Bool
+    pub stands : StandsAs d b base (record (changed_as known (smo_at lsn t prev p (s.pages p).page.body after) before) { durable = durable }) w disk
 
   -- what that keeps
   pub record PageLogKept (s : Writer) (t prev p : ℕ) (after : Body) (old : D) (w : PageWriter) (disk : D) (result : Result ℕ Fault) : Type 0 where

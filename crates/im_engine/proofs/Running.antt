@@ -141,11 +141,11 @@ module _ {D : Type 0} (d : Ghosts D) {b : Base} (before : List Effect) (s : Show
 
       pub runs_evicted : Evicted d b r.base r.now e.disk new.writer new.disk → Rests d before s e r new
       unfolding runs_on
-      runs_evicted is = record { running = runs_on is.now (record { working = is.on.working; writing = is.on.goes.writing }) is.on.goes.keeps; grows = is.on.goes.keeps.log }
+      runs_evicted is = record { running = runs_on is.now (record { working = is.on.working; writing = is.on.goes.writing; known = is.on.known }) is.on.goes.keeps; grows = is.on.goes.keeps.log }
 
       -- calls in a row
       unfoldable pub runs_goes : (t : Writer) → GoesOn d b r.base r.now e.disk t new.writer new.disk → IsRunning d b before s new
-      runs_goes t on = runs_on t (record { working = on.working; writing = on.goes.writing }) on.goes.keeps
+      runs_goes t on = runs_on t (record { working = on.working; writing = on.goes.writing; known = on.known }) on.goes.keeps
 
       -- a page was got
       pub looked : (p : ℕ) → Got d b r.base r.now p e.disk new.writer new.disk → Looked d before s e r p new
@@ -153,7 +153,7 @@ module _ {D : Type 0} (d : Ghosts D) {b : Base} (before : List Effect) (s : Show
       looked p got =
           let same = images_change_nothing b r.now.log got.now.log got.on.goes.keeps.log r.serial in
           record {
-            running = runs_on got.now (record { working = got.on.working; writing = got.on.goes.writing }) got.on.goes.keeps;
+            running = runs_on got.now (record { working = got.on.working; writing = got.on.goes.writing; known = got.on.known }) got.on.goes.keeps;
             grows = got.on.goes.keeps.log;
             page = got.page ∙ page_is p ∙ sym (same.pages p);
             still = same.pages;

@@ -10,7 +10,7 @@ use Rattle.im_types.specs.Copies.{GrowsByImages}
 use Rattle.im_types.specs.LogLaws.{bodies}
 use Rattle.im_types.specs.Structure.{open_smo}
 use Rattle.im_types.specs.Lives.{Shown, Running, adds, shows, with_running}
-use Rattle.im_types.specs.WriterSteps.{changed}
+use Rattle.im_flush.specs.KnownCopies.{changed_as}
 use Rattle.im_types.proofs.Histories.{front_of_front}
 use Rattle.im_disk.specs.declared.disk.Disk.{Ghosts}
 use Rattle.im_disk.specs.Runs.{LeavesOnly}
@@ -94,7 +94,7 @@ module _ {D : Type 0} (d : Ghosts D) {b : Base} (before : List Effect) (s : Show
           start = r.start;
           earlier = r.earlier;
           made = r.made;
-          now = record (changed (logged_at lsn entry) was) { durable = made.logged.durable };
+          now = record (changed_as made.logged.known (logged_at lsn entry) was) { durable = made.logged.durable };
           stands = made.logged.stands;
           redo_end = r.redo_end;
           over = made.keeps.redo_end ∙ r.over;

@@ -47,7 +47,7 @@ module _ {D : Type 0} (d : Ghosts D) (before : List Effect) (s : Shown) (old new
         earlier = r.earlier;
         made = r.made;
         now = forced r.now;
-        stands = record { working = kept.ok.working; writing = kept.ok.goes.writing };
+        stands = record { working = kept.ok.working; writing = kept.ok.goes.writing; known = kept.ok.known };
         redo_end = r.redo_end;
         over = r.over;
         serial = r.serial;
@@ -68,7 +68,7 @@ module _ {D : Type 0} (d : Ghosts D) (before : List Effect) (s : Shown) (old new
       let b = run.0 in
       let r = run.1 in
       let f = kept.ok in
-      let stands : writers.StandsAs d b r.base f.now new.writer new.disk = record { working = f.on.working; writing = f.on.goes.writing } in
+      let stands : writers.StandsAs d b r.base f.now new.writer new.disk = record { working = f.on.working; writing = f.on.goes.writing; known = f.on.known } in
       let same = images_change_nothing b r.now.log f.now.log f.on.goes.keeps.log r.serial in
       let on = runs_on d before s old r new going next f.now stands f.on.goes.keeps in
       looks d before s (FlushPage p) Done refl (λ e. cc e) old new life works (grown_stops d before s old r new.disk kept.stops) works_on refl

@@ -1,15 +1,15 @@
 -- A record that changes its page joins the log, after redo: the page is changed by it, and enters the dirty table.
-use Rattle.std.proofs.Common.{◌≡◌, inl, inr, ℕ, true, false, Bool, List, Option, None, Some, refl, sym, ◌∙◌, ap, subst}
+use Rattle.std.proofs.Common.{◌≡◌, inl, inr, ℕ, ◌∷◌, true, false, Bool, List, Option, None, Some, refl, sym, ◌∙◌, ap, subst}
 use Rattle.std.specs.Prelude.{is_some}
 use Rattle.std.proofs.lemmas.Bool.{cases_eq}
 use Rattle.im_types.specs.declared.file_id.FileId.TheVariants.{Log, Pages}
 use Rattle.im_types.specs.Pages.{Page}
 use Rattle.im_types.specs.Records.{Checkpoint, Commit, DeleteKey, DummyClr, End, Image, InsertKey, Smo, UndoDelete, UndoInsert, UndoSmo, Unreadable, What}
 use Rattle.im_types.specs.Histories.{Base, page_after}
-use Rattle.im_types.specs.Copies.{copy_in}
-use Rattle.im_types.specs.RedoPoints.{is_checkpoint}
-use Rattle.im_types.specs.Writer.{DirtyEntry, PageState, Writer}
-use Rattle.im_types.specs.WriterSteps.{MayAppend, changed, changed_entry, changed_page, first_since, holds_copy, only, passed}
+use Rattle.im_types.specs.Copies.{HasCopy, copy_in}
+use Rattle.im_types.specs.RedoPoints.{is_checkpoint, redo_point}
+use Rattle.im_types.specs.Writer.{DirtyEntry, PageState, Writer, WriterKept}
+use Rattle.im_types.specs.WriterSteps.{MayAppend, changed_entry, first_since, holds_copy, only, passed}
 use Rattle.im_types.proofs.WriterAppends.{changed_kept}
 use Rattle.im_types.proofs.WriterCheckpoints.{next_point}
 use Rattle.im_types.proofs.WriterGrowth.{grown_kept}
@@ -29,6 +29,8 @@ use Rattle.im_flush.specs.DirtyTable.{ChangesEntry}
 use Rattle.im_flush.specs.PageFile.{IsPageFile}
 use Rattle.im_flush.specs.Stands.{HasEntries, is_changed}
 use Rattle.im_flush.specs.Writing.{IsShown, IsPooled, IsWriting}
+use Rattle.im_flush.specs.KnownCopies.{changed_as, changed_page_as, IsAtOrAfter, IsKnownFrom}
+use Rattle.im_flush.proofs.KnownCopies.{changed_as_kept, known_copy, knows_grown, knows_joined, others_none}
 use Rattle.im_flush.proofs.PageFiles.{only_here, only_other, page_file_spared}
 use Rattle.im_flush.proofs.TableSteps.{entries_put}
 use Rattle.im_flush.proofs.Goings.{pooled_same}
@@ -102,42 +104,50 @@ pooled_set pool new pages f frame page mark is sets held shown marked waits = re
 module _ {D : Type 0} (d : Ghosts D) (b : Base) (base : ℕ) (s : Writer) (log new_log : LogFile) (table new_table : List TableEntry) (pool new_pool : PoolView) (old new : D) (entry : Entry) (lsn : ℕ) (frame : Frame)
     (w : IsWriting d b base s log table pool old) (may : MayAppend b s (logged_at lsn entry)) (done : Appended d base s.log s.durable entry lsn old new_log new) (here : (logged_at lsn entry).page ≡ frame.number) where
   -- An append with what the record makes of its page, and the page's entry, is one step of the writer.
-  pub step_by : IsOpen d new_log new → ChangesOnly d Log old new → is_some (held_of pool frame.number) ≡ true → Sets frame (page_after lsn (what_of entry) (s.pages frame.number).page) true pool new_pool
-      → ChangesEntry frame.number (changed_entry (holds_copy (what_of entry)) lsn) table new_table → IsWriting d b base (record (changed (logged_at lsn entry) s) { durable = done.now_durable }) new_log new_table new_pool new
-  step_by opened changes held sets enters =
+  pub step_by : (known : Bool) → WriterKept b (changed_as known (logged_at lsn entry) s) → IsOpen d new_log new → ChangesOnly d Log old new → is_some (held_of pool frame.number) ≡ true
+      → Sets frame (page_after lsn (what_of entry) (s.pages frame.number).page) true pool new_pool
+      → ChangesEntry frame.number (changed_entry known lsn) table new_table → IsWriting d b base (record (changed_as known (logged_at lsn entry) s) { durable = done.now_durable }) new_log new_table new_pool new
+  step_by known kept opened changes held sets enters =
       let r = logged_at lsn entry in
-      let file = file_only d s.pages (changed_page r) r.page new (λ x. (refl, refl, refl)) (page_file_spared d s.pages old new (spared d Log Pages old new (λ same. cc) changes) w.stands.file) in
-      let entries : HasEntries new_table (only r.page (changed_page r) s.pages) = entries_put (changed_page r) (changed_entry (holds_copy (what_of entry)) lsn) s.pages r.page table new_table (λ x. refl) w.entries
-      (subst (λ (n : ℕ). ChangesEntry n (changed_entry (holds_copy (what_of entry)) lsn) table new_table) (sym here) enters) in
-      let pooled = subst (λ (n : ℕ). IsPooled new_pool (only n (changed_page r) s.pages)) (sym here)
-      (pooled_set pool new_pool s.pages (changed_page r) frame (page_after lsn (what_of entry) (s.pages frame.number).page) true w.pooled sets held refl (now_changed (holds_copy (what_of entry)) lsn (s.pages frame.number).entry) (λ x. refl)) in
+      let file = file_only d s.pages (changed_page_as known r) r.page new (λ x. (refl, refl, refl)) (page_file_spared d s.pages old new (spared d Log Pages old new (λ same. cc) changes) w.stands.file) in
+      let entries : HasEntries new_table (only r.page (changed_page_as known r) s.pages) = entries_put (changed_page_as known r) (changed_entry known lsn) s.pages r.page table new_table (λ x. refl) w.entries
+      (subst (λ (n : ℕ). ChangesEntry n (changed_entry known lsn) table new_table) (sym here) enters) in
+      let pooled = subst (λ (n : ℕ). IsPooled new_pool (only n (changed_page_as known r) s.pages)) (sym here)
+      (pooled_set pool new_pool s.pages (changed_page_as known r) frame (page_after lsn (what_of entry) (s.pages frame.number).page) true w.pooled sets held refl (now_changed known lsn (s.pages frame.number).entry) (λ x. refl)) in
       record {
         stands = record {
-          kept = grown_kept b (changed r s) done.now_durable done.grows done.log.front (changed_kept b s r w.stands.kept may);
+          kept = grown_kept b (changed_as known r s) done.now_durable done.grows done.log.front kept;
           ready = opened;
           log_is = done.log;
           file = record { reads = file.reads; leaves = file.leaves };
           tied = λ q. inl (entries q);
+          copies = knows_grown (changed_as known r s) done.now_durable done.grows
+              (knows_joined b s r w.stands.kept w.stands.copies may.last (λ q. passed lsn (only r.page (changed_page_as known r) s.pages q)) (others_none (changed_page_as known r) r.page lsn s.pages (λ x none. cc none)));
         };
         entries = entries;
-        pooled = pooled_same new_pool (only r.page (changed_page r) s.pages) (λ q. passed lsn (only r.page (changed_page r) s.pages q)) (λ q. refl) (λ q. refl) (λ q. refl) pooled;
+        pooled = pooled_same new_pool (only r.page (changed_page_as known r) s.pages) (λ q. passed lsn (only r.page (changed_page_as known r) s.pages q)) (λ q. refl) (λ q. refl) (λ q. refl) pooled;
         based = w.based;
       }
 
 module _ {D : Type 0} (d : Ghosts D) (b : Base) (base : ℕ) (s : Writer) (e : ℕ) (log new_log : LogFile) (table new_table : List TableEntry) (pool new_pool : PoolView) (old new : D) (entry : Entry) (lsn : ℕ) (frame : Frame)
-    (w : IsWriting d b base s log table pool old) (over : s.redo_end ≡ Some e) (copy : copy_in lsn (what_of entry) ≡ None) (point : is_checkpoint (what_of entry) ≡ false)
+    (w : IsWriting d b base s log table pool old) (over : s.redo_end ≡ Some e) (copy_none : copy_in lsn (what_of entry) ≡ None) (point : is_checkpoint (what_of entry) ≡ false)
     (done : Appended d base s.log s.durable entry lsn old new_log new) (here : (logged_at lsn entry).page ≡ frame.number) where
   change_may : MayAppend b s (logged_at lsn entry)
   change_may = record {
     redo_end = e;
     over = over;
     last = done.rises b w.based;
-    exact = λ c holds. absurd (let clash : None ≡ Some c = sym copy ∙ holds in cc clash);
+    exact = λ c holds. absurd (let clash : None ≡ Some c = sym copy_none ∙ holds in cc clash);
     point = next_point b s (logged_at lsn entry) e w.stands.kept over (done.rises b w.based) point;
   }
 
-  -- the same of a record that holds no full copy
-  pub changed_by : IsOpen d new_log new → ChangesOnly d Log old new → is_some (held_of pool frame.number) ≡ true → Sets frame (page_after lsn (what_of entry) (s.pages frame.number).page) true pool new_pool
-      → ChangesEntry frame.number (changed_entry false lsn) table new_table → IsWriting d b base (record (changed (logged_at lsn entry) s) { durable = done.now_durable }) new_log new_table new_pool new
-  changed_by opened changes held sets enters = step_by d b base s log new_log table new_table pool new_pool old new entry lsn frame w change_may done here opened changes held sets
-      (subst (λ (k : Bool). ChangesEntry frame.number (changed_entry k lsn) table new_table) (sym (holds_none lsn (what_of entry) copy)) enters)
+  -- the same of a record that holds no full copy, where one is known or is not
+  pub changed_by : (known : Bool) (from : Option ℕ) → IsKnownFrom s from → (known ≡ true → ((s.pages frame.number).entry ≡ None) × IsAtOrAfter from (s.pages frame.number).page.lsn)
+      → IsOpen d new_log new → ChangesOnly d Log old new → is_some (held_of pool frame.number) ≡ true → Sets frame (page_after lsn (what_of entry) (s.pages frame.number).page) true pool new_pool
+      → ChangesEntry frame.number (changed_entry known lsn) table new_table → IsWriting d b base (record (changed_as known (logged_at lsn entry) s) { durable = done.now_durable }) new_log new_table new_pool new
+  changed_by known from is_from has opened changes held sets enters =
+      let r = logged_at lsn entry in
+      let copy : known ≡ true → HasCopy (r ∷ s.log) r.page (redo_point (r ∷ s.log)) =
+      λ t. let is = has t in subst (λ (n : ℕ). HasCopy (r ∷ s.log) n (redo_point (r ∷ s.log))) (sym here) (known_copy b s r w.stands.kept w.stands.copies change_may.last e over point frame.number is.0 from is_from is.1) in
+      step_by d b base s log new_log table new_table pool new_pool old new entry lsn frame w change_may done here known (changed_as_kept b s r known (holds_none lsn (what_of entry) copy_none) copy (changed_kept b s r w.stands.kept change_may))
+      opened changes held sets enters

@@ -8,7 +8,7 @@ use Rattle.im_types.specs.Records.{Logged}
 use Rattle.im_types.specs.Histories.{Base, History, IsFront, end_of, page_at}
 use Rattle.im_types.specs.RedoPoints.{redo_point}
 use Rattle.im_types.specs.Writer.{PageState, Writer, WriterKept}
-use Rattle.im_types.specs.WriterSteps.{MayAppend, appended, imaged}
+use Rattle.im_types.specs.WriterSteps.{MayAppend, appended, imaged, passed}
 use Rattle.im_types.proofs.Histories.{page_same}
 use Rattle.im_types.proofs.Redo.{reached_end}
 use Rattle.im_types.proofs.RedoPoints.{point_same}
@@ -31,6 +31,8 @@ use Rattle.im_flush.specs.DirtyTable.{entry_in}
 use Rattle.im_flush.specs.PageFile.{IsPageFile}
 use Rattle.im_flush.specs.Stands.{IsTied, Stands}
 use Rattle.im_flush.specs.Images.{image_at, image_pages, with_image, MayImage, Imaged, ImageKept}
+use Rattle.im_flush.specs.KnownCopies.{KnowsCopies}
+use Rattle.im_flush.proofs.KnownCopies.{knows_grown, knows_joined, knows_redoing}
 use Rattle.im_flush.proofs.PageFiles.{page_file_spared}
 use Rattle.im_flush.proofs.Standing.{log_stops}
 
@@ -80,6 +82,13 @@ tied_imaged : (o : Option ℕ) (lsn : ℕ) (pages : ℕ → PageState) (table : 
 tied_imaged None lsn pages table tied p = tied p
 tied_imaged (Some e) lsn pages table tied p = tied p
 
+knows_imaged : (b : Base) (s : Writer) (lsn p : ℕ) (more : History) → WriterKept b s → KnowsCopies s → end_of b s.log < lsn → IsFront s.durable more → KnowsCopies (with_image lsn p more s)
+knows_imaged b s lsn p more kept k last below = by s.redo_end refl
+  where
+    by : (o : Option ℕ) → s.redo_end ≡ o → KnowsCopies (record s { log = image_at lsn p (s.pages p).page ∷ s.log; durable = more; pages = image_pages o lsn s.pages })
+    by None going = knows_redoing (record s { log = image_at lsn p (s.pages p).page ∷ s.log; durable = more }) going
+    by (Some e) over = knows_grown (appended (image_at lsn p (s.pages p).page) s) more below (knows_joined b s (image_at lsn p (s.pages p).page) kept k last (λ q. passed lsn (s.pages q)) (λ q none. (none, refl)))
+
 module _ {D : Type 0} (d : Ghosts D) (b : Base) (base : ℕ) (s : Writer) (log : LogFile) (table : List TableEntry) (old : D) (st : Stands d b base s log table old) where
   -- how it stands behind an append of the Image
   pub stands_imaged : (p lsn : ℕ) (bytes : List ℕ) (new_log : LogFile) (new : D) → b.start ≤ base → MayImage s p bytes → Appended d base s.log s.durable (entries.Image p bytes) lsn old new_log new
@@ -95,6 +104,7 @@ module _ {D : Type 0} (d : Ghosts D) (b : Base) (base : ℕ) (s : Writer) (log :
           log_is = log_is;
           file = file_imaged d s.redo_end lsn s.pages new (page_file_spared d s.pages old new (spared d Log Pages old new (λ same. cc) changes) st.file);
           tied = tied_imaged s.redo_end lsn s.pages table st.tied;
+          copies = knows_imaged b s lsn p put.now_durable st.kept st.copies (put.rises b starts) put.grows;
         };
       }
 

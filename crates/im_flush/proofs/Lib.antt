@@ -2,6 +2,7 @@ pub mod LogEnds
 pub mod Tables
 pub mod Lists
 pub mod PageFiles
+pub mod KnownCopies
 pub mod Standing
 pub mod TableSteps
 pub mod ImageSteps

@@ -21,6 +21,7 @@ use Rattle.im_pool.specs.Pool.{PoolView}
 use Rattle.im_flush.specs.declared.table_entry.TableEntry.{TableEntry}
 use Rattle.im_flush.specs.Writing.{IsWriting}
 use Rattle.im_flush.specs.PageWriter.{IsPlain}
+use Rattle.im_flush.proofs.KnownCopies.{knows_grown, knows_joined}
 use Rattle.im_flush.proofs.PageFiles.{page_file_spared}
 use Rattle.im_flush.proofs.Goings.{pooled_same}
 
@@ -52,6 +53,8 @@ module _ {D : Type 0} (d : Ghosts D) (b : Base) (base : ℕ) (s : Writer) (e : �
           log_is = done.log;
           file = record { reads = file.reads; leaves = file.leaves };
           tied = w.stands.tied;
+          copies = knows_grown (appended (logged_at lsn entry) s) done.now_durable done.grows
+              (knows_joined b s (logged_at lsn entry) w.stands.kept w.stands.copies logged_high (λ q. passed lsn (s.pages q)) (λ q none. (none, refl)));
         };
         entries = w.entries;
         pooled = pooled_same pool s.pages (λ q. passed lsn (s.pages q)) (λ q. refl) (λ q. refl) (λ q. refl) w.pooled;

@@ -13,6 +13,7 @@ use Rattle.im_log.specs.LogFile.{IsOpen, IsLog}
 use Rattle.im_page.specs.PageFile.{file_page}
 use Rattle.im_flush.specs.PageFile.{IsPageFile}
 use Rattle.im_flush.specs.Stands.{Stands}
+use Rattle.im_flush.proofs.KnownCopies.{knows_redoing}
 
 -- what a read gives and what was synced, and whether the page was written since
 pub record SameInFile (old new : PageState) : Type 0 where
@@ -37,4 +38,5 @@ module _ {D : Type 0} (d : Ghosts D) where
     log_is = log_is;
     file = record { reads = λ p. refl; leaves = λ c left p still. ap (λ (bytes : List ℕ). file_page bytes p) (synced c left) };
     tied = λ p. inl refl;
+    copies = knows_redoing (opened b all (file_page (d.seen disk Pages))) refl;
   }

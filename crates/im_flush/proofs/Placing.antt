@@ -26,6 +26,7 @@ use Rattle.im_flush.specs.Stands.{is_changed, LeavesCovered, Stands, Synced}
 use Rattle.im_flush.specs.Growth.{Keeps, SamePage}
 use Rattle.im_flush.specs.Writing.{lsn_for, IsShown, IsPooled, SameHeld, Unmarks, unmarked, pool_page, IsWriting, MayWriteHere, WrittenHere, WritesTo, Flushed}
 use Rattle.im_flush.proofs.Tables.{held_put_other}
+use Rattle.im_flush.proofs.KnownCopies.{knows_written}
 use Rattle.im_flush.proofs.PageFiles.{only_here, only_other, page_file_torn}
 use Rattle.im_flush.proofs.Standing.{entries_written, run_start, run_stops, run_then, tied_written, write_stops}
 use Rattle.im_flush.proofs.Growing.{grows_none, keeps_none, keeps_then, same_page}
@@ -152,6 +153,7 @@ module _ {D : Type 0} (d : Ghosts D) (b : Base) (base : ℕ) (s : Writer) (log :
           log_is = log_spared d base s.log s.durable log old new spares st.log_is;
           file = record { reads = reads_placed new writes; leaves = λ c left. page_file_torn d s.pages p l 4096 old refl st.file c (torn c (crash c left)) };
           tied = tied_written s.pages p l table new_table may.entry is entry st.tied;
+          copies = knows_written s p l st.copies;
         };
         pooled = pooled_written pool new_pool s.pages p l pooled un;
         entries = λ e has. entries_written s.pages p l table new_table may.entry is entry (sym room ∙ e) has;

@@ -21,6 +21,7 @@ use Rattle.im_flush.specs.Stands.{HasEntries}
 use Rattle.im_flush.specs.Writing.{IsShown, IsPooled, IsWriting}
 use Rattle.im_flush.specs.declared.page_writer.PageWriter.{PageWriter}
 use Rattle.im_flush.specs.Redoing.{LoadedHere}
+use Rattle.im_flush.proofs.KnownCopies.{knows_redoing}
 use Rattle.im_flush.proofs.LoggedChanges.{cause_of}
 use Rattle.im_flush.proofs.Openings.{SameInFile, page_file_as}
 use Rattle.im_flush.proofs.PageFiles.{only_here, only_other}
@@ -90,6 +91,7 @@ module _ {D : Type 0} (d : Ghosts D) (b : Base) (base : ℕ) (s : Writer) (log :
           log_is = w.stands.log_is;
           file = page_file_as d s.pages (only p (loaded_page s.point c) s.pages) disk (only_in_file s.pages (loaded_page s.point c) p (λ x. record { reads = refl; synced = refl; unsynced = refl })) w.stands.file;
           tied = λ q. inl (entries q);
+          copies = knows_redoing (loaded p c s) going;
         };
         entries = entries;
         pooled = pooled_loaded pool new_pool s.pages s.point p c frame w.pooled number takes low;

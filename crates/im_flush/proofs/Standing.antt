@@ -25,6 +25,7 @@ use Rattle.im_flush.specs.DirtyTable.{entry_in, has_room, put, written_in, Chang
 use Rattle.im_flush.specs.PageFile.{KeepsSynced}
 use Rattle.im_flush.specs.Stands.{IsTied, HasEntries, IsCovered, LeavesCovered, Stands, MayWritePage, Synced, Run}
 use Rattle.im_flush.proofs.Tables.{room_found}
+use Rattle.im_flush.proofs.KnownCopies.{knows_forced, knows_synced, knows_written}
 use Rattle.im_flush.proofs.PageFiles.{only_here, only_other, page_file_spared, page_file_synced, page_file_torn, page_file_written}
 
 -- ---- the table
@@ -166,6 +167,7 @@ module _ {D : Type 0} (d : Ghosts D) (b : Base) (base : ℕ) where
           log_is = log_spared d base s.log s.durable log old new spares st.log_is;
           file = page_file_written d s.pages p l bytes old new place whole may.page st.file holds crash;
           tied = tied_written s.pages p l table new_table may.entry is enters st.tied;
+          copies = knows_written s p l st.copies;
         }
 
     pub stands_synced : (new_table : List TableEntry) (new : D) → d.seen new ≡ d.seen old → ((c : Files) → d.may_leave new c → d.may_leave old c) → Only Pages (d.seen new) (d.may_leave new) → d.failed new ≡ false
@@ -180,6 +182,7 @@ module _ {D : Type 0} (d : Ghosts D) (b : Base) (base : ℕ) where
             log_is = log_spared d base s.log s.durable log old new spares st.log_is;
             file = page_file_synced d s.pages old new seen durable st.file;
             tied = λ p. inl (entries p);
+            copies = knows_synced b s st.kept st.copies;
           };
           entries = entries;
         }
@@ -191,6 +194,7 @@ module _ {D : Type 0} (d : Ghosts D) (b : Base) (base : ℕ) where
       log_is = log_is;
       file = page_file_spared d s.pages old new (spared d Log Pages old new (λ same. cc) changes) st.file;
       tied = st.tied;
+      copies = knows_forced s st.kept.front st.copies;
     }
 
     pub stands_read : (new : D) → Reads d old new → d.failed new ≡ false → Stands d b base s log table new
@@ -200,6 +204,7 @@ module _ {D : Type 0} (d : Ghosts D) (b : Base) (base : ℕ) where
       log_is = log_spared d base s.log s.durable log old new (spares_reads d Log old new reads) st.log_is;
       file = page_file_spared d s.pages old new (spares_reads d Pages old new reads) st.file;
       tied = st.tied;
+      copies = st.copies;
     }
 
     -- ---- runs

@@ -4,20 +4,18 @@ use Rattle.std.specs.Prelude.{is_some, Result, Ok, Err, IfErr, ◌≢◌, ◌==�
 use Rattle.std.proofs.lemmas.Bool.{cond-true, eq-eqb}
 use Rattle.im_types.specs.declared.fault.Fault.{Fault}
 use Rattle.im_types.specs.declared.fault.Fault.TheVariants.{Device, Failed, LogFull, Memory, NotAStore}
-use Rattle.im_types.specs.declared.file_id.FileId.TheVariants.{Log, Pages}
+use Rattle.im_types.specs.declared.file_id.FileId.TheVariants.{Log}
 use Rattle.im_types.specs.Pages.{Body, Page}
 use Rattle.im_types.specs.Records.{What, InsertKey, DeleteKey, UndoInsert, UndoDelete, Smo, UndoSmo, DummyClr, Commit, End, Image, Checkpoint, Unreadable}
 use Rattle.im_types.specs.Histories.{Base, page_after, page_at}
 use Rattle.im_types.specs.Copies.{copy_in}
 use Rattle.im_types.specs.RedoPoints.{is_checkpoint}
-use Rattle.im_types.specs.Writer.{DirtyEntry, Writer}
-use Rattle.im_types.specs.WriterSteps.{MayAppend, changed, changed_entry, changed_page, first_since, holds_copy, only, passed}
+use Rattle.im_types.specs.Writer.{Writer}
+use Rattle.im_types.specs.WriterSteps.{MayAppend, changed, changed_entry, holds_copy}
 use Rattle.im_types.proofs.WriterAppends.{changed_kept}
 use Rattle.im_types.proofs.WriterCheckpoints.{next_point}
-use Rattle.im_types.proofs.WriterGrowth.{grown_kept}
 use Rattle.im_disk.specs.declared.disk.Disk.{Ghosts}
 use Rattle.im_disk.specs.Runs.{ChangesOnly}
-use Rattle.im_disk.proofs.Runs.{spared}
 use Rattle.im_record.specs.declared.record.Record.{Record}
 use Rattle.im_record.specs.declared.record.Record.TheVariants as records
 use Rattle.im_record.specs.Entry.{Entry, page_of, view}
@@ -34,17 +32,12 @@ use Rattle.im_flush.specs.declared.page_writer.PageWriter.{PageWriter}
 use Rattle.im_flush.specs.PageWriter.{StandsAs, GoesOn, Evicted}
 use Rattle.im_flush.specs.DirtyTable.{ChangesEntry}
 use Rattle.im_flush.specs.PageCopy.{after_in}
-use Rattle.im_flush.specs.Stands.{HasEntries, is_changed, LeavesCovered}
-use Rattle.im_flush.specs.Writing.{IsPooled, IsWriting}
+use Rattle.im_flush.specs.Stands.{LeavesCovered}
+use Rattle.im_flush.specs.Writing.{IsWriting}
 use Rattle.im_flush.proofs.Changing.{step_by}
-use Rattle.im_flush.proofs.Goings.{pooled_same}
 use Rattle.im_flush.proofs.Growing.{keeps_none}
 use Rattle.im_flush.proofs.LoggedChanges.{cause_of}
 use Rattle.im_flush.proofs.Writers.{goes_on_then}
-use Rattle.im_flush.proofs.Openings.{page_file_as}
-use Rattle.im_flush.proofs.PageFiles.{page_file_spared}
-use Rattle.im_flush.proofs.Redoing.{only_in_file}
-use Rattle.im_flush.proofs.TableSteps.{entries_put}
 
 -- what a kind that leaves a page makes of it, and which copy it holds
 pub record LeavesBody (l : ℕ) (w : What) (body : Body) : Type 0 where
@@ -110,7 +103,7 @@ module _ {D : Type 0} (d : Ghosts D) (b : Base) (base : ℕ) where
   pub stays_then : (s : Writer) (old : D) (t : Writer) (v : PageWriter) (mid : D) → GoesOn d b base s old t v mid → (w : PageWriter) (disk : D) → LeavesCovered d b base t.durable t.log mid disk → StandsAs d b base t w disk
       → Evicted d b base s old w disk
   stays_then s old t v mid one w disk stops is =
-      record { now = t; on = goes_on_then d b base s old t v mid one t w disk (record { working = is.working; goes = record { writing = is.writing; stops = stops; keeps = keeps_none b t } }) }
+      record { now = t; on = goes_on_then d b base s old t v mid one t w disk (record { working = is.working; goes = record { writing = is.writing; stops = stops; keeps = keeps_none b t }; known = is.known }) }
 
 -- ---- the step
 
@@ -140,5 +133,5 @@ module _ {D : Type 0} (d : Ghosts D) (b : Base) (base : ℕ) (s : Writer) (e : �
       → ChangesEntry frame.number (changed_entry true lsn) table new_table → IsWriting d b base (record (changed (logged_at lsn entry) s) { durable = done.now_durable }) new_log new_table new_pool new
   left_by opened changes held sets enters =
       let set : Sets frame (page_after lsn (what_of entry) (s.pages frame.number).page) true pool new_pool = subst (λ (g : Page). Sets frame g true pool new_pool) (sym (leaves.after (s.pages frame.number).page)) sets in
-      step_by d b base s log new_log table new_table pool new_pool old new entry lsn frame w may done here opened changes held set
+      step_by d b base s log new_log table new_table pool new_pool old new entry lsn frame w may done here (holds_copy (what_of entry)) (changed_kept b s (logged_at lsn entry) w.stands.kept may) opened changes held set
       (subst (λ (k : Bool). ChangesEntry frame.number (changed_entry k lsn) table new_table) (sym leaves.holds) enters)

@@ -150,10 +150,10 @@ module _ {D : Type 0} (d : Ghosts D) (b : Base) (base : ℕ) where
     flushed_one p done = record { now = t; on = one; written = done; in_file = λ ready. read_back b t p one.goes.writing.stands.kept ready done }
 
     pub goes_on_then : (u : Writer) (v : PageWriter) (new : D) → GoesOn d b base t mid u v new → GoesOn d b base s old u v new
-    goes_on_then u v new two = record { working = two.working; goes = goes_then d b base s old t w.log w.table w.pool mid one.goes u v.log v.table v.pool new two.goes }
+    goes_on_then u v new two = record { working = two.working; goes = goes_then d b base s old t w.log w.table w.pool mid one.goes u v.log v.table v.pool new two.goes; known = two.known }
 
   pub goes_on_start : (s : Writer) (w : PageWriter) (disk : D) → ((c : Files) → d.left_since disk (d.moment disk) c → d.may_leave disk c) → StandsAs d b base s w disk → GoesOn d b base s disk s w disk
-  goes_on_start s w disk only_now is = record { working = is.working; goes = goes_start d b base s w.log w.table w.pool disk only_now is.writing }
+  goes_on_start s w disk only_now is = record { working = is.working; goes = goes_start d b base s w.log w.table w.pool disk only_now is.writing; known = is.known }
 
   -- nothing is left of a page that was not changed
   pub none_left : (s : Writer) (w : PageWriter) (disk : D) (p : ℕ) → StandsAs d b base s w disk → pools.is_changed w.pool p ≡ false → IsWritten (s.pages p).entry

@@ -1,6 +1,7 @@
 pub mod LogEnds
 pub mod DirtyTable
 pub mod PageFile
+pub mod KnownCopies
 pub mod Stands
 pub mod Images
 pub mod Growth

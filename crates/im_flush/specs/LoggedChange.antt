@@ -1,5 +1,5 @@
 -- What a record that changes a leaf keeps.
-use Rattle.std.specs.Prelude.{◌≡◌, ◌≢◌, ◌<◌, ℕ, false, None, Result, IfErr, IfOk, OnOk}
+use Rattle.std.specs.Prelude.{◌≡◌, ◌≢◌, ◌<◌, ℕ, Bool, false, None, Result, IfErr, IfOk, OnOk}
 use Rattle.im_types.specs.declared.fault.Fault.{Fault}
 use Rattle.im_types.specs.declared.fault.Fault.TheVariants.{NotAStore}
 use Rattle.im_types.specs.Pages.{Page}
@@ -8,13 +8,13 @@ use Rattle.im_types.specs.Histories.{Base, History, IsFront, end_of, page_after}
 use Rattle.im_types.specs.Copies.{copy_in}
 use Rattle.im_types.specs.RedoPoints.{is_checkpoint}
 use Rattle.im_types.specs.Writer.{Writer}
-use Rattle.im_types.specs.WriterSteps.{changed}
 use Rattle.im_disk.specs.declared.disk.Disk.{Ghosts}
 use Rattle.im_record.specs.Entry.{Entry, page_of}
 use Rattle.im_log.specs.Spelled.{logged_at}
 use Rattle.im_log.specs.Whats.{what_of}
 use Rattle.im_pool.specs.declared.frame.Frame.{Frame}
 use Rattle.im_flush.specs.declared.page_writer.PageWriter.{PageWriter}
+use Rattle.im_flush.specs.KnownCopies.{changed_as}
 use Rattle.im_flush.specs.Stands.{LeavesCovered}
 use Rattle.im_flush.specs.Growth.{Keeps}
 use Rattle.im_flush.specs.LeafChange.{LeafTakes}
@@ -40,7 +40,9 @@ module _ {D : Type 0} (d : Ghosts D) (b : Base) (base : ℕ) where
   pub record LoggedHere (s : Writer) (entry : Entry) (lsn : ℕ) (w : PageWriter) (disk : D) : Type 0 where
     pub durable : History
     pub grows : IsFront s.durable durable
-    pub stands : StandsAs d b base (record (changed (logged_at lsn entry) s) { durable = durable }) w disk
+    -- whether a full copy of the page is known
+    pub known : Bool
+    pub stands : StandsAs d b base (record (changed_as known (logged_at lsn entry) s) { durable = durable }) w disk
     pub high : end_of b s.log < lsn
 
   -- what that keeps of a page that is held

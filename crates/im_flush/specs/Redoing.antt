@@ -1,5 +1,5 @@
 -- What the calls of redo keep: a noted copy loaded, a record applied, a record read again.
-use Rattle.std.specs.Prelude.{◌≡◌, ◌≢◌, ℕ, Bool, true, false, Some, Result, IfErr, IfOk, OnOk}
+use Rattle.std.specs.Prelude.{◌≡◌, ◌≢◌, ◌||◌, ℕ, Bool, true, false, Some, Result, IfErr, IfOk, OnOk}
 use Rattle.im_types.specs.declared.fault.Fault.{Fault}
 use Rattle.im_types.specs.declared.fault.Fault.TheVariants.{NotAStore}
 use Rattle.im_types.specs.Pages.{Page}
@@ -7,13 +7,14 @@ use Rattle.im_types.specs.Records.{What, InsertKey, DeleteKey, UndoInsert, UndoD
 use Rattle.im_types.specs.Histories.{Base, changes_page, page_after}
 use Rattle.im_types.specs.Copies.{copy_in}
 use Rattle.im_types.specs.Writer.{Writer}
-use Rattle.im_types.specs.WriterSteps.{applies, at_point, is_copied, loaded, redone}
+use Rattle.im_types.specs.WriterSteps.{applies, at_point, is_copied, loaded}
 use Rattle.im_disk.specs.declared.disk.Disk.{Ghosts}
 use Rattle.im_pool.specs.declared.frame.Frame.{Frame}
 use Rattle.im_pool.specs.Pool.{PoolView, Holds, IsAt, Sets, Takes, page_at}
 use Rattle.im_flush.specs.DirtyTable.{ChangesEntry}
 use Rattle.im_flush.specs.declared.page_writer.PageWriter.{PageWriter}
 use Rattle.im_flush.specs.Stands.{LeavesCovered}
+use Rattle.im_flush.specs.KnownCopies.{redone_as}
 use Rattle.im_flush.specs.Growth.{Keeps}
 use Rattle.im_flush.specs.Writing.{LeavesGrown}
 use Rattle.im_flush.specs.PageWriter.{StandsAs}
@@ -43,12 +44,12 @@ pub record LoadedHere (point lsn : ℕ) (what : What) (number : ℕ) (old new : 
   pub entered : ChangesEntry number (λ o. at_point true point) old.table new.table
 
 -- A held page is changed by the record at an LSN, and has such an entry, where the record's kind changes a page; otherwise nothing is.
-pub record RedoneHere (point lsn : ℕ) (what : What) (number : ℕ) (old : PageWriter) (done : Bool) (new : PageWriter) : Type 0 where
+pub record RedoneHere (known : Bool) (point lsn : ℕ) (what : What) (number : ℕ) (old : PageWriter) (done : Bool) (new : PageWriter) : Type 0 where
   pub frame : Frame
   pub here : frame.number ≡ number
   pub at : IsAt old.pool frame
   pub applied : AppliedTo lsn what frame old.pool done new.pool
-  pub entered : done ≡ true → ChangesEntry number (λ o. at_point (is_copied o) point) old.table new.table
+  pub entered : done ≡ true → ChangesEntry number (λ o. at_point (known || is_copied o) point) old.table new.table
   pub same : done ≡ false → new.table ≡ old.table
 
 -- A held page does not take the record.
@@ -79,7 +80,9 @@ module _ {D : Type 0} (d : Ghosts D) (b : Base) (base : ℕ) where
     pub before : Writer
     pub keeps : Keeps b s before
     pub stops : LeavesCovered d b base s.durable before.log old disk
-    pub stands : StandsAs d b base (redone r every_page before) w disk
+    -- whether a full copy of the page is known
+    pub known : Bool
+    pub stands : StandsAs d b base (redone_as known r before) w disk
 
   -- what redo of a record keeps; it is refused as no store only where the page needs the record and does not take it
   pub record RedoKept (s : Writer) (r : Logged) (old : D) (w : PageWriter) (disk : D) (result : Result Bool Fault) : Type 0 where

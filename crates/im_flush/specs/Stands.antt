@@ -18,6 +18,7 @@ use Rattle.im_page.specs.PageFile.{file_page}
 use Rattle.im_flush.specs.declared.table_entry.TableEntry.{TableEntry}
 use Rattle.im_flush.specs.DirtyTable.{entry_in}
 use Rattle.im_flush.specs.PageFile.{IsPageFile}
+use Rattle.im_flush.specs.KnownCopies.{KnowsCopies}
 
 -- ---- the dirty table
 
@@ -51,6 +52,7 @@ module _ {D : Type 0} (d : Ghosts D) (b : Base) (base : ℕ) where
     pub log_is : IsLog d base s.log s.durable log disk
     pub file : IsPageFile d s.pages disk
     pub tied : (p : ℕ) → IsTied (entry_in table p) (s.pages p).entry
+    pub copies : KnowsCopies s
 
   -- A stop at any moment since old leaves what redo can start from.
   abbrev pub LeavesCovered : History → History → D → D → Type 0

@@ -9,9 +9,13 @@
 //!
 //! `DirtyTable` has each page that may lack changes in the file of pages: with its `rec_lsn`, the LSN from which on it may lack
 //! them, with `since`, the LSN of its first change after its last write, and with `copied`, whether the log is known to have a full
-//! copy of it at or after its redo point: behind a write, behind a record of a structure change, and where redo has loaded a noted
-//! copy. There are at most 1,024 entries, in rising page order. Room for them is made once: no call after `new` takes memory, and none is refused. Each call says what it makes of the
-//! list (`table`), and of each page's entry (`entry`). `copy_rows` gives the list that a Checkpoint has (`lists`).
+//! copy of it at or after its redo point: behind a write, behind a record of a structure change, where redo has loaded a noted
+//! copy, and for a page that comes in by a change once more. Such a page had an entry in this life before, was written, and left by a
+//! sync: its write found a copy, and the redo point has not moved since. Its own LSN says so, which is at or after that of the first
+//! record of this life that changed a leaf (`KnowsCopies`, `IsKnownFrom`): no copy is remembered beside the table.
+//! There are at most 1,024 entries, in rising page order. Room for them is made once: no call after `new` takes memory, and none is
+//! refused. Each call says what it makes of the list (`table`), and of each page's entry (`entry`). `copy_rows` gives the list that a
+//! Checkpoint has (`lists`).
 //!
 //! # The file of pages
 //!

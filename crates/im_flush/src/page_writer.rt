@@ -32,6 +32,9 @@ pub struct PageWriter {
     lsns: Vec<Lsn>,
     /// A page past the file's end that is written along.
     spare: Box<Page>,
+    /// The LSN of the first record of this life that changed a leaf. A page without an entry that has this LSN or a later one was
+    /// changed in this life, and written since: the log has a full copy of it at or after its redo point.
+    known_from: Option<Lsn>,
     failed: bool,
     ghost noted: { 1024 ≤ vec_capacity lsns },
 }
@@ -123,6 +126,7 @@ impl PageWriter {
         ensures free { length self.new.pool.held < self.new.pool.frames }
         ensures log { self.new.log ≡ self.old.log }
         ensures table { self.new.table ≡ self.old.table }
+        ensures known { self.new.known_from ≡ self.old.known_from }
         ensures failed { self.new.failed ≡ self.old.failed }
     {
         let _held = self.pool.len();
@@ -262,6 +266,7 @@ impl PageWriter {
         ensures pool { IfOk result (λ w. w.pool ≡ record { held = []; frames = frames; gets = 0 }) }
         ensures table { IfOk result (λ w. w.table ≡ []) }
         ensures failed { IfOk result (λ w. w.failed ≡ false) }
+        ensures known { IfOk result (λ w. w.known_from ≡ None) }
         ensures refused { IfErr result (λ e. e ≡ Memory) }
     {
         let pool = Pool::new(alloc, frames)?;
@@ -274,6 +279,7 @@ impl PageWriter {
             table,
             lsns,
             spare,
+            known_from: None,
             failed: false,
         })
     }

@@ -1,23 +1,28 @@
 -- Records, as redo applies them one by one.
 use Rattle.std.proofs.Common.{◌≡◌, inl, inr, ℕ, ◌+◌, ◌<◌, ◌≤◌, [], ◌∷◌, ◌++◌, List, Bool, true, false, Option, refl, sym, ◌∙◌, ap, subst, arith, append_assoc}
-use Rattle.std.specs.Prelude.{◌&&◌, nat_le, if◌then◌else◌}
+use Rattle.std.specs.BTreeMap.{get}
+use Rattle.std.specs.Ordering.{nat_cmp}
+use Rattle.std.specs.Prelude.{◌&&◌, nat_le, if◌then◌else◌, is_some, option_map, None, Some}
 use Rattle.std.proofs.lemmas.Bool.{cases_lt, lt-leb}
 use Rattle.std.proofs.lemmas.List.{append-nil}
 use Rattle.im_types.specs.Records.{Logged}
 use Rattle.im_types.specs.Pages.{Page}
 use Rattle.im_types.specs.Histories.{Base, History, IsFront, IsRecordOf, Rises, end_of, page_at}
-use Rattle.im_types.specs.Copies.{Reaches, redo_one}
+use Rattle.im_types.specs.Copies.{HasCopy, Reaches, noted, redo_one}
 use Rattle.im_types.specs.RedoPoints.{redo_point}
-use Rattle.im_types.specs.Writer.{WriterKept}
-use Rattle.im_types.specs.WriterSteps.{applies, ended, redone}
+use Rattle.im_types.specs.Writer.{Writer, WriterKept}
+use Rattle.im_types.specs.WriterSteps.{applies, ended}
 use Rattle.im_types.proofs.Histories.{front_of_front, rises_in}
+use Rattle.im_types.proofs.Copies.{copy_grows}
 use Rattle.im_types.proofs.Redo.{reached_end}
 use Rattle.im_record.specs.Entry.{Entry}
 use Rattle.im_log.specs.Spelled.{logged_at}
 use Rattle.im_disk.specs.declared.disk.Disk.{Ghosts}
 use Rattle.im_flush.specs.declared.page_writer.PageWriter.{PageWriter}
-use Rattle.im_flush.specs.Redoing.{RedoneFrom, TakesRecord, every_page}
+use Rattle.im_flush.specs.KnownCopies.{redone_as}
+use Rattle.im_flush.specs.Redoing.{RedoneFrom, TakesRecord}
 use Rattle.im_flush.proofs.Restarting.{writer_ends}
+use Rattle.im_analysis.specs.CopyLsns.{AreCopies, CopyMap}
 use Rattle.im_redo.specs.Redo.{AreApplicable, Redone, applied_in, first_lsn, lsns_from}
 use Rattle.im_redo.specs.Within.{IsWithinRedo}
 use Rattle.im_redo.specs.Applying.{HasPassed, IsApplying, IsLsnBehind}
@@ -139,8 +144,8 @@ module _ {D : Type 0} (d : Ghosts D) (b : Base) (base : ℕ) (begun : History) (
       split = so.split;
       left_is = so.left_is;
       passed = record {
-        now = redone r every_page done.before;
-        within = within_more d b base begun from so.passed.now v mid within done.before (redone r every_page done.before) t new done.keeps done.stops done.stands refl refl refl refl;
+        now = redone_as done.known r done.before;
+        within = within_more d b base begun from so.passed.now v mid within done.before (redone_as done.known r done.before) t new done.keeps done.stops done.stands refl refl refl refl;
         had = λ p. ((done.keeps.pages p).waits ∙ (so.passed.had p).0, let lsn : so.first.lsn ≡ r.lsn = ap (λ (x : Logged). x.lsn) same in omega (arith, lsn));
         lsns = λ p.
             let g : Page = (so.passed.now.pages p).page in
@@ -172,3 +177,15 @@ module _ {D : Type 0} (d : Ghosts D) (b : Base) (base : ℕ) (begun : History) (
   pub counted_all : (count : ℕ) (w : PageWriter) (disk : D) → IsApplying d b base begun file [] count from w disk → count ≡ applied_in (first_lsn b begun file) (redo_point begun) begun
   counted_all count w disk so =
       so.counted ∙ sym (count_same (first_lsn b begun file) (redo_point begun) so.newer so.front (sym so.left_is)) ∙ ap (λ (h : History). applied_in (first_lsn b begun file) (redo_point begun) h) so.split
+
+-- ---- noted copies
+
+-- a page with a noted copy has it in the durable log
+pub noted_still : (b : Base) (begun : History) (s : Writer) (p point : ℕ) (all : CopyMap) → AreCopies point all begun → point ≡ redo_point begun → IsFront begun s.durable → s.point ≡ redo_point begun → is_some (get nat_cmp all p) ≡ true
+    → HasCopy s.durable p s.point
+noted_still b begun s p point all are at front same some =
+    subst (λ (m : ℕ). HasCopy s.durable p m) (at ∙ sym same) (copy_grows begun s.durable p point front (has (noted point begun p) refl (ap (λ (o : Option ℕ). is_some o) (sym (are p)) ∙ some)))
+  where
+    has : (o : Option (ℕ × Page)) → noted point begun p ≡ o → is_some (option_map (λ (c : ℕ × Page). c.0) o) ≡ true → HasCopy begun p point
+    has None is none = absurd (cc none)
+    has (Some x) is some = record { lsn = x.0; copy = x.1; is = is }

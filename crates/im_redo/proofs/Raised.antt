@@ -8,6 +8,7 @@ use Rattle.im_types.proofs.WriterFronts.{whole}
 use Rattle.im_disk.specs.declared.disk.Disk.{Ghosts}
 use Rattle.im_flush.specs.declared.page_writer.PageWriter.{PageWriter}
 use Rattle.im_flush.specs.PageWriter.{StandsAs}
+use Rattle.im_flush.proofs.KnownCopies.{known_same}
 use Rattle.im_flush.proofs.Goings.{pooled_same}
 use Rattle.im_flush.proofs.Openings.{page_file_as}
 
@@ -50,6 +51,7 @@ module _ (b : Base) (s : Writer) (n : ℕ) (k : WriterKept b s) (going : s.redo_
 pub stands_raised : {D : Type 0} (d : Ghosts D) (b : Base) (base : ℕ) (s : Writer) (n : ℕ) (w : PageWriter) (disk : D) → WriterKept b (raised n s) → StandsAs d b base s w disk → StandsAs d b base (raised n s) w disk
 stands_raised d b base s n w disk kept is = let old = is.writing in record {
   working = is.working;
+  known = known_same s (raised n s) w.known_from refl refl is.known;
   writing = record {
     stands = record {
       kept = kept;
@@ -57,6 +59,7 @@ stands_raised d b base s n w disk kept is = let old = is.writing in record {
       log_is = old.stands.log_is;
       file = page_file_as d s.pages (raised n s).pages disk (λ p. record { reads = refl; synced = refl; unsynced = refl }) old.stands.file;
       tied = old.stands.tied;
+      copies = record { copies = old.stands.copies.copies };
     };
     entries = old.entries;
     pooled = pooled_same w.pool s.pages (raised n s).pages (λ q. refl) (λ q. refl) (λ q. refl) old.pooled;

@@ -56,7 +56,7 @@ read_some r bytes spells none = let clash : Some spells.entry ≡ None = sym spe
 pub within_opened : {D : Type 0} (d : Ghosts D) (b : Base) (base : ℕ) (begun : History) (from : D) (file : ℕ → Option Page) (w : PageWriter) (disk : D) → GoesOn d b base (opened b begun file) from (forced (opened b begun file)) w disk
     → IsWithinRedo d b base begun from (opened b begun file) w disk
 within_opened d b base begun from file w disk on = record {
-  stands = record { working = on.working; writing = on.goes.writing };
+  stands = record { working = on.working; writing = on.goes.writing; known = on.known };
   stops = on.goes.stops;
   log = grows_none b begun;
   durable = front_self begun;

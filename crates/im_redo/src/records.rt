@@ -1,10 +1,13 @@
 //! Records, applied to their pages from the redo point on.
 
-ghost use Rattle.std.specs.Prelude.{◌≡◌, ◌≤◌, ◌<◌, ◌+◌, ◌-◌, ◌^◌, ◌⊎◌, ◌↔◌, ◌∷◌, ℕ, List, [], true, false, if◌then◌else◌, length, Option, Err, IfErr, OnOk};
+ghost use Rattle.std.specs.Prelude.{is_some, ◌≡◌, ◌≤◌, ◌<◌, ◌+◌, ◌-◌, ◌^◌, ◌⊎◌, ◌↔◌, ◌∷◌, ℕ, List, [], true, false, if◌then◌else◌, length, Option, Err, IfErr, OnOk};
+ghost use Rattle.std.specs.Ordering.{nat_cmp};
+ghost use Rattle.std.specs.BTreeMap.{get};
 ghost use Rattle.im_types.specs.declared.fault.Fault.TheVariants.{Device, LogFull, Memory, NotAStore};
 ghost use Rattle.im_types.specs.Pages.{Page};
 ghost use Rattle.im_types.specs.Histories.{Base, History};
 ghost use Rattle.im_types.specs.RedoPoints.{redo_point};
+ghost use Rattle.im_analysis.specs.CopyLsns.{AreCopies};
 ghost use Rattle.im_log.specs.LogFile.{HasNoRoom};
 ghost use Rattle.im_flush.specs.PageWriter.{IsReadyWriter};
 ghost use Rattle.im_redo.specs.Redo.{AreApplicable};
@@ -13,13 +16,23 @@ ghost use Rattle.im_redo.specs.Applying.{IsApplying, AppliedKept, ApplyingKept};
 use im_disk::Disk;
 use im_flush::PageWriter;
 use im_record::decode;
-use im_types::{Fault, Lsn};
+use im_types::{Fault, Lsn, PageNo};
+use std::collections::BTreeMap;
 
-// Applies the record at an LSN to its page, unless the page has it, and says whether it did.
+// Whether a copy of a page is noted.
+fn has_copy(copies: &BTreeMap<PageNo, Lsn>, page: PageNo) -> bool
+    ensures { result ≡ true → is_some (get nat_cmp copies.now page) ≡ true }
+{
+    copies.get(&page).is_some()
+}
+
+// Applies the record at an LSN to its page, unless the page has it, and says whether it did. A page that has a noted
+// copy needs no other.
 fn redo_one<D: Disk>(
     disk: &mut D,
     writer: &mut PageWriter,
     point: Lsn,
+    copies: &BTreeMap<PageNo, Lsn>,
     lsn: Lsn,
     room: &mut [u8],
 ) -> Result<bool, Fault>
@@ -29,7 +42,7 @@ fn redo_one<D: Disk>(
     ensures ready { IsReadyWriter D.Disk writer.new disk.new }
     ensures room { length room.new ≡ length room.old }
     ensures kept { (b : Base) (base : ℕ) (begun : History) (file : ℕ → Option Page) (from : D) (left : List ℕ) (count : ℕ) → IsApplying D.Disk b base begun file (lsn ∷ left) count from writer.old disk.old
-        → AreApplicable b begun → point ≡ redo_point begun → AppliedKept D.Disk b base begun file left count from writer.new disk.new result }
+        → AreApplicable b begun → point ≡ redo_point begun → AreCopies point copies.now begun → AppliedKept D.Disk b base begun file left count from writer.new disk.new result }
     ensures works { OnOk result (writer.new.failed ≡ false) }
     ensures causes { IfErr result (λ e. (e ≡ LogFull) ⊎ (e ≡ Memory) ⊎ (e ≡ NotAStore) ⊎ (e ≡ Device)) }
     ensures no_room { result ≡ Err LogFull → HasNoRoom writer.new.log }
@@ -37,7 +50,8 @@ fn redo_one<D: Disk>(
 {
     let size = writer.read_at(disk, lsn, room)?;
     let record = decode(&room[..size])?;
-    let applied = writer.redo_change(disk, point, lsn, &record)?;
+    let copied = has_copy(copies, record.page());
+    let applied = writer.redo_change(disk, point, lsn, &record, copied)?;
     Ok(applied)
 }
 
@@ -54,6 +68,7 @@ pub(crate) fn redo_all<D: Disk>(
     disk: &mut D,
     writer: &mut PageWriter,
     point: Lsn,
+    copies: &BTreeMap<PageNo, Lsn>,
     lsns: &[Lsn],
     room: &mut [u8],
 ) -> Result<u64, Fault>
@@ -63,7 +78,7 @@ pub(crate) fn redo_all<D: Disk>(
     ensures ready { IsReadyWriter D.Disk writer.new disk.new }
     ensures room { length room.new ≡ length room.old }
     ensures kept { (b : Base) (base : ℕ) (begun : History) (file : ℕ → Option Page) (from : D) → IsApplying D.Disk b base begun file lsns.now 0 from writer.old disk.old
-        → AreApplicable b begun → point ≡ redo_point begun → ApplyingKept D.Disk b base begun file from writer.new disk.new result }
+        → AreApplicable b begun → point ≡ redo_point begun → AreCopies point copies.now begun → ApplyingKept D.Disk b base begun file from writer.new disk.new result }
     ensures works { OnOk result (writer.new.failed ≡ false) }
     ensures causes { IfErr result (λ e. (e ≡ LogFull) ⊎ (e ≡ Memory) ⊎ (e ≡ NotAStore) ⊎ (e ≡ Device)) }
     ensures no_room { result ≡ Err LogFull → HasNoRoom writer.new.log }
@@ -71,7 +86,7 @@ pub(crate) fn redo_all<D: Disk>(
 {
     let mut count = 0;
     for lsn in lsns {
-        let applied = redo_one(disk, writer, point, *lsn, room)?;
+        let applied = redo_one(disk, writer, point, copies, *lsn, room)?;
         count = counted(count, applied);
     }
     Ok(count)

@@ -49,5 +49,5 @@ pub fn redo<D: Disk>(
     // Nothing is buffered yet, so this makes no device call: a writer that has failed is refused here.
     writer.force(disk)?;
     load_all(disk, writer, point, copies, room)?;
-    redo_all(disk, writer, point, lsns, room)
+    redo_all(disk, writer, point, copies, lsns, room)
 }

@@ -11,7 +11,7 @@ use Rattle.im_types.specs.Histories.{Base, History, page_after, page_at}
 use Rattle.im_types.specs.Copies.{GrowsByImages}
 use Rattle.im_types.specs.Transactions.{is_end, is_finished, last_of}
 use Rattle.im_types.specs.Writer.{PageState, Writer}
-use Rattle.im_types.specs.WriterSteps.{changed_page}
+use Rattle.im_flush.specs.KnownCopies.{changed_page_as}
 use Rattle.im_types.proofs.Fronts.{fronts_lawful}
 use Rattle.im_types.proofs.Images.{images_pages}
 use Rattle.im_disk.specs.declared.disk.Disk.{Ghosts}
@@ -49,9 +49,9 @@ use Rattle.im_restart.proofs.Others.{spares_key}
 pub page_longer : (b : Base) (old new : History) (p : ℕ) → GrowsByImages b old new → page_at b new p ≡ page_at b old p
 page_longer b old new p by = ap (λ (l : History). page_at b l p) by.is ∙ images_pages b by.images old p by.all
 
-pub page_changed : (r : Logged) (is : Bool) (x : PageState) (g : Page) → x.page ≡ g → (if is then changed_page r x else x).page ≡ (if is then page_after r.lsn r.what g else g)
-page_changed r true x g same = ap (λ (h : Page). page_after r.lsn r.what h) same
-page_changed r false x g same = same
+pub page_changed : (known : Bool) (r : Logged) (is : Bool) (x : PageState) (g : Page) → x.page ≡ g → (if is then changed_page_as known r x else x).page ≡ (if is then page_after r.lsn r.what g else g)
+page_changed known r true x g same = ap (λ (h : Page). page_after r.lsn r.what h) same
+page_changed known r false x g same = same
 
 -- ---- the records with which one record is taken back
 

@@ -220,7 +220,7 @@ module _ {D : Type 0} (d : Ghosts D) (b : Base) (base : ℕ) (all : History) whe
               order = order_one all log r (order_images b all s.log log is.order by) (ap is_compensation undo_is);
               found = front_then all from.before.durable from.logged.durable (front_then all s.durable from.before.durable is.found from.keeps.durable) from.logged.grows;
               lawful = next.0;
-              pages = λ q. page_changed r (r.page == q) (from.before.pages q) (page_at b log q) ((from.keeps.pages q).page ∙ is.pages q ∙ sym (page_longer b s.log log q by));
+              pages = λ q. page_changed from.logged.known r (r.page == q) (from.before.pages q) (page_at b log q) ((from.keeps.pages q).page ∙ is.pages q ∙ sym (page_longer b s.log log q by));
             };
             stops = stops;
             on = front_then s.log log (r ∷ log) (grown_front b s.log log by) (front_one r log);

@@ -1,5 +1,5 @@
 -- A restart: what redo, undo and the last force leave, put together.
-use Rattle.std.proofs.Common.{◌≡◌, ◌≢◌, ◌⊎◌, ◌≤◌, ◌-◌, ◌^◌, ℕ, min, inl, inr, [], List, false, length, Option, Result, Ok, Err, refl, sym, ◌∙◌, ap, subst, arith}
+use Rattle.std.proofs.Common.{◌≡◌, ◌≢◌, ◌⊎◌, ◌≤◌, ◌-◌, ◌^◌, ℕ, min, inl, inr, [], List, false, length, Option, Result, Ok, Err, refl, sym, ◌∙◌, ap, subst, arith, None}
 use Rattle.std.specs.Prelude.{IfErr, IfOk, OnOk}
 use Rattle.im_types.specs.declared.fault.Fault.{Fault}
 use Rattle.im_types.specs.declared.fault.Fault.TheVariants.{Device, Failed, NotAStore}
@@ -156,7 +156,7 @@ module _ {D : Type 0} (d : Ghosts D) (b : Base) (base : ℕ) (all : History) whe
     ok = on_ok result (GoesOn d b base done.now mid (forced done.now) x new) (IsSettled d b base all x new) k.ok
         (λ on. record {
           now = forced done.now;
-          stands = record { working = on.working; writing = on.goes.writing };
+          stands = record { working = on.working; writing = on.goes.writing; known = on.known };
           redo_end = done.goes.undoing.redo_end;
           over = done.goes.undoing.over;
           durable = refl;
@@ -173,10 +173,10 @@ module _ {D : Type 0} (d : Ghosts D) (b : Base) (base : ℕ) (all : History) whe
   -- ---- the writer
 
   pub writer_starts : (file : LogFile) (w : PageWriter) (frames : ℕ) (disk : D) → MayRestart b base all (d.seen disk) → Only Pages (d.seen disk) (d.may_leave disk) → IsOpen d file disk → IsLog d base all all file disk → w.log ≡ file
-      → w.pool ≡ record { held = []; frames = frames; gets = 0 } → w.table ≡ [] → w.failed ≡ false → StandsAs d b base (opened b all (file_page (d.seen disk Pages))) w disk
-  writer_starts file w frames disk may pages is_open log same pool table working =
+      → w.pool ≡ record { held = []; frames = frames; gets = 0 } → w.table ≡ [] → w.failed ≡ false → w.known_from ≡ None → StandsAs d b base (opened b all (file_page (d.seen disk Pages))) w disk
+  writer_starts file w frames disk may pages is_open log same pool table working unknown =
       writer_opens d b base all w frames disk may.start (rises b page_tree all may.lawful) may.has.covers (subst (λ (f : LogFile). IsOpen d f disk) (sym same) is_open) (subst (λ (f : LogFile). IsLog d base all all f disk) (sym same) log) pages pool
-      table working
+      table working unknown
 
   pub restarted_so : (w : PageWriter) (next : ℕ) (report : RedoReport) (disk : D) → IsSettled d b base all w disk → IsRestarted d b base all (record { writer = w; next = next; report = report }) disk
   restarted_so w next report disk is = record {

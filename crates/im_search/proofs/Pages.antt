@@ -28,7 +28,7 @@ module _ {D : Type 0} (d : Ghosts D) (b : Base) (base : ℕ) where
   -- the tree is there still
   pub tree_stays : (s : Writer) (spare : List ℕ) (v : PageWriter) (old : D) (t : Writer) (w : PageWriter) (disk : D) → HasTree d b base s spare v old → GoesOn d b base s old t w disk → HasTree d b base t spare w disk
   tree_stays s spare v old t w disk has on = record {
-    stands = record { working = on.working; writing = on.goes.writing };
+    stands = record { working = on.working; writing = on.goes.writing; known = on.known };
     ready = λ q. (on.goes.keeps.pages q).waits ∙ has.ready q;
     good = subst (λ (pages : Pages). IsGoodTree pages spare) (sym (bodies_stay b s t on.goes.keeps)) has.good;
   }

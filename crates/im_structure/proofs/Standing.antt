@@ -64,7 +64,7 @@ module _ {D : Type 0} (d : Ghosts D) (b : Base) (base : ℕ) where
     unfinished_images =
         let by = on.goes.keeps.log in
         record {
-          stands = record { working = on.working; writing = on.goes.writing };
+          stands = record { working = on.working; writing = on.goes.writing; known = on.known };
           over = on.goes.keeps.redo_end ∙ u.over;
           lawful = images_lawful b s.log now.log by u.lawful;
           closed = ap open_smo by.is ∙ images_open b by.images s.log by.all ∙ u.closed;

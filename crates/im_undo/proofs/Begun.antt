@@ -49,7 +49,7 @@ module _ {D : Type 0} (d : Ghosts D) (b : Base) (base : ℕ) where
       let by = ev.on.goes.keeps.log in
       record {
         now = ev.now;
-        stands = record { working = ev.on.working; writing = ev.on.goes.writing };
+        stands = record { working = ev.on.working; writing = ev.on.goes.writing; known = ev.on.known };
         grows = grows_then t s.log now.log ev.now.log grows (grows_images b t now.log ev.now.log by);
         some = record_back t by.images grows.more some;
       }

@@ -219,7 +219,7 @@ module _ {D : Type 0} (d : Ghosts D) (b : Base) (base : ℕ) where
     going_images old now v new on =
         let some = loser_some t s.log g.loser in
         record {
-          stands = record { working = on.working; writing = on.goes.writing };
+          stands = record { working = on.working; writing = on.goes.writing; known = on.known };
           over = on.goes.keeps.redo_end ∙ g.over;
           can = still_undoable b s.log now.log on.goes.keeps.log g.can;
           loser = same_loser b t s.log now.log some on.goes.keeps.log ∙ g.loser;

@@ -3,6 +3,7 @@ ghost use Rattle.std.specs.Prelude.{◌≡◌, ◌≢◌, ◌≤◌, ◌<◌, �
 ghost use Rattle.im_types.specs.declared.fault.Fault.TheVariants.{Device, Failed, LogFull, Memory, NotAStore};
 ghost use Rattle.im_types.specs.Histories.{Base};
 ghost use Rattle.im_types.specs.Writer.{Writer};
+ghost use Rattle.im_flush.specs.KnownCopies.{or_from};
 
 use crate::PageWriter;
 use crate::leaf_change::{place_for, place_of, put_key, take_key};
@@ -19,6 +20,7 @@ impl PageWriter {
     ghost use Rattle.im_log.specs.Whats.{what_of};
     ghost use Rattle.im_pool.specs.Pool.{held_of, page_at, IsAt};
     ghost use Rattle.im_flush.specs.DirtyTable.{entry_in};
+    ghost use Rattle.im_flush.specs.KnownCopies.{IsAtOrAfter};
     ghost use Rattle.im_flush.specs.PageWriter.{IsReadyWriter, StandsAs};
     ghost use Rattle.im_flush.specs.LeafChange.{HasPlaceFor, HasKey};
     ghost use Rattle.im_flush.specs.LogEnds.{EndsNoSooner};
@@ -76,6 +78,20 @@ impl PageWriter {
         self.find_with_room(number)
     }
 
+    // Whether the log is known to have a full copy of a held page that has no entry: it was changed in this life, and written since.
+    fn is_known(&self, frame: Frame) -> bool
+        requires at { IsAt self.now.pool frame }
+        ensures none { result ≡ true → entry_in self.now.table frame.number ≡ None }
+        ensures late { result ≡ true → IsAtOrAfter self.now.known_from (page_at self.now.pool frame.number).lsn }
+    {
+        match self.known_from {
+            Some(from) => {
+                from <= self.pool.page(frame).lsn() && self.table.get(frame.number).is_none()
+            }
+            None => false,
+        }
+    }
+
     // A record puts a key into a held leaf at its place.
     fn put_logged<D: Disk>(
         &mut self,
@@ -104,10 +120,12 @@ impl PageWriter {
         ensures left { result ≡ Err LogFull → 2 ^ 62 < end_with self.new.log (size_of (view record.now)) }
         ensures device { result ≡ Err Device ↔ (D.failed disk.new ≡ true) }
     {
+        let known = self.is_known(frame);
         self.failed = true;
         let lsn = self.log.append(disk, record)?;
         put_key(&mut self.pool, frame, i, key, rid, lsn);
-        self.table.enter(frame.number, lsn, false);
+        self.table.enter(frame.number, lsn, known);
+        self.known_from = first_of(self.known_from, lsn);
         self.failed = false;
         Ok(lsn)
     }
@@ -140,10 +158,12 @@ impl PageWriter {
         ensures left { result ≡ Err LogFull → 2 ^ 62 < end_with self.new.log (size_of (view record.now)) }
         ensures device { result ≡ Err Device ↔ (D.failed disk.new ≡ true) }
     {
+        let known = self.is_known(frame);
         self.failed = true;
         let lsn = self.log.append(disk, record)?;
         take_key(&mut self.pool, frame, i, key, rid, lsn);
-        self.table.enter(frame.number, lsn, false);
+        self.table.enter(frame.number, lsn, known);
+        self.known_from = first_of(self.known_from, lsn);
         self.failed = false;
         Ok(lsn)
     }
@@ -267,5 +287,15 @@ impl PageWriter {
             ),
             _ => self.not_a_change(),
         }
+    }
+}
+
+// The first LSN, if there is none yet.
+fn first_of(from: Option<Lsn>, lsn: Lsn) -> Option<Lsn>
+    ensures { result ≡ or_from from lsn }
+{
+    match from {
+        Some(first) => Some(first),
+        None => Some(lsn),
     }
 }

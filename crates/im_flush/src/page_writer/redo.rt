@@ -20,7 +20,7 @@ mod tests;
 impl PageWriter {
     ghost use Rattle.im_types.specs.Pages.{Page};
     ghost use Rattle.im_types.specs.Records.{Logged};
-    ghost use Rattle.im_types.specs.Copies.{copy_in};
+    ghost use Rattle.im_types.specs.Copies.{HasCopy, copy_in};
     ghost use Rattle.im_types.specs.Histories.{IsRecordOf, end_of};
     ghost use Rattle.im_record.specs.Entry.{view, page_of};
     ghost use Rattle.im_record.specs.Spelling.{IsEntry};
@@ -97,6 +97,7 @@ impl PageWriter {
         requires entry { IsEntry (view record.now) }
         ensures ok { OnOk result (LoadedHere point lsn (what_of (view record.now)) number self.old self.new) }
         ensures log { self.new.log ≡ self.old.log }
+        ensures known { self.new.known_from ≡ self.old.known_from }
         ensures frames { self.new.pool.frames ≡ self.old.pool.frames }
         ensures failed { self.new.failed ≡ self.old.failed }
         ensures refused { IfErr result (λ e. (e ≡ Memory) ⊎ ((e ≡ NotAStore) × (Holds self.old.pool number ⊎ (copy_in lsn (what_of (view record.now)) ≡ None)))) }
@@ -170,10 +171,12 @@ impl PageWriter {
         lsn: Lsn,
         record: &Record,
         number: PageNo,
+        copied: bool,
     ) -> Result<bool, Fault>
         requires entry { IsEntry (view record.now) }
-        ensures ok { IfOk result (λ done. RedoneHere point lsn (what_of (view record.now)) number self.old done self.new) }
+        ensures ok { IfOk result (λ done. RedoneHere copied point lsn (what_of (view record.now)) number self.old done self.new) }
         ensures log { self.new.log ≡ self.old.log }
+        ensures known { self.new.known_from ≡ self.old.known_from }
         ensures frames { self.new.pool.frames ≡ self.old.pool.frames }
         ensures failed { self.new.failed ≡ self.old.failed }
         ensures refused { IfErr result (λ e. (e ≡ Memory) ⊎ ((e ≡ NotAStore) × LacksTaker (what_of (view record.now)) number self.old.pool)) }
@@ -182,7 +185,7 @@ impl PageWriter {
         if !redo_record(&mut self.pool, &mut self.spare, frame, lsn, record)? {
             return Ok(false);
         }
-        self.table.enter_at_point(frame.number, point, false);
+        self.table.enter_at_point(frame.number, point, copied);
         Ok(true)
     }
 
@@ -194,6 +197,7 @@ impl PageWriter {
         lsn: Lsn,
         record: &Record,
         number: PageNo,
+        copied: bool,
     ) -> Result<bool, Fault>
         requires entry { IsEntry (view record.now) }
         requires page { page_of (view record.now) ≡ number }
@@ -201,7 +205,7 @@ impl PageWriter {
         ensures ready { IsReadyWriter D.Disk self.new disk.new }
         ensures kept { (b : Base) (base : ℕ) (s : Writer) (newer older : History) → StandsAs D.Disk b base s self.old disk.old → s.redo_end ≡ None → s.point ≡ point
             → newer ++ logged_at lsn (view record.now) ∷ older ≡ s.durable → point ≤ lsn → ((p : ℕ) → ((s.pages p).waits ≡ false) × (end_of b older < (s.pages p).upto))
-            → (s.pages number).page.lsn < lsn → RedoKept D.Disk b base s (logged_at lsn (view record.now)) disk.old self.new disk.new result }
+            → (s.pages number).page.lsn < lsn → (copied ≡ true → HasCopy s.durable number s.point) → RedoKept D.Disk b base s (logged_at lsn (view record.now)) disk.old self.new disk.new result }
         ensures works { OnOk result (self.new.failed ≡ false) }
         ensures causes { IfErr result (λ e. (e ≡ Failed) ⊎ (e ≡ LogFull) ⊎ (e ≡ Memory) ⊎ (e ≡ NotAStore) ⊎ (e ≡ Device)) }
         ensures no_room { result ≡ Err LogFull → HasNoRoom self.new.log }
@@ -211,7 +215,7 @@ impl PageWriter {
         ensures device { self.old.failed ≡ false → result ≡ Err Device ↔ (D.failed disk.new ≡ true) }
     {
         self.make_entry_room(disk)?;
-        self.redo_held(point, lsn, record, number)
+        self.redo_held(point, lsn, record, number, copied)
     }
 
     // The same of any page, which is got first.
@@ -222,6 +226,7 @@ impl PageWriter {
         lsn: Lsn,
         record: &Record,
         number: PageNo,
+        copied: bool,
     ) -> Result<bool, Fault>
         requires entry { IsEntry (view record.now) }
         requires page { page_of (view record.now) ≡ number }
@@ -229,7 +234,7 @@ impl PageWriter {
         ensures ready { IsReadyWriter D.Disk self.new disk.new }
         ensures kept { (b : Base) (base : ℕ) (s : Writer) (newer older : History) → StandsAs D.Disk b base s self.old disk.old → s.redo_end ≡ None → s.point ≡ point
             → newer ++ logged_at lsn (view record.now) ∷ older ≡ s.durable → point ≤ lsn → ((p : ℕ) → ((s.pages p).waits ≡ false) × (end_of b older < (s.pages p).upto))
-            → RedoKept D.Disk b base s (logged_at lsn (view record.now)) disk.old self.new disk.new result }
+            → (copied ≡ true → HasCopy s.durable number s.point) → RedoKept D.Disk b base s (logged_at lsn (view record.now)) disk.old self.new disk.new result }
         ensures works { OnOk result (self.new.failed ≡ false) }
         ensures causes { IfErr result (λ e. (e ≡ Failed) ⊎ (e ≡ LogFull) ⊎ (e ≡ Memory) ⊎ (e ≡ NotAStore) ⊎ (e ≡ Device)) }
         ensures no_room { result ≡ Err LogFull → HasNoRoom self.new.log }
@@ -242,12 +247,15 @@ impl PageWriter {
         if self.pool.page(frame).lsn() >= lsn {
             return Ok(false);
         }
-        self.redo_with_room(disk, point, lsn, record, number)
+        self.redo_with_room(disk, point, lsn, record, number, copied)
     }
 
     /// Goes past a record of the durable log in redo: where it changes a page whose LSN is less than the record's, the page is changed by
     /// it, and counts as changed from the redo point on; every other record changes nothing. It answers whether a page was changed. The
     /// page is got first, and then room is made for its entry in the dirty table; a record that changes no page takes no call.
+    ///
+    /// `copied` says that the log has a full copy of the page at or after the redo point, as analysis noted it: then no Image of it is
+    /// needed, whenever it is written.
     ///
     /// Refused `NotAStore` where the page does not take the record; otherwise as `get` is.
     pub fn redo_change<D: Disk>(
@@ -256,13 +264,14 @@ impl PageWriter {
         point: Lsn,
         lsn: Lsn,
         record: &Record,
+        copied: bool,
     ) -> Result<bool, Fault>
         requires entry { IsEntry (view record.now) }
         requires ready { IsReadyWriter D.Disk self.old disk.old }
         ensures ready { IsReadyWriter D.Disk self.new disk.new }
         ensures kept { (b : Base) (base : ℕ) (s : Writer) (newer older : History) → StandsAs D.Disk b base s self.old disk.old → s.redo_end ≡ None → s.point ≡ point
             → newer ++ logged_at lsn (view record.now) ∷ older ≡ s.durable → point ≤ lsn → ((p : ℕ) → ((s.pages p).waits ≡ false) × (end_of b older < (s.pages p).upto))
-            → RedoKept D.Disk b base s (logged_at lsn (view record.now)) disk.old self.new disk.new result }
+            → (copied ≡ true → HasCopy s.durable (page_of (view record.now)) s.point) → RedoKept D.Disk b base s (logged_at lsn (view record.now)) disk.old self.new disk.new result }
         ensures works { OnOk result (self.new.failed ≡ false) }
         ensures causes { IfErr result (λ e. (e ≡ Failed) ⊎ (e ≡ LogFull) ⊎ (e ≡ Memory) ⊎ (e ≡ NotAStore) ⊎ (e ≡ Device)) }
         ensures no_room { result ≡ Err LogFull → HasNoRoom self.new.log }
@@ -277,7 +286,7 @@ impl PageWriter {
         if !may_change(record) {
             return Ok(false);
         }
-        self.redo_on(disk, point, lsn, record, record.page())
+        self.redo_on(disk, point, lsn, record, record.page(), copied)
     }
 }
 

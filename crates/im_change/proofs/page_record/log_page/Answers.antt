@@ -34,7 +34,7 @@ returns-clause-kept g c b base s e is over =
     let what : what_of (Smo c.args.transaction c.args.prev p before after) ≡ whats.Smo (s.pages p).page.body c.args.after.now.body =
     smo_is c.args.transaction c.args.prev p before after c.page.result.now c.args.after.now c.copy_behind.ensures.page c.behind.ensures.page
     ∙ ap (λ (g : Page). whats.Smo g.body c.args.after.now.body) same in
-    let kept = c.log_image.ensures.kept b base got.now e (record { working = got.on.working; writing = got.on.goes.writing }) (got.on.goes.keeps.redo_end ∙ over) in
+    let kept = c.log_image.ensures.kept b base got.now e (record { working = got.on.working; writing = got.on.goes.writing; known = got.on.known }) (got.on.goes.keeps.redo_end ∙ over) in
     record {
       ok = if_ok c.log_image.result _ _ kept.ok
           (λ lsn done. page_logged g.D.Disk b base s got.now c.args.transaction c.args.prev p before after c.args.after.now.body lsn c.get.new.disk c.log_image.new.self c.log_image.new.disk got.on.goes.keeps what done);

@@ -103,13 +103,13 @@ fn a_record_is_redone_once(rt: HostRuntime) -> Result<(), Fail> {
     let mut disk = ModelDisk::new(Vec::new(alloc), Vec::new(alloc));
     let mut writer = open(alloc, &mut disk)?;
     load(&mut writer, &mut disk, 400)?;
-    assert!(rt; !writer.redo_change(&mut disk, POINT, 400, &insert(b"a"))?);
+    assert!(rt; !writer.redo_change(&mut disk, POINT, 400, &insert(b"a"), false)?);
     assert_eq!(rt; got(&mut writer, &mut disk, 1)?, (400, 0));
-    assert!(rt; writer.redo_change(&mut disk, POINT, 401, &insert(b"a"))?);
-    assert!(rt; !writer.redo_change(&mut disk, POINT, 401, &insert(b"a"))?);
+    assert!(rt; writer.redo_change(&mut disk, POINT, 401, &insert(b"a"), false)?);
+    assert!(rt; !writer.redo_change(&mut disk, POINT, 401, &insert(b"a"), false)?);
     assert_eq!(rt; got(&mut writer, &mut disk, 1)?, (401, 1));
     assert_eq!(rt;
-        writer.redo_change(&mut disk, POINT, 402, &insert(b"a")),
+        writer.redo_change(&mut disk, POINT, 402, &insert(b"a"), false),
         Err(Fault::NotAStore)
     );
     Ok(())
@@ -124,9 +124,9 @@ fn a_redone_page_counts_as_changed_from_the_redo_point_on(rt: HostRuntime) -> Re
     writer.flush_one(&mut disk, 1)?;
     writer.sync_pages(&mut disk)?;
     assert_eq!(rt; entry(&writer), None);
-    assert!(rt; !writer.redo_change(&mut disk, POINT, 400, &insert(b"a"))?);
+    assert!(rt; !writer.redo_change(&mut disk, POINT, 400, &insert(b"a"), false)?);
     assert_eq!(rt; entry(&writer), None);
-    assert!(rt; writer.redo_change(&mut disk, POINT, 401, &insert(b"a"))?);
+    assert!(rt; writer.redo_change(&mut disk, POINT, 401, &insert(b"a"), false)?);
     assert_eq!(rt; entry(&writer), from(POINT, false));
     Ok(())
 }

@@ -13,7 +13,7 @@ few_more count index true n is le = omega (arith, is, le)
 few_more count index false n is le = omega (arith, is, le)
 
 pub loop-lsn-init : goal.loop-lsn-init
-loop-lsn-init g c = record { ready = c.requires.ready; working = c.requires.working; disk = (search rules); few = omega arith; room = refl; kept = λ b base begun file from is can at. is }
+loop-lsn-init g c = record { ready = c.requires.ready; working = c.requires.working; disk = (search rules); few = omega arith; room = refl; kept = λ b base begun file from is can at are. is }
 
 pub loop-lsn-preserved : goal.loop-lsn-preserved
 loop-lsn-preserved g c =
@@ -24,25 +24,25 @@ loop-lsn-preserved g c =
       disk = (search rules);
       few = few_more l.count l.lsn-index c.in_ok-applied.applied c.counted-count.result c.counted-count.ensures l.invariant.few;
       room = (search rules);
-      kept = λ b base begun file from is can at.
+      kept = λ b base begun file from is can at are.
           let rest = drop (l.lsn-index + 1) c.args.lsns.now in
           let more : drop l.lsn-index c.args.lsns.now ≡ get_or c.args.lsns.now l.lsn-index 0 ∷ rest = drop_more c.args.lsns.now l.lsn-index 0 c.loop-lsn-test.true in
-          let so = subst (λ (left : List ℕ). IsApplying g.D.Disk b base begun file left l.count from l.writer l.disk) more (l.invariant.kept b base begun file from is can at) in
-          subst (λ (n : ℕ). IsApplying g.D.Disk b base begun file rest n from c.redo_one.new.writer c.redo_one.new.disk) (sym c.counted-count.ensures) (c.in_ok-applied.ensures.kept b base begun file from rest l.count so can at).ok;
+          let so = subst (λ (left : List ℕ). IsApplying g.D.Disk b base begun file left l.count from l.writer l.disk) more (l.invariant.kept b base begun file from is can at are) in
+          subst (λ (n : ℕ). IsApplying g.D.Disk b base begun file rest n from c.redo_one.new.writer c.redo_one.new.disk) (sym c.counted-count.ensures) (c.in_ok-applied.ensures.kept b base begun file from rest l.count so can at are).ok;
     }
 
 pub returns-in_err-applied-clause-kept : goal.returns-in_err-applied-clause-kept
-returns-in_err-applied-clause-kept g c b base begun file from is can at =
+returns-in_err-applied-clause-kept g c b base begun file from is can at are =
     let l = c.loop-lsn in
     let rest = drop (l.lsn-index + 1) c.args.lsns.now in
     let more : drop l.lsn-index c.args.lsns.now ≡ get_or c.args.lsns.now l.lsn-index 0 ∷ rest = drop_more c.args.lsns.now l.lsn-index 0 c.loop-lsn-test.true in
-    let so = subst (λ (left : List ℕ). IsApplying g.D.Disk b base begun file left l.count from l.writer l.disk) more (l.invariant.kept b base begun file from is can at) in
-    let one = c.in_err-applied.ensures.kept b base begun file from rest l.count so can at in
+    let so = subst (λ (left : List ℕ). IsApplying g.D.Disk b base begun file left l.count from l.writer l.disk) more (l.invariant.kept b base begun file from is can at are) in
+    let one = c.in_err-applied.ensures.kept b base begun file from rest l.count so can at are in
     record { ok = no_ok c.from_residual.result _ c.from_residual.ensures.0; stops = one.stops; cause = err_on c.from_residual.result c.in_err-applied.field-0.0 _ c.from_residual.ensures.1 (one.cause) }
 
 pub returns-clause-kept : goal.returns-clause-kept
-returns-clause-kept g c b base begun file from is can at =
+returns-clause-kept g c b base begun file from is can at are =
     let l = c.loop-lsn in
     let past : length c.args.lsns.now ≤ l.lsn-index = omega (arith, c.loop-lsn-test.false) in
-    let so = subst (λ (left : List ℕ). IsApplying g.D.Disk b base begun file left l.count from l.writer l.disk) (drop_of_length-le c.args.lsns.now past) (l.invariant.kept b base begun file from is can at) in
+    let so = subst (λ (left : List ℕ). IsApplying g.D.Disk b base begun file left l.count from l.writer l.disk) (drop_of_length-le c.args.lsns.now past) (l.invariant.kept b base begun file from is can at are) in
     record { ok = so; stops = leaves_now g.D.Disk b base begun from so.passed.now l.writer l.disk so.passed.within; cause = tt }

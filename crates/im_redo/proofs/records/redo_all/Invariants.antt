@@ -3,6 +3,7 @@ use Rattle.im_types.specs.Pages.{Page}
 use Rattle.im_types.specs.Histories.{Base, History}
 use Rattle.im_types.specs.RedoPoints.{redo_point}
 use Rattle.im_flush.specs.PageWriter.{IsReadyWriter}
+use Rattle.im_analysis.specs.CopyLsns.{AreCopies}
 use Rattle.im_redo.specs.Redo.{AreApplicable}
 use Rattle.im_redo.specs.Applying.{IsApplying}
 use Rattle.im_redo.proofs.records.redo_all.Given as goal
@@ -14,6 +15,6 @@ invariant-loop-lsn g l = record {
   disk : g.D.Disk.failed l.disk ≡ false;
   few : l.count ≤ l.lsn-index;
   room : length l.room ≡ length l.fn.room;
-  kept : (b : Base) (base : ℕ) (begun : History) (file : ℕ → Option Page) (from : g.row.D.Denot) → IsApplying g.D.Disk b base begun file l.lsns 0 from l.fn.writer l.fn.disk → AreApplicable b begun → l.fn.point ≡ redo_point begun
+  kept : (b : Base) (base : ℕ) (begun : History) (file : ℕ → Option Page) (from : g.row.D.Denot) → IsApplying g.D.Disk b base begun file l.lsns 0 from l.fn.writer l.fn.disk → AreApplicable b begun → l.fn.point ≡ redo_point begun → AreCopies l.fn.point l.copies begun
       → IsApplying g.D.Disk b base begun file (drop l.lsn-index l.lsns) l.count from l.writer l.disk;
 }

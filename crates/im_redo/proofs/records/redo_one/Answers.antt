@@ -1,16 +1,19 @@
-use Rattle.std.proofs.Common.{◌≡◌, ◌≤◌, ◌++◌, arith, sym, ◌∙◌}
+use Rattle.std.proofs.Common.{◌≡◌, ◌≤◌, ◌++◌, ℕ, true, arith, subst, sym, ◌∙◌}
+use Rattle.std.specs.Prelude.{is_some}
+use Rattle.std.specs.BTreeMap.{get}
+use Rattle.std.specs.Ordering.{nat_cmp}
 use Rattle.im_types.specs.RedoPoints.{redo_point}
-use Rattle.im_record.specs.Entry.{view}
+use Rattle.im_record.specs.Entry.{view, page_of}
 use Rattle.im_log.specs.Spelled.{logged_at}
 use Rattle.im_types.specs.declared.fault.Fault.TheVariants.{Device, NotAStore}
-use Rattle.im_redo.proofs.Applying.{applied, next_durable, next_in_log, next_is, next_record, next_taken}
+use Rattle.im_redo.proofs.Applying.{applied, next_durable, next_in_log, next_is, next_record, next_taken, noted_still}
 use Rattle.im_flush.proofs.LoggedChanges.{err_on}
 use Rattle.im_redo.proofs.Within.{no_ok}
 use Rattle.im_redo.proofs.Within.{leaves_more, leaves_read, read_is, read_some, within_read}
 use Rattle.im_redo.proofs.records.redo_one.Goals as goal
 
 pub returns-in_err-size-clause-kept : goal.returns-in_err-size-clause-kept
-returns-in_err-size-clause-kept g c b base begun file from left count so can at =
+returns-in_err-size-clause-kept g c b base begun file from left count so can at are =
     let d = g.D.Disk in
     let next = next_record d b base begun file from c.args.lsn left count c.args.writer.now c.args.disk.now so in
     let within = next.passed.within in
@@ -23,7 +26,7 @@ returns-in_err-size-clause-kept g c b base begun file from left count so can at 
     }
 
 pub returns-in_err-record-clause-kept : goal.returns-in_err-record-clause-kept
-returns-in_err-record-clause-kept g c b base begun file from left count so can at =
+returns-in_err-record-clause-kept g c b base begun file from left count so can at are =
     let d = g.D.Disk in
     let next = next_record d b base begun file from c.args.lsn left count c.args.writer.now c.args.disk.now so in
     let within = next.passed.within in
@@ -37,7 +40,7 @@ returns-in_err-record-clause-kept g c b base begun file from left count so can a
     }
 
 pub returns-in_err-applied-clause-kept : goal.returns-in_err-applied-clause-kept
-returns-in_err-applied-clause-kept g c b base begun file from left count so can at =
+returns-in_err-applied-clause-kept g c b base begun file from left count so can at are =
     let d = g.D.Disk in
     let next = next_record d b base begun file from c.args.lsn left count c.args.writer.now c.args.disk.now so in
     let within = next.passed.within in
@@ -50,7 +53,8 @@ returns-in_err-applied-clause-kept g c b base begun file from left count so can 
     let stands = read.kept b base next.passed.now within.stands in
     let then = within_read d b base begun from next.passed.now c.args.writer.now c.args.disk.now within c.read_at.new.self c.read_at.new.disk stands read.reads in
     let one = c.in_err-applied.ensures.kept b base next.passed.now (within.durable.newer ++ next.after) next.older stands within.going (within.point ∙ sym at)
-    (next_durable d b base begun file from c.args.lsn left count c.args.writer.now c.args.disk.now next entry same) low next.passed.had in
+    (next_durable d b base begun file from c.args.lsn left count c.args.writer.now c.args.disk.now next entry same) low next.passed.had
+    (λ known. noted_still b begun next.passed.now (page_of entry) c.args.point c.args.copies.now are at within.durable within.point (subst (λ (n : ℕ). is_some (get nat_cmp c.args.copies.now n) ≡ true) c.page.ensures (c.has_copy-copied.ensures known))) in
     record {
       ok = no_ok c.from_residual-in_err-applied.result _ c.from_residual-in_err-applied.ensures.0;
       stops = leaves_more d b base begun from next.passed.now c.read_at.new.self c.read_at.new.disk then c.redo_change.new.disk one.stops;
@@ -58,7 +62,7 @@ returns-in_err-applied-clause-kept g c b base begun file from left count so can 
     }
 
 pub returns-clause-kept : goal.returns-clause-kept
-returns-clause-kept g c b base begun file from left count so can at =
+returns-clause-kept g c b base begun file from left count so can at are =
     let d = g.D.Disk in
     let next = next_record d b base begun file from c.args.lsn left count c.args.writer.now c.args.disk.now so in
     let within = next.passed.within in
@@ -71,7 +75,8 @@ returns-clause-kept g c b base begun file from left count so can at =
     let stands = read.kept b base next.passed.now within.stands in
     let then = within_read d b base begun from next.passed.now c.args.writer.now c.args.disk.now within c.read_at.new.self c.read_at.new.disk stands read.reads in
     let one = c.in_ok-applied.ensures.kept b base next.passed.now (within.durable.newer ++ next.after) next.older stands within.going (within.point ∙ sym at)
-    (next_durable d b base begun file from c.args.lsn left count c.args.writer.now c.args.disk.now next entry same) low next.passed.had in
+    (next_durable d b base begun file from c.args.lsn left count c.args.writer.now c.args.disk.now next entry same) low next.passed.had
+    (λ known. noted_still b begun next.passed.now (page_of entry) c.args.point c.args.copies.now are at within.durable within.point (subst (λ (n : ℕ). is_some (get nat_cmp c.args.copies.now n) ≡ true) c.page.ensures (c.has_copy-copied.ensures known))) in
     record {
       ok = applied d b base begun file from c.args.lsn left count c.args.writer.now c.args.disk.now next (logged_at c.args.lsn entry) here c.read_at.new.self c.read_at.new.disk then c.redo_change.new.self c.redo_change.new.disk one.ok c.in_ok-applied.applied one.applied;
       stops = leaves_more d b base begun from next.passed.now c.read_at.new.self c.read_at.new.disk then c.redo_change.new.disk one.stops;

@@ -49,7 +49,7 @@ returns-clause-kept g c b base begun file is can at copies lsns =
     let within = within_opened d b base begun from file c.force.new.self c.force.new.disk (c.in_ok-force.ensures.kept b base (opened b begun file) is).ok in
     let loaded = c.in_ok-load_all.ensures.kept b base begun file from (opened b begun file) within (waiting_opened b begun file c.args.copies.now (λ p. copies p ∙ ap (λ n. copy_lsn n begun p) at)) (first_opened b begun file) at in
     let applying = applying_start d b base begun file from c.args.lsns.now c.load_all.new.writer c.load_all.new.disk loaded.ok (lsns ∙ ap (λ n. lsns_from n begun) at) in
-    let done = c.redo_all.ensures.kept b base begun file from applying can at in
+    let done = c.redo_all.ensures.kept b base begun file from applying can at copies in
     record {
       ok = if_ok c.redo_all.result _ (λ n. Redone d b base begun from c.redo_all.new.writer c.redo_all.new.disk) done.ok (λ n all. applying_end d b base begun file from n c.redo_all.new.writer c.redo_all.new.disk all);
       count = if_ok c.redo_all.result _ (λ n. n ≡ applied_in (first_lsn b begun file) (redo_point begun) begun) done.ok (λ n all. counted_all d b base begun file from n c.redo_all.new.writer c.redo_all.new.disk all);

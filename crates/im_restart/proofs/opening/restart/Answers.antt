@@ -37,7 +37,7 @@ pub returns-in_err-applied-clause-kept : goal.returns-in_err-applied-clause-kept
 returns-in_err-applied-clause-kept g c b base all may pages is =
     let d = g.D.Disk in
     let w = c.in_ok-writer in
-    let stands = writer_starts d b base all c.args.found.log w.writer c.args.frames c.args.disk.now may pages c.requires.ready is.log w.ensures.log w.ensures.pool w.ensures.table w.ensures.failed in
+    let stands = writer_starts d b base all c.args.found.log w.writer c.args.frames c.args.disk.now may pages c.requires.ready is.log w.ensures.log w.ensures.pool w.ensures.table w.ensures.failed w.ensures.known in
     let k = c.in_err-applied.ensures.kept b base all stands may (least_number (d.seen c.args.disk.now Log)) is.analysis (c.deref.ensures.value ∙ is.lsns) in
     let other : c.in_err-applied.field-0.0 ≢ NotAStore = k.cause in
     record { ok = search rules; next = search rules; report = search rules; stops = k.stops; cause = search (rules, other) }
@@ -46,7 +46,7 @@ pub returns-clause-kept : goal.returns-clause-kept
 returns-clause-kept g c b base all may pages is =
     let d = g.D.Disk in
     let w = c.in_ok-writer in
-    let stands = writer_starts d b base all c.args.found.log w.writer c.args.frames c.args.disk.now may pages c.requires.ready is.log w.ensures.log w.ensures.pool w.ensures.table w.ensures.failed in
+    let stands = writer_starts d b base all c.args.found.log w.writer c.args.frames c.args.disk.now may pages c.requires.ready is.log w.ensures.log w.ensures.pool w.ensures.table w.ensures.failed w.ensures.known in
     let k = c.in_ok-applied.ensures.kept b base all stands may (least_number (d.seen c.args.disk.now Log)) is.analysis (c.deref.ensures.value ∙ is.lsns) in
     let lowest = least_number (d.seen c.args.disk.now Log) in
     let least = next_least lowest c.args.found.analysed.next all is.numbers is.analysis.next in

@@ -33,6 +33,6 @@ returns-clause-kept g c b before s r going some =
     let kept = c.in_ok-log_only.ensures.kept b r.base r.now r.redo_end r.stands r.over (record { page = λ l p. refl; copy = λ l. refl; point = refl }) in
     let forced = c.in_ok-force.ensures.kept b r.base (record (appended (logged_at lsn (Commit t.number t.last)) r.now) { durable = kept.ok.durable }) kept.ok.stands in
     record {
-      ok = commit_made g.D.Disk before s t old r a some lsn c.log_only.new.self c.log_only.new.disk kept.ok _ (record { working = forced.ok.working; writing = forced.ok.goes.writing }) refl refl;
+      ok = commit_made g.D.Disk before s t old r a some lsn c.log_only.new.self c.log_only.new.disk kept.ok _ (record { working = forced.ok.working; writing = forced.ok.goes.writing; known = forced.ok.known }) refl refl;
       stops = commit_stops g.D.Disk before s t old r a some lsn c.log_only.new.self c.log_only.new.disk kept.ok c.force.new.disk kept.stops forced.stops;
     }

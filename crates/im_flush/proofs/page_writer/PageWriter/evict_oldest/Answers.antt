@@ -1,6 +1,7 @@
-use Rattle.std.proofs.Common.{List, subst, sym, ◌∙◌, rules}
+use Rattle.std.proofs.Common.{ℕ, List, Option, subst, sym, ◌∙◌, rules}
 use Rattle.im_log.specs.declared.log_file.LogFile.{LogFile}
 use Rattle.im_flush.specs.declared.table_entry.TableEntry.{TableEntry}
+use Rattle.im_flush.specs.KnownCopies.{IsKnownFrom}
 use Rattle.im_flush.specs.Writing.{Goes}
 use Rattle.im_flush.proofs.Goings.{leaves_so_far}
 use Rattle.im_flush.proofs.LoggedChanges.{cause_of, err_on}
@@ -34,6 +35,7 @@ returns-clause-kept g c b base s is =
         now = f.now;
         on = record {
           working = c.drop_page.ensures.failed ∙ f.on.working;
+          known = subst (λ (from : Option ℕ). IsKnownFrom f.now from) (sym c.drop_page.ensures.known) f.on.known;
           goes = subst (λ (log : LogFile). Goes g.D.Disk b base s c.args.disk.now f.now log new.table new.pool disk) (sym c.drop_page.ensures.log)
               (subst (λ (table : List TableEntry). Goes g.D.Disk b base s c.args.disk.now f.now mid.log table new.pool disk) (sym c.drop_page.ensures.table) gone);
         };

@@ -11,7 +11,7 @@ returns-clause-kept g c b base s is ready =
     let on = room.ok.on in
     let t = room.ok.now in
     let one = on.goes in
-    let held = c.hold.ensures.kept b base t (record { working = on.working; writing = one.writing }) (λ q le. (one.keeps.pages q).waits ∙ ready q le) in
+    let held = c.hold.ensures.kept b base t (record { working = on.working; writing = one.writing; known = on.known }) (λ q le. (one.keeps.pages q).waits ∙ ready q le) in
     record {
       ok = on_ok c.hold.result _ _ held.ok
           (λ is. record { now = is.now; on = goes_on_then g.D.Disk b base s c.args.disk.now t c.make_room.new.self c.make_room.new.disk on is.now c.hold.new.self c.hold.new.disk is.on; page = is.page ∙ (one.keeps.pages c.args.number).page });

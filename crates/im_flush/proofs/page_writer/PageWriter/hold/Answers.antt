@@ -19,6 +19,7 @@ returns-in-Ok-clause-kept g c b base s is ready =
         now = s;
         on = record {
           working = is.working;
+          known = is.known;
           goes = goes_got g.D.Disk b base s w.log w.table w.pool old is.writing c.args.number ready c.get.new.self c.get.new.disk c.in-Ok.frame (g.met.D.Disk.only_now old) e.reads
               (still_working (g.D.Disk.failed c.get.new.disk) (λ failed. let clash = e.device.1 failed in let never : ⊥ = cc clash in never)) seen e.frame (λ holds. (e.held holds).1) e.read;
         };
@@ -49,7 +50,7 @@ returns-in-Err-clause-kept g c b base s is ready =
           let works = still_working (g.D.Disk.failed c.get.new.disk) (λ failed. other (let is_device : Err c.in-Err.fault ≡ Err Device = e.device.1 failed in cc is_device)) in
           record {
             now = s;
-            on = record { working = working; goes = goes_refused g.D.Disk b base s w.log w.table w.pool old is.writing c.args.number ready c.get.new.self c.get.new.disk (g.met.D.Disk.only_now old) e.reads works e.err };
+            on = record { working = working; known = is.known; goes = goes_refused g.D.Disk b base s w.log w.table w.pool old is.writing c.args.number ready c.get.new.self c.get.new.disk (g.met.D.Disk.only_now old) e.reads works e.err };
           };
       cause = λ same. no_page_missing g.D.Disk b base s w.log w.table w.pool old is.writing c.args.number ready (g.D.Disk.failed c.get.new.disk) c.in-Err.fault same (λ failed. let is_device : Err c.in-Err.fault ≡ Err Device = e.device.1 failed in cc is_device)
           (λ works. (e.refused is.writing.stands.log_is.tells works).0 (ap Err same));

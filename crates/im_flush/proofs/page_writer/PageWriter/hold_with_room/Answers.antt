@@ -13,7 +13,7 @@ pub returns-in_err-make_entry_room-clause-kept : goal.returns-in_err-make_entry_
 returns-in_err-make_entry_room-clause-kept g c b base s is ready =
     let got = (c.in_ok-get.ensures.kept b base s is ready).ok in
     let mid = c.get.new.self in
-    let room = c.in_err-make_entry_room.ensures.kept b base got.now (record { working = got.on.working; writing = got.on.goes.writing }) in
+    let room = c.in_err-make_entry_room.ensures.kept b base got.now (record { working = got.on.working; writing = got.on.goes.writing; known = got.on.known }) in
     record {
       ok = search rules;
       stops = leaves_then g.D.Disk b base s c.args.disk.now got.now mid.log mid.table mid.pool c.get.new.disk got.on.goes c.make_entry_room.new.disk room.stops;
@@ -25,7 +25,7 @@ pub returns-clause-kept : goal.returns-clause-kept
 returns-clause-kept g c b base s is ready =
     let got = (c.in_ok-get.ensures.kept b base s is ready).ok in
     let mid = c.get.new.self in
-    let room = c.in_ok-make_entry_room.ensures.kept b base got.now (record { working = got.on.working; writing = got.on.goes.writing }) in
+    let room = c.in_ok-make_entry_room.ensures.kept b base got.now (record { working = got.on.working; writing = got.on.goes.writing; known = got.on.known }) in
     let new = c.make_entry_room.new.self in
     let on = goes_on_then g.D.Disk b base s c.args.disk.now got.now mid c.get.new.disk got.on room.ok.now new c.make_entry_room.new.disk room.ok.on in
     let p = c.args.number in

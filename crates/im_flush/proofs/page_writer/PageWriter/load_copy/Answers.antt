@@ -1,6 +1,9 @@
-use Rattle.std.proofs.Common.{refl, ◌∙◌, rules}
+use Rattle.std.proofs.Common.{ℕ, Option, refl, sym, subst, ◌∙◌, rules}
 use Rattle.im_record.specs.Entry.{view, page_of}
 use Rattle.im_log.specs.Whats.{what_of}
+use Rattle.im_types.specs.WriterSteps.{loaded}
+use Rattle.im_flush.specs.KnownCopies.{IsKnownFrom}
+use Rattle.im_flush.proofs.KnownCopies.{known_ended}
 use Rattle.im_flush.proofs.Growing.{on_ok}
 use Rattle.im_flush.proofs.Goings.{leaves_so_far}
 use Rattle.im_flush.proofs.Redoing.{copy_loaded, load_taken, not_no_store}
@@ -29,6 +32,7 @@ returns-clause-kept g c b base s copy is over at holds waits found low =
         stops = room.on.goes.stops;
         stands = record {
           working = c.put_copy.ensures.failed ∙ room.on.working;
+          known = known_ended t (loaded p copy t) new.known_from going (subst (λ (from : Option ℕ). IsKnownFrom t from) (sym c.put_copy.ensures.known) room.on.known);
           writing = copy_loaded g.D.Disk b base t mid.log mid.table mid.pool disk room.on.goes.writing going p c.args.lsn c.page-number.result copy what c.args.point mid new (keeps.point ∙ at) holds waits_still ((keeps.pages p).found ∙ found)
               (λ q lt. (keeps.pages q).waits ∙ low q lt) refl refl refl c.put_copy.ensures.log c.page-number.ensures here;
         };

@@ -17,7 +17,7 @@ returns-clause-kept g c b base s e is over =
     let w = c.hold_with_room.new.self in
     let old = c.args.disk.now in
     let mid = c.hold_with_room.new.disk in
-    let k = c.after_logged.ensures.kept b base held.now e (record { working = held.on.working; writing = held.on.goes.writing }) (held.on.goes.keeps.redo_end ∙ over) in
+    let k = c.after_logged.ensures.kept b base held.now e (record { working = held.on.working; writing = held.on.goes.writing; known = held.on.known }) (held.on.goes.keeps.redo_end ∙ over) in
     record {
       ok = if_ok c.after_logged.result _ _ k.logged.ok (λ lsn done. record { before = held.now; keeps = held.on.goes.keeps; stops = covered_last g.D.Disk b base s old held.now w.log w.table w.pool mid held.on.goes c.after_logged.new.disk k.logged.stops; logged = done });
       stops = leaves_last g.D.Disk b base s old held.now w.log w.table w.pool mid held.on.goes c.after_logged.new.disk k.logged.stops;

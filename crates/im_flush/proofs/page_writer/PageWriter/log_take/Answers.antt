@@ -34,7 +34,7 @@ pub returns-clause-kept : goal.returns-clause-kept
 returns-clause-kept g c b base s e is over =
     let held = (c.in_ok-frame.ensures.kept b base s is (λ q le. ((is.writing.stands.kept.pages q).run e over).0)).ok in
     let w = c.hold_with_room.new.self in
-    let k = c.take_logged.ensures.kept b base held.now e (record { working = held.on.working; writing = held.on.goes.writing }) (held.on.goes.keeps.redo_end ∙ over) in
+    let k = c.take_logged.ensures.kept b base held.now e (record { working = held.on.working; writing = held.on.goes.writing; known = held.on.known }) (held.on.goes.keeps.redo_end ∙ over) in
     record {
       ok = if_ok c.take_logged.result _ _ k.ok (λ lsn done. record { before = held.now; keeps = held.on.goes.keeps; stops = covered_last g.D.Disk b base s c.args.disk.now held.now w.log w.table w.pool c.hold_with_room.new.disk held.on.goes c.take_logged.new.disk k.stops; logged = done });
       stops = leaves_last g.D.Disk b base s c.args.disk.now held.now w.log w.table w.pool c.hold_with_room.new.disk held.on.goes c.take_logged.new.disk k.stops;

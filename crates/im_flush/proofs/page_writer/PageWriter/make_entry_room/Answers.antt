@@ -30,7 +30,7 @@ returns-clause-kept g c b base s is =
     let t = first.ok.now in
     let mid = c.flush_oldest.new.self in
     let writing = first.ok.on.goes.writing in
-    let sync = c.sync_pages.ensures.kept b base t (record { working = first.ok.on.working; writing = writing }) in
+    let sync = c.sync_pages.ensures.kept b base t (record { working = first.ok.on.working; writing = writing; known = first.ok.on.known }) in
     let frames : mid.pool.frames ≤ 1024 = c.flush_oldest.ensures.ready.few first.ok.on.working in
     let few : length mid.pool.held ≤ 1024 = omega (arith, frames, c.len-held.ensures.within) in
     let left = room_left mid.table t.pages c.pages_rise.ensures writing.entries v.pool mid.pool writing.pooled c.in_ok-flush_oldest.ensures.held few first.ok.oldest in

@@ -1,6 +1,9 @@
-use Rattle.std.proofs.Common.{◌≤◌, ℕ, sym, subst}
+use Rattle.std.proofs.Common.{◌≤◌, ℕ, false, sym, subst}
+use Rattle.im_types.specs.Copies.{HasCopy}
 use Rattle.im_record.specs.Entry.{view, page_of}
 use Rattle.im_log.specs.Spelled.{logged_at}
+use Rattle.im_flush.specs.KnownCopies.{redone_as}
+use Rattle.im_flush.proofs.KnownCopies.{known_ended}
 use Rattle.im_flush.proofs.Goings.{leaves_so_far}
 use Rattle.im_flush.proofs.Growing.{keeps_none}
 use Rattle.im_flush.proofs.RedoneRecords.{applies_none, redone_none}
@@ -8,7 +11,7 @@ use Rattle.im_flush.proofs.Writers.{goes_on_start}
 use Rattle.im_flush.proofs.page_writer.PageWriter.redo_change.Goals as goal
 
 pub returns-then-not-may_change-clause-kept : goal.returns-then-not-may_change-clause-kept
-returns-then-not-may_change-clause-kept g c b base s newer older is over at there from ready =
+returns-then-not-may_change-clause-kept g c b base s newer older is over at there from ready has =
     let w = c.args.self.now in
     let old = c.args.disk.now in
     let r = logged_at c.args.lsn (view c.args.record.now) in
@@ -19,8 +22,10 @@ returns-then-not-may_change-clause-kept g c b base s newer older is over at ther
         before = s;
         keeps = keeps_none b s;
         stops = on.goes.stops;
+        known = false;
         stands = record {
           working = is.working;
+          known = known_ended s (redone_as false r s) w.known_from over is.known;
           writing = redone_none g.D.Disk b base s w.log w.table w.pool old is.writing over r newer older there (subst (λ (k : ℕ). k ≤ c.args.lsn) (sym at) from) ready (λ q. applies_none r q (s.pages q).page none);
         };
       };
@@ -28,3 +33,7 @@ returns-then-not-may_change-clause-kept g c b base s newer older is over at ther
       stops = leaves_so_far g.D.Disk b base s old s w.log w.table w.pool old on.goes;
       cause = λ takes. tt;
     }
+
+pub returns-clause-kept : goal.returns-clause-kept
+returns-clause-kept g c b base s newer older is over at there from ready has =
+    c.redo_on.ensures.kept b base s newer older is over at there from ready (λ known. subst (λ (n : ℕ). HasCopy s.durable n s.point) (sym c.page.ensures) (has known))

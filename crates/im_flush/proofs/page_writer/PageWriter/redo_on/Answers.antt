@@ -4,17 +4,19 @@ use Rattle.im_types.specs.WriterSteps.{applies}
 use Rattle.im_record.specs.Entry.{view, page_of}
 use Rattle.im_log.specs.Spelled.{logged_at}
 use Rattle.im_pool.specs.Pool.{page_at}
+use Rattle.im_flush.specs.KnownCopies.{redone_as}
+use Rattle.im_flush.proofs.KnownCopies.{known_ended}
 use Rattle.im_flush.proofs.Goings.{leaves_so_far}
-use Rattle.im_flush.proofs.RedoneRecords.{applied_already, ready_still, redo_kept_then, redone_none, there_still}
+use Rattle.im_flush.proofs.RedoneRecords.{applied_already, copy_still, ready_still, redo_kept_then, redone_none, there_still}
 use Rattle.im_flush.proofs.page_writer.PageWriter.redo_on.Goals as goal
 
 pub returns-in_err-frame-clause-kept : goal.returns-in_err-frame-clause-kept
-returns-in_err-frame-clause-kept g c b base s newer older is over at there from ready =
+returns-in_err-frame-clause-kept g c b base s newer older is over at there from ready has =
     let got = c.in_err-frame.ensures.kept b base s is (λ q le. (ready q).0) in
     record { ok = search rules; applied = search rules; stops = got.stops; cause = λ takes. let cause = got.cause in search (rules, cause) }
 
 pub returns-then-lsn-clause-kept : goal.returns-then-lsn-clause-kept
-returns-then-lsn-clause-kept g c b base s newer older is over at there from ready =
+returns-then-lsn-clause-kept g c b base s newer older is over at there from ready has =
     let got = (c.in_ok-frame.ensures.kept b base s is (λ q le. (ready q).0)).ok in
     let t = got.now in
     let mid = c.get.new.self in
@@ -33,8 +35,10 @@ returns-then-lsn-clause-kept g c b base s newer older is over at there from read
         before = t;
         keeps = keeps;
         stops = got.on.goes.stops;
+        known = false;
         stands = record {
           working = got.on.working;
+          known = known_ended t (redone_as false r t) mid.known_from (keeps.redo_end ∙ over) got.on.known;
           writing = redone_none g.D.Disk b base t mid.log mid.table mid.pool disk got.on.goes.writing (keeps.redo_end ∙ over) r (keeps.durable.newer ++ newer) older (there_still b s t keeps r newer older there)
               (subst (λ (k : ℕ). k ≤ c.args.lsn) (sym (keeps.point ∙ at)) from) (ready_still b s t keeps r newer older ready)
               (λ q. subst (λ (g : Page). applies r q g ≡ false) (sym (keeps.pages q).page) (none q));
@@ -46,7 +50,7 @@ returns-then-lsn-clause-kept g c b base s newer older is over at there from read
     }
 
 pub returns-clause-kept : goal.returns-clause-kept
-returns-clause-kept g c b base s newer older is over at there from ready =
+returns-clause-kept g c b base s newer older is over at there from ready has =
     let got = (c.in_ok-frame.ensures.kept b base s is (λ q le. (ready q).0)).ok in
     let t = got.now in
     let mid = c.get.new.self in
@@ -57,5 +61,5 @@ returns-clause-kept g c b base s newer older is over at there from ready =
     let lsn_is : c.lsn.result ≡ (t.pages n).page.lsn = c.lsn.ensures ∙ ap (λ (g : Page). g.lsn) (c.page.ensures.page ∙ ap (λ (k : ℕ). page_at mid.pool k) c.in_ok-frame.ensures.frame ∙ got.page ∙ sym (keeps.pages n).page) in
     let lt : c.lsn.result < c.args.lsn = c.if-lsn.false in
     redo_kept_then g.D.Disk b base s r c.args.disk.now t mid.log mid.table mid.pool disk got.on.goes c.redo_with_room.new.self c.redo_with_room.new.disk c.redo_with_room.result
-    (c.redo_with_room.ensures.kept b base t (keeps.durable.newer ++ newer) older (record { working = got.on.working; writing = got.on.goes.writing }) (keeps.redo_end ∙ over) (keeps.point ∙ at) (there_still b s t keeps r newer older there)
-    from (ready_still b s t keeps r newer older ready) (omega (arith, lt, lsn_is)))
+    (c.redo_with_room.ensures.kept b base t (keeps.durable.newer ++ newer) older (record { working = got.on.working; writing = got.on.goes.writing; known = got.on.known }) (keeps.redo_end ∙ over) (keeps.point ∙ at) (there_still b s t keeps r newer older there)
+    from (ready_still b s t keeps r newer older ready) (omega (arith, lt, lsn_is)) (λ yes_copied. copy_still b s t keeps n (has yes_copied)))

@@ -1,21 +1,24 @@
-use Rattle.std.proofs.Common.{◌≡◌, ◌<◌, ◌≤◌, ◌++◌, ℕ, true, refl, sym, ◌∙◌, ap, subst, rules}
+use Rattle.std.proofs.Common.{◌≡◌, ◌<◌, ◌≤◌, ◌++◌, ℕ, Option, true, refl, sym, ◌∙◌, ap, subst, rules}
 use Rattle.im_types.specs.Pages.{Page}
+use Rattle.im_types.specs.Copies.{HasCopy}
 use Rattle.im_types.specs.WriterSteps.{applies}
 use Rattle.im_record.specs.Entry.{view, page_of}
 use Rattle.im_log.specs.Spelled.{logged_at}
+use Rattle.im_flush.specs.KnownCopies.{IsKnownFrom, redone_as}
 use Rattle.im_flush.specs.Redoing.{TakesRecord}
+use Rattle.im_flush.proofs.KnownCopies.{known_ended}
 use Rattle.im_flush.proofs.Goings.{leaves_so_far}
 use Rattle.im_flush.proofs.Growing.{if_ok}
 use Rattle.im_flush.proofs.Redoing.{not_no_store}
-use Rattle.im_flush.proofs.RedoneRecords.{applies_is, on_of, redone_here, ready_still, taker_there, there_still}
+use Rattle.im_flush.proofs.RedoneRecords.{applies_is, copy_still, on_of, redone_here, ready_still, taker_there, there_still}
 use Rattle.im_flush.proofs.page_writer.PageWriter.redo_with_room.Goals as goal
 
 pub returns-in_err-make_entry_room-clause-kept : goal.returns-in_err-make_entry_room-clause-kept
-returns-in_err-make_entry_room-clause-kept g c b base s newer older is over at there from ready below =
+returns-in_err-make_entry_room-clause-kept g c b base s newer older is over at there from ready below has =
     record { ok = search rules; applied = search rules; stops = (c.in_err-make_entry_room.ensures.kept b base s is).stops; cause = λ takes. search rules }
 
 pub returns-clause-kept : goal.returns-clause-kept
-returns-clause-kept g c b base s newer older is over at there from ready below =
+returns-clause-kept g c b base s newer older is over at there from ready below has =
     let room = (c.in_ok-make_entry_room.ensures.kept b base s is).ok in
     let t = room.now in
     let mid = c.make_entry_room.new.self in
@@ -35,7 +38,8 @@ returns-clause-kept g c b base s newer older is over at there from ready below =
         before = t;
         keeps = keeps;
         stops = room.on.goes.stops;
-        stands = record { working = c.redo_held.ensures.failed ∙ room.on.working; writing = step c.args.point n done new.log mid new refl refl (keeps.point ∙ at) number below_t c.redo_held.ensures.log here };
+        known = c.args.copied;
+        stands = record { working = c.redo_held.ensures.failed ∙ room.on.working; known = known_ended t (redone_as c.args.copied r t) new.known_from (keeps.redo_end ∙ over) (subst (λ (from : Option ℕ). IsKnownFrom t from) (sym c.redo_held.ensures.known) room.on.known); writing = step c.args.copied (λ known. subst (λ (k : ℕ). HasCopy t.durable k t.point) number (copy_still b s t keeps n (has known))) c.args.point n done new.log mid new refl refl (keeps.point ∙ at) number below_t c.redo_held.ensures.log here };
       });
       applied = if_ok c.redo_held.result _ _ c.redo_held.ensures.ok (λ done here. here.applied.changes ∙ sym (applies_is r (s.pages r.page).page below_s));
       stops = leaves_so_far g.D.Disk b base s c.args.disk.now t mid.log mid.table mid.pool disk room.on.goes;

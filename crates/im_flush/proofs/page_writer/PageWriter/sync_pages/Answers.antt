@@ -1,4 +1,6 @@
 use Rattle.std.proofs.Common.{refl, rules}
+use Rattle.im_types.specs.WriterSteps.{synced}
+use Rattle.im_flush.proofs.KnownCopies.{known_same}
 use Rattle.im_flush.proofs.Placing.{pooled_synced, synced_keeps}
 use Rattle.im_flush.proofs.page_writer.PageWriter.sync_pages.Goals as goal
 
@@ -12,6 +14,7 @@ returns-clause-kept g c b base s is =
     record {
       ok = record {
         working = refl;
+        known = known_same s (synced s) w.known_from refl refl is.known;
         goes = record {
           writing = record { stands = k.ok.stands; entries = k.ok.entries; pooled = pooled_synced w.pool s.pages is.writing.pooled; based = is.writing.based };
           stops = k.stops;
