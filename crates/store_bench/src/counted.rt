@@ -1,0 +1,117 @@
+//! A disk that counts its calls.
+
+ghost use Rattle.std.specs.Prelude.{◌≡◌, false};
+
+use im_disk::Disk;
+use im_types::{Fault, FileId};
+
+/// How often a disk was called, each kind by itself, and how many bytes of log were written.
+#[derive(Clone, Copy, Debug, Default, PartialEq, Eq)]
+pub struct Calls {
+    pub log_writes: u64,
+    pub log_bytes: u64,
+    pub log_syncs: u64,
+    pub page_writes: u64,
+    pub page_syncs: u64,
+    /// Reads of either file.
+    pub reads: u64,
+}
+
+impl Calls {
+    /// The calls behind earlier ones.
+    pub fn since(&self, earlier: Calls) -> Calls {
+        Calls {
+            log_writes: self.log_writes.wrapping_sub(earlier.log_writes),
+            log_bytes: self.log_bytes.wrapping_sub(earlier.log_bytes),
+            log_syncs: self.log_syncs.wrapping_sub(earlier.log_syncs),
+            page_writes: self.page_writes.wrapping_sub(earlier.page_writes),
+            page_syncs: self.page_syncs.wrapping_sub(earlier.page_syncs),
+            reads: self.reads.wrapping_sub(earlier.reads),
+        }
+    }
+}
+
+/// A disk whose calls are counted.
+#[derive(Drop)]
+pub struct Counted<D: Disk> {
+    disk: D,
+    calls: Calls,
+}
+
+impl<D: Disk> Counted<D> {
+    /// With no call so far.
+    pub fn new(disk: D) -> Counted<D>
+        requires { D.failed disk ≡ false }
+        ensures alive { D.failed result.disk ≡ false }
+        ensures made { result.disk ≡ disk }
+    {
+        Counted {
+            disk,
+            calls: Calls::default(),
+        }
+    }
+
+    /// The calls so far.
+    pub fn calls(&self) -> Calls {
+        self.calls
+    }
+
+    /// The disk itself.
+    pub fn into_disk(self) -> D
+        ensures { result ≡ self.disk }
+    {
+        let Counted {
+            disk,
+            calls: _calls,
+        } = self;
+        disk
+    }
+}
+
+impl<D: Disk> Disk for Counted<D> {
+    ghost tells = { D.tells };
+
+    ghost seen = { λ d. D.seen d.disk };
+
+    ghost may_leave = { λ d. D.may_leave d.disk };
+
+    ghost moment = { λ d. D.moment d.disk };
+
+    ghost left_since = { λ d. D.left_since d.disk };
+
+    ghost failed = { λ d. D.failed d.disk };
+
+    ghost counts_now = { λ d. D.counts_now d.disk };
+
+    ghost only_now = { λ d. D.only_now d.disk };
+
+    ghost seen_may_stay = { λ d. D.seen_may_stay d.disk };
+
+    fn len(&mut self, file: FileId) -> Result<u64, Fault> {
+        self.disk.len(file)
+    }
+
+    fn read(&mut self, file: FileId, at: u64, buf: &mut [u8]) -> Result<(), Fault> {
+        self.calls.reads = self.calls.reads.wrapping_add(1);
+        self.disk.read(file, at, buf)
+    }
+
+    fn write_at(&mut self, file: FileId, at: u64, bytes: &[u8]) -> Result<(), Fault> {
+        match file {
+            FileId::Log => {
+                self.calls.log_writes = self.calls.log_writes.wrapping_add(1);
+                self.calls.log_bytes = self.calls.log_bytes.wrapping_add(bytes.len() as u64);
+            }
+            FileId::Pages => self.calls.page_writes = self.calls.page_writes.wrapping_add(1),
+        }
+        self.disk.write_at(file, at, bytes)
+    }
+
+    fn sync(&mut self, file: FileId) -> Result<(), Fault> {
+        match file {
+            FileId::Log => self.calls.log_syncs = self.calls.log_syncs.wrapping_add(1),
+            FileId::Pages => self.calls.page_syncs = self.calls.page_syncs.wrapping_add(1),
+        }
+        self.disk.sync(file)
+    }
+}

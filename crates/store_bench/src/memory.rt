@@ -1,0 +1,104 @@
+//! A disk in memory.
+
+ghost use Rattle.std.specs.Prelude.{◌≡◌, [], false};
+
+use im_disk::Disk;
+use im_types::{Fault, FileId};
+use std::alloc::{AllocError, Global};
+
+/// Two files in memory, whose calls never fail but for want of memory. Nothing is told of their bytes.
+#[derive(Drop)]
+pub struct MemoryDisk {
+    log: Vec<u8>,
+    pages: Vec<u8>,
+    has_failed: bool,
+}
+
+impl MemoryDisk {
+    /// Two empty files.
+    pub fn new(alloc: Global) -> MemoryDisk
+        ensures { ⟦<MemoryDisk as Disk>⟧.failed result ≡ false }
+    {
+        MemoryDisk {
+            log: Vec::new(alloc),
+            pages: Vec::new(alloc),
+            has_failed: false,
+        }
+    }
+
+    /// The same files at the beginning of another life: all that was written is there.
+    pub fn at_rest(self) -> MemoryDisk
+        ensures { ⟦<MemoryDisk as Disk>⟧.failed result ≡ false }
+    {
+        MemoryDisk {
+            log: self.log,
+            pages: self.pages,
+            has_failed: false,
+        }
+    }
+
+    fn file(&self, file: FileId) -> &Vec<u8> {
+        match file {
+            FileId::Log => &self.log,
+            FileId::Pages => &self.pages,
+        }
+    }
+}
+
+// Puts bytes into a file, over what is there and past its end. A place past the end is taken for the end.
+fn put(file: &mut Vec<u8>, at: u64, bytes: &[u8]) -> Result<(), AllocError> {
+    let at = (at as usize).min(file.len());
+    let over = bytes.len().min(file.len() - at);
+    file[at..at + over].copy_from_slice(&bytes[..over]);
+    file.extend_from_slice(&bytes[over..])?;
+    Ok(())
+}
+
+// Takes bytes out of a file. Where the file has fewer, the rest of the buffer stays as it is.
+fn take(file: &[u8], at: u64, buf: &mut [u8]) {
+    let at = (at as usize).min(file.len());
+    let size = buf.len().min(file.len() - at);
+    buf[..size].copy_from_slice(&file[at..at + size]);
+}
+
+impl Disk for MemoryDisk {
+    ghost tells = { ⊥ };
+
+    ghost seen = { λ _ _. [] };
+
+    ghost may_leave = { λ _ _. ⊥ };
+
+    ghost moment = { λ _. 0 };
+
+    ghost left_since = { λ _ _ _. ⊥ };
+
+    ghost failed = { λ d. d.has_failed };
+
+    ghost counts_now = { λ _ _ _ _ none. none };
+
+    ghost only_now = { λ _ _ none. none };
+
+    ghost seen_may_stay = { λ _ none. absurd none };
+
+    fn len(&mut self, file: FileId) -> Result<u64, Fault> {
+        Ok(self.file(file).len() as u64)
+    }
+
+    fn read(&mut self, file: FileId, at: u64, buf: &mut [u8]) -> Result<(), Fault> {
+        take(self.file(file), at, buf);
+        Ok(())
+    }
+
+    fn write_at(&mut self, file: FileId, at: u64, bytes: &[u8]) -> Result<(), Fault> {
+        let outcome = match file {
+            FileId::Log => put(&mut self.log, at, bytes),
+            FileId::Pages => put(&mut self.pages, at, bytes),
+        };
+        self.has_failed = outcome.is_err();
+        outcome.map_err(|_| Fault::Device)
+    }
+
+    fn sync(&mut self, _file: FileId) -> Result<(), Fault> {
+        Ok(())
+    }
+}
