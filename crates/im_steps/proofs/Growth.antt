@@ -5,9 +5,14 @@ use Rattle.std.proofs.lemmas.Bool.{eq-eqb, ne_eqb, cond-true, cond-false, cases_
 use Rattle.im_types.specs.Maps.{IndexMap}
 use Rattle.im_types.specs.Changes.{Effect}
 use Rattle.im_types.specs.Records.{What, InsertKey, DeleteKey, UndoInsert, UndoDelete, Smo, UndoSmo, DummyClr, Commit, End, Image, Checkpoint, Unreadable, Logged}
+use Rattle.im_types.specs.Tree.{Tree}
 use Rattle.im_types.specs.Histories.{History, Base, Rises, end_of}
-use Rattle.im_types.specs.Transactions.{committed, committed_after, contents, contents_after, net, changes_of, last_of, undo_next_of, undo_from, to_undo, stack_after, is_finished, is_rolling_back, is_end, is_compensation}
-use Rattle.im_steps.specs.Growth.{Stays, IsSameOf, IsOfOthers, IsOfAll, IsOver, HasNone, IsImage, IsWithin, AreWithin, AreImages, GrowsWithin, GrowsByImages, GrowthWithinLeavesOthers, ImagesChangeNothing}
+use Rattle.im_types.specs.Structure.{open_smo}
+use Rattle.im_types.specs.Copies as copies
+use Rattle.im_types.specs.Lawful.{IsLawful}
+use Rattle.im_types.proofs.Images.{images_open, lawful_images}
+use Rattle.im_types.specs.Transactions.{committed, committed_after, contents, contents_after, net, change_of, changes_of, without_smo, is_smo, last_of, undo_next_of, undo_from, to_undo, stack_after, is_finished, is_rolling_back, is_end, is_compensation}
+use Rattle.im_steps.specs.Growth.{Stays, IsSameOf, IsOfOthers, IsOfAll, IsOver, HasNone, IsImage, IsWithin, AreWithin, AreImages, GrowsWithin, GrowsByImages, GrowthWithinLeavesOthers, ImagesChangeNothing, AreBelow, AreStructural, CopiesAreImages, GrowsByStructure, IsRestructured, IsStructural, NumbersStayNew, StructureChangesNoKey, is_structural}
 
 -- ---- one record
 
@@ -141,3 +146,171 @@ unlogged b t (r ∷ older) rises none = elim (cases_eq r.txn t) [
       cond-false (r.txn == t) (stack_after r r.what (to_undo t older)) (to_undo t older) (ne_eqb r.txn t other)
       ∙ unlogged b t older rises.0 (sym (cond-false (r.txn == t) r.lsn (last_of t older) (ne_eqb r.txn t other)) ∙ none)
 ]
+
+-- ---- structure changes
+
+pub stays_then : (b : Base) (one two three : History) → Stays b one two → Stays b two three → Stays b one three
+stays_then b one two three first second = record { commits = second.commits ∙ first.commits; walk = second.walk ∙ first.walk; nets = λ u. second.nets u ∙ first.nets u }
+
+-- what such a record is to the words of transactions
+structural_walk : (w : What) (m : IndexMap) → is_structural w ≡ true → contents_after w m ≡ m
+structural_walk (Smo old new) m is = refl
+structural_walk DummyClr m is = refl
+structural_walk (InsertKey k i) m is = absurd cc
+structural_walk (DeleteKey k i) m is = absurd cc
+structural_walk (UndoInsert k i) m is = absurd cc
+structural_walk (UndoDelete k i) m is = absurd cc
+structural_walk (UndoSmo new) m is = absurd cc
+structural_walk Commit m is = absurd cc
+structural_walk End m is = absurd cc
+structural_walk (Image c) m is = absurd cc
+structural_walk (Checkpoint n a d) m is = absurd cc
+structural_walk Unreadable m is = absurd cc
+
+structural_end : (w : What) → is_structural w ≡ true → is_end w ≡ false
+structural_end (Smo old new) is = refl
+structural_end DummyClr is = refl
+structural_end (InsertKey k i) is = refl
+structural_end (DeleteKey k i) is = refl
+structural_end (UndoInsert k i) is = refl
+structural_end (UndoDelete k i) is = refl
+structural_end (UndoSmo new) is = refl
+structural_end Commit is = absurd cc
+structural_end End is = absurd cc
+structural_end (Image c) is = refl
+structural_end (Checkpoint n a d) is = refl
+structural_end Unreadable is = refl
+
+structural_forward : (w : What) → is_structural w ≡ true → is_compensation w ≡ false
+structural_forward (Smo old new) is = refl
+structural_forward DummyClr is = refl
+structural_forward (InsertKey k i) is = refl
+structural_forward (DeleteKey k i) is = refl
+structural_forward (UndoInsert k i) is = absurd cc
+structural_forward (UndoDelete k i) is = absurd cc
+structural_forward (UndoSmo new) is = refl
+structural_forward Commit is = refl
+structural_forward End is = refl
+structural_forward (Image c) is = refl
+structural_forward (Checkpoint n a d) is = refl
+structural_forward Unreadable is = refl
+
+no_change : (w : What) → is_smo w ≡ true → change_of w ≡ []
+no_change (Smo old new) is = refl
+no_change (InsertKey k i) is = absurd cc
+no_change (DeleteKey k i) is = absurd cc
+no_change w is = refl
+
+closed_net : (stack : History) → changes_of (without_smo stack) ≡ changes_of stack
+closed_net [] = refl
+closed_net (x ∷ rest) = by (is_smo x.what) refl (closed_net rest)
+  where
+    by : (is : Bool) → is_smo x.what ≡ is → changes_of (without_smo rest) ≡ changes_of rest → changes_of (if is_smo x.what then without_smo rest else x ∷ rest) ≡ changes_of (x ∷ rest)
+    by true is below = ap (λ (z : Bool). changes_of (if z then without_smo rest else x ∷ rest)) is ∙ below ∙ sym (ap (λ (e : Effect). e ++ changes_of rest) (no_change x.what is))
+    by false is below = ap (λ (z : Bool). changes_of (if z then without_smo rest else x ∷ rest)) is
+
+structural_net : (r : Logged) (w : What) (stack : History) → r.what ≡ w → is_structural w ≡ true → changes_of (stack_after r w stack) ≡ changes_of stack
+structural_net r (Smo old new) stack same is = ap (λ (x : What). change_of x ++ changes_of stack) same
+structural_net r DummyClr stack same is = closed_net stack
+structural_net r (InsertKey k i) stack same is = absurd cc
+structural_net r (DeleteKey k i) stack same is = absurd cc
+structural_net r (UndoInsert k i) stack same is = absurd cc
+structural_net r (UndoDelete k i) stack same is = absurd cc
+structural_net r (UndoSmo new) stack same is = absurd cc
+structural_net r Commit stack same is = absurd cc
+structural_net r End stack same is = absurd cc
+structural_net r (Image c) stack same is = absurd cc
+structural_net r (Checkpoint n a d) stack same is = absurd cc
+structural_net r Unreadable stack same is = absurd cc
+
+module _ (b : Base) (t : ℕ) where
+  own_record : (r : Logged) (older : History) → r.txn ≡ t → is_structural r.what ≡ true → IsRestructured b t older (r ∷ older)
+  own_record r older mine is = record {
+    stays = record {
+      commits = uncommitted r.what (net r.txn older) (committed older) (structural_end r.what is);
+      walk = structural_walk r.what (contents b older) is;
+      nets = nets;
+    };
+    others = λ u differ. same_by u r older (λ e. differ (sym e ∙ mine));
+    finished = own (is_end r.what || is_finished t older) (is_finished t older) ∙ ap (λ (x : Bool). x || is_finished t older) (structural_end r.what is);
+    rolling = own (is_compensation r.what || is_rolling_back t older) (is_rolling_back t older) ∙ ap (λ (x : Bool). x || is_rolling_back t older) (structural_forward r.what is);
+  }
+    where
+      own : {A : Type 0} (x y : A) → (if r.txn == t then x else y) ≡ x
+      own x y = cond-true (r.txn == t) x y (eq-eqb r.txn t mine)
+
+      nets : (u : ℕ) → net u (r ∷ older) ≡ net u older
+      nets u = elim (cases_eq r.txn u) [
+        | inl same ↦ ap changes_of (cond-true (r.txn == u) (stack_after r r.what (to_undo u older)) (to_undo u older) (eq-eqb r.txn u same)) ∙ structural_net r r.what (to_undo u older) refl is
+        | inr other ↦ ap changes_of (same_by u r older other).stack
+      ]
+
+  image_record : (r : Logged) (older : History) → IsImage r → IsRestructured b t older (r ∷ older)
+  image_record r older image = record {
+    stays = images_stay b (r ∷ []) older (image, tt);
+    others = λ u differ. same_by_image u r older image;
+    finished = (same_by_image t r older image).finished;
+    rolling = (same_by_image t r older image).rolling;
+  }
+
+  structural : (more older : History) → AreStructural t more → IsRestructured b t older (more ++ older)
+  structural [] older all = record { stays = record { commits = refl; walk = refl; nets = λ u. refl }; others = λ u differ. same_here u older; finished = refl; rolling = refl }
+  structural (r ∷ more) older all =
+      let rest = structural more older all.1 in
+      let last = step all.0 in
+      record {
+        stays = stays_then b older (more ++ older) (r ∷ (more ++ older)) rest.stays last.stays;
+        others = λ u differ. same_then u older (more ++ older) (r ∷ (more ++ older)) (rest.others u differ) (last.others u differ);
+        finished = last.finished ∙ rest.finished;
+        rolling = last.rolling ∙ rest.rolling;
+      }
+    where
+      step : IsStructural t r → IsRestructured b t (more ++ older) (r ∷ (more ++ older))
+      step (inl image) = image_record r (more ++ older) image
+      step (inr own) = own_record r (more ++ older) own.0 own.1
+
+pub structure_changes_no_key : StructureChangesNoKey
+structure_changes_no_key b t older longer grows = subst (λ (l : History). IsRestructured b t older l) grows.is (structural b t grows.more older grows.structural)
+
+-- ---- numbers
+
+new_none : (next : ℕ) (log : History) → AreBelow next log → HasNone next log
+new_none next [] all = tt
+new_none next (r ∷ older) all = ((λ e. let l : r.txn < next = all.0 in absurd (omega (arith, e, l))), new_none next older all.1)
+
+below_further : (next further : ℕ) (log : History) → next ≤ further → AreBelow next log → AreBelow further log
+below_further next further [] le all = tt
+below_further next further (r ∷ older) le all = (let l : r.txn < next = all.0 in omega (arith, le, l), below_further next further older le all.1)
+
+below_within : (next t : ℕ) (more older : History) → t < next → AreBelow next older → AreWithin t more → AreBelow next (more ++ older)
+below_within next t [] older lt all within = all
+below_within next t (r ∷ more) older lt all within = (here within.0, below_within next t more older lt all within.1)
+  where
+    here : IsWithin t r → r.txn < next
+    here (inl image) = let zero_is : r.txn ≡ 0 = image.no_owner in omega (arith, zero_is, lt)
+    here (inr own) = let is : r.txn ≡ t = own.0 in omega (arith, is, lt)
+
+pub numbers_stay_new : NumbersStayNew
+numbers_stay_new = record {
+  none = new_none;
+  more = below_further;
+  within = λ next t older longer lt all grows. subst (λ (l : History). AreBelow next l) grows.is (below_within next t grows.more older lt all grows.within);
+}
+
+-- ---- full copies
+
+copies_images : (b : Base) (images older : History) → copies.AreImages b images older → AreImages images
+copies_images b [] older all = tt
+copies_images b (r ∷ images) older all = (record { copy = all.0.copy; what = all.0.what; no_owner = all.0.no_owner }, copies_images b images older all.1)
+
+copies_below : (next : ℕ) (b : Base) (images older : History) → 1 ≤ next → copies.AreImages b images older → AreBelow next older → AreBelow next (images ++ older)
+copies_below next b [] older one all under = under
+copies_below next b (r ∷ images) older one all under = (let zero_is : r.txn ≡ 0 = all.0.no_owner in omega (arith, zero_is, one), copies_below next b images older one all.1 under)
+
+pub copies_are_images : (tree : Tree) → CopiesAreImages tree
+copies_are_images tree b older longer grows = record {
+  images = record { more = grows.images; is = sym grows.is; images = copies_images b grows.images older grows.all };
+  lawful = λ law. subst (λ (l : History). IsLawful b tree l) (sym grows.is) (lawful_images b tree grows.images older grows.all law);
+  opened = ap open_smo grows.is ∙ images_open b grows.images older grows.all;
+  below = λ next one under. subst (λ (l : History). AreBelow next l) (sym grows.is) (copies_below next b grows.images older one grows.all under);
+}

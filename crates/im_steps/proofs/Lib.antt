@@ -9,3 +9,5 @@ pub mod Rows
 pub mod Steps
 pub mod Logging
 pub mod WorkedSteps
+pub mod Durable
+pub mod Lived

@@ -1,9 +1,13 @@
 -- How a log grows by a step.
-use Rattle.std.specs.Prelude.{◌≡◌, ◌≢◌, ◌≤◌, ◌⊎◌, ℕ, true, false, List, [], ◌∷◌, ◌++◌}
+use Rattle.std.specs.Prelude.{◌≡◌, ◌≢◌, ◌≤◌, ◌<◌, ◌⊎◌, ℕ, Bool, true, false, List, [], ◌∷◌, ◌++◌}
 use Rattle.im_types.specs.Pages.{Page}
 use Rattle.im_types.specs.Changes.{Change, applied, undone}
-use Rattle.im_types.specs.Records.{Image, Logged}
+use Rattle.im_types.specs.Records.{What, Smo, DummyClr, Image, Logged}
+use Rattle.im_types.specs.Tree.{Tree}
 use Rattle.im_types.specs.Histories.{History, Base}
+use Rattle.im_types.specs.Structure.{open_smo}
+use Rattle.im_types.specs.Copies as copies
+use Rattle.im_types.specs.Lawful.{IsLawful}
 use Rattle.im_types.specs.Transactions.{committed, contents, net, last_of, undo_next_of, to_undo, is_finished, is_rolling_back, is_end}
 
 -- ---- what both halves of a step say of it: the committed effects, the tree's map and the nets
@@ -95,6 +99,26 @@ pub record GrowsByImages (older longer : History) : Type 0 where
   pub is : more ++ older ≡ longer
   pub images : AreImages more
 
+-- a page of a structure change, or the end of one
+abbrev pub is_structural : What → Bool
+is_structural (Smo old new) = true
+is_structural DummyClr = true
+is_structural _ = false
+
+-- an Image, or a record of a structure change of t
+abbrev pub IsStructural : ℕ → Logged → Type 0
+IsStructural t r = IsImage r ⊎ ((r.txn ≡ t) × (is_structural r.what ≡ true))
+
+abbrev pub AreStructural : ℕ → History → Type 0
+AreStructural t [] = Unit {0}
+AreStructural t (r ∷ rs) = IsStructural t r × AreStructural t rs
+
+-- The log has grown by Images and by records of structure changes of t.
+pub record GrowsByStructure (t : ℕ) (older longer : History) : Type 0 where
+  pub more : History
+  pub is : more ++ older ≡ longer
+  pub structural : AreStructural t more
+
 -- ---- laws
 
 -- what growth within t leaves of the others, and of what is committed
@@ -104,3 +128,36 @@ GrowthWithinLeavesOthers = (t : ℕ) (older longer : History) → GrowsWithin t 
 -- Images change nothing of any transaction
 abbrev pub ImagesChangeNothing : Type 0
 ImagesChangeNothing = (b : Base) (older longer : History) → GrowsByImages older longer → Stays b older longer × IsOfAll older longer
+
+-- what a structure change of t leaves: the tree's map, the committed effects and all nets, the other transactions, and that t goes on
+pub record IsRestructured (b : Base) (t : ℕ) (older longer : History) : Type 0 where
+  pub stays : Stays b older longer
+  pub others : IsOfOthers t older longer
+  pub finished : is_finished t longer ≡ is_finished t older
+  pub rolling : is_rolling_back t longer ≡ is_rolling_back t older
+
+-- structure changes leave that
+abbrev pub StructureChangesNoKey : Type 0
+StructureChangesNoKey = (b : Base) (t : ℕ) (older longer : History) → GrowsByStructure t older longer → IsRestructured b t older longer
+
+-- each record's transaction has a number below this
+abbrev pub AreBelow : ℕ → History → Type 0
+AreBelow next [] = Unit {0}
+AreBelow next (r ∷ older) = (r.txn < next) × AreBelow next older
+
+-- Numbers that no record has: they are above those of the log, and stay so while records of transactions below them join it.
+pub record NumbersStayNew : Type 0 where
+  pub none : (next : ℕ) (log : History) → AreBelow next log → HasNone next log
+  pub more : (next further : ℕ) (log : History) → next ≤ further → AreBelow next log → AreBelow further log
+  pub within : (next t : ℕ) (older longer : History) → t < next → AreBelow next older → GrowsWithin t older longer → AreBelow next longer
+
+-- What the full copies that a writer of pages adds leave of a log.
+pub record IsCopied (b : Base) (tree : Tree) (older longer : History) : Type 0 where
+  pub images : GrowsByImages older longer
+  pub lawful : IsLawful b tree older → IsLawful b tree longer
+  pub opened : open_smo longer ≡ open_smo older
+  pub below : (next : ℕ) → 1 ≤ next → AreBelow next older → AreBelow next longer
+
+-- They are Images.
+abbrev pub CopiesAreImages : Tree → Type 0
+CopiesAreImages tree = (b : Base) (older longer : History) → copies.GrowsByImages b older longer → IsCopied b tree older longer

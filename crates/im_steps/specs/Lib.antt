@@ -4,3 +4,6 @@ pub mod Laws
 pub mod Serving
 pub mod Steps
 pub mod Acknowledged
+pub mod Durable
+pub mod Checks
+pub mod Lived

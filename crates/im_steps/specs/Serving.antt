@@ -1,5 +1,6 @@
 -- What holds between two steps: what is shown, the machine, the log and the two tables, together.
 use Rattle.std.specs.Prelude.{◌≡◌, ◌≢◌, ◌≤◌, ◌<◌, ℕ, false, List, [], ◌++◌, Option, None, Some, length, find}
+use Rattle.std.specs.FinMap.{empty}
 use Rattle.im_types.specs.Changes.{Effect, apply_all, seen}
 use Rattle.im_types.specs.Histories.{History, Base}
 use Rattle.im_types.specs.Transactions.{committed, last_of, undo_next_of, to_undo, is_finished, is_rolling_back, net}
@@ -15,7 +16,8 @@ use Rattle.im_lock.specs.Serving.{Matches}
 use Rattle.im_lock.specs.View.{View, Txn, idle}
 use Rattle.im_lock.specs.Machine.{Moves, IsReached}
 use Rattle.im_steps.specs.Growth.{IsOver}
-use Rattle.im_steps.specs.Seen.{IsSeen, IsShownBy}
+use Rattle.im_steps.specs.Seen.{IsSeen}
+use Rattle.im_steps.specs.Acknowledged.{Shows}
 
 -- the mark of a row, as the machine has it
 abbrev pub mark_of : marks.Mark → answers.Mark
@@ -46,17 +48,19 @@ pub record AreRows (rows : List Transaction) (next : ℕ) (log : History) (v : V
   pub active : v.active ≡ length rows
   pub numbers : v.next ≡ next
 
--- Between two steps of an engine that works: the log is what the machine sees, steps and replies have shown the machine, it came here by a run from the
--- map of the effects before this life, the committed effects are those and the ones asked since, and the two tables are the machine's.
-pub record IsServing (b : Base) (before : List Effect) (s : Shown) (v : View) (log : History) (rows : List Transaction) (next : ℕ) (held : Table) : Type 0 where
+-- Between two steps of an engine that works: the log is what the machine sees, steps and replies have shown the machine and what it committed, it came here by a
+-- run from the map of the effects before this life, the effects that made the log's first map and those that it committed are the ones before this life and the ones
+-- asked since, and the two tables are the machine's.
+pub record IsServing (b : Base) (earlier before : List Effect) (s : Shown) (v : View) (log : History) (rows : List Transaction) (next : ℕ) (held : Table) : Type 0 where
+  pub made : apply_all empty earlier ≡ b.map
   pub works : v.failed ≡ false
   pub seen_by : IsSeen b log v
-  pub shown : IsShownBy s v
-  pub reached : IsReached (apply_all b.map before) v
-  pub says : seen (committed log) ≡ before ++ effects s.asked
+  pub shows : Shows (apply_all empty before) s v
+  pub reached : IsReached (apply_all empty before) v
+  pub says : earlier ++ seen (committed log) ≡ before ++ effects s.asked
   pub table : AreRows rows next log v
   pub locks : Matches v held
 
 -- A step with this reply is a step of the machine, and all goes on.
-abbrev pub IsServed : Base → List Effect → Shown → View → Step → Reply → View → History → List Transaction → ℕ → Table → Type 0
-IsServed b before s v step reply w longer rows next held = Moves v step reply w × IsServing b before (shows s step (Some reply)) w longer rows next held
+abbrev pub IsServed : Base → List Effect → List Effect → Shown → View → Step → Reply → View → History → List Transaction → ℕ → Table → Type 0
+IsServed b earlier before s v step reply w longer rows next held = Moves v step reply w × IsServing b earlier before (shows s step (Some reply)) w longer rows next held

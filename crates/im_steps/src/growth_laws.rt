@@ -1,7 +1,9 @@
 //! How the log and the machine go on together.
 
 ghost use Rattle.im_steps.specs.Laws.{GrantedKeysAreFree, LogAndViewGoTogether};
-ghost use Rattle.im_steps.specs.Growth.{GrowthWithinLeavesOthers, ImagesChangeNothing};
+ghost use Rattle.im_steps.specs.Growth.{GrowthWithinLeavesOthers, CopiesAreImages, ImagesChangeNothing, NumbersStayNew, StructureChangesNoKey};
+
+use im_types::laws::logs::PageTree;
 
 /// Whoever is granted the locks of a change finds its key in no other net of the log.
 pub fn granted_keys_are_free()
@@ -21,4 +23,19 @@ pub fn growth_within_leaves_others()
 /// Images change nothing of any transaction, nor of the tree.
 pub fn images_change_nothing()
     ensures { ImagesChangeNothing }
+{}
+
+/// A structure change leaves the tree's map, what is committed, all nets and the other transactions, and its own goes on.
+pub fn structure_changes_no_key()
+    ensures { StructureChangesNoKey }
+{}
+
+/// Numbers above those of the log are new, and stay so while transactions below them log records.
+pub fn numbers_stay_new()
+    ensures { NumbersStayNew }
+{}
+
+/// The full copies that a writer of pages adds to its log are Images.
+pub fn copies_are_images<T: PageTree>()
+    ensures { CopiesAreImages T.tree }
 {}

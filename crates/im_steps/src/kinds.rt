@@ -1,6 +1,6 @@
 //! Each kind of step keeps what holds between steps. These functions do nothing: their contracts are the laws.
 
-ghost use Rattle.im_steps.specs.Steps.{NewStoresServe, OpenedStoresServe, BeginsAreServed, ChangesAreServed, InsertsAreServed, DeletesAreServed, ReadsAreServed, WaitsAreServed, DiesAreServed, CommitsAreServed, UnloggedCommitsAreServed, DropsAreServed, TurnsAreServed, UndoIsServed, EndsAreServed, FlushesAreServed, ForcesAreServed, BarredStepsAreServed, LacksAreServed};
+ghost use Rattle.im_steps.specs.Steps.{NewStoresServe, OpenedStoresServe, QuietLogsHoldCommitted, ImagesKeepServing, StructureKeepsServing, WaysLeadOn, LoggedCommitsAreServed, BeginsAreServed, ChangesAreServed, InsertsAreServed, DeletesAreServed, ReadsAreServed, WaitsAreServed, DiesAreServed, CommitsAreServed, UnloggedCommitsAreServed, DropsAreServed, TurnsAreServed, UndoIsServed, EndsAreServed, FlushesAreServed, ForcesAreServed, BarredStepsAreServed, LacksAreServed};
 
 use im_types::laws::logs::PageTree;
 
@@ -14,6 +14,26 @@ pub fn opened_stores_serve()
     ensures { OpenedStoresServe }
 {}
 
+/// A lawful log in which nothing is left to undo has a tree that holds what is committed.
+pub fn quiet_logs_hold_committed<T: PageTree>()
+    ensures { QuietLogsHoldCommitted T.tree }
+{}
+
+/// Images join the log within a step.
+pub fn images_keep_serving()
+    ensures { ImagesKeepServing }
+{}
+
+/// So do records of a structure change of a transaction that has a record.
+pub fn structure_keeps_serving()
+    ensures { StructureKeepsServing }
+{}
+
+/// How the log grows on the way to a change.
+pub fn ways_lead_on()
+    ensures { WaysLeadOn }
+{}
+
 /// A transaction begins.
 pub fn begins_are_served()
     ensures { BeginsAreServed }
@@ -24,7 +44,7 @@ pub fn changes_are_served()
     ensures { ChangesAreServed }
 {}
 
-/// An insert that was granted its locks leaves a lawful log.
+/// An insert that was granted its locks leaves a lawful log, also behind a structure change of its own.
 pub fn inserts_are_served<T: PageTree>()
     ensures { InsertsAreServed T.tree }
 {}
@@ -52,6 +72,11 @@ pub fn dies_are_served()
 /// A Commit that was logged: the effect comes behind the others.
 pub fn commits_are_served()
     ensures { CommitsAreServed }
+{}
+
+/// The record of a Commit leaves a lawful log.
+pub fn logged_commits_are_served<T: PageTree>()
+    ensures { LoggedCommitsAreServed T.tree }
 {}
 
 /// A Commit of a transaction without a record.

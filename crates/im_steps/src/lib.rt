@@ -8,6 +8,12 @@
 //! it gives the step of the machine, and all of `IsServing` behind it (`IsServed`). So whoever writes the engine proves of each step
 //! how the log grew, and takes the rest from here.
 //!
+//! A step whose change needs a structure change first logs that before its key record: a transaction whose first change this is then
+//! has records but no net, so what holds between steps holds again only behind the key record (`IsOnTheWay`).
+//!
+//! What a stop leaves is said of the log's Commits alone (`AreCommitted`, `stops_allow`); and a life goes on behind a step that breaks
+//! the engine, whose log then says nothing but what a stop leaves (`IsLived`).
+//!
 //! Two laws carry the rest: whoever is granted the locks of a change finds its key in no other net, so that the log stays lawful
 //! (`granted_keys_are_free`); and what a run commits is what its replies show as acknowledged (`runs_commit_what_they_show`).
 //!
@@ -15,23 +21,30 @@
 //! that log them, in the words of `specs/Growth`.
 #![tactic(auto)]
 
+mod durable_laws;
 mod growth_laws;
 mod kinds;
+mod lived_laws;
 mod marks;
 mod shown_laws;
 #[cfg(test)]
 mod tests;
 
+pub use durable_laws::{
+    commits_stand, cut_commits_stand, others_ask_nothing, quiet_lives_settle, stops_allow,
+};
 pub use growth_laws::{
-    granted_keys_are_free, growth_within_leaves_others, images_change_nothing,
-    log_and_view_go_together,
+    copies_are_images, granted_keys_are_free, growth_within_leaves_others, images_change_nothing,
+    log_and_view_go_together, numbers_stay_new, structure_changes_no_key,
 };
 pub use kinds::{
     barred_steps_are_served, begins_are_served, changes_are_served, commits_are_served,
     deletes_are_served, dies_are_served, drops_are_served, ends_are_served, flushes_are_served,
-    forces_are_served, inserts_are_served, lacks_are_served, new_stores_serve, opened_stores_serve,
-    reads_are_served, turns_are_served, undo_is_served, unlogged_commits_are_served,
-    waits_are_served,
+    forces_are_served, images_keep_serving, inserts_are_served, lacks_are_served,
+    logged_commits_are_served, new_stores_serve, opened_stores_serve, quiet_logs_hold_committed,
+    reads_are_served, structure_keeps_serving, turns_are_served, undo_is_served,
+    unlogged_commits_are_served, waits_are_served, ways_lead_on,
 };
+pub use lived_laws::{lives_go_on, rows_tell_checks};
 pub use marks::may_roll_back;
 pub use shown_laws::{moves_are_shown, moves_reach, runs_commit_what_they_show};

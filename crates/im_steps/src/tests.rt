@@ -1,4 +1,7 @@
-use crate::{deletes_are_served, inserts_are_served, may_roll_back};
+use crate::{
+    copies_are_images, deletes_are_served, inserts_are_served, logged_commits_are_served,
+    may_roll_back, quiet_logs_hold_committed, stops_allow,
+};
 use im_txn::Mark;
 use im_types::laws::one_leaf::OneLeaf;
 use std::test::Fail;
@@ -7,6 +10,14 @@ use std::test::Fail;
 fn changes_are_served_over_one_leaf() {
     inserts_are_served::<OneLeaf>();
     deletes_are_served::<OneLeaf>();
+    logged_commits_are_served::<OneLeaf>();
+}
+
+#[test]
+fn stops_are_allowed_over_one_leaf() {
+    copies_are_images::<OneLeaf>();
+    quiet_logs_hold_committed::<OneLeaf>();
+    stops_allow::<OneLeaf>();
 }
 
 #[test]
