@@ -28,3 +28,7 @@ ok_both (Err e) P Q R one two to = tt
 pub ok_one : {A E : Type 0} (r : Result A E) (P Q : Type 0) → OnOk r P → (P → Q) → OnOk r Q
 ok_one (Ok a) P Q is to = to is
 ok_one (Err e) P Q is to = tt
+
+pub ok_and : {A E : Type 0} (r : Result A E) (P : A → Type 0) (Q : Type 0) → IfOk r P → OnOk r Q → IfOk r (λ a. P a × Q)
+ok_and (Ok a) P Q one two = (one, two)
+ok_and (Err e) P Q one two = tt

@@ -3,7 +3,7 @@ use Rattle.std.proofs.Common.{◌≡◌, ◌≢◌, ℕ, ◌+◌, ◌-◌, ◌<�
 use Rattle.std.proofs.lemmas.Bool.{cases_eq, cond-true, cond-false, eq-eqb, ne_eqb}
 use Rattle.im_types.specs.Pages.{Body, Page}
 use Rattle.im_types.specs.Tree.{with_body}
-use Rattle.im_types.specs.Writer.{Writer}
+use Rattle.im_flush.specs.Outcome.{AllPages}
 use Rattle.im_types.specs.declared.page_kind.PageKind.TheVariants.{Free, Meta}
 use Rattle.im_page.specs.Header.{empty_body}
 use Rattle.im_tree.specs.Levels.{Pages, walk}
@@ -56,7 +56,7 @@ same_with pages q b is x = elim (cases_eq q x) [
   | inr other ↦ at_other pages q b x other
 ]
 
-module _ (s : Writer) (xs : List Numbered) (spare : List ℕ) (up : IsRising xs) where
+module _ (s : AllPages) (xs : List Numbered) (spare : List ℕ) (up : IsRising xs) where
   -- ---- a page taken
 
   module _ (good : IsGoodTree (seen s xs) spare) (q : ℕ) (old g : Page) (was : old ≡ page_in s xs 0) (number : q ≡ next_page old.body) (page : g ≡ page_in s (without_image 0 xs) q) where

@@ -1,17 +1,15 @@
 //! Pages taken and given back.
 
-ghost use Rattle.std.specs.Prelude.{◌≡◌, ◌≢◌, ◌⊎◌, ◌↔◌, ◌∷◌, ◌+◌, ◌^◌, ◌≤◌, ◌<◌, ℕ, List, true, false, Ok, Err, IfErr, IfOk, OnOk};
-ghost use Rattle.im_types.specs.declared.fault.Fault.TheVariants.{Capacity, Device, LogFull, Memory, NotAStore};
+ghost use Rattle.std.specs.Prelude.{◌≡◌, ◌≢◌, ◌⊎◌, ◌∷◌, ◌+◌, ◌^◌, ◌≤◌, ◌<◌, ℕ, List, false, IfErr, IfOk, OnOk};
+ghost use Rattle.im_types.specs.declared.fault.Fault.TheVariants.{Capacity, Memory, NotAStore};
 ghost use Rattle.im_types.specs.declared.page_kind.PageKind.TheVariants.{Free, Meta};
-ghost use Rattle.im_types.specs.Histories.{Base};
-ghost use Rattle.im_types.specs.Writer.{Writer};
 ghost use Rattle.im_page.specs.Header.{empty_body};
-ghost use Rattle.im_log.specs.LogFile.{HasNoRoom};
 ghost use Rattle.im_flush.specs.PageWriter.{IsReadyWriter};
+ghost use Rattle.im_flush.specs.Outcome.{fault_of, AllPages, AreLoaded, IsSound, Outcome, Reads};
 ghost use Rattle.im_smo.specs.Bodies.{says, meta_with_first};
 ghost use Rattle.im_smo.specs.Images.{put_image};
-ghost use Rattle.im_alloc.specs.Seen.{next_page, meta_behind};
-ghost use Rattle.im_alloc.specs.Kept.{HasImages, AllocateKept, FreeKept};
+ghost use Rattle.im_alloc.specs.Seen.{next_page, meta_behind, seen, GivesPage, TakesPage};
+ghost use Rattle.im_alloc.specs.Kept.{mild_to_take, HasImages};
 
 use crate::page_image::image;
 use im_disk::Disk;
@@ -92,14 +90,10 @@ pub fn allocate<D: Disk>(
 ) -> Result<PageNo, Fault>
     requires ready { IsReadyWriter D.Disk writer.old disk.old }
     requires working { writer.old.failed ≡ false }
-    ensures ready { IsReadyWriter D.Disk writer.new disk.new }
-    ensures kept { (b : Base) (base : ℕ) (s : Writer) (spare : List ℕ) → HasImages D.Disk b base s images.old spare writer.old disk.old
-        → AllocateKept D.Disk b base s images.old spare disk.old images.new writer.new disk.new result }
-    ensures works { OnOk result (writer.new.failed ≡ false) }
-    ensures fails { IfErr result (λ e. (writer.new.failed ≡ false) ↔ ((e ≡ Memory) ⊎ (e ≡ NotAStore) ⊎ (e ≡ Capacity))) }
-    ensures causes { IfErr result (λ e. (e ≡ Capacity) ⊎ (e ≡ LogFull) ⊎ (e ≡ Memory) ⊎ (e ≡ NotAStore) ⊎ (e ≡ Device)) }
-    ensures no_room { result ≡ Err LogFull → HasNoRoom writer.new.log }
-    ensures device { result ≡ Err Device ↔ (D.failed disk.new ≡ true) }
+    ensures outcome { Outcome D.Disk AreLoaded mild_to_take writer.old disk.old writer.new disk.new (fault_of result) }
+    ensures kept { (pages : AllPages) (spare : List ℕ) → HasImages D.Disk pages images.old spare writer.old disk.old → IsSound result (λ q. TakesPage pages images.old spare q images.new) }
+    ensures used_up { (pages : AllPages) (spare : List ℕ) → HasImages D.Disk pages images.old spare writer.old disk.old
+        → IfErr result (λ e. e ≡ Capacity → ((seen pages images.old 0).prev ≡ 0) × ((seen pages images.old 0).leftmost + 1 ≡ 2 ^ 32)) }
 {
     let _rises = images.len();
     let meta = image(alloc, images, writer, disk, 0)?;
@@ -130,6 +124,7 @@ fn settle_given(
 ///
 /// Refused `NotAStore` where page 0 is no meta page or counts 2^32 - 1 free pages; otherwise as `image` is. Behind a
 /// refusal the images may lack pages: the structure change is given up.
+#[tactic(auto, using(im_flush::proofs::Outcomes::then, im_flush::proofs::Outcomes::refused))]
 pub fn free<D: Disk>(
     alloc: Global,
     images: &mut Images,
@@ -139,14 +134,8 @@ pub fn free<D: Disk>(
 ) -> Result<(), Fault>
     requires ready { IsReadyWriter D.Disk writer.old disk.old }
     requires working { writer.old.failed ≡ false }
-    ensures ready { IsReadyWriter D.Disk writer.new disk.new }
-    ensures kept { (b : Base) (base : ℕ) (s : Writer) (spare : List ℕ) → HasImages D.Disk b base s images.old (number ∷ spare) writer.old disk.old
-        → FreeKept D.Disk b base s images.old spare number disk.old images.new writer.new disk.new result }
-    ensures works { OnOk result (writer.new.failed ≡ false) }
-    ensures fails { IfErr result (λ e. (writer.new.failed ≡ false) ↔ ((e ≡ Memory) ⊎ (e ≡ NotAStore))) }
-    ensures causes { IfErr result (λ e. (e ≡ LogFull) ⊎ (e ≡ Memory) ⊎ (e ≡ NotAStore) ⊎ (e ≡ Device)) }
-    ensures no_room { result ≡ Err LogFull → HasNoRoom writer.new.log }
-    ensures device { result ≡ Err Device ↔ (D.failed disk.new ≡ true) }
+    ensures outcome { Reads D.Disk writer.old disk.old writer.new disk.new (fault_of result) }
+    ensures kept { (pages : AllPages) (spare : List ℕ) → HasImages D.Disk pages images.old (number ∷ spare) writer.old disk.old → IsSound result (λ _. GivesPage pages images.old spare number images.new) }
 {
     let _rises = images.len();
     let meta = image(alloc, images, writer, disk, 0)?;

@@ -13,5 +13,5 @@ mod page_image;
 mod tests;
 
 pub use allocation::{allocate, free};
-pub use laws::{images_are_seen, images_stay};
+pub use laws::images_are_seen;
 pub use page_image::image;

@@ -1,7 +1,7 @@
 -- What a transaction has left to undo through a structure change.
-use Rattle.std.proofs.Common.{◌≡◌, ◌≢◌, ℕ, Bool, true, false, List, [], ◌∷◌, ◌++◌, inl, inr, refl, sym, ap, subst, ◌∙◌, ◌==◌, if◌then◌else◌}
+use Rattle.std.proofs.Common.{◌≡◌, ℕ, Bool, true, false, List, [], ◌∷◌, ◌++◌, inl, inr, refl, sym, ap, ◌∙◌, ◌==◌}
 use Rattle.std.proofs.lemmas.Bool.{cases_eq, cond-true, cond-false, eq-eqb, ne_eqb}
-use Rattle.im_types.specs.Changes.{Change, Effect}
+use Rattle.im_types.specs.Changes.{Change}
 use Rattle.im_types.specs.Records.{What, InsertKey, DeleteKey, UndoInsert, UndoDelete, Smo, UndoSmo, DummyClr, Commit, End, Image, Checkpoint, Unreadable, Logged}
 use Rattle.im_types.specs.Histories.{History}
 use Rattle.im_types.specs.Transactions.{change_of, changes_of, is_smo, net, stack_after, to_undo, without_smo}

@@ -23,6 +23,7 @@ use Rattle.im_record.specs.Entry as entries
 use Rattle.im_flush.specs.declared.page_writer.PageWriter.{PageWriter}
 use Rattle.im_flush.specs.Stands.{IsCovered}
 use Rattle.im_flush.specs.Writing.{LeavesGrown}
+use Rattle.im_flush.specs.Outcome.{pages_of}
 use Rattle.im_flush.specs.PageWriter.{StandsAs, LoggedOnly, Evicted}
 use Rattle.im_flush.proofs.Goings.{leaves_so_far}
 use Rattle.im_flush.proofs.Standing.{wider_covered}
@@ -85,28 +86,28 @@ drop_rises (suc i) [] up = tt
 drop_rises (suc i) (x ∷ xs) up = drop_rises i xs (tail_rises x xs up)
 
 -- the first of them becomes the writer's page
-seen_step : (s t : Writer) (x : Numbered) (rest : List Numbered) → IsAbove x.0 rest → ((q : ℕ) → bodies t q ≡ with_body (bodies s) x.0 x.1.body q) → SamePages (seen t rest) (seen s (x ∷ rest))
-seen_step s t x rest up step q = applied_image (bodies t) rest q ∙ (elim (cases_eq x.0 q) [
+seen_step : (s t : Writer) (x : Numbered) (rest : List Numbered) → IsAbove x.0 rest → ((q : ℕ) → bodies (pages_of t) q ≡ with_body (bodies (pages_of s)) x.0 x.1.body q) → SamePages (seen (pages_of t) rest) (seen (pages_of s) (x ∷ rest))
+seen_step s t x rest up step q = applied_image (bodies (pages_of t)) rest q ∙ (elim (cases_eq x.0 q) [
   | inl here ↦
-      ap (λ (o : Option Page). body_or o (bodies t q)) (absent x.0 q rest up (omega (arith, here)))
-      ∙ step q ∙ cond-true (x.0 == q) x.1.body (bodies s q) (eq-eqb x.0 q here)
-      ∙ sym (cond-true (x.0 == q) x.1.body (seen s rest q) (eq-eqb x.0 q here))
+      ap (λ (o : Option Page). body_or o (bodies (pages_of t) q)) (absent x.0 q rest up (omega (arith, here)))
+      ∙ step q ∙ cond-true (x.0 == q) x.1.body (bodies (pages_of s) q) (eq-eqb x.0 q here)
+      ∙ sym (cond-true (x.0 == q) x.1.body (seen (pages_of s) rest q) (eq-eqb x.0 q here))
   | inr other ↦
-      ap (λ (c : Body). body_or (image_of rest q) c) (step q ∙ at_other (bodies s) x.0 x.1.body q other)
-      ∙ sym (applied_image (bodies s) rest q)
-      ∙ sym (cond-false (x.0 == q) x.1.body (seen s rest q) (ne_eqb x.0 q other))
+      ap (λ (c : Body). body_or (image_of rest q) c) (step q ∙ at_other (bodies (pages_of s)) x.0 x.1.body q other)
+      ∙ sym (applied_image (bodies (pages_of s)) rest q)
+      ∙ sym (cond-false (x.0 == q) x.1.body (seen (pages_of s) rest q) (ne_eqb x.0 q other))
 ])
 
-changed_bodies : (known : Bool) (lsn t prev p : ℕ) (was now : Body) (s : Writer) (q : ℕ) → bodies (changed_as known (smo_at lsn t prev p was now) s) q ≡ with_body (bodies s) p now q
+changed_bodies : (known : Bool) (lsn t prev p : ℕ) (was now : Body) (s : Writer) (q : ℕ) → bodies (pages_of (changed_as known (smo_at lsn t prev p was now) s)) q ≡ with_body (bodies (pages_of s)) p now q
 changed_bodies known lsn t prev p was now s q = by (p == q) refl
   where
-    by : (u : Bool) → (p == q) ≡ u → bodies (changed_as known (smo_at lsn t prev p was now) s) q ≡ with_body (bodies s) p now q
+    by : (u : Bool) → (p == q) ≡ u → bodies (pages_of (changed_as known (smo_at lsn t prev p was now) s)) q ≡ with_body (bodies (pages_of s)) p now q
     by true is =
         ap (λ (x : PageState). x.page.body) (cond-true (p == q) (changed_page_as known (smo_at lsn t prev p was now) (s.pages q)) (s.pages q) is)
-        ∙ sym (cond-true (p == q) now (bodies s q) is)
+        ∙ sym (cond-true (p == q) now (bodies (pages_of s) q) is)
     by false is =
         ap (λ (x : PageState). x.page.body) (cond-false (p == q) (changed_page_as known (smo_at lsn t prev p was now) (s.pages q)) (s.pages q) is)
-        ∙ sym (cond-false (p == q) now (bodies s q) is)
+        ∙ sym (cond-false (p == q) now (bodies (pages_of s) q) is)
 
 module _ {D : Type 0} (d : Ghosts D) (b : Base) (base : ℕ) where
   -- the writer's pages are those of its log
@@ -175,7 +176,7 @@ module _ {D : Type 0} (d : Ghosts D) (b : Base) (base : ℕ) where
       log = smo_under_way b t undo_next xs s.log some i prev lsn (now.pages p).page.body x.1.body done.before.log up within done.high
           (ap (λ (g : Page). g.body) (page_is now e w mid so.stands so.over p ∙ same_page))
           (images_under_way b t undo_next xs s.log some i prev now.log done.before.log done.keeps.log so.log);
-      pages = λ q. seen_step now after x (drop (i + 1) xs) above step q ∙ ap (λ (l : List Numbered). seen now l q) (sym front) ∙ so.pages q;
+      pages = λ q. seen_step now after x (drop (i + 1) xs) above step q ∙ ap (λ (l : List Numbered). seen (pages_of now) l q) (sym front) ∙ so.pages q;
       stops = pages_stops i prev old w mid new so stops;
     }
       where
@@ -200,7 +201,7 @@ module _ {D : Type 0} (d : Ghosts D) (b : Base) (base : ℕ) where
         same_page : page_at b now.log p ≡ page_at b done.before.log p
         same_page = sym (ap (λ (l : History). page_at b l p) done.keeps.log.is ∙ images_pages b done.keeps.log.images now.log p done.keeps.log.all)
 
-        step : (q : ℕ) → bodies after q ≡ with_body (bodies now) p x.1.body q
+        step : (q : ℕ) → bodies (pages_of after) q ≡ with_body (bodies (pages_of now)) p x.1.body q
         step q =
             changed_bodies done.known lsn t prev p (now.pages p).page.body x.1.body done.before q
             ∙ ap (λ (c : Body). if p == q then x.1.body else c) (ap (λ (g : Page). g.body) (done.keeps.pages q).page)
@@ -244,11 +245,11 @@ module _ {D : Type 0} (d : Ghosts D) (b : Base) (base : ℕ) where
         now : Writer
         now = so.now
 
-        pages : SamePages (bodies now) (seen s xs)
-        pages q = ap (λ (l : List Numbered). seen now l q) (sym (drop_all (length xs) xs (omega arith))) ∙ so.pages q
+        pages : SamePages (bodies (pages_of now)) (seen (pages_of s) xs)
+        pages q = ap (λ (l : List Numbered). seen (pages_of now) l q) (sym (drop_all (length xs) xs (omega arith))) ∙ so.pages q
 
-        logged : logged_bodies b now.log ≡ seen s xs
+        logged : logged_bodies b now.log ≡ seen (pages_of s) xs
         logged = fun_ext (λ (q : ℕ). sym (ap (λ (g : Page). g.body) (page_is now e w mid so.stands so.over q)) ∙ pages q)
 
-        was : logged_bodies b s.log ≡ bodies s
+        was : logged_bodies b s.log ≡ bodies (pages_of s)
         was = fun_ext (λ (q : ℕ). sym (ap (λ (g : Page). g.body) (page_is s e start old may.stands may.over q)))

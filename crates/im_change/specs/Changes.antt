@@ -1,7 +1,7 @@
 -- What a structure change asks, how it stands on its way, and what it keeps.
-use Rattle.std.specs.Prelude.{◌≡◌, ◌≢◌, ◌≤◌, ◌<◌, ◌⊎◌, ℕ, zero, suc, false, List, [], ◌∷◌, ◌++◌, length, drop, Option, Some, None, Result, IfErr, IfOk}
+use Rattle.std.specs.Prelude.{◌≡◌, ◌≤◌, ◌<◌, ◌⊎◌, ℕ, zero, suc, false, List, [], ◌∷◌, ◌++◌, length, drop, Option, Some, None, Result, IfErr}
 use Rattle.im_types.specs.declared.fault.Fault.{Fault}
-use Rattle.im_types.specs.declared.fault.Fault.TheVariants.{Failed, Memory, NotAStore}
+use Rattle.im_types.specs.declared.fault.Fault.TheVariants.{Failed}
 use Rattle.im_types.specs.Records.{What, InsertKey, DeleteKey, UndoInsert, UndoDelete, Smo, UndoSmo, DummyClr, Commit, End, Image, Checkpoint, Unreadable, Logged}
 use Rattle.im_types.specs.Histories.{Base, History, IsFront, end_of}
 use Rattle.im_types.specs.Lawful.{IsLawful, resumes}
@@ -13,7 +13,8 @@ use Rattle.im_disk.specs.Disk.{Files}
 use Rattle.im_disk.specs.Runs.{LeavesOnly}
 use Rattle.im_flush.specs.declared.page_writer.PageWriter.{PageWriter}
 use Rattle.im_flush.specs.Stands.{IsCovered}
-use Rattle.im_flush.specs.PageWriter.{StandsAs, Evicted}
+use Rattle.im_flush.specs.Outcome.{pages_of, IsSound}
+use Rattle.im_flush.specs.PageWriter.{StandsAs}
 use Rattle.im_tree.specs.Levels.{walk}
 use Rattle.im_tree.specs.Good.{AllOf, IsGoodTree}
 use Rattle.im_tree.specs.Theory.{page_tree}
@@ -112,8 +113,8 @@ module _ {D : Type 0} (d : Ghosts D) (b : Base) (base : ℕ) where
     pub undo : undo_next_of t s.log ≡ undo_next
     pub unfinished : is_finished t s.log ≡ false
     pub some : 1 ≤ length images
-    pub good : IsGoodTree (seen s images) []
-    pub same : walk (seen s images) ≡ walk (bodies s)
+    pub good : IsGoodTree (seen (pages_of s) images) []
+    pub same : walk (seen (pages_of s) images) ≡ walk (bodies (pages_of s))
 
   -- The first i images are logged, and are the writer's pages.
   pub record PagesLogged (s : Writer) (e : ℕ) (images : List Numbered) (t undo_next i prev : ℕ) (old : D) (w : PageWriter) (disk : D) : Type 0 where
@@ -123,7 +124,7 @@ module _ {D : Type 0} (d : Ghosts D) (b : Base) (base : ℕ) where
     pub point : now.point ≡ s.point
     pub durable : IsFront s.durable now.durable
     pub log : IsUnderWay b t undo_next images s.log i prev now.log
-    pub pages : SamePages (seen now (drop i images)) (seen s images)
+    pub pages : SamePages (seen (pages_of now) (drop i images)) (seen (pages_of s) images)
     pub stops : LeavesChange s t old disk
 
   -- A record of the structure change joined the log.
@@ -133,12 +134,10 @@ module _ {D : Type 0} (d : Ghosts D) (b : Base) (base : ℕ) where
     pub grows : GrowsByChange t s.log now.log
     pub some : HasRecordOf t grows.more
 
-  -- What logging all of them keeps. A want of memory leaves all as it was, or is `Failed` behind a record of the change.
+  -- What logging all of them keeps. Where it is refused `Failed`, a record of the change is logged.
   pub record PagesKept (s : Writer) (e : ℕ) (images : List Numbered) (t undo_next : ℕ) (old : D) (w : PageWriter) (disk : D) (result : Result ℕ Fault) : Type 0 where
-    pub ok : IfOk result (λ prev. PagesLogged s e images t undo_next (length images) prev old w disk)
+    pub sound : IsSound result (λ prev. PagesLogged s e images t undo_next (length images) prev old w disk)
     pub stops : LeavesChange s t old disk
-    pub cause : IfErr result (λ e. e ≢ NotAStore)
-    pub again : IfErr result (λ e. e ≡ Memory → Evicted d b base s old w disk)
     pub begun : IfErr result (λ e. e ≡ Failed → Begun s t w disk)
 
   -- The structure change is logged, one record for each image in rising page number, and closed: the pages are those of the images, the log is lawful, and undo goes on where it stood, from the record at this LSN.
@@ -148,7 +147,7 @@ module _ {D : Type 0} (d : Ghosts D) (b : Base) (base : ℕ) where
     pub over : now.redo_end ≡ Some e
     pub point : now.point ≡ s.point
     pub durable : IsFront s.durable now.durable
-    pub pages : SamePages (bodies now) (seen s images)
+    pub pages : SamePages (bodies (pages_of now)) (seen (pages_of s) images)
     pub lawful : IsLawful b page_tree now.log
     pub grows : GrowsByChange t s.log now.log
     pub order : marks grows.more ≡ None ∷ image_marks (length images) images
@@ -157,10 +156,8 @@ module _ {D : Type 0} (d : Ghosts D) (b : Base) (base : ℕ) where
     pub unfinished : is_finished t now.log ≡ false
     pub closed : open_smo now.log ≡ []
 
-  -- What a structure change keeps. A want of memory leaves all as it was, or is `Failed` behind a record of the change.
+  -- What a structure change keeps. Where it is refused `Failed`, a record of it is logged.
   pub record ChangeKept (s : Writer) (e : ℕ) (images : List Numbered) (t undo_next : ℕ) (old : D) (w : PageWriter) (disk : D) (result : Result ℕ Fault) : Type 0 where
-    pub ok : IfOk result (λ lsn. Changed s e images t undo_next lsn old w disk)
+    pub sound : IsSound result (λ lsn. Changed s e images t undo_next lsn old w disk)
     pub stops : LeavesChange s t old disk
-    pub cause : IfErr result (λ e. e ≢ NotAStore)
-    pub again : IfErr result (λ e. e ≡ Memory → Evicted d b base s old w disk)
     pub begun : IfErr result (λ e. e ≡ Failed → Begun s t w disk)

@@ -1,7 +1,7 @@
 -- The records of a structure change, and what logging one of its pages keeps.
-use Rattle.std.specs.Prelude.{◌≡◌, ◌≢◌, ◌<◌, ◌≤◌, ℕ, Bool, Result, IfErr, IfOk}
+use Rattle.std.specs.Prelude.{◌≡◌, ◌<◌, ℕ, Bool, Result, IfErr}
 use Rattle.im_types.specs.declared.fault.Fault.{Fault}
-use Rattle.im_types.specs.declared.fault.Fault.TheVariants.{Failed, Memory, NotAStore}
+use Rattle.im_types.specs.declared.fault.Fault.TheVariants.{Failed}
 use Rattle.im_types.specs.Pages.{Body}
 use Rattle.im_types.specs.Records.{Logged, Smo, DummyClr}
 use Rattle.im_types.specs.Histories.{Base, History, IsFront, end_of}
@@ -11,6 +11,7 @@ use Rattle.im_flush.specs.declared.page_writer.PageWriter.{PageWriter}
 use Rattle.im_flush.specs.KnownCopies.{changed_as}
 use Rattle.im_flush.specs.Growth.{Keeps}
 use Rattle.im_flush.specs.Writing.{LeavesGrown}
+use Rattle.im_flush.specs.Outcome.{IsSound}
 use Rattle.im_flush.specs.PageWriter.{StandsAs, Evicted}
 
 -- the record of one page, with what it says before and after
@@ -35,15 +36,11 @@ module _ {D : Type 0} (d : Ghosts D) (b : Base) (base : ℕ) where
 
   -- what that keeps
   pub record PageLogKept (s : Writer) (t prev p : ℕ) (after : Body) (old : D) (w : PageWriter) (disk : D) (result : Result ℕ Fault) : Type 0 where
-    pub ok : IfOk result (λ lsn. PageLogged s t prev p after lsn w disk)
+    pub sound : IsSound result (λ lsn. PageLogged s t prev p after lsn w disk)
     pub stops : LeavesGrown d b base s old disk
-    pub cause : IfErr result (λ e. e ≢ NotAStore)
-    pub again : IfErr result (λ e. e ≡ Memory → Evicted d b base s old w disk)
 
-  -- What logging the page of image i keeps: a want of memory is `Memory` at the first one, and `Failed` behind it. Each page is as it was then, and the log has Images more.
-  pub record ImageLogKept (s : Writer) (t prev p : ℕ) (after : Body) (i : ℕ) (old : D) (w : PageWriter) (disk : D) (result : Result ℕ Fault) : Type 0 where
-    pub ok : IfOk result (λ lsn. PageLogged s t prev p after lsn w disk)
+  -- What logging the page of an image keeps. Where it is refused `Failed`, each page is as it was, and the log has Images more.
+  pub record ImageLogKept (s : Writer) (t prev p : ℕ) (after : Body) (old : D) (w : PageWriter) (disk : D) (result : Result ℕ Fault) : Type 0 where
+    pub sound : IsSound result (λ lsn. PageLogged s t prev p after lsn w disk)
     pub stops : LeavesGrown d b base s old disk
-    pub cause : IfErr result (λ e. e ≢ NotAStore)
-    pub again : IfErr result (λ e. e ≡ Memory → (i ≡ 0) × Evicted d b base s old w disk)
-    pub late : IfErr result (λ e. e ≡ Failed → (1 ≤ i) × Evicted d b base s old w disk)
+    pub late : IfErr result (λ e. e ≡ Failed → Evicted d b base s old w disk)

@@ -1,11 +1,10 @@
 //! One page of a structure change.
 
-ghost use Rattle.std.specs.Prelude.{◌≡◌, ◌≤◌, ◌⊎◌, ◌↔◌, ℕ, true, false, Some, Err, IfErr, OnOk};
-ghost use Rattle.im_types.specs.declared.fault.Fault.TheVariants.{Device, LogFull, Memory, NotAStore};
+ghost use Rattle.std.specs.Prelude.{◌≡◌, ◌≤◌, ℕ, false, Some};
 ghost use Rattle.im_types.specs.Histories.{Base};
 ghost use Rattle.im_types.specs.Writer.{Writer};
-ghost use Rattle.im_log.specs.LogFile.{HasNoRoom};
 ghost use Rattle.im_flush.specs.PageWriter.{IsReadyWriter, StandsAs};
+ghost use Rattle.im_flush.specs.Outcome.{fault_of, mild, Logs};
 ghost use Rattle.im_change.specs.Logged.{PageLogKept};
 
 use crate::page_bytes::{behind, copy_behind};
@@ -27,14 +26,9 @@ pub(crate) fn log_page<D: Disk>(
     requires ready { IsReadyWriter D.Disk writer.old disk.old }
     requires working { writer.old.failed ≡ false }
     requires owner { 1 ≤ transaction }
-    ensures ready { IsReadyWriter D.Disk writer.new disk.new }
+    ensures outcome { Logs D.Disk false mild writer.old disk.old writer.new disk.new (fault_of result) }
     ensures kept { (b : Base) (base : ℕ) (s : Writer) (e : ℕ) → StandsAs D.Disk b base s writer.old disk.old → s.redo_end ≡ Some e
         → PageLogKept D.Disk b base s transaction prev number after.now.body disk.old writer.new disk.new result }
-    ensures works { OnOk result (writer.new.failed ≡ false) }
-    ensures fails { IfErr result (λ e. (writer.new.failed ≡ false) ↔ ((e ≡ Memory) ⊎ (e ≡ NotAStore))) }
-    ensures causes { IfErr result (λ e. (e ≡ LogFull) ⊎ (e ≡ Memory) ⊎ (e ≡ NotAStore) ⊎ (e ≡ Device)) }
-    ensures no_room { result ≡ Err LogFull → HasNoRoom writer.new.log }
-    ensures device { result ≡ Err Device ↔ (D.failed disk.new ≡ true) }
 {
     let frame = writer.get(disk, number)?;
     let mut before = [0; 4088];

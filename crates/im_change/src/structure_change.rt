@@ -1,11 +1,11 @@
 //! A structure change, logged page by page and closed.
 
-ghost use Rattle.std.specs.Prelude.{◌≡◌, ◌≢◌, ◌<◌, ◌≤◌, ◌⊎◌, ◌↔◌, ℕ, true, false, Some, Err, length, IfErr, OnOk};
-ghost use Rattle.im_types.specs.declared.fault.Fault.TheVariants.{Device, Failed, LogFull, Memory, NotAStore};
+ghost use Rattle.std.specs.Prelude.{◌≡◌, ◌≢◌, ◌<◌, ◌≤◌, ℕ, true, false, Some, length, IfErr};
+ghost use Rattle.im_types.specs.declared.fault.Fault.TheVariants.{Failed, Memory};
 ghost use Rattle.im_types.specs.Histories.{Base};
 ghost use Rattle.im_types.specs.Writer.{Writer};
-ghost use Rattle.im_log.specs.LogFile.{HasNoRoom};
 ghost use Rattle.im_flush.specs.PageWriter.{IsReadyWriter, StandsAs};
+ghost use Rattle.im_flush.specs.Outcome.{fault_of, mild, Logs};
 ghost use Rattle.im_smo.specs.Images.{image_at};
 ghost use Rattle.im_change.specs.Logged.{ImageLogKept};
 ghost use Rattle.im_change.specs.Changes.{MayChange, PagesKept, ChangeKept};
@@ -43,14 +43,11 @@ fn log_at<D: Disk>(
     requires working { writer.old.failed ≡ false }
     requires owner { 1 ≤ transaction }
     requires within { i < length images.now }
-    ensures ready { IsReadyWriter D.Disk writer.new disk.new }
+    ensures outcome { Logs D.Disk true mild writer.old disk.old writer.new disk.new (fault_of result) }
     ensures kept { (b : Base) (base : ℕ) (s : Writer) (e : ℕ) → StandsAs D.Disk b base s writer.old disk.old → s.redo_end ≡ Some e
-        → ImageLogKept D.Disk b base s transaction prev (image_at images.now i).0 (image_at images.now i).1.body i disk.old writer.new disk.new result }
-    ensures works { OnOk result (writer.new.failed ≡ false) }
-    ensures fails { IfErr result (λ e. (writer.new.failed ≡ false) ↔ ((e ≡ Memory) ⊎ (e ≡ NotAStore) ⊎ (e ≡ Failed))) }
-    ensures causes { IfErr result (λ e. (e ≡ Failed) ⊎ (e ≡ LogFull) ⊎ (e ≡ Memory) ⊎ (e ≡ NotAStore) ⊎ (e ≡ Device)) }
-    ensures no_room { result ≡ Err LogFull → HasNoRoom writer.new.log }
-    ensures device { result ≡ Err Device ↔ (D.failed disk.new ≡ true) }
+        → ImageLogKept D.Disk b base s transaction prev (image_at images.now i).0 (image_at images.now i).1.body disk.old writer.new disk.new result }
+    ensures first { IfErr result (λ e. e ≡ Memory → i ≡ 0) }
+    ensures later { IfErr result (λ e. e ≡ Failed → 1 ≤ i) }
 {
     match log_page(
         writer,
@@ -77,14 +74,9 @@ fn log_pages<D: Disk>(
     requires ready { IsReadyWriter D.Disk writer.old disk.old }
     requires working { writer.old.failed ≡ false }
     requires owner { 1 ≤ transaction }
-    ensures ready { IsReadyWriter D.Disk writer.new disk.new }
+    ensures outcome { Logs D.Disk true mild writer.old disk.old writer.new disk.new (fault_of result) }
     ensures kept { (b : Base) (base : ℕ) (s : Writer) (e undo_next : ℕ) → MayChange D.Disk b base s e images.now transaction last undo_next writer.old disk.old
         → PagesKept D.Disk b base s e images.now transaction undo_next disk.old writer.new disk.new result }
-    ensures works { OnOk result (writer.new.failed ≡ false) }
-    ensures fails { IfErr result (λ e. (writer.new.failed ≡ false) ↔ ((e ≡ Memory) ⊎ (e ≡ NotAStore) ⊎ (e ≡ Failed))) }
-    ensures causes { IfErr result (λ e. (e ≡ Failed) ⊎ (e ≡ LogFull) ⊎ (e ≡ Memory) ⊎ (e ≡ NotAStore) ⊎ (e ≡ Device)) }
-    ensures no_room { result ≡ Err LogFull → HasNoRoom writer.new.log }
-    ensures device { IfErr result (λ e. (e ≡ Device) ↔ (D.failed disk.new ≡ true)) }
 {
     let len = images.len();
     let mut prev = last;
@@ -112,14 +104,9 @@ pub fn run<D: Disk>(
     requires ready { IsReadyWriter D.Disk writer.old disk.old }
     requires working { writer.old.failed ≡ false }
     requires owner { 1 ≤ transaction }
-    ensures ready { IsReadyWriter D.Disk writer.new disk.new }
+    ensures outcome { Logs D.Disk true mild writer.old disk.old writer.new disk.new (fault_of result) }
     ensures kept { (b : Base) (base : ℕ) (s : Writer) (e : ℕ) → MayChange D.Disk b base s e images.now transaction last undo_next writer.old disk.old
         → ChangeKept D.Disk b base s e images.now transaction undo_next disk.old writer.new disk.new result }
-    ensures works { OnOk result (writer.new.failed ≡ false) }
-    ensures fails { IfErr result (λ e. (writer.new.failed ≡ false) ↔ ((e ≡ Memory) ⊎ (e ≡ NotAStore) ⊎ (e ≡ Failed))) }
-    ensures causes { IfErr result (λ e. (e ≡ Failed) ⊎ (e ≡ LogFull) ⊎ (e ≡ Memory) ⊎ (e ≡ NotAStore) ⊎ (e ≡ Device)) }
-    ensures no_room { result ≡ Err LogFull → HasNoRoom writer.new.log }
-    ensures device { result ≡ Err Device ↔ (D.failed disk.new ≡ true) }
 {
     let prev = log_pages(writer, disk, images, transaction, last)?;
     let closing = Record::DummyClr {

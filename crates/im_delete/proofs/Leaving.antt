@@ -5,7 +5,7 @@ use Rattle.std.proofs.lemmas.Bool.{cases_eq}
 use Rattle.im_types.specs.Keys.{Key}
 use Rattle.im_types.specs.Pages.{Body, Page}
 use Rattle.im_types.specs.Tree.{with_body}
-use Rattle.im_types.specs.Writer.{Writer}
+use Rattle.im_flush.specs.Outcome.{AllPages}
 use Rattle.im_types.specs.declared.page_kind.PageKind.TheVariants.{Leaf, Inner}
 use Rattle.im_tree.specs.Levels.{Pages, walk}
 use Rattle.im_tree.specs.Good.{IsGoodTree}
@@ -24,7 +24,9 @@ use Rattle.im_alloc.specs.Seen.{seen, page_in}
 use Rattle.im_alloc.proofs.Seeing.{page_says, put_back}
 use Rattle.im_search.specs.declared.child_place.ChildPlace.{ChildPlace}
 use Rattle.im_search.specs.declared.child_place.ChildPlace.TheVariants.{Entry, Leftmost, Only}
-use Rattle.im_delete.specs.Chains.{out_of_tree, without_child, AreLeavesBeside}
+use Rattle.im_delete.specs.declared.reading.Side.{Side}
+use Rattle.im_delete.specs.declared.reading.Side.TheVariants.{Prev, Next}
+use Rattle.im_delete.specs.Chains.{out_of_tree, without_child, AreLeavesBeside, with_link, linked}
 use Rattle.im_delete.specs.Ways.{Hangs}
 
 -- ---- the tree
@@ -88,32 +90,41 @@ leaves_beside pages key leaf prev next good way is_prev is_next =
 -- ---- one page
 
 -- a page taken out, changed and put back
-pub edited : (s : Writer) (xs mid new : List Numbered) (n : ℕ) (page : Page) (f : Body → Body) → IsRising xs → page ≡ page_in s xs n → mid ≡ without_image n xs → new ≡ put_image n (says page (f page.body)) mid
-    → SamePages (seen s new) (with_body (seen s xs) n (f (seen s xs n)))
-edited s xs mid new n page f up is is_mid is_new x =
-    let body : page.body ≡ seen s xs n = ap (λ (g : Page). g.body) is ∙ page_says s xs n in
-    ap (λ (l : List Numbered). seen s l x) (is_new ∙ ap (λ (l : List Numbered). put_image n (says page (f page.body)) l) is_mid)
-    ∙ put_back s xs n (says page (f page.body)) up x
-    ∙ ap (λ (c : Body). with_body (seen s xs) n (f c) x) body
+pub edited : (store : AllPages) (xs mid new : List Numbered) (n : ℕ) (page : Page) (f : Body → Body) → IsRising xs → page ≡ page_in store xs n → mid ≡ without_image n xs → new ≡ put_image n (says page (f page.body)) mid
+    → SamePages (seen store new) (with_body (seen store xs) n (f (seen store xs n)))
+edited store xs mid new n page f up is is_mid is_new x =
+    let body : page.body ≡ seen store xs n = ap (λ (g : Page). g.body) is ∙ page_says store xs n in
+    ap (λ (l : List Numbered). seen store l x) (is_new ∙ ap (λ (l : List Numbered). put_image n (says page (f page.body)) l) is_mid)
+    ∙ put_back store xs n (says page (f page.body)) up x
+    ∙ ap (λ (c : Body). with_body (seen store xs) n (f c) x) body
 
 -- what the page says
-pub says_seen : (s : Writer) (xs : List Numbered) (n : ℕ) (page : Page) → page ≡ page_in s xs n → page.body ≡ seen s xs n
-says_seen s xs n page is = ap (λ (g : Page). g.body) is ∙ page_says s xs n
+pub says_seen : (store : AllPages) (xs : List Numbered) (n : ℕ) (page : Page) → page ≡ page_in store xs n → page.body ≡ seen store xs n
+says_seen store xs n page is = ap (λ (g : Page). g.body) is ∙ page_says store xs n
 
-pub linked_next_is : (pages new : Pages) (l v : ℕ) → 1 ≤ l → SamePages new (with_body pages l (with_next (pages l) v)) → SamePages new (linked_next pages l v)
+linked_next_is : (pages new : Pages) (l v : ℕ) → 1 ≤ l → SamePages new (with_body pages l (with_next (pages l) v)) → SamePages new (linked_next pages l v)
 linked_next_is pages new zero v some same = absurd (omega (arith, some))
 linked_next_is pages new (suc l) v some same = same
 
-pub linked_prev_is : (pages new : Pages) (r v : ℕ) → 1 ≤ r → SamePages new (with_body pages r (with_prev (pages r) v)) → SamePages new (linked_prev pages r v)
+linked_prev_is : (pages new : Pages) (r v : ℕ) → 1 ≤ r → SamePages new (with_body pages r (with_prev (pages r) v)) → SamePages new (linked_prev pages r v)
 linked_prev_is pages new zero v some same = absurd (omega (arith, some))
 linked_prev_is pages new (suc r) v some same = same
 
 -- page 0 stands for no leaf
-pub linked_next_none : (pages : Pages) (l v : ℕ) → l ≡ 0 → SamePages pages (linked_next pages l v)
+linked_next_none : (pages : Pages) (l v : ℕ) → l ≡ 0 → SamePages pages (linked_next pages l v)
 linked_next_none pages l v none = subst (λ (x : ℕ). SamePages pages (linked_next pages x v)) (sym none) (λ x. refl)
 
-pub linked_prev_none : (pages : Pages) (r v : ℕ) → r ≡ 0 → SamePages pages (linked_prev pages r v)
+linked_prev_none : (pages : Pages) (r v : ℕ) → r ≡ 0 → SamePages pages (linked_prev pages r v)
 linked_prev_none pages r v none = subst (λ (x : ℕ). SamePages pages (linked_prev pages x v)) (sym none) (λ x. refl)
+
+-- so it is on either side
+pub linked_is : (pages new : Pages) (side : Side) (n v : ℕ) → 1 ≤ n → SamePages new (with_body pages n (with_link (pages n) side v)) → SamePages new (linked pages side n v)
+linked_is pages new Prev n v some same = linked_prev_is pages new n v some same
+linked_is pages new Next n v some same = linked_next_is pages new n v some same
+
+pub linked_none : (pages : Pages) (side : Side) (n v : ℕ) → n ≡ 0 → SamePages pages (linked pages side n v)
+linked_none pages Prev n v none = linked_prev_none pages n v none
+linked_none pages Next n v none = linked_next_none pages n v none
 
 -- ---- several pages
 
@@ -140,10 +151,6 @@ beside_stay pages mid parent c prev next same inner are = record {
 }
 
 -- ---- the chain out of the tree
-
--- pages that a step makes of others, seen from before
-pub seen_moves : (s t : Writer) → ((xs : List Numbered) → seen t xs ≡ seen s xs) → (mid new : List Numbered) (step : Pages → Pages) → SamePages (seen t new) (step (seen t mid)) → SamePages (seen s new) (step (seen s mid))
-seen_moves s t stay mid new step same x = ap (λ (f : Pages). f x) (sym (stay new)) ∙ same x ∙ ap (λ (f : Pages). step f x) (stay mid)
 
 -- under the root left without a child no leaf is linked
 pub out_only : (pages new : Pages) (parent : ℕ) (place : ChildPlace) (prev next : ℕ) → place ≡ Only → SamePages new (with_body pages parent (without_child (pages parent) place)) → SamePages new (out_of_tree pages parent place prev next)

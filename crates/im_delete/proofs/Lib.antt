@@ -3,3 +3,4 @@ pub mod OneLeaf
 pub mod Leaving
 pub mod Frees
 pub mod Plans
+mod Results

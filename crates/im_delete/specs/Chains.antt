@@ -4,11 +4,13 @@ use Rattle.im_types.specs.Pages.{Body}
 use Rattle.im_types.specs.Tree.{with_body}
 use Rattle.im_types.specs.declared.page_kind.PageKind.TheVariants.{Leaf}
 use Rattle.im_tree.specs.Levels.{Pages}
-use Rattle.im_smo.specs.Bodies.{leaf_body, without_entry, without_leftmost}
-use Rattle.im_smo.specs.Changed.{unlinked_pages}
+use Rattle.im_smo.specs.Bodies.{leaf_body, with_prev, with_next, without_entry, without_leftmost}
+use Rattle.im_smo.specs.Changed.{linked_prev, linked_next, unlinked_pages}
 use Rattle.im_search.specs.declared.child_place.ChildPlace.{ChildPlace}
 use Rattle.im_search.specs.declared.child_place.ChildPlace.TheVariants.{Entry, Leftmost, Only}
 use Rattle.im_delete.specs.declared.reading.Beside.{Beside}
+use Rattle.im_delete.specs.declared.reading.Side.{Side}
+use Rattle.im_delete.specs.declared.reading.Side.TheVariants.{Prev, Next}
 
 -- the leaves beside a leaf without entries
 pub record IsBeside (b : Body) (beside : Beside) : Type 0 where
@@ -29,6 +31,16 @@ abbrev pub without_child : Body → ChildPlace → Body
 without_child b (Entry i) = without_entry b i
 without_child b Leftmost = without_leftmost b
 without_child b Only = leaf_body 0 0 []
+
+-- a leaf with another one on a side of it
+abbrev pub with_link : Body → Side → ℕ → Body
+with_link b Prev leaf = with_prev b leaf
+with_link b Next leaf = with_next b leaf
+
+-- the pages where the leaf of a number has that one there; 0 stands for no leaf
+abbrev pub linked : Pages → Side → (number leaf : ℕ) → Pages
+linked pages Prev number leaf = linked_prev pages number leaf
+linked pages Next number leaf = linked_next pages number leaf
 
 -- the pages where a chain is out of the tree, and the leaf at its end, which had these leaves beside it, out of the chain of leaves
 abbrev pub out_of_tree : Pages → (parent : ℕ) → ChildPlace → (prev next : ℕ) → Pages

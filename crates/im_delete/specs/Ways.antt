@@ -1,15 +1,9 @@
 -- From a page on the way to the next.
 use Rattle.std.specs.Prelude.{◌≡◌, ◌≢◌, ◌⊎◌, ℕ, suc, List, [], ◌∷◌, ◌++◌}
 use Rattle.im_types.specs.Keys.{Key}
-use Rattle.im_types.specs.Histories.{Base}
-use Rattle.im_types.specs.Writer.{Writer}
-use Rattle.im_disk.specs.declared.disk.Disk.{Ghosts}
-use Rattle.im_flush.specs.declared.page_writer.PageWriter.{PageWriter}
-use Rattle.im_flush.specs.PageWriter.{GoesOn}
 use Rattle.im_tree.specs.Levels.{Pages}
 use Rattle.im_tree.specs.Search.{IsOnWay}
 use Rattle.im_tree.specs.KeyDeletions.{HasNone, chain_down, leaf_down}
-use Rattle.im_alloc.specs.Seen.{bodies}
 use Rattle.im_search.specs.declared.child_place.ChildPlace.{ChildPlace}
 use Rattle.im_search.specs.declared.child_place.ChildPlace.TheVariants.{Only}
 use Rattle.im_search.specs.declared.child_place.Child.{Child}
@@ -38,10 +32,3 @@ pub record IsNext (place : Place) (child : Child) (next : Place) (above more : L
   pub number : next.number ≡ child.number
   pub joins : child.place ≡ Only → place.number ≢ 1 → (next.parent ≡ place.parent) × (next.place ≡ place.place) × (more ≡ above ++ place.number ∷ [])
   pub begins : (child.place ≢ Only) ⊎ (place.number ≡ 1) → (next.parent ≡ place.number) × (next.place ≡ child.place) × (more ≡ [])
-
-module _ {D : Type 0} (d : Ghosts D) (b : Base) (base : ℕ) where
-  -- The way came so far; each page of the writer is as it was, and the log has Images more.
-  pub record PlacedTo (s : Writer) (key : Key) (place : Place) (k : ℕ) (above : List ℕ) (old : D) (w : PageWriter) (disk : D) : Type 0 where
-    pub now : Writer
-    pub on : GoesOn d b base s old now w disk
-    pub placed : IsPlaced (bodies s) key place.parent place.place k place.number above

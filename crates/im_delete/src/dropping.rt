@@ -1,23 +1,19 @@
 //! The chain leaves the tree.
 
-ghost use Rattle.std.specs.Prelude.{◌≡◌, ◌≢◌, ◌⊎◌, ◌↔◌, ◌≤◌, ℕ, true, false, Ok, Err, IfErr, IfOk, OnOk};
-ghost use Rattle.im_types.specs.declared.fault.Fault.TheVariants.{Device, LogFull, Memory, NotAStore};
+ghost use Rattle.std.specs.Prelude.{◌≡◌, ◌≢◌, ◌⊎◌, ◌≤◌, ℕ, false, IfErr, OnOk};
+ghost use Rattle.im_types.specs.declared.fault.Fault.TheVariants.{Memory, NotAStore};
 ghost use Rattle.im_types.specs.declared.page_kind.PageKind.TheVariants.{Leaf, Inner};
-ghost use Rattle.im_types.specs.Histories.{Base};
 ghost use Rattle.im_types.specs.Tree.{with_body};
-ghost use Rattle.im_types.specs.Writer.{Writer};
-ghost use Rattle.im_log.specs.LogFile.{HasNoRoom};
-ghost use Rattle.im_flush.specs.PageWriter.{IsReadyWriter, StandsAs};
-ghost use Rattle.im_tree.specs.Levels.{Pages};
-ghost use Rattle.im_smo.specs.Bodies.{says, with_prev, with_next};
-ghost use Rattle.im_smo.specs.Changed.{SamePages, linked_prev, linked_next, unlinked_pages};
+ghost use Rattle.im_flush.specs.PageWriter.{IsReadyWriter};
+ghost use Rattle.im_flush.specs.Outcome.{fault_of, AllPages, AreLoaded, HasPages, IsSound, Reads};
+ghost use Rattle.im_smo.specs.Bodies.{says};
+ghost use Rattle.im_smo.specs.Changed.{SamePages, unlinked_pages};
 ghost use Rattle.im_smo.specs.Images.{put_image};
 ghost use Rattle.im_alloc.specs.Seen.{seen};
-ghost use Rattle.im_search.specs.Kept.{CallKept};
 ghost use Rattle.im_search.specs.Children.{StandsAt};
-ghost use Rattle.im_delete.specs.Chains.{without_child, out_of_tree, AreLeavesBeside};
+ghost use Rattle.im_delete.specs.Chains.{without_child, with_link, linked, out_of_tree, AreLeavesBeside};
 
-use crate::reading::Beside;
+use crate::reading::{Beside, Side};
 use crate::way::is_only;
 use im_alloc::image;
 use im_disk::Disk;
@@ -59,33 +55,31 @@ fn put_parent(
     images.put(number, page)
 }
 
-// Tells a leaf which leaf is behind it, and puts it among the images.
-fn put_next(
-    images: &mut Images,
-    number: PageNo,
-    mut page: Box<Page>,
-    next: PageNo,
-) -> Result<(), Fault>
-    ensures new { OnOk result (images.new ≡ put_image number (says page.value (with_next page.value.body next)) images.old) }
-    ensures causes { IfErr result (λ e. (e ≡ Memory) ⊎ (e ≡ NotAStore)) }
-    ensures sound { page.value.body.kind ≡ Leaf → IfErr result (λ e. e ≢ NotAStore) }
+// Tells a leaf which leaf stands on a side of it.
+fn link(page: &mut Page, side: Side, leaf: PageNo) -> Result<(), Fault>
+    ensures new { OnOk result (page.new ≡ says page.old (with_link page.old.body side leaf)) }
+    ensures refused { IfErr result (λ e. e ≡ NotAStore) }
+    ensures sound { page.old.body.kind ≡ Leaf → IfErr result (λ _. ⊥) }
 {
-    link_next(&mut page, next)?;
-    images.put(number, page)
+    match side {
+        Side::Prev => link_prev(page, leaf),
+        Side::Next => link_next(page, leaf),
+    }
 }
 
-// Tells a leaf which leaf is before it, and puts it among the images.
-fn put_prev(
+// The same in a page among the images.
+fn put_linked(
     images: &mut Images,
     number: PageNo,
     mut page: Box<Page>,
-    prev: PageNo,
+    side: Side,
+    leaf: PageNo,
 ) -> Result<(), Fault>
-    ensures new { OnOk result (images.new ≡ put_image number (says page.value (with_prev page.value.body prev)) images.old) }
+    ensures new { OnOk result (images.new ≡ put_image number (says page.value (with_link page.value.body side leaf)) images.old) }
     ensures causes { IfErr result (λ e. (e ≡ Memory) ⊎ (e ≡ NotAStore)) }
     ensures sound { page.value.body.kind ≡ Leaf → IfErr result (λ e. e ≢ NotAStore) }
 {
-    link_prev(&mut page, prev)?;
+    link(&mut page, side, leaf)?;
     images.put(number, page)
 }
 
@@ -100,77 +94,39 @@ fn drop_child<D: Disk>(
 ) -> Result<(), Fault>
     requires ready { IsReadyWriter D.Disk writer.old disk.old }
     requires working { writer.old.failed ≡ false }
-    ensures ready { IsReadyWriter D.Disk writer.new disk.new }
-    ensures kept { (b : Base) (base : ℕ) (s : Writer) (c : ℕ) → StandsAs D.Disk b base s writer.old disk.old → ((q : ℕ) → (s.pages q).waits ≡ false)
-        → (seen s images.old parent).kind ≡ Inner → StandsAt (seen s images.old parent) place c
-        → CallKept D.Disk b base s (λ _. SamePages (seen s images.new) (with_body (seen s images.old) parent (without_child (seen s images.old parent) place))) disk.old writer.new disk.new result }
-    ensures works { OnOk result (writer.new.failed ≡ false) }
-    ensures fails { IfErr result (λ e. (writer.new.failed ≡ false) ↔ ((e ≡ Memory) ⊎ (e ≡ NotAStore))) }
-    ensures causes { IfErr result (λ e. (e ≡ LogFull) ⊎ (e ≡ Memory) ⊎ (e ≡ NotAStore) ⊎ (e ≡ Device)) }
-    ensures no_room { result ≡ Err LogFull → HasNoRoom writer.new.log }
-    ensures device { result ≡ Err Device ↔ (D.failed disk.new ≡ true) }
+    ensures outcome { Reads D.Disk writer.old disk.old writer.new disk.new (fault_of result) }
+    ensures kept { (pages : AllPages) (c : ℕ) → HasPages D.Disk AreLoaded pages writer.old disk.old
+        → (seen pages images.old parent).kind ≡ Inner → StandsAt (seen pages images.old parent) place c
+        → IsSound result (λ _. SamePages (seen pages images.new) (with_body (seen pages images.old) parent (without_child (seen pages images.old parent) place))) }
 {
     images.rise();
     let page = image(alloc, images, writer, disk, parent)?;
     put_parent(images, parent, page, place)
 }
 
-// Tells the leaf of a number which leaf is behind it; 0 stands for no leaf, and nothing is done.
-fn set_next<D: Disk>(
+// Tells the leaf of a number which leaf stands on a side of it; 0 stands for no leaf, and nothing is done.
+fn set_link<D: Disk>(
     alloc: Global,
     images: &mut Images,
     writer: &mut PageWriter,
     disk: &mut D,
     number: PageNo,
-    next: PageNo,
+    side: Side,
+    leaf: PageNo,
 ) -> Result<(), Fault>
     requires ready { IsReadyWriter D.Disk writer.old disk.old }
     requires working { writer.old.failed ≡ false }
-    ensures ready { IsReadyWriter D.Disk writer.new disk.new }
-    ensures kept { (b : Base) (base : ℕ) (s : Writer) → StandsAs D.Disk b base s writer.old disk.old → ((q : ℕ) → (s.pages q).waits ≡ false)
-        → (1 ≤ number → (seen s images.old number).kind ≡ Leaf)
-        → CallKept D.Disk b base s (λ _. SamePages (seen s images.new) (linked_next (seen s images.old) number next)) disk.old writer.new disk.new result }
-    ensures works { OnOk result (writer.new.failed ≡ false) }
-    ensures fails { IfErr result (λ e. (writer.new.failed ≡ false) ↔ ((e ≡ Memory) ⊎ (e ≡ NotAStore))) }
-    ensures causes { IfErr result (λ e. (e ≡ LogFull) ⊎ (e ≡ Memory) ⊎ (e ≡ NotAStore) ⊎ (e ≡ Device)) }
-    ensures no_room { result ≡ Err LogFull → HasNoRoom writer.new.log }
-    ensures device { result ≡ Err Device ↔ (D.failed disk.new ≡ true) }
+    ensures outcome { Reads D.Disk writer.old disk.old writer.new disk.new (fault_of result) }
+    ensures kept { (pages : AllPages) → HasPages D.Disk AreLoaded pages writer.old disk.old
+        → (1 ≤ number → (seen pages images.old number).kind ≡ Leaf)
+        → IsSound result (λ _. SamePages (seen pages images.new) (linked (seen pages images.old) side number leaf)) }
 {
     if number == 0 {
         return Ok(());
     }
     images.rise();
     let page = image(alloc, images, writer, disk, number)?;
-    put_next(images, number, page, next)
-}
-
-// Tells the leaf of a number which leaf is before it; 0 stands for no leaf, and nothing is done.
-fn set_prev<D: Disk>(
-    alloc: Global,
-    images: &mut Images,
-    writer: &mut PageWriter,
-    disk: &mut D,
-    number: PageNo,
-    prev: PageNo,
-) -> Result<(), Fault>
-    requires ready { IsReadyWriter D.Disk writer.old disk.old }
-    requires working { writer.old.failed ≡ false }
-    ensures ready { IsReadyWriter D.Disk writer.new disk.new }
-    ensures kept { (b : Base) (base : ℕ) (s : Writer) → StandsAs D.Disk b base s writer.old disk.old → ((q : ℕ) → (s.pages q).waits ≡ false)
-        → (1 ≤ number → (seen s images.old number).kind ≡ Leaf)
-        → CallKept D.Disk b base s (λ _. SamePages (seen s images.new) (linked_prev (seen s images.old) number prev)) disk.old writer.new disk.new result }
-    ensures works { OnOk result (writer.new.failed ≡ false) }
-    ensures fails { IfErr result (λ e. (writer.new.failed ≡ false) ↔ ((e ≡ Memory) ⊎ (e ≡ NotAStore))) }
-    ensures causes { IfErr result (λ e. (e ≡ LogFull) ⊎ (e ≡ Memory) ⊎ (e ≡ NotAStore) ⊎ (e ≡ Device)) }
-    ensures no_room { result ≡ Err LogFull → HasNoRoom writer.new.log }
-    ensures device { result ≡ Err Device ↔ (D.failed disk.new ≡ true) }
-{
-    if number == 0 {
-        return Ok(());
-    }
-    images.rise();
-    let page = image(alloc, images, writer, disk, number)?;
-    put_prev(images, number, page, prev)
+    put_linked(images, number, page, side, leaf)
 }
 
 // The leaves beside a leaf name each other.
@@ -183,18 +139,29 @@ fn unlink<D: Disk>(
 ) -> Result<(), Fault>
     requires ready { IsReadyWriter D.Disk writer.old disk.old }
     requires working { writer.old.failed ≡ false }
-    ensures ready { IsReadyWriter D.Disk writer.new disk.new }
-    ensures kept { (b : Base) (base : ℕ) (s : Writer) → StandsAs D.Disk b base s writer.old disk.old → ((q : ℕ) → (s.pages q).waits ≡ false)
-        → AreLeavesBeside (seen s images.old) beside.prev beside.next
-        → CallKept D.Disk b base s (λ _. SamePages (seen s images.new) (unlinked_pages (seen s images.old) beside.prev beside.next)) disk.old writer.new disk.new result }
-    ensures works { OnOk result (writer.new.failed ≡ false) }
-    ensures fails { IfErr result (λ e. (writer.new.failed ≡ false) ↔ ((e ≡ Memory) ⊎ (e ≡ NotAStore))) }
-    ensures causes { IfErr result (λ e. (e ≡ LogFull) ⊎ (e ≡ Memory) ⊎ (e ≡ NotAStore) ⊎ (e ≡ Device)) }
-    ensures no_room { result ≡ Err LogFull → HasNoRoom writer.new.log }
-    ensures device { result ≡ Err Device ↔ (D.failed disk.new ≡ true) }
+    ensures outcome { Reads D.Disk writer.old disk.old writer.new disk.new (fault_of result) }
+    ensures kept { (pages : AllPages) → HasPages D.Disk AreLoaded pages writer.old disk.old
+        → AreLeavesBeside (seen pages images.old) beside.prev beside.next
+        → IsSound result (λ _. SamePages (seen pages images.new) (unlinked_pages (seen pages images.old) beside.prev beside.next)) }
 {
-    set_next(alloc, images, writer, disk, beside.prev, beside.next)?;
-    set_prev(alloc, images, writer, disk, beside.next, beside.prev)
+    set_link(
+        alloc,
+        images,
+        writer,
+        disk,
+        beside.prev,
+        Side::Next,
+        beside.next,
+    )?;
+    set_link(
+        alloc,
+        images,
+        writer,
+        disk,
+        beside.next,
+        Side::Prev,
+        beside.prev,
+    )
 }
 
 /// Takes the chain at a place of a page out of the tree, and the leaf at its end out of the chain of leaves. Under the root left
@@ -212,15 +179,10 @@ pub(crate) fn take_out<D: Disk>(
 ) -> Result<(), Fault>
     requires ready { IsReadyWriter D.Disk writer.old disk.old }
     requires working { writer.old.failed ≡ false }
-    ensures ready { IsReadyWriter D.Disk writer.new disk.new }
-    ensures kept { (b : Base) (base : ℕ) (s : Writer) (c : ℕ) → StandsAs D.Disk b base s writer.old disk.old → ((q : ℕ) → (s.pages q).waits ≡ false)
-        → (seen s images.old parent).kind ≡ Inner → StandsAt (seen s images.old parent) place c → AreLeavesBeside (seen s images.old) beside.prev beside.next
-        → CallKept D.Disk b base s (λ _. SamePages (seen s images.new) (out_of_tree (seen s images.old) parent place beside.prev beside.next)) disk.old writer.new disk.new result }
-    ensures works { OnOk result (writer.new.failed ≡ false) }
-    ensures fails { IfErr result (λ e. (writer.new.failed ≡ false) ↔ ((e ≡ Memory) ⊎ (e ≡ NotAStore))) }
-    ensures causes { IfErr result (λ e. (e ≡ LogFull) ⊎ (e ≡ Memory) ⊎ (e ≡ NotAStore) ⊎ (e ≡ Device)) }
-    ensures no_room { result ≡ Err LogFull → HasNoRoom writer.new.log }
-    ensures device { result ≡ Err Device ↔ (D.failed disk.new ≡ true) }
+    ensures outcome { Reads D.Disk writer.old disk.old writer.new disk.new (fault_of result) }
+    ensures kept { (pages : AllPages) (c : ℕ) → HasPages D.Disk AreLoaded pages writer.old disk.old
+        → (seen pages images.old parent).kind ≡ Inner → StandsAt (seen pages images.old parent) place c → AreLeavesBeside (seen pages images.old) beside.prev beside.next
+        → IsSound result (λ _. SamePages (seen pages images.new) (out_of_tree (seen pages images.old) parent place beside.prev beside.next)) }
 {
     drop_child(alloc, images, writer, disk, parent, place)?;
     if is_only(place) {

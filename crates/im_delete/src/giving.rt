@@ -1,13 +1,9 @@
 //! The pages of the chain are given back.
 
-ghost use Rattle.std.specs.Prelude.{◌≡◌, ◌⊎◌, ◌↔◌, ℕ, [], ◌∷◌, ◌++◌, true, false, Ok, Err, IfErr, OnOk};
-ghost use Rattle.im_types.specs.declared.fault.Fault.TheVariants.{Device, LogFull, Memory, NotAStore};
-ghost use Rattle.im_types.specs.Histories.{Base};
-ghost use Rattle.im_types.specs.Writer.{Writer};
-ghost use Rattle.im_log.specs.LogFile.{HasNoRoom};
+ghost use Rattle.std.specs.Prelude.{◌≡◌, [], ◌∷◌, ◌++◌, false};
 ghost use Rattle.im_flush.specs.PageWriter.{IsReadyWriter};
+ghost use Rattle.im_flush.specs.Outcome.{fault_of, AllPages, IsSound, Reads};
 ghost use Rattle.im_alloc.specs.Kept.{HasImages};
-ghost use Rattle.im_search.specs.Kept.{CallKept};
 ghost use Rattle.im_delete.specs.Given.{IsGiven};
 
 use im_alloc::free;
@@ -30,14 +26,9 @@ pub(crate) fn give_back<D: Disk>(
 ) -> Result<(), Fault>
     requires ready { IsReadyWriter D.Disk writer.old disk.old }
     requires working { writer.old.failed ≡ false }
-    ensures ready { IsReadyWriter D.Disk writer.new disk.new }
-    ensures kept { (b : Base) (base : ℕ) (s : Writer) → HasImages D.Disk b base s images.old (above.old.items ++ leaf ∷ []) writer.old disk.old
-        → CallKept D.Disk b base s (λ _. IsGiven s images.old images.new leaf above.old.items []) disk.old writer.new disk.new result }
-    ensures works { OnOk result (writer.new.failed ≡ false) }
-    ensures fails { IfErr result (λ e. (writer.new.failed ≡ false) ↔ ((e ≡ Memory) ⊎ (e ≡ NotAStore))) }
-    ensures causes { IfErr result (λ e. (e ≡ LogFull) ⊎ (e ≡ Memory) ⊎ (e ≡ NotAStore) ⊎ (e ≡ Device)) }
-    ensures no_room { result ≡ Err LogFull → HasNoRoom writer.new.log }
-    ensures device { result ≡ Err Device ↔ (D.failed disk.new ≡ true) }
+    ensures outcome { Reads D.Disk writer.old disk.old writer.new disk.new (fault_of result) }
+    ensures kept { (pages : AllPages) → HasImages D.Disk pages images.old (above.old.items ++ leaf ∷ []) writer.old disk.old
+        → IsSound result (λ _. IsGiven pages images.old images.new leaf above.old.items []) }
 {
     free(alloc, images, writer, disk, leaf)?;
     while let Some(number) = above.pop() {

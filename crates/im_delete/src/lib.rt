@@ -13,7 +13,7 @@
 //!
 //! It is total: where the pages are none of a good tree it is refused, and the images are dropped. In a good tree whose leaf for
 //! the key is empty and is not page 1, the images, put in the place of the pages that are there, are a good tree with the same
-//! walk, in which that leaf is free; and it is not refused `NotAStore` (`DeleteKept`). Which pages go, and the order in which
+//! walk, in which that leaf is free; and it is not refused `NotAStore` (`IsPlan`). Which pages go, and the order in which
 //! they are given back, is said too (`DeletesChain`). A key has one leaf, so the leaf that the pass down finds is the one of
 //! which the contract speaks.
 //!

@@ -1,15 +1,12 @@
 //! The plan of a deletion.
 
-ghost use Rattle.std.specs.Prelude.{◌≡◌, ◌≢◌, ◌⊎◌, ◌↔◌, ℕ, [], true, false, Ok, Err, IfErr, OnOk};
-ghost use Rattle.im_types.specs.declared.fault.Fault.TheVariants.{Device, LogFull, Memory, NotAStore};
-ghost use Rattle.im_types.specs.Histories.{Base};
-ghost use Rattle.im_types.specs.Writer.{Writer};
-ghost use Rattle.im_log.specs.LogFile.{HasNoRoom};
+ghost use Rattle.std.specs.Prelude.{◌≡◌, ◌≢◌, ℕ, [], false};
 ghost use Rattle.im_flush.specs.PageWriter.{IsReadyWriter};
-ghost use Rattle.im_search.specs.Found.{HasTree};
+ghost use Rattle.im_flush.specs.Outcome.{fault_of, AllPages, AreLoaded, HasPages, IsSound, Reads};
 ghost use Rattle.im_tree.specs.Search.{IsOnWay};
+ghost use Rattle.im_tree.specs.Good.{IsGoodTree};
 ghost use Rattle.im_alloc.specs.Seen.{bodies};
-ghost use Rattle.im_delete.specs.Plan.{DeleteKept};
+ghost use Rattle.im_delete.specs.Plan.{IsPlan};
 
 use crate::dropping::take_out;
 use crate::giving::give_back;
@@ -35,14 +32,9 @@ pub fn plan_delete<D: Disk>(
 ) -> Result<Images, Fault>
     requires ready { IsReadyWriter D.Disk writer.old disk.old }
     requires working { writer.old.failed ≡ false }
-    ensures ready { IsReadyWriter D.Disk writer.new disk.new }
-    ensures kept { (b : Base) (base : ℕ) (s : Writer) → HasTree D.Disk b base s [] writer.old disk.old → (p : ℕ) → IsOnWay (bodies s) 0 key.now p → (bodies s p).entries ≡ [] → p ≢ 1
-        → DeleteKept D.Disk b base s p disk.old writer.new disk.new result }
-    ensures works { OnOk result (writer.new.failed ≡ false) }
-    ensures fails { IfErr result (λ e. (writer.new.failed ≡ false) ↔ ((e ≡ Memory) ⊎ (e ≡ NotAStore))) }
-    ensures causes { IfErr result (λ e. (e ≡ LogFull) ⊎ (e ≡ Memory) ⊎ (e ≡ NotAStore) ⊎ (e ≡ Device)) }
-    ensures no_room { result ≡ Err LogFull → HasNoRoom writer.new.log }
-    ensures device { result ≡ Err Device ↔ (D.failed disk.new ≡ true) }
+    ensures outcome { Reads D.Disk writer.old disk.old writer.new disk.new (fault_of result) }
+    ensures kept { (pages : AllPages) → HasPages D.Disk AreLoaded pages writer.old disk.old → IsGoodTree (bodies pages) [] → (p : ℕ) → IsOnWay (bodies pages) 0 key.now p → (bodies pages p).entries ≡ [] → p ≢ 1
+        → IsSound result (IsPlan pages p) }
 {
     let mut above = Vec::new(alloc);
     let leaf = find_chain(&mut above, writer, disk, key)?;

@@ -1,13 +1,10 @@
 //! What a leaf says of a deletion.
 
-ghost use Rattle.std.specs.Prelude.{◌≡◌, ◌≤◌, ◌⊎◌, ◌↔◌, ℕ, [], true, false, Ok, Err, IfErr, IfOk, OnOk};
-ghost use Rattle.im_types.specs.declared.fault.Fault.TheVariants.{Device, LogFull, Memory, NotAStore};
-ghost use Rattle.im_types.specs.Histories.{Base};
-ghost use Rattle.im_types.specs.Writer.{Writer};
-ghost use Rattle.im_log.specs.LogFile.{HasNoRoom};
-ghost use Rattle.im_flush.specs.PageWriter.{IsReadyWriter, StandsAs};
+ghost use Rattle.std.specs.Prelude.{◌≡◌, [], false, IfErr, IfOk};
+ghost use Rattle.im_types.specs.declared.fault.Fault.TheVariants.{NotAStore};
+ghost use Rattle.im_flush.specs.PageWriter.{IsReadyWriter};
+ghost use Rattle.im_flush.specs.Outcome.{fault_of, AllPages, AreLoaded, HasPages, IsSound, Reads};
 ghost use Rattle.im_search.specs.Levels.{HasLevel};
-ghost use Rattle.im_search.specs.Kept.{CallKept};
 ghost use Rattle.im_alloc.specs.Seen.{bodies};
 ghost use Rattle.im_delete.specs.Chains.{IsBeside};
 
@@ -22,6 +19,13 @@ use im_types::{Fault, PageNo};
 pub(crate) struct Beside {
     pub(crate) prev: PageNo,
     pub(crate) next: PageNo,
+}
+
+/// A side of a leaf in the chain.
+#[derive(Clone, Copy)]
+pub(crate) enum Side {
+    Prev,
+    Next,
 }
 
 // The leaves beside a leaf without entries.
@@ -48,14 +52,9 @@ pub(crate) fn beside_of<D: Disk>(
 ) -> Result<Beside, Fault>
     requires ready { IsReadyWriter D.Disk writer.old disk.old }
     requires working { writer.old.failed ≡ false }
-    ensures ready { IsReadyWriter D.Disk writer.new disk.new }
-    ensures kept { (b : Base) (base : ℕ) (s : Writer) → StandsAs D.Disk b base s writer.old disk.old → ((q : ℕ) → (s.pages q).waits ≡ false)
-        → HasLevel 0 (bodies s number) → (bodies s number).entries ≡ [] → CallKept D.Disk b base s (IsBeside (bodies s number)) disk.old writer.new disk.new result }
-    ensures works { OnOk result (writer.new.failed ≡ false) }
-    ensures fails { IfErr result (λ e. (writer.new.failed ≡ false) ↔ ((e ≡ Memory) ⊎ (e ≡ NotAStore))) }
-    ensures causes { IfErr result (λ e. (e ≡ LogFull) ⊎ (e ≡ Memory) ⊎ (e ≡ NotAStore) ⊎ (e ≡ Device)) }
-    ensures no_room { result ≡ Err LogFull → HasNoRoom writer.new.log }
-    ensures device { result ≡ Err Device ↔ (D.failed disk.new ≡ true) }
+    ensures outcome { Reads D.Disk writer.old disk.old writer.new disk.new (fault_of result) }
+    ensures kept { (pages : AllPages) → HasPages D.Disk AreLoaded pages writer.old disk.old
+        → HasLevel 0 (bodies pages number) → (bodies pages number).entries ≡ [] → IsSound result (IsBeside (bodies pages number)) }
 {
     let frame = writer.get(disk, number)?;
     beside_in(writer.page(frame))

@@ -1,15 +1,12 @@
 //! The way down to the leaf that goes, and the chain of pages that goes with it.
 
-ghost use Rattle.std.specs.Prelude.{◌≡◌, ◌≢◌, ◌⊎◌, ◌↔◌, ℕ, [], ◌∷◌, ◌++◌, true, false, Ok, Err, IfErr, IfOk, OnOk, IsTrue};
-ghost use Rattle.im_types.specs.declared.fault.Fault.TheVariants.{Device, LogFull, Memory, NotAStore};
-ghost use Rattle.im_types.specs.Histories.{Base};
-ghost use Rattle.im_types.specs.Writer.{Writer};
-ghost use Rattle.im_log.specs.LogFile.{HasNoRoom};
+ghost use Rattle.std.specs.Prelude.{◌≡◌, ◌↔◌, [], ◌∷◌, ◌++◌, false, IfErr, IfOk, OnOk, IsTrue};
+ghost use Rattle.im_types.specs.declared.fault.Fault.TheVariants.{Memory};
 ghost use Rattle.im_flush.specs.PageWriter.{IsReadyWriter};
-ghost use Rattle.im_search.specs.Found.{HasTree};
+ghost use Rattle.im_flush.specs.Outcome.{fault_of, AllPages, AreLoaded, HasPages, IsSound, Reads};
+ghost use Rattle.im_tree.specs.Good.{IsGoodTree};
 ghost use Rattle.im_alloc.specs.Seen.{bodies};
 ghost use Rattle.im_search.specs.declared.child_place.ChildPlace.TheVariants.{Only};
-ghost use Rattle.im_search.specs.Kept.{CallKept};
 ghost use Rattle.im_delete.specs.Ways.{IsNext, IsPlaced};
 
 use im_disk::Disk;
@@ -80,14 +77,9 @@ pub(crate) fn find_chain<D: Disk>(
 ) -> Result<Place, Fault>
     requires ready { IsReadyWriter D.Disk writer.old disk.old }
     requires working { writer.old.failed ≡ false }
-    ensures ready { IsReadyWriter D.Disk writer.new disk.new }
-    ensures kept { (b : Base) (base : ℕ) (s : Writer) → HasTree D.Disk b base s [] writer.old disk.old
-        → CallKept D.Disk b base s (λ leaf. IsPlaced (bodies s) key.now leaf.parent leaf.place 0 leaf.number above.new.items) disk.old writer.new disk.new result }
-    ensures works { OnOk result (writer.new.failed ≡ false) }
-    ensures fails { IfErr result (λ e. (writer.new.failed ≡ false) ↔ ((e ≡ Memory) ⊎ (e ≡ NotAStore))) }
-    ensures causes { IfErr result (λ e. (e ≡ LogFull) ⊎ (e ≡ Memory) ⊎ (e ≡ NotAStore) ⊎ (e ≡ Device)) }
-    ensures no_room { result ≡ Err LogFull → HasNoRoom writer.new.log }
-    ensures device { result ≡ Err Device ↔ (D.failed disk.new ≡ true) }
+    ensures outcome { Reads D.Disk writer.old disk.old writer.new disk.new (fault_of result) }
+    ensures kept { (pages : AllPages) → HasPages D.Disk AreLoaded pages writer.old disk.old → IsGoodTree (bodies pages) []
+        → IsSound result (λ leaf. IsPlaced (bodies pages) key.now leaf.parent leaf.place 0 leaf.number above.new.items) }
 {
     let mut level = level_of(writer, disk, 1)?;
     let mut place = Place {

@@ -90,43 +90,10 @@ not_failed e (inr (inl is)) failed = let never : Memory ≡ Failed = sym is ∙ 
 not_failed e (inr (inr (inl is))) failed = let never : NotAStore ≡ Failed = sym is ∙ failed in cc never
 not_failed e (inr (inr (inr is))) failed = let never : Device ≡ Failed = sym is ∙ failed in cc never
 
--- of a writer that had not failed
-pub of_writer : (e : Fault) → (e ≡ Failed) ⊎ IsOfWriter e → (e ≡ Failed → true ≡ false) → IsOfWriter e
-of_writer e (inl is) not = absurd (let never = not is in cc)
-of_writer e (inr other) not = other
-
--- those of a force
-pub of_force : (e : Fault) → (e ≡ Failed) ⊎ (e ≡ Device) → (e ≡ Failed → true ≡ false) → e ≡ Device
-of_force e (inl is) not = absurd (let never = not is in cc)
-of_force e (inr other) not = other
-
-pub not_log_full : (e : Fault) → e ≡ Device → e ≢ LogFull
-not_log_full e is other = let never : Device ≡ LogFull = sym is ∙ other in cc never
-
--- and of a flush
-pub of_flush : (e : Fault) → (e ≡ Failed) ⊎ (e ≡ LogFull) ⊎ (e ≡ Device) → (e ≡ Failed → true ≡ false) → (e ≡ LogFull) ⊎ (e ≡ Device)
-of_flush e (inl is) not = absurd (let never = not is in cc)
-of_flush e (inr other) not = other
-
-pub not_memory : (e : Fault) → (e ≡ LogFull) ⊎ (e ≡ Device) → e ≢ Memory
-not_memory e (inl is) other = let never : LogFull ≡ Memory = sym is ∙ other in cc never
-not_memory e (inr is) other = let never : Device ≡ Memory = sym is ∙ other in cc never
-
-pub not_no_store : (e : Fault) → (e ≡ LogFull) ⊎ (e ≡ Device) → e ≢ NotAStore
-not_no_store e (inl is) other = let never : LogFull ≡ NotAStore = sym is ∙ other in cc never
-not_no_store e (inr is) other = let never : Device ≡ NotAStore = sym is ∙ other in cc never
-
+-- a refusal of an append, or of a flush, breaks the engine
 pub broken_flush : (e : Fault) → (e ≡ LogFull) ⊎ (e ≡ Device) → true ≡ breaks (number_of e)
 broken_flush e (inl is) = sym (ap (λ (f : Fault). breaks (number_of f)) is)
 broken_flush e (inr is) = sym (ap (λ (f : Fault). breaks (number_of f)) is)
-
-module _ {D : Type 0} (d : Ghosts D) (log : LogFile) (disk : D) where
-  -- each for its cause
-  pub has_cause : (e : Fault) → IsOfWriter e → (e ≡ Device → d.failed disk ≡ true) → (e ≡ LogFull → HasNoRoom log) → HasCause d log disk e
-  has_cause e (inl is) device full = subst (λ (f : Fault). HasCause d log disk f) (sym is) (full is)
-  has_cause e (inr (inl is)) device full = subst (λ (f : Fault). HasCause d log disk f) (sym is) tt
-  has_cause e (inr (inr (inl is))) device full = subst (λ (f : Fault). HasCause d log disk f) (sym is) tt
-  has_cause e (inr (inr (inr is))) device full = subst (λ (f : Fault). HasCause d log disk f) (sym is) (device is)
 
 -- the disk failed where the fault says so
 pub device_of : {D : Type 0} (d : Ghosts D) (log : LogFile) (disk : D) (e : Fault) → HasCause d log disk e → e ≡ Device → d.failed disk ≡ true

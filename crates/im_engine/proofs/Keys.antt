@@ -35,11 +35,6 @@ use Rattle.im_engine.proofs.Running.{page_is, grown_stops, runs_evicted}
 use Rattle.im_engine.proofs.Steps.{active_is, key_step}
 use Rattle.im_engine.proofs.Checks.{IsOfWriter, not_full}
 
--- where memory was wanted the engine goes on, and pages are not wanted here
-wanted : {A : Type 0} (e : Fault) → IsOfWriter e → (e ≡ Memory → A) → (e ≡ Memory) ⊎ (e ≡ PagesFull) → A
-wanted e of again (inl is) = again is
-wanted e of again (inr is) = absurd (not_full e of is)
-
 -- where the longer has no page of a structure change the newer records have none
 pub marks_none : (r : Logged) (w : What) (ms : List (Option ℕ)) → with_mark r w ms ≡ [] → ms ≡ []
 marks_none r (Smo was now) ms none = absurd (cc none)
@@ -148,57 +143,40 @@ module _ {D : Type 0} (d : Ghosts D) {b : Base} (before : List Effect) (s : Show
 
   -- a key is put
   pub put_kept : find key_order key (walk (bodies b r.now.log)) ≡ None → HasRoom (bodies b r.now.log p).entries key → (result : Result ℕ Fault)
-      → ChangeKept d b r.base r.now (entries.InsertKey t.number t.last p key rid) old.disk new.writer new.disk result → GoesAt result → IfErr result (λ e. new.going ≡ old.going) → IfErr result IsOfWriter
+      → ChangeKept d b r.base r.now (entries.InsertKey t.number t.last p key rid) old.disk new.writer new.disk result → GoesAt result
       → EditKept d before s old r (adds t.number (Put key rid) s) (PutJoined t.number key rid ⊥ r.now.log) new result
-  put_kept absent room (Ok lsn) kept now same of =
+  put_kept absent room (Ok lsn) kept now =
       let a = active_is d before s old r t going in
       record {
-        ok = key_step d before s t (Put key rid) (entries.InsertKey t.number t.last p key rid) lsn (PutJoined t.number key rid ⊥ r.now.log) old new r a kept.ok (put_joined t.number key rid r.now.log kept.ok.before.log kept.ok.keeps.log (logged_at lsn (entries.InsertKey t.number t.last p key rid)) refl refl) next now refl
+        sound = key_step d before s t (Put key rid) (entries.InsertKey t.number t.last p key rid) lsn (PutJoined t.number key rid ⊥ r.now.log) old new r a kept.ok (put_joined t.number key rid r.now.log kept.ok.before.log kept.ok.keeps.log (logged_at lsn (entries.InsertKey t.number t.last p key rid)) refl refl) next now refl
             (λ log serial closed on high bodies_same. keys_are_put b t.number t.last t.undo_next lsn a.effect log p key rid serial closed on high
             (subst (λ (pages : Pages). IsOnWay pages 0 key p) (sym bodies_same) way) (ap (λ (pages : Pages). find key_order key (walk pages)) bodies_same ∙ absent)
             (subst (λ (pages : Pages). HasRoom (pages p).entries key) (sym bodies_same) room));
-        again = tt;
         stops = grown_stops d before s old r new.disk kept.stops;
-        cause = tt;
       }
-  put_kept absent room (Err e) kept now same of = record {
-    ok = tt;
-    again = wanted e of (λ is. runs_evicted d before s old r new same next (kept.again (inl is)));
+  put_kept absent room (Err e) kept now = record {
     stops = grown_stops d before s old r new.disk kept.stops;
-    cause = kept.cause (subst (λ (g : Page). LeafTakes (what_of (entries.InsertKey t.number t.last p key rid)) g) (sym (page_is d before s old r p)) ((tree_shows_effects b r.now.log r.serial r.closed).puts key p way absent room));
+    sound = kept.cause (subst (λ (g : Page). LeafTakes (what_of (entries.InsertKey t.number t.last p key rid)) g) (sym (page_is d before s old r p)) ((tree_shows_effects b r.now.log r.serial r.closed).puts key p way absent room));
   }
 
   -- one is dropped
   pub take_kept : find key_order key (walk (bodies b r.now.log)) ≡ Some rid → (result : Result ℕ Fault)
-      → ChangeKept d b r.base r.now (entries.DeleteKey t.number t.last p key rid) old.disk new.writer new.disk result → GoesAt result → IfErr result (λ e. new.going ≡ old.going) → IfErr result IsOfWriter
+      → ChangeKept d b r.base r.now (entries.DeleteKey t.number t.last p key rid) old.disk new.writer new.disk result → GoesAt result
       → EditKept d before s old r (adds t.number (Drop key 0) s) (TakeJoined b t.number key ⊥ r.now.log) new result
-  take_kept there (Ok lsn) kept now same of =
+  take_kept there (Ok lsn) kept now =
       let a = active_is d before s old r t going in
       record {
-        ok = key_step d before s t (Drop key 0) (entries.DeleteKey t.number t.last p key rid) lsn (TakeJoined b t.number key ⊥ r.now.log) old new r a kept.ok
+        sound = key_step d before s t (Drop key 0) (entries.DeleteKey t.number t.last p key rid) lsn (TakeJoined b t.number key ⊥ r.now.log) old new r a kept.ok
             (take_joined t.number key rid r.now.log kept.ok.before.log kept.ok.keeps.log (logged_at lsn (entries.DeleteKey t.number t.last p key rid)) refl refl) next now refl
             (λ log serial closed on high bodies_same. keys_are_dropped b t.number t.last t.undo_next lsn a.effect log p key rid serial closed on high
             (subst (λ (pages : Pages). IsOnWay pages 0 key p) (sym bodies_same) way) (ap (λ (pages : Pages). find key_order key (walk pages)) bodies_same ∙ there));
-        again = tt;
         stops = grown_stops d before s old r new.disk kept.stops;
-        cause = tt;
       }
-  take_kept there (Err e) kept now same of = record {
-    ok = tt;
-    again = wanted e of (λ is. runs_evicted d before s old r new same next (kept.again (inl is)));
+  take_kept there (Err e) kept now = record {
     stops = grown_stops d before s old r new.disk kept.stops;
-    cause = kept.cause (subst (λ (g : Page). LeafTakes (what_of (entries.DeleteKey t.number t.last p key rid)) g) (sym (page_is d before s old r p))
+    sound = kept.cause (subst (λ (g : Page). LeafTakes (what_of (entries.DeleteKey t.number t.last p key rid)) g) (sym (page_is d before s old r p))
         ((tree_shows_effects b r.now.log r.serial r.closed).drops key p way (λ none. let never : Some rid ≡ None = sym there ∙ none in cc never)));
   }
-
--- a part of what holds of a result
-pub ok_part : {A B : Type 0} (P Q : A → Type 0) (r : Result A B) → IfOk r (λ x. P x × Q x) → IfOk r Q
-ok_part P Q (Ok x) h = h.1
-ok_part P Q (Err e) h = tt
-
-pub err_part : {A B : Type 0} (P Q : B → Type 0) (r : Result A B) → IfErr r (λ x. P x × Q x) → IfErr r Q
-err_part P Q (Ok x) h = tt
-err_part P Q (Err e) h = h.1
 
 module _ {D : Type 0} (d : Ghosts D) {b : Base} (before : List Effect) (s : Shown) (old : Engine D d) (r : IsRunning d b before s old) (key : Key) (p : ℕ) (new : Engine D d) (l : LeafLooked d before s old r key p new) where
   -- the leaf that is held has room

@@ -3,6 +3,11 @@ pub mod Stands
 pub mod Running
 pub mod Turns
 pub mod Checks
+pub mod Tables
+pub mod Called
+pub mod Looked
+pub mod Calls
+pub mod Told
 pub mod Refusals
 pub mod Tells
 pub mod Steps
@@ -18,5 +23,6 @@ pub mod Writes
 pub mod Lists
 pub mod Openings
 pub mod Joins
+pub mod StepEnds
 pub mod StepFacts
 pub mod LivedLives

@@ -24,7 +24,7 @@ use Rattle.im_engine.proofs.Shown.{still_failed, still_working}
 use Rattle.im_engine.proofs.Running.{unchanged, goes_on, breaks_off}
 use Rattle.im_engine.proofs.Checks.{IsOfWriter, IsOfEdit}
 
-or_true : (b : Bool) → (b || true) ≡ true
+pub or_true : (b : Bool) → (b || true) ≡ true
 or_true true = refl
 or_true false = refl
 

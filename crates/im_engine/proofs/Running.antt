@@ -3,6 +3,7 @@ use Rattle.std.proofs.Common.{◌≡◌, ◌≢◌, ℕ, ◌≤◌, ◌^◌, Lis
 use Rattle.std.proofs.Math.Path.{fun_ext}
 use Rattle.im_types.specs.Answers.{Step, Reply, Refused}
 use Rattle.im_types.specs.Refusals.{not_a_store}
+use Rattle.im_types.specs.declared.fault.Fault.{Fault}
 use Rattle.im_types.specs.Changes.{Effect}
 use Rattle.im_types.specs.Histories.{Base, History, page_at}
 use Rattle.im_types.specs.Structure.{settled, taken_back}
@@ -22,14 +23,16 @@ use Rattle.im_flush.specs.Stands.{IsCovered, LeavesCovered}
 use Rattle.im_flush.specs.Growth.{Keeps}
 use Rattle.im_flush.specs.Writing.{LeavesGrown}
 use Rattle.im_flush.specs.declared.page_writer.PageWriter.{PageWriter}
-use Rattle.im_flush.specs.PageWriter.{StandsAs, GoesOn, Evicted, Got}
+use Rattle.im_flush.specs.PageWriter.{StandsAs, Evicted}
+use Rattle.im_flush.specs.Outcome.{AreLoaded, HasPages, Reads, Stays}
+use Rattle.im_flush.proofs.Outcomes.{leaves_of_end, pages_here}
 use Rattle.im_flush.proofs.Standing.{stop_now}
 use Rattle.im_serial.specs.Store.{AreBelow}
 use Rattle.im_pool.specs.Pool as pools
 use Rattle.im_tree.specs.Levels.{Pages, walk}
 use Rattle.im_tree.specs.Good.{IsGoodTree}
 use Rattle.im_tree.specs.Search.{IsOnWay}
-use Rattle.im_search.specs.Found.{HasTree, Reached}
+use Rattle.im_search.specs.Found.{HasTree, IsReached}
 use Rattle.im_serial.specs.SerialLaws.{SaysTheSame}
 use Rattle.im_serial.specs.Serial.{IsSerialLog}
 use Rattle.im_serial.proofs.Promises.{commits_stay, images_change_nothing, tree_shows_effects}
@@ -72,11 +75,15 @@ module _ {D : Type 0} (d : Ghosts D) {b : Base} (before : List Effect) (s : Show
     pub bodies_are : (λ (p : ℕ). (r.now.pages p).page.body) ≡ bodies b r.now.log
     bodies_are = fun_ext (λ (p : ℕ). ap (λ (g : Page). g.body) (page_is p))
 
-    -- the pages are a good tree
-    pub has_tree : HasTree d b r.base r.now [] e.writer e.disk
+    -- they are the writer's
+    pub has_pages : HasPages d AreLoaded (λ (p : ℕ). (r.now.pages p).page) e.writer e.disk
+    has_pages = pages_here d b r.base r.now e.writer e.disk r.stands none_waits
+
+    -- and a good tree
+    pub has_tree : HasTree d (λ (p : ℕ). (r.now.pages p).page) e.writer e.disk
     has_tree = record {
-      stands = r.stands;
-      ready = none_waits;
+      has = has_pages;
+      spare = [];
       good = subst (λ (pages : Pages). IsGoodTree pages []) (sym bodies_are) (tree_shows_effects b r.now.log r.serial r.closed).good;
     }
 
@@ -94,6 +101,14 @@ module _ {D : Type 0} (d : Ghosts D) {b : Base} (before : List Effect) (s : Show
     grown_stops new run =
         let same = images_change_nothing b r.now.log run.high run.grows r.serial in
         weakened d e.disk new (IsCovered b r.base r.now.durable run.high) (Allowed before s) run.stops (λ told c is. left_on run.high same.log same.committed c is)
+
+    -- a stop within a search
+    pub read_stops : {why : Option Fault} (w : PageWriter) (new : D) → Reads d e.writer e.disk w new why → LeavesOnly d e.disk new (Allowed before s)
+    read_stops {why} w new one = grown_stops new (leaves_of_end d one b r.base r.now r.stands none_waits)
+
+    -- where it is not refused the writer goes on from where it stood
+    pub read_on : (w : PageWriter) (new : D) → Stays d AreLoaded e.writer e.disk w new → Evicted d b r.base r.now e.disk w new
+    read_on w new one = one.goes b r.base r.now r.stands none_waits
 
     -- and within a call that adds none
     pub covered_stops : (new : D) → LeavesCovered d b r.base r.now.durable r.now.log e.disk new → LeavesOnly d e.disk new (Allowed before s)
@@ -143,26 +158,22 @@ module _ {D : Type 0} (d : Ghosts D) {b : Base} (before : List Effect) (s : Show
       unfolding runs_on
       runs_evicted is = record { running = runs_on is.now (record { working = is.on.working; writing = is.on.goes.writing; known = is.on.known }) is.on.goes.keeps; grows = is.on.goes.keeps.log }
 
-      -- calls in a row
-      unfoldable pub runs_goes : (t : Writer) → GoesOn d b r.base r.now e.disk t new.writer new.disk → IsRunning d b before s new
-      runs_goes t on = runs_on t (record { working = on.working; writing = on.goes.writing; known = on.known }) on.goes.keeps
-
       -- a page was got
-      pub looked : (p : ℕ) → Got d b r.base r.now p e.disk new.writer new.disk → Looked d before s e r p new
+      pub looked : (p : ℕ) → Evicted d b r.base r.now e.disk new.writer new.disk → pools.page_at new.writer.pool p ≡ (r.now.pages p).page → Looked d before s e r p new
       unfolding runs_on
-      looked p got =
-          let same = images_change_nothing b r.now.log got.now.log got.on.goes.keeps.log r.serial in
+      looked p is shown =
+          let same = images_change_nothing b r.now.log is.now.log is.on.goes.keeps.log r.serial in
           record {
-            running = runs_on got.now (record { working = got.on.working; writing = got.on.goes.writing; known = got.on.known }) got.on.goes.keeps;
-            grows = got.on.goes.keeps.log;
-            page = got.page ∙ page_is p ∙ sym (same.pages p);
+            running = runs_on is.now (record { working = is.on.working; writing = is.on.goes.writing; known = is.on.known }) is.on.goes.keeps;
+            grows = is.on.goes.keeps.log;
+            page = shown ∙ page_is p ∙ sym (same.pages p);
             still = same.pages;
           }
 
       -- a key's leaf was found
-      pub leaf_looked : (key : Key) (p : ℕ) → Reached d b r.base r.now key 0 p e.disk new.writer new.disk → LeafLooked d before s e r key p new
-      leaf_looked key p found = record {
-        looked = looked p (record { now = found.now; on = found.on; page = found.page });
+      pub leaf_looked : (key : Key) (p : ℕ) → Evicted d b r.base r.now e.disk new.writer new.disk → IsReached (λ (q : ℕ). (r.now.pages q).page) key 0 p new.writer.pool → LeafLooked d before s e r key p new
+      leaf_looked key p is found = record {
+        looked = looked p is found.shown;
         way = subst (λ (pages : Pages). IsOnWay pages 0 key p) bodies_are found.way;
       }
 

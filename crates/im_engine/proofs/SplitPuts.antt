@@ -55,46 +55,40 @@ module _ {D : Type 0} (d : Ghosts D) {b : Base} (before : List Effect) (s then :
       → EditKept d before s old r then (PutJoined n key rid wants r.now.log) new result × LimitKept d before s old r key result
   split_handed_on new e kept (Ok x) is = absurd is
   split_handed_on new e kept (Err x) is = (
-    record {
-      ok = tt;
-      again = subst (λ (f : Fault). (f ≡ Memory) ⊎ (f ≡ PagesFull) → Rests d before s old r new) (sym is) kept.again;
-      stops = kept.stops;
-      cause = subst (λ (f : Fault). f ≢ NotAStore) (sym is) kept.cause;
-    },
+    record { sound = subst (λ (f : Fault). f ≢ NotAStore) (sym is) kept.sound; stops = kept.stops },
     record { within = tt; full = λ w. kept.full (sym is ∙ w); used_up = λ w. kept.used_up (sym is ∙ w) },
   )
 
   module _ (mid : Engine D d) (t : Transaction) (frame : Frame) (kept : SplitKept d before s old r n key mid (Ok (t, frame))) where
     -- the leaf has room, and lacks the key
-    pub split_room : 1 ≤ length key → length key ≤ 255 → (LacksRoom (pools.page_at mid.writer.pool frame.number).body.entries key → ⊥) → HasRoom (bodies b kept.ok.leaf.running.now.log frame.number).entries key
-    split_room some short fits = subst (λ (g : Page). HasRoom g.body.entries key) kept.ok.leaf.page (record { keyed = some; short = short; fits = omega (arith, fits) })
+    pub split_room : 1 ≤ length key → length key ≤ 255 → (LacksRoom (pools.page_at mid.writer.pool frame.number).body.entries key → ⊥) → HasRoom (bodies b kept.sound.leaf.running.now.log frame.number).entries key
+    split_room some short fits = subst (λ (g : Page). HasRoom g.body.entries key) kept.sound.leaf.page (record { keyed = some; short = short; fits = omega (arith, fits) })
 
-    pub split_absent : find key_order key (walk (bodies b r.now.log)) ≡ None → find key_order key (walk (bodies b kept.ok.leaf.running.now.log)) ≡ None
-    split_absent absent = ap (λ es. find key_order key es) kept.ok.leaf.same ∙ absent
+    pub split_absent : find key_order key (walk (bodies b r.now.log)) ≡ None → find key_order key (walk (bodies b kept.sound.leaf.running.now.log)) ≡ None
+    split_absent absent = ap (λ es. find key_order key es) kept.sound.leaf.same ∙ absent
 
     module _ (new : Engine D d) where
       -- it was put
-      pub put_behind : (lsn : ℕ) → wants → EditKept d before s mid kept.ok.leaf.running {A = ℕ} then (PutJoined n key rid ⊥ kept.ok.leaf.running.now.log) new (Ok lsn)
+      pub put_behind : (lsn : ℕ) → wants → EditKept d before s mid kept.sound.leaf.running {A = ℕ} then (PutJoined n key rid ⊥ kept.sound.leaf.running.now.log) new (Ok lsn)
           → EditKept d before s old r {A = Unit {0}} then (PutJoined n key rid wants r.now.log) new (Ok tt) × LimitKept d before s old r {A = Unit {0}} key (Ok tt)
       put_behind lsn want put = (
-        record { ok = record { running = put.ok.running; joins = put_behind_change n key rid wants want r.now.log kept.ok.leaf.running.now.log kept.ok.joins.change put.ok.running.now.log put.ok.joins }; again = tt; stops = leaves_then d before s old.disk mid.disk new.disk kept.stops put.stops; cause = tt },
+        record { sound = record { running = put.sound.running; joins = put_behind_change n key rid wants want r.now.log kept.sound.leaf.running.now.log kept.sound.joins.change put.sound.running.now.log put.sound.joins }; stops = leaves_then d before s old.disk mid.disk new.disk kept.stops put.stops },
         record { within = kept.within; full = tt; used_up = tt },
       )
 
       -- or that was refused
-      pub put_refused : (e answer : Fault) → IsOfDrop answer → answer ≢ NotAStore → EditKept d before s mid kept.ok.leaf.running {A = ℕ} then (PutJoined n key rid ⊥ kept.ok.leaf.running.now.log) new (Err e)
+      pub put_refused : (e answer : Fault) → IsOfDrop answer → answer ≢ NotAStore → EditKept d before s mid kept.sound.leaf.running {A = ℕ} then (PutJoined n key rid ⊥ kept.sound.leaf.running.now.log) new (Err e)
           → EditKept d before s old r {A = Unit {0}} then (PutJoined n key rid wants r.now.log) new (Err answer) × LimitKept d before s old r {A = Unit {0}} key (Err answer)
       put_refused e answer of cause put = (
-        record { ok = tt; again = drop_wants answer of; stops = leaves_then d before s old.disk mid.disk new.disk kept.stops put.stops; cause = cause },
+        record { sound = cause; stops = leaves_then d before s old.disk mid.disk new.disk kept.stops put.stops },
         record { within = tt; full = λ w. drop_wants answer of (inr w); used_up = drop_capacity answer of },
       )
 
       -- as failed behind the split
-      pub put_begun : (e answer : Fault) → IsOfWriter e → (e ≢ Memory → answer ≡ e) → EditKept d before s mid kept.ok.leaf.running {A = ℕ} then (PutJoined n key rid ⊥ kept.ok.leaf.running.now.log) new (Err e)
-          → answer ≡ Failed → StandsBehind d b (ChangeJoined n r.now.log) new.writer new.disk
-      put_begun e answer of others put is =
-          let rests = put.again (inl (late_memory e answer of others is)) in
-          record { base = rests.running.base; now = rests.running.now; stands = rests.running.stands; joins = change_before_images b n r.now.log kept.ok.leaf.running.now.log rests.running.now.log kept.ok.joins rests.grows }
+      pub put_begun : (e answer : Fault) → IsOfWriter e → (e ≢ Memory → answer ≡ e) → (e ≡ Memory → Rests d before s mid kept.sound.leaf.running new) → answer ≡ Failed → StandsBehind d b (ChangeJoined n r.now.log) new.writer new.disk
+      put_begun e answer of others again is =
+          let rests = again (late_memory e answer of others is) in
+          record { base = rests.running.base; now = rests.running.now; stands = rests.running.stands; joins = change_before_images b n r.now.log kept.sound.leaf.running.now.log rests.running.now.log kept.sound.joins rests.grows }
 
   -- and where the split was refused so
   pub split_begun : (new : Engine D d) (e : Fault) → SplitKept d before s old r n key new (Err e) → (result : Result Unit Fault) → IsErrAnd result (λ x. x ≡ e) → BegunKept d before s old r n new result

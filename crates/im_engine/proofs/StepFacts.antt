@@ -25,11 +25,13 @@ use Rattle.im_engine.specs.declared.engine.Engine.{Engine}
 use Rattle.im_engine.specs.Running.{IsRunning, IsLife}
 use Rattle.im_engine.specs.Kept.{StepKept}
 use Rattle.im_engine.specs.Joined.{ChangeJoined, DropJoined}
-use Rattle.im_engine.specs.Changes.{is_breaking, StandsBehind}
-use Rattle.im_engine.specs.Checks.{Where, IsAnswered, IsUnlessRefused, has_read, OfOwn, OfBegin, OfFetch, OfInsert, OfDelete, OfCommit, OfFlush, OfForce, active_number, active_after, changes_nothing, next_after}
+use Rattle.im_engine.specs.Changes.{StandsBehind}
+use Rattle.im_engine.specs.View.{IsTold, View, after, is_early, view_of}
+use Rattle.im_engine.specs.Checks.{Where, IsAnswered, IsUnlessRefused, has_read, OfOwn, OfBegin, OfFetch, OfInsert, OfDelete, OfCommit, OfFlush, OfForce}
 use Rattle.im_engine.specs.Structure.{MeetsLimit, AsksChange, WantsSplit, WantsDrop, EndsDrop}
 use Rattle.im_engine.proofs.Running.{settled_now}
 use Rattle.im_engine.proofs.Checks.{not_true}
+use Rattle.im_engine.proofs.Refusals.{or_true}
 use Rattle.im_engine.specs.Turns.{AnswersAlone}
 use Rattle.im_engine.proofs.Lists.{entries_kept}
 
@@ -72,14 +74,14 @@ abbrev pub map_of : List Effect → Shown → ℕ → IndexMap
 map_of before s t = apply_all empty ((before ++ effects s.asked) ++ (s.running t).effect ∷ [])
 
 module _ {D : Type 0} (d : Ghosts D) (before : List Effect) (s : Shown) (old new : Engine D d) (life : IsLife d before s old) (t : ℕ) (going : (s.running t).mark ≡ Going) (key : Key) (reply : Reply)
-    (failed : old.failed ≡ true → (reply ≡ Refused Failed) × (new ≡ old)) (of : List Entry → Fault → Type 0) (to : List Entry → answers.Reply) (answered : IsAnswered d key reply old new of to)
+    (failed : old.failed ≡ true → reply ≡ Refused Failed) (of : List Entry → Fault → Type 0) (to : List Entry → answers.Reply) (answered : IsAnswered d key reply old new of to)
     (is : is_answer (told_by reply) ≡ true) where
   -- what the leaf has of the key the map has
   pub leaf_alone : find key_order key answered.entries ≡ get (map_of before s t) key
   leaf_alone = by old.failed refl
     where
       by : (b : Bool) → old.failed ≡ b → find key_order key answered.entries ≡ get (map_of before s t) key
-      by true broken = let refused = ap (λ (r : Reply). is_answer (told_by r)) (failed broken).0 in absurd (let never : true ≡ false = sym is ∙ refused in cc never)
+      by true broken = let refused = ap (λ (r : Reply). is_answer (told_by r)) (failed broken) in absurd (let never : true ≡ false = sym is ∙ refused in cc never)
       by false works =
           let b = (life.running works).0 in
           let r = (life.running works).1 in
@@ -102,24 +104,13 @@ delete_as (Some rid) = refl
 -- ---- what the functions of a step by a key say, for any key
 
 module _ {D : Type 0} (d : Ghosts D) (t : ℕ) (key : Key) (reply : Reply) (old new : Engine D d) where
-  -- the facts that speak of no key
-  pub record KeyStep : Type 0 where
-    pub same : changes_nothing (told_by reply) ≡ true → new ≡ old
-    pub failed : old.failed ≡ true → (reply ≡ Refused Failed) × (new ≡ old)
-    pub fails : new.failed ≡ (old.failed || is_breaking (told_by reply))
-    pub device : old.failed ≡ false → d.failed new.disk ≡ true → reply ≡ Refused Device
-    pub active : active_number new.going ≡ active_after (told_by reply) (active_number old.going)
-    pub numbers : new.next ≡ next_after (told_by reply) old.next
-    pub max_pages : new.max_pages ≡ old.max_pages
-    pub leaves_kept : reply ≢ Deleted → new.leaves_kept ≡ old.leaves_kept
-
   pub record FetchStep : Type 0 where
-    pub step : KeyStep
+    pub told : IsTold d reply old new
     pub kept : (before : List Effect) (s : Shown) (life : IsLife d before s old) → StepKept d before s (answers.Do t (answers.Fetch key)) (told_by reply) old life new
     pub answered : IsAnswered d key reply old new (λ entries fault. OfFetch d old new reply fault t key) (λ entries. answers.found (find key_order key entries))
 
   pub record InsertStep (rid : ℕ) : Type 0 where
-    pub step : KeyStep
+    pub told : IsTold d reply old new
     pub kept : (before : List Effect) (s : Shown) (life : IsLife d before s old) → StepKept d before s (answers.Do t (answers.Insert key rid)) (told_by reply) old life new
     pub answered : IsAnswered d key reply old new (λ entries fault. OfInsert d old new reply fault t key entries) (λ entries. if is_some (find key_order key entries) then answers.Duplicate else answers.Inserted)
     pub limit : (b : Base) (before : List Effect) (s : Shown) (r : IsRunning d b before s old) → MeetsLimit (bodies b r.now.log) old.max_pages key reply
@@ -127,7 +118,7 @@ module _ {D : Type 0} (d : Ghosts D) (t : ℕ) (key : Key) (reply : Reply) (old 
     pub begun : (b : Base) (before : List Effect) (s : Shown) (r : IsRunning d b before s old) → old.failed ≡ false → reply ≡ Refused Failed → StandsBehind d b (ChangeJoined t r.now.log) new.writer new.disk
 
   pub record DeleteStep : Type 0 where
-    pub step : KeyStep
+    pub told : IsTold d reply old new
     pub kept : (before : List Effect) (s : Shown) (life : IsLife d before s old) → StepKept d before s (answers.Do t (answers.Delete key)) (told_by reply) old life new
     pub answered : IsAnswered d key reply old new (λ entries fault. OfDelete d old new reply fault t key) (λ entries. if is_some (find key_order key entries) then answers.Deleted else answers.Absent)
     pub wanted : (b : Base) (before : List Effect) (s : Shown) (r : IsRunning d b before s old) → AsksChange old.failed reply → WantsDrop (bodies b r.now.log) key
@@ -165,32 +156,46 @@ module _ {D : Type 0} (d : Ghosts D) (old new : Engine D d) (reply : Reply) (wor
   force_not_failed = neither (λ was is. not_true old.failed works was) (neither (λ broken is. let never : Failed ≡ Device = is in cc never) (λ x. x))
 
 -- a failed disk: the engine has failed
-pub failed_works : {D : Type 0} (d : Ghosts D) (reply : Reply) (old new : Engine D d) → new.failed ≡ (old.failed || is_breaking (told_by reply)) → (old.failed ≡ false → d.failed new.disk ≡ true → reply ≡ Refused Device)
-    → d.failed new.disk ≡ true → new.failed ≡ true
-failed_works d reply old new fails device broken = by old.failed refl
+pub failed_works : {D : Type 0} (d : Ghosts D) (reply : Reply) (old new : Engine D d) → IsTold d reply old new → d.failed new.disk ≡ true → new.failed ≡ true
+failed_works {D} d reply old new told broken = by old.failed refl
   where
     by : (b : Bool) → old.failed ≡ b → new.failed ≡ true
-    by true was = fails ∙ ap (λ (b : Bool). b || is_breaking (told_by reply)) was
-    by false was = fails ∙ ap (λ (b : Bool). b || is_breaking (told_by reply)) was ∙ ap (λ (r : Reply). is_breaking (told_by r)) (device was broken)
+    by true was = ap (λ (e : Engine D d). e.failed) (told.same (ap (λ (b : Bool). b || is_early reply) was)) ∙ was
+    by false was = ap (λ (v : View). v.failed) told.view ∙ ap (λ (r : Reply). (after r (view_of d old)).failed) (told.device was broken) ∙ or_true old.failed
+
+-- no reply says another limit of pages
+after_limit : (reply : Reply) (v : View) → (after reply v).max_pages ≡ v.max_pages
+after_limit (Started n) v = refl
+after_limit (Found rid) v = refl
+after_limit Absent v = refl
+after_limit Inserted v = refl
+after_limit Duplicate v = refl
+after_limit Deleted v = refl
+after_limit Committed v = refl
+after_limit Done v = refl
+after_limit (Refused fault) v = refl
+
+pub limit_stays : {D : Type 0} (d : Ghosts D) (reply : Reply) (old new : Engine D d) → IsTold d reply old new → new.max_pages ≡ old.max_pages
+limit_stays d reply old new told = ap (λ (v : View). v.max_pages) told.view ∙ after_limit reply (view_of d old)
 
 module _ {D : Type 0} (d : Ghosts D) (before : List Effect) (s : Shown) (old new : Engine D d) (life : IsLife d before s old) (t : ℕ) (key : Key) (reply : Reply) where
   pub fetch_alone : FetchStep d t key reply old new → AnswersAlone before s (answers.Do t (answers.Fetch key)) (told_by reply)
   fetch_alone f going is =
-      reply_alone d before s old new life t going key reply f.step.failed (λ entries fault. OfFetch d old new reply fault t key) (λ entries. answers.found (find key_order key entries)) f.answered is
-      ∙ ap answers.found (leaf_alone d before s old new life t going key reply f.step.failed (λ entries fault. OfFetch d old new reply fault t key) (λ entries. answers.found (find key_order key entries)) f.answered is)
+      reply_alone d before s old new life t going key reply f.told.failed (λ entries fault. OfFetch d old new reply fault t key) (λ entries. answers.found (find key_order key entries)) f.answered is
+      ∙ ap answers.found (leaf_alone d before s old new life t going key reply f.told.failed (λ entries fault. OfFetch d old new reply fault t key) (λ entries. answers.found (find key_order key entries)) f.answered is)
 
   pub insert_alone : (rid : ℕ) → InsertStep d t key reply old new rid → AnswersAlone before s (answers.Do t (answers.Insert key rid)) (told_by reply)
   insert_alone rid f going is =
       let of : List Entry → Fault → Type 0 = λ entries fault. OfInsert d old new reply fault t key entries in
       let to : List Entry → answers.Reply = λ entries. if is_some (find key_order key entries) then answers.Duplicate else answers.Inserted in
-      reply_alone d before s old new life t going key reply f.step.failed of to f.answered is
+      reply_alone d before s old new life t going key reply f.told.failed of to f.answered is
       ∙ insert_as (find key_order key f.answered.entries)
-      ∙ ap (λ (o : Option ℕ). cond (is_some o) answers.Duplicate answers.Inserted) (leaf_alone d before s old new life t going key reply f.step.failed of to f.answered is)
+      ∙ ap (λ (o : Option ℕ). cond (is_some o) answers.Duplicate answers.Inserted) (leaf_alone d before s old new life t going key reply f.told.failed of to f.answered is)
 
   pub delete_alone : DeleteStep d t key reply old new → AnswersAlone before s (answers.Do t (answers.Delete key)) (told_by reply)
   delete_alone f going is =
       let of : List Entry → Fault → Type 0 = λ entries fault. OfDelete d old new reply fault t key in
       let to : List Entry → answers.Reply = λ entries. if is_some (find key_order key entries) then answers.Deleted else answers.Absent in
-      reply_alone d before s old new life t going key reply f.step.failed of to f.answered is
+      reply_alone d before s old new life t going key reply f.told.failed of to f.answered is
       ∙ delete_as (find key_order key f.answered.entries)
-      ∙ ap (λ (o : Option ℕ). cond (is_some o) answers.Deleted answers.Absent) (leaf_alone d before s old new life t going key reply f.step.failed of to f.answered is)
+      ∙ ap (λ (o : Option ℕ). cond (is_some o) answers.Deleted answers.Absent) (leaf_alone d before s old new life t going key reply f.told.failed of to f.answered is)

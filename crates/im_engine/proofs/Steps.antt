@@ -30,7 +30,7 @@ use Rattle.im_engine.specs.Running.{IsActive, IsTransaction, HasShown, IsRunning
 use Rattle.im_engine.specs.Stands.{Allowed}
 use Rattle.im_engine.specs.Changes.{Edited}
 use Rattle.im_engine.specs.Kept.{Joined, StepKept, IsDone}
-use Rattle.im_engine.specs.Checks.{active_number}
+use Rattle.im_engine.specs.View.{active_number}
 use Rattle.im_engine.proofs.Shown.{some_inj}
 use Rattle.im_engine.proofs.Running.{goes_on}
 

@@ -19,7 +19,8 @@ use Rattle.im_flush.specs.declared.page_writer.PageWriter.{PageWriter}
 use Rattle.std.specs.Result.{IsErrAnd}
 use Rattle.im_pool.specs.Pool as pools
 use Rattle.im_pool.specs.declared.frame.Frame.{Frame}
-use Rattle.im_alloc.specs.Seen as alloc
+use Rattle.im_search.specs.Levels as search
+use Rattle.im_flush.proofs.Outcomes.{sound_on}
 use Rattle.im_change.specs.Changes as changes
 use Rattle.im_change.specs.Changes.{HasRecordOf}
 use Rattle.im_split.specs.Plan as splits
@@ -51,32 +52,12 @@ not_late e answer (inr (inl is)) memory others not store = let never : Failed �
 not_late e answer (inr (inr (inl is))) memory others not store = not is
 not_late e answer (inr (inr (inr is))) memory others not store = not (sym (others (λ w. let never : Device ≡ Memory = sym is ∙ w in cc never)) ∙ store)
 
--- and that of a full log only where it was
-pub late_full : (e answer : Fault) → (e ≡ Memory → answer ≡ Failed) → (e ≢ Memory → answer ≡ e) → IsOfWriter e → answer ≡ LogFull → e ≡ LogFull
-late_full e answer memory others (inl is) full = is
-late_full e answer memory others (inr (inl is)) full = absurd (let never : Failed ≡ LogFull = sym (memory is) ∙ full in cc never)
-late_full e answer memory others (inr (inr (inl is))) full = sym (others (λ w. let never : NotAStore ≡ Memory = sym is ∙ w in cc never)) ∙ full
-late_full e answer memory others (inr (inr (inr is))) full = sym (others (λ w. let never : Device ≡ Memory = sym is ∙ w in cc never)) ∙ full
-
 -- as failed only where memory was wanted
 pub late_memory : (e answer : Fault) → IsOfWriter e → (e ≢ Memory → answer ≡ e) → answer ≡ Failed → e ≡ Memory
 late_memory e answer (inl is) others failed = absurd (let never : LogFull ≡ Failed = sym is ∙ sym (others (λ w. let not : LogFull ≡ Memory = sym is ∙ w in cc not)) ∙ failed in cc never)
 late_memory e answer (inr (inl is)) others failed = is
 late_memory e answer (inr (inr (inl is))) others failed = absurd (let never : NotAStore ≡ Failed = sym is ∙ sym (others (λ w. let not : NotAStore ≡ Memory = sym is ∙ w in cc not)) ∙ failed in cc never)
 late_memory e answer (inr (inr (inr is))) others failed = absurd (let never : Device ≡ Failed = sym is ∙ sym (others (λ w. let not : Device ≡ Memory = sym is ∙ w in cc not)) ∙ failed in cc never)
-
--- the refusals of a deletion
-of_drop : (e : Fault) → (e ≡ Failed) ⊎ (e ≡ LogFull) ⊎ (e ≡ NotAStore) ⊎ (e ≡ Device) → IsOfDrop e
-of_drop e (inl failed) = inr (inl failed)
-of_drop e (inr (inl full)) = inl full
-of_drop e (inr (inr rest)) = inr (inr rest)
-
--- a refusal of some result
-abbrev pub err_in : (A : Type 0) → Fault → Result A Fault
-err_in A e = Err e
-
-pub of_err : (A : Type 0) (a b : Fault) → err_in A a ≡ err_in A b → a ≡ b
-of_err A a b e = ap (λ (x : Result A Fault). elim x as (λ _. Fault) [ Ok y ↦ a | Err y ↦ y ]) e
 
 -- room and its want
 pub room_not : (es : List Entry) (key : Key) → LacksRoom es key → HasRoom true es (key, 0) → ⊥
@@ -144,11 +125,11 @@ module _ {D : Type 0} (d : Ghosts D) {b : Base} (before : List Effect) (s : Show
     -- ---- the split of a leaf that lacks room for its key
 
     module _ (owner : 1 ≤ t.number) (key : Key) (p : ℕ) (way : IsOnWay (bodies b r.now.log) 0 key p) (lacks : LacksRoom (bodies b r.now.log p).entries key) where
-      lacks_room : LacksRoomFor (alloc.bodies r.now) key
+      lacks_room : LacksRoomFor (search.bodies r.now) key
       lacks_room = record {
         page = p;
         way = subst (λ (pages : Pages). IsOnWay pages 0 key p) (sym (bodies_are d before s old r)) way;
-        lacks = room_not (alloc.bodies r.now p).entries key (subst (λ (pages : Pages). LacksRoom (pages p).entries key) (sym (bodies_are d before s old r)) lacks);
+        lacks = room_not (search.bodies r.now p).entries key (subst (λ (pages : Pages). LacksRoom (pages p).entries key) (sym (bodies_are d before s old r)) lacks);
       }
 
       room_made : (lsn : ℕ) → structure.HasMadeRoom d b r.base r.now r.redo_end t.number lsn t.undo_next key (Some old.max_pages) new.writer new.disk
@@ -165,21 +146,19 @@ module _ {D : Type 0} (d : Ghosts D) {b : Base} (before : List Effect) (s : Show
       -- it was split
       pub room_kept : (lsn : ℕ) (x : Transaction) → structure.SplitKept d b r.base r.now r.redo_end t.number t.undo_next key (Some old.max_pages) old.disk new.writer new.disk (Ok lsn)
           → new.going ≡ Some (record { number = t.number; last = lsn; undo_next = t.undo_next }) → MakeRoomKept d before s old r t.number key new (Ok x)
-      room_kept lsn x kept now = record { ok = room_made lsn kept.ok now; begun = tt; again = tt; stops = change_stops t new.disk kept.stops; cause = tt; full = tt; used_up = tt }
+      room_kept lsn x kept now = record { sound = room_made lsn kept.sound now; begun = tt; stops = change_stops t new.disk kept.stops; full = tt; used_up = tt }
 
       -- or that was refused
       pub room_not_made : (f : Fault) → structure.SplitKept d b r.base r.now r.redo_end t.number t.undo_next key (Some old.max_pages) old.disk new.writer new.disk (Err f)
-          → new.going ≡ old.going → MakeRoomKept d before s old r t.number key new (Err f)
-      room_not_made f kept still = record {
-        ok = tt;
+          → MakeRoomKept d before s old r t.number key new (Err f)
+      room_not_made f kept = record {
+        sound = kept.sound;
         begun = λ is. change_begun t.number owner new.writer new.disk (kept.begun is);
-        again = λ is. runs_evicted d before s old r new still next (kept.again (⊎_elim (λ x. inl x) (λ x. inr (inr x)) is));
         stops = change_stops t new.disk kept.stops;
-        cause = kept.cause;
         full = λ is.
             let f = kept.full is in
             subst (λ (pages : Pages). splits.IsOver pages key old.max_pages) (bodies_are d before s old r)
-            (subst (λ (m : ℕ). splits.IsOver (alloc.bodies r.now) key m) (sym (some_inj 0 old.max_pages f.0 f.1)) f.2);
+            (subst (λ (m : ℕ). splits.IsOver (search.bodies r.now) key m) (sym (some_inj 0 old.max_pages f.0 f.1)) f.2);
         used_up = λ is. subst (λ (pages : Pages). structure.IsUsedUp pages key) (bodies_are d before s old r) (kept.used_up is);
       }
 
@@ -188,7 +167,7 @@ module _ {D : Type 0} (d : Ghosts D) {b : Base} (before : List Effect) (s : Show
     module _ (owner : 1 ≤ t.number) (key : Key) where
       stays_or_left : (lsn : ℕ) (has : structure.Dropped d b r.base r.now r.redo_end t.number lsn t.undo_next key new.writer new.disk)
           (now : new.going ≡ Some (record { number = t.number; last = lsn; undo_next = t.undo_next }))
-          → (IsKept (alloc.bodies r.now) key × GrowsByImages b r.now.log has.made.now.log) ⊎ (IsSpare (alloc.bodies r.now) key × HasRecordOf t.number has.made.grows.more)
+          → (IsKept (search.bodies r.now) key × GrowsByImages b r.now.log has.made.now.log) ⊎ (IsSpare (search.bodies r.now) key × HasRecordOf t.number has.made.grows.more)
           → LeafStays d before s old r key new ⊎ LeafLeft d before s old r t.number new
       stays_or_left lsn has now (inl still) = inl (record {
         rests = record { running = runs_behind lsn has.made now; grows = still.1 };
@@ -206,26 +185,26 @@ module _ {D : Type 0} (d : Ghosts D) {b : Base} (before : List Effect) (s : Show
       pub dropped : (lsn : ℕ) → structure.DropKept d b r.base r.now r.redo_end t.number t.undo_next key old.disk new.writer new.disk (Ok (Some lsn))
           → new.going ≡ Some (record { number = t.number; last = lsn; undo_next = t.undo_next }) → DropKept d before s old r t.number key new (Ok true)
       dropped lsn kept now = record {
-        edit = record { ok = record { running = runs_behind lsn kept.ok.made now; joins = kept.ok.made.grows }; again = tt; stops = change_stops t new.disk kept.stops; cause = tt };
-        gone = λ is. stays_or_left lsn kept.ok now kept.ok.either;
+        edit = record { sound = record { running = runs_behind lsn kept.sound.made now; joins = kept.sound.made.grows }; stops = change_stops t new.disk kept.stops };
+        gone = λ is. stays_or_left lsn kept.sound now kept.sound.either;
         begun = tt;
       }
 
       -- it stays for want of memory
       pub stays : structure.DropKept d b r.base r.now r.redo_end t.number t.undo_next key old.disk new.writer new.disk (Ok None) → new.going ≡ old.going → DropKept d before s old r t.number key new (Ok false)
       stays kept still =
-          let rests = runs_evicted d before s old r new still next kept.ok in
+          let rests = runs_evicted d before s old r new still next kept.sound in
           record {
-            edit = record { ok = record { running = rests.running; joins = images_as_change b t.number r.now.log rests.running.now.log rests.grows }; again = tt; stops = change_stops t new.disk kept.stops; cause = tt };
+            edit = record { sound = record { running = rests.running; joins = images_as_change b t.number r.now.log rests.running.now.log rests.grows }; stops = change_stops t new.disk kept.stops };
             gone = λ is. absurd (cc is);
             begun = tt;
           }
 
       -- or it was refused
-      pub not_dropped : (f : Fault) → (f ≡ Failed) ⊎ (f ≡ LogFull) ⊎ (f ≡ NotAStore) ⊎ (f ≡ Device) → structure.DropKept d b r.base r.now r.redo_end t.number t.undo_next key old.disk new.writer new.disk (Err f)
+      pub not_dropped : (f : Fault) → structure.DropKept d b r.base r.now r.redo_end t.number t.undo_next key old.disk new.writer new.disk (Err f)
           → DropKept d before s old r t.number key new (Err f)
-      not_dropped f causes kept = record {
-        edit = record { ok = tt; again = drop_wants f (of_drop f causes); stops = change_stops t new.disk kept.stops; cause = kept.cause };
+      not_dropped f kept = record {
+        edit = record { sound = kept.sound; stops = change_stops t new.disk kept.stops };
         gone = tt;
         begun = λ is. change_begun t.number owner new.writer new.disk (kept.begun is);
       }
@@ -271,11 +250,9 @@ module _ {D : Type 0} (d : Ghosts D) {b : Base} (before : List Effect) (s : Show
   -- no room was made
   pub room_refused : (e : Fault) → MakeRoomKept d before s old r t key new (Err e) → IsErrAnd result (λ x. x ≡ e) → SplitKept d before s old r t key new result
   room_refused e kept here = record {
-    ok = not_ok result e (λ x. HasSplitLeaf d before s old r t key x.1.number new) here;
+    sound = sound_on result e (λ x. HasSplitLeaf d before s old r t key x.1.number new) here kept.sound;
     begun = handed_on result e (λ x. x ≡ Failed → StandsBehind d b (ChangeJoined t r.now.log) new.writer new.disk) here kept.begun;
-    again = handed_on result e (λ x. (x ≡ Memory) ⊎ (x ≡ PagesFull) → Rests d before s old r new) here kept.again;
     stops = kept.stops;
-    cause = handed_on result e (λ x. x ≢ NotAStore) here kept.cause;
     within = not_ok result e (λ x. splits.IsWithin (bodies b r.now.log) key old.max_pages) here;
     full = handed_on result e (λ x. x ≡ PagesFull → splits.IsOver (bodies b r.now.log) key old.max_pages) here kept.full;
     used_up = handed_on result e (λ x. x ≡ Capacity → structure.IsUsedUp (bodies b r.now.log) key) here kept.used_up;
@@ -285,11 +262,9 @@ module _ {D : Type 0} (d : Ghosts D) {b : Base} (before : List Effect) (s : Show
   pub split_refused : (e : Fault) → IsOfDrop e → IsErrAnd result (λ x. x ≡ e) → LeavesOnly d old.disk new.disk (Allowed before s) → e ≢ NotAStore
       → (e ≡ Failed → StandsBehind d b (ChangeJoined t r.now.log) new.writer new.disk) → SplitKept d before s old r t key new result
   split_refused e of here leaves cause begun = record {
-    ok = not_ok result e (λ x. HasSplitLeaf d before s old r t key x.1.number new) here;
+    sound = sound_on result e (λ x. HasSplitLeaf d before s old r t key x.1.number new) here cause;
     begun = handed_on result e (λ x. x ≡ Failed → StandsBehind d b (ChangeJoined t r.now.log) new.writer new.disk) here begun;
-    again = handed_on result e (λ x. (x ≡ Memory) ⊎ (x ≡ PagesFull) → Rests d before s old r new) here (drop_wants e of);
     stops = leaves;
-    cause = handed_on result e (λ x. x ≢ NotAStore) here cause;
     within = not_ok result e (λ x. splits.IsWithin (bodies b r.now.log) key old.max_pages) here;
     full = handed_on result e (λ x. x ≡ PagesFull → splits.IsOver (bodies b r.now.log) key old.max_pages) here (λ is. drop_wants e of (inr is));
     used_up = handed_on result e (λ x. x ≡ Capacity → structure.IsUsedUp (bodies b r.now.log) key) here (drop_capacity e of);

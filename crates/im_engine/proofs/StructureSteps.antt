@@ -20,27 +20,25 @@ use Rattle.im_engine.proofs.Structure.{split_leaf, split_refused}
 module _ {D : Type 0} (d : Ghosts D) {b : Base} (before : List Effect) (s : Shown) (old : Engine D d) (r : IsRunning d b before s old) (t : ℕ) (key : Key) (then : Engine D d) (made : Transaction)
     (kept : MakeRoomKept d before s old r t key then (Ok made)) (new : Engine D d) where
   -- the leaf was not found
-  pub leaf_refused : (f : Fault) → RoomKept d before s then kept.ok.running key new (Err f) → IsOfDrop f → (result : Result (Transaction × Frame) Fault) → IsErrAnd result (λ e. e ≡ f) → SplitKept d before s old r t key new result
+  pub leaf_refused : (f : Fault) → RoomKept d before s then kept.sound.running key new (Err f) → IsOfDrop f → (result : Result (Transaction × Frame) Fault) → IsErrAnd result (λ e. e ≡ f) → SplitKept d before s old r t key new result
   leaf_refused f room of result here =
-      split_refused d before s old r t key new result f of here (leaves_then d before s old.disk then.disk new.disk kept.stops room.stops) (room.cause kept.ok.fits)
+      split_refused d before s old r t key new result f of here (leaves_then d before s old.disk then.disk new.disk kept.stops room.stops) (room.cause kept.sound.fits)
       (λ is.
       let late = room.late is in
       record {
         base = late.base;
         now = late.now;
         stands = late.stands;
-        joins = change_before_images b t r.now.log kept.ok.running.now.log late.now.log (record { change = kept.ok.grows; some = kept.ok.some }) late.joins;
+        joins = change_before_images b t r.now.log kept.sound.running.now.log late.now.log (record { change = kept.sound.grows; some = kept.sound.some }) late.joins;
       })
 
   -- it has room
-  pub leaf_made : (x : Transaction) (frame : Frame) → RoomKept d before s then kept.ok.running key new (Ok frame) → SplitKept d before s old r t key new (Ok (x, frame))
+  pub leaf_made : (x : Transaction) (frame : Frame) → RoomKept d before s then kept.sound.running key new (Ok frame) → SplitKept d before s old r t key new (Ok (x, frame))
   leaf_made x frame room = record {
-    ok = split_leaf d before s old r t key then kept.ok frame.number new room.ok;
+    sound = split_leaf d before s old r t key then kept.sound frame.number new room.ok;
     begun = tt;
-    again = tt;
     stops = leaves_then d before s old.disk then.disk new.disk kept.stops room.stops;
-    cause = tt;
-    within = kept.ok.within;
+    within = kept.sound.within;
     full = tt;
     used_up = tt;
   }

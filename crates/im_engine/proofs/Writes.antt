@@ -9,13 +9,15 @@ use Rattle.im_types.specs.WriterSteps.{forced}
 use Rattle.im_types.specs.Lives.{Asked, Shown, all_acked, effects}
 use Rattle.im_disk.specs.declared.disk.Disk.{Ghosts}
 use Rattle.im_flush.specs.PageWriter as writers
+use Rattle.im_flush.specs.Outcome.{Flushes}
+use Rattle.im_flush.proofs.Outcomes.{flush_asks}
 use Rattle.im_serial.specs.Store.{AreBelow}
 use Rattle.im_serial.proofs.Promises.{images_change_nothing}
 use Rattle.im_engine.specs.declared.engine.Engine.{Engine}
 use Rattle.im_engine.specs.declared.transaction.Transaction.{Transaction}
 use Rattle.im_engine.specs.Running.{IsTransaction, HasShown, IsRunning, IsLife}
 use Rattle.im_engine.specs.Kept.{StepKept}
-use Rattle.im_engine.proofs.Running.{none_waits, page_is, grown_stops, covered_stops, runs_on, looks, goes_on}
+use Rattle.im_engine.proofs.Running.{none_waits, page_is, covered_stops, read_stops, runs_on, looks, goes_on}
 
 -- what is acknowledged has the same effects
 effects_acked : (asked : List Asked) → effects (all_acked asked) ≡ effects asked
@@ -62,16 +64,15 @@ module _ {D : Type 0} (d : Ghosts D) (before : List Effect) (s : Shown) (old new
       (shown_as s (all_acked s.asked) new.going (subst (λ (g : Option Transaction). HasShown s g) (sym going) (life.changed works)))
 
   -- a page was flushed
-  pub flush_kept : (p : ℕ) → writers.FlushOneKept d run.0 run.1.base run.1.now p old.disk new.writer new.disk (Ok tt) → StepKept d before s (FlushPage p) Done old life new
+  pub flush_kept : (p : ℕ) → Flushes d old.writer old.disk new.writer new.disk None → writers.FlushedOne d run.0 run.1.base run.1.now p old.disk new.writer new.disk → StepKept d before s (FlushPage p) Done old life new
   unfolding runs_on
-  flush_kept p kept =
+  flush_kept p one f =
       let b = run.0 in
       let r = run.1 in
-      let f = kept.ok in
       let stands : writers.StandsAs d b r.base f.now new.writer new.disk = record { working = f.on.working; writing = f.on.goes.writing; known = f.on.known } in
       let same = images_change_nothing b r.now.log f.now.log f.on.goes.keeps.log r.serial in
       let on = runs_on d before s old r new going next f.now stands f.on.goes.keeps in
-      looks d before s (FlushPage p) Done refl (λ e. cc e) old new life works (grown_stops d before s old r new.disk kept.stops) works_on refl
+      looks d before s (FlushPage p) Done refl (λ e. cc e) old new life works (read_stops d before s old r new.writer new.disk (flush_asks d one)) works_on refl
       (record {
         b = b;
         running = on;

@@ -4,10 +4,9 @@ use Rattle.im_types.specs.Histories.{Base, History, page_at}
 use Rattle.im_types.specs.Copies.{GrowsByImages}
 use Rattle.im_types.specs.Keys.{Key}
 use Rattle.im_types.specs.LogLaws.{bodies}
-use Rattle.im_types.specs.Answers.{Reply, Refused}
 use Rattle.im_types.specs.Pages.{Page}
 use Rattle.im_types.specs.Changes.{Effect}
-use Rattle.im_types.specs.Lives.{Shown, idle, asks, breaks, with_running}
+use Rattle.im_types.specs.Lives.{Shown, idle, asks, with_running}
 use Rattle.im_types.specs.declared.fault.Fault.{Fault}
 use Rattle.im_types.specs.declared.fault.Fault.TheVariants.{Memory, NotAStore, PagesFull}
 use Rattle.im_disk.specs.declared.disk.Disk.{Ghosts}
@@ -15,6 +14,7 @@ use Rattle.im_disk.specs.Runs.{LeavesOnly}
 use Rattle.im_types.specs.Writer.{Writer}
 use Rattle.im_flush.specs.declared.page_writer.PageWriter.{PageWriter}
 use Rattle.im_flush.specs.PageWriter.{StandsAs}
+use Rattle.im_flush.specs.Outcome.{IsSound}
 use Rattle.im_pool.specs.Pool as pools
 use Rattle.im_pool.specs.declared.frame.Frame.{Frame}
 use Rattle.im_tree.specs.Search.{IsOnWay}
@@ -24,11 +24,6 @@ use Rattle.im_engine.specs.declared.transaction.Transaction.{Transaction}
 use Rattle.im_engine.specs.Stands.{Allowed}
 use Rattle.im_engine.specs.Running.{IsRunning}
 use Rattle.im_engine.specs.Joined.{CommitJoined}
-
--- A reply after which the engine has failed.
-abbrev pub is_breaking : Reply → Bool
-is_breaking (Refused n) = breaks n
-is_breaking _ = false
 
 -- What the header of a page says.
 abbrev pub header_of : Page → Header
@@ -69,31 +64,15 @@ module _ {D : Type 0} (d : Ghosts D) {b : Base} (before : List Effect) (s : Show
     pub page : pools.page_at new.writer.pool p ≡ page_at b running.now.log p
     pub still : (q : ℕ) → page_at b running.now.log q ≡ page_at b was.now.log q
 
-  -- what a look at a page keeps
-  pub record PageKept (p : ℕ) (new : Engine D d) (result : Result Frame Fault) : Type 0 where
-    pub ok : OnOk result (Looked p new)
-    pub again : IfErr result (λ e. e ≡ Memory → Rests new)
-    pub stops : LeavesOnly d old.disk new.disk (Allowed before s)
-    pub cause : IfErr result (λ e. e ≢ NotAStore)
-
   -- The leaf of a key is held so.
   pub record LeafLooked (key : Key) (p : ℕ) (new : Engine D d) : Type 0 where
     pub looked : Looked p new
     pub way : IsOnWay (bodies b was.now.log) 0 key p
 
-  -- what the search for a key's leaf keeps
-  pub record LeafKept (key : Key) (new : Engine D d) (result : Result Frame Fault) : Type 0 where
-    pub ok : IfOk result (λ frame. LeafLooked key frame.number new)
-    pub again : IfErr result (λ e. e ≡ Memory → Rests new)
-    pub stops : LeavesOnly d old.disk new.disk (Allowed before s)
-    pub cause : IfErr result (λ e. e ≢ NotAStore)
-
-  -- A step goes on: behind it this is shown. A refusal for want of memory or of pages leaves what was shown before, and so does a stop.
+  -- A step goes on: behind it this is shown, and a stop within it leaves what was shown before.
   pub record EditKept {A : Type 0} (then : Shown) (joined : History → Type 0) (new : Engine D d) (result : Result A Fault) : Type 0 where
-    pub ok : OnOk result (Edited d b before then joined new)
-    pub again : IfErr result (λ e. (e ≡ Memory) ⊎ (e ≡ PagesFull) → Rests new)
+    pub sound : IsSound result (λ _. Edited d b before then joined new)
     pub stops : LeavesOnly d old.disk new.disk (Allowed before s)
-    pub cause : IfErr result (λ e. e ≢ NotAStore)
 
   -- A Commit: once it is made its effect is one of those asked and acknowledged; a stop within leaves the effect whole, or nothing of it.
   pub record CommitKept (number : ℕ) (new : Engine D d) (result : Result Unit Fault) : Type 0 where

@@ -1,5 +1,5 @@
 -- The checks of a step in their order, and the answer of a step that passes them.
-use Rattle.std.specs.Prelude.{◌≡◌, ◌≢◌, ◌⊎◌, ◌↔◌, ◌<◌, ◌≤◌, ◌+◌, ◌^◌, ◌==◌, ◌||◌, ℕ, Bool, true, false, List, [], Option, Some, None, is_some, if◌then◌else◌, length}
+use Rattle.std.specs.Prelude.{◌≡◌, ◌≢◌, ◌⊎◌, ◌↔◌, ◌<◌, ◌≤◌, ◌+◌, ◌^◌, ℕ, Bool, true, false, List, [], Option, Some, None, is_some, if◌then◌else◌, length}
 use Rattle.std.specs.FinMap.Entries.{find}
 use Rattle.im_types.specs.declared.fault.Fault.{Fault}
 use Rattle.im_types.specs.declared.fault.Fault.TheVariants.{NoTransaction, KeyLength, PagesFull, Capacity, LogFull, Device, Memory, Failed, NotAStore, TooMany}
@@ -15,7 +15,6 @@ use Rattle.im_types.specs.Changes.{Effect}
 use Rattle.im_types.specs.Histories.{Base}
 use Rattle.im_types.specs.Structure.{settled}
 use Rattle.im_types.specs.declared.page_kind.PageKind.TheVariants.{Leaf}
-use Rattle.im_types.specs.Refusals.{no_transaction, key_length, too_many}
 use Rattle.im_types.specs.Lives.{Shown}
 use Rattle.im_disk.specs.declared.disk.Disk.{Ghosts}
 use Rattle.im_log.specs.declared.log_file.LogFile.{LogFile}
@@ -178,27 +177,6 @@ module _ {D : Type 0} (d : Ghosts D) where
   -- a step of this kind: it is refused exactly by the first check that it fails
   abbrev pub AnswersStep : steps.Step → said.Reply → Engine D d → Engine D d → Type 0
   AnswersStep step reply old new = IsAnswered (key_of step) reply old new (λ entries fault. Refuses d old new reply fault step entries) (λ entries. answer_to step old.next entries)
-
--- The refusals before any page is read leave all as it was.
-abbrev pub changes_nothing : replies.Reply → Bool
-changes_nothing (replies.Refused n) = n == no_transaction || n == key_length || n == too_many
-changes_nothing _ = false
-
--- The number of the active transaction.
-abbrev pub active_number : Option Transaction → Option ℕ
-active_number None = None
-active_number (Some t) = Some t.number
-
--- The active transaction after a reply: a Begin makes one active, and a Commit none.
-abbrev pub active_after : replies.Reply → Option ℕ → Option ℕ
-active_after (replies.Started n) active = Some n
-active_after replies.Committed active = None
-active_after _ active = active
-
--- The next number after a reply: a Begin takes one.
-abbrev pub next_after : replies.Reply → ℕ → ℕ
-next_after (replies.Started n) next = next + 1
-next_after _ next = next
 
 -- Steps that make no device call: a Begin, a Commit of a transaction that has no records, the flush of a page that was not changed, a force where nothing is buffered.
 abbrev pub CallsDevice : {D : Type 0} (d : Ghosts D) → steps.Step → Engine D d → Type 0

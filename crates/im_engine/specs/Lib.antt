@@ -2,6 +2,7 @@ pub mod Stands
 pub mod Running
 pub mod Joined
 pub mod Kept
+pub mod View
 pub mod Changes
 pub mod Checks
 pub mod Structure

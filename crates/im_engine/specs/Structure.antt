@@ -17,6 +17,7 @@ use Rattle.im_types.specs.declared.step.Step.TheVariants.{Insert, Delete}
 use Rattle.im_disk.specs.declared.disk.Disk.{Ghosts}
 use Rattle.im_disk.specs.Runs.{LeavesOnly}
 use Rattle.im_flush.specs.declared.page_writer.PageWriter.{PageWriter}
+use Rattle.im_flush.specs.Outcome.{IsSound}
 use Rattle.im_pool.specs.Pool as pools
 use Rattle.im_pool.specs.declared.frame.Frame.{Frame}
 use Rattle.im_tree.specs.Levels.{Pages, walk}
@@ -61,13 +62,11 @@ module _ {D : Type 0} (d : Ghosts D) {b : Base} (before : List Effect) (s : Show
     pub fits : FitsInLeaf (bodies b running.now.log) key
     pub within : IsWithin (bodies b was.now.log) key old.max_pages
 
-  -- what the split of a leaf keeps that lacks room for its key; a want of memory or of pages leaves all as it was
+  -- what the split of a leaf keeps that lacks room for its key
   pub record MakeRoomKept (t : ℕ) (key : Key) (new : Engine D d) (result : Result Transaction Fault) : Type 0 where
-    pub ok : OnOk result (HasMadeRoom t key new)
+    pub sound : IsSound result (λ _. HasMadeRoom t key new)
     pub begun : BegunKept t new result
-    pub again : IfErr result (λ e. (e ≡ Memory) ⊎ (e ≡ PagesFull) → Rests d before s old was new)
     pub stops : LeavesOnly d old.disk new.disk (Allowed before s)
-    pub cause : IfErr result (λ e. e ≢ NotAStore)
     pub full : IfErr result (λ e. e ≡ PagesFull → IsOver (bodies b was.now.log) key old.max_pages)
     pub used_up : IfErr result (λ e. e ≡ Capacity → IsUsedUp (bodies b was.now.log) key)
 
@@ -109,11 +108,9 @@ module _ {D : Type 0} (d : Ghosts D) {b : Base} (before : List Effect) (s : Show
 
   -- what the split of a key's leaf keeps
   pub record SplitKept (t : ℕ) (key : Key) (new : Engine D d) (result : Result (Transaction × Frame) Fault) : Type 0 where
-    pub ok : IfOk result (λ x. HasSplitLeaf t key x.1.number new)
+    pub sound : IsSound result (λ x. HasSplitLeaf t key x.1.number new)
     pub begun : BegunKept t new result
-    pub again : IfErr result (λ e. (e ≡ Memory) ⊎ (e ≡ PagesFull) → Rests d before s old was new)
     pub stops : LeavesOnly d old.disk new.disk (Allowed before s)
-    pub cause : IfErr result (λ e. e ≢ NotAStore)
     pub within : OnOk result (IsWithin (bodies b was.now.log) key old.max_pages)
     pub full : IfErr result (λ e. e ≡ PagesFull → IsOver (bodies b was.now.log) key old.max_pages)
     pub used_up : IfErr result (λ e. e ≡ Capacity → IsUsedUp (bodies b was.now.log) key)

@@ -1,5 +1,5 @@
 -- A step that was made, and steps in turn.
-use Rattle.std.specs.Prelude.{◌≡◌, ◌≢◌, ◌⊎◌, ◌||◌, List, [], ◌∷◌, ◌++◌, Option, None, Some, false, true}
+use Rattle.std.specs.Prelude.{◌≡◌, ◌⊎◌, List, [], ◌∷◌, ◌++◌, Option, None, Some, false, true}
 use Rattle.std.specs.FinMap.{empty}
 use Rattle.im_types.specs.Answers as answers
 use Rattle.im_types.specs.Answers.{is_answer, answer, Going}
@@ -7,18 +7,18 @@ use Rattle.im_types.specs.Changes.{Effect, apply_all}
 use Rattle.im_types.specs.Histories.{Base}
 use Rattle.im_types.specs.Structure.{settled}
 use Rattle.im_types.specs.Lives.{Shown, effects, shows}
-use Rattle.im_types.specs.declared.fault.Fault.TheVariants.{Failed, Device}
+use Rattle.im_types.specs.declared.fault.Fault.TheVariants.{Failed}
 use Rattle.im_types.specs.declared.step.Step.{Step}
 use Rattle.im_types.specs.declared.reply.Reply.{Reply}
-use Rattle.im_types.specs.declared.reply.Reply.TheVariants.{Deleted, Refused}
+use Rattle.im_types.specs.declared.reply.Reply.TheVariants.{Refused}
 use Rattle.im_types.specs.Steps.{asked_by, told_by}
 use Rattle.im_disk.specs.declared.disk.Disk.{Ghosts}
 use Rattle.im_disk.specs.Disk.{Files}
 use Rattle.im_engine.specs.declared.engine.Engine.{Engine}
 use Rattle.im_engine.specs.Stands.{Allowed}
 use Rattle.im_engine.specs.Running.{IsRunning, IsLife}
-use Rattle.im_engine.specs.Changes.{is_breaking}
-use Rattle.im_engine.specs.Checks.{AnswersStep, CallsDevice, changes_nothing, active_number, active_after, next_after}
+use Rattle.im_engine.specs.View.{IsTold}
+use Rattle.im_engine.specs.Checks.{AnswersStep, CallsDevice}
 use Rattle.im_engine.specs.Structure.{KeepsLimit, AsksWhereWanted, IsBegun, EndsStep}
 use Rattle.im_engine.specs.Kept.{StepKept}
 
@@ -34,18 +34,11 @@ module _ {D : Type 0} (d : Ghosts D) where
     pub kept : (before : List Effect) (s : Shown) (life : IsLife d before s old) → StepKept d before s (asked_by step) (told_by reply) old life new
     pub alone : (before : List Effect) (s : Shown) → IsLife d before s old → AnswersAlone before s (asked_by step) (told_by reply)
     pub answered : AnswersStep d step reply old new
-    pub same : changes_nothing (told_by reply) ≡ true → new ≡ old
-    pub failed : old.failed ≡ true → (reply ≡ Refused Failed) × (new ≡ old)
-    pub fails : new.failed ≡ (old.failed || is_breaking (told_by reply))
-    pub device : old.failed ≡ false → d.failed new.disk ≡ true → reply ≡ Refused Device
+    pub told : IsTold d reply old new
     pub works : d.failed new.disk ≡ true → new.failed ≡ true
-    pub active : active_number new.going ≡ active_after (told_by reply) (active_number old.going)
-    pub numbers : new.next ≡ next_after (told_by reply) old.next
-    pub max_pages : new.max_pages ≡ old.max_pages
     pub limit : (b : Base) (before : List Effect) (s : Shown) (r : IsRunning d b before s old) → KeepsLimit (settled b r.now.log) old.max_pages step reply
     pub wanted : (b : Base) (before : List Effect) (s : Shown) (r : IsRunning d b before s old) → AsksWhereWanted (settled b r.now.log) old.failed step reply
     pub begun : (b : Base) (before : List Effect) (s : Shown) (r : IsRunning d b before s old) → old.failed ≡ false → reply ≡ Refused Failed → IsBegun d b r.now.log step new.writer new.disk
-    pub leaves_kept : reply ≢ Deleted → new.leaves_kept ≡ old.leaves_kept
     pub gone : (b : Base) (before : List Effect) (s : Shown) (r : IsRunning d b before s old) → EndsStep d b r.now.log step reply old new
     pub quiet : (CallsDevice d step old → ⊥) → new.disk ≡ old.disk
 

@@ -45,12 +45,12 @@ impl<D: Disk> Engine<D> {
     ghost use Rattle.im_types.specs.declared.fault.Fault.TheVariants.{Failed, NoTransaction, TooMany, Capacity, LogFull, Device, NotAStore, PoolSize};
     ghost use Rattle.im_types.specs.declared.reply.Reply.TheVariants.{Started, Refused};
     ghost use Rattle.im_types.specs.Changes.{Effect};
-    ghost use Rattle.im_types.specs.Faults.{number_of};
-    ghost use Rattle.im_types.specs.Lives.{Shown, breaks, shown_by};
+    ghost use Rattle.im_types.specs.Lives.{Shown, shown_by};
     ghost use Rattle.im_disk.specs.Runs.{IsSynced, LeavesOnly, Reads};
     ghost use Rattle.im_types.specs.Answers as answers;
     ghost use Rattle.im_types.specs.Steps.{asked_by, told_by};
     ghost use Rattle.im_pool.specs.Pool.{page_at};
+    ghost use Rattle.im_flush.specs.Outcome.{fault_of};
     ghost use Rattle.im_types.specs.Structure.{settled};
     ghost use Rattle.im_tree.specs.Levels.{walk};
     ghost use Rattle.im_restart.specs.Restart.{IsFullLog, SpellsLog};
@@ -59,8 +59,9 @@ impl<D: Disk> Engine<D> {
     ghost use Rattle.im_engine.specs.Running.{IsLife, IsRunning};
     ghost use Rattle.im_engine.specs.Kept.{StepKept, OpenKept, LookKept, EntriesKept, answered_by, disk_of};
     ghost use Rattle.im_engine.specs.Turns.{IsStep, AreSteps, IsCutOff};
-    ghost use Rattle.im_engine.specs.Changes.{IsIdle, active_in, header_of, is_breaking};
-    ghost use Rattle.im_engine.specs.Checks.{CallsDevice, OfOwn, OfBegin, IsAnswered, AnswersStep, HasCause, active_after, active_number, changes_nothing, next_after};
+    ghost use Rattle.im_engine.specs.Changes.{IsIdle, active_in, header_of};
+    ghost use Rattle.im_engine.specs.Checks.{OfOwn, OfBegin, IsAnswered};
+    ghost use Rattle.im_engine.specs.View.{IsTold, Looks};
 
     // The active transaction of a number.
     pub(crate) fn active_of(&self, number: TxnId) -> Result<Transaction, Fault>
@@ -85,16 +86,9 @@ impl<D: Disk> Engine<D> {
     // Begins a transaction.
     fn begin(&mut self) -> Reply
         ensures kept { (before : List Effect) (s : Shown) (life : IsLife D.Disk before s self.old) → StepKept D.Disk before s answers.Begin (told_by result) self.old life self.new }
-        ensures fails { self.new.failed ≡ (self.old.failed || is_breaking (told_by result)) }
-        ensures failed { self.old.failed ≡ true → (result ≡ Refused Failed) × (self.new ≡ self.old) }
+        ensures told { IsTold D.Disk result self.old self.new }
         ensures answered { IsAnswered D.Disk [] result self.old self.new (λ entries fault. OfBegin D.Disk self.old fault) (λ entries. answers.Started self.old.next) }
-        ensures device { self.old.failed ≡ false → D.failed self.new.disk ≡ true → result ≡ Refused Device }
         ensures quiet { self.new.disk ≡ self.old.disk }
-        ensures same { changes_nothing (told_by result) ≡ true → self.new ≡ self.old }
-        ensures active { active_number self.new.going ≡ active_after (told_by result) (active_number self.old.going) }
-        ensures numbers { self.new.next ≡ next_after (told_by result) self.old.next }
-        ensures max_pages { self.new.max_pages ≡ self.old.max_pages }
-        ensures leaves_kept { self.new.leaves_kept ≡ self.old.leaves_kept }
     {
         if self.failed {
             return Reply::Refused(Fault::Failed);
@@ -207,19 +201,11 @@ impl<D: Disk> Engine<D> {
     /// The entries of the store, those of the active transaction included, in rising key order. Refused `Failed`, `Memory`, and as a step is
     /// that reads a leaf; every refusal but `Memory` then breaks the engine.
     pub fn entries(&mut self, alloc: Global) -> Result<Vec<(Key, Rid)>, Fault>
+        ensures outcome { Looks D.Disk (fault_of result) self.old self.new }
         ensures kept { (before : List Effect) (s : Shown) → IsLife D.Disk before s self.old → LookKept D.Disk before s self.old self.new }
         ensures entries { IfOk result (λ list. (before : List Effect) (s : Shown) → IsLife D.Disk before s self.old → EntriesKept before s list.items) }
         ensures walk { IfOk result (λ list. (b : Base) (before : List Effect) (s : Shown) (r : IsRunning D.Disk b before s self.old) → list.items ≡ walk (settled b r.now.log)) }
         ensures never { IfErr result (λ e. (before : List Effect) (s : Shown) → IsLife D.Disk before s self.old → e ≢ NotAStore) }
-        ensures failed { result ≡ Err Failed ↔ (self.old.failed ≡ true) }
-        ensures works { OnOk result (self.new.failed ≡ false) }
-        ensures fails { IfErr result (λ e. self.new.failed ≡ breaks (number_of e)) }
-        ensures cause { IfErr result (λ e. self.old.failed ≡ false → HasCause D.Disk self.new.writer.log self.new.disk e) }
-        ensures device { self.old.failed ≡ false → D.failed self.new.disk ≡ true → result ≡ Err Device }
-        ensures going { self.new.going ≡ self.old.going }
-        ensures next { self.new.next ≡ self.old.next }
-        ensures max_pages { self.new.max_pages ≡ self.old.max_pages }
-        ensures leaves_kept { self.new.leaves_kept ≡ self.old.leaves_kept }
     {
         if self.failed {
             return Err(Fault::Failed);
@@ -239,19 +225,11 @@ impl<D: Disk> Engine<D> {
 
     /// What a page is for. Refused as `entries` is.
     pub fn header(&mut self, page: PageNo) -> Result<Header, Fault>
+        ensures outcome { Looks D.Disk (fault_of result) self.old self.new }
         ensures kept { (before : List Effect) (s : Shown) → IsLife D.Disk before s self.old → LookKept D.Disk before s self.old self.new }
         ensures header { IfOk result (λ header. header ≡ header_of (page_at self.new.writer.pool page)) }
         ensures logged { IfOk result (λ header. (b : Base) (before : List Effect) (s : Shown) (r : IsRunning D.Disk b before s self.old) → header ≡ header_of (histories.page_at b r.now.log page)) }
         ensures never { IfErr result (λ e. (before : List Effect) (s : Shown) → IsLife D.Disk before s self.old → e ≢ NotAStore) }
-        ensures failed { result ≡ Err Failed ↔ (self.old.failed ≡ true) }
-        ensures works { OnOk result (self.new.failed ≡ false) }
-        ensures fails { IfErr result (λ e. self.new.failed ≡ breaks (number_of e)) }
-        ensures cause { IfErr result (λ e. self.old.failed ≡ false → HasCause D.Disk self.new.writer.log self.new.disk e) }
-        ensures device { self.old.failed ≡ false → D.failed self.new.disk ≡ true → result ≡ Err Device }
-        ensures going { self.new.going ≡ self.old.going }
-        ensures next { self.new.next ≡ self.old.next }
-        ensures max_pages { self.new.max_pages ≡ self.old.max_pages }
-        ensures leaves_kept { self.new.leaves_kept ≡ self.old.leaves_kept }
     {
         if self.failed {
             return Err(Fault::Failed);

@@ -1,4 +1,5 @@
 pub mod LogEnds
+pub mod ImageCalls
 pub mod Tables
 pub mod Lists
 pub mod PageFiles
@@ -23,3 +24,4 @@ pub mod Redoing
 pub mod RedoneRecords
 pub mod Structure
 pub mod Restarting
+pub mod Outcomes

@@ -64,15 +64,15 @@ pub err_on : {A : Type 0} (r : Result A Fault) (f : Fault) (P : Fault → Type 0
 err_on (Ok a) f P is has = absurd is
 err_on (Err e) f P is has = subst (λ (x : Fault). P x) (sym is) has
 
-failed_not : (f : Fault) → f ≡ Failed → (f ≡ Memory) ⊎ (f ≡ NotAStore) → ⊥
+pub failed_not : (f : Fault) → f ≡ Failed → (f ≡ Memory) ⊎ (f ≡ NotAStore) → ⊥
 failed_not f is (inl why) = let clash : Failed ≡ Memory = sym is ∙ why in cc clash
 failed_not f is (inr why) = let clash : Failed ≡ NotAStore = sym is ∙ why in cc clash
 
-full_not : (f : Fault) → f ≡ LogFull → (f ≡ Memory) ⊎ (f ≡ NotAStore) → ⊥
+pub full_not : (f : Fault) → f ≡ LogFull → (f ≡ Memory) ⊎ (f ≡ NotAStore) → ⊥
 full_not f is (inl why) = let clash : LogFull ≡ Memory = sym is ∙ why in cc clash
 full_not f is (inr why) = let clash : LogFull ≡ NotAStore = sym is ∙ why in cc clash
 
-device_not : (f : Fault) → f ≡ Device → (f ≡ Memory) ⊎ (f ≡ NotAStore) → ⊥
+pub device_not : (f : Fault) → f ≡ Device → (f ≡ Memory) ⊎ (f ≡ NotAStore) → ⊥
 device_not f is (inl why) = let clash : Device ≡ Memory = sym is ∙ why in cc clash
 device_not f is (inr why) = let clash : Device ≡ NotAStore = sym is ∙ why in cc clash
 

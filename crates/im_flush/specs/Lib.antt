@@ -1,4 +1,5 @@
 pub mod LogEnds
+pub mod Imaging
 pub mod DirtyTable
 pub mod PageFile
 pub mod KnownCopies
@@ -12,3 +13,4 @@ pub mod LoggedChange
 pub mod PageCopy
 pub mod StructureChange
 pub mod Redoing
+pub mod Outcome

@@ -62,4 +62,3 @@ module _ {D : Type 0} (d : Ghosts D) (b : Base) (base : ℕ) where
     pub ok : IfOk result (λ lsn. ChangedFrom s entry lsn old w disk)
     pub stops : LeavesGrown d b base s old disk
     pub cause : LeafTakes (what_of entry) (s.pages (page_of entry)).page → IfErr result (λ e. e ≢ NotAStore)
-    pub again : StaysOn d b base s old w disk result

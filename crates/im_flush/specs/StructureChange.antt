@@ -24,4 +24,3 @@ module _ {D : Type 0} (d : Ghosts D) (b : Base) (base : ℕ) where
     pub ok : IfOk result (λ lsn. ChangedFrom d b base s entry lsn old w disk)
     pub stops : LeavesGrown d b base s old disk
     pub cause : after_in (what_of entry) ≢ None → IfErr result (λ e. e ≢ NotAStore)
-    pub again : StaysOn d b base s old w disk result

@@ -10,7 +10,8 @@ ghost use Rattle.im_log.specs.LogFile.{HasNoRoom, end_with, IsOpen};
 ghost use Rattle.im_page.specs.PageFile.{page_count};
 ghost use Rattle.im_pool.specs.Pool.{held_of, is_changed};
 ghost use Rattle.im_flush.specs.DirtyTable.{entry_in};
-ghost use Rattle.im_flush.specs.LogEnds.{EndsNoSooner};
+ghost use Rattle.im_flush.specs.Imaging.{Imaging};
+ghost use Rattle.im_flush.specs.Outcome.{fault_of};
 ghost use Rattle.im_flush.specs.Writing.{lsn_for, SameHeld, IsWriting, MayCopy, MayWriteHere, WriteOutKept, FlushKept};
 
 use crate::image_range::log_images;
@@ -69,17 +70,10 @@ fn flush_range<D: Disk>(
     requires order { first ≤ last }
     ensures kept { (b : Base) (base : ℕ) (s : Writer) → IsWriting D.Disk b base s log.old table.old pool.old disk.old
         → ((q : ℕ) → first ≤ q → q ≤ last → MayCopy s pool.old q) → FlushKept D.Disk b base s first last disk.old log.new table.new pool.new disk.new result }
-    ensures ready { OnOk result (IsOpen D.Disk log.new disk.new) }
-    ensures still { D.failed disk.new ≡ false → IsOpen D.Disk log.new disk.new }
-    ensures works { OnOk result (log.new.failed ≡ false) }
+    ensures outcome { Imaging D.Disk log.old log.new disk.new (fault_of result) }
     ensures room { 1024 ≤ vec_capacity lsns.new }
     ensures stays { first ≡ last → is_some (entry_in table.old first) ≡ true → OnOk result (is_some (entry_in table.new first) ≡ true) }
     ensures held { OnOk result (SameHeld pool.old pool.new) }
-    ensures causes { IfErr result (λ e. (e ≡ LogFull) ⊎ (e ≡ Device)) }
-    ensures no_room { result ≡ Err LogFull → HasNoRoom log.new }
-    ensures full { result ≡ Err LogFull → 2 ^ 62 < end_with log.new 4129 }
-    ensures later { OnOk result (EndsNoSooner log.old log.new) }
-    ensures device { result ≡ Err Device ↔ (D.failed disk.new ≡ true) }
 {
     log_images(disk, log, table, pool, spare, lsns, first, last)?;
     write_out(disk, table, pool, spare, lsns, first, last)?;
@@ -105,17 +99,10 @@ pub(crate) fn flush_page<D: Disk>(
     requires changed { is_changed pool.old number ≡ true }
     ensures kept { (b : Base) (base : ℕ) (s : Writer) → IsWriting D.Disk b base s log.old table.old pool.old disk.old
         → FlushKept D.Disk b base s number number disk.old log.new table.new pool.new disk.new result }
-    ensures ready { OnOk result (IsOpen D.Disk log.new disk.new) }
-    ensures still { D.failed disk.new ≡ false → IsOpen D.Disk log.new disk.new }
-    ensures works { OnOk result (log.new.failed ≡ false) }
+    ensures outcome { Imaging D.Disk log.old log.new disk.new (fault_of result) }
     ensures room { 1024 ≤ vec_capacity lsns.new }
     ensures stays { D.tells → number ≤ page_count (D.seen disk.old Pages) → is_some (entry_in table.old number) ≡ true → OnOk result (is_some (entry_in table.new number) ≡ true) }
     ensures held { OnOk result (SameHeld pool.old pool.new) }
-    ensures causes { IfErr result (λ e. (e ≡ LogFull) ⊎ (e ≡ Device)) }
-    ensures no_room { result ≡ Err LogFull → HasNoRoom log.new }
-    ensures full { result ≡ Err LogFull → 2 ^ 62 < end_with log.new 4129 }
-    ensures later { OnOk result (EndsNoSooner log.old log.new) }
-    ensures device { result ≡ Err Device ↔ (D.failed disk.new ≡ true) }
 {
     let count = count_pages(disk)?;
     if (number as u64) < count {

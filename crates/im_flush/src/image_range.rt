@@ -9,7 +9,8 @@ ghost use Rattle.im_log.specs.LogFile.{HasNoRoom, end_with, IsOpen};
 ghost use Rattle.im_flush.specs.declared.table_entry.TableEntry.{TableEntry};
 ghost use Rattle.im_types.specs.WriterSteps.{is_copied};
 ghost use Rattle.im_flush.specs.DirtyTable.{entry_in};
-ghost use Rattle.im_flush.specs.LogEnds.{EndsNoSooner};
+ghost use Rattle.im_flush.specs.Imaging.{Imaging};
+ghost use Rattle.im_flush.specs.Outcome.{fault_of};
 ghost use Rattle.im_flush.specs.Writing.{with_lsn, lsn_for, IsWriting, MayCopy, PageImageKept, CopyKept, ImagesKept, DurableKept};
 
 use crate::{DirtyTable, append_image};
@@ -52,16 +53,10 @@ fn append_page<D: Disk>(
 ) -> Result<Lsn, Fault>
     requires ready { IsOpen D.Disk log.old disk.old }
     requires working { log.old.failed ≡ false }
-    ensures ready { IsOpen D.Disk log.new disk.new }
+    ensures outcome { Imaging D.Disk log.old log.new disk.new (fault_of result) }
     ensures kept { (b : Base) (base : ℕ) (s : Writer) (table : List TableEntry) → IsWriting D.Disk b base s log.old table pool.now disk.old
         → MayCopy s pool.now number → PageImageKept D.Disk b base s number disk.old log.new table pool.now disk.new result }
     ensures changes { ChangesOnly D.Disk Log disk.old disk.new }
-    ensures failed { log.new.failed ≡ not (is_ok result) }
-    ensures causes { IfErr result (λ e. (e ≡ LogFull) ⊎ (e ≡ Device)) }
-    ensures no_room { result ≡ Err LogFull → HasNoRoom log.new }
-    ensures full { result ≡ Err LogFull → 2 ^ 62 < end_with log.new 4129 }
-    ensures later { OnOk result (EndsNoSooner log.old log.new) }
-    ensures device { result ≡ Err Device ↔ (D.failed disk.new ≡ true) }
 {
     match pool.find(number) {
         Some(frame) => append_image(disk, log, pool.page(frame).bytes(), number),
@@ -84,17 +79,11 @@ fn append_one<D: Disk>(
 ) -> Result<Lsn, Fault>
     requires ready { IsOpen D.Disk log.old disk.old }
     requires working { log.old.failed ≡ false }
-    ensures ready { IsOpen D.Disk log.new disk.new }
+    ensures outcome { Imaging D.Disk log.old log.new disk.new (fault_of result) }
     ensures kept { (b : Base) (base : ℕ) (s : Writer) → IsWriting D.Disk b base s log.old table.now pool.now disk.old
         → MayCopy s pool.now number → CopyKept D.Disk b base s number disk.old log.new table.now pool.now disk.new result }
     ensures known { is_copied (entry_in table.now number) ≡ true → IsOk result × (log.new ≡ log.old) × (disk.new ≡ disk.old) }
     ensures changes { ChangesOnly D.Disk Log disk.old disk.new }
-    ensures failed { log.new.failed ≡ not (is_ok result) }
-    ensures causes { IfErr result (λ e. (e ≡ LogFull) ⊎ (e ≡ Device)) }
-    ensures no_room { result ≡ Err LogFull → HasNoRoom log.new }
-    ensures full { result ≡ Err LogFull → 2 ^ 62 < end_with log.new 4129 }
-    ensures later { OnOk result (EndsNoSooner log.old log.new) }
-    ensures device { result ≡ Err Device ↔ (D.failed disk.new ≡ true) }
 {
     match table.copied(number) {
         Some(lsn) => Ok(lsn),
@@ -121,17 +110,11 @@ pub(crate) fn append_images<D: Disk>(
     requires working { log.old.failed ≡ false }
     requires room { NOTED ≤ vec_capacity lsns.old }
     requires order { first ≤ last }
-    ensures ready { IsOpen D.Disk log.new disk.new }
+    ensures outcome { Imaging D.Disk log.old log.new disk.new (fault_of result) }
     ensures kept { (b : Base) (base : ℕ) (s : Writer) → IsWriting D.Disk b base s log.old table.now pool.now disk.old
         → ((q : ℕ) → first ≤ q → q ≤ last → MayCopy s pool.now q) → ImagesKept D.Disk b base s first last lsns.new.items disk.old log.new table.now pool.now disk.new result }
     ensures changes { ChangesOnly D.Disk Log disk.old disk.new }
-    ensures failed { log.new.failed ≡ not (is_ok result) }
     ensures room { NOTED ≤ vec_capacity lsns.new }
-    ensures causes { IfErr result (λ e. (e ≡ LogFull) ⊎ (e ≡ Device)) }
-    ensures no_room { result ≡ Err LogFull → HasNoRoom log.new }
-    ensures full { result ≡ Err LogFull → 2 ^ 62 < end_with log.new 4129 }
-    ensures later { OnOk result (EndsNoSooner log.old log.new) }
-    ensures device { result ≡ Err Device ↔ (D.failed disk.new ≡ true) }
 {
     lsns.clear();
     for number in first as u64..last as u64 + 1 {
@@ -158,17 +141,11 @@ pub(crate) fn log_images<D: Disk>(
     requires working { log.old.failed ≡ false }
     requires room { NOTED ≤ vec_capacity lsns.old }
     requires order { first ≤ last }
-    ensures ready { IsOpen D.Disk log.new disk.new }
+    ensures outcome { Imaging D.Disk log.old log.new disk.new (fault_of result) }
     ensures kept { (b : Base) (base : ℕ) (s : Writer) → IsWriting D.Disk b base s log.old table.now pool.now disk.old
         → ((q : ℕ) → first ≤ q → q ≤ last → MayCopy s pool.now q) → DurableKept D.Disk b base s first last lsns.new.items disk.old log.new table.now pool.now disk.new result }
     ensures changes { ChangesOnly D.Disk Log disk.old disk.new }
-    ensures failed { log.new.failed ≡ not (is_ok result) }
     ensures room { NOTED ≤ vec_capacity lsns.new }
-    ensures causes { IfErr result (λ e. (e ≡ LogFull) ⊎ (e ≡ Device)) }
-    ensures no_room { result ≡ Err LogFull → HasNoRoom log.new }
-    ensures full { result ≡ Err LogFull → 2 ^ 62 < end_with log.new 4129 }
-    ensures later { OnOk result (EndsNoSooner log.old log.new) }
-    ensures device { result ≡ Err Device ↔ (D.failed disk.new ≡ true) }
 {
     append_images(disk, log, table, pool, spare, lsns, first, last)?;
     log.force(disk)?;

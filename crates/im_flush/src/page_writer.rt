@@ -49,7 +49,8 @@ impl PageWriter {
     ghost use Rattle.im_log.specs.Whats.{what_of};
     ghost use Rattle.im_flush.specs.LogEnds.{EndsNoSooner};
     ghost use Rattle.im_flush.specs.Writing.{SameHeld};
-    ghost use Rattle.im_flush.specs.PageWriter.{IsReadyWriter, StandsAs, FlushOneKept, EvictKept, GetKept, StepKept, OldestKept, RoomKept, IsPlain, LogKept};
+    ghost use Rattle.im_flush.specs.Outcome.{fault_of, mild, none_mild, AllPages, AreLoadedTo, Flushes, HasPages, IsSound, Logs, Outcome};
+    ghost use Rattle.im_flush.specs.PageWriter.{IsReadyWriter, StandsAs, FlushedOne, StepKept, FlushedOldest, HasRoom, IsPlain, LogKept};
 
     /// Writes a page in place, if it was changed since it was read or written: it alone, where the file has it, and past the file's
     /// end every page from the page count up to it, unchanged ones too. First the Images of those pages join the log of which it is
@@ -61,18 +62,11 @@ impl PageWriter {
     /// then refused `Failed`.
     pub fn flush_one<D: Disk>(&mut self, disk: &mut D, number: PageNo) -> Result<(), Fault>
         requires ready { IsReadyWriter D.Disk self.old disk.old }
-        ensures ready { IsReadyWriter D.Disk self.new disk.new }
-        ensures kept { (b : Base) (base : ℕ) (s : Writer) → StandsAs D.Disk b base s self.old disk.old → FlushOneKept D.Disk b base s number disk.old self.new disk.new result }
+        ensures outcome { Flushes D.Disk self.old disk.old self.new disk.new (fault_of result) }
+        ensures kept { (b : Base) (base : ℕ) (s : Writer) → StandsAs D.Disk b base s self.old disk.old → OnOk result (FlushedOne D.Disk b base s number disk.old self.new disk.new) }
         ensures unchanged { self.old.failed ≡ false → is_changed self.old.pool number ≡ false → (result ≡ Ok tt) × (self.new ≡ self.old) × (disk.new ≡ disk.old) }
         ensures stays { D.tells → number ≤ page_count (D.seen disk.old Pages) → is_some (entry_in self.old.table number) ≡ true → OnOk result (is_some (entry_in self.new.table number) ≡ true) }
         ensures held { OnOk result (SameHeld self.old.pool self.new.pool) }
-        ensures failed { self.new.failed ≡ not (is_ok result) }
-        ensures causes { IfErr result (λ e. (e ≡ Failed) ⊎ (e ≡ LogFull) ⊎ (e ≡ Device)) }
-        ensures no_room { result ≡ Err LogFull → HasNoRoom self.new.log }
-        ensures full { result ≡ Err LogFull → 2 ^ 62 < end_with self.new.log 4129 }
-        ensures later { OnOk result (EndsNoSooner self.old.log self.new.log) }
-        ensures already { result ≡ Err Failed ↔ (self.old.failed ≡ true) }
-        ensures device { self.old.failed ≡ false → result ≡ Err Device ↔ (D.failed disk.new ≡ true) }
     {
         if self.failed {
             return Err(Fault::Failed);
@@ -94,16 +88,10 @@ impl PageWriter {
         requires ready { IsReadyWriter D.Disk self.old disk.old }
         requires working { self.old.failed ≡ false }
         requires changed { is_changed self.old.pool number ≡ true }
-        ensures ready { IsReadyWriter D.Disk self.new disk.new }
-        ensures kept { (b : Base) (base : ℕ) (s : Writer) → StandsAs D.Disk b base s self.old disk.old → FlushOneKept D.Disk b base s number disk.old self.new disk.new result }
+        ensures outcome { Flushes D.Disk self.old disk.old self.new disk.new (fault_of result) }
+        ensures kept { (b : Base) (base : ℕ) (s : Writer) → StandsAs D.Disk b base s self.old disk.old → OnOk result (FlushedOne D.Disk b base s number disk.old self.new disk.new) }
         ensures stays { D.tells → number ≤ page_count (D.seen disk.old Pages) → is_some (entry_in self.old.table number) ≡ true → OnOk result (is_some (entry_in self.new.table number) ≡ true) }
         ensures held { OnOk result (SameHeld self.old.pool self.new.pool) }
-        ensures failed { self.new.failed ≡ not (is_ok result) }
-        ensures causes { IfErr result (λ e. (e ≡ LogFull) ⊎ (e ≡ Device)) }
-        ensures no_room { result ≡ Err LogFull → HasNoRoom self.new.log }
-        ensures full { result ≡ Err LogFull → 2 ^ 62 < end_with self.new.log 4129 }
-        ensures later { OnOk result (EndsNoSooner self.old.log self.new.log) }
-        ensures device { result ≡ Err Device ↔ (D.failed disk.new ≡ true) }
     {
         self.failed = true;
         flush_page(
@@ -137,18 +125,10 @@ impl PageWriter {
     fn evict_oldest<D: Disk>(&mut self, disk: &mut D) -> Result<(), Fault>
         requires ready { IsReadyWriter D.Disk self.old disk.old }
         requires working { self.old.failed ≡ false }
-        ensures ready { IsReadyWriter D.Disk self.new disk.new }
-        ensures kept { (b : Base) (base : ℕ) (s : Writer) → StandsAs D.Disk b base s self.old disk.old → EvictKept D.Disk b base s disk.old self.new disk.new result }
+        requires some { 1 ≤ length self.old.pool.held }
+        ensures outcome { Flushes D.Disk self.old disk.old self.new disk.new (fault_of result) }
         ensures free { OnOk result (length self.new.pool.held < self.new.pool.frames) }
         ensures gets { OnOk result (self.new.pool.gets ≡ self.old.pool.gets) }
-        ensures works { OnOk result (self.new.failed ≡ false) }
-        ensures fails { IfErr result (λ e. (self.new.failed ≡ false) ↔ ((e ≡ Memory) ⊎ (e ≡ NotAStore))) }
-        ensures memory { result ≡ Err Memory → length self.old.pool.held ≡ 0 }
-        ensures causes { IfErr result (λ e. (e ≡ Memory) ⊎ (e ≡ LogFull) ⊎ (e ≡ Device)) }
-        ensures no_room { result ≡ Err LogFull → HasNoRoom self.new.log }
-        ensures full { result ≡ Err LogFull → 2 ^ 62 < end_with self.new.log 4129 }
-        ensures later { OnOk result (EndsNoSooner self.old.log self.new.log) }
-        ensures device { result ≡ Err Device ↔ (D.failed disk.new ≡ true) }
     {
         let Some(frame) = self.pool.oldest() else {
             return Err(Fault::Memory);
@@ -162,17 +142,9 @@ impl PageWriter {
     fn make_room<D: Disk>(&mut self, disk: &mut D, number: PageNo) -> Result<(), Fault>
         requires ready { IsReadyWriter D.Disk self.old disk.old }
         requires working { self.old.failed ≡ false }
-        ensures ready { IsReadyWriter D.Disk self.new disk.new }
-        ensures kept { (b : Base) (base : ℕ) (s : Writer) → StandsAs D.Disk b base s self.old disk.old → EvictKept D.Disk b base s disk.old self.new disk.new result }
+        ensures outcome { Flushes D.Disk self.old disk.old self.new disk.new (fault_of result) }
         ensures room { OnOk result (Holds self.new.pool number ⊎ (length self.new.pool.held < self.new.pool.frames)) }
         ensures gets { OnOk result (self.new.pool.gets ≡ self.old.pool.gets) }
-        ensures works { OnOk result (self.new.failed ≡ false) }
-        ensures fails { IfErr result (λ e. (self.new.failed ≡ false) ↔ ((e ≡ Memory) ⊎ (e ≡ NotAStore))) }
-        ensures causes { IfErr result (λ e. (e ≡ LogFull) ⊎ (e ≡ Device)) }
-        ensures no_room { result ≡ Err LogFull → HasNoRoom self.new.log }
-        ensures full { result ≡ Err LogFull → 2 ^ 62 < end_with self.new.log 4129 }
-        ensures later { OnOk result (EndsNoSooner self.old.log self.new.log) }
-        ensures device { result ≡ Err Device ↔ (D.failed disk.new ≡ true) }
         ensures held { Holds self.old.pool number → (result ≡ Ok tt) × (self.new ≡ self.old) × (disk.new ≡ disk.old) }
     {
         if self.pool.holds(number) {
@@ -189,9 +161,8 @@ impl PageWriter {
         requires ready { IsReadyWriter D.Disk self.old disk.old }
         requires working { self.old.failed ≡ false }
         requires room { Holds self.old.pool number ⊎ (length self.old.pool.held < self.old.pool.frames) }
-        ensures ready { IsReadyWriter D.Disk self.new disk.new }
-        ensures kept { (b : Base) (base : ℕ) (s : Writer) → StandsAs D.Disk b base s self.old disk.old → ((q : ℕ) → q ≤ number → (s.pages q).waits ≡ false)
-            → GetKept D.Disk b base s number disk.old self.new disk.new result }
+        ensures outcome { Outcome D.Disk (AreLoadedTo number) mild self.old disk.old self.new disk.new (fault_of result) }
+        ensures kept { (pages : AllPages) → HasPages D.Disk (AreLoadedTo number) pages self.old disk.old → IsSound result (λ _. page_at self.new.pool number ≡ pages number) }
         ensures at { IfOk result (IsAt self.new.pool) }
         ensures frame { IfOk result (λ frame. frame.number ≡ number) }
         ensures gets { IfOk result (λ _. self.new.pool.gets ≡ self.old.pool.gets + 1) }
@@ -200,10 +171,6 @@ impl PageWriter {
         ensures log { self.new.log ≡ self.old.log }
         ensures table { self.new.table ≡ self.old.table }
         ensures no_page { result ≡ Err NotAStore → D.tells → file_page (D.seen disk.new Pages) number ≡ None }
-        ensures works { OnOk result (self.new.failed ≡ false) }
-        ensures fails { IfErr result (λ e. (self.new.failed ≡ false) ↔ ((e ≡ Memory) ⊎ (e ≡ NotAStore))) }
-        ensures causes { IfErr result (λ e. (e ≡ Memory) ⊎ (e ≡ NotAStore) ⊎ (e ≡ Device)) }
-        ensures device { result ≡ Err Device ↔ (D.failed disk.new ≡ true) }
     {
         match self.pool.get(disk, number) {
             Ok(frame) => Ok(frame),
@@ -222,9 +189,8 @@ impl PageWriter {
     /// LSN 2^62, `Device`, `Memory`, or `NotAStore` where the page's bytes are none. Behind the last two the writer goes on.
     pub fn get<D: Disk>(&mut self, disk: &mut D, number: PageNo) -> Result<Frame, Fault>
         requires ready { IsReadyWriter D.Disk self.old disk.old }
-        ensures ready { IsReadyWriter D.Disk self.new disk.new }
-        ensures kept { (b : Base) (base : ℕ) (s : Writer) → StandsAs D.Disk b base s self.old disk.old → ((q : ℕ) → q ≤ number → (s.pages q).waits ≡ false)
-            → GetKept D.Disk b base s number disk.old self.new disk.new result }
+        ensures outcome { Outcome D.Disk (AreLoadedTo number) mild self.old disk.old self.new disk.new (fault_of result) }
+        ensures kept { (pages : AllPages) → HasPages D.Disk (AreLoadedTo number) pages self.old disk.old → IsSound result (λ _. page_at self.new.pool number ≡ pages number) }
         ensures at { IfOk result (IsAt self.new.pool) }
         ensures frame { IfOk result (λ frame. frame.number ≡ number) }
         ensures gets { IfOk result (λ _. self.new.pool.gets ≡ self.old.pool.gets + 1) }
@@ -232,14 +198,6 @@ impl PageWriter {
         ensures quiet { self.old.failed ≡ false → Holds self.old.pool number → (disk.new ≡ disk.old) × (self.new.log ≡ self.old.log) × (self.new.table ≡ self.old.table) }
         ensures memory { result ≡ Err Memory → held_of self.old.pool number ≡ None }
         ensures no_page { result ≡ Err NotAStore → D.tells → file_page (D.seen disk.new Pages) number ≡ None }
-        ensures works { OnOk result (self.new.failed ≡ false) }
-        ensures fails { IfErr result (λ e. (self.new.failed ≡ false) ↔ ((e ≡ Memory) ⊎ (e ≡ NotAStore))) }
-        ensures causes { IfErr result (λ e. (e ≡ Failed) ⊎ (e ≡ LogFull) ⊎ (e ≡ Memory) ⊎ (e ≡ NotAStore) ⊎ (e ≡ Device)) }
-        ensures no_room { result ≡ Err LogFull → HasNoRoom self.new.log }
-        ensures full { result ≡ Err LogFull → 2 ^ 62 < end_with self.new.log 4129 }
-        ensures later { OnOk result (EndsNoSooner self.old.log self.new.log) }
-        ensures already { result ≡ Err Failed ↔ (self.old.failed ≡ true) }
-        ensures device { self.old.failed ≡ false → result ≡ Err Device ↔ (D.failed disk.new ≡ true) }
     {
         if self.failed {
             return Err(Fault::Failed);
@@ -289,15 +247,12 @@ impl PageWriter {
     /// Refused `Device`, or `Failed` after a call that failed.
     pub fn force<D: Disk>(&mut self, disk: &mut D) -> Result<(), Fault>
         requires ready { IsReadyWriter D.Disk self.old disk.old }
-        ensures ready { IsReadyWriter D.Disk self.new disk.new }
+        ensures outcome { Logs D.Disk false none_mild self.old disk.old self.new disk.new (fault_of result) }
+        ensures room { result ≢ Err LogFull }
         ensures kept { (b : Base) (base : ℕ) (s : Writer) → StandsAs D.Disk b base s self.old disk.old → StepKept D.Disk b base s (forced s) disk.old self.new disk.new result }
         ensures none { self.old.failed ≡ false → self.old.log.used ≡ 0 → (result ≡ Ok tt) × (self.new.log ≡ self.old.log) × (disk.new ≡ disk.old) }
         ensures pool { self.new.pool ≡ self.old.pool }
         ensures table { self.new.table ≡ self.old.table }
-        ensures failed { self.new.failed ≡ not (is_ok result) }
-        ensures causes { IfErr result (λ e. (e ≡ Failed) ⊎ (e ≡ Device)) }
-        ensures already { result ≡ Err Failed ↔ (self.old.failed ≡ true) }
-        ensures device { self.old.failed ≡ false → result ≡ Err Device ↔ (D.failed disk.new ≡ true) }
     {
         if self.failed {
             return Err(Fault::Failed);
@@ -313,15 +268,12 @@ impl PageWriter {
     /// Refused `Device`, or `Failed` after a call that failed.
     pub fn sync_pages<D: Disk>(&mut self, disk: &mut D) -> Result<(), Fault>
         requires ready { IsReadyWriter D.Disk self.old disk.old }
-        ensures ready { IsReadyWriter D.Disk self.new disk.new }
+        ensures outcome { Logs D.Disk false none_mild self.old disk.old self.new disk.new (fault_of result) }
+        ensures room { result ≢ Err LogFull }
         ensures kept { (b : Base) (base : ℕ) (s : Writer) → StandsAs D.Disk b base s self.old disk.old → StepKept D.Disk b base s (synced s) disk.old self.new disk.new result }
         ensures table { OnOk result (self.new.table ≡ synced_entries self.old.table) }
         ensures log { self.new.log ≡ self.old.log }
         ensures pool { self.new.pool ≡ self.old.pool }
-        ensures failed { self.new.failed ≡ not (is_ok result) }
-        ensures causes { IfErr result (λ e. (e ≡ Failed) ⊎ (e ≡ Device)) }
-        ensures already { result ≡ Err Failed ↔ (self.old.failed ≡ true) }
-        ensures device { self.old.failed ≡ false → result ≡ Err Device ↔ (D.failed disk.new ≡ true) }
     {
         if self.failed {
             return Err(Fault::Failed);
@@ -336,15 +288,9 @@ impl PageWriter {
     fn flush_oldest<D: Disk>(&mut self, disk: &mut D) -> Result<(), Fault>
         requires ready { IsReadyWriter D.Disk self.old disk.old }
         requires working { self.old.failed ≡ false }
-        ensures ready { IsReadyWriter D.Disk self.new disk.new }
-        ensures kept { (b : Base) (base : ℕ) (s : Writer) → StandsAs D.Disk b base s self.old disk.old → OldestKept D.Disk b base s disk.old self.old.pool self.new disk.new result }
+        ensures outcome { Flushes D.Disk self.old disk.old self.new disk.new (fault_of result) }
+        ensures kept { (b : Base) (base : ℕ) (s : Writer) → StandsAs D.Disk b base s self.old disk.old → OnOk result (FlushedOldest D.Disk b base s disk.old self.old.pool self.new disk.new) }
         ensures held { OnOk result (SameHeld self.old.pool self.new.pool) }
-        ensures failed { self.new.failed ≡ not (is_ok result) }
-        ensures causes { IfErr result (λ e. (e ≡ LogFull) ⊎ (e ≡ Device)) }
-        ensures no_room { result ≡ Err LogFull → HasNoRoom self.new.log }
-        ensures full { result ≡ Err LogFull → 2 ^ 62 < end_with self.new.log 4129 }
-        ensures later { OnOk result (EndsNoSooner self.old.log self.new.log) }
-        ensures device { result ≡ Err Device ↔ (D.failed disk.new ≡ true) }
     {
         match self.pool.oldest_changed() {
             None => Ok(()),
@@ -359,17 +305,10 @@ impl PageWriter {
     /// Refused `LogFull`, where an Image would end above LSN 2^62, `Device`, or `Failed` after a call that failed.
     pub fn make_entry_room<D: Disk>(&mut self, disk: &mut D) -> Result<(), Fault>
         requires ready { IsReadyWriter D.Disk self.old disk.old }
-        ensures ready { IsReadyWriter D.Disk self.new disk.new }
-        ensures kept { (b : Base) (base : ℕ) (s : Writer) → StandsAs D.Disk b base s self.old disk.old → RoomKept D.Disk b base s disk.old self.old self.new disk.new result }
+        ensures outcome { Flushes D.Disk self.old disk.old self.new disk.new (fault_of result) }
+        ensures kept { (b : Base) (base : ℕ) (s : Writer) → StandsAs D.Disk b base s self.old disk.old → OnOk result (HasRoom D.Disk b base s disk.old self.old self.new disk.new) }
         ensures held { OnOk result (SameHeld self.old.pool self.new.pool) }
         ensures unchanged { self.old.failed ≡ false → length self.old.table < 1024 → (result ≡ Ok tt) × (self.new ≡ self.old) × (disk.new ≡ disk.old) }
-        ensures failed { self.new.failed ≡ not (is_ok result) }
-        ensures causes { IfErr result (λ e. (e ≡ Failed) ⊎ (e ≡ LogFull) ⊎ (e ≡ Device)) }
-        ensures no_room { result ≡ Err LogFull → HasNoRoom self.new.log }
-        ensures full { result ≡ Err LogFull → 2 ^ 62 < end_with self.new.log 4129 }
-        ensures later { OnOk result (EndsNoSooner self.old.log self.new.log) }
-        ensures already { result ≡ Err Failed ↔ (self.old.failed ≡ true) }
-        ensures device { self.old.failed ≡ false → result ≡ Err Device ↔ (D.failed disk.new ≡ true) }
     {
         if self.failed {
             return Err(Fault::Failed);
@@ -390,15 +329,10 @@ impl PageWriter {
     pub fn log_only<D: Disk>(&mut self, disk: &mut D, record: &Record) -> Result<Lsn, Fault>
         requires entry { IsEntry (view record.now) }
         requires ready { IsReadyWriter D.Disk self.old disk.old }
-        ensures ready { IsReadyWriter D.Disk self.new disk.new }
+        ensures outcome { Logs D.Disk false none_mild self.old disk.old self.new disk.new (fault_of result) }
         ensures kept { (b : Base) (base : ℕ) (s : Writer) (e : ℕ) → StandsAs D.Disk b base s self.old disk.old → s.redo_end ≡ Some e → IsPlain (what_of (view record.now))
             → LogKept D.Disk b base s (view record.now) disk.old self.new disk.new result }
-        ensures failed { self.new.failed ≡ not (is_ok result) }
-        ensures causes { IfErr result (λ e. (e ≡ Failed) ⊎ (e ≡ LogFull) ⊎ (e ≡ Device)) }
-        ensures no_room { result ≡ Err LogFull → HasNoRoom self.new.log }
-        ensures already { result ≡ Err Failed ↔ (self.old.failed ≡ true) }
         ensures full { result ≡ Err LogFull ↔ ((self.old.failed ≡ false) × (2 ^ 62 < end_with self.old.log (size_of (view record.now)))) }
-        ensures device { self.old.failed ≡ false → result ≡ Err Device ↔ (D.failed disk.new ≡ true) }
     {
         if self.failed {
             return Err(Fault::Failed);

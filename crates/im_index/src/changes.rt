@@ -1,23 +1,20 @@
 //! What inserts and deletes ask of the lock table, before they change anything.
 
-ghost use Rattle.std.specs.Prelude.{◌≡◌, ◌⊎◌, ◌↔◌, ℕ, List, true, false, Ok, Err, IfOk, IfErr, OnOk, OnErr, is_some};
+ghost use Rattle.std.specs.Prelude.{◌≡◌, ℕ, IfOk, OnErr, is_some};
 ghost use Rattle.std.specs.FinMap.{entries};
 ghost use Rattle.std.specs.FinMap.Entries.{find};
-ghost use Rattle.im_types.specs.declared.fault.Fault.TheVariants.{Device, Failed, LogFull, Memory, NotAStore};
 ghost use Rattle.im_types.specs.Keys.{key_order};
 ghost use Rattle.im_types.specs.Maps.{IndexMap};
 ghost use Rattle.im_types.specs.Answers.{Insert, Delete};
-ghost use Rattle.im_types.specs.Histories.{Base};
-ghost use Rattle.im_types.specs.Writer.{Writer};
 ghost use Rattle.im_pool.specs.Pool.{page_at, IsAt};
-ghost use Rattle.im_log.specs.LogFile.{HasNoRoom};
 ghost use Rattle.im_flush.specs.PageWriter.{IsReadyWriter};
+ghost use Rattle.im_flush.specs.Outcome.{fault_of, AllPages, IsSound, Reads};
 ghost use Rattle.im_tree.specs.Levels.{walk};
-ghost use Rattle.im_search.specs.Levels.{HasLevel, bodies};
+ghost use Rattle.im_search.specs.Levels.{HasLevel, bodies_of};
 ghost use Rattle.im_search.specs.Found.{HasTree};
 ghost use Rattle.im_lock.specs.Table.{SameTable};
 ghost use Rattle.im_index.specs.Outcomes.{IfGranted};
-ghost use Rattle.im_index.specs.Asks.{AskKept};
+ghost use Rattle.im_index.specs.Asks.{IsAsked};
 
 use crate::asking::{name_in, outcome_of};
 use crate::outcome::Outcome;
@@ -60,18 +57,12 @@ pub fn ask_insert<D: Disk>(
     key: &[u8],
 ) -> Result<Outcome<Place>, Fault>
     requires ready { IsReadyWriter D.Disk writer.old disk.old }
-    ensures ready { IsReadyWriter D.Disk writer.new disk.new }
-    ensures kept { (b : Base) (base : ℕ) (s : Writer) (spare : List ℕ) (m : IndexMap) (rid : ℕ) → HasTree D.Disk b base s spare writer.old disk.old → walk (bodies s) ≡ entries m
-        → AskKept D.Disk b base s transaction (Insert key.now rid) key.now m locks.old locks.new disk.old writer.new disk.new result }
+    ensures outcome { Reads D.Disk writer.old disk.old writer.new disk.new (fault_of result) }
+    ensures kept { (pages : AllPages) (m : IndexMap) (rid : ℕ) → HasTree D.Disk pages writer.old disk.old → walk (bodies_of pages) ≡ entries m
+        → IsSound result (IsAsked pages transaction (Insert key.now rid) key.now m locks.old locks.new writer.new.pool) }
     ensures at { IfOk result (λ outcome. IfGranted outcome (λ place. IsAt writer.new.pool place.leaf)) }
     ensures leaf { IfOk result (λ outcome. IfGranted outcome (λ place. HasLevel 0 (page_at writer.new.pool place.leaf.number).body)) }
     ensures table { OnErr result (SameTable locks.old locks.new) }
-    ensures works { OnOk result (writer.new.failed ≡ false) }
-    ensures fails { IfErr result (λ e. (writer.new.failed ≡ false) ↔ ((e ≡ Memory) ⊎ (e ≡ NotAStore))) }
-    ensures causes { IfErr result (λ e. (e ≡ Failed) ⊎ (e ≡ LogFull) ⊎ (e ≡ Memory) ⊎ (e ≡ NotAStore) ⊎ (e ≡ Device)) }
-    ensures no_room { result ≡ Err LogFull → HasNoRoom writer.new.log }
-    ensures already { result ≡ Err Failed ↔ (writer.old.failed ≡ true) }
-    ensures device { writer.old.failed ≡ false → result ≡ Err Device ↔ (D.failed disk.new ≡ true) }
 {
     let (leaf, next) = leaf_and_next(writer, disk, key)?;
     let page = writer.page(leaf);
@@ -94,18 +85,12 @@ pub fn ask_delete<D: Disk>(
     key: &[u8],
 ) -> Result<Outcome<Place>, Fault>
     requires ready { IsReadyWriter D.Disk writer.old disk.old }
-    ensures ready { IsReadyWriter D.Disk writer.new disk.new }
-    ensures kept { (b : Base) (base : ℕ) (s : Writer) (spare : List ℕ) (m : IndexMap) → HasTree D.Disk b base s spare writer.old disk.old → walk (bodies s) ≡ entries m
-        → AskKept D.Disk b base s transaction (Delete key.now) key.now m locks.old locks.new disk.old writer.new disk.new result }
+    ensures outcome { Reads D.Disk writer.old disk.old writer.new disk.new (fault_of result) }
+    ensures kept { (pages : AllPages) (m : IndexMap) → HasTree D.Disk pages writer.old disk.old → walk (bodies_of pages) ≡ entries m
+        → IsSound result (IsAsked pages transaction (Delete key.now) key.now m locks.old locks.new writer.new.pool) }
     ensures at { IfOk result (λ outcome. IfGranted outcome (λ place. IsAt writer.new.pool place.leaf)) }
     ensures leaf { IfOk result (λ outcome. IfGranted outcome (λ place. HasLevel 0 (page_at writer.new.pool place.leaf.number).body)) }
     ensures table { OnErr result (SameTable locks.old locks.new) }
-    ensures works { OnOk result (writer.new.failed ≡ false) }
-    ensures fails { IfErr result (λ e. (writer.new.failed ≡ false) ↔ ((e ≡ Memory) ⊎ (e ≡ NotAStore))) }
-    ensures causes { IfErr result (λ e. (e ≡ Failed) ⊎ (e ≡ LogFull) ⊎ (e ≡ Memory) ⊎ (e ≡ NotAStore) ⊎ (e ≡ Device)) }
-    ensures no_room { result ≡ Err LogFull → HasNoRoom writer.new.log }
-    ensures already { result ≡ Err Failed ↔ (writer.old.failed ≡ true) }
-    ensures device { writer.old.failed ≡ false → result ≡ Err Device ↔ (D.failed disk.new ≡ true) }
 {
     let (leaf, next) = leaf_and_next(writer, disk, key)?;
     let page = writer.page(leaf);

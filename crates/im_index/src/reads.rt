@@ -1,23 +1,20 @@
 //! One entry: that of a key, or the next.
 
-ghost use Rattle.std.specs.Prelude.{◌≡◌, ◌⊎◌, ◌↔◌, ◌<◌, length, ℕ, List, true, false, Ok, Err, None, IfOk, IfErr, OnOk, OnErr};
+ghost use Rattle.std.specs.Prelude.{◌≡◌, ◌<◌, length, None, IfOk, IfErr, OnErr};
 ghost use Rattle.std.specs.FinMap.{entries, get};
-ghost use Rattle.im_types.specs.declared.fault.Fault.TheVariants.{Device, Failed, LogFull, Memory, NotAStore};
-ghost use Rattle.im_types.specs.Maps.{IndexMap};
+ghost use Rattle.im_types.specs.Maps.{IndexMap, first_in};
 ghost use Rattle.im_types.specs.Answers.{Fetch, found, entry as entry_found};
-ghost use Rattle.im_types.specs.Histories.{Base};
-ghost use Rattle.im_types.specs.Writer.{Writer};
-ghost use Rattle.im_log.specs.LogFile.{HasNoRoom};
 ghost use Rattle.im_flush.specs.PageWriter.{IsReadyWriter};
+ghost use Rattle.im_flush.specs.Outcome.{fault_of, AllPages, IsSound, Reads};
 ghost use Rattle.im_tree.specs.Levels.{walk};
-ghost use Rattle.im_search.specs.Levels.{bodies, start_at};
+ghost use Rattle.im_search.specs.Levels.{bodies_of, start_at};
 ghost use Rattle.im_search.specs.Found.{HasTree};
 ghost use Rattle.im_lock.specs.Table.{SameTable};
 ghost use Rattle.im_lock.specs.Table.{named};
 ghost use Rattle.im_lock.specs.Rows.{name_of};
 ghost use Rattle.im_page.specs.Entry.{entry_at};
 ghost use Rattle.im_index.specs.Outcomes.{seek_at};
-ghost use Rattle.im_index.specs.Reads.{CopiedKept, ReadKept};
+ghost use Rattle.im_index.specs.Reads.{IsRead};
 
 use crate::asking::{name_in, outcome_of};
 use crate::outcome::Outcome;
@@ -37,16 +34,10 @@ fn fetch_absent<D: Disk>(
     key: &[u8],
 ) -> Result<Outcome<Option<Rid>>, Fault>
     requires ready { IsReadyWriter D.Disk writer.old disk.old }
-    ensures ready { IsReadyWriter D.Disk writer.new disk.new }
-    ensures kept { (b : Base) (base : ℕ) (s : Writer) (spare : List ℕ) (m : IndexMap) → HasTree D.Disk b base s spare writer.old disk.old → walk (bodies s) ≡ entries m → get m key.now ≡ None
-        → ReadKept D.Disk b base found s transaction (Fetch key.now) m locks.old locks.new disk.old writer.new disk.new result }
+    ensures outcome { Reads D.Disk writer.old disk.old writer.new disk.new (fault_of result) }
+    ensures kept { (pages : AllPages) (m : IndexMap) → HasTree D.Disk pages writer.old disk.old → walk (bodies_of pages) ≡ entries m → get m key.now ≡ None
+        → IsSound result (IsRead found transaction (Fetch key.now) m locks.old locks.new) }
     ensures table { OnErr result (SameTable locks.old locks.new) }
-    ensures works { OnOk result (writer.new.failed ≡ false) }
-    ensures fails { IfErr result (λ e. (writer.new.failed ≡ false) ↔ ((e ≡ Memory) ⊎ (e ≡ NotAStore))) }
-    ensures causes { IfErr result (λ e. (e ≡ Failed) ⊎ (e ≡ LogFull) ⊎ (e ≡ Memory) ⊎ (e ≡ NotAStore) ⊎ (e ≡ Device)) }
-    ensures no_room { result ≡ Err LogFull → HasNoRoom writer.new.log }
-    ensures already { result ≡ Err Failed ↔ (writer.old.failed ≡ true) }
-    ensures device { writer.old.failed ≡ false → result ≡ Err Device ↔ (D.failed disk.new ≡ true) }
 {
     let (leaf, next) = leaf_and_next(writer, disk, key)?;
     let row = fetch_row(key, false, name_in(writer.page(leaf), &next));
@@ -67,16 +58,10 @@ pub fn fetch<D: Disk>(
     key: &[u8],
 ) -> Result<Outcome<Option<Rid>>, Fault>
     requires ready { IsReadyWriter D.Disk writer.old disk.old }
-    ensures ready { IsReadyWriter D.Disk writer.new disk.new }
-    ensures kept { (b : Base) (base : ℕ) (s : Writer) (spare : List ℕ) (m : IndexMap) → HasTree D.Disk b base s spare writer.old disk.old → walk (bodies s) ≡ entries m
-        → ReadKept D.Disk b base found s transaction (Fetch key.now) m locks.old locks.new disk.old writer.new disk.new result }
+    ensures outcome { Reads D.Disk writer.old disk.old writer.new disk.new (fault_of result) }
+    ensures kept { (pages : AllPages) (m : IndexMap) → HasTree D.Disk pages writer.old disk.old → walk (bodies_of pages) ≡ entries m
+        → IsSound result (IsRead found transaction (Fetch key.now) m locks.old locks.new) }
     ensures table { OnErr result (SameTable locks.old locks.new) }
-    ensures works { OnOk result (writer.new.failed ≡ false) }
-    ensures fails { IfErr result (λ e. (writer.new.failed ≡ false) ↔ ((e ≡ Memory) ⊎ (e ≡ NotAStore))) }
-    ensures causes { IfErr result (λ e. (e ≡ Failed) ⊎ (e ≡ LogFull) ⊎ (e ≡ Memory) ⊎ (e ≡ NotAStore) ⊎ (e ≡ Device)) }
-    ensures no_room { result ≡ Err LogFull → HasNoRoom writer.new.log }
-    ensures already { result ≡ Err Failed ↔ (writer.old.failed ≡ true) }
-    ensures device { writer.old.failed ≡ false → result ≡ Err Device ↔ (D.failed disk.new ≡ true) }
 {
     if let Some(rid) = locate(writer, disk, key)? {
         let row = fetch_row(key, true, Name::End);
@@ -113,15 +98,8 @@ fn found_by<D: Disk>(
     inclusive: bool,
 ) -> Result<Option<(Key, Rid)>, Fault>
     requires ready { IsReadyWriter D.Disk writer.old disk.old }
-    ensures ready { IsReadyWriter D.Disk writer.new disk.new }
-    ensures kept { (b : Base) (base : ℕ) (s : Writer) (spare : List ℕ) → HasTree D.Disk b base s spare writer.old disk.old
-        → CopiedKept D.Disk b base s (start_at inclusive key.now) disk.old writer.new disk.new result }
-    ensures works { OnOk result (writer.new.failed ≡ false) }
-    ensures fails { IfErr result (λ e. (writer.new.failed ≡ false) ↔ ((e ≡ Memory) ⊎ (e ≡ NotAStore))) }
-    ensures causes { IfErr result (λ e. (e ≡ Failed) ⊎ (e ≡ LogFull) ⊎ (e ≡ Memory) ⊎ (e ≡ NotAStore) ⊎ (e ≡ Device)) }
-    ensures no_room { result ≡ Err LogFull → HasNoRoom writer.new.log }
-    ensures already { result ≡ Err Failed ↔ (writer.old.failed ≡ true) }
-    ensures device { writer.old.failed ≡ false → result ≡ Err Device ↔ (D.failed disk.new ≡ true) }
+    ensures outcome { Reads D.Disk writer.old disk.old writer.new disk.new (fault_of result) }
+    ensures kept { (pages : AllPages) → HasTree D.Disk pages writer.old disk.old → IsSound result (λ found. found ≡ first_in (start_at inclusive key.now) (walk (bodies_of pages))) }
 {
     let Some(place) = next_entry(writer, disk, key, inclusive)? else {
         return Ok(None);
@@ -144,16 +122,10 @@ pub fn seek<D: Disk>(
     inclusive: bool,
 ) -> Result<Outcome<Option<(Key, Rid)>>, Fault>
     requires ready { IsReadyWriter D.Disk writer.old disk.old }
-    ensures ready { IsReadyWriter D.Disk writer.new disk.new }
-    ensures kept { (b : Base) (base : ℕ) (s : Writer) (spare : List ℕ) (m : IndexMap) → HasTree D.Disk b base s spare writer.old disk.old → walk (bodies s) ≡ entries m
-        → ReadKept D.Disk b base entry_found s transaction (seek_at inclusive key.now) m locks.old locks.new disk.old writer.new disk.new result }
+    ensures outcome { Reads D.Disk writer.old disk.old writer.new disk.new (fault_of result) }
+    ensures kept { (pages : AllPages) (m : IndexMap) → HasTree D.Disk pages writer.old disk.old → walk (bodies_of pages) ≡ entries m
+        → IsSound result (IsRead entry_found transaction (seek_at inclusive key.now) m locks.old locks.new) }
     ensures table { OnErr result (SameTable locks.old locks.new) }
-    ensures works { OnOk result (writer.new.failed ≡ false) }
-    ensures fails { IfErr result (λ e. (writer.new.failed ≡ false) ↔ ((e ≡ Memory) ⊎ (e ≡ NotAStore))) }
-    ensures causes { IfErr result (λ e. (e ≡ Failed) ⊎ (e ≡ LogFull) ⊎ (e ≡ Memory) ⊎ (e ≡ NotAStore) ⊎ (e ≡ Device)) }
-    ensures no_room { result ≡ Err LogFull → HasNoRoom writer.new.log }
-    ensures already { result ≡ Err Failed ↔ (writer.old.failed ≡ true) }
-    ensures device { writer.old.failed ≡ false → result ≡ Err Device ↔ (D.failed disk.new ≡ true) }
 {
     let found = found_by(writer, disk, key, inclusive)?;
     let row = seek_row(name_found(&found));

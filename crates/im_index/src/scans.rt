@@ -1,18 +1,16 @@
 //! The entries of a range.
 
-ghost use Rattle.std.specs.Prelude.{◌≡◌, ◌≢◌, ◌⊎◌, ◌↔◌, ℕ, List, Vec, true, false, Ok, Err, IfOk, IfErr, IfSome, OnOk, OnErr, option_map};
+ghost use Rattle.std.specs.Prelude.{◌≡◌, ℕ, IfOk, IfErr, IfSome, OnErr};
 ghost use Rattle.std.specs.FinMap.{entries};
-ghost use Rattle.im_types.specs.declared.fault.Fault.TheVariants.{Device, Failed, LogFull, Memory, NotAStore};
+ghost use Rattle.im_types.specs.declared.fault.Fault.TheVariants.{Memory};
 ghost use Rattle.im_types.specs.Keys.{Key as KeyBytes};
 ghost use Rattle.im_types.specs.Pages.{Entry};
 ghost use Rattle.im_types.specs.Maps.{IndexMap};
 ghost use Rattle.im_types.specs.Answers.{Scan, limit_of};
-ghost use Rattle.im_types.specs.Histories.{Base};
-ghost use Rattle.im_types.specs.Writer.{Writer};
-ghost use Rattle.im_log.specs.LogFile.{HasNoRoom};
 ghost use Rattle.im_flush.specs.PageWriter.{IsReadyWriter};
+ghost use Rattle.im_flush.specs.Outcome.{fault_of, AllPages, IsSound, Reads};
 ghost use Rattle.im_tree.specs.Levels.{walk};
-ghost use Rattle.im_search.specs.Levels.{bodies};
+ghost use Rattle.im_search.specs.Levels.{bodies_of};
 ghost use Rattle.im_search.specs.Found.{HasTree};
 ghost use Rattle.im_search.specs.NextKeys.{IsFar};
 ghost use Rattle.im_lock.specs.Locks.{IsFree};
@@ -20,7 +18,7 @@ ghost use Rattle.im_lock.specs.Rows.{asked};
 ghost use Rattle.im_lock.specs.Found.{IsScanOf, named_if};
 ghost use Rattle.im_lock.specs.Table.{Decides, SameTable, locks_of};
 ghost use Rattle.im_index.specs.Outcomes.{name_behind, entries_found};
-ghost use Rattle.im_index.specs.Reads.{ReadKept};
+ghost use Rattle.im_index.specs.Reads.{IsRead};
 
 use crate::asking::outcome_of;
 use crate::outcome::Outcome;
@@ -90,16 +88,10 @@ pub fn scan<D: Disk>(
     limit: usize,
 ) -> Result<Outcome<Vec<(Key, Rid)>>, Fault>
     requires ready { IsReadyWriter D.Disk writer.old disk.old }
-    ensures ready { IsReadyWriter D.Disk writer.new disk.new }
-    ensures kept { (b : Base) (base : ℕ) (s : Writer) (spare : List ℕ) (m : IndexMap) → HasTree D.Disk b base s spare writer.old disk.old → walk (bodies s) ≡ entries m
-        → ReadKept D.Disk b base entries_found s transaction (Scan lo.now hi.now limit) m locks.old locks.new disk.old writer.new disk.new result }
+    ensures outcome { Reads D.Disk writer.old disk.old writer.new disk.new (fault_of result) }
+    ensures kept { (pages : AllPages) (m : IndexMap) → HasTree D.Disk pages writer.old disk.old → walk (bodies_of pages) ≡ entries m
+        → IsSound result (IsRead entries_found transaction (Scan lo.now hi.now limit) m locks.old locks.new) }
     ensures table { OnErr result (SameTable locks.old locks.new) }
-    ensures works { OnOk result (writer.new.failed ≡ false) }
-    ensures fails { IfErr result (λ e. (writer.new.failed ≡ false) ↔ ((e ≡ Memory) ⊎ (e ≡ NotAStore))) }
-    ensures causes { IfErr result (λ e. (e ≡ Failed) ⊎ (e ≡ LogFull) ⊎ (e ≡ Memory) ⊎ (e ≡ NotAStore) ⊎ (e ≡ Device)) }
-    ensures no_room { result ≡ Err LogFull → HasNoRoom writer.new.log }
-    ensures already { result ≡ Err Failed ↔ (writer.old.failed ≡ true) }
-    ensures device { writer.old.failed ≡ false → result ≡ Err Device ↔ (D.failed disk.new ≡ true) }
 {
     let (list, behind) = entries_between(alloc, writer, disk, lo, hi, bounded(limit))?;
     let verdict = ask_range(alloc, locks, transaction, list.as_slice(), &behind)?;

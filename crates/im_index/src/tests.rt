@@ -144,6 +144,15 @@ fn told_all(outcome: Outcome<Vec<(Key, Rid)>>) -> usize {
     }
 }
 
+// The number of a key's leaf, and its row id, 0 where there is none; or as `told` has it.
+fn told_place(outcome: Outcome<Place>) -> (PageNo, u64) {
+    match outcome {
+        Outcome::Granted(place) => (place.leaf.number, place.rid.unwrap_or(0)),
+        Outcome::Wait(holder) => (0, holder % 1000 + 1000),
+        Outcome::Die => (0, 2000),
+    }
+}
+
 #[test]
 fn a_key_that_is_there_is_locked(rt: HostRuntime) -> Result<(), Fail> {
     let alloc = rt.alloc();
@@ -234,5 +243,36 @@ fn a_scan_that_is_full_locks_nothing_behind_it(rt: HostRuntime) -> Result<(), Fa
     assert_eq!(rt; told_all(one), 1);
     assert!(rt; is_locked(&mut locks, Name::Key(b"b"))?);
     assert!(rt; !is_locked(&mut locks, Name::Key(b"m"))?);
+    Ok(())
+}
+
+#[test]
+fn an_insert_locks_its_key_and_asks_the_next(rt: HostRuntime) -> Result<(), Fail> {
+    let alloc = rt.alloc();
+    let pages = three_leaves(alloc)?;
+    let mut disk = disk_of(alloc, pages)?;
+    let mut writer = open(alloc, &mut disk)?;
+    let mut locks = LockTable::new(alloc);
+    let place = ask_insert(&mut writer, &mut disk, &mut locks, 1, b"bb")?;
+    assert_eq!(rt; told_place(place), (2, 0));
+    assert!(rt; is_locked(&mut locks, Name::Key(b"bb"))?);
+    assert!(rt; !is_locked(&mut locks, Name::Key(b"m"))?);
+    hold(&mut locks, 5, b"m")?;
+    let younger = ask_insert(&mut writer, &mut disk, &mut locks, 7, b"c")?;
+    assert_eq!(rt; told_place(younger), (0, 2000));
+    Ok(())
+}
+
+#[test]
+fn a_delete_locks_the_next_name(rt: HostRuntime) -> Result<(), Fail> {
+    let alloc = rt.alloc();
+    let pages = three_leaves(alloc)?;
+    let mut disk = disk_of(alloc, pages)?;
+    let mut writer = open(alloc, &mut disk)?;
+    let mut locks = LockTable::new(alloc);
+    let place = ask_delete(&mut writer, &mut disk, &mut locks, 1, b"b")?;
+    assert_eq!(rt; told_place(place), (2, 98));
+    assert!(rt; is_locked(&mut locks, Name::Key(b"m"))?);
+    assert!(rt; !is_locked(&mut locks, Name::Key(b"b"))?);
     Ok(())
 }

@@ -5,4 +5,5 @@ pub mod Counting
 pub mod Passing
 pub mod Raised
 pub mod Reached
+pub mod Recoveries
 pub mod Within

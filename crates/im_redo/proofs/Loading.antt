@@ -31,7 +31,7 @@ use Rattle.im_analysis.specs.CopyLsns.{AreCopies, CopyMap}
 use Rattle.im_disk.specs.declared.disk.Disk.{Ghosts}
 use Rattle.im_flush.specs.declared.page_writer.PageWriter.{PageWriter}
 use Rattle.im_flush.specs.Redoing.{LoadKept}
-use Rattle.im_flush.proofs.Growing.{on_ok}
+use Rattle.im_flush.proofs.Outcomes.{sound_done}
 use Rattle.im_flush.proofs.PageFiles.{only_here, only_other}
 use Rattle.im_redo.specs.Loading.{AreWaiting, IsLoading, LoadingKept, WaitsFor, lsn_at}
 use Rattle.im_redo.specs.Redo.{first_lsn}
@@ -176,7 +176,7 @@ module _ {D : Type 0} (d : Ghosts D) (b : Base) (base : ℕ) (begun : History) (
   pub loads : (entry : Entry) (same : logged_at holds_copy.holder.lsn entry ≡ holds_copy.holder) (copy : Page) (v : PageWriter) (mid : D) → IsWithinRedo d b base begun from so.now v mid
       → (t : PageWriter) (new : D) (result : Result Unit Fault) → LoadKept d b base so.now (page_of entry) copy mid t new result → (so.now.pages (page_of entry)).found ≡ Some (lsn, copy) → LoadingKept d b base begun file left from t new result
   loads entry same copy v mid within t new result kept mine = record {
-    ok = on_ok result _ (IsLoading d b base begun file left from t new) kept.ok
+    sound = sound_done result _ (IsLoading d b base begun file left from t new) kept.ok kept.cause
         (λ done. let here : page_of entry ≡ p = page_here entry same in record {
           now = loaded (page_of entry) copy done.before;
           within = within_more d b base begun from so.now v mid within done.before (loaded (page_of entry) copy done.before) t new done.keeps done.stops done.stands refl refl refl refl;
@@ -197,5 +197,4 @@ module _ {D : Type 0} (d : Ghosts D) (b : Base) (base : ℕ) (begun : History) (
           ];
         });
     stops = leaves_more d b base begun from so.now v mid within new kept.stops;
-    cause = kept.cause;
   }

@@ -1,8 +1,5 @@
 -- Redo from one of its calls to the next, and what a stop within a call leaves.
 use Rattle.std.proofs.Common.{◌≡◌, ℕ, inr, List, ◌++◌, [], ◌∷◌, Option, None, Some, refl, sym, subst, ◌∙◌, ap}
-use Rattle.std.specs.Prelude.{Result, Ok, Err, IfOk, OnOk}
-use Rattle.std.specs.Result.{IsErr}
-use Rattle.im_types.specs.declared.fault.Fault.{Fault}
 use Rattle.im_types.specs.Pages.{Page}
 use Rattle.im_types.specs.Records.{Logged}
 use Rattle.im_types.specs.Histories.{Base, History, IsFront, IsRecordOf}
@@ -26,15 +23,6 @@ use Rattle.im_flush.proofs.Goings.{covered_then}
 use Rattle.im_flush.proofs.Growing.{grown_front, grows_none, grows_then}
 use Rattle.im_redo.specs.Redo.{LeavesRedoing}
 use Rattle.im_redo.specs.Within.{IsWithinRedo}
-
--- a refusal that is handed on is no Ok
-pub not_ok : {A : Type 0} (r : Result A Fault) (P : Type 0) → IsErr r → OnOk r P
-not_ok (Ok a) P is = absurd (cc is)
-not_ok (Err e) P is = tt
-
-pub no_ok : {A : Type 0} (r : Result A Fault) (P : A → Type 0) → IsErr r → IfOk r P
-no_ok (Ok a) P is = absurd (cc is)
-no_ok (Err e) P is = tt
 
 -- a record of the log that redo began with is one of the longer log
 pub record_still : (b : Base) (begun log : History) (r : Logged) → GrowsByImages b begun log → IsRecordOf r begun → IsRecordOf r log

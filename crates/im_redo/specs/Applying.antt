@@ -1,14 +1,13 @@
 -- What the records of redo keep.
-use Rattle.std.specs.Prelude.{◌≡◌, ◌≢◌, ◌≤◌, ◌<◌, ◌+◌, ◌⊎◌, ℕ, Bool, false, if◌then◌else◌, List, [], ◌++◌, Option, Result, IfErr, IfOk}
+use Rattle.std.specs.Prelude.{◌≡◌, ◌≤◌, ◌<◌, ◌+◌, ◌⊎◌, ℕ, Bool, false, if◌then◌else◌, List, [], ◌++◌, Option, Result}
 use Rattle.im_types.specs.declared.fault.Fault.{Fault}
-use Rattle.im_types.specs.declared.fault.Fault.TheVariants.{NotAStore}
 use Rattle.im_types.specs.Pages.{Page}
 use Rattle.im_types.specs.Histories.{Base, History, end_of}
 use Rattle.im_types.specs.RedoPoints.{redo_point}
 use Rattle.im_types.specs.Writer.{PageState, Writer}
 use Rattle.im_disk.specs.declared.disk.Disk.{Ghosts}
 use Rattle.im_flush.specs.declared.page_writer.PageWriter.{PageWriter}
-use Rattle.im_redo.specs.Redo.{LeavesRedoing, applied_in, first_lsn, lsns_from}
+use Rattle.im_redo.specs.Redo.{RedoSound, applied_in, first_lsn, lsns_from}
 use Rattle.im_redo.specs.Within.{IsWithinRedo}
 
 -- no page waits, and each has had all records of this front
@@ -39,13 +38,9 @@ module _ {D : Type 0} (d : Ghosts D) (b : Base) (base : ℕ) (begun : History) (
     pub counted : count ≡ applied_in (first_lsn b begun file) (redo_point begun) front
 
   -- what a record keeps, with these left and so many applied before
-  pub record AppliedKept (left : List ℕ) (count : ℕ) (from : D) (w : PageWriter) (disk : D) (result : Result Bool Fault) : Type 0 where
-    pub ok : IfOk result (λ done. IsApplying left (count + (if done then 1 else 0)) from w disk)
-    pub stops : LeavesRedoing d b base begun from disk
-    pub cause : IfErr result (λ e. e ≢ NotAStore)
+  abbrev pub AppliedKept : List ℕ → ℕ → D → PageWriter → D → Result Bool Fault → Type 0
+  AppliedKept left count from w disk result = RedoSound d b base begun (λ done. IsApplying left (count + (if done then 1 else 0)) from w disk) from disk result
 
   -- what all of them keep
-  pub record ApplyingKept (from : D) (w : PageWriter) (disk : D) (result : Result ℕ Fault) : Type 0 where
-    pub ok : IfOk result (λ n. IsApplying [] n from w disk)
-    pub stops : LeavesRedoing d b base begun from disk
-    pub cause : IfErr result (λ e. e ≢ NotAStore)
+  abbrev pub ApplyingKept : D → PageWriter → D → Result ℕ Fault → Type 0
+  ApplyingKept from w disk result = RedoSound d b base begun (λ n. IsApplying [] n from w disk) from disk result

@@ -1,11 +1,10 @@
 -- What the loading of noted copies keeps.
-use Rattle.std.specs.Prelude.{◌≡◌, ◌≢◌, ℕ, true, false, List, Option, None, Some, Result, IfErr, OnOk}
+use Rattle.std.specs.Prelude.{◌≡◌, ℕ, true, false, List, Option, None, Some, Result}
 use Rattle.std.specs.BTreeMap.{is_at}
 use Rattle.std.specs.List.Sorted.{IsStrictlySortedBy}
 use Rattle.std.specs.Map.{keys_of, lookup}
 use Rattle.std.specs.Ordering.{nat_cmp}
 use Rattle.im_types.specs.declared.fault.Fault.{Fault}
-use Rattle.im_types.specs.declared.fault.Fault.TheVariants.{NotAStore}
 use Rattle.im_types.specs.Pages.{Page}
 use Rattle.im_types.specs.Histories.{Base, History}
 use Rattle.im_types.specs.Copies.{noted}
@@ -13,7 +12,7 @@ use Rattle.im_types.specs.RedoPoints.{redo_point}
 use Rattle.im_types.specs.Writer.{PageState, Writer}
 use Rattle.im_disk.specs.declared.disk.Disk.{Ghosts}
 use Rattle.im_flush.specs.declared.page_writer.PageWriter.{PageWriter}
-use Rattle.im_redo.specs.Redo.{LeavesRedoing, first_lsn}
+use Rattle.im_redo.specs.Redo.{RedoSound, first_lsn}
 use Rattle.im_redo.specs.Within.{IsWithinRedo}
 
 -- the LSN that some pairs of a page and an LSN have for a page
@@ -46,7 +45,5 @@ module _ {D : Type 0} (d : Ghosts D) (b : Base) (base : ℕ) (begun : History) (
     pub first : HaveFirst b begun file now.pages
 
   -- what it keeps, with these copies left
-  pub record LoadingKept (left : List (ℕ × ℕ)) (from : D) (w : PageWriter) (disk : D) (result : Result Unit Fault) : Type 0 where
-    pub ok : OnOk result (IsLoading left from w disk)
-    pub stops : LeavesRedoing d b base begun from disk
-    pub cause : IfErr result (λ e. e ≢ NotAStore)
+  abbrev pub LoadingKept : List (ℕ × ℕ) → D → PageWriter → D → Result Unit Fault → Type 0
+  LoadingKept left from w disk result = RedoSound d b base begun (λ u. IsLoading left from w disk) from disk result

@@ -1,7 +1,6 @@
 -- What redo asks of a log, and what it keeps.
-use Rattle.std.specs.Prelude.{◌≡◌, ◌≢◌, ◌+◌, ℕ, List, [], ◌∷◌, ◌++◌, Bool, if◌then◌else◌, ◌&&◌, nat_le, nat_lt, Option, None, Some, Result, IfErr, IfOk}
+use Rattle.std.specs.Prelude.{◌≡◌, ◌+◌, ℕ, List, [], ◌∷◌, ◌++◌, Bool, if◌then◌else◌, ◌&&◌, nat_le, nat_lt, Option, None, Some, Result}
 use Rattle.im_types.specs.declared.fault.Fault.{Fault}
-use Rattle.im_types.specs.declared.fault.Fault.TheVariants.{NotAStore}
 use Rattle.im_types.specs.Keys.{Key}
 use Rattle.im_types.specs.Pages.{Body, Page}
 use Rattle.im_types.specs.Records.{Logged}
@@ -16,6 +15,7 @@ use Rattle.im_flush.specs.declared.page_writer.PageWriter.{PageWriter}
 use Rattle.im_flush.specs.Stands.{LeavesCovered}
 use Rattle.im_flush.specs.LeafChange.{CanPutKey, CanTakeKey}
 use Rattle.im_flush.specs.PageWriter.{StandsAs}
+use Rattle.im_flush.specs.Outcome.{IsSound}
 use Rattle.im_flush.specs.Redoing.{TakesRecord}
 
 -- each record of the log can be applied to its page as the records before it left that
@@ -68,9 +68,11 @@ module _ {D : Type 0} (d : Ghosts D) (b : Base) (base : ℕ) (begun : History) w
     pub grows : GrowsByImages b begun high
     pub stops : LeavesCovered d b base begun high old new
 
-  -- what redo keeps, from a file of these pages
-  pub record RedoneKept (file : ℕ → Option Page) (old : D) (w : PageWriter) (disk : D) (result : Result ℕ Fault) : Type 0 where
-    pub ok : IfOk result (λ n. Redone old w disk)
-    pub count : IfOk result (λ n. n ≡ applied_in (first_lsn b begun file) (redo_point begun) begun)
+  -- What a call of redo keeps: its answer is this, no store is refused as none, and a stop since redo began leaves what redo can start from.
+  pub record RedoSound {A : Type 0} (P : A → Type 0) (old disk : D) (result : Result A Fault) : Type 0 where
+    pub sound : IsSound result P
     pub stops : LeavesRedoing old disk
-    pub cause : IfErr result (λ e. e ≢ NotAStore)
+
+  -- what redo keeps, from a file of these pages
+  abbrev pub RedoneKept : (ℕ → Option Page) → D → PageWriter → D → Result ℕ Fault → Type 0
+  RedoneKept file old w disk result = RedoSound (λ n. Redone old w disk × (n ≡ applied_in (first_lsn b begun file) (redo_point begun) begun)) old disk result

@@ -1,14 +1,14 @@
 //! Noted copies, loaded in rising page number.
 
-ghost use Rattle.std.specs.Prelude.{◌≡◌, ◌≤◌, ◌⊎◌, ◌↔◌, ◌∷◌, ℕ, List, [], true, false, length, Option, Err, IfErr, OnOk};
-ghost use Rattle.im_types.specs.declared.fault.Fault.TheVariants.{Device, LogFull, Memory, NotAStore};
+ghost use Rattle.std.specs.Prelude.{◌≡◌, ◌≤◌, ◌∷◌, ℕ, List, [], false, length, Option};
 ghost use Rattle.im_types.specs.Pages.{Page};
 ghost use Rattle.im_types.specs.Histories.{Base, History};
 ghost use Rattle.im_types.specs.RedoPoints.{redo_point};
-ghost use Rattle.im_log.specs.LogFile.{HasNoRoom};
+ghost use Rattle.im_flush.specs.Outcome.{fault_of, mild};
 ghost use Rattle.im_flush.specs.PageWriter.{IsReadyWriter};
 ghost use Rattle.im_types.specs.Writer.{Writer};
 ghost use Rattle.im_redo.specs.Loading.{AreWaiting, HaveFirst, IsLoading, LoadingKept};
+ghost use Rattle.im_redo.specs.Recovery.{Recovers};
 ghost use Rattle.im_redo.specs.Within.{IsWithinRedo};
 
 use im_disk::Disk;
@@ -28,14 +28,10 @@ fn load_one<D: Disk>(
     requires room { 16384 ≤ length room.old }
     requires ready { IsReadyWriter D.Disk writer.old disk.old }
     requires working { writer.old.failed ≡ false }
-    ensures ready { IsReadyWriter D.Disk writer.new disk.new }
+    ensures outcome { Recovers D.Disk mild writer.old writer.new disk.new (fault_of result) }
     ensures room { length room.new ≡ length room.old }
     ensures kept { (b : Base) (base : ℕ) (begun : History) (file : ℕ → Option Page) (from : D) (p : ℕ) (left : List (ℕ × ℕ)) → IsLoading D.Disk b base begun file ((p, lsn) ∷ left) from writer.old disk.old
         → point ≡ redo_point begun → LoadingKept D.Disk b base begun file left from writer.new disk.new result }
-    ensures works { OnOk result (writer.new.failed ≡ false) }
-    ensures causes { IfErr result (λ e. (e ≡ LogFull) ⊎ (e ≡ Memory) ⊎ (e ≡ NotAStore) ⊎ (e ≡ Device)) }
-    ensures no_room { result ≡ Err LogFull → HasNoRoom writer.new.log }
-    ensures device { result ≡ Err Device ↔ (D.failed disk.new ≡ true) }
 {
     let size = writer.read_at(disk, lsn, room)?;
     let record = decode(&room[..size])?;
@@ -53,14 +49,10 @@ pub(crate) fn load_all<D: Disk>(
     requires room { 16384 ≤ length room.old }
     requires ready { IsReadyWriter D.Disk writer.old disk.old }
     requires working { writer.old.failed ≡ false }
-    ensures ready { IsReadyWriter D.Disk writer.new disk.new }
+    ensures outcome { Recovers D.Disk mild writer.old writer.new disk.new (fault_of result) }
     ensures room { length room.new ≡ length room.old }
     ensures kept { (b : Base) (base : ℕ) (begun : History) (file : ℕ → Option Page) (from : D) (s : Writer) → IsWithinRedo D.Disk b base begun from s writer.old disk.old
         → AreWaiting begun copies.now.entries s.pages → HaveFirst b begun file s.pages → point ≡ redo_point begun → LoadingKept D.Disk b base begun file [] from writer.new disk.new result }
-    ensures works { OnOk result (writer.new.failed ≡ false) }
-    ensures causes { IfErr result (λ e. (e ≡ LogFull) ⊎ (e ≡ Memory) ⊎ (e ≡ NotAStore) ⊎ (e ≡ Device)) }
-    ensures no_room { result ≡ Err LogFull → HasNoRoom writer.new.log }
-    ensures device { result ≡ Err Device ↔ (D.failed disk.new ≡ true) }
 {
     for (_, lsn) in copies {
         load_one(disk, writer, point, *lsn, room)?;

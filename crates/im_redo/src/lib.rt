@@ -22,6 +22,11 @@
 //! which redo can start again (`LeavesRedoing`); and no such store is refused as none. On any other bytes `redo` is total: it is
 //! refused `NotAStore` where a page does not take its record, or no record stands at an LSN.
 //!
+//! How `redo` ends is one fact, its clause `outcome` (`Recovers`, over the fault that it was refused for, if it was): behind an Ok the
+//! writer works; `Failed`, it had failed before; `Device`, the disk has failed, and `LogFull`, the log has no room, and behind both the
+//! writer works no more; else `Memory` or `NotAStore`. Behind a refusal the store is to be opened again, so nothing is said of where the
+//! writer goes on then.
+//!
 //! `lawful_is_applicable`, in proofs/Applicable, gives `AreApplicable` of each lawful log over a tree whose words speak of leaves
 //! (`IsOnLeaves`).
 //!

@@ -1,16 +1,16 @@
 //! Records, applied to their pages from the redo point on.
 
-ghost use Rattle.std.specs.Prelude.{is_some, ◌≡◌, ◌≤◌, ◌<◌, ◌+◌, ◌-◌, ◌^◌, ◌⊎◌, ◌↔◌, ◌∷◌, ℕ, List, [], true, false, if◌then◌else◌, length, Option, Err, IfErr, OnOk};
+ghost use Rattle.std.specs.Prelude.{is_some, ◌≡◌, ◌≤◌, ◌<◌, ◌+◌, ◌-◌, ◌^◌, ◌∷◌, ℕ, List, [], true, false, if◌then◌else◌, length, Option};
 ghost use Rattle.std.specs.Ordering.{nat_cmp};
 ghost use Rattle.std.specs.BTreeMap.{get};
-ghost use Rattle.im_types.specs.declared.fault.Fault.TheVariants.{Device, LogFull, Memory, NotAStore};
 ghost use Rattle.im_types.specs.Pages.{Page};
 ghost use Rattle.im_types.specs.Histories.{Base, History};
 ghost use Rattle.im_types.specs.RedoPoints.{redo_point};
 ghost use Rattle.im_analysis.specs.CopyLsns.{AreCopies};
-ghost use Rattle.im_log.specs.LogFile.{HasNoRoom};
+ghost use Rattle.im_flush.specs.Outcome.{fault_of, mild};
 ghost use Rattle.im_flush.specs.PageWriter.{IsReadyWriter};
 ghost use Rattle.im_redo.specs.Redo.{AreApplicable};
+ghost use Rattle.im_redo.specs.Recovery.{Recovers};
 ghost use Rattle.im_redo.specs.Applying.{IsApplying, AppliedKept, ApplyingKept};
 
 use im_disk::Disk;
@@ -39,14 +39,10 @@ fn redo_one<D: Disk>(
     requires room { 16384 ≤ length room.old }
     requires ready { IsReadyWriter D.Disk writer.old disk.old }
     requires working { writer.old.failed ≡ false }
-    ensures ready { IsReadyWriter D.Disk writer.new disk.new }
+    ensures outcome { Recovers D.Disk mild writer.old writer.new disk.new (fault_of result) }
     ensures room { length room.new ≡ length room.old }
     ensures kept { (b : Base) (base : ℕ) (begun : History) (file : ℕ → Option Page) (from : D) (left : List ℕ) (count : ℕ) → IsApplying D.Disk b base begun file (lsn ∷ left) count from writer.old disk.old
         → AreApplicable b begun → point ≡ redo_point begun → AreCopies point copies.now begun → AppliedKept D.Disk b base begun file left count from writer.new disk.new result }
-    ensures works { OnOk result (writer.new.failed ≡ false) }
-    ensures causes { IfErr result (λ e. (e ≡ LogFull) ⊎ (e ≡ Memory) ⊎ (e ≡ NotAStore) ⊎ (e ≡ Device)) }
-    ensures no_room { result ≡ Err LogFull → HasNoRoom writer.new.log }
-    ensures device { result ≡ Err Device ↔ (D.failed disk.new ≡ true) }
 {
     let size = writer.read_at(disk, lsn, room)?;
     let record = decode(&room[..size])?;
@@ -75,14 +71,10 @@ pub(crate) fn redo_all<D: Disk>(
     requires room { 16384 ≤ length room.old }
     requires ready { IsReadyWriter D.Disk writer.old disk.old }
     requires working { writer.old.failed ≡ false }
-    ensures ready { IsReadyWriter D.Disk writer.new disk.new }
+    ensures outcome { Recovers D.Disk mild writer.old writer.new disk.new (fault_of result) }
     ensures room { length room.new ≡ length room.old }
     ensures kept { (b : Base) (base : ℕ) (begun : History) (file : ℕ → Option Page) (from : D) → IsApplying D.Disk b base begun file lsns.now 0 from writer.old disk.old
         → AreApplicable b begun → point ≡ redo_point begun → AreCopies point copies.now begun → ApplyingKept D.Disk b base begun file from writer.new disk.new result }
-    ensures works { OnOk result (writer.new.failed ≡ false) }
-    ensures causes { IfErr result (λ e. (e ≡ LogFull) ⊎ (e ≡ Memory) ⊎ (e ≡ NotAStore) ⊎ (e ≡ Device)) }
-    ensures no_room { result ≡ Err LogFull → HasNoRoom writer.new.log }
-    ensures device { result ≡ Err Device ↔ (D.failed disk.new ≡ true) }
 {
     let mut count = 0;
     for lsn in lsns {

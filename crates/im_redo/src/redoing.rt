@@ -1,14 +1,14 @@
 //! Noted copies are loaded, and then the records from the redo point on applied.
 
-ghost use Rattle.std.specs.Prelude.{◌≡◌, ◌≤◌, ◌⊎◌, ◌↔◌, ℕ, true, false, length, Option, Ok, Err, IfErr, OnOk};
-ghost use Rattle.im_types.specs.declared.fault.Fault.TheVariants.{Device, Failed, LogFull, Memory, NotAStore};
+ghost use Rattle.std.specs.Prelude.{◌≡◌, ◌≤◌, ℕ, length, Option};
 ghost use Rattle.im_types.specs.Pages.{Page};
 ghost use Rattle.im_types.specs.Histories.{Base, History};
 ghost use Rattle.im_types.specs.RedoPoints.{redo_point};
 ghost use Rattle.im_types.specs.WriterSteps.{opened};
 ghost use Rattle.im_analysis.specs.CopyLsns.{AreCopies};
-ghost use Rattle.im_log.specs.LogFile.{HasNoRoom};
+ghost use Rattle.im_flush.specs.Outcome.{fault_of, mild};
 ghost use Rattle.im_flush.specs.PageWriter.{IsReadyWriter, StandsAs};
+ghost use Rattle.im_redo.specs.Recovery.{Recovers};
 ghost use Rattle.im_redo.specs.Redo.{AreApplicable, lsns_from, RedoneKept};
 
 use crate::copies::load_all;
@@ -35,16 +35,11 @@ pub fn redo<D: Disk>(
 ) -> Result<u64, Fault>
     requires room { 16384 ≤ length room.old }
     requires ready { IsReadyWriter D.Disk writer.old disk.old }
-    ensures ready { IsReadyWriter D.Disk writer.new disk.new }
+    ensures outcome { Recovers D.Disk mild writer.old writer.new disk.new (fault_of result) }
     ensures room { length room.new ≡ length room.old }
     ensures kept { (b : Base) (base : ℕ) (begun : History) (file : ℕ → Option Page) → StandsAs D.Disk b base (opened b begun file) writer.old disk.old
         → AreApplicable b begun → point ≡ redo_point begun → AreCopies point copies.now begun → lsns.now ≡ lsns_from point begun
         → RedoneKept D.Disk b base begun file disk.old writer.new disk.new result }
-    ensures works { OnOk result (writer.new.failed ≡ false) }
-    ensures causes { IfErr result (λ e. (e ≡ Failed) ⊎ (e ≡ LogFull) ⊎ (e ≡ Memory) ⊎ (e ≡ NotAStore) ⊎ (e ≡ Device)) }
-    ensures no_room { result ≡ Err LogFull → HasNoRoom writer.new.log }
-    ensures already { result ≡ Err Failed ↔ (writer.old.failed ≡ true) }
-    ensures device { writer.old.failed ≡ false → result ≡ Err Device ↔ (D.failed disk.new ≡ true) }
 {
     // Nothing is buffered yet, so this makes no device call: a writer that has failed is refused here.
     writer.force(disk)?;

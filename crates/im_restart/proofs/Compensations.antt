@@ -23,7 +23,7 @@ use Rattle.im_log.specs.Spelled.{logged_at}
 use Rattle.im_log.proofs.Creations.{not_both}
 use Rattle.im_flush.specs.declared.page_writer.PageWriter.{PageWriter}
 use Rattle.im_flush.specs.PageWriter.{StandsAs}
-use Rattle.im_flush.proofs.Growing.{if_ok}
+use Rattle.im_flush.proofs.Outcomes.{sound_also}
 use Rattle.im_tree.specs.Good.{AllOf}
 use Rattle.im_tree.specs.Theory.{page_tree}
 use Rattle.im_analysis.specs.Losers.{has_record, is_loser}
@@ -144,7 +144,8 @@ module _ {D : Type 0} (d : Ghosts D) (b : Base) (base : ℕ) (all : History) whe
       stands = stands;
       over = is.over;
       can = is.can;
-      loser = to.loser;
+      owner = loser_number c.transaction s.log to.loser;
+      unfinished = loser_unfinished c.transaction s.log to.loser;
       row = sym (ap (λ (l : ℕ). record { last = l; undo_next = c.undo_next }) to.last ∙ ap (λ (n : ℕ). record { last = last_of c.transaction s.log; undo_next = n }) to.undo);
     }
 
@@ -169,7 +170,7 @@ module _ {D : Type 0} (d : Ghosts D) (b : Base) (base : ℕ) (all : History) whe
             on = growth.grown_front c.transaction s.log now.log goes.grows;
           };
           others = spares_key c.transaction s.log now.log goes.grows;
-          loser = goes.going.loser;
+          loser = growth.loser_still c.transaction s.log now.log goes.grows to.loser goes.going.unfinished;
           row = goes.going.row;
         }
 
@@ -181,9 +182,8 @@ module _ {D : Type 0} (d : Ghosts D) (b : Base) (base : ℕ) (all : History) whe
     compensated_so t x new result same keeps =
         let k = subst (λ (u : ℕ). KeepsKey u x new result) same keeps is.redo_end going (record { lsn = to.lsn; next = to.next }) in
         record {
-          ok = if_ok result (λ last. TakenBack d b base s is.redo_end c.transaction said last old x new) (λ last. Compensated d b base all s c.transaction (prev_of said) last old x new) k.ok (λ last back. done last x new back);
+          sound = sound_also result (λ last. TakenBack d b base s is.redo_end c.transaction said last old x new) (λ last. Compensated d b base all s c.transaction (prev_of said) last old x new) k.sound (λ last back. done last x new back);
           stops = left_key s c.transaction old new is to.loser goes_first k.stops;
-          cause = k.cause;
         }
 
     -- and where it was refused, however that is answered
@@ -191,4 +191,4 @@ module _ {D : Type 0} (d : Ghosts D) (b : Base) (base : ℕ) (all : History) whe
         → CompensateKept d b base all s c.transaction (prev_of said) old x new (Err answer)
     refused_so t x new f answer same memory others keeps =
         let k = compensated_so t x new (Err f) same keeps in
-        record { ok = tt; stops = k.stops; cause = answered_cause f answer memory others k.cause }
+        record { sound = answered_cause f answer memory others k.sound; stops = k.stops }

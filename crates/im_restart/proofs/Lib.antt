@@ -15,3 +15,4 @@ pub mod OpenChanges
 pub mod Orders
 pub mod Latest
 mod FullLog
+pub mod Ends

@@ -35,7 +35,8 @@ use Rattle.im_flush.specs.LoggedChange.{ChangedFrom}
 use Rattle.im_flush.specs.StructureChange.{LeftKept}
 use Rattle.im_flush.specs.Writing.{LeavesGrown}
 use Rattle.im_flush.proofs.Goings.{goes_start}
-use Rattle.im_flush.proofs.Growing.{grown_front, if_ok, on_ok}
+use Rattle.im_flush.proofs.Growing.{grown_front}
+use Rattle.im_flush.proofs.Outcomes.{sound_also, sound_done, sound_own}
 use Rattle.im_analysis.specs.declared.rows.Loser.{Loser}
 use Rattle.im_analysis.specs.declared.rows.OpenRecord.{OpenRecord}
 use Rattle.im_analysis.specs.Losers.{AreLosers, LoserMap, is_loser}
@@ -155,10 +156,9 @@ module _ {D : Type 0} (d : Ghosts D) (b : Base) (base : ℕ) (all : History) whe
   pub page_then : (s : Writer) (old : D) (t : Writer) (w : PageWriter) (mid : D) (rest : History) (x : PageWriter) (losers : LoserMap) (new : D) (result : Result Unit Fault) → ChangeGoes d b base all s old t w mid
       → PageKept d b base all t rest mid x losers new result → PageKept d b base all s rest old x losers new result
   page_then s old t w mid rest x losers new result goes k = record {
-    ok = on_ok result (PageUndone d b base all t rest mid x losers new) (PageUndone d b base all s rest old x losers new) k.ok
-        (λ e. record { now = e.now; goes = change_then s old t w mid e.now x new goes e.goes; going = e.going; are = e.are });
+    sound = sound_also result (λ u. PageUndone d b base all t rest mid x losers new) (λ u. PageUndone d b base all s rest old x losers new) k.sound
+        (λ u e. record { now = e.now; goes = change_then s old t w mid e.now x new goes e.goes; going = e.going; are = e.are });
     stops = left_then d b base all old mid new goes.stops k.stops;
-    cause = k.cause;
   }
 
   -- none is open any more
@@ -233,16 +233,15 @@ module _ {D : Type 0} (d : Ghosts D) (b : Base) (base : ℕ) (all : History) whe
     taken_so result k =
         let stops = taking_grown s old new is k.stops in
         record {
-          ok = if_ok result (λ at. ChangedFrom d b base s (UndoSmo t last prev page before) at old w new) (λ at. TakenBack d b base all s t prev rest at old w new) k.ok (λ at from. done at stops from);
+          sound = sound_own result (λ at. ChangedFrom d b base s (UndoSmo t last prev page before) at old w new) (λ at. TakenBack d b base all s t prev rest at old w new) k.ok (k.cause (λ none. (let clash : Some smo.0 ≡ None = sym (ap after_in undo_is) ∙ none in cc clash))) (λ at from. done at stops from);
           stops = stops;
-          cause = k.cause (λ none. (let clash : Some smo.0 ≡ None = sym (ap after_in undo_is) ∙ none in cc clash));
         }
 
   -- the row is noted
   pub page_noted : (s : Writer) (t on : ℕ) (rest : History) (lsn : ℕ) (old : D) (w : PageWriter) (m n : LoserMap) (new : D) (result : Result Unit Fault) → TakenBack d b base all s t on rest lsn old w new → AreLosers m s.log
       → (u v : ℕ) → u ≡ t → v ≡ on → OnOk result (Updates nat_cmp m n u (Some (record { last = lsn; undo_next = v }))) → IfErr result (λ e. e ≡ Memory) → PageKept d b base all s rest old w n new result
   page_noted s t on rest lsn old w m n new result done are u v who where_on up refused = record {
-    ok = on_ok result _ (PageUndone d b base all s rest old w n new) up
+    sound = sound_done result _ (PageUndone d b base all s rest old w n new) up (memory_only result refused)
         (λ is. record {
           now = done.now;
           goes = done.goes;
@@ -251,7 +250,6 @@ module _ {D : Type 0} (d : Ghosts D) (b : Base) (base : ℕ) (all : History) whe
               (subst (λ (y : ℕ). Updates nat_cmp m n t (Some (record { last = lsn; undo_next = y }))) where_on (subst (λ (x : ℕ). Updates nat_cmp m n x (Some (record { last = lsn; undo_next = v }))) who is));
         });
     stops = done.goes.stops;
-    cause = memory_only result refused;
   }
     where
       memory_only : (r : Result Unit Fault) → IfErr r (λ e. e ≡ Memory) → IfErr r (λ e. e ≢ NotAStore)

@@ -1,8 +1,8 @@
 -- A restart: what redo, undo and the last force leave, put together.
-use Rattle.std.proofs.Common.{◌≡◌, ◌≢◌, ◌⊎◌, ◌≤◌, ◌-◌, ◌^◌, ℕ, min, inl, inr, [], List, false, length, Option, Result, Ok, Err, refl, sym, ◌∙◌, ap, subst, arith, None}
-use Rattle.std.specs.Prelude.{IfErr, IfOk, OnOk}
+use Rattle.std.proofs.Common.{◌≡◌, ◌≢◌, ◌≤◌, ◌-◌, ◌^◌, ℕ, min, inl, inr, [], List, false, length, Option, Result, refl, sym, ◌∙◌, ap, subst, arith, None}
+use Rattle.std.specs.Prelude.{IfErr}
 use Rattle.im_types.specs.declared.fault.Fault.{Fault}
-use Rattle.im_types.specs.declared.fault.Fault.TheVariants.{Device, Failed, NotAStore}
+use Rattle.im_types.specs.declared.fault.Fault.TheVariants.{NotAStore}
 use Rattle.im_types.specs.declared.file_id.FileId.{FileId}
 use Rattle.im_types.specs.declared.file_id.FileId.TheVariants.{Log, Pages}
 use Rattle.im_types.specs.Pages.{Page}
@@ -18,7 +18,7 @@ use Rattle.im_disk.specs.declared.disk.Disk.{Ghosts}
 use Rattle.im_disk.specs.Disk.{Files, Only}
 use Rattle.im_disk.specs.Runs.{ChangesOnly, LeavesIn, LeavesOnly, Reads}
 use Rattle.im_disk.proofs.Runs.{reads_on, started, weakened}
-use Rattle.im_gate.specs.Header.{IsUnmade}
+use Rattle.im_gate.specs.Header.{IsUnmade, least_number}
 use Rattle.im_page.specs.PageFile.{file_page}
 use Rattle.im_log.specs.Kept.{IsLogOf}
 use Rattle.im_log.specs.LogFile.{IsOpen, IsLog}
@@ -27,7 +27,8 @@ use Rattle.im_log.proofs.Creations.{not_both}
 use Rattle.im_log.specs.declared.log_file.LogFile.{LogFile}
 use Rattle.im_flush.specs.declared.page_writer.PageWriter.{PageWriter}
 use Rattle.im_flush.specs.PageWriter.{GoesOn, StandsAs, StepKept}
-use Rattle.im_flush.proofs.Growing.{grown_front, on_ok}
+use Rattle.im_flush.proofs.Growing.{grown_front}
+use Rattle.im_flush.proofs.Outcomes.{sound_done}
 use Rattle.im_flush.proofs.Restarting.{writer_opens}
 use Rattle.im_types.proofs.Fronts.{rises}
 use Rattle.im_analysis.specs.Numbers.{IsNextNumber}
@@ -37,8 +38,7 @@ use Rattle.im_analysis.specs.declared.rows.OpenRecord.{OpenRecord}
 use Rattle.im_analysis.specs.OpenChange.{IsOpenChange, oldest_first}
 use Rattle.im_analysis.proofs.Tables.{images_table}
 use Rattle.im_tree.specs.Theory.{page_tree}
-use Rattle.im_restart.specs.Restart.{HasStore, IsFresh, IsLeftUndoing, IsReport, IsRestarted, IsSettled, MayRestart}
-use Rattle.im_restart.specs.declared.redo_report.RedoReport.{RedoReport}
+use Rattle.im_restart.specs.Restart.{HasStore, IsFresh, IsLeftUndoing, IsOpened, IsReport, IsSettled, MayRestart, RestartSound}
 use Rattle.im_restart.specs.declared.restarted.Restarted.{Restarted}
 use Rattle.im_restart.specs.StructureChange.{ChangeGoes}
 use Rattle.im_restart.specs.Undoing.{AllUndone}
@@ -54,12 +54,6 @@ has_same b base all files c log pages has = record {
   bare = λ unmade. ap (λ (bytes : List ℕ). length bytes) pages ∙ has.bare (subst (λ (bytes : List ℕ). IsUnmade bytes) log unmade);
   covers = subst (λ (bytes : List ℕ). Covers b all (file_page bytes)) (sym pages) has.covers;
 }
-
--- a call is never refused as no store that is refused so
-pub not_no_store : {T : Type 0} (result : Result T Fault) → IfErr result (λ e. (e ≡ Failed) ⊎ (e ≡ Device)) → IfErr result (λ e. e ≢ NotAStore)
-not_no_store (Ok x) is = tt
-not_no_store (Err e) (inl is) = λ same. (let clash : Failed ≡ NotAStore = sym is ∙ same in cc clash)
-not_no_store (Err e) (inr is) = λ same. (let clash : Device ≡ NotAStore = sym is ∙ same in cc clash)
 
 module _ {D : Type 0} (d : Ghosts D) (b : Base) (base : ℕ) (all : History) where
   -- ---- before any call
@@ -145,15 +139,13 @@ module _ {D : Type 0} (d : Ghosts D) (b : Base) (base : ℕ) (all : History) whe
   -- ---- the last force
 
   -- what it keeps
-  pub record ForceKept (old : D) (w : PageWriter) (new : D) (result : Result Unit Fault) : Type 0 where
-    pub ok : OnOk result (IsSettled d b base all w new)
-    pub stops : LeavesOnly d old new (IsLeftUndoing b base all)
-    pub cause : IfErr result (λ e. e ≢ NotAStore)
+  abbrev pub ForceKept : D → PageWriter → D → Result Unit Fault → Type 0
+  ForceKept old w new result = RestartSound d b base all (λ u. IsSettled d b base all w new) old new result
 
   pub settled_so : (s : Writer) (old : D) (w : PageWriter) (mid : D) (x : PageWriter) (new : D) (result : Result Unit Fault) → (done : AllUndone d b base all s old w mid) → StepKept d b base done.now (forced done.now) mid x new result
-      → IfErr result (λ e. (e ≡ Failed) ⊎ (e ≡ Device)) → ForceKept old x new result
+      → IfErr result (λ e. e ≢ NotAStore) → ForceKept old x new result
   settled_so s old w mid x new result done k causes = record {
-    ok = on_ok result (GoesOn d b base done.now mid (forced done.now) x new) (IsSettled d b base all x new) k.ok
+    sound = sound_done result (GoesOn d b base done.now mid (forced done.now) x new) (IsSettled d b base all x new) k.ok causes
         (λ on. record {
           now = forced done.now;
           stands = record { working = on.working; writing = on.goes.writing; known = on.known };
@@ -167,7 +159,6 @@ module _ {D : Type 0} (d : Ghosts D) (b : Base) (base : ℕ) (all : History) whe
           pages = done.goes.undoing.pages;
         });
     stops = left_then d b base all old mid new done.goes.stops (left_here d b base all done.now mid new done.goes.undoing k.stops);
-    cause = not_no_store result causes;
   }
 
   -- ---- the writer
@@ -178,33 +169,18 @@ module _ {D : Type 0} (d : Ghosts D) (b : Base) (base : ℕ) (all : History) whe
       writer_opens d b base all w frames disk may.start (rises b page_tree all may.lawful) may.has.covers (subst (λ (f : LogFile). IsOpen d f disk) (sym same) is_open) (subst (λ (f : LogFile). IsLog d base all all f disk) (sym same) log) pages pool
       table working unknown
 
-  pub restarted_so : (w : PageWriter) (next : ℕ) (report : RedoReport) (disk : D) → IsSettled d b base all w disk → IsRestarted d b base all (record { writer = w; next = next; report = report }) disk
-  restarted_so w next report disk is = record {
-    now = is.now;
-    stands = is.stands;
-    redo_end = is.redo_end;
-    over = is.over;
-    durable = is.durable;
-    grown = is.grown;
-    order = is.order;
-    lawful = is.lawful;
-    ended = is.ended;
-    pages = is.pages;
-  }
-
 -- the next number is not below the least, nor is that 0
 pub next_least : (lowest next : ℕ) (log : History) → 1 ≤ lowest → IsNextNumber lowest next log → 1 ≤ next
 next_least lowest next log some is = let least : lowest ≤ is.number = is.new.least in let same : next ≡ min is.number (2 ^ 64 - 1) = is.is in omega (arith, some, least, same)
 
--- the next number of a log that starts as it did before
-pub next_before : (result : Result Restarted Fault) (low now : ℕ) (log : History) → now ≡ low → IfOk result (λ r. IsNextNumber now r.next log) → IfOk result (λ r. IsNextNumber low r.next log)
-next_before (Err e) low now log same is = tt
-next_before (Ok r) low now log same is = subst (λ (n : ℕ). IsNextNumber n r.next log) same is
-
--- what redo did, over a file of pages that is as it was before
-pub report_before : (b : Base) (all : History) (result : Result Restarted Fault) (file now : List ℕ) → now ≡ file → IfOk result (λ r. IsReport b all (file_page now) r.report) → IfOk result (λ r. IsReport b all (file_page file) r.report)
-report_before b all (Err e) file now same is = tt
-report_before b all (Ok r) file now same is = subst (λ (bytes : List ℕ). IsReport b all (file_page bytes) r.report) same is
+-- an opening behind the making of the log: it starts as it did before, and the file of pages is as it was
+pub opened_behind : {D : Type 0} (d : Ghosts D) (b : Base) (base : ℕ) (all : History) (old mid new : D) (r : Restarted) → least_number (d.seen mid Log) ≡ least_number (d.seen old Log) → d.seen mid Pages ≡ d.seen old Pages
+    → IsOpened d b base all mid r new → IsOpened d b base all old r new
+opened_behind d b base all old mid new r number file is = record {
+  restarted = is.restarted;
+  next = subst (λ (n : ℕ). IsNextNumber n r.next all) number is.next;
+  report = subst (λ (bytes : List ℕ). IsReport b all (file_page bytes) r.report) file is.report;
+}
 
 -- what a stop within a restart leaves, a restart can start from again
 pub may_again : (b : Base) (base : ℕ) (all : History) (files left : Files) → MayRestart b base all files → (is : IsLeftUndoing b base all left) → MayRestart b base is.left left

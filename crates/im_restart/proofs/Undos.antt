@@ -1,5 +1,5 @@
 -- Steps of undo, put together.
-use Rattle.std.proofs.Common.{◌≡◌, ℕ, Bool, false, Result}
+use Rattle.std.proofs.Common.{ℕ, Bool, Result}
 use Rattle.im_types.specs.declared.fault.Fault.{Fault}
 use Rattle.im_types.specs.Histories.{Base, History}
 use Rattle.im_types.specs.Writer.{Writer}
@@ -10,8 +10,8 @@ use Rattle.im_disk.specs.Runs.{LeavesOnly, Reads}
 use Rattle.im_disk.proofs.Runs.{reads_on}
 use Rattle.im_log.proofs.Above.{front_none}
 use Rattle.im_flush.specs.declared.page_writer.PageWriter.{PageWriter}
-use Rattle.im_flush.specs.PageWriter.{IsReadyWriter, StandsAs}
-use Rattle.im_flush.proofs.Growing.{on_ok}
+use Rattle.im_flush.specs.PageWriter.{StandsAs}
+use Rattle.im_flush.proofs.Outcomes.{sound_also}
 use Rattle.im_tree.specs.Theory.{page_tree}
 use Rattle.im_restart.specs.Restart.{IsLeftUndoing}
 use Rattle.im_restart.specs.LoserChains.{AreChains, ChainMap, PutKept, SparesOthers, and_also}
@@ -19,10 +19,6 @@ use Rattle.im_restart.specs.Undoing.{AllUndone, Ended, EndKept, IsUndoing, Stepp
 use Rattle.im_restart.proofs.Losers.{chains_ended, chains_longer}
 use Rattle.im_restart.proofs.Others.{spares_none, spares_then}
 use Rattle.im_restart.proofs.Steps.{left_then, undo_start, undo_then}
-
--- a disk that works
-pub disk_works : {D : Type 0} (d : Ghosts D) (w : PageWriter) (disk : D) → IsReadyWriter d w disk → w.failed ≡ false → d.failed disk ≡ false
-disk_works d w disk ready working = (ready.opened working).ready.reading.working ((ready.opened working).working (ready.works working))
 
 module _ {D : Type 0} (d : Ghosts D) (b : Base) (base : ℕ) (all : History) where
   -- the map of the others' chains behind calls in a row
@@ -34,10 +30,9 @@ module _ {D : Type 0} (d : Ghosts D) (b : Base) (base : ℕ) (all : History) whe
   pub step_end : (s : Writer) (t : ℕ) (out : ℕ → Bool) (chains : ChainMap) (old : D) (w : PageWriter) (new : D) (result : Result Unit Fault) → IsUndoing b all s → AreChains (and_also t out) chains s.log
       → EndKept d b base all s t old w new result → StepKept d b base all s t out old w chains new result
   step_end s t out chains old w new result is are k = record {
-    ok = on_ok result (Ended d b base all s t old w new) (Stepped d b base all s t out old w chains new) k.ok
-        (λ e. record { now = e.now; goes = e.goes; others = e.others; are = chains_ended t out chains e.now.log (chains_then s t out chains old e.now w new is e.goes e.others are) e.ended });
+    sound = sound_also result (λ u. Ended d b base all s t old w new) (λ u. Stepped d b base all s t out old w chains new) k.sound
+        (λ u e. record { now = e.now; goes = e.goes; others = e.others; are = chains_ended t out chains e.now.log (chains_then s t out chains old e.now w new is e.goes e.others are) e.ended });
     stops = k.stops;
-    cause = k.cause;
   }
 
   pub step_put : (s : Writer) (t : ℕ) (out : ℕ → Bool) (chains : ChainMap) (w : PageWriter) (disk : D) (result : Result Unit Fault) → ((c : Files) → d.left_since disk (d.moment disk) c → d.may_leave disk c)
@@ -45,19 +40,17 @@ module _ {D : Type 0} (d : Ghosts D) (b : Base) (base : ℕ) (all : History) whe
   step_put s t out chains w disk result only_now stands is k =
       let start = undo_start d b base all s w disk only_now stands is in
       record {
-        ok = on_ok result (AreChains out chains s.log) (Stepped d b base all s t out disk w chains disk) k.ok (λ are. record { now = s; goes = start; others = spares_none t s.log; are = are });
+        sound = sound_also result (λ u. AreChains out chains s.log) (λ u. Stepped d b base all s t out disk w chains disk) k (λ u are. record { now = s; goes = start; others = spares_none t s.log; are = are });
         stops = start.stops;
-        cause = k.cause;
       }
 
   -- a step behind calls in a row
   pub step_then : (s : Writer) (t : ℕ) (out : ℕ → Bool) (old : D) (now : Writer) (w : PageWriter) (mid : D) (x : PageWriter) (chains : ChainMap) (new : D) (result : Result Unit Fault) → UndoGoes d b base all s old now w mid
       → SparesOthers t s.log now.log → StepKept d b base all now t out mid x chains new result → StepKept d b base all s t out old x chains new result
   step_then s t out old now w mid x chains new result goes others k = record {
-    ok = on_ok result (Stepped d b base all now t out mid x chains new) (Stepped d b base all s t out old x chains new) k.ok
-        (λ e. record { now = e.now; goes = undo_then d b base all s old now w mid e.now x new goes e.goes; others = spares_then t s.log now.log e.now.log others e.others; are = e.are });
+    sound = sound_also result (λ u. Stepped d b base all now t out mid x chains new) (λ u. Stepped d b base all s t out old x chains new) k.sound
+        (λ u e. record { now = e.now; goes = undo_then d b base all s old now w mid e.now x new goes e.goes; others = spares_then t s.log now.log e.now.log others e.others; are = e.are });
     stops = left_then d b base all old mid new goes.stops k.stops;
-    cause = k.cause;
   }
 
   -- calls that only read
@@ -77,7 +70,6 @@ module _ {D : Type 0} (d : Ghosts D) (b : Base) (base : ℕ) (all : History) whe
   pub undo_behind : (s : Writer) (old : D) (now : Writer) (w : PageWriter) (mid : D) (x : PageWriter) (new : D) (result : Result Unit Fault) → UndoGoes d b base all s old now w mid → UndoKept d b base all now mid x new result
       → UndoKept d b base all s old x new result
   undo_behind s old now w mid x new result goes k = record {
-    ok = on_ok result (AllUndone d b base all now mid x new) (AllUndone d b base all s old x new) k.ok (λ e. record { now = e.now; goes = undo_then d b base all s old now w mid e.now x new goes e.goes; ended = e.ended });
+    sound = sound_also result (λ u. AllUndone d b base all now mid x new) (λ u. AllUndone d b base all s old x new) k.sound (λ u e. record { now = e.now; goes = undo_then d b base all s old now w mid e.now x new goes e.goes; ended = e.ended });
     stops = left_then d b base all old mid new goes.stops k.stops;
-    cause = k.cause;
   }

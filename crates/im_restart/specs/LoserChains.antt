@@ -1,9 +1,8 @@
 -- Where the undo of each loser stands, by the LSNs at which it goes on.
-use Rattle.std.specs.Prelude.{◌≡◌, ◌≢◌, ◌≤◌, ◌+◌, ◌⊎◌, ℕ, max, List, [], ◌∷◌, Bool, true, false, ◌==◌, ◌||◌, Some, Result, IfErr, OnOk}
+use Rattle.std.specs.Prelude.{◌≡◌, ◌≢◌, ◌≤◌, ◌+◌, ◌⊎◌, ℕ, max, List, [], ◌∷◌, Bool, true, false, ◌==◌, ◌||◌, Some, Result}
 use Rattle.std.specs.Ordering.{nat_cmp}
 use Rattle.std.specs.BTreeMap.{BTreeMap, get}
 use Rattle.im_types.specs.declared.fault.Fault.{Fault}
-use Rattle.im_types.specs.declared.fault.Fault.TheVariants.{NotAStore}
 use Rattle.im_types.specs.Records.{What, Unreadable}
 use Rattle.im_types.specs.Histories.{History}
 use Rattle.im_types.specs.Transactions.{last_of, undo_next_of, undo_reads, is_key}
@@ -11,6 +10,7 @@ use Rattle.im_record.specs.Entry.{Entry, prev_of}
 use Rattle.im_record.specs.Entry.{undo_next_of as named_next}
 use Rattle.im_log.specs.Whats.{what_of}
 use Rattle.im_log.specs.Spelled.{logged_at}
+use Rattle.im_flush.specs.Outcome.{IsSound}
 use Rattle.im_analysis.specs.declared.rows.Loser.{Loser}
 use Rattle.im_analysis.specs.Losers.{LoserMap, is_loser, row_of}
 use Rattle.im_analysis.specs.Undo.{HasRecordAt, IsNext, leads_on}
@@ -71,9 +71,8 @@ above [] = 0
 above (e ∷ es) = max (e.0 + 1) (above es)
 
 -- what putting a chain at its LSN keeps
-pub record PutKept (out : ℕ → Bool) (log : History) (chains : ChainMap) (result : Result Unit Fault) : Type 0 where
-  pub ok : OnOk result (AreChains out chains log)
-  pub cause : IfErr result (λ e. e ≢ NotAStore)
+abbrev pub PutKept : (ℕ → Bool) → History → ChainMap → Result Unit Fault → Type 0
+PutKept out log chains result = IsSound result (λ u. AreChains out chains log)
 
 -- ---- single records
 

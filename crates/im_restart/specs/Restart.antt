@@ -1,7 +1,6 @@
 -- What a restart asks of the files, and what it keeps.
-use Rattle.std.specs.Prelude.{◌≡◌, ◌≢◌, ◌⊎◌, ◌+◌, ◌<◌, ◌≤◌, ◌^◌, ℕ, length, Option, Some, false, Result, IfErr, IfOk}
+use Rattle.std.specs.Prelude.{◌≡◌, ◌⊎◌, ◌+◌, ◌<◌, ◌≤◌, ◌^◌, ℕ, length, Option, Some, false, Result}
 use Rattle.im_types.specs.declared.fault.Fault.{Fault}
-use Rattle.im_types.specs.declared.fault.Fault.TheVariants.{NotAStore}
 use Rattle.im_types.specs.declared.file_id.FileId.TheVariants.{Log, Pages}
 use Rattle.im_types.specs.Histories.{Base, History, page_at}
 use Rattle.im_types.specs.Pages.{Page}
@@ -16,6 +15,7 @@ use Rattle.im_log.specs.Kept.{HasLog, IsLogOf}
 use Rattle.im_page.specs.PageFile.{file_page}
 use Rattle.im_flush.specs.declared.page_writer.PageWriter.{PageWriter}
 use Rattle.im_flush.specs.PageWriter.{StandsAs}
+use Rattle.im_flush.specs.Outcome.{IsSound}
 use Rattle.im_tree.specs.Theory.{page_tree}
 use Rattle.im_analysis.specs.Losers.{is_loser}
 use Rattle.im_analysis.specs.Numbers.{IsNextNumber}
@@ -66,19 +66,6 @@ pub record IsLeftUndoing (b : Base) (base : ℕ) (all : History) (files : Files)
 
 module _ {D : Type 0} (d : Ghosts D) (b : Base) (base : ℕ) (all : History) where
   -- All is undone and ended that was unfinished; the pages are what the whole log made of them, and all of it is durable.
-  pub record IsRestarted (r : Restarted) (disk : D) : Type 0 where
-    pub now : Writer
-    pub stands : StandsAs d b base now r.writer disk
-    pub redo_end : ℕ
-    pub over : now.redo_end ≡ Some redo_end
-    pub durable : now.durable ≡ now.log
-    pub grown : GrowsByUndo all now.log
-    pub order : IsInOrder all now.log
-    pub lawful : IsLawful b page_tree now.log
-    pub ended : (t : ℕ) → is_loser t now.log ≡ false
-    pub pages : (p : ℕ) → (now.pages p).page ≡ page_at b now.log p
-
-  -- The same of the writer alone.
   pub record IsSettled (w : PageWriter) (disk : D) : Type 0 where
     pub now : Writer
     pub stands : StandsAs d b base now w disk
@@ -91,17 +78,25 @@ module _ {D : Type 0} (d : Ghosts D) (b : Base) (base : ℕ) (all : History) whe
     pub ended : (t : ℕ) → is_loser t now.log ≡ false
     pub pages : (p : ℕ) → (now.pages p).page ≡ page_at b now.log p
 
-  -- what redo, undo and the last force keep
-  pub record SettleKept (old : D) (w : PageWriter) (new : D) (result : Result ℕ Fault) : Type 0 where
-    pub ok : IfOk result (λ n. IsSettled w new)
-    pub count : IfOk result (λ n. n ≡ applied_in (first_lsn b all (file_page (d.seen old Pages))) (redo_point all) all)
+  -- What a call of a restart keeps: its answer is this, no store is refused as none, and a stop since it began leaves what a restart can start from.
+  pub record RestartSound {A : Type 0} (P : A → Type 0) (old new : D) (result : Result A Fault) : Type 0 where
+    pub sound : IsSound result P
     pub stops : LeavesOnly d old new (IsLeftUndoing b base all)
-    pub cause : IfErr result (λ e. e ≢ NotAStore)
+
+  -- what redo, undo and the last force keep
+  abbrev pub SettleKept : D → PageWriter → D → Result ℕ Fault → Type 0
+  SettleKept old w new result = RestartSound (λ n. IsSettled w new × (n ≡ applied_in (first_lsn b all (file_page (d.seen old Pages))) (redo_point all) all)) old new result
+
+  -- the same of the writer that an opening answers
+  abbrev pub IsRestarted : Restarted → D → Type 0
+  IsRestarted r disk = IsSettled r.writer disk
+
+  -- What an opening answers: such a writer, the number of the next transaction, and what redo did.
+  pub record IsOpened (old : D) (r : Restarted) (new : D) : Type 0 where
+    pub restarted : IsRestarted r new
+    pub next : IsNextNumber (least_number (d.seen old Log)) r.next all
+    pub report : IsReport b all (file_page (d.seen old Pages)) r.report
 
   -- what a restart keeps
-  pub record RestartKept (old new : D) (result : Result Restarted Fault) : Type 0 where
-    pub ok : IfOk result (λ r. IsRestarted r new)
-    pub next : IfOk result (λ r. IsNextNumber (least_number (d.seen old Log)) r.next all)
-    pub report : IfOk result (λ r. IsReport b all (file_page (d.seen old Pages)) r.report)
-    pub stops : LeavesOnly d old new (IsLeftUndoing b base all)
-    pub cause : IfErr result (λ e. e ≢ NotAStore)
+  abbrev pub RestartKept : D → D → Result Restarted Fault → Type 0
+  RestartKept old new result = RestartSound (λ r. IsOpened old r new) old new result

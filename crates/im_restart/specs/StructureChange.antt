@@ -1,9 +1,8 @@
 -- Undo of the structure change that was open, page by page.
-use Rattle.std.specs.Prelude.{◌≡◌, ◌≢◌, ℕ, [], ◌∷◌, Some, Result, IfErr, IfOk, OnOk}
+use Rattle.std.specs.Prelude.{◌≡◌, ℕ, [], ◌∷◌, Some, Result}
 use Rattle.std.specs.Ordering.{nat_cmp}
 use Rattle.std.specs.BTreeMap.{Updates}
 use Rattle.im_types.specs.declared.fault.Fault.{Fault}
-use Rattle.im_types.specs.declared.fault.Fault.TheVariants.{NotAStore}
 use Rattle.im_types.specs.Records.{Logged}
 use Rattle.im_types.specs.Histories.{Base, History, IsFront, page_at}
 use Rattle.im_types.specs.Structure.{open_smo}
@@ -17,7 +16,7 @@ use Rattle.im_tree.specs.Theory.{page_tree}
 use Rattle.im_analysis.specs.Losers.{AreLosers, LoserMap}
 use Rattle.im_restart.specs.Undone.{GrowsByUndo}
 use Rattle.im_restart.specs.UndoOrder.{IsInOrder}
-use Rattle.im_restart.specs.Restart.{IsLeftUndoing}
+use Rattle.im_restart.specs.Restart.{IsLeftUndoing, RestartSound}
 
 -- Redo is over, the log is the one that was found with records of undo, and each page is what the log made of it.
 pub record IsTakingBack (b : Base) (all : History) (now : Writer) : Type 0 where
@@ -51,10 +50,8 @@ module _ {D : Type 0} (d : Ghosts D) (b : Base) (base : ℕ) (all : History) whe
     pub losers : (m n : LoserMap) → AreLosers m s.log → Updates nat_cmp m n t (Some (record { last = lsn; undo_next = on })) → AreLosers n now.log
 
   -- what that keeps
-  pub record TakeBackKept (s : Writer) (t on : ℕ) (rest : History) (old : D) (w : PageWriter) (disk : D) (result : Result ℕ Fault) : Type 0 where
-    pub ok : IfOk result (λ lsn. TakenBack s t on rest lsn old w disk)
-    pub stops : LeavesOnly d old disk (IsLeftUndoing b base all)
-    pub cause : IfErr result (λ e. e ≢ NotAStore)
+  abbrev pub TakeBackKept : Writer → ℕ → ℕ → History → D → PageWriter → D → Result ℕ Fault → Type 0
+  TakeBackKept s t on rest old w disk result = RestartSound d b base all (λ lsn. TakenBack s t on rest lsn old w disk) old disk result
 
   -- The table of the losers says so too.
   pub record PageUndone (s : Writer) (rest : History) (old : D) (w : PageWriter) (losers : LoserMap) (disk : D) : Type 0 where
@@ -64,13 +61,9 @@ module _ {D : Type 0} (d : Ghosts D) (b : Base) (base : ℕ) (all : History) whe
     pub are : AreLosers losers now.log
 
   -- what the undo of a page keeps
-  pub record PageKept (s : Writer) (rest : History) (old : D) (w : PageWriter) (losers : LoserMap) (disk : D) (result : Result Unit Fault) : Type 0 where
-    pub ok : OnOk result (PageUndone s rest old w losers disk)
-    pub stops : LeavesOnly d old disk (IsLeftUndoing b base all)
-    pub cause : IfErr result (λ e. e ≢ NotAStore)
+  abbrev pub PageKept : Writer → History → D → PageWriter → LoserMap → D → Result Unit Fault → Type 0
+  PageKept s rest old w losers disk result = RestartSound d b base all (λ u. PageUndone s rest old w losers disk) old disk result
 
   -- what the undo of all of them keeps
-  pub record ChangeKept (s : Writer) (old : D) (w : PageWriter) (losers : LoserMap) (disk : D) (result : Result Unit Fault) : Type 0 where
-    pub ok : OnOk result (PageUndone s [] old w losers disk)
-    pub stops : LeavesOnly d old disk (IsLeftUndoing b base all)
-    pub cause : IfErr result (λ e. e ≢ NotAStore)
+  abbrev pub ChangeKept : Writer → D → PageWriter → LoserMap → D → Result Unit Fault → Type 0
+  ChangeKept s old w losers disk result = RestartSound d b base all (λ u. PageUndone s [] old w losers disk) old disk result

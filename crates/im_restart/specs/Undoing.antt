@@ -1,7 +1,6 @@
 -- Undo as it goes on: what is known between two calls.
-use Rattle.std.specs.Prelude.{◌≡◌, ◌≢◌, ℕ, Bool, true, false, Some, Result, IfErr, IfOk, OnOk}
+use Rattle.std.specs.Prelude.{◌≡◌, ℕ, Bool, true, false, Some, Result}
 use Rattle.im_types.specs.declared.fault.Fault.{Fault}
-use Rattle.im_types.specs.declared.fault.Fault.TheVariants.{NotAStore}
 use Rattle.im_types.specs.Histories.{Base, History, IsFront, page_at}
 use Rattle.im_types.specs.Writer.{Writer}
 use Rattle.im_disk.specs.declared.disk.Disk.{Ghosts}
@@ -13,7 +12,7 @@ use Rattle.im_analysis.specs.Losers.{is_loser, row_of}
 use Rattle.im_analysis.specs.Undo.{IsUndoable}
 use Rattle.im_restart.specs.Undone.{GrowsByUndo}
 use Rattle.im_restart.specs.UndoOrder.{IsInOrder}
-use Rattle.im_restart.specs.Restart.{IsLeftUndoing}
+use Rattle.im_restart.specs.Restart.{IsLeftUndoing, RestartSound}
 use Rattle.im_restart.specs.LoserChains.{ChainMap, AreChains, nobody, SparesOthers}
 
 -- ---- the log and the pages
@@ -47,10 +46,8 @@ module _ {D : Type 0} (d : Ghosts D) (b : Base) (base : ℕ) (all : History) whe
     pub row : row_of t now.log ≡ record { last = lsn; undo_next = on }
 
   -- what a compensation keeps
-  pub record CompensateKept (s : Writer) (t on : ℕ) (old : D) (w : PageWriter) (disk : D) (result : Result ℕ Fault) : Type 0 where
-    pub ok : IfOk result (λ lsn. Compensated s t on lsn old w disk)
-    pub stops : LeavesOnly d old disk (IsLeftUndoing b base all)
-    pub cause : IfErr result (λ e. e ≢ NotAStore)
+  abbrev pub CompensateKept : Writer → ℕ → ℕ → D → PageWriter → D → Result ℕ Fault → Type 0
+  CompensateKept s t on old w disk result = RestartSound d b base all (λ lsn. Compensated s t on lsn old w disk) old disk result
 
   -- ---- an End
 
@@ -62,10 +59,8 @@ module _ {D : Type 0} (d : Ghosts D) (b : Base) (base : ℕ) (all : History) whe
     pub ended : is_loser t now.log ≡ false
 
   -- what an End keeps
-  pub record EndKept (s : Writer) (t : ℕ) (old : D) (w : PageWriter) (disk : D) (result : Result Unit Fault) : Type 0 where
-    pub ok : OnOk result (Ended s t old w disk)
-    pub stops : LeavesOnly d old disk (IsLeftUndoing b base all)
-    pub cause : IfErr result (λ e. e ≢ NotAStore)
+  abbrev pub EndKept : Writer → ℕ → D → PageWriter → D → Result Unit Fault → Type 0
+  EndKept s t old w disk result = RestartSound d b base all (λ u. Ended s t old w disk) old disk result
 
   -- ---- a step
 
@@ -77,10 +72,8 @@ module _ {D : Type 0} (d : Ghosts D) (b : Base) (base : ℕ) (all : History) whe
     pub are : AreChains out chains now.log
 
   -- what a step keeps
-  pub record StepKept (s : Writer) (t : ℕ) (out : ℕ → Bool) (old : D) (w : PageWriter) (chains : ChainMap) (disk : D) (result : Result Unit Fault) : Type 0 where
-    pub ok : OnOk result (Stepped s t out old w chains disk)
-    pub stops : LeavesOnly d old disk (IsLeftUndoing b base all)
-    pub cause : IfErr result (λ e. e ≢ NotAStore)
+  abbrev pub StepKept : Writer → ℕ → (ℕ → Bool) → D → PageWriter → ChainMap → D → Result Unit Fault → Type 0
+  StepKept s t out old w chains disk result = RestartSound d b base all (λ u. Stepped s t out old w chains disk) old disk result
 
   -- ---- all of them
 
@@ -91,10 +84,8 @@ module _ {D : Type 0} (d : Ghosts D) (b : Base) (base : ℕ) (all : History) whe
     pub are : AreChains nobody chains now.log
 
   -- what entering them keeps
-  pub record EnterKept (s : Writer) (old : D) (w : PageWriter) (chains : ChainMap) (disk : D) (result : Result Unit Fault) : Type 0 where
-    pub ok : OnOk result (Entered s old w chains disk)
-    pub stops : LeavesOnly d old disk (IsLeftUndoing b base all)
-    pub cause : IfErr result (λ e. e ≢ NotAStore)
+  abbrev pub EnterKept : Writer → D → PageWriter → ChainMap → D → Result Unit Fault → Type 0
+  EnterKept s old w chains disk result = RestartSound d b base all (λ u. Entered s old w chains disk) old disk result
 
   -- No loser is left.
   pub record AllUndone (s : Writer) (old : D) (w : PageWriter) (disk : D) : Type 0 where
@@ -103,7 +94,5 @@ module _ {D : Type 0} (d : Ghosts D) (b : Base) (base : ℕ) (all : History) whe
     pub ended : (t : ℕ) → is_loser t now.log ≡ false
 
   -- what undo keeps
-  pub record UndoKept (s : Writer) (old : D) (w : PageWriter) (disk : D) (result : Result Unit Fault) : Type 0 where
-    pub ok : OnOk result (AllUndone s old w disk)
-    pub stops : LeavesOnly d old disk (IsLeftUndoing b base all)
-    pub cause : IfErr result (λ e. e ≢ NotAStore)
+  abbrev pub UndoKept : Writer → D → PageWriter → D → Result Unit Fault → Type 0
+  UndoKept s old w disk result = RestartSound d b base all (λ u. AllUndone s old w disk) old disk result

@@ -1,7 +1,7 @@
 //! A store is opened.
 
-ghost use Rattle.std.specs.Prelude.{◌≡◌, ◌≤◌, ◌⊎◌, ◌↔◌, ℕ, [], true, false, length, IfErr, IfOk, OnOk};
-ghost use Rattle.im_types.specs.declared.fault.Fault.TheVariants.{Capacity, Device, LogFull, Memory, NotAStore};
+ghost use Rattle.std.specs.Prelude.{◌≡◌, ◌≤◌, ◌⊎◌, ℕ, [], false, length, IfErr, IfOk};
+ghost use Rattle.im_types.specs.declared.fault.Fault.TheVariants.{Device, Memory, NotAStore};
 ghost use Rattle.im_types.specs.declared.file_id.FileId.TheVariants.{Log, Pages};
 ghost use Rattle.im_types.specs.Histories.{Base, History};
 ghost use Rattle.im_types.specs.RedoPoints.{redo_point};
@@ -11,16 +11,20 @@ ghost use Rattle.im_disk.specs.Disk.{Only};
 ghost use Rattle.im_disk.specs.Runs.{IsSynced, Reads};
 ghost use Rattle.im_gate.specs.Header.{IsMade};
 ghost use Rattle.im_page.specs.PageFile.{file_page};
-ghost use Rattle.im_log.specs.LogFile.{HasNoRoom, IsOpen};
+ghost use Rattle.im_log.specs.LogFile.{IsOpen};
 ghost use Rattle.im_analysis.specs.Analysis.{IsAnalysis};
 ghost use Rattle.im_analysis.specs.Losers.{AreLosers};
 ghost use Rattle.im_analysis.specs.OpenChange.{IsOpenChange};
+ghost use Rattle.im_alloc.specs.Kept.{mild_to_take};
+ghost use Rattle.im_redo.specs.Recovery.{Recovers};
 ghost use Rattle.im_redo.specs.Redo.{lsns_from};
+ghost use Rattle.im_flush.specs.Outcome.{fault_of};
 ghost use Rattle.im_flush.specs.PageWriter.{IsReadyWriter, StandsAs};
+ghost use Rattle.im_restart.specs.Opening.{Opens};
 ghost use Rattle.im_restart.specs.Reading.{IsFound};
 ghost use Rattle.im_restart.specs.StructureChange.{IsTakingBack};
 ghost use Rattle.im_restart.specs.Undoing.{UndoKept};
-ghost use Rattle.im_restart.specs.Restart.{IsFresh, IsFullLog, SpellsLog, MayRestart, RestartKept, SettleKept};
+ghost use Rattle.im_restart.specs.Restart.{IsFresh, SpellsLog, MayRestart, RestartKept, SettleKept};
 
 use crate::found::Found;
 use crate::reading::open_log;
@@ -55,6 +59,7 @@ fn first_number(next: TxnId) -> TxnId
 }
 
 // Undoes what was found unfinished: the structure change that was open first, and then the losers.
+#[tactic(auto, using(im_redo::proofs::Recoveries::recovers_then, im_redo::proofs::Recoveries::recovery_refused))]
 fn undo_found<D: Disk>(
     alloc: Global,
     disk: &mut D,
@@ -65,14 +70,10 @@ fn undo_found<D: Disk>(
     requires room { 16384 ≤ length room.old }
     requires ready { IsReadyWriter D.Disk writer.old disk.old }
     requires working { writer.old.failed ≡ false }
-    ensures ready { IsReadyWriter D.Disk writer.new disk.new }
+    ensures outcome { Recovers D.Disk mild_to_take writer.old writer.new disk.new (fault_of result) }
     ensures kept { (b : Base) (base : ℕ) (all : History) (s : Writer) → StandsAs D.Disk b base s writer.old disk.old → IsTakingBack b all s
         → IsOpenChange analysed.old.open_change.items s.log → AreLosers analysed.old.losers s.log → UndoKept D.Disk b base all s disk.old writer.new disk.new result }
-    ensures works { OnOk result (writer.new.failed ≡ false) }
     ensures next { analysed.new.next ≡ analysed.old.next }
-    ensures causes { IfErr result (λ e. (e ≡ LogFull) ⊎ (e ≡ Memory) ⊎ (e ≡ NotAStore) ⊎ (e ≡ Device) ⊎ (e ≡ Capacity)) }
-    ensures no_room { result ≡ Err LogFull → HasNoRoom writer.new.log }
-    ensures device { result ≡ Err Device ↔ (D.failed disk.new ≡ true) }
 {
     undo_change(
         disk,
@@ -97,14 +98,10 @@ fn settle<D: Disk>(
     requires room { 16384 ≤ length room.old }
     requires ready { IsReadyWriter D.Disk writer.old disk.old }
     requires working { writer.old.failed ≡ false }
-    ensures ready { IsReadyWriter D.Disk writer.new disk.new }
+    ensures outcome { Recovers D.Disk mild_to_take writer.old writer.new disk.new (fault_of result) }
     ensures kept { (b : Base) (base : ℕ) (all : History) → StandsAs D.Disk b base (opened b all (file_page (D.seen disk.old Pages))) writer.old disk.old → MayRestart b base all (D.seen disk.old)
         → (least : ℕ) → IsAnalysis least all analysed.old → lsns.now ≡ lsns_from (redo_point all) all → SettleKept D.Disk b base all disk.old writer.new disk.new result }
-    ensures works { IfOk result (λ _. writer.new.failed ≡ false) }
     ensures next { analysed.new.next ≡ analysed.old.next }
-    ensures causes { IfErr result (λ e. (e ≡ LogFull) ⊎ (e ≡ Memory) ⊎ (e ≡ NotAStore) ⊎ (e ≡ Device) ⊎ (e ≡ Capacity)) }
-    ensures no_room { result ≡ Err LogFull → HasNoRoom writer.new.log }
-    ensures device { result ≡ Err Device ↔ (D.failed disk.new ≡ true) }
 {
     let applied = redo(
         disk,
@@ -130,14 +127,11 @@ fn restart<D: Disk>(
     requires most { frames ≤ 1024 }
     requires ready { IsOpen D.Disk found.log disk.old }
     requires usable { found.log.failed ≡ false }
-    ensures ready { IfOk result (λ r. IsReadyWriter D.Disk r.writer disk.new) }
-    ensures works { IfOk result (λ r. r.writer.failed ≡ false) }
+    ensures outcome { Opens D.Disk disk.new (fault_of result) }
+    ensures ready { IfOk result (λ r. IsReadyWriter D.Disk r.writer disk.new × (r.writer.failed ≡ false)) }
     ensures least { IfOk result (λ r. 1 ≤ r.next) }
     ensures kept { (b : Base) (base : ℕ) (all : History) → MayRestart b base all (D.seen disk.old) → Only Pages (D.seen disk.old) (D.may_leave disk.old) → IsFound D.Disk base all found disk.old
         → RestartKept D.Disk b base all disk.old disk.new result }
-    ensures causes { IfErr result (λ e. (e ≡ Memory) ⊎ (e ≡ Device) ⊎ (e ≡ NotAStore) ⊎ (e ≡ LogFull) ⊎ (e ≡ Capacity)) }
-    ensures full { result ≡ Err LogFull → D.tells → IsFullLog (D.seen disk.new) }
-    ensures device { result ≡ Err Device ↔ (D.failed disk.new ≡ true) }
 {
     let Found {
         log,
@@ -173,16 +167,13 @@ pub fn open_or_create<D: Disk>(
     requires synced { IsSynced D.Disk disk.old }
     requires least { 8 ≤ frames }
     requires most { frames ≤ 1024 }
-    ensures ready { IfOk result (λ r. IsReadyWriter D.Disk r.writer disk.new) }
-    ensures works { IfOk result (λ r. r.writer.failed ≡ false) }
+    ensures outcome { Opens D.Disk disk.new (fault_of result) }
+    ensures ready { IfOk result (λ r. IsReadyWriter D.Disk r.writer disk.new × (r.writer.failed ≡ false)) }
     ensures least { IfOk result (λ r. 1 ≤ r.next) }
     ensures made { IfOk result (λ _. D.tells → IsFresh (D.seen disk.old) ⊎ IsMade (D.seen disk.old Log)) }
     ensures spelled { IfOk result (λ _. D.tells → SpellsLog (D.seen disk.old)) }
     ensures kept { (b : Base) (base : ℕ) (all : History) → D.tells → MayRestart b base all (D.seen disk.old) → RestartKept D.Disk b base all disk.old disk.new result }
-    ensures causes { IfErr result (λ e. (e ≡ Memory) ⊎ (e ≡ Device) ⊎ (e ≡ NotAStore) ⊎ (e ≡ LogFull) ⊎ (e ≡ Capacity)) }
     ensures unspelled { D.tells → ¬ (SpellsLog (D.seen disk.old)) → Reads D.Disk disk.old disk.new × IfErr result (λ e. (e ≡ Memory) ⊎ (e ≡ Device) ⊎ (e ≡ NotAStore)) }
-    ensures full { result ≡ Err LogFull → D.tells → IsFullLog (D.seen disk.new) }
-    ensures device { result ≡ Err Device ↔ (D.failed disk.new ≡ true) }
 {
     let found = open_log(alloc, disk)?;
     restart(alloc, disk, found, frames)

@@ -1,20 +1,21 @@
 //! The structure change that was open is taken back, its newest page first.
 
-ghost use Rattle.std.specs.Prelude.{◌≡◌, ◌≤◌, ◌⊎◌, ◌↔◌, ◌∷◌, ℕ, true, false, length, Some, Ok, Err, IfErr, IfOk, OnOk};
+ghost use Rattle.std.specs.Prelude.{◌≡◌, ◌≤◌, ◌∷◌, ℕ, true, false, length, Some, Ok, IfErr, OnOk};
 ghost use Rattle.std.specs.Ordering.{nat_cmp};
 ghost use Rattle.std.specs.BTreeMap.{Updates};
-ghost use Rattle.im_types.specs.declared.fault.Fault.TheVariants.{Device, Failed, LogFull, Memory, NotAStore};
+ghost use Rattle.im_types.specs.declared.fault.Fault.TheVariants.{Memory, NotAStore};
 ghost use Rattle.im_types.specs.Histories.{Base, History};
 ghost use Rattle.im_types.specs.Structure.{open_smo};
 ghost use Rattle.im_types.specs.Transactions.{last_of};
 ghost use Rattle.im_types.specs.Writer.{Writer};
 ghost use Rattle.im_record.specs.Entry.{view, prev_of, transaction_of};
 ghost use Rattle.im_record.specs.Spelling.{IsEntry};
-ghost use Rattle.im_log.specs.LogFile.{HasNoRoom};
 ghost use Rattle.im_log.specs.Spelled.{logged_at};
 ghost use Rattle.im_analysis.specs.Losers.{AreLosers, is_loser};
 ghost use Rattle.im_analysis.specs.OpenChange.{IsOpenChange};
+ghost use Rattle.im_flush.specs.Outcome.{fault_of, mild};
 ghost use Rattle.im_flush.specs.PageWriter.{IsReadyWriter, StandsAs};
+ghost use Rattle.im_redo.specs.Recovery.{Recovers};
 ghost use Rattle.im_restart.specs.StructureChange.{ChangeKept, IsNewestAt, IsTakingBack, PageKept, TakeBackKept};
 
 use im_analysis::{Loser, OpenRecord};
@@ -35,14 +36,10 @@ fn take_back<D: Disk>(
     requires entry { IsEntry (view record.now) }
     requires ready { IsReadyWriter D.Disk writer.old disk.old }
     requires working { writer.old.failed ≡ false }
-    ensures ready { IsReadyWriter D.Disk writer.new disk.new }
+    ensures outcome { Recovers D.Disk mild writer.old writer.new disk.new (fault_of result) }
     ensures kept { (b : Base) (base : ℕ) (all : History) (s : Writer) (lsn : ℕ) (rest : History) → StandsAs D.Disk b base s writer.old disk.old → IsTakingBack b all s
         → open_smo s.log ≡ logged_at lsn (view record.now) ∷ rest → last ≡ last_of (transaction_of (view record.now)) s.log
         → TakeBackKept D.Disk b base all s (transaction_of (view record.now)) (prev_of (view record.now)) rest disk.old writer.new disk.new result }
-    ensures works { OnOk result (writer.new.failed ≡ false) }
-    ensures causes { IfErr result (λ e. (e ≡ LogFull) ⊎ (e ≡ Memory) ⊎ (e ≡ NotAStore) ⊎ (e ≡ Device)) }
-    ensures no_room { result ≡ Err LogFull → HasNoRoom writer.new.log }
-    ensures device { result ≡ Err Device ↔ (D.failed disk.new ≡ true) }
 {
     match record {
         Record::Smo {
@@ -92,6 +89,7 @@ fn note_row(
 }
 
 // Takes back one page, whose record this is.
+#[tactic(auto, using(im_redo::proofs::Recoveries::recovers_then, im_redo::proofs::Recoveries::recovery_refused))]
 fn undo_page<D: Disk>(
     disk: &mut D,
     writer: &mut PageWriter,
@@ -101,13 +99,9 @@ fn undo_page<D: Disk>(
     requires entry { IsEntry (view record.now) }
     requires ready { IsReadyWriter D.Disk writer.old disk.old }
     requires working { writer.old.failed ≡ false }
-    ensures ready { IsReadyWriter D.Disk writer.new disk.new }
+    ensures outcome { Recovers D.Disk mild writer.old writer.new disk.new (fault_of result) }
     ensures kept { (b : Base) (base : ℕ) (all : History) (s : Writer) (lsn : ℕ) (rest : History) → StandsAs D.Disk b base s writer.old disk.old → IsTakingBack b all s
         → open_smo s.log ≡ logged_at lsn (view record.now) ∷ rest → AreLosers losers.old s.log → PageKept D.Disk b base all s rest disk.old writer.new losers.new disk.new result }
-    ensures works { OnOk result (writer.new.failed ≡ false) }
-    ensures causes { IfErr result (λ e. (e ≡ LogFull) ⊎ (e ≡ Memory) ⊎ (e ≡ NotAStore) ⊎ (e ≡ Device)) }
-    ensures no_room { result ≡ Err LogFull → HasNoRoom writer.new.log }
-    ensures device { result ≡ Err Device ↔ (D.failed disk.new ≡ true) }
 {
     let last = last_of(losers, record.transaction())?;
     let lsn = take_back(disk, writer, last, record)?;
@@ -129,14 +123,10 @@ fn undo_page_at<D: Disk>(
     requires room { 16384 ≤ length room.old }
     requires ready { IsReadyWriter D.Disk writer.old disk.old }
     requires working { writer.old.failed ≡ false }
-    ensures ready { IsReadyWriter D.Disk writer.new disk.new }
+    ensures outcome { Recovers D.Disk mild writer.old writer.new disk.new (fault_of result) }
     ensures room { length room.new ≡ length room.old }
     ensures kept { (b : Base) (base : ℕ) (all : History) (s : Writer) (rest : History) → StandsAs D.Disk b base s writer.old disk.old → IsTakingBack b all s → IsNewestAt lsn s.log rest
         → AreLosers losers.old s.log → PageKept D.Disk b base all s rest disk.old writer.new losers.new disk.new result }
-    ensures works { OnOk result (writer.new.failed ≡ false) }
-    ensures causes { IfErr result (λ e. (e ≡ LogFull) ⊎ (e ≡ Memory) ⊎ (e ≡ NotAStore) ⊎ (e ≡ Device)) }
-    ensures no_room { result ≡ Err LogFull → HasNoRoom writer.new.log }
-    ensures device { result ≡ Err Device ↔ (D.failed disk.new ≡ true) }
 {
     let size = writer.read_at(disk, lsn, room)?;
     let record = decode(&room[..size])?;
@@ -145,6 +135,7 @@ fn undo_page_at<D: Disk>(
 
 /// Takes back the structure change that was open, whose records these are, the newest page first, and leaves its transaction's row in
 /// the table of the losers as that leaves it.
+#[tactic(auto, using(im_redo::proofs::Recoveries::recovers_then, im_redo::proofs::Recoveries::recovery_refused))]
 pub(crate) fn undo_change<D: Disk>(
     disk: &mut D,
     writer: &mut PageWriter,
@@ -155,14 +146,10 @@ pub(crate) fn undo_change<D: Disk>(
     requires room { 16384 ≤ length room.old }
     requires ready { IsReadyWriter D.Disk writer.old disk.old }
     requires working { writer.old.failed ≡ false }
-    ensures ready { IsReadyWriter D.Disk writer.new disk.new }
+    ensures outcome { Recovers D.Disk mild writer.old writer.new disk.new (fault_of result) }
     ensures room { length room.new ≡ length room.old }
     ensures kept { (b : Base) (base : ℕ) (all : History) (s : Writer) → StandsAs D.Disk b base s writer.old disk.old → IsTakingBack b all s → IsOpenChange open_change.old.items s.log
         → AreLosers losers.old s.log → ChangeKept D.Disk b base all s disk.old writer.new losers.new disk.new result }
-    ensures works { OnOk result (writer.new.failed ≡ false) }
-    ensures causes { IfErr result (λ e. (e ≡ LogFull) ⊎ (e ≡ Memory) ⊎ (e ≡ NotAStore) ⊎ (e ≡ Device)) }
-    ensures no_room { result ≡ Err LogFull → HasNoRoom writer.new.log }
-    ensures device { result ≡ Err Device ↔ (D.failed disk.new ≡ true) }
 {
     while let Some(newest) = open_change.pop() {
         undo_page_at(disk, writer, losers, newest.lsn, room)?;

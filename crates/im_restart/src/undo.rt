@@ -3,17 +3,19 @@
 ghost use Rattle.std.specs.Prelude.{◌≡◌, [], ◌∷◌, ◌++◌, ◌≢◌, ◌≤◌, ◌<◌, ◌⊎◌, ◌↔◌, ℕ, Bool, true, false, length, Option, None, Some, Ok, Err, IfErr, IfOk, IfSome, IsSome, OnOk};
 ghost use Rattle.std.specs.Ordering.{nat_cmp};
 ghost use Rattle.std.specs.BTreeMap.{Updates, btree_map_len, get};
-ghost use Rattle.im_types.specs.declared.fault.Fault.TheVariants.{Capacity, Device, Failed, LogFull, Memory, NotAStore};
+ghost use Rattle.im_types.specs.declared.fault.Fault.TheVariants.{Failed, LogFull, Memory, NotAStore};
 ghost use Rattle.im_types.specs.Histories.{Base, History, IsRecordOf, Rises};
 ghost use Rattle.im_types.specs.Transactions.{is_key};
 ghost use Rattle.im_types.specs.Writer.{Writer};
 ghost use Rattle.im_record.specs.Entry.{view, prev_of, transaction_of, undo_next_of};
 ghost use Rattle.im_record.specs.Spelling.{IsEntry};
-ghost use Rattle.im_log.specs.LogFile.{HasNoRoom};
 ghost use Rattle.im_log.specs.Whats.{what_of};
 ghost use Rattle.im_log.specs.Spelled.{logged_at};
 ghost use Rattle.im_analysis.specs.Losers.{AreLosers};
+ghost use Rattle.im_alloc.specs.Kept.{mild_to_take};
+ghost use Rattle.im_flush.specs.Outcome.{fault_of, mild};
 ghost use Rattle.im_flush.specs.PageWriter.{IsReadyWriter, StandsAs};
+ghost use Rattle.im_redo.specs.Recovery.{Recovers};
 ghost use Rattle.im_restart.specs.UndoOrder.{IsLatest};
 ghost use Rattle.im_restart.specs.LoserChains.{AreChains, GoesOnAt, IsToUndo, LeadsNowhere, MayLeadOn, PutKept, above, and_also, nobody};
 ghost use Rattle.im_restart.specs.Undoing.{CompensateKept, EndKept, IsUndoing, EnterKept, StepKept, UndoKept};
@@ -53,13 +55,9 @@ fn compensate<D: Disk>(
     requires working { writer.old.failed ≡ false }
     requires key { is_key (what_of (view record.now)) ≡ true }
     requires owner { transaction_of (view record.now) ≡ chain.transaction }
-    ensures ready { IsReadyWriter D.Disk writer.new disk.new }
+    ensures outcome { Recovers D.Disk mild_to_take writer.old writer.new disk.new (fault_of result) }
     ensures kept { (b : Base) (base : ℕ) (all : History) (s : Writer) → StandsAs D.Disk b base s writer.old disk.old → IsUndoing b all s → IsToUndo s.log chain (view record.now)
         → CompensateKept D.Disk b base all s chain.transaction (prev_of (view record.now)) disk.old writer.new disk.new result }
-    ensures works { OnOk result (writer.new.failed ≡ false) }
-    ensures causes { IfErr result (λ e. (e ≡ LogFull) ⊎ (e ≡ Memory) ⊎ (e ≡ NotAStore) ⊎ (e ≡ Device) ⊎ (e ≡ Capacity)) }
-    ensures no_room { result ≡ Err LogFull → HasNoRoom writer.new.log }
-    ensures device { result ≡ Err Device ↔ (D.failed disk.new ≡ true) }
 {
     if chain.transaction == 0 {
         return Err(Fault::NotAStore);
@@ -74,13 +72,9 @@ fn compensate<D: Disk>(
 fn end<D: Disk>(disk: &mut D, writer: &mut PageWriter, chain: Chain) -> Result<(), Fault>
     requires ready { IsReadyWriter D.Disk writer.old disk.old }
     requires working { writer.old.failed ≡ false }
-    ensures ready { IsReadyWriter D.Disk writer.new disk.new }
+    ensures outcome { Recovers D.Disk mild writer.old writer.new disk.new (fault_of result) }
     ensures kept { (b : Base) (base : ℕ) (all : History) (s : Writer) → StandsAs D.Disk b base s writer.old disk.old → IsUndoing b all s → GoesOnAt chain 0 s.log
         → EndKept D.Disk b base all s chain.transaction disk.old writer.new disk.new result }
-    ensures works { OnOk result (writer.new.failed ≡ false) }
-    ensures causes { IfErr result (λ e. (e ≡ LogFull) ⊎ (e ≡ NotAStore) ⊎ (e ≡ Device)) }
-    ensures no_room { result ≡ Err LogFull → HasNoRoom writer.new.log }
-    ensures device { result ≡ Err Device ↔ (D.failed disk.new ≡ true) }
 {
     if chain.transaction == 0 {
         return Err(Fault::NotAStore);
@@ -119,15 +113,11 @@ fn go_on<D: Disk>(
 ) -> Result<(), Fault>
     requires ready { IsReadyWriter D.Disk writer.old disk.old }
     requires working { writer.old.failed ≡ false }
-    ensures ready { IsReadyWriter D.Disk writer.new disk.new }
+    ensures outcome { Recovers D.Disk mild writer.old writer.new disk.new (fault_of result) }
     ensures kept { (b : Base) (base : ℕ) (all : History) (s : Writer) (out : ℕ → Bool) → StandsAs D.Disk b base s writer.old disk.old → IsUndoing b all s
         → AreChains (and_also chain.transaction out) chains.old s.log → out chain.transaction ≡ false → GoesOnAt chain lsn s.log
         → StepKept D.Disk b base all s chain.transaction out disk.old writer.new chains.new disk.new result }
     ensures above { OnOk result ((n : ℕ) → lsn < n → above chains.old.entries ≤ n → above chains.new.entries ≤ n) }
-    ensures works { OnOk result (writer.new.failed ≡ false) }
-    ensures causes { IfErr result (λ e. (e ≡ LogFull) ⊎ (e ≡ Memory) ⊎ (e ≡ NotAStore) ⊎ (e ≡ Device)) }
-    ensures no_room { result ≡ Err LogFull → HasNoRoom writer.new.log }
-    ensures device { result ≡ Err Device ↔ (D.failed disk.new ≡ true) }
 {
     if lsn == 0 {
         end(disk, writer, chain)
@@ -183,6 +173,7 @@ fn is_key(record: &Record) -> bool
 }
 
 // Takes back a key record, and goes on behind it.
+#[tactic(auto, using(im_redo::proofs::Recoveries::recovers_then, im_redo::proofs::Recoveries::recovery_refused))]
 fn undo_key<D: Disk>(
     alloc: Global,
     disk: &mut D,
@@ -198,15 +189,11 @@ fn undo_key<D: Disk>(
     requires key { is_key (what_of (view record.now)) ≡ true }
     requires owner { transaction_of (view record.now) ≡ chain.transaction }
     requires next { next ≡ prev_of (view record.now) }
-    ensures ready { IsReadyWriter D.Disk writer.new disk.new }
+    ensures outcome { Recovers D.Disk mild_to_take writer.old writer.new disk.new (fault_of result) }
     ensures kept { (b : Base) (base : ℕ) (all : History) (s : Writer) (out : ℕ → Bool) → StandsAs D.Disk b base s writer.old disk.old → IsUndoing b all s
         → AreChains (and_also chain.transaction out) chains.old s.log → out chain.transaction ≡ false → IsToUndo s.log chain (view record.now)
         → StepKept D.Disk b base all s chain.transaction out disk.old writer.new chains.new disk.new result }
     ensures above { OnOk result ((n : ℕ) → next < n → above chains.old.entries ≤ n → above chains.new.entries ≤ n) }
-    ensures works { OnOk result (writer.new.failed ≡ false) }
-    ensures causes { IfErr result (λ e. (e ≡ LogFull) ⊎ (e ≡ Memory) ⊎ (e ≡ NotAStore) ⊎ (e ≡ Device) ⊎ (e ≡ Capacity)) }
-    ensures no_room { result ≡ Err LogFull → HasNoRoom writer.new.log }
-    ensures device { result ≡ Err Device ↔ (D.failed disk.new ≡ true) }
 {
     let last = compensate(alloc, disk, writer, chain, record)?;
     let behind = Chain {
@@ -232,16 +219,12 @@ fn undo_record<D: Disk>(
     requires entry { IsEntry (view record.now) }
     requires ready { IsReadyWriter D.Disk writer.old disk.old }
     requires working { writer.old.failed ≡ false }
-    ensures ready { IsReadyWriter D.Disk writer.new disk.new }
+    ensures outcome { Recovers D.Disk mild_to_take writer.old writer.new disk.new (fault_of result) }
     ensures kept { (b : Base) (base : ℕ) (all : History) (s : Writer) (out : ℕ → Bool) → StandsAs D.Disk b base s writer.old disk.old → IsUndoing b all s
         → AreChains (and_also chain.transaction out) chains.old s.log → out chain.transaction ≡ false → GoesOnAt chain lsn s.log
         → IsRecordOf (logged_at lsn (view record.now)) s.log → transaction_of (view record.now) ≡ chain.transaction → IsLatest lsn s.log
         → StepKept D.Disk b base all s chain.transaction out disk.old writer.new chains.new disk.new result }
     ensures above { OnOk result (above chains.old.entries ≤ lsn → above chains.new.entries ≤ lsn) }
-    ensures works { OnOk result (writer.new.failed ≡ false) }
-    ensures causes { IfErr result (λ e. (e ≡ LogFull) ⊎ (e ≡ Memory) ⊎ (e ≡ NotAStore) ⊎ (e ≡ Device) ⊎ (e ≡ Capacity)) }
-    ensures no_room { result ≡ Err LogFull → HasNoRoom writer.new.log }
-    ensures device { result ≡ Err Device ↔ (D.failed disk.new ≡ true) }
 {
     if record.transaction() != chain.transaction {
         return Err(Fault::NotAStore);
@@ -267,16 +250,12 @@ fn undo_at<D: Disk>(
     requires room { 16384 ≤ length room.old }
     requires ready { IsReadyWriter D.Disk writer.old disk.old }
     requires working { writer.old.failed ≡ false }
-    ensures ready { IsReadyWriter D.Disk writer.new disk.new }
+    ensures outcome { Recovers D.Disk mild_to_take writer.old writer.new disk.new (fault_of result) }
     ensures room { length room.new ≡ length room.old }
     ensures kept { (b : Base) (base : ℕ) (all : History) (s : Writer) (out : ℕ → Bool) → StandsAs D.Disk b base s writer.old disk.old → IsUndoing b all s
         → AreChains (and_also chain.transaction out) chains.old s.log → out chain.transaction ≡ false → lsn ≢ 0 → GoesOnAt chain lsn s.log → IsLatest lsn s.log
         → StepKept D.Disk b base all s chain.transaction out disk.old writer.new chains.new disk.new result }
     ensures above { OnOk result (above chains.old.entries ≤ lsn → above chains.new.entries ≤ lsn) }
-    ensures works { OnOk result (writer.new.failed ≡ false) }
-    ensures causes { IfErr result (λ e. (e ≡ LogFull) ⊎ (e ≡ Memory) ⊎ (e ≡ NotAStore) ⊎ (e ≡ Device) ⊎ (e ≡ Capacity)) }
-    ensures no_room { result ≡ Err LogFull → HasNoRoom writer.new.log }
-    ensures device { result ≡ Err Device ↔ (D.failed disk.new ≡ true) }
 {
     let size = writer.read_at(disk, lsn, room)?;
     let record = decode(&room[..size])?;
@@ -295,6 +274,7 @@ fn take_last(chains: &mut BTreeMap<Lsn, Chain>) -> Option<(Lsn, Chain)>
 }
 
 // Undoes and ends the transactions of these chains, the record with the greatest LSN first.
+#[tactic(auto, using(im_redo::proofs::Recoveries::recovers_then, im_redo::proofs::Recoveries::recovery_refused))]
 fn undo_all<D: Disk>(
     alloc: Global,
     disk: &mut D,
@@ -305,13 +285,9 @@ fn undo_all<D: Disk>(
     requires room { 16384 ≤ length room.old }
     requires ready { IsReadyWriter D.Disk writer.old disk.old }
     requires working { writer.old.failed ≡ false }
-    ensures ready { IsReadyWriter D.Disk writer.new disk.new }
+    ensures outcome { Recovers D.Disk mild_to_take writer.old writer.new disk.new (fault_of result) }
     ensures kept { (b : Base) (base : ℕ) (all : History) (s : Writer) → StandsAs D.Disk b base s writer.old disk.old → IsUndoing b all s
         → AreChains nobody chains.old s.log → UndoKept D.Disk b base all s disk.old writer.new disk.new result }
-    ensures works { OnOk result (writer.new.failed ≡ false) }
-    ensures causes { IfErr result (λ e. (e ≡ LogFull) ⊎ (e ≡ Memory) ⊎ (e ≡ NotAStore) ⊎ (e ≡ Device) ⊎ (e ≡ Capacity)) }
-    ensures no_room { result ≡ Err LogFull → HasNoRoom writer.new.log }
-    ensures device { result ≡ Err Device ↔ (D.failed disk.new ≡ true) }
 {
     while let Some((lsn, chain)) = take_last(chains) {
         undo_at(alloc, disk, writer, chains, chain, lsn, room)?;
@@ -320,6 +296,7 @@ fn undo_all<D: Disk>(
 }
 
 // Puts each loser at the LSN where its undo goes on; those of which nothing is left end.
+#[tactic(auto, using(im_redo::proofs::Recoveries::recovers_then, im_redo::proofs::Recoveries::recovery_refused))]
 fn enter_all<D: Disk>(
     disk: &mut D,
     writer: &mut PageWriter,
@@ -329,13 +306,9 @@ fn enter_all<D: Disk>(
     requires ready { IsReadyWriter D.Disk writer.old disk.old }
     requires working { writer.old.failed ≡ false }
     requires none { chains.old.entries ≡ [] }
-    ensures ready { IsReadyWriter D.Disk writer.new disk.new }
+    ensures outcome { Recovers D.Disk mild writer.old writer.new disk.new (fault_of result) }
     ensures kept { (b : Base) (base : ℕ) (all : History) (s : Writer) → StandsAs D.Disk b base s writer.old disk.old → IsUndoing b all s → AreLosers losers.old s.log
         → EnterKept D.Disk b base all s disk.old writer.new chains.new disk.new result }
-    ensures works { OnOk result (writer.new.failed ≡ false) }
-    ensures causes { IfErr result (λ e. (e ≡ LogFull) ⊎ (e ≡ Memory) ⊎ (e ≡ NotAStore) ⊎ (e ≡ Device)) }
-    ensures no_room { result ≡ Err LogFull → HasNoRoom writer.new.log }
-    ensures device { result ≡ Err Device ↔ (D.failed disk.new ≡ true) }
 {
     while let Some((transaction, row)) = losers.pop_first() {
         let chain = Chain {
@@ -352,6 +325,7 @@ fn enter_all<D: Disk>(
 ///
 /// Refused `NotAStore` where a chain of records leads to no earlier record of its transaction that can be undone, or the tree does not
 /// take a compensation; `Capacity` where page numbers or levels are used up by splits on the way; `Memory`, `LogFull`, `Device`.
+#[tactic(auto, using(im_redo::proofs::Recoveries::recovers_then, im_redo::proofs::Recoveries::recovery_refused))]
 pub(crate) fn undo<D: Disk>(
     alloc: Global,
     disk: &mut D,
@@ -362,13 +336,9 @@ pub(crate) fn undo<D: Disk>(
     requires room { 16384 ≤ length room.old }
     requires ready { IsReadyWriter D.Disk writer.old disk.old }
     requires working { writer.old.failed ≡ false }
-    ensures ready { IsReadyWriter D.Disk writer.new disk.new }
+    ensures outcome { Recovers D.Disk mild_to_take writer.old writer.new disk.new (fault_of result) }
     ensures kept { (b : Base) (base : ℕ) (all : History) (s : Writer) → StandsAs D.Disk b base s writer.old disk.old → IsUndoing b all s
         → AreLosers losers.old s.log → UndoKept D.Disk b base all s disk.old writer.new disk.new result }
-    ensures works { OnOk result (writer.new.failed ≡ false) }
-    ensures causes { IfErr result (λ e. (e ≡ LogFull) ⊎ (e ≡ Memory) ⊎ (e ≡ NotAStore) ⊎ (e ≡ Device) ⊎ (e ≡ Capacity)) }
-    ensures no_room { result ≡ Err LogFull → HasNoRoom writer.new.log }
-    ensures device { result ≡ Err Device ↔ (D.failed disk.new ≡ true) }
 {
     let mut chains = BTreeMap::new(alloc);
     enter_all(disk, writer, losers, &mut chains)?;

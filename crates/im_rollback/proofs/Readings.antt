@@ -1,12 +1,12 @@
 -- What stands where the undo of a transaction goes on.
 use Rattle.std.proofs.Common.{◌≡◌, ◌≢◌, ◌≤◌, ◌<◌, ◌⊎◌, ℕ, List, [], ◌∷◌, ◌++◌, Bool, true, false, Option, None, Some, inl, inr, refl, sym, ◌∙◌, ap, subst, arith}
 use Rattle.std.specs.Prelude.{◌==◌, ◌||◌}
-use Rattle.std.proofs.lemmas.Bool.{cases_eq, cond-true, cond-false, eq-eqb, ne_eqb, or_right}
+use Rattle.std.proofs.lemmas.Bool.{cases_Bool, cases_eq, cond-true, cond-false, eq-eqb, ne_eqb, or_right}
 use Rattle.im_types.specs.Records.{What, InsertKey, DeleteKey, UndoInsert, UndoDelete, Smo, UndoSmo, DummyClr, Commit, End, Image, Checkpoint, Unreadable, Logged}
 use Rattle.im_types.specs.Tree.{Tree, TreeLaws}
 use Rattle.im_types.specs.Histories.{Base, History, IsRecordOf, Rises, end_of}
 use Rattle.im_types.specs.Changes.{Change}
-use Rattle.im_types.specs.Transactions.{change_of, changes_of, is_end, is_finished, is_key, net, reads_on, to_undo, undo_next_of, undo_reads}
+use Rattle.im_types.specs.Transactions.{change_of, changes_of, is_end, is_finished, is_key, net, reads_on, stack_after, to_undo, undo_from, undo_next_of, undo_reads}
 use Rattle.im_types.specs.Lawful.{IsLawful, MayCome}
 use Rattle.im_types.proofs.Fronts.{rises}
 use Rattle.im_record.specs.Entry.{Entry, transaction_of}
@@ -14,9 +14,9 @@ use Rattle.im_log.specs.Spelled.{logged_at}
 use Rattle.im_log.specs.Reading.{SpellsRecord}
 use Rattle.im_record.specs.Reading.{entry_of}
 use Rattle.im_analysis.specs.declared.rows.Loser.{Loser}
-use Rattle.im_analysis.specs.Losers.{is_loser, row_of}
+use Rattle.im_analysis.specs.Losers.{has_record, row_of}
 use Rattle.im_analysis.specs.Undo.{ComesTo, HasRecordAt, IsNext, IsUndoable, leads_on}
-use Rattle.im_analysis.proofs.Losers.{loser_number, loser_unfinished}
+use Rattle.im_analysis.proofs.Losers.{loser_from}
 use Rattle.im_analysis.proofs.Undoing.{undo_goes_on}
 use Rattle.im_rollback.specs.Going.{GoesOnAt, IsNextAt, IsFound}
 
@@ -37,16 +37,16 @@ finished_by (r ∷ older) x (inr there) end = elim (cases_eq r.txn x.txn) [
   | inr other ↦ cond-false (r.txn == x.txn) (is_end r.what || is_finished x.txn older) (is_finished x.txn older) (ne_eqb r.txn x.txn other) ∙ finished_by older x there end
 ]
 
-module _ (b : Base) (tree : Tree) (laws : TreeLaws tree) (log : History) (t l : ℕ) (can : IsUndoable b tree log) (loser : is_loser t log ≡ true) (goes : GoesOnAt t l log) (x : Logged) (is : IsRecordOf x log) (here : x.lsn ≡ l) (mine : x.txn ≡ t) where
+module _ (b : Base) (tree : Tree) (laws : TreeLaws tree) (log : History) (t l : ℕ) (can : IsUndoable b tree log) (owner : 1 ≤ t) (unfinished : is_finished t log ≡ false) (goes : GoesOnAt t l log) (x : Logged) (is : IsRecordOf x log) (here : x.lsn ≡ l) (mine : x.txn ≡ t) where
   comes : ComesTo t log (reads_on x x.what (undo_reads x.undo_next log))
   comes = subst (λ (o : Option Logged). ComesTo t log o) (ap (λ (n : ℕ). undo_reads n log) (sym here) ∙ (undo_goes_on tree laws).reads_record b log x can.lawful is) goes.comes
 
   none_ended : is_end x.what ≡ true → ⊥
   none_ended end =
-      let clash : true ≡ false = sym (finished_by log x is end) ∙ ap (λ (n : ℕ). is_finished n log) mine ∙ loser_unfinished t log loser in cc clash
+      let clash : true ≡ false = sym (finished_by log x is end) ∙ ap (λ (n : ℕ). is_finished n log) mine ∙ unfinished in cc clash
 
   numbered : x.txn ≡ 0 → ⊥
-  numbered none = let one : 1 ≤ t = loser_number t log loser in let same : x.txn ≡ t = mine in omega (arith, one, same, none)
+  numbered none = let same : x.txn ≡ t = mine in omega (arith, owner, same, none)
 
   kinds : (w : What) → x.what ≡ w → (older : History) → MayCome b tree x older w → ComesTo t log (reads_on x w (undo_reads x.undo_next log)) → (is_key w ≡ true) ⊎ (leads_on w ≡ true)
   kinds (InsertKey k i) e older may come = inl refl
@@ -121,19 +121,37 @@ module _ (b : Base) (tree : Tree) (laws : TreeLaws tree) (log : History) (t l : 
 
 -- ---- where it begins, and where it ends
 
-pub begins_at : (b : Base) (tree : Tree) → TreeLaws tree → (log : History) (t last on : ℕ) → IsUndoable b tree log → is_loser t log ≡ true → row_of t log ≡ record { last = last; undo_next = on } → GoesOnAt t on log
-begins_at b tree laws log t last on can loser row =
-    let next : undo_next_of t log ≡ on = ap (λ (r : Loser). r.undo_next) row in
-    subst (λ (n : ℕ). GoesOnAt t n log) next (record {
-      at = (undo_goes_on tree laws).goes_on_at b log t can.lawful (loser_number t log loser);
-      comes = (undo_goes_on tree laws).reads b log t can loser;
-    })
+or_none : (a b : Bool) → a || b ≡ false → (a ≡ false) × (b ≡ false)
+or_none true b is = absurd (cc is)
+or_none false b is = (refl, is)
 
 reads_none : (b : Base) (log : History) → Rises b log → undo_reads 0 log ≡ None
 reads_none b [] up = refl
 reads_none b (r ∷ older) up =
     let high : end_of b older < r.lsn = up.1 in
     cond-false (r.lsn == 0) (reads_on r r.what (undo_reads r.undo_next older)) (undo_reads 0 older) (ne_eqb r.lsn 0 (λ e. absurd (omega (arith, e, high)))) ∙ reads_none b older up.0
+
+-- a transaction without a record has nothing left to undo
+none_next : (t : ℕ) (log : History) → has_record t log ≡ false → undo_next_of t log ≡ 0
+none_next t [] none = refl
+none_next t (r ∷ older) none =
+    let parts = or_none (r.txn == t) (has_record t older) none in cond-false (r.txn == t) (undo_from r r.what) (undo_next_of t older) parts.0 ∙ none_next t older parts.1
+
+none_left : (t : ℕ) (log : History) → has_record t log ≡ false → to_undo t log ≡ []
+none_left t [] none = refl
+none_left t (r ∷ older) none =
+    let parts = or_none (r.txn == t) (has_record t older) none in cond-false (r.txn == t) (stack_after r r.what (to_undo t older)) (to_undo t older) parts.0 ∙ none_left t older parts.1
+
+pub begins_at : (b : Base) (tree : Tree) → TreeLaws tree → (log : History) (t last on : ℕ) → IsUndoable b tree log → 1 ≤ t → is_finished t log ≡ false → row_of t log ≡ record { last = last; undo_next = on } → GoesOnAt t on log
+begins_at b tree laws log t last on can owner unfinished row =
+    let next : undo_next_of t log ≡ on = ap (λ (r : Loser). r.undo_next) row in
+    subst (λ (n : ℕ). GoesOnAt t n log) next (record {
+      at = (undo_goes_on tree laws).goes_on_at b log t can.lawful owner;
+      comes = elim (cases_Bool (has_record t log)) [
+        | inl some ↦ (undo_goes_on tree laws).reads b log t can (loser_from t log owner some unfinished)
+        | inr none ↦ subst (λ (o : Option Logged). ComesTo t log o) (sym (ap (λ (n : ℕ). undo_reads n log) (none_next t log none) ∙ reads_none b log (rises b tree log can.lawful))) (none_left t log none)
+      ];
+    })
 
 pub nothing_left : (b : Base) (tree : Tree) (log : History) (t l : ℕ) → IsUndoable b tree log → GoesOnAt t l log → l ≡ 0 → to_undo t log ≡ []
 nothing_left b tree log t l can goes zero_is =

@@ -1,8 +1,8 @@
 -- Calls in a row within one turn.
-use Rattle.std.proofs.Common.{◌≡◌, ◌≢◌, ℕ, false, ◌⊎◌, [], refl, sym, ◌∙◌, ap, subst, inl, inr}
-use Rattle.std.specs.Prelude.{Result, Ok, Err, IfErr}
+use Rattle.std.proofs.Common.{◌≡◌, ◌≢◌, ℕ, true, [], Some, refl, sym, ap, subst}
+use Rattle.std.specs.Prelude.{Result, Ok, Err}
 use Rattle.im_types.specs.declared.fault.Fault.{Fault}
-use Rattle.im_types.specs.declared.fault.Fault.TheVariants.{Capacity, Device, Failed, LogFull, Memory, NotAStore}
+use Rattle.im_types.specs.declared.fault.Fault.TheVariants.{Memory}
 use Rattle.im_types.specs.Histories.{Base}
 use Rattle.im_types.specs.Lawful.{IsLawful}
 use Rattle.im_types.specs.Records.{Logged}
@@ -16,49 +16,39 @@ use Rattle.im_record.specs.Entry.{Entry, End, prev_of, transaction_of}
 use Rattle.im_log.specs.Spelled.{logged_at}
 use Rattle.im_flush.specs.declared.page_writer.PageWriter.{PageWriter}
 use Rattle.im_flush.specs.Stands.{IsCovered, LeavesCovered}
-use Rattle.im_flush.specs.PageWriter.{GoesOn, IsReadyWriter, LoggedOnly, StandsAs}
-use Rattle.im_flush.proofs.Writers.{goes_on_start}
+use Rattle.im_flush.specs.PageWriter.{Evicted, GoesOn, LoggedOnly, StandsAs}
+use Rattle.im_flush.specs.Outcome.{fault_of, AreLoaded, Logs}
+use Rattle.im_flush.proofs.Outcomes.{stands_on}
+use Rattle.im_flush.proofs.Writers.{goes_on_start, goes_on_then}
 use Rattle.im_tree.specs.Theory.{page_tree}
 use Rattle.im_tree.proofs.TheoryLaws.{page_tree_laws}
 use Rattle.im_analysis.specs.declared.rows.Loser.{Loser}
+use Rattle.im_alloc.specs.Kept.{mild_to_take}
+use Rattle.im_analysis.specs.Losers.{is_loser}
 use Rattle.im_analysis.specs.Undo.{Ends, IsNext}
 use Rattle.im_rollback.specs.Going.{IsNextAt}
 use Rattle.im_analysis.proofs.Undoing.{undo_goes_on}
-use Rattle.im_search.proofs.Ways.{evicted_past}
 use Rattle.im_undo.specs.Undoing.{CompensateKept, IsGoing, IsToUndo, LeavesUndo, LeftByUndo}
-use Rattle.im_undo.proofs.Growth.{goes_start as going_starts, grows_none, left_both, left_then}
+use Rattle.im_undo.proofs.Growth.{goes_start as going_starts, grows_none, left_both, left_then, loser_of, loser_still}
 use Rattle.im_rollback.specs.declared.undone.Undone.{Undone}
 use Rattle.im_rollback.specs.declared.undone.Undone.TheVariants.{More, Ended}
+use Rattle.im_rollback.specs.Ends.{may_be_full, TurnOutcome}
+use Rattle.im_rollback.proofs.Ends.{never_capacity, never_failed, never_memory}
 use Rattle.im_rollback.specs.Turns.{EndedNow, GoOnKept, HasMore, TakeKept, Took, TurnKept}
-
-other_fault : (f g : Fault) → (f ≡ LogFull) ⊎ (f ≡ NotAStore) ⊎ (f ≡ Device) → f ≡ g → (LogFull ≡ g → ⊥) → (NotAStore ≡ g → ⊥) → (Device ≡ g → ⊥) → ⊥
-other_fault f g (inl full) is one two three = one (sym full ∙ is)
-other_fault f g (inr (inl bytes)) is one two three = two (sym bytes ∙ is)
-other_fault f g (inr (inr device)) is one two three = three (sym device ∙ is)
-
-pub device_not : (e f : Fault) → e ≡ Device → e ≡ f → (Device ≡ f → ⊥) → ⊥
-device_not e f is same other = other (sym is ∙ same)
-
-pub device_not_store : (e : Fault) → e ≡ Device → e ≢ NotAStore
-device_not_store e is same = let clash : Device ≡ NotAStore = sym is ∙ same in cc clash
-
--- a disk that works
-pub disk_works : {D : Type 0} (d : Ghosts D) (w : PageWriter) (disk : D) → IsReadyWriter d w disk → w.failed ≡ false → d.failed disk ≡ false
-disk_works d w disk ready working = (ready.opened working).ready.reading.working ((ready.opened working).working (ready.works working))
 
 module _ {D : Type 0} (d : Ghosts D) (b : Base) (base : ℕ) where
   -- calls that only read
   pub read_on : (s : Writer) (w x : PageWriter) (old new : D) → ((c : Files) → d.left_since old (d.moment old) c → d.may_leave old c) → StandsAs d b base s w old → Reads d old new → StandsAs d b base s x new → GoesOn d b base s old s x new
   read_on s w x old new only_now stands reads after =
       let start = goes_on_start d b base s w old only_now stands in
-      record { working = after.working; goes = record { writing = after.writing; stops = reads_on d old old new (IsCovered b base s.durable s.log) start.goes.stops reads; keeps = start.goes.keeps } }
+      record { working = after.working; goes = record { writing = after.writing; stops = reads_on d old old new (IsCovered b base s.durable s.log) start.goes.stops reads; keeps = start.goes.keeps }; known = after.known }
 
   pub read_stops : (s : Writer) (e t last undo_next : ℕ) (w : PageWriter) (old new : D) → ((c : Files) → d.left_since old (d.moment old) c → d.may_leave old c) → IsGoing d b base s e t last undo_next w old → Reads d old new → LeavesUndo d b base s t old new
   read_stops s e t last undo_next w old new only_now g reads = reads_on d old old new (LeftByUndo d b base s t) (going_starts d b base s e t last undo_next w old only_now g).stops reads
 
   -- the transaction is as it was behind calls that only read
   pub going_read : (s : Writer) (e t last undo_next : ℕ) (w x : PageWriter) (old new : D) → IsGoing d b base s e t last undo_next w old → StandsAs d b base s x new → IsGoing d b base s e t last undo_next x new
-  going_read s e t last undo_next w x old new g after = record { stands = after; over = g.over; can = g.can; loser = g.loser; row = g.row }
+  going_read s e t last undo_next w x old new g after = record { stands = after; over = g.over; can = g.can; owner = g.owner; unfinished = g.unfinished; row = g.row }
 
   -- a record that joined the log's buffer is not left by a stop
   pub left_covered : (s : Writer) (t : ℕ) (old new : D) → IsLawful b page_tree s.log → LeavesCovered d b base s.durable s.log old new → LeavesUndo d b base s t old new
@@ -66,11 +56,11 @@ module _ {D : Type 0} (d : Ghosts D) (b : Base) (base : ℕ) where
       weakened d old new (IsCovered b base s.durable s.log) (LeftByUndo d b base s t) stops (λ told c is. record { high = s.log; lawful = law; grows = grows_none t s.log; covered = is })
 
   -- an End
-  pub ended_so : (s : Writer) (e t last undo_next lsn : ℕ) (old : D) (start w : PageWriter) (new : D) → IsGoing d b base s e t last undo_next start old → to_undo t s.log ≡ [] → LoggedOnly d b base s (End t last) lsn w new → EndedNow d b base s e t last w new
-  ended_so s e t last undo_next lsn old start w new g none logged =
+  pub ended_so : (s : Writer) (e t last undo_next lsn : ℕ) (old : D) (start w : PageWriter) (new : D) → IsGoing d b base s e t last undo_next start old → is_loser t s.log ≡ true → to_undo t s.log ≡ [] → LoggedOnly d b base s (End t last) lsn w new → EndedNow d b base s e t last w new
+  ended_so s e t last undo_next lsn old start w new g loser none logged =
       let r : Logged = logged_at lsn (End t last) in
       let ends : Ends b t s.log r = record { linked = record { rises = logged.high; owner = refl; prev = sym (ap (λ (x : Loser). x.last) g.row) }; what = refl; leads = refl } in
-      let after = (undo_goes_on page_tree page_tree_laws).ends b s.log t r g.can g.loser none ends in
+      let after = (undo_goes_on page_tree page_tree_laws).ends b s.log t r g.can loser none ends in
       record { now = _; lsn = lsn; log = refl; ended = after.1; stands = logged.stands; over = g.over; can = after.0; durable = logged.grows }
 
   -- a change that was taken back behind calls that only read
@@ -105,7 +95,7 @@ module _ {D : Type 0} (d : Ghosts D) (b : Base) (base : ℕ) where
           next = took.next;
           taken = record {
             now = taken.now;
-            goes = record { going = record { stands = stands; over = going.over; can = going.can; loser = going.loser; row = going.row }; point = taken.goes.point; durable = taken.goes.durable; grows = taken.goes.grows; stops = stops };
+            goes = record { going = record { stands = stands; over = going.over; can = going.can; owner = going.owner; unfinished = going.unfinished; row = going.row }; point = taken.goes.point; durable = taken.goes.durable; grows = taken.goes.grows; stops = stops };
             lsn = taken.lsn;
             stack = taken.stack;
             map = taken.map;
@@ -127,23 +117,27 @@ module _ {D : Type 0} (d : Ghosts D) (b : Base) (base : ℕ) where
   taken_as s e t last undo_next entry start old w new result mine kept =
       subst (λ (n : ℕ). IsGoing d b base s e n last undo_next start old → IsToUndo d b base s n entry → CompensateKept d b base s e n entry old w new result) mine kept
 
-  module _ (s : Writer) (e t : ℕ) (old : D) (v : PageWriter) (mid : D) (on : GoesOn d b base s old s v mid) (left : LeavesUndo d b base s t old mid) (entry : Entry) (to : IsToUndo d b base s t entry) (w : PageWriter) (new : D) where
+  module _ (s : Writer) (e t : ℕ) (old : D) (v : PageWriter) (mid : D) (on : GoesOn d b base s old s v mid) (loaded : AreLoaded s) (left : LeavesUndo d b base s t old mid) (entry : Entry) (to : IsToUndo d b base s t entry) (w : PageWriter) (new : D) where
+    evicted_memory : (f : Fault) → f ≡ Memory → Logs d true mild_to_take v mid w new (Some f) → Evicted d b base s old w new
+    evicted_memory f is one =
+        let here : Logs d true mild_to_take v mid w new (Some Memory) = subst (λ (e : Fault). Logs d true mild_to_take v mid w new (Some e)) is one in
+        let ev = here.ends.1.goes b base s (stands_on d b base s old s v mid on) loaded in
+        record { now = ev.now; on = goes_on_then d b base s old s v mid on ev.now w new ev.on }
+
     -- a compensation behind calls that only read
-    pub take_refused : (f : Fault) → CompensateKept d b base s e t entry mid w new (Err f) → TakeKept d b base s e t old w new (Err f)
-    take_refused f k = record {
-      ok = tt;
+    pub take_refused : (f : Fault) → Logs d true mild_to_take v mid w new (Some f) → CompensateKept d b base s e t entry mid w new (Err f) → TakeKept d b base s e t old w new (Err f)
+    take_refused f one k = record {
+      sound = k.sound;
       stops = left_both d b base s t old mid new left k.stops;
-      cause = k.cause;
-      again = λ is. evicted_past d b base s old s v mid on w new (k.again is);
+      again = λ is. evicted_memory f is one;
       used_up = λ is. record { entry = entry; next = to; used_up = k.used_up is };
       begun = k.begun;
     }
 
     pub take_done : (l n : ℕ) → n ≡ prev_of entry → CompensateKept d b base s e t entry mid w new (Ok l) → TakeKept d b base s e t old w new (Ok (l, n))
     take_done l n leads k = record {
-      ok = took_behind s e t l n old mid w new left (record { entry = entry; next = to; taken = k.ok; leads = leads });
+      sound = took_behind s e t l n old mid w new left (record { entry = entry; next = to; taken = k.sound; leads = leads });
       stops = left_both d b base s t old mid new left k.stops;
-      cause = tt;
       again = tt;
       used_up = tt;
       begun = tt;
@@ -153,48 +147,51 @@ module _ {D : Type 0} (d : Ghosts D) (b : Base) (base : ℕ) where
   pub turn_refused : (s : Writer) (e t : ℕ) (old : D) (v : PageWriter) (mid : D) → GoesOn d b base s old s v mid → LeavesUndo d b base s t old mid → (w : PageWriter) (new : D) (f : Fault) → TakeKept d b base s e t mid w new (Err f)
       → TurnKept d b base s e t old w new (Err f)
   turn_refused s e t old v mid on left w new f k = record {
-    ok = tt;
+    sound = k.sound;
     stops = left_both d b base s t old mid new left k.stops;
-    cause = k.cause;
-    again = λ is. evicted_past d b base s old s v mid on w new (k.again is);
+    again = λ is. let ev = k.again is in record { now = ev.now; on = goes_on_then d b base s old s v mid on ev.now w new ev.on };
     used_up = k.used_up;
     begun = k.begun;
   }
+
+  -- a transaction whose change was taken back has a record, and is not finished
+  pub loser_on : (s : Writer) (e t m n l last undo_next : ℕ) (start : PageWriter) (old : D) (mid : D) (w : PageWriter) (disk : D) → IsGoing d b base s e t last undo_next start old → IsNextAt t l s.log
+      → (took : Took d b base s e t m n mid w disk) → is_loser t took.taken.now.log ≡ true
+  loser_on s e t m n l last undo_next start old mid w disk g at took =
+      let goes = took.taken.goes in
+      loser_still t s.log took.taken.now.log goes.grows (loser_of t s.log at.found g.owner g.unfinished at.next) goes.going.unfinished
 
   -- undo of the transaction goes on where the change led
   pub going_on : (s : Writer) (e t m n : ℕ) (old : D) (w : PageWriter) (disk : D) (took : Took d b base s e t m n old w disk) → IsGoing d b base took.taken.now e t m n w disk
   going_on s e t m n old w disk took = subst (λ (x : ℕ). IsGoing d b base took.taken.now e t m x w disk) (sym took.leads) took.taken.goes.going
 
   -- calls behind a change that was taken back
-  pub turn_then : (s : Writer) (e t m n : ℕ) (old : D) (v : PageWriter) (mid : D) (took : Took d b base s e t m n old v mid) (w : PageWriter) (new : D) (result : Result Undone Fault) → IfErr result (λ f. (f ≡ LogFull) ⊎ (f ≡ NotAStore) ⊎ (f ≡ Device))
+  pub turn_then : (s : Writer) (e t m n : ℕ) (old : D) (v : PageWriter) (mid : D) (took : Took d b base s e t m n old v mid) (w : PageWriter) (new : D) (result : Result Undone Fault) → TurnOutcome d may_be_full v w new (fault_of result)
       → GoOnKept d b base took.taken.now e t m n mid w new result → TurnKept d b base s e t old w new result
-  turn_then s e t m n old v mid took w new result known k = by result known k
+  turn_then s e t m n old v mid took w new result one k = by result one k
     where
       stops : LeavesUndo d b base took.taken.now t mid new → LeavesUndo d b base s t old new
       stops later = left_then d b base s e t m (prev_of took.entry) old took.taken.now v mid took.taken.goes new later
 
-      by : (r : Result Undone Fault) → IfErr r (λ f. (f ≡ LogFull) ⊎ (f ≡ NotAStore) ⊎ (f ≡ Device)) → GoOnKept d b base took.taken.now e t m n mid w new r → TurnKept d b base s e t old w new r
-      by (Ok (More l i)) known kept = record {
-        ok = took_before s e t m n old v mid w new took (stops kept.stops) kept.ok.3 l i kept.ok.0 kept.ok.1 kept.ok.2;
+      by : (r : Result Undone Fault) → TurnOutcome d may_be_full v w new (fault_of r) → GoOnKept d b base took.taken.now e t m n mid w new r → TurnKept d b base s e t old w new r
+      by (Ok (More l i)) one kept = record {
+        sound = took_before s e t m n old v mid w new took (stops kept.stops) kept.sound.3 l i kept.sound.0 kept.sound.1 kept.sound.2;
         stops = stops kept.stops;
-        cause = tt;
         again = tt;
         used_up = tt;
         begun = tt;
       }
-      by (Ok Ended) known kept = record {
-        ok = record { last = m; undo_next = n; between = v; mid = mid; took = took; none = kept.ok.0; end = kept.ok.1 };
+      by (Ok Ended) one kept = record {
+        sound = record { last = m; undo_next = n; between = v; mid = mid; took = took; none = kept.sound.0; end = kept.sound.1 };
         stops = stops kept.stops;
-        cause = tt;
         again = tt;
         used_up = tt;
         begun = tt;
       }
-      by (Err f) known kept = record {
-        ok = tt;
+      by (Err f) one kept = record {
+        sound = kept.sound;
         stops = stops kept.stops;
-        cause = kept.cause;
-        again = λ is. absurd (other_fault f Memory known is (λ e. cc) (λ e. cc) (λ e. cc));
-        used_up = λ is. absurd (other_fault f Capacity known is (λ e. cc) (λ e. cc) (λ e. cc));
-        begun = λ is. absurd (other_fault f Failed known is (λ e. cc) (λ e. cc) (λ e. cc));
+        again = never_memory d {A = Undone} _ (Err f) refl one;
+        used_up = never_capacity d {A = Undone} _ (Err f) refl one;
+        begun = never_failed d {A = Undone} _ (Err f) refl one;
       }

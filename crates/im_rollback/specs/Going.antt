@@ -1,7 +1,5 @@
 -- Where the undo of a transaction goes on, and what reading from there comes to.
-use Rattle.std.specs.Prelude.{◌≡◌, ◌≢◌, ◌≤◌, ℕ, true, [], Option, None, Some, Result, IfErr, IfOk}
-use Rattle.im_types.specs.declared.fault.Fault.{Fault}
-use Rattle.im_types.specs.declared.fault.Fault.TheVariants.{Device}
+use Rattle.std.specs.Prelude.{◌≡◌, ◌≢◌, ◌≤◌, ℕ, true, [], Option, None, Some}
 use Rattle.im_types.specs.Histories.{Base, History}
 use Rattle.im_types.specs.Records.{Logged}
 use Rattle.im_types.specs.Transactions.{is_key, to_undo, undo_reads}
@@ -41,12 +39,10 @@ pub record IsFound (t l : ℕ) (log : History) : Type 0 where
   pub none : l ≡ 0 → to_undo t log ≡ []
 
 module _ {D : Type 0} (d : Ghosts D) (b : Base) (base : ℕ) where
-  -- what reading one record keeps
-  pub record ReadOneKept (s : Writer) (t l : ℕ) (w : PageWriter) (disk : D) (result : Result (Option ℕ) Fault) : Type 0 where
-    pub ok : IfOk result (λ next. StandsAs d b base s w disk × Leads t l s.log next)
-    pub cause : IfErr result (λ e. e ≡ Device)
+  -- what reading one record comes to, behind which the writer stands as it did
+  abbrev pub ReadOne : Writer → ℕ → ℕ → PageWriter → D → Option ℕ → Type 0
+  ReadOne s t l w disk next = StandsAs d b base s w disk × Leads t l s.log next
 
-  -- what reading up to the next record to undo keeps
-  pub record FindKept (s : Writer) (t : ℕ) (w : PageWriter) (disk : D) (result : Result ℕ Fault) : Type 0 where
-    pub ok : IfOk result (λ lsn. StandsAs d b base s w disk × IsFound t lsn s.log)
-    pub cause : IfErr result (λ e. e ≡ Device)
+  -- and reading up to the next record to undo
+  abbrev pub Finds : Writer → ℕ → PageWriter → D → ℕ → Type 0
+  Finds s t w disk lsn = StandsAs d b base s w disk × IsFound t lsn s.log

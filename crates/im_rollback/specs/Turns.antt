@@ -1,7 +1,7 @@
 -- One turn of a rollback: one change more is taken back, and where it was the last one, the transaction ends.
-use Rattle.std.specs.Prelude.{◌≡◌, ◌≢◌, ℕ, [], ◌∷◌, Some, Result, IfErr, IfOk, OnOk}
+use Rattle.std.specs.Prelude.{◌≡◌, ◌≢◌, ℕ, [], ◌∷◌, Some, Result, IfErr}
 use Rattle.im_types.specs.declared.fault.Fault.{Fault}
-use Rattle.im_types.specs.declared.fault.Fault.TheVariants.{Capacity, Failed, Memory, NotAStore}
+use Rattle.im_types.specs.declared.fault.Fault.TheVariants.{Capacity, Failed, Memory}
 use Rattle.im_types.specs.Histories.{Base, IsFront}
 use Rattle.im_types.specs.Transactions.{net}
 use Rattle.im_types.specs.Writer.{Writer}
@@ -11,7 +11,8 @@ use Rattle.im_log.specs.Whats.{what_of}
 use Rattle.im_log.specs.Spelled.{logged_at}
 use Rattle.im_flush.specs.declared.page_writer.PageWriter.{PageWriter}
 use Rattle.im_flush.specs.PageWriter.{StandsAs, Evicted}
-use Rattle.im_alloc.specs.Seen.{bodies}
+use Rattle.im_flush.specs.Outcome.{IsSound}
+use Rattle.im_search.specs.Levels.{bodies}
 use Rattle.im_tree.specs.Theory.{page_tree}
 use Rattle.im_analysis.specs.Undo.{HasEnded, IsUndoable}
 use Rattle.im_undo.specs.Undoing.{HasBegun, IsToUndo, LeavesUndo, TakenBack, UsesUp}
@@ -34,9 +35,8 @@ module _ {D : Type 0} (d : Ghosts D) (b : Base) (base : ℕ) where
 
   -- what that keeps; a want of memory leaves all as it was, or is `Failed` behind a record of the transaction; `Capacity` comes only where a key that is put back finds its leaf without room, and page numbers or levels are used up
   pub record TakeKept (s : Writer) (e t : ℕ) (old : D) (w : PageWriter) (disk : D) (result : Result (ℕ × ℕ) Fault) : Type 0 where
-    pub ok : IfOk result (λ x. Took s e t x.0 x.1 old w disk)
+    pub sound : IsSound result (λ x. Took s e t x.0 x.1 old w disk)
     pub stops : LeavesUndo d b base s t old disk
-    pub cause : IfErr result (λ e. e ≢ NotAStore)
     pub again : IfErr result (λ e. e ≡ Memory → Evicted d b base s old w disk)
     pub used_up : IfErr result (λ e. e ≡ Capacity → LacksWayBack s t)
     pub begun : IfErr result (λ e. e ≡ Failed → HasBegun d b base s t w disk)
@@ -54,9 +54,8 @@ module _ {D : Type 0} (d : Ghosts D) (b : Base) (base : ℕ) where
 
   -- what an End keeps
   pub record EndKept (s : Writer) (e t last : ℕ) (old : D) (w : PageWriter) (disk : D) (result : Result Unit Fault) : Type 0 where
-    pub ok : OnOk result (EndedNow s e t last w disk)
+    pub sound : IsSound result (λ _. EndedNow s e t last w disk)
     pub stops : LeavesUndo d b base s t old disk
-    pub cause : IfErr result (λ e. e ≢ NotAStore)
 
   -- ---- a turn
 
@@ -66,9 +65,8 @@ module _ {D : Type 0} (d : Ghosts D) (b : Base) (base : ℕ) where
   WentOn s e t last undo_next w disk Ended = (net t s.log ≡ []) × EndedNow s e t last w disk
 
   pub record GoOnKept (s : Writer) (e t last undo_next : ℕ) (old : D) (w : PageWriter) (disk : D) (result : Result Undone Fault) : Type 0 where
-    pub ok : IfOk result (λ undone. WentOn s e t last undo_next w disk undone)
+    pub sound : IsSound result (λ undone. WentOn s e t last undo_next w disk undone)
     pub stops : LeavesUndo d b base s t old disk
-    pub cause : IfErr result (λ e. e ≢ NotAStore)
 
   -- One change was taken back, and others are left.
   pub record HasMore (s : Writer) (e t last undo_next : ℕ) (old : D) (w : PageWriter) (disk : D) : Type 0 where
@@ -91,9 +89,8 @@ module _ {D : Type 0} (d : Ghosts D) (b : Base) (base : ℕ) where
 
   -- what a turn keeps; refusals as those of one change
   pub record TurnKept (s : Writer) (e t : ℕ) (old : D) (w : PageWriter) (disk : D) (result : Result Undone Fault) : Type 0 where
-    pub ok : IfOk result (λ undone. Turned s e t old w disk undone)
+    pub sound : IsSound result (λ undone. Turned s e t old w disk undone)
     pub stops : LeavesUndo d b base s t old disk
-    pub cause : IfErr result (λ e. e ≢ NotAStore)
     pub again : IfErr result (λ e. e ≡ Memory → Evicted d b base s old w disk)
     pub used_up : IfErr result (λ e. e ≡ Capacity → LacksWayBack s t)
     pub begun : IfErr result (λ e. e ≡ Failed → HasBegun d b base s t w disk)

@@ -1,18 +1,19 @@
 //! The next record that a transaction has to undo.
 
-ghost use Rattle.std.specs.Prelude.{◌≡◌, ◌≢◌, ◌≤◌, ◌<◌, ◌⊎◌, ◌↔◌, ℕ, length, true, false, None, Ok, Err, IfErr, IfOk, IfSome, OnOk};
-ghost use Rattle.im_types.specs.declared.fault.Fault.TheVariants.{Device, Failed, LogFull, NotAStore};
-ghost use Rattle.im_types.specs.Histories.{Base, IsRecordOf};
+ghost use Rattle.std.specs.Prelude.{◌≡◌, ◌≢◌, ◌≤◌, ◌<◌, ℕ, length, true, false, IfErr, IfOk, IfSome};
+ghost use Rattle.im_types.specs.declared.fault.Fault.TheVariants.{NotAStore};
+ghost use Rattle.im_types.specs.Histories.{Base};
 ghost use Rattle.im_types.specs.Transactions.{is_key};
 ghost use Rattle.im_types.specs.Writer.{Writer};
 ghost use Rattle.im_disk.specs.Runs.{Reads};
-ghost use Rattle.im_record.specs.Entry.{view, transaction_of, undo_next_of};
-ghost use Rattle.im_log.specs.LogFile.{HasNoRoom};
+ghost use Rattle.im_record.specs.Entry.{view, undo_next_of};
 ghost use Rattle.im_log.specs.Whats.{what_of};
 ghost use Rattle.im_analysis.specs.Undo.{leads_on};
-ghost use Rattle.im_flush.specs.PageWriter.{IsReadyWriter, StandsAs};
+ghost use Rattle.im_flush.specs.PageWriter.{IsReadyWriter};
+ghost use Rattle.im_flush.specs.Outcome.{fault_of, none_mild, IsSound};
 ghost use Rattle.im_undo.specs.Undoing.{IsGoing};
-ghost use Rattle.im_rollback.specs.Going.{FindKept, GoesOnAt, LeadsNowhere, ReadOneKept};
+ghost use Rattle.im_rollback.specs.Ends.{TurnOutcome};
+ghost use Rattle.im_rollback.specs.Going.{Finds, GoesOnAt, ReadOne};
 
 use im_disk::Disk;
 use im_flush::PageWriter;
@@ -74,15 +75,12 @@ fn read_one<D: Disk>(
     requires room { 16384 ≤ length room.old }
     requires ready { IsReadyWriter D.Disk writer.old disk.old }
     requires working { writer.old.failed ≡ false }
-    ensures ready { IsReadyWriter D.Disk writer.new disk.new }
+    ensures outcome { TurnOutcome D.Disk none_mild writer.old writer.new disk.new (fault_of result) }
     ensures room { length room.new ≡ length room.old }
     ensures kept { (b : Base) (base : ℕ) (s : Writer) (e last undo_next : ℕ) → IsGoing D.Disk b base s e transaction last undo_next writer.old disk.old → GoesOnAt transaction lsn s.log → lsn ≢ 0
-        → ReadOneKept D.Disk b base s transaction lsn writer.new disk.new result }
+        → IsSound result (ReadOne D.Disk b base s transaction lsn writer.new disk.new) }
     ensures reads { Reads D.Disk disk.old disk.new }
     ensures falls { IfOk result (λ next. IfSome next (λ l. l < lsn)) }
-    ensures works { OnOk result (writer.new.failed ≡ false) }
-    ensures causes { IfErr result (λ e. (e ≡ NotAStore) ⊎ (e ≡ Device)) }
-    ensures device { result ≡ Err Device ↔ (D.failed disk.new ≡ true) }
 {
     let size = writer.read_at(disk, lsn, room)?;
     let record = decode(&room[..size])?;
@@ -111,14 +109,11 @@ pub(crate) fn next_key_record<D: Disk>(
     requires room { 16384 ≤ length room.old }
     requires ready { IsReadyWriter D.Disk writer.old disk.old }
     requires working { writer.old.failed ≡ false }
-    ensures ready { IsReadyWriter D.Disk writer.new disk.new }
+    ensures outcome { TurnOutcome D.Disk none_mild writer.old writer.new disk.new (fault_of result) }
     ensures room { length room.new ≡ length room.old }
     ensures kept { (b : Base) (base : ℕ) (s : Writer) (e last : ℕ) → IsGoing D.Disk b base s e transaction last from writer.old disk.old
-        → FindKept D.Disk b base s transaction writer.new disk.new result }
+        → IsSound result (Finds D.Disk b base s transaction writer.new disk.new) }
     ensures reads { Reads D.Disk disk.old disk.new }
-    ensures works { OnOk result (writer.new.failed ≡ false) }
-    ensures causes { IfErr result (λ e. (e ≡ NotAStore) ⊎ (e ≡ Device)) }
-    ensures device { result ≡ Err Device ↔ (D.failed disk.new ≡ true) }
 {
     let mut lsn = from;
     while lsn != 0 {

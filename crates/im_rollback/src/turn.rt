@@ -1,13 +1,14 @@
 //! One change of a transaction, taken back.
 
-ghost use Rattle.std.specs.Prelude.{◌≡◌, ◌≢◌, ◌≤◌, ◌⊎◌, ◌↔◌, ℕ, [], length, true, false, Err, IfErr, OnOk};
-ghost use Rattle.im_types.specs.declared.fault.Fault.TheVariants.{Capacity, Device, Failed, LogFull, Memory, NotAStore};
+ghost use Rattle.std.specs.Prelude.{◌≡◌, ◌≢◌, ◌≤◌, ℕ, [], length, true, false};
 ghost use Rattle.im_types.specs.Histories.{Base};
 ghost use Rattle.im_types.specs.Transactions.{to_undo};
 ghost use Rattle.im_types.specs.Writer.{Writer};
-ghost use Rattle.im_log.specs.LogFile.{HasNoRoom};
 ghost use Rattle.im_flush.specs.PageWriter.{IsReadyWriter};
+ghost use Rattle.im_flush.specs.Outcome.{fault_of, none_mild, Logs};
+ghost use Rattle.im_analysis.specs.Losers.{is_loser};
 ghost use Rattle.im_undo.specs.Undoing.{IsGoing};
+ghost use Rattle.im_rollback.specs.Ends.{may_be_full, may_turn, TurnOutcome};
 ghost use Rattle.im_rollback.specs.Going.{IsNextAt};
 ghost use Rattle.im_rollback.specs.Turns.{EndKept, GoOnKept, TakeKept, TurnKept};
 
@@ -36,14 +37,10 @@ fn undo_at<D: Disk>(
     requires ready { IsReadyWriter D.Disk writer.old disk.old }
     requires working { writer.old.failed ≡ false }
     requires owner { 1 ≤ transaction }
-    ensures ready { IsReadyWriter D.Disk writer.new disk.new }
+    ensures outcome { TurnOutcome D.Disk may_turn writer.old writer.new disk.new (fault_of result) }
     ensures room { length room.new ≡ length room.old }
     ensures kept { (b : Base) (base : ℕ) (s : Writer) (e : ℕ) → IsGoing D.Disk b base s e transaction last undo_next writer.old disk.old → IsNextAt transaction lsn s.log
         → TakeKept D.Disk b base s e transaction disk.old writer.new disk.new result }
-    ensures works { OnOk result (writer.new.failed ≡ false) }
-    ensures causes { IfErr result (λ e. (e ≡ Capacity) ⊎ (e ≡ Failed) ⊎ (e ≡ LogFull) ⊎ (e ≡ Memory) ⊎ (e ≡ NotAStore) ⊎ (e ≡ Device)) }
-    ensures no_room { result ≡ Err LogFull → HasNoRoom writer.new.log }
-    ensures device { result ≡ Err Device ↔ (D.failed disk.new ≡ true) }
 {
     let size = writer.read_at(disk, lsn, room)?;
     let record = decode(&room[..size])?;
@@ -67,13 +64,9 @@ fn log_end<D: Disk>(
     requires ready { IsReadyWriter D.Disk writer.old disk.old }
     requires working { writer.old.failed ≡ false }
     requires owner { 1 ≤ transaction }
-    ensures ready { IsReadyWriter D.Disk writer.new disk.new }
-    ensures kept { (b : Base) (base : ℕ) (s : Writer) (e undo_next : ℕ) → IsGoing D.Disk b base s e transaction last undo_next writer.old disk.old → to_undo transaction s.log ≡ []
+    ensures outcome { Logs D.Disk false none_mild writer.old disk.old writer.new disk.new (fault_of result) }
+    ensures kept { (b : Base) (base : ℕ) (s : Writer) (e undo_next : ℕ) → IsGoing D.Disk b base s e transaction last undo_next writer.old disk.old → is_loser transaction s.log ≡ true → to_undo transaction s.log ≡ []
         → EndKept D.Disk b base s e transaction last disk.old writer.new disk.new result }
-    ensures works { OnOk result (writer.new.failed ≡ false) }
-    ensures causes { IfErr result (λ e. (e ≡ LogFull) ⊎ (e ≡ Device)) }
-    ensures no_room { result ≡ Err LogFull → HasNoRoom writer.new.log }
-    ensures device { result ≡ Err Device ↔ (D.failed disk.new ≡ true) }
 {
     let record = Record::End {
         transaction,
@@ -96,14 +89,10 @@ fn go_on<D: Disk>(
     requires ready { IsReadyWriter D.Disk writer.old disk.old }
     requires working { writer.old.failed ≡ false }
     requires owner { 1 ≤ transaction }
-    ensures ready { IsReadyWriter D.Disk writer.new disk.new }
+    ensures outcome { TurnOutcome D.Disk may_be_full writer.old writer.new disk.new (fault_of result) }
     ensures room { length room.new ≡ length room.old }
-    ensures kept { (b : Base) (base : ℕ) (s : Writer) (e : ℕ) → IsGoing D.Disk b base s e transaction last undo_next writer.old disk.old
+    ensures kept { (b : Base) (base : ℕ) (s : Writer) (e : ℕ) → IsGoing D.Disk b base s e transaction last undo_next writer.old disk.old → is_loser transaction s.log ≡ true
         → GoOnKept D.Disk b base s e transaction last undo_next disk.old writer.new disk.new result }
-    ensures works { OnOk result (writer.new.failed ≡ false) }
-    ensures causes { IfErr result (λ e. (e ≡ LogFull) ⊎ (e ≡ NotAStore) ⊎ (e ≡ Device)) }
-    ensures no_room { result ≡ Err LogFull → HasNoRoom writer.new.log }
-    ensures device { result ≡ Err Device ↔ (D.failed disk.new ≡ true) }
 {
     let next = next_key_record(writer, disk, transaction, undo_next, room)?;
     if next == 0 {
@@ -132,14 +121,10 @@ pub fn undo_next<D: Disk>(
     requires ready { IsReadyWriter D.Disk writer.old disk.old }
     requires working { writer.old.failed ≡ false }
     requires owner { 1 ≤ transaction }
-    ensures ready { IsReadyWriter D.Disk writer.new disk.new }
+    ensures outcome { TurnOutcome D.Disk may_turn writer.old writer.new disk.new (fault_of result) }
     ensures room { length room.new ≡ length room.old }
     ensures kept { (b : Base) (base : ℕ) (s : Writer) (e : ℕ) → IsGoing D.Disk b base s e transaction last undo_next writer.old disk.old → to_undo transaction s.log ≢ []
         → TurnKept D.Disk b base s e transaction disk.old writer.new disk.new result }
-    ensures works { OnOk result (writer.new.failed ≡ false) }
-    ensures causes { IfErr result (λ e. (e ≡ Capacity) ⊎ (e ≡ Failed) ⊎ (e ≡ LogFull) ⊎ (e ≡ Memory) ⊎ (e ≡ NotAStore) ⊎ (e ≡ Device)) }
-    ensures no_room { result ≡ Err LogFull → HasNoRoom writer.new.log }
-    ensures device { result ≡ Err Device ↔ (D.failed disk.new ≡ true) }
 {
     let lsn = next_key_record(writer, disk, transaction, undo_next, room)?;
     if lsn == 0 {

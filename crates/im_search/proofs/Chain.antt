@@ -8,7 +8,7 @@ use Rattle.im_tree.specs.Levels.{Pages, walk}
 use Rattle.im_tree.specs.Good.{IsGoodTree}
 use Rattle.im_tree.specs.Search.{IsOnWay}
 use Rattle.im_tree.specs.Lookups.{IsAhead, key_of}
-use Rattle.im_tree.proofs.LookupLemmas.{ahead_begins, ahead_is_leaf, ahead_answers, ahead_goes_on}
+use Rattle.im_tree.proofs.LookupLemmas.{way_known, ahead_begins, ahead_is_leaf, ahead_answers, ahead_goes_on}
 use Rattle.im_search.specs.Levels.{HasLevel, start_at}
 
 start_key : (inclusive : Bool) (key : Key) → key ≡ key_of (start_at inclusive key)
@@ -43,3 +43,11 @@ ahead_level pages spare s passed p good ahead some = let leaf = ahead_is_leaf pa
 -- a chain with as many leaves as there are pages is none of a good tree
 pub chain_ends : (pages : Pages) (spare : List ℕ) (s : Start) (left passed p : ℕ) → IsGoodTree pages spare → IsAhead pages s passed p → 1 ≤ p → left + passed ≡ (pages 0).leftmost → left ≡ 0 → ⊥
 chain_ends pages spare s left passed p good ahead some count none = let few : passed + 1 < (pages 0).leftmost = (ahead_is_leaf pages spare s passed p good ahead some).few in omega (arith, few, count, none)
+
+-- where the key's leaf has none, the search goes on behind it
+pub leads_on : (pages : Pages) (spare : List ℕ) (inclusive : Bool) (key : Key) (p : ℕ) (lent held : Page) (next : ℕ) → IsGoodTree pages spare → IsOnWay pages 0 key p → lent ≡ held → held.body ≡ pages p
+    → first_in (start_at inclusive key) lent.body.entries ≡ None → next ≡ lent.body.next → IsAhead pages (start_at inclusive key) 0 next
+leads_on pages spare inclusive key p lent held next good way same is none step =
+    let here = ahead_here pages spare inclusive key p good way in
+    let past = ahead_next pages spare (start_at inclusive key) 0 p lent held good here (way_known pages spare 0 key p good way).0 same is none in
+    subst (λ (n : ℕ). IsAhead pages (start_at inclusive key) 0 n) (sym step) (ahead_any pages (start_at inclusive key) 1 lent.body.next past)

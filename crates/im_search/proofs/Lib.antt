@@ -1,7 +1,6 @@
 pub mod Pages
 pub mod Calls
 pub mod Steps
-pub mod Ways
 pub mod Places
 pub mod Chain
 pub mod Walks

@@ -1,38 +1,20 @@
--- The pages of a writer that goes on, and the page that a search holds.
-use Rattle.std.proofs.Common.{◌≡◌, ℕ, List, sym, ◌∙◌, ap, subst}
-use Rattle.std.proofs.Math.Path.{fun_ext}
+-- The tree behind calls that change no page, and a page that was got.
+use Rattle.std.proofs.Common.{◌≡◌, ℕ, Bool, None, ◌∙◌, ap}
+use Rattle.im_types.specs.declared.fault.Fault.{Fault}
 use Rattle.im_types.specs.Pages.{Page}
-use Rattle.im_types.specs.Histories.{Base}
-use Rattle.im_types.specs.Writer.{Writer}
 use Rattle.im_disk.specs.declared.disk.Disk.{Ghosts}
-use Rattle.im_page.specs.Header.{initial}
 use Rattle.im_pool.specs.declared.frame.Frame.{Frame}
-use Rattle.im_pool.specs.Pool.{held_of, page_at, IsAt}
+use Rattle.im_pool.specs.Pool.{PoolView, page_at}
 use Rattle.im_flush.specs.declared.page_writer.PageWriter.{PageWriter}
-use Rattle.im_flush.specs.Growth.{Keeps}
-use Rattle.im_flush.specs.PageWriter.{StandsAs, GoesOn}
-use Rattle.im_flush.proofs.LoggedChanges.{at_shows}
-use Rattle.im_tree.specs.Levels.{Pages}
-use Rattle.im_tree.specs.Good.{IsGoodTree}
-use Rattle.im_search.specs.Levels.{HasLevel, bodies}
+use Rattle.im_flush.specs.Outcome.{AllPages, AreLoaded, Outcome}
+use Rattle.im_flush.proofs.Outcomes.{pages_still}
+use Rattle.im_search.specs.Levels.{bodies_of}
 use Rattle.im_search.specs.Found.{HasTree}
 
--- pages that stay say what they said
-pub bodies_stay : (b : Base) (s t : Writer) → Keeps b s t → bodies t ≡ bodies s
-bodies_stay b s t keeps = fun_ext (λ (p : ℕ). ap (λ (g : Page). g.body) (keeps.pages p).page)
+-- the tree is there still
+pub tree_still : {D : Type 0} (d : Ghosts D) {m : Fault → Bool} {pages : AllPages} {v : PageWriter} {old : D} {w : PageWriter} {mid : D} → HasTree d pages v old → Outcome d AreLoaded m v old w mid None → HasTree d pages w mid
+tree_still {D} d {m} {pages} {v} {old} {w} {mid} tree one = record { has = pages_still d tree.has one; spare = tree.spare; good = tree.good }
 
-pub level_stays : (b : Base) (s t : Writer) → Keeps b s t → (h p : ℕ) → HasLevel h (bodies s p) → HasLevel h (bodies t p)
-level_stays b s t keeps h p level = subst (λ (pages : Pages). HasLevel h (pages p)) (sym (bodies_stay b s t keeps)) level
-
-module _ {D : Type 0} (d : Ghosts D) (b : Base) (base : ℕ) where
-  -- the tree is there still
-  pub tree_stays : (s : Writer) (spare : List ℕ) (v : PageWriter) (old : D) (t : Writer) (w : PageWriter) (disk : D) → HasTree d b base s spare v old → GoesOn d b base s old t w disk → HasTree d b base t spare w disk
-  tree_stays s spare v old t w disk has on = record {
-    stands = record { working = on.working; writing = on.goes.writing; known = on.known };
-    ready = λ q. (on.goes.keeps.pages q).waits ∙ has.ready q;
-    good = subst (λ (pages : Pages). IsGoodTree pages spare) (sym (bodies_stay b s t on.goes.keeps)) has.good;
-  }
-
-  -- a held page is the writer's
-  pub held_is : (s : Writer) (w : PageWriter) (disk : D) (frame : Frame) → StandsAs d b base s w disk → IsAt w.pool frame → page_at w.pool frame.number ≡ (s.pages frame.number).page
-  held_is s w disk frame is at = at_shows (held_of w.pool frame.number) frame.place (s.pages frame.number) (initial 0) at (is.writing.pooled.shows frame.number)
+-- what a page says that was got
+pub got_says : (pages : AllPages) (p : ℕ) (pool : PoolView) (frame : Frame) → page_at pool p ≡ pages p → frame.number ≡ p → (page_at pool frame.number).body ≡ bodies_of pages p
+got_says pages p pool frame shown is = ap (λ (n : ℕ). (page_at pool n).body) is ∙ ap (λ (x : Page). x.body) shown

@@ -1,14 +1,20 @@
 -- The levels of pages on the way to a key, and one step down.
 use Rattle.std.proofs.Common.{◌≡◌, ◌≤◌, ◌-◌, ℕ, Bool, if◌then◌else◌, zero, suc, sym, ◌∙◌, ap, subst, arith}
+use Rattle.std.specs.Prelude.{Result, Ok, Err, IfOk}
 use Rattle.std.proofs.Math.Dec.{eqb-suc-zero}
+use Rattle.im_types.specs.declared.fault.Fault.{Fault}
 use Rattle.im_types.specs.Keys.{Key}
 use Rattle.im_types.specs.declared.page_kind.PageKind.TheVariants.{Leaf, Inner}
 use Rattle.im_page.specs.Child.{IsChild}
+use Rattle.im_pool.specs.declared.frame.Frame.{Frame}
+use Rattle.im_pool.specs.Pool.{PoolView, page_at}
+use Rattle.im_flush.specs.Outcome.{AllPages, IsSound}
 use Rattle.im_tree.specs.Levels.{Pages}
 use Rattle.im_tree.specs.Search.{IsOnWay}
 use Rattle.im_tree.proofs.LookupLemmas.{way_leaf, way_inner}
 use Rattle.im_tree.proofs.Way.{step_way}
-use Rattle.im_search.specs.Levels.{HasLevel, kind_at}
+use Rattle.im_search.specs.Levels.{HasLevel, bodies_of, kind_at}
+use Rattle.im_search.specs.Found.{IsReached}
 
 inner_kind : (k : ℕ) → kind_at (suc k) ≡ Inner
 inner_kind k = ap (λ (b : Bool). if b then Leaf else Inner) (eqb-suc-zero k)
@@ -21,3 +27,9 @@ way_level pages (suc k) key p way = let inner = way_inner pages k key p way in r
 pub step_level : (pages : Pages) (h : ℕ) (key : Key) (p child : ℕ) → 1 ≤ h → IsOnWay pages h key p → IsChild (pages p) key child → IsOnWay pages (h - 1) key child
 step_level pages zero key p child some way is = absurd (omega (arith, some))
 step_level pages (suc k) key p child some way is = let e : suc k - 1 ≡ k = omega arith in subst (λ (m : ℕ). IsOnWay pages m key child) (sym e) (step_way pages k key p child way is)
+
+-- a page on the way is got
+pub reached_got : (r : Result Frame Fault) (pages : AllPages) (key : Key) (h p : ℕ) (pool : PoolView) → IsSound r (λ _. page_at pool p ≡ pages p) → IfOk r (λ frame. frame.number ≡ p) → IsOnWay (bodies_of pages) h key p
+    → IsSound r (λ frame. IsReached pages key h frame.number pool)
+reached_got (Ok frame) pages key h p pool shown is way = subst (λ (n : ℕ). IsReached pages key h n pool) (sym is) (record { shown = shown; way = way })
+reached_got (Err e) pages key h p pool sound is way = sound

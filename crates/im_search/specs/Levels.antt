@@ -6,6 +6,7 @@ use Rattle.im_types.specs.declared.page_kind.PageKind.{PageKind}
 use Rattle.im_types.specs.declared.page_kind.PageKind.TheVariants.{Leaf, Inner}
 use Rattle.im_types.specs.Maps.{Start, From, Above}
 use Rattle.im_types.specs.Writer.{Writer}
+use Rattle.im_flush.specs.Outcome.{AllPages}
 use Rattle.im_tree.specs.Levels.{Pages}
 
 -- leaves stand at level 0, inner pages above
@@ -18,6 +19,10 @@ pub record HasLevel (h : ℕ) (body : Body) : Type 0 where
   pub level : body.level ≡ h
 
 -- what the pages say
+abbrev pub bodies_of : AllPages → Pages
+bodies_of pages = λ p. (pages p).body
+
+-- what a writer's pages say
 abbrev pub bodies : Writer → Pages
 bodies s = λ p. (s.pages p).page.body
 

@@ -1,5 +1,4 @@
 pub mod Levels
-pub mod Kept
 pub mod Children
 pub mod Found
 pub mod NextKeys

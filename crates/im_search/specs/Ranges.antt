@@ -1,24 +1,14 @@
 -- The entries of a range of keys.
-use Rattle.std.specs.Prelude.{◌≡◌, ◌≢◌, ◌<◌, ◌≤◌, ◌+◌, ◌++◌, ◌&&◌, not, ℕ, Bool, true, false, List, length, take, Option, None, Some, option_map, Result, IfErr, IfOk, OnOk}
+use Rattle.std.specs.Prelude.{◌≡◌, ◌<◌, ◌≤◌, ◌+◌, ◌++◌, ◌&&◌, not, ℕ, Bool, true, false, List, length, take, Option, None, Some, option_map}
 use Rattle.std.specs.List.{filter}
-use Rattle.std.specs.Global.{Vec}
-use Rattle.im_types.specs.declared.fault.Fault.{Fault}
-use Rattle.im_types.specs.declared.fault.Fault.TheVariants.{NotAStore}
 use Rattle.im_types.specs.Keys.{Key}
 use Rattle.im_types.specs.Pages.{Entry}
-use Rattle.im_types.specs.Histories.{Base}
 use Rattle.im_types.specs.Maps.{Start, Above, is_below, is_past, first_in}
-use Rattle.im_types.specs.Writer.{Writer}
-use Rattle.im_disk.specs.declared.disk.Disk.{Ghosts}
 use Rattle.im_page.specs.Entry.{entry_at}
-use Rattle.im_flush.specs.declared.page_writer.PageWriter.{PageWriter}
-use Rattle.im_flush.specs.Writing.{LeavesGrown}
-use Rattle.im_flush.specs.PageWriter.{GoesOn, StaysOn}
 use Rattle.im_tree.specs.Levels.{Pages, Node, leaves_under, entries_in, the_root, height, walk}
 use Rattle.im_tree.specs.Good.{AllOf, first_page}
 use Rattle.im_tree.specs.Search.{IsOnWay}
 use Rattle.im_search.specs.declared.next_key.NextKey.{NextKey}
-use Rattle.im_search.specs.Levels.{bodies}
 use Rattle.im_search.specs.NextKeys.{far_name, IsFar}
 
 -- ---- over a list of entries
@@ -88,35 +78,20 @@ pub record GetsOf (pages : Pages) (lo hi : Key) (old_gets gets : ℕ) : Type 0 w
   pub one : n ≡ 0 → gets ≡ old_gets + (height pages + 1)
   pub more : gets ≤ old_gets + (height pages + 2) + n
 
-module _ {D : Type 0} (d : Ghosts D) (b : Base) (base : ℕ) where
-  -- The entries are those of the range on the walk; each page is as it was, and the log has Images more.
-  pub record Ranged (s : Writer) (lo hi : Key) (limit : ℕ) (list : List Entry) (behind : Option NextKey) (old : D) (w : PageWriter) (disk : D) : Type 0 where
-    pub now : Writer
-    pub on : GoesOn d b base s old now w disk
-    pub range : IsRange (walk (bodies s)) lo hi limit list behind
+-- What the search along the leaf chain answers, which has n leaves behind it: the entries are those of the range on the walk, the gets are those of its leaves.
+pub record RangesAlong (pages : Pages) (lo hi : Key) (limit n : ℕ) (list : List Entry) (behind : Option NextKey) (old_gets new_gets : ℕ) : Type 0 where
+  pub range : IsRange (walk pages) lo hi limit list behind
+  pub gets : PassesOn pages lo hi n old_gets new_gets
 
-  -- what the search along the leaf chain keeps, which has n leaves behind it
-  pub record AlongKept (s : Writer) (lo hi : Key) (limit n old_gets : ℕ) (list : List Entry) (old : D) (w : PageWriter) (disk : D) (result : Result (Option NextKey) Fault) : Type 0 where
-    pub ok : IfOk result (λ behind. Ranged s lo hi limit list behind old w disk)
-    pub gets : OnOk result (PassesOn (bodies s) lo hi n old_gets w.pool.gets)
-    pub stops : LeavesGrown d b base s old disk
-    pub cause : IfErr result (λ e. e ≢ NotAStore)
-    pub again : StaysOn d b base s old w disk result
+-- What the search for a range answers.
+pub record Ranged (pages : Pages) (lo hi : Key) (limit : ℕ) (list : List Entry) (behind : Option NextKey) (old_gets new_gets : ℕ) : Type 0 where
+  pub range : IsRange (walk pages) lo hi limit list behind
+  pub gets : GetsOf pages lo hi old_gets new_gets
 
-  -- what the search for a range keeps
-  pub record RangeKept (s : Writer) (lo hi : Key) (limit old_gets : ℕ) (old : D) (w : PageWriter) (disk : D) (result : Result (Vec Entry × Option NextKey) Fault) : Type 0 where
-    pub ok : IfOk result (λ x. Ranged s lo hi limit x.0.items x.1 old w disk)
-    pub gets : OnOk result (GetsOf (bodies s) lo hi old_gets w.pool.gets)
-    pub stops : LeavesGrown d b base s old disk
-    pub cause : IfErr result (λ e. e ≢ NotAStore)
-    pub again : StaysOn d b base s old w disk result
-
-  -- The list has the entries of the range in the leaves before page p; the leaves passed and those that may still come are together no fewer than there are pages.
-  pub record RangesOn (s : Writer) (lo hi : Key) (list : List Entry) (begun old_gets left p : ℕ) (old : D) (w : PageWriter) (disk : D) : Type 0 where
-    pub now : Writer
-    pub on : GoesOn d b base s old now w disk
-    pub n : ℕ
-    pub along : IsAlong (bodies s) lo hi list n p
-    pub some : 1 ≤ n
-    pub count : (bodies s 0).leftmost ≤ left + n
-    pub gets : w.pool.gets + begun ≤ old_gets + 1 + n
+-- The list has the entries of the range in the leaves before page p; the leaves passed and those that may still come are together no fewer than there are pages.
+pub record RangesOn (pages : Pages) (lo hi : Key) (list : List Entry) (begun old_gets left p gets : ℕ) : Type 0 where
+  pub n : ℕ
+  pub along : IsAlong pages lo hi list n p
+  pub some : 1 ≤ n
+  pub count : (pages 0).leftmost ≤ left + n
+  pub gone : gets + begun ≤ old_gets + 1 + n

@@ -1,19 +1,16 @@
 //! The way from the root to the leaf of a key.
 
-ghost use Rattle.std.specs.Prelude.{◌≡◌, ◌≤◌, ◌⊎◌, ◌↔◌, ◌+◌, ◌-◌, ℕ, List, true, false, Ok, Err, IfErr, IfOk, OnOk};
-ghost use Rattle.im_types.specs.declared.fault.Fault.TheVariants.{Device, Failed, LogFull, Memory, NotAStore};
+ghost use Rattle.std.specs.Prelude.{◌≡◌, ◌≤◌, ◌+◌, ◌-◌, ℕ, IfOk, OnOk};
 ghost use Rattle.im_types.specs.Keys.{Key};
-ghost use Rattle.im_types.specs.Histories.{Base};
-ghost use Rattle.im_types.specs.Writer.{Writer};
 ghost use Rattle.im_types.specs.declared.page_kind.PageKind.TheVariants.{Inner};
 ghost use Rattle.im_page.specs.Child.{IsChild};
 ghost use Rattle.im_pool.specs.Pool.{page_at, IsAt};
-ghost use Rattle.im_log.specs.LogFile.{HasNoRoom};
 ghost use Rattle.im_flush.specs.PageWriter.{IsReadyWriter};
+ghost use Rattle.im_flush.specs.Outcome.{fault_of, AllPages, IsSound, Reads};
 ghost use Rattle.im_tree.specs.Levels.{height};
 ghost use Rattle.im_tree.specs.Search.{IsOnWay};
-ghost use Rattle.im_search.specs.Levels.{HasLevel, bodies};
-ghost use Rattle.im_search.specs.Found.{HasTree, ReachKept, LeafKept};
+ghost use Rattle.im_search.specs.Levels.{HasLevel, bodies_of};
+ghost use Rattle.im_search.specs.Found.{HasTree, IsReached, IsLeafFor};
 
 use crate::levels::{has_level, tree_page};
 use im_disk::Disk;
@@ -42,18 +39,12 @@ fn step_down<D: Disk>(
     requires at { IsAt writer.old.pool frame }
     requires page { HasLevel level (page_at writer.old.pool frame.number).body }
     requires inner { 1 ≤ level }
-    ensures ready { IsReadyWriter D.Disk writer.new disk.new }
-    ensures kept { (b : Base) (base : ℕ) (s : Writer) (spare : List ℕ) → HasTree D.Disk b base s spare writer.old disk.old → IsOnWay (bodies s) level key.now frame.number
-        → ReachKept D.Disk b base s key.now (level - 1) disk.old writer.new disk.new result }
+    ensures outcome { Reads D.Disk writer.old disk.old writer.new disk.new (fault_of result) }
+    ensures kept { (pages : AllPages) → HasTree D.Disk pages writer.old disk.old → IsOnWay (bodies_of pages) level key.now frame.number
+        → IsSound result (λ child. IsReached pages key.now (level - 1) child.number writer.new.pool) }
     ensures at { IfOk result (IsAt writer.new.pool) }
     ensures page { IfOk result (λ child. HasLevel (level - 1) (page_at writer.new.pool child.number).body) }
     ensures gets { OnOk result (writer.new.pool.gets ≡ writer.old.pool.gets + 1) }
-    ensures works { OnOk result (writer.new.failed ≡ false) }
-    ensures fails { IfErr result (λ e. (writer.new.failed ≡ false) ↔ ((e ≡ Memory) ⊎ (e ≡ NotAStore))) }
-    ensures causes { IfErr result (λ e. (e ≡ Failed) ⊎ (e ≡ LogFull) ⊎ (e ≡ Memory) ⊎ (e ≡ NotAStore) ⊎ (e ≡ Device)) }
-    ensures no_room { result ≡ Err LogFull → HasNoRoom writer.new.log }
-    ensures already { result ≡ Err Failed ↔ (writer.old.failed ≡ true) }
-    ensures device { writer.old.failed ≡ false → result ≡ Err Device ↔ (D.failed disk.new ≡ true) }
 {
     let child = child_of(writer.page(frame), key);
     tree_page(writer, disk, child, level - 1)
@@ -62,19 +53,13 @@ fn step_down<D: Disk>(
 // Page 1, where it is a page of the tree, of whatever level.
 fn root<D: Disk>(writer: &mut PageWriter, disk: &mut D) -> Result<Frame, Fault>
     requires ready { IsReadyWriter D.Disk writer.old disk.old }
-    ensures ready { IsReadyWriter D.Disk writer.new disk.new }
-    ensures kept { (b : Base) (base : ℕ) (s : Writer) (spare : List ℕ) (key : Key) → HasTree D.Disk b base s spare writer.old disk.old
-        → ReachKept D.Disk b base s key (height (bodies s)) disk.old writer.new disk.new result }
+    ensures outcome { Reads D.Disk writer.old disk.old writer.new disk.new (fault_of result) }
+    ensures kept { (pages : AllPages) (key : Key) → HasTree D.Disk pages writer.old disk.old
+        → IsSound result (λ frame. IsReached pages key (height (bodies_of pages)) frame.number writer.new.pool) }
     ensures at { IfOk result (IsAt writer.new.pool) }
     ensures page { IfOk result (λ frame. HasLevel (page_at writer.new.pool frame.number).body.level (page_at writer.new.pool frame.number).body) }
     ensures root { IfOk result (λ frame. frame.number ≡ 1) }
     ensures gets { OnOk result (writer.new.pool.gets ≡ writer.old.pool.gets + 1) }
-    ensures works { OnOk result (writer.new.failed ≡ false) }
-    ensures fails { IfErr result (λ e. (writer.new.failed ≡ false) ↔ ((e ≡ Memory) ⊎ (e ≡ NotAStore))) }
-    ensures causes { IfErr result (λ e. (e ≡ Failed) ⊎ (e ≡ LogFull) ⊎ (e ≡ Memory) ⊎ (e ≡ NotAStore) ⊎ (e ≡ Device)) }
-    ensures no_room { result ≡ Err LogFull → HasNoRoom writer.new.log }
-    ensures already { result ≡ Err Failed ↔ (writer.old.failed ≡ true) }
-    ensures device { writer.old.failed ≡ false → result ≡ Err Device ↔ (D.failed disk.new ≡ true) }
 {
     let frame = writer.get(disk, 1)?;
     let page = writer.page(frame);
@@ -89,19 +74,14 @@ fn root<D: Disk>(writer: &mut PageWriter, disk: &mut D) -> Result<Frame, Fault>
 /// Levels are read from the pages and have to fall by one, so that the search ends on any bytes. Refused `NotAStore` where they
 /// don't, or where a page above level 0 is no inner page, or that of level 0 no leaf; otherwise as `PageWriter::get` is. Behind
 /// `NotAStore` and `Memory` the writer goes on.
+#[tactic(auto, using(im_flush::proofs::Outcomes::then, im_flush::proofs::Outcomes::refused))]
 pub fn leaf_for<D: Disk>(writer: &mut PageWriter, disk: &mut D, key: &[u8]) -> Result<Frame, Fault>
     requires ready { IsReadyWriter D.Disk writer.old disk.old }
-    ensures ready { IsReadyWriter D.Disk writer.new disk.new }
-    ensures kept { (b : Base) (base : ℕ) (s : Writer) (spare : List ℕ) → HasTree D.Disk b base s spare writer.old disk.old
-        → LeafKept D.Disk b base s key.now writer.old.pool.gets disk.old writer.new disk.new result }
+    ensures outcome { Reads D.Disk writer.old disk.old writer.new disk.new (fault_of result) }
+    ensures kept { (pages : AllPages) → HasTree D.Disk pages writer.old disk.old
+        → IsSound result (λ frame. IsLeafFor pages key.now frame.number writer.old.pool.gets writer.new.pool) }
     ensures at { IfOk result (IsAt writer.new.pool) }
     ensures leaf { IfOk result (λ frame. HasLevel 0 (page_at writer.new.pool frame.number).body) }
-    ensures works { OnOk result (writer.new.failed ≡ false) }
-    ensures fails { IfErr result (λ e. (writer.new.failed ≡ false) ↔ ((e ≡ Memory) ⊎ (e ≡ NotAStore))) }
-    ensures causes { IfErr result (λ e. (e ≡ Failed) ⊎ (e ≡ LogFull) ⊎ (e ≡ Memory) ⊎ (e ≡ NotAStore) ⊎ (e ≡ Device)) }
-    ensures no_room { result ≡ Err LogFull → HasNoRoom writer.new.log }
-    ensures already { result ≡ Err Failed ↔ (writer.old.failed ≡ true) }
-    ensures device { writer.old.failed ≡ false → result ≡ Err Device ↔ (D.failed disk.new ≡ true) }
 {
     let mut frame = root(writer, disk)?;
     let mut level = writer.page(frame).level();

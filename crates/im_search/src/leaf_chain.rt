@@ -1,16 +1,14 @@
 //! The first entry past a key.
 
-ghost use Rattle.std.specs.Prelude.{◌≡◌, ◌≤◌, ◌<◌, ◌⊎◌, ◌↔◌, ◌+◌, ℕ, List, length, true, false, Some, None, Ok, Err, IfErr, IfOk, IfSome, OnOk};
-ghost use Rattle.im_types.specs.declared.fault.Fault.TheVariants.{Device, Failed, LogFull, Memory, NotAStore};
-ghost use Rattle.im_types.specs.Histories.{Base};
+ghost use Rattle.std.specs.Prelude.{◌≡◌, ◌<◌, ℕ, length, Some, None, option_map, IfOk, IfSome, OnOk, ◌+◌};
 ghost use Rattle.im_types.specs.Maps.{first_in};
-ghost use Rattle.im_types.specs.Writer.{Writer};
 ghost use Rattle.im_page.specs.Entry.{entry_at};
-ghost use Rattle.im_log.specs.LogFile.{HasNoRoom};
 ghost use Rattle.im_flush.specs.PageWriter.{IsReadyWriter};
+ghost use Rattle.im_flush.specs.Outcome.{fault_of, AllPages, IsSound, Reads};
+ghost use Rattle.im_tree.specs.Levels.{walk};
 ghost use Rattle.im_tree.specs.Lookups.{IsAhead, IsFirstAt};
-ghost use Rattle.im_search.specs.Levels.{bodies, start_at};
-ghost use Rattle.im_search.specs.Found.{HasTree, CountKept, NextKept, IsFirstOf};
+ghost use Rattle.im_search.specs.Levels.{bodies_of, start_at};
+ghost use Rattle.im_search.specs.Found.{HasTree, IsFirstOf, entry_of};
 ghost use Rattle.im_search.specs.Ranges.{IsParted};
 
 use crate::descent::leaf_for;
@@ -50,16 +48,10 @@ pub(crate) fn first_past(page: &Page, key: &[u8], inclusive: bool) -> Option<usi
 // How many pages there are, by the meta page: one get.
 pub(crate) fn page_count<D: Disk>(writer: &mut PageWriter, disk: &mut D) -> Result<PageNo, Fault>
     requires ready { IsReadyWriter D.Disk writer.old disk.old }
-    ensures ready { IsReadyWriter D.Disk writer.new disk.new }
-    ensures kept { (b : Base) (base : ℕ) (s : Writer) (spare : List ℕ) → HasTree D.Disk b base s spare writer.old disk.old
-        → CountKept D.Disk b base s disk.old writer.new disk.new result }
+    ensures outcome { Reads D.Disk writer.old disk.old writer.new disk.new (fault_of result) }
+    ensures kept { (pages : AllPages) → HasTree D.Disk pages writer.old disk.old
+        → IsSound result (λ count. count ≡ (pages 0).body.leftmost) }
     ensures gets { OnOk result (writer.new.pool.gets ≡ writer.old.pool.gets + 1) }
-    ensures works { OnOk result (writer.new.failed ≡ false) }
-    ensures fails { IfErr result (λ e. (writer.new.failed ≡ false) ↔ ((e ≡ Memory) ⊎ (e ≡ NotAStore))) }
-    ensures causes { IfErr result (λ e. (e ≡ Failed) ⊎ (e ≡ LogFull) ⊎ (e ≡ Memory) ⊎ (e ≡ NotAStore) ⊎ (e ≡ Device)) }
-    ensures no_room { result ≡ Err LogFull → HasNoRoom writer.new.log }
-    ensures already { result ≡ Err Failed ↔ (writer.old.failed ≡ true) }
-    ensures device { writer.old.failed ≡ false → result ≡ Err Device ↔ (D.failed disk.new ≡ true) }
 {
     let frame = writer.get(disk, 0)?;
     let page = writer.page(frame);
@@ -71,6 +63,7 @@ pub(crate) fn page_count<D: Disk>(writer: &mut PageWriter, disk: &mut D) -> Resu
 
 // The first entry past a key along the leaf chain, from a leaf behind that of the key on. There are fewer leaves than pages, so
 // that a chain which goes on longer leads round in a ring.
+#[tactic(auto, using(im_flush::proofs::Outcomes::then, im_flush::proofs::Outcomes::refused))]
 pub(crate) fn first_along<D: Disk>(
     writer: &mut PageWriter,
     disk: &mut D,
@@ -79,16 +72,10 @@ pub(crate) fn first_along<D: Disk>(
     inclusive: bool,
 ) -> Result<Option<EntryPlace>, Fault>
     requires ready { IsReadyWriter D.Disk writer.old disk.old }
-    ensures ready { IsReadyWriter D.Disk writer.new disk.new }
-    ensures kept { (b : Base) (base : ℕ) (s : Writer) (spare : List ℕ) → HasTree D.Disk b base s spare writer.old disk.old → IsAhead (bodies s) (start_at inclusive key.now) 0 from
-        → NextKept D.Disk b base s (start_at inclusive key.now) disk.old writer.new disk.new result }
+    ensures outcome { Reads D.Disk writer.old disk.old writer.new disk.new (fault_of result) }
+    ensures kept { (pages : AllPages) → HasTree D.Disk pages writer.old disk.old → IsAhead (bodies_of pages) (start_at inclusive key.now) 0 from
+        → IsSound result (λ found. option_map (entry_of writer.new.pool) found ≡ first_in (start_at inclusive key.now) (walk (bodies_of pages))) }
     ensures first { IfOk result (λ found. IfSome found (IsFirstOf (start_at inclusive key.now) writer.new.pool)) }
-    ensures works { OnOk result (writer.new.failed ≡ false) }
-    ensures fails { IfErr result (λ e. (writer.new.failed ≡ false) ↔ ((e ≡ Memory) ⊎ (e ≡ NotAStore))) }
-    ensures causes { IfErr result (λ e. (e ≡ Failed) ⊎ (e ≡ LogFull) ⊎ (e ≡ Memory) ⊎ (e ≡ NotAStore) ⊎ (e ≡ Device)) }
-    ensures no_room { result ≡ Err LogFull → HasNoRoom writer.new.log }
-    ensures already { result ≡ Err Failed ↔ (writer.old.failed ≡ true) }
-    ensures device { writer.old.failed ≡ false → result ≡ Err Device ↔ (D.failed disk.new ≡ true) }
 {
     let mut left = page_count(writer, disk)?;
     let mut number = from;
@@ -114,6 +101,7 @@ pub(crate) fn first_along<D: Disk>(
 /// only then, for the page count. Refused `NotAStore` as `leaf_for` is, where a page of the chain is no leaf or page 0 no meta page,
 /// and where the chain has as many leaves as there are pages; otherwise as `PageWriter::get` is. Behind `NotAStore` and `Memory` the
 /// writer goes on.
+#[tactic(auto, using(im_flush::proofs::Outcomes::then, im_flush::proofs::Outcomes::refused))]
 pub fn next_entry<D: Disk>(
     writer: &mut PageWriter,
     disk: &mut D,
@@ -121,16 +109,10 @@ pub fn next_entry<D: Disk>(
     inclusive: bool,
 ) -> Result<Option<EntryPlace>, Fault>
     requires ready { IsReadyWriter D.Disk writer.old disk.old }
-    ensures ready { IsReadyWriter D.Disk writer.new disk.new }
-    ensures kept { (b : Base) (base : ℕ) (s : Writer) (spare : List ℕ) → HasTree D.Disk b base s spare writer.old disk.old
-        → NextKept D.Disk b base s (start_at inclusive key.now) disk.old writer.new disk.new result }
+    ensures outcome { Reads D.Disk writer.old disk.old writer.new disk.new (fault_of result) }
+    ensures kept { (pages : AllPages) → HasTree D.Disk pages writer.old disk.old
+        → IsSound result (λ found. option_map (entry_of writer.new.pool) found ≡ first_in (start_at inclusive key.now) (walk (bodies_of pages))) }
     ensures first { IfOk result (λ found. IfSome found (IsFirstOf (start_at inclusive key.now) writer.new.pool)) }
-    ensures works { OnOk result (writer.new.failed ≡ false) }
-    ensures fails { IfErr result (λ e. (writer.new.failed ≡ false) ↔ ((e ≡ Memory) ⊎ (e ≡ NotAStore))) }
-    ensures causes { IfErr result (λ e. (e ≡ Failed) ⊎ (e ≡ LogFull) ⊎ (e ≡ Memory) ⊎ (e ≡ NotAStore) ⊎ (e ≡ Device)) }
-    ensures no_room { result ≡ Err LogFull → HasNoRoom writer.new.log }
-    ensures already { result ≡ Err Failed ↔ (writer.old.failed ≡ true) }
-    ensures device { writer.old.failed ≡ false → result ≡ Err Device ↔ (D.failed disk.new ≡ true) }
 {
     let frame = leaf_for(writer, disk, key)?;
     let leaf = writer.page(frame);

@@ -1,13 +1,10 @@
 //! A page of the tree, from its number and its level.
 
-ghost use Rattle.std.specs.Prelude.{◌≡◌, ◌≤◌, ◌⊎◌, ◌↔◌, ◌+◌, ℕ, List, true, false, Ok, Err, IfErr, IfOk, OnOk, IsTrue};
-ghost use Rattle.im_types.specs.declared.fault.Fault.TheVariants.{Device, Failed, LogFull, Memory, NotAStore};
-ghost use Rattle.im_types.specs.Histories.{Base};
-ghost use Rattle.im_types.specs.Writer.{Writer};
+ghost use Rattle.std.specs.Prelude.{◌≡◌, ◌↔◌, ◌+◌, ℕ, IfOk, OnOk, IsTrue};
 ghost use Rattle.im_pool.specs.Pool.{page_at, IsAt};
-ghost use Rattle.im_log.specs.LogFile.{HasNoRoom};
-ghost use Rattle.im_flush.specs.PageWriter.{IsReadyWriter, StandsAs, GetKept};
-ghost use Rattle.im_search.specs.Levels.{HasLevel, bodies};
+ghost use Rattle.im_flush.specs.PageWriter.{IsReadyWriter};
+ghost use Rattle.im_flush.specs.Outcome.{fault_of, AllPages, AreLoaded, HasPages, IsSound, Reads};
+ghost use Rattle.im_search.specs.Levels.{HasLevel};
 
 use im_disk::Disk;
 use im_flush::PageWriter;
@@ -36,19 +33,13 @@ pub fn tree_page<D: Disk>(
     level: u8,
 ) -> Result<Frame, Fault>
     requires ready { IsReadyWriter D.Disk writer.old disk.old }
-    ensures ready { IsReadyWriter D.Disk writer.new disk.new }
-    ensures kept { (b : Base) (base : ℕ) (s : Writer) → StandsAs D.Disk b base s writer.old disk.old → ((q : ℕ) → (s.pages q).waits ≡ false)
-        → HasLevel level (bodies s number) → GetKept D.Disk b base s number disk.old writer.new disk.new result }
+    ensures outcome { Reads D.Disk writer.old disk.old writer.new disk.new (fault_of result) }
+    ensures kept { (pages : AllPages) → HasPages D.Disk AreLoaded pages writer.old disk.old → HasLevel level (pages number).body
+        → IsSound result (λ _. page_at writer.new.pool number ≡ pages number) }
     ensures at { IfOk result (IsAt writer.new.pool) }
     ensures frame { IfOk result (λ frame. frame.number ≡ number) }
     ensures page { OnOk result (HasLevel level (page_at writer.new.pool number).body) }
     ensures gets { OnOk result (writer.new.pool.gets ≡ writer.old.pool.gets + 1) }
-    ensures works { OnOk result (writer.new.failed ≡ false) }
-    ensures fails { IfErr result (λ e. (writer.new.failed ≡ false) ↔ ((e ≡ Memory) ⊎ (e ≡ NotAStore))) }
-    ensures causes { IfErr result (λ e. (e ≡ Failed) ⊎ (e ≡ LogFull) ⊎ (e ≡ Memory) ⊎ (e ≡ NotAStore) ⊎ (e ≡ Device)) }
-    ensures no_room { result ≡ Err LogFull → HasNoRoom writer.new.log }
-    ensures already { result ≡ Err Failed ↔ (writer.old.failed ≡ true) }
-    ensures device { writer.old.failed ≡ false → result ≡ Err Device ↔ (D.failed disk.new ≡ true) }
 {
     let frame = writer.get(disk, number)?;
     if !has_level(writer.page(frame), level) {

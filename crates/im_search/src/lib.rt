@@ -23,8 +23,8 @@
 //! place there: both are right as long as the leaf is held.
 //!
 //! It stands on `im_flush` for pages and their gets, on `im_page` for what a page has of a key, and on `im_tree` for the
-//! laws of the way down and of the leaf chain. For callers `proofs/Pages` has `tree_stays`: the tree is there still behind
-//! calls that keep each page.
+//! laws of the way down and of the leaf chain. For callers `proofs/Pages` has `tree_still`: the tree is there still behind
+//! calls that change no page.
 #![tactic(auto)]
 
 mod child_place;

@@ -1,12 +1,12 @@
 //! All entries.
 
-ghost use Rattle.std.specs.Prelude.{◌≡◌, ◌⊎◌, ◌↔◌, ◌++◌, ℕ, List, true, false, Ok, Err, IfErr, OnOk};
-ghost use Rattle.im_types.specs.declared.fault.Fault.TheVariants.{Device, Failed, LogFull, Memory, NotAStore};
-ghost use Rattle.im_types.specs.Histories.{Base};
-ghost use Rattle.im_types.specs.Writer.{Writer};
-ghost use Rattle.im_log.specs.LogFile.{HasNoRoom};
+ghost use Rattle.std.specs.Prelude.{◌≡◌, ◌++◌, ℕ, IfErr, OnOk};
+ghost use Rattle.im_types.specs.declared.fault.Fault.TheVariants.{Memory};
 ghost use Rattle.im_flush.specs.PageWriter.{IsReadyWriter};
-ghost use Rattle.im_search.specs.Found.{HasTree, EntriesKept};
+ghost use Rattle.im_flush.specs.Outcome.{fault_of, AllPages, IsSound, Reads};
+ghost use Rattle.im_tree.specs.Levels.{walk};
+ghost use Rattle.im_search.specs.Levels.{bodies_of};
+ghost use Rattle.im_search.specs.Found.{HasTree};
 
 use crate::descent::leaf_for;
 use crate::leaf_chain::page_count;
@@ -33,21 +33,15 @@ fn add_entries(list: &mut Vec<(Key, Rid)>, page: &Page) -> Result<(), Fault>
 ///
 /// Refused `Memory` where there is no room for the list too; otherwise as `next_entry` is. Behind `NotAStore` and `Memory` the writer
 /// goes on.
+#[tactic(auto, using(im_flush::proofs::Outcomes::then, im_flush::proofs::Outcomes::refused))]
 pub fn entries<D: Disk>(
     alloc: Global,
     writer: &mut PageWriter,
     disk: &mut D,
 ) -> Result<Vec<(Key, Rid)>, Fault>
     requires ready { IsReadyWriter D.Disk writer.old disk.old }
-    ensures ready { IsReadyWriter D.Disk writer.new disk.new }
-    ensures kept { (b : Base) (base : ℕ) (s : Writer) (spare : List ℕ) → HasTree D.Disk b base s spare writer.old disk.old
-        → EntriesKept D.Disk b base s disk.old writer.new disk.new result }
-    ensures works { OnOk result (writer.new.failed ≡ false) }
-    ensures fails { IfErr result (λ e. (writer.new.failed ≡ false) ↔ ((e ≡ Memory) ⊎ (e ≡ NotAStore))) }
-    ensures causes { IfErr result (λ e. (e ≡ Failed) ⊎ (e ≡ LogFull) ⊎ (e ≡ Memory) ⊎ (e ≡ NotAStore) ⊎ (e ≡ Device)) }
-    ensures no_room { result ≡ Err LogFull → HasNoRoom writer.new.log }
-    ensures already { result ≡ Err Failed ↔ (writer.old.failed ≡ true) }
-    ensures device { writer.old.failed ≡ false → result ≡ Err Device ↔ (D.failed disk.new ≡ true) }
+    ensures outcome { Reads D.Disk writer.old disk.old writer.new disk.new (fault_of result) }
+    ensures kept { (pages : AllPages) → HasTree D.Disk pages writer.old disk.old → IsSound result (λ list. list.items ≡ walk (bodies_of pages)) }
 {
     let first = leaf_for(writer, disk, &[])?;
     let mut left = page_count(writer, disk)?;

@@ -1,18 +1,15 @@
 //! The leaf of a key, and the key behind it.
 
-ghost use Rattle.std.specs.Prelude.{◌≡◌, ◌<◌, ◌⊎◌, ◌↔◌, ℕ, List, true, false, Ok, Err, IfErr, IfOk, OnOk, length};
-ghost use Rattle.im_types.specs.declared.fault.Fault.TheVariants.{Device, Failed, LogFull, Memory, NotAStore};
-ghost use Rattle.im_types.specs.Histories.{Base};
+ghost use Rattle.std.specs.Prelude.{◌≡◌, ◌<◌, ℕ, IfOk, length};
 ghost use Rattle.im_types.specs.Maps.{Above};
-ghost use Rattle.im_types.specs.Writer.{Writer};
 ghost use Rattle.im_page.specs.Entry.{entry_at};
 ghost use Rattle.im_pool.specs.Pool.{page_at, IsAt};
-ghost use Rattle.im_log.specs.LogFile.{HasNoRoom};
 ghost use Rattle.im_flush.specs.PageWriter.{IsReadyWriter};
+ghost use Rattle.im_flush.specs.Outcome.{fault_of, AllPages, IsSound, Reads};
 ghost use Rattle.im_tree.specs.Lookups.{IsAhead};
-ghost use Rattle.im_search.specs.Levels.{HasLevel, bodies};
+ghost use Rattle.im_search.specs.Levels.{HasLevel, bodies_of};
 ghost use Rattle.im_search.specs.Found.{HasTree, entries_of};
-ghost use Rattle.im_search.specs.NextKeys.{IsFar, IsWithin, NameKept, LeafAndNextKept};
+ghost use Rattle.im_search.specs.NextKeys.{far_name, name_above, IsFar, IsWithin, IsLeafAndNext};
 ghost use Rattle.im_search.specs.declared.next_key.NextKey.TheVariants.{There};
 
 use crate::descent::leaf_for;
@@ -51,16 +48,10 @@ fn name_along<D: Disk>(
     key: &[u8],
 ) -> Result<NextKey, Fault>
     requires ready { IsReadyWriter D.Disk writer.old disk.old }
-    ensures ready { IsReadyWriter D.Disk writer.new disk.new }
-    ensures kept { (b : Base) (base : ℕ) (s : Writer) (spare : List ℕ) → HasTree D.Disk b base s spare writer.old disk.old → IsAhead (bodies s) (Above key.now) 0 from
-        → NameKept D.Disk b base s key.now disk.old writer.new disk.new result }
+    ensures outcome { Reads D.Disk writer.old disk.old writer.new disk.new (fault_of result) }
+    ensures kept { (pages : AllPages) → HasTree D.Disk pages writer.old disk.old → IsAhead (bodies_of pages) (Above key.now) 0 from
+        → IsSound result (λ next. far_name next ≡ name_above key.now (bodies_of pages)) }
     ensures far { IfOk result IsFar }
-    ensures works { OnOk result (writer.new.failed ≡ false) }
-    ensures fails { IfErr result (λ e. (writer.new.failed ≡ false) ↔ ((e ≡ Memory) ⊎ (e ≡ NotAStore))) }
-    ensures causes { IfErr result (λ e. (e ≡ Failed) ⊎ (e ≡ LogFull) ⊎ (e ≡ Memory) ⊎ (e ≡ NotAStore) ⊎ (e ≡ Device)) }
-    ensures no_room { result ≡ Err LogFull → HasNoRoom writer.new.log }
-    ensures already { result ≡ Err Failed ↔ (writer.old.failed ≡ true) }
-    ensures device { writer.old.failed ≡ false → result ≡ Err Device ↔ (D.failed disk.new ≡ true) }
 {
     let Some(place) = first_along(writer, disk, from, key, false)? else {
         return Ok(NextKey::End);
@@ -72,24 +63,19 @@ fn name_along<D: Disk>(
 /// each level; where none is above the key, the search goes along the leaf chain, and then gets the leaf again, so that it is held.
 ///
 /// Refused as `next_entry` is.
+#[tactic(auto, using(im_flush::proofs::Outcomes::then, im_flush::proofs::Outcomes::refused))]
 pub fn leaf_and_next<D: Disk>(
     writer: &mut PageWriter,
     disk: &mut D,
     key: &[u8],
 ) -> Result<(Frame, NextKey), Fault>
     requires ready { IsReadyWriter D.Disk writer.old disk.old }
-    ensures ready { IsReadyWriter D.Disk writer.new disk.new }
-    ensures kept { (b : Base) (base : ℕ) (s : Writer) (spare : List ℕ) → HasTree D.Disk b base s spare writer.old disk.old
-        → LeafAndNextKept D.Disk b base s key.now writer.old.pool.gets disk.old writer.new disk.new result }
+    ensures outcome { Reads D.Disk writer.old disk.old writer.new disk.new (fault_of result) }
+    ensures kept { (pages : AllPages) → HasTree D.Disk pages writer.old disk.old
+        → IsSound result (λ x. IsLeafAndNext pages key.now x.0.number x.1 writer.old.pool.gets writer.new.pool) }
     ensures at { IfOk result (λ x. IsAt writer.new.pool x.0) }
     ensures leaf { IfOk result (λ x. HasLevel 0 (page_at writer.new.pool x.0.number).body) }
     ensures within { IfOk result (λ x. IsWithin (entries_of writer.new.pool x.0.number) x.1) }
-    ensures works { OnOk result (writer.new.failed ≡ false) }
-    ensures fails { IfErr result (λ e. (writer.new.failed ≡ false) ↔ ((e ≡ Memory) ⊎ (e ≡ NotAStore))) }
-    ensures causes { IfErr result (λ e. (e ≡ Failed) ⊎ (e ≡ LogFull) ⊎ (e ≡ Memory) ⊎ (e ≡ NotAStore) ⊎ (e ≡ Device)) }
-    ensures no_room { result ≡ Err LogFull → HasNoRoom writer.new.log }
-    ensures already { result ≡ Err Failed ↔ (writer.old.failed ≡ true) }
-    ensures device { writer.old.failed ≡ false → result ≡ Err Device ↔ (D.failed disk.new ≡ true) }
 {
     let first = leaf_for(writer, disk, key)?;
     let leaf = writer.page(first);

@@ -1,17 +1,15 @@
 //! The entries of a range of keys.
 
-ghost use Rattle.std.specs.Prelude.{◌≡◌, ◌≤◌, ◌<◌, ◌⊎◌, ◌↔◌, ◌+◌, ◌++◌, [], ◌∷◌, ℕ, List, length, true, false, Ok, Err, IfErr, IfOk, IfSome, OnOk};
-ghost use Rattle.im_types.specs.declared.fault.Fault.TheVariants.{Device, Failed, LogFull, Memory, NotAStore};
-ghost use Rattle.im_types.specs.Histories.{Base};
+ghost use Rattle.std.specs.Prelude.{◌≡◌, ◌≤◌, ◌<◌, ◌++◌, [], ◌∷◌, ℕ, length, false, IfErr, IfOk, IfSome, OnOk};
+ghost use Rattle.im_types.specs.declared.fault.Fault.TheVariants.{Memory};
 ghost use Rattle.im_types.specs.Maps.{is_below};
-ghost use Rattle.im_types.specs.Writer.{Writer};
 ghost use Rattle.im_page.specs.Entry.{entry_at};
-ghost use Rattle.im_log.specs.LogFile.{HasNoRoom};
 ghost use Rattle.im_flush.specs.PageWriter.{IsReadyWriter};
-ghost use Rattle.im_search.specs.Levels.{bodies};
+ghost use Rattle.im_flush.specs.Outcome.{fault_of, AllPages, IsSound, Reads};
+ghost use Rattle.im_search.specs.Levels.{bodies_of};
 ghost use Rattle.im_search.specs.Found.{HasTree};
 ghost use Rattle.im_search.specs.NextKeys.{IsFar};
-ghost use Rattle.im_search.specs.Ranges.{AlongKept, IsAlong, IsPart, RangeKept};
+ghost use Rattle.im_search.specs.Ranges.{IsAlong, IsPart, Ranged, RangesAlong};
 
 use crate::descent::leaf_for;
 use crate::leaf_chain::{page_count, place_past};
@@ -69,6 +67,7 @@ fn add_part(
 }
 
 // The rest of a range along the leaf chain, from a leaf behind that of `lo` on.
+#[tactic(auto, using(im_flush::proofs::Outcomes::then, im_flush::proofs::Outcomes::refused))]
 fn range_along<D: Disk>(
     writer: &mut PageWriter,
     disk: &mut D,
@@ -81,18 +80,11 @@ fn range_along<D: Disk>(
     requires ready { IsReadyWriter D.Disk writer.old disk.old }
     requires room { length list.old.items < limit }
     requires order { is_below hi.now lo.now ≡ false }
-    ensures ready { IsReadyWriter D.Disk writer.new disk.new }
-    ensures kept { (b : Base) (base : ℕ) (s : Writer) (spare : List ℕ) (n : ℕ) → HasTree D.Disk b base s spare writer.old disk.old
-        → IsAlong (bodies s) lo.now hi.now list.old.items n from → 1 ≤ n
-        → AlongKept D.Disk b base s lo.now hi.now limit n writer.old.pool.gets list.new.items disk.old writer.new disk.new result }
+    ensures outcome { Reads D.Disk writer.old disk.old writer.new disk.new (fault_of result) }
+    ensures kept { (pages : AllPages) (n : ℕ) → HasTree D.Disk pages writer.old disk.old → IsAlong (bodies_of pages) lo.now hi.now list.old.items n from → 1 ≤ n
+        → IsSound result (λ behind. RangesAlong (bodies_of pages) lo.now hi.now limit n list.new.items behind writer.old.pool.gets writer.new.pool.gets) }
     ensures far { IfOk result (λ behind. IfSome behind IsFar) }
     ensures most { OnOk result (length list.new.items ≤ limit) }
-    ensures works { OnOk result (writer.new.failed ≡ false) }
-    ensures fails { IfErr result (λ e. (writer.new.failed ≡ false) ↔ ((e ≡ Memory) ⊎ (e ≡ NotAStore))) }
-    ensures causes { IfErr result (λ e. (e ≡ Failed) ⊎ (e ≡ LogFull) ⊎ (e ≡ Memory) ⊎ (e ≡ NotAStore) ⊎ (e ≡ Device)) }
-    ensures no_room { result ≡ Err LogFull → HasNoRoom writer.new.log }
-    ensures already { result ≡ Err Failed ↔ (writer.old.failed ≡ true) }
-    ensures device { writer.old.failed ≡ false → result ≡ Err Device ↔ (D.failed disk.new ≡ true) }
 {
     let mut left = page_count(writer, disk)?;
     let mut number = from;
@@ -117,6 +109,7 @@ fn range_along<D: Disk>(
 /// It goes down once, to the leaf of `lo`, by one get for each level, and then along the leaf chain, by one get for each leaf, until
 /// a leaf has a key above `hi`. Refused `Memory` where there is no room for the list too; otherwise as `next_entry` is. Behind
 /// `NotAStore` and `Memory` the writer goes on.
+#[tactic(auto, using(im_flush::proofs::Outcomes::then, im_flush::proofs::Outcomes::refused))]
 pub fn entries_between<D: Disk>(
     alloc: Global,
     writer: &mut PageWriter,
@@ -126,17 +119,11 @@ pub fn entries_between<D: Disk>(
     limit: usize,
 ) -> Result<(Vec<(Key, Rid)>, Option<NextKey>), Fault>
     requires ready { IsReadyWriter D.Disk writer.old disk.old }
-    ensures ready { IsReadyWriter D.Disk writer.new disk.new }
-    ensures kept { (b : Base) (base : ℕ) (s : Writer) (spare : List ℕ) → HasTree D.Disk b base s spare writer.old disk.old
-        → RangeKept D.Disk b base s lo.now hi.now limit writer.old.pool.gets disk.old writer.new disk.new result }
+    ensures outcome { Reads D.Disk writer.old disk.old writer.new disk.new (fault_of result) }
+    ensures kept { (pages : AllPages) → HasTree D.Disk pages writer.old disk.old
+        → IsSound result (λ x. Ranged (bodies_of pages) lo.now hi.now limit x.0.items x.1 writer.old.pool.gets writer.new.pool.gets) }
     ensures far { IfOk result (λ x. IfSome x.1 IsFar) }
     ensures most { IfOk result (λ x. length x.0.items ≤ limit) }
-    ensures works { OnOk result (writer.new.failed ≡ false) }
-    ensures fails { IfErr result (λ e. (writer.new.failed ≡ false) ↔ ((e ≡ Memory) ⊎ (e ≡ NotAStore))) }
-    ensures causes { IfErr result (λ e. (e ≡ Failed) ⊎ (e ≡ LogFull) ⊎ (e ≡ Memory) ⊎ (e ≡ NotAStore) ⊎ (e ≡ Device)) }
-    ensures no_room { result ≡ Err LogFull → HasNoRoom writer.new.log }
-    ensures already { result ≡ Err Failed ↔ (writer.old.failed ≡ true) }
-    ensures device { writer.old.failed ≡ false → result ≡ Err Device ↔ (D.failed disk.new ≡ true) }
 {
     let frame = leaf_for(writer, disk, lo)?;
     let mut list = Vec::new(alloc);

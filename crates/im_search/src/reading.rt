@@ -1,16 +1,13 @@
 //! What a page on a key's way says: its level, and its child on the way.
 
-ghost use Rattle.std.specs.Prelude.{◌≡◌, ◌<◌, ◌≤◌, ◌⊎◌, ◌↔◌, ℕ, true, false, length, Ok, Err, IfErr, IfOk, OnOk, IsNone, IfSome};
-ghost use Rattle.im_types.specs.declared.fault.Fault.TheVariants.{Device, LogFull, Memory, NotAStore};
+ghost use Rattle.std.specs.Prelude.{◌≡◌, ◌<◌, ◌≤◌, length, IfErr, IfOk, IsNone, IfSome};
+ghost use Rattle.im_types.specs.declared.fault.Fault.TheVariants.{NotAStore};
 ghost use Rattle.im_types.specs.declared.page_kind.PageKind.TheVariants.{Inner};
-ghost use Rattle.im_types.specs.Histories.{Base};
-ghost use Rattle.im_types.specs.Writer.{Writer};
 ghost use Rattle.im_page.specs.Entry.{entry_at};
 ghost use Rattle.im_page.specs.Child.{IsChild, StartAbove};
-ghost use Rattle.im_log.specs.LogFile.{HasNoRoom};
-ghost use Rattle.im_flush.specs.PageWriter.{IsReadyWriter, StandsAs};
-ghost use Rattle.im_search.specs.Levels.{HasLevel, bodies};
-ghost use Rattle.im_search.specs.Kept.{CallKept};
+ghost use Rattle.im_flush.specs.PageWriter.{IsReadyWriter};
+ghost use Rattle.im_flush.specs.Outcome.{fault_of, AllPages, AreLoaded, HasPages, IsSound, Reads};
+ghost use Rattle.im_search.specs.Levels.{HasLevel};
 ghost use Rattle.im_search.specs.Children.{IsChildOf};
 
 use crate::child_place::{Child, ChildPlace};
@@ -85,15 +82,9 @@ fn level_in(page: &Page) -> Result<u8, Fault>
 /// The level of a page of the tree. Refused as `child_of` is.
 pub fn level_of<D: Disk>(writer: &mut PageWriter, disk: &mut D, number: PageNo) -> Result<u8, Fault>
     requires ready { IsReadyWriter D.Disk writer.old disk.old }
-    requires working { writer.old.failed ≡ false }
-    ensures ready { IsReadyWriter D.Disk writer.new disk.new }
-    ensures kept { (b : Base) (base : ℕ) (s : Writer) → StandsAs D.Disk b base s writer.old disk.old → ((q : ℕ) → (s.pages q).waits ≡ false)
-        → HasLevel (bodies s number).level (bodies s number) → CallKept D.Disk b base s (λ h. h ≡ (bodies s number).level) disk.old writer.new disk.new result }
-    ensures works { OnOk result (writer.new.failed ≡ false) }
-    ensures fails { IfErr result (λ e. (writer.new.failed ≡ false) ↔ ((e ≡ Memory) ⊎ (e ≡ NotAStore))) }
-    ensures causes { IfErr result (λ e. (e ≡ LogFull) ⊎ (e ≡ Memory) ⊎ (e ≡ NotAStore) ⊎ (e ≡ Device)) }
-    ensures device { result ≡ Err Device ↔ (D.failed disk.new ≡ true) }
-    ensures no_room { result ≡ Err LogFull → HasNoRoom writer.new.log }
+    ensures outcome { Reads D.Disk writer.old disk.old writer.new disk.new (fault_of result) }
+    ensures kept { (pages : AllPages) → HasPages D.Disk AreLoaded pages writer.old disk.old → HasLevel (pages number).body.level (pages number).body
+        → IsSound result (λ h. h ≡ (pages number).body.level) }
 {
     let frame = writer.get(disk, number)?;
     level_in(writer.page(frame))
@@ -109,15 +100,9 @@ pub fn child_of<D: Disk>(
     key: &[u8],
 ) -> Result<Child, Fault>
     requires ready { IsReadyWriter D.Disk writer.old disk.old }
-    requires working { writer.old.failed ≡ false }
-    ensures ready { IsReadyWriter D.Disk writer.new disk.new }
-    ensures kept { (b : Base) (base : ℕ) (s : Writer) → StandsAs D.Disk b base s writer.old disk.old → ((q : ℕ) → (s.pages q).waits ≡ false)
-        → 1 ≤ level → HasLevel level (bodies s number) → CallKept D.Disk b base s (IsChildOf (bodies s number) key.now) disk.old writer.new disk.new result }
-    ensures works { OnOk result (writer.new.failed ≡ false) }
-    ensures fails { IfErr result (λ e. (writer.new.failed ≡ false) ↔ ((e ≡ Memory) ⊎ (e ≡ NotAStore))) }
-    ensures causes { IfErr result (λ e. (e ≡ LogFull) ⊎ (e ≡ Memory) ⊎ (e ≡ NotAStore) ⊎ (e ≡ Device)) }
-    ensures device { result ≡ Err Device ↔ (D.failed disk.new ≡ true) }
-    ensures no_room { result ≡ Err LogFull → HasNoRoom writer.new.log }
+    ensures outcome { Reads D.Disk writer.old disk.old writer.new disk.new (fault_of result) }
+    ensures kept { (pages : AllPages) → HasPages D.Disk AreLoaded pages writer.old disk.old → 1 ≤ level → HasLevel level (pages number).body
+        → IsSound result (IsChildOf (pages number).body key.now) }
 {
     let frame = writer.get(disk, number)?;
     child_in(writer.page(frame), level, key)

@@ -2,7 +2,7 @@
 use Rattle.std.proofs.Common.{◌≡◌, ℕ, zero, suc, ◌≤◌, ◌<◌, true, List, [], ◌∷◌, ◌++◌, length, refl, sym, ap, subst, ◌∙◌, arith, length-append}
 use Rattle.im_types.specs.Keys.{Key}
 use Rattle.im_types.specs.Pages.{Body, Page}
-use Rattle.im_types.specs.Writer.{Writer}
+use Rattle.im_flush.specs.Outcome.{AllPages}
 use Rattle.im_types.specs.declared.page_kind.PageKind.{PageKind}
 use Rattle.im_types.specs.declared.page_kind.PageKind.TheVariants.{Leaf}
 use Rattle.im_page.specs.Entry.{entry_at, taken, Rises}
@@ -72,7 +72,7 @@ pub record IsPartable (out : List Numbered) (pages : Pages) (key : Key) (parent 
   pub leaf : b.kind ≡ Leaf
   pub can : Rises b.entries → FitsPage true b.entries → CanSplit Leaf b (held pages out parent) q
 
-module _ (s : Writer) (key : Key) (old : Pages) (xs : List Numbered) (up : IsRising xs) (p parent q : ℕ) (g : Page) (same : seen s xs ≡ old) (page : g ≡ page_in s xs p)
+module _ (s : AllPages) (key : Key) (old : Pages) (xs : List Numbered) (up : IsRising xs) (p parent q : ℕ) (g : Page) (same : seen s xs ≡ old) (page : g ≡ page_in s xs p)
     (turn : IsTurn old (q ∷ []) key zero parent p) where
   was : held (beneath s xs p g up page) (without_image p xs) ≡ old
   was = out_same s xs p g up page ∙ same
@@ -123,7 +123,7 @@ module _ (s : Writer) (key : Key) (old : Pages) (xs : List Numbered) (up : IsRis
 
 -- ---- the root
 
-module _ (s : Writer) (key : Key) (xs : List Numbered) (up : IsRising xs) (l r : ℕ) (g : Page) (page : g ≡ page_in s xs 1) (turn : IsRootTurn (seen s xs) (r ∷ l ∷ []) key zero) where
+module _ (s : AllPages) (key : Key) (xs : List Numbered) (up : IsRising xs) (l r : ℕ) (g : Page) (page : g ≡ page_in s xs 1) (turn : IsRootTurn (seen s xs) (r ∷ l ∷ []) key zero) where
   root_was : held (beneath s xs 1 g up page) (without_image 1 xs) ≡ seen s xs
   root_was = out_same s xs 1 g up page
 

@@ -1,16 +1,11 @@
 -- What the search for the highest page that splits answered.
-use Rattle.std.proofs.Common.{◌≡◌, ◌⊎◌, ℕ, ◌+◌, ◌≤◌, ◌<◌, true, Option, Some, None, inl, inr, refl, sym, subst, ◌∙◌}
-use Rattle.std.specs.Prelude.{Result, Ok, Err, IfErr}
-use Rattle.im_types.specs.declared.fault.Fault.{Fault}
-use Rattle.im_types.specs.declared.fault.Fault.TheVariants.{Capacity, PagesFull}
+use Rattle.std.proofs.Common.{◌≡◌, ℕ, ◌+◌, ◌≤◌, ◌<◌, true, Option, Some, None, refl, subst, ◌∙◌}
 use Rattle.im_types.specs.Keys.{Key}
 use Rattle.im_tree.specs.Levels.{Pages, height}
 use Rattle.im_split.specs.Tops.{IsFound}
 use Rattle.im_split.specs.Turns.{SplitsDown}
 use Rattle.im_split.specs.Plan.{IsWithin, IsOver}
 use Rattle.im_split.specs.declared.top.Top.{Top}
-use Rattle.im_split.proofs.Rooms.{IsReadCause, never_full}
-use Rattle.im_split.proofs.Froms.{never_used_up}
 
 -- nothing splits
 pub none_found : (pages : Pages) (key : Key) (o : Option Top) → ((t : Top) → o ≡ Some t → ⊥) → IsFound pages key o → IsFound pages key None
@@ -44,12 +39,3 @@ last_splits pages key t found root level = subst (λ (k : ℕ). SplitsDown pages
 -- it splits
 pub last_level : (pages : Pages) (key : Key) (t : Top) → IsFound pages key (Some t) → t.root ≡ true → t.level ≡ 255 → height pages ≡ 255
 last_level pages key t found root level = (found.splits.0.root root).tall ∙ level
-
-pub never_up : (e : Fault) → (e ≡ PagesFull) ⊎ IsReadCause e → e ≡ Capacity → ⊥
-never_up e (inl full) is = let clash : PagesFull ≡ Capacity = sym full ∙ is in cc clash
-never_up e (inr known) is = never_used_up e known is
-
-pub never_pages_full : {A : Type 0} (r : Result A Fault) → IfErr r (λ e. (e ≡ Capacity) ⊎ IsReadCause e) → IfErr r (λ e. e ≡ PagesFull → ⊥)
-never_pages_full (Ok a) is = tt
-never_pages_full (Err e) (inl up) = λ same. let clash : Capacity ≡ PagesFull = sym up ∙ same in cc clash
-never_pages_full (Err e) (inr known) = λ same. never_full e known same

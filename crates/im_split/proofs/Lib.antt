@@ -8,10 +8,10 @@ pub mod Stepping
 pub mod Turned
 pub mod Bringing
 pub mod Ends
-pub mod EndRuns
 pub mod OneLeaf
 pub mod Rooms
 pub mod Downs
 pub mod Froms
+pub mod Reasons
 pub mod Plans
 pub mod Founds

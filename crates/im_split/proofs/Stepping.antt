@@ -2,7 +2,7 @@
 use Rattle.std.proofs.Common.{◌≡◌, ℕ, suc, List, ◌∷◌, Some, sym, subst, ◌∙◌, ⊎_elim, arith, false}
 use Rattle.im_types.specs.Keys.{Key, IsBelow}
 use Rattle.im_types.specs.Pages.{Body, Page}
-use Rattle.im_types.specs.Writer.{Writer}
+use Rattle.im_flush.specs.Outcome.{AllPages}
 use Rattle.im_types.specs.declared.page_kind.PageKind.TheVariants.{Inner}
 use Rattle.im_page.specs.Entry.{entry_at}
 use Rattle.im_page.specs.Child.{IsChild}
@@ -29,7 +29,7 @@ GoesOnTo pages new images spare key k half child = IsTurn new spare key k half c
 
 -- ---- an inner page
 
-module _ (s : Writer) (xs : List Numbered) (up : IsRising xs) (spare : List ℕ) (key : Key) (k parent p q : ℕ) (turn : IsTurn (seen s xs) (q ∷ spare) key (suc k) parent p) (page : Page) (is : page ≡ page_in s xs p) where
+module _ (s : AllPages) (xs : List Numbered) (up : IsRising xs) (spare : List ℕ) (key : Key) (k parent p q : ℕ) (turn : IsTurn (seen s xs) (q ∷ spare) key (suc k) parent p) (page : Page) (is : page ≡ page_in s xs p) where
   -- the page is an inner one of its level
   pub turn_level : HasLevel (suc k) page.body
   turn_level = subst (HasLevel (suc k)) (sym (body_is s xs p page up is)) (way_level (seen s xs) (suc k) key p (step_way (seen s xs) (suc k) key parent p turn.way turn.child))
@@ -80,7 +80,7 @@ root_relisted pages spare key k l r turn = record {
   splits = turn.splits;
 }
 
-module _ (s : Writer) (xs : List Numbered) (up : IsRising xs) (spare : List ℕ) (key : Key) (k l r : ℕ) (turn : IsRootTurn (seen s xs) (l ∷ r ∷ spare) key (suc k)) (page : Page) (is : page ≡ page_in s xs 1) where
+module _ (s : AllPages) (xs : List Numbered) (up : IsRising xs) (spare : List ℕ) (key : Key) (k l r : ℕ) (turn : IsRootTurn (seen s xs) (l ∷ r ∷ spare) key (suc k)) (page : Page) (is : page ≡ page_in s xs 1) where
   pub root_level : HasLevel (suc k) page.body
   root_level =
       subst (HasLevel (suc k)) (sym (body_is s xs 1 page up is))

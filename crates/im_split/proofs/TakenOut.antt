@@ -5,7 +5,7 @@ use Rattle.std.proofs.lemmas.Bool.{cases_eq}
 use Rattle.std.specs.Prelude.{IsSome}
 use Rattle.im_types.specs.Pages.{Body, Page}
 use Rattle.im_types.specs.Tree.{with_body}
-use Rattle.im_types.specs.Writer.{Writer}
+use Rattle.im_flush.specs.Outcome.{AllPages}
 use Rattle.im_page.specs.Header.{initial}
 use Rattle.im_tree.specs.Levels.{Pages}
 use Rattle.im_smo.specs.Images.{Numbered, Has, KeepsAll, IsRising, held, image_of, put_image, without_image}
@@ -29,7 +29,7 @@ or_there None a b is = let never : ⊥ = cc is in absurd never
 or_there (Some p) a b is = refl
 
 -- the page of number n was taken out
-module _ (s : Writer) (xs : List Numbered) (n : ℕ) (page : Page) (up : IsRising xs) (is : page ≡ page_in s xs n) where
+module _ (s : AllPages) (xs : List Numbered) (n : ℕ) (page : Page) (up : IsRising xs) (is : page ≡ page_in s xs n) where
   -- the writer's pages with it in its place
   abbrev pub beneath : Pages
   beneath = with_body (bodies s) n page.body

@@ -1,23 +1,17 @@
 -- What a step of the split answers and keeps.
-use Rattle.std.proofs.Common.{◌≡◌, ◌≢◌, ◌⊎◌, ℕ, zero, suc, ◌+◌, ◌≤◌, Bool, List, ◌∷◌, false, sym, ap, subst, ◌∙◌, arith}
-use Rattle.std.specs.Prelude.{Result, Ok, Err, IsErrAnd, IfErr, IfOk}
+use Rattle.std.proofs.Common.{◌≡◌, ◌≢◌, ℕ, zero, suc, ◌+◌, ◌≤◌, Bool, List, ◌∷◌, false, sym, ap, subst, ◌∙◌, arith}
+use Rattle.std.specs.Prelude.{Result, Ok, Err, IfErr, IfOk}
 use Rattle.im_types.specs.declared.fault.Fault.{Fault}
-use Rattle.im_types.specs.declared.fault.Fault.TheVariants.{Memory, NotAStore}
-use Rattle.im_types.specs.Histories.{Base}
+use Rattle.im_types.specs.declared.fault.Fault.TheVariants.{NotAStore}
 use Rattle.im_types.specs.Keys.{Key}
 use Rattle.im_types.specs.Pages.{Page}
 use Rattle.im_types.specs.declared.page_kind.PageKind.TheVariants.{Inner}
-use Rattle.im_types.specs.Writer.{Writer}
 use Rattle.im_page.specs.Entry.{taken}
 use Rattle.im_page.specs.Child.{IsChild}
 use Rattle.im_page.specs.Content.{IsContent}
 use Rattle.im_page.specs.Page.{is_leaf_kind}
-use Rattle.im_disk.specs.declared.disk.Disk.{Ghosts}
-use Rattle.im_flush.specs.declared.page_writer.PageWriter.{PageWriter}
-use Rattle.im_flush.specs.Writing.{LeavesGrown}
-use Rattle.im_flush.specs.PageWriter.{GoesOn, Evicted}
-use Rattle.im_flush.proofs.Goings.{leaves_so_far}
-use Rattle.im_flush.proofs.LoggedChanges.{again_here}
+use Rattle.im_flush.specs.Outcome.{AllPages, IsSound}
+use Rattle.im_flush.proofs.Outcomes.{sound_own}
 use Rattle.im_tree.specs.Levels.{Pages}
 use Rattle.im_tree.specs.Halves.{FitsPage}
 use Rattle.im_search.specs.Levels.{HasLevel}
@@ -25,7 +19,7 @@ use Rattle.im_smo.specs.Images.{Numbered, Has, IsRising, held, without_image}
 use Rattle.im_smo.specs.Parts.{CanHalve, CanSplit}
 use Rattle.im_alloc.specs.Seen.{seen, page_in}
 use Rattle.im_split.specs.Pages.{newest_first}
-use Rattle.im_split.specs.Steps.{TurnKept, HalvesInner, HalvesRoot}
+use Rattle.im_split.specs.Steps.{Turned, HalvesInner, HalvesRoot}
 use Rattle.im_split.specs.Turns.{IsTurn, IsRootTurn}
 use Rattle.im_split.specs.declared.turns.Turn.{Turn}
 use Rattle.im_split.proofs.Placing.{leaf_at}
@@ -49,38 +43,21 @@ fits_inner (suc k) page some is content = record {
   fits = subst (λ (leaf : Bool). taken leaf page.body.entries ≤ 4064) (ap is_leaf_kind is.kind ∙ leaf_at (suc k)) content.fits;
 }
 
-module _ {D : Type 0} (d : Ghosts D) (b : Base) (base : ℕ) (s : Writer) (key : Key) (images : List Numbered) (old : D) (new : List Numbered) (numbers : List ℕ) (w : PageWriter) (disk : D) where
-  -- a step that was refused
-  pub turn_refused : (f : Fault) → LeavesGrown d b base s old disk → f ≢ NotAStore → ((f ≡ Memory) ⊎ (f ≡ NotAStore) → Evicted d b base s old w disk) → (r : Result Turn Fault) → IsErrAnd r (λ e. e ≡ f)
-      → TurnKept d b base s key images old new numbers w disk r
-  turn_refused f stops cause again (Ok a) is = absurd is
-  turn_refused f stops cause again (Err e) is = record {
-    ok = tt;
-    stops = stops;
-    cause = λ same. cause (sym is ∙ same);
-    again = subst (λ (x : Fault). (x ≡ Memory) ⊎ (x ≡ NotAStore) → Evicted d b base s old w disk) (sym is) again;
-  }
+module _ (s : AllPages) (key : Key) (images new : List Numbered) (numbers : List ℕ) where
+  -- a step on the images
+  pub turn_kept : (r : Result Turn Fault) → IfOk r (λ turn. GoesOnTo (seen s images) (seen s new) new (newest_first numbers) key turn.level turn.parent turn.page) → (r ≡ Err NotAStore → ⊥)
+      → IsSound r (λ turn. Turned s key images turn new numbers)
+  turn_kept r is never = sound_own r _ _ is (not_refused r never) (λ turn goes. record { turn_is = goes.0; parent = goes.2; same = goes.1 })
 
-  -- a step on the images alone, behind calls that each kept the writer's pages
-  pub turn_kept : (t : Writer) → GoesOn d b base s old t w disk → (r : Result Turn Fault)
-      → IfOk r (λ turn. GoesOnTo (seen s images) (seen s new) new (newest_first numbers) key turn.level turn.parent turn.page) → (r ≡ Err NotAStore → ⊥)
-      → TurnKept d b base s key images old new numbers w disk r
-  turn_kept t on r is never = record {
-    ok = both_ok r _ _ _ is is (λ turn goes same. record { now = t; on = on; turn_is = goes.0; parent = goes.2; same = goes.1 });
-    stops = leaves_so_far d b base s old t w.log w.table w.pool disk on.goes;
-    cause = not_refused r never;
-    again = again_here r _ _ (record { now = t; on = on });
-  }
-
-  module _ (t : Writer) (on : GoesOn d b base s old t w disk) (up : IsRising images) (out : List Numbered) (page : Page) (r : Result Turn Fault) where
+  module _ (up : IsRising images) (out : List Numbered) (page : Page) (r : Result Turn Fault) where
     inner_at : (k parent p q : ℕ) → IsTurn (seen s images) (q ∷ newest_first numbers) key (suc k) parent p → Has images parent → page ≡ page_in s images p → out ≡ without_image p images
         → IfOk r (λ next. HalvesInner out new page.body key parent p q next.parent next.page) → IfOk r (λ next. next.level + 1 ≡ suc k)
         → ((pages : Pages) → Has out parent → HasLevel (suc k) page.body
         → ((c : ℕ) → FitsPage false page.body.entries → IsChild page.body key c → CanSplit Inner page.body (held pages out parent) q) → r ≡ Err NotAStore → ⊥)
-        → TurnKept d b base s key images old new numbers w disk r
+        → IsSound r (λ turn. Turned s key images turn new numbers)
     inner_at k parent p q turn has is less halves below sound =
         let spare = newest_first numbers in
-        turn_kept t on r
+        turn_kept r
         (both_ok r _ _ _ halves below (λ next half level.
         let same : next.level ≡ k = omega (arith, level) in
         subst (λ (h : ℕ). GoesOnTo (seen s images) (seen s new) new spare key h next.parent next.page) (sym same)
@@ -95,18 +72,18 @@ module _ {D : Type 0} (d : Ghosts D) (b : Base) (base : ℕ) (s : Writer) (key :
         → IfOk r (λ next. HalvesInner out new page.body key parent p q next.parent next.page) → IfOk r (λ next. next.level + 1 ≡ level)
         → ((pages : Pages) → Has out parent → HasLevel level page.body
         → ((c : ℕ) → FitsPage false page.body.entries → IsChild page.body key c → CanSplit Inner page.body (held pages out parent) q) → r ≡ Err NotAStore → ⊥)
-        → TurnKept d b base s key images old new numbers w disk r
+        → IsSound r (λ turn. Turned s key images turn new numbers)
     inner_kept zero parent p q some = absurd (omega (arith, some))
     inner_kept (suc k) parent p q some = inner_at k parent p q
 
     root_at : (k left right : ℕ) → IsRootTurn (seen s images) (right ∷ left ∷ newest_first numbers) key (suc k) → page ≡ page_in s images 1 → out ≡ without_image 1 images
         → IfOk r (λ next. HalvesRoot out new page.body key left right next.parent next.page) → IfOk r (λ next. next.level + 1 ≡ suc k)
         → (HasLevel (suc k) page.body → ((c : ℕ) → FitsPage false page.body.entries → IsChild page.body key c → CanHalve Inner page.body) → r ≡ Err NotAStore → ⊥)
-        → TurnKept d b base s key images old new numbers w disk r
+        → IsSound r (λ turn. Turned s key images turn new numbers)
     root_at k left right was is less halves below sound =
         let spare = newest_first numbers in
         let turn = root_relisted (seen s images) spare key (suc k) left right was in
-        turn_kept t on r
+        turn_kept r
         (both_ok r _ _ _ halves below (λ next half level.
         let same : next.level ≡ k = omega (arith, level) in
         subst (λ (h : ℕ). GoesOnTo (seen s images) (seen s new) new spare key h next.parent next.page) (sym same)
@@ -117,6 +94,6 @@ module _ {D : Type 0} (d : Ghosts D) (b : Base) (base : ℕ) (s : Writer) (key :
     pub root_kept : (level left right : ℕ) → 1 ≤ level → IsRootTurn (seen s images) (right ∷ left ∷ newest_first numbers) key level → page ≡ page_in s images 1 → out ≡ without_image 1 images
         → IfOk r (λ next. HalvesRoot out new page.body key left right next.parent next.page) → IfOk r (λ next. next.level + 1 ≡ level)
         → (HasLevel level page.body → ((c : ℕ) → FitsPage false page.body.entries → IsChild page.body key c → CanHalve Inner page.body) → r ≡ Err NotAStore → ⊥)
-        → TurnKept d b base s key images old new numbers w disk r
+        → IsSound r (λ turn. Turned s key images turn new numbers)
     root_kept zero left right some = absurd (omega (arith, some))
     root_kept (suc k) left right some = root_at k left right

@@ -2,13 +2,11 @@
 
 ghost use Rattle.std.specs.Prelude.{◌≡◌, ◌≢◌, ℕ, zero, suc, true, false, List, [], ◌∷◌, Option, Some};
 ghost use Rattle.im_types.specs.Keys.{Key, IsBelow};
-ghost use Rattle.im_types.specs.Histories.{Base};
-ghost use Rattle.im_types.specs.Writer.{Writer};
 ghost use Rattle.im_types.specs.declared.page_kind.PageKind.TheVariants.{Leaf, Inner};
 ghost use Rattle.im_page.specs.Entry.{entry_at, Rises};
 ghost use Rattle.im_page.specs.Child.{IsChild};
-ghost use Rattle.im_page.specs.Split.{IsSplitPoint, HasRoom};
-ghost use Rattle.im_flush.specs.declared.page_writer.PageWriter.{PageWriter};
+ghost use Rattle.im_page.specs.Split.{HasRoom};
+ghost use Rattle.im_flush.specs.Outcome.{AllPages};
 ghost use Rattle.im_tree.specs.Levels.{Pages, walk};
 ghost use Rattle.im_tree.specs.Good.{AtOrAbove, IsGoodTree};
 ghost use Rattle.im_tree.specs.Search.{IsOnWay};
@@ -20,8 +18,6 @@ ghost use Rattle.im_smo.specs.Changed.{SamePages, leaf_split_pages, inner_split_
 ghost use Rattle.im_alloc.specs.Seen.{bodies, seen};
 ghost use Rattle.im_split.specs.Turns.{IsTurn, IsRootTurn};
 ghost use Rattle.im_split.specs.Plan.{Planned};
-
-use im_disk::Disk;
 
 /// A split of the inner page whose turn it is leaves the tree good and the walk as it was, and it is the turn of the page's
 /// child on the key's way, under the part that the key belongs to.
@@ -69,9 +65,8 @@ pub fn turns_stay()
 
 /// Where the pages become what a plan makes of them, they are a good tree with the same walk, in which each search for the key ends
 /// at a leaf with room for its entry.
-pub fn plans_make_room<D: Disk>()
-    ensures good { (b : Base) (base : ℕ) (s : Writer) (key : Key) (max : Option ℕ) (images : List Numbered) (old : D) (w : PageWriter) (disk : D) → Planned D.Disk b base s key max images old w disk
-        → (pages : Pages) → SamePages pages (seen s images) → IsGoodTree pages [] × (walk pages ≡ walk (bodies s)) }
-    ensures room { (b : Base) (base : ℕ) (s : Writer) (key : Key) (max : Option ℕ) (images : List Numbered) (old : D) (w : PageWriter) (disk : D) → Planned D.Disk b base s key max images old w disk
-        → (pages : Pages) → SamePages pages (seen s images) → (p : ℕ) → IsOnWay pages zero key p → HasRoom true (pages p).entries (key, 0) }
+pub fn plans_make_room()
+    ensures good { (store : AllPages) (key : Key) (max : Option ℕ) (images : List Numbered) → Planned store key max images → (pages : Pages) → SamePages pages (seen store images)
+        → IsGoodTree pages [] × (walk pages ≡ walk (bodies store)) }
+    ensures room { (store : AllPages) (key : Key) (max : Option ℕ) (images : List Numbered) → Planned store key max images → (pages : Pages) → SamePages pages (seen store images) → (p : ℕ) → IsOnWay pages zero key p → HasRoom true (pages p).entries (key, 0) }
 {}

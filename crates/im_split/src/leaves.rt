@@ -1,14 +1,12 @@
 //! The split of a key's leaf, the last one.
 
-ghost use Rattle.std.specs.Prelude.{◌≡◌, ◌≤◌, ◌⊎◌, ◌↔◌, ℕ, zero, suc, List, [], ◌∷◌, true, false, Ok, Err, IfErr, OnOk, length};
-ghost use Rattle.im_types.specs.declared.fault.Fault.TheVariants.{Device, LogFull, Memory, NotAStore};
+ghost use Rattle.std.specs.Prelude.{◌≡◌, ◌≤◌, ◌⊎◌, ℕ, zero, suc, List, ◌∷◌, true, false, Ok, Err, IfErr, OnOk, length};
+ghost use Rattle.im_types.specs.declared.fault.Fault.TheVariants.{Memory, NotAStore};
 ghost use Rattle.im_types.specs.declared.page_kind.PageKind.TheVariants.{Leaf};
-ghost use Rattle.im_types.specs.Histories.{Base};
-ghost use Rattle.im_types.specs.Writer.{Writer};
 ghost use Rattle.im_page.specs.Entry.{Rises};
 ghost use Rattle.im_page.specs.Child.{IsChild};
-ghost use Rattle.im_log.specs.LogFile.{HasNoRoom};
-ghost use Rattle.im_flush.specs.PageWriter.{IsReadyWriter, StandsAs};
+ghost use Rattle.im_flush.specs.PageWriter.{IsReadyWriter};
+ghost use Rattle.im_flush.specs.Outcome.{fault_of, AllPages, AreLoaded, HasPages, IsSound, Reads};
 ghost use Rattle.im_tree.specs.Levels.{Pages};
 ghost use Rattle.im_tree.specs.Good.{IsGoodTree};
 ghost use Rattle.im_tree.specs.Search.{IsOnWay};
@@ -18,7 +16,7 @@ ghost use Rattle.im_smo.specs.Parts.{CanHalve, CanSplit};
 ghost use Rattle.im_alloc.specs.Seen.{seen};
 ghost use Rattle.im_alloc.specs.Kept.{HasImages};
 ghost use Rattle.im_split.specs.Pages.{newest_first};
-ghost use Rattle.im_split.specs.Ends.{HalvesLeaf, HalvesRootLeaf, BringBothKept, EndKept};
+ghost use Rattle.im_split.specs.Ends.{HalvesLeaf, HalvesRootLeaf, BroughtBoth, Ended};
 ghost use Rattle.im_split.specs.Turns.{IsTurn, IsRootTurn};
 
 use crate::turns::{Turn, bring};
@@ -41,6 +39,7 @@ fn next_in(images: &Images, number: PageNo) -> PageNo
 }
 
 // A leaf joins the images, and so does the leaf behind it, if there is one. Refused as `bring` is.
+#[tactic(auto, using(im_flush::proofs::Outcomes::then, im_flush::proofs::Outcomes::refused))]
 fn bring_both<D: Disk>(
     alloc: Global,
     images: &mut Images,
@@ -50,14 +49,8 @@ fn bring_both<D: Disk>(
 ) -> Result<(), Fault>
     requires ready { IsReadyWriter D.Disk writer.old disk.old }
     requires working { writer.old.failed ≡ false }
-    ensures ready { IsReadyWriter D.Disk writer.new disk.new }
-    ensures kept { (b : Base) (base : ℕ) (s : Writer) → StandsAs D.Disk b base s writer.old disk.old → ((q : ℕ) → (s.pages q).waits ≡ false)
-        → BringBothKept D.Disk b base s images.old number disk.old images.new writer.new disk.new result }
-    ensures works { OnOk result (writer.new.failed ≡ false) }
-    ensures fails { IfErr result (λ e. (writer.new.failed ≡ false) ↔ ((e ≡ Memory) ⊎ (e ≡ NotAStore))) }
-    ensures causes { IfErr result (λ e. (e ≡ LogFull) ⊎ (e ≡ Memory) ⊎ (e ≡ NotAStore) ⊎ (e ≡ Device)) }
-    ensures device { result ≡ Err Device ↔ (D.failed disk.new ≡ true) }
-    ensures no_room { result ≡ Err LogFull → HasNoRoom writer.new.log }
+    ensures outcome { Reads D.Disk writer.old disk.old writer.new disk.new (fault_of result) }
+    ensures kept { (store : AllPages) → HasPages D.Disk AreLoaded store writer.old disk.old → IsSound result (λ _. BroughtBoth store images.old number images.new) }
 {
     bring(alloc, images, writer, disk, number)?;
     let next = next_in(images, number);
@@ -109,6 +102,7 @@ fn part_root_leaf(
 /// Splits the leaf whose turn it is, and the leaf behind it learns of the new one; the page that was taken first is no longer spare.
 /// Refused `NotAStore` where the page is no leaf or can not be split, or the page behind it is no leaf; otherwise as `image` is, and
 /// `Memory`. Behind a refusal the images are of no use.
+#[tactic(auto, using(im_flush::proofs::Outcomes::then, im_flush::proofs::Outcomes::refused))]
 pub(crate) fn split_leaf_turn<D: Disk>(
     alloc: Global,
     images: &mut Images,
@@ -121,15 +115,10 @@ pub(crate) fn split_leaf_turn<D: Disk>(
     requires ready { IsReadyWriter D.Disk writer.old disk.old }
     requires working { writer.old.failed ≡ false }
     requires counted { length numbers.old.items ≡ 1 }
-    ensures ready { IsReadyWriter D.Disk writer.new disk.new }
-    ensures kept { (b : Base) (base : ℕ) (s : Writer) → HasImages D.Disk b base s images.old (newest_first numbers.old.items) writer.old disk.old
-        → IsTurn (seen s images.old) (newest_first numbers.old.items) key.now zero turn.parent turn.page → Has images.old turn.parent
-        → EndKept D.Disk b base s key.now images.old disk.old images.new writer.new disk.new result }
-    ensures works { OnOk result (writer.new.failed ≡ false) }
-    ensures fails { IfErr result (λ e. (writer.new.failed ≡ false) ↔ ((e ≡ Memory) ⊎ (e ≡ NotAStore))) }
-    ensures causes { IfErr result (λ e. (e ≡ LogFull) ⊎ (e ≡ Memory) ⊎ (e ≡ NotAStore) ⊎ (e ≡ Device)) }
-    ensures device { result ≡ Err Device ↔ (D.failed disk.new ≡ true) }
-    ensures no_room { result ≡ Err LogFull → HasNoRoom writer.new.log }
+    ensures outcome { Reads D.Disk writer.old disk.old writer.new disk.new (fault_of result) }
+    ensures kept { (store : AllPages) → HasImages D.Disk store images.old (newest_first numbers.old.items) writer.old disk.old
+        → IsTurn (seen store images.old) (newest_first numbers.old.items) key.now zero turn.parent turn.page → Has images.old turn.parent
+        → IsSound result (λ _. Ended store key.now images.old images.new) }
 {
     let q = numbers.take_last();
     bring_both(alloc, images, writer, disk, turn.page)?;
@@ -150,15 +139,10 @@ pub(crate) fn split_root_leaf<D: Disk>(
     requires ready { IsReadyWriter D.Disk writer.old disk.old }
     requires working { writer.old.failed ≡ false }
     requires counted { length numbers.old.items ≡ 2 }
-    ensures ready { IsReadyWriter D.Disk writer.new disk.new }
-    ensures kept { (b : Base) (base : ℕ) (s : Writer) → HasImages D.Disk b base s images.old (newest_first numbers.old.items) writer.old disk.old
-        → IsRootTurn (seen s images.old) (newest_first numbers.old.items) key.now zero
-        → EndKept D.Disk b base s key.now images.old disk.old images.new writer.new disk.new result }
-    ensures works { OnOk result (writer.new.failed ≡ false) }
-    ensures fails { IfErr result (λ e. (writer.new.failed ≡ false) ↔ ((e ≡ Memory) ⊎ (e ≡ NotAStore))) }
-    ensures causes { IfErr result (λ e. (e ≡ LogFull) ⊎ (e ≡ Memory) ⊎ (e ≡ NotAStore) ⊎ (e ≡ Device)) }
-    ensures device { result ≡ Err Device ↔ (D.failed disk.new ≡ true) }
-    ensures no_room { result ≡ Err LogFull → HasNoRoom writer.new.log }
+    ensures outcome { Reads D.Disk writer.old disk.old writer.new disk.new (fault_of result) }
+    ensures kept { (store : AllPages) → HasImages D.Disk store images.old (newest_first numbers.old.items) writer.old disk.old
+        → IsRootTurn (seen store images.old) (newest_first numbers.old.items) key.now zero
+        → IsSound result (λ _. Ended store key.now images.old images.new) }
 {
     let right = numbers.take_last();
     let left = numbers.take_last();

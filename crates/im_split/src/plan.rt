@@ -1,18 +1,17 @@
 //! The plan of a split.
 
-ghost use Rattle.std.specs.Prelude.{◌≡◌, ◌≢◌, ◌≤◌, ◌<◌, ◌⊎◌, ◌↔◌, ◌+◌, ℕ, [], true, false, None, Ok, Err, IfErr, IfOk, OnOk, length};
-ghost use Rattle.im_types.specs.declared.fault.Fault.TheVariants.{Capacity, Device, LogFull, Memory, NotAStore, PagesFull};
+ghost use Rattle.std.specs.Prelude.{◌≡◌, ◌≤◌, ◌<◌, ◌+◌, ◌-◌, ◌^◌, ℕ, [], true, false, Some, IfErr, length};
+ghost use Rattle.im_types.specs.declared.fault.Fault.TheVariants.{Capacity, PagesFull};
 ghost use Rattle.im_types.specs.declared.page_kind.PageKind.TheVariants.{Meta};
-ghost use Rattle.im_types.specs.Histories.{Base};
-ghost use Rattle.im_types.specs.Writer.{Writer};
-ghost use Rattle.im_log.specs.LogFile.{HasNoRoom};
-ghost use Rattle.im_flush.specs.PageWriter.{IsReadyWriter, StandsAs};
-ghost use Rattle.im_search.specs.Found.{HasTree};
+ghost use Rattle.im_flush.specs.PageWriter.{IsReadyWriter};
+ghost use Rattle.im_flush.specs.Outcome.{fault_of, AllPages, AreLoaded, HasPages, IsSound, Outcome, Reads};
+ghost use Rattle.im_tree.specs.Good.{IsGoodTree};
 ghost use Rattle.im_alloc.specs.Seen.{bodies, seen};
-ghost use Rattle.im_alloc.specs.Kept.{HasImages};
+ghost use Rattle.im_alloc.specs.Kept.{mild_to_take, HasImages};
 ghost use Rattle.im_split.specs.Pages.{newest_first};
-ghost use Rattle.im_split.specs.Ends.{EndKept, SplitKept};
-ghost use Rattle.im_split.specs.Plan.{PlanKept, RoomKept};
+ghost use Rattle.im_split.specs.Ends.{Ended};
+ghost use Rattle.im_split.specs.Kept.{mild_to_grow, mild_to_split};
+ghost use Rattle.im_split.specs.Plan.{Planned, WantsPages};
 ghost use Rattle.im_split.specs.Tops.{IsCounted, IsTop};
 ghost use Rattle.im_split.specs.Turns.{IsTurn, IsRootTurn};
 
@@ -36,15 +35,11 @@ fn check_room<D: Disk>(
 ) -> Result<(), Fault>
     requires ready { IsReadyWriter D.Disk writer.old disk.old }
     requires working { writer.old.failed ≡ false }
-    ensures ready { IsReadyWriter D.Disk writer.new disk.new }
-    ensures kept { (b : Base) (base : ℕ) (s : Writer) → StandsAs D.Disk b base s writer.old disk.old → ((q : ℕ) → (s.pages q).waits ≡ false) → (bodies s 0).kind ≡ Meta
-        → RoomKept D.Disk b base s pages max disk.old writer.new disk.new result }
-    ensures works { OnOk result (writer.new.failed ≡ false) }
-    ensures fails { IfErr result (λ e. (writer.new.failed ≡ false) ↔ ((e ≡ Memory) ⊎ (e ≡ NotAStore) ⊎ (e ≡ PagesFull))) }
-    ensures causes { IfErr result (λ e. (e ≡ PagesFull) ⊎ (e ≡ LogFull) ⊎ (e ≡ Memory) ⊎ (e ≡ NotAStore) ⊎ (e ≡ Device)) }
-    ensures device { result ≡ Err Device ↔ (D.failed disk.new ≡ true) }
-    ensures no_room { result ≡ Err LogFull → HasNoRoom writer.new.log }
-    ensures limited { result ≡ Err PagesFull → max ≢ None }
+    ensures outcome { Outcome D.Disk AreLoaded (mild_to_grow max) writer.old disk.old writer.new disk.new (fault_of result) }
+    ensures kept { (store : AllPages) → HasPages D.Disk AreLoaded store writer.old disk.old → (bodies store 0).kind ≡ Meta
+        → IsSound result (λ _. (m : ℕ) → max ≡ Some m → (bodies store 0).leftmost + pages ≤ m + (bodies store 0).prev) }
+    ensures full { (store : AllPages) → HasPages D.Disk AreLoaded store writer.old disk.old → (bodies store 0).kind ≡ Meta
+        → IfErr result (λ e. e ≡ PagesFull → (m : ℕ) × (max ≡ Some m) × (m + (bodies store 0).prev < (bodies store 0).leftmost + pages)) }
 {
     let Some(most) = max else {
         return Ok(());
@@ -56,6 +51,7 @@ fn check_room<D: Disk>(
 }
 
 // Splits from the highest page down, over the pages that were taken for it.
+#[tactic(auto, using(im_flush::proofs::Outcomes::then, im_flush::proofs::Outcomes::refused))]
 fn split_down<D: Disk>(
     alloc: Global,
     images: &mut Images,
@@ -70,16 +66,11 @@ fn split_down<D: Disk>(
     requires low { top.root ≡ true → top.level < 255 }
     requires is_counted { IsCounted 0 top }
     requires counted { length numbers.old.items ≡ top.pages }
-    ensures ready { IsReadyWriter D.Disk writer.new disk.new }
-    ensures kept { (b : Base) (base : ℕ) (s : Writer) → HasImages D.Disk b base s images.old (newest_first numbers.old.items) writer.old disk.old
-        → (top.root ≡ true → IsRootTurn (seen s images.old) (newest_first numbers.old.items) key.now top.level)
-        → (top.root ≡ false → IsTurn (seen s images.old) (newest_first numbers.old.items) key.now top.level top.parent top.page)
-        → EndKept D.Disk b base s key.now images.old disk.old images.new writer.new disk.new result }
-    ensures works { OnOk result (writer.new.failed ≡ false) }
-    ensures fails { IfErr result (λ e. (writer.new.failed ≡ false) ↔ ((e ≡ Memory) ⊎ (e ≡ NotAStore))) }
-    ensures causes { IfErr result (λ e. (e ≡ LogFull) ⊎ (e ≡ Memory) ⊎ (e ≡ NotAStore) ⊎ (e ≡ Device)) }
-    ensures device { result ≡ Err Device ↔ (D.failed disk.new ≡ true) }
-    ensures no_room { result ≡ Err LogFull → HasNoRoom writer.new.log }
+    ensures outcome { Reads D.Disk writer.old disk.old writer.new disk.new (fault_of result) }
+    ensures kept { (store : AllPages) → HasImages D.Disk store images.old (newest_first numbers.old.items) writer.old disk.old
+        → (top.root ≡ true → IsRootTurn (seen store images.old) (newest_first numbers.old.items) key.now top.level)
+        → (top.root ≡ false → IsTurn (seen store images.old) (newest_first numbers.old.items) key.now top.level top.parent top.page)
+        → IsSound result (λ _. Ended store key.now images.old images.new) }
 {
     if top.root && top.level == 0 {
         return split_root_leaf(alloc, images, numbers, writer, disk, key);
@@ -103,14 +94,11 @@ fn split_from<D: Disk>(
     requires working { writer.old.failed ≡ false }
     requires low { top.root ≡ true → top.level < 255 }
     requires is_counted { IsCounted 0 top }
-    ensures ready { IsReadyWriter D.Disk writer.new disk.new }
-    ensures kept { (b : Base) (base : ℕ) (s : Writer) → HasTree D.Disk b base s [] writer.old disk.old → IsTop (bodies s) key.now top
-        → SplitKept D.Disk b base s key.now top.pages disk.old writer.new disk.new result }
-    ensures works { OnOk result (writer.new.failed ≡ false) }
-    ensures fails { IfErr result (λ e. (writer.new.failed ≡ false) ↔ ((e ≡ Memory) ⊎ (e ≡ NotAStore) ⊎ (e ≡ Capacity))) }
-    ensures causes { IfErr result (λ e. (e ≡ Capacity) ⊎ (e ≡ LogFull) ⊎ (e ≡ Memory) ⊎ (e ≡ NotAStore) ⊎ (e ≡ Device)) }
-    ensures device { result ≡ Err Device ↔ (D.failed disk.new ≡ true) }
-    ensures no_room { result ≡ Err LogFull → HasNoRoom writer.new.log }
+    ensures outcome { Outcome D.Disk AreLoaded mild_to_take writer.old disk.old writer.new disk.new (fault_of result) }
+    ensures kept { (store : AllPages) → HasPages D.Disk AreLoaded store writer.old disk.old → IsGoodTree (bodies store) [] → IsTop (bodies store) key.now top
+        → IsSound result (Ended store key.now []) }
+    ensures used_up { (store : AllPages) → HasPages D.Disk AreLoaded store writer.old disk.old → IsGoodTree (bodies store) [] → IsTop (bodies store) key.now top
+        → IfErr result (λ e. e ≡ Capacity → 2 ^ 32 - 1 + (bodies store 0).prev < (bodies store 0).leftmost + top.pages) }
 {
     let mut images = Images::new(alloc);
     let mut numbers = take_pages(alloc, &mut images, writer, disk, top.pages)?;
@@ -134,14 +122,9 @@ pub fn plan_split<D: Disk>(
     requires ready { IsReadyWriter D.Disk writer.old disk.old }
     requires working { writer.old.failed ≡ false }
     requires short { length key.now ≤ 255 }
-    ensures ready { IsReadyWriter D.Disk writer.new disk.new }
-    ensures kept { (b : Base) (base : ℕ) (s : Writer) → HasTree D.Disk b base s [] writer.old disk.old → PlanKept D.Disk b base s key.now max disk.old writer.new disk.new result }
-    ensures works { OnOk result (writer.new.failed ≡ false) }
-    ensures fails { IfErr result (λ e. (writer.new.failed ≡ false) ↔ ((e ≡ Memory) ⊎ (e ≡ NotAStore) ⊎ (e ≡ Capacity) ⊎ (e ≡ PagesFull))) }
-    ensures causes { IfErr result (λ e. (e ≡ PagesFull) ⊎ (e ≡ Capacity) ⊎ (e ≡ LogFull) ⊎ (e ≡ Memory) ⊎ (e ≡ NotAStore) ⊎ (e ≡ Device)) }
-    ensures device { result ≡ Err Device ↔ (D.failed disk.new ≡ true) }
-    ensures no_room { result ≡ Err LogFull → HasNoRoom writer.new.log }
-    ensures limited { result ≡ Err PagesFull → max ≢ None }
+    ensures outcome { Outcome D.Disk AreLoaded (mild_to_split max) writer.old disk.old writer.new disk.new (fault_of result) }
+    ensures kept { (store : AllPages) → HasPages D.Disk AreLoaded store writer.old disk.old → IsGoodTree (bodies store) [] → IsSound result (Planned store key.now max) }
+    ensures wants { (store : AllPages) → HasPages D.Disk AreLoaded store writer.old disk.old → IsGoodTree (bodies store) [] → IfErr result (WantsPages (bodies store) key.now max) }
 {
     let Some(top) = find_top(writer, disk, key)? else {
         return Ok(Images::new(alloc));

@@ -1,13 +1,12 @@
 //! The pages that a split takes.
 
-ghost use Rattle.std.specs.Prelude.{◌≡◌, ◌≤◌, ◌⊎◌, ◌↔◌, ◌+◌, ℕ, [], ◌∷◌, ◌++◌, true, false, Ok, Err, IfErr, IfOk, OnOk, length};
-ghost use Rattle.im_types.specs.declared.fault.Fault.TheVariants.{Capacity, Device, LogFull, Memory, NotAStore};
-ghost use Rattle.im_types.specs.Histories.{Base};
-ghost use Rattle.im_types.specs.Writer.{Writer};
-ghost use Rattle.im_log.specs.LogFile.{HasNoRoom};
+ghost use Rattle.std.specs.Prelude.{◌≡◌, ◌<◌, ◌+◌, ◌-◌, ◌^◌, [], ◌∷◌, ◌++◌, false, IfErr, IfOk, OnOk, length};
+ghost use Rattle.im_types.specs.declared.fault.Fault.TheVariants.{Capacity, Memory};
 ghost use Rattle.im_flush.specs.PageWriter.{IsReadyWriter};
-ghost use Rattle.im_alloc.specs.Kept.{HasImages};
-ghost use Rattle.im_split.specs.Pages.{TakeKept};
+ghost use Rattle.im_flush.specs.Outcome.{fault_of, AllPages, AreLoaded, IsSound, Outcome};
+ghost use Rattle.im_alloc.specs.Kept.{mild_to_take, HasImages};
+ghost use Rattle.im_alloc.specs.Seen.{seen};
+ghost use Rattle.im_split.specs.Pages.{Taken};
 
 use im_alloc::allocate;
 use im_disk::Disk;
@@ -37,15 +36,11 @@ pub(crate) fn take_pages<D: Disk>(
 ) -> Result<Vec<PageNo>, Fault>
     requires ready { IsReadyWriter D.Disk writer.old disk.old }
     requires working { writer.old.failed ≡ false }
-    ensures ready { IsReadyWriter D.Disk writer.new disk.new }
-    ensures kept { (b : Base) (base : ℕ) (s : Writer) → HasImages D.Disk b base s images.old [] writer.old disk.old
-        → TakeKept D.Disk b base s images.old count disk.old images.new writer.new disk.new result (λ numbers. numbers.items) }
+    ensures outcome { Outcome D.Disk AreLoaded mild_to_take writer.old disk.old writer.new disk.new (fault_of result) }
+    ensures kept { (store : AllPages) → HasImages D.Disk store images.old [] writer.old disk.old → IsSound result (λ numbers. Taken store images.old numbers.items images.new) }
+    ensures used_up { (store : AllPages) → HasImages D.Disk store images.old [] writer.old disk.old
+        → IfErr result (λ e. e ≡ Capacity → 2 ^ 32 - 1 + (seen store images.old 0).prev < (seen store images.old 0).leftmost + count) }
     ensures count { IfOk result (λ numbers. length numbers.items ≡ count) }
-    ensures works { OnOk result (writer.new.failed ≡ false) }
-    ensures fails { IfErr result (λ e. (writer.new.failed ≡ false) ↔ ((e ≡ Memory) ⊎ (e ≡ NotAStore) ⊎ (e ≡ Capacity))) }
-    ensures causes { IfErr result (λ e. (e ≡ Capacity) ⊎ (e ≡ LogFull) ⊎ (e ≡ Memory) ⊎ (e ≡ NotAStore) ⊎ (e ≡ Device)) }
-    ensures device { result ≡ Err Device ↔ (D.failed disk.new ≡ true) }
-    ensures no_room { result ≡ Err LogFull → HasNoRoom writer.new.log }
 {
     let mut numbers: Vec<PageNo> = Vec::new(alloc);
     let mut taken = 0;

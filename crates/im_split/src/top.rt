@@ -1,14 +1,10 @@
 //! The highest page that a split splits.
 
-ghost use Rattle.std.specs.Prelude.{◌≡◌, ◌≤◌, ◌⊎◌, ◌↔◌, ◌+◌, ◌-◌, ℕ, [], true, false, Ok, Err, IfErr, IfOk, IfSome, OnOk, length};
-ghost use Rattle.im_types.specs.declared.fault.Fault.TheVariants.{Device, LogFull, Memory, NotAStore};
-ghost use Rattle.im_types.specs.Histories.{Base};
-ghost use Rattle.im_types.specs.Writer.{Writer};
-ghost use Rattle.im_log.specs.LogFile.{HasNoRoom};
+ghost use Rattle.std.specs.Prelude.{◌≡◌, ◌≤◌, ◌+◌, ◌-◌, [], true, false, Ok, IfOk, IfSome, length};
 ghost use Rattle.im_flush.specs.PageWriter.{IsReadyWriter};
-ghost use Rattle.im_search.specs.Found.{HasTree};
+ghost use Rattle.im_flush.specs.Outcome.{fault_of, AllPages, AreLoaded, HasPages, IsSound, Reads};
+ghost use Rattle.im_tree.specs.Good.{IsGoodTree};
 ghost use Rattle.im_alloc.specs.Seen.{bodies};
-ghost use Rattle.im_search.specs.Kept.{CallKept};
 ghost use Rattle.im_split.specs.Tops.{IsCounted, IsPlaced, IsFound};
 
 use crate::reading::{has_room, up_of};
@@ -37,6 +33,7 @@ pub(crate) struct Place {
 }
 
 // From a page above the leaves to its child on a key's way.
+#[tactic(auto, using(im_flush::proofs::Outcomes::then, im_flush::proofs::Outcomes::refused))]
 fn step_down<D: Disk>(
     writer: &mut PageWriter,
     disk: &mut D,
@@ -47,16 +44,11 @@ fn step_down<D: Disk>(
     requires working { writer.old.failed ≡ false }
     requires inner { 1 ≤ place.level }
     requires counted { IsCounted place.level place.top }
-    ensures ready { IsReadyWriter D.Disk writer.new disk.new }
-    ensures kept { (b : Base) (base : ℕ) (s : Writer) → HasTree D.Disk b base s [] writer.old disk.old → IsPlaced (bodies s) key.now place.level place.number place.top
-        → CallKept D.Disk b base s (λ next. IsPlaced (bodies s) key.now next.level next.number next.top) disk.old writer.new disk.new result }
+    ensures outcome { Reads D.Disk writer.old disk.old writer.new disk.new (fault_of result) }
+    ensures kept { (store : AllPages) → HasPages D.Disk AreLoaded store writer.old disk.old → IsGoodTree (bodies store) [] → IsPlaced (bodies store) key.now place.level place.number place.top
+        → IsSound result (λ next. IsPlaced (bodies store) key.now next.level next.number next.top) }
     ensures counted { IfOk result (λ next. IsCounted next.level next.top) }
     ensures level { IfOk result (λ next. next.level + 1 ≡ place.level) }
-    ensures works { OnOk result (writer.new.failed ≡ false) }
-    ensures fails { IfErr result (λ e. (writer.new.failed ≡ false) ↔ ((e ≡ Memory) ⊎ (e ≡ NotAStore))) }
-    ensures causes { IfErr result (λ e. (e ≡ LogFull) ⊎ (e ≡ Memory) ⊎ (e ≡ NotAStore) ⊎ (e ≡ Device)) }
-    ensures device { result ≡ Err Device ↔ (D.failed disk.new ≡ true) }
-    ensures no_room { result ≡ Err LogFull → HasNoRoom writer.new.log }
 {
     let level = place.level - 1;
     let child = child_of(writer, disk, place.number, place.level, key)?;
@@ -98,6 +90,7 @@ fn next_place(place: Place, child: PageNo, fits: bool) -> Place
 /// The highest page that splits before a key's entry goes into its leaf; none where the leaf has room for it.
 ///
 /// Refused `NotAStore` where a page on the way is none of its level; otherwise as `PageWriter::get` is.
+#[tactic(auto, using(im_flush::proofs::Outcomes::then, im_flush::proofs::Outcomes::refused))]
 pub(crate) fn find_top<D: Disk>(
     writer: &mut PageWriter,
     disk: &mut D,
@@ -106,14 +99,9 @@ pub(crate) fn find_top<D: Disk>(
     requires ready { IsReadyWriter D.Disk writer.old disk.old }
     requires working { writer.old.failed ≡ false }
     requires short { length key.now ≤ 255 }
-    ensures ready { IsReadyWriter D.Disk writer.new disk.new }
-    ensures kept { (b : Base) (base : ℕ) (s : Writer) → HasTree D.Disk b base s [] writer.old disk.old → CallKept D.Disk b base s (IsFound (bodies s) key.now) disk.old writer.new disk.new result }
+    ensures outcome { Reads D.Disk writer.old disk.old writer.new disk.new (fault_of result) }
+    ensures kept { (store : AllPages) → HasPages D.Disk AreLoaded store writer.old disk.old → IsGoodTree (bodies store) [] → IsSound result (IsFound (bodies store) key.now) }
     ensures counted { IfOk result (λ found. IfSome found (IsCounted 0)) }
-    ensures works { OnOk result (writer.new.failed ≡ false) }
-    ensures fails { IfErr result (λ e. (writer.new.failed ≡ false) ↔ ((e ≡ Memory) ⊎ (e ≡ NotAStore))) }
-    ensures causes { IfErr result (λ e. (e ≡ LogFull) ⊎ (e ≡ Memory) ⊎ (e ≡ NotAStore) ⊎ (e ≡ Device)) }
-    ensures device { result ≡ Err Device ↔ (D.failed disk.new ≡ true) }
-    ensures no_room { result ≡ Err LogFull → HasNoRoom writer.new.log }
 {
     let level = level_of(writer, disk, 1)?;
     let mut place = Place {

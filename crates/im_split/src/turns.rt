@@ -1,14 +1,12 @@
 //! From one page that splits to the next.
 
-ghost use Rattle.std.specs.Prelude.{◌≡◌, ◌≤◌, ◌<◌, ◌⊎◌, ◌↔◌, ◌+◌, ℕ, true, false, Ok, Err, IfErr, IfOk, OnOk, length};
-ghost use Rattle.im_types.specs.declared.fault.Fault.TheVariants.{Device, LogFull, Memory, NotAStore};
+ghost use Rattle.std.specs.Prelude.{◌≡◌, ◌≤◌, ◌<◌, ◌⊎◌, ◌+◌, ℕ, true, false, Ok, Err, IfErr, IfOk, length};
+ghost use Rattle.im_types.specs.declared.fault.Fault.TheVariants.{Memory, NotAStore};
 ghost use Rattle.im_types.specs.declared.page_kind.PageKind.TheVariants.{Inner};
-ghost use Rattle.im_types.specs.Histories.{Base};
-ghost use Rattle.im_types.specs.Writer.{Writer};
 ghost use Rattle.im_page.specs.Entry.{entry_at};
 ghost use Rattle.im_page.specs.Child.{IsChild};
-ghost use Rattle.im_log.specs.LogFile.{HasNoRoom};
-ghost use Rattle.im_flush.specs.PageWriter.{IsReadyWriter, StandsAs};
+ghost use Rattle.im_flush.specs.PageWriter.{IsReadyWriter};
+ghost use Rattle.im_flush.specs.Outcome.{fault_of, AllPages, AreLoaded, HasPages, IsSound, Reads};
 ghost use Rattle.im_tree.specs.Levels.{Pages};
 ghost use Rattle.im_tree.specs.Halves.{FitsPage};
 ghost use Rattle.im_search.specs.Levels.{HasLevel};
@@ -18,7 +16,7 @@ ghost use Rattle.im_smo.specs.OnWay.{IsHalf};
 ghost use Rattle.im_alloc.specs.Seen.{seen};
 ghost use Rattle.im_alloc.specs.Kept.{HasImages};
 ghost use Rattle.im_split.specs.Pages.{newest_first};
-ghost use Rattle.im_split.specs.Steps.{BringKept, HalvesInner, HalvesRoot, TurnKept};
+ghost use Rattle.im_split.specs.Steps.{Brought, HalvesInner, HalvesRoot, Turned};
 ghost use Rattle.im_split.specs.Tops.{IsCounted};
 ghost use Rattle.im_split.specs.Turns.{IsTurn, IsRootTurn};
 
@@ -52,14 +50,8 @@ pub(crate) fn bring<D: Disk>(
 ) -> Result<(), Fault>
     requires ready { IsReadyWriter D.Disk writer.old disk.old }
     requires working { writer.old.failed ≡ false }
-    ensures ready { IsReadyWriter D.Disk writer.new disk.new }
-    ensures kept { (b : Base) (base : ℕ) (s : Writer) → StandsAs D.Disk b base s writer.old disk.old → ((q : ℕ) → (s.pages q).waits ≡ false)
-        → BringKept D.Disk b base s images.old number disk.old images.new writer.new disk.new result }
-    ensures works { OnOk result (writer.new.failed ≡ false) }
-    ensures fails { IfErr result (λ e. (writer.new.failed ≡ false) ↔ ((e ≡ Memory) ⊎ (e ≡ NotAStore))) }
-    ensures causes { IfErr result (λ e. (e ≡ LogFull) ⊎ (e ≡ Memory) ⊎ (e ≡ NotAStore) ⊎ (e ≡ Device)) }
-    ensures device { result ≡ Err Device ↔ (D.failed disk.new ≡ true) }
-    ensures no_room { result ≡ Err LogFull → HasNoRoom writer.new.log }
+    ensures outcome { Reads D.Disk writer.old disk.old writer.new disk.new (fault_of result) }
+    ensures kept { (store : AllPages) → HasPages D.Disk AreLoaded store writer.old disk.old → IsSound result (λ _. Brought store images.old number images.new) }
 {
     images.rise();
     let page = image(alloc, images, writer, disk, number)?;
@@ -147,17 +139,12 @@ pub(crate) fn split_inner_turn<D: Disk>(
     requires working { writer.old.failed ≡ false }
     requires inner { 1 ≤ turn.level }
     requires counted { length numbers.old.items ≡ turn.level + 1 }
-    ensures ready { IsReadyWriter D.Disk writer.new disk.new }
-    ensures kept { (b : Base) (base : ℕ) (s : Writer) → HasImages D.Disk b base s images.old (newest_first numbers.old.items) writer.old disk.old
-        → IsTurn (seen s images.old) (newest_first numbers.old.items) key.now turn.level turn.parent turn.page → Has images.old turn.parent
-        → TurnKept D.Disk b base s key.now images.old disk.old images.new numbers.new.items writer.new disk.new result }
+    ensures outcome { Reads D.Disk writer.old disk.old writer.new disk.new (fault_of result) }
+    ensures kept { (store : AllPages) → HasImages D.Disk store images.old (newest_first numbers.old.items) writer.old disk.old
+        → IsTurn (seen store images.old) (newest_first numbers.old.items) key.now turn.level turn.parent turn.page → Has images.old turn.parent
+        → IsSound result (λ next. Turned store key.now images.old next images.new numbers.new.items) }
     ensures level { IfOk result (λ next. next.level + 1 ≡ turn.level) }
     ensures counted { IfOk result (λ next. length numbers.new.items ≡ next.level + 1) }
-    ensures works { OnOk result (writer.new.failed ≡ false) }
-    ensures fails { IfErr result (λ e. (writer.new.failed ≡ false) ↔ ((e ≡ Memory) ⊎ (e ≡ NotAStore))) }
-    ensures causes { IfErr result (λ e. (e ≡ LogFull) ⊎ (e ≡ Memory) ⊎ (e ≡ NotAStore) ⊎ (e ≡ Device)) }
-    ensures device { result ≡ Err Device ↔ (D.failed disk.new ≡ true) }
-    ensures no_room { result ≡ Err LogFull → HasNoRoom writer.new.log }
 {
     let q = numbers.take_last();
     images.rise();
@@ -181,17 +168,12 @@ pub(crate) fn split_root_turn<D: Disk>(
     requires inner { 1 ≤ level }
     requires low { level < 255 }
     requires counted { length numbers.old.items ≡ level + 2 }
-    ensures ready { IsReadyWriter D.Disk writer.new disk.new }
-    ensures kept { (b : Base) (base : ℕ) (s : Writer) → HasImages D.Disk b base s images.old (newest_first numbers.old.items) writer.old disk.old
-        → IsRootTurn (seen s images.old) (newest_first numbers.old.items) key.now level
-        → TurnKept D.Disk b base s key.now images.old disk.old images.new numbers.new.items writer.new disk.new result }
+    ensures outcome { Reads D.Disk writer.old disk.old writer.new disk.new (fault_of result) }
+    ensures kept { (store : AllPages) → HasImages D.Disk store images.old (newest_first numbers.old.items) writer.old disk.old
+        → IsRootTurn (seen store images.old) (newest_first numbers.old.items) key.now level
+        → IsSound result (λ next. Turned store key.now images.old next images.new numbers.new.items) }
     ensures level { IfOk result (λ next. next.level + 1 ≡ level) }
     ensures counted { IfOk result (λ next. length numbers.new.items ≡ next.level + 1) }
-    ensures works { OnOk result (writer.new.failed ≡ false) }
-    ensures fails { IfErr result (λ e. (writer.new.failed ≡ false) ↔ ((e ≡ Memory) ⊎ (e ≡ NotAStore))) }
-    ensures causes { IfErr result (λ e. (e ≡ LogFull) ⊎ (e ≡ Memory) ⊎ (e ≡ NotAStore) ⊎ (e ≡ Device)) }
-    ensures device { result ≡ Err Device ↔ (D.failed disk.new ≡ true) }
-    ensures no_room { result ≡ Err LogFull → HasNoRoom writer.new.log }
 {
     let right = numbers.take_last();
     let left = numbers.take_last();
@@ -217,17 +199,12 @@ pub(crate) fn first_turn<D: Disk>(
     requires low { top.root ≡ true → top.level < 255 }
     requires is_counted { IsCounted 0 top }
     requires counted { length numbers.old.items ≡ top.pages }
-    ensures ready { IsReadyWriter D.Disk writer.new disk.new }
-    ensures kept { (b : Base) (base : ℕ) (s : Writer) → HasImages D.Disk b base s images.old (newest_first numbers.old.items) writer.old disk.old
-        → (top.root ≡ true → IsRootTurn (seen s images.old) (newest_first numbers.old.items) key.now top.level)
-        → (top.root ≡ false → IsTurn (seen s images.old) (newest_first numbers.old.items) key.now top.level top.parent top.page)
-        → TurnKept D.Disk b base s key.now images.old disk.old images.new numbers.new.items writer.new disk.new result }
+    ensures outcome { Reads D.Disk writer.old disk.old writer.new disk.new (fault_of result) }
+    ensures kept { (store : AllPages) → HasImages D.Disk store images.old (newest_first numbers.old.items) writer.old disk.old
+        → (top.root ≡ true → IsRootTurn (seen store images.old) (newest_first numbers.old.items) key.now top.level)
+        → (top.root ≡ false → IsTurn (seen store images.old) (newest_first numbers.old.items) key.now top.level top.parent top.page)
+        → IsSound result (λ next. Turned store key.now images.old next images.new numbers.new.items) }
     ensures counted { IfOk result (λ turn. length numbers.new.items ≡ turn.level + 1) }
-    ensures works { OnOk result (writer.new.failed ≡ false) }
-    ensures fails { IfErr result (λ e. (writer.new.failed ≡ false) ↔ ((e ≡ Memory) ⊎ (e ≡ NotAStore))) }
-    ensures causes { IfErr result (λ e. (e ≡ LogFull) ⊎ (e ≡ Memory) ⊎ (e ≡ NotAStore) ⊎ (e ≡ Device)) }
-    ensures device { result ≡ Err Device ↔ (D.failed disk.new ≡ true) }
-    ensures no_room { result ≡ Err LogFull → HasNoRoom writer.new.log }
 {
     if top.root {
         return split_root_turn(alloc, images, numbers, writer, disk, key, top.level);

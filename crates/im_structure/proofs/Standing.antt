@@ -1,5 +1,5 @@
 -- A transaction between two structure changes, and what a stop leaves meanwhile.
-use Rattle.std.proofs.Common.{◌≡◌, ◌≢◌, ℕ, false, [], sym, ap, subst, ◌∙◌}
+use Rattle.std.proofs.Common.{◌≡◌, ◌≢◌, ℕ, [], sym, ap, subst, ◌∙◌}
 use Rattle.std.proofs.Math.Path.{fun_ext}
 use Rattle.im_types.specs.Pages.{Page}
 use Rattle.im_types.specs.Histories.{Base, History, page_at}
@@ -15,21 +15,26 @@ use Rattle.im_types.proofs.Redo.{reached_end}
 use Rattle.im_disk.specs.declared.disk.Disk.{Ghosts}
 use Rattle.im_disk.proofs.Runs.{then_on, weakened}
 use Rattle.im_flush.specs.declared.page_writer.PageWriter.{PageWriter}
+use Rattle.im_flush.specs.Growth.{Keeps}
+use Rattle.im_flush.specs.Outcome.{AllPages, pages_of, AreLoaded, HasPages}
 use Rattle.im_flush.specs.Writing.{LeavesGrown}
 use Rattle.im_flush.specs.PageWriter.{GoesOn}
 use Rattle.im_flush.proofs.Goings.{leaves_so_far}
+use Rattle.im_flush.proofs.Outcomes.{pages_here}
 use Rattle.im_flush.proofs.Standing.{wider_covered}
 use Rattle.im_tree.specs.Levels.{Pages, walk}
 use Rattle.im_tree.specs.Good.{IsGoodTree}
 use Rattle.im_tree.specs.Theory.{page_tree}
-use Rattle.im_search.specs.Found.{HasTree}
-use Rattle.im_alloc.specs.Seen.{bodies}
-use Rattle.im_alloc.proofs.Goings.{bodies_stay}
+use Rattle.im_search.specs.Levels.{bodies, bodies_of}
 use Rattle.im_change.specs.Changes.{LeftByChange, LeavesChange}
 use Rattle.im_change.proofs.ChangeLogs.{images_finished, images_lawful}
 use Rattle.im_change.proofs.Runs.{left_grown}
 use Rattle.im_structure.specs.Structure.{IsUnfinished, Restructured}
 use Rattle.im_structure.proofs.Growth.{images_as_change, change_then, change_none}
+
+-- each page is as it was
+pub pages_stay : (b : Base) (s t : Writer) → Keeps b s t → pages_of t ≡ pages_of s
+pages_stay b s t keeps = fun_ext (λ (p : ℕ). (keeps.pages p).page)
 
 module _ {D : Type 0} (d : Ghosts D) (b : Base) (base : ℕ) where
   module _ (s : Writer) (e t last undo_next : ℕ) (w : PageWriter) (disk : D) (u : IsUnfinished d b base s e t last undo_next w disk) where
@@ -37,7 +42,7 @@ module _ {D : Type 0} (d : Ghosts D) (b : Base) (base : ℕ) where
     writer_kept = u.stands.writing.stands.kept
 
     -- no page waits for a copy
-    still_ready : (p : ℕ) → (s.pages p).waits ≡ false
+    pub still_ready : AreLoaded s
     still_ready p = ((writer_kept.pages p).run e u.over).0
 
     -- each page is as the log's records have made it
@@ -54,8 +59,11 @@ module _ {D : Type 0} (d : Ghosts D) (b : Base) (base : ℕ) where
     good_pages = subst (λ (pages : Pages). IsGoodTree pages []) (fun_ext (λ (p : ℕ). ap (λ (l : History). taken_back l p (page_at b s.log p).body) u.closed)) (has_tree b page_tree s.log u.lawful).good
 
     -- the pages are a good tree
-    pub unfinished_tree : HasTree d b base s [] w disk
-    unfinished_tree = record { stands = u.stands; ready = still_ready; good = subst (λ (pages : Pages). IsGoodTree pages []) (sym bodies_are) good_pages }
+    pub unfinished_good : IsGoodTree (bodies s) []
+    unfinished_good = subst (λ (pages : Pages). IsGoodTree pages []) (sym bodies_are) good_pages
+
+    pub unfinished_pages : HasPages d AreLoaded (pages_of s) w disk
+    unfinished_pages = pages_here d b base s w disk u.stands still_ready
 
   -- Images join the log
   module _ (s : Writer) (e t last undo_next : ℕ) (start : PageWriter) (old : D) (u : IsUnfinished d b base s e t last undo_next start old) (some : t ≢ 0)
@@ -81,7 +89,7 @@ module _ {D : Type 0} (d : Ghosts D) (b : Base) (base : ℕ) where
       point = on.goes.keeps.point;
       durable = on.goes.keeps.durable;
       grows = images_as_change b t s.log now.log on.goes.keeps.log;
-      same = ap walk (bodies_stay b s now on.goes.keeps);
+      same = ap (λ (store : AllPages). walk (bodies_of store)) (pages_stay b s now on.goes.keeps);
     }
 
   -- ---- what a stop leaves

@@ -1,7 +1,7 @@
 -- What the plan to take an empty leaf out of the tree answers.
 use Rattle.std.specs.Prelude.{◌≡◌, ◌≢◌, ◌⊎◌, ℕ, List, [], Option, Some, None}
 use Rattle.im_types.specs.Keys.{Key}
-use Rattle.im_types.specs.Writer.{Writer}
+use Rattle.im_flush.specs.Outcome.{AllPages}
 use Rattle.im_tree.specs.Levels.{Pages}
 use Rattle.im_tree.specs.Search.{IsOnWay}
 use Rattle.im_smo.specs.Images.{Numbered}
@@ -22,6 +22,6 @@ pub record IsKept (pages : Pages) (key : Key) : Type 0 where
   pub kept : (page ≡ 1) ⊎ ((pages page).entries ≢ [])
 
 -- the leaf stays, or there are images that take it out of the tree
-abbrev pub IsDropPlan : Writer → Key → Option (List Numbered) → Type 0
-IsDropPlan s key None = IsKept (bodies s) key
-IsDropPlan s key (Some images) = (spare : IsSpare (bodies s) key) × IsPlan s spare.page images
+abbrev pub IsDropPlan : AllPages → Key → Option (List Numbered) → Type 0
+IsDropPlan store key None = IsKept (bodies store) key
+IsDropPlan store key (Some images) = (spare : IsSpare (bodies store) key) × IsPlan store spare.page images

@@ -1,7 +1,7 @@
 -- How a transaction stands between two structure changes, and what those keep that a key asks for.
-use Rattle.std.specs.Prelude.{◌≡◌, ◌≢◌, ◌⊎◌, ◌-◌, ◌^◌, ℕ, false, [], Option, Some, None, Result, IfErr, IfOk}
+use Rattle.std.specs.Prelude.{◌≡◌, ◌⊎◌, ◌-◌, ◌^◌, ℕ, false, [], Option, Some, None, Result, IfErr}
 use Rattle.im_types.specs.declared.fault.Fault.{Fault}
-use Rattle.im_types.specs.declared.fault.Fault.TheVariants.{Capacity, Failed, Memory, NotAStore, PagesFull}
+use Rattle.im_types.specs.declared.fault.Fault.TheVariants.{Capacity, Failed, PagesFull}
 use Rattle.im_types.specs.declared.page_kind.PageKind.TheVariants.{Free}
 use Rattle.im_types.specs.Keys.{Key}
 use Rattle.im_types.specs.Histories.{Base, IsFront}
@@ -12,10 +12,11 @@ use Rattle.im_types.specs.Transactions.{last_of, undo_next_of, is_finished}
 use Rattle.im_types.specs.Writer.{Writer}
 use Rattle.im_disk.specs.declared.disk.Disk.{Ghosts}
 use Rattle.im_flush.specs.declared.page_writer.PageWriter.{PageWriter}
+use Rattle.im_flush.specs.Outcome.{IsSound}
 use Rattle.im_flush.specs.PageWriter.{StandsAs, Evicted}
 use Rattle.im_tree.specs.Levels.{Pages, height, walk}
 use Rattle.im_tree.specs.Theory.{page_tree}
-use Rattle.im_alloc.specs.Seen.{bodies}
+use Rattle.im_search.specs.Levels.{bodies}
 use Rattle.im_change.specs.Changes.{GrowsByChange, HasRecordOf, LeavesChange, Begun}
 use Rattle.im_split.specs.Tops.{LacksRoomFor}
 use Rattle.im_split.specs.Plan.{FitsInLeaf, IsOver, IsWithin}
@@ -55,12 +56,10 @@ module _ {D : Type 0} (d : Ghosts D) (b : Base) (base : ℕ) where
     pub only : HasRecordOf t made.grows.more → LacksRoomFor (bodies s) key
     pub within : (m : ℕ) → max ≡ Some m → LacksRoomFor (bodies s) key → IsWithin (bodies s) key m
 
-  -- What the split of a key's leaf keeps. A want of memory leaves all as it was, or is `Failed` behind a record; a want of pages or page numbers leaves all as it was.
+  -- What the split of a key's leaf keeps. Pages or page numbers are wanted only where that leaf lacks room, and those that the split takes are too many; `Failed` comes behind a record.
   pub record SplitKept (s : Writer) (e t undo_next : ℕ) (key : Key) (max : Option ℕ) (old : D) (w : PageWriter) (disk : D) (result : Result ℕ Fault) : Type 0 where
-    pub ok : IfOk result (λ last. HasMadeRoom s e t last undo_next key max w disk)
+    pub sound : IsSound result (λ last. HasMadeRoom s e t last undo_next key max w disk)
     pub stops : LeavesChange d b base s t old disk
-    pub cause : IfErr result (λ e. e ≢ NotAStore)
-    pub again : IfErr result (λ e. (e ≡ Memory) ⊎ ((e ≡ Capacity) ⊎ (e ≡ PagesFull)) → Evicted d b base s old w disk)
     pub full : IfErr result (λ e. e ≡ PagesFull → (m : ℕ) × (max ≡ Some m) × IsOver (bodies s) key m)
     pub used_up : IfErr result (λ e. e ≡ Capacity → IsUsedUp (bodies s) key)
     pub lacks : IfErr result (λ e. (e ≡ Capacity) ⊎ (e ≡ PagesFull) → LacksRoomFor (bodies s) key)
@@ -74,12 +73,10 @@ module _ {D : Type 0} (d : Ghosts D) (b : Base) (base : ℕ) where
     pub gone : (spare : IsSpare (bodies s) key) → (bodies made.now spare.page).kind ≡ Free
     pub either : (IsKept (bodies s) key × GrowsByImages b s.log made.now.log) ⊎ (IsSpare (bodies s) key × HasRecordOf t made.grows.more)
 
-  -- what the deletion of a key's leaf keeps; a want of memory leaves all as it was, or is `Failed` behind a record
+  -- what the deletion of a key's leaf keeps; `Failed` comes behind a record
   pub record SpareKept (s : Writer) (e t undo_next : ℕ) (key : Key) (old : D) (w : PageWriter) (disk : D) (result : Result ℕ Fault) : Type 0 where
-    pub ok : IfOk result (λ last. Dropped s e t last undo_next key w disk)
+    pub sound : IsSound result (λ last. Dropped s e t last undo_next key w disk)
     pub stops : LeavesChange d b base s t old disk
-    pub cause : IfErr result (λ e. e ≢ NotAStore)
-    pub again : IfErr result (λ e. e ≡ Memory → Evicted d b base s old w disk)
     pub begun : IfErr result (λ e. e ≡ Failed → Begun d b base s t w disk)
 
   -- it is out of the tree, or stayed for want of memory, with all as it was
@@ -89,7 +86,6 @@ module _ {D : Type 0} (d : Ghosts D) (b : Base) (base : ℕ) where
 
   -- What that keeps where it may stay for want of memory. `Failed` comes behind a record.
   pub record DropKept (s : Writer) (e t undo_next : ℕ) (key : Key) (old : D) (w : PageWriter) (disk : D) (result : Result (Option ℕ) Fault) : Type 0 where
-    pub ok : IfOk result (IsDropped s e t undo_next key old w disk)
+    pub sound : IsSound result (IsDropped s e t undo_next key old w disk)
     pub stops : LeavesChange d b base s t old disk
-    pub cause : IfErr result (λ e. e ≢ NotAStore)
     pub begun : IfErr result (λ e. e ≡ Failed → Begun d b base s t w disk)

@@ -1,14 +1,14 @@
 //! An empty leaf leaves the tree.
 
-ghost use Rattle.std.specs.Prelude.{◌≡◌, ◌≢◌, ◌≤◌, ◌⊎◌, ◌↔◌, ℕ, [], true, false, Err, IfErr, OnOk};
-ghost use Rattle.im_types.specs.declared.fault.Fault.TheVariants.{Device, Failed, LogFull, Memory, NotAStore};
+ghost use Rattle.std.specs.Prelude.{◌≡◌, ◌≢◌, ◌≤◌, ◌⊎◌, ℕ, [], true, false, Err};
+ghost use Rattle.im_types.specs.declared.fault.Fault.TheVariants.{Memory};
 ghost use Rattle.im_types.specs.Histories.{Base};
 ghost use Rattle.im_types.specs.Writer.{Writer};
-ghost use Rattle.im_log.specs.LogFile.{HasNoRoom};
 ghost use Rattle.im_pool.specs.Pool.{page_at, IsAt};
 ghost use Rattle.im_flush.specs.PageWriter.{IsReadyWriter};
-ghost use Rattle.im_search.specs.Found.{HasTree};
-ghost use Rattle.im_search.specs.Kept.{CallKept};
+ghost use Rattle.im_flush.specs.Outcome.{fault_of, mild, none_mild, AllPages, AreLoaded, HasPages, IsSound, Logs, Reads};
+ghost use Rattle.im_tree.specs.Good.{IsGoodTree};
+ghost use Rattle.im_alloc.specs.Seen.{bodies};
 ghost use Rattle.im_structure.specs.DropPlan.{IsDropPlan};
 ghost use Rattle.im_structure.specs.Structure.{IsUnfinished, SpareKept, DropKept};
 
@@ -43,6 +43,7 @@ fn is_spare(writer: &PageWriter, frame: Frame) -> bool
 }
 
 // The pages that have to be written so that the leaf of a key leaves the tree, as images, where it is empty and not the root.
+#[tactic(auto, using(im_flush::proofs::Outcomes::then, im_flush::proofs::Outcomes::refused))]
 fn plan_drop<D: Disk>(
     alloc: Global,
     writer: &mut PageWriter,
@@ -51,13 +52,8 @@ fn plan_drop<D: Disk>(
 ) -> Result<Option<Images>, Fault>
     requires ready { IsReadyWriter D.Disk writer.old disk.old }
     requires working { writer.old.failed ≡ false }
-    ensures ready { IsReadyWriter D.Disk writer.new disk.new }
-    ensures kept { (b : Base) (base : ℕ) (s : Writer) → HasTree D.Disk b base s [] writer.old disk.old → CallKept D.Disk b base s (IsDropPlan s key.now) disk.old writer.new disk.new result }
-    ensures works { OnOk result (writer.new.failed ≡ false) }
-    ensures fails { IfErr result (λ e. (writer.new.failed ≡ false) ↔ ((e ≡ Memory) ⊎ (e ≡ NotAStore))) }
-    ensures causes { IfErr result (λ e. (e ≡ LogFull) ⊎ (e ≡ Memory) ⊎ (e ≡ NotAStore) ⊎ (e ≡ Device)) }
-    ensures no_room { result ≡ Err LogFull → HasNoRoom writer.new.log }
-    ensures device { result ≡ Err Device ↔ (D.failed disk.new ≡ true) }
+    ensures outcome { Reads D.Disk writer.old disk.old writer.new disk.new (fault_of result) }
+    ensures kept { (store : AllPages) → HasPages D.Disk AreLoaded store writer.old disk.old → IsGoodTree (bodies store) [] → IsSound result (IsDropPlan store key.now) }
 {
     let frame = leaf_for(writer, disk, key)?;
     if !is_spare(writer, frame) {
@@ -81,14 +77,9 @@ fn drop_spare<D: Disk>(
     requires ready { IsReadyWriter D.Disk writer.old disk.old }
     requires working { writer.old.failed ≡ false }
     requires owner { 1 ≤ transaction }
-    ensures ready { IsReadyWriter D.Disk writer.new disk.new }
+    ensures outcome { Logs D.Disk true mild writer.old disk.old writer.new disk.new (fault_of result) }
     ensures kept { (b : Base) (base : ℕ) (s : Writer) (e : ℕ) → IsUnfinished D.Disk b base s e transaction last undo_next writer.old disk.old
         → SpareKept D.Disk b base s e transaction undo_next key.now disk.old writer.new disk.new result }
-    ensures works { OnOk result (writer.new.failed ≡ false) }
-    ensures fails { IfErr result (λ e. (writer.new.failed ≡ false) ↔ ((e ≡ Memory) ⊎ (e ≡ NotAStore) ⊎ (e ≡ Failed))) }
-    ensures causes { IfErr result (λ e. (e ≡ Failed) ⊎ (e ≡ LogFull) ⊎ (e ≡ Memory) ⊎ (e ≡ NotAStore) ⊎ (e ≡ Device)) }
-    ensures no_room { result ≡ Err LogFull → HasNoRoom writer.new.log }
-    ensures device { result ≡ Err Device ↔ (D.failed disk.new ≡ true) }
 {
     let Some(images) = plan_drop(alloc, writer, disk, key)? else {
         return Ok(last);
@@ -113,14 +104,9 @@ pub fn drop_empty_leaf<D: Disk>(
     requires ready { IsReadyWriter D.Disk writer.old disk.old }
     requires working { writer.old.failed ≡ false }
     requires owner { 1 ≤ transaction }
-    ensures ready { IsReadyWriter D.Disk writer.new disk.new }
+    ensures outcome { Logs D.Disk true none_mild writer.old disk.old writer.new disk.new (fault_of result) }
     ensures kept { (b : Base) (base : ℕ) (s : Writer) (e : ℕ) → IsUnfinished D.Disk b base s e transaction last undo_next writer.old disk.old
         → DropKept D.Disk b base s e transaction undo_next key.now disk.old writer.new disk.new result }
-    ensures works { OnOk result (writer.new.failed ≡ false) }
-    ensures fails { IfErr result (λ e. (writer.new.failed ≡ false) ↔ ((e ≡ NotAStore) ⊎ (e ≡ Failed))) }
-    ensures causes { IfErr result (λ e. (e ≡ Failed) ⊎ (e ≡ LogFull) ⊎ (e ≡ NotAStore) ⊎ (e ≡ Device)) }
-    ensures no_room { result ≡ Err LogFull → HasNoRoom writer.new.log }
-    ensures device { result ≡ Err Device ↔ (D.failed disk.new ≡ true) }
 {
     match drop_spare(alloc, writer, disk, transaction, last, undo_next, key) {
         Ok(lsn) => Ok(Some(lsn)),

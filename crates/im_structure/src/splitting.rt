@@ -1,11 +1,11 @@
 //! The split of a key's leaf.
 
-ghost use Rattle.std.specs.Prelude.{◌≡◌, ◌≢◌, ◌≤◌, ◌⊎◌, ◌↔◌, ℕ, true, false, None, length, Err, IfErr, OnOk};
-ghost use Rattle.im_types.specs.declared.fault.Fault.TheVariants.{Capacity, Device, Failed, LogFull, Memory, NotAStore, PagesFull};
+ghost use Rattle.std.specs.Prelude.{◌≡◌, ◌≤◌, ℕ, true, false, length};
 ghost use Rattle.im_types.specs.Histories.{Base};
 ghost use Rattle.im_types.specs.Writer.{Writer};
-ghost use Rattle.im_log.specs.LogFile.{HasNoRoom};
 ghost use Rattle.im_flush.specs.PageWriter.{IsReadyWriter};
+ghost use Rattle.im_flush.specs.Outcome.{fault_of, Logs};
+ghost use Rattle.im_split.specs.Kept.{mild_to_split};
 ghost use Rattle.im_structure.specs.Structure.{IsUnfinished, SplitKept};
 
 use im_change::run;
@@ -35,15 +35,9 @@ pub fn split_for<D: Disk>(
     requires working { writer.old.failed ≡ false }
     requires owner { 1 ≤ transaction }
     requires short { length key.now ≤ 255 }
-    ensures ready { IsReadyWriter D.Disk writer.new disk.new }
+    ensures outcome { Logs D.Disk true (mild_to_split max) writer.old disk.old writer.new disk.new (fault_of result) }
     ensures kept { (b : Base) (base : ℕ) (s : Writer) (e : ℕ) → IsUnfinished D.Disk b base s e transaction last undo_next writer.old disk.old
         → SplitKept D.Disk b base s e transaction undo_next key.now max disk.old writer.new disk.new result }
-    ensures works { OnOk result (writer.new.failed ≡ false) }
-    ensures fails { IfErr result (λ e. (writer.new.failed ≡ false) ↔ ((e ≡ Memory) ⊎ (e ≡ NotAStore) ⊎ (e ≡ Capacity) ⊎ (e ≡ PagesFull) ⊎ (e ≡ Failed))) }
-    ensures causes { IfErr result (λ e. (e ≡ PagesFull) ⊎ (e ≡ Capacity) ⊎ (e ≡ Failed) ⊎ (e ≡ LogFull) ⊎ (e ≡ Memory) ⊎ (e ≡ NotAStore) ⊎ (e ≡ Device)) }
-    ensures no_room { result ≡ Err LogFull → HasNoRoom writer.new.log }
-    ensures device { result ≡ Err Device ↔ (D.failed disk.new ≡ true) }
-    ensures limited { result ≡ Err PagesFull → max ≢ None }
 {
     let images = plan_split(alloc, writer, disk, key, max)?;
     if images.len() == 0 {

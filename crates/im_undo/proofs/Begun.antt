@@ -1,33 +1,15 @@
 -- Records of a transaction among those that joined the log.
-use Rattle.std.proofs.Common.{◌≡◌, ◌≢◌, ◌⊎◌, inl, inr, Bool, true, false, ℕ, List, [], ◌∷◌, ◌++◌, length, Option, None, sym, ◌∙◌, ap, subst}
-use Rattle.std.specs.Prelude.{Result, Ok, Err, IfErr}
-use Rattle.im_types.specs.declared.fault.Fault.{Fault}
-use Rattle.im_types.specs.declared.fault.Fault.TheVariants.{Capacity, Device, Failed, LogFull, Memory, NotAStore}
-use Rattle.im_types.specs.Records.{What, Logged}
-use Rattle.im_types.specs.Histories.{Base, History}
-use Rattle.im_types.specs.Copies.{AreImages, GrowsByImages}
+use Rattle.std.proofs.Common.{ℕ}
+use Rattle.im_types.specs.Histories.{Base}
 use Rattle.im_types.specs.Writer.{Writer}
 use Rattle.im_disk.specs.declared.disk.Disk.{Ghosts}
 use Rattle.im_flush.specs.declared.page_writer.PageWriter.{PageWriter}
-use Rattle.im_flush.specs.PageWriter.{GoesOn, Evicted}
-use Rattle.im_tree.specs.Good.{AllOf}
-use Rattle.im_change.specs.Changes.{HasRecordOf, Begun}
+use Rattle.im_flush.specs.PageWriter.{Evicted}
+use Rattle.im_change.specs.Changes.{HasRecordOf}
 use Rattle.im_structure.proofs.Growth.{record_front, record_back}
-use Rattle.im_structure.proofs.Changes.{IsPlainCause, change_capacity}
 use Rattle.im_undo.specs.Records.{GrowsByUndo}
 use Rattle.im_undo.specs.Undoing.{HasBegun}
-use Rattle.im_undo.proofs.Growth.{grows_images, grows_change, grows_then}
-
--- ---- refusals
-
-pub result_capacity : {A : Type 0} (r : Result A Fault) (P : Type 0) → IfErr r (λ e. (e ≡ Failed) ⊎ IsPlainCause e) → IfErr r (λ e. e ≡ Capacity → P)
-result_capacity (Ok a) P causes = tt
-result_capacity (Err e) P causes = λ is. absurd (change_capacity e causes is)
-
--- a call is refused as failed only where one had failed before
-pub result_failed : {A : Type 0} (r : Result A Fault) (P : Type 0) (was : Bool) → (r ≡ Err Failed → was ≡ true) → was ≡ false → IfErr r (λ e. e ≡ Failed → P)
-result_failed (Ok a) P was already works = tt
-result_failed (Err e) P was already works = λ is. let clash : true ≡ false = sym (already (ap (λ (x : Fault). Err x) is)) ∙ works in absurd (let never : ⊥ = cc clash in never)
+use Rattle.im_undo.proofs.Growth.{grows_images, grows_then}
 
 -- ---- behind calls in a row
 

@@ -1,10 +1,8 @@
 -- The compensation of a key record, on the page that is its key's leaf now.
-use Rattle.std.proofs.Common.{◌≡◌, ◌≢◌, ◌⊎◌, ◌≤◌, ℕ, [], ◌∷◌, ◌++◌, length, true, None, Some, Result, inl, inr, refl, sym, ◌∙◌, ap, subst}
+use Rattle.std.proofs.Common.{◌≡◌, ◌≢◌, ◌≤◌, ℕ, [], ◌∷◌, ◌++◌, length, true, false, None, Some, Result, inr, refl, sym, ◌∙◌, ap, subst}
 use Rattle.std.proofs.Math.Path.{fun_ext}
-use Rattle.std.specs.Prelude.{IfErr}
 use Rattle.std.specs.FinMap.Entries.{find}
 use Rattle.im_types.specs.declared.fault.Fault.{Fault}
-use Rattle.im_types.specs.declared.fault.Fault.TheVariants.{Failed, Memory}
 use Rattle.im_types.specs.Keys.{Key, key_order}
 use Rattle.im_types.specs.Maps.{IndexMap}
 use Rattle.im_types.specs.Pages.{Page}
@@ -25,10 +23,9 @@ use Rattle.im_log.proofs.Above.{front_then}
 use Rattle.im_flush.specs.declared.page_writer.PageWriter.{PageWriter}
 use Rattle.im_flush.specs.LeafChange.{CanPutKey, CanTakeKey}
 use Rattle.im_flush.specs.LoggedChange.{ChangedFrom, ChangeKept}
-use Rattle.im_flush.specs.PageWriter.{Evicted}
-use Rattle.im_flush.proofs.Growing.{if_ok}
-use Rattle.im_alloc.specs.Seen.{bodies}
-use Rattle.im_alloc.proofs.Results.{if_err}
+use Rattle.im_flush.specs.Outcome.{fault_of, mild, Logs}
+use Rattle.im_flush.proofs.Outcomes.{sound_own}
+use Rattle.im_search.specs.Levels.{bodies}
 use Rattle.im_tree.specs.Levels.{Pages, walk}
 use Rattle.im_tree.specs.Search.{IsOnWay}
 use Rattle.im_tree.specs.Theory.{page_tree, CanDropFrom, CanPutInto}
@@ -38,12 +35,12 @@ use Rattle.im_page.specs.Split.{HasRoom}
 use Rattle.im_analysis.specs.declared.rows.Loser.{Loser}
 use Rattle.im_analysis.specs.Losers.{is_loser}
 use Rattle.im_analysis.specs.Undo.{Compensates, IsNext, IsUndoable, TakesBack, TakesOff}
+use Rattle.im_analysis.proofs.Losers.{loser_unfinished}
 use Rattle.im_analysis.proofs.Undoing.{undo_goes_on}
 use Rattle.im_undo.specs.Records.{IsOfUndo, compensations, inverse_of, with_compensation}
-use Rattle.im_undo.specs.Undoing.{CompensateKept, HasBegun, IsGoing, IsToUndo, LeavesUndo, TakenBack, TakesIt}
-use Rattle.im_structure.proofs.Changes.{IsPlainCause}
-use Rattle.im_undo.proofs.Begun.{result_capacity}
-use Rattle.im_undo.proofs.Growth.{going_bodies, images_compensate, images_of_undo, left_images, loser_some, same_loser, same_row, still_undoable}
+use Rattle.im_undo.specs.Undoing.{CompensateKept, IsGoing, IsToUndo, LeavesUndo, TakenBack, TakesIt}
+use Rattle.im_undo.proofs.Ends.{began_working, no_capacity}
+use Rattle.im_undo.proofs.Growth.{going_bodies, images_compensate, images_of_undo, left_images, loser_of, owner_some, same_finished, same_row, still_undoable}
 use Rattle.im_undo.proofs.Shown.{leaf_has, shows_change}
 
 -- ---- behind Images
@@ -87,10 +84,10 @@ module _ {D : Type 0} (d : Ghosts D) (b : Base) (base : ℕ) where
           let r : Logged = logged_at lsn entry in
           let log : History = from.before.log in
           let by : GrowsByImages b s.log log = from.keeps.log in
-          let some : t ≢ 0 = loser_some t s.log g.loser in
+          let some : t ≢ 0 = owner_some t g.owner in
           let can : IsUndoable b page_tree log = still_undoable b s.log log by g.can in
-          let loser : is_loser t log ≡ true = same_loser b t s.log log some by ∙ g.loser in
           let next : IsNext t log x = next_longer b t s.log log by some x to.next in
+          let loser : is_loser t log ≡ true = loser_of t log x g.owner (same_finished b t s.log log some by ∙ g.unfinished) next in
           let ends : last_of t log ≡ last = ap (λ (q : Loser). q.last) (same_row b t s.log log some by ∙ g.row) in
           let undone : Compensates b page_tree t log x r = record {
             linked = record { rises = from.logged.high; owner = owner; prev = prev ∙ sym ends };
@@ -101,7 +98,7 @@ module _ {D : Type 0} (d : Ghosts D) (b : Base) (base : ℕ) where
           record {
             now = _;
             goes = record {
-              going = record { stands = from.logged.stands; over = from.keeps.redo_end ∙ g.over; can = after.0; loser = after.1.loser; row = after.1.row };
+              going = record { stands = from.logged.stands; over = from.keeps.redo_end ∙ g.over; can = after.0; owner = g.owner; unfinished = loser_unfinished t (r ∷ log) after.1.loser; row = after.1.row };
               point = from.keeps.point;
               durable = front_then s.durable from.before.durable from.logged.durable from.keeps.durable from.logged.grows;
               grows = record { more = r ∷ by.images; is = ap (λ (l : History). r ∷ l) by.is; all = (joins, images_of_undo b t by.images s.log by.all) };
@@ -113,8 +110,7 @@ module _ {D : Type 0} (d : Ghosts D) (b : Base) (base : ℕ) where
             once = ap (λ (rs : History). length rs) (counts (compensations by.images) ∙ ap (λ (rs : History). r ∷ rs) (images_compensate b by.images s.log by.all));
           }
 
-    module _ (prev was page : ℕ) (key : Key) (rid : ℕ) (w : PageWriter) (new : D) (result : Result ℕ Fault) (causes : IfErr result (λ f. (f ≡ Failed) ⊎ IsPlainCause f))
-        (works : IfErr result (λ f. f ≡ Failed → HasBegun d b base s t w new)) where
+    module _ (prev was page : ℕ) (key : Key) (rid : ℕ) (w : PageWriter) (new : D) (result : Result ℕ Fault) (one : Logs d false mild v old w new (fault_of result)) where
       module _ (way : IsOnWay (bodies s) 0 key page) where
         way_logged : IsOnWay (logs.bodies b s.log) 0 key page
         way_logged = subst (λ (pages : Pages). IsOnWay pages 0 key page) (going_bodies d b base s e t last undo_next v old g) way
@@ -138,13 +134,11 @@ module _ {D : Type 0} (d : Ghosts D) (b : Base) (base : ℕ) where
             has = λ none. absurd (let clash : Some rid ≡ None = sym shown ∙ sym (page_says way) ∙ none in cc clash);
           } in
           record {
-            ok = if_ok result (λ lsn. ChangedFrom d b base s entry lsn old w new) (λ lsn. TakenBack d b base s e t said lsn old w new) kept.ok
+            sound = sound_own result (λ lsn. ChangedFrom d b base s entry lsn old w new) (λ lsn. TakenBack d b base s e t said lsn old w new) kept.ok (kept.cause has)
                 (λ lsn from. done said entry to w new lsn refl refl refl refl (refl, drop) refl (λ rs. refl) stops from);
             stops = stops;
-            cause = kept.cause has;
-            again = if_err result _ (λ f. f ≡ Memory → Evicted d b base s old w new) kept.again (λ f go is. go (inl is));
-            used_up = result_capacity result _ causes;
-            begun = works;
+            used_up = no_capacity d _ result refl one;
+            begun = began_working d _ result g.stands.working one;
           }
 
       pub delete_undone : IsEntry (DeleteKey t prev was key rid) → IsToUndo d b base s t (DeleteKey t prev was key rid) → TakesIt (bodies s) page (whats.DeleteKey key rid)
@@ -171,11 +165,9 @@ module _ {D : Type 0} (d : Ghosts D) (b : Base) (base : ℕ) where
             room = room;
           } in
           record {
-            ok = if_ok result (λ lsn. ChangedFrom d b base s entry lsn old w new) (λ lsn. TakenBack d b base s e t said lsn old w new) kept.ok
+            sound = sound_own result (λ lsn. ChangedFrom d b base s entry lsn old w new) (λ lsn. TakenBack d b base s e t said lsn old w new) kept.ok (kept.cause has)
                 (λ lsn from. done said entry to w new lsn refl refl refl refl (refl, put) refl (λ rs. refl) stops from);
             stops = stops;
-            cause = kept.cause has;
-            again = if_err result _ (λ f. f ≡ Memory → Evicted d b base s old w new) kept.again (λ f go is. go (inl is));
-            used_up = result_capacity result _ causes;
-            begun = works;
+            used_up = no_capacity d _ result refl one;
+            begun = began_working d _ result g.stands.working one;
           }

@@ -1,8 +1,9 @@
 -- One key record taken back: the parts of it in a row.
-use Rattle.std.proofs.Common.{◌≡◌, ◌≢◌, ◌⊎◌, inl, inr, ◌≤◌, ℕ, [], ◌∷◌, ◌++◌, length, true, Result, Ok, Err, refl, sym, ◌∙◌, ap, subst, append-nil}
-use Rattle.std.specs.Prelude.{IfOk, IfErr, IsErrAnd}
+use Rattle.std.proofs.Common.{◌≡◌, ◌≢◌, inr, ◌≤◌, ℕ, [], ◌∷◌, ◌++◌, length, true, false, None, Some, Result, Ok, Err, refl, sym, ◌∙◌, ap, subst, append-nil}
+use Rattle.std.proofs.Math.Path.{fun_ext}
+use Rattle.std.specs.Prelude.{IfErr, IsErrAnd}
 use Rattle.im_types.specs.declared.fault.Fault.{Fault}
-use Rattle.im_types.specs.declared.fault.Fault.TheVariants.{Capacity, Device, Failed, LogFull, Memory, NotAStore}
+use Rattle.im_types.specs.declared.fault.Fault.TheVariants.{Capacity, Failed, Memory, NotAStore}
 use Rattle.im_types.specs.Keys.{Key}
 use Rattle.im_types.specs.Maps.{IndexMap}
 use Rattle.im_types.specs.Pages.{Page}
@@ -18,85 +19,24 @@ use Rattle.im_log.specs.Whats.{what_of}
 use Rattle.im_page.specs.Split.{HasRoom}
 use Rattle.im_pool.specs.Pool.{page_at}
 use Rattle.im_flush.specs.declared.page_writer.PageWriter.{PageWriter}
-use Rattle.im_flush.specs.Writing.{LeavesGrown}
-use Rattle.im_flush.specs.PageWriter.{GoesOn, Evicted}
-use Rattle.im_flush.proofs.Growing.{if_ok}
+use Rattle.im_flush.specs.Growth.{Keeps}
+use Rattle.im_flush.specs.PageWriter.{GoesOn}
+use Rattle.im_flush.specs.Outcome.{mild, Logs, Reads}
 use Rattle.im_flush.proofs.LoggedChanges.{again_on, err_on}
-use Rattle.im_flush.proofs.Writers.{goes_on_then}
+use Rattle.im_flush.proofs.Outcomes.{log_refused, read_logs, sound_also, sound_on}
 use Rattle.im_tree.specs.Levels.{Pages}
 use Rattle.im_tree.specs.Search.{IsOnWay}
-use Rattle.im_alloc.specs.Seen.{bodies}
-use Rattle.im_alloc.proofs.Goings.{bodies_stay}
-use Rattle.im_search.specs.Found.{Reached}
+use Rattle.im_search.specs.Levels.{bodies}
+use Rattle.im_search.specs.Found.{IsReached}
 use Rattle.im_split.specs.Plan.{FitsInLeaf}
 use Rattle.im_split.specs.Tops.{LacksRoomFor}
 use Rattle.im_analysis.specs.declared.rows.Loser.{Loser}
 use Rattle.im_analysis.specs.Undo.{IsNext}
 use Rattle.im_undo.specs.Records.{compensations, inverse_of}
 use Rattle.im_undo.specs.Undoing.{IsGoing, GoesTo, TakesIt, UsesUp, HasBegun, Restructured, EmptiedKept, HasMadeRoom, SplitKept, IsToUndo, TakenBack, CompensateKept}
-use Rattle.im_structure.proofs.Changes.{IsPlainCause, never_failed, never_capacity}
+use Rattle.im_undo.proofs.Ends.{began_working, late_capacity, late_cause, late_evicted, left_reading, no_capacity}
 use Rattle.im_undo.proofs.Begun.{begun_then, begun_since}
-use Rattle.im_undo.proofs.Growth.{loser_some, grown_front, going_images, left_images, left_then, goes_images, goes_images_none, goes_then, goes_compensations}
-
--- ---- refusals
-
--- a refusal has no answer
-pub not_ok : {A : Type 0} (r : Result A Fault) (f : Fault) (P : A → Type 0) → IsErrAnd r (λ e. e ≡ f) → IfOk r P
-not_ok (Ok a) f P is = absurd is
-not_ok (Err e) f P is = tt
-
--- a search is refused as failed only where the writer had failed
-pub not_failed : (e : Fault) → ((e ≡ Failed) ⊎ (e ≡ LogFull) ⊎ (e ≡ Memory) ⊎ (e ≡ NotAStore) ⊎ (e ≡ Device)) → (e ≡ Failed → ⊥) → (e ≡ LogFull) ⊎ (e ≡ Memory) ⊎ (e ≡ NotAStore) ⊎ (e ≡ Device)
-not_failed e (inl failed) works = absurd (works failed)
-not_failed e (inr others) works = others
-
--- the deletion of an empty leaf is not refused for want of memory
-pub never_memory : (e : Fault) → ((e ≡ Failed) ⊎ (e ≡ LogFull) ⊎ (e ≡ NotAStore) ⊎ (e ≡ Device)) → e ≡ Memory → ⊥
-never_memory e (inl failed) is = let clash : Failed ≡ Memory = sym failed ∙ is in cc clash
-never_memory e (inr (inl full)) is = let clash : LogFull ≡ Memory = sym full ∙ is in cc clash
-never_memory e (inr (inr (inl bytes))) is = let clash : NotAStore ≡ Memory = sym bytes ∙ is in cc clash
-never_memory e (inr (inr (inr device))) is = let clash : Device ≡ Memory = sym device ∙ is in cc clash
-
--- nor for want of page numbers
-drop_capacity : (e : Fault) → ((e ≡ Failed) ⊎ (e ≡ LogFull) ⊎ (e ≡ NotAStore) ⊎ (e ≡ Device)) → e ≡ Capacity → ⊥
-drop_capacity e (inl failed) is = let clash : Failed ≡ Capacity = sym failed ∙ is in cc clash
-drop_capacity e (inr (inl full)) is = let clash : LogFull ≡ Capacity = sym full ∙ is in cc clash
-drop_capacity e (inr (inr (inl bytes))) is = let clash : NotAStore ≡ Capacity = sym bytes ∙ is in cc clash
-drop_capacity e (inr (inr (inr device))) is = let clash : Device ≡ Capacity = sym device ∙ is in cc clash
-
--- what a refusal is answered as behind the first record is not for want of memory
-pub late_memory : (f answer : Fault) → (f ≡ Memory → answer ≡ Failed) → (f ≢ Memory → answer ≡ f) → answer ≡ Memory → ⊥
-late_memory f answer memory others is =
-    let other : f ≢ Memory = λ same. (let clash : Failed ≡ Memory = sym (memory same) ∙ is in cc clash) in
-    other (sym (others other) ∙ is)
-
--- nor as no store, where the refusal was not
-pub late_cause : (f answer : Fault) → (f ≡ Memory → answer ≡ Failed) → (f ≢ Memory → answer ≡ f) → f ≢ NotAStore → answer ≢ NotAStore
-late_cause f answer memory others cause is =
-    let other : f ≢ Memory = λ same. (let clash : Failed ≡ NotAStore = sym (memory same) ∙ is in cc clash) in
-    cause (sym (others other) ∙ is)
-
--- it failed for want of memory
-pub late_failed : (f answer : Fault) → IsPlainCause f → (f ≡ Memory → answer ≡ Failed) → (f ≢ Memory → answer ≡ f) → answer ≡ Failed → f ≡ Memory
-late_failed f answer (inl full) memory others is =
-    let other : f ≢ Memory = λ same. (let clash : LogFull ≡ Memory = sym full ∙ same in cc clash) in
-    let clash : LogFull ≡ Failed = sym full ∙ sym (others other) ∙ is in
-    absurd (let never : ⊥ = cc clash in never)
-late_failed f answer (inr (inl wanted)) memory others is = wanted
-late_failed f answer (inr (inr (inl bytes))) memory others is =
-    let other : f ≢ Memory = λ same. (let clash : NotAStore ≡ Memory = sym bytes ∙ same in cc clash) in
-    let clash : NotAStore ≡ Failed = sym bytes ∙ sym (others other) ∙ is in
-    absurd (let never : ⊥ = cc clash in never)
-late_failed f answer (inr (inr (inr device))) memory others is =
-    let other : f ≢ Memory = λ same. (let clash : Device ≡ Memory = sym device ∙ same in cc clash) in
-    let clash : Device ≡ Failed = sym device ∙ sym (others other) ∙ is in
-    absurd (let never : ⊥ = cc clash in never)
-
--- and not for want of page numbers
-pub late_capacity : (f answer : Fault) → IsPlainCause f → (f ≡ Memory → answer ≡ Failed) → (f ≢ Memory → answer ≡ f) → answer ≡ Capacity → ⊥
-late_capacity f answer known memory others is =
-    let other : f ≢ Memory = λ same. (let clash : Failed ≡ Capacity = sym (memory same) ∙ is in cc clash) in
-    never_capacity f known (sym (others other) ∙ is)
+use Rattle.im_undo.proofs.Growth.{owner_some, grown_front, going_images, going_ready, left_images, left_then, goes_images, goes_images_none, goes_then, goes_compensations}
 
 -- ---- what is to be taken back
 
@@ -125,19 +65,36 @@ takes_insert pages p w k i same way = subst (λ (x : What). TakesIt pages p x) (
 pub takes_delete : (pages : Pages) (p : ℕ) (w : What) (k : Key) (i : ℕ) → w ≡ DeleteKey k i → IsOnWay pages 0 k p → HasRoom true (pages p).entries (k, 0) → TakesIt pages p w
 takes_delete pages p w k i same way room = subst (λ (x : What). TakesIt pages p x) (sym same) (way, room)
 
+-- the same pages in another state of the writer
+bodies_stay : (b : Base) (s t : Writer) → Keeps b s t → bodies t ≡ bodies s
+bodies_stay b s t keeps = fun_ext (λ (p : ℕ). ap (λ (g : Page). g.body) (keeps.pages p).page)
+
+-- A search held the key's leaf: each page is as it was, and the log has Images more.
+pub record Found {D : Type 0} (d : Ghosts D) (b : Base) (base : ℕ) (s : Writer) (key : Key) (p : ℕ) (old : D) (w : PageWriter) (disk : D) : Type 0 where
+  pub now : Writer
+  pub on : GoesOn d b base s old now w disk
+  pub page : page_at w.pool p ≡ (s.pages p).page
+  pub way : IsOnWay (bodies s) 0 key p
+
 module _ {D : Type 0} (d : Ghosts D) (b : Base) (base : ℕ) where
+  -- what a search came to
+  pub found_so : (s : Writer) (e t last undo_next : ℕ) (v : PageWriter) (old : D) (w : PageWriter) (disk : D) (key : Key) (p : ℕ) → IsGoing d b base s e t last undo_next v old → Reads d v old w disk None
+      → IsReached (λ p. (s.pages p).page) key 0 p w.pool → Found d b base s key p old w disk
+  found_so s e t last undo_next v old w disk key p g one reached =
+      let ev = one.ends.goes b base s g.stands (going_ready d b base s e t last undo_next v old g) in record { now = ev.now; on = ev.on; page = reached.shown; way = reached.way }
+
   -- the leaf that a search reached is the key's leaf still
-  pub way_now : (s : Writer) (key : Key) (p : ℕ) (old : D) (w : PageWriter) (disk : D) (found : Reached d b base s key 0 p old w disk) → IsOnWay (bodies found.now) 0 key p
+  pub way_now : (s : Writer) (key : Key) (p : ℕ) (old : D) (w : PageWriter) (disk : D) (found : Found d b base s key p old w disk) → IsOnWay (bodies found.now) 0 key p
   way_now s key p old w disk found = subst (λ (pages : Pages). IsOnWay pages 0 key p) (sym (bodies_stay b s found.now found.on.goes.keeps)) found.way
 
   -- with the room that its frame has
-  pub room_now : (s : Writer) (key : Key) (p : ℕ) (old : D) (w : PageWriter) (disk : D) (found : Reached d b base s key 0 p old w disk) → HasRoom true (page_at w.pool p).body.entries (key, 0)
+  pub room_now : (s : Writer) (key : Key) (p : ℕ) (old : D) (w : PageWriter) (disk : D) (found : Found d b base s key p old w disk) → HasRoom true (page_at w.pool p).body.entries (key, 0)
       → HasRoom true (bodies found.now p).entries (key, 0)
   room_now s key p old w disk found room =
       subst (λ (g : Page). HasRoom true g.body.entries (key, 0)) (found.page ∙ sym (found.on.goes.keeps.pages p).page) room
 
   -- that it lacks
-  pub lacks_now : (s : Writer) (key : Key) (p : ℕ) (old : D) (w : PageWriter) (disk : D) (found : Reached d b base s key 0 p old w disk) → (HasRoom true (page_at w.pool p).body.entries (key, 0) → ⊥) → LacksRoomFor (bodies found.now) key
+  pub lacks_now : (s : Writer) (key : Key) (p : ℕ) (old : D) (w : PageWriter) (disk : D) (found : Found d b base s key p old w disk) → (HasRoom true (page_at w.pool p).body.entries (key, 0) → ⊥) → LacksRoomFor (bodies found.now) key
   lacks_now s key p old w disk found lacks = record {
     page = p;
     way = way_now s key p old w disk found;
@@ -145,7 +102,7 @@ module _ {D : Type 0} (d : Ghosts D) (b : Base) (base : ℕ) where
   }
 
   -- or that it has since a split
-  pub room_since : (s : Writer) (key : Key) (p : ℕ) (old : D) (w : PageWriter) (disk : D) (found : Reached d b base s key 0 p old w disk) → FitsInLeaf (bodies s) key → HasRoom true (bodies found.now p).entries (key, 0)
+  pub room_since : (s : Writer) (key : Key) (p : ℕ) (old : D) (w : PageWriter) (disk : D) (found : Found d b base s key p old w disk) → FitsInLeaf (bodies s) key → HasRoom true (bodies found.now p).entries (key, 0)
   room_since s key p old w disk found fits =
       subst (λ (pages : Pages). HasRoom true (pages p).entries (key, 0)) (sym (bodies_stay b s found.now found.on.goes.keeps)) (fits p found.way)
 
@@ -157,7 +114,7 @@ module _ {D : Type 0} (d : Ghosts D) (b : Base) (base : ℕ) where
         record {
           now = now;
           goes = goes_images d b base s e t last undo_next start old now w disk g on;
-          stack = ap (λ (l : History). to_undo t l) by.is ∙ images_to_undo b t by.images s.log (loser_some t s.log g.loser) by.all;
+          stack = ap (λ (l : History). to_undo t l) by.is ∙ images_to_undo b t by.images s.log (owner_some t g.owner) by.all;
           map = ap (λ (l : History). contents b l) by.is ∙ images_contents b by.images s.log by.all;
           none = goes_images_none d b base s e t last undo_next start old now w disk g on;
         }
@@ -212,16 +169,16 @@ module _ {D : Type 0} (d : Ghosts D) (b : Base) (base : ℕ) where
     -- ---- the key's leaf is looked for
 
     -- it was refused
-    pub place_refused : (w : PageWriter) (new : D) (l undo_next : ℕ) (start : PageWriter) (f : Fault) → IsPlainCause f → (result : Result ℕ Fault) → IsGoing d b base s e t l undo_next start old
-        → LeavesGrown d b base s old new → f ≢ NotAStore → ((f ≡ Memory) ⊎ (f ≡ NotAStore) → Evicted d b base s old w new) → IsErrAnd result (λ x. x ≡ f) → CompensateKept d b base s e t entry old w new result
-    place_refused w new l undo_next start f known result g stops cause again here = record {
-      ok = not_ok result f (λ last. TakenBack d b base s e t entry last old w new) here;
-      stops = left_images d b base s t old new g.can.lawful stops;
-      cause = err_on result f (λ x. x ≢ NotAStore) here cause;
-      again = err_on result f (λ x. x ≡ Memory → Evicted d b base s old w new) here (λ is. again (inl is));
-      used_up = err_on result f (λ x. x ≡ Capacity → UsesUp (bodies s) (what_of entry)) here (λ is. absurd (never_capacity f known is));
-      begun = err_on result f (λ x. x ≡ Failed → HasBegun d b base s t w new) here (λ is. absurd (never_failed f known is));
-    }
+    pub place_refused : (w : PageWriter) (new : D) (l undo_next : ℕ) (start : PageWriter) (f : Fault) (result : Result ℕ Fault) → IsGoing d b base s e t l undo_next start old → f ≢ NotAStore
+        → Reads d start old w new (Some f) → IsErrAnd result (λ x. x ≡ f) → CompensateKept d b base s e t entry old w new result
+    place_refused w new l undo_next start f result g cause one here =
+        let logs = log_refused d result here (read_logs d one) in
+        record {
+          sound = sound_on result f (λ last. TakenBack d b base s e t entry last old w new) here cause;
+          stops = left_images d b base s t old new g.can.lawful (left_reading d b base s g.stands (going_ready d b base s e t l undo_next start old g) one);
+          used_up = no_capacity d _ result refl logs;
+          begun = began_working d _ result g.stands.working logs;
+        }
 
     -- and behind it the key record is taken back
     pub place_then : (l undo_next : ℕ) (start v : PageWriter) (mid : D) (w : PageWriter) (new : D) (g : IsGoing d b base s e t l undo_next start old) (now : Writer) → GoesOn d b base s old now v mid
@@ -230,19 +187,16 @@ module _ {D : Type 0} (d : Ghosts D) (b : Base) (base : ℕ) where
     place_then l undo_next start v mid w new g now on result kept =
         let made : Restructured d b base s e t l undo_next old v mid = images_made s e t l undo_next start old g now v mid on in
         record {
-          ok = if_ok result (λ last. TakenBack d b base now e t entry last mid w new) (λ last. TakenBack d b base s e t entry last old w new) kept.ok
+          sound = sound_also result (λ last. TakenBack d b base now e t entry last mid w new) (λ last. TakenBack d b base s e t entry last old w new) kept.sound
               (λ last taken. restructured_then l last undo_next v mid w new made taken);
           stops = left_then d b base s e t l undo_next old now v mid made.goes new kept.stops;
-          cause = kept.cause;
-          again = again_on result (λ x. x ≡ Memory) (Evicted d b base now mid w new) (Evicted d b base s old w new) kept.again
-              (λ is. record { now = is.now; on = goes_on_then d b base s old now v mid on is.now w new is.on });
           used_up = again_on result (λ x. x ≡ Capacity) (UsesUp (bodies now) (what_of entry)) (UsesUp (bodies s) (what_of entry)) kept.used_up
               (λ up. subst (λ (pages : Pages). UsesUp pages (what_of entry)) (bodies_stay b s now on.goes.keeps) up);
           begun = again_on result (λ x. x ≡ Failed) (HasBegun d b base now t w new) (HasBegun d b base s t w new) kept.begun (λ is. begun_then d b base s now t w new made.goes.grows is);
         }
 
     module _ (last undo_next : ℕ) (start : PageWriter) (g : IsGoing d b base s e t last undo_next start old) (to : IsToUndo d b base s t entry) (key : Key) (p : ℕ) (v : PageWriter) (mid : D)
-        (found : Reached d b base s key 0 p old v mid) (w : PageWriter) (new : D) (result : Result ℕ Fault) where
+        (found : Found d b base s key p old v mid) (w : PageWriter) (new : D) (result : Result ℕ Fault) where
       found_then : TakesIt (bodies found.now) p (what_of entry)
           → (IsGoing d b base found.now e t last undo_next v mid → IsToUndo d b base found.now t entry → TakesIt (bodies found.now) p (what_of entry) → CompensateKept d b base found.now e t entry mid w new result)
           → CompensateKept d b base s e t entry old w new result
@@ -272,7 +226,7 @@ module _ {D : Type 0} (d : Ghosts D) (b : Base) (base : ℕ) where
 
     -- a leaf without room was found, and all else is done behind that
     pub full_found : (last undo_next : ℕ) (start : PageWriter) (g : IsGoing d b base s e t last undo_next start old) (to : IsToUndo d b base s t entry) (key : Key) (p : ℕ) (v : PageWriter) (mid : D)
-        (found : Reached d b base s key 0 p old v mid) (w : PageWriter) (new : D) (result : Result ℕ Fault) → (HasRoom true (page_at v.pool p).body.entries (key, 0) → ⊥)
+        (found : Found d b base s key p old v mid) (w : PageWriter) (new : D) (result : Result ℕ Fault) → (HasRoom true (page_at v.pool p).body.entries (key, 0) → ⊥)
         → ((now : Writer) → IsGoing d b base now e t last undo_next v mid → IsToUndo d b base now t entry → LacksRoomFor (bodies now) key → CompensateKept d b base now e t entry mid w new result)
         → CompensateKept d b base s e t entry old w new result
     full_found last undo_next start g to key p v mid found w new result lacks kept =
@@ -283,10 +237,8 @@ module _ {D : Type 0} (d : Ghosts D) (b : Base) (base : ℕ) where
     -- a refusal that is handed on
     pub refused_on : (w : PageWriter) (new : D) (f : Fault) (result : Result ℕ Fault) → IsErrAnd result (λ x. x ≡ f) → CompensateKept d b base s e t entry old w new (Err f) → CompensateKept d b base s e t entry old w new result
     refused_on w new f result here kept = record {
-      ok = not_ok result f (λ last. TakenBack d b base s e t entry last old w new) here;
+      sound = sound_on result f (λ last. TakenBack d b base s e t entry last old w new) here kept.sound;
       stops = kept.stops;
-      cause = err_on result f (λ x. x ≢ NotAStore) here kept.cause;
-      again = err_on result f (λ x. x ≡ Memory → Evicted d b base s old w new) here kept.again;
       used_up = err_on result f (λ x. x ≡ Capacity → UsesUp (bodies s) (what_of entry)) here kept.used_up;
       begun = err_on result f (λ x. x ≡ Failed → HasBegun d b base s t w new) here kept.begun;
     }
@@ -294,21 +246,17 @@ module _ {D : Type 0} (d : Ghosts D) (b : Base) (base : ℕ) where
     -- ---- the leaf that was left empty
 
     drop_kept : (l : ℕ) (v : PageWriter) (mid : D) (w : PageWriter) (new : D) (taken : TakenBack d b base s e t entry l old v mid) (result : Result ℕ Fault)
-        → IfErr result (λ x. (x ≡ Failed) ⊎ (x ≡ LogFull) ⊎ (x ≡ NotAStore) ⊎ (x ≡ Device)) → EmptiedKept d b base taken.now e t (prev_of entry) mid w new result → CompensateKept d b base s e t entry old w new result
-    drop_kept l v mid w new taken (Ok last) causes kept = record {
-      ok = taken_then l last v mid w new taken kept.ok;
+        → IfErr result (λ x. x ≡ Capacity → ⊥) → EmptiedKept d b base taken.now e t (prev_of entry) mid w new result → CompensateKept d b base s e t entry old w new result
+    drop_kept l v mid w new taken (Ok last) never kept = record {
+      sound = taken_then l last v mid w new taken kept.sound;
       stops = left_then d b base s e t l (prev_of entry) old taken.now v mid taken.goes new kept.stops;
-      cause = tt;
-      again = tt;
       used_up = tt;
       begun = tt;
     }
-    drop_kept l v mid w new taken (Err f) causes kept = record {
-      ok = tt;
+    drop_kept l v mid w new taken (Err f) never kept = record {
+      sound = kept.sound;
       stops = left_then d b base s e t l (prev_of entry) old taken.now v mid taken.goes new kept.stops;
-      cause = kept.cause;
-      again = λ is. absurd (never_memory f causes is);
-      used_up = λ is. absurd (drop_capacity f causes is);
+      used_up = λ is. absurd (never is);
       begun = λ is. begun_then d b base s taken.now t w new taken.goes.grows (kept.begun is);
     }
 
@@ -320,11 +268,11 @@ module _ {D : Type 0} (d : Ghosts D) (b : Base) (base : ℕ) where
 
     -- it leaves the tree behind the compensation
     pub leaf_dropped : (l : ℕ) (v : PageWriter) (mid : D) (w : PageWriter) (new : D) → CompensateKept d b base s e t entry old v mid (Ok l) → (result : Result ℕ Fault) (u m : ℕ) → u ≡ t → m ≡ prev_of entry
-        → IfErr result (λ x. (x ≡ Failed) ⊎ (x ≡ LogFull) ⊎ (x ≡ NotAStore) ⊎ (x ≡ Device))
+        → IfErr result (λ x. x ≡ Capacity → ⊥)
         → ((now : Writer) → IsGoing d b base now e u l m v mid → EmptiedKept d b base now e u m mid w new result) → CompensateKept d b base s e t entry old w new result
-    leaf_dropped l v mid w new first result u m owner prev causes kept =
-        let taken : TakenBack d b base s e t entry l old v mid = first.ok in
-        drop_kept l v mid w new taken result causes (drop_as taken.now l v mid w new result u m owner prev (kept taken.now) taken.goes.going)
+    leaf_dropped l v mid w new first result u m owner prev never kept =
+        let taken : TakenBack d b base s e t entry l old v mid = first.sound in
+        drop_kept l v mid w new taken result never (drop_as taken.now l v mid w new result u m owner prev (kept taken.now) taken.goes.going)
 
     -- ---- the split of the leaf
 
@@ -337,10 +285,8 @@ module _ {D : Type 0} (d : Ghosts D) (b : Base) (base : ℕ) where
     pub split_refused : (undo_next : ℕ) (key : Key) (i : ℕ) → what_of entry ≡ DeleteKey key i → (w : PageWriter) (new : D) (f : Fault) (result : Result ℕ Fault) → IsErrAnd result (λ x. x ≡ f)
         → SplitKept d b base s e t undo_next key old w new (Err f) → CompensateKept d b base s e t entry old w new result
     split_refused undo_next key i same w new f result here kept = record {
-      ok = not_ok result f (λ last. TakenBack d b base s e t entry last old w new) here;
+      sound = sound_on result f (λ last. TakenBack d b base s e t entry last old w new) here kept.sound;
       stops = kept.stops;
-      cause = err_on result f (λ x. x ≢ NotAStore) here kept.cause;
-      again = err_on result f (λ x. x ≡ Memory → Evicted d b base s old w new) here kept.again;
       used_up = err_on result f (λ x. x ≡ Capacity → UsesUp (bodies s) (what_of entry)) here (λ up. subst (λ (c : What). UsesUp (bodies s) c) (sym same) (kept.used_up up));
       begun = err_on result f (λ x. x ≡ Failed → HasBegun d b base s t w new) here kept.begun;
     }
@@ -355,23 +301,24 @@ module _ {D : Type 0} (d : Ghosts D) (b : Base) (base : ℕ) where
       pub behind_split : (m : ℕ) → ((now : Writer) → IsGoing d b base now e t l undo_next v mid → IsToUndo d b base now t entry → FitsInLeaf (bodies now) key → CompensateKept d b base now e t entry mid w new (Ok m))
           → CompensateKept d b base s e t entry old w new (Ok m)
       behind_split m kept = record {
-        ok = restructured_then l m undo_next v mid w new room.made (behind (Ok m) kept).ok;
+        sound = restructured_then l m undo_next v mid w new room.made (behind (Ok m) kept).sound;
         stops = left_then d b base s e t l undo_next old room.made.now v mid room.made.goes new (behind (Ok m) kept).stops;
-        cause = tt;
-        again = tt;
         used_up = tt;
         begun = tt;
       }
 
       -- or that was refused
-      pub late_refused : (f answer : Fault) → IsPlainCause f → LacksRoomFor (bodies s) key → (f ≡ Memory → answer ≡ Failed) → (f ≢ Memory → answer ≡ f)
+      pub late_refused : (f answer : Fault) → Logs d false mild v mid w new (Some f) → LacksRoomFor (bodies s) key → (f ≡ Memory → answer ≡ Failed) → (f ≢ Memory → answer ≡ f)
           → ((now : Writer) → IsGoing d b base now e t l undo_next v mid → IsToUndo d b base now t entry → FitsInLeaf (bodies now) key → CompensateKept d b base now e t entry mid w new (Err f))
           → CompensateKept d b base s e t entry old w new (Err answer)
-      late_refused f answer known lacks memory others kept = record {
-        ok = tt;
-        stops = left_then d b base s e t l undo_next old room.made.now v mid room.made.goes new (behind (Err f) kept).stops;
-        cause = late_cause f answer memory others (behind (Err f) kept).cause;
-        again = λ is. absurd (late_memory f answer memory others is);
-        used_up = λ is. absurd (late_capacity f answer known memory others is);
-        begun = λ is. begun_since d b base s room.made.now t mid w new room.made.goes.grows (room.some lacks) ((behind (Err f) kept).again (late_failed f answer known memory others is));
-      }
+      late_refused f answer one lacks memory others kept =
+          let now : Writer = room.made.now in
+          let going : IsGoing d b base now e t l undo_next v mid = room.made.goes.going in
+          let none : f ≡ Capacity → ⊥ = no_capacity d {A = ℕ} ⊥ (Err f) refl one in
+          record {
+            sound = late_cause f answer memory others (behind (Err f) kept).sound;
+            stops = left_then d b base s e t l undo_next old now v mid room.made.goes new (behind (Err f) kept).stops;
+            used_up = λ is. absurd (late_capacity f answer memory others none is);
+            begun = λ is. begun_since d b base s now t mid w new room.made.goes.grows (room.some lacks)
+                (late_evicted d f answer memory others is going.stands.working one b base now going.stands (going_ready d b base now e t l undo_next v mid going));
+          }

@@ -1,14 +1,16 @@
 -- Logs that grow by Images, by structure changes and by compensations, what a stop leaves meanwhile, and calls in a row.
-use Rattle.std.proofs.Common.{◌≡◌, ◌≢◌, ◌≤◌, ℕ, [], ◌∷◌, ◌++◌, true, false, refl, sym, ◌∙◌, ap, subst, append_assoc, arith}
+use Rattle.std.proofs.Common.{◌≡◌, ◌≢◌, ◌≤◌, ℕ, [], ◌∷◌, ◌++◌, Bool, true, false, inl, inr, refl, sym, ◌∙◌, ap, subst, append_assoc, arith, ◌==◌}
+use Rattle.std.specs.Prelude.{not, ◌&&◌, ◌||◌, nat_le}
+use Rattle.std.proofs.lemmas.Bool.{and_parts, cond-false, eq-eqb, ne_eqb, or_right}
 use Rattle.std.proofs.Math.Path.{fun_ext}
 use Rattle.im_types.specs.Pages.{Page}
 use Rattle.im_types.specs.Records.{What, InsertKey, DeleteKey, UndoInsert, UndoDelete, Smo, UndoSmo, DummyClr, Commit, End, Image, Checkpoint, Unreadable, Logged}
-use Rattle.im_types.specs.Histories.{Base, History, IsFront, page_at}
+use Rattle.im_types.specs.Histories.{Base, History, IsFront, IsRecordOf, page_at}
 use Rattle.im_types.specs.Copies.{AreImages, GrowsByImages}
 use Rattle.im_types.specs.Lawful.{IsLawful}
 use Rattle.im_types.specs.LogLaws as logs
 use Rattle.im_types.specs.Structure.{taken_back}
-use Rattle.im_types.specs.Transactions.{committed, committed_after, net}
+use Rattle.im_types.specs.Transactions.{committed, committed_after, is_end, is_finished, net}
 use Rattle.im_types.specs.Writer.{Writer, WriterKept}
 use Rattle.im_types.proofs.Fronts.{has_tree}
 use Rattle.im_types.proofs.Histories.{front_self}
@@ -23,19 +25,20 @@ use Rattle.im_flush.specs.Stands.{IsCovered}
 use Rattle.im_flush.specs.Writing.{LeavesGrown}
 use Rattle.im_flush.specs.PageWriter.{GoesOn}
 use Rattle.im_flush.proofs.Goings.{leaves_so_far}
+use Rattle.im_flush.proofs.Outcomes.{pages_here}
 use Rattle.im_flush.proofs.Standing.{wider_covered}
 use Rattle.im_flush.proofs.Writers.{goes_on_start}
 use Rattle.im_tree.specs.Levels.{Pages}
 use Rattle.im_tree.specs.Good.{AllOf, IsGoodTree}
 use Rattle.im_tree.specs.Theory.{page_tree}
-use Rattle.im_alloc.specs.Seen.{bodies}
-use Rattle.im_search.specs.Found.{HasTree}
+use Rattle.im_search.specs.Levels.{bodies}
 use Rattle.im_change.specs.Changes.{IsOfChange, GrowsByChange, LeftByChange, LeavesChange}
-use Rattle.im_analysis.specs.Losers.{is_loser, row_of}
-use Rattle.im_analysis.specs.Undo.{IsUndoable, LeavesOthers}
-use Rattle.im_analysis.proofs.Losers.{leaves_others, loser_number}
+use Rattle.im_analysis.specs.Losers.{has_record, is_loser, row_of}
+use Rattle.im_analysis.specs.Undo.{IsNext, IsUndoable, LeavesOthers}
+use Rattle.im_analysis.proofs.Losers.{leaves_others, loser_from, loser_number}
 use Rattle.im_analysis.proofs.Tables.{images_undoable}
 use Rattle.im_undo.specs.Records.{IsOfUndo, GrowsByUndo, with_compensation, compensations}
+use Rattle.im_undo.specs.Place.{HasWholeTree}
 use Rattle.im_undo.specs.Undoing.{IsGoing, LeftByUndo, LeavesUndo, GoesTo}
 
 -- ---- the records
@@ -153,29 +156,55 @@ compensations_then t one two three first next = compensations_append next.more f
 pub grown_front : (t : ℕ) (older longer : History) → GrowsByUndo t older longer → IsFront older longer
 grown_front t older longer grows = record { newer = grows.more; is = sym grows.is }
 
--- ---- losers beside Images
+-- ---- transactions beside Images
 
 image_leaves : (b : Base) (r : Logged) (images older : History) → AreImages b (r ∷ images) older → LeavesOthers 0 r (images ++ older)
 image_leaves b r images older all =
     leaves_others r (images ++ older) 0 all.0.no_owner (ap (λ (w : What). committed_after w (net r.txn (images ++ older)) (committed (images ++ older))) all.0.what)
 
-images_losers : (b : Base) (t : ℕ) (images older : History) → t ≢ 0 → AreImages b images older → is_loser t (images ++ older) ≡ is_loser t older
-images_losers b t [] older some all = refl
-images_losers b t (r ∷ images) older some all = (image_leaves b r images older all).losers t some ∙ images_losers b t images older some all.1
+images_finished : (b : Base) (t : ℕ) (images older : History) → t ≢ 0 → AreImages b images older → is_finished t (images ++ older) ≡ is_finished t older
+images_finished b t [] older some all = refl
+images_finished b t (r ∷ images) older some all =
+    let log : History = images ++ older in
+    cond-false (r.txn == t) (is_end r.what || is_finished t log) (is_finished t log) (ne_eqb r.txn t (λ is. some (sym is ∙ all.0.no_owner))) ∙ images_finished b t images older some all.1
 
 images_rows : (b : Base) (t : ℕ) (images older : History) → t ≢ 0 → AreImages b images older → row_of t (images ++ older) ≡ row_of t older
 images_rows b t [] older some all = refl
 images_rows b t (r ∷ images) older some all = (image_leaves b r images older all).rows t some ∙ images_rows b t images older some all.1
 
-pub same_loser : (b : Base) (t : ℕ) (older longer : History) → t ≢ 0 → GrowsByImages b older longer → is_loser t longer ≡ is_loser t older
-same_loser b t older longer some by = ap (λ (l : History). is_loser t l) by.is ∙ images_losers b t by.images older some by.all
+pub same_finished : (b : Base) (t : ℕ) (older longer : History) → t ≢ 0 → GrowsByImages b older longer → is_finished t longer ≡ is_finished t older
+same_finished b t older longer some by = ap (λ (l : History). is_finished t l) by.is ∙ images_finished b t by.images older some by.all
 
 pub same_row : (b : Base) (t : ℕ) (older longer : History) → t ≢ 0 → GrowsByImages b older longer → row_of t longer ≡ row_of t older
 same_row b t older longer some by = ap (λ (l : History). row_of t l) by.is ∙ images_rows b t by.images older some by.all
 
--- a loser's number is not 0
-pub loser_some : (t : ℕ) (log : History) → is_loser t log ≡ true → t ≢ 0
-loser_some t log loser e = let one : 1 ≤ t = loser_number t log loser in omega (arith, one, e)
+-- a transaction's number is not 0
+pub owner_some : (t : ℕ) → 1 ≤ t → t ≢ 0
+owner_some t one is = omega (arith, one, is)
+
+-- ---- losers
+
+has_more : (t : ℕ) (more older : History) → has_record t older ≡ true → has_record t (more ++ older) ≡ true
+has_more t [] older has = has
+has_more t (r ∷ more) older has = or_right (r.txn == t) (has_record t (more ++ older)) (has_more t more older has)
+
+loser_has : (t : ℕ) (log : History) → is_loser t log ≡ true → has_record t log ≡ true
+loser_has t log is =
+    (and_parts (has_record t log) (not (is_finished t log)) (and_parts (nat_le 1 t) (has_record t log && not (is_finished t log)) is).1).0
+
+-- a loser that is not finished behind such records is one still
+pub loser_still : (t : ℕ) (older longer : History) → GrowsByUndo t older longer → is_loser t older ≡ true → is_finished t longer ≡ false → is_loser t longer ≡ true
+loser_still t older longer grows is going =
+    loser_from t longer (loser_number t older is) (ap (has_record t) grows.is ∙ has_more t grows.more older (loser_has t older is)) going
+
+has_of : (t : ℕ) (log : History) (x : Logged) → IsRecordOf x log → x.txn ≡ t → has_record t log ≡ true
+has_of t [] x is owner = absurd is
+has_of t (r ∷ older) x (inl same) owner = ap (λ (known : Bool). known || has_record t older) (eq-eqb r.txn t (ap (λ (y : Logged). y.txn) same ∙ owner))
+has_of t (r ∷ older) x (inr there) owner = or_right (r.txn == t) (has_record t older) (has_of t older x there owner)
+
+-- a transaction that is not finished is one where it has a change left to undo
+pub loser_of : (t : ℕ) (log : History) (x : Logged) → 1 ≤ t → is_finished t log ≡ false → IsNext t log x → is_loser t log ≡ true
+loser_of t log x one going next = loser_from t log one (has_of t log x next.logged next.owner) going
 
 pub still_undoable : (b : Base) (older longer : History) → GrowsByImages b older longer → IsUndoable b page_tree older → IsUndoable b page_tree longer
 still_undoable b older longer by can = subst (λ (l : History). IsUndoable b page_tree l) (sym by.is) (images_undoable b page_tree by.images older by.all can)
@@ -207,22 +236,22 @@ module _ {D : Type 0} (d : Ghosts D) (b : Base) (base : ℕ) where
     going_bodies = fun_ext (λ (p : ℕ). ap (λ (x : Page). x.body) (going_page p))
 
     -- and they are a good tree
-    pub going_tree : HasTree d b base s [] w disk
+    pub going_tree : HasWholeTree d (λ p. (s.pages p).page) w disk
     going_tree = record {
-      stands = g.stands;
-      ready = going_ready;
+      has = pages_here d b base s w disk g.stands going_ready;
       good = subst (λ (pages : Pages). IsGoodTree pages []) (sym going_bodies) (good_pages b s.log g.can);
     }
 
     -- Images join the log
     pub going_images : (old : D) (now : Writer) (v : PageWriter) (new : D) → GoesOn d b base s old now v new → IsGoing d b base now e t last undo_next v new
     going_images old now v new on =
-        let some = loser_some t s.log g.loser in
+        let some = owner_some t g.owner in
         record {
           stands = record { working = on.working; writing = on.goes.writing; known = on.known };
           over = on.goes.keeps.redo_end ∙ g.over;
           can = still_undoable b s.log now.log on.goes.keeps.log g.can;
-          loser = same_loser b t s.log now.log some on.goes.keeps.log ∙ g.loser;
+          owner = g.owner;
+          unfinished = same_finished b t s.log now.log some on.goes.keeps.log ∙ g.unfinished;
           row = same_row b t s.log now.log some on.goes.keeps.log ∙ g.row;
         }
 

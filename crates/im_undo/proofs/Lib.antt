@@ -1,4 +1,5 @@
 pub mod Growth
+pub mod Ends
 pub mod Begun
 pub mod Keeping
 pub mod KeyRecords

@@ -1,36 +1,43 @@
 -- Gets of a page that may be the leaf of a key.
-use Rattle.std.proofs.Common.{◌≡◌, ◌⊎◌, ◌<◌, ℕ, Option, Some, None, refl, sym, ap, subst, ◌∙◌}
-use Rattle.std.specs.Prelude.{Result, Ok, Err, IsErrAnd, IfOk, IfSome, OnOk}
+use Rattle.std.proofs.Common.{◌≡◌, ◌<◌, ℕ, [], Bool, Option, Some, None, refl, sym, ap, subst, ◌∙◌}
+use Rattle.std.specs.Prelude.{Result, Ok, Err, IsErrAnd, IfSome, OnOk}
 use Rattle.im_types.specs.declared.fault.Fault.{Fault}
-use Rattle.im_types.specs.declared.fault.Fault.TheVariants.{Memory, NotAStore}
 use Rattle.im_types.specs.Keys.{Key}
 use Rattle.im_types.specs.Pages.{Page}
-use Rattle.im_types.specs.Histories.{Base}
-use Rattle.im_types.specs.Writer.{Writer}
 use Rattle.im_disk.specs.declared.disk.Disk.{Ghosts}
 use Rattle.im_pool.specs.declared.frame.Frame.{Frame}
-use Rattle.im_pool.specs.Pool.{page_at}
+use Rattle.im_pool.specs.Pool.{PoolView, page_at}
 use Rattle.im_flush.specs.declared.page_writer.PageWriter.{PageWriter}
-use Rattle.im_flush.specs.PageWriter.{Evicted, GoesOn, GetKept}
-use Rattle.im_flush.proofs.LoggedChanges.{again_on}
+use Rattle.im_flush.specs.Outcome.{AllPages, AreLoaded, Outcome}
+use Rattle.im_flush.proofs.Outcomes.{pages_still}
 use Rattle.im_tree.specs.Search.{IsOnWay}
-use Rattle.im_search.specs.Levels.{HasLevel, bodies}
-use Rattle.im_search.specs.Found.{Reached, LeafKept}
-use Rattle.im_search.proofs.Ways.{evicted_past, stops_past, reached_then}
-use Rattle.im_search.specs.Kept.{CallKept}
-use Rattle.im_undo.specs.Place.{IsKnownLeaf, IsHeldPage, FindsPage, PlaceKept}
+use Rattle.im_search.specs.Levels.{HasLevel, bodies_of}
+use Rattle.im_search.specs.Found.{HasTree, IsReached}
+use Rattle.im_undo.specs.Place.{IsKnownLeaf, IsHeldPage, FindsPage, HasWholeTree}
+
+-- ---- the tree
+
+-- it is there still behind a call that changed no page
+pub whole_still : {D : Type 0} (d : Ghosts D) {m : Fault → Bool} {pages : AllPages} {v : PageWriter} {old : D} {w : PageWriter} {mid : D} → HasWholeTree d pages v old → Outcome d AreLoaded m v old w mid None → HasWholeTree d pages w mid
+whole_still {D} d {m} {pages} {v} {old} {w} {mid} tree one = record { has = pages_still d tree.has one; good = tree.good }
+
+-- it is a tree that can be searched
+pub as_tree : {D : Type 0} (d : Ghosts D) {pages : AllPages} {v : PageWriter} {old : D} → HasWholeTree d pages v old → HasTree d pages v old
+as_tree {D} d {pages} {v} {old} tree = record { has = tree.has; spare = []; good = tree.good }
+
+-- ---- what was got
 
 -- a page that was got is a leaf below the page count
-pub known_held : (s : Writer) (w : PageWriter) (frame : Frame) (meta page : Page) (p : ℕ) → frame.number ≡ p → page ≡ page_at w.pool frame.number → page ≡ (s.pages p).page → HasLevel 0 page.body
-    → meta ≡ (s.pages 0).page → p < meta.body.leftmost → IsHeldPage s (IsKnownLeaf (bodies s)) w frame
-known_held s w frame meta page p is shown says level first less =
-    let here : page ≡ (s.pages frame.number).page = says ∙ ap (λ (n : ℕ). (s.pages n).page) (sym is) in
+pub known_held : (pages : AllPages) (pool : PoolView) (frame : Frame) (meta page : Page) (p : ℕ) → frame.number ≡ p → page ≡ page_at pool frame.number → page ≡ pages p → HasLevel 0 page.body
+    → meta ≡ pages 0 → p < meta.body.leftmost → IsHeldPage pages (IsKnownLeaf (bodies_of pages)) pool frame
+known_held pages pool frame meta page p is shown says level first less =
+    let here : page ≡ pages frame.number = says ∙ ap (λ (n : ℕ). pages n) (sym is) in
     record {
       page = sym shown ∙ here;
       has = record {
         leaf = ap (λ (g : Page). g.body.kind) (sym here) ∙ level.kind;
         level = ap (λ (g : Page). g.body.level) (sym here) ∙ level.level;
-        counted = subst (λ (n : ℕ). n < (bodies s 0).leftmost) (sym is) (subst (λ (g : Page). p < g.body.leftmost) first less);
+        counted = subst (λ (n : ℕ). n < (bodies_of pages 0).leftmost) (sym is) (subst (λ (g : Page). p < g.body.leftmost) first less);
       };
     }
 
@@ -44,78 +51,27 @@ pub no_answer : {A : Type 0} (r : Result A Fault) (f : Fault) (P : Type 0) → I
 no_answer (Ok a) f P is = absurd is
 no_answer (Err e) f P is = tt
 
-module _ {D : Type 0} (d : Ghosts D) (b : Base) (base : ℕ) where
-  -- the page is none that is looked for
-  pub looked_none : (s : Writer) (P Q : ℕ → Type 0) (Wanted X : Type 0) (old : D) (w : PageWriter) (disk : D) (o : Option Frame) → CallKept d b base s (FindsPage s P Wanted w) old w disk (Ok o) → (X → ⊥)
-      → CallKept d b base s (FindsPage s Q X w) old w disk (Ok None)
-  looked_none s P Q Wanted X old w disk o kept never = record { ok = record { held = tt; none = λ is wanted. never wanted }; on = kept.on; stops = kept.stops; cause = tt; again = tt }
-
-  -- a get that was refused
-  pub get_refused : {A : Type 0} (s : Writer) (P : A → Type 0) (p : ℕ) (old : D) (w : PageWriter) (disk : D) (f : Fault) → GetKept d b base s p old w disk (Err f) → CallKept d b base s P old w disk (Err f)
-  get_refused s P p old w disk f kept = record { ok = tt; on = tt; stops = kept.stops; cause = kept.cause; again = kept.again }
+module _ (pages : AllPages) (pool : PoolView) (o : Option Frame) (frame : Frame) (is : o ≡ Some frame) where
+  found_here : (P : ℕ → Type 0) (Wanted : Type 0) → FindsPage pages P Wanted pool o → IsHeldPage pages P pool frame
+  found_here P Wanted found = subst (λ (x : Option Frame). IfSome x (IsHeldPage pages P pool)) is found.held
 
   -- what is lent of a known leaf
-  pub lent_says : (s : Writer) (p : ℕ) (old : D) (w : PageWriter) (disk : D) (o : Option Frame) (frame : Frame) (page : Page) → o ≡ Some frame
-      → CallKept d b base s (FindsPage s (IsKnownLeaf (bodies s)) (IsKnownLeaf (bodies s) p) w) old w disk (Ok o) → IfSome o (λ f. f.number ≡ p) → page ≡ page_at w.pool frame.number → page.body ≡ bodies s p
-  lent_says s p old w disk o frame page is kept number shown =
-      let here : CallKept d b base s (FindsPage s (IsKnownLeaf (bodies s)) (IsKnownLeaf (bodies s) p) w) old w disk (Ok (Some frame)) =
-      subst (λ (x : Option Frame). CallKept d b base s (FindsPage s (IsKnownLeaf (bodies s)) (IsKnownLeaf (bodies s) p) w) old w disk (Ok x)) is kept in
+  pub lent_says : (p : ℕ) (Wanted : Type 0) (page : Page) → FindsPage pages (IsKnownLeaf (bodies_of pages)) Wanted pool o → IfSome o (λ f. f.number ≡ p) → page ≡ page_at pool frame.number → page.body ≡ bodies_of pages p
+  lent_says p Wanted page found number shown =
+      let held = found_here (IsKnownLeaf (bodies_of pages)) Wanted found in
       let same : frame.number ≡ p = subst (λ (x : Option Frame). IfSome x (λ f. f.number ≡ p)) is number in
-      ap (λ (g : Page). g.body) (shown ∙ here.ok.held.page) ∙ ap (λ (n : ℕ). bodies s n) same
+      ap (λ (g : Page). g.body) (shown ∙ held.page) ∙ ap (λ (n : ℕ). bodies_of pages n) same
 
   -- a known leaf is that of a key
-  pub way_held : (s : Writer) (key : Key) (p : ℕ) (Wanted : Type 0) (old : D) (w : PageWriter) (disk : D) (o : Option Frame) (frame : Frame) (page : Page) → o ≡ Some frame
-      → CallKept d b base s (FindsPage s (IsKnownLeaf (bodies s)) (IsKnownLeaf (bodies s) p) w) old w disk (Ok o)
-      → page ≡ page_at w.pool frame.number → (IsKnownLeaf (bodies s) frame.number → page.body ≡ bodies s frame.number → IsOnWay (bodies s) 0 key frame.number)
-      → CallKept d b base s (FindsPage s (IsOnWay (bodies s) 0 key) Wanted w) old w disk (Ok (Some frame))
-  way_held s key p Wanted old w disk o frame page is kept shown to =
-      let here : CallKept d b base s (FindsPage s (IsKnownLeaf (bodies s)) (IsKnownLeaf (bodies s) p) w) old w disk (Ok (Some frame)) =
-      subst (λ (x : Option Frame). CallKept d b base s (FindsPage s (IsKnownLeaf (bodies s)) (IsKnownLeaf (bodies s) p) w) old w disk (Ok x)) is kept in
+  pub way_held : (key : Key) (Known Wanted : Type 0) (page : Page) → FindsPage pages (IsKnownLeaf (bodies_of pages)) Known pool o → page ≡ page_at pool frame.number
+      → (IsKnownLeaf (bodies_of pages) frame.number → page.body ≡ bodies_of pages frame.number → IsOnWay (bodies_of pages) 0 key frame.number) → FindsPage pages (IsOnWay (bodies_of pages) 0 key) Wanted pool (Some frame)
+  way_held key Known Wanted page found shown to =
+      let held = found_here (IsKnownLeaf (bodies_of pages)) Known found in
       record {
-        ok = record {
-          held = record { page = here.ok.held.page; has = to here.ok.held.has (ap (λ (g : Page). g.body) (shown ∙ here.ok.held.page)) };
-          none = λ clash. absurd (let never : ⊥ = cc clash in never);
-        };
-        on = here.on;
-        stops = here.stops;
-        cause = tt;
-        again = tt;
+        held = record { page = held.page; has = to held.has (ap (λ (g : Page). g.body) (shown ∙ held.page)) };
+        none = λ clash. absurd (let never : ⊥ = cc clash in never);
       }
 
   -- the leaf is held
-  pub place_held : (s : Writer) (key : Key) (Wanted : Type 0) (old : D) (w : PageWriter) (disk : D) (o : Option Frame) (frame : Frame) → o ≡ Some frame
-      → CallKept d b base s (FindsPage s (IsOnWay (bodies s) 0 key) Wanted w) old w disk (Ok o)
-      → PlaceKept d b base s key old w disk (Ok frame)
-  place_held s key Wanted old w disk o frame is kept =
-      let here : CallKept d b base s (FindsPage s (IsOnWay (bodies s) 0 key) Wanted w) old w disk (Ok (Some frame)) =
-      subst (λ (x : Option Frame). CallKept d b base s (FindsPage s (IsOnWay (bodies s) 0 key) Wanted w) old w disk (Ok x)) is kept in
-      record {
-        ok = record { now = here.on.now; on = here.on.on; page = here.ok.held.page; way = here.ok.held.has };
-        stops = here.stops;
-        cause = tt;
-        again = tt;
-      }
-
-  pub place_refused : {A : Type 0} (s : Writer) (P : A → Type 0) (key : Key) (old : D) (w : PageWriter) (disk : D) (f : Fault) → CallKept d b base s P old w disk (Err f) → (r : Result Frame Fault) → IsErrAnd r (λ e. e ≡ f)
-      → PlaceKept d b base s key old w disk r
-  place_refused s P key old w disk f kept (Ok frame) is = absurd is
-  place_refused s P key old w disk f kept (Err e) is = record {
-    ok = tt;
-    stops = kept.stops;
-    cause = λ same. kept.cause (sym is ∙ same);
-    again = subst (λ (x : Fault). (x ≡ Memory) ⊎ (x ≡ NotAStore) → Evicted d b base s old w disk) (sym is) kept.again;
-  }
-
-  -- it is searched for behind other calls
-  pub place_searched : (s : Writer) (key : Key) (gets : ℕ) (old : D) (t : Writer) (w : PageWriter) (mid : D) → GoesOn d b base s old t w mid → (v : PageWriter) (new : D) (r : Result Frame Fault)
-      → LeafKept d b base t key gets mid v new r → PlaceKept d b base s key old v new r
-  place_searched s key gets old t w mid on v new r kept = record {
-    ok = by r kept.ok;
-    stops = stops_past d b base s old t w mid on new kept.stops;
-    cause = kept.cause;
-    again = again_on r _ _ _ kept.again (evicted_past d b base s old t w mid on v new);
-  }
-    where
-      by : (x : Result Frame Fault) → IfOk x (λ frame. Reached d b base t key 0 frame.number mid v new) → IfOk x (λ frame. Reached d b base s key 0 frame.number old v new)
-      by (Ok frame) is = reached_then d b base s old t w mid on 0 key frame.number v new is
-      by (Err e) is = tt
+  pub place_held : (key : Key) (Wanted : Type 0) → FindsPage pages (IsOnWay (bodies_of pages) 0 key) Wanted pool o → IsReached pages key 0 frame.number pool
+  place_held key Wanted found = let held = found_here (IsOnWay (bodies_of pages) 0 key) Wanted found in record { shown = held.page; way = held.has }

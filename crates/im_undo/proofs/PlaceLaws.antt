@@ -1,5 +1,5 @@
 -- A page that is known to be the leaf of a key.
-use Rattle.std.proofs.Common.{◌≡◌, ◌<◌, ◌≤◌, ◌↔◌, ℕ, zero, false, true, nat_lt, List, [], length, Ok, Err, subst, ⊎_elim, arith}
+use Rattle.std.proofs.Common.{◌≡◌, ◌<◌, ◌≤◌, ◌↔◌, ℕ, zero, false, nat_lt, List, [], length, Ok, Err, subst, ⊎_elim, arith}
 use Rattle.std.proofs.lemmas.Bool.{cases_lt, lt-ltb, ltb-true}
 use Rattle.std.specs.Bool.{IsTrue}
 use Rattle.im_types.specs.Keys.{Key, IsBelow}

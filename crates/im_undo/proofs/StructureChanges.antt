@@ -1,21 +1,29 @@
 -- Structure changes on the way of an undo.
-use Rattle.std.proofs.Common.{◌≡◌, ◌≢◌, ◌⊎◌, inl, ℕ, Option, Some, None, Result, Ok, Err, sym, ap, ◌∙◌}
-use Rattle.std.specs.Result.{IsErrAnd}
+use Rattle.std.proofs.Common.{◌≡◌, inl, ℕ, true, Some, None, Result, Ok, Err, refl, ap}
 use Rattle.im_types.specs.declared.fault.Fault.{Fault}
+use Rattle.im_types.specs.declared.fault.Fault.TheVariants.{Capacity, Memory, NotAStore}
 use Rattle.im_types.specs.Keys.{Key}
 use Rattle.im_types.specs.Histories.{Base}
 use Rattle.im_types.specs.Writer.{Writer}
 use Rattle.im_disk.specs.declared.disk.Disk.{Ghosts}
 use Rattle.im_flush.specs.declared.page_writer.PageWriter.{PageWriter}
+use Rattle.im_alloc.specs.Kept.{mild_to_take}
+use Rattle.im_split.specs.Kept.{mild_to_split}
 use Rattle.im_analysis.specs.declared.rows.Loser.{Loser}
-use Rattle.im_analysis.proofs.Losers.{loser_unfinished}
 use Rattle.im_change.specs.Changes.{LeavesChange, Begun}
 use Rattle.im_change.proofs.Closing.{change_contents}
 use Rattle.im_structure.specs.Structure as structure
 use Rattle.im_undo.specs.Undoing.{IsGoing, HasBegun, Restructured, SplitKept, EmptiedKept}
 use Rattle.im_undo.proofs.Growth.{grows_change, none_change, left_change}
 use Rattle.im_undo.proofs.Composing.{images_made}
-use Rattle.im_undo.proofs.StructureLogs.{same_stack, loser_still, row_is}
+use Rattle.im_undo.proofs.StructureLogs.{same_stack, row_is}
+
+-- a split without a limit of pages is not refused for want of them
+pub split_mildly : (e : Fault) → mild_to_split None e ≡ true → mild_to_take e ≡ true
+split_mildly Memory is = refl
+split_mildly NotAStore is = refl
+split_mildly Capacity is = refl
+split_mildly e is = absurd (cc is)
 
 module _ {D : Type 0} (d : Ghosts D) (b : Base) (base : ℕ) where
   -- a record of one joined the log
@@ -33,7 +41,7 @@ module _ {D : Type 0} (d : Ghosts D) (b : Base) (base : ℕ) where
       closed = g.can.closed;
       newest = ap (λ (r : Loser). r.last) g.row;
       undo = ap (λ (r : Loser). r.undo_next) g.row;
-      unfinished = loser_unfinished t s.log g.loser;
+      unfinished = g.unfinished;
     }
 
     -- it is undone still behind a structure change
@@ -45,7 +53,8 @@ module _ {D : Type 0} (d : Ghosts D) (b : Base) (base : ℕ) where
           stands = made.stands.stands;
           over = made.stands.over;
           can = record { lawful = made.stands.lawful; closed = made.stands.closed };
-          loser = loser_still t s.log made.now.log made.grows g.loser made.stands.unfinished;
+          owner = g.owner;
+          unfinished = made.stands.unfinished;
           row = row_is t l undo_next made.now.log made.stands.newest made.stands.undo;
         };
         point = made.point;
@@ -63,18 +72,14 @@ module _ {D : Type 0} (d : Ghosts D) (b : Base) (base : ℕ) where
     pub split_kept : (key : Key) (w : PageWriter) (disk : D) (r : Result ℕ Fault) → structure.SplitKept d b base s e t undo_next key None old w disk r → SplitKept d b base s e t undo_next key old w disk r
     unfolding restructured grows_change
     split_kept key w disk (Ok l) kept = record {
-      ok = record { made = restructured l w disk kept.ok.made kept.stops; fits = kept.ok.fits; some = kept.ok.some; only = kept.ok.only };
+      sound = record { made = restructured l w disk kept.sound.made kept.stops; fits = kept.sound.fits; some = kept.sound.some; only = kept.sound.only };
       stops = left_change d b base s t old disk kept.stops;
-      cause = tt;
-      again = tt;
       used_up = tt;
       begun = tt;
     }
     split_kept key w disk (Err f) kept = record {
-      ok = tt;
+      sound = kept.sound;
       stops = left_change d b base s t old disk kept.stops;
-      cause = kept.cause;
-      again = λ memory. kept.again (inl memory);
       used_up = λ up. record { lacks = kept.lacks (inl up); used_up = kept.used_up up };
       begun = λ failed. begun_as s t w disk (kept.begun failed);
     }
@@ -83,17 +88,16 @@ module _ {D : Type 0} (d : Ghosts D) (b : Base) (base : ℕ) where
 
     -- it left the tree, or is no empty leaf
     pub emptied : (key : Key) (w : PageWriter) (disk : D) (l : ℕ) → structure.DropKept d b base s e t undo_next key old w disk (Ok (Some l)) → EmptiedKept d b base s e t undo_next old w disk (Ok l)
-    emptied key w disk l kept = record { ok = restructured l w disk kept.ok.made kept.stops; stops = left_change d b base s t old disk kept.stops; cause = tt; begun = tt }
+    emptied key w disk l kept = record { sound = restructured l w disk kept.sound.made kept.stops; stops = left_change d b base s t old disk kept.stops; begun = tt }
 
     -- it stays for want of memory
     pub emptied_none : (key : Key) (w : PageWriter) (disk : D) → structure.DropKept d b base s e t undo_next key old w disk (Ok None) → EmptiedKept d b base s e t undo_next old w disk (Ok last)
     emptied_none key w disk kept = record {
-      ok = images_made d b base s e t last undo_next v old g kept.ok.now w disk kept.ok.on;
+      sound = images_made d b base s e t last undo_next v old g kept.sound.now w disk kept.sound.on;
       stops = left_change d b base s t old disk kept.stops;
-      cause = tt;
       begun = tt;
     }
 
     -- it was refused
     pub emptied_refused : (key : Key) (w : PageWriter) (disk : D) (f : Fault) → structure.DropKept d b base s e t undo_next key old w disk (Err f) → EmptiedKept d b base s e t undo_next old w disk (Err f)
-    emptied_refused key w disk f kept = record { ok = tt; stops = left_change d b base s t old disk kept.stops; cause = kept.cause; begun = λ failed. begun_as s t w disk (kept.begun failed) }
+    emptied_refused key w disk f kept = record { sound = kept.sound; stops = left_change d b base s t old disk kept.stops; begun = λ failed. begun_as s t w disk (kept.begun failed) }

@@ -1,16 +1,14 @@
 -- What a transaction has left to undo, over a structure change in the log that is closed.
 use Rattle.std.proofs.Common.{◌≡◌, ℕ, Bool, true, false, [], ◌∷◌, ◌++◌, inl, inr, refl, sym, ap, ◌∙◌, ◌==◌}
-use Rattle.std.specs.Prelude.{not, ◌&&◌, nat_le}
-use Rattle.std.proofs.lemmas.Bool.{and_parts, cases_eq, cond-true, cond-false, eq-eqb, ne_eqb, or_right}
+use Rattle.std.proofs.lemmas.Bool.{cases_eq, cond-true, cond-false, eq-eqb, ne_eqb}
 use Rattle.im_types.specs.Records.{What, InsertKey, DeleteKey, UndoInsert, UndoDelete, Smo, UndoSmo, DummyClr, Commit, End, Image, Checkpoint, Unreadable, Logged}
 use Rattle.im_types.specs.Histories.{Base, History}
-use Rattle.im_types.specs.Transactions.{is_finished, is_smo, last_of, undo_next_of, stack_after, to_undo, without_smo}
+use Rattle.im_types.specs.Transactions.{is_smo, last_of, undo_next_of, stack_after, to_undo, without_smo}
 use Rattle.im_types.proofs.OpenSmo.{part, smo_goes, split}
 use Rattle.im_tree.specs.Good.{AllOf}
 use Rattle.im_tree.specs.Theory.{page_tree}
-use Rattle.im_analysis.specs.Losers.{has_record, is_loser, row_of}
+use Rattle.im_analysis.specs.Losers.{row_of}
 use Rattle.im_analysis.specs.Undo.{IsUndoable}
-use Rattle.im_analysis.proofs.Losers.{loser_from, loser_number}
 use Rattle.im_change.specs.Changes.{IsOfChange, GrowsByChange}
 
 -- ---- stacks
@@ -62,20 +60,7 @@ pub same_stack : (b : Base) (t u : ℕ) (older longer : History) → IsUndoable 
 same_stack b t u older longer was now grows =
     sym (plain_stack b longer u now) ∙ ap (λ (l : History). without_smo (to_undo u l)) grows.is ∙ more_stacks t u grows.more older grows.all ∙ plain_stack b older u was
 
--- ---- losers and their rows
-
-has_more : (t : ℕ) (more older : History) → has_record t older ≡ true → has_record t (more ++ older) ≡ true
-has_more t [] older has = has
-has_more t (r ∷ more) older has = or_right (r.txn == t) (has_record t (more ++ older)) (has_more t more older has)
-
-loser_has : (t : ℕ) (log : History) → is_loser t log ≡ true → has_record t log ≡ true
-loser_has t log is =
-    (and_parts (has_record t log) (not (is_finished t log)) (and_parts (nat_le 1 t) (has_record t log && not (is_finished t log)) is).1).0
-
--- a loser that is not finished is one still
-pub loser_still : (t : ℕ) (older longer : History) → GrowsByChange t older longer → is_loser t older ≡ true → is_finished t longer ≡ false → is_loser t longer ≡ true
-loser_still t older longer grows is going =
-    loser_from t longer (loser_number t older is) (ap (has_record t) grows.is ∙ has_more t grows.more older (loser_has t older is)) going
+-- ---- rows
 
 pub row_is : (t last undo_next : ℕ) (log : History) → last_of t log ≡ last → undo_next_of t log ≡ undo_next → row_of t log ≡ record { last = last; undo_next = undo_next }
 row_is t last undo_next log one two =

@@ -1,23 +1,19 @@
 -- Where the leaf of a key is found.
-use Rattle.std.specs.Prelude.{◌≡◌, ◌≢◌, ◌<◌, ◌≤◌, ℕ, List, length, Option, None, IfSome, Result, IfErr, IfOk}
-use Rattle.im_types.specs.declared.fault.Fault.{Fault}
-use Rattle.im_types.specs.declared.fault.Fault.TheVariants.{NotAStore}
+use Rattle.std.specs.Prelude.{◌≡◌, ◌<◌, ◌≤◌, ℕ, List, [], length, Option, None, IfSome}
 use Rattle.im_types.specs.declared.page_kind.PageKind.TheVariants.{Leaf, Meta}
 use Rattle.im_types.specs.Keys.{Key, IsBelow}
 use Rattle.im_types.specs.Pages.{Body, Entry}
-use Rattle.im_types.specs.Histories.{Base}
-use Rattle.im_types.specs.Writer.{Writer}
 use Rattle.im_disk.specs.declared.disk.Disk.{Ghosts}
 use Rattle.im_page.specs.Entry.{entry_at}
 use Rattle.im_page.specs.Page.{is_leaf_kind}
 use Rattle.im_page.specs.Split.{HasRoom}
 use Rattle.im_pool.specs.declared.frame.Frame.{Frame}
-use Rattle.im_pool.specs.Pool.{page_at}
+use Rattle.im_pool.specs.Pool.{PoolView, page_at}
 use Rattle.im_flush.specs.declared.page_writer.PageWriter.{PageWriter}
-use Rattle.im_flush.specs.Writing.{LeavesGrown}
-use Rattle.im_flush.specs.PageWriter.{StaysOn}
+use Rattle.im_flush.specs.Outcome.{AllPages, AreLoaded, HasPages}
 use Rattle.im_tree.specs.Levels.{Pages}
-use Rattle.im_search.specs.Found.{Reached}
+use Rattle.im_tree.specs.Good.{IsGoodTree}
+use Rattle.im_search.specs.Levels.{bodies_of}
 
 -- ---- what a page says of a key
 
@@ -54,26 +50,23 @@ pub record HasGap (page : Body) (key : Key) : Type 0 where
   pub absent : HasKey page.entries key → ⊥
   pub between : Surrounds page.entries key
 
--- The page is held, is the writer's, and has this property.
-pub record IsHeldPage (s : Writer) (P : ℕ → Type 0) (w : PageWriter) (frame : Frame) : Type 0 where
-  pub page : page_at w.pool frame.number ≡ (s.pages frame.number).page
+-- The page is held, is the store's, and has this property.
+pub record IsHeldPage (pages : AllPages) (P : ℕ → Type 0) (pool : PoolView) (frame : Frame) : Type 0 where
+  pub page : page_at pool frame.number ≡ pages frame.number
   pub has : P frame.number
 
 -- and so is the page that is answered, if there is one
-abbrev pub IfHeldPage : Writer → (ℕ → Type 0) → PageWriter → Option Frame → Type 0
-IfHeldPage s P w found = IfSome found (IsHeldPage s P w)
+abbrev pub IfHeldPage : AllPages → (ℕ → Type 0) → PoolView → Option Frame → Type 0
+IfHeldPage pages P pool found = IfSome found (IsHeldPage pages P pool)
 
 -- and there is one wherever this is so
-pub record FindsPage (s : Writer) (P : ℕ → Type 0) (Wanted : Type 0) (w : PageWriter) (found : Option Frame) : Type 0 where
-  pub held : IfHeldPage s P w found
+pub record FindsPage (pages : AllPages) (P : ℕ → Type 0) (Wanted : Type 0) (pool : PoolView) (found : Option Frame) : Type 0 where
+  pub held : IfHeldPage pages P pool found
   pub none : found ≡ None → Wanted → ⊥
 
--- ---- the leaf of a key
+-- ---- what the search asks
 
-module _ {D : Type 0} (d : Ghosts D) (b : Base) (base : ℕ) where
-  -- The key's leaf is held, and is the writer's; each page is as it was, and the log has Images more. It is not refused as no store.
-  pub record PlaceKept (s : Writer) (key : Key) (old : D) (w : PageWriter) (disk : D) (result : Result Frame Fault) : Type 0 where
-    pub ok : IfOk result (λ frame. Reached d b base s key 0 frame.number old w disk)
-    pub stops : LeavesGrown d b base s old disk
-    pub cause : IfErr result (λ e. e ≢ NotAStore)
-    pub again : StaysOn d b base s old w disk result
+-- The writer has these pages, all with their copies, and they are a good tree: each page below the page count is of the tree or free.
+pub record HasWholeTree {D : Type 0} (d : Ghosts D) (pages : AllPages) (w : PageWriter) (disk : D) : Type 0 where
+  pub has : HasPages d AreLoaded pages w disk
+  pub good : IsGoodTree (bodies_of pages) []

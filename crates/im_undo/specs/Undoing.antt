@@ -1,13 +1,13 @@
 -- What it asks to take a key record back, how the log stands on the way, and what is kept.
-use Rattle.std.specs.Prelude.{◌≡◌, ◌≢◌, ◌≤◌, ◌⊎◌, ◌-◌, ◌^◌, ℕ, true, false, List, [], ◌∷◌, length, Some, None, Result, IfErr, IfOk}
+use Rattle.std.specs.Prelude.{◌≡◌, ◌≤◌, ℕ, true, false, [], ◌∷◌, length, Some, None, Result, IfErr}
 use Rattle.std.specs.FinMap.Entries.{find}
 use Rattle.im_types.specs.declared.fault.Fault.{Fault}
-use Rattle.im_types.specs.declared.fault.Fault.TheVariants.{Capacity, Failed, Memory, NotAStore}
+use Rattle.im_types.specs.declared.fault.Fault.TheVariants.{Capacity, Failed}
 use Rattle.im_types.specs.Keys.{Key, key_order}
-use Rattle.im_types.specs.Records.{What, InsertKey, DeleteKey, Logged}
+use Rattle.im_types.specs.Records.{What, InsertKey, DeleteKey}
 use Rattle.im_types.specs.Histories.{Base, History, IsFront}
 use Rattle.im_types.specs.Lawful.{IsLawful}
-use Rattle.im_types.specs.Transactions.{to_undo, contents, contents_after}
+use Rattle.im_types.specs.Transactions.{to_undo, contents, contents_after, is_finished}
 use Rattle.im_types.specs.Writer.{Writer}
 use Rattle.im_disk.specs.declared.disk.Disk.{Ghosts}
 use Rattle.im_disk.specs.Disk.{Files}
@@ -17,17 +17,18 @@ use Rattle.im_log.specs.Whats.{what_of}
 use Rattle.im_log.specs.Spelled.{logged_at}
 use Rattle.im_flush.specs.declared.page_writer.PageWriter.{PageWriter}
 use Rattle.im_flush.specs.Stands.{IsCovered}
-use Rattle.im_flush.specs.PageWriter.{StandsAs, Evicted}
+use Rattle.im_flush.specs.PageWriter.{StandsAs}
+use Rattle.im_flush.specs.Outcome.{IsSound}
 use Rattle.im_page.specs.Split.{HasRoom}
-use Rattle.im_tree.specs.Levels.{Pages, height, walk}
+use Rattle.im_tree.specs.Levels.{Pages, walk}
 use Rattle.im_tree.specs.Search.{IsOnWay}
 use Rattle.im_tree.specs.Theory.{page_tree}
-use Rattle.im_alloc.specs.Seen.{bodies}
+use Rattle.im_search.specs.Levels.{bodies}
 use Rattle.im_change.specs.Changes.{HasRecordOf}
 use Rattle.im_split.specs.Tops.{LacksRoomFor}
 use Rattle.im_split.specs.Plan.{FitsInLeaf}
 use Rattle.im_structure.specs.Structure.{IsUsedUp}
-use Rattle.im_analysis.specs.Losers.{is_loser, row_of}
+use Rattle.im_analysis.specs.Losers.{row_of}
 use Rattle.im_analysis.specs.Undo.{IsUndoable, IsNext}
 use Rattle.im_undo.specs.Records.{GrowsByUndo, compensations, inverse_of}
 
@@ -54,12 +55,13 @@ UsesUp pages (DeleteKey k i) = CanNotSplit pages k
 UsesUp pages _ = ⊥
 
 module _ {D : Type 0} (d : Ghosts D) (b : Base) (base : ℕ) where
-  -- Redo is over, the log lawful, and no structure change open; the transaction is unfinished, its records end at this LSN, and its undo goes on at this one.
+  -- Redo is over, the log lawful, and no structure change open; the transaction is not finished, its records end at this LSN, and its undo goes on at this one.
   pub record IsGoing (s : Writer) (e t last undo_next : ℕ) (w : PageWriter) (disk : D) : Type 0 where
     pub stands : StandsAs d b base s w disk
     pub over : s.redo_end ≡ Some e
     pub can : IsUndoable b page_tree s.log
-    pub loser : is_loser t s.log ≡ true
+    pub owner : 1 ≤ t
+    pub unfinished : is_finished t s.log ≡ false
     pub row : row_of t s.log ≡ record { last = last; undo_next = undo_next }
 
   -- A stop left a front of a lawful log, which is the older one with records that take back what transaction t did, and pages that it covers.
@@ -100,9 +102,8 @@ module _ {D : Type 0} (d : Ghosts D) (b : Base) (base : ℕ) where
 
   -- what the deletion of the leaf keeps that a compensation left empty, which may stay for want of memory
   pub record EmptiedKept (s : Writer) (e t undo_next : ℕ) (old : D) (w : PageWriter) (disk : D) (result : Result ℕ Fault) : Type 0 where
-    pub ok : IfOk result (λ last. Restructured s e t last undo_next old w disk)
+    pub sound : IsSound result (λ last. Restructured s e t last undo_next old w disk)
     pub stops : LeavesUndo s t old disk
-    pub cause : IfErr result (λ e. e ≢ NotAStore)
     pub begun : IfErr result (λ e. e ≡ Failed → HasBegun s t w disk)
 
   -- The leaf of the key has room; a structure was changed just where it lacked that.
@@ -112,12 +113,10 @@ module _ {D : Type 0} (d : Ghosts D) (b : Base) (base : ℕ) where
     pub some : LacksRoomFor (bodies s) key → HasRecordOf t made.goes.grows.more
     pub only : HasRecordOf t made.goes.grows.more → LacksRoomFor (bodies s) key
 
-  -- what the split of a key's leaf keeps; a want of memory leaves all as it was, or is `Failed` behind a record
+  -- what the split of a key's leaf keeps; it is refused `Failed` behind a record of the transaction
   pub record SplitKept (s : Writer) (e t undo_next : ℕ) (key : Key) (old : D) (w : PageWriter) (disk : D) (result : Result ℕ Fault) : Type 0 where
-    pub ok : IfOk result (λ last. HasMadeRoom s e t last undo_next key old w disk)
+    pub sound : IsSound result (λ last. HasMadeRoom s e t last undo_next key old w disk)
     pub stops : LeavesUndo s t old disk
-    pub cause : IfErr result (λ e. e ≢ NotAStore)
-    pub again : IfErr result (λ e. e ≡ Memory → Evicted d b base s old w disk)
     pub used_up : IfErr result (λ e. e ≡ Capacity → CanNotSplit (bodies s) key)
     pub begun : IfErr result (λ e. e ≡ Failed → HasBegun s t w disk)
 
@@ -137,11 +136,9 @@ module _ {D : Type 0} (d : Ghosts D) (b : Base) (base : ℕ) where
     pub map : contents b now.log ≡ contents_after (inverse_of (what_of entry)) (contents b s.log)
     pub once : length (compensations goes.grows.more) ≡ 1
 
-  -- What a compensation keeps. A want of memory leaves all as it was, or is `Failed` behind a record of the transaction; `Capacity` comes only where a key that is put back finds its leaf without room, and page numbers or levels are used up.
+  -- What a compensation keeps. It is refused `Failed` behind a record of the transaction; `Capacity` comes only where a key that is put back finds its leaf without room, and page numbers or levels are used up.
   pub record CompensateKept (s : Writer) (e t : ℕ) (entry : Entry) (old : D) (w : PageWriter) (disk : D) (result : Result ℕ Fault) : Type 0 where
-    pub ok : IfOk result (λ last. TakenBack s e t entry last old w disk)
+    pub sound : IsSound result (λ last. TakenBack s e t entry last old w disk)
     pub stops : LeavesUndo s t old disk
-    pub cause : IfErr result (λ e. e ≢ NotAStore)
-    pub again : IfErr result (λ e. e ≡ Memory → Evicted d b base s old w disk)
     pub used_up : IfErr result (λ e. e ≡ Capacity → UsesUp (bodies s) (what_of entry))
     pub begun : IfErr result (λ e. e ≡ Failed → HasBegun s t w disk)

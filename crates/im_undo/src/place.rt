@@ -1,18 +1,13 @@
 //! Where the leaf is that a key record is taken back in.
 
-ghost use Rattle.std.specs.Prelude.{◌≡◌, ◌<◌, ◌⊎◌, ◌↔◌, ◌+◌, ℕ, true, false, [], Err, IfErr, IfOk, IfSome, OnOk, IsTrue};
-ghost use Rattle.im_types.specs.declared.fault.Fault.TheVariants.{Device, LogFull, Memory, NotAStore};
-ghost use Rattle.im_types.specs.declared.page_kind.PageKind.TheVariants.{Leaf};
-ghost use Rattle.im_types.specs.Histories.{Base};
-ghost use Rattle.im_types.specs.Writer.{Writer};
-ghost use Rattle.im_log.specs.LogFile.{HasNoRoom};
+ghost use Rattle.std.specs.Prelude.{◌≡◌, ◌<◌, ◌↔◌, ◌+◌, IfOk, IfSome, OnOk, IsTrue};
 ghost use Rattle.im_pool.specs.Pool.{page_at, IsAt};
 ghost use Rattle.im_flush.specs.PageWriter.{IsReadyWriter};
+ghost use Rattle.im_flush.specs.Outcome.{fault_of, AllPages, IsSound, Reads};
 ghost use Rattle.im_tree.specs.Search.{IsOnWay};
-ghost use Rattle.im_search.specs.Levels.{bodies};
-ghost use Rattle.im_search.specs.Found.{HasTree};
-ghost use Rattle.im_search.specs.Kept.{CallKept};
-ghost use Rattle.im_undo.specs.Place.{CountsPage, HasKey, HasGap, IsKnownLeaf, FindsPage, PlaceKept};
+ghost use Rattle.im_search.specs.Levels.{HasLevel, bodies_of};
+ghost use Rattle.im_search.specs.Found.{IsReached};
+ghost use Rattle.im_undo.specs.Place.{CountsPage, HasKey, HasGap, HasWholeTree, IsKnownLeaf, FindsPage};
 
 use im_disk::Disk;
 use im_flush::PageWriter;
@@ -61,19 +56,13 @@ fn known_leaf<D: Disk>(
     page: PageNo,
 ) -> Result<Option<Frame>, Fault>
     requires ready { IsReadyWriter D.Disk writer.old disk.old }
-    requires working { writer.old.failed ≡ false }
-    ensures ready { IsReadyWriter D.Disk writer.new disk.new }
-    ensures kept { (b : Base) (base : ℕ) (s : Writer) → HasTree D.Disk b base s [] writer.old disk.old
-        → CallKept D.Disk b base s (FindsPage s (IsKnownLeaf (bodies s)) (IsKnownLeaf (bodies s) page) writer.new) disk.old writer.new disk.new result }
+    ensures outcome { Reads D.Disk writer.old disk.old writer.new disk.new (fault_of result) }
+    ensures kept { (pages : AllPages) → HasWholeTree D.Disk pages writer.old disk.old
+        → IsSound result (FindsPage pages (IsKnownLeaf (bodies_of pages)) (IsKnownLeaf (bodies_of pages) page) writer.new.pool) }
     ensures frame { IfOk result (λ found. IfSome found (λ frame. frame.number ≡ page)) }
     ensures gets { IfOk result (λ found. IfSome found (λ _. writer.new.pool.gets ≡ writer.old.pool.gets + 2)) }
     ensures at { IfOk result (λ found. IfSome found (IsAt writer.new.pool)) }
-    ensures leaf { IfOk result (λ found. IfSome found (λ frame. (page_at writer.new.pool frame.number).body.kind ≡ Leaf)) }
-    ensures works { OnOk result (writer.new.failed ≡ false) }
-    ensures fails { IfErr result (λ e. (writer.new.failed ≡ false) ↔ ((e ≡ Memory) ⊎ (e ≡ NotAStore))) }
-    ensures causes { IfErr result (λ e. (e ≡ LogFull) ⊎ (e ≡ Memory) ⊎ (e ≡ NotAStore) ⊎ (e ≡ Device)) }
-    ensures no_room { result ≡ Err LogFull → HasNoRoom writer.new.log }
-    ensures device { result ≡ Err Device ↔ (D.failed disk.new ≡ true) }
+    ensures leaf { IfOk result (λ found. IfSome found (λ frame. HasLevel 0 (page_at writer.new.pool frame.number).body)) }
 {
     let meta = writer.get(disk, 0)?;
     if !counts(writer.page(meta), page) {
@@ -94,19 +83,13 @@ fn page_with<D: Disk>(
     key: &[u8],
 ) -> Result<Option<Frame>, Fault>
     requires ready { IsReadyWriter D.Disk writer.old disk.old }
-    requires working { writer.old.failed ≡ false }
-    ensures ready { IsReadyWriter D.Disk writer.new disk.new }
-    ensures kept { (b : Base) (base : ℕ) (s : Writer) → HasTree D.Disk b base s [] writer.old disk.old
-        → CallKept D.Disk b base s (FindsPage s (IsOnWay (bodies s) 0 key.now) (IsKnownLeaf (bodies s) page × HasKey (bodies s page).entries key.now) writer.new) disk.old writer.new disk.new result }
+    ensures outcome { Reads D.Disk writer.old disk.old writer.new disk.new (fault_of result) }
+    ensures kept { (pages : AllPages) → HasWholeTree D.Disk pages writer.old disk.old
+        → IsSound result (FindsPage pages (IsOnWay (bodies_of pages) 0 key.now) (IsKnownLeaf (bodies_of pages) page × HasKey (bodies_of pages page).entries key.now) writer.new.pool) }
     ensures frame { IfOk result (λ found. IfSome found (λ frame. frame.number ≡ page)) }
     ensures gets { IfOk result (λ found. IfSome found (λ _. writer.new.pool.gets ≡ writer.old.pool.gets + 2)) }
     ensures at { IfOk result (λ found. IfSome found (IsAt writer.new.pool)) }
-    ensures leaf { IfOk result (λ found. IfSome found (λ frame. (page_at writer.new.pool frame.number).body.kind ≡ Leaf)) }
-    ensures works { OnOk result (writer.new.failed ≡ false) }
-    ensures fails { IfErr result (λ e. (writer.new.failed ≡ false) ↔ ((e ≡ Memory) ⊎ (e ≡ NotAStore))) }
-    ensures causes { IfErr result (λ e. (e ≡ LogFull) ⊎ (e ≡ Memory) ⊎ (e ≡ NotAStore) ⊎ (e ≡ Device)) }
-    ensures no_room { result ≡ Err LogFull → HasNoRoom writer.new.log }
-    ensures device { result ≡ Err Device ↔ (D.failed disk.new ≡ true) }
+    ensures leaf { IfOk result (λ found. IfSome found (λ frame. HasLevel 0 (page_at writer.new.pool frame.number).body)) }
 {
     let Some(frame) = known_leaf(writer, disk, page)? else {
         return Ok(None);
@@ -125,19 +108,13 @@ fn page_around<D: Disk>(
     key: &[u8],
 ) -> Result<Option<Frame>, Fault>
     requires ready { IsReadyWriter D.Disk writer.old disk.old }
-    requires working { writer.old.failed ≡ false }
-    ensures ready { IsReadyWriter D.Disk writer.new disk.new }
-    ensures kept { (b : Base) (base : ℕ) (s : Writer) → HasTree D.Disk b base s [] writer.old disk.old
-        → CallKept D.Disk b base s (FindsPage s (IsOnWay (bodies s) 0 key.now) (IsKnownLeaf (bodies s) page × HasGap (bodies s page) key.now) writer.new) disk.old writer.new disk.new result }
+    ensures outcome { Reads D.Disk writer.old disk.old writer.new disk.new (fault_of result) }
+    ensures kept { (pages : AllPages) → HasWholeTree D.Disk pages writer.old disk.old
+        → IsSound result (FindsPage pages (IsOnWay (bodies_of pages) 0 key.now) (IsKnownLeaf (bodies_of pages) page × HasGap (bodies_of pages page) key.now) writer.new.pool) }
     ensures frame { IfOk result (λ found. IfSome found (λ frame. frame.number ≡ page)) }
     ensures gets { IfOk result (λ found. IfSome found (λ _. writer.new.pool.gets ≡ writer.old.pool.gets + 2)) }
     ensures at { IfOk result (λ found. IfSome found (IsAt writer.new.pool)) }
-    ensures leaf { IfOk result (λ found. IfSome found (λ frame. (page_at writer.new.pool frame.number).body.kind ≡ Leaf)) }
-    ensures works { OnOk result (writer.new.failed ≡ false) }
-    ensures fails { IfErr result (λ e. (writer.new.failed ≡ false) ↔ ((e ≡ Memory) ⊎ (e ≡ NotAStore))) }
-    ensures causes { IfErr result (λ e. (e ≡ LogFull) ⊎ (e ≡ Memory) ⊎ (e ≡ NotAStore) ⊎ (e ≡ Device)) }
-    ensures no_room { result ≡ Err LogFull → HasNoRoom writer.new.log }
-    ensures device { result ≡ Err Device ↔ (D.failed disk.new ≡ true) }
+    ensures leaf { IfOk result (λ found. IfSome found (λ frame. HasLevel 0 (page_at writer.new.pool frame.number).body)) }
 {
     let Some(frame) = known_leaf(writer, disk, page)? else {
         return Ok(None);
@@ -150,6 +127,7 @@ fn page_around<D: Disk>(
 
 /// Where the leaf of a key is held from now on that is in the tree: this page, where it is a leaf of the tree that has the key, by two
 /// gets, and otherwise by a search from the root.
+#[tactic(auto, using(im_flush::proofs::Outcomes::then, im_flush::proofs::Outcomes::refused))]
 pub(crate) fn leaf_with<D: Disk>(
     writer: &mut PageWriter,
     disk: &mut D,
@@ -157,18 +135,13 @@ pub(crate) fn leaf_with<D: Disk>(
     key: &[u8],
 ) -> Result<Frame, Fault>
     requires ready { IsReadyWriter D.Disk writer.old disk.old }
-    requires working { writer.old.failed ≡ false }
-    ensures ready { IsReadyWriter D.Disk writer.new disk.new }
-    ensures kept { (b : Base) (base : ℕ) (s : Writer) → HasTree D.Disk b base s [] writer.old disk.old → PlaceKept D.Disk b base s key.now disk.old writer.new disk.new result }
-    ensures quick { (b : Base) (base : ℕ) (s : Writer) → HasTree D.Disk b base s [] writer.old disk.old → IsKnownLeaf (bodies s) page → HasKey (bodies s page).entries key.now
+    ensures outcome { Reads D.Disk writer.old disk.old writer.new disk.new (fault_of result) }
+    ensures kept { (pages : AllPages) → HasWholeTree D.Disk pages writer.old disk.old
+        → IsSound result (λ frame. IsReached pages key.now 0 frame.number writer.new.pool) }
+    ensures quick { (pages : AllPages) → HasWholeTree D.Disk pages writer.old disk.old → IsKnownLeaf (bodies_of pages) page → HasKey (bodies_of pages page).entries key.now
         → OnOk result (writer.new.pool.gets ≡ writer.old.pool.gets + 2) }
     ensures at { IfOk result (IsAt writer.new.pool) }
-    ensures leaf { IfOk result (λ frame. (page_at writer.new.pool frame.number).body.kind ≡ Leaf) }
-    ensures works { OnOk result (writer.new.failed ≡ false) }
-    ensures fails { IfErr result (λ e. (writer.new.failed ≡ false) ↔ ((e ≡ Memory) ⊎ (e ≡ NotAStore))) }
-    ensures causes { IfErr result (λ e. (e ≡ LogFull) ⊎ (e ≡ Memory) ⊎ (e ≡ NotAStore) ⊎ (e ≡ Device)) }
-    ensures no_room { result ≡ Err LogFull → HasNoRoom writer.new.log }
-    ensures device { result ≡ Err Device ↔ (D.failed disk.new ≡ true) }
+    ensures leaf { IfOk result (λ frame. HasLevel 0 (page_at writer.new.pool frame.number).body) }
 {
     if let Some(frame) = page_with(writer, disk, page, key)? {
         return Ok(frame);
@@ -178,6 +151,7 @@ pub(crate) fn leaf_with<D: Disk>(
 
 /// The same of a key that is not there: this page, where it is a leaf of the tree with a smaller key, a greater one and room for the key,
 /// and otherwise by a search from the root.
+#[tactic(auto, using(im_flush::proofs::Outcomes::then, im_flush::proofs::Outcomes::refused))]
 pub(crate) fn leaf_around<D: Disk>(
     writer: &mut PageWriter,
     disk: &mut D,
@@ -185,18 +159,13 @@ pub(crate) fn leaf_around<D: Disk>(
     key: &[u8],
 ) -> Result<Frame, Fault>
     requires ready { IsReadyWriter D.Disk writer.old disk.old }
-    requires working { writer.old.failed ≡ false }
-    ensures ready { IsReadyWriter D.Disk writer.new disk.new }
-    ensures kept { (b : Base) (base : ℕ) (s : Writer) → HasTree D.Disk b base s [] writer.old disk.old → PlaceKept D.Disk b base s key.now disk.old writer.new disk.new result }
-    ensures quick { (b : Base) (base : ℕ) (s : Writer) → HasTree D.Disk b base s [] writer.old disk.old → IsKnownLeaf (bodies s) page → HasGap (bodies s page) key.now
+    ensures outcome { Reads D.Disk writer.old disk.old writer.new disk.new (fault_of result) }
+    ensures kept { (pages : AllPages) → HasWholeTree D.Disk pages writer.old disk.old
+        → IsSound result (λ frame. IsReached pages key.now 0 frame.number writer.new.pool) }
+    ensures quick { (pages : AllPages) → HasWholeTree D.Disk pages writer.old disk.old → IsKnownLeaf (bodies_of pages) page → HasGap (bodies_of pages page) key.now
         → OnOk result (writer.new.pool.gets ≡ writer.old.pool.gets + 2) }
     ensures at { IfOk result (IsAt writer.new.pool) }
-    ensures leaf { IfOk result (λ frame. (page_at writer.new.pool frame.number).body.kind ≡ Leaf) }
-    ensures works { OnOk result (writer.new.failed ≡ false) }
-    ensures fails { IfErr result (λ e. (writer.new.failed ≡ false) ↔ ((e ≡ Memory) ⊎ (e ≡ NotAStore))) }
-    ensures causes { IfErr result (λ e. (e ≡ LogFull) ⊎ (e ≡ Memory) ⊎ (e ≡ NotAStore) ⊎ (e ≡ Device)) }
-    ensures no_room { result ≡ Err LogFull → HasNoRoom writer.new.log }
-    ensures device { result ≡ Err Device ↔ (D.failed disk.new ≡ true) }
+    ensures leaf { IfOk result (λ frame. HasLevel 0 (page_at writer.new.pool frame.number).body) }
 {
     if let Some(frame) = page_around(writer, disk, page, key)? {
         return Ok(frame);

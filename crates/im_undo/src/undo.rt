@@ -1,17 +1,17 @@
 //! One key record of a transaction, taken back.
 
-ghost use Rattle.std.specs.Prelude.{◌≡◌, ◌≢◌, ◌≤◌, ◌⊎◌, ◌↔◌, ℕ, true, false, length, Err, IfErr, OnOk};
-ghost use Rattle.im_types.specs.declared.fault.Fault.TheVariants.{Capacity, Device, Failed, LogFull, Memory, NotAStore};
+ghost use Rattle.std.specs.Prelude.{◌≡◌, ◌≤◌, ℕ, true, false, length};
 ghost use Rattle.im_types.specs.Histories.{Base};
 ghost use Rattle.im_types.specs.Records.{InsertKey, DeleteKey};
 ghost use Rattle.im_types.specs.Transactions.{is_key};
 ghost use Rattle.im_types.specs.Writer.{Writer};
 ghost use Rattle.im_record.specs.Entry.{view, transaction_of};
 ghost use Rattle.im_record.specs.Spelling.{IsEntry};
-ghost use Rattle.im_log.specs.LogFile.{HasNoRoom};
 ghost use Rattle.im_log.specs.Whats.{what_of};
 ghost use Rattle.im_flush.specs.PageWriter.{IsReadyWriter};
-ghost use Rattle.im_alloc.specs.Seen.{bodies};
+ghost use Rattle.im_flush.specs.Outcome.{fault_of, mild, Logs};
+ghost use Rattle.im_alloc.specs.Kept.{mild_to_take};
+ghost use Rattle.im_search.specs.Levels.{bodies};
 ghost use Rattle.im_split.specs.Tops.{LacksRoomFor};
 ghost use Rattle.im_split.specs.Plan.{FitsInLeaf};
 ghost use Rattle.im_undo.specs.Undoing.{IsGoing, IsToUndo, CompensateKept};
@@ -41,15 +41,10 @@ fn undo_insert<D: Disk>(
     requires working { writer.old.failed ≡ false }
     requires key { is_key (what_of (view record.now)) ≡ true }
     requires owner { 1 ≤ transaction_of (view record.now) }
-    ensures ready { IsReadyWriter D.Disk writer.new disk.new }
+    ensures outcome { Logs D.Disk true mild writer.old disk.old writer.new disk.new (fault_of result) }
     ensures kept { (b : Base) (base : ℕ) (s : Writer) (e undo_next rid : ℕ) → what_of (view record.now) ≡ InsertKey key.now rid
         → IsGoing D.Disk b base s e (transaction_of (view record.now)) last undo_next writer.old disk.old → IsToUndo D.Disk b base s (transaction_of (view record.now)) (view record.now)
         → CompensateKept D.Disk b base s e (transaction_of (view record.now)) (view record.now) disk.old writer.new disk.new result }
-    ensures works { OnOk result (writer.new.failed ≡ false) }
-    ensures fails { IfErr result (λ e. (writer.new.failed ≡ false) ↔ ((e ≡ Memory) ⊎ (e ≡ NotAStore) ⊎ (e ≡ Failed))) }
-    ensures causes { IfErr result (λ e. (e ≡ Failed) ⊎ (e ≡ LogFull) ⊎ (e ≡ Memory) ⊎ (e ≡ NotAStore) ⊎ (e ≡ Device)) }
-    ensures no_room { result ≡ Err LogFull → HasNoRoom writer.new.log }
-    ensures device { result ≡ Err Device ↔ (D.failed disk.new ≡ true) }
 {
     let frame = leaf_with(writer, disk, record.page(), key)?;
     let spare = is_last_entry(writer, frame);
@@ -82,17 +77,11 @@ fn put_back<D: Disk>(
 ) -> Result<Lsn, Fault>
     requires entry { IsEntry (view record.now) }
     requires ready { IsReadyWriter D.Disk writer.old disk.old }
-    requires working { writer.old.failed ≡ false }
     requires key { is_key (what_of (view record.now)) ≡ true }
-    ensures ready { IsReadyWriter D.Disk writer.new disk.new }
+    ensures outcome { Logs D.Disk false mild writer.old disk.old writer.new disk.new (fault_of result) }
     ensures kept { (b : Base) (base : ℕ) (s : Writer) (e undo_next rid : ℕ) → what_of (view record.now) ≡ DeleteKey key.now rid
         → IsGoing D.Disk b base s e (transaction_of (view record.now)) last undo_next writer.old disk.old → IsToUndo D.Disk b base s (transaction_of (view record.now)) (view record.now)
         → FitsInLeaf (bodies s) key.now → CompensateKept D.Disk b base s e (transaction_of (view record.now)) (view record.now) disk.old writer.new disk.new result }
-    ensures works { OnOk result (writer.new.failed ≡ false) }
-    ensures fails { IfErr result (λ e. (writer.new.failed ≡ false) ↔ ((e ≡ Memory) ⊎ (e ≡ NotAStore))) }
-    ensures causes { IfErr result (λ e. (e ≡ LogFull) ⊎ (e ≡ Memory) ⊎ (e ≡ NotAStore) ⊎ (e ≡ Device)) }
-    ensures no_room { result ≡ Err LogFull → HasNoRoom writer.new.log }
-    ensures device { result ≡ Err Device ↔ (D.failed disk.new ≡ true) }
 {
     let frame = leaf_for(writer, disk, key)?;
     compensate(writer, disk, record, last, frame.number)
@@ -114,15 +103,10 @@ fn put_back_behind_split<D: Disk>(
     requires key { is_key (what_of (view record.now)) ≡ true }
     requires owner { 1 ≤ transaction_of (view record.now) }
     requires short { length key.now ≤ 255 }
-    ensures ready { IsReadyWriter D.Disk writer.new disk.new }
+    ensures outcome { Logs D.Disk true mild_to_take writer.old disk.old writer.new disk.new (fault_of result) }
     ensures kept { (b : Base) (base : ℕ) (s : Writer) (e rid : ℕ) → what_of (view record.now) ≡ DeleteKey key.now rid
         → IsGoing D.Disk b base s e (transaction_of (view record.now)) last undo_next writer.old disk.old → IsToUndo D.Disk b base s (transaction_of (view record.now)) (view record.now)
         → LacksRoomFor (bodies s) key.now → CompensateKept D.Disk b base s e (transaction_of (view record.now)) (view record.now) disk.old writer.new disk.new result }
-    ensures works { OnOk result (writer.new.failed ≡ false) }
-    ensures fails { IfErr result (λ e. (writer.new.failed ≡ false) ↔ ((e ≡ Memory) ⊎ (e ≡ NotAStore) ⊎ (e ≡ Capacity) ⊎ (e ≡ Failed))) }
-    ensures causes { IfErr result (λ e. (e ≡ Capacity) ⊎ (e ≡ Failed) ⊎ (e ≡ LogFull) ⊎ (e ≡ Memory) ⊎ (e ≡ NotAStore) ⊎ (e ≡ Device)) }
-    ensures no_room { result ≡ Err LogFull → HasNoRoom writer.new.log }
-    ensures device { result ≡ Err Device ↔ (D.failed disk.new ≡ true) }
 {
     let lsn = split_for(
         alloc,
@@ -156,15 +140,10 @@ fn undo_delete<D: Disk>(
     requires key { is_key (what_of (view record.now)) ≡ true }
     requires owner { 1 ≤ transaction_of (view record.now) }
     requires short { length key.now ≤ 255 }
-    ensures ready { IsReadyWriter D.Disk writer.new disk.new }
+    ensures outcome { Logs D.Disk true mild_to_take writer.old disk.old writer.new disk.new (fault_of result) }
     ensures kept { (b : Base) (base : ℕ) (s : Writer) (e rid : ℕ) → what_of (view record.now) ≡ DeleteKey key.now rid
         → IsGoing D.Disk b base s e (transaction_of (view record.now)) last undo_next writer.old disk.old → IsToUndo D.Disk b base s (transaction_of (view record.now)) (view record.now)
         → CompensateKept D.Disk b base s e (transaction_of (view record.now)) (view record.now) disk.old writer.new disk.new result }
-    ensures works { OnOk result (writer.new.failed ≡ false) }
-    ensures fails { IfErr result (λ e. (writer.new.failed ≡ false) ↔ ((e ≡ Memory) ⊎ (e ≡ NotAStore) ⊎ (e ≡ Capacity) ⊎ (e ≡ Failed))) }
-    ensures causes { IfErr result (λ e. (e ≡ Capacity) ⊎ (e ≡ Failed) ⊎ (e ≡ LogFull) ⊎ (e ≡ Memory) ⊎ (e ≡ NotAStore) ⊎ (e ≡ Device)) }
-    ensures no_room { result ≡ Err LogFull → HasNoRoom writer.new.log }
-    ensures device { result ≡ Err Device ↔ (D.failed disk.new ≡ true) }
 {
     let frame = leaf_around(writer, disk, record.page(), key)?;
     if has_room(writer, frame, key) {
@@ -195,15 +174,10 @@ pub fn undo_one<D: Disk>(
     requires working { writer.old.failed ≡ false }
     requires key { is_key (what_of (view record.now)) ≡ true }
     requires owner { 1 ≤ transaction_of (view record.now) }
-    ensures ready { IsReadyWriter D.Disk writer.new disk.new }
+    ensures outcome { Logs D.Disk true mild_to_take writer.old disk.old writer.new disk.new (fault_of result) }
     ensures kept { (b : Base) (base : ℕ) (s : Writer) (e : ℕ) → IsGoing D.Disk b base s e (transaction_of (view record.now)) last undo_next writer.old disk.old
         → IsToUndo D.Disk b base s (transaction_of (view record.now)) (view record.now)
         → CompensateKept D.Disk b base s e (transaction_of (view record.now)) (view record.now) disk.old writer.new disk.new result }
-    ensures works { OnOk result (writer.new.failed ≡ false) }
-    ensures fails { IfErr result (λ e. (writer.new.failed ≡ false) ↔ ((e ≡ Memory) ⊎ (e ≡ NotAStore) ⊎ (e ≡ Capacity) ⊎ (e ≡ Failed))) }
-    ensures causes { IfErr result (λ e. (e ≡ Capacity) ⊎ (e ≡ Failed) ⊎ (e ≡ LogFull) ⊎ (e ≡ Memory) ⊎ (e ≡ NotAStore) ⊎ (e ≡ Device)) }
-    ensures no_room { result ≡ Err LogFull → HasNoRoom writer.new.log }
-    ensures device { result ≡ Err Device ↔ (D.failed disk.new ≡ true) }
 {
     match record {
         Record::InsertKey { key, .. } => undo_insert(alloc, writer, disk, record, last, key),

@@ -1,8 +1,8 @@
 //! Steps of the active transaction by a key.
 
-ghost use Rattle.std.specs.Prelude.{◌≡◌, ◌⊎◌, ◌≤◌, ◌↔◌, ◌||◌, ℕ, List, Some, Ok, Err, true, false, is_some, if◌then◌else◌, length, ◌≢◌, ◌∷◌, IfOk, IfErr, OnOk, None};
+ghost use Rattle.std.specs.Prelude.{◌≡◌, ◌⊎◌, ◌≤◌, ◌↔◌, ℕ, List, Some, Err, true, false, is_some, if◌then◌else◌, length, IfOk, IfErr, OnErr, None};
 ghost use Rattle.std.specs.FinMap.Entries.{find};
-ghost use Rattle.im_types.specs.declared.fault.Fault.TheVariants.{LogFull, Device, Memory, NotAStore, Failed, NoTransaction, KeyLength, PagesFull, Capacity};
+ghost use Rattle.im_types.specs.declared.fault.Fault.TheVariants.{Failed, NoTransaction, KeyLength};
 ghost use Rattle.im_types.specs.declared.reply.Reply.TheVariants.{Deleted, Refused};
 
 use crate::Engine;
@@ -18,9 +18,8 @@ impl<D: Disk> Engine<D> {
     ghost use Rattle.im_types.specs.Histories.{Base};
     ghost use Rattle.im_types.specs.Answers as answers;
     ghost use Rattle.im_types.specs.Changes.{Effect, Put, Drop};
-    ghost use Rattle.im_types.specs.Faults.{number_of};
     ghost use Rattle.im_types.specs.Keys.{key_order};
-    ghost use Rattle.im_types.specs.Lives.{Shown, adds, breaks};
+    ghost use Rattle.im_types.specs.Lives.{Shown, adds};
     ghost use Rattle.im_types.specs.LogLaws.{bodies};
     ghost use Rattle.im_types.specs.Steps.{told_by};
     ghost use Rattle.im_types.specs.Writer.{Writer};
@@ -28,7 +27,8 @@ impl<D: Disk> Engine<D> {
     ghost use Rattle.im_record.specs.Spelling.{IsEntry};
     ghost use Rattle.im_flush.specs.PageWriter.{StandsAs};
     ghost use Rattle.im_flush.specs.LoggedChange.{ChangeKept};
-    ghost use Rattle.im_log.specs.LogFile.{HasNoRoom};
+    ghost use Rattle.im_flush.specs.Outcome.{fault_of, mild};
+    ghost use Rattle.im_split.specs.Kept.{mild_to_split};
     ghost use Rattle.im_tree.specs.Levels.{walk};
     ghost use Rattle.im_tree.specs.Search.{IsOnWay};
     ghost use Rattle.im_serial.specs.Store.{HasRoom};
@@ -36,9 +36,10 @@ impl<D: Disk> Engine<D> {
     ghost use Rattle.im_types.specs.Structure.{settled};
     ghost use Rattle.im_engine.specs.Joined.{PutJoined, TakeJoined, ChangeJoined, DropJoined};
     ghost use Rattle.im_engine.specs.Kept.{StepKept};
-    ghost use Rattle.im_engine.specs.Changes.{EditKept, StandsBehind, is_breaking};
+    ghost use Rattle.im_engine.specs.Changes.{EditKept, StandsBehind};
     ghost use Rattle.im_engine.specs.Structure.{LimitKept, BegunKept, MeetsLimit, AsksChange, WantsSplit, WantsDrop, EndsDrop};
-    ghost use Rattle.im_engine.specs.Checks.{HasCause, LacksRoom, IsAnswered, OfFetch, OfInsert, OfDelete, OfAccess, active_after, active_number, changes_nothing, next_after};
+    ghost use Rattle.im_engine.specs.Checks.{LacksRoom, IsAnswered, OfFetch, OfInsert, OfDelete, OfAccess};
+    ghost use Rattle.im_engine.specs.View.{IsTold, Called, active_number};
 
     // The checks with which an access begins.
     fn check(&self, number: TxnId, key: &[u8]) -> Result<Transaction, Fault>
@@ -57,15 +58,8 @@ impl<D: Disk> Engine<D> {
     // The row id of a key.
     pub(crate) fn fetch(&mut self, number: TxnId, key: &[u8]) -> Reply
         ensures kept { (before : List Effect) (s : Shown) (life : IsLife D.Disk before s self.old) → StepKept D.Disk before s (answers.Do number (answers.Fetch key.now)) (told_by result) self.old life self.new }
-        ensures fails { self.new.failed ≡ (self.old.failed || is_breaking (told_by result)) }
-        ensures failed { self.old.failed ≡ true → (result ≡ Refused Failed) × (self.new ≡ self.old) }
+        ensures told { IsTold D.Disk result self.old self.new }
         ensures answered { IsAnswered D.Disk key.now result self.old self.new (λ entries fault. OfFetch D.Disk self.old self.new result fault number key.now) (λ entries. answers.found (find key_order key.now entries)) }
-        ensures device { self.old.failed ≡ false → D.failed self.new.disk ≡ true → result ≡ Refused Device }
-        ensures same { changes_nothing (told_by result) ≡ true → self.new ≡ self.old }
-        ensures active { active_number self.new.going ≡ active_after (told_by result) (active_number self.old.going) }
-        ensures numbers { self.new.next ≡ next_after (told_by result) self.old.next }
-        ensures max_pages { self.new.max_pages ≡ self.old.max_pages }
-        ensures leaves_kept { self.new.leaves_kept ≡ self.old.leaves_kept }
     {
         if let Err(fault) = self.check(number, key) {
             return Reply::Refused(fault);
@@ -85,16 +79,11 @@ impl<D: Disk> Engine<D> {
         requires entry { IsEntry (view change.now) }
         requires working { self.old.failed ≡ false }
         requires owned { 1 ≤ transaction.number }
+        ensures outcome { Called D.Disk false mild (fault_of result) self.old self.new }
         ensures kept { (b : Base) (base : ℕ) (now : Writer) (e : ℕ) → StandsAs D.Disk b base now self.old.writer self.old.disk → now.redo_end ≡ Some e
             → ChangeKept D.Disk b base now (view change.now) self.old.disk self.new.writer self.new.disk result }
-        ensures ok { IfOk result (λ lsn. (self.new.failed ≡ false) × (self.new.going ≡ Some (record { number = transaction.number; last = lsn; undo_next = lsn }))) }
-        ensures fails { IfErr result (λ e. (self.new.failed ≡ breaks (number_of e)) × (self.new.going ≡ self.old.going)) }
-        ensures causes { IfErr result (λ e. (e ≡ LogFull) ⊎ (e ≡ Memory) ⊎ (e ≡ NotAStore) ⊎ (e ≡ Device)) }
-        ensures cause { IfErr result (HasCause D.Disk self.new.writer.log self.new.disk) }
-        ensures device { D.failed self.new.disk ≡ true → result ≡ Err Device }
-        ensures next { self.new.next ≡ self.old.next }
-        ensures max_pages { self.new.max_pages ≡ self.old.max_pages }
-        ensures leaves_kept { self.new.leaves_kept ≡ self.old.leaves_kept }
+        ensures going { IfOk result (λ lsn. self.new.going ≡ Some (record { number = transaction.number; last = lsn; undo_next = lsn })) }
+        ensures still { OnErr result (self.new.going ≡ self.old.going) }
     {
         self.failed = true;
         match self.writer.log_change(&mut self.disk, change) {
@@ -126,17 +115,12 @@ impl<D: Disk> Engine<D> {
         requires owned { 1 ≤ transaction.number }
         requires some { 1 ≤ length key.now }
         requires short { length key.now ≤ 255 }
+        ensures outcome { Called D.Disk false mild (fault_of result) self.old self.new }
         ensures kept { (b : Base) (before : List Effect) (s : Shown) (r : IsRunning D.Disk b before s self.old) → self.old.going ≡ Some transaction
             → IsOnWay (bodies b r.now.log) 0 key.now page → find key_order key.now (walk (bodies b r.now.log)) ≡ None → HasRoom (bodies b r.now.log page).entries key.now
             → EditKept D.Disk before s self.old r (adds transaction.number (Put key.now rid) s) (PutJoined transaction.number key.now rid ⊥ r.now.log) self.new result }
-        ensures ok { IfOk result (λ lsn. (self.new.failed ≡ false) × (self.new.going ≡ Some (record { number = transaction.number; last = lsn; undo_next = lsn }))) }
-        ensures fails { IfErr result (λ e. (self.new.failed ≡ breaks (number_of e)) × (self.new.going ≡ self.old.going)) }
-        ensures causes { IfErr result (λ e. (e ≡ LogFull) ⊎ (e ≡ Memory) ⊎ (e ≡ NotAStore) ⊎ (e ≡ Device)) }
-        ensures cause { IfErr result (HasCause D.Disk self.new.writer.log self.new.disk) }
-        ensures device { D.failed self.new.disk ≡ true → result ≡ Err Device }
-        ensures next { self.new.next ≡ self.old.next }
-        ensures max_pages { self.new.max_pages ≡ self.old.max_pages }
-        ensures leaves_kept { self.new.leaves_kept ≡ self.old.leaves_kept }
+        ensures going { IfOk result (λ lsn. self.new.going ≡ Some (record { number = transaction.number; last = lsn; undo_next = lsn })) }
+        ensures still { OnErr result (self.new.going ≡ self.old.going) }
     {
         let change = Record::InsertKey {
             transaction: transaction.number,
@@ -160,17 +144,12 @@ impl<D: Disk> Engine<D> {
         requires owned { 1 ≤ transaction.number }
         requires some { 1 ≤ length key.now }
         requires short { length key.now ≤ 255 }
+        ensures outcome { Called D.Disk false mild (fault_of result) self.old self.new }
         ensures kept { (b : Base) (before : List Effect) (s : Shown) (r : IsRunning D.Disk b before s self.old) → self.old.going ≡ Some transaction
             → IsOnWay (bodies b r.now.log) 0 key.now page → find key_order key.now (walk (bodies b r.now.log)) ≡ Some rid
             → EditKept D.Disk before s self.old r (adds transaction.number (Drop key.now 0) s) (TakeJoined b transaction.number key.now ⊥ r.now.log) self.new result }
-        ensures ok { IfOk result (λ lsn. (self.new.failed ≡ false) × (self.new.going ≡ Some (record { number = transaction.number; last = lsn; undo_next = lsn }))) }
-        ensures fails { IfErr result (λ e. (self.new.failed ≡ breaks (number_of e)) × (self.new.going ≡ self.old.going)) }
-        ensures causes { IfErr result (λ e. (e ≡ LogFull) ⊎ (e ≡ Memory) ⊎ (e ≡ NotAStore) ⊎ (e ≡ Device)) }
-        ensures cause { IfErr result (HasCause D.Disk self.new.writer.log self.new.disk) }
-        ensures device { D.failed self.new.disk ≡ true → result ≡ Err Device }
-        ensures next { self.new.next ≡ self.old.next }
-        ensures max_pages { self.new.max_pages ≡ self.old.max_pages }
-        ensures leaves_kept { self.new.leaves_kept ≡ self.old.leaves_kept }
+        ensures going { IfOk result (λ lsn. self.new.going ≡ Some (record { number = transaction.number; last = lsn; undo_next = lsn })) }
+        ensures still { OnErr result (self.new.going ≡ self.old.going) }
     {
         let change = Record::DeleteKey {
             transaction: transaction.number,
@@ -188,23 +167,15 @@ impl<D: Disk> Engine<D> {
         requires owned { 1 ≤ transaction.number }
         requires some { 1 ≤ length key.now }
         requires short { length key.now ≤ 255 }
+        ensures outcome { Called D.Disk true (mild_to_split (Some self.old.max_pages)) (fault_of result) self.old self.new }
         ensures kept { (b : Base) (before : List Effect) (s : Shown) (r : IsRunning D.Disk b before s self.old) → self.old.going ≡ Some transaction
             → (p : ℕ) → IsOnWay (bodies b r.now.log) 0 key.now p → find key_order key.now (walk (bodies b r.now.log)) ≡ None → LacksRoom (bodies b r.now.log p).entries key.now
             → EditKept D.Disk before s self.old r (adds transaction.number (Put key.now rid) s) (PutJoined transaction.number key.now rid (WantsSplit (bodies b r.now.log) key.now) r.now.log) self.new result × LimitKept D.Disk before s self.old r key.now result }
         ensures begun { (b : Base) (before : List Effect) (s : Shown) (r : IsRunning D.Disk b before s self.old) → self.old.going ≡ Some transaction
             → (p : ℕ) → IsOnWay (bodies b r.now.log) 0 key.now p → find key_order key.now (walk (bodies b r.now.log)) ≡ None → LacksRoom (bodies b r.now.log p).entries key.now
             → BegunKept D.Disk before s self.old r transaction.number self.new result }
-        ensures works { OnOk result (self.new.failed ≡ false) }
-        ensures fails { IfErr result (λ e. self.new.failed ≡ breaks (number_of e)) }
         ensures still { IfErr result (λ e. self.new.failed ≡ false → self.new.going ≡ self.old.going) }
         ensures active { active_number self.old.going ≡ Some transaction.number → active_number self.new.going ≡ Some transaction.number }
-        ensures causes { IfErr result (λ e. (e ≡ PagesFull) ⊎ (e ≡ Capacity) ⊎ (e ≡ Failed) ⊎ (e ≡ LogFull) ⊎ (e ≡ Memory) ⊎ (e ≡ NotAStore) ⊎ (e ≡ Device)) }
-        ensures device { D.failed self.new.disk ≡ true → result ≡ Err Device }
-        ensures failed { result ≡ Err Device → D.failed self.new.disk ≡ true }
-        ensures no_room { result ≡ Err LogFull → HasNoRoom self.new.writer.log }
-        ensures next { self.new.next ≡ self.old.next }
-        ensures max_pages { self.new.max_pages ≡ self.old.max_pages }
-        ensures leaves_kept { self.new.leaves_kept ≡ self.old.leaves_kept }
     {
         let (transaction, frame) = self.split_leaf(transaction, key)?;
         match self.put(transaction, frame.number, key, rid) {
@@ -223,16 +194,9 @@ impl<D: Disk> Engine<D> {
         ensures wanted { (b : Base) (before : List Effect) (s : Shown) (r : IsRunning D.Disk b before s self.old) → AsksChange self.old.failed result → WantsSplit (bodies b r.now.log) key.now }
         ensures begun { (b : Base) (before : List Effect) (s : Shown) (r : IsRunning D.Disk b before s self.old) → self.old.failed ≡ false → result ≡ Refused Failed
             → StandsBehind D.Disk b (ChangeJoined number r.now.log) self.new.writer self.new.disk }
-        ensures fails { self.new.failed ≡ (self.old.failed || is_breaking (told_by result)) }
-        ensures failed { self.old.failed ≡ true → (result ≡ Refused Failed) × (self.new ≡ self.old) }
+        ensures told { IsTold D.Disk result self.old self.new }
         ensures answered { IsAnswered D.Disk key.now result self.old self.new (λ entries fault. OfInsert D.Disk self.old self.new result fault number key.now entries)
             (λ entries. if is_some (find key_order key.now entries) then answers.Duplicate else answers.Inserted) }
-        ensures device { self.old.failed ≡ false → D.failed self.new.disk ≡ true → result ≡ Refused Device }
-        ensures same { changes_nothing (told_by result) ≡ true → self.new ≡ self.old }
-        ensures active { active_number self.new.going ≡ active_after (told_by result) (active_number self.old.going) }
-        ensures numbers { self.new.next ≡ next_after (told_by result) self.old.next }
-        ensures max_pages { self.new.max_pages ≡ self.old.max_pages }
-        ensures leaves_kept { self.new.leaves_kept ≡ self.old.leaves_kept }
     {
         let transaction = match self.check(number, key) {
             Ok(transaction) => transaction,
@@ -263,16 +227,9 @@ impl<D: Disk> Engine<D> {
         ensures wanted { (b : Base) (before : List Effect) (s : Shown) (r : IsRunning D.Disk b before s self.old) → AsksChange self.old.failed result → WantsDrop (bodies b r.now.log) key.now }
         ensures begun { (b : Base) (before : List Effect) (s : Shown) (r : IsRunning D.Disk b before s self.old) → self.old.failed ≡ false → result ≡ Refused Failed
             → StandsBehind D.Disk b (DropJoined b number key.now (WantsDrop (settled b r.now.log) key.now) r.now.log) self.new.writer self.new.disk }
-        ensures fails { self.new.failed ≡ (self.old.failed || is_breaking (told_by result)) }
-        ensures failed { self.old.failed ≡ true → (result ≡ Refused Failed) × (self.new ≡ self.old) }
+        ensures told { IsTold D.Disk result self.old self.new }
         ensures answered { IsAnswered D.Disk key.now result self.old self.new (λ entries fault. OfDelete D.Disk self.old self.new result fault number key.now)
             (λ entries. if is_some (find key_order key.now entries) then answers.Deleted else answers.Absent) }
-        ensures device { self.old.failed ≡ false → D.failed self.new.disk ≡ true → result ≡ Refused Device }
-        ensures same { changes_nothing (told_by result) ≡ true → self.new ≡ self.old }
-        ensures active { active_number self.new.going ≡ active_after (told_by result) (active_number self.old.going) }
-        ensures numbers { self.new.next ≡ next_after (told_by result) self.old.next }
-        ensures max_pages { self.new.max_pages ≡ self.old.max_pages }
-        ensures leaves_kept { result ≢ Deleted → self.new.leaves_kept ≡ self.old.leaves_kept }
         ensures gone { (b : Base) (before : List Effect) (s : Shown) (r : IsRunning D.Disk b before s self.old) → result ≡ Deleted → EndsDrop D.Disk b number key.now r.now.log self.old self.new }
     {
         let transaction = match self.check(number, key) {

@@ -1,8 +1,7 @@
 //! Pages, as an engine looks at them.
 
-ghost use Rattle.std.specs.Prelude.{◌≡◌, ◌≢◌, ◌⊎◌, ◌≤◌, true, false, List, Err, IfOk, IfErr, OnOk, length};
+ghost use Rattle.std.specs.Prelude.{◌≡◌, ◌≤◌, true, false, List, IfOk, length};
 ghost use Rattle.std.specs.FinMap.Entries.{find};
-ghost use Rattle.im_types.specs.declared.fault.Fault.TheVariants.{LogFull, Device, Memory, NotAStore};
 ghost use Rattle.im_types.specs.Faults.{number_of};
 ghost use Rattle.im_types.specs.Lives.{breaks};
 ghost use Rattle.im_types.specs.declared.page_kind.PageKind.TheVariants.{Leaf};
@@ -31,29 +30,22 @@ pub(crate) fn breaks(fault: Fault) -> bool
 impl<D: Disk> Engine<D> {
     ghost use Rattle.im_types.specs.Histories.{Base};
     ghost use Rattle.im_types.specs.Changes.{Effect};
-    ghost use Rattle.im_types.specs.Faults.{number_of};
     ghost use Rattle.im_types.specs.Keys.{key_order};
-    ghost use Rattle.im_types.specs.Lives.{Shown, breaks};
+    ghost use Rattle.im_types.specs.Lives.{Shown};
     ghost use Rattle.im_pool.specs.Pool.{page_at, IsAt};
+    ghost use Rattle.im_flush.specs.Outcome.{fault_of, IsSound};
     ghost use Rattle.im_engine.specs.Running.{IsRunning};
-    ghost use Rattle.im_engine.specs.Changes.{PageKept, LeafKept};
-    ghost use Rattle.im_engine.specs.Checks.{HasCause, LacksRoom};
+    ghost use Rattle.im_engine.specs.Changes.{Looked, LeafLooked};
+    ghost use Rattle.im_engine.specs.Checks.{LacksRoom};
+    ghost use Rattle.im_engine.specs.View.{Searched};
 
     // Where a page is held from now on.
     pub(crate) fn get_page(&mut self, number: PageNo) -> Result<Frame, Fault>
         requires working { self.old.failed ≡ false }
-        ensures kept { (b : Base) (before : List Effect) (s : Shown) (r : IsRunning D.Disk b before s self.old) → PageKept D.Disk before s self.old r number self.new result }
+        ensures outcome { Searched D.Disk (fault_of result) self.old self.new }
+        ensures kept { (b : Base) (before : List Effect) (s : Shown) (r : IsRunning D.Disk b before s self.old) → IsSound result (λ _. Looked D.Disk before s self.old r number self.new) }
         ensures at { IfOk result (IsAt self.new.writer.pool) }
         ensures frame { IfOk result (λ frame. frame.number ≡ number) }
-        ensures works { OnOk result (self.new.failed ≡ false) }
-        ensures fails { IfErr result (λ e. self.new.failed ≡ breaks (number_of e)) }
-        ensures causes { IfErr result (λ e. (e ≡ LogFull) ⊎ (e ≡ Memory) ⊎ (e ≡ NotAStore) ⊎ (e ≡ Device)) }
-        ensures cause { IfErr result (HasCause D.Disk self.new.writer.log self.new.disk) }
-        ensures device { D.failed self.new.disk ≡ true → result ≡ Err Device }
-        ensures going { self.new.going ≡ self.old.going }
-        ensures next { self.new.next ≡ self.old.next }
-        ensures max_pages { self.new.max_pages ≡ self.old.max_pages }
-        ensures leaves_kept { self.new.leaves_kept ≡ self.old.leaves_kept }
     {
         self.failed = true;
         match self.writer.get(&mut self.disk, number) {
@@ -71,18 +63,10 @@ impl<D: Disk> Engine<D> {
     // Where the leaf is held from now on in whose range a key lies.
     pub(crate) fn leaf(&mut self, key: &[u8]) -> Result<Frame, Fault>
         requires working { self.old.failed ≡ false }
-        ensures kept { (b : Base) (before : List Effect) (s : Shown) (r : IsRunning D.Disk b before s self.old) → LeafKept D.Disk before s self.old r key.now self.new result }
+        ensures outcome { Searched D.Disk (fault_of result) self.old self.new }
+        ensures kept { (b : Base) (before : List Effect) (s : Shown) (r : IsRunning D.Disk b before s self.old) → IsSound result (λ frame. LeafLooked D.Disk before s self.old r key.now frame.number self.new) }
         ensures at { IfOk result (IsAt self.new.writer.pool) }
         ensures leaf { IfOk result (λ frame. (page_at self.new.writer.pool frame.number).body.kind ≡ Leaf) }
-        ensures works { OnOk result (self.new.failed ≡ false) }
-        ensures fails { IfErr result (λ e. self.new.failed ≡ breaks (number_of e)) }
-        ensures causes { IfErr result (λ e. (e ≡ LogFull) ⊎ (e ≡ Memory) ⊎ (e ≡ NotAStore) ⊎ (e ≡ Device)) }
-        ensures cause { IfErr result (HasCause D.Disk self.new.writer.log self.new.disk) }
-        ensures device { D.failed self.new.disk ≡ true → result ≡ Err Device }
-        ensures going { self.new.going ≡ self.old.going }
-        ensures next { self.new.next ≡ self.old.next }
-        ensures max_pages { self.new.max_pages ≡ self.old.max_pages }
-        ensures leaves_kept { self.new.leaves_kept ≡ self.old.leaves_kept }
     {
         self.failed = true;
         match leaf_for(&mut self.writer, &mut self.disk, key) {

@@ -1,7 +1,6 @@
 //! Structure changes of the active transaction.
 
-ghost use Rattle.std.specs.Prelude.{◌≡◌, ◌≢◌, ◌⊎◌, ◌≤◌, ◌+◌, ◌%◌, ◌^◌, ℕ, List, [], Some, Err, true, false, length, IfOk, IfErr, OnOk};
-ghost use Rattle.im_types.specs.declared.fault.Fault.TheVariants.{LogFull, Device, Memory, NotAStore, Failed, PagesFull, Capacity};
+ghost use Rattle.std.specs.Prelude.{◌≡◌, ◌≤◌, ◌+◌, ◌%◌, ◌^◌, ℕ, List, Some, true, false, length, IfOk, IfErr, OnErr};
 
 use crate::Engine;
 use crate::engine::pages::breaks;
@@ -15,16 +14,17 @@ use im_types::Fault;
 impl<D: Disk> Engine<D> {
     ghost use Rattle.im_types.specs.Histories.{Base};
     ghost use Rattle.im_types.specs.Changes.{Effect};
-    ghost use Rattle.im_types.specs.Faults.{number_of};
-    ghost use Rattle.im_types.specs.Lives.{Shown, breaks};
+    ghost use Rattle.im_types.specs.Lives.{Shown};
     ghost use Rattle.im_types.specs.LogLaws.{bodies};
     ghost use Rattle.im_types.specs.declared.page_kind.PageKind.TheVariants.{Leaf};
-    ghost use Rattle.im_log.specs.LogFile.{HasNoRoom};
     ghost use Rattle.im_pool.specs.Pool.{page_at, IsAt};
+    ghost use Rattle.im_flush.specs.Outcome.{fault_of, none_mild, Logs};
+    ghost use Rattle.im_split.specs.Kept.{mild_to_split};
     ghost use Rattle.im_tree.specs.Search.{IsOnWay};
     ghost use Rattle.im_engine.specs.Running.{IsRunning};
     ghost use Rattle.im_engine.specs.Structure.{MakeRoomKept, RoomKept, SplitKept, DropKept};
-    ghost use Rattle.im_engine.specs.Checks.{LacksRoom, active_number};
+    ghost use Rattle.im_engine.specs.Checks.{LacksRoom};
+    ghost use Rattle.im_engine.specs.View.{Called, active_number, broken_by};
 
     // Splits the leaf of a key, which lacks room for it, as a structure change of the active transaction. Answers the transaction behind
     // it. Refused for want of memory or of pages with all as it was; after another refusal the engine has failed, as the change may be
@@ -33,17 +33,11 @@ impl<D: Disk> Engine<D> {
         requires working { self.old.failed ≡ false }
         requires owned { 1 ≤ transaction.number }
         requires short { length key.now ≤ 255 }
+        ensures outcome { Called D.Disk true (mild_to_split (Some self.old.max_pages)) (fault_of result) self.old self.new }
         ensures kept { (b : Base) (before : List Effect) (s : Shown) (r : IsRunning D.Disk b before s self.old) → self.old.going ≡ Some transaction
             → (p : ℕ) → IsOnWay (bodies b r.now.log) 0 key.now p → LacksRoom (bodies b r.now.log p).entries key.now → MakeRoomKept D.Disk before s self.old r transaction.number key.now self.new result }
-        ensures ok { IfOk result (λ t. (self.new.failed ≡ false) × (self.new.going ≡ Some t) × (t.number ≡ transaction.number)) }
-        ensures fails { IfErr result (λ e. (self.new.failed ≡ breaks (number_of e)) × (self.new.going ≡ self.old.going)) }
-        ensures causes { IfErr result (λ e. (e ≡ PagesFull) ⊎ (e ≡ Capacity) ⊎ (e ≡ Failed) ⊎ (e ≡ LogFull) ⊎ (e ≡ Memory) ⊎ (e ≡ NotAStore) ⊎ (e ≡ Device)) }
-        ensures device { D.failed self.new.disk ≡ true → result ≡ Err Device }
-        ensures failed { result ≡ Err Device → D.failed self.new.disk ≡ true }
-        ensures no_room { result ≡ Err LogFull → HasNoRoom self.new.writer.log }
-        ensures next { self.new.next ≡ self.old.next }
-        ensures max_pages { self.new.max_pages ≡ self.old.max_pages }
-        ensures leaves_kept { self.new.leaves_kept ≡ self.old.leaves_kept }
+        ensures going { IfOk result (λ t. (self.new.going ≡ Some t) × (t.number ≡ transaction.number)) }
+        ensures still { OnErr result (self.new.going ≡ self.old.going) }
     {
         self.failed = true;
         match split_for(
@@ -77,20 +71,12 @@ impl<D: Disk> Engine<D> {
     fn leaf_with_room(&mut self, key: &[u8]) -> Result<Frame, Fault>
         requires working { self.old.failed ≡ false }
         requires short { length key.now ≤ 255 }
+        ensures outcome { Called D.Disk true none_mild (fault_of result) self.old self.new }
         ensures kept { (b : Base) (before : List Effect) (s : Shown) (r : IsRunning D.Disk b before s self.old) → RoomKept D.Disk before s self.old r key.now self.new result }
         ensures at { IfOk result (IsAt self.new.writer.pool) }
         ensures leaf { IfOk result (λ frame. (page_at self.new.writer.pool frame.number).body.kind ≡ Leaf) }
         ensures room { IfOk result (λ frame. ¬ (LacksRoom (page_at self.new.writer.pool frame.number).body.entries key.now)) }
-        ensures works { OnOk result (self.new.failed ≡ false) }
-        ensures fails { IfErr result (λ e. self.new.failed ≡ true) }
-        ensures causes { IfErr result (λ e. (e ≡ LogFull) ⊎ (e ≡ Failed) ⊎ (e ≡ NotAStore) ⊎ (e ≡ Device)) }
-        ensures device { D.failed self.new.disk ≡ true → result ≡ Err Device }
-        ensures failed { result ≡ Err Device → D.failed self.new.disk ≡ true }
-        ensures no_room { result ≡ Err LogFull → HasNoRoom self.new.writer.log }
         ensures going { self.new.going ≡ self.old.going }
-        ensures next { self.new.next ≡ self.old.next }
-        ensures max_pages { self.new.max_pages ≡ self.old.max_pages }
-        ensures leaves_kept { self.new.leaves_kept ≡ self.old.leaves_kept }
     {
         match self.leaf(key) {
             Ok(frame) => {
@@ -116,22 +102,15 @@ impl<D: Disk> Engine<D> {
         requires working { self.old.failed ≡ false }
         requires owned { 1 ≤ transaction.number }
         requires short { length key.now ≤ 255 }
+        ensures outcome { Called D.Disk true (mild_to_split (Some self.old.max_pages)) (fault_of result) self.old self.new }
         ensures kept { (b : Base) (before : List Effect) (s : Shown) (r : IsRunning D.Disk b before s self.old) → self.old.going ≡ Some transaction
             → (p : ℕ) → IsOnWay (bodies b r.now.log) 0 key.now p → LacksRoom (bodies b r.now.log p).entries key.now → SplitKept D.Disk before s self.old r transaction.number key.now self.new result }
         ensures at { IfOk result (λ x. IsAt self.new.writer.pool x.1) }
         ensures leaf { IfOk result (λ x. (page_at self.new.writer.pool x.1.number).body.kind ≡ Leaf) }
         ensures room { IfOk result (λ x. ¬ (LacksRoom (page_at self.new.writer.pool x.1.number).body.entries key.now)) }
-        ensures ok { IfOk result (λ x. (self.new.failed ≡ false) × (self.new.going ≡ Some x.0) × (x.0.number ≡ transaction.number)) }
-        ensures fails { IfErr result (λ e. self.new.failed ≡ breaks (number_of e)) }
+        ensures going { IfOk result (λ x. (self.new.going ≡ Some x.0) × (x.0.number ≡ transaction.number)) }
         ensures still { IfErr result (λ e. self.new.failed ≡ false → self.new.going ≡ self.old.going) }
         ensures active { active_number self.old.going ≡ Some transaction.number → active_number self.new.going ≡ Some transaction.number }
-        ensures causes { IfErr result (λ e. (e ≡ PagesFull) ⊎ (e ≡ Capacity) ⊎ (e ≡ Failed) ⊎ (e ≡ LogFull) ⊎ (e ≡ Memory) ⊎ (e ≡ NotAStore) ⊎ (e ≡ Device)) }
-        ensures device { D.failed self.new.disk ≡ true → result ≡ Err Device }
-        ensures failed { result ≡ Err Device → D.failed self.new.disk ≡ true }
-        ensures no_room { result ≡ Err LogFull → HasNoRoom self.new.writer.log }
-        ensures next { self.new.next ≡ self.old.next }
-        ensures max_pages { self.new.max_pages ≡ self.old.max_pages }
-        ensures leaves_kept { self.new.leaves_kept ≡ self.old.leaves_kept }
     {
         let transaction = self.make_room(transaction, key)?;
         let frame = self.leaf_with_room(key)?;
@@ -142,13 +121,9 @@ impl<D: Disk> Engine<D> {
     pub(crate) fn drop_leaf(&mut self, transaction: Transaction, key: &[u8]) -> Result<bool, Fault>
         requires working { self.old.failed ≡ false }
         requires owned { 1 ≤ transaction.number }
+        ensures outcome { Logs D.Disk true none_mild self.old.writer self.old.disk self.new.writer self.new.disk (fault_of result) }
+        ensures broken { self.new.failed ≡ broken_by (fault_of result) }
         ensures kept { (b : Base) (before : List Effect) (s : Shown) (r : IsRunning D.Disk b before s self.old) → self.old.going ≡ Some transaction → DropKept D.Disk before s self.old r transaction.number key.now self.new result }
-        ensures works { OnOk result (self.new.failed ≡ false) }
-        ensures fails { IfErr result (λ e. self.new.failed ≡ true) }
-        ensures causes { IfErr result (λ e. (e ≡ LogFull) ⊎ (e ≡ Failed) ⊎ (e ≡ NotAStore) ⊎ (e ≡ Device)) }
-        ensures device { D.failed self.new.disk ≡ true → result ≡ Err Device }
-        ensures failed { result ≡ Err Device → D.failed self.new.disk ≡ true }
-        ensures no_room { result ≡ Err LogFull → HasNoRoom self.new.writer.log }
         ensures active { active_number self.old.going ≡ Some transaction.number → active_number self.new.going ≡ Some transaction.number }
         ensures next { self.new.next ≡ self.old.next }
         ensures max_pages { self.new.max_pages ≡ self.old.max_pages }

@@ -1,8 +1,7 @@
 //! Steps that bring the log and pages to the disk.
 
-ghost use Rattle.std.specs.Prelude.{◌≡◌, ◌≢◌, ◌⊎◌, ◌≤◌, ◌<◌, ◌^◌, ◌↔◌, ◌||◌, List, [], None, Some, Ok, Err, true, false, not, is_ok, IfErr, OnOk, OnErr};
-ghost use Rattle.im_types.specs.declared.fault.Fault.TheVariants.{LogFull, Device, Failed};
-ghost use Rattle.im_types.specs.declared.reply.Reply.TheVariants.{Refused};
+ghost use Rattle.std.specs.Prelude.{◌≡◌, ◌≢◌, ◌≤◌, ◌<◌, ◌^◌, ◌↔◌, List, [], None, Some, Err, true, false, OnOk, OnErr};
+ghost use Rattle.im_types.specs.declared.fault.Fault.TheVariants.{LogFull};
 
 use crate::Engine;
 use crate::transaction::Transaction;
@@ -17,27 +16,24 @@ impl<D: Disk> Engine<D> {
     ghost use Rattle.im_types.specs.Lives.{Shown};
     ghost use Rattle.im_types.specs.Steps.{told_by};
     ghost use Rattle.im_log.specs.LogFile.{end_with};
+    ghost use Rattle.im_flush.specs.Outcome.{fault_of, none_mild};
     ghost use Rattle.im_pool.specs.Pool.{is_changed};
     ghost use Rattle.im_engine.specs.Running.{IsLife, IsRunning};
     ghost use Rattle.im_engine.specs.Kept.{StepKept};
-    ghost use Rattle.im_engine.specs.Changes.{CommitKept, is_breaking};
-    ghost use Rattle.im_engine.specs.Checks.{HasLogged, IsAnswered, OfCommit, OfForce, OfFlush, active_after, active_number, changes_nothing, next_after};
+    ghost use Rattle.im_engine.specs.Changes.{CommitKept};
+    ghost use Rattle.im_engine.specs.Checks.{HasLogged, IsAnswered, OfCommit, OfForce, OfFlush};
+    ghost use Rattle.im_engine.specs.View.{IsTold, Called};
 
     // Adds the record of a Commit, and makes all durable.
     fn log_commit(&mut self, transaction: Transaction) -> Result<(), Fault>
         requires working { self.old.failed ≡ false }
         requires owned { 1 ≤ transaction.number }
+        ensures outcome { Called D.Disk false none_mild (fault_of result) self.old self.new }
         ensures kept { (b : Base) (before : List Effect) (s : Shown) (r : IsRunning D.Disk b before s self.old) → self.old.going ≡ Some transaction → (s.running transaction.number).effect ≢ []
             → CommitKept D.Disk before s self.old r transaction.number self.new result }
-        ensures failed { self.new.failed ≡ not (is_ok result) }
-        ensures causes { IfErr result (λ e. (e ≡ LogFull) ⊎ (e ≡ Device)) }
         ensures full { result ≡ Err LogFull ↔ (2 ^ 62 < end_with self.old.writer.log 33) }
-        ensures device { result ≡ Err Device ↔ (D.failed self.new.disk ≡ true) }
         ensures ended { OnOk result (self.new.going ≡ None) }
-        ensures going { OnErr result (self.new.going ≡ self.old.going) }
-        ensures next { self.new.next ≡ self.old.next }
-        ensures max_pages { self.new.max_pages ≡ self.old.max_pages }
-        ensures leaves_kept { self.new.leaves_kept ≡ self.old.leaves_kept }
+        ensures still { OnErr result (self.new.going ≡ self.old.going) }
     {
         self.failed = true;
         let commit = Record::Commit {
@@ -54,16 +50,9 @@ impl<D: Disk> Engine<D> {
     // Ends a transaction, all of which is then durable.
     pub(crate) fn commit(&mut self, number: TxnId) -> Reply
         ensures kept { (before : List Effect) (s : Shown) (life : IsLife D.Disk before s self.old) → StepKept D.Disk before s (answers.Commit number) (told_by result) self.old life self.new }
-        ensures fails { self.new.failed ≡ (self.old.failed || is_breaking (told_by result)) }
-        ensures failed { self.old.failed ≡ true → (result ≡ Refused Failed) × (self.new ≡ self.old) }
+        ensures told { IsTold D.Disk result self.old self.new }
         ensures answered { IsAnswered D.Disk [] result self.old self.new (λ entries fault. OfCommit D.Disk self.old self.new result fault number) (λ entries. answers.Committed) }
-        ensures device { self.old.failed ≡ false → D.failed self.new.disk ≡ true → result ≡ Refused Device }
         ensures quiet { ¬ (HasLogged self.old.going) → self.new.disk ≡ self.old.disk }
-        ensures same { changes_nothing (told_by result) ≡ true → self.new ≡ self.old }
-        ensures active { active_number self.new.going ≡ active_after (told_by result) (active_number self.old.going) }
-        ensures numbers { self.new.next ≡ next_after (told_by result) self.old.next }
-        ensures max_pages { self.new.max_pages ≡ self.old.max_pages }
-        ensures leaves_kept { self.new.leaves_kept ≡ self.old.leaves_kept }
     {
         let transaction = match self.active_of(number) {
             Ok(transaction) => transaction,
@@ -82,16 +71,9 @@ impl<D: Disk> Engine<D> {
     // Makes every record durable.
     pub(crate) fn force(&mut self) -> Reply
         ensures kept { (before : List Effect) (s : Shown) (life : IsLife D.Disk before s self.old) → StepKept D.Disk before s answers.Force (told_by result) self.old life self.new }
-        ensures fails { self.new.failed ≡ (self.old.failed || is_breaking (told_by result)) }
-        ensures failed { self.old.failed ≡ true → (result ≡ Refused Failed) × (self.new ≡ self.old) }
+        ensures told { IsTold D.Disk result self.old self.new }
         ensures answered { IsAnswered D.Disk [] result self.old self.new (λ entries fault. OfForce D.Disk self.old self.new result fault) (λ entries. answers.Done) }
-        ensures device { self.old.failed ≡ false → D.failed self.new.disk ≡ true → result ≡ Refused Device }
         ensures quiet { ¬ (1 ≤ self.old.writer.log.used) → self.new.disk ≡ self.old.disk }
-        ensures same { changes_nothing (told_by result) ≡ true → self.new ≡ self.old }
-        ensures active { active_number self.new.going ≡ active_after (told_by result) (active_number self.old.going) }
-        ensures numbers { self.new.next ≡ next_after (told_by result) self.old.next }
-        ensures max_pages { self.new.max_pages ≡ self.old.max_pages }
-        ensures leaves_kept { self.new.leaves_kept ≡ self.old.leaves_kept }
     {
         if self.failed {
             return Reply::Refused(Fault::Failed);
@@ -109,16 +91,9 @@ impl<D: Disk> Engine<D> {
     // Writes a page, where something of it is left to be written.
     pub(crate) fn flush_page(&mut self, page: PageNo) -> Reply
         ensures kept { (before : List Effect) (s : Shown) (life : IsLife D.Disk before s self.old) → StepKept D.Disk before s (answers.FlushPage page) (told_by result) self.old life self.new }
-        ensures fails { self.new.failed ≡ (self.old.failed || is_breaking (told_by result)) }
-        ensures failed { self.old.failed ≡ true → (result ≡ Refused Failed) × (self.new ≡ self.old) }
+        ensures told { IsTold D.Disk result self.old self.new }
         ensures answered { IsAnswered D.Disk [] result self.old self.new (λ entries fault. OfFlush D.Disk self.old self.new result fault) (λ entries. answers.Done) }
-        ensures device { self.old.failed ≡ false → D.failed self.new.disk ≡ true → result ≡ Refused Device }
         ensures quiet { ¬ (is_changed self.old.writer.pool page ≡ true) → self.new.disk ≡ self.old.disk }
-        ensures same { changes_nothing (told_by result) ≡ true → self.new ≡ self.old }
-        ensures active { active_number self.new.going ≡ active_after (told_by result) (active_number self.old.going) }
-        ensures numbers { self.new.next ≡ next_after (told_by result) self.old.next }
-        ensures max_pages { self.new.max_pages ≡ self.old.max_pages }
-        ensures leaves_kept { self.new.leaves_kept ≡ self.old.leaves_kept }
     {
         if self.failed {
             return Reply::Refused(Fault::Failed);

@@ -24,6 +24,7 @@ impl PageWriter {
     ghost use Rattle.im_flush.specs.PageWriter.{IsReadyWriter, StandsAs};
     ghost use Rattle.im_flush.specs.LeafChange.{HasPlaceFor, HasKey};
     ghost use Rattle.im_flush.specs.LogEnds.{EndsNoSooner};
+    ghost use Rattle.im_flush.specs.Outcome.{fault_of, mild, AreLoadedTo, Logs, Outcome};
     ghost use Rattle.im_flush.specs.LoggedChange.{IsLike, HeldKept, LoggedKept, ChangeKept};
 
     // Whether the dirty table can't take the page's entry.
@@ -57,21 +58,12 @@ impl PageWriter {
         number: PageNo,
     ) -> Result<Frame, Fault>
         requires ready { IsReadyWriter D.Disk self.old disk.old }
-        ensures ready { IsReadyWriter D.Disk self.new disk.new }
-        ensures kept { (b : Base) (base : ℕ) (s : Writer) → StandsAs D.Disk b base s self.old disk.old → ((q : ℕ) → q ≤ number → (s.pages q).waits ≡ false)
-            → HeldKept D.Disk b base s disk.old self.new disk.new result }
+        ensures outcome { Outcome D.Disk (AreLoadedTo number) mild self.old disk.old self.new disk.new (fault_of result) }
+        ensures sound { (b : Base) (base : ℕ) (s : Writer) → StandsAs D.Disk b base s self.old disk.old → AreLoadedTo number s → IfErr result (λ e. e ≢ NotAStore) }
         ensures at { IfOk result (IsAt self.new.pool) }
         ensures frame { IfOk result (λ f. f.number ≡ number) }
-        ensures works { OnOk result (self.new.failed ≡ false) }
         ensures room { OnOk result (entry_in self.new.table number ≡ None → length self.new.table < 1024) }
         ensures memory { result ≡ Err Memory → held_of self.old.pool number ≡ None }
-        ensures fails { IfErr result (λ e. (self.new.failed ≡ false) ↔ ((e ≡ Memory) ⊎ (e ≡ NotAStore))) }
-        ensures causes { IfErr result (λ e. (e ≡ Failed) ⊎ (e ≡ LogFull) ⊎ (e ≡ Memory) ⊎ (e ≡ NotAStore) ⊎ (e ≡ Device)) }
-        ensures no_room { result ≡ Err LogFull → HasNoRoom self.new.log }
-        ensures full { result ≡ Err LogFull → 2 ^ 62 < end_with self.new.log 4129 }
-        ensures later { OnOk result (EndsNoSooner self.old.log self.new.log) }
-        ensures already { result ≡ Err Failed ↔ (self.old.failed ≡ true) }
-        ensures device { self.old.failed ≡ false → result ≡ Err Device ↔ (D.failed disk.new ≡ true) }
     {
         self.get(disk, number)?;
         self.make_entry_room(disk)?;
@@ -186,18 +178,12 @@ impl PageWriter {
         requires what { IsLike (what_of (view record.now)) (InsertKey key.now rid) }
         requires page { page_of (view record.now) ≡ number }
         requires ready { IsReadyWriter D.Disk self.old disk.old }
-        ensures ready { IsReadyWriter D.Disk self.new disk.new }
+        ensures outcome { Logs D.Disk false mild self.old disk.old self.new disk.new (fault_of result) }
         ensures kept { (b : Base) (base : ℕ) (s : Writer) (e : ℕ) → StandsAs D.Disk b base s self.old disk.old → s.redo_end ≡ Some e
             → ChangeKept D.Disk b base s (view record.now) disk.old self.new disk.new result }
-        ensures works { OnOk result (self.new.failed ≡ false) }
         ensures memory { result ≡ Err Memory → held_of self.old.pool number ≡ None }
-        ensures fails { IfErr result (λ e. (self.new.failed ≡ false) ↔ ((e ≡ Memory) ⊎ (e ≡ NotAStore))) }
-        ensures causes { IfErr result (λ e. (e ≡ Failed) ⊎ (e ≡ LogFull) ⊎ (e ≡ Memory) ⊎ (e ≡ NotAStore) ⊎ (e ≡ Device)) }
-        ensures no_room { result ≡ Err LogFull → HasNoRoom self.new.log }
         ensures full { result ≡ Err LogFull → (2 ^ 62 < end_with self.new.log (size_of (view record.now))) ⊎ (2 ^ 62 < end_with self.new.log 4129) }
         ensures fits { OnOk result (end_with self.old.log (size_of (view record.now)) ≤ 2 ^ 62) }
-        ensures already { result ≡ Err Failed ↔ (self.old.failed ≡ true) }
-        ensures device { self.old.failed ≡ false → result ≡ Err Device ↔ (D.failed disk.new ≡ true) }
     {
         let frame = self.hold_with_room(disk, number)?;
         let i = place_for(self.pool.page(frame), key)?;
@@ -220,18 +206,12 @@ impl PageWriter {
         requires what { IsLike (what_of (view record.now)) (DeleteKey key.now rid) }
         requires page { page_of (view record.now) ≡ number }
         requires ready { IsReadyWriter D.Disk self.old disk.old }
-        ensures ready { IsReadyWriter D.Disk self.new disk.new }
+        ensures outcome { Logs D.Disk false mild self.old disk.old self.new disk.new (fault_of result) }
         ensures kept { (b : Base) (base : ℕ) (s : Writer) (e : ℕ) → StandsAs D.Disk b base s self.old disk.old → s.redo_end ≡ Some e
             → ChangeKept D.Disk b base s (view record.now) disk.old self.new disk.new result }
-        ensures works { OnOk result (self.new.failed ≡ false) }
         ensures memory { result ≡ Err Memory → held_of self.old.pool number ≡ None }
-        ensures fails { IfErr result (λ e. (self.new.failed ≡ false) ↔ ((e ≡ Memory) ⊎ (e ≡ NotAStore))) }
-        ensures causes { IfErr result (λ e. (e ≡ Failed) ⊎ (e ≡ LogFull) ⊎ (e ≡ Memory) ⊎ (e ≡ NotAStore) ⊎ (e ≡ Device)) }
-        ensures no_room { result ≡ Err LogFull → HasNoRoom self.new.log }
         ensures full { result ≡ Err LogFull → (2 ^ 62 < end_with self.new.log (size_of (view record.now))) ⊎ (2 ^ 62 < end_with self.new.log 4129) }
         ensures fits { OnOk result (end_with self.old.log (size_of (view record.now)) ≤ 2 ^ 62) }
-        ensures already { result ≡ Err Failed ↔ (self.old.failed ≡ true) }
-        ensures device { self.old.failed ≡ false → result ≡ Err Device ↔ (D.failed disk.new ≡ true) }
     {
         let frame = self.hold_with_room(disk, number)?;
         let i = place_of(self.pool.page(frame), key)?;
@@ -259,18 +239,12 @@ impl PageWriter {
     pub fn log_change<D: Disk>(&mut self, disk: &mut D, record: &Record) -> Result<Lsn, Fault>
         requires entry { IsEntry (view record.now) }
         requires ready { IsReadyWriter D.Disk self.old disk.old }
-        ensures ready { IsReadyWriter D.Disk self.new disk.new }
+        ensures outcome { Logs D.Disk false mild self.old disk.old self.new disk.new (fault_of result) }
         ensures kept { (b : Base) (base : ℕ) (s : Writer) (e : ℕ) → StandsAs D.Disk b base s self.old disk.old → s.redo_end ≡ Some e
             → ChangeKept D.Disk b base s (view record.now) disk.old self.new disk.new result }
-        ensures works { OnOk result (self.new.failed ≡ false) }
         ensures memory { result ≡ Err Memory → held_of self.old.pool (page_of (view record.now)) ≡ None }
-        ensures fails { IfErr result (λ e. (self.new.failed ≡ false) ↔ ((e ≡ Memory) ⊎ (e ≡ NotAStore))) }
-        ensures causes { IfErr result (λ e. (e ≡ Failed) ⊎ (e ≡ LogFull) ⊎ (e ≡ Memory) ⊎ (e ≡ NotAStore) ⊎ (e ≡ Device)) }
-        ensures no_room { result ≡ Err LogFull → HasNoRoom self.new.log }
         ensures full { result ≡ Err LogFull → (2 ^ 62 < end_with self.new.log (size_of (view record.now))) ⊎ (2 ^ 62 < end_with self.new.log 4129) }
         ensures fits { OnOk result (end_with self.old.log (size_of (view record.now)) ≤ 2 ^ 62) }
-        ensures already { result ≡ Err Failed ↔ (self.old.failed ≡ true) }
-        ensures device { self.old.failed ≡ false → result ≡ Err Device ↔ (D.failed disk.new ≡ true) }
     {
         match record {
             Record::InsertKey { page, key, rid, .. } => self.log_put(

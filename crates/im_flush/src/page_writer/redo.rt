@@ -31,7 +31,8 @@ impl PageWriter {
     ghost use Rattle.im_disk.specs.Runs.{Reads};
     ghost use Rattle.im_pool.specs.Pool.{Holds, IsAt};
     ghost use Rattle.im_flush.specs.DirtyTable.{entry_in};
-    ghost use Rattle.im_flush.specs.PageWriter.{IsReadyWriter, StandsAs, EvictKept};
+    ghost use Rattle.im_flush.specs.Outcome.{fault_of, mild, Flushes, Redoes};
+    ghost use Rattle.im_flush.specs.PageWriter.{IsReadyWriter, StandsAs};
     ghost use Rattle.im_flush.specs.Redoing.{LoadKept, RedoKept, LacksTaker, LoadedHere, RedoneHere};
 
     /// Reads the record at an LSN into the room, and answers its size, as the log's `read_at` does.
@@ -69,15 +70,7 @@ impl PageWriter {
     // Makes a frame free for a page that is not held, and then room in the dirty table.
     fn make_rooms<D: Disk>(&mut self, disk: &mut D, number: PageNo) -> Result<(), Fault>
         requires ready { IsReadyWriter D.Disk self.old disk.old }
-        ensures ready { IsReadyWriter D.Disk self.new disk.new }
-        ensures kept { (b : Base) (base : ℕ) (s : Writer) → StandsAs D.Disk b base s self.old disk.old → EvictKept D.Disk b base s disk.old self.new disk.new result }
-        ensures works { OnOk result (self.new.failed ≡ false) }
-        ensures causes { IfErr result (λ e. (e ≡ Failed) ⊎ (e ≡ LogFull) ⊎ (e ≡ Device)) }
-        ensures no_room { result ≡ Err LogFull → HasNoRoom self.new.log }
-        ensures full { result ≡ Err LogFull → 2 ^ 62 < end_with self.new.log 4129 }
-        ensures fails { IfErr result (λ e. (self.new.failed ≡ false) ↔ ((e ≡ Memory) ⊎ (e ≡ NotAStore))) }
-        ensures already { result ≡ Err Failed ↔ (self.old.failed ≡ true) }
-        ensures device { self.old.failed ≡ false → result ≡ Err Device ↔ (D.failed disk.new ≡ true) }
+        ensures outcome { Flushes D.Disk self.old disk.old self.new disk.new (fault_of result) }
     {
         if self.failed {
             return Err(Fault::Failed);
@@ -130,18 +123,11 @@ impl PageWriter {
     ) -> Result<(), Fault>
         requires entry { IsEntry (view record.now) }
         requires ready { IsReadyWriter D.Disk self.old disk.old }
-        ensures ready { IsReadyWriter D.Disk self.new disk.new }
+        ensures outcome { Redoes D.Disk mild self.old self.new disk.new (fault_of result) }
         ensures kept { (b : Base) (base : ℕ) (s : Writer) (copy : Page) → StandsAs D.Disk b base s self.old disk.old → s.redo_end ≡ None → s.point ≡ point
             → copy_in lsn (what_of (view record.now)) ≡ Some copy → (s.pages (page_of (view record.now))).waits ≡ true → (s.pages (page_of (view record.now))).found ≡ Some (lsn, copy)
             → ((q : ℕ) → q < page_of (view record.now) → (s.pages q).waits ≡ false)
             → LoadKept D.Disk b base s (page_of (view record.now)) copy disk.old self.new disk.new result }
-        ensures works { OnOk result (self.new.failed ≡ false) }
-        ensures causes { IfErr result (λ e. (e ≡ Failed) ⊎ (e ≡ LogFull) ⊎ (e ≡ Memory) ⊎ (e ≡ NotAStore) ⊎ (e ≡ Device)) }
-        ensures no_room { result ≡ Err LogFull → HasNoRoom self.new.log }
-        ensures full { result ≡ Err LogFull → 2 ^ 62 < end_with self.new.log 4129 }
-        ensures fails { IfErr result (λ e. (self.new.failed ≡ false) ↔ ((e ≡ Memory) ⊎ (e ≡ NotAStore))) }
-        ensures already { result ≡ Err Failed ↔ (self.old.failed ≡ true) }
-        ensures device { self.old.failed ≡ false → result ≡ Err Device ↔ (D.failed disk.new ≡ true) }
     {
         let number = record.page();
         self.make_rooms(disk, number)?;
@@ -202,17 +188,10 @@ impl PageWriter {
         requires entry { IsEntry (view record.now) }
         requires page { page_of (view record.now) ≡ number }
         requires ready { IsReadyWriter D.Disk self.old disk.old }
-        ensures ready { IsReadyWriter D.Disk self.new disk.new }
+        ensures outcome { Redoes D.Disk mild self.old self.new disk.new (fault_of result) }
         ensures kept { (b : Base) (base : ℕ) (s : Writer) (newer older : History) → StandsAs D.Disk b base s self.old disk.old → s.redo_end ≡ None → s.point ≡ point
             → newer ++ logged_at lsn (view record.now) ∷ older ≡ s.durable → point ≤ lsn → ((p : ℕ) → ((s.pages p).waits ≡ false) × (end_of b older < (s.pages p).upto))
             → (s.pages number).page.lsn < lsn → (copied ≡ true → HasCopy s.durable number s.point) → RedoKept D.Disk b base s (logged_at lsn (view record.now)) disk.old self.new disk.new result }
-        ensures works { OnOk result (self.new.failed ≡ false) }
-        ensures causes { IfErr result (λ e. (e ≡ Failed) ⊎ (e ≡ LogFull) ⊎ (e ≡ Memory) ⊎ (e ≡ NotAStore) ⊎ (e ≡ Device)) }
-        ensures no_room { result ≡ Err LogFull → HasNoRoom self.new.log }
-        ensures full { result ≡ Err LogFull → 2 ^ 62 < end_with self.new.log 4129 }
-        ensures fails { IfErr result (λ e. (self.new.failed ≡ false) ↔ ((e ≡ Memory) ⊎ (e ≡ NotAStore))) }
-        ensures already { result ≡ Err Failed ↔ (self.old.failed ≡ true) }
-        ensures device { self.old.failed ≡ false → result ≡ Err Device ↔ (D.failed disk.new ≡ true) }
     {
         self.make_entry_room(disk)?;
         self.redo_held(point, lsn, record, number, copied)
@@ -231,17 +210,10 @@ impl PageWriter {
         requires entry { IsEntry (view record.now) }
         requires page { page_of (view record.now) ≡ number }
         requires ready { IsReadyWriter D.Disk self.old disk.old }
-        ensures ready { IsReadyWriter D.Disk self.new disk.new }
+        ensures outcome { Redoes D.Disk mild self.old self.new disk.new (fault_of result) }
         ensures kept { (b : Base) (base : ℕ) (s : Writer) (newer older : History) → StandsAs D.Disk b base s self.old disk.old → s.redo_end ≡ None → s.point ≡ point
             → newer ++ logged_at lsn (view record.now) ∷ older ≡ s.durable → point ≤ lsn → ((p : ℕ) → ((s.pages p).waits ≡ false) × (end_of b older < (s.pages p).upto))
             → (copied ≡ true → HasCopy s.durable number s.point) → RedoKept D.Disk b base s (logged_at lsn (view record.now)) disk.old self.new disk.new result }
-        ensures works { OnOk result (self.new.failed ≡ false) }
-        ensures causes { IfErr result (λ e. (e ≡ Failed) ⊎ (e ≡ LogFull) ⊎ (e ≡ Memory) ⊎ (e ≡ NotAStore) ⊎ (e ≡ Device)) }
-        ensures no_room { result ≡ Err LogFull → HasNoRoom self.new.log }
-        ensures full { result ≡ Err LogFull → 2 ^ 62 < end_with self.new.log 4129 }
-        ensures fails { IfErr result (λ e. (self.new.failed ≡ false) ↔ ((e ≡ Memory) ⊎ (e ≡ NotAStore))) }
-        ensures already { result ≡ Err Failed ↔ (self.old.failed ≡ true) }
-        ensures device { self.old.failed ≡ false → result ≡ Err Device ↔ (D.failed disk.new ≡ true) }
     {
         let frame = self.get(disk, number)?;
         if self.pool.page(frame).lsn() >= lsn {
@@ -268,17 +240,10 @@ impl PageWriter {
     ) -> Result<bool, Fault>
         requires entry { IsEntry (view record.now) }
         requires ready { IsReadyWriter D.Disk self.old disk.old }
-        ensures ready { IsReadyWriter D.Disk self.new disk.new }
+        ensures outcome { Redoes D.Disk mild self.old self.new disk.new (fault_of result) }
         ensures kept { (b : Base) (base : ℕ) (s : Writer) (newer older : History) → StandsAs D.Disk b base s self.old disk.old → s.redo_end ≡ None → s.point ≡ point
             → newer ++ logged_at lsn (view record.now) ∷ older ≡ s.durable → point ≤ lsn → ((p : ℕ) → ((s.pages p).waits ≡ false) × (end_of b older < (s.pages p).upto))
             → (copied ≡ true → HasCopy s.durable (page_of (view record.now)) s.point) → RedoKept D.Disk b base s (logged_at lsn (view record.now)) disk.old self.new disk.new result }
-        ensures works { OnOk result (self.new.failed ≡ false) }
-        ensures causes { IfErr result (λ e. (e ≡ Failed) ⊎ (e ≡ LogFull) ⊎ (e ≡ Memory) ⊎ (e ≡ NotAStore) ⊎ (e ≡ Device)) }
-        ensures no_room { result ≡ Err LogFull → HasNoRoom self.new.log }
-        ensures full { result ≡ Err LogFull → 2 ^ 62 < end_with self.new.log 4129 }
-        ensures fails { IfErr result (λ e. (self.new.failed ≡ false) ↔ ((e ≡ Memory) ⊎ (e ≡ NotAStore))) }
-        ensures already { result ≡ Err Failed ↔ (self.old.failed ≡ true) }
-        ensures device { self.old.failed ≡ false → result ≡ Err Device ↔ (D.failed disk.new ≡ true) }
     {
         if self.failed {
             return Err(Fault::Failed);

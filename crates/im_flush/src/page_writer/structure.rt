@@ -20,6 +20,7 @@ impl PageWriter {
     ghost use Rattle.im_pool.specs.Pool.{held_of, IsAt};
     ghost use Rattle.im_flush.specs.DirtyTable.{entry_in};
     ghost use Rattle.im_flush.specs.PageCopy.{after_in};
+    ghost use Rattle.im_flush.specs.Outcome.{fault_of, mild, Logs};
     ghost use Rattle.im_flush.specs.PageWriter.{IsReadyWriter, StandsAs};
     ghost use Rattle.im_flush.specs.StructureChange.{LeftHere, LeftKept};
 
@@ -41,6 +42,7 @@ impl PageWriter {
             → LeftHere D.Disk b base s (view record.now) disk.old self.new disk.new result }
         ensures works { OnOk result (self.new.failed ≡ false) }
         ensures fails { IfErr result (λ e. (self.new.failed ≡ false) ↔ (e ≡ NotAStore)) }
+        ensures same { result ≡ Err NotAStore → (self.new.log ≡ self.old.log) × (self.new.table ≡ self.old.table) × (self.new.pool ≡ self.old.pool) × (self.new.known_from ≡ self.old.known_from) × (disk.new ≡ disk.old) }
         ensures refused { result ≡ Err NotAStore ↔ (after_in (what_of (view record.now)) ≡ None) }
         ensures images { OnOk result (after_in (what_of (view record.now)) ≢ None) }
         ensures causes { IfErr result (λ e. (e ≡ NotAStore) ⊎ (e ≡ LogFull) ⊎ (e ≡ Device)) }
@@ -70,17 +72,11 @@ impl PageWriter {
         requires entry { IsEntry (view record.now) }
         requires page { page_of (view record.now) ≡ number }
         requires ready { IsReadyWriter D.Disk self.old disk.old }
-        ensures ready { IsReadyWriter D.Disk self.new disk.new }
+        ensures outcome { Logs D.Disk false mild self.old disk.old self.new disk.new (fault_of result) }
         ensures kept { (b : Base) (base : ℕ) (s : Writer) (e : ℕ) → StandsAs D.Disk b base s self.old disk.old → s.redo_end ≡ Some e
             → LeftKept D.Disk b base s (view record.now) disk.old self.new disk.new result }
-        ensures works { OnOk result (self.new.failed ≡ false) }
-        ensures causes { IfErr result (λ e. (e ≡ Failed) ⊎ (e ≡ LogFull) ⊎ (e ≡ Memory) ⊎ (e ≡ NotAStore) ⊎ (e ≡ Device)) }
-        ensures no_room { result ≡ Err LogFull → HasNoRoom self.new.log }
         ensures full { result ≡ Err LogFull → (2 ^ 62 < end_with self.new.log (size_of (view record.now))) ⊎ (2 ^ 62 < end_with self.new.log 4129) }
         ensures fits { OnOk result (end_with self.old.log (size_of (view record.now)) ≤ 2 ^ 62) }
-        ensures already { result ≡ Err Failed ↔ (self.old.failed ≡ true) }
-        ensures device { self.old.failed ≡ false → result ≡ Err Device ↔ (D.failed disk.new ≡ true) }
-        ensures fails { IfErr result (λ e. (self.new.failed ≡ false) ↔ ((e ≡ Memory) ⊎ (e ≡ NotAStore))) }
         ensures memory { result ≡ Err Memory → held_of self.old.pool number ≡ None }
         ensures images { OnOk result (after_in (what_of (view record.now)) ≢ None) }
     {
@@ -97,17 +93,11 @@ impl PageWriter {
     pub fn log_image<D: Disk>(&mut self, disk: &mut D, record: &Record) -> Result<Lsn, Fault>
         requires entry { IsEntry (view record.now) }
         requires ready { IsReadyWriter D.Disk self.old disk.old }
-        ensures ready { IsReadyWriter D.Disk self.new disk.new }
+        ensures outcome { Logs D.Disk false mild self.old disk.old self.new disk.new (fault_of result) }
         ensures kept { (b : Base) (base : ℕ) (s : Writer) (e : ℕ) → StandsAs D.Disk b base s self.old disk.old → s.redo_end ≡ Some e
             → LeftKept D.Disk b base s (view record.now) disk.old self.new disk.new result }
-        ensures works { OnOk result (self.new.failed ≡ false) }
-        ensures causes { IfErr result (λ e. (e ≡ Failed) ⊎ (e ≡ LogFull) ⊎ (e ≡ Memory) ⊎ (e ≡ NotAStore) ⊎ (e ≡ Device)) }
-        ensures no_room { result ≡ Err LogFull → HasNoRoom self.new.log }
         ensures full { result ≡ Err LogFull → (2 ^ 62 < end_with self.new.log (size_of (view record.now))) ⊎ (2 ^ 62 < end_with self.new.log 4129) }
         ensures fits { OnOk result (end_with self.old.log (size_of (view record.now)) ≤ 2 ^ 62) }
-        ensures already { result ≡ Err Failed ↔ (self.old.failed ≡ true) }
-        ensures device { self.old.failed ≡ false → result ≡ Err Device ↔ (D.failed disk.new ≡ true) }
-        ensures fails { IfErr result (λ e. (self.new.failed ≡ false) ↔ ((e ≡ Memory) ⊎ (e ≡ NotAStore))) }
         ensures memory { result ≡ Err Memory → held_of self.old.pool (page_of (view record.now)) ≡ None }
         ensures images { OnOk result (after_in (what_of (view record.now)) ≢ None) }
     {

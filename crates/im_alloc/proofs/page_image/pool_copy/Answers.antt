@@ -1,22 +1,18 @@
-use Rattle.std.proofs.Common.{◌≡◌, ℕ, ap, ◌∙◌, rules}
+use Rattle.std.proofs.Common.{ℕ, ap, refl, ◌∙◌}
 use Rattle.im_pool.specs.Pool.{page_at}
-use Rattle.im_flush.proofs.Goings.{leaves_so_far}
-use Rattle.im_flush.proofs.LoggedChanges.{again_here}
-use Rattle.im_alloc.proofs.Results.{if_ok, if_err, memory_not}
+use Rattle.im_flush.specs.Outcome.{mild}
+use Rattle.im_flush.proofs.Outcomes.{ends_own, pages_to, search_of, sound_on, sound_own}
+use Rattle.im_alloc.proofs.Goings.{mildly_copied}
+use Rattle.im_alloc.proofs.Results.{if_err, memory_not}
 use Rattle.im_alloc.proofs.page_image.pool_copy.Goals as goal
 
 pub returns-in_err-frame-clause-kept : goal.returns-in_err-frame-clause-kept
-returns-in_err-frame-clause-kept g c b base s is ready =
-    let got = c.in_err-frame.ensures.kept b base s is (λ q le. ready q) in
-    record { ok = search rules; stops = got.stops; cause = search rules; again = search rules }
+returns-in_err-frame-clause-kept g c pages has = sound_on c.from_residual.result _ _ c.from_residual.ensures.1 (c.in_err-frame.ensures.kept pages (pages_to g.D.Disk c.args.number has))
+
+pub returns-clause-outcome : goal.returns-clause-outcome
+returns-clause-outcome g c = ends_own g.D.Disk mild refl refl refl c.copied.result (search_of g.D.Disk c.in_ok-frame.ensures.outcome) (mildly_copied c.copied.result c.copied.ensures.refused)
 
 pub returns-clause-kept : goal.returns-clause-kept
-returns-clause-kept g c b base s is ready =
-    let got = (c.in_ok-frame.ensures.kept b base s is (λ q le. ready q)).ok in
-    let same : c.page.result.now ≡ (s.pages c.args.number).page = c.page.ensures.page ∙ ap (λ (n : ℕ). page_at c.get.new.self.pool n) c.in_ok-frame.ensures.frame ∙ got.page in
-    record {
-      ok = if_ok c.copied.result _ _ c.copied.ensures.same (λ p copy. record { now = got.now; on = got.on; is = copy ∙ same });
-      stops = leaves_so_far g.D.Disk b base s c.args.disk.now got.now c.get.new.self.log c.get.new.self.table c.get.new.self.pool c.get.new.disk got.on.goes;
-      cause = if_err c.copied.result _ _ c.copied.ensures.refused memory_not;
-      again = again_here c.copied.result _ _ (record { now = got.now; on = got.on });
-    }
+returns-clause-kept g c pages has =
+    let same = c.page.ensures.page ∙ ap (λ (n : ℕ). page_at c.get.new.self.pool n) c.in_ok-frame.ensures.frame ∙ c.in_ok-frame.ensures.kept pages (pages_to g.D.Disk c.args.number has) in
+    sound_own c.copied.result _ _ c.copied.ensures.same (if_err c.copied.result _ _ c.copied.ensures.refused memory_not) (λ p copy. copy ∙ same)

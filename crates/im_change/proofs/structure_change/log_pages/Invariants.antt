@@ -1,14 +1,13 @@
-use Rattle.std.proofs.Common.{◌≡◌, false, ℕ, length}
+use Rattle.std.proofs.Common.{◌≡◌, ℕ, true, length, None}
 use Rattle.im_types.specs.Histories.{Base}
 use Rattle.im_types.specs.Writer.{Writer}
-use Rattle.im_flush.specs.PageWriter.{IsReadyWriter}
+use Rattle.im_flush.specs.Outcome.{mild, Logs}
 use Rattle.im_change.specs.Changes.{MayChange, PagesLogged}
 use Rattle.im_change.proofs.structure_change.log_pages.Given as goal
 
 abbrev pub invariant-loop-i : goal.invariant-loop-i
 invariant-loop-i g l = record {
-  ready : IsReadyWriter g.D.Disk l.writer l.disk;
-  works : l.writer.failed ≡ false;
+  outcome : Logs g.D.Disk true mild l.fn.writer l.fn.disk l.writer l.disk None;
   count : l.len ≡ length l.images;
   first : l.i ≡ 0 → (l.writer ≡ l.fn.writer) × (l.disk ≡ l.fn.disk);
   kept : (b : Base) (base : ℕ) (s : Writer) (e undo_next : ℕ) → MayChange g.D.Disk b base s e l.images l.transaction l.last undo_next l.fn.writer l.fn.disk

@@ -1,24 +1,27 @@
-use Rattle.std.proofs.Common.{◌≡◌, sym, subst}
+use Rattle.std.proofs.Common.{◌≡◌, refl, sym, subst}
 use Rattle.im_types.specs.Pages.{Body, Page}
 use Rattle.im_types.specs.declared.page_kind.PageKind.TheVariants.{Inner}
+use Rattle.im_flush.specs.Outcome.{mild}
+use Rattle.im_flush.proofs.Outcomes.{ends_own, sound_done, sound_on}
 use Rattle.im_alloc.specs.Seen.{seen}
+use Rattle.im_alloc.proofs.Goings.{mildly}
 use Rattle.im_search.specs.Children.{StandsAt}
 use Rattle.im_delete.specs.Chains.{without_child}
-use Rattle.im_search.proofs.Calls.{call_refused, call_here, ok_done}
 use Rattle.im_delete.proofs.Leaving.{edited, says_seen}
 use Rattle.im_delete.proofs.dropping.drop_child.Goals as goal
 
 pub returns-in_err-page-clause-kept : goal.returns-in_err-page-clause-kept
-returns-in_err-page-clause-kept g c b base s child is ready inner at =
-    let kept = c.in_err-page.ensures.kept b base s is ready in
-    call_refused g.D.Disk b base s _ c.args.disk.now c.image.new.writer c.image.new.disk c.in_err-page.field-0.0 kept.stops kept.cause kept.again c.from_residual.result c.from_residual.ensures.1
+returns-in_err-page-clause-kept g c pages child has inner at = sound_on c.from_residual.result _ _ c.from_residual.ensures.1 (c.in_err-page.ensures.kept pages has)
+
+pub returns-clause-outcome : goal.returns-clause-outcome
+returns-clause-outcome g c = ends_own g.D.Disk mild refl refl refl c.put_parent.result c.in_ok-page.ensures.outcome (mildly c.put_parent.result c.put_parent.ensures.causes)
 
 pub returns-clause-kept : goal.returns-clause-kept
-returns-clause-kept g c b base s child is ready inner at =
-    let has = (c.in_ok-page.ensures.kept b base s is ready).ok in
+returns-clause-kept g c pages child has inner at =
+    let is = c.in_ok-page.ensures.kept pages has in
+    let xs = c.args.images.now in
     let page : Page = c.in_ok-page.page.value in
-    let says : page.body ≡ seen s c.args.images.now c.args.parent = says_seen s c.args.images.now c.args.parent page has.is in
-    call_here g.D.Disk b base s _ c.args.disk.now has.now c.image.new.writer c.image.new.disk has.on c.put_parent.result
-    (ok_done c.put_parent.result _ _ c.put_parent.ensures.new
-    (λ new. edited s c.args.images.now c.image.new.images c.put_parent.new.images c.args.parent page (λ (x : Body). without_child x c.args.place) c.rise.ensures has.is c.in_ok-page.ensures.images new))
+    let says : page.body ≡ seen pages xs c.args.parent = says_seen pages xs c.args.parent page is in
+    sound_done c.put_parent.result _ _ c.put_parent.ensures.new
     (c.put_parent.ensures.sound child (subst (λ (x : Body). x.kind ≡ Inner) (sym says) inner) (subst (λ (x : Body). StandsAt x c.args.place child) (sym says) at))
+    (λ new. edited pages xs c.image.new.images c.put_parent.new.images c.args.parent page (λ (x : Body). without_child x c.args.place) c.rise.ensures is c.in_ok-page.ensures.images new)

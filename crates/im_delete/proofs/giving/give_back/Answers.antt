@@ -1,53 +1,60 @@
-use Rattle.std.proofs.Common.{◌≡◌, [], subst}
+use Rattle.std.proofs.Common.{◌≡◌, [], ◌∷◌, ◌++◌, subst}
+use Rattle.im_flush.proofs.Outcomes.{refused, sound_on, then}
 use Rattle.im_delete.specs.Given.{IsGiven}
-use Rattle.im_search.proofs.Calls.{call_refused, call_here, then_refused}
-use Rattle.im_delete.proofs.Frees.{last_first, first_given, has_given, more_given, free_call, none_left}
+use Rattle.im_delete.proofs.Frees.{last_first, given_first, given_more, next_given, none_left}
 use Rattle.im_delete.proofs.giving.give_back.Goals as goal
 
 pub returns-in_err-free-clause-kept : goal.returns-in_err-free-clause-kept
-returns-in_err-free-clause-kept g c b base s has =
-    let kept = c.in_err-free.ensures.kept b base s c.args.above.now.items (last_first g.D.Disk b base s c.args.images.now c.args.above.now.items c.args.leaf c.args.writer.now c.args.disk.now has) in
-    call_refused g.D.Disk b base s _ c.args.disk.now c.free.new.writer c.free.new.disk c.in_err-free.field-0.0 kept.stops kept.cause kept.again c.from_residual.result c.from_residual.ensures.1
+returns-in_err-free-clause-kept g c pages tree =
+    let above = c.args.above.now.items in
+    sound_on c.from_residual.result _ _ c.from_residual.ensures.1
+    (c.in_err-free.ensures.kept pages above (last_first g.D.Disk pages c.args.images.now above c.args.leaf c.args.writer.now c.args.disk.now tree))
 
 pub loop-number-init : goal.loop-number-init
 loop-number-init g c =
     let e = c.in_ok-free.ensures in
+    let above = c.args.above.now.items in
     record {
-      ready = e.ready;
-      works = e.works;
-      alive = λ failed. let clash = e.device.1 failed in let never : ⊥ = cc clash in never;
-      kept = λ b base s has.
-          let kept = e.kept b base s c.args.above.now.items (last_first g.D.Disk b base s c.args.images.now c.args.above.now.items c.args.leaf c.args.writer.now c.args.disk.now has) in
-          first_given g.D.Disk b base s c.args.images.now c.free.new.images c.args.above.now.items c.args.leaf c.args.disk.now c.free.new.writer c.free.new.disk kept.ok;
+      outcome = e.outcome;
+      kept = λ pages tree. given_first pages c.args.images.now c.free.new.images above c.args.leaf
+          (e.kept pages above (last_first g.D.Disk pages c.args.images.now above c.args.leaf c.args.writer.now c.args.disk.now tree));
     }
 
+pub returns-in_err-free-2-clause-outcome : goal.returns-in_err-free-2-clause-outcome
+returns-in_err-free-2-clause-outcome g c =
+    refused g.D.Disk c.from_residual-in_err-free-2.result c.from_residual-in_err-free-2.ensures.1 (then g.D.Disk c.loop-number.invariant.outcome c.in_err-free-2.ensures.outcome)
+
 pub returns-in_err-free-2-clause-kept : goal.returns-in_err-free-2-clause-kept
-returns-in_err-free-2-clause-kept g c b base s has =
+returns-in_err-free-2-clause-kept g c pages tree =
     let l = c.loop-number in
-    let so = l.invariant.kept b base s has in
-    let now = has_given g.D.Disk b base s c.args.images.now l.images c.args.leaf c.args.above.now.items l.above.items c.pop.new.self.items c.in-Some.number c.args.disk.now l.writer l.disk so c.in-Some.ensures.items has.ready in
-    let kept = c.in_err-free-2.ensures.kept b base so.now c.pop.new.self.items now in
-    then_refused g.D.Disk b base s _ _ c.args.disk.now so.now l.writer l.disk so.on c.free-in-Some.new.writer c.free-in-Some.new.disk c.in_err-free-2.field-0.0
-    (free_call g.D.Disk b base so.now l.images c.pop.new.self.items c.in-Some.number l.disk c.free-in-Some.new.images c.free-in-Some.new.writer c.free-in-Some.new.disk _ kept) c.from_residual-in_err-free-2.result c.from_residual-in_err-free-2.ensures.1
+    let above = c.args.above.now.items in
+    let rest = c.pop.new.self.items in
+    sound_on c.from_residual-in_err-free-2.result _ _ c.from_residual-in_err-free-2.ensures.1
+    (c.in_err-free-2.ensures.kept pages rest
+    (next_given g.D.Disk pages c.args.images.now l.images c.args.leaf above l.above.items rest (above ++ c.args.leaf ∷ []) c.in-Some.number tree l.invariant.outcome (l.invariant.kept pages tree) c.in-Some.ensures.items))
 
 pub loop-number-preserved : goal.loop-number-preserved
 loop-number-preserved g c =
     let l = c.loop-number in
     let e = c.in_ok-free-2.ensures in
+    let images = c.args.images.now in
+    let leaf = c.args.leaf in
+    let above = c.args.above.now.items in
+    let rest = c.pop.new.self.items in
+    let q = c.in-Some.number in
     record {
-      ready = e.ready;
-      works = e.works;
-      alive = λ failed. let clash = e.device.1 failed in let never : ⊥ = cc clash in never;
-      kept = λ b base s has.
-          let so = l.invariant.kept b base s has in
-          let now = has_given g.D.Disk b base s c.args.images.now l.images c.args.leaf c.args.above.now.items l.above.items c.pop.new.self.items c.in-Some.number c.args.disk.now l.writer l.disk so c.in-Some.ensures.items has.ready in
-          more_given g.D.Disk b base s c.args.images.now l.images c.args.leaf c.args.above.now.items l.above.items c.pop.new.self.items c.in-Some.number c.args.disk.now l.writer l.disk so c.in-Some.ensures.items
-          c.free-in-Some.new.images c.free-in-Some.new.writer c.free-in-Some.new.disk (e.kept b base so.now c.pop.new.self.items now).ok;
+      outcome = then g.D.Disk l.invariant.outcome e.outcome;
+      kept = λ pages tree.
+          let so = l.invariant.kept pages tree in
+          given_more pages images l.images c.free-in-Some.new.images above rest l.above.items leaf q c.in-Some.ensures.items so
+          (e.kept pages rest (next_given g.D.Disk pages images l.images leaf above l.above.items rest (above ++ leaf ∷ []) q tree l.invariant.outcome so c.in-Some.ensures.items));
     }
 
+pub returns-clause-outcome : goal.returns-clause-outcome
+returns-clause-outcome g c = c.loop-number.invariant.outcome
+
 pub returns-clause-kept : goal.returns-clause-kept
-returns-clause-kept g c b base s has =
+returns-clause-kept g c pages tree =
     let l = c.loop-number in
-    let so = l.invariant.kept b base s has in
     let none : l.above.items ≡ [] = none_left l.above.len l.above.items l.above.ok.0 c.in_default.ensures.cases.0 in
-    call_here g.D.Disk b base s _ c.args.disk.now so.now l.writer l.disk so.on _ (subst (IsGiven s c.args.images.now l.images c.args.leaf c.args.above.now.items) none so.given) tt
+    subst (IsGiven pages c.args.images.now l.images c.args.leaf c.args.above.now.items) none (l.invariant.kept pages tree)

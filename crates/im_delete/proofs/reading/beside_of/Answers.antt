@@ -1,21 +1,23 @@
-use Rattle.std.proofs.Common.{◌≡◌, ℕ, [], sym, ap, ◌∙◌, subst}
-use Rattle.std.specs.Prelude.{IfOk}
+use Rattle.std.proofs.Common.{◌≡◌, ℕ, [], refl, sym, ap, ◌∙◌, subst}
 use Rattle.im_types.specs.Pages.{Body, Page}
 use Rattle.im_pool.specs.Pool.{page_at}
-use Rattle.im_delete.specs.Chains.{IsBeside}
+use Rattle.im_flush.specs.Outcome.{mild}
+use Rattle.im_flush.proofs.Outcomes.{ends_own, pages_to, search_of, sound_on, sound_own}
 use Rattle.im_search.specs.Levels.{HasLevel}
 use Rattle.im_alloc.specs.Seen.{bodies}
-use Rattle.im_search.proofs.Calls.{call_got, call_refused}
+use Rattle.im_delete.specs.Chains.{IsBeside}
+use Rattle.im_delete.proofs.Results.{mildly_read, never_err}
 use Rattle.im_delete.proofs.reading.beside_of.Goals as goal
 
 pub returns-in_err-frame-clause-kept : goal.returns-in_err-frame-clause-kept
-returns-in_err-frame-clause-kept g c b base s is ready level none =
-    let got = c.in_err-frame.ensures.kept b base s is (λ q le. ready q) in
-    call_refused g.D.Disk b base s _ c.args.disk.now c.get.new.self c.get.new.disk c.in_err-frame.field-0.0 got.stops got.cause got.again c.from_residual.result c.from_residual.ensures.1
+returns-in_err-frame-clause-kept g c pages has level none = sound_on c.from_residual.result _ _ c.from_residual.ensures.1 (c.in_err-frame.ensures.kept pages (pages_to g.D.Disk c.args.number has))
+
+pub returns-clause-outcome : goal.returns-clause-outcome
+returns-clause-outcome g c = ends_own g.D.Disk mild refl refl refl c.beside_in.result (search_of g.D.Disk c.in_ok-frame.ensures.outcome) (mildly_read c.beside_in.result c.beside_in.ensures.refused)
 
 pub returns-clause-kept : goal.returns-clause-kept
-returns-clause-kept g c b base s is ready level none =
-    let got = (c.in_ok-frame.ensures.kept b base s is (λ q le. ready q)).ok in
-    let same : c.page.result.now.body ≡ bodies s c.args.number = ap (λ (p : Page). p.body) (c.page.ensures.page ∙ ap (λ (n : ℕ). page_at c.get.new.self.pool n) c.in_ok-frame.ensures.frame ∙ got.page) in
-    call_got g.D.Disk b base s _ c.args.number c.args.disk.now c.get.new.self c.get.new.disk c.beside_in.result got
-    (subst (λ (y : Body). IfOk c.beside_in.result (IsBeside y)) same c.beside_in.ensures.beside) (c.beside_in.ensures.sound (subst (HasLevel 0) (sym same) level) (subst (λ (y : Body). y.entries ≡ []) (sym same) none))
+returns-clause-kept g c pages has level none =
+    let got = c.in_ok-frame.ensures.kept pages (pages_to g.D.Disk c.args.number has) in
+    let same : c.page.result.now.body ≡ bodies pages c.args.number = ap (λ (p : Page). p.body) (c.page.ensures.page ∙ ap (λ (n : ℕ). page_at c.get.new.self.pool n) c.in_ok-frame.ensures.frame ∙ got) in
+    let never = c.beside_in.ensures.sound (subst (HasLevel 0) (sym same) level) (subst (λ (y : Body). y.entries ≡ []) (sym same) none) in
+    sound_own c.beside_in.result _ _ c.beside_in.ensures.beside (never_err c.beside_in.result _ never) (λ near is. subst (λ (y : Body). IsBeside y near) same is)

@@ -2,6 +2,7 @@ use Rattle.std.proofs.Common.{refl}
 use Rattle.im_disk.specs.contracts.model_disk.ModelDiskDisk.TheImpl.{ghosts}
 use Rattle.im_engine.specs.Checks.{HasCause}
 use Rattle.im_engine.specs.Running.{IsLife}
+use Rattle.im_engine.proofs.Looked.{look_cause}
 use Rattle.im_drill.proofs.StoreShown.{entries_match, caused}
 use Rattle.im_drill.proofs.store_lives.last_entries.Goals as goal
 
@@ -18,7 +19,7 @@ returns-in-Ok-clause-run c =
     let opening = c.open_store.ensures in
     let works = (rw c.in-Ok.is at opening.opened) in
     let new = c.entries-entries.new.self in
-    record { result = c.open_store.result; opening = opening; found = rw c.in-Ok.is (new, caused (λ f. HasCause ghosts new.writer.log new.disk f) c.in-Ok.engine.failed c.entries-entries.result c.entries-entries.ensures.cause works.0) }
+    record { result = c.open_store.result; opening = opening; found = rw c.in-Ok.is (new, caused (λ f. HasCause ghosts new.writer.log new.disk f) c.in-Ok.engine.failed c.entries-entries.result (look_cause ghosts c.in-Ok.engine new c.entries-entries.result c.entries-entries.ensures.outcome) works.0) }
 
 pub returns-in-Err-clause-run : goal.returns-in-Err-clause-run
 returns-in-Err-clause-run c = record { result = c.open_store.result; opening = c.open_store.ensures; found = rw c.in-Err.is refl }

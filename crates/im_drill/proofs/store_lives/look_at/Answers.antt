@@ -1,9 +1,11 @@
-use Rattle.std.proofs.Common.{◌≡◌, Bool, true, false, refl, inl, inr, sym, ◌∙◌, subst}
+use Rattle.std.proofs.Common.{◌≡◌, Bool, true, false, Ok, Err, refl, inl, inr, sym, ◌∙◌, subst}
 use Rattle.im_types.specs.Lives.{Shown}
 use Rattle.im_disk.specs.contracts.model_disk.ModelDiskDisk.TheImpl.{ghosts}
+use Rattle.im_engine.specs.declared.header.Header.{Header}
 use Rattle.im_engine.specs.Stands.{Allowed}
 use Rattle.im_engine.specs.Running.{IsLife}
 use Rattle.im_disk.specs.declared.model_disk.ModelDisk.{ModelDisk}
+use Rattle.im_engine.proofs.Looked.{look_works, look_fails, look_cause}
 use Rattle.im_drill.specs.declared.store_answers.StoreReply.TheVariants as replies
 use Rattle.im_drill.specs.Stops.{HasCome}
 use Rattle.im_drill.proofs.StoreRunning.{look_run}
@@ -14,8 +16,8 @@ pub returns-in-Ok-clause-kept : goal.returns-in-Ok-clause-kept
 returns-in-Ok-clause-kept c before s life =
     let new = c.header-header.new.self in
     let k = c.header-header.ensures.kept before s life in
-    let works : new.failed ≡ false = c.in-Ok.ensures.works in
-    let worked : c.args.engine.now.failed ≡ false = not_failed c.args.engine.now.failed (λ failed. let refused = c.header-header.ensures.failed.1 failed in let ok = c.in-Ok.is in absurd (cc)) in
+    let works : new.failed ≡ false = look_works ghosts c.args.engine.now new (Ok c.in-Ok.header) c.in-Ok.ensures.outcome in
+    let worked : c.args.engine.now.failed ≡ false = not_failed c.args.engine.now.failed (λ failed. let refused = c.in-Ok.ensures.outcome.failed.1 failed in absurd (cc refused)) in
     let same = same_shown s new.failed (works ∙ sym worked ∙ sym life.failed) in
     record {
       after = λ going. subst (λ (t : Shown). IsLife ghosts before t new) same k.after;
@@ -31,7 +33,7 @@ pub returns-in-Err-clause-kept : goal.returns-in-Err-clause-kept
 returns-in-Err-clause-kept c before s life =
     let new = c.header-header.new.self in
     let k = c.header-header.ensures.kept before s life in
-    let breaks = c.in-Err.ensures.fails in
+    let breaks = look_fails ghosts c.args.engine.now new {A = Header} (Err c.in-Err.fault) c.in-Err.ensures.outcome in
     record {
       after = λ going. subst (λ (failed : Bool). IsLife ghosts before (record s { failed = failed }) new) breaks k.after;
       stops = λ files left. subst (λ (failed : Bool). Allowed before (record s { failed = failed }) files) breaks (k.after.stops files left);
@@ -40,13 +42,13 @@ returns-in-Err-clause-kept c before s life =
 pub returns-then-has_come-clause-run : goal.returns-then-has_come-clause-run
 returns-then-has_come-clause-run c =
     let e = c.header-header.ensures in
-    look_run ghosts c.args.stop.now c.args.page replies.Stopped c.args.engine.now c.header-header.new.self c.header-header.result e.header e.cause e.kept
+    look_run ghosts c.args.stop.now c.args.page replies.Stopped c.args.engine.now c.header-header.new.self c.header-header.result e.header (look_cause ghosts c.args.engine.now c.header-header.new.self c.header-header.result e.outcome) e.kept
     (inl (subst (λ (disk : ModelDisk). HasCome c.args.stop.now disk) c.disk.ensures (c.has_come.ensures.0 c.if-has_come.true), refl))
 
 pub returns-in-Ok-clause-run : goal.returns-in-Ok-clause-run
 returns-in-Ok-clause-run c =
     let e = c.header-header.ensures in
-    look_run ghosts c.args.stop.now c.args.page (replies.Page c.args.page c.in-Ok.header) c.args.engine.now c.header-header.new.self c.header-header.result e.header e.cause e.kept
+    look_run ghosts c.args.stop.now c.args.page (replies.Page c.args.page c.in-Ok.header) c.args.engine.now c.header-header.new.self c.header-header.result e.header (look_cause ghosts c.args.engine.now c.header-header.new.self c.header-header.result e.outcome) e.kept
     (inr (
       (λ come.
           let yes : c.has_come.result ≡ true = c.has_come.ensures.1 (subst (λ (disk : ModelDisk). HasCome c.args.stop.now disk) (sym c.disk.ensures) come) in
@@ -57,7 +59,7 @@ returns-in-Ok-clause-run c =
 pub returns-in-Err-clause-run : goal.returns-in-Err-clause-run
 returns-in-Err-clause-run c =
     let e = c.header-header.ensures in
-    look_run ghosts c.args.stop.now c.args.page (replies.Refused c.in-Err.fault) c.args.engine.now c.header-header.new.self c.header-header.result e.header e.cause e.kept
+    look_run ghosts c.args.stop.now c.args.page (replies.Refused c.in-Err.fault) c.args.engine.now c.header-header.new.self c.header-header.result e.header (look_cause ghosts c.args.engine.now c.header-header.new.self c.header-header.result e.outcome) e.kept
     (inr (
       (λ come.
           let yes : c.has_come.result ≡ true = c.has_come.ensures.1 (subst (λ (disk : ModelDisk). HasCome c.args.stop.now disk) (sym c.disk.ensures) come) in

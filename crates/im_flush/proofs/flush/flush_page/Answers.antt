@@ -7,7 +7,11 @@ use Rattle.im_flush.specs.DirtyTable.{entry_in}
 use Rattle.im_flush.proofs.Growing.{on_ok}
 use Rattle.im_flush.proofs.Goings.{leaves_then}
 use Rattle.im_flush.proofs.Flushing.{flushed_last, flushed_then, goes_read, leaves_read, may_flush}
+use Rattle.im_flush.proofs.ImageCalls.{imaging_lost}
 use Rattle.im_flush.proofs.flush.flush_page.Goals as goal
+
+pub returns-in_err-count-clause-outcome : goal.returns-in_err-count-clause-outcome
+returns-in_err-count-clause-outcome g c = let e = c.in_err-count.ensures.answers in imaging_lost g.D.Disk c.from_residual.result c.from_residual.ensures.1 e.device e.noted
 
 pub returns-in_err-count-clause-kept : goal.returns-in_err-count-clause-kept
 returns-in_err-count-clause-kept g c b base s w = record {

@@ -2,7 +2,21 @@ use Rattle.std.proofs.Common.{rules, subst, sym, ◌≤◌, ◌-◌, ℕ, List}
 use Rattle.im_flush.specs.Writing.{lsn_for, MayWriteHere}
 use Rattle.im_flush.proofs.Goings.{leaves_last}
 use Rattle.im_flush.proofs.Flushing.{flushed_then, may_write}
+use Rattle.im_flush.proofs.ImageCalls.{imaging_lost, imaging_refused}
 use Rattle.im_flush.proofs.flush.flush_range.Goals as goal
+
+pub returns-in_err-log_images-clause-outcome : goal.returns-in_err-log_images-clause-outcome
+returns-in_err-log_images-clause-outcome g c = imaging_refused g.D.Disk c.from_residual.result c.from_residual.ensures.1 c.in_err-log_images.ensures.outcome
+
+pub returns-in_err-write_out-clause-outcome : goal.returns-in_err-write_out-clause-outcome
+returns-in_err-write_out-clause-outcome g c =
+    let e = c.in_err-write_out.ensures.answers in
+    imaging_lost g.D.Disk c.from_residual-in_err-write_out.result c.from_residual-in_err-write_out.ensures.1 e.device e.noted
+
+pub returns-clause-outcome : goal.returns-clause-outcome
+returns-clause-outcome g c =
+    let one = c.in_ok-log_images.ensures.outcome in
+    record { still = λ works. c.write_out.ensures.ready c.log_images.new.log (one.still one.ends.1) works; ends = (one.ends.0, c.in_ok-write_out.ensures.answers.noted, one.ends.2) }
 
 pub returns-in_err-log_images-clause-kept : goal.returns-in_err-log_images-clause-kept
 returns-in_err-log_images-clause-kept g c b base s w all = record { ok = search rules; stops = (c.in_err-log_images.ensures.kept b base s w all).stops }

@@ -5,6 +5,7 @@ use Rattle.im_flush.specs.Writing.{ImagesTo}
 use Rattle.im_flush.proofs.Goings.{leaves_last, leaves_so_far}
 use Rattle.im_flush.proofs.LogEnds.{ends_same, ends_then}
 use Rattle.im_flush.proofs.Imaging.{image_still, images_more, images_start}
+use Rattle.im_flush.proofs.ImageCalls.{imaging_none, imaging_refused, imaging_then}
 use Rattle.im_flush.proofs.image_range.append_images.Goals as goal
 
 pub loop-number-init : goal.loop-number-init
@@ -12,6 +13,7 @@ loop-number-init g c = record {
   low = omega arith;
   ready = c.requires.ready;
   working = c.requires.working;
+  alive = (imaging_none g.D.Disk c.args.log.now c.args.disk.now c.requires.ready c.requires.working).ends.1;
   room = omega (arith, c.requires.room, c.clear.ensures);
   changes = changes_reads g.D.Disk Log c.args.disk.now c.args.disk.now (reads_none g.D.Disk c.args.disk.now);
   later = ends_same c.args.log.now;
@@ -25,11 +27,12 @@ loop-number-preserved g c =
     let l = c.loop-number in
     record {
       low = omega (arith, l.invariant.low);
-      ready = c.append_one.ensures.ready;
-      working = c.in_ok-lsn.ensures.failed;
+      ready = c.in_ok-lsn.ensures.outcome.still c.in_ok-lsn.ensures.outcome.ends.1;
+      working = c.in_ok-lsn.ensures.outcome.ends.0;
+      alive = c.in_ok-lsn.ensures.outcome.ends.1;
       room = c.note.ensures.room;
       changes = changes_then g.D.Disk Log c.args.disk.now l.disk c.append_one.new.disk l.invariant.changes c.append_one.ensures.changes;
-      later = ends_then c.args.log.now l.log c.append_one.new.log l.invariant.later c.in_ok-lsn.ensures.later;
+      later = ends_then c.args.log.now l.log c.append_one.new.log l.invariant.later c.in_ok-lsn.ensures.outcome.ends.2;
       kept = λ b base s w all.
           let so = l.invariant.kept b base s w all in
           let asked = image_still b s so.now c.args.pool.now l.number so.goes.keeps (all l.number l.invariant.low (omega (arith, c.loop-number-test.true))) in
@@ -55,5 +58,10 @@ returns-clause-kept g c b base s w all =
       stops = leaves_so_far g.D.Disk b base s c.args.disk.now so.now l.log c.args.table.now c.args.pool.now l.disk so.goes;
     }
 
-pub returns-clause-later : goal.returns-clause-later
-returns-clause-later g c = c.loop-number.invariant.later
+pub returns-in_err-lsn-clause-outcome : goal.returns-in_err-lsn-clause-outcome
+returns-in_err-lsn-clause-outcome g c =
+    let i = c.loop-number.invariant in
+    imaging_refused g.D.Disk c.from_residual.result c.from_residual.ensures.1 (imaging_then g.D.Disk {first = c.loop-number.disk} (record { still = λ works. i.ready; ends = (i.working, i.alive, i.later) }) c.in_err-lsn.ensures.outcome)
+
+pub returns-clause-outcome : goal.returns-clause-outcome
+returns-clause-outcome g c = let i = c.loop-number.invariant in record { still = λ works. i.ready; ends = (i.working, i.alive, i.later) }

@@ -14,6 +14,7 @@ invariant-loop-number g l = record {
   low : l.fn.first ≤ l.number;
   ready : IsOpen g.D.Disk l.log l.disk;
   working : l.log.failed ≡ false;
+  alive : g.D.Disk.failed l.disk ≡ false;
   room : NOTED ≤ vec_capacity l.lsns;
   changes : ChangesOnly g.D.Disk Log l.fn.disk l.disk;
   later : EndsNoSooner l.fn.log l.log;

@@ -1,7 +1,11 @@
 use Rattle.im_flush.proofs.Growing.{if_ok}
 use Rattle.im_flush.proofs.Goings.{goes_start}
 use Rattle.im_flush.proofs.Imaging.{image_copies, known_copies}
+use Rattle.im_flush.proofs.ImageCalls.{imaging_none}
 use Rattle.im_flush.proofs.image_range.append_one.Goals as goal
+
+pub returns-in-Some-clause-outcome : goal.returns-in-Some-clause-outcome
+returns-in-Some-clause-outcome g c = imaging_none g.D.Disk c.args.log.now c.args.disk.now c.requires.ready c.requires.working
 
 pub returns-in-Some-clause-kept : goal.returns-in-Some-clause-kept
 returns-in-Some-clause-kept g c b base s w may =

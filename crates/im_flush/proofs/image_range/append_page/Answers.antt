@@ -2,7 +2,18 @@ use Rattle.std.proofs.Common.{sym, ◌∙◌}
 use Rattle.im_pool.specs.Pool.{held_of}
 use Rattle.im_flush.proofs.Growing.{if_ok}
 use Rattle.im_flush.proofs.Goings.{copy_done, found_none, found_page, may_image}
+use Rattle.im_flush.proofs.ImageCalls.{appended_image}
 use Rattle.im_flush.proofs.image_range.append_page.Goals as goal
+
+pub returns-in-Some-clause-outcome : goal.returns-in-Some-clause-outcome
+returns-in-Some-clause-outcome g c =
+    let e = c.append_image.ensures in
+    appended_image g.D.Disk c.append_image.result c.requires.working e.ready e.failed e.causes e.no_room e.left e.later e.already e.device
+
+pub returns-in-None-clause-outcome : goal.returns-in-None-clause-outcome
+returns-in-None-clause-outcome g c =
+    let e = c.append_image-in-None.ensures in
+    appended_image g.D.Disk c.append_image-in-None.result c.requires.working e.ready e.failed e.causes e.no_room e.left e.later e.already e.device
 
 pub returns-in-Some-clause-kept : goal.returns-in-Some-clause-kept
 returns-in-Some-clause-kept g c b base s table w may =

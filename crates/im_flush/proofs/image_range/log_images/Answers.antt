@@ -1,8 +1,31 @@
-use Rattle.std.proofs.Common.{rules}
+use Rattle.std.proofs.Common.{Err, ap, rules}
 use Rattle.im_flush.proofs.Standing.{log_stops}
 use Rattle.im_flush.proofs.Goings.{leaves_last, leaves_so_far}
 use Rattle.im_flush.proofs.Imaging.{goes_forced, images_durable}
+use Rattle.im_flush.proofs.ImageCalls.{force_lost, imaging_refused, imaging_then}
+use Rattle.im_flush.proofs.LogEnds.{ends_forced}
+use Rattle.im_flush.proofs.Writers.{still_working}
 use Rattle.im_flush.proofs.image_range.log_images.Goals as goal
+
+pub returns-in_err-append_images-clause-outcome : goal.returns-in_err-append_images-clause-outcome
+returns-in_err-append_images-clause-outcome g c = imaging_refused g.D.Disk c.from_residual.result c.from_residual.ensures.1 c.in_err-append_images.ensures.outcome
+
+pub returns-in_err-force-clause-outcome : goal.returns-in_err-force-clause-outcome
+returns-in_err-force-clause-outcome g c =
+    let one = c.in_ok-append_images.ensures.outcome in
+    let e = c.in_err-force.ensures in
+    imaging_refused g.D.Disk c.from_residual-in_err-force.result c.from_residual-in_err-force.ensures.1
+    (imaging_then g.D.Disk one (force_lost g.D.Disk one.ends.0 e.causes (λ is. e.already.0 (ap Err is)) (λ is. (e.device one.ends.0).0 (ap Err is))))
+
+pub returns-clause-outcome : goal.returns-clause-outcome
+returns-clause-outcome g c =
+    let one = c.in_ok-append_images.ensures.outcome in
+    let e = c.in_ok-force.ensures in
+    let works = one.ends.0 in
+    imaging_then g.D.Disk one (record {
+      still = λ alive. e.ready;
+      ends = (e.failed, still_working (g.D.Disk.failed c.force.new.disk) (λ failed. let clash = (e.device works).1 failed in let never : ⊥ = cc clash in never), ends_forced c.append_images.new.log c.force.new.self e.place (λ none. (e.same works none).1));
+    })
 
 pub returns-in_err-append_images-clause-kept : goal.returns-in_err-append_images-clause-kept
 returns-in_err-append_images-clause-kept g c b base s w all = record { ok = search rules; stops = (c.in_err-append_images.ensures.kept b base s w all).stops }

@@ -1,7 +1,7 @@
 use Rattle.std.proofs.Common.{ℕ, List, rules, refl, sym, subst}
 use Rattle.im_redo.specs.Loading.{IsLoading}
-use Rattle.im_flush.proofs.LoggedChanges.{err_on}
-use Rattle.im_redo.proofs.Within.{not_ok}
+use Rattle.im_flush.proofs.Outcomes.{sound_on}
+use Rattle.im_redo.proofs.Recoveries.{moved, recovers_then, recovery_refused}
 use Rattle.im_redo.proofs.Within.{leaves_now}
 use Rattle.im_redo.proofs.copies.load_all.Goals as goal
 
@@ -10,19 +10,20 @@ returns-in_err-load_one-clause-kept g c b base begun file from s is waiting firs
     let l = c.loop-lsn in
     let so = subst (λ (left : List (ℕ × ℕ)). IsLoading g.D.Disk b base begun file left from l.writer l.disk) c.in-Some.ensures.steps (l.invariant.kept b base begun file from s is waiting first at) in
     let one = c.in_err-load_one.ensures.kept b base begun file from c.in-Some.field-0-0.now c.next.new.self so at in
-    record { ok = not_ok c.from_residual.result _ c.from_residual.ensures.0; stops = one.stops; cause = err_on c.from_residual.result c.in_err-load_one.field-0.0 _ c.from_residual.ensures.1 (one.cause) }
+    record { sound = sound_on c.from_residual.result _ _ c.from_residual.ensures.1 one.sound; stops = one.stops }
 
 pub returns-clause-kept : goal.returns-clause-kept
 returns-clause-kept g c b base begun file from s is waiting first at =
     let l = c.loop-lsn in
     let so = subst (λ (left : List (ℕ × ℕ)). IsLoading g.D.Disk b base begun file left from l.writer l.disk) c.in-None.ensures.steps.0 (l.invariant.kept b base begun file from s is waiting first at) in
-    record { ok = so; stops = leaves_now g.D.Disk b base begun from so.now l.writer l.disk so.within; cause = tt }
+    record { sound = so; stops = leaves_now g.D.Disk b base begun from so.now l.writer l.disk so.within }
+
+pub returns-in_err-load_one-clause-outcome : goal.returns-in_err-load_one-clause-outcome
+returns-in_err-load_one-clause-outcome g c = recovery_refused g.D.Disk c.from_residual.result c.from_residual.ensures.1 (recovers_then g.D.Disk c.loop-lsn.invariant.outcome c.in_err-load_one.ensures.outcome)
 
 pub loop-lsn-init : goal.loop-lsn-init
 loop-lsn-init g c = record {
-  ready = c.requires.ready;
-  working = c.requires.working;
-  disk = (search rules);
+  outcome = moved g.D.Disk c.args.writer.now c.args.writer.now c.args.disk.now c.requires.working c.requires.ready c.requires.working;
   room = refl;
   kept = λ b base begun file from s is waiting first at.
       let all = c.into_iter-lsn-iterator.ensures.into_iter_gives in
@@ -31,12 +32,10 @@ loop-lsn-init g c = record {
 
 pub loop-lsn-preserved : goal.loop-lsn-preserved
 loop-lsn-preserved g c = record {
-  ready = c.load_one.ensures.ready;
-  working = c.in_ok-load_one.ensures.works;
-  disk = (search rules);
+  outcome = recovers_then g.D.Disk c.loop-lsn.invariant.outcome c.in_ok-load_one.ensures.outcome;
   room = (search rules);
   kept = λ b base begun file from s is waiting first at.
       let l = c.loop-lsn in
       let so = subst (λ (left : List (ℕ × ℕ)). IsLoading g.D.Disk b base begun file left from l.writer l.disk) c.in-Some.ensures.steps (l.invariant.kept b base begun file from s is waiting first at) in
-      (c.in_ok-load_one.ensures.kept b base begun file from c.in-Some.field-0-0.now c.next.new.self so at).ok;
+      (c.in_ok-load_one.ensures.kept b base begun file from c.in-Some.field-0-0.now c.next.new.self so at).sound;
 }

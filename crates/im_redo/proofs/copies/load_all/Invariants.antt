@@ -1,18 +1,17 @@
-use Rattle.std.proofs.Common.{◌≡◌, ℕ, false, length, Option}
+use Rattle.std.proofs.Common.{◌≡◌, ℕ, length, Option, None}
 use Rattle.im_types.specs.Pages.{Page}
 use Rattle.im_types.specs.Histories.{Base, History}
 use Rattle.im_types.specs.RedoPoints.{redo_point}
 use Rattle.im_types.specs.Writer.{Writer}
-use Rattle.im_flush.specs.PageWriter.{IsReadyWriter}
+use Rattle.im_flush.specs.Outcome.{mild}
 use Rattle.im_redo.specs.Loading.{AreWaiting, HaveFirst, IsLoading}
+use Rattle.im_redo.specs.Recovery.{Recovers}
 use Rattle.im_redo.specs.Within.{IsWithinRedo}
 use Rattle.im_redo.proofs.copies.load_all.Given as goal
 
 abbrev pub invariant-loop-lsn : goal.invariant-loop-lsn
 invariant-loop-lsn g l = record {
-  ready : IsReadyWriter g.D.Disk l.writer l.disk;
-  working : l.writer.failed ≡ false;
-  disk : g.D.Disk.failed l.disk ≡ false;
+  outcome : Recovers g.D.Disk mild l.fn.writer l.writer l.disk None;
   room : length l.room ≡ length l.fn.room;
   kept : (b : Base) (base : ℕ) (begun : History) (file : ℕ → Option Page) (from : g.row.D.Denot) (s : Writer) → IsWithinRedo g.D.Disk b base begun from s l.fn.writer l.fn.disk → AreWaiting begun l.copies.entries s.pages → HaveFirst b begun file s.pages → l.fn.point ≡ redo_point begun
       → IsLoading g.D.Disk b base begun file l.lsn-iterator from l.writer l.disk;

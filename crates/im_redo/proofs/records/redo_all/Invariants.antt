@@ -1,18 +1,17 @@
-use Rattle.std.proofs.Common.{◌≡◌, ◌≤◌, ℕ, false, drop, length, Option}
+use Rattle.std.proofs.Common.{◌≡◌, ◌≤◌, ℕ, drop, length, Option, None}
 use Rattle.im_types.specs.Pages.{Page}
 use Rattle.im_types.specs.Histories.{Base, History}
 use Rattle.im_types.specs.RedoPoints.{redo_point}
-use Rattle.im_flush.specs.PageWriter.{IsReadyWriter}
+use Rattle.im_flush.specs.Outcome.{mild}
 use Rattle.im_analysis.specs.CopyLsns.{AreCopies}
+use Rattle.im_redo.specs.Recovery.{Recovers}
 use Rattle.im_redo.specs.Redo.{AreApplicable}
 use Rattle.im_redo.specs.Applying.{IsApplying}
 use Rattle.im_redo.proofs.records.redo_all.Given as goal
 
 abbrev pub invariant-loop-lsn : goal.invariant-loop-lsn
 invariant-loop-lsn g l = record {
-  ready : IsReadyWriter g.D.Disk l.writer l.disk;
-  working : l.writer.failed ≡ false;
-  disk : g.D.Disk.failed l.disk ≡ false;
+  outcome : Recovers g.D.Disk mild l.fn.writer l.writer l.disk None;
   few : l.count ≤ l.lsn-index;
   room : length l.room ≡ length l.fn.room;
   kept : (b : Base) (base : ℕ) (begun : History) (file : ℕ → Option Page) (from : g.row.D.Denot) → IsApplying g.D.Disk b base begun file l.lsns 0 from l.fn.writer l.fn.disk → AreApplicable b begun → l.fn.point ≡ redo_point begun → AreCopies l.fn.point l.copies begun

@@ -1,23 +1,25 @@
-use Rattle.std.proofs.Common.{rules, ◌≢◌, inl}
-use Rattle.im_types.specs.declared.fault.Fault.TheVariants.{NotAStore}
+use Rattle.std.proofs.Common.{rules, refl, inl}
 use Rattle.im_types.specs.declared.file_id.FileId.TheVariants.{Log, Pages}
+use Rattle.im_flush.proofs.Outcomes.{sound_also, sound_on}
+use Rattle.im_restart.proofs.Ends.{opens_read, opens_refused}
 use Rattle.im_restart.proofs.Openings.{holds_if_ok}
-use Rattle.im_restart.proofs.Restarts.{left_opening, may_behind, next_before, pages_synced, report_before}
+use Rattle.im_restart.proofs.Restarts.{left_opening, may_behind, opened_behind, pages_synced}
 use Rattle.im_restart.proofs.Steps.{left_then}
 use Rattle.im_restart.proofs.opening.open_or_create.Goals as goal
+
+pub returns-in_err-found-clause-outcome : goal.returns-in_err-found-clause-outcome
+returns-in_err-found-clause-outcome g c =
+    let e = c.in_err-found.ensures in
+    opens_refused g.D.Disk c.from_residual.result c.from_residual.ensures.1 (opens_read g.D.Disk _ c.in_err-found.field-0.0 refl e.causes e.device)
 
 pub returns-in_err-found-clause-kept : goal.returns-in_err-found-clause-kept
 returns-in_err-found-clause-kept g c b base all told may =
     let d = g.D.Disk in
     let old = c.args.disk.now in
     let k = c.in_err-found.ensures.kept b base all told may.has.log may.has.bare may.lawful in
-    let other : c.in_err-found.field-0.0 ≢ NotAStore = k.cause in
     record {
-      ok = search rules;
-      next = search rules;
-      report = search rules;
+      sound = sound_on c.from_residual.result _ _ c.from_residual.ensures.1 k.cause;
       stops = left_opening d b base all old c.open_log.new.disk (g.met.D.Disk.only_now old) told (c.requires.synced Log) (c.requires.synced Pages) may k.stops c.in_err-found.ensures.reads;
-      cause = search (rules, other);
     }
 
 pub returns-clause-kept : goal.returns-clause-kept
@@ -30,7 +32,10 @@ returns-clause-kept g c b base all told may =
     let behind = may_behind d b base all old mid c.in_ok-found.found.log may c.in_ok-found.ensures.changes k.ok.log in
     let r = c.restart.ensures.kept b base all behind (pages_synced d b base all old mid c.in_ok-found.ensures.changes (c.requires.synced Pages)) k.ok in
     let number = (c.in_ok-found.ensures.alike told).number in
-    record { ok = r.ok; next = next_before c.restart.result _ _ all number r.next; report = report_before b all c.restart.result _ _ (c.in_ok-found.ensures.changes.seen Pages (λ e. cc e)) r.report; stops = left_then d b base all old mid c.restart.new.disk opening r.stops; cause = r.cause }
+    record {
+      sound = sound_also c.restart.result _ _ r.sound (λ made is. opened_behind d b base all old mid c.restart.new.disk made number (c.in_ok-found.ensures.changes.seen Pages (λ e. cc e)) is);
+      stops = left_then d b base all old mid c.restart.new.disk opening r.stops;
+    }
 
 pub returns-in_err-found-clause-unspelled : goal.returns-in_err-found-clause-unspelled
 returns-in_err-found-clause-unspelled g c told none =

@@ -1,51 +1,69 @@
-use Rattle.std.proofs.Common.{rules, ◌≢◌, sym, ◌∙◌, ap, subst}
-use Rattle.im_types.specs.declared.fault.Fault.TheVariants.{NotAStore}
+use Rattle.std.proofs.Common.{sym, ◌∙◌, ap, subst}
 use Rattle.im_types.specs.declared.file_id.FileId.TheVariants.{Pages}
 use Rattle.im_page.specs.PageFile.{file_page}
 use Rattle.im_analysis.specs.CopyLsns.{AreCopies}
 use Rattle.im_redo.specs.Redo.{lsns_from}
 use Rattle.im_redo.proofs.Applicable.{lawful_is_applicable}
+use Rattle.im_flush.proofs.Outcomes.{sound_on}
+use Rattle.im_redo.proofs.Recoveries.{logs_recover, never_none, recovers_more, recovers_then, recovery_refused}
 use Rattle.im_tree.specs.Theory.{page_tree}
 use Rattle.im_tree.proofs.TheoryLaws.{page_tree_laws}
+use Rattle.im_restart.proofs.Ends.{take_mild, take_none}
 use Rattle.im_restart.proofs.Leaves.{on_leaves}
 use Rattle.im_restart.proofs.Restarts.{left_redoing, losers_then, open_then, settled_so, taking_begins}
 use Rattle.im_restart.proofs.Steps.{left_then}
 use Rattle.im_restart.proofs.opening.settle.Goals as goal
 
+pub returns-in_err-applied-clause-outcome : goal.returns-in_err-applied-clause-outcome
+returns-in_err-applied-clause-outcome g c = recovery_refused g.D.Disk c.from_residual.result c.from_residual.ensures.1 (recovers_more g.D.Disk take_mild c.in_err-applied.ensures.outcome)
+
+pub returns-in_err-undo_found-clause-outcome : goal.returns-in_err-undo_found-clause-outcome
+returns-in_err-undo_found-clause-outcome g c = recovery_refused g.D.Disk c.from_residual-in_err-undo_found.result c.from_residual-in_err-undo_found.ensures.1 (recovers_then g.D.Disk c.in_ok-applied.ensures.outcome c.in_err-undo_found.ensures.outcome)
+
+pub returns-in_err-force-clause-outcome : goal.returns-in_err-force-clause-outcome
+returns-in_err-force-clause-outcome g c =
+    recovery_refused g.D.Disk c.from_residual-in_err-force.result c.from_residual-in_err-force.ensures.1
+    (recovers_then g.D.Disk c.in_ok-applied.ensures.outcome (recovers_then g.D.Disk c.in_ok-undo_found.ensures.outcome (recovers_more g.D.Disk take_none (logs_recover g.D.Disk c.in_err-force.ensures.outcome))))
+
+pub returns-clause-outcome : goal.returns-clause-outcome
+returns-clause-outcome g c =
+    recovers_then g.D.Disk c.in_ok-applied.ensures.outcome (recovers_then g.D.Disk c.in_ok-undo_found.ensures.outcome (recovers_more g.D.Disk take_none (logs_recover g.D.Disk c.in_ok-force.ensures.outcome)))
+
 pub returns-in_err-applied-clause-kept : goal.returns-in_err-applied-clause-kept
 returns-in_err-applied-clause-kept g c b base all stands may least is lsns =
     let k = c.in_err-applied.ensures.kept b base all (file_page (g.D.Disk.seen c.args.disk.now Pages)) stands (lawful_is_applicable b page_tree page_tree_laws on_leaves all may.lawful) is.point
     (subst (λ n. AreCopies n c.args.analysed.now.copies all) (sym is.point) is.copies) (lsns ∙ ap (λ n. lsns_from n all) (sym is.point)) in
-    let other : c.in_err-applied.field-0.0 ≢ NotAStore = k.cause in
-    record { ok = search rules; count = search rules; stops = left_redoing g.D.Disk b base all c.args.disk.now c.redo.new.disk may k.stops; cause = search (rules, other) }
+    record { sound = sound_on c.from_residual.result _ _ c.from_residual.ensures.1 k.sound; stops = left_redoing g.D.Disk b base all c.args.disk.now c.redo.new.disk may k.stops }
 
 pub returns-in_err-undo_found-clause-kept : goal.returns-in_err-undo_found-clause-kept
 returns-in_err-undo_found-clause-kept g c b base all stands may least is lsns =
     let file = file_page (g.D.Disk.seen c.args.disk.now Pages) in
     let k = c.in_ok-applied.ensures.kept b base all file stands (lawful_is_applicable b page_tree page_tree_laws on_leaves all may.lawful) is.point
     (subst (λ n. AreCopies n c.args.analysed.now.copies all) (sym is.point) is.copies) (lsns ∙ ap (λ n. lsns_from n all) (sym is.point)) in
-    let begun = taking_begins g.D.Disk b base all file c.args.disk.now c.redo.new.writer c.redo.new.disk (g.D.Disk.seen c.args.disk.now) may k.ok in
-    let u = c.in_err-undo_found.ensures.kept b base all k.ok.now begun.stands begun.taking (open_then g.D.Disk b base all c.args.analysed.now.open_change.items k.ok.now.log k.ok.log is.open_change) (losers_then g.D.Disk b base all c.args.analysed.now.losers k.ok.now.log k.ok.log is.losers) in
-    let other : c.in_err-undo_found.field-0.0 ≢ NotAStore = u.cause in
-    record { ok = search rules; count = search rules; stops = left_then g.D.Disk b base all c.args.disk.now c.redo.new.disk c.undo_found.new.disk begun.stops u.stops; cause = search (rules, other) }
+    let done = k.sound.0 in
+    let begun = taking_begins g.D.Disk b base all file c.args.disk.now c.redo.new.writer c.redo.new.disk (g.D.Disk.seen c.args.disk.now) may done in
+    let u = c.in_err-undo_found.ensures.kept b base all done.now begun.stands begun.taking (open_then g.D.Disk b base all c.args.analysed.now.open_change.items done.now.log done.log is.open_change) (losers_then g.D.Disk b base all c.args.analysed.now.losers done.now.log done.log is.losers) in
+    record { sound = sound_on c.from_residual-in_err-undo_found.result _ _ c.from_residual-in_err-undo_found.ensures.1 u.sound; stops = left_then g.D.Disk b base all c.args.disk.now c.redo.new.disk c.undo_found.new.disk begun.stops u.stops }
 
 pub returns-in_err-force-clause-kept : goal.returns-in_err-force-clause-kept
 returns-in_err-force-clause-kept g c b base all stands may least is lsns =
     let file = file_page (g.D.Disk.seen c.args.disk.now Pages) in
     let k = c.in_ok-applied.ensures.kept b base all file stands (lawful_is_applicable b page_tree page_tree_laws on_leaves all may.lawful) is.point
     (subst (λ n. AreCopies n c.args.analysed.now.copies all) (sym is.point) is.copies) (lsns ∙ ap (λ n. lsns_from n all) (sym is.point)) in
-    let begun = taking_begins g.D.Disk b base all file c.args.disk.now c.redo.new.writer c.redo.new.disk (g.D.Disk.seen c.args.disk.now) may k.ok in
-    let done = c.in_ok-undo_found.ensures.kept b base all k.ok.now begun.stands begun.taking (open_then g.D.Disk b base all c.args.analysed.now.open_change.items k.ok.now.log k.ok.log is.open_change) (losers_then g.D.Disk b base all c.args.analysed.now.losers k.ok.now.log k.ok.log is.losers) in
-    let whole = settled_so g.D.Disk b base all k.ok.now c.redo.new.disk c.undo_found.new.writer c.undo_found.new.disk c.force.new.self c.force.new.disk _ done.ok (c.in_err-force.ensures.kept b base done.ok.now done.ok.goes.stands) c.in_err-force.ensures.causes in
-    let other : c.in_err-force.field-0.0 ≢ NotAStore = whole.cause in
-    record { ok = search rules; count = search rules; stops = left_then g.D.Disk b base all c.args.disk.now c.redo.new.disk c.force.new.disk begun.stops whole.stops; cause = search (rules, other) }
+    let done = k.sound.0 in
+    let begun = taking_begins g.D.Disk b base all file c.args.disk.now c.redo.new.writer c.redo.new.disk (g.D.Disk.seen c.args.disk.now) may done in
+    let undone = c.in_ok-undo_found.ensures.kept b base all done.now begun.stands begun.taking (open_then g.D.Disk b base all c.args.analysed.now.open_change.items done.now.log done.log is.open_change) (losers_then g.D.Disk b base all c.args.analysed.now.losers done.now.log done.log is.losers) in
+    let whole = settled_so g.D.Disk b base all done.now c.redo.new.disk c.undo_found.new.writer c.undo_found.new.disk c.force.new.self c.force.new.disk _ undone.sound (c.in_err-force.ensures.kept b base undone.sound.now undone.sound.goes.stands)
+    (never_none g.D.Disk c.in_err-force.field-0.0 (logs_recover g.D.Disk c.in_err-force.ensures.outcome)) in
+    record { sound = sound_on c.from_residual-in_err-force.result _ _ c.from_residual-in_err-force.ensures.1 whole.sound; stops = left_then g.D.Disk b base all c.args.disk.now c.redo.new.disk c.force.new.disk begun.stops whole.stops }
 
 pub returns-clause-kept : goal.returns-clause-kept
 returns-clause-kept g c b base all stands may least is lsns =
     let file = file_page (g.D.Disk.seen c.args.disk.now Pages) in
     let k = c.in_ok-applied.ensures.kept b base all file stands (lawful_is_applicable b page_tree page_tree_laws on_leaves all may.lawful) is.point
     (subst (λ n. AreCopies n c.args.analysed.now.copies all) (sym is.point) is.copies) (lsns ∙ ap (λ n. lsns_from n all) (sym is.point)) in
-    let begun = taking_begins g.D.Disk b base all file c.args.disk.now c.redo.new.writer c.redo.new.disk (g.D.Disk.seen c.args.disk.now) may k.ok in
-    let done = c.in_ok-undo_found.ensures.kept b base all k.ok.now begun.stands begun.taking (open_then g.D.Disk b base all c.args.analysed.now.open_change.items k.ok.now.log k.ok.log is.open_change) (losers_then g.D.Disk b base all c.args.analysed.now.losers k.ok.now.log k.ok.log is.losers) in
-    let whole = settled_so g.D.Disk b base all k.ok.now c.redo.new.disk c.undo_found.new.writer c.undo_found.new.disk c.force.new.self c.force.new.disk _ done.ok (c.in_ok-force.ensures.kept b base done.ok.now done.ok.goes.stands) tt in
-    record { ok = whole.ok; count = k.count; stops = left_then g.D.Disk b base all c.args.disk.now c.redo.new.disk c.force.new.disk begun.stops whole.stops; cause = tt }
+    let done = k.sound.0 in
+    let begun = taking_begins g.D.Disk b base all file c.args.disk.now c.redo.new.writer c.redo.new.disk (g.D.Disk.seen c.args.disk.now) may done in
+    let undone = c.in_ok-undo_found.ensures.kept b base all done.now begun.stands begun.taking (open_then g.D.Disk b base all c.args.analysed.now.open_change.items done.now.log done.log is.open_change) (losers_then g.D.Disk b base all c.args.analysed.now.losers done.now.log done.log is.losers) in
+    let whole = settled_so g.D.Disk b base all done.now c.redo.new.disk c.undo_found.new.writer c.undo_found.new.disk c.force.new.self c.force.new.disk _ undone.sound (c.in_ok-force.ensures.kept b base undone.sound.now undone.sound.goes.stands) tt in
+    record { sound = (whole.sound, k.sound.1); stops = left_then g.D.Disk b base all c.args.disk.now c.redo.new.disk c.force.new.disk begun.stops whole.stops }

@@ -1,4 +1,4 @@
-use Rattle.std.proofs.Common.{◌≡◌, ◌∷◌, sym, ap, subst}
+use Rattle.std.proofs.Common.{◌≡◌, ◌∷◌, refl, sym, ap, subst}
 use Rattle.im_types.specs.Structure.{open_smo}
 use Rattle.im_types.specs.Transactions.{is_smo, last_of}
 use Rattle.im_record.specs.Entry.{Entry, Smo, view, prev_of, transaction_of}
@@ -6,9 +6,17 @@ use Rattle.im_record.specs.declared.record.Record.{Record}
 use Rattle.im_log.specs.Spelled.{logged_at}
 use Rattle.im_tree.specs.Theory.{page_tree}
 use Rattle.im_restart.specs.StructureChange.{TakeBackKept}
+use Rattle.im_redo.proofs.Recoveries.{logs_recover}
+use Rattle.im_restart.proofs.Ends.{no_store}
 use Rattle.im_restart.proofs.KeyRecords.{no_smo}
 use Rattle.im_restart.proofs.OpenChanges.{open_is_smo, taken_so}
 use Rattle.im_restart.proofs.structure_change.take_back.Goals as goal
+
+pub returns-in-Smo-clause-outcome : goal.returns-in-Smo-clause-outcome
+returns-in-Smo-clause-outcome g c = logs_recover g.D.Disk c.log_image.ensures.outcome
+
+pub returns-in_default-clause-outcome : goal.returns-in_default-clause-outcome
+returns-in_default-clause-outcome g c = no_store g.D.Disk c.args.writer.now c.args.disk.now refl c.requires.working c.requires.ready
 
 pub returns-in-Smo-clause-kept : goal.returns-in-Smo-clause-kept
 returns-in-Smo-clause-kept g c b base all s lsn rest stands is =

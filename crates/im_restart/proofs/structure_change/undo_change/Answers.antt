@@ -1,5 +1,6 @@
-use Rattle.std.proofs.Common.{rules, ◌≢◌, sym, ◌∙◌, ap}
-use Rattle.im_types.specs.declared.fault.Fault.TheVariants.{NotAStore}
+use Rattle.std.proofs.Common.{rules, sym, ◌∙◌, ap}
+use Rattle.im_flush.proofs.Outcomes.{sound_on}
+use Rattle.im_redo.proofs.Recoveries.{recovers_then, unmoved}
 use Rattle.im_types.specs.Structure.{open_smo}
 use Rattle.im_analysis.specs.OpenChange.{oldest_first}
 use Rattle.im_restart.proofs.Bounds.{empty_list}
@@ -9,25 +10,23 @@ use Rattle.im_restart.proofs.structure_change.undo_change.Goals as goal
 
 pub loop-newest-init : goal.loop-newest-init
 loop-newest-init g c = record {
-  ready = c.requires.ready;
-  working = c.requires.working;
+  outcome = unmoved g.D.Disk c.args.writer.now c.args.disk.now c.requires.working c.requires.ready;
   same_room = search rules;
   kept = λ b base all s stands is rows are. (s, change_start g.D.Disk b base all s c.args.writer.now c.args.disk.now (g.met.D.Disk.only_now c.args.disk.now) stands is, rows, are);
 }
 
 pub loop-newest-preserved : goal.loop-newest-preserved
 loop-newest-preserved g c = record {
-  ready = c.undo_page_at.ensures.ready;
-  working = c.in_ok-undo_page_at.ensures.works;
+  outcome = recovers_then g.D.Disk c.loop-newest.invariant.outcome c.in_ok-undo_page_at.ensures.outcome;
   same_room = c.undo_page_at.ensures.room ∙ c.loop-newest.invariant.same_room;
   kept = λ b base all s stands is rows are. (
       let h = c.loop-newest.invariant.kept b base all s stands is rows are in
       let row = last_is (open_smo h.0.log) c.loop-newest.open_change.items c.pop.new.self.items c.in-Some.newest h.2 c.in-Some.ensures.items in
       let k = c.in_ok-undo_page_at.ensures.kept b base all h.0 row.rest h.1.stands h.1.taking (record { newest = row.newest; going = row.is; here = row.here }) h.3 in (
-        k.ok.now,
-        change_then g.D.Disk b base all s c.args.disk.now h.0 c.loop-newest.writer c.loop-newest.disk k.ok.now c.undo_page_at.new.writer c.undo_page_at.new.disk h.1 k.ok.goes,
-        row.rows_are ∙ ap oldest_first (sym k.ok.going),
-        k.ok.are,
+        k.sound.now,
+        change_then g.D.Disk b base all s c.args.disk.now h.0 c.loop-newest.writer c.loop-newest.disk k.sound.now c.undo_page_at.new.writer c.undo_page_at.new.disk h.1 k.sound.goes,
+        row.rows_are ∙ ap oldest_first (sym k.sound.going),
+        k.sound.are,
       )
       );
 }
@@ -37,11 +36,10 @@ returns-in_err-undo_page_at-clause-kept g c b base all s stands is rows are =
     let h = c.loop-newest.invariant.kept b base all s stands is rows are in
     let row = last_is (open_smo h.0.log) c.loop-newest.open_change.items c.pop.new.self.items c.in-Some.newest h.2 c.in-Some.ensures.items in
     let k = c.in_err-undo_page_at.ensures.kept b base all h.0 row.rest h.1.stands h.1.taking (record { newest = row.newest; going = row.is; here = row.here }) h.3 in
-    let other : c.in_err-undo_page_at.field-0.0 ≢ NotAStore = k.cause in
-    record { ok = search rules; stops = left_then g.D.Disk b base all c.args.disk.now c.loop-newest.disk c.undo_page_at.new.disk h.1.stops k.stops; cause = search (rules, other) }
+    record { sound = sound_on c.from_residual.result _ _ c.from_residual.ensures.1 k.sound; stops = left_then g.D.Disk b base all c.args.disk.now c.loop-newest.disk c.undo_page_at.new.disk h.1.stops k.stops }
 
 pub returns-clause-kept : goal.returns-clause-kept
 returns-clause-kept g c b base all s stands is rows are =
     let h = c.loop-newest.invariant.kept b base all s stands is rows are in
     let none = empty_list c.loop-newest.open_change.len c.loop-newest.open_change.items c.loop-newest.open_change.ok.0 c.in_default.ensures.cases.0 in
-    record { ok = record { now = h.0; goes = h.1; going = none_open (open_smo h.0.log) c.loop-newest.open_change.items h.2 none; are = h.3 }; stops = h.1.stops; cause = tt }
+    record { sound = record { now = h.0; goes = h.1; going = none_open (open_smo h.0.log) c.loop-newest.open_change.items h.2 none; are = h.3 }; stops = h.1.stops }

@@ -1,7 +1,9 @@
-use Rattle.std.proofs.Common.{ℕ, ◌≡◌, false, length}
+use Rattle.std.proofs.Common.{ℕ, ◌≡◌, None, length}
 use Rattle.im_types.specs.Histories.{Base, History}
 use Rattle.im_types.specs.Writer.{Writer}
-use Rattle.im_flush.specs.PageWriter.{IsReadyWriter, StandsAs}
+use Rattle.im_flush.specs.Outcome.{mild}
+use Rattle.im_flush.specs.PageWriter.{StandsAs}
+use Rattle.im_redo.specs.Recovery.{Recovers}
 use Rattle.im_analysis.specs.Losers.{AreLosers}
 use Rattle.im_analysis.specs.OpenChange.{IsOpenChange}
 use Rattle.im_restart.specs.StructureChange.{ChangeGoes, IsTakingBack}
@@ -9,8 +11,7 @@ use Rattle.im_restart.proofs.structure_change.undo_change.Given as goal
 
 abbrev pub invariant-loop-newest : goal.invariant-loop-newest
 invariant-loop-newest g l = record {
-  ready : IsReadyWriter g.D.Disk l.writer l.disk;
-  working : l.writer.failed ≡ false;
+  outcome : Recovers g.D.Disk mild l.fn.writer l.writer l.disk None;
   same_room : length l.room ≡ length l.fn.room;
   kept : (b : Base) (base : ℕ) (all : History) (s : Writer) → StandsAs g.D.Disk b base s l.fn.writer l.fn.disk → IsTakingBack b all s → IsOpenChange l.fn.open_change.items s.log → AreLosers l.fn.losers s.log
       → (now : Writer) × ChangeGoes g.D.Disk b base all s l.fn.disk now l.writer l.disk × IsOpenChange l.open_change.items now.log × AreLosers l.losers now.log;

@@ -1,8 +1,18 @@
-use Rattle.std.proofs.Common.{◌≡◌, ◌≤◌, arith, Ok}
+use Rattle.std.proofs.Common.{◌≡◌, ◌≤◌, arith, Ok, refl}
 use Rattle.im_analysis.proofs.Losers.{loser_number}
 use Rattle.im_record.specs.Entry.{view, transaction_of}
+use Rattle.im_restart.proofs.Ends.{answered_late, done_well, no_store}
 use Rattle.im_restart.proofs.Compensations.{compensated_so, refused_so}
 use Rattle.im_restart.proofs.undo.compensate.Goals as goal
+
+pub returns-then-chain-eq0-clause-outcome : goal.returns-then-chain-eq0-clause-outcome
+returns-then-chain-eq0-clause-outcome g c = no_store g.D.Disk c.args.writer.now c.args.disk.now refl c.requires.working c.requires.ready
+
+pub returns-in-Ok-clause-outcome : goal.returns-in-Ok-clause-outcome
+returns-in-Ok-clause-outcome g c = done_well g.D.Disk c.in-Ok.ensures.outcome
+
+pub returns-in-Err-clause-outcome : goal.returns-in-Err-clause-outcome
+returns-in-Err-clause-outcome g c = answered_late g.D.Disk c.in-Err.fault c.answered.result c.in-Err.ensures.outcome c.answered.ensures.memory c.answered.ensures.others
 
 pub returns-then-chain-eq0-clause-kept : goal.returns-then-chain-eq0-clause-kept
 returns-then-chain-eq0-clause-kept g c b base all s stands is to =

@@ -1,5 +1,5 @@
-use Rattle.std.proofs.Common.{rules, ◌≢◌}
-use Rattle.im_types.specs.declared.fault.Fault.TheVariants.{NotAStore}
+use Rattle.im_flush.proofs.Outcomes.{sound_on}
+use Rattle.im_redo.proofs.Recoveries.{recovers_then, unmoved}
 use Rattle.im_tree.specs.Theory.{page_tree}
 use Rattle.im_restart.proofs.Bounds.{none_left}
 use Rattle.im_restart.proofs.Losers.{waiting, waiting_first, waiting_longer, waiting_none, waiting_taken}
@@ -8,8 +8,7 @@ use Rattle.im_restart.proofs.undo.enter_all.Goals as goal
 
 pub loop-transaction-init : goal.loop-transaction-init
 loop-transaction-init g c = record {
-  ready = c.requires.ready;
-  working = c.requires.working;
+  outcome = unmoved g.D.Disk c.args.writer.now c.args.disk.now c.requires.working c.requires.ready;
   kept = λ b base all s stands is are. (
       let first = waiting_first c.args.losers.now c.args.chains.now s.log are c.requires.none in
       (s, undo_start g.D.Disk b base all s c.args.writer.now c.args.disk.now (g.met.D.Disk.only_now c.args.disk.now) stands is, first.0, first.1)
@@ -18,16 +17,15 @@ loop-transaction-init g c = record {
 
 pub loop-transaction-preserved : goal.loop-transaction-preserved
 loop-transaction-preserved g c = record {
-  ready = c.go_on.ensures.ready;
-  working = c.in_ok-go_on.ensures.works;
+  outcome = recovers_then g.D.Disk c.loop-transaction.invariant.outcome c.in_ok-go_on.ensures.outcome;
   kept = λ b base all s stands is are. (
       let h = c.loop-transaction.invariant.kept b base all s stands is are in
       let t = waiting_taken b page_tree c.loop-transaction.losers c.pop_first.new.self c.loop-transaction.chains h.0.log c.in-Some.transaction c.in-Some.row h.1.undoing.can.lawful h.2 h.3 c.in-Some.ensures.value c.in-Some.ensures.updates.0 in
       let k = c.in_ok-go_on.ensures.kept b base all h.0 (waiting c.pop_first.new.self) h.1.stands h.1.undoing t.0 t.1 t.2 in (
-        k.ok.now,
-        undo_then g.D.Disk b base all s c.args.disk.now h.0 c.loop-transaction.writer c.loop-transaction.disk k.ok.now c.go_on.new.writer c.go_on.new.disk h.1 k.ok.goes,
-        k.ok.are,
-        waiting_longer c.in-Some.transaction c.pop_first.new.self h.0.log k.ok.now.log t.1 k.ok.others t.3,
+        k.sound.now,
+        undo_then g.D.Disk b base all s c.args.disk.now h.0 c.loop-transaction.writer c.loop-transaction.disk k.sound.now c.go_on.new.writer c.go_on.new.disk h.1 k.sound.goes,
+        k.sound.are,
+        waiting_longer c.in-Some.transaction c.pop_first.new.self h.0.log k.sound.now.log t.1 k.sound.others t.3,
       )
       );
 }
@@ -37,11 +35,10 @@ returns-in_err-go_on-clause-kept g c b base all s stands is are =
     let h = c.loop-transaction.invariant.kept b base all s stands is are in
     let t = waiting_taken b page_tree c.loop-transaction.losers c.pop_first.new.self c.loop-transaction.chains h.0.log c.in-Some.transaction c.in-Some.row h.1.undoing.can.lawful h.2 h.3 c.in-Some.ensures.value c.in-Some.ensures.updates.0 in
     let k = c.in_err-go_on.ensures.kept b base all h.0 (waiting c.pop_first.new.self) h.1.stands h.1.undoing t.0 t.1 t.2 in
-    let other : c.in_err-go_on.field-0.0 ≢ NotAStore = k.cause in
-    record { ok = search rules; stops = left_then g.D.Disk b base all c.args.disk.now c.loop-transaction.disk c.go_on.new.disk h.1.stops k.stops; cause = search (rules, other) }
+    record { sound = sound_on c.from_residual.result _ _ c.from_residual.ensures.1 k.sound; stops = left_then g.D.Disk b base all c.args.disk.now c.loop-transaction.disk c.go_on.new.disk h.1.stops k.stops }
 
 pub returns-clause-kept : goal.returns-clause-kept
 returns-clause-kept g c b base all s stands is are =
     let h = c.loop-transaction.invariant.kept b base all s stands is are in
     let none = none_left c.loop-transaction.losers.entries (λ some. (let clash = c.in_default.ensures.variant.1 some in absurd (cc clash))) in
-    record { ok = record { now = h.0; goes = h.1; are = waiting_none c.loop-transaction.losers c.loop-transaction.chains h.0.log none h.2 }; stops = h.1.stops; cause = tt }
+    record { sound = record { now = h.0; goes = h.1; are = waiting_none c.loop-transaction.losers c.loop-transaction.chains h.0.log none h.2 }; stops = h.1.stops }

@@ -1,7 +1,9 @@
-use Rattle.std.proofs.Common.{ℕ, ◌≡◌, false, length}
+use Rattle.std.proofs.Common.{ℕ, None, length}
 use Rattle.im_types.specs.Histories.{Base, History}
 use Rattle.im_types.specs.Writer.{Writer}
-use Rattle.im_flush.specs.PageWriter.{IsReadyWriter, StandsAs}
+use Rattle.im_flush.specs.Outcome.{mild}
+use Rattle.im_flush.specs.PageWriter.{StandsAs}
+use Rattle.im_redo.specs.Recovery.{Recovers}
 use Rattle.im_analysis.specs.Losers.{AreLosers}
 use Rattle.im_restart.specs.LoserChains.{AreChains, AreWaiting}
 use Rattle.im_restart.specs.Undoing.{IsUndoing, UndoGoes}
@@ -10,8 +12,7 @@ use Rattle.im_restart.proofs.undo.enter_all.Given as goal
 
 abbrev pub invariant-loop-transaction : goal.invariant-loop-transaction
 invariant-loop-transaction g l = record {
-  ready : IsReadyWriter g.D.Disk l.writer l.disk;
-  working : l.writer.failed ≡ false;
+  outcome : Recovers g.D.Disk mild l.fn.writer l.writer l.disk None;
   kept : (b : Base) (base : ℕ) (all : History) (s : Writer) → StandsAs g.D.Disk b base s l.fn.writer l.fn.disk → IsUndoing b all s → AreLosers l.fn.losers s.log
       → (now : Writer) × UndoGoes g.D.Disk b base all s l.fn.disk now l.writer l.disk × AreChains (waiting l.losers) l.chains now.log × AreWaiting l.losers now.log;
 }

@@ -1,9 +1,16 @@
-use Rattle.std.proofs.Common.{subst}
+use Rattle.std.proofs.Common.{refl, subst}
+use Rattle.im_flush.specs.Outcome.{mild}
+use Rattle.im_redo.proofs.Recoveries.{recovery_own, unmoved}
+use Rattle.im_restart.proofs.Ends.{either_mild}
 use Rattle.im_types.proofs.Fronts.{rises}
 use Rattle.im_tree.specs.Theory.{page_tree}
 use Rattle.im_restart.specs.LoserChains.{GoesOnAt}
 use Rattle.im_restart.proofs.Undos.{step_end, step_put}
 use Rattle.im_restart.proofs.undo.go_on.Goals as goal
+
+pub returns-else-lsn-eq0-clause-outcome : goal.returns-else-lsn-eq0-clause-outcome
+returns-else-lsn-eq0-clause-outcome g c =
+    recovery_own g.D.Disk {m = mild} refl refl refl c.put_chain.result (unmoved g.D.Disk c.args.writer.now c.args.disk.now c.requires.working c.requires.ready) (either_mild c.put_chain.result c.put_chain.ensures.causes)
 
 pub returns-then-lsn-eq0-clause-kept : goal.returns-then-lsn-eq0-clause-kept
 returns-then-lsn-eq0-clause-kept g c b base all s out stands is are left goes =

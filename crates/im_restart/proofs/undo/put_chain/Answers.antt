@@ -8,7 +8,7 @@ use Rattle.im_restart.proofs.undo.put_chain.Goals as goal
 pub returns-in-Ok-None-clause-kept : goal.returns-in-Ok-None-clause-kept
 returns-in-Ok-None-clause-kept c b out log up are left goes some =
     let free : get nat_cmp c.args.chains.now c.args.lsn ≡ None = search rules in
-    record { ok = chains_put b out c.args.chains.now c.insert.new.self log c.args.chain c.args.lsn are left goes some free c.in-Ok-None.ensures.updates.0; cause = tt }
+    chains_put b out c.args.chains.now c.insert.new.self log c.args.chain c.args.lsn are left goes some free c.in-Ok-None.ensures.updates.0
 
 pub returns-in-Ok-None-clause-above : goal.returns-in-Ok-None-clause-above
 returns-in-Ok-None-clause-above c n lt le = rw c.in-Ok-None.ensures.entries (above_insert c.args.chains.now.entries c.args.lsn c.args.chain n lt le)

@@ -1,16 +1,19 @@
-use Rattle.std.proofs.Common.{rules, ◌≢◌}
-use Rattle.im_types.specs.declared.fault.Fault.TheVariants.{NotAStore}
+use Rattle.im_flush.proofs.Outcomes.{sound_on}
+use Rattle.im_redo.proofs.Recoveries.{recovers_more, recovery_refused}
+use Rattle.im_restart.proofs.Ends.{take_mild}
 use Rattle.im_restart.proofs.Undos.{undo_behind}
 use Rattle.im_restart.proofs.undo.undo.Goals as goal
+
+pub returns-in_err-enter_all-clause-outcome : goal.returns-in_err-enter_all-clause-outcome
+returns-in_err-enter_all-clause-outcome g c = recovery_refused g.D.Disk c.from_residual.result c.from_residual.ensures.1 (recovers_more g.D.Disk take_mild c.in_err-enter_all.ensures.outcome)
 
 pub returns-in_err-enter_all-clause-kept : goal.returns-in_err-enter_all-clause-kept
 returns-in_err-enter_all-clause-kept g c b base all s stands is are =
     let k = c.in_err-enter_all.ensures.kept b base all s stands is are in
-    let other : c.in_err-enter_all.field-0.0 ≢ NotAStore = k.cause in
-    record { ok = search rules; stops = k.stops; cause = search (rules, other) }
+    record { sound = sound_on c.from_residual.result _ _ c.from_residual.ensures.1 k.sound; stops = k.stops }
 
 pub returns-clause-kept : goal.returns-clause-kept
 returns-clause-kept g c b base all s stands is are =
     let k = c.in_ok-enter_all.ensures.kept b base all s stands is are in
-    undo_behind g.D.Disk b base all s c.args.disk.now k.ok.now c.enter_all.new.writer c.enter_all.new.disk c.undo_all.new.writer c.undo_all.new.disk c.undo_all.result k.ok.goes
-    (c.undo_all.ensures.kept b base all k.ok.now k.ok.goes.stands k.ok.goes.undoing k.ok.are)
+    undo_behind g.D.Disk b base all s c.args.disk.now k.sound.now c.enter_all.new.writer c.enter_all.new.disk c.undo_all.new.writer c.undo_all.new.disk c.undo_all.result k.sound.goes
+    (c.undo_all.ensures.kept b base all k.sound.now k.sound.goes.stands k.sound.goes.undoing k.sound.are)

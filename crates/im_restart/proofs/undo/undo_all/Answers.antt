@@ -1,6 +1,7 @@
-use Rattle.std.proofs.Common.{rules, ◌≢◌, refl, arith}
+use Rattle.std.proofs.Common.{rules, refl, arith}
 use Rattle.std.proofs.lemmas.Grind.{common_steps}
-use Rattle.im_types.specs.declared.fault.Fault.TheVariants.{NotAStore}
+use Rattle.im_flush.proofs.Outcomes.{sound_on}
+use Rattle.im_redo.proofs.Recoveries.{recovers_then, unmoved}
 use Rattle.im_tree.specs.Theory.{page_tree}
 use Rattle.im_tree.proofs.TheoryLaws.{page_tree_laws}
 use Rattle.im_restart.specs.LoserChains.{nobody}
@@ -13,8 +14,7 @@ use Rattle.im_restart.proofs.undo.undo_all.Goals as goal
 pub loop-lsn-init : goal.loop-lsn-init
 loop-lsn-init g c = record {
   room = c.requires.room;
-  ready = c.requires.ready;
-  working = c.requires.working;
+  outcome = unmoved g.D.Disk c.args.writer.now c.args.disk.now c.requires.working c.requires.ready;
   kept = λ b base all s stands is are. (s, undo_start g.D.Disk b base all s c.args.writer.now c.args.disk.now (g.met.D.Disk.only_now c.args.disk.now) stands is, are);
 }
 
@@ -25,14 +25,13 @@ loop-lsn-smaller g c =
 pub loop-lsn-preserved : goal.loop-lsn-preserved
 loop-lsn-preserved g c = record {
   room = first_of (search rules, grind (arith, common_steps));
-  ready = c.undo_at.ensures.ready;
-  working = c.in_ok-undo_at.ensures.works;
+  outcome = recovers_then g.D.Disk c.loop-lsn.invariant.outcome c.in_ok-undo_at.ensures.outcome;
   kept = λ b base all s stands is are. (
       let h = c.loop-lsn.invariant.kept b base all s stands is are in
       let t = chains_taken c.loop-lsn.chains c.take_last.new.chains h.0.log c.in-Some.lsn c.in-Some.chain h.2 c.in-Some.ensures.value c.in-Some.ensures.updates.0 in
       let latest = latest_here b page_tree page_tree_laws h.0.log c.in-Some.chain c.in-Some.lsn c.take_last.new.chains h.1.undoing.can t.2 t.0 c.in-Some.ensures.others in
       let k = c.in_ok-undo_at.ensures.kept b base all h.0 nobody h.1.stands h.1.undoing t.0 refl t.1 t.2 latest in
-      (k.ok.now, undo_then g.D.Disk b base all s c.args.disk.now h.0 c.loop-lsn.writer c.loop-lsn.disk k.ok.now c.undo_at.new.writer c.undo_at.new.disk h.1 k.ok.goes, k.ok.are)
+      (k.sound.now, undo_then g.D.Disk b base all s c.args.disk.now h.0 c.loop-lsn.writer c.loop-lsn.disk k.sound.now c.undo_at.new.writer c.undo_at.new.disk h.1 k.sound.goes, k.sound.are)
       );
 }
 
@@ -42,11 +41,10 @@ returns-in_err-undo_at-clause-kept g c b base all s stands is are =
     let t = chains_taken c.loop-lsn.chains c.take_last.new.chains h.0.log c.in-Some.lsn c.in-Some.chain h.2 c.in-Some.ensures.value c.in-Some.ensures.updates.0 in
     let latest = latest_here b page_tree page_tree_laws h.0.log c.in-Some.chain c.in-Some.lsn c.take_last.new.chains h.1.undoing.can t.2 t.0 c.in-Some.ensures.others in
     let k = c.in_err-undo_at.ensures.kept b base all h.0 nobody h.1.stands h.1.undoing t.0 refl t.1 t.2 latest in
-    let other : c.in_err-undo_at.field-0.0 ≢ NotAStore = k.cause in
-    record { ok = search rules; stops = left_then g.D.Disk b base all c.args.disk.now c.loop-lsn.disk c.undo_at.new.disk h.1.stops k.stops; cause = search (rules, other) }
+    record { sound = sound_on c.from_residual.result _ _ c.from_residual.ensures.1 k.sound; stops = left_then g.D.Disk b base all c.args.disk.now c.loop-lsn.disk c.undo_at.new.disk h.1.stops k.stops }
 
 pub returns-clause-kept : goal.returns-clause-kept
 returns-clause-kept g c b base all s stands is are =
     let h = c.loop-lsn.invariant.kept b base all s stands is are in
     let none = none_left c.loop-lsn.chains.entries (λ some. (let clash = c.in_default.ensures.variant.1 some in absurd (cc clash))) in
-    record { ok = record { now = h.0; goes = h.1; ended = chains_none c.loop-lsn.chains h.0.log h.2 none }; stops = h.1.stops; cause = tt }
+    record { sound = record { now = h.0; goes = h.1; ended = chains_none c.loop-lsn.chains h.0.log h.2 none }; stops = h.1.stops }

@@ -1,7 +1,9 @@
-use Rattle.std.proofs.Common.{ℕ, ◌≡◌, ◌≤◌, false, length}
+use Rattle.std.proofs.Common.{ℕ, ◌≤◌, None, length}
 use Rattle.im_types.specs.Histories.{Base, History}
 use Rattle.im_types.specs.Writer.{Writer}
-use Rattle.im_flush.specs.PageWriter.{IsReadyWriter, StandsAs}
+use Rattle.im_alloc.specs.Kept.{mild_to_take}
+use Rattle.im_flush.specs.PageWriter.{StandsAs}
+use Rattle.im_redo.specs.Recovery.{Recovers}
 use Rattle.im_restart.specs.LoserChains.{AreChains, above, nobody}
 use Rattle.im_restart.specs.Undoing.{IsUndoing, UndoGoes}
 use Rattle.im_restart.proofs.undo.undo_all.Given as goal
@@ -9,8 +11,7 @@ use Rattle.im_restart.proofs.undo.undo_all.Given as goal
 abbrev pub invariant-loop-lsn : goal.invariant-loop-lsn
 invariant-loop-lsn g l = record {
   room : 16384 ≤ length l.room;
-  ready : IsReadyWriter g.D.Disk l.writer l.disk;
-  working : l.writer.failed ≡ false;
+  outcome : Recovers g.D.Disk mild_to_take l.fn.writer l.writer l.disk None;
   kept : (b : Base) (base : ℕ) (all : History) (s : Writer) → StandsAs g.D.Disk b base s l.fn.writer l.fn.disk → IsUndoing b all s → AreChains nobody l.fn.chains s.log
       → (now : Writer) × UndoGoes g.D.Disk b base all s l.fn.disk now l.writer l.disk × AreChains nobody l.chains now.log;
 }

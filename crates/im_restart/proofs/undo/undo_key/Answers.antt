@@ -1,5 +1,7 @@
-use Rattle.std.proofs.Common.{rules, ◌≢◌, sym, subst}
-use Rattle.im_types.specs.declared.fault.Fault.TheVariants.{NotAStore}
+use Rattle.std.proofs.Common.{sym, subst}
+use Rattle.im_flush.proofs.Outcomes.{sound_on}
+use Rattle.im_redo.proofs.Recoveries.{recovers_more, recovers_then}
+use Rattle.im_restart.proofs.Ends.{take_mild}
 use Rattle.im_record.specs.Entry.{view, prev_of}
 use Rattle.im_tree.specs.Theory.{page_tree}
 use Rattle.im_restart.specs.LoserChains.{GoesOnAt, chain_of}
@@ -7,16 +9,18 @@ use Rattle.im_restart.proofs.Readings.{goes_behind}
 use Rattle.im_restart.proofs.Undos.{chains_then, step_then}
 use Rattle.im_restart.proofs.undo.undo_key.Goals as goal
 
+pub returns-clause-outcome : goal.returns-clause-outcome
+returns-clause-outcome g c = recovers_then g.D.Disk c.in_ok-last.ensures.outcome (recovers_more g.D.Disk take_mild c.go_on.ensures.outcome)
+
 pub returns-in_err-last-clause-kept : goal.returns-in_err-last-clause-kept
 returns-in_err-last-clause-kept g c b base all s out stands is are left to =
     let k = c.in_err-last.ensures.kept b base all s stands is to in
-    let other : c.in_err-last.field-0.0 ≢ NotAStore = k.cause in
-    record { ok = search rules; stops = k.stops; cause = search (rules, other) }
+    record { sound = sound_on c.from_residual.result _ _ c.from_residual.ensures.1 k.sound; stops = k.stops }
 
 pub returns-clause-kept : goal.returns-clause-kept
 returns-clause-kept g c b base all s out stands is are left to =
     let t = c.args.chain.transaction in
-    let done = (c.in_ok-last.ensures.kept b base all s stands is to).ok in
+    let done = (c.in_ok-last.ensures.kept b base all s stands is to).sound in
     let lsn = c.in_ok-last.last in
     let now = done.now in
     let goes : GoesOnAt (chain_of t lsn c.args.next) c.args.next now.log =

@@ -1,10 +1,26 @@
-use Rattle.std.proofs.Common.{sym, ◌∙◌, subst}
+use Rattle.std.proofs.Common.{ap, refl, sym, ◌∙◌, subst}
+use Rattle.im_alloc.specs.Kept.{mild_to_take}
+use Rattle.im_flush.specs.Outcome.{mild}
+use Rattle.im_flush.proofs.LoggedChanges.{err_on}
+use Rattle.im_redo.proofs.Recoveries.{recovers_more, recovery_own, unmoved}
+use Rattle.im_restart.proofs.Ends.{no_store, take_mild}
 use Rattle.im_tree.specs.Theory.{page_tree}
 use Rattle.im_tree.proofs.TheoryLaws.{page_tree_laws}
 use Rattle.im_restart.specs.LoserChains.{GoesOnAt}
 use Rattle.im_restart.proofs.Readings.{leads_so, leads_somewhere, to_undo_here}
 use Rattle.im_record.specs.Entry.{view}
 use Rattle.im_restart.proofs.undo.undo_record.Goals as goal
+
+pub returns-then-transaction-chain-clause-outcome : goal.returns-then-transaction-chain-clause-outcome
+returns-then-transaction-chain-clause-outcome g c = no_store g.D.Disk c.args.writer.now c.args.disk.now refl c.requires.working c.requires.ready
+
+pub returns-in_err-next-clause-outcome : goal.returns-in_err-next-clause-outcome
+returns-in_err-next-clause-outcome g c =
+    recovery_own g.D.Disk {m = mild} refl refl refl c.from_residual.result (unmoved g.D.Disk c.args.writer.now c.args.disk.now c.requires.working c.requires.ready)
+    (err_on c.from_residual.result c.in_err-next.field-0.0 _ c.from_residual.ensures.1 (ap mild_to_take c.in_err-next.ensures.refused.0))
+
+pub returns-else-is_key-clause-outcome : goal.returns-else-is_key-clause-outcome
+returns-else-is_key-clause-outcome g c = recovers_more g.D.Disk take_mild c.go_on.ensures.outcome
 
 pub returns-in_err-next-clause-kept : goal.returns-in_err-next-clause-kept
 returns-in_err-next-clause-kept g c b base all s out stands is are left goes there mine latest =

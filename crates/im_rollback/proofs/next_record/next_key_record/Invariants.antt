@@ -1,17 +1,17 @@
-use Rattle.std.proofs.Common.{◌≡◌, true, false, length, ℕ}
+use Rattle.std.proofs.Common.{◌≡◌, None, length, ℕ}
 use Rattle.im_types.specs.Histories.{Base}
 use Rattle.im_types.specs.Writer.{Writer}
 use Rattle.im_disk.specs.Runs.{Reads}
-use Rattle.im_flush.specs.PageWriter.{IsReadyWriter, StandsAs}
+use Rattle.im_flush.specs.PageWriter.{StandsAs}
+use Rattle.im_flush.specs.Outcome.{none_mild}
 use Rattle.im_undo.specs.Undoing.{IsGoing}
+use Rattle.im_rollback.specs.Ends.{TurnOutcome}
 use Rattle.im_rollback.specs.Going.{GoesOnAt}
 use Rattle.im_rollback.proofs.next_record.next_key_record.Given as goal
 
 abbrev pub invariant-loop-lsn : goal.invariant-loop-lsn
 invariant-loop-lsn g l = record {
-  ready : IsReadyWriter g.D.Disk l.writer l.disk;
-  works : l.writer.failed ≡ false;
-  alive : g.D.Disk.failed l.disk ≡ true → ⊥;
+  outcome : TurnOutcome g.D.Disk none_mild l.fn.writer l.writer l.disk None;
   size : length l.room ≡ length l.fn.room;
   reads : Reads g.D.Disk l.fn.disk l.disk;
   kept : (b : Base) (base : ℕ) (s : Writer) (e last : ℕ) → IsGoing g.D.Disk b base s e l.transaction last l.from l.fn.writer l.fn.disk → StandsAs g.D.Disk b base s l.writer l.disk × GoesOnAt l.transaction l.lsn s.log;

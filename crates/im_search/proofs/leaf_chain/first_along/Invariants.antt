@@ -1,20 +1,14 @@
-use Rattle.std.proofs.Common.{◌≡◌, false, true, ℕ, List}
-use Rattle.im_types.specs.Histories.{Base}
-use Rattle.im_types.specs.Writer.{Writer}
-use Rattle.im_flush.specs.PageWriter.{IsReadyWriter}
-use Rattle.im_search.specs.Levels.{bodies, start_at}
+use Rattle.std.proofs.Common.{None}
+use Rattle.im_flush.specs.Outcome.{AllPages, Reads}
+use Rattle.im_search.specs.Levels.{bodies_of, start_at}
 use Rattle.im_tree.specs.Lookups.{IsAhead}
 use Rattle.im_search.specs.Found.{HasTree, GoesAlong}
 use Rattle.im_search.proofs.leaf_chain.first_along.Given as goal
 
 abbrev pub invariant-loop-number : goal.invariant-loop-number
 invariant-loop-number g l = record {
-  ready : IsReadyWriter g.D.Disk l.writer l.disk;
-  works : l.writer.failed ≡ false;
-  begun : l.fn.writer.failed ≡ false;
-  alive : g.D.Disk.failed l.disk ≡ true → ⊥;
-  kept : (b : Base) (base : ℕ) (s : Writer) (spare : List ℕ) → HasTree g.D.Disk b base s spare l.fn.writer l.fn.disk → IsAhead (bodies s) (start_at l.inclusive l.key) 0 l.fn.from
-      → GoesAlong g.D.Disk b base s (start_at l.inclusive l.key) l.left l.number l.fn.disk l.writer l.disk;
+  outcome : Reads g.D.Disk l.fn.writer l.fn.disk l.writer l.disk None;
+  kept : (pages : AllPages) → HasTree g.D.Disk pages l.fn.writer l.fn.disk → IsAhead (bodies_of pages) (start_at l.inclusive l.key) 0 l.fn.from → GoesAlong (bodies_of pages) (start_at l.inclusive l.key) l.left l.number;
 }
 
 abbrev pub decreases-loop-number : goal.decreases-loop-number

@@ -2,19 +2,20 @@ use Rattle.std.proofs.Common.{◌≡◌, ℕ, sym, ap, ◌∙◌, subst}
 use Rattle.std.specs.Prelude.{IfOk}
 use Rattle.im_types.specs.Pages.{Body, Page}
 use Rattle.im_pool.specs.Pool.{page_at}
+use Rattle.im_flush.proofs.Outcomes.{pages_to, search_of, sound_on}
 use Rattle.im_search.specs.Children.{IsChildOf}
-use Rattle.im_search.specs.Levels.{HasLevel, bodies}
-use Rattle.im_search.proofs.Calls.{call_got, call_refused}
+use Rattle.im_search.specs.Levels.{HasLevel}
+use Rattle.im_search.proofs.Calls.{bytes_refused, sound_always}
 use Rattle.im_search.proofs.reading.child_of.Goals as goal
 
 pub returns-in_err-frame-clause-kept : goal.returns-in_err-frame-clause-kept
-returns-in_err-frame-clause-kept g c b base s is ready some level =
-    let got = c.in_err-frame.ensures.kept b base s is (λ q le. ready q) in
-    call_refused g.D.Disk b base s _ c.args.disk.now c.get.new.self c.get.new.disk c.in_err-frame.field-0.0 got.stops got.cause got.again c.from_residual.result c.from_residual.ensures.1
+returns-in_err-frame-clause-kept g c pages has some level = sound_on c.from_residual.result _ _ c.from_residual.ensures.1 (c.in_err-frame.ensures.kept pages (pages_to g.D.Disk c.args.number has))
+
+pub returns-clause-outcome : goal.returns-clause-outcome
+returns-clause-outcome g c = bytes_refused g.D.Disk c.child_in.result c.child_in.ensures.refused (search_of g.D.Disk c.in_ok-frame.ensures.outcome)
 
 pub returns-clause-kept : goal.returns-clause-kept
-returns-clause-kept g c b base s is ready some level =
-    let got = (c.in_ok-frame.ensures.kept b base s is (λ q le. ready q)).ok in
-    let same : c.page.result.now.body ≡ bodies s c.args.number = ap (λ (p : Page). p.body) (c.page.ensures.page ∙ ap (λ (n : ℕ). page_at c.get.new.self.pool n) c.in_ok-frame.ensures.frame ∙ got.page) in
-    call_got g.D.Disk b base s _ c.args.number c.args.disk.now c.get.new.self c.get.new.disk c.child_in.result got
-    (subst (λ (y : Body). IfOk c.child_in.result (IsChildOf y c.args.key.now)) same c.child_in.ensures.child) (c.child_in.ensures.sound some (subst (HasLevel c.args.level) (sym same) level))
+returns-clause-kept g c pages has some level =
+    let got = c.in_ok-frame.ensures.kept pages (pages_to g.D.Disk c.args.number has) in
+    let same : c.page.result.now.body ≡ (pages c.args.number).body = ap (λ (p : Page). p.body) (c.page.ensures.page ∙ ap (λ (n : ℕ). page_at c.get.new.self.pool n) c.in_ok-frame.ensures.frame ∙ got) in
+    sound_always c.child_in.result _ (subst (λ (y : Body). IfOk c.child_in.result (IsChildOf y c.args.key.now)) same c.child_in.ensures.child) (c.child_in.ensures.sound some (subst (HasLevel c.args.level) (sym same) level))

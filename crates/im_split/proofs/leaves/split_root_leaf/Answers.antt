@@ -1,31 +1,32 @@
-use Rattle.std.proofs.Common.{ℕ, zero, List, [], ◌∷◌, ◌∙◌, subst}
-use Rattle.im_types.specs.declared.fault.Fault.TheVariants.{NotAStore}
+use Rattle.std.proofs.Common.{ℕ, zero, List, [], ◌∷◌, refl, ◌∙◌, subst}
+use Rattle.im_flush.specs.Outcome.{mild}
+use Rattle.im_flush.proofs.Outcomes.{ends_own, sound_done, sound_on}
 use Rattle.im_alloc.specs.Seen.{seen}
+use Rattle.im_alloc.proofs.Goings.{mildly}
 use Rattle.im_split.specs.Turns.{IsRootTurn}
+use Rattle.im_split.proofs.Downs.{ended}
 use Rattle.im_split.proofs.Ends.{last_two, root_ended, root_leaf, can_part_root}
-use Rattle.im_split.proofs.EndRuns.{not_refused, end_refused, end_here}
-use Rattle.im_search.proofs.Calls.{on_ok}
+use Rattle.im_split.proofs.Turned.{not_refused}
 use Rattle.im_split.proofs.leaves.split_root_leaf.Goals as goal
 
 pub returns-in_err-page-clause-kept : goal.returns-in_err-page-clause-kept
-returns-in_err-page-clause-kept g c b base s has turn =
-    let one = c.in_err-page.ensures.kept b base s has.stands has.ready in
-    end_refused g.D.Disk b base s c.args.images.now c.args.disk.now c.args.key.now c.image.new.images c.image.new.writer c.image.new.disk c.in_err-page.field-0.0 one.stops one.cause one.again
-    c.from_residual.result c.from_residual.ensures.1
+returns-in_err-page-clause-kept g c store has turn = sound_on c.from_residual.result _ _ c.from_residual.ensures.1 (c.in_err-page.ensures.kept store has.has)
+
+pub returns-clause-outcome : goal.returns-clause-outcome
+returns-clause-outcome g c = ends_own g.D.Disk mild refl refl refl c.part_root_leaf.result c.in_ok-page.ensures.outcome (mildly c.part_root_leaf.result c.part_root_leaf.ensures.causes)
 
 pub returns-clause-kept : goal.returns-clause-kept
-returns-clause-kept g c b base s has turn =
-    let here = (c.in_ok-page.ensures.kept b base s has.stands has.ready).ok in
+returns-clause-kept g c store has turn =
     let l = c.take_last-left.result in
     let r = c.take_last-right.result in
-    let one : IsRootTurn (seen s c.args.images.now) (r ∷ l ∷ []) c.args.key.now zero =
-    subst (λ (ns : List ℕ). IsRootTurn (seen s c.args.images.now) ns c.args.key.now zero)
+    let one : IsRootTurn (seen store c.args.images.now) (r ∷ l ∷ []) c.args.key.now zero =
+    subst (λ (ns : List ℕ). IsRootTurn (seen store c.args.images.now) ns c.args.key.now zero)
     (last_two c.args.numbers.now.items c.take_last-right.new.self.items c.take_last-left.new.self.items l r c.take_last-right.ensures.items c.take_last-left.ensures.items c.requires.counted) turn in
     let page = c.deref.result.now in
-    let page_is = c.deref.ensures ∙ here.is in
-    end_here g.D.Disk b base s c.args.images.now c.args.disk.now c.args.key.now here.now c.image.new.writer c.image.new.disk here.on c.part_root_leaf.new.images c.part_root_leaf.result
-    (on_ok c.part_root_leaf.result _ _ c.part_root_leaf.ensures.halves
-    (root_ended s c.args.key.now c.args.images.now c.rise.ensures l r page page_is one c.image.new.images c.part_root_leaf.new.images c.image.ensures.images))
-    (not_refused c.part_root_leaf.result NotAStore
-    (c.part_root_leaf.ensures.sound (root_leaf s c.args.key.now c.args.images.now c.rise.ensures l r page page_is one)
-    (can_part_root s c.args.key.now c.args.images.now c.rise.ensures l r page page_is one)))
+    let page_is = c.deref.ensures ∙ c.in_ok-page.ensures.kept store has.has in
+    sound_done c.part_root_leaf.result _ _ c.part_root_leaf.ensures.halves
+    (not_refused c.part_root_leaf.result
+    (c.part_root_leaf.ensures.sound (root_leaf store c.args.key.now c.args.images.now c.rise.ensures l r page page_is one)
+    (can_part_root store c.args.key.now c.args.images.now c.rise.ensures l r page page_is one)))
+    (λ halves. ended store c.args.key.now c.args.images.now c.part_root_leaf.new.images
+    (root_ended store c.args.key.now c.args.images.now c.rise.ensures l r page page_is one c.image.new.images c.part_root_leaf.new.images c.image.ensures.images halves))

@@ -1,74 +1,69 @@
-use Rattle.std.proofs.Common.{◌+◌, ◌≤◌, [], refl, inr, sym, subst, arith}
+use Rattle.std.proofs.Common.{List, refl, arith}
+use Rattle.std.specs.Prelude.{Err}
 use Rattle.im_types.specs.declared.fault.Fault.TheVariants.{Capacity}
-use Rattle.im_flush.proofs.Goings.{leaves_so_far}
-use Rattle.im_flush.proofs.Writers.{goes_on_then}
-use Rattle.im_tree.specs.Levels.{Pages}
-use Rattle.im_search.specs.Levels.{bodies}
-use Rattle.im_search.proofs.Pages.{bodies_stay, tree_stays}
-use Rattle.im_split.specs.Tops.{IsTop}
-use Rattle.im_split.proofs.Founds.{none_found, top_found, few_found, last_level, last_splits, never_up, never_pages_full}
-use Rattle.im_split.proofs.Plans.{plan_refused, read_failed, planned_none, plan_then, room_failed}
+use Rattle.im_flush.proofs.LoggedChanges.{err_on}
+use Rattle.im_flush.proofs.Outcomes.{ends_own, pages_still, refused, sound_also, sound_on, then, with_more}
+use Rattle.im_smo.specs.Images.{Numbered}
+use Rattle.im_alloc.specs.Seen.{bodies}
+use Rattle.im_split.specs.Kept.{mild_to_split}
+use Rattle.im_split.proofs.Founds.{few_found, none_found, top_found}
+use Rattle.im_split.proofs.Plans.{planned, planned_none, wants_fewer, wants_level, wants_none, wants_numbers}
+use Rattle.im_split.proofs.Reasons.{grow_splits, mild_splits, never_any_full, never_capacity, never_pages_full, take_splits}
 use Rattle.im_split.proofs.plan.plan_split.Goals as goal
 
+pub returns-in_err-top-clause-outcome : goal.returns-in_err-top-clause-outcome
+returns-in_err-top-clause-outcome g c = refused g.D.Disk c.from_residual.result c.from_residual.ensures.1 (with_more g.D.Disk (mild_to_split c.args.max) (mild_splits c.args.max) c.in_err-top.ensures.outcome)
+
 pub returns-in_err-top-clause-kept : goal.returns-in_err-top-clause-kept
-returns-in_err-top-clause-kept g c b base s has =
-    let one = c.in_err-top.ensures.kept b base s has in
-    read_failed g.D.Disk b base s c.args.key.now c.args.max c.args.disk.now c.find_top.new.writer c.find_top.new.disk c.in_err-top.field-0.0 c.in_err-top.ensures.causes one.stops one.cause one.again
-    c.from_residual.result c.from_residual.ensures.1
+returns-in_err-top-clause-kept g c store has good = sound_on c.from_residual.result _ _ c.from_residual.ensures.1 (c.in_err-top.ensures.kept store has good)
+
+pub returns-in_err-top-clause-wants : goal.returns-in_err-top-clause-wants
+returns-in_err-top-clause-wants g c store has good =
+    err_on c.from_residual.result _ _ c.from_residual.ensures.1
+    (wants_none (bodies store) c.args.key.now c.args.max _ (never_capacity g.D.Disk refl c.in_err-top.ensures.outcome) (never_pages_full g.D.Disk refl c.in_err-top.ensures.outcome))
 
 pub returns-in_default-clause-kept : goal.returns-in_default-clause-kept
-returns-in_default-clause-kept g c b base s has =
-    let one = c.in_ok-top.ensures.kept b base s has in
-    planned_none g.D.Disk b base s c.args.key.now c.args.max c.args.disk.now c.find_top.new.writer c.find_top.new.disk has.good
-    (none_found (bodies s) c.args.key.now c.in_ok-top.field-0 c.in_default.not-Some one.ok) one.on c.new.result c.new.ensures
+returns-in_default-clause-kept g c store has good =
+    planned_none store c.args.key.now c.args.max c.new.result good (none_found (bodies store) c.args.key.now c.in_ok-top.field-0 c.in_default.not-Some (c.in_ok-top.ensures.kept store has good)) c.new.ensures
+
+pub returns-in_err-check_room-clause-outcome : goal.returns-in_err-check_room-clause-outcome
+returns-in_err-check_room-clause-outcome g c =
+    refused g.D.Disk c.from_residual-in_err-check_room.result c.from_residual-in_err-check_room.ensures.1
+    (with_more g.D.Disk (mild_to_split c.args.max) (grow_splits c.args.max) (then g.D.Disk c.in_ok-top.ensures.outcome c.in_err-check_room.ensures.outcome))
 
 pub returns-in_err-check_room-clause-kept : goal.returns-in_err-check_room-clause-kept
-returns-in_err-check_room-clause-kept g c b base s has =
-    let one = c.in_ok-top.ensures.kept b base s has in
-    let t = one.on.now in
-    let w = c.find_top.new.writer in
-    let mid = c.find_top.new.disk in
-    let still = tree_stays g.D.Disk b base s [] c.args.writer.now c.args.disk.now t w mid has one.on.on in
-    room_failed g.D.Disk b base s c.args.key.now c.args.max c.args.disk.now t w mid one.on.on c.in_ok-top.field-0 c.in-Some.top one.ok c.in-Some.is c.check_room.new.writer c.check_room.new.disk
-    c.in_err-check_room.field-0.0 (c.in_err-check_room.ensures.kept b base t still.stands still.ready still.good.meta) (never_up c.in_err-check_room.field-0.0 c.in_err-check_room.ensures.causes)
-    c.from_residual-in_err-check_room.result c.from_residual-in_err-check_room.ensures.1
+returns-in_err-check_room-clause-kept g c store has good =
+    sound_on c.from_residual-in_err-check_room.result _ _ c.from_residual-in_err-check_room.ensures.1 (c.in_err-check_room.ensures.kept store (pages_still g.D.Disk has c.in_ok-top.ensures.outcome) good.meta)
 
-pub returns-then-top-2-clause-kept : goal.returns-then-top-2-clause-kept
-returns-then-top-2-clause-kept g c b base s has =
-    let one = c.in_ok-top.ensures.kept b base s has in
-    let t = one.on.now in
-    let w = c.find_top.new.writer in
-    let mid = c.find_top.new.disk in
-    let still = tree_stays g.D.Disk b base s [] c.args.writer.now c.args.disk.now t w mid has one.on.on in
-    let ev = (c.in_ok-check_room.ensures.kept b base t still.stands still.ready still.good.meta).ok in
-    let v = c.check_room.new.writer in
-    let late = c.check_room.new.disk in
-    let on = goes_on_then g.D.Disk b base s c.args.disk.now t w mid one.on.on ev.now v late ev.on in
-    let found = top_found (bodies s) c.args.key.now c.in_ok-top.field-0 c.in-Some.top c.in-Some.is one.ok in
-    plan_refused g.D.Disk b base s c.args.key.now c.args.max c.args.disk.now v late Capacity
-    (λ same. absurd (let never : ⊥ = cc same in never))
-    (λ same. inr (last_level (bodies s) c.args.key.now c.in-Some.top found c.if-top.true (omega (arith, c.if-top-2.true))))
-    (λ same. inr (last_splits (bodies s) c.args.key.now c.in-Some.top found c.if-top.true (omega (arith, c.if-top-2.true)))) (λ any. found.splits.2)
-    (leaves_so_far g.D.Disk b base s c.args.disk.now ev.now v.log v.table v.pool late on.goes)
-    (λ same. cc same) (λ why. record { now = ev.now; on = on }) _ refl
+pub returns-in_err-check_room-clause-wants : goal.returns-in_err-check_room-clause-wants
+returns-in_err-check_room-clause-wants g c store has good =
+    let found = top_found (bodies store) c.args.key.now c.in_ok-top.field-0 c.in-Some.top c.in-Some.is (c.in_ok-top.ensures.kept store has good) in
+    err_on c.from_residual-in_err-check_room.result _ _ c.from_residual-in_err-check_room.ensures.1
+    (wants_fewer (bodies store) c.args.key.now c.args.max c.in-Some.top found _ (never_capacity g.D.Disk refl c.in_err-check_room.ensures.outcome)
+    (c.in_err-check_room.ensures.full store (pages_still g.D.Disk has c.in_ok-top.ensures.outcome) good.meta))
+
+pub returns-then-top-2-clause-outcome : goal.returns-then-top-2-clause-outcome
+returns-then-top-2-clause-outcome g c = ends_own g.D.Disk (mild_to_split c.args.max) refl refl refl {A = List Numbered} (Err Capacity) (then g.D.Disk c.in_ok-top.ensures.outcome c.in_ok-check_room.ensures.outcome) refl
+
+pub returns-then-top-2-clause-wants : goal.returns-then-top-2-clause-wants
+returns-then-top-2-clause-wants g c store has good =
+    let found = top_found (bodies store) c.args.key.now c.in_ok-top.field-0 c.in-Some.top c.in-Some.is (c.in_ok-top.ensures.kept store has good) in
+    wants_level (bodies store) c.args.key.now c.args.max c.in-Some.top found c.if-top.true (omega (arith, c.if-top-2.true))
+
+pub returns-clause-outcome : goal.returns-clause-outcome
+returns-clause-outcome g c =
+    with_more g.D.Disk (mild_to_split c.args.max) (take_splits c.args.max) (then g.D.Disk (then g.D.Disk c.in_ok-top.ensures.outcome c.in_ok-check_room.ensures.outcome) c.split_from.ensures.outcome)
 
 pub returns-clause-kept : goal.returns-clause-kept
-returns-clause-kept g c b base s has =
-    let one = c.in_ok-top.ensures.kept b base s has in
-    let t = one.on.now in
-    let w = c.find_top.new.writer in
-    let mid = c.find_top.new.disk in
-    let still = tree_stays g.D.Disk b base s [] c.args.writer.now c.args.disk.now t w mid has one.on.on in
-    let two = c.in_ok-check_room.ensures.kept b base t still.stands still.ready still.good.meta in
-    let ev = two.ok in
-    let v = c.check_room.new.writer in
-    let late = c.check_room.new.disk in
-    let on = goes_on_then g.D.Disk b base s c.args.disk.now t w mid one.on.on ev.now v late ev.on in
-    let there = tree_stays g.D.Disk b base s [] c.args.writer.now c.args.disk.now ev.now v late has on in
-    let found = top_found (bodies s) c.args.key.now c.in_ok-top.field-0 c.in-Some.top c.in-Some.is one.ok in
-    plan_then g.D.Disk b base s c.args.key.now c.args.max c.args.disk.now ev.now v late on c.requires.short c.in-Some.top found
-    (λ m is. few_found (bodies s) c.args.key.now c.in-Some.top m found
-    (subst (λ (pages : Pages). (pages 0).leftmost + c.in-Some.top.pages ≤ m + (pages 0).prev) (bodies_stay b s t one.on.on.goes.keeps) (two.few m is)))
-    c.split_from.new.writer c.split_from.new.disk c.split_from.result (never_pages_full c.split_from.result c.split_from.ensures.causes)
-    (c.split_from.ensures.kept b base ev.now there
-    (subst (λ (pages : Pages). IsTop pages c.args.key.now c.in-Some.top) (sym (bodies_stay b s ev.now on.goes.keeps)) found.splits.0))
+returns-clause-kept g c store has good =
+    let found = top_found (bodies store) c.args.key.now c.in_ok-top.field-0 c.in-Some.top c.in-Some.is (c.in_ok-top.ensures.kept store has good) in
+    let room = c.in_ok-check_room.ensures.kept store (pages_still g.D.Disk has c.in_ok-top.ensures.outcome) good.meta in
+    sound_also c.split_from.result _ _
+    (c.split_from.ensures.kept store (pages_still g.D.Disk has (then g.D.Disk c.in_ok-top.ensures.outcome c.in_ok-check_room.ensures.outcome)) good found.splits.0)
+    (λ images end. planned store c.args.key.now c.args.max images c.requires.short c.in-Some.top found (λ m is. few_found (bodies store) c.args.key.now c.in-Some.top m found (room m is)) end)
+
+pub returns-clause-wants : goal.returns-clause-wants
+returns-clause-wants g c store has good =
+    let found = top_found (bodies store) c.args.key.now c.in_ok-top.field-0 c.in-Some.top c.in-Some.is (c.in_ok-top.ensures.kept store has good) in
+    wants_numbers (bodies store) c.args.key.now c.args.max c.in-Some.top found c.split_from.result (never_any_full g.D.Disk refl c.split_from.result c.split_from.ensures.outcome)
+    (c.split_from.ensures.used_up store (pages_still g.D.Disk has (then g.D.Disk c.in_ok-top.ensures.outcome c.in_ok-check_room.ensures.outcome)) good found.splits.0)

@@ -1,7 +1,5 @@
-use Rattle.std.proofs.Common.{◌≡◌, ◌+◌, ℕ, false, true, length}
-use Rattle.im_types.specs.Histories.{Base}
-use Rattle.im_types.specs.Writer.{Writer}
-use Rattle.im_flush.specs.PageWriter.{IsReadyWriter}
+use Rattle.std.proofs.Common.{◌≡◌, ◌+◌, None, false, true, length}
+use Rattle.im_flush.specs.Outcome.{AllPages, Reads}
 use Rattle.im_alloc.specs.Seen.{seen}
 use Rattle.im_alloc.specs.Kept.{HasImages}
 use Rattle.im_split.specs.Pages.{newest_first}
@@ -11,14 +9,12 @@ use Rattle.im_split.proofs.plan.split_down.Given as goal
 
 abbrev pub invariant-loop-turn : goal.invariant-loop-turn
 invariant-loop-turn g l = record {
-  ready : IsReadyWriter g.D.Disk l.writer l.disk;
-  works : l.writer.failed ≡ false;
-  alive : g.D.Disk.failed l.disk ≡ true → ⊥;
+  outcome : Reads g.D.Disk l.fn.writer l.fn.disk l.writer l.disk None;
   counted : length l.numbers.items ≡ l.turn.level + 1;
-  kept : (b : Base) (base : ℕ) (s : Writer) → HasImages g.D.Disk b base s l.fn.images (newest_first l.fn.numbers.items) l.fn.writer l.fn.disk
-      → (l.fn.top.root ≡ true → IsRootTurn (seen s l.fn.images) (newest_first l.fn.numbers.items) l.key l.fn.top.level)
-      → (l.fn.top.root ≡ false → IsTurn (seen s l.fn.images) (newest_first l.fn.numbers.items) l.key l.fn.top.level l.fn.top.parent l.fn.top.page)
-      → Turned g.D.Disk b base s l.key l.fn.images l.turn l.fn.disk l.images l.numbers.items l.writer l.disk;
+  kept : (store : AllPages) → HasImages g.D.Disk store l.fn.images (newest_first l.fn.numbers.items) l.fn.writer l.fn.disk
+      → (l.fn.top.root ≡ true → IsRootTurn (seen store l.fn.images) (newest_first l.fn.numbers.items) l.key l.fn.top.level)
+      → (l.fn.top.root ≡ false → IsTurn (seen store l.fn.images) (newest_first l.fn.numbers.items) l.key l.fn.top.level l.fn.top.parent l.fn.top.page)
+      → Turned store l.key l.fn.images l.turn l.images l.numbers.items;
 }
 
 abbrev pub decreases-loop-turn : goal.decreases-loop-turn

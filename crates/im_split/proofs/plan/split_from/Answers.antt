@@ -1,39 +1,51 @@
-use Rattle.im_split.proofs.Froms.{has_none, take_failed, has_taken_all, root_on, under_on, down_failed, down_done}
+use Rattle.std.proofs.Common.{refl}
+use Rattle.im_flush.proofs.LoggedChanges.{err_on}
+use Rattle.im_flush.proofs.Outcomes.{pages_still, refused, sound_on, then, with_more}
+use Rattle.im_alloc.specs.Kept.{mild_to_take}
+use Rattle.im_alloc.proofs.Goings.{take_mildly}
+use Rattle.im_split.proofs.Froms.{down_done, has_none, has_taken_all, root_on, too_few, under_on}
+use Rattle.im_split.proofs.Reasons.{never_capacity}
 use Rattle.im_split.proofs.plan.split_from.Goals as goal
 
 pub returns-in_err-numbers-clause-kept : goal.returns-in_err-numbers-clause-kept
-returns-in_err-numbers-clause-kept g c b base s has top =
-    let first = c.new-images.result in
-    take_failed g.D.Disk b base s c.args.disk.now c.args.writer.now has c.args.key.now first c.new-images.ensures c.args.top.pages c.in_err-numbers.field-0.0 c.take_pages.new.images c.take_pages.new.writer c.take_pages.new.disk _
-    (c.in_err-numbers.ensures.kept b base s (has_none g.D.Disk b base s c.args.disk.now c.args.writer.now has first c.new-images.ensures)) c.from_residual.result c.from_residual.ensures.1
+returns-in_err-numbers-clause-kept g c store has good top = sound_on c.from_residual.result _ _ c.from_residual.ensures.1 (c.in_err-numbers.ensures.kept store (has_none store c.new-images.result c.new-images.ensures g.D.Disk has good))
+
+pub returns-in_err-numbers-clause-used_up : goal.returns-in_err-numbers-clause-used_up
+returns-in_err-numbers-clause-used_up g c store has good top =
+    err_on c.from_residual.result _ _ c.from_residual.ensures.1
+    (λ same. too_few store c.new-images.result c.new-images.ensures c.args.top.pages (c.in_err-numbers.ensures.used_up store (has_none store c.new-images.result c.new-images.ensures g.D.Disk has good) same))
+
+pub returns-in_err-split_down-clause-outcome : goal.returns-in_err-split_down-clause-outcome
+returns-in_err-split_down-clause-outcome g c =
+    refused g.D.Disk c.from_residual-in_err-split_down.result c.from_residual-in_err-split_down.ensures.1 (with_more g.D.Disk mild_to_take take_mildly (then g.D.Disk c.in_ok-numbers.ensures.outcome c.in_err-split_down.ensures.outcome))
 
 pub returns-in_err-split_down-clause-kept : goal.returns-in_err-split_down-clause-kept
-returns-in_err-split_down-clause-kept g c b base s has top =
+returns-in_err-split_down-clause-kept g c store has good top =
     let first = c.new-images.result in
-    let one = (c.in_ok-numbers.ensures.kept b base s (has_none g.D.Disk b base s c.args.disk.now c.args.writer.now has first c.new-images.ensures)).ok in
     let mid = c.take_pages.new.images in
     let numbers = c.in_ok-numbers.numbers.items in
-    let w = c.take_pages.new.writer in
-    let disk = c.take_pages.new.disk in
-    down_failed g.D.Disk b base s c.args.disk.now c.args.writer.now has c.args.key.now first c.new-images.ensures c.args.top top mid numbers w disk one
-    c.in_err-split_down.field-0.0 c.in_err-split_down.ensures.causes c.split_down.new.images c.split_down.new.writer c.split_down.new.disk
-    (c.in_err-split_down.ensures.kept b base one.now
-    (has_taken_all g.D.Disk b base s c.args.disk.now c.args.writer.now has c.args.key.now first c.new-images.ensures c.args.top top mid numbers w disk one)
-    (root_on g.D.Disk b base s c.args.disk.now c.args.writer.now has c.args.key.now first c.new-images.ensures c.args.top top mid numbers w disk one)
-    (under_on g.D.Disk b base s c.args.disk.now c.args.writer.now has c.args.key.now first c.new-images.ensures c.args.top top mid numbers w disk one))
-    c.from_residual-in_err-split_down.result c.from_residual-in_err-split_down.ensures.1
+    let one = c.in_ok-numbers.ensures.kept store (has_none store first c.new-images.ensures g.D.Disk has good) in
+    sound_on c.from_residual-in_err-split_down.result _ _ c.from_residual-in_err-split_down.ensures.1
+    (c.in_err-split_down.ensures.kept store
+    (has_taken_all store first c.new-images.ensures c.args.key.now c.args.top top mid numbers one g.D.Disk (pages_still g.D.Disk has c.in_ok-numbers.ensures.outcome))
+    (root_on store first c.new-images.ensures c.args.key.now c.args.top top mid numbers one)
+    (under_on store first c.new-images.ensures c.args.key.now c.args.top top mid numbers one))
+
+pub returns-in_err-split_down-clause-used_up : goal.returns-in_err-split_down-clause-used_up
+returns-in_err-split_down-clause-used_up g c store has good top =
+    err_on c.from_residual-in_err-split_down.result _ _ c.from_residual-in_err-split_down.ensures.1 (λ same. absurd (never_capacity g.D.Disk refl c.in_err-split_down.ensures.outcome same))
+
+pub returns-clause-outcome : goal.returns-clause-outcome
+returns-clause-outcome g c = with_more g.D.Disk mild_to_take take_mildly (then g.D.Disk c.in_ok-numbers.ensures.outcome c.in_ok-split_down.ensures.outcome)
 
 pub returns-clause-kept : goal.returns-clause-kept
-returns-clause-kept g c b base s has top =
+returns-clause-kept g c store has good top =
     let first = c.new-images.result in
-    let one = (c.in_ok-numbers.ensures.kept b base s (has_none g.D.Disk b base s c.args.disk.now c.args.writer.now has first c.new-images.ensures)).ok in
     let mid = c.take_pages.new.images in
     let numbers = c.in_ok-numbers.numbers.items in
-    let w = c.take_pages.new.writer in
-    let disk = c.take_pages.new.disk in
-    down_done g.D.Disk b base s c.args.disk.now c.args.writer.now has c.args.key.now first c.new-images.ensures c.args.top top mid numbers w disk one
-    c.split_down.new.images c.split_down.new.writer c.split_down.new.disk
-    (c.in_ok-split_down.ensures.kept b base one.now
-    (has_taken_all g.D.Disk b base s c.args.disk.now c.args.writer.now has c.args.key.now first c.new-images.ensures c.args.top top mid numbers w disk one)
-    (root_on g.D.Disk b base s c.args.disk.now c.args.writer.now has c.args.key.now first c.new-images.ensures c.args.top top mid numbers w disk one)
-    (under_on g.D.Disk b base s c.args.disk.now c.args.writer.now has c.args.key.now first c.new-images.ensures c.args.top top mid numbers w disk one))
+    let one = c.in_ok-numbers.ensures.kept store (has_none store first c.new-images.ensures g.D.Disk has good) in
+    down_done store first c.new-images.ensures c.args.key.now c.args.top top mid numbers one c.split_down.new.images
+    (c.in_ok-split_down.ensures.kept store
+    (has_taken_all store first c.new-images.ensures c.args.key.now c.args.top top mid numbers one g.D.Disk (pages_still g.D.Disk has c.in_ok-numbers.ensures.outcome))
+    (root_on store first c.new-images.ensures c.args.key.now c.args.top top mid numbers one)
+    (under_on store first c.new-images.ensures c.args.key.now c.args.top top mid numbers one))

@@ -1,23 +1,25 @@
-use Rattle.std.proofs.Common.{◌≡◌, ℕ, sym, ap, ◌∙◌, subst}
+use Rattle.std.proofs.Common.{◌≡◌, ℕ, refl, sym, ap, ◌∙◌, subst}
 use Rattle.std.specs.Prelude.{IfOk}
 use Rattle.im_types.specs.Pages.{Body, Page}
-use Rattle.im_pool.specs.Pool.{page_at}
 use Rattle.im_page.specs.Page.{is_leaf_kind}
-use Rattle.im_search.specs.Levels.{kind_at}
-use Rattle.im_split.specs.Readings.{HasUp}
-use Rattle.im_search.specs.Levels.{HasLevel}
+use Rattle.im_pool.specs.Pool.{page_at}
+use Rattle.im_flush.specs.Outcome.{mild}
+use Rattle.im_flush.proofs.Outcomes.{ends_own, pages_to, search_of, sound_on, sound_own}
+use Rattle.im_search.specs.Levels.{HasLevel, kind_at}
 use Rattle.im_alloc.specs.Seen.{bodies}
-use Rattle.im_search.proofs.Calls.{call_got, call_refused}
+use Rattle.im_split.specs.Readings.{HasUp}
+use Rattle.im_split.proofs.Reasons.{mildly_read, never_err}
 use Rattle.im_split.proofs.reading.up_of.Goals as goal
 
 pub returns-in_err-frame-clause-kept : goal.returns-in_err-frame-clause-kept
-returns-in_err-frame-clause-kept g c b base s is ready level =
-    let got = c.in_err-frame.ensures.kept b base s is (λ q le. ready q) in
-    call_refused g.D.Disk b base s _ c.args.disk.now c.get.new.self c.get.new.disk c.in_err-frame.field-0.0 got.stops got.cause got.again c.from_residual.result c.from_residual.ensures.1
+returns-in_err-frame-clause-kept g c store has level = sound_on c.from_residual.result _ _ c.from_residual.ensures.1 (c.in_err-frame.ensures.kept store (pages_to g.D.Disk c.args.number has))
+
+pub returns-clause-outcome : goal.returns-clause-outcome
+returns-clause-outcome g c = ends_own g.D.Disk mild refl refl refl c.up_in.result (search_of g.D.Disk c.in_ok-frame.ensures.outcome) (mildly_read c.up_in.result c.up_in.ensures.refused)
 
 pub returns-clause-kept : goal.returns-clause-kept
-returns-clause-kept g c b base s is ready level =
-    let got = (c.in_ok-frame.ensures.kept b base s is (λ q le. ready q)).ok in
-    let same : c.page.result.now.body ≡ bodies s c.args.number = ap (λ (p : Page). p.body) (c.page.ensures.page ∙ ap (λ (n : ℕ). page_at c.get.new.self.pool n) c.in_ok-frame.ensures.frame ∙ got.page) in
-    call_got g.D.Disk b base s _ c.args.number c.args.disk.now c.get.new.self c.get.new.disk c.up_in.result got
-    (subst (λ (y : Body). IfOk c.up_in.result ((λ (y : Body). HasUp (is_leaf_kind (kind_at c.args.level)) y) y)) same c.up_in.ensures.up) (c.up_in.ensures.sound (subst (HasLevel c.args.level) (sym same) level))
+returns-clause-kept g c store has level =
+    let got = c.in_ok-frame.ensures.kept store (pages_to g.D.Disk c.args.number has) in
+    let same : c.page.result.now.body ≡ bodies store c.args.number = ap (λ (p : Page). p.body) (c.page.ensures.page ∙ ap (λ (n : ℕ). page_at c.get.new.self.pool n) c.in_ok-frame.ensures.frame ∙ got) in
+    sound_own c.up_in.result _ _ (subst (λ (y : Body). IfOk c.up_in.result (HasUp (is_leaf_kind (kind_at c.args.level)) y)) same c.up_in.ensures.up)
+    (never_err c.up_in.result _ (c.up_in.ensures.sound (subst (HasLevel c.args.level) (sym same) level))) (λ a is. is)

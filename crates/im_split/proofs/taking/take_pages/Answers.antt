@@ -1,57 +1,62 @@
-use Rattle.std.proofs.Common.{◌≡◌, ℕ, length, ◌∷◌, ◌++◌, [], ◌+◌, true, false, refl, sym, ap, ◌∙◌, arith, rules, length-append}
-use Rattle.im_flush.proofs.Writers.{goes_on_start}
-use Rattle.im_split.proofs.Takings.{none_taken, has_taken, taken_more, take_refused, taken_end, note_refused}
+use Rattle.std.proofs.Common.{◌≡◌, ℕ, length, ◌∷◌, [], ◌+◌, refl, sym, ap, ◌∙◌, arith, rules, length-append}
+use Rattle.im_types.specs.declared.fault.Fault.TheVariants.{Capacity, Memory}
+use Rattle.im_flush.proofs.LoggedChanges.{err_on}
+use Rattle.im_flush.proofs.Outcomes.{ends_own, idle, pages_still, refused, sound_on, then}
+use Rattle.im_alloc.specs.Kept.{mild_to_take}
+use Rattle.im_alloc.proofs.Results.{memory_not}
+use Rattle.im_split.proofs.Takings.{has_taken, none_left, none_taken, taken_more}
 use Rattle.im_split.proofs.taking.take_pages.Goals as goal
 
 pub loop-taken-init : goal.loop-taken-init
 loop-taken-init g c = record {
-  ready = c.requires.ready;
-  works = c.requires.working;
-  alive = λ failed.
-      let opened = c.requires.ready.opened c.requires.working in
-      let gate = opened.working (c.requires.ready.works c.requires.working) in
-      let clash : true ≡ false = sym failed ∙ opened.ready.reading.working gate in
-      let never : ⊥ = cc clash in never;
+  outcome = idle g.D.Disk g.met.D.Disk.only_now c.args.writer.now c.args.disk.now c.requires.working c.requires.ready;
   within = omega arith;
   len = search (rules, c.new-numbers.ensures.items);
-  kept = λ b base s has.
-      none_taken g.D.Disk b base s c.args.images.now c.args.disk.now _ c.args.writer.now c.new-numbers.ensures.items has
-      (goes_on_start g.D.Disk b base s c.args.writer.now c.args.disk.now (g.met.D.Disk.only_now c.args.disk.now) has.stands);
+  kept = λ store has. none_taken store c.args.images.now _ c.new-numbers.ensures.items has.good;
 }
 
+pub returns-in_err-number-clause-outcome : goal.returns-in_err-number-clause-outcome
+returns-in_err-number-clause-outcome g c = refused g.D.Disk c.from_residual.result c.from_residual.ensures.1 (then g.D.Disk c.loop-taken.invariant.outcome c.in_err-number.ensures.outcome)
+
 pub returns-in_err-number-clause-kept : goal.returns-in_err-number-clause-kept
-returns-in_err-number-clause-kept g c b base s has =
+returns-in_err-number-clause-kept g c store has =
     let l = c.loop-taken in
-    let so = l.invariant.kept b base s has in
-    take_refused g.D.Disk b base s c.args.images.now c.args.disk.now l.numbers.items l.images l.writer l.disk so c.args.count (omega (arith, l.invariant.len, c.loop-taken-test.true)) c.in_err-number.field-0.0 c.allocate.new.images c.allocate.new.writer c.allocate.new.disk
-    (c.in_err-number.ensures.kept b base so.now _ (has_taken g.D.Disk b base s c.args.images.now c.args.disk.now l.numbers.items l.images l.writer l.disk so has.ready)) c.from_residual.result c.from_residual.ensures.1 _
+    sound_on c.from_residual.result _ _ c.from_residual.ensures.1
+    (c.in_err-number.ensures.kept store _ (has_taken store c.args.images.now l.numbers.items l.images (l.invariant.kept store has) g.D.Disk (pages_still g.D.Disk has.has l.invariant.outcome)))
+
+pub returns-in_err-number-clause-used_up : goal.returns-in_err-number-clause-used_up
+returns-in_err-number-clause-used_up g c store has =
+    let l = c.loop-taken in
+    let so = l.invariant.kept store has in
+    err_on c.from_residual.result _ _ c.from_residual.ensures.1
+    (λ same. none_left store c.args.images.now l.numbers.items l.images so c.args.count (omega (arith, l.invariant.len, c.loop-taken-test.true))
+    (c.in_err-number.ensures.used_up store _ (has_taken store c.args.images.now l.numbers.items l.images so g.D.Disk (pages_still g.D.Disk has.has l.invariant.outcome)) same))
+
+pub returns-in_err-note-clause-outcome : goal.returns-in_err-note-clause-outcome
+returns-in_err-note-clause-outcome g c =
+    ends_own g.D.Disk mild_to_take refl refl refl c.from_residual-in_err-note.result (then g.D.Disk c.loop-taken.invariant.outcome c.in_ok-number.ensures.outcome)
+    (err_on c.from_residual-in_err-note.result _ _ c.from_residual-in_err-note.ensures.1 (ap mild_to_take c.in_err-note.ensures.refused))
 
 pub returns-in_err-note-clause-kept : goal.returns-in_err-note-clause-kept
-returns-in_err-note-clause-kept g c b base s has =
-    let l = c.loop-taken in
-    let so = l.invariant.kept b base s has in
-    let one = taken_more g.D.Disk b base s c.args.images.now c.args.disk.now l.numbers.items l.images l.writer l.disk so c.in_ok-number.number (l.numbers.items ++ c.in_ok-number.number ∷ []) c.allocate.new.images c.allocate.new.writer c.allocate.new.disk refl
-    (c.in_ok-number.ensures.kept b base so.now _ (has_taken g.D.Disk b base s c.args.images.now c.args.disk.now l.numbers.items l.images l.writer l.disk so has.ready)).ok in
-    note_refused g.D.Disk b base s c.args.images.now c.args.disk.now (l.numbers.items ++ c.in_ok-number.number ∷ []) c.allocate.new.images c.allocate.new.writer c.allocate.new.disk one c.args.count c.in_err-note.field-0.0 c.in_err-note.ensures.refused
-    c.from_residual-in_err-note.result c.from_residual-in_err-note.ensures.1 _
+returns-in_err-note-clause-kept g c store has = sound_on c.from_residual-in_err-note.result _ _ c.from_residual-in_err-note.ensures.1 (memory_not _ c.in_err-note.ensures.refused)
+
+pub returns-in_err-note-clause-used_up : goal.returns-in_err-note-clause-used_up
+returns-in_err-note-clause-used_up g c store has =
+    err_on c.from_residual-in_err-note.result _ _ c.from_residual-in_err-note.ensures.1 (λ same. let clash : Memory ≡ Capacity = sym c.in_err-note.ensures.refused ∙ same in let never : ⊥ = cc clash in absurd never)
 
 pub loop-taken-preserved : goal.loop-taken-preserved
 loop-taken-preserved g c =
     let l = c.loop-taken in
     let e = c.in_ok-number.ensures in
     record {
-      ready = e.ready;
-      works = e.works;
-      alive = λ failed. let clash = e.device.1 failed in let never : ⊥ = cc clash in never;
+      outcome = then g.D.Disk l.invariant.outcome e.outcome;
       within = omega (arith, c.loop-taken-test.true);
       len = ap length c.in_ok-note.ensures.new ∙ length-append l.numbers.items (c.in_ok-number.number ∷ []) ∙ ap (λ (n : ℕ). n + 1) l.invariant.len;
-      kept = λ b base s has.
-          let so = l.invariant.kept b base s has in
-          taken_more g.D.Disk b base s c.args.images.now c.args.disk.now l.numbers.items l.images l.writer l.disk so c.in_ok-number.number c.note.new.numbers.items c.allocate.new.images c.allocate.new.writer c.allocate.new.disk c.in_ok-note.ensures.new
-          (e.kept b base so.now _ (has_taken g.D.Disk b base s c.args.images.now c.args.disk.now l.numbers.items l.images l.writer l.disk so has.ready)).ok;
+      kept = λ store has.
+          let so = l.invariant.kept store has in
+          taken_more store c.args.images.now l.numbers.items l.images so c.in_ok-number.number c.note.new.numbers.items c.allocate.new.images c.in_ok-note.ensures.new
+          (e.kept store _ (has_taken store c.args.images.now l.numbers.items l.images so g.D.Disk (pages_still g.D.Disk has.has l.invariant.outcome)));
     }
 
 pub returns-clause-kept : goal.returns-clause-kept
-returns-clause-kept g c b base s has =
-    let l = c.loop-taken in
-    taken_end g.D.Disk b base s c.args.images.now c.args.disk.now l.numbers.items l.images l.writer l.disk (l.invariant.kept b base s has) c.args.count _ _ refl
+returns-clause-kept g c store has = c.loop-taken.invariant.kept store has

@@ -1,19 +1,15 @@
-use Rattle.std.proofs.Common.{◌≡◌, ◌≤◌, ◌-◌, ℕ, [], false, true, length}
-use Rattle.im_types.specs.Histories.{Base}
-use Rattle.im_types.specs.Writer.{Writer}
-use Rattle.im_flush.specs.PageWriter.{IsReadyWriter}
-use Rattle.im_alloc.specs.Kept.{HasImages}
+use Rattle.std.proofs.Common.{◌≡◌, ◌≤◌, ◌-◌, None, [], length}
+use Rattle.im_flush.specs.Outcome.{AllPages, AreLoaded, Outcome}
+use Rattle.im_alloc.specs.Kept.{mild_to_take, HasImages}
 use Rattle.im_split.specs.Pages.{Taken}
 use Rattle.im_split.proofs.taking.take_pages.Given as goal
 
 abbrev pub invariant-loop-taken : goal.invariant-loop-taken
 invariant-loop-taken g l = record {
-  ready : IsReadyWriter g.D.Disk l.writer l.disk;
-  works : l.writer.failed ≡ false;
-  alive : g.D.Disk.failed l.disk ≡ true → ⊥;
+  outcome : Outcome g.D.Disk AreLoaded mild_to_take l.fn.writer l.fn.disk l.writer l.disk None;
   within : l.taken ≤ l.count;
   len : length l.numbers.items ≡ l.taken;
-  kept : (b : Base) (base : ℕ) (s : Writer) → HasImages g.D.Disk b base s l.fn.images [] l.fn.writer l.fn.disk → Taken g.D.Disk b base s l.fn.images l.numbers.items l.fn.disk l.images l.writer l.disk;
+  kept : (store : AllPages) → HasImages g.D.Disk store l.fn.images [] l.fn.writer l.fn.disk → Taken store l.fn.images l.numbers.items l.images;
 }
 
 abbrev pub decreases-loop-taken : goal.decreases-loop-taken

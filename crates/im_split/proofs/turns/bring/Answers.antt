@@ -1,14 +1,17 @@
-use Rattle.im_split.proofs.Bringing.{bring_refused, brought}
+use Rattle.std.proofs.Common.{refl}
+use Rattle.im_flush.specs.Outcome.{mild}
+use Rattle.im_flush.proofs.Outcomes.{ends_own, sound_on}
+use Rattle.im_alloc.proofs.Goings.{mildly_copied}
+use Rattle.im_split.proofs.Bringing.{brought}
 use Rattle.im_split.proofs.turns.bring.Goals as goal
 
 pub returns-in_err-page-clause-kept : goal.returns-in_err-page-clause-kept
-returns-in_err-page-clause-kept g c b base s is ready =
-    let kept = c.in_err-page.ensures.kept b base s is ready in
-    bring_refused g.D.Disk b base s c.args.images.now c.args.number c.args.disk.now c.image.new.images c.image.new.writer c.image.new.disk c.in_err-page.field-0.0
-    kept.stops kept.cause kept.again c.from_residual.result c.from_residual.ensures.1
+returns-in_err-page-clause-kept g c store has = sound_on c.from_residual.result _ _ c.from_residual.ensures.1 (c.in_err-page.ensures.kept store has)
+
+pub returns-clause-outcome : goal.returns-clause-outcome
+returns-clause-outcome g c = ends_own g.D.Disk mild refl refl refl c.put.result c.in_ok-page.ensures.outcome (mildly_copied c.put.result c.put.ensures.refused)
 
 pub returns-clause-kept : goal.returns-clause-kept
-returns-clause-kept g c b base s is ready =
-    let one = (c.in_ok-page.ensures.kept b base s is ready).ok in
-    brought g.D.Disk b base s c.args.images.now c.args.number c.args.disk.now c.put.new.self c.image.new.writer c.image.new.disk one.now one.on c.rise.ensures c.in_ok-page.page.value one.is
+returns-clause-kept g c store has =
+    brought store c.args.images.now c.args.number c.put.new.self c.rise.ensures c.in_ok-page.page.value (c.in_ok-page.ensures.kept store has)
     c.image.new.images c.in_ok-page.ensures.images c.put.result c.put.ensures.new c.put.ensures.refused

@@ -1,12 +1,11 @@
 use Rattle.std.proofs.Common.{◌≡◌, sym, ap, subst}
-use Rattle.im_alloc.specs.Seen.{bodies}
+use Rattle.im_search.specs.Levels.{bodies}
 use Rattle.im_log.specs.Whats.{what_of}
 use Rattle.im_record.specs.Entry.{Entry, InsertKey, DeleteKey, view, transaction_of}
 use Rattle.im_record.specs.Spelling.{IsEntry}
 use Rattle.im_record.specs.declared.record.Record.{Record}
 use Rattle.im_undo.specs.Undoing.{CompensateKept, IsGoing, IsToUndo, TakesIt}
 use Rattle.im_undo.proofs.Compensations.{insert_undone, delete_undone}
-use Rattle.im_undo.proofs.Begun.{result_failed}
 use Rattle.im_undo.proofs.KeyRecords.{no_key}
 use Rattle.im_undo.proofs.compensation.compensate.Goals as goal
 
@@ -21,7 +20,7 @@ returns-in-InsertKey-clause-kept g c b base s e undo_next =
     → CompensateKept g.D.Disk b base s e (transaction_of x) x c.args.disk.now call.new.self call.new.disk call.result)
     (sym same)
     (λ going to takes. insert_undone g.D.Disk b base s e a.transaction c.args.last undo_next c.args.writer.now c.args.disk.now going a.prev a.page c.args.page a.key.now a.rid call.new.self call.new.disk call.result
-    call.ensures.causes (result_failed call.result _ c.args.writer.now.failed call.ensures.already.0 c.requires.working) to takes (call.ensures.kept b base s e going.stands going.over))
+    call.ensures.outcome to takes (call.ensures.kept b base s e going.stands going.over))
 
 pub returns-in-DeleteKey-clause-kept : goal.returns-in-DeleteKey-clause-kept
 returns-in-DeleteKey-clause-kept g c b base s e undo_next =
@@ -35,7 +34,7 @@ returns-in-DeleteKey-clause-kept g c b base s e undo_next =
     → CompensateKept g.D.Disk b base s e (transaction_of x) x c.args.disk.now call.new.self call.new.disk call.result)
     (sym same)
     (λ going to takes. delete_undone g.D.Disk b base s e a.transaction c.args.last undo_next c.args.writer.now c.args.disk.now going a.prev a.page c.args.page a.key.now a.rid call.new.self call.new.disk call.result
-    call.ensures.causes (result_failed call.result _ c.args.writer.now.failed call.ensures.already.0 c.requires.working) fits to takes (call.ensures.kept b base s e going.stands going.over))
+    call.ensures.outcome fits to takes (call.ensures.kept b base s e going.stands going.over))
 
 pub returns-in_default : goal.returns-in_default
 returns-in_default g c = absurd (no_key c.args.«record».now c.in_default.not-InsertKey c.in_default.not-DeleteKey c.requires.key)

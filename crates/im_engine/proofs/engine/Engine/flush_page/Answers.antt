@@ -1,29 +1,38 @@
-use Rattle.std.proofs.Common.{[], inl, inr, ⊎_elim, refl, sym, ◌∙◌, Err}
+use Rattle.std.proofs.Common.{[], inl, inr, ⊎_elim, None, refl}
 use Rattle.im_types.specs.Answers as answers
 use Rattle.im_types.specs.declared.reply.Reply.TheVariants.{Done}
 use Rattle.im_pool.specs.Pool.{is_changed}
+use Rattle.im_flush.proofs.Outcomes.{flush_asks, flush_sound}
 use Rattle.im_flush.proofs.Writers.{still_working}
-use Rattle.im_engine.proofs.Running.{grown_stops}
-use Rattle.im_engine.proofs.Refusals.{late_kept}
+use Rattle.im_engine.proofs.Calls.{flush_searched}
+use Rattle.im_engine.proofs.Tables.{flush_causes, read_cause}
+use Rattle.im_engine.proofs.Told.{search_answered, search_refused}
+use Rattle.im_engine.proofs.StepEnds.{search_kept}
 use Rattle.im_engine.proofs.Writes.{flush_kept}
-use Rattle.im_engine.proofs.Checks.{flush_made, flush_refused, unread_late, of_flush, broken_flush, not_memory, not_no_store}
+use Rattle.im_engine.proofs.Checks.{device_of, flush_made, flush_refused, room_of, unread_late}
 use Rattle.im_engine.proofs.engine.Engine.flush_page.Goals as goal
 
 pub returns-in-Ok-clause-kept : goal.returns-in-Ok-clause-kept
 returns-in-Ok-clause-kept g c before s life =
-    let b = (life.running c.if-self.false).0 in
     let r = (life.running c.if-self.false).1 in
-    flush_kept g.D.Disk before s c.args.self.now _ life c.if-self.false refl refl refl c.args.page (c.in-Ok.ensures.kept b r.base r.now r.stands)
+    flush_kept g.D.Disk before s c.args.self.now _ life c.if-self.false refl refl refl c.args.page c.in-Ok.ensures.outcome (c.in-Ok.ensures.kept (life.running c.if-self.false).0 r.base r.now r.stands)
+
+pub returns-in-Ok-clause-told : goal.returns-in-Ok-clause-told
+returns-in-Ok-clause-told g c =
+    search_answered g.D.Disk c.if-self.false (record { writer = flush_asks g.D.Disk c.in-Ok.ensures.outcome; failed = refl; going = refl; next = refl; max_pages = refl; leaves_kept = refl }) Done (λ v. refl) refl
 
 pub returns-in-Err-clause-kept : goal.returns-in-Err-clause-kept
 returns-in-Err-clause-kept g c before s life =
-    let b = (life.running c.if-self.false).0 in
-    let r = (life.running c.if-self.false).1 in
     let old = c.args.self.now in
-    let is = of_flush c.in-Err.fault c.in-Err.ensures.causes (λ is. sym (c.in-Err.ensures.already.0 (λ j. Err (is j))) ∙ old.working c.if-self.false) in
-    late_kept g.D.Disk before s (answers.FlushPage c.args.page) refl (λ n. refl) old _ life c.if-self.false (λ _. refl) (grown_stops g.D.Disk before s old r c.flush_one.new.disk (c.in-Err.ensures.kept b r.base r.now r.stands).stops)
-    (λ t f le left. g.met.D.Disk.counts_now c.flush_one.new.disk t f le left) c.in-Err.fault (⊎_elim (λ e. inl e) (λ e. inr (inr (inr e))) is) (λ e. absurd (not_memory c.in-Err.fault is e)) (not_no_store c.in-Err.fault is)
-    (broken_flush c.in-Err.fault is)
+    let works = c.if-self.false in
+    let one = c.in-Err.ensures.outcome in
+    search_kept g.D.Disk before s (answers.FlushPage c.args.page) refl old life works (λ n. refl) _ (λ t f le left. g.met.D.Disk.counts_now c.flush_one.new.disk t f le left) c.in-Err.fault
+    (flush_searched g.D.Disk old _ works one refl refl refl refl refl) (flush_sound g.D.Disk one)
+
+pub returns-in-Err-clause-told : goal.returns-in-Err-clause-told
+returns-in-Err-clause-told g c =
+    let works = c.if-self.false in
+    search_refused g.D.Disk works (flush_searched g.D.Disk c.args.self.now _ works c.in-Err.ensures.outcome refl refl refl refl refl)
 
 pub returns-in-Ok-clause-answered : goal.returns-in-Ok-clause-answered
 returns-in-Ok-clause-answered g c = record {
@@ -36,11 +45,17 @@ returns-in-Ok-clause-answered g c = record {
 pub returns-in-Err-clause-answered : goal.returns-in-Err-clause-answered
 returns-in-Err-clause-answered g c =
     let old = c.args.self.now in
-    let is = of_flush c.in-Err.fault c.in-Err.ensures.causes (λ is. sym (c.in-Err.ensures.already.0 (λ j. Err (is j))) ∙ old.working c.if-self.false) in
+    let w = c.flush_one.new.self in
+    let disk = c.flush_one.new.disk in
+    let f = c.in-Err.fault in
+    let works = old.working c.if-self.false in
+    let one = c.in-Err.ensures.outcome in
+    let is = flush_causes g.D.Disk old.writer old.disk w disk works f one in
+    let why = read_cause g.D.Disk old.writer old.disk w disk works f (flush_asks g.D.Disk one) in
     record {
       entries = [];
-      read = unread_late g.D.Disk old _ [] c.in-Err.fault [] (⊎_elim (λ e. inl e) (λ e. inr (inr (inr e))) is);
-      refused = λ other. flush_refused g.D.Disk old _ c.flush_one.new.disk c.if-self.false c.in-Err.fault is (λ e. (c.in-Err.ensures.device (old.working c.if-self.false)).0 (λ j. Err (e j))) (λ e. c.in-Err.ensures.no_room (λ j. Err (e j))) other;
+      read = unread_late g.D.Disk old _ [] f [] (⊎_elim (λ e. inl e) (λ e. inr (inr (inr e))) is);
+      refused = λ other. flush_refused g.D.Disk old w.log disk c.if-self.false f is (device_of g.D.Disk w.log disk f why) (room_of g.D.Disk w.log disk f why) other;
       answers = tt;
     }
 

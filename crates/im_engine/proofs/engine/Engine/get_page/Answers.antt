@@ -1,30 +1,19 @@
-use Rattle.std.proofs.Common.{inl, refl, sym, ◌∙◌, Err}
-use Rattle.im_engine.proofs.Running.{none_waits, grown_stops, runs_evicted, looked}
-use Rattle.im_engine.proofs.Checks.{of_writer, has_cause}
+use Rattle.std.proofs.Common.{refl}
+use Rattle.im_flush.proofs.Outcomes.{search_of, pages_to}
+use Rattle.im_engine.proofs.Running.{has_pages, read_on, looked}
 use Rattle.im_engine.proofs.engine.Engine.get_page.Goals as goal
+
+pub returns-in-Ok-clause-outcome : goal.returns-in-Ok-clause-outcome
+returns-in-Ok-clause-outcome g c = record { writer = search_of g.D.Disk c.in-Ok.ensures.outcome; failed = refl; going = refl; next = refl; max_pages = refl; leaves_kept = refl }
 
 pub returns-in-Ok-clause-kept : goal.returns-in-Ok-clause-kept
 returns-in-Ok-clause-kept g c b before s r =
     let old = c.args.self.now in
-    let kept = c.in-Ok.ensures.kept b r.base r.now r.stands (λ q le. none_waits g.D.Disk before s old r q) in
-    record {
-      ok = looked g.D.Disk before s old r _ refl refl c.args.number kept.ok;
-      again = tt;
-      stops = grown_stops g.D.Disk before s old r c.get.new.disk kept.stops;
-      cause = tt;
-    }
+    let one = search_of g.D.Disk c.in-Ok.ensures.outcome in
+    looked g.D.Disk before s old r _ refl refl c.args.number (read_on g.D.Disk before s old r c.get.new.self c.get.new.disk one.ends) (c.in-Ok.ensures.kept _ (pages_to g.D.Disk c.args.number (has_pages g.D.Disk before s old r)))
+
+pub returns-in-Err-clause-outcome : goal.returns-in-Err-clause-outcome
+returns-in-Err-clause-outcome g c = record { writer = search_of g.D.Disk c.in-Err.ensures.outcome; failed = c.breaks-self.ensures; going = refl; next = refl; max_pages = refl; leaves_kept = refl }
 
 pub returns-in-Err-clause-kept : goal.returns-in-Err-clause-kept
-returns-in-Err-clause-kept g c b before s r =
-    let old = c.args.self.now in
-    let kept = c.in-Err.ensures.kept b r.base r.now r.stands (λ q le. none_waits g.D.Disk before s old r q) in
-    record {
-      ok = tt;
-      again = λ is. runs_evicted g.D.Disk before s old r _ refl refl (kept.again (inl is));
-      stops = grown_stops g.D.Disk before s old r c.get.new.disk kept.stops;
-      cause = kept.cause;
-    }
-
-pub returns-in-Err-clause-cause : goal.returns-in-Err-clause-cause
-returns-in-Err-clause-cause g c =
-    has_cause g.D.Disk _ _ c.in-Err.fault (of_writer c.in-Err.fault c.in-Err.ensures.causes (λ is. sym (c.in-Err.ensures.already.0 (λ j. Err (is j))) ∙ c.args.self.now.working c.requires.working)) (λ is. (c.in-Err.ensures.device (c.args.self.now.working c.requires.working)).0 (λ j. Err (is j))) (λ is. c.in-Err.ensures.no_room (λ j. Err (is j)))
+returns-in-Err-clause-kept g c b before s r = c.in-Err.ensures.kept _ (pages_to g.D.Disk c.args.number (has_pages g.D.Disk before s c.args.self.now r))

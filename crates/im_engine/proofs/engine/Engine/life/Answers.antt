@@ -7,6 +7,7 @@ use Rattle.im_engine.specs.Kept.{answered_by}
 use Rattle.im_engine.specs.Turns.{IsCutOff}
 use Rattle.im_engine.specs.Running.{IsLife}
 use Rattle.im_engine.proofs.Lists.{one_step_more}
+use Rattle.im_engine.proofs.StepFacts.{limit_stays}
 use Rattle.im_engine.proofs.Turns.{one_turn_more, cut_one_more}
 use Rattle.im_engine.proofs.engine.Engine.life.Goals as goal
 
@@ -25,7 +26,7 @@ loop-step-preserved g c =
       stops = λ before s life.
           cut_one_more g.D.Disk before s c.args.steps.now c.loop-step.replies.items c.push.new.self.items c.loop-step.step-index _ c.step-item.result c.step-reply.result _ _ _ was.count (omega (arith, c.loop-step-test.true)) pushed c.step-item.is
           (was.stops before s life) (c.step-reply.ensures.kept before _ (was.kept before s life)).stops;
-      max_pages = c.step-reply.ensures.max_pages ∙ was.max_pages;
+      max_pages = limit_stays g.D.Disk c.step-reply.result _ c.step-reply.new.self c.step-reply.ensures.told ∙ was.max_pages;
       kept = λ before s life.
           subst (λ (x : Shown). IsLife g.D.Disk before x c.step-reply.new.self)
           (sym (one_step_more s c.args.steps.now c.loop-step.replies.items c.push.new.self.items c.loop-step.step-index _ c.step-item.result c.step-reply.result was.count (omega (arith, c.loop-step-test.true)) pushed c.step-item.is))

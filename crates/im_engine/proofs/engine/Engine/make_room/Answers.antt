@@ -14,4 +14,4 @@ returns-in-Err-clause-kept g c b before s r going p way lacks =
     let old = c.args.self.now in
     let t = c.args.transaction in
     room_not_made g.D.Disk before s old r _ refl t going c.requires.owned c.args.key.now p way lacks c.in-Err.refused
-    (c.in-Err.ensures.kept b r.base r.now r.redo_end (unfinished g.D.Disk before s old r t going)) refl
+    (c.in-Err.ensures.kept b r.base r.now r.redo_end (unfinished g.D.Disk before s old r t going))

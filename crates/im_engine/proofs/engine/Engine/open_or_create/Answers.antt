@@ -1,5 +1,9 @@
 use Rattle.std.proofs.Common.{Err, inl, inr, refl, ap}
+use Rattle.im_types.specs.declared.fault.Fault.{Fault}
 use Rattle.im_disk.proofs.Runs.{reads_none}
+use Rattle.im_restart.specs.declared.restarted.Restarted.{Restarted}
+use Rattle.im_restart.proofs.Ends.{opening_causes, opening_full, opening_device}
+use Rattle.im_engine.proofs.Checks.{not_true}
 use Rattle.im_engine.proofs.Openings.{may_restart, none_opened, opening_stops, engine_opened}
 use Rattle.im_engine.proofs.engine.Engine.open_or_create.Goals as goal
 
@@ -18,15 +22,15 @@ returns-in-Err-clause-kept g c before told synced stands =
       ok = tt;
       next = tt;
       stops = opening_stops g.D.Disk before c.args.disk stands c.open_or_create.new.disk kept.stops;
-      cause = kept.cause;
+      cause = kept.sound;
     }
 
 pub returns-in-Ok-clause-kept : goal.returns-in-Ok-clause-kept
 returns-in-Ok-clause-kept g c before told synced stands =
     let kept = c.in-Ok.ensures.kept stands.b stands.base stands.log told (may_restart before (g.D.Disk.seen c.args.disk) stands) in
     record {
-      ok = (engine_opened g.D.Disk before c.args.disk stands _ c.in-Ok.restarted kept.ok kept.next refl refl refl refl, refl);
-      next = kept.next;
+      ok = (engine_opened g.D.Disk before c.args.disk stands _ c.in-Ok.restarted kept.sound.restarted kept.sound.next refl refl refl refl, refl);
+      next = kept.sound.next;
       stops = opening_stops g.D.Disk before c.args.disk stands c.open_or_create.new.disk kept.stops;
       cause = tt;
     }
@@ -44,4 +48,15 @@ pub returns-in-Ok-clause-unspelled : goal.returns-in-Ok-clause-unspelled
 returns-in-Ok-clause-unspelled g c told none = c.in-Ok.ensures.unspelled told none
 
 pub returns-in-Err-clause-full : goal.returns-in-Err-clause-full
-returns-in-Err-clause-full g c is told = c.in-Err.ensures.full (ap Err is) told
+returns-in-Err-clause-full g c is told = opening_full g.D.Disk {A = Restarted} (Err c.in-Err.fault) c.in-Err.ensures.outcome is told
+
+pub returns-in-Err-clause-causes : goal.returns-in-Err-clause-causes
+returns-in-Err-clause-causes g c = inr (opening_causes g.D.Disk {A = Restarted} (Err c.in-Err.fault) c.in-Err.ensures.outcome)
+
+pub returns-in-Err-clause-device : goal.returns-in-Err-clause-device
+returns-in-Err-clause-device g c =
+    let by = opening_device g.D.Disk {A = Restarted} (Err c.in-Err.fault) c.in-Err.ensures.outcome in
+    (λ is. by.0 (ap (λ (f : Fault). Err f) is), λ lost. let same = by.1 lost in cc same)
+
+pub returns-in-Ok-clause-device : goal.returns-in-Ok-clause-device
+returns-in-Ok-clause-device g c = (λ is. absurd is, λ lost. absurd (not_true (g.D.Disk.failed c.open_or_create.new.disk) c.in-Ok.ensures.outcome.ends lost))

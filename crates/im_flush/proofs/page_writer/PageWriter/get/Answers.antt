@@ -1,22 +1,15 @@
-use Rattle.std.proofs.Common.{◌∙◌}
-use Rattle.im_flush.proofs.Growing.{on_ok}
-use Rattle.im_flush.proofs.Goings.{leaves_then}
-use Rattle.im_flush.proofs.LoggedChanges.{again_on}
-use Rattle.im_flush.proofs.Writers.{goes_on_then}
+use Rattle.im_flush.specs.Outcome.{mild, AreLoadedTo}
+use Rattle.im_flush.proofs.Outcomes.{behind, flush_asks, flush_sound, handed_on, has_still, loaded_to_still, sound_on}
 use Rattle.im_flush.proofs.page_writer.PageWriter.get.Goals as goal
 
+pub returns-in_err-make_room-clause-outcome : goal.returns-in_err-make_room-clause-outcome
+returns-in_err-make_room-clause-outcome g c = handed_on g.D.Disk c.from_residual.result c.from_residual.ensures.1 (flush_asks g.D.Disk c.in_err-make_room.ensures.outcome)
+
+pub returns-in_err-make_room-clause-kept : goal.returns-in_err-make_room-clause-kept
+returns-in_err-make_room-clause-kept g c pages has = sound_on c.from_residual.result _ _ c.from_residual.ensures.1 (flush_sound g.D.Disk c.in_err-make_room.ensures.outcome)
+
+pub returns-clause-outcome : goal.returns-clause-outcome
+returns-clause-outcome g c = behind g.D.Disk (AreLoadedTo c.args.number) (loaded_to_still c.args.number) {m = mild} (flush_asks g.D.Disk c.in_ok-make_room.ensures.outcome) c.hold.ensures.outcome
+
 pub returns-clause-kept : goal.returns-clause-kept
-returns-clause-kept g c b base s is ready =
-    let room = c.in_ok-make_room.ensures.kept b base s is in
-    let on = room.ok.on in
-    let t = room.ok.now in
-    let one = on.goes in
-    let held = c.hold.ensures.kept b base t (record { working = on.working; writing = one.writing; known = on.known }) (λ q le. (one.keeps.pages q).waits ∙ ready q le) in
-    record {
-      ok = on_ok c.hold.result _ _ held.ok
-          (λ is. record { now = is.now; on = goes_on_then g.D.Disk b base s c.args.disk.now t c.make_room.new.self c.make_room.new.disk on is.now c.hold.new.self c.hold.new.disk is.on; page = is.page ∙ (one.keeps.pages c.args.number).page });
-      stops = leaves_then g.D.Disk b base s c.args.disk.now t c.make_room.new.self.log c.make_room.new.self.table c.make_room.new.self.pool c.make_room.new.disk one c.hold.new.disk held.stops;
-      cause = held.cause;
-      again = again_on c.hold.result _ _ _ held.again
-          (λ is. record { now = is.now; on = goes_on_then g.D.Disk b base s c.args.disk.now t c.make_room.new.self c.make_room.new.disk on is.now c.hold.new.self c.hold.new.disk is.on });
-    }
+returns-clause-kept g c pages has = c.hold.ensures.kept pages (has_still g.D.Disk (AreLoadedTo c.args.number) (loaded_to_still c.args.number) {m = mild} has (flush_asks g.D.Disk c.in_ok-make_room.ensures.outcome))

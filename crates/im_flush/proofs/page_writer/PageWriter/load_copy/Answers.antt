@@ -6,16 +6,26 @@ use Rattle.im_flush.specs.KnownCopies.{IsKnownFrom}
 use Rattle.im_flush.proofs.KnownCopies.{known_ended}
 use Rattle.im_flush.proofs.Growing.{on_ok}
 use Rattle.im_flush.proofs.Goings.{leaves_so_far}
+use Rattle.im_flush.proofs.LoggedChanges.{err_on}
+use Rattle.im_flush.proofs.Outcomes.{flush_sound, leaves_of_end, none_mildly, redo_of, redo_own, redo_refused}
 use Rattle.im_flush.proofs.Redoing.{copy_loaded, load_taken, not_no_store}
 use Rattle.im_flush.proofs.page_writer.PageWriter.load_copy.Goals as goal
 
+pub returns-in_err-make_rooms-clause-outcome : goal.returns-in_err-make_rooms-clause-outcome
+returns-in_err-make_rooms-clause-outcome g c = redo_refused g.D.Disk c.from_residual.result c.from_residual.ensures.1 (redo_of g.D.Disk (none_mildly _) c.in_err-make_rooms.ensures.outcome)
+
 pub returns-in_err-make_rooms-clause-kept : goal.returns-in_err-make_rooms-clause-kept
 returns-in_err-make_rooms-clause-kept g c b base s copy is over at holds waits found low =
-    record { ok = search rules; stops = (c.in_err-make_rooms.ensures.kept b base s is).stops; cause = search rules }
+    record { ok = search rules; stops = leaves_of_end g.D.Disk c.in_err-make_rooms.ensures.outcome b base s is tt; cause = err_on c.from_residual.result c.in_err-make_rooms.field-0.0 _ c.from_residual.ensures.1 (flush_sound g.D.Disk c.in_err-make_rooms.ensures.outcome) }
+
+pub returns-clause-outcome : goal.returns-clause-outcome
+returns-clause-outcome g c =
+    let room = c.in_ok-make_rooms.ensures.outcome in
+    redo_own g.D.Disk _ c.put_copy.result (search rules) room.ends.began (c.put_copy.ensures.failed ∙ room.ends.works) room.ends.alive c.put_copy.ensures.refused
 
 pub returns-clause-kept : goal.returns-clause-kept
 returns-clause-kept g c b base s copy is over at holds waits found low =
-    let room = (c.in_ok-make_rooms.ensures.kept b base s is).ok in
+    let room = c.in_ok-make_rooms.ensures.outcome.ends.goes b base s is tt in
     let mid = c.make_rooms.new.self in
     let disk = c.make_rooms.new.disk in
     let new = c.put_copy.new.self in

@@ -1,5 +1,6 @@
 use Rattle.im_flush.proofs.Goings.{leaves_so_far}
-use Rattle.im_flush.proofs.LoggedChanges.{again_here, none_done, none_ok}
+use Rattle.im_flush.proofs.LoggedChanges.{none_ok}
+use Rattle.im_flush.proofs.Outcomes.{idle_logs}
 use Rattle.im_flush.proofs.Structure.{no_after}
 use Rattle.im_flush.proofs.Writers.{goes_on_start}
 use Rattle.im_flush.proofs.page_writer.PageWriter.log_image.Goals as goal
@@ -13,8 +14,7 @@ returns-in_default-clause-kept g c b base s e is over =
       ok = none_ok c.not_a_change.result _ c.not_a_change.ensures.never;
       stops = leaves_so_far g.D.Disk b base s old s w.log w.table w.pool old on.goes;
       cause = λ has. absurd (has (no_after c.args.record.now c.in_default.not-Smo c.in_default.not-UndoSmo));
-      again = again_here c.not_a_change.result _ _ (record { now = s; on = on });
     }
 
-pub returns-in_default-clause-works : goal.returns-in_default-clause-works
-returns-in_default-clause-works g c = none_done c.not_a_change.result _ c.not_a_change.ensures.never
+pub returns-in_default-clause-outcome : goal.returns-in_default-clause-outcome
+returns-in_default-clause-outcome g c = idle_logs g.D.Disk g.met.D.Disk.only_now c.args.self.now c.args.disk.now c.requires.ready c.not_a_change.result c.not_a_change.ensures.refused c.not_a_change.ensures.already c.not_a_change.ensures.never

@@ -1,4 +1,4 @@
-use Rattle.std.proofs.Common.{◌≤◌, ℕ, false, sym, subst}
+use Rattle.std.proofs.Common.{◌≤◌, ℕ, false, sym, subst, rules}
 use Rattle.im_types.specs.Copies.{HasCopy}
 use Rattle.im_record.specs.Entry.{view, page_of}
 use Rattle.im_log.specs.Spelled.{logged_at}
@@ -6,9 +6,14 @@ use Rattle.im_flush.specs.KnownCopies.{redone_as}
 use Rattle.im_flush.proofs.KnownCopies.{known_ended}
 use Rattle.im_flush.proofs.Goings.{leaves_so_far}
 use Rattle.im_flush.proofs.Growing.{keeps_none}
+use Rattle.im_flush.specs.Outcome.{mild, AsksNothing}
+use Rattle.im_flush.proofs.Outcomes.{idle_any, redo_of}
 use Rattle.im_flush.proofs.RedoneRecords.{applies_none, redone_none}
 use Rattle.im_flush.proofs.Writers.{goes_on_start}
 use Rattle.im_flush.proofs.page_writer.PageWriter.redo_change.Goals as goal
+
+pub returns-then-not-may_change-clause-outcome : goal.returns-then-not-may_change-clause-outcome
+returns-then-not-may_change-clause-outcome g c = redo_of g.D.Disk {n = mild} (λ e is. is) (idle_any g.D.Disk g.met.D.Disk.only_now {asks = AsksNothing} c.args.self.now c.args.disk.now (search rules) c.requires.ready)
 
 pub returns-then-not-may_change-clause-kept : goal.returns-then-not-may_change-clause-kept
 returns-then-not-may_change-clause-kept g c b base s newer older is over at there from ready has =

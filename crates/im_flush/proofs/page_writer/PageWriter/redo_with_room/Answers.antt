@@ -9,17 +9,31 @@ use Rattle.im_flush.specs.Redoing.{TakesRecord}
 use Rattle.im_flush.proofs.KnownCopies.{known_ended}
 use Rattle.im_flush.proofs.Goings.{leaves_so_far}
 use Rattle.im_flush.proofs.Growing.{if_ok}
+use Rattle.im_flush.proofs.LoggedChanges.{err_on}
+use Rattle.im_flush.proofs.Outcomes.{flush_sound, leaves_of_end, none_mildly, redo_of, redo_own, redo_refused}
 use Rattle.im_flush.proofs.Redoing.{not_no_store}
 use Rattle.im_flush.proofs.RedoneRecords.{applies_is, copy_still, on_of, redone_here, ready_still, taker_there, there_still}
 use Rattle.im_flush.proofs.page_writer.PageWriter.redo_with_room.Goals as goal
 
+pub returns-in_err-make_entry_room-clause-outcome : goal.returns-in_err-make_entry_room-clause-outcome
+returns-in_err-make_entry_room-clause-outcome g c = redo_refused g.D.Disk c.from_residual.result c.from_residual.ensures.1 (redo_of g.D.Disk (none_mildly _) c.in_err-make_entry_room.ensures.outcome)
+
 pub returns-in_err-make_entry_room-clause-kept : goal.returns-in_err-make_entry_room-clause-kept
-returns-in_err-make_entry_room-clause-kept g c b base s newer older is over at there from ready below has =
-    record { ok = search rules; applied = search rules; stops = (c.in_err-make_entry_room.ensures.kept b base s is).stops; cause = λ takes. search rules }
+returns-in_err-make_entry_room-clause-kept g c b base s newer older is over at there from ready below has = record {
+  ok = search rules;
+  applied = search rules;
+  stops = leaves_of_end g.D.Disk c.in_err-make_entry_room.ensures.outcome b base s is tt;
+  cause = λ takes. err_on c.from_residual.result c.in_err-make_entry_room.field-0.0 _ c.from_residual.ensures.1 (flush_sound g.D.Disk c.in_err-make_entry_room.ensures.outcome);
+}
+
+pub returns-clause-outcome : goal.returns-clause-outcome
+returns-clause-outcome g c =
+    let room = c.in_ok-make_entry_room.ensures.outcome in
+    redo_own g.D.Disk _ c.redo_held.result (search rules) room.ends.began (c.redo_held.ensures.failed ∙ room.ends.works) room.ends.alive c.redo_held.ensures.refused
 
 pub returns-clause-kept : goal.returns-clause-kept
 returns-clause-kept g c b base s newer older is over at there from ready below has =
-    let room = (c.in_ok-make_entry_room.ensures.kept b base s is).ok in
+    let room = c.in_ok-make_entry_room.ensures.kept b base s is in
     let t = room.now in
     let mid = c.make_entry_room.new.self in
     let disk = c.make_entry_room.new.disk in
