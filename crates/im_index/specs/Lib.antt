@@ -1,3 +1,4 @@
 pub mod Outcomes
 pub mod Reads
 pub mod Asks
+pub mod KeyLogs

@@ -6,11 +6,14 @@
 //! - `fetch` answers the row id of a key.
 //! - `seek` answers the first entry at or above a key, or above it.
 //! - `scan` answers the entries of a range.
-//! - `ask_insert` and `ask_delete` ask the locks of a change, and hold the leaf where it goes; the change itself is not here yet.
+//! - `ask_insert` and `ask_delete` ask the locks of a change, and hold the leaf where it goes.
+//! - `log_insert` and `log_delete` log the change on that leaf, behind which the log is lawful and the transaction not finished; a split
+//!   before it, and the deletion of a leaf that it leaves empty, are the caller's.
 #![tactic(auto)]
 
 mod asking;
 mod changes;
+mod logging;
 mod outcome;
 mod place;
 mod reads;
@@ -19,6 +22,7 @@ mod scans;
 mod tests;
 
 pub use changes::{ask_delete, ask_insert};
+pub use logging::{log_delete, log_insert};
 pub use outcome::Outcome;
 pub use place::Place;
 pub use reads::{fetch, seek};
