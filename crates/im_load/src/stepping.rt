@@ -1,0 +1,32 @@
+//! One step of a load.
+
+ghost use Rattle.std.specs.Prelude.{◌≡◌, ◌+◌, false, OnOk, OnErr, IfOk};
+ghost use Rattle.im_front.specs.Calls.{told_by};
+ghost use Rattle.im_front.specs.Held.{is_full, lacks_memory};
+
+use im_front::{Fault, Front, Reply, Share, Step, Store};
+use std::sync::Wait;
+use std::sync::ledger::Ledger;
+
+/// Makes a step, and counts it. A step that is refused is an `Err`.
+pub(crate) fn made<E: Store, L: Ledger, R: Wait>(
+    rt: &R,
+    front: &Front<E, L>,
+    mine: &mut Share<L>,
+    step: Step,
+) -> Result<Reply, Fault>
+    ensures { OnOk result (mine.new.made.amount ≡ mine.old.made.amount + 1) }
+{
+    unrefused(front.call(rt, mine, step))
+}
+
+// The reply, where it is no refusal.
+fn unrefused(reply: Reply) -> Result<Reply, Fault>
+    ensures full { OnOk result (is_full (told_by reply) ≡ false) }
+    ensures memory { OnOk result (lacks_memory (told_by reply) ≡ false) }
+{
+    match reply {
+        Reply::Refused(fault) => Err(fault),
+        _ => Ok(reply),
+    }
+}
