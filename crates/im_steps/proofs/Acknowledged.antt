@@ -4,11 +4,11 @@ use Rattle.std.specs.Prelude.{if◌then◌else◌, ◌==◌, ◌||◌}
 use Rattle.im_types.specs.Maps.{IndexMap, first}
 use Rattle.im_types.specs.Changes.{Effect, apply, apply_all, seen_effect}
 use Rattle.im_types.proofs.Changes.{apply_seen}
-use Rattle.im_types.specs.Answers.{Access, Fetch, Seek, Next, Scan, Insert, Delete, Step, Begin, Do, Commit, Rollback, Continue, FlushPage, Force, Checkpoint, Reply, Started, Committed, RolledBack, More, Blocked, Die, Done, Refused, Mark, Idle, Going, MustRollBack, RollingBack, Committing, answer}
+use Rattle.im_types.specs.Answers.{Step, Begin, Do, Commit, Rollback, Continue, FlushPage, Force, Checkpoint, Reply, Started, Committed, RolledBack, More, Blocked, Die, Done, Refused, Mark, Idle, Going, MustRollBack, RollingBack, Committing, answer}
 use Rattle.im_types.specs.Refusals.{memory, unfinished, failed as has_failed}
 use Rattle.im_types.specs.Lives.{Asked, Shown, asks, effect_asked, refused, answered, breaks, nothing_shown, shown_by, all_acked, shows}
 use Rattle.im_lock.specs.View.{View, begun, did, marked, committed_by, dropped_by, undid_more, undid_last, broken}
-use Rattle.im_lock.specs.Machine.{barred, barred_to, or_else, fault_if, Answers, Goes, Moves, begins, does, waits, dies, commits, drops, turns, undoes, ends, flushes, forces, checkpoints, lacks, breaks as machine_breaks, Wants, Run, start}
+use Rattle.im_lock.specs.Machine.{barred, barred_to, or_else, fault_if, Answers, Goes, Moves, begins, does, waits, dies, commits, drops, turns, undoes, ends, flushes, forces, checkpoints, lacks, breaks as machine_breaks, Run, start}
 use Rattle.im_lock.proofs.Runs.{live_at}
 use Rattle.im_steps.specs.Acknowledged.{acked_effects, AllAcked, Shows, RunsCommitWhatTheyShow}
 use Rattle.im_steps.proofs.Showing.{moves_are_shown}

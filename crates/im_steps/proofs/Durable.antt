@@ -1,5 +1,5 @@
 -- What a stop leaves of the Commits of a life.
-use Rattle.std.proofs.Common.{◌≡◌, ◌≢◌, ◌≤◌, inl, ℕ, Bool, true, false, List, [], ◌∷◌, ◌++◌, Some, None, length, refl, sym, ap, subst, ◌∙◌, append_assoc, append-nil}
+use Rattle.std.proofs.Common.{◌≡◌, ◌≢◌, inl, ℕ, Bool, true, false, List, [], ◌∷◌, ◌++◌, length, refl, sym, ap, subst, ◌∙◌, append_assoc, append-nil}
 use Rattle.std.specs.Prelude.{find, if◌then◌else◌, ◌==◌, ◌||◌}
 use Rattle.std.proofs.lemmas.Bool.{ne_eqb}
 use Rattle.std.specs.FinMap.{empty}
@@ -7,25 +7,21 @@ use Rattle.im_types.specs.Maps.{IndexMap}
 use Rattle.im_types.specs.Changes.{Effect, apply_all, seen, seen_effect}
 use Rattle.im_types.specs.Tree.{Tree}
 use Rattle.im_types.specs.Histories.{Base, History}
-use Rattle.im_types.specs.Lawful.{IsLawful}
 use Rattle.im_types.specs.Transactions.{committed, net}
 use Rattle.im_types.specs.Writer.{IsLeft}
-use Rattle.im_types.specs.Answers as answers
-use Rattle.im_types.specs.Answers.{Mark, Idle, Going, MustRollBack, RollingBack, Committing, Step, Begin, Do, Commit, Rollback, Continue, FlushPage, Force, Checkpoint, Refused}
+use Rattle.im_types.specs.Answers.{Mark, Idle, Going, MustRollBack, RollingBack, Committing, Step, Begin, Do, Commit, Rollback, Continue, FlushPage, Force, Checkpoint}
 use Rattle.im_types.specs.Refusals.{memory, unfinished}
-use Rattle.im_types.specs.Lives.{Asked, Shown, NoneAcked, Survives, all_acked, asks, breaks, cut_off, effects, effect_asked, refused, shows}
+use Rattle.im_types.specs.Lives.{Asked, Shown, NoneAcked, all_acked, asks, breaks, cut_off, effects, effect_asked}
 use Rattle.im_types.proofs.Changes.{seen_append}
 use Rattle.im_types.proofs.Fronts.{committed_front, fronts_lawful}
-use Rattle.im_txn.specs.declared.transaction.Mark.TheVariants as marks
 use Rattle.im_txn.specs.declared.transaction.Transaction.{Transaction}
 use Rattle.im_txn.specs.Rows.{is_of}
 use Rattle.im_lock.specs.Table.{Table}
 use Rattle.im_lock.specs.View.{View, Txn, idle}
 use Rattle.im_lock.specs.Machine.{start}
 use Rattle.im_lock.proofs.Isolates.{isolates}
-use Rattle.im_steps.specs.Growth.{Commits}
 use Rattle.im_steps.specs.Serving.{IsServing, IsAt, mark_of}
-use Rattle.im_steps.specs.Durable.{AreCommitted, IsAllowed, StopsAllow, CommitsStand, CutCommitsStand, OthersAskNothing, QuietLivesSettle, Settled}
+use Rattle.im_steps.specs.Durable.{AreCommitted, StopsAllow, CommitsStand, CutCommitsStand, OthersAskNothing, QuietLivesSettle, Settled}
 use Rattle.im_steps.specs.Acknowledged.{AllAcked}
 use Rattle.im_steps.proofs.Asking.{effects_append, effects_acked}
 use Rattle.im_steps.proofs.Steps.{at, map_made}

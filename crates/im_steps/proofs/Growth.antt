@@ -1,5 +1,5 @@
 -- What records on top leave of transactions.
-use Rattle.std.proofs.Common.{◌≡◌, ◌≢◌, ◌≤◌, ◌<◌, ◌⊎◌, inl, inr, ℕ, true, false, Bool, cond, List, [], ◌∷◌, ◌++◌, refl, sym, ◌∙◌, ap, subst, arith}
+use Rattle.std.proofs.Common.{◌≡◌, ◌≢◌, ◌≤◌, ◌<◌, inl, inr, ℕ, true, false, Bool, List, [], ◌∷◌, ◌++◌, refl, sym, ◌∙◌, ap, subst, arith}
 use Rattle.std.specs.Prelude.{◌==◌, ◌||◌, if◌then◌else◌}
 use Rattle.std.proofs.lemmas.Bool.{eq-eqb, ne_eqb, cond-true, cond-false, cases_eq}
 use Rattle.im_types.specs.Maps.{IndexMap}
@@ -12,7 +12,7 @@ use Rattle.im_types.specs.Copies as copies
 use Rattle.im_types.specs.Lawful.{IsLawful}
 use Rattle.im_types.proofs.Images.{images_open, lawful_images}
 use Rattle.im_types.specs.Transactions.{committed, committed_after, contents, contents_after, net, change_of, changes_of, without_smo, is_smo, last_of, undo_next_of, undo_from, to_undo, stack_after, is_finished, is_rolling_back, is_end, is_compensation}
-use Rattle.im_steps.specs.Growth.{Stays, IsSameOf, IsOfOthers, IsOfAll, IsOver, HasNone, IsImage, IsWithin, AreWithin, AreImages, GrowsWithin, GrowsByImages, GrowthWithinLeavesOthers, ImagesChangeNothing, AreBelow, AreStructural, CopiesAreImages, GrowsByStructure, IsRestructured, IsStructural, NumbersStayNew, StructureChangesNoKey, is_structural}
+use Rattle.im_steps.specs.Growth.{Stays, IsSameOf, HasNone, IsImage, IsWithin, AreWithin, AreImages, GrowthWithinLeavesOthers, ImagesChangeNothing, AreBelow, AreStructural, CopiesAreImages, IsRestructured, IsStructural, NumbersStayNew, StructureChangesNoKey, is_structural}
 
 -- ---- one record
 

@@ -11,3 +11,5 @@ pub mod Logging
 pub mod WorkedSteps
 pub mod Durable
 pub mod Lived
+pub mod Rolling
+pub mod Undone

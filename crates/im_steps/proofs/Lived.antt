@@ -1,21 +1,17 @@
 -- The checks of a step by the table, and lives of an engine that has failed.
-use Rattle.std.proofs.Common.{◌≡◌, ℕ, Bool, true, false, List, Option, None, Some, length, refl, sym, ap, ◌∙◌, subst, inl, inr}
+use Rattle.std.proofs.Common.{◌≡◌, ℕ, Bool, true, false, Option, None, Some, length, refl, sym, ap, ◌∙◌, subst, inl}
 use Rattle.std.specs.Prelude.{find, ◌||◌}
-use Rattle.std.specs.FinMap.{empty}
 use Rattle.im_types.specs.Maps.{IndexMap}
-use Rattle.im_types.specs.Changes.{Effect, apply_all}
-use Rattle.im_types.specs.Histories.{History, Base}
+use Rattle.im_types.specs.Histories.{History}
 use Rattle.im_types.specs.Answers.{Mark, Step, Reply, Begin, Do, Commit, Rollback, Continue, FlushPage, Force, Checkpoint, Refused}
 use Rattle.im_types.specs.Refusals.{capacity, failed as has_failed}
-use Rattle.im_types.specs.Lives.{Shown, shows}
+use Rattle.im_types.specs.Lives.{Shown}
 use Rattle.im_txn.specs.declared.transaction.Transaction.{Transaction}
 use Rattle.im_txn.specs.Rows.{is_of}
-use Rattle.im_lock.specs.Locks.{Lock}
-use Rattle.im_lock.specs.Table.{Table}
 use Rattle.im_lock.specs.View.{View, Txn, broken}
-use Rattle.im_lock.specs.Machine.{Moves, Answers, Goes, Breaks, breaks, barred, first_check, mark_for, or_else, fault_if}
-use Rattle.im_steps.specs.Serving.{IsServing, IsAt}
-use Rattle.im_steps.specs.Checks.{mark_at, marks_in, checked_by, RowsTellChecks}
+use Rattle.im_lock.specs.Machine.{Moves, Answers, breaks, barred, first_check, mark_for, fault_if}
+use Rattle.im_steps.specs.Serving.{IsAt}
+use Rattle.im_steps.specs.Checks.{mark_at, marks_in, RowsTellChecks}
 use Rattle.im_steps.specs.Lived.{IsLived, IsLivedOn, LivesGoOn}
 use Rattle.im_steps.proofs.Acknowledged.{step_shows}
 use Rattle.im_steps.proofs.Promises.{moves_reach}

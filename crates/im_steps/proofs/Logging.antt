@@ -1,9 +1,8 @@
 -- A key record that was granted its locks, and a Commit, logged.
-use Rattle.std.proofs.Common.{◌≡◌, ◌≢◌, ◌≤◌, ◌<◌, ℕ, List, [], ◌∷◌, ◌++◌, map, refl, sym, ◌∙◌, ap, subst, cond, is_some, Bool, true, false, Option, None, Some}
+use Rattle.std.proofs.Common.{◌≡◌, ◌≤◌, ◌<◌, ℕ, List, [], ◌∷◌, ◌++◌, map, refl, sym, ◌∙◌, ap, subst, cond, is_some, Bool, true, false, Option, None, Some}
 use Rattle.std.specs.Prelude.{find, if◌then◌else◌, ◌==◌, ◌||◌}
 use Rattle.std.specs.FinMap.{get}
 use Rattle.std.proofs.lemmas.Bool.{eq-eqb, cond-true}
-use Rattle.im_types.specs.Keys.{Key}
 use Rattle.im_types.specs.Maps.{IndexMap}
 use Rattle.im_types.specs.Changes.{Change, Effect, Put, Drop, applied, key_of}
 use Rattle.im_types.specs.Records.{What, InsertKey, DeleteKey, Commit as CommitRecord, Logged}

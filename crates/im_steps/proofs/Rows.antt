@@ -1,8 +1,8 @@
 -- Rows of the table behind a step.
-use Rattle.std.proofs.Common.{◌≡◌, ◌≢◌, ◌≤◌, ◌<◌, ◌+◌, ◌-◌, suc, ℕ, false, List, [], ◌∷◌, length, map, refl, sym, ◌∙◌, ap, subst, Option, None, Some, arith}
+use Rattle.std.proofs.Common.{◌≡◌, ◌≢◌, ◌≤◌, ◌+◌, ◌-◌, suc, ℕ, List, [], ◌∷◌, length, map, refl, sym, ◌∙◌, ap, subst, Option, None, Some, arith}
 use Rattle.std.specs.Prelude.{find}
 use Rattle.im_types.specs.Histories.{History}
-use Rattle.im_types.specs.Transactions.{changes_of, is_finished}
+use Rattle.im_types.specs.Transactions.{changes_of}
 use Rattle.im_txn.specs.declared.transaction.Mark.{Mark}
 use Rattle.im_txn.specs.declared.transaction.Mark.TheVariants.{RollingBack}
 use Rattle.im_txn.specs.declared.transaction.Transaction.{Transaction}
@@ -11,7 +11,7 @@ use Rattle.im_txn.specs.LookUps.{Keeps, without}
 use Rattle.im_txn.proofs.LookUps.{look_ups_follow}
 use Rattle.im_lock.specs.View.{Txn, idle, set_txn}
 use Rattle.im_lock.proofs.Invariant.{by_txn}
-use Rattle.im_steps.specs.Growth.{IsSameOf, IsOfOthers, IsOver}
+use Rattle.im_steps.specs.Growth.{IsSameOf, IsOfOthers}
 use Rattle.im_steps.specs.Serving.{IsRow, IsAt, mark_of}
 
 -- a row is as it was where the log says of its transaction what it said

@@ -1,5 +1,5 @@
 -- Each kind of step keeps what holds between steps.
-use Rattle.std.proofs.Common.{◌≡◌, ◌≢◌, ◌≤◌, ◌<◌, ◌^◌, ◌+◌, ◌-◌, suc, inl, inr, ◌⊎◌, ℕ, nat_lt, List, ◌++◌, [], ◌∷◌, length, length-append, map, refl, sym, ◌∙◌, ap, subst, true, false, Bool, not, Option, None, Some, append-nil, append_assoc, arith}
+use Rattle.std.proofs.Common.{◌≡◌, ◌≢◌, ◌≤◌, ◌<◌, ◌^◌, ◌+◌, suc, inl, inr, ◌⊎◌, ℕ, nat_lt, List, ◌++◌, [], ◌∷◌, length, length-append, map, refl, sym, ◌∙◌, ap, subst, true, false, Bool, not, Option, None, Some, append-nil, append_assoc, arith}
 use Rattle.std.specs.Prelude.{find}
 use Rattle.std.specs.FinMap.{empty}
 use Rattle.std.proofs.lemmas.Bool.{lt-ltb}
@@ -12,7 +12,7 @@ use Rattle.im_types.specs.Tree.{Tree}
 use Rattle.im_types.specs.Histories.{History, Base}
 use Rattle.im_types.specs.Transactions.{committed, contents, net, last_of, undo_next_of, to_undo, is_finished, is_rolling_back, changes_of}
 use Rattle.im_types.specs.Answers as answers
-use Rattle.im_types.specs.Answers.{Access, Step, Reply, Begin, Started, Do, Commit, Committed, Rollback, RolledBack, Continue, More, Blocked, Die, FlushPage, Force, Done, Refused, answer}
+use Rattle.im_types.specs.Answers.{Access, Step, Reply, Begin, Started, Do, Commit, Committed, Rollback, RolledBack, Continue, More, Blocked, Die, FlushPage, Force, Checkpoint, Done, Refused, answer}
 use Rattle.im_types.specs.Lives.{Shown, Asked, effects, effect_asked, nothing_shown, shows}
 use Rattle.im_types.specs.Refusals.{failed as has_failed, key_length, too_many}
 use Rattle.im_txn.specs.declared.transaction.Mark.TheVariants.{Going, MustRollBack, RollingBack}
@@ -24,13 +24,13 @@ use Rattle.im_lock.specs.Table.{Table, locks_of}
 use Rattle.im_lock.specs.declared.verdict.Verdict.TheVariants.{Granted, Wait, Die as MustDie}
 use Rattle.im_lock.specs.Serving.{Matches}
 use Rattle.im_lock.specs.View.{View, Txn, idle, set_txn, begun, did, did_txn, marked, committed_by, dropped_by, undid_more, undid_last, MayRollBack}
-use Rattle.im_lock.specs.Machine.{Moves, Answers, Goes, begins, commits, drops, turns, undoes, ends, flushes, forces, lacks, barred, barred_to, barred_to_rollback, barred_to_continue, or_else, fault_if, keys_fit, start}
+use Rattle.im_lock.specs.Machine.{Moves, Answers, Goes, begins, commits, drops, turns, undoes, ends, flushes, forces, checkpoints, lacks, barred, barred_to, barred_to_rollback, barred_to_continue, or_else, fault_if, keys_fit, start}
 use Rattle.im_lock.proofs.Serving.{table-serves}
 use Rattle.im_lock.proofs.Invariant.{by_txn}
 use Rattle.im_steps.specs.Growth.{Stays, IsOver, HasNone}
 use Rattle.im_steps.specs.Seen.{IsSeen}
 use Rattle.im_steps.specs.Serving.{IsRow, IsAt, AreRows, mark_of, IsServing, IsServed}
-use Rattle.im_steps.specs.Steps.{NewStoresServe, OpenedStoresServe, QuietLogsHoldCommitted, ImagesKeepServing, StructureKeepsServing, WaysLeadOn, ChangesAreServed, ReadsAreServed, WaitsAreServed, DiesAreServed, BeginsAreServed, CommitsAreServed, UnloggedCommitsAreServed, DropsAreServed, TurnsAreServed, UndoIsServed, EndsAreServed, FlushesAreServed, ForcesAreServed, BarredStepsAreServed, LacksAreServed}
+use Rattle.im_steps.specs.Steps.{NewStoresServe, OpenedStoresServe, QuietLogsHoldCommitted, ImagesKeepServing, StructureKeepsServing, WaysLeadOn, ChangesAreServed, ReadsAreServed, WaitsAreServed, DiesAreServed, BeginsAreServed, CommitsAreServed, UnloggedCommitsAreServed, DropsAreServed, TurnsAreServed, UndoIsServed, EndsAreServed, FlushesAreServed, ForcesAreServed, CheckpointsAreServed, BarredStepsAreServed, LacksAreServed}
 use Rattle.im_steps.proofs.Growth.{images_change_nothing, structure_changes_no_key, stays_then, same_here, same_then, none_last, none_undo, none_finished, none_rolling, unlogged}
 use Rattle.im_steps.proofs.Together.{together, marked_seen, dropped_seen, empty_seen, begun_seen}
 use Rattle.im_steps.proofs.Promises.{moves_reach}
@@ -401,6 +401,17 @@ forces_served b earlier before s v older longer rows next held h stays all =
     (together.stays b older longer v h.seen_by stays)
     stays.commits
     (effects_acked s.asked)
+    (record { each = λ u. same_at u next older longer (all u) (find (is_of u) rows) (v.txns u) (h.table.each u); active = h.table.active; numbers = h.table.numbers })
+    h.locks
+
+pub checkpoints_served : CheckpointsAreServed
+checkpoints_served b earlier before s v older longer rows next held h stays all =
+    served b earlier before s v older rows next held h Checkpoint Done v longer rows next held
+    (moves_by v v Checkpoint Done (ap (λ (x : Bool). fault_if x has_failed) h.works) (checkpoints refl refl refl))
+    h.works
+    (together.stays b older longer v h.seen_by stays)
+    stays.commits
+    refl
     (record { each = λ u. same_at u next older longer (all u) (find (is_of u) rows) (v.txns u) (h.table.each u); active = h.table.active; numbers = h.table.numbers })
     h.locks
 

@@ -1,8 +1,8 @@
 -- Two transactions at once, by computation: what the log, the replies and the serial run say of them.
-use Rattle.std.proofs.Common.{◌≡◌, ℕ, List, [], ◌∷◌, true, false, refl}
+use Rattle.std.proofs.Common.{◌≡◌, List, [], ◌∷◌, true, refl}
 use Rattle.im_types.specs.Keys.{Key}
 use Rattle.im_types.specs.Changes.{Put}
-use Rattle.im_types.specs.Records.{InsertKey, UndoInsert, Commit as CommitRecord, End as EndRecord, Logged}
+use Rattle.im_types.specs.Records.{InsertKey, UndoInsert, Commit as CommitRecord, End as EndRecord}
 use Rattle.im_types.specs.Histories.{History}
 use Rattle.im_types.specs.Transactions.{committed, net, last_of, is_finished, is_rolling_back}
 use Rattle.im_types.specs.Answers.{Step, Reply, Begin, Do, Commit, Rollback, Continue, Insert, Started, Inserted, Committed, RolledBack, More}

@@ -1,5 +1,5 @@
 -- Which Commits a stop leaves: those that are durable, and of those that wait for a force a front.
-use Rattle.std.specs.Prelude.{◌≡◌, ◌≤◌, ℕ, true, List, [], ◌++◌, None, Some, find}
+use Rattle.std.specs.Prelude.{◌≡◌, ◌≤◌, ℕ, List, [], ◌++◌, None, Some, find}
 use Rattle.std.specs.FinMap.{empty}
 use Rattle.im_types.specs.Changes.{Effect, apply_all, seen}
 use Rattle.im_types.specs.Tree.{Tree}
@@ -7,7 +7,7 @@ use Rattle.im_types.specs.Histories.{Base, History}
 use Rattle.im_types.specs.Lawful.{IsLawful}
 use Rattle.im_types.specs.Transactions.{committed}
 use Rattle.im_types.specs.Writer.{IsLeft}
-use Rattle.im_types.specs.Answers.{Step, Reply, Commit, Refused}
+use Rattle.im_types.specs.Answers.{Step, Commit, Refused}
 use Rattle.im_types.specs.Refusals.{memory, unfinished}
 use Rattle.im_types.specs.Lives.{Asked, Shown, NoneAcked, Survives, all_acked, effects, nothing_shown, shows}
 use Rattle.im_txn.specs.declared.transaction.Mark.TheVariants.{Going}

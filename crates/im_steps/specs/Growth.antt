@@ -1,5 +1,5 @@
 -- How a log grows by a step.
-use Rattle.std.specs.Prelude.{◌≡◌, ◌≢◌, ◌≤◌, ◌<◌, ◌⊎◌, ℕ, Bool, true, false, List, [], ◌∷◌, ◌++◌}
+use Rattle.std.specs.Prelude.{◌≡◌, ◌≢◌, ◌≤◌, ◌<◌, ◌⊎◌, ℕ, Bool, true, false, [], ◌∷◌, ◌++◌}
 use Rattle.im_types.specs.Pages.{Page}
 use Rattle.im_types.specs.Changes.{Change, applied, undone}
 use Rattle.im_types.specs.Records.{What, Smo, DummyClr, Image, Logged}

@@ -7,3 +7,4 @@ pub mod Acknowledged
 pub mod Durable
 pub mod Checks
 pub mod Lived
+pub mod Undone

@@ -9,7 +9,7 @@ use Rattle.im_types.specs.Structure.{open_smo, settled}
 use Rattle.im_types.specs.Lawful.{IsLawful}
 use Rattle.im_types.specs.Histories.{History, Base, Rises, end_of}
 use Rattle.im_types.specs.Transactions.{committed, last_of, undo_next_of, to_undo, net, is_finished, is_rolling_back, contents}
-use Rattle.im_types.specs.Answers.{Access, Insert, Delete, Inserted, Deleted, Step, Begin, Started, Do, Commit, Committed, Rollback, RolledBack, Continue, More, Blocked, Die, FlushPage, Force, Done, Refused, answer, changes}
+use Rattle.im_types.specs.Answers.{Access, Insert, Delete, Inserted, Deleted, Step, Begin, Started, Do, Commit, Committed, Rollback, RolledBack, Continue, More, Blocked, Die, FlushPage, Force, Checkpoint, Done, Refused, answer, changes}
 use Rattle.im_types.specs.Answers as answers
 use Rattle.im_types.specs.Lives.{Shown, nothing_shown}
 use Rattle.im_txn.specs.declared.transaction.Mark.TheVariants.{Going, MustRollBack, RollingBack}
@@ -189,6 +189,11 @@ FlushesAreServed = (b : Base) (earlier before : List Effect) (s : Shown) (v : Vi
 abbrev pub ForcesAreServed : Type 0
 ForcesAreServed = (b : Base) (earlier before : List Effect) (s : Shown) (v : View) (older longer : History) (rows : List Transaction) (next : ℕ) (held : Table)
     → IsServing b earlier before s v older rows next held → Stays b older longer → IsOfAll older longer → IsServed b earlier before s v Force Done v longer rows next held
+
+-- A Checkpoint was answered, behind Images.
+abbrev pub CheckpointsAreServed : Type 0
+CheckpointsAreServed = (b : Base) (earlier before : List Effect) (s : Shown) (v : View) (older longer : History) (rows : List Transaction) (next : ℕ) (held : Table)
+    → IsServing b earlier before s v older rows next held → Stays b older longer → IsOfAll older longer → IsServed b earlier before s v Checkpoint Done v longer rows next held
 
 -- ---- refusals
 

@@ -1,6 +1,6 @@
 //! Each kind of step keeps what holds between steps. These functions do nothing: their contracts are the laws.
 
-ghost use Rattle.im_steps.specs.Steps.{NewStoresServe, OpenedStoresServe, QuietLogsHoldCommitted, ImagesKeepServing, StructureKeepsServing, WaysLeadOn, LoggedCommitsAreServed, BeginsAreServed, ChangesAreServed, InsertsAreServed, DeletesAreServed, ReadsAreServed, WaitsAreServed, DiesAreServed, CommitsAreServed, UnloggedCommitsAreServed, DropsAreServed, TurnsAreServed, UndoIsServed, EndsAreServed, FlushesAreServed, ForcesAreServed, BarredStepsAreServed, LacksAreServed};
+ghost use Rattle.im_steps.specs.Steps.{NewStoresServe, OpenedStoresServe, QuietLogsHoldCommitted, ImagesKeepServing, StructureKeepsServing, WaysLeadOn, LoggedCommitsAreServed, BeginsAreServed, ChangesAreServed, InsertsAreServed, DeletesAreServed, ReadsAreServed, WaitsAreServed, DiesAreServed, CommitsAreServed, UnloggedCommitsAreServed, DropsAreServed, TurnsAreServed, UndoIsServed, EndsAreServed, FlushesAreServed, ForcesAreServed, CheckpointsAreServed, BarredStepsAreServed, LacksAreServed};
 
 use im_types::laws::logs::PageTree;
 
@@ -112,6 +112,11 @@ pub fn flushes_are_served()
 /// A force of the log.
 pub fn forces_are_served()
     ensures { ForcesAreServed }
+{}
+
+/// A Checkpoint.
+pub fn checkpoints_are_served()
+    ensures { CheckpointsAreServed }
 {}
 
 /// A step that a check refuses.
