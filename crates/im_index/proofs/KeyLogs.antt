@@ -50,7 +50,7 @@ use Rattle.im_steps.specs.Steps.{key_record}
 use Rattle.im_steps.proofs.Growth.{copies_are_images, images_change_nothing}
 use Rattle.im_index.specs.KeyLogs.{LeftByEdit, LeavesEdit, MayPut, MayTake, KeyLogged, KeyLogKept}
 
-owner_some : (t : ℕ) → 1 ≤ t → t ≢ 0
+pub owner_some : (t : ℕ) → 1 ≤ t → t ≢ 0
 owner_some t one is = omega (arith, one, is)
 
 -- ---- what a stop leaves
@@ -86,7 +86,7 @@ module _ (b : Base) (log : History) (law : IsLawful b page_tree log) (closed : o
   good_pages : IsGoodTree (logs.bodies b log) []
   good_pages = subst (λ (f : Pages). IsGoodTree f []) settled_is (has_tree b page_tree log law).good
 
-  walk_is : walk (logs.bodies b log) ≡ entries (contents b log)
+  pub walk_is : walk (logs.bodies b log) ≡ entries (contents b log)
   walk_is = ap walk (sym settled_is) ∙ (has_tree b page_tree log law).walk
 
   -- what the walk has of a key, the map has
@@ -163,7 +163,7 @@ module _ (b : Base) (older longer : History) (by : GrowsByImages b older longer)
   bodies_longer : logs.bodies b longer ≡ logs.bodies b older
   bodies_longer = fun_ext (λ (p : ℕ). ap (λ (l : History). (page_at b l p).body) by.is ∙ ap (λ (g : Page). g.body) (images_pages b by.images older p by.all))
 
-  unchanged : Stays b older longer × IsOfAll older longer
+  pub unchanged : Stays b older longer × IsOfAll older longer
   unchanged = images_change_nothing b older longer (copies_are_images page_tree b older longer by).images
 
   open_longer : open_smo longer ≡ open_smo older

@@ -1,3 +1,6 @@
 pub mod Names
 pub mod Calls
 pub mod KeyLogs
+pub mod Deletes
+pub mod Inserts
+pub mod Planning

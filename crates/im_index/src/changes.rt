@@ -27,7 +27,7 @@ use im_search::leaf_and_next;
 use im_types::{Fault, Rid, TxnId};
 
 // What a leaf has of a key.
-fn value_in(page: &Page, key: &[u8]) -> Option<Rid>
+pub(crate) fn value_in(page: &Page, key: &[u8]) -> Option<Rid>
     ensures { result ≡ find key_order key.now page.now.body.entries }
 {
     page.content();
@@ -38,7 +38,7 @@ fn value_in(page: &Page, key: &[u8]) -> Option<Rid>
 }
 
 // Whether there is a row id.
-fn is_there(rid: &Option<Rid>) -> bool
+pub(crate) fn is_there(rid: &Option<Rid>) -> bool
     ensures { result ≡ is_some rid.now }
 {
     rid.is_some()

@@ -11,7 +11,8 @@ use im_flush::PageWriter;
 use im_lock::{Duration, LockTable, Mode, Name, Request, Verdict};
 use im_log::open_or_create;
 use im_page::Page;
-use im_types::{Fault, FileId, Key, PageNo, Rid, TxnId};
+use im_txn::{Mark, Transaction};
+use im_types::{Fault, FileId, Key, Lsn, PageNo, Rid, TxnId};
 use std::alloc::Global;
 use std::test::Fail;
 
@@ -61,7 +62,7 @@ fn new_log<D: Disk>(alloc: Global, disk: &mut D) -> Result<Vec<u8>, Fault>
 }
 
 // A disk with a new log and these pages.
-fn disk_of(alloc: Global, pages: Vec<u8>) -> Result<ModelDisk, Fail>
+pub(crate) fn disk_of(alloc: Global, pages: Vec<u8>) -> Result<ModelDisk, Fail>
     ensures working { IfOk result (λ disk. ⟦<ModelDisk as Disk>⟧.failed disk ≡ false) }
     ensures synced { IfOk result (λ disk. IsSynced ⟦<ModelDisk as Disk>⟧ disk) }
 {
@@ -71,17 +72,18 @@ fn disk_of(alloc: Global, pages: Vec<u8>) -> Result<ModelDisk, Fail>
 }
 
 // A writer with 8 frames.
-fn open<D: Disk>(alloc: Global, disk: &mut D) -> Result<PageWriter, Fault>
+pub(crate) fn open<D: Disk>(alloc: Global, disk: &mut D) -> Result<PageWriter, Fault>
     requires working { D.failed disk.old ≡ false }
     requires synced { IsSynced D.Disk disk.old }
     ensures ready { IfOk result (λ w. IsReadyWriter D.Disk w disk.new) }
+    ensures works { IfOk result (λ w. w.failed ≡ false) }
 {
     let log = open_or_create(alloc, disk)?;
     PageWriter::new(alloc, log, 8)
 }
 
 // The bytes of a tree of a root and three leaves, of which the second is empty.
-fn three_leaves(alloc: Global) -> Result<Vec<u8>, Fail> {
+pub(crate) fn three_leaves(alloc: Global) -> Result<Vec<u8>, Fail> {
     let mut pages = Vec::new(alloc);
     add_root(&mut pages, 5)?;
     add_leaf(&mut pages, b"ab", 0, 3)?;
@@ -105,7 +107,7 @@ fn is_locked(locks: &mut LockTable, name: Name<'_>) -> Result<bool, Fault> {
 }
 
 // Transaction t holds a key against every other.
-fn hold(locks: &mut LockTable, t: TxnId, key: &[u8]) -> Result<(), Fault> {
+pub(crate) fn hold(locks: &mut LockTable, t: TxnId, key: &[u8]) -> Result<(), Fault> {
     let request = Request {
         name: Name::Key(key),
         mode: Mode::Exclusive,
@@ -116,7 +118,7 @@ fn hold(locks: &mut LockTable, t: TxnId, key: &[u8]) -> Result<(), Fault> {
 }
 
 // What a step answered: its entry's row id, 0 where there is none, 1000 and the number of whom it waits for, or 2000.
-fn told(outcome: Outcome<Option<Rid>>) -> u64 {
+pub(crate) fn told(outcome: Outcome<Option<Rid>>) -> u64 {
     match outcome {
         Outcome::Granted(Some(rid)) => rid,
         Outcome::Granted(None) => 0,
@@ -150,6 +152,28 @@ fn told_place(outcome: Outcome<Place>) -> (PageNo, u64) {
         Outcome::Granted(place) => (place.leaf.number, place.rid.unwrap_or(0)),
         Outcome::Wait(holder) => (0, holder % 1000 + 1000),
         Outcome::Die => (0, 2000),
+    }
+}
+
+// What the row notes behind a delete, zeros where the key is not there; or as `told` has it.
+fn told_taken(outcome: Outcome<Option<Taken>>) -> (Lsn, Lsn) {
+    match outcome {
+        Outcome::Granted(Some(taken)) => (taken.last, taken.undo_next),
+        Outcome::Granted(None) => (0, 0),
+        Outcome::Wait(holder) => (0, holder % 1000 + 1000),
+        Outcome::Die => (0, 2000),
+    }
+}
+
+// The row of a transaction that is going.
+pub(crate) fn row(number: TxnId, last: Lsn, undo_next: Lsn) -> Transaction
+    ensures { result.number ≡ number }
+{
+    Transaction {
+        number,
+        last,
+        undo_next,
+        mark: Mark::Going,
     }
 }
 
@@ -274,5 +298,80 @@ fn a_delete_locks_the_next_name(rt: HostRuntime) -> Result<(), Fail> {
     assert_eq!(rt; told_place(place), (2, 98));
     assert!(rt; is_locked(&mut locks, Name::Key(b"m"))?);
     assert!(rt; !is_locked(&mut locks, Name::Key(b"b"))?);
+    Ok(())
+}
+
+#[test]
+fn a_logged_change_is_found(rt: HostRuntime) -> Result<(), Fail> {
+    let alloc = rt.alloc();
+    let pages = three_leaves(alloc)?;
+    let mut disk = disk_of(alloc, pages)?;
+    let mut writer = open(alloc, &mut disk)?;
+    let mut locks = LockTable::new(alloc);
+    let put = log_insert(&mut writer, &mut disk, 1, 0, 2, b"bb", 7)?;
+    let gone = log_delete(&mut writer, &mut disk, 1, put, 2, b"b", 98)?;
+    assert!(rt; put < gone);
+    let found = fetch(&mut writer, &mut disk, &mut locks, 1, b"bb")?;
+    assert_eq!(rt; told(found), 7);
+    let absent = fetch(&mut writer, &mut disk, &mut locks, 1, b"b")?;
+    assert_eq!(rt; told(absent), 0);
+    Ok(())
+}
+
+#[test]
+fn a_delete_takes_the_leaf_out_that_it_leaves_empty(rt: HostRuntime) -> Result<(), Fail> {
+    let alloc = rt.alloc();
+    let pages = three_leaves(alloc)?;
+    let mut disk = disk_of(alloc, pages)?;
+    let mut writer = open(alloc, &mut disk)?;
+    let mut locks = LockTable::new(alloc);
+    let first = delete(
+        alloc,
+        &mut writer,
+        &mut disk,
+        &mut locks,
+        &row(1, 0, 0),
+        b"x",
+    )?;
+    let (last, undo_next) = told_taken(first);
+    assert_eq!(rt; last, undo_next);
+    let again = row(1, last, undo_next);
+    let second = delete(alloc, &mut writer, &mut disk, &mut locks, &again, b"m")?;
+    let (later, key) = told_taken(second);
+    assert!(rt; last < key);
+    assert!(rt; key < later);
+    let absent = fetch(&mut writer, &mut disk, &mut locks, 1, b"m")?;
+    assert_eq!(rt; told(absent), 0);
+    Ok(())
+}
+
+#[test]
+fn a_delete_that_is_not_granted_changes_nothing(rt: HostRuntime) -> Result<(), Fail> {
+    let alloc = rt.alloc();
+    let pages = three_leaves(alloc)?;
+    let mut disk = disk_of(alloc, pages)?;
+    let mut writer = open(alloc, &mut disk)?;
+    let mut locks = LockTable::new(alloc);
+    hold(&mut locks, 5, b"m")?;
+    let older = delete(
+        alloc,
+        &mut writer,
+        &mut disk,
+        &mut locks,
+        &row(2, 0, 0),
+        b"b",
+    )?;
+    assert_eq!(rt; told_taken(older), (0, 1005));
+    let younger = delete(
+        alloc,
+        &mut writer,
+        &mut disk,
+        &mut locks,
+        &row(7, 0, 0),
+        b"b",
+    )?;
+    assert_eq!(rt; told_taken(younger), (0, 2000));
+    let found = fetch(&mut writer, &mut disk, &mut locks, 1, b"b")?;
+    assert_eq!(rt; told(found), 98);
     Ok(())
 }

@@ -6,7 +6,7 @@
 //!
 //! The contract: in a lawful log with no structure change open, one compensation joins the log, and the tree's map lacks that change
 //! alone; where the transaction's net is empty then, its End joins the log too, and it is unfinished no more. It is not refused
-//! `NotAStore`. A stop at any moment leaves the older log with some of these records (`LeavesTurn`), lawful again.
+//! `NotAStore`. A stop at any moment leaves the older log with some of these records (`LeavesUndo`), lawful again.
 //!
 //! It stands on `im_undo` for the one change, and on `im_analysis` for what reading from record to record comes to.
 #![tactic(auto)]
