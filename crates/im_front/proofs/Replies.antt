@@ -9,7 +9,7 @@ use Rattle.im_types.specs.Answers.{Access, Fetch, Seek, Next, Scan, Insert, Dele
 use Rattle.im_types.specs.Lives.{Shown, shows, accessed}
 use Rattle.im_lock.specs.View.{View}
 use Rattle.im_lock.specs.Machine.{barred, barred_to, barred_to_rollback, barred_to_continue, or_else, fault_if, Answers, Goes, Moves, Wants, Breaks, begins, does, waits, dies, commits, drops, turns, undoes, ends, flushes, forces, checkpoints, lacks, breaks}
-use Rattle.im_front.specs.Calls.{most_of, most_entries, entries_in, is_blocked}
+use Rattle.im_front.specs.Calls.{most_of, most_entries, entries_in, key_of, most_key, has_entry, is_blocked}
 use Rattle.im_front.specs.Held.{is_full}
 
 -- ---- no reply is a full trace
@@ -172,6 +172,54 @@ answers-few v w s r (Some f) a = few_at r (Refused f) _ a.0 refl
 
 pub few_entries : (v w : View) (s : Step) (r : Reply) → Moves v s r w → length (entries_in r) ≤ most_entries s
 few_entries v w s r m = answers-few v w s r (barred v s) m
+
+-- ---- a reply names an entry only where its step asks for one
+
+no_entry : (r q : Reply) (n : ℕ) → r ≡ q → has_entry q ≡ false → has_entry r ≡ true → n ≡ 255
+no_entry r q n e none h = absurd (true≢false (sym h ∙ ap has_entry e ∙ none))
+
+entry_found : (o : Option ℕ) → has_entry (found o) ≡ false
+entry_found None = refl
+entry_found (Some r) = refl
+
+entry_insert : (b : Bool) → has_entry (cond b Duplicate Inserted) ≡ false
+entry_insert true = refl
+entry_insert false = refl
+
+entry_delete : (b : Bool) → has_entry (cond b Deleted Absent) ≡ false
+entry_delete true = refl
+entry_delete false = refl
+
+answer-entry : (a : Access) (m : IndexMap) → has_entry (answer a m) ≡ true → key_of a ≡ 255
+answer-entry (Fetch k) m h = no_entry (answer (Fetch k) m) (answer (Fetch k) m) 0 refl (entry_found (get m k)) h
+answer-entry (Seek k) m h = refl
+answer-entry (Next k) m h = refl
+answer-entry (Scan lo hi n) m h = no_entry (answer (Scan lo hi n) m) (answer (Scan lo hi n) m) 0 refl refl h
+answer-entry (Insert k r) m h = no_entry (answer (Insert k r) m) (answer (Insert k r) m) 0 refl (entry_insert (is_some (get m k))) h
+answer-entry (Delete k) m h = no_entry (answer (Delete k) m) (answer (Delete k) m) 0 refl (entry_delete (is_some (get m k))) h
+
+goes-entry : (v w : View) (s : Step) (r : Reply) → Goes v s r w → has_entry r ≡ true → most_key s ≡ 255
+goes-entry v w s r (begins a limit b c) = no_entry r _ _ b refl
+goes-entry v w s r (does t a ls b going free same d e) = λ h. ap most_key b ∙ answer-entry a v.walk (sym (ap has_entry d) ∙ h)
+goes-entry v w s r (waits t a holder b going wait d e) = no_entry r _ _ d refl
+goes-entry v w s r (dies t a b going die d e) = no_entry r _ _ d refl
+goes-entry v w s r (commits t b going d e) = no_entry r _ _ d refl
+goes-entry v w s r (drops t b may none d e) = no_entry r _ _ d refl
+goes-entry v w s r (turns t x xs b may net d e) = no_entry r _ _ d refl
+goes-entry v w s r (undoes t x y xs b rolling net d e) = no_entry r _ _ d refl
+goes-entry v w s r (ends t x b rolling net d e) = no_entry r _ _ d refl
+goes-entry v w s r (flushes p b d e) = no_entry r _ _ d refl
+goes-entry v w s r (forces b d e) = no_entry r _ _ d refl
+goes-entry v w s r (checkpoints b d e) = no_entry r _ _ d refl
+goes-entry v w s r (lacks fault want d e) = no_entry r (Refused fault) _ d refl
+goes-entry v w s r (breaks fault ls break d e) = no_entry r (Refused fault) _ d refl
+
+answers-entry : (v w : View) (s : Step) (r : Reply) (o : Option ℕ) → Answers v s r w o → has_entry r ≡ true → most_key s ≡ 255
+answers-entry v w s r None a = goes-entry v w s r a
+answers-entry v w s r (Some f) a = no_entry r (Refused f) _ a.0 refl
+
+pub entry_asked : (v w : View) (s : Step) (r : Reply) → Moves v s r w → has_entry r ≡ true → most_key s ≡ 255
+entry_asked v w s r m = answers-entry v w s r (barred v s) m
 
 -- ---- a machine that has failed stays as it is
 

@@ -12,7 +12,7 @@ use Rattle.im_lock.specs.View.{Txn, View, broken}
 use Rattle.im_lock.specs.Machine.{Moves, Run, start}
 use Rattle.im_lock.specs.Isolation.{Isolates}
 use Rattle.im_front.specs.declared.recorded.Recorded.{Recorded}
-use Rattle.im_front.specs.Calls.{asked_by, told_by, trace_of}
+use Rattle.im_front.specs.Calls.{asked_by, said_by, trace_of}
 use Rattle.im_front.specs.Events.{Event, Made, Broke, made_in, Runs, shown_in}
 use Rattle.im_front.specs.Store.{StepKept, LookKept}
 use Rattle.im_front.specs.Held.{started_in, committed_in, rolled_back_in, after_reply, after_trace, Stands, IsRun, IsCut}
@@ -74,11 +74,11 @@ after_trace-push : (c : List ℕ) (trace : List (Step × Reply)) (e : Step × Re
 after_trace-push c [] e = refl
 after_trace-push c (x ∷ xs) e = after_trace-push (after_reply c x.1) xs e
 
-pub trace_of-push : (rs : List Recorded) (r : Recorded) → trace_of (rs ++ r ∷ []) ≡ trace_of rs ++ (asked_by r.step, told_by r.reply) ∷ []
+pub trace_of-push : (rs : List Recorded) (r : Recorded) → trace_of (rs ++ r ∷ []) ≡ trace_of rs ++ (asked_by r.step, said_by r.reply) ∷ []
 trace_of-push [] r = refl
-trace_of-push (x ∷ xs) r = ap (λ l. (asked_by x.step, told_by x.reply) ∷ l) (trace_of-push xs r)
+trace_of-push (x ∷ xs) r = ap (λ l. (asked_by x.step, said_by x.reply) ∷ l) (trace_of-push xs r)
 
-pub trace_of-recorded : (olds news : List Recorded) (r : Recorded) (step : Step) (reply : Reply) → news ≡ olds ++ r ∷ [] → asked_by r.step ≡ step → told_by r.reply ≡ reply → trace_of news ≡ trace_of olds ++ (step, reply) ∷ []
+pub trace_of-recorded : (olds news : List Recorded) (r : Recorded) (step : Step) (reply : Reply) → news ≡ olds ++ r ∷ [] → asked_by r.step ≡ step → said_by r.reply ≡ reply → trace_of news ≡ trace_of olds ++ (step, reply) ∷ []
 trace_of-recorded olds news r step reply is asked told = ap trace_of is ∙ trace_of-push olds r ∙ (λ i. trace_of olds ++ (asked i, told i) ∷ [])
 
 pub length-trace_of : (rs : List Recorded) → length (trace_of rs) ≡ length rs

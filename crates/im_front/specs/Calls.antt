@@ -12,6 +12,8 @@ use Rattle.im_front.specs.declared.reply.Blocker.{Blocker}
 use Rattle.im_front.specs.declared.reply.Blocker.TheVariants as blockers
 use Rattle.im_front.specs.declared.reply.Reply.{Reply}
 use Rattle.im_front.specs.declared.reply.Reply.TheVariants as replies
+use Rattle.im_front.specs.declared.told.Told.{Told}
+use Rattle.im_front.specs.declared.told.Told.TheVariants as tolds
 use Rattle.im_front.specs.declared.recorded.Recorded.{Recorded}
 use Rattle.im_front.specs.declared.stats.Stats.{Stats}
 
@@ -72,6 +74,25 @@ told_by replies.Die = answers.Die
 told_by replies.Done = answers.Done
 told_by (replies.Refused fault) = answers.Refused (number_of fault)
 
+-- what a reply of the trace says
+abbrev pub said_by : Told → answers.Reply
+said_by (tolds.Started t) = answers.Started t
+said_by (tolds.Found rid) = answers.Found rid
+said_by tolds.Absent = answers.Absent
+said_by (tolds.Entry key rid) = answers.Entry key.items rid
+said_by tolds.End = answers.End
+said_by (tolds.Entries list) = answers.Entries list.items
+said_by tolds.Inserted = answers.Inserted
+said_by tolds.Duplicate = answers.Duplicate
+said_by tolds.Deleted = answers.Deleted
+said_by tolds.Committed = answers.Committed
+said_by tolds.RolledBack = answers.RolledBack
+said_by tolds.More = answers.More
+said_by (tolds.Blocked blocker) = blocked_by blocker
+said_by tolds.Die = answers.Die
+said_by tolds.Done = answers.Done
+said_by (tolds.Refused fault) = answers.Refused (number_of fault)
+
 -- a step that may end a transaction
 abbrev pub may_end : answers.Step → Bool
 may_end (answers.Commit t) = true
@@ -94,6 +115,22 @@ abbrev pub entries_in : answers.Reply → List Entry
 entries_in (answers.Entries list) = list
 entries_in _ = []
 
+-- how many bytes the key in the reply to an access may have at most
+abbrev pub key_of : answers.Access → ℕ
+key_of (answers.Seek key) = 255
+key_of (answers.Next key) = 255
+key_of _ = 0
+
+-- the same of a step
+abbrev pub most_key : answers.Step → ℕ
+most_key (answers.Do t a) = key_of a
+most_key _ = 0
+
+-- a reply that names an entry
+abbrev pub has_entry : answers.Reply → Bool
+has_entry (answers.Entry key rid) = true
+has_entry _ = false
+
 -- nothing was changed, since another stands in the way
 abbrev pub is_blocked : answers.Reply → Bool
 is_blocked (answers.Blocked holder) = true
@@ -109,7 +146,7 @@ may_unblock _ = false
 
 -- steps with their replies
 abbrev pub trace_of : List Recorded → List (answers.Step × answers.Reply)
-trace_of = map (λ r. (asked_by r.step, told_by r.reply))
+trace_of = map (λ r. (asked_by r.step, said_by r.reply))
 
 -- the three counts, as the cell of statistics has them
 abbrev pub counts_of : Stats → List ℕ

@@ -2,13 +2,15 @@
 
 ghost use Rattle.std.specs.Prelude.{◌≡◌, ◌≢◌, ◌<◌, ◌≤◌, ◌^◌, ◌+◌, ◌↔◌, ◌⊎◌, List, true, false, [], length, vec_len, vec_capacity, slice_index, Err, IfOk, IfErr, OnErr, IfSome, IsSome};
 ghost use Rattle.std.specs.List.{sum_by};
+ghost use Rattle.std.specs.Arc.{arc_value};
 ghost use Rattle.std.specs.FinMap.{entries};
+ghost use Rattle.crossbeam_utils.specs.Seq.{cell_view};
 ghost use Rattle.im_types.specs.Changes.{Effect};
 ghost use Rattle.im_types.specs.Lives.{Shown};
 ghost use Rattle.im_lock.specs.View.{View};
-ghost use Rattle.im_stats.specs.Counts.{nothing, IsSound};
+ghost use Rattle.im_stats.specs.Counts.{nothing, writer, IsSound, NoLess};
 ghost use Rattle.im_front.specs.declared.fault.Fault.TheVariants.{Failed, Busy, TooMany, TraceFull, Memory};
-ghost use Rattle.im_front.specs.Calls.{asked_by, told_by, trace_of, is_blocked, may_end, most_entries};
+ghost use Rattle.im_front.specs.Calls.{asked_by, told_by, trace_of, is_blocked, may_end, most_entries, most_key};
 ghost use Rattle.im_front.specs.Store.{IsResting, LookKept};
 ghost use Rattle.im_front.specs.Held.{Records, is_full, IsRun, StopKeeps, IsCut, WhyNotCut, after_reply, after_trace};
 
@@ -18,6 +20,7 @@ use crate::reply::Reply;
 use crate::share::Share;
 use crate::step::Step;
 use crate::store::Store;
+use crate::told::{Room, Told};
 use im_lock::isolation;
 use im_stats::{Pass, StatsCell};
 use im_types::{Key, Rid};
@@ -267,16 +270,37 @@ impl<E: Store, L: Ledger> Held<E, L> {
         if reply.is_blocked() {
             return reply;
         }
-        let told = reply.copy_into(room);
+        let told = Told::of(&reply, room);
         let now = counted(*counts, &reply);
         trace.push_reserved(Recorded {
             step: asked,
             reply: told,
         });
         book.add(&mut mine.made, 1);
-        cell.store(rt, pass, now);
+        publish(rt, cell, pass, *counts, now);
         *counts = now;
         reply
+    }
+}
+
+// Writes the counts to the cell of statistics, where they are not those that it has.
+fn publish<R: Wait>(
+    rt: &R,
+    cell: &Arc<StatsCell, Global>,
+    pass: &mut Pass,
+    old: [u64; 3],
+    now: [u64; 3],
+)
+    requires cell { pass.old.table_id ≡ (arc_value cell.now).table.shared.table_id }
+    requires whole { length now ≡ 3 }
+    requires writes { cell_view pass.old ≡ writer old }
+    requires sound { IsSound now }
+    requires rises { NoLess old now }
+    ensures cell { pass.new.table_id ≡ pass.old.table_id }
+    ensures wrote { cell_view pass.new ≡ writer now }
+{
+    if now != old {
+        cell.store(rt, pass, now);
     }
 }
 
@@ -295,21 +319,17 @@ fn is_refused(len: usize, step: &Step) -> bool
     len >= FULL && !step.may_end()
 }
 
-// Room for a step and its reply: one place more in the trace, a copy of the step, and places for as many entries as it may be
-// answered.
-fn room_for(
-    alloc: Global,
-    trace: &mut Vec<Recorded>,
-    step: &Step,
-) -> Option<(Step, Vec<(Key, Rid)>)>
+// Room for a step and its reply: one place more in the trace, a copy of the step, and room for what it may be answered.
+fn room_for(alloc: Global, trace: &mut Vec<Recorded>, step: &Step) -> Option<(Step, Room)>
     ensures kept { trace.new.items ≡ trace.old.items }
     ensures place { IfSome result (λ r. vec_len trace.new < vec_capacity trace.new) }
     ensures step { IfSome result (λ r. asked_by r.0 ≡ asked_by step.now) }
-    ensures entries { IfSome result (λ r. (r.1.items ≡ []) × (most_entries (asked_by step.now) ≤ vec_capacity r.1)) }
+    ensures key { IfSome result (λ r. most_key (asked_by step.now) ≤ vec_capacity r.1.key) }
+    ensures entries { IfSome result (λ r. most_entries (asked_by step.now) ≤ vec_capacity r.1.entries) }
 {
     trace.reserve(1).ok()?;
     let copy = step.try_clone(alloc).ok()?;
-    let room = Vec::with_capacity(alloc, step.most_entries()).ok()?;
+    let room = Room::of(alloc, step)?;
     Some((copy, room))
 }
 

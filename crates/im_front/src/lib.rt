@@ -27,6 +27,7 @@ mod share;
 mod stats;
 mod step;
 mod store;
+mod told;
 mod turn;
 
 pub use fault::Fault;
@@ -39,4 +40,5 @@ pub use share::Share;
 pub use stats::Stats;
 pub use step::Step;
 pub use store::Store;
+pub use told::Told;
 pub use turn::{NoTurn, Turn};

@@ -1,7 +1,7 @@
 //! What a store that many transactions use at once answers.
 
-ghost use Rattle.std.specs.Prelude.{◌≡◌, ◌≤◌, [], length, vec_capacity};
-ghost use Rattle.im_front.specs.Calls.{told_by, is_blocked, may_unblock, entries_in};
+ghost use Rattle.std.specs.Prelude.{◌≡◌};
+ghost use Rattle.im_front.specs.Calls.{told_by, is_blocked, may_unblock};
 
 use crate::fault::Fault;
 use im_types::{Key, Rid, TxnId};
@@ -74,52 +74,4 @@ impl Reply {
                 )
         )
     }
-
-    /// A reply that says the same. Its entries go into the room that is handed in.
-    pub fn copy_into(&self, room: Vec<(Key, Rid)>) -> Reply
-        requires empty { room.items ≡ [] }
-        requires room { length (entries_in (told_by self.now)) ≤ vec_capacity room }
-        ensures { told_by result ≡ told_by self.now }
-    {
-        match self {
-            Reply::Started(t) => Reply::Started(*t),
-            Reply::Found(rid) => Reply::Found(*rid),
-            Reply::Absent => Reply::Absent,
-            Reply::Entry(key, rid) => Reply::Entry(same_key(key), *rid),
-            Reply::End => Reply::End,
-            Reply::Entries(list) => Reply::Entries(filled(room, list.as_slice())),
-            Reply::Inserted => Reply::Inserted,
-            Reply::Duplicate => Reply::Duplicate,
-            Reply::Deleted => Reply::Deleted,
-            Reply::Committed => Reply::Committed,
-            Reply::RolledBack => Reply::RolledBack,
-            Reply::More => Reply::More,
-            Reply::Blocked(blocker) => Reply::Blocked(*blocker),
-            Reply::Die => Reply::Die,
-            Reply::Done => Reply::Done,
-            Reply::Refused(fault) => Reply::Refused(*fault),
-        }
-    }
-}
-
-// The same key.
-fn same_key(key: &Key) -> Key
-    ensures { result ≡ key.now }
-{
-    match Key::new(key.bytes()) {
-        Ok(copy) => copy,
-        Err(_) => unreachable!(),
-    }
-}
-
-// The room with these entries.
-fn filled(mut room: Vec<(Key, Rid)>, list: &[(Key, Rid)]) -> Vec<(Key, Rid)>
-    requires empty { room.items ≡ [] }
-    requires room { length list.now ≤ vec_capacity room }
-    ensures { result.items ≡ list.now }
-{
-    for entry in list {
-        room.push_reserved((same_key(&entry.0), entry.1));
-    }
-    room
 }

@@ -1,7 +1,7 @@
 //! What is asked of a store that many transactions use at once.
 
 ghost use Rattle.std.specs.Prelude.{◌≡◌, IfOk};
-ghost use Rattle.im_front.specs.Calls.{asked_by, may_end, most_entries};
+ghost use Rattle.im_front.specs.Calls.{asked_by, may_end, most_entries, most_key};
 
 use im_types::{PageNo, Rid, TxnId};
 use std::alloc::{AllocError, Global};
@@ -34,7 +34,7 @@ pub enum Step {
     FlushPage(PageNo),
     /// Makes every record so far durable.
     Force,
-    /// Logs where a restart may begin.
+    /// Asks that a restart may begin later in the log. A store whose log has no checkpoints makes every record durable, as `Force` does.
     Checkpoint,
 }
 
@@ -78,6 +78,16 @@ impl Step {
     {
         match self {
             Step::Scan(_, _, _, limit) => (*limit).clamp(1, 256) as usize,
+            _ => 0,
+        }
+    }
+
+    /// How many bytes the key of its reply may have at most.
+    pub fn most_key(&self) -> usize
+        ensures { result ≡ most_key (asked_by self.now) }
+    {
+        match self {
+            Step::Seek(..) | Step::Next(..) => 255,
             _ => 0,
         }
     }

@@ -1,11 +1,14 @@
-//! `imload [--threads N] [--txns M] [--flush F] [--time]`: threads that make transactions at once on one store in memory.
+//! `imload [--threads N] [--txns M] [--flush F] [--time]`: threads that make transactions at once on one store in memory. On a
+//! terminal it says on standard error which threads have begun.
 #![tactic(auto)]
 
+mod progress;
 #[cfg(test)]
 mod tests;
 
+use crate::progress::Progress;
 use clap::error::ErrorKind;
-use im_front::{LoadArgs, NoTurn};
+use im_front::LoadArgs;
 use im_load::{load_args, load_text};
 use std::alloc::AllocError;
 use std::process::ExitCode;
@@ -17,7 +20,14 @@ fn main(rt: HostRuntime) -> io::Result<ExitCode> {
     match load_args(rt.alloc(), &words) {
         Ok(command) => {
             let start = Instant::now(&rt)?;
-            let status = load_text(&rt, rt.alloc(), command.args, &NoTurn, &mut io::writer(&rt))?;
+            let progress = Progress::new(&rt, command.args.threads());
+            let status = load_text(
+                &rt,
+                rt.alloc(),
+                command.args,
+                &progress,
+                &mut io::writer(&rt),
+            )?;
             if command.timed && status == 0 {
                 let nanos = start.elapsed(&rt)?.as_nanos();
                 println!(rt; "transactions a second {}", rate(&command.args, nanos))?;

@@ -6,7 +6,7 @@ use Rattle.im_front.specs.declared.recorded.Recorded.{Recorded}
 use Rattle.im_front.specs.Calls.{asked_by, told_by, trace_of, is_blocked}
 use Rattle.im_front.specs.Events.{shown_in}
 use Rattle.im_front.specs.Held.{State, Stands, is_full}
-use Rattle.im_front.proofs.Replies.{never_full, few_entries, blocked_stays, blocked_shows}
+use Rattle.im_front.proofs.Replies.{never_full, few_entries, entry_asked, blocked_stays, blocked_shows}
 use Rattle.im_front.proofs.Steps.{stands_push, stands_life, trace_of-recorded}
 use Rattle.im_front.proofs.held.Held.step.Goals as goal
 
@@ -29,15 +29,22 @@ invariant_of-self-then-is_blocked g c =
       i.5,
     )
 
-pub copy_into-told-requires-clause-room : goal.copy_into-told-requires-clause-room
-copy_into-told-requires-clause-room g c =
+pub of-told-requires-clause-key : goal.of-told-requires-clause-key
+of-told-requires-clause-key g c h =
+    let i = c.self.invariant.0 in
+    let made = c.step-reply.ensures.kept i.before (shown_in nothing_shown i.events) i.view i.life_is in
+    let most = entry_asked i.view made.next (asked_by c.args.step.now) (told_by c.step-reply.result) made.moves h in
+    omega (arith, most, c.in-Some.ensures.key)
+
+pub of-told-requires-clause-entries : goal.of-told-requires-clause-entries
+of-told-requires-clause-entries g c =
     let h = c.self.invariant.0 in
     let made = c.step-reply.ensures.kept h.before (shown_in nothing_shown h.events) h.view h.life_is in
     let few = few_entries h.view made.next (asked_by c.args.step.now) (told_by c.step-reply.result) made.moves in
-    omega (arith, few, c.in-Some.ensures.entries.1)
+    omega (arith, few, c.in-Some.ensures.entries)
 
-pub store-requires-clause-sound : goal.store-requires-clause-sound
-store-requires-clause-sound g c =
+pub publish-requires-clause-sound : goal.publish-requires-clause-sound
+publish-requires-clause-sound g c =
     let h = c.self.invariant.0 in
     let made = c.step-reply.ensures.kept h.before (shown_in nothing_shown h.events) h.view h.life_is in
     let stands = stands_push g.E.Store.life c.self.inside.base.items (trace_of c.self.inside.trace.items) c.self.inside.engine c.self.inside.cut c.self.inside.kept c.self.inside.counts h c.step-reply.new.self c.counted-now.result (asked_by c.args.step.now)
@@ -52,16 +59,16 @@ invariant_of-self-2 g c =
     let made = c.step-reply.ensures.kept h.before (shown_in nothing_shown h.events) h.view h.life_is in
     let stands = stands_push g.E.Store.life c.self.inside.base.items (trace_of c.self.inside.trace.items) c.self.inside.engine c.self.inside.cut c.self.inside.kept c.self.inside.counts h c.step-reply.new.self c.counted-now.result (asked_by c.args.step.now)
     (told_by c.step-reply.result) made c.counted-now.ensures in
-    let last : Recorded = record { step = c.in-Some.asked; reply = c.copy_into-told.result } in
+    let last : Recorded = record { step = c.in-Some.asked; reply = c.of-told.result } in
     let items : c.push_reserved.new.self.items ≡ c.self.inside.trace.items ++ last ∷ [] = c.push_reserved.ensures.items ∙ ap (λ (l : List Recorded). l ++ last ∷ []) c.in-Some.ensures.kept in
-    let trace = trace_of-recorded c.self.inside.trace.items c.push_reserved.new.self.items last (asked_by c.args.step.now) (told_by c.step-reply.result) items c.in-Some.ensures.step c.copy_into-told.ensures in
+    let trace = trace_of-recorded c.self.inside.trace.items c.push_reserved.new.self.items last (asked_by c.args.step.now) (told_by c.step-reply.result) items c.in-Some.ensures.step c.of-told.ensures in
     let longer = ap length items ∙ length-append c.self.inside.trace.items (last ∷ []) in (
       subst (λ (l : List (Step × Reply)). Stands g.E.Store.life c.self.inside.base.items l c.step-reply.new.self c.self.inside.cut c.self.inside.kept c.counted-now.result) (sym trace) stands,
       omega (arith, c.add.ensures.total, i.1, longer),
       i.2,
       i.3,
-      c.store.ensures.cell.0 ∙ i.4,
-      c.store.ensures.wrote,
+      c.publish.ensures.cell ∙ i.4,
+      c.publish.ensures.wrote,
     )
 
 pub returns-clause-records : goal.returns-clause-records
@@ -69,9 +76,9 @@ returns-clause-records g c =
     let h = c.self.invariant.0 in
     let is = c.self.view_is in
     let made = c.step-reply.ensures.kept h.before (shown_in nothing_shown h.events) h.view h.life_is in
-    let last : Recorded = record { step = c.in-Some.asked; reply = c.copy_into-told.result } in
+    let last : Recorded = record { step = c.in-Some.asked; reply = c.of-told.result } in
     let items : c.push_reserved.new.self.items ≡ c.self.inside.trace.items ++ last ∷ [] = c.push_reserved.ensures.items ∙ ap (λ (l : List Recorded). l ++ last ∷ []) c.in-Some.ensures.kept in
-    let trace = trace_of-recorded c.self.inside.trace.items c.push_reserved.new.self.items last (asked_by c.args.step.now) (told_by c.step-reply.result) items c.in-Some.ensures.step c.copy_into-told.ensures
+    let trace = trace_of-recorded c.self.inside.trace.items c.push_reserved.new.self.items last (asked_by c.args.step.now) (told_by c.step-reply.result) items c.in-Some.ensures.step c.of-told.ensures
     ∙ ap (λ (s : State g.row.E.Denot). trace_of s.trace ++ (asked_by c.args.step.now, told_by c.step-reply.result) ∷ []) is in
     let unblocked : is_blocked (told_by c.step-reply.result) ≡ false = sym c.is_blocked.ensures ∙ c.if-is_blocked.false in
     let room : is_full (told_by c.step-reply.result) ≡ false = never_full h.view made.next (asked_by c.args.step.now) (told_by c.step-reply.result) made.moves in

@@ -1,6 +1,6 @@
 use Rattle.std.proofs.Common.{◌≡◌, ◌≤◌, length, take}
 use Rattle.std.specs.Vec.{vec_len, vec_capacity}
-use Rattle.im_front.proofs.reply.filled.Given as goal
+use Rattle.im_front.proofs.told.filled.Given as goal
 
 abbrev pub invariant-loop-entry : goal.invariant-loop-entry
 invariant-loop-entry l = record {
