@@ -1,0 +1,11 @@
+pub mod Numbered
+pub mod Faults
+pub mod Stands
+pub mod Running
+pub mod Kept
+pub mod Looking
+pub mod Told
+pub mod Counted
+pub mod Turns
+pub mod Lived
+pub mod Serves
