@@ -2,7 +2,8 @@
 
 use crate::disk::{BoundedDisk, Files};
 use crate::store::{PAGES, are_committed, key_of, make, open};
-use im_types::{Fault, FileId, Step};
+use im_front::Step;
+use im_types::{Fault, FileId};
 use std::alloc::Global;
 
 /// Which byte is damaged.

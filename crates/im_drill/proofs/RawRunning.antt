@@ -1,5 +1,5 @@
 -- Lives over the gate alone, run: one line more, one life more.
-use Rattle.std.proofs.Common.{◌≡◌, ◌≢◌, ℕ, zero, suc, ◌<◌, Bool, true, false, List, [], ◌∷◌, ◌++◌, length, get_or, Option, Result, Ok, Err, IfOk, IfErr, map, Vec, Global, ◌⊎◌, ◌↔◌, inl, inr, refl, sym, ◌∙◌, subst, arith}
+use Rattle.std.proofs.Common.{◌≡◌, ◌≢◌, ℕ, zero, suc, ◌<◌, true, List, [], ◌∷◌, ◌++◌, length, get_or, Option, Result, Ok, Err, IfOk, IfErr, map, Vec, Global, ◌⊎◌, ◌↔◌, inl, inr, refl, sym, ◌∙◌, subst, arith}
 use Rattle.im_types.specs.declared.fault.Fault.{Fault}
 use Rattle.im_types.specs.declared.fault.Fault.TheVariants.{Memory, Device, NotAStore}
 use Rattle.im_disk.specs.declared.disk.Disk.{Ghosts}
@@ -14,8 +14,8 @@ use Rattle.im_drill.specs.declared.life_answers.RawReply.{RawReply}
 use Rattle.im_drill.specs.declared.life_answers.LifeAnswers.{LifeAnswers}
 use Rattle.im_drill.specs.Lives.{StandsFor}
 use Rattle.im_drill.specs.Answered.{AreRawStores}
-use Rattle.im_drill.specs.Stops.{HasCome, IsNextDisk, IsOpenedOr}
-use Rattle.im_drill.specs.RawRuns.{IsRawLineRun, AreRawLinesRun, IsRawOpening, IsRawLastRun, AreRawAnswersOf, IsRawLifeRun, AreRawLivesRun}
+use Rattle.im_drill.specs.Stops.{IsNextDisk, IsOpenedOr}
+use Rattle.im_drill.specs.RawRuns.{IsRawLineRun, AreRawLinesRun, IsRawOpening, IsRawLastRun, IsRawLifeRun, AreRawLivesRun}
 
 -- one opening more that did not say that the files are no store
 pub raw_stores_push : (told : List LifeAnswers) (answers : LifeAnswers) → AreRawStores told → answers.opening ≢ openings.Refused NotAStore → AreRawStores (told ++ answers ∷ [])

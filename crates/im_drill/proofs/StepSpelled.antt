@@ -1,72 +1,86 @@
 -- What lines that ask for steps spell, and what they do not.
-use Rattle.std.proofs.Common.{◌≡◌, ◌≢◌, ℕ, List, ◌∷◌, ◌++◌, slice_index, codes, Result, Ok, Err, IfErr, sym, ◌∙◌, ap, subst, arith}
-use Rattle.im_types.specs.declared.step.Step.{Step}
-use Rattle.im_types.specs.declared.step.Step.TheVariants as steps
+use Rattle.std.proofs.Common.{◌≡◌, ◌≢◌, ℕ, List, [], ◌∷◌, ◌++◌, slice_index, if◌then◌else◌, ◌==◌, codes, Result, Ok, Err, IfErr, sym, ◌∙◌, ap, subst, arith}
+use Rattle.im_front.specs.declared.step.Step.{Step}
+use Rattle.im_front.specs.declared.step.Step.TheVariants as steps
 use Rattle.im_drill.specs.Lines.{Lacks, IsNumber, IsPageNumber}
-use Rattle.im_drill.specs.Steps.{IsKeyWord, IsNumbered, IsKeyed, IsKeyedWith, SpellsStep}
+use Rattle.im_drill.specs.Scripts.{Kind, SetsLog, Begins, Puts, Counts, Steps, Stops}
+use Rattle.im_drill.specs.Steps.{IsKeyWord, IsNumbered, IsKeyed, IsKeyedWith, IsBehindKey, IsRanged, SpellsStep}
 use Rattle.im_drill.proofs.Lines.{lacks_mid, cut_once}
 use Rattle.im_drill.proofs.Spelled.{digits_lack}
 use Rattle.im_drill.proofs.KeyWords.{key_lacks}
 
--- the first byte of a line that asks for a step
-abbrev pub step_byte : Step → ℕ
-step_byte steps.Begin = 98
-step_byte (steps.Fetch t key) = 102
-step_byte (steps.Insert t key rid) = 105
-step_byte (steps.Delete t key) = 100
-step_byte (steps.Commit t) = 99
-step_byte (steps.FlushPage page) = 102
-step_byte steps.Force = 102
+-- the kind of a good line of a script of lives of a store, by its first bytes, and another kind for `raw` and `put`
+abbrev pub store_text_kind : List ℕ → Kind
+store_text_kind text =
+    if slice_index text 0 == 108 then Begins
+    else if slice_index text 0 == 115 then (if slice_index text 1 == 116 then Stops else if slice_index text 2 == 116 then SetsLog else Steps)
+    else if slice_index text 0 == 99 then (if slice_index text 1 == 97 then Counts else Steps)
+    else if slice_index text 0 == 112 then (if slice_index text 1 == 97 then Counts else Puts)
+    else if slice_index text 0 == 114 then (if slice_index text 1 == 97 then Puts else Steps)
+    else Steps
 
-pub step_first : (text : List ℕ) (step : Step) → SpellsStep text step → slice_index text 0 ≡ step_byte step
-step_first text steps.Begin s = ap (λ (t : List ℕ). slice_index t 0) s
-step_first text (steps.Fetch t key) s = ap (λ (t : List ℕ). slice_index t 0) s.1
-step_first text (steps.Insert t key rid) s = ap (λ (t : List ℕ). slice_index t 0) s.1
-step_first text (steps.Delete t key) s = ap (λ (t : List ℕ). slice_index t 0) s.1
-step_first text (steps.Commit t) s = ap (λ (t : List ℕ). slice_index t 0) s.1
-step_first text (steps.FlushPage page) s = ap (λ (t : List ℕ). slice_index t 0) s.1
-step_first text steps.Force s = ap (λ (t : List ℕ). slice_index t 0) s
+-- a line that asks for a step is of that kind
+pub step_kind : (text : List ℕ) (step : Step) → SpellsStep text step → Steps ≡ store_text_kind text
+step_kind text steps.Begin s = sym (ap store_text_kind s)
+step_kind text (steps.Fetch t key) s = sym (ap store_text_kind s.1)
+step_kind text (steps.Seek t key) s = sym (ap store_text_kind s.1)
+step_kind text (steps.Next t key) s = sym (ap store_text_kind s.1)
+step_kind text (steps.Scan t lo hi limit) s = sym (ap store_text_kind s.1)
+step_kind text (steps.Insert t key rid) s = sym (ap store_text_kind s.1)
+step_kind text (steps.Delete t key) s = sym (ap store_text_kind s.1)
+step_kind text (steps.Commit t) s = sym (ap store_text_kind s.1)
+step_kind text (steps.Rollback t) s = sym (ap store_text_kind s.1)
+step_kind text (steps.Continue t) s = sym (ap store_text_kind s.1)
+step_kind text (steps.FlushPage page) s = sym (ap store_text_kind s.1)
+step_kind text steps.Force s = sym (ap store_text_kind s)
+step_kind text steps.Checkpoint s = absurd s
 
--- the second one
-abbrev step_second : Step → ℕ
-step_second steps.Begin = 101
-step_second (steps.Fetch t key) = 101
-step_second (steps.Insert t key rid) = 110
-step_second (steps.Delete t key) = 101
-step_second (steps.Commit t) = 111
-step_second (steps.FlushPage page) = 108
-step_second steps.Force = 111
+-- the first word of a line that asks for a step
+abbrev pub word_of : Step → List ℕ
+word_of steps.Begin = codes "begin"
+word_of (steps.Fetch t key) = codes "fetch"
+word_of (steps.Seek t key) = codes "seek"
+word_of (steps.Next t key) = codes "next"
+word_of (steps.Scan t lo hi limit) = codes "scan"
+word_of (steps.Insert t key rid) = codes "insert"
+word_of (steps.Delete t key) = codes "delete"
+word_of (steps.Commit t) = codes "commit"
+word_of (steps.Rollback t) = codes "rollback"
+word_of (steps.Continue t) = codes "continue"
+word_of (steps.FlushPage page) = codes "flush"
+word_of steps.Force = codes "force"
+word_of steps.Checkpoint = []
 
-second_is : (text : List ℕ) (step : Step) → SpellsStep text step → slice_index text 1 ≡ step_second step
-second_is text steps.Begin s = ap (λ (t : List ℕ). slice_index t 1) s
-second_is text (steps.Fetch t key) s = ap (λ (t : List ℕ). slice_index t 1) s.1
-second_is text (steps.Insert t key rid) s = ap (λ (t : List ℕ). slice_index t 1) s.1
-second_is text (steps.Delete t key) s = ap (λ (t : List ℕ). slice_index t 1) s.1
-second_is text (steps.Commit t) s = ap (λ (t : List ℕ). slice_index t 1) s.1
-second_is text (steps.FlushPage page) s = ap (λ (t : List ℕ). slice_index t 1) s.1
-second_is text steps.Force s = ap (λ (t : List ℕ). slice_index t 1) s
-
--- a word alone is `begin` or `force`, or asks for no step
-pub lone_step_bad : (word : List ℕ) (step : Step) → SpellsStep word step → Lacks 32 word → word ≢ codes "begin" → word ≢ codes "force" → ⊥
-lone_step_bad word steps.Begin s l b f = b s
-lone_step_bad word steps.Force s l b f = f s
-lone_step_bad word (steps.FlushPage page) s l b f = lacks_mid 32 (codes "flush") s.0 (subst (λ (t : List ℕ). Lacks 32 t) s.1 l)
-lone_step_bad word (steps.Fetch t key) s l b f = lacks_mid 32 (codes "fetch") s.0 (subst (λ (t : List ℕ). Lacks 32 t) s.1 l)
-lone_step_bad word (steps.Insert t key rid) s l b f = lacks_mid 32 (codes "insert") s.0 (subst (λ (t : List ℕ). Lacks 32 t) s.1 l)
-lone_step_bad word (steps.Delete t key) s l b f = lacks_mid 32 (codes "delete") s.0 (subst (λ (t : List ℕ). Lacks 32 t) s.1 l)
-lone_step_bad word (steps.Commit t) s l b f = lacks_mid 32 (codes "commit") s.0 (subst (λ (t : List ℕ). Lacks 32 t) s.1 l)
-
-five_lack : Lacks 32 (codes "fetch")
-five_lack = (λ x. omega arith, (λ x. omega arith, (λ x. omega arith, (λ x. omega arith, (λ x. omega arith, tt)))))
+-- what stands behind the word and a space
+abbrev pub SpellsRest : Step → List ℕ → Type 0
+SpellsRest steps.Begin rest = ⊥
+SpellsRest (steps.Fetch t key) rest = IsKeyed rest t key.items
+SpellsRest (steps.Seek t key) rest = IsKeyed rest t key.items
+SpellsRest (steps.Next t key) rest = IsKeyed rest t key.items
+SpellsRest (steps.Scan t lo hi limit) rest = IsRanged rest t lo.items hi.items limit
+SpellsRest (steps.Insert t key rid) rest = IsKeyedWith rest t key.items rid
+SpellsRest (steps.Delete t key) rest = IsKeyed rest t key.items
+SpellsRest (steps.Commit t) rest = IsNumber rest t
+SpellsRest (steps.Rollback t) rest = IsNumber rest t
+SpellsRest (steps.Continue t) rest = IsNumber rest t
+SpellsRest (steps.FlushPage page) rest = IsPageNumber rest page
+SpellsRest steps.Force rest = ⊥
+SpellsRest steps.Checkpoint rest = ⊥
 
 begin_lacks : Lacks 32 (codes "begin")
 begin_lacks = (λ x. omega arith, (λ x. omega arith, (λ x. omega arith, (λ x. omega arith, (λ x. omega arith, tt)))))
 
-flush_lacks : Lacks 32 (codes "flush")
-flush_lacks = (λ x. omega arith, (λ x. omega arith, (λ x. omega arith, (λ x. omega arith, (λ x. omega arith, tt)))))
+fetch_lacks : Lacks 32 (codes "fetch")
+fetch_lacks = (λ x. omega arith, (λ x. omega arith, (λ x. omega arith, (λ x. omega arith, (λ x. omega arith, tt)))))
 
-force_lacks : Lacks 32 (codes "force")
-force_lacks = (λ x. omega arith, (λ x. omega arith, (λ x. omega arith, (λ x. omega arith, (λ x. omega arith, tt)))))
+seek_lacks : Lacks 32 (codes "seek")
+seek_lacks = (λ x. omega arith, (λ x. omega arith, (λ x. omega arith, (λ x. omega arith, tt))))
+
+next_lacks : Lacks 32 (codes "next")
+next_lacks = (λ x. omega arith, (λ x. omega arith, (λ x. omega arith, (λ x. omega arith, tt))))
+
+scan_lacks : Lacks 32 (codes "scan")
+scan_lacks = (λ x. omega arith, (λ x. omega arith, (λ x. omega arith, (λ x. omega arith, tt))))
 
 insert_lacks : Lacks 32 (codes "insert")
 insert_lacks = (λ x. omega arith, (λ x. omega arith, (λ x. omega arith, (λ x. omega arith, (λ x. omega arith, (λ x. omega arith, tt))))))
@@ -77,71 +91,266 @@ delete_lacks = (λ x. omega arith, (λ x. omega arith, (λ x. omega arith, (λ x
 commit_lacks : Lacks 32 (codes "commit")
 commit_lacks = (λ x. omega arith, (λ x. omega arith, (λ x. omega arith, (λ x. omega arith, (λ x. omega arith, (λ x. omega arith, tt))))))
 
--- a line of several words that asks for a step begins with one of four
-pub step_word_said : (word rest : List ℕ) (step : Step) → SpellsStep (word ++ 32 ∷ rest) step → Lacks 32 word → word ≢ codes "commit" → word ≢ codes "fetch" → word ≢ codes "delete" → word ≢ codes "insert" → word ≢ codes "flush" → ⊥
-step_word_said word rest steps.Begin s l c f d i u = lacks_mid 32 word rest (subst (λ (x : List ℕ). Lacks 32 x) (sym s) begin_lacks)
-step_word_said word rest steps.Force s l c f d i u = lacks_mid 32 word rest (subst (λ (x : List ℕ). Lacks 32 x) (sym s) force_lacks)
-step_word_said word rest (steps.FlushPage page) s l c f d i u = u (cut_once 32 word (codes "flush") rest s.0 l flush_lacks s.1).0
-step_word_said word rest (steps.Fetch t key) s l c f d i u = f (cut_once 32 word (codes "fetch") rest s.0 l five_lack s.1).0
-step_word_said word rest (steps.Insert t key rid) s l c f d i u = i (cut_once 32 word (codes "insert") rest s.0 l insert_lacks s.1).0
-step_word_said word rest (steps.Delete t key) s l c f d i u = d (cut_once 32 word (codes "delete") rest s.0 l delete_lacks s.1).0
-step_word_said word rest (steps.Commit t) s l c f d i u = c (cut_once 32 word (codes "commit") rest s.0 l commit_lacks s.1).0
+rollback_lacks : Lacks 32 (codes "rollback")
+rollback_lacks = (λ x. omega arith, (λ x. omega arith, (λ x. omega arith, (λ x. omega arith, (λ x. omega arith, (λ x. omega arith, (λ x. omega arith, (λ x. omega arith, tt))))))))
+
+continue_lacks : Lacks 32 (codes "continue")
+continue_lacks = (λ x. omega arith, (λ x. omega arith, (λ x. omega arith, (λ x. omega arith, (λ x. omega arith, (λ x. omega arith, (λ x. omega arith, (λ x. omega arith, tt))))))))
+
+flush_lacks : Lacks 32 (codes "flush")
+flush_lacks = (λ x. omega arith, (λ x. omega arith, (λ x. omega arith, (λ x. omega arith, (λ x. omega arith, tt)))))
+
+force_lacks : Lacks 32 (codes "force")
+force_lacks = (λ x. omega arith, (λ x. omega arith, (λ x. omega arith, (λ x. omega arith, (λ x. omega arith, tt)))))
+
+-- a line is cut in one way at its first space
+pub words_said : (word rest : List ℕ) (step : Step) → SpellsStep (word ++ 32 ∷ rest) step → Lacks 32 word → (word ≡ word_of step) × SpellsRest step rest
+words_said word rest steps.Begin s l = absurd (lacks_mid 32 word rest (subst (λ (x : List ℕ). Lacks 32 x) (sym s) begin_lacks))
+words_said word rest (steps.Fetch t key) s l =
+    let e = cut_once 32 word (codes "fetch") rest s.0 l fetch_lacks s.1 in
+    (e.0, subst (λ (x : List ℕ). IsKeyed x t key.items) (sym e.1) s.2)
+words_said word rest (steps.Seek t key) s l =
+    let e = cut_once 32 word (codes "seek") rest s.0 l seek_lacks s.1 in
+    (e.0, subst (λ (x : List ℕ). IsKeyed x t key.items) (sym e.1) s.2)
+words_said word rest (steps.Next t key) s l =
+    let e = cut_once 32 word (codes "next") rest s.0 l next_lacks s.1 in
+    (e.0, subst (λ (x : List ℕ). IsKeyed x t key.items) (sym e.1) s.2)
+words_said word rest (steps.Scan t lo hi limit) s l =
+    let e = cut_once 32 word (codes "scan") rest s.0 l scan_lacks s.1 in
+    (e.0, subst (λ (x : List ℕ). IsRanged x t lo.items hi.items limit) (sym e.1) s.2)
+words_said word rest (steps.Insert t key rid) s l =
+    let e = cut_once 32 word (codes "insert") rest s.0 l insert_lacks s.1 in
+    (e.0, subst (λ (x : List ℕ). IsKeyedWith x t key.items rid) (sym e.1) s.2)
+words_said word rest (steps.Delete t key) s l =
+    let e = cut_once 32 word (codes "delete") rest s.0 l delete_lacks s.1 in
+    (e.0, subst (λ (x : List ℕ). IsKeyed x t key.items) (sym e.1) s.2)
+words_said word rest (steps.Commit t) s l =
+    let e = cut_once 32 word (codes "commit") rest s.0 l commit_lacks s.1 in
+    (e.0, subst (λ (x : List ℕ). IsNumber x t) (sym e.1) s.2)
+words_said word rest (steps.Rollback t) s l =
+    let e = cut_once 32 word (codes "rollback") rest s.0 l rollback_lacks s.1 in
+    (e.0, subst (λ (x : List ℕ). IsNumber x t) (sym e.1) s.2)
+words_said word rest (steps.Continue t) s l =
+    let e = cut_once 32 word (codes "continue") rest s.0 l continue_lacks s.1 in
+    (e.0, subst (λ (x : List ℕ). IsNumber x t) (sym e.1) s.2)
+words_said word rest (steps.FlushPage page) s l =
+    let e = cut_once 32 word (codes "flush") rest s.0 l flush_lacks s.1 in
+    (e.0, subst (λ (x : List ℕ). IsPageNumber x page) (sym e.1) s.2)
+words_said word rest steps.Force s l = absurd (lacks_mid 32 word rest (subst (λ (x : List ℕ). Lacks 32 x) (sym s) force_lacks))
+words_said word rest steps.Checkpoint s l = absurd s
+
+-- a word alone is `begin` or `force`, or asks for no step
+pub lone_step_bad : (word : List ℕ) (step : Step) → SpellsStep word step → Lacks 32 word → word ≢ codes "begin" → word ≢ codes "force" → ⊥
+lone_step_bad word steps.Begin s l b f = b s
+lone_step_bad word (steps.Fetch t key) s l b f = lacks_mid 32 (codes "fetch") s.0 (subst (λ (t : List ℕ). Lacks 32 t) s.1 l)
+lone_step_bad word (steps.Seek t key) s l b f = lacks_mid 32 (codes "seek") s.0 (subst (λ (t : List ℕ). Lacks 32 t) s.1 l)
+lone_step_bad word (steps.Next t key) s l b f = lacks_mid 32 (codes "next") s.0 (subst (λ (t : List ℕ). Lacks 32 t) s.1 l)
+lone_step_bad word (steps.Scan t lo hi limit) s l b f = lacks_mid 32 (codes "scan") s.0 (subst (λ (t : List ℕ). Lacks 32 t) s.1 l)
+lone_step_bad word (steps.Insert t key rid) s l b f = lacks_mid 32 (codes "insert") s.0 (subst (λ (t : List ℕ). Lacks 32 t) s.1 l)
+lone_step_bad word (steps.Delete t key) s l b f = lacks_mid 32 (codes "delete") s.0 (subst (λ (t : List ℕ). Lacks 32 t) s.1 l)
+lone_step_bad word (steps.Commit t) s l b f = lacks_mid 32 (codes "commit") s.0 (subst (λ (t : List ℕ). Lacks 32 t) s.1 l)
+lone_step_bad word (steps.Rollback t) s l b f = lacks_mid 32 (codes "rollback") s.0 (subst (λ (t : List ℕ). Lacks 32 t) s.1 l)
+lone_step_bad word (steps.Continue t) s l b f = lacks_mid 32 (codes "continue") s.0 (subst (λ (t : List ℕ). Lacks 32 t) s.1 l)
+lone_step_bad word (steps.FlushPage page) s l b f = lacks_mid 32 (codes "flush") s.0 (subst (λ (t : List ℕ). Lacks 32 t) s.1 l)
+lone_step_bad word steps.Force s l b f = f s
+lone_step_bad word steps.Checkpoint s l b f = s
+
+-- a line of several words that asks for a step begins with one of ten
+pub step_word_said : (word rest : List ℕ) (step : Step) → SpellsStep (word ++ 32 ∷ rest) step → Lacks 32 word → word ≢ codes "commit" → word ≢ codes "rollback" → word ≢ codes "continue" → word ≢ codes "flush" → word ≢ codes "fetch" → word ≢ codes "seek" → word ≢ codes "next" → word ≢ codes "scan" → word ≢ codes "insert" → word ≢ codes "delete" → ⊥
+step_word_said word rest steps.Begin q l c r o u f s n a i d = (words_said word rest steps.Begin q l).1
+step_word_said word rest (steps.Fetch t key) q l c r o u f s n a i d = f (words_said word rest (steps.Fetch t key) q l).0
+step_word_said word rest (steps.Seek t key) q l c r o u f s n a i d = s (words_said word rest (steps.Seek t key) q l).0
+step_word_said word rest (steps.Next t key) q l c r o u f s n a i d = n (words_said word rest (steps.Next t key) q l).0
+step_word_said word rest (steps.Scan t lo hi limit) q l c r o u f s n a i d = a (words_said word rest (steps.Scan t lo hi limit) q l).0
+step_word_said word rest (steps.Insert t key rid) q l c r o u f s n a i d = i (words_said word rest (steps.Insert t key rid) q l).0
+step_word_said word rest (steps.Delete t key) q l c r o u f s n a i d = d (words_said word rest (steps.Delete t key) q l).0
+step_word_said word rest (steps.Commit t) q l c r o u f s n a i d = c (words_said word rest (steps.Commit t) q l).0
+step_word_said word rest (steps.Rollback t) q l c r o u f s n a i d = r (words_said word rest (steps.Rollback t) q l).0
+step_word_said word rest (steps.Continue t) q l c r o u f s n a i d = o (words_said word rest (steps.Continue t) q l).0
+step_word_said word rest (steps.FlushPage page) q l c r o u f s n a i d = u (words_said word rest (steps.FlushPage page) q l).0
+step_word_said word rest steps.Force q l c r o u f s n a i d = (words_said word rest steps.Force q l).1
+step_word_said word rest steps.Checkpoint q l c r o u f s n a i d = (words_said word rest steps.Checkpoint q l).1
 
 -- what stands behind the first word
+commit_rest : (rest : List ℕ) (step : Step) → codes "commit" ≡ word_of step → SpellsRest step rest → (n : ℕ) × IsNumber rest n
+commit_rest rest steps.Begin w b = absurd b
+commit_rest rest (steps.Fetch t key) w b = let e = ap (λ (x : List ℕ). slice_index x 0) w in absurd (omega (arith, e))
+commit_rest rest (steps.Seek t key) w b = let e = ap (λ (x : List ℕ). slice_index x 0) w in absurd (omega (arith, e))
+commit_rest rest (steps.Next t key) w b = let e = ap (λ (x : List ℕ). slice_index x 0) w in absurd (omega (arith, e))
+commit_rest rest (steps.Scan t lo hi limit) w b = let e = ap (λ (x : List ℕ). slice_index x 0) w in absurd (omega (arith, e))
+commit_rest rest (steps.Insert t key rid) w b = let e = ap (λ (x : List ℕ). slice_index x 0) w in absurd (omega (arith, e))
+commit_rest rest (steps.Delete t key) w b = let e = ap (λ (x : List ℕ). slice_index x 0) w in absurd (omega (arith, e))
+commit_rest rest (steps.Commit t) w b = (t, b)
+commit_rest rest (steps.Rollback t) w b = let e = ap (λ (x : List ℕ). slice_index x 0) w in absurd (omega (arith, e))
+commit_rest rest (steps.Continue t) w b = let e = ap (λ (x : List ℕ). slice_index x 2) w in absurd (omega (arith, e))
+commit_rest rest (steps.FlushPage page) w b = let e = ap (λ (x : List ℕ). slice_index x 0) w in absurd (omega (arith, e))
+commit_rest rest steps.Force w b = absurd b
+commit_rest rest steps.Checkpoint w b = absurd b
+
 pub commit_said : (rest : List ℕ) (step : Step) → SpellsStep (codes "commit " ++ rest) step → (n : ℕ) × IsNumber rest n
-commit_said rest steps.Begin s = let e = step_first (codes "commit " ++ rest) steps.Begin s in absurd (omega (arith, e))
-commit_said rest (steps.Fetch t key) s = let e = step_first (codes "commit " ++ rest) (steps.Fetch t key) s in absurd (omega (arith, e))
-commit_said rest (steps.Insert t key rid) s = let e = step_first (codes "commit " ++ rest) (steps.Insert t key rid) s in absurd (omega (arith, e))
-commit_said rest (steps.Delete t key) s = let e = step_first (codes "commit " ++ rest) (steps.Delete t key) s in absurd (omega (arith, e))
-commit_said rest (steps.FlushPage page) s = let e = step_first (codes "commit " ++ rest) (steps.FlushPage page) s in absurd (omega (arith, e))
-commit_said rest steps.Force s = let e = step_first (codes "commit " ++ rest) steps.Force s in absurd (omega (arith, e))
-commit_said rest (steps.Commit t) s =
-    let e : codes "commit " ++ rest ≡ codes "commit " ++ s.0 = s.1 in
-    let same : rest ≡ s.0 = cc in (t, subst (λ (x : List ℕ). IsNumber x t) (sym same) s.2)
+commit_said rest step s = let e = words_said (codes "commit") rest step s commit_lacks in commit_rest rest step e.0 e.1
+
+rollback_rest : (rest : List ℕ) (step : Step) → codes "rollback" ≡ word_of step → SpellsRest step rest → (n : ℕ) × IsNumber rest n
+rollback_rest rest steps.Begin w b = absurd b
+rollback_rest rest (steps.Fetch t key) w b = let e = ap (λ (x : List ℕ). slice_index x 0) w in absurd (omega (arith, e))
+rollback_rest rest (steps.Seek t key) w b = let e = ap (λ (x : List ℕ). slice_index x 0) w in absurd (omega (arith, e))
+rollback_rest rest (steps.Next t key) w b = let e = ap (λ (x : List ℕ). slice_index x 0) w in absurd (omega (arith, e))
+rollback_rest rest (steps.Scan t lo hi limit) w b = let e = ap (λ (x : List ℕ). slice_index x 0) w in absurd (omega (arith, e))
+rollback_rest rest (steps.Insert t key rid) w b = let e = ap (λ (x : List ℕ). slice_index x 0) w in absurd (omega (arith, e))
+rollback_rest rest (steps.Delete t key) w b = let e = ap (λ (x : List ℕ). slice_index x 0) w in absurd (omega (arith, e))
+rollback_rest rest (steps.Commit t) w b = let e = ap (λ (x : List ℕ). slice_index x 0) w in absurd (omega (arith, e))
+rollback_rest rest (steps.Rollback t) w b = (t, b)
+rollback_rest rest (steps.Continue t) w b = let e = ap (λ (x : List ℕ). slice_index x 0) w in absurd (omega (arith, e))
+rollback_rest rest (steps.FlushPage page) w b = let e = ap (λ (x : List ℕ). slice_index x 0) w in absurd (omega (arith, e))
+rollback_rest rest steps.Force w b = absurd b
+rollback_rest rest steps.Checkpoint w b = absurd b
+
+pub rollback_said : (rest : List ℕ) (step : Step) → SpellsStep (codes "rollback " ++ rest) step → (n : ℕ) × IsNumber rest n
+rollback_said rest step s = let e = words_said (codes "rollback") rest step s rollback_lacks in rollback_rest rest step e.0 e.1
+
+continue_rest : (rest : List ℕ) (step : Step) → codes "continue" ≡ word_of step → SpellsRest step rest → (n : ℕ) × IsNumber rest n
+continue_rest rest steps.Begin w b = absurd b
+continue_rest rest (steps.Fetch t key) w b = let e = ap (λ (x : List ℕ). slice_index x 0) w in absurd (omega (arith, e))
+continue_rest rest (steps.Seek t key) w b = let e = ap (λ (x : List ℕ). slice_index x 0) w in absurd (omega (arith, e))
+continue_rest rest (steps.Next t key) w b = let e = ap (λ (x : List ℕ). slice_index x 0) w in absurd (omega (arith, e))
+continue_rest rest (steps.Scan t lo hi limit) w b = let e = ap (λ (x : List ℕ). slice_index x 0) w in absurd (omega (arith, e))
+continue_rest rest (steps.Insert t key rid) w b = let e = ap (λ (x : List ℕ). slice_index x 0) w in absurd (omega (arith, e))
+continue_rest rest (steps.Delete t key) w b = let e = ap (λ (x : List ℕ). slice_index x 0) w in absurd (omega (arith, e))
+continue_rest rest (steps.Commit t) w b = let e = ap (λ (x : List ℕ). slice_index x 2) w in absurd (omega (arith, e))
+continue_rest rest (steps.Rollback t) w b = let e = ap (λ (x : List ℕ). slice_index x 0) w in absurd (omega (arith, e))
+continue_rest rest (steps.Continue t) w b = (t, b)
+continue_rest rest (steps.FlushPage page) w b = let e = ap (λ (x : List ℕ). slice_index x 0) w in absurd (omega (arith, e))
+continue_rest rest steps.Force w b = absurd b
+continue_rest rest steps.Checkpoint w b = absurd b
+
+pub continue_said : (rest : List ℕ) (step : Step) → SpellsStep (codes "continue " ++ rest) step → (n : ℕ) × IsNumber rest n
+continue_said rest step s = let e = words_said (codes "continue") rest step s continue_lacks in continue_rest rest step e.0 e.1
+
+flush_rest : (rest : List ℕ) (step : Step) → codes "flush" ≡ word_of step → SpellsRest step rest → (n : ℕ) × IsPageNumber rest n
+flush_rest rest steps.Begin w b = absurd b
+flush_rest rest (steps.Fetch t key) w b = let e = ap (λ (x : List ℕ). slice_index x 1) w in absurd (omega (arith, e))
+flush_rest rest (steps.Seek t key) w b = let e = ap (λ (x : List ℕ). slice_index x 0) w in absurd (omega (arith, e))
+flush_rest rest (steps.Next t key) w b = let e = ap (λ (x : List ℕ). slice_index x 0) w in absurd (omega (arith, e))
+flush_rest rest (steps.Scan t lo hi limit) w b = let e = ap (λ (x : List ℕ). slice_index x 0) w in absurd (omega (arith, e))
+flush_rest rest (steps.Insert t key rid) w b = let e = ap (λ (x : List ℕ). slice_index x 0) w in absurd (omega (arith, e))
+flush_rest rest (steps.Delete t key) w b = let e = ap (λ (x : List ℕ). slice_index x 0) w in absurd (omega (arith, e))
+flush_rest rest (steps.Commit t) w b = let e = ap (λ (x : List ℕ). slice_index x 0) w in absurd (omega (arith, e))
+flush_rest rest (steps.Rollback t) w b = let e = ap (λ (x : List ℕ). slice_index x 0) w in absurd (omega (arith, e))
+flush_rest rest (steps.Continue t) w b = let e = ap (λ (x : List ℕ). slice_index x 0) w in absurd (omega (arith, e))
+flush_rest rest (steps.FlushPage page) w b = (page, b)
+flush_rest rest steps.Force w b = absurd b
+flush_rest rest steps.Checkpoint w b = absurd b
 
 pub flush_said : (rest : List ℕ) (step : Step) → SpellsStep (codes "flush " ++ rest) step → (n : ℕ) × IsPageNumber rest n
-flush_said rest steps.Begin s = let e = step_first (codes "flush " ++ rest) steps.Begin s in absurd (omega (arith, e))
-flush_said rest (steps.Commit t) s = let e = step_first (codes "flush " ++ rest) (steps.Commit t) s in absurd (omega (arith, e))
-flush_said rest (steps.Fetch t key) s = let e = second_is (codes "flush " ++ rest) (steps.Fetch t key) s in absurd (omega (arith, e))
-flush_said rest (steps.Insert t key rid) s = let e = step_first (codes "flush " ++ rest) (steps.Insert t key rid) s in absurd (omega (arith, e))
-flush_said rest (steps.Delete t key) s = let e = step_first (codes "flush " ++ rest) (steps.Delete t key) s in absurd (omega (arith, e))
-flush_said rest steps.Force s = let e = second_is (codes "flush " ++ rest) steps.Force s in absurd (omega (arith, e))
-flush_said rest (steps.FlushPage page) s =
-    let e : codes "flush " ++ rest ≡ codes "flush " ++ s.0 = s.1 in
-    let same : rest ≡ s.0 = cc in (page, subst (λ (x : List ℕ). IsPageNumber x page) (sym same) s.2)
+flush_said rest step s = let e = words_said (codes "flush") rest step s flush_lacks in flush_rest rest step e.0 e.1
+
+fetch_rest : (rest : List ℕ) (step : Step) → codes "fetch" ≡ word_of step → SpellsRest step rest → (t : ℕ) × (key : List ℕ) × IsKeyed rest t key
+fetch_rest rest steps.Begin w b = absurd b
+fetch_rest rest (steps.Fetch t key) w b = (t, key.items, b)
+fetch_rest rest (steps.Seek t key) w b = let e = ap (λ (x : List ℕ). slice_index x 0) w in absurd (omega (arith, e))
+fetch_rest rest (steps.Next t key) w b = let e = ap (λ (x : List ℕ). slice_index x 0) w in absurd (omega (arith, e))
+fetch_rest rest (steps.Scan t lo hi limit) w b = let e = ap (λ (x : List ℕ). slice_index x 0) w in absurd (omega (arith, e))
+fetch_rest rest (steps.Insert t key rid) w b = let e = ap (λ (x : List ℕ). slice_index x 0) w in absurd (omega (arith, e))
+fetch_rest rest (steps.Delete t key) w b = let e = ap (λ (x : List ℕ). slice_index x 0) w in absurd (omega (arith, e))
+fetch_rest rest (steps.Commit t) w b = let e = ap (λ (x : List ℕ). slice_index x 0) w in absurd (omega (arith, e))
+fetch_rest rest (steps.Rollback t) w b = let e = ap (λ (x : List ℕ). slice_index x 0) w in absurd (omega (arith, e))
+fetch_rest rest (steps.Continue t) w b = let e = ap (λ (x : List ℕ). slice_index x 0) w in absurd (omega (arith, e))
+fetch_rest rest (steps.FlushPage page) w b = let e = ap (λ (x : List ℕ). slice_index x 1) w in absurd (omega (arith, e))
+fetch_rest rest steps.Force w b = absurd b
+fetch_rest rest steps.Checkpoint w b = absurd b
 
 pub fetch_said : (rest : List ℕ) (step : Step) → SpellsStep (codes "fetch " ++ rest) step → (t : ℕ) × (key : List ℕ) × IsKeyed rest t key
-fetch_said rest steps.Begin s = let e = step_first (codes "fetch " ++ rest) steps.Begin s in absurd (omega (arith, e))
-fetch_said rest (steps.Commit t) s = let e = step_first (codes "fetch " ++ rest) (steps.Commit t) s in absurd (omega (arith, e))
-fetch_said rest (steps.Insert t key rid) s = let e = step_first (codes "fetch " ++ rest) (steps.Insert t key rid) s in absurd (omega (arith, e))
-fetch_said rest (steps.Delete t key) s = let e = step_first (codes "fetch " ++ rest) (steps.Delete t key) s in absurd (omega (arith, e))
-fetch_said rest (steps.FlushPage page) s = let e = second_is (codes "fetch " ++ rest) (steps.FlushPage page) s in absurd (omega (arith, e))
-fetch_said rest steps.Force s = let e = second_is (codes "fetch " ++ rest) steps.Force s in absurd (omega (arith, e))
-fetch_said rest (steps.Fetch t key) s =
-    let e : codes "fetch " ++ rest ≡ codes "fetch " ++ s.0 = s.1 in
-    let same : rest ≡ s.0 = cc in (t, key.items, subst (λ (x : List ℕ). IsKeyed x t key.items) (sym same) s.2)
+fetch_said rest step s = let e = words_said (codes "fetch") rest step s fetch_lacks in fetch_rest rest step e.0 e.1
 
-pub delete_said : (rest : List ℕ) (step : Step) → SpellsStep (codes "delete " ++ rest) step → (t : ℕ) × (key : List ℕ) × IsKeyed rest t key
-delete_said rest steps.Begin s = let e = step_first (codes "delete " ++ rest) steps.Begin s in absurd (omega (arith, e))
-delete_said rest (steps.Commit t) s = let e = step_first (codes "delete " ++ rest) (steps.Commit t) s in absurd (omega (arith, e))
-delete_said rest (steps.Insert t key rid) s = let e = step_first (codes "delete " ++ rest) (steps.Insert t key rid) s in absurd (omega (arith, e))
-delete_said rest (steps.Fetch t key) s = let e = step_first (codes "delete " ++ rest) (steps.Fetch t key) s in absurd (omega (arith, e))
-delete_said rest (steps.FlushPage page) s = let e = step_first (codes "delete " ++ rest) (steps.FlushPage page) s in absurd (omega (arith, e))
-delete_said rest steps.Force s = let e = step_first (codes "delete " ++ rest) steps.Force s in absurd (omega (arith, e))
-delete_said rest (steps.Delete t key) s =
-    let e : codes "delete " ++ rest ≡ codes "delete " ++ s.0 = s.1 in
-    let same : rest ≡ s.0 = cc in (t, key.items, subst (λ (x : List ℕ). IsKeyed x t key.items) (sym same) s.2)
+seek_rest : (rest : List ℕ) (step : Step) → codes "seek" ≡ word_of step → SpellsRest step rest → (t : ℕ) × (key : List ℕ) × IsKeyed rest t key
+seek_rest rest steps.Begin w b = absurd b
+seek_rest rest (steps.Fetch t key) w b = let e = ap (λ (x : List ℕ). slice_index x 0) w in absurd (omega (arith, e))
+seek_rest rest (steps.Seek t key) w b = (t, key.items, b)
+seek_rest rest (steps.Next t key) w b = let e = ap (λ (x : List ℕ). slice_index x 0) w in absurd (omega (arith, e))
+seek_rest rest (steps.Scan t lo hi limit) w b = let e = ap (λ (x : List ℕ). slice_index x 1) w in absurd (omega (arith, e))
+seek_rest rest (steps.Insert t key rid) w b = let e = ap (λ (x : List ℕ). slice_index x 0) w in absurd (omega (arith, e))
+seek_rest rest (steps.Delete t key) w b = let e = ap (λ (x : List ℕ). slice_index x 0) w in absurd (omega (arith, e))
+seek_rest rest (steps.Commit t) w b = let e = ap (λ (x : List ℕ). slice_index x 0) w in absurd (omega (arith, e))
+seek_rest rest (steps.Rollback t) w b = let e = ap (λ (x : List ℕ). slice_index x 0) w in absurd (omega (arith, e))
+seek_rest rest (steps.Continue t) w b = let e = ap (λ (x : List ℕ). slice_index x 0) w in absurd (omega (arith, e))
+seek_rest rest (steps.FlushPage page) w b = let e = ap (λ (x : List ℕ). slice_index x 0) w in absurd (omega (arith, e))
+seek_rest rest steps.Force w b = absurd b
+seek_rest rest steps.Checkpoint w b = absurd b
+
+pub seek_said : (rest : List ℕ) (step : Step) → SpellsStep (codes "seek " ++ rest) step → (t : ℕ) × (key : List ℕ) × IsKeyed rest t key
+seek_said rest step s = let e = words_said (codes "seek") rest step s seek_lacks in seek_rest rest step e.0 e.1
+
+next_rest : (rest : List ℕ) (step : Step) → codes "next" ≡ word_of step → SpellsRest step rest → (t : ℕ) × (key : List ℕ) × IsKeyed rest t key
+next_rest rest steps.Begin w b = absurd b
+next_rest rest (steps.Fetch t key) w b = let e = ap (λ (x : List ℕ). slice_index x 0) w in absurd (omega (arith, e))
+next_rest rest (steps.Seek t key) w b = let e = ap (λ (x : List ℕ). slice_index x 0) w in absurd (omega (arith, e))
+next_rest rest (steps.Next t key) w b = (t, key.items, b)
+next_rest rest (steps.Scan t lo hi limit) w b = let e = ap (λ (x : List ℕ). slice_index x 0) w in absurd (omega (arith, e))
+next_rest rest (steps.Insert t key rid) w b = let e = ap (λ (x : List ℕ). slice_index x 0) w in absurd (omega (arith, e))
+next_rest rest (steps.Delete t key) w b = let e = ap (λ (x : List ℕ). slice_index x 0) w in absurd (omega (arith, e))
+next_rest rest (steps.Commit t) w b = let e = ap (λ (x : List ℕ). slice_index x 0) w in absurd (omega (arith, e))
+next_rest rest (steps.Rollback t) w b = let e = ap (λ (x : List ℕ). slice_index x 0) w in absurd (omega (arith, e))
+next_rest rest (steps.Continue t) w b = let e = ap (λ (x : List ℕ). slice_index x 0) w in absurd (omega (arith, e))
+next_rest rest (steps.FlushPage page) w b = let e = ap (λ (x : List ℕ). slice_index x 0) w in absurd (omega (arith, e))
+next_rest rest steps.Force w b = absurd b
+next_rest rest steps.Checkpoint w b = absurd b
+
+pub next_said : (rest : List ℕ) (step : Step) → SpellsStep (codes "next " ++ rest) step → (t : ℕ) × (key : List ℕ) × IsKeyed rest t key
+next_said rest step s = let e = words_said (codes "next") rest step s next_lacks in next_rest rest step e.0 e.1
+
+scan_rest : (rest : List ℕ) (step : Step) → codes "scan" ≡ word_of step → SpellsRest step rest → (t : ℕ) × (lo : List ℕ) × (hi : List ℕ) × (limit : ℕ) × IsRanged rest t lo hi limit
+scan_rest rest steps.Begin w b = absurd b
+scan_rest rest (steps.Fetch t key) w b = let e = ap (λ (x : List ℕ). slice_index x 0) w in absurd (omega (arith, e))
+scan_rest rest (steps.Seek t key) w b = let e = ap (λ (x : List ℕ). slice_index x 1) w in absurd (omega (arith, e))
+scan_rest rest (steps.Next t key) w b = let e = ap (λ (x : List ℕ). slice_index x 0) w in absurd (omega (arith, e))
+scan_rest rest (steps.Scan t lo hi limit) w b = (t, lo.items, hi.items, limit, b)
+scan_rest rest (steps.Insert t key rid) w b = let e = ap (λ (x : List ℕ). slice_index x 0) w in absurd (omega (arith, e))
+scan_rest rest (steps.Delete t key) w b = let e = ap (λ (x : List ℕ). slice_index x 0) w in absurd (omega (arith, e))
+scan_rest rest (steps.Commit t) w b = let e = ap (λ (x : List ℕ). slice_index x 0) w in absurd (omega (arith, e))
+scan_rest rest (steps.Rollback t) w b = let e = ap (λ (x : List ℕ). slice_index x 0) w in absurd (omega (arith, e))
+scan_rest rest (steps.Continue t) w b = let e = ap (λ (x : List ℕ). slice_index x 0) w in absurd (omega (arith, e))
+scan_rest rest (steps.FlushPage page) w b = let e = ap (λ (x : List ℕ). slice_index x 0) w in absurd (omega (arith, e))
+scan_rest rest steps.Force w b = absurd b
+scan_rest rest steps.Checkpoint w b = absurd b
+
+pub scan_said : (rest : List ℕ) (step : Step) → SpellsStep (codes "scan " ++ rest) step → (t : ℕ) × (lo : List ℕ) × (hi : List ℕ) × (limit : ℕ) × IsRanged rest t lo hi limit
+scan_said rest step s = let e = words_said (codes "scan") rest step s scan_lacks in scan_rest rest step e.0 e.1
+
+insert_rest : (rest : List ℕ) (step : Step) → codes "insert" ≡ word_of step → SpellsRest step rest → (t : ℕ) × (key : List ℕ) × (rid : ℕ) × IsKeyedWith rest t key rid
+insert_rest rest steps.Begin w b = absurd b
+insert_rest rest (steps.Fetch t key) w b = let e = ap (λ (x : List ℕ). slice_index x 0) w in absurd (omega (arith, e))
+insert_rest rest (steps.Seek t key) w b = let e = ap (λ (x : List ℕ). slice_index x 0) w in absurd (omega (arith, e))
+insert_rest rest (steps.Next t key) w b = let e = ap (λ (x : List ℕ). slice_index x 0) w in absurd (omega (arith, e))
+insert_rest rest (steps.Scan t lo hi limit) w b = let e = ap (λ (x : List ℕ). slice_index x 0) w in absurd (omega (arith, e))
+insert_rest rest (steps.Insert t key rid) w b = (t, key.items, rid, b)
+insert_rest rest (steps.Delete t key) w b = let e = ap (λ (x : List ℕ). slice_index x 0) w in absurd (omega (arith, e))
+insert_rest rest (steps.Commit t) w b = let e = ap (λ (x : List ℕ). slice_index x 0) w in absurd (omega (arith, e))
+insert_rest rest (steps.Rollback t) w b = let e = ap (λ (x : List ℕ). slice_index x 0) w in absurd (omega (arith, e))
+insert_rest rest (steps.Continue t) w b = let e = ap (λ (x : List ℕ). slice_index x 0) w in absurd (omega (arith, e))
+insert_rest rest (steps.FlushPage page) w b = let e = ap (λ (x : List ℕ). slice_index x 0) w in absurd (omega (arith, e))
+insert_rest rest steps.Force w b = absurd b
+insert_rest rest steps.Checkpoint w b = absurd b
 
 pub insert_said : (rest : List ℕ) (step : Step) → SpellsStep (codes "insert " ++ rest) step → (t : ℕ) × (key : List ℕ) × (rid : ℕ) × IsKeyedWith rest t key rid
-insert_said rest steps.Begin s = let e = step_first (codes "insert " ++ rest) steps.Begin s in absurd (omega (arith, e))
-insert_said rest (steps.Commit t) s = let e = step_first (codes "insert " ++ rest) (steps.Commit t) s in absurd (omega (arith, e))
-insert_said rest (steps.Fetch t key) s = let e = step_first (codes "insert " ++ rest) (steps.Fetch t key) s in absurd (omega (arith, e))
-insert_said rest (steps.Delete t key) s = let e = step_first (codes "insert " ++ rest) (steps.Delete t key) s in absurd (omega (arith, e))
-insert_said rest (steps.FlushPage page) s = let e = step_first (codes "insert " ++ rest) (steps.FlushPage page) s in absurd (omega (arith, e))
-insert_said rest steps.Force s = let e = step_first (codes "insert " ++ rest) steps.Force s in absurd (omega (arith, e))
-insert_said rest (steps.Insert t key rid) s =
-    let e : codes "insert " ++ rest ≡ codes "insert " ++ s.0 = s.1 in
-    let same : rest ≡ s.0 = cc in (t, key.items, rid, subst (λ (x : List ℕ). IsKeyedWith x t key.items rid) (sym same) s.2)
+insert_said rest step s = let e = words_said (codes "insert") rest step s insert_lacks in insert_rest rest step e.0 e.1
+
+delete_rest : (rest : List ℕ) (step : Step) → codes "delete" ≡ word_of step → SpellsRest step rest → (t : ℕ) × (key : List ℕ) × IsKeyed rest t key
+delete_rest rest steps.Begin w b = absurd b
+delete_rest rest (steps.Fetch t key) w b = let e = ap (λ (x : List ℕ). slice_index x 0) w in absurd (omega (arith, e))
+delete_rest rest (steps.Seek t key) w b = let e = ap (λ (x : List ℕ). slice_index x 0) w in absurd (omega (arith, e))
+delete_rest rest (steps.Next t key) w b = let e = ap (λ (x : List ℕ). slice_index x 0) w in absurd (omega (arith, e))
+delete_rest rest (steps.Scan t lo hi limit) w b = let e = ap (λ (x : List ℕ). slice_index x 0) w in absurd (omega (arith, e))
+delete_rest rest (steps.Insert t key rid) w b = let e = ap (λ (x : List ℕ). slice_index x 0) w in absurd (omega (arith, e))
+delete_rest rest (steps.Delete t key) w b = (t, key.items, b)
+delete_rest rest (steps.Commit t) w b = let e = ap (λ (x : List ℕ). slice_index x 0) w in absurd (omega (arith, e))
+delete_rest rest (steps.Rollback t) w b = let e = ap (λ (x : List ℕ). slice_index x 0) w in absurd (omega (arith, e))
+delete_rest rest (steps.Continue t) w b = let e = ap (λ (x : List ℕ). slice_index x 0) w in absurd (omega (arith, e))
+delete_rest rest (steps.FlushPage page) w b = let e = ap (λ (x : List ℕ). slice_index x 0) w in absurd (omega (arith, e))
+delete_rest rest steps.Force w b = absurd b
+delete_rest rest steps.Checkpoint w b = absurd b
+
+pub delete_said : (rest : List ℕ) (step : Step) → SpellsStep (codes "delete " ++ rest) step → (t : ℕ) × (key : List ℕ) × IsKeyed rest t key
+delete_said rest step s = let e = words_said (codes "delete") rest step s delete_lacks in delete_rest rest step e.0 e.1
 
 -- a text without a space is not numbered
 pub numbered_lacks : (text : List ℕ) (n : ℕ) (rest : List ℕ) → IsNumbered text n rest → Lacks 32 text → ⊥
@@ -170,6 +379,33 @@ insert_cut text n more word last t key rid a cut l k =
 
 pub insert_one : (text : List ℕ) (n : ℕ) (more : List ℕ) (t : ℕ) (key : List ℕ) (rid : ℕ) → IsNumbered text n more → Lacks 32 more → IsKeyedWith text t key rid → ⊥
 insert_one text n more t key rid a l k = lacks_mid 32 k.word k.last (subst (λ (x : List ℕ). Lacks 32 x) (numbered_once text n t more (k.word ++ 32 ∷ k.last) a k.numbered) l)
+
+-- what stands behind the word of a key
+pub behind_once : (text : List ℕ) (key other rest more : List ℕ) → IsBehindKey text key rest → IsBehindKey text other more → rest ≡ more
+behind_once text key other rest more a b = (cut_once 32 a.word b.word rest more (key_lacks a.word key a.is_key) (key_lacks b.word other b.is_key) (sym a.is ∙ b.is)).1
+
+-- the word of a key in front of a space
+pub behind_cut : (text word more : List ℕ) (key rest : List ℕ) → IsBehindKey text key rest → text ≡ word ++ 32 ∷ more → Lacks 32 word → IsKeyWord word key
+behind_cut text word more key rest b cut l =
+    let e = cut_once 32 word b.word more rest l (key_lacks b.word key b.is_key) (sym cut ∙ b.is) in
+    subst (λ (x : List ℕ). IsKeyWord x key) (sym e.0) b.is_key
+
+pub behind_one : (text key rest : List ℕ) → IsBehindKey text key rest → Lacks 32 text → ⊥
+behind_one text key rest b l = lacks_mid 32 b.word rest (subst (λ (x : List ℕ). Lacks 32 x) b.is l)
+
+-- what stands behind the number of a scan
+pub scan_low : (text more : List ℕ) (n : ℕ) (t : ℕ) (lo hi : List ℕ) (limit : ℕ) → IsNumbered text n more → (r : IsRanged text t lo hi limit) → IsBehindKey more lo r.rest
+scan_low text more n t lo hi limit a r = subst (λ (x : List ℕ). IsBehindKey x lo r.rest) (sym (numbered_once text n t more r.keys a r.numbered)) r.low
+
+pub scan_high : (text more behind : List ℕ) (n : ℕ) (key : List ℕ) (t : ℕ) (lo hi : List ℕ) (limit : ℕ) → IsNumbered text n more → IsBehindKey more key behind → (r : IsRanged text t lo hi limit) → IsBehindKey behind hi r.last
+scan_high text more behind n key t lo hi limit a low r =
+    let same = behind_once more key lo behind r.rest low (scan_low text more n t lo hi limit a r) in
+    subst (λ (x : List ℕ). IsBehindKey x hi r.last) (sym same) r.high
+
+pub scan_limit : (text more behind last : List ℕ) (n : ℕ) (key other : List ℕ) (t : ℕ) (lo hi : List ℕ) (limit : ℕ) → IsNumbered text n more → IsBehindKey more key behind → IsBehindKey behind other last → (r : IsRanged text t lo hi limit) → IsNumber last limit
+scan_limit text more behind last n key other t lo hi limit a low high r =
+    let same = behind_once behind other hi last r.last high (scan_high text more behind n key t lo hi limit a low r) in
+    subst (λ (x : List ℕ). IsNumber x limit) (sym same) r.is_limit
 
 -- what holds whatever the error is
 pub whatever : {T E : Type 0} (r : Result T E) (Q : Type 0) → Q → IfErr r (λ e. Q)

@@ -1,22 +1,24 @@
 -- Lives of a store, run: one line more, one life more.
-use Rattle.std.proofs.Common.{◌≡◌, ℕ, zero, suc, ◌<◌, List, [], ◌∷◌, ◌++◌, length, get_or, Option, None, Result, Ok, Err, IfOk, IfErr, MatchResult, ◌⊎◌, false, refl, subst, arith}
+use Rattle.std.proofs.Common.{◌≡◌, ℕ, zero, suc, ◌<◌, List, [], ◌∷◌, ◌++◌, length, get_or, Option, Result, Ok, Err, IfOk, IfErr, MatchResult, ◌⊎◌, false, refl, subst, arith}
 use Rattle.im_types.specs.declared.fault.Fault.{Fault}
 use Rattle.im_disk.specs.declared.disk.Disk.{Ghosts}
 use Rattle.im_disk.specs.declared.model_disk.ModelDisk.{ModelDisk}
 use Rattle.im_disk.specs.declared.stop.Stop.{Stop}
-use Rattle.im_engine.specs.declared.engine.Engine.{Engine}
+use Rattle.im_transactions.specs.declared.engine.Engine.{Engine}
 use Rattle.im_drill.specs.declared.store_life.StoreLine.{StoreLine}
 use Rattle.im_drill.specs.declared.store_life.StoreLife.{StoreLife}
 use Rattle.im_drill.specs.declared.store_answers.StoreReply.{StoreReply}
 use Rattle.im_drill.specs.declared.store_answers.StoreAnswers.{StoreAnswers}
 use Rattle.im_types.specs.Changes.{Effect}
 use Rattle.im_types.specs.Lives.{Shown}
+use Rattle.im_lock.specs.View.{View}
 use Rattle.im_pool.specs.Pool.{page_at}
-use Rattle.im_engine.specs.declared.header.Header.{Header}
-use Rattle.im_engine.specs.Changes.{header_of}
-use Rattle.im_engine.specs.Checks.{HasCause}
-use Rattle.im_engine.specs.Kept.{LookKept}
-use Rattle.im_engine.specs.Running.{IsLife}
+use Rattle.im_transactions.specs.declared.header.Header.{Header}
+use Rattle.im_transactions.specs.Faults.{told_as}
+use Rattle.im_transactions.specs.Looking.{header_of}
+use Rattle.im_transactions.specs.Told.{ReadCause}
+use Rattle.im_transactions.specs.Kept.{LookKept}
+use Rattle.im_transactions.specs.Running.{IsLife}
 use Rattle.im_drill.specs.declared.store_answers.StoreReply.TheVariants as replies
 use Rattle.im_drill.specs.Stops.{HasCome, IsNextDisk}
 use Rattle.im_drill.specs.StoreRuns.{IsLookRun, IsLineRun, AreLinesRun, IsLifeRun, AreLivesRun}
@@ -52,12 +54,12 @@ module _ (d : Ghosts ModelDisk) where
 
   -- the engine was asked what a page is for, and the stop fell into that or did not
   pub look_run : (stop : Option Stop) (page : ℕ) (told : StoreReply) (old new : Engine ModelDisk d) (header : Result Header Fault) → IfOk header (λ h. h ≡ header_of (page_at new.writer.pool page))
-      → IfErr header (λ f. old.failed ≡ false → HasCause d new.writer.log new.disk f) → ((before : List Effect) (s : Shown) → IsLife d before s old → LookKept d before s old new)
+      → IfErr header (λ f. old.failed ≡ false → ReadCause d new.writer.log new.disk (told_as f)) → ((before : List Effect) (s : Shown) (v : View) → IsLife d before s v old → LookKept d before s v old new)
       → (HasCome stop new.disk × (told ≡ replies.Stopped)) ⊎ ((HasCome stop new.disk → ⊥) × MatchResult header (λ h. told ≡ replies.Page page h) (λ f. told ≡ replies.Refused f)) → IsLookRun d stop page told old new
   look_run stop page told old new header shows refused kept says = record { header = header; shows = shows; refused = refused; kept = kept; says = says }
 
   -- an engine that was opened
-  pub opened_as : (most : ℕ) (result : Result (Engine ModelDisk d) (Fault × ModelDisk)) → IfOk result (λ e. (e.failed ≡ false) × (e.going ≡ None) × (d.failed e.disk ≡ false)) → IfOk result (λ e. e.max_pages ≡ most)
-      → IfOk result (λ e. (e.failed ≡ false) × (e.going ≡ None) × (e.max_pages ≡ most))
-  opened_as most (Ok e) opened limit = (opened.0, opened.1, limit)
+  pub opened_as : (most : ℕ) (result : Result (Engine ModelDisk d) (Fault × ModelDisk)) → IfOk result (λ e. (e.failed ≡ false) × (e.txns.rows ≡ []) × (e.locks ≡ []) × (d.failed e.disk ≡ false)) → IfOk result (λ e. e.max_pages ≡ most)
+      → IfOk result (λ e. (e.failed ≡ false) × (e.txns.rows ≡ []) × (e.locks ≡ []) × (e.max_pages ≡ most))
+  opened_as most (Ok e) opened limit = (opened.0, opened.1, opened.2, limit)
   opened_as most (Err x) opened limit = tt

@@ -1,16 +1,22 @@
 -- What lives of a store show, line by line.
-use Rattle.std.proofs.Common.{◌≡◌, ℕ, suc, ◌+◌, ◌<◌, zero, List, [], ◌∷◌, ◌++◌, length, take, get_or, refl, sym, ◌∙◌, ap, subst, arith, Result, Ok, Err, IfOk, IfErr, MatchResult, ◌≢◌, Bool, true, false}
-use Rattle.std.proofs.lemmas.List.{append-nil, take_more, length-take-le}
+use Rattle.std.proofs.Common.{◌⊎◌, inl, inr, ◌≡◌, ℕ, suc, ◌+◌, ◌<◌, zero, List, [], ◌∷◌, ◌++◌, length, take, get_or, refl, sym, ◌∙◌, ap, subst, arith, Result, Ok, Err, IfOk, IfErr, MatchResult, ◌≢◌, Bool, true, false}
+use Rattle.std.proofs.lemmas.List.{take_more, length-take-le}
 use Rattle.std.specs.FinMap.{empty, entries}
 use Rattle.im_types.specs.declared.fault.Fault.{Fault}
 use Rattle.im_types.specs.declared.fault.Fault.TheVariants.{NotAStore}
 use Rattle.im_types.specs.Pages.{Entry}
+use Rattle.im_types.specs.Maps.{IndexMap}
 use Rattle.im_types.specs.Changes.{Effect, apply_all}
 use Rattle.im_types.specs.Lives.{Shown, nothing_shown}
-use Rattle.im_engine.specs.Kept.{EntriesKept}
+use Rattle.im_disk.specs.declared.disk.Disk.{Ghosts}
+use Rattle.im_lock.specs.Locks.{Lock}
+use Rattle.im_lock.specs.View.{View, broken}
+use Rattle.im_transactions.specs.declared.engine.Engine.{Engine}
+use Rattle.im_transactions.specs.Kept.{LookKept, EntriesKept}
+use Rattle.im_transactions.specs.Running.{IsLife}
 use Rattle.im_drill.specs.declared.store_life.StoreLine.{StoreLine}
 use Rattle.im_drill.specs.declared.store_answers.StoreReply.{StoreReply}
-use Rattle.im_drill.specs.StoreLives.{shown_after, shown_in}
+use Rattle.im_drill.specs.StoreLives.{GoesOn, shown_after, shown_in}
 
 -- one line more
 pub shown_push : (s : Shown) (some : List StoreLine) (told : List StoreReply) (line : StoreLine) (reply : StoreReply) → length told ≡ length some
@@ -37,24 +43,36 @@ shown_to s all i told line reply is count within =
     ap (λ (l : List StoreLine). shown_in s l (told ++ reply ∷ [])) more ∙ shown_push s (take i all) told line reply (count ∙ sym len)
 
 -- the entries that an opening hands out, or why it hands out none
-pub entries_match : {A : Type 0} (items : A → List Entry) (L : List Effect → Shown → Type 0) (r : Result A Fault) (after : List Effect) → L after nothing_shown
-    → IfOk r (λ l. (before : List Effect) (s : Shown) → L before s → EntriesKept before s (items l)) → IfErr r (λ e. (before : List Effect) (s : Shown) → L before s → e ≢ NotAStore)
+pub entries_match : {A : Type 0} (items : A → List Entry) (L : List Effect → Shown → View → Type 0) (r : Result A Fault) (after : List Effect) (v : View) → v.walk ≡ apply_all empty after → L after nothing_shown v
+    → IfOk r (λ l. (before : List Effect) (s : Shown) (w : View) → L before s w → EntriesKept before s w (items l)) → IfErr r (λ e. (before : List Effect) (s : Shown) (w : View) → L before s w → e ≢ NotAStore)
     → MatchResult r (λ l. items l ≡ entries (apply_all empty after)) (λ e. e ≢ NotAStore)
-entries_match items L (Ok l) after life kept never = (kept after nothing_shown life).is (λ t. refl) ∙ ap (λ (b : List Effect). entries (apply_all empty b)) (append-nil after)
-entries_match items L (Err e) after life kept never = never after nothing_shown life
+entries_match items L (Ok l) after v walk life kept never = (kept after nothing_shown v life).walk ∙ ap (λ (m : IndexMap). entries m) walk
+entries_match items L (Err e) after v walk life kept never = never after nothing_shown v life
 
 -- where no line was answered nothing is shown
 pub shown_none : (s : Shown) (all : List StoreLine) → shown_in s all [] ≡ s
 shown_none s [] = refl
 shown_none s (line ∷ all) = refl
 
-pub not_failed : (failed : Bool) → (failed ≡ true → ⊥) → failed ≡ false
-not_failed true never = absurd (never refl)
-not_failed false never = refl
-
 -- what is shown of an engine that fails just where it did
-pub same_shown : (s : Shown) (failed : Bool) → failed ≡ s.failed → record s { failed = failed } ≡ s
+same_shown : (s : Shown) (failed : Bool) → failed ≡ s.failed → record s { failed = failed } ≡ s
 same_shown s failed is = ap (λ (f : Bool). record s { failed = f }) is
+
+-- a look after which the engine works
+pub looked_on : {D : Type 0} (d : Ghosts D) (before : List Effect) (s : Shown) (v : View) (old new : Engine D d) → LookKept d before s v old new → new.failed ≡ false → GoesOn d before s new
+looked_on d before s v old new k works = by k.after
+  where
+    by : ((new.failed ≡ false) × IsLife d before s v new) ⊎ ((locks : ℕ → List Lock) × IsLife d before (record s { failed = true }) (broken v locks) new) → GoesOn d before s new
+    by (inl on) = (v, on.1)
+    by (inr gone) = let clash : true ≡ false = gone.1.failed ∙ works in absurd (cc)
+
+-- a look after which the engine has failed, or works
+pub looked_as : {D : Type 0} (d : Ghosts D) (before : List Effect) (s : Shown) (v : View) (old new : Engine D d) (failed : Bool) → LookKept d before s v old new → new.failed ≡ failed → GoesOn d before (record s { failed = failed }) new
+looked_as d before s v old new failed k is = by k.after
+  where
+    by : ((new.failed ≡ false) × IsLife d before s v new) ⊎ ((locks : ℕ → List Lock) × IsLife d before (record s { failed = true }) (broken v locks) new) → GoesOn d before (record s { failed = failed }) new
+    by (inl on) = (v, subst (λ (t : Shown). IsLife d before t v new) (sym (same_shown s failed (sym is ∙ sym on.1.failed ∙ sym on.1.lived.shows.shown.failed))) on.1)
+    by (inr gone) = (broken v gone.0, subst (λ (f : Bool). IsLife d before (record s { failed = f }) (broken v gone.0) new) (gone.1.failed ∙ is) gone.1)
 
 -- why a call of an engine that works was refused
 pub caused : {A : Type 0} (Cause : Fault → Type 0) (failed : Bool) (r : Result A Fault) → IfErr r (λ f. failed ≡ false → Cause f) → failed ≡ false → IfErr r (λ f. Cause f)

@@ -1,7 +1,6 @@
 -- What lines of scripts of lives of a store spell, and what they do not.
-use Rattle.std.proofs.Common.{◌≡◌, ◌≢◌, ◌⊎◌, inl, inr, ⊎_elim, ◌+◌, ◌*◌, refl, ℕ, List, slice_index, if◌then◌else◌, ◌==◌, ◌++◌, ◌∷◌, codes, sym, ◌∙◌, ap, subst, arith}
-use Rattle.im_types.specs.declared.step.Step.{Step}
-use Rattle.im_types.specs.declared.step.Step.TheVariants as steps
+use Rattle.std.proofs.Common.{◌≡◌, ◌≢◌, ℕ, List, slice_index, ◌++◌, ◌∷◌, codes, sym, ◌∙◌, ap, subst, arith}
+use Rattle.im_front.specs.declared.step.Step.{Step}
 use Rattle.im_drill.specs.declared.batch.Batch.{Batch}
 use Rattle.im_drill.specs.declared.line.Line.{Line}
 use Rattle.im_drill.specs.declared.line.Line.TheVariants as raws
@@ -10,92 +9,40 @@ use Rattle.im_drill.specs.declared.store_script_line.StoreScriptLine.TheVariants
 use Rattle.im_drill.specs.declared.store_life.StoreLine.TheVariants as within
 use Rattle.im_drill.specs.Lines.{Spells, Lacks, IsPageNumber}
 use Rattle.im_drill.specs.Steps.{SpellsStep}
-use Rattle.im_drill.specs.Scripts.{Kind, SetsLog, Begins, Counts, Steps, Stops}
+use Rattle.im_drill.specs.Scripts.{SetsLog, Begins, Puts, Counts, Steps, Stops}
 use Rattle.im_drill.specs.StoreScripts.{SpellsLife, SpellsOptions, SpellsStore, IsPlainLine, named_options, store_kind_of}
 use Rattle.im_drill.specs.declared.store_life.LifeOptions.{LifeOptions}
 use Rattle.im_drill.proofs.Lines.{cut_once, lacks_mid}
 use Rattle.im_drill.proofs.LifeWords.{are_options, lone_life, spaced_life}
-
--- the kind of a good line, by its first bytes
-abbrev pub store_text_kind : List ℕ → Kind
-store_text_kind text =
-    if slice_index text 0 == 108 then Begins
-    else if slice_index text 0 == 115 then (if slice_index text 1 == 101 then SetsLog else Stops)
-    else if slice_index text 0 == 99 then (if slice_index text 1 == 97 then Counts else Steps)
-    else if slice_index text 0 == 112 then Counts
-    else Steps
+use Rattle.im_drill.proofs.StepSpelled.{store_text_kind, step_kind}
 
 store_kind : (text : List ℕ) (said : StoreScriptLine) → SpellsStore text said → store_kind_of said ≡ store_text_kind text
 store_kind text (lines.Life options) s = sym (ap store_text_kind s.1)
 store_kind text (lines.SetLog bytes) s = sym (ap store_text_kind s.1)
 store_kind text (lines.Within within.Calls) s = sym (ap store_text_kind s)
 store_kind text (lines.Within (within.Page page)) s = sym (ap store_text_kind s.1)
-store_kind text (lines.Within (within.Step steps.Begin)) s = sym (ap store_text_kind s)
-store_kind text (lines.Within (within.Step (steps.Fetch t key))) s = sym (ap store_text_kind s.1)
-store_kind text (lines.Within (within.Step (steps.Insert t key rid))) s = sym (ap store_text_kind s.1)
-store_kind text (lines.Within (within.Step (steps.Delete t key))) s = sym (ap store_text_kind s.1)
-store_kind text (lines.Within (within.Step (steps.Commit t))) s = sym (ap store_text_kind s.1)
-store_kind text (lines.Within (within.Step (steps.FlushPage page))) s = sym (ap store_text_kind s.1)
-store_kind text (lines.Within (within.Step steps.Force)) s = sym (ap store_text_kind s)
+store_kind text (lines.Within (within.Step step)) s = step_kind text step s
 store_kind text (lines.Stop stop) s = sym (ap store_text_kind s.3)
 
 -- a line is of one kind, however it is read
 pub one_store_kind : (text : List ℕ) (l m : StoreScriptLine) → SpellsStore text l → SpellsStore text m → store_kind_of l ≡ store_kind_of m
 one_store_kind text l m s o = store_kind text l s ∙ sym (store_kind text m o)
 
--- the first two bytes of a line, as one number
-abbrev first_two : List ℕ → ℕ
-first_two text = slice_index text 0 * 256 + slice_index text 1
-
-abbrev two_of : StoreScriptLine → ℕ
-two_of (lines.Life options) = 27753
-two_of (lines.SetLog bytes) = 29541
-two_of (lines.Within within.Calls) = 25441
-two_of (lines.Within (within.Page page)) = 28769
-two_of (lines.Within (within.Step steps.Begin)) = 25189
-two_of (lines.Within (within.Step (steps.Fetch t key))) = 26213
-two_of (lines.Within (within.Step (steps.Insert t key rid))) = 26990
-two_of (lines.Within (within.Step (steps.Delete t key))) = 25701
-two_of (lines.Within (within.Step (steps.Commit t))) = 25455
-two_of (lines.Within (within.Step (steps.FlushPage page))) = 26220
-two_of (lines.Within (within.Step steps.Force)) = 26223
-two_of (lines.Stop stop) = 29556
-
-store_two : (text : List ℕ) (said : StoreScriptLine) → SpellsStore text said → first_two text ≡ two_of said
-store_two text (lines.Life options) s = ap first_two s.1
-store_two text (lines.SetLog bytes) s = ap first_two s.1
-store_two text (lines.Within within.Calls) s = ap first_two s
-store_two text (lines.Within (within.Page page)) s = ap first_two s.1
-store_two text (lines.Within (within.Step steps.Begin)) s = ap first_two s
-store_two text (lines.Within (within.Step (steps.Fetch t key))) s = ap first_two s.1
-store_two text (lines.Within (within.Step (steps.Insert t key rid))) s = ap first_two s.1
-store_two text (lines.Within (within.Step (steps.Delete t key))) s = ap first_two s.1
-store_two text (lines.Within (within.Step (steps.Commit t))) s = ap first_two s.1
-store_two text (lines.Within (within.Step (steps.FlushPage page))) s = ap first_two s.1
-store_two text (lines.Within (within.Step steps.Force)) s = ap first_two s
-store_two text (lines.Stop stop) s = ap first_two s.3
-
--- a line of a life of a store begins with neither `ra` nor `pu`
-not_two : (said : StoreScriptLine) (n : ℕ) → (n ≡ 29281) ⊎ (n ≡ 28789) → two_of said ≢ n
-not_two (lines.Life options) n is e = ⊎_elim (λ (r : n ≡ 29281). absurd (omega (arith, r, e))) (λ (p : n ≡ 28789). absurd (omega (arith, p, e))) is
-not_two (lines.SetLog bytes) n is e = ⊎_elim (λ (r : n ≡ 29281). absurd (omega (arith, r, e))) (λ (p : n ≡ 28789). absurd (omega (arith, p, e))) is
-not_two (lines.Within within.Calls) n is e = ⊎_elim (λ (r : n ≡ 29281). absurd (omega (arith, r, e))) (λ (p : n ≡ 28789). absurd (omega (arith, p, e))) is
-not_two (lines.Within (within.Page page)) n is e = ⊎_elim (λ (r : n ≡ 29281). absurd (omega (arith, r, e))) (λ (p : n ≡ 28789). absurd (omega (arith, p, e))) is
-not_two (lines.Within (within.Step steps.Begin)) n is e = ⊎_elim (λ (r : n ≡ 29281). absurd (omega (arith, r, e))) (λ (p : n ≡ 28789). absurd (omega (arith, p, e))) is
-not_two (lines.Within (within.Step (steps.Fetch t key))) n is e = ⊎_elim (λ (r : n ≡ 29281). absurd (omega (arith, r, e))) (λ (p : n ≡ 28789). absurd (omega (arith, p, e))) is
-not_two (lines.Within (within.Step (steps.Insert t key rid))) n is e = ⊎_elim (λ (r : n ≡ 29281). absurd (omega (arith, r, e))) (λ (p : n ≡ 28789). absurd (omega (arith, p, e))) is
-not_two (lines.Within (within.Step (steps.Delete t key))) n is e = ⊎_elim (λ (r : n ≡ 29281). absurd (omega (arith, r, e))) (λ (p : n ≡ 28789). absurd (omega (arith, p, e))) is
-not_two (lines.Within (within.Step (steps.Commit t))) n is e = ⊎_elim (λ (r : n ≡ 29281). absurd (omega (arith, r, e))) (λ (p : n ≡ 28789). absurd (omega (arith, p, e))) is
-not_two (lines.Within (within.Step (steps.FlushPage page))) n is e = ⊎_elim (λ (r : n ≡ 29281). absurd (omega (arith, r, e))) (λ (p : n ≡ 28789). absurd (omega (arith, p, e))) is
-not_two (lines.Within (within.Step steps.Force)) n is e = ⊎_elim (λ (r : n ≡ 29281). absurd (omega (arith, r, e))) (λ (p : n ≡ 28789). absurd (omega (arith, p, e))) is
-not_two (lines.Stop stop) n is e = ⊎_elim (λ (r : n ≡ 29281). absurd (omega (arith, r, e))) (λ (p : n ≡ 28789). absurd (omega (arith, p, e))) is
+-- no line of a life of a store puts a batch
+not_puts : (said : StoreScriptLine) → store_kind_of said ≢ Puts
+not_puts (lines.Life options) e = absurd (cc)
+not_puts (lines.SetLog bytes) e = absurd (cc)
+not_puts (lines.Within within.Calls) e = absurd (cc)
+not_puts (lines.Within (within.Page page)) e = absurd (cc)
+not_puts (lines.Within (within.Step step)) e = absurd (cc)
+not_puts (lines.Stop stop) e = absurd (cc)
 
 -- `raw` and `put` are no lines of lives of a store
 pub not_raw : (text : List ℕ) (said : StoreScriptLine) → Spells text raws.Raw → SpellsStore text said → ⊥
-not_raw text said r s = not_two said 29281 (inl refl) (sym (store_two text said s) ∙ ap first_two r)
+not_raw text said r s = not_puts said (store_kind text said s ∙ ap store_text_kind r)
 
 pub not_put : (text : List ℕ) (said : StoreScriptLine) (batch : Batch) → Spells text (raws.Put batch) → SpellsStore text said → ⊥
-not_put text said batch p s = not_two said 28789 (inr refl) (sym (store_two text said s) ∙ ap first_two p.1)
+not_put text said batch p s = not_puts said (store_kind text said s ∙ ap store_text_kind p.1)
 
 -- what is neither another line nor a step, is no plain line
 pub no_store_line : (text : List ℕ) (said : StoreScriptLine) → SpellsStore text said → IsPlainLine said → ((line : Line) → ¬ (Spells text line)) → ((step : Step) → ¬ (SpellsStep text step)) → ⊥
@@ -133,29 +80,17 @@ no_spaced_line text word rest (lines.Stop stop) s cut l life page plain = plain 
 -- what stands behind `life`: its options
 pub life_said : (rest : List ℕ) (said : StoreScriptLine) → SpellsStore (codes "life" ++ rest) said → (options : LifeOptions) × SpellsOptions (named_options options) rest
 life_said rest (lines.Life options) s = (options, are_options rest options s)
-life_said rest (lines.SetLog bytes) s = let e = store_two (codes "life" ++ rest) (lines.SetLog bytes) s in absurd (omega (arith, e))
-life_said rest (lines.Within within.Calls) s = let e = store_two (codes "life" ++ rest) (lines.Within within.Calls) s in absurd (omega (arith, e))
-life_said rest (lines.Within (within.Page page)) s = let e = store_two (codes "life" ++ rest) (lines.Within (within.Page page)) s in absurd (omega (arith, e))
-life_said rest (lines.Within (within.Step steps.Begin)) s = let e = store_two (codes "life" ++ rest) (lines.Within (within.Step steps.Begin)) s in absurd (omega (arith, e))
-life_said rest (lines.Within (within.Step (steps.Fetch t key))) s = let e = store_two (codes "life" ++ rest) (lines.Within (within.Step (steps.Fetch t key))) s in absurd (omega (arith, e))
-life_said rest (lines.Within (within.Step (steps.Insert t key rid))) s = let e = store_two (codes "life" ++ rest) (lines.Within (within.Step (steps.Insert t key rid))) s in absurd (omega (arith, e))
-life_said rest (lines.Within (within.Step (steps.Delete t key))) s = let e = store_two (codes "life" ++ rest) (lines.Within (within.Step (steps.Delete t key))) s in absurd (omega (arith, e))
-life_said rest (lines.Within (within.Step (steps.Commit t))) s = let e = store_two (codes "life" ++ rest) (lines.Within (within.Step (steps.Commit t))) s in absurd (omega (arith, e))
-life_said rest (lines.Within (within.Step (steps.FlushPage page))) s = let e = store_two (codes "life" ++ rest) (lines.Within (within.Step (steps.FlushPage page))) s in absurd (omega (arith, e))
-life_said rest (lines.Within (within.Step steps.Force)) s = let e = store_two (codes "life" ++ rest) (lines.Within (within.Step steps.Force)) s in absurd (omega (arith, e))
-life_said rest (lines.Stop stop) s = let e = store_two (codes "life" ++ rest) (lines.Stop stop) s in absurd (omega (arith, e))
+life_said rest (lines.SetLog bytes) s = let e : SetsLog ≡ Begins = store_kind (codes "life" ++ rest) (lines.SetLog bytes) s in absurd (cc)
+life_said rest (lines.Within within.Calls) s = let e : Counts ≡ Begins = store_kind (codes "life" ++ rest) (lines.Within within.Calls) s in absurd (cc)
+life_said rest (lines.Within (within.Page page)) s = let e : Counts ≡ Begins = store_kind (codes "life" ++ rest) (lines.Within (within.Page page)) s in absurd (cc)
+life_said rest (lines.Within (within.Step step)) s = let e : Steps ≡ Begins = store_kind (codes "life" ++ rest) (lines.Within (within.Step step)) s in absurd (cc)
+life_said rest (lines.Stop stop) s = let e : Stops ≡ Begins = store_kind (codes "life" ++ rest) (lines.Stop stop) s in absurd (cc)
 
 -- what stands behind `page `
 pub page_said : (rest : List ℕ) (said : StoreScriptLine) → SpellsStore (codes "page " ++ rest) said → (n : ℕ) × IsPageNumber rest n
 page_said rest (lines.Within (within.Page page)) s = let e : codes "page " ++ rest ≡ codes "page " ++ s.0 = s.1 in let same : rest ≡ s.0 = cc in (page, subst (λ (t : List ℕ). IsPageNumber t page) (sym same) s.2)
-page_said rest (lines.Life options) s = let e = store_two (codes "page " ++ rest) (lines.Life options) s in absurd (omega (arith, e))
-page_said rest (lines.SetLog bytes) s = let e = store_two (codes "page " ++ rest) (lines.SetLog bytes) s in absurd (omega (arith, e))
-page_said rest (lines.Within within.Calls) s = let e = store_two (codes "page " ++ rest) (lines.Within within.Calls) s in absurd (omega (arith, e))
-page_said rest (lines.Within (within.Step steps.Begin)) s = let e = store_two (codes "page " ++ rest) (lines.Within (within.Step steps.Begin)) s in absurd (omega (arith, e))
-page_said rest (lines.Within (within.Step (steps.Fetch t key))) s = let e = store_two (codes "page " ++ rest) (lines.Within (within.Step (steps.Fetch t key))) s in absurd (omega (arith, e))
-page_said rest (lines.Within (within.Step (steps.Insert t key rid))) s = let e = store_two (codes "page " ++ rest) (lines.Within (within.Step (steps.Insert t key rid))) s in absurd (omega (arith, e))
-page_said rest (lines.Within (within.Step (steps.Delete t key))) s = let e = store_two (codes "page " ++ rest) (lines.Within (within.Step (steps.Delete t key))) s in absurd (omega (arith, e))
-page_said rest (lines.Within (within.Step (steps.Commit t))) s = let e = store_two (codes "page " ++ rest) (lines.Within (within.Step (steps.Commit t))) s in absurd (omega (arith, e))
-page_said rest (lines.Within (within.Step (steps.FlushPage page))) s = let e = store_two (codes "page " ++ rest) (lines.Within (within.Step (steps.FlushPage page))) s in absurd (omega (arith, e))
-page_said rest (lines.Within (within.Step steps.Force)) s = let e = store_two (codes "page " ++ rest) (lines.Within (within.Step steps.Force)) s in absurd (omega (arith, e))
-page_said rest (lines.Stop stop) s = let e = store_two (codes "page " ++ rest) (lines.Stop stop) s in absurd (omega (arith, e))
+page_said rest (lines.Life options) s = let e : Begins ≡ Counts = store_kind (codes "page " ++ rest) (lines.Life options) s in absurd (cc)
+page_said rest (lines.SetLog bytes) s = let e : SetsLog ≡ Counts = store_kind (codes "page " ++ rest) (lines.SetLog bytes) s in absurd (cc)
+page_said rest (lines.Within within.Calls) s = let e = ap (λ (t : List ℕ). slice_index t 0) s in absurd (omega (arith, e))
+page_said rest (lines.Within (within.Step step)) s = let e : Steps ≡ Counts = store_kind (codes "page " ++ rest) (lines.Within (within.Step step)) s in absurd (cc)
+page_said rest (lines.Stop stop) s = let e : Stops ≡ Counts = store_kind (codes "page " ++ rest) (lines.Stop stop) s in absurd (cc)

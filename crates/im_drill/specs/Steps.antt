@@ -2,8 +2,8 @@
 use Rattle.std.specs.Prelude.{◌≡◌, ◌≢◌, ◌⊎◌, ℕ, ◌≤◌, ◌==◌, ◌&&◌, Bool, true, not, List, [], ◌∷◌, ◌++◌, codes, replicate}
 use Rattle.std.specs.List.{list_all}
 use Rattle.std.specs.Char.{is_ascii_graphic, IsAsciiAlphanumeric}
-use Rattle.im_types.specs.declared.step.Step.{Step}
-use Rattle.im_types.specs.declared.step.Step.TheVariants as steps
+use Rattle.im_front.specs.declared.step.Step.{Step}
+use Rattle.im_front.specs.declared.step.Step.TheVariants as steps
 use Rattle.im_drill.specs.Lines.{IsNumber, IsPageNumber}
 
 -- a byte that a key's text may have: printable, and no space, `+` or `*`
@@ -63,12 +63,34 @@ pub record IsKeyedWith (text : List ℕ) (t : ℕ) (key : List ℕ) (rid : ℕ) 
   pub is_key : IsKeyWord word key
   pub is_rid : IsNumber last rid
 
--- The bytes of a line that asks for this step.
+-- the word of a key, a space, and what stands behind them
+pub record IsBehindKey (text key rest : List ℕ) : Type 0 where
+  pub word : List ℕ
+  pub is : text ≡ word ++ 32 ∷ rest
+  pub is_key : IsKeyWord word key
+
+-- a number, the words of two keys and a limit, with single spaces between them
+pub record IsRanged (text : List ℕ) (t : ℕ) (lo hi : List ℕ) (limit : ℕ) : Type 0 where
+  pub keys : List ℕ
+  pub rest : List ℕ
+  pub last : List ℕ
+  pub numbered : IsNumbered text t keys
+  pub low : IsBehindKey keys lo rest
+  pub high : IsBehindKey rest hi last
+  pub is_limit : IsNumber last limit
+
+-- The bytes of a line that asks for this step. None asks for a checkpoint.
 abbrev pub SpellsStep : List ℕ → Step → Type 0
 SpellsStep text steps.Begin = text ≡ codes "begin"
 SpellsStep text (steps.Fetch t key) = (rest : List ℕ) × (text ≡ codes "fetch " ++ rest) × IsKeyed rest t key.items
+SpellsStep text (steps.Seek t key) = (rest : List ℕ) × (text ≡ codes "seek " ++ rest) × IsKeyed rest t key.items
+SpellsStep text (steps.Next t key) = (rest : List ℕ) × (text ≡ codes "next " ++ rest) × IsKeyed rest t key.items
+SpellsStep text (steps.Scan t lo hi limit) = (rest : List ℕ) × (text ≡ codes "scan " ++ rest) × IsRanged rest t lo.items hi.items limit
 SpellsStep text (steps.Insert t key rid) = (rest : List ℕ) × (text ≡ codes "insert " ++ rest) × IsKeyedWith rest t key.items rid
 SpellsStep text (steps.Delete t key) = (rest : List ℕ) × (text ≡ codes "delete " ++ rest) × IsKeyed rest t key.items
 SpellsStep text (steps.Commit t) = (rest : List ℕ) × (text ≡ codes "commit " ++ rest) × IsNumber rest t
+SpellsStep text (steps.Rollback t) = (rest : List ℕ) × (text ≡ codes "rollback " ++ rest) × IsNumber rest t
+SpellsStep text (steps.Continue t) = (rest : List ℕ) × (text ≡ codes "continue " ++ rest) × IsNumber rest t
 SpellsStep text (steps.FlushPage page) = (rest : List ℕ) × (text ≡ codes "flush " ++ rest) × IsPageNumber rest page
 SpellsStep text steps.Force = text ≡ codes "force"
+SpellsStep text steps.Checkpoint = ⊥

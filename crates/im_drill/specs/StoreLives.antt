@@ -3,13 +3,14 @@ use Rattle.std.specs.Prelude.{◌≡◌, ◌≢◌, ℕ, ◌^◌, ◌-◌, nat_l
 use Rattle.im_types.specs.Changes.{Effect}
 use Rattle.im_types.specs.Faults.{number_of}
 use Rattle.im_types.specs.Lives.{Shown, Asked, nothing_shown, breaks, shows}
-use Rattle.im_types.specs.Steps.{asked_by, told_by}
+use Rattle.im_lock.specs.View.{View}
+use Rattle.im_front.specs.Calls.{asked_by, told_by}
 use Rattle.im_disk.specs.Disk.{Files}
 use Rattle.im_disk.specs.declared.disk.Disk.{Ghosts}
-use Rattle.im_engine.specs.declared.config.Config.{Config}
-use Rattle.im_engine.specs.declared.engine.Engine.{Engine}
-use Rattle.im_engine.specs.Stands.{Allowed}
-use Rattle.im_engine.specs.Running.{IsLife}
+use Rattle.im_transactions.specs.declared.config.Config.{Config}
+use Rattle.im_transactions.specs.declared.engine.Engine.{Engine}
+use Rattle.im_transactions.specs.Stands.{Allowed}
+use Rattle.im_transactions.specs.Running.{IsLife}
 use Rattle.im_drill.specs.declared.store_life.StoreLine.{StoreLine}
 use Rattle.im_drill.specs.declared.store_life.StoreLine.TheVariants as lines
 use Rattle.im_drill.specs.declared.store_life.LifeOptions.{LifeOptions}
@@ -45,9 +46,13 @@ asked_in_each (life ∷ rest) (told ∷ others) = asked_in life told ∷ asked_i
 asked_in_each [] told = []
 asked_in_each (life ∷ rest) [] = []
 
+-- The life has shown this, and its engine is some view of the machine of transactions.
+abbrev pub GoesOn : {D : Type 0} (d : Ghosts D) → List Effect → Shown → Engine D d → Type 0
+GoesOn d before s e = (v : View) × IsLife d before s v e
+
 -- A line was run: what a stop leaves is allowed by what is shown, and where none came the life goes on.
 pub record LineKept {D : Type 0} (d : Ghosts D) (before : List Effect) (s : Shown) (line : StoreLine) (reply : StoreReply) (new : Engine D d) : Type 0 where
-  pub after : reply ≢ replies.Stopped → IsLife d before (shown_after s line reply) new
+  pub after : reply ≢ replies.Stopped → GoesOn d before (shown_after s line reply) new
   pub stops : (c : Files) → d.may_leave new.disk c → Allowed before (shown_after s line reply) c
 
 -- A step has its reply, `calls` answers a number, and `page` what that page is for, or why that can't be told.

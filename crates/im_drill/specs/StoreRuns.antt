@@ -1,13 +1,14 @@
 -- Lives of a store in a script, as engines run them: which calls the answers come from, and on which disks.
-use Rattle.std.specs.Prelude.{◌≡◌, ◌⊎◌, ◌↔◌, ◌<◌, ℕ, true, false, List, [], ◌∷◌, Option, Some, None, Result, Ok, Err, IfOk, IfErr, MatchResult}
+use Rattle.std.specs.Prelude.{◌≡◌, ◌⊎◌, ◌↔◌, ◌<◌, ℕ, true, false, List, [], ◌∷◌, Option, None, Result, Ok, Err, IfOk, IfErr, MatchResult}
 use Rattle.std.specs.Global.{Vec}
 use Rattle.std.specs.Result.{IsErrAnd}
 use Rattle.im_types.specs.declared.fault.Fault.{Fault}
 use Rattle.im_types.specs.declared.fault.Fault.TheVariants.{Memory, Device, LogFull, NotAStore, PoolSize, Capacity}
-use Rattle.im_types.specs.declared.step.Step.{Step}
-use Rattle.im_types.specs.declared.reply.Reply.{Reply}
+use Rattle.im_front.specs.declared.step.Step.{Step}
+use Rattle.im_front.specs.declared.reply.Reply.{Reply}
 use Rattle.im_types.specs.Changes.{Effect}
 use Rattle.im_types.specs.Lives.{Shown}
+use Rattle.im_lock.specs.View.{View}
 use Rattle.im_types.specs.Pages.{Entry}
 use Rattle.im_disk.specs.declared.disk.Disk.{Ghosts}
 use Rattle.im_disk.specs.declared.model_disk.ModelDisk.{ModelDisk}
@@ -17,15 +18,15 @@ use Rattle.im_disk.specs.Model.{IsFresh, model_calls}
 use Rattle.im_disk.specs.Runs.{Reads}
 use Rattle.im_pool.specs.Pool.{page_at}
 use Rattle.im_restart.specs.Restart.{IsFullLog, SpellsLog}
-use Rattle.im_engine.specs.declared.config.Config.{Config}
-use Rattle.im_engine.specs.declared.header.Header.{Header}
-use Rattle.im_engine.specs.declared.engine.Engine.{Engine}
-use Rattle.im_engine.specs.Changes.{header_of}
-use Rattle.im_engine.specs.Checks.{Where, HasCause}
-use Rattle.im_engine.specs.Kept.{OpenKept, LookKept, disk_of}
-use Rattle.im_engine.specs.Running.{IsLife}
-use Rattle.im_engine.specs.Stands.{StandsFor}
-use Rattle.im_engine.specs.Turns.{IsStep}
+use Rattle.im_transactions.specs.declared.config.Config.{Config}
+use Rattle.im_transactions.specs.declared.header.Header.{Header}
+use Rattle.im_transactions.specs.declared.engine.Engine.{Engine}
+use Rattle.im_transactions.specs.Faults.{told_as}
+use Rattle.im_transactions.specs.Looking.{header_of}
+use Rattle.im_transactions.specs.Kept.{OpenKept, LookKept, disk_of}
+use Rattle.im_transactions.specs.Running.{IsLife}
+use Rattle.im_transactions.specs.Stands.{StandsFor}
+use Rattle.im_transactions.specs.Told.{IsStep, ReadCause, Where}
 use Rattle.im_drill.specs.declared.life_answers.Opening.TheVariants as openings
 use Rattle.im_drill.specs.declared.store_life.StoreLine.{StoreLine}
 use Rattle.im_drill.specs.declared.store_life.StoreLine.TheVariants as lines
@@ -54,8 +55,8 @@ module _ (d : Ghosts ModelDisk) where
   pub record IsLookRun (stop : Option Stop) (page : ℕ) (told : StoreReply) (old new : Engine ModelDisk d) : Type 0 where
     pub header : Result Header Fault
     pub shows : IfOk header (λ h. h ≡ header_of (page_at new.writer.pool page))
-    pub refused : IfErr header (λ f. old.failed ≡ false → HasCause d new.writer.log new.disk f)
-    pub kept : (before : List Effect) (s : Shown) → IsLife d before s old → LookKept d before s old new
+    pub refused : IfErr header (λ f. old.failed ≡ false → ReadCause d new.writer.log new.disk (told_as f))
+    pub kept : (before : List Effect) (s : Shown) (v : View) → IsLife d before s v old → LookKept d before s v old new
     pub says : Where (HasCome stop new.disk) (told ≡ replies.Stopped) (MatchResult header (λ h. told ≡ replies.Page page h) (λ f. told ≡ replies.Refused f))
 
   -- A line was run by the engine. `calls` counts the device calls so far.
@@ -78,7 +79,7 @@ module _ (d : Ghosts ModelDisk) where
     pub config : Config
     pub of : IsConfigOf options config
     pub kept : (before : List Effect) (stands : StandsFor before (d.seen old)) → OpenKept d before old stands result
-    pub opened : IfOk result (λ e. (e.failed ≡ false) × (e.going ≡ None) × (e.max_pages ≡ config.max_pages))
+    pub opened : IfOk result (λ e. (e.failed ≡ false) × (e.txns.rows ≡ []) × (e.locks ≡ []) × (e.max_pages ≡ config.max_pages))
     pub frames : IsErrAnd result (λ x. x.0 ≡ PoolSize) ↔ ((config.frames < 8) ⊎ (1024 < config.frames))
     pub device : IsErrAnd result (λ x. x.0 ≡ Device) ↔ (d.failed (disk_of d result) ≡ true)
     pub causes : IfErr result (λ x. (x.0 ≡ PoolSize) ⊎ (x.0 ≡ Memory) ⊎ (x.0 ≡ Device) ⊎ (x.0 ≡ NotAStore) ⊎ (x.0 ≡ LogFull) ⊎ (x.0 ≡ Capacity))
@@ -107,7 +108,7 @@ module _ (d : Ghosts ModelDisk) where
 
   -- What stands behind the last life: the engine's entries, or why it has none.
   abbrev pub IsFoundBy : Result (Vec Entry) Fault → Result (Engine ModelDisk d) (Fault × ModelDisk) → Type 0
-  IsFoundBy last (Ok e) = (new : Engine ModelDisk d) × IfErr last (λ f. HasCause d new.writer.log new.disk f)
+  IsFoundBy last (Ok e) = (new : Engine ModelDisk d) × IfErr last (λ f. ReadCause d new.writer.log new.disk (told_as f))
   IsFoundBy last (Err x) = last ≡ Err x.0
 
   -- The last opening was made on this disk.

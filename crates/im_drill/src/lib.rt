@@ -11,8 +11,8 @@
 //! last life left, or was refused for want of memory or by the disk. Each life has its answers and each line its reply, up to a
 //! line into which the stop fell (`EachAnswered`).
 //!
-//! `drill_store` promises the same of effects, in the words of the engine and of lives, of every store, whether its tree has changed its
-//! structure or not: of a script whose files stand for some effects at first, as two empty files do for none, there are effects that
+//! `drill_store` promises the same of effects, in the words of the engine and of lives, of every store and of the steps of up to 64
+//! transactions in any order, rollbacks that a stop cuts off among them: of a script whose files stand for some effects at first, as two empty files do for none, there are effects that
 //! the lives allow of what each asked, read off its own steps and replies (`asked_in_each`, by `shows`), and the last opening, where
 //! it succeeds, hands out exactly their entries. No opening says that there is no store (`AreStores`); each may be refused for
 //! want of memory, of room in the log or of page numbers, or by the disk.
@@ -26,7 +26,7 @@
 //! This crate stands on the gate's and the engine's contracts over any disk, on the model disk, and on `hex` for digits. Within a life
 //! over the gate it keeps one fact (`IsLiving`): what a stop may leave now survives the life so far, and as long as the gate works,
 //! all that was asked was acknowledged. Within a life of a store it keeps the engine's (`IsLife`), at what the lines and replies so
-//! far have shown (`shown_in`).
+//! far have shown (`shown_in`), with some view of the machine of transactions (`GoesOn`).
 #![tactic(auto)]
 
 mod answers;

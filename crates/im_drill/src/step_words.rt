@@ -1,15 +1,16 @@
 //! The lines that ask for steps.
 
-ghost use Rattle.std.specs.Prelude.{◌≡◌, ◌⊎◌, ◌++◌, ℕ, List, codes, IfOk, IfErr};
+ghost use Rattle.std.specs.Prelude.{◌≡◌, ◌≢◌, ◌⊎◌, ◌++◌, ◌∷◌, ℕ, List, codes, IfOk, IfErr};
 ghost use Rattle.im_types.specs.declared.fault.Fault.TheVariants.{BadScript, Memory};
-ghost use Rattle.im_types.specs.declared.step.Step.{Step};
+ghost use Rattle.im_front.specs.declared.step.Step.{Step};
 ghost use Rattle.im_drill.specs.Lines.{Lacks, IsNumber, IsPageNumber};
-ghost use Rattle.im_drill.specs.Steps.{SpellsStep, IsNumbered, IsKeyed, IsKeyedWith};
+ghost use Rattle.im_drill.specs.Steps.{SpellsStep, IsNumbered, IsKeyed, IsKeyedWith, IsBehindKey};
 
 use crate::key_word::key_of;
 use crate::number::number_of;
 use crate::pieces::first_piece;
-use im_types::{Fault, Step};
+use im_front::Step;
+use im_types::Fault;
 use std::alloc::Global;
 
 /// The step that the line asks for. It has no newline. Refused `BadScript` exactly where the line asks for none; `Memory`.
@@ -26,17 +27,44 @@ pub fn step_line(alloc: Global, line: &[u8]) -> Result<Step, Fault>
     if word == b"commit".as_slice() {
         return commit_line(rest);
     }
+    if word == b"rollback".as_slice() {
+        return rollback_line(rest);
+    }
+    if word == b"continue".as_slice() {
+        return continue_line(rest);
+    }
+    if word == b"flush".as_slice() {
+        return flush_line(rest);
+    }
+    access_line(alloc, word, rest)
+}
+
+// The line of an access: its word, and what stands behind that.
+#[tactic(auto, using(crate::proofs::StepSpelled::step_word_said))]
+fn access_line(alloc: Global, word: &[u8], rest: &[u8]) -> Result<Step, Fault>
+    requires { Lacks 32 word.now }
+    ensures says { IfOk result (λ step. SpellsStep (word.now ++ 32 ∷ rest.now) step) }
+    ensures refused { result ≡ Err BadScript → word.now ≢ codes "commit" → word.now ≢ codes "rollback" → word.now ≢ codes "continue" → word.now ≢ codes "flush"
+        → (step : Step) → ¬ (SpellsStep (word.now ++ 32 ∷ rest.now) step) }
+    ensures causes { IfErr result (λ e. (e ≡ Memory) ⊎ (e ≡ BadScript)) }
+{
     if word == b"fetch".as_slice() {
         return fetch_line(alloc, rest);
     }
-    if word == b"delete".as_slice() {
-        return delete_line(alloc, rest);
+    if word == b"seek".as_slice() {
+        return seek_line(alloc, rest);
+    }
+    if word == b"next".as_slice() {
+        return next_line(alloc, rest);
+    }
+    if word == b"scan".as_slice() {
+        return scan_line(alloc, rest);
     }
     if word == b"insert".as_slice() {
         return insert_line(alloc, rest);
     }
-    if word == b"flush".as_slice() {
-        return flush_line(rest);
+    if word == b"delete".as_slice() {
+        return delete_line(alloc, rest);
     }
     Err(Fault::BadScript)
 }
@@ -68,6 +96,26 @@ fn commit_line(rest: &[u8]) -> Result<Step, Fault>
     Ok(Step::Commit(number))
 }
 
+#[tactic(auto, using(crate::proofs::StepSpelled::rollback_said))]
+fn rollback_line(rest: &[u8]) -> Result<Step, Fault>
+    ensures says { IfOk result (λ step. SpellsStep (codes "rollback " ++ rest.now) step) }
+    ensures refused { result ≡ Err BadScript → (step : Step) → ¬ (SpellsStep (codes "rollback " ++ rest.now) step) }
+    ensures causes { IfErr result (λ e. (e ≡ Memory) ⊎ (e ≡ BadScript)) }
+{
+    let number = count_of(rest)?;
+    Ok(Step::Rollback(number))
+}
+
+#[tactic(auto, using(crate::proofs::StepSpelled::continue_said))]
+fn continue_line(rest: &[u8]) -> Result<Step, Fault>
+    ensures says { IfOk result (λ step. SpellsStep (codes "continue " ++ rest.now) step) }
+    ensures refused { result ≡ Err BadScript → (step : Step) → ¬ (SpellsStep (codes "continue " ++ rest.now) step) }
+    ensures causes { IfErr result (λ e. (e ≡ Memory) ⊎ (e ≡ BadScript)) }
+{
+    let number = count_of(rest)?;
+    Ok(Step::Continue(number))
+}
+
 #[tactic(auto, using(crate::proofs::StepSpelled::flush_said))]
 fn flush_line(rest: &[u8]) -> Result<Step, Fault>
     ensures says { IfOk result (λ step. SpellsStep (codes "flush " ++ rest.now) step) }
@@ -86,6 +134,39 @@ fn fetch_line(alloc: Global, rest: &[u8]) -> Result<Step, Fault>
 {
     let (number, key) = keyed(alloc, rest)?;
     Ok(Step::Fetch(number, key))
+}
+
+#[tactic(auto, using(crate::proofs::StepSpelled::seek_said))]
+fn seek_line(alloc: Global, rest: &[u8]) -> Result<Step, Fault>
+    ensures says { IfOk result (λ step. SpellsStep (codes "seek " ++ rest.now) step) }
+    ensures refused { result ≡ Err BadScript → (step : Step) → ¬ (SpellsStep (codes "seek " ++ rest.now) step) }
+    ensures causes { IfErr result (λ e. (e ≡ Memory) ⊎ (e ≡ BadScript)) }
+{
+    let (number, key) = keyed(alloc, rest)?;
+    Ok(Step::Seek(number, key))
+}
+
+#[tactic(auto, using(crate::proofs::StepSpelled::next_said))]
+fn next_line(alloc: Global, rest: &[u8]) -> Result<Step, Fault>
+    ensures says { IfOk result (λ step. SpellsStep (codes "next " ++ rest.now) step) }
+    ensures refused { result ≡ Err BadScript → (step : Step) → ¬ (SpellsStep (codes "next " ++ rest.now) step) }
+    ensures causes { IfErr result (λ e. (e ≡ Memory) ⊎ (e ≡ BadScript)) }
+{
+    let (number, key) = keyed(alloc, rest)?;
+    Ok(Step::Next(number, key))
+}
+
+#[tactic(auto, using(crate::proofs::StepSpelled::scan_said))]
+fn scan_line(alloc: Global, rest: &[u8]) -> Result<Step, Fault>
+    ensures says { IfOk result (λ step. SpellsStep (codes "scan " ++ rest.now) step) }
+    ensures refused { result ≡ Err BadScript → (step : Step) → ¬ (SpellsStep (codes "scan " ++ rest.now) step) }
+    ensures causes { IfErr result (λ e. (e ≡ Memory) ⊎ (e ≡ BadScript)) }
+{
+    let (number, keys) = numbered(rest)?;
+    let (lo, rest) = behind_key(alloc, keys)?;
+    let (hi, last) = behind_key(alloc, rest)?;
+    let limit = count_of(last)?;
+    Ok(Step::Scan(number, lo, hi, limit))
 }
 
 #[tactic(auto, using(crate::proofs::StepSpelled::delete_said))]
@@ -124,6 +205,21 @@ fn keyed(alloc: Global, text: &[u8]) -> Result<(u64, Vec<u8>), Fault>
     let (number, word) = numbered(text)?;
     let key = key_of(alloc, word)?;
     Ok((number, key))
+}
+
+// The key of a word, and what stands behind it and a space.
+#[tactic(auto, using(crate::proofs::StepSpelled::behind_one, crate::proofs::StepSpelled::behind_cut))]
+fn behind_key(alloc: Global, text: &[u8]) -> Result<(Vec<u8>, &[u8]), Fault>
+    ensures says { IfOk result (λ said. IsBehindKey text.now said.0.items said.1.now) }
+    ensures refused { result ≡ Err BadScript → (key rest : List ℕ) → ¬ (IsBehindKey text.now key rest) }
+    ensures causes { IfErr result (λ e. (e ≡ Memory) ⊎ (e ≡ BadScript)) }
+{
+    let (word, rest) = first_piece(text, b' ');
+    let Some(rest) = rest else {
+        return Err(Fault::BadScript);
+    };
+    let key = key_of(alloc, word)?;
+    Ok((key, rest))
 }
 
 // A number, and what stands behind it and a space.

@@ -1,11 +1,12 @@
 //! What the lives of a store answer.
 
 use crate::Opening;
-use im_engine::Header;
-use im_types::{Fault, Key, PageNo, Reply, Rid};
+use im_front::Reply;
+use im_transactions::Header;
+use im_types::{Fault, Key, PageNo, Rid};
 
 /// What a line of a life of a store answers.
-#[derive(Clone, Copy, Debug, PartialEq, Eq)]
+#[derive(Drop)]
 pub enum StoreReply {
     /// The step's reply.
     Step(Reply),

@@ -1,7 +1,8 @@
 //! A life of a store in a script.
 
 use im_disk::Stop;
-use im_types::{PageNo, Step};
+use im_front::Step;
+use im_types::PageNo;
 
 /// A line within a life of a store.
 #[derive(Drop)]

@@ -7,12 +7,11 @@ ghost use Rattle.im_types.specs.Changes.{Effect, apply_all};
 ghost use Rattle.im_types.specs.Lives.{Shown, nothing_shown, StandsForMore};
 ghost use Rattle.im_disk.specs.Disk.{Files};
 ghost use Rattle.im_disk.specs.Runs.{IsSynced, Reads};
-ghost use Rattle.im_engine.specs.Stands.{StandsFor, Allowed};
-ghost use Rattle.im_engine.specs.Running.{IsLife};
+ghost use Rattle.im_transactions.specs.Stands.{StandsFor, Allowed};
 ghost use Rattle.im_drill.specs.declared.store_answers.StoreReply.TheVariants.{Stopped};
 ghost use Rattle.im_drill.specs.Answered.{AnsweredBy};
 ghost use Rattle.im_drill.specs.Stops.{IsArmedAll, IsCallArmed, IsReadArmed};
-ghost use Rattle.im_drill.specs.StoreLives.{asked_in, shown_in, in_32_bits, IsConfigOf, LineKept, IsStoreReply, StoreAnswered};
+ghost use Rattle.im_drill.specs.StoreLives.{asked_in, shown_in, in_32_bits, GoesOn, IsConfigOf, LineKept, IsStoreReply, StoreAnswered};
 ghost use Rattle.im_drill.specs.StoreRuns.{IsOpening, IsLifeRun, AreLinesRun, IsLineRun, IsStepRun, IsLookRun, IsLastRun};
 
 use crate::Opening;
@@ -21,8 +20,9 @@ use crate::stop::has_come;
 use crate::store_answers::{StoreAnswers, StoreReply};
 use crate::store_life::{LifeOptions, StoreLife, StoreLine};
 use im_disk::{Disk, ModelDisk, Stop};
-use im_engine::{Config, Engine};
-use im_types::{Fault, Key, PageNo, Rid, Step};
+use im_front::Step;
+use im_transactions::{Config, Engine};
+use im_types::{Fault, Key, PageNo, Rid};
 use std::alloc::{AllocError, Global};
 
 /// Runs one life on the disk, and gives the disk back as it was when the stop came or the lines ended.
@@ -148,14 +148,15 @@ fn run_store_lines(
 ) -> Result<Vec<StoreReply>, AllocError>
     ensures run { IfOk result (λ told. AreLinesRun ⟦<ModelDisk as Disk>⟧ stop.now lines.now told.items engine.old engine.new) }
     ensures answered { IfOk result (λ told. AnsweredBy IsStoreReply Stopped lines.now told.items) }
-    ensures kept { IfOk result (λ told. (before : List Effect) → IsLife ⟦<ModelDisk as Disk>⟧ before nothing_shown engine.old
+    ensures kept { IfOk result (λ told. (before : List Effect) → GoesOn ⟦<ModelDisk as Disk>⟧ before nothing_shown engine.old
         → (c : Files) → ⟦<ModelDisk as Disk>⟧.may_leave engine.new.disk c → Allowed before (shown_in nothing_shown lines.now told.items) c) }
 {
     let mut replies = Vec::new(alloc);
     for line in lines {
         let reply = run_store_line(engine, line, stop);
+        let stopped = is_stopped(&reply);
         replies.push(reply)?;
-        if is_stopped(reply) {
+        if stopped {
             return Ok(replies);
         }
     }
@@ -169,7 +170,7 @@ fn run_store_line(
 ) -> StoreReply
     ensures run { IsLineRun ⟦<ModelDisk as Disk>⟧ stop.now line.now result engine.old engine.new }
     ensures fits { (result ≡ Stopped) ⊎ IsStoreReply line.now result }
-    ensures kept { (before : List Effect) (s : Shown) → IsLife ⟦<ModelDisk as Disk>⟧ before s engine.old
+    ensures kept { (before : List Effect) (s : Shown) → GoesOn ⟦<ModelDisk as Disk>⟧ before s engine.old
         → LineKept ⟦<ModelDisk as Disk>⟧ before s line.now result engine.new }
 {
     match line {
@@ -182,7 +183,7 @@ fn run_store_line(
 fn run_step(engine: &mut Engine<ModelDisk>, step: &Step, stop: &Option<Stop>) -> StoreReply
     ensures run { IsStepRun ⟦<ModelDisk as Disk>⟧ stop.now step.now result engine.old engine.new }
     ensures fits { (result ≡ Stopped) ⊎ IsStoreReply (StoreLine.Step step.now) result }
-    ensures kept { (before : List Effect) (s : Shown) → IsLife ⟦<ModelDisk as Disk>⟧ before s engine.old
+    ensures kept { (before : List Effect) (s : Shown) → GoesOn ⟦<ModelDisk as Disk>⟧ before s engine.old
         → LineKept ⟦<ModelDisk as Disk>⟧ before s (StoreLine.Step step.now) result engine.new }
 {
     let reply = engine.step(step);
@@ -197,7 +198,7 @@ fn run_step(engine: &mut Engine<ModelDisk>, step: &Step, stop: &Option<Stop>) ->
 fn look_at(engine: &mut Engine<ModelDisk>, page: PageNo, stop: &Option<Stop>) -> StoreReply
     ensures run { IsLookRun ⟦<ModelDisk as Disk>⟧ stop.now page result engine.old engine.new }
     ensures fits { (result ≡ Stopped) ⊎ IsStoreReply (StoreLine.Page page) result }
-    ensures kept { (before : List Effect) (s : Shown) → IsLife ⟦<ModelDisk as Disk>⟧ before s engine.old
+    ensures kept { (before : List Effect) (s : Shown) → GoesOn ⟦<ModelDisk as Disk>⟧ before s engine.old
         → LineKept ⟦<ModelDisk as Disk>⟧ before s (StoreLine.Page page) result engine.new }
 {
     let header = engine.header(page);
@@ -211,8 +212,8 @@ fn look_at(engine: &mut Engine<ModelDisk>, page: PageNo, stop: &Option<Stop>) ->
 }
 
 // The stop fell into the line.
-fn is_stopped(reply: StoreReply) -> bool
-    ensures { result ≡ true ↔ reply ≡ Stopped }
+fn is_stopped(reply: &StoreReply) -> bool
+    ensures { result ≡ true ↔ reply.now ≡ Stopped }
 {
     matches!(reply, StoreReply::Stopped)
 }

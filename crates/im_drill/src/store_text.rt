@@ -9,7 +9,7 @@ use crate::entry_lines::entries_text;
 use crate::pieces::first_piece;
 use crate::reply_words::reply_text;
 use crate::store_answers::{StoreAnswers, StoreDrilled, StoreReply};
-use im_engine::Header;
+use im_transactions::Header;
 use im_types::{PageKind, PageNo};
 use std::alloc::Global;
 use std::io;
@@ -48,7 +48,7 @@ pub(crate) fn print_store<W: Write>(
     drilled: &StoreDrilled,
 ) -> io::Result<()> {
     for life in &drilled.lives {
-        print_store_life(writer, life)?;
+        print_store_life(alloc, writer, life)?;
     }
     match &drilled.last {
         Ok(entries) => entries_text(alloc, writer, "final", entries),
@@ -56,12 +56,16 @@ pub(crate) fn print_store<W: Write>(
     }
 }
 
-fn print_store_life<W: Write>(writer: &mut W, life: &StoreAnswers) -> io::Result<()> {
+fn print_store_life<W: Write>(
+    alloc: Global,
+    writer: &mut W,
+    life: &StoreAnswers,
+) -> io::Result<()> {
     print_opening(writer, life.opening)?;
     for reply in &life.replies {
         match reply {
             StoreReply::Step(reply) => {
-                reply_text(writer, reply)?;
+                reply_text(alloc, writer, reply)?;
                 writeln!(writer)?;
             }
             StoreReply::Calls(calls) => writeln!(writer, "calls {calls}")?,

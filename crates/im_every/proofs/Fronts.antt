@@ -1,10 +1,9 @@
 -- Fronts of what was asked.
-use Rattle.std.proofs.Common.{◌≡◌, ◌↔◌, ◌⊎◌, inl, inr, ℕ, zero, suc, ◌+◌, ◌-◌, ◌<◌, ◌≤◌, Bool, true, false, List, [], ◌∷◌, ◌++◌, length, take, drop, map, get_or, refl, sym, ◌∙◌, ap, subst, arith}
-use Rattle.std.proofs.lemmas.List.{map-append, take_more, take_all, length-map}
-use Rattle.std.proofs.Math.Seq.{drop-cons}
+use Rattle.std.proofs.Common.{◌≡◌, ◌⊎◌, inl, inr, ℕ, zero, suc, ◌+◌, ◌-◌, ◌<◌, ◌≤◌, true, false, List, [], ◌∷◌, ◌++◌, length, take, drop, map, get_or, refl, sym, ◌∙◌, ap, subst, arith}
+use Rattle.std.proofs.lemmas.List.{map-append, take_more, take_all}
 use Rattle.std.specs.FinMap.{empty, entries}
-use Rattle.im_types.specs.Changes.{Effect, apply, applied, apply_all}
-use Rattle.im_types.specs.Lives.{Asked, Survives, NoneAcked, effects}
+use Rattle.im_types.specs.Changes.{Effect, apply, apply_all}
+use Rattle.im_types.specs.Lives.{Asked, NoneAcked, effects}
 use Rattle.im_types.specs.Maps.{IndexMap}
 use Rattle.im_types.specs.Pages.{Entry}
 use Rattle.im_types.proofs.Changes.{apply_all_push}

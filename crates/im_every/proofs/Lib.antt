@@ -3,3 +3,4 @@ pub mod Entries
 pub mod Fronts
 pub mod Opens
 pub mod Shows
+pub mod Replies

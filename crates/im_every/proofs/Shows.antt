@@ -1,15 +1,15 @@
 -- What is kept of a life while its lines are read.
-use Rattle.std.proofs.Common.{Vec, Global, ◌≡◌, ◌≢◌, ◌⊎◌, inl, inr, ℕ, zero, suc, ◌+◌, ◌<◌, ◌≤◌, nat_eq, Bool, true, false, cond, List, [], ◌∷◌, ◌++◌, length, take, map, get_or, refl, sym, ◌∙◌, ap, subst, arith}
+use Rattle.std.proofs.Common.{Vec, Global, ◌≡◌, ◌≢◌, ◌⊎◌, inl, inr, ℕ, zero, suc, ◌+◌, ◌<◌, ◌≤◌, nat_eq, Bool, true, false, List, [], ◌∷◌, ◌++◌, length, take, get_or, None, Some, refl, sym, ◌∙◌, ap, subst, arith}
 use Rattle.std.specs.Prelude.{◌==◌, ◌||◌, if◌then◌else◌}
 use Rattle.std.proofs.lemmas.Bool.{eqb-true, eq-eqb, ne_eqb, cond-true, cond-false}
 use Rattle.std.proofs.lemmas.List.{map-append, take_more, append-nil, length-take-le}
-use Rattle.im_types.specs.Answers.{Mark, Going, Idle}
+use Rattle.im_types.specs.Answers.{Mark, Going, Idle, MustRollBack, RollingBack, Committing}
 use Rattle.im_types.specs.Answers as answers
 use Rattle.im_types.specs.Changes.{Effect}
 use Rattle.im_types.specs.Changes as changes
-use Rattle.im_types.specs.declared.step.Step.{Step}
-use Rattle.im_types.specs.declared.step.Step.TheVariants as steps
-use Rattle.im_types.specs.Steps.{asked_by}
+use Rattle.im_front.specs.declared.step.Step.{Step}
+use Rattle.im_front.specs.declared.step.Step.TheVariants as steps
+use Rattle.im_front.specs.Calls.{asked_by}
 use Rattle.im_types.specs.Lives.{Running, Shown, Asked, idle, with_running, adds, answered, asks, effect_asked, all_acked, refused, breaks, cut_off}
 use Rattle.im_types.specs.Refusals.{memory, unfinished}
 use Rattle.im_drill.specs.declared.store_life.StoreLine.{StoreLine}
@@ -20,10 +20,10 @@ use Rattle.im_every.specs.declared.change.AskedEffect.{AskedEffect}
 use Rattle.im_every.specs.declared.showing.Event.{Event}
 use Rattle.im_every.specs.declared.showing.Found.{Found}
 use Rattle.im_every.specs.declared.showing.Happened.{Happened}
-use Rattle.im_every.specs.declared.showing.Happened.TheVariants.{Began, Changed, Ended}
+use Rattle.im_every.specs.declared.showing.Happened.TheVariants.{Began, Changed, Died, Turned, Waited, Ended}
 use Rattle.im_every.specs.declared.showing.Showing.{Showing}
 use Rattle.im_every.specs.Judged.{asked_of, asked_in, change_of, newest_first}
-use Rattle.im_every.specs.Shows.{IsShown, IsFound, behind, running_from, mark_by}
+use Rattle.im_every.specs.Shows.{IsShown, IsFound, access_of, behind, is_going, running_from}
 
 -- ---- transactions
 
@@ -91,7 +91,7 @@ newest_push (x ∷ cs) c e = newest_push cs c (change_of x ∷ e)
 found_push : (f new : Found) (r : Running) (c copy : Change) → IsFound f r → new.going ≡ f.going → new.changes.items ≡ f.changes.items ++ copy ∷ [] → change_of copy ≡ change_of c
     → IsFound new (record r { effect = change_of c ∷ r.effect })
 found_push f new r c copy found going pushed is = record {
-  mark = found.mark ∙ ap mark_by (sym going);
+  mark = going ∙ found.mark;
   effect =
       ap (λ (e : Effect). change_of c ∷ e) found.effect
       ∙ ap (λ (x : changes.Change). x ∷ newest_first f.changes.items []) (sym is)
@@ -101,6 +101,19 @@ found_push f new r c copy found going pushed is = record {
 
 pub found_change : (f new : Found) (r : Running) (what : Happened) (c copy : Change) → what ≡ Changed c → IsFound f r → new.going ≡ f.going → new.changes.items ≡ f.changes.items ++ copy ∷ [] → change_of copy ≡ change_of c → IsFound new (behind what r)
 found_change f new r what c copy happened_so found going pushed is = subst (λ (w : Happened). IsFound new (behind w r)) (sym happened_so) (found_push f new r c copy found going pushed is)
+
+-- a transaction that makes no more changes
+found_stopped : (f new : Found) (r : Running) (m : Mark) → is_going m ≡ false → IsFound f r → new.going ≡ false → new.changes ≡ f.changes → IsFound new (record r { mark = m })
+found_stopped f new r m stops found going same = record { mark = going ∙ sym stops; effect = found.effect ∙ ap (λ (l : Vec Change Global). newest_first l.items []) (sym same) }
+
+pub found_died : (f new : Found) (r : Running) (what : Happened) → what ≡ Died → IsFound f r → new.going ≡ false → new.changes ≡ f.changes → IsFound new (behind what r)
+found_died f new r what is found going same = subst (λ (w : Happened). IsFound new (behind w r)) (sym is) (found_stopped f new r MustRollBack refl found going same)
+
+pub found_turned : (f new : Found) (r : Running) (what : Happened) → what ≡ Turned → IsFound f r → new.going ≡ false → new.changes ≡ f.changes → IsFound new (behind what r)
+found_turned f new r what is found going same = subst (λ (w : Happened). IsFound new (behind w r)) (sym is) (found_stopped f new r RollingBack refl found going same)
+
+pub found_waited : (f new : Found) (r : Running) (what : Happened) → what ≡ Waited → IsFound f r → new.going ≡ false → new.changes ≡ f.changes → IsFound new (behind what r)
+found_waited f new r what is found going same = subst (λ (w : Happened). IsFound new (behind w r)) (sym is) (found_stopped f new r Committing refl found going same)
 
 -- ---- Commits
 
@@ -114,20 +127,37 @@ asked_some t acked [] some = absurd (some refl)
 asked_some t acked (c ∷ cs) some = asked_one t acked cs (change_of c) []
 
 -- one that is idle or has none is not
-asked_none : (t : ℕ) (acked : Bool) (going : Bool) (cs : List Change) → (going ≡ false) ⊎ (cs ≡ []) → effect_asked t acked (mark_by going) (newest_first cs []) ≡ []
-asked_none t acked true cs (inl idle_one) = absurd (cc)
-asked_none t acked true cs (inr none) = ap (λ (l : List Change). effect_asked t acked Going (newest_first l [])) none
-asked_none t acked false cs either = refl
+asked_none : (t : ℕ) (acked : Bool) (m : Mark) (cs : List Change) → (is_going m ≡ false) ⊎ (cs ≡ []) → effect_asked t acked m (newest_first cs []) ≡ []
+asked_none t acked Going cs (inl not_going) = absurd (cc)
+asked_none t acked Going cs (inr none) = ap (λ (l : List Change). effect_asked t acked Going (newest_first l [])) none
+asked_none t acked Idle cs either = refl
+asked_none t acked MustRollBack cs either = refl
+asked_none t acked RollingBack cs either = refl
+asked_none t acked Committing cs either = refl
 
-found_asks : (t : ℕ) (acked : Bool) (s : Shown) (f : Found) → IsFound f (s.running t) → effect_asked t acked (s.running t).mark (s.running t).effect ≡ effect_asked t acked (mark_by f.going) (newest_first f.changes.items [])
-found_asks t acked s f found = ap (λ (m : Mark). effect_asked t acked m (s.running t).effect) found.mark ∙ ap (λ (e : Effect). effect_asked t acked (mark_by f.going) e) found.effect
+going_is : (m : Mark) → is_going m ≡ true → m ≡ Going
+going_is Going is = refl
+going_is Idle is = absurd (cc)
+going_is MustRollBack is = absurd (cc)
+going_is RollingBack is = absurd (cc)
+going_is Committing is = absurd (cc)
+
+none_going : (f : Found) (m : Mark) → f.going ≡ is_going m → (f.going ≡ false) ⊎ (f.changes.items ≡ []) → (is_going m ≡ false) ⊎ (f.changes.items ≡ [])
+none_going f m is (inl stopped) = inl (sym is ∙ stopped)
+none_going f m is (inr none) = inr none
+
+found_asks : (t : ℕ) (acked : Bool) (s : Shown) (f : Found) → IsFound f (s.running t) → effect_asked t acked (s.running t).mark (s.running t).effect ≡ effect_asked t acked (s.running t).mark (newest_first f.changes.items [])
+found_asks t acked s f found = ap (λ (e : Effect). effect_asked t acked (s.running t).mark e) found.effect
 
 pub none_asked : (w : Showing) (s : Shown) (t : ℕ) (acked : Bool) (f : Found) → IsShown w s → IsFound f (running_from t idle w.events.items) → (f.going ≡ false) ⊎ (f.changes.items ≡ []) → IsShown w (asks t acked s)
 none_asked w s t acked f h found why = record {
   failed = h.failed;
   running = h.running;
-  asked = h.asked ∙ sym (append-nil s.asked) ∙ ap (λ (l : List Asked). s.asked ++ l) (sym (found_asks t acked s f (subst (λ (r : Running). IsFound f r) (sym (h.running t)) found) ∙ asked_none t acked f.going f.changes.items why));
+  asked = h.asked ∙ sym (append-nil s.asked) ∙ ap (λ (l : List Asked). s.asked ++ l) (sym (found_asks t acked s f own ∙ asked_none t acked (s.running t).mark f.changes.items (none_going f (s.running t).mark own.mark why)));
 }
+  where
+    own : IsFound f (s.running t)
+    own = subst (λ (r : Running). IsFound f r) (sym (h.running t)) found
 
 pub one_asked : (w new : Showing) (s : Shown) (t : ℕ) (acked : Bool) (f : Found) (a : AskedEffect) → IsShown w s → IsFound f (running_from t idle w.events.items) → f.going ≡ true → (f.changes.items ≡ [] → ⊥)
     → a.txn ≡ t → a.acked ≡ acked → a.changes.items ≡ f.changes.items → new.failed ≡ w.failed → new.events.items ≡ w.events.items → new.asked.items ≡ w.asked.items ++ a ∷ [] → IsShown new (asks t acked s)
@@ -138,9 +168,12 @@ one_asked w new s t acked f a h found going some txn ack same failed events aske
       ap (λ (l : List AskedEffect). asked_in l) asked
       ∙ map-append asked_of w.asked.items (a ∷ [])
       ∙ ap (λ (l : List Asked). l ++ asked_of a ∷ []) h.asked
-      ∙ ap (λ (l : List Asked). s.asked ++ l) (is ∙ sym (found_asks t acked s f (subst (λ (r : Running). IsFound f r) (sym (h.running t)) found) ∙ ap (λ (b : Bool). effect_asked t acked (mark_by b) (newest_first f.changes.items [])) going ∙ asked_some t acked f.changes.items some));
+      ∙ ap (λ (l : List Asked). s.asked ++ l) (is ∙ sym (found_asks t acked s f own ∙ ap (λ (m : Mark). effect_asked t acked m (newest_first f.changes.items [])) (going_is (s.running t).mark (sym own.mark ∙ going)) ∙ asked_some t acked f.changes.items some));
 }
   where
+    own : IsFound f (s.running t)
+    own = subst (λ (r : Running). IsFound f r) (sym (h.running t)) found
+
     is : asked_of a ∷ [] ≡ record { txn = t; effect = newest_first f.changes.items []; acked = acked } ∷ []
     is = ap (λ (n : ℕ). record { txn = n; effect = newest_first a.changes.items []; acked = a.acked } ∷ []) txn
         ∙ ap (λ (l : List Change). record { txn = t; effect = newest_first l []; acked = a.acked } ∷ []) same
@@ -186,6 +219,45 @@ deleted step t key bytes x new s is same drop shown =
 pub committed : (step : Step) (t : ℕ) (mid new : Showing) (s : Shown) → step ≡ steps.Commit t → ((u : Shown) → IsShown mid u → IsShown new (with_running t (behind Ended (u.running t)) u)) → IsShown mid (asks t true s)
     → IsShown new (answered (asked_by step) answers.Committed s)
 committed step t mid new s is ends shown = subst (λ (y : Step). IsShown new (answered (asked_by y) answers.Committed s)) (sym is) (ends (asks t true s) shown)
+
+pub waits : (step : Step) (t : ℕ) (mid new : Showing) (s : Shown) → step ≡ steps.Commit t → ((u : Shown) → IsShown mid u → IsShown new (with_running t (behind Waited (u.running t)) u)) → IsShown mid (asks t false s)
+    → IsShown new (answered (asked_by step) answers.More s)
+waits step t mid new s is happens shown = subst (λ (y : Step). IsShown new (answered (asked_by y) answers.More s)) (sym is) (happens (asks t false s) shown)
+
+pub turned : (step : Step) (t : ℕ) (new : Showing) (s : Shown) → step ≡ steps.Rollback t → IsShown new (with_running t (behind Turned (s.running t)) s) → IsShown new (answered (asked_by step) answers.More s)
+turned step t new s is shown = subst (λ (y : Step). IsShown new (answered (asked_by y) answers.More s)) (sym is) shown
+
+pub rolled_back : (step : Step) (t : ℕ) (new : Showing) (s : Shown) → (step ≡ steps.Rollback t) ⊎ (step ≡ steps.Continue t) → IsShown new (with_running t (behind Ended (s.running t)) s) → IsShown new (answered (asked_by step) answers.RolledBack s)
+rolled_back step t new s (inl is) shown = subst (λ (y : Step). IsShown new (answered (asked_by y) answers.RolledBack s)) (sym is) shown
+rolled_back step t new s (inr is) shown = subst (λ (y : Step). IsShown new (answered (asked_by y) answers.RolledBack s)) (sym is) shown
+
+dies : (t : ℕ) (a : answers.Access) (new : Showing) (s : Shown) → IsShown new (with_running t (behind Died (s.running t)) s) → IsShown new (answered (answers.Do t a) answers.Die s)
+dies t (answers.Fetch k) new s shown = shown
+dies t (answers.Seek k) new s shown = shown
+dies t (answers.Next k) new s shown = shown
+dies t (answers.Scan lo hi n) new s shown = shown
+dies t (answers.Insert k r) new s shown = shown
+dies t (answers.Delete k) new s shown = shown
+
+pub died : (step : answers.Step) (t : ℕ) (new : Showing) (s : Shown) → access_of step ≡ Some t → IsShown new (with_running t (behind Died (s.running t)) s) → IsShown new (answered step answers.Die s)
+died (answers.Do u a) t new s is shown = let same : t ≡ u = cc in dies u a new s (subst (λ (x : ℕ). IsShown new (with_running x (behind Died (s.running x)) s)) same shown)
+died answers.Begin t new s is shown = absurd (cc)
+died (answers.Commit u) t new s is shown = absurd (cc)
+died (answers.Rollback u) t new s is shown = absurd (cc)
+died (answers.Continue u) t new s is shown = absurd (cc)
+died (answers.FlushPage p) t new s is shown = absurd (cc)
+died answers.Force t new s is shown = absurd (cc)
+died answers.Checkpoint t new s is shown = absurd (cc)
+
+pub none_died : (step : answers.Step) (w : Showing) (s : Shown) → access_of step ≡ None → IsShown w s → IsShown w (answered step answers.Die s)
+none_died (answers.Do u a) w s is shown = absurd (cc)
+none_died answers.Begin w s is shown = shown
+none_died (answers.Commit u) w s is shown = shown
+none_died (answers.Rollback u) w s is shown = shown
+none_died (answers.Continue u) w s is shown = shown
+none_died (answers.FlushPage p) w s is shown = shown
+none_died answers.Force w s is shown = shown
+none_died answers.Checkpoint w s is shown = shown
 
 -- ---- what else changes
 

@@ -1,7 +1,9 @@
 -- What a life answers in which one device call, read or length call failed.
 use Rattle.std.specs.Prelude.{◌≡◌, ◌≢◌, ◌⊎◌, ◌||◌, Bool, true, false, List, [], ◌∷◌}
 use Rattle.im_types.specs.declared.fault.Fault.TheVariants as faults
-use Rattle.im_types.specs.declared.reply.Reply.TheVariants as said
+use Rattle.im_front.specs.declared.fault.Fault.TheVariants as causes
+use Rattle.im_front.specs.declared.reply.Reply.TheVariants as said
+use Rattle.im_front.specs.Calls.{told_by}
 use Rattle.im_drill.specs.declared.life_answers.Opening.TheVariants as openings
 use Rattle.im_drill.specs.declared.store_answers.StoreAnswers.{StoreAnswers}
 use Rattle.im_drill.specs.declared.store_answers.StoreReply.{StoreReply}
@@ -9,21 +11,30 @@ use Rattle.im_drill.specs.declared.store_answers.StoreReply.TheVariants as repli
 
 -- whether a line is refused by the device
 abbrev pub is_by_device : StoreReply → Bool
-is_by_device (replies.Step (said.Refused faults.Device)) = true
+is_by_device (replies.Step (said.Refused causes.Device)) = true
 is_by_device (replies.Refused faults.Device) = true
 is_by_device _ = false
 
 -- Whether an engine that has failed answers so: it refuses all, and its device calls can still be counted.
 abbrev pub is_behind_failure : StoreReply → Bool
 is_behind_failure (replies.Calls n) = true
-is_behind_failure (replies.Step (said.Refused faults.Failed)) = true
+is_behind_failure (replies.Step (said.Refused causes.Failed)) = true
 is_behind_failure (replies.Refused faults.Failed) = true
 is_behind_failure _ = false
 
--- Until a device call has failed a line has the reply that it has undisturbed, or is refused by the device; behind that, that of an engine which has failed.
+-- The replies to two lines say the same.
+abbrev pub SaysSame : StoreReply → StoreReply → Type 0
+SaysSame (replies.Step told) (replies.Step plain) = told_by told ≡ told_by plain
+SaysSame (replies.Calls told) (replies.Calls plain) = told ≡ plain
+SaysSame (replies.Page page told) (replies.Page other plain) = (page ≡ other) × (told ≡ plain)
+SaysSame (replies.Refused told) (replies.Refused plain) = told ≡ plain
+SaysSame replies.Stopped replies.Stopped = Unit {0}
+SaysSame _ _ = ⊥
+
+-- Until a device call has failed a line has a reply that says what it says undisturbed, or is refused by the device; behind that, that of an engine which has failed.
 abbrev pub IsNext : Bool → StoreReply → StoreReply → Type 0
 IsNext true plain told = is_behind_failure told ≡ true
-IsNext false plain told = (is_by_device told ≡ true) ⊎ (told ≡ plain)
+IsNext false plain told = (is_by_device told ≡ true) ⊎ SaysSame told plain
 
 -- Each line has such a reply in turn; the first refusal by the device says that a call has failed.
 abbrev pub AreDisturbed : Bool → List StoreReply → List StoreReply → Type 0

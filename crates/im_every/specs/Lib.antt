@@ -2,3 +2,4 @@ pub mod Disturbed
 pub mod Judged
 pub mod Opened
 pub mod Shows
+pub mod Replies

@@ -1,5 +1,5 @@
 -- Openings that are stopped, and openings that are judged.
-use Rattle.std.specs.Prelude.{◌≡◌, ◌⊎◌, ◌↔◌, ◌<◌, ℕ, Bool, true, false, List, Some, Result, Ok, Err, IfOk, IfErr}
+use Rattle.std.specs.Prelude.{◌≡◌, ◌⊎◌, ◌↔◌, ◌<◌, Bool, true, false, List, Some, Result, Ok, Err, IfOk, IfErr}
 use Rattle.std.specs.Global.{Vec}
 use Rattle.std.specs.Result.{IsErrAnd}
 use Rattle.im_types.specs.declared.fault.Fault.{Fault}
@@ -7,18 +7,20 @@ use Rattle.im_types.specs.declared.fault.Fault.TheVariants.{Device, PoolSize}
 use Rattle.im_types.specs.declared.file_id.FileId.{FileId}
 use Rattle.im_types.specs.Changes.{Effect}
 use Rattle.im_types.specs.Lives.{Shown}
+use Rattle.im_lock.specs.View.{View}
 use Rattle.im_types.specs.Pages.{Entry}
 use Rattle.im_disk.specs.declared.disk.Disk.{Ghosts}
 use Rattle.im_disk.specs.declared.model_disk.ModelDisk.{ModelDisk}
 use Rattle.im_disk.specs.declared.stop.Stop.{Stop}
 use Rattle.im_disk.specs.Left.{IsLeftBy}
 use Rattle.im_disk.specs.Model.{IsArmed, IsFresh, armed_of, file_of, model_calls, model_stop}
-use Rattle.im_engine.specs.declared.config.Config.{Config}
-use Rattle.im_engine.specs.declared.engine.Engine.{Engine}
-use Rattle.im_engine.specs.Checks.{HasCause}
-use Rattle.im_engine.specs.Kept.{OpenKept, EntriesKept, disk_of}
-use Rattle.im_engine.specs.Running.{IsLife}
-use Rattle.im_engine.specs.Stands.{StandsFor}
+use Rattle.im_transactions.specs.declared.config.Config.{Config}
+use Rattle.im_transactions.specs.declared.engine.Engine.{Engine}
+use Rattle.im_transactions.specs.Faults.{told_as}
+use Rattle.im_transactions.specs.Told.{ReadCause}
+use Rattle.im_transactions.specs.Kept.{OpenKept, EntriesKept, disk_of}
+use Rattle.im_transactions.specs.Running.{IsLife}
+use Rattle.im_transactions.specs.Stands.{StandsFor}
 use Rattle.im_drill.specs.declared.store_life.LifeOptions.{LifeOptions}
 use Rattle.im_drill.specs.StoreLives.{IsConfigOf}
 use Rattle.im_every.specs.declared.change.AskedEffect.{AskedEffect}
@@ -54,9 +56,9 @@ module _ (d : Ghosts ModelDisk) where
 
   -- These are the entries that the engine hands out, or why it hands out none.
   pub record IsListing (e : Engine ModelDisk d) (found : Result (Vec Entry) Fault) : Type 0 where
-    pub entries : IfOk found (λ list. (before : List Effect) (s : Shown) → IsLife d before s e → EntriesKept before s list.items)
+    pub entries : IfOk found (λ list. (before : List Effect) (s : Shown) (v : View) → IsLife d before s v e → EntriesKept before s v list.items)
     pub new : Engine ModelDisk d
-    pub cause : IfErr found (λ fault. e.failed ≡ false → HasCause d new.writer.log new.disk fault)
+    pub cause : IfErr found (λ fault. e.failed ≡ false → ReadCause d new.writer.log new.disk (told_as fault))
 
   -- The verdict is that on these entries.
   pub record IsJudgedBy (asked : List AskedEffect) (e : Engine ModelDisk d) (good : Bool) : Type 0 where

@@ -5,9 +5,11 @@ ghost use Rattle.im_every.specs.Disturbed.{IsDisturbed, AreDisturbed, IsNext, is
 
 use crate::every::{Counts, WAYS, judge, new_disk, stop_at};
 use crate::opening::left_by;
-use crate::showing::{effects_asked, reply_at};
+use crate::same_replies::says_same;
+use crate::showing::effects_asked;
 use im_drill::{Opening, StoreAnswers, StoreLife, StoreReply, run_store_life};
-use im_types::{Fault, Reply};
+use im_front::Reply;
+use im_types::Fault;
 use std::alloc::{AllocError, Global};
 
 /// Makes a life again and again, in which another device call fails each time, then another read or length call, and ends it in each length and
@@ -74,7 +76,7 @@ fn has_failed(told: &StoreAnswers) -> bool {
 
 fn has_failed_within(replies: &[StoreReply]) -> bool {
     for reply in replies {
-        if is_by_device(*reply) {
+        if is_by_device(reply) {
             return true;
         }
     }
@@ -99,8 +101,8 @@ fn are_disturbed(plain: &[StoreReply], told: &[StoreReply]) -> bool
     }
     let mut failed = false;
     for i in 0..plain.len() {
-        let expected = reply_at(plain, i);
-        let reply = reply_at(told, i);
+        let expected = &plain[i];
+        let reply = &told[i];
         if !is_next(failed, expected, reply) {
             return false;
         }
@@ -111,33 +113,34 @@ fn are_disturbed(plain: &[StoreReply], told: &[StoreReply]) -> bool
 }
 
 // Whether a line may have this reply that had the first one undisturbed, once a device call has failed or before.
-fn is_next(failed: bool, plain: StoreReply, told: StoreReply) -> bool
-    ensures { result ≡ true ↔ IsNext failed plain told }
+fn is_next(failed: bool, plain: &StoreReply, told: &StoreReply) -> bool
+    ensures { result ≡ true ↔ IsNext failed plain.now told.now }
 {
     if failed {
         is_behind_failure(told)
     } else {
-        is_by_device(told) || told == plain
+        is_by_device(told) || says_same(told, plain)
     }
 }
 
 // Behind a device call that failed the engine has failed, and makes no more.
-fn is_behind_failure(reply: StoreReply) -> bool
-    ensures { result ≡ is_behind_failure reply }
+fn is_behind_failure(reply: &StoreReply) -> bool
+    ensures { result ≡ is_behind_failure reply.now }
 {
     matches!(
         reply,
         StoreReply::Calls(_)
-            | StoreReply::Step(Reply::Refused(Fault::Failed))
+            | StoreReply::Step(Reply::Refused(im_front::Fault::Failed))
             | StoreReply::Refused(Fault::Failed)
     )
 }
 
-fn is_by_device(reply: StoreReply) -> bool
-    ensures { result ≡ is_by_device reply }
+fn is_by_device(reply: &StoreReply) -> bool
+    ensures { result ≡ is_by_device reply.now }
 {
     matches!(
         reply,
-        StoreReply::Step(Reply::Refused(Fault::Device)) | StoreReply::Refused(Fault::Device)
+        StoreReply::Step(Reply::Refused(im_front::Fault::Device))
+            | StoreReply::Refused(Fault::Device)
     )
 }

@@ -16,6 +16,7 @@ mod every;
 mod failing;
 mod judge;
 mod opening;
+mod same_replies;
 mod showing;
 mod sorted;
 mod text;

@@ -4,18 +4,19 @@ ghost use Rattle.std.specs.Prelude.{◌≡◌, ◌≢◌, ◌⊎◌, ◌||◌, �
 ghost use Rattle.im_types.specs.Answers.{Force, Commit};
 ghost use Rattle.im_types.specs.Answers as answers;
 ghost use Rattle.im_types.specs.Changes as changes;
-ghost use Rattle.im_types.specs.Faults.{number_of};
+ghost use Rattle.im_types.specs.Faults as below;
 ghost use Rattle.im_types.specs.Lives.{Shown, Running, nothing_shown, idle, adds, all_acked, answered, asks, breaks, cut_off, refused, with_running};
 ghost use Rattle.im_types.specs.Refusals.{memory, unfinished};
-ghost use Rattle.im_types.specs.Steps.{asked_by, told_by};
+ghost use Rattle.im_front.specs.Calls.{asked_by, told_by, number_of};
 ghost use Rattle.im_drill.specs.declared.store_life.StoreLine.TheVariants as lines;
 ghost use Rattle.im_drill.specs.StoreLives.{shown_after, shown_in};
 ghost use Rattle.im_every.specs.Judged.{asked_in, change_of};
-ghost use Rattle.im_every.specs.Shows.{IsShown, IsFound, behind, running_from};
+ghost use Rattle.im_every.specs.Shows.{IsShown, IsFound, access_of, behind, running_from};
 
 use crate::change::{AskedEffect, Change};
 use im_drill::{StoreLine, StoreReply};
-use im_types::{Fault, Reply, Rid, Step, TxnId};
+use im_front::{Fault, Reply, Step};
+use im_types::{Rid, TxnId};
 use std::alloc::{AllocError, Global};
 use std::mem;
 
@@ -31,8 +32,7 @@ pub fn effects_asked(
     let mut showing = Showing::new(alloc);
     let count = shorter(lines.len(), replies.len());
     for i in 0..count {
-        let reply = reply_at(replies, i);
-        showing.add(&lines[i], &reply)?;
+        showing.add(&lines[i], &replies[i])?;
     }
     let Showing {
         alloc: _alloc,
@@ -41,14 +41,6 @@ pub fn effects_asked(
         asked,
     } = showing;
     Ok(asked)
-}
-
-/// The reply at a place.
-pub(crate) fn reply_at(replies: &[StoreReply], i: usize) -> StoreReply
-    requires { i < length replies.now }
-    ensures { result ≡ get_or replies.now i result }
-{
-    replies[i]
 }
 
 fn shorter(first: usize, second: usize) -> usize
@@ -64,6 +56,12 @@ fn shorter(first: usize, second: usize) -> usize
 pub(crate) enum Happened {
     Began,
     Changed(Change),
+    /// It was answered `Die`.
+    Died,
+    /// It takes its changes back.
+    Turned,
+    /// Its Commit waits for a force.
+    Waited,
     Ended,
 }
 
@@ -113,7 +111,7 @@ impl Showing {
         ensures { (s : Shown) (page : ℕ) → IsShown self.old s → IsShown self.new (shown_after s (lines.Page page) reply.now) }
     {
         if let StoreReply::Refused(fault) = reply {
-            self.failed = breaks(*fault);
+            self.failed = look_breaks(*fault);
         }
     }
 
@@ -157,10 +155,17 @@ impl Showing {
             Reply::Inserted => self.insert(step),
             Reply::Deleted => self.delete(step),
             Reply::Committed => self.commit(step),
+            Reply::RolledBack => self.roll_back(step),
+            Reply::More => self.go_on(step),
+            Reply::Die => self.die(step),
             Reply::Done => self.force(step),
             Reply::Found(_) => Ok(()),
             Reply::Absent => Ok(()),
+            Reply::Entry(_, _) => Ok(()),
+            Reply::End => Ok(()),
+            Reply::Entries(_) => Ok(()),
             Reply::Duplicate => Ok(()),
+            Reply::Blocked(_) => Ok(()),
         }
     }
 
@@ -236,6 +241,53 @@ impl Showing {
                 Ok(())
             }
             _ => Ok(()),
+        }
+    }
+
+    fn roll_back(&mut self, step: &Step) -> Result<(), AllocError>
+        ensures { OnOk result ((s : Shown) → IsShown self.old s → IsShown self.new (answered (asked_by step.now) answers.RolledBack s)) }
+    {
+        match step {
+            Step::Rollback(txn) => {
+                self.happen(*txn, Happened::Ended)?;
+                Ok(())
+            }
+            Step::Continue(txn) => {
+                self.happen(*txn, Happened::Ended)?;
+                Ok(())
+            }
+            _ => Ok(()),
+        }
+    }
+
+    // Something is left to be done: a rollback has begun, or a Commit waits for a force.
+    fn go_on(&mut self, step: &Step) -> Result<(), AllocError>
+        ensures { OnOk result ((s : Shown) → IsShown self.old s → IsShown self.new (answered (asked_by step.now) answers.More s)) }
+    {
+        match step {
+            Step::Commit(txn) => {
+                self.ask(*txn, false)?;
+                self.happen(*txn, Happened::Waited)?;
+                Ok(())
+            }
+            Step::Rollback(txn) => {
+                self.happen(*txn, Happened::Turned)?;
+                Ok(())
+            }
+            _ => Ok(()),
+        }
+    }
+
+    // Any access may be answered that its transaction has to roll back.
+    fn die(&mut self, step: &Step) -> Result<(), AllocError>
+        ensures { OnOk result ((s : Shown) → IsShown self.old s → IsShown self.new (answered (asked_by step.now) answers.Die s)) }
+    {
+        match access_of(step) {
+            Some(txn) => {
+                self.happen(txn, Happened::Died)?;
+                Ok(())
+            }
+            None => Ok(()),
         }
     }
 
@@ -359,10 +411,49 @@ fn behind(alloc: Global, found: Found, what: &Happened) -> Result<Found, AllocEr
             changes.push(copied(alloc, change)?)?;
             Ok(Found { going, changes })
         }
+        Happened::Died => Ok(stopped(found)),
+        Happened::Turned => Ok(stopped(found)),
+        Happened::Waited => Ok(stopped(found)),
         Happened::Ended => Ok(Found {
             going: false,
             changes: Vec::new(alloc),
         }),
+    }
+}
+
+// It makes no more changes, and those that it made are kept.
+fn stopped(found: Found) -> Found
+    ensures going { result.going ≡ false }
+    ensures changes { result.changes ≡ found.changes }
+{
+    let Found {
+        going: _going,
+        changes,
+    } = found;
+    Found {
+        going: false,
+        changes,
+    }
+}
+
+// The transaction of an access.
+fn access_of(step: &Step) -> Option<TxnId>
+    ensures { result ≡ access_of (asked_by step.now) }
+{
+    match step {
+        Step::Fetch(txn, _) => Some(*txn),
+        Step::Seek(txn, _) => Some(*txn),
+        Step::Next(txn, _) => Some(*txn),
+        Step::Scan(txn, _, _, _) => Some(*txn),
+        Step::Insert(txn, _, _) => Some(*txn),
+        Step::Delete(txn, _) => Some(*txn),
+        Step::Begin => None,
+        Step::Commit(_) => None,
+        Step::Rollback(_) => None,
+        Step::Continue(_) => None,
+        Step::FlushPage(_) => None,
+        Step::Force => None,
+        Step::Checkpoint => None,
     }
 }
 
@@ -411,6 +502,20 @@ fn breaks(fault: Fault) -> bool
         Fault::Device => true,
         Fault::Failed => true,
         Fault::NotAStore => true,
+        _ => false,
+    }
+}
+
+// The same of a look at a page.
+fn look_breaks(fault: im_types::Fault) -> bool
+    ensures { result ≡ breaks (below.number_of fault) }
+{
+    match fault {
+        im_types::Fault::Capacity => true,
+        im_types::Fault::LogFull => true,
+        im_types::Fault::Device => true,
+        im_types::Fault::Failed => true,
+        im_types::Fault::NotAStore => true,
         _ => false,
     }
 }

@@ -3,8 +3,9 @@
 ghost use Rattle.std.specs.Prelude.{◌≡◌, false, OnOk};
 
 use im_disk::{Disk, ModelDisk, read_vec};
-use im_engine::{Config, Engine};
-use im_types::{Fault, FileId, Key, PageNo, Reply, Rid, Step};
+use im_front::{Reply, Step};
+use im_transactions::{Config, Engine};
+use im_types::{Fault, FileId, Key, PageNo, Rid};
 use std::alloc::Global;
 
 /// The bytes of both files.
@@ -58,9 +59,20 @@ pub(crate) fn pages_of(alloc: Global, copies: Copies, count: PageNo) -> Result<V
     let mut engine = opened(alloc, copies)?;
     for page in 0..count {
         if let Reply::Refused(fault) = engine.step(&Step::FlushPage(page)) {
-            return Err(fault);
+            return Err(fault_of(fault));
         }
     }
     let mut left = engine.into_disk().after_stop(alloc)?;
     whole_file(alloc, &mut left, FileId::Pages)
+}
+
+// A refusal of a step that writes a page, among those of openings.
+fn fault_of(fault: im_front::Fault) -> Fault {
+    match fault {
+        im_front::Fault::LogFull => Fault::LogFull,
+        im_front::Fault::Device => Fault::Device,
+        im_front::Fault::Memory => Fault::Memory,
+        im_front::Fault::NotAStore => Fault::NotAStore,
+        _ => Fault::Failed,
+    }
 }

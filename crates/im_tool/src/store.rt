@@ -8,9 +8,11 @@ use crate::line_input::{LineInput, without_newline};
 use crate::words_step::words_step;
 use im_disk::Disk;
 use im_drill::{entries_text, reply_text, step_line};
-use im_engine::{Config, Engine};
-use im_types::{Fault, Key, Reply, Rid, Step};
+use im_front::{Reply, Step};
+use im_transactions::{Config, Engine};
+use im_types::{Fault, Key, Rid};
 use std::alloc::{AllocError, Global};
+use std::fmt::Display;
 use std::io;
 use std::io::Write;
 
@@ -18,12 +20,18 @@ const HELP: &str = "begin                    a transaction begins; its number is
 insert N KEY ROWID       puts a key in, in transaction N
 delete N KEY             takes a key out
 fetch N KEY              answers the row id of a key
+seek N KEY               answers the first key from this one on, with its row id
+next N KEY               answers the first key behind this one, with its row id
+scan N KEY KEY LIMIT     answers the keys from one to another, LIMIT at most
 commit N                 what transaction N did is kept from now on
+rollback N               takes back what transaction N did: at once, or step by step
+continue N               takes back the next of it
 entries                  all keys with their row ids
 force                    makes the log durable
 flush PAGE               writes a page to the file of pages
 help                     this list
-KEY is text without spaces, \"text with spaces\", or x'6100'. One transaction is active at a time.
+KEY is text without spaces, \"text with spaces\", or x'6100'. Up to 64 transactions are active at a time.
+A step that is `blocked` is asked for again once that transaction has ended; behind `die` its transaction has to roll back.
 ";
 
 /// How lines are read and replies are written.
@@ -143,7 +151,7 @@ fn run_line<D: Disk, W: Write>(
                 print_entries(alloc, writer, manner, &entries)?;
                 Ok(false)
             }
-            Err(fault) => print_refused(writer, manner, fault),
+            Err(fault) => print_refused(writer, manner, fault.number(), &fault),
         };
     }
     if manner.has_words && line == b"help".as_slice() {
@@ -156,13 +164,19 @@ fn run_line<D: Disk, W: Write>(
         step_line(alloc, line)
     };
     match step {
-        Ok(step) => run_step(engine, manner, &step, writer),
-        Err(Fault::BadScript) => print_refused(writer, manner, Fault::BadScript),
+        Ok(step) => run_step(alloc, engine, manner, &step, writer),
+        Err(Fault::BadScript) => print_refused(
+            writer,
+            manner,
+            Fault::BadScript.number(),
+            &Fault::BadScript,
+        ),
         Err(_) => Err(io::Error::from(AllocError)),
     }
 }
 
 fn run_step<D: Disk, W: Write>(
+    alloc: Global,
     engine: &mut Engine<D>,
     manner: Manner,
     step: &Step,
@@ -170,14 +184,43 @@ fn run_step<D: Disk, W: Write>(
 ) -> io::Result<bool> {
     let reply = engine.step(step);
     if let Reply::Refused(fault) = reply {
-        return print_refused(writer, manner, fault);
+        return print_refused(writer, manner, fault.number(), &fault);
     }
-    reply_text(writer, &reply)?;
+    print_reply(alloc, writer, manner, &reply)?;
     writeln!(writer)?;
-    if reply == Reply::Committed {
+    if matches!(&reply, Reply::Committed) {
         writer.flush()?;
     }
     Ok(false)
+}
+
+// Writes the words of a reply, its keys as they can be typed where words are wanted.
+fn print_reply<W: Write>(
+    alloc: Global,
+    writer: &mut W,
+    manner: Manner,
+    reply: &Reply,
+) -> io::Result<()> {
+    if !manner.has_words {
+        return reply_text(alloc, writer, reply);
+    }
+    match reply {
+        Reply::Entry(key, rid) => {
+            write!(writer, "entry ")?;
+            write_key(alloc, writer, key.bytes())?;
+            write!(writer, " {rid}")
+        }
+        Reply::Entries(list) => {
+            write!(writer, "entries")?;
+            for (key, rid) in list {
+                write!(writer, " ")?;
+                write_key(alloc, writer, key.bytes())?;
+                write!(writer, " {rid}")?;
+            }
+            Ok(())
+        }
+        _ => reply_text(alloc, writer, reply),
+    }
 }
 
 fn print_entries<W: Write>(
@@ -207,10 +250,14 @@ pub(crate) fn print_keys<W: Write>(
 }
 
 // Writes a refusal by its number, and in words where they are wanted. It answers true.
-fn print_refused<W: Write>(writer: &mut W, manner: Manner, fault: Fault) -> io::Result<bool> {
-    let number = fault.number();
+fn print_refused<W: Write, F: Display>(
+    writer: &mut W,
+    manner: Manner,
+    number: u8,
+    words: &F,
+) -> io::Result<bool> {
     if manner.has_words {
-        writeln!(writer, "refused {number}: {fault}")?;
+        writeln!(writer, "refused {number}: {words}")?;
     } else {
         writeln!(writer, "refused {number}")?;
     }

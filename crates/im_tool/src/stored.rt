@@ -2,7 +2,7 @@ use im_drill::drill_text;
 use std::test::Fail;
 
 // Scripts with what they print and their exit statuses, word for word.
-const STORED: [(&str, &str, &str, u8); 28] = [
+const STORED: [(&str, &str, &str, u8); 39] = [
     (
         "bad_line_is_named",
         "raw\nputt 61\n",
@@ -97,6 +97,72 @@ const STORED: [(&str, &str, &str, u8); 28] = [
         "torn_gate_reads_open",
         "life\nbegin\ninsert 1 a 7\ncommit 1\nstop 9 long 01\n",
         "open ok 6\nstarted 1\ninserted\nstopped\nfinal 1\n61 7\n",
+        0,
+    ),
+    (
+        "second_commit_undecided_00",
+        "life\nbegin\nbegin\ninsert 1 a 1\ninsert 2 b 2\ncommit 1\ncommit 2\nstop 13 long 00\n",
+        "open ok 6\nstarted 1\nstarted 2\ninserted\ninserted\ncommitted\nstopped\nfinal 1\n61 1\n",
+        0,
+    ),
+    (
+        "second_commit_undecided_01",
+        "life\nbegin\nbegin\ninsert 1 a 1\ninsert 2 b 2\ncommit 1\ncommit 2\nstop 13 long 01\n",
+        "open ok 6\nstarted 1\nstarted 2\ninserted\ninserted\ncommitted\nstopped\nfinal 2\n61 1\n62 2\n",
+        0,
+    ),
+    (
+        "sixty_fifth_begin_refused",
+        "life\nbegin\nbegin\nbegin\nbegin\nbegin\nbegin\nbegin\nbegin\nbegin\nbegin\nbegin\nbegin\nbegin\nbegin\nbegin\nbegin\nbegin\nbegin\nbegin\nbegin\nbegin\nbegin\nbegin\nbegin\nbegin\nbegin\nbegin\nbegin\nbegin\nbegin\nbegin\nbegin\nbegin\nbegin\nbegin\nbegin\nbegin\nbegin\nbegin\nbegin\nbegin\nbegin\nbegin\nbegin\nbegin\nbegin\nbegin\nbegin\nbegin\nbegin\nbegin\nbegin\nbegin\nbegin\nbegin\nbegin\nbegin\nbegin\nbegin\nbegin\nbegin\nbegin\nbegin\nbegin\nbegin\n",
+        "open ok 6\nstarted 1\nstarted 2\nstarted 3\nstarted 4\nstarted 5\nstarted 6\nstarted 7\nstarted 8\nstarted 9\nstarted 10\nstarted 11\nstarted 12\nstarted 13\nstarted 14\nstarted 15\nstarted 16\nstarted 17\nstarted 18\nstarted 19\nstarted 20\nstarted 21\nstarted 22\nstarted 23\nstarted 24\nstarted 25\nstarted 26\nstarted 27\nstarted 28\nstarted 29\nstarted 30\nstarted 31\nstarted 32\nstarted 33\nstarted 34\nstarted 35\nstarted 36\nstarted 37\nstarted 38\nstarted 39\nstarted 40\nstarted 41\nstarted 42\nstarted 43\nstarted 44\nstarted 45\nstarted 46\nstarted 47\nstarted 48\nstarted 49\nstarted 50\nstarted 51\nstarted 52\nstarted 53\nstarted 54\nstarted 55\nstarted 56\nstarted 57\nstarted 58\nstarted 59\nstarted 60\nstarted 61\nstarted 62\nstarted 63\nstarted 64\nrefused 12\nfinal 0\n",
+        0,
+    ),
+    (
+        "younger_inserter_dies_at_read_gap",
+        "life\nbegin\nbegin\nfetch 1 a\ninsert 2 a 1\ninsert 2 a 1\n",
+        "open ok 6\nstarted 1\nstarted 2\nabsent\ndie\nrefused 2\nfinal 0\n",
+        0,
+    ),
+    (
+        "scan_locks_end",
+        "life\nbegin\nbegin\nscan 1 a z 10\ninsert 2 m 5\ninsert 2 m 5\nrollback 2\n",
+        "open ok 6\nstarted 1\nstarted 2\nentries\ndie\nrefused 2\nrolledback\nfinal 0\n",
+        0,
+    ),
+    (
+        "older_reader_blocks_until_rollback",
+        "life\nbegin\nbegin\ninsert 2 b 5\nfetch 1 a\nrollback 2\ncontinue 2\nfetch 1 a\n",
+        "open ok 6\nstarted 1\nstarted 2\ninserted\nblocked lock 2\nmore\nrolledback\nabsent\nfinal 0\n",
+        0,
+    ),
+    (
+        "delete_locks_next_key",
+        "life\nbegin\ninsert 1 b 4\ninsert 1 d 6\ncommit 1\nbegin\nbegin\ndelete 2 b\nfetch 3 b\nrollback 2\ncontinue 2\nbegin\nfetch 4 b\n",
+        "open ok 6\nstarted 1\ninserted\ninserted\ncommitted\nstarted 2\nstarted 3\ndeleted\ndie\nmore\nrolledback\nstarted 4\nfound 4\nfinal 2\n62 4\n64 6\n",
+        0,
+    ),
+    (
+        "replies_of_one_user",
+        "life\nbegin\ninsert 1 a 1\ninsert 1 a 2\ndelete 1 b\nseek 1 b\nnext 1 a\nseek 1 A\nscan 1 a z 0\ncontinue 1\ncommit 2\ncommit 1\ncommit 1\n",
+        "open ok 6\nstarted 1\ninserted\nduplicate\nabsent\nend\nend\nentry 61 1\nentries 61 1\nrefused 1\nrefused 1\ncommitted\nrefused 1\nfinal 1\n61 1\n",
+        0,
+    ),
+    (
+        "undo_opens_a_gap_once_read",
+        "life\nbegin\nbegin\ninsert 1 0 1\ninsert 1 b 2\nfetch 1 a\nrollback 1\ncontinue 1\ninsert 2 a 3\ncommit 2\ncontinue 1\n",
+        "open ok 6\nstarted 1\nstarted 2\ninserted\ninserted\nabsent\nmore\nmore\ninserted\ncommitted\nrolledback\nfinal 1\n61 3\n",
+        0,
+    ),
+    (
+        "locks_stay_until_the_rollback_ends",
+        "life\nbegin\nbegin\ninsert 2 b 1\ninsert 2 d 2\nrollback 2\nfetch 1 d\ncontinue 2\nfetch 1 d\ncontinue 2\nfetch 1 d\n",
+        "open ok 6\nstarted 1\nstarted 2\ninserted\ninserted\nmore\nblocked lock 2\nmore\nabsent\nrolledback\nabsent\nfinal 0\n",
+        0,
+    ),
+    (
+        "two_losers_one_half_rolled_back",
+        "life\nbegin\nbegin\ninsert 1 b 1\ninsert 2 d 2\ninsert 1 f 3\ninsert 2 h 4\nrollback 1\ncontinue 1\nforce\nstop end short 00\nlife\nbegin\nscan 3 a z 9\n",
+        "open ok 6\nstarted 1\nstarted 2\ninserted\ninserted\ninserted\ninserted\nmore\nmore\ndone\nopen ok 4\nstarted 3\nentries\nfinal 0\n",
         0,
     ),
     (

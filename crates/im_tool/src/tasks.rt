@@ -12,6 +12,7 @@ use crate::store::print_refused_opening;
 use crate::transfer::{Loaded, dump_text, load_text};
 use im_disk::{FileDisk, OpenError};
 use im_types::Fault;
+use std::fmt::Display;
 use std::io;
 use std::io::{BufReader, BufWriter, IsTerminal, Write};
 
@@ -128,10 +129,17 @@ pub(crate) fn load_program(rt: &HostRuntime, dir: &str, options: &Options) -> io
             &mut writer,
             has_words,
             line,
-            Fault::BadScript,
+            Fault::BadScript.number(),
+            &Fault::BadScript,
         )?,
         Loaded::Duplicate(line) => writeln!(writer, "duplicate line {line}")?,
-        Loaded::Refused(line, fault) => print_refused_line(&mut writer, has_words, line, fault)?,
+        Loaded::Refused(line, fault) => print_refused_line(
+            &mut writer,
+            has_words,
+            line,
+            fault.number(),
+            &fault,
+        )?,
         Loaded::RefusedOpening(_) => {}
     }
     writer.flush()?;
@@ -139,15 +147,15 @@ pub(crate) fn load_program(rt: &HostRuntime, dir: &str, options: &Options) -> io
 }
 
 // Writes that a line was refused by its number, and in words where they are wanted.
-fn print_refused_line<W: Write>(
+fn print_refused_line<W: Write, F: Display>(
     writer: &mut W,
     has_words: bool,
     line: u64,
-    fault: Fault,
+    number: u8,
+    words: &F,
 ) -> io::Result<()> {
-    let number = fault.number();
     if has_words {
-        writeln!(writer, "refused {number} line {line}: {fault}")
+        writeln!(writer, "refused {number} line {line}: {words}")
     } else {
         writeln!(writer, "refused {number} line {line}")
     }

@@ -6,7 +6,7 @@ use crate::transfer::{Loaded, load_text};
 use crate::{Manner, StoreEnd, drill_program, store_program, store_text};
 use im_disk::{Disk, FileDisk, ModelDisk};
 use im_drill::drill_text;
-use im_engine::Config;
+use im_transactions::Config;
 use im_types::Fault;
 use std::alloc::Global;
 use std::io::{BufReader, Write};
@@ -143,8 +143,8 @@ fn lives_of_a_store_print_their_replies(rt: HostRuntime) -> Result<(), Fail> {
             "open ok 6\nstarted 1\ninserted\ndeleted\nabsent\nabsent\ninserted\nduplicate\ncommitted\nopen ok 0\nstarted 2\nfound 8\ndeleted\ncommitted\nfinal 0\n",
         ),
         (
-            "life\nbegin\ninsert 1 a 7\nlife\nbegin\nbegin\ncommit 2\nstop end short written\n",
-            "open ok 6\nstarted 1\ninserted\nopen ok 0\nstarted 1\nrefused 12\nrefused 1\nfinal 0\n",
+            "life\nbegin\ninsert 1 a 7\nlife\nbegin\nbegin\ncommit 2\ncommit 2\nstop end short written\n",
+            "open ok 6\nstarted 1\ninserted\nopen ok 0\nstarted 1\nstarted 2\ncommitted\nrefused 1\nfinal 0\n",
         ),
         ("life\nstop 1 long 00\n", "open stopped\nfinal 0\n"),
         (
@@ -225,9 +225,21 @@ fn a_life_takes_no_other_line(rt: HostRuntime) -> Result<(), Fail> {
         "insert 1 a x",
         "insert 1 a 1 ",
         "delete a",
-        "seek 1 a",
+        "seek a",
+        "seek 1 a b",
+        "next 1",
+        "scan 1 a",
+        "scan 1 a b",
+        "scan 1 a b x",
+        "scan 1 a b 01",
+        "scan 1 a b 1 1",
+        "scan 1 a+ b 1",
+        "scan a b 1",
         "entries",
-        "rollback 1",
+        "rollback",
+        "rollback a",
+        "continue 1 1",
+        "continues 1",
     ] {
         let script = format!(in rt.alloc(); "life\n{line}\n")?;
         let (status, printed) = drilled(&rt, script.as_str())?;
@@ -265,12 +277,12 @@ fn a_store_answers_each_line(rt: HostRuntime) -> Result<(), Fail> {
         alloc,
         disk,
         Manner::default(),
-        "begin\r\n\ninsert 1 a 7\ninsert 1 a 8\nfetch 1 a\nfetch 1 b\ndelete 1 b\ncalls\ninsert 1 b 1\ndelete 1 b\nbegin\ncommit 2\ncommit 1\nentries",
+        "begin\r\n\ninsert 1 a 7\ninsert 1 a 8\nfetch 1 a\nfetch 1 b\ndelete 1 b\ncalls\ninsert 1 b 1\ndelete 1 b\ncommit 2\ncommit 1\nentries",
     )?;
     assert!(rt; end == StoreEnd::Input);
     assert!(rt;
         printed.as_slice()
-            == "started 1\ninserted\nduplicate\nfound 7\nabsent\nabsent\nrefused 16\ninserted\ndeleted\nrefused 12\nrefused 1\ncommitted\ntotal 1\n61 7\n".as_bytes()
+            == "started 1\ninserted\nduplicate\nfound 7\nabsent\nabsent\nrefused 16\ninserted\ndeleted\nrefused 1\ncommitted\ntotal 1\n61 7\n".as_bytes()
     );
     let mut log = Vec::new(alloc);
     log.extend_from_slice(b"\x01A")?;
@@ -294,12 +306,12 @@ fn a_store_answers_in_words(rt: HostRuntime) -> Result<(), Fail> {
         alloc,
         disk,
         manner,
-        "begin\ninsert 1 x'6100ff' 1\ninsert 1 \"b c\" 2\ninsert 1 x'' 3\ninsert 1 x'6 3\ninsert 1 \"b+c\" 3\nfetch 1 x'622063'\ncommit 2\nentries\n",
+        "begin\ninsert 1 x'6100ff' 1\ninsert 1 \"b c\" 2\ninsert 1 x'' 3\ninsert 1 x'6 3\ninsert 1 \"b+c\" 3\nfetch 1 x'622063'\ncommit 2\nseek 1 x'61'\nscan 1 x'61' \"b c\" 9\nnext 1 \"b c\"\nnext 1 c\nentries\n",
     )?;
     assert!(rt; end == StoreEnd::Input);
     assert!(rt;
         printed.as_slice()
-            == "started 1\ninserted\ninserted\nrefused 3: a key has 1 to 255 bytes\nrefused 16: a bad line\ninserted\nfound 2\nrefused 1: no active transaction of that number\ntotal 3\nx'6100ff' 1\n\"b c\" 2\n\"b+c\" 3\n".as_bytes()
+            == "started 1\ninserted\ninserted\nrefused 3: a key has 1 to 255 bytes\nrefused 16: a bad line\ninserted\nfound 2\nrefused 1: no active transaction of that number\nentry x'6100ff' 1\nentries x'6100ff' 1 \"b c\" 2\nentry \"b+c\" 3\nend\ntotal 3\nx'6100ff' 1\n\"b c\" 2\n\"b+c\" 3\n".as_bytes()
     );
     Ok(())
 }
@@ -313,9 +325,9 @@ fn a_batch_ends_at_a_refused_line(rt: HostRuntime) -> Result<(), Fail> {
         is_batch: true,
     };
     let disk = ModelDisk::new(Vec::new(alloc), Vec::new(alloc));
-    let (end, printed) = answers(alloc, disk, manner, "begin\nbegin\ncommit 1\n")?;
+    let (end, printed) = answers(alloc, disk, manner, "begin\ncommit 2\ncommit 1\n")?;
     assert!(rt; end == StoreEnd::RefusedLine);
-    assert!(rt; printed.as_slice() == "started 1\nrefused 12\n".as_bytes());
+    assert!(rt; printed.as_slice() == "started 1\nrefused 1\n".as_bytes());
     Ok(())
 }
 

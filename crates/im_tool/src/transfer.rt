@@ -8,8 +8,9 @@ use crate::line_input::{LineInput, without_newline};
 use crate::progress::Progress;
 use crate::store::print_keys;
 use im_disk::Disk;
-use im_engine::{Config, Engine};
-use im_types::{Fault, Key, Reply, Rid, Step, TxnId};
+use im_front::{Reply, Step};
+use im_transactions::{Config, Engine};
+use im_types::{Fault, Key, Rid, TxnId};
 use std::alloc::Global;
 use std::io;
 use std::io::Write;
@@ -30,7 +31,7 @@ pub(crate) enum Loaded {
     /// This line of the text, counted from 1, is none of a dump, or the text ends before it.
     BadLine(u64),
     /// The store refused the entry of this line, or the commit behind it. Those in front of the last commit are kept.
-    Refused(u64, Fault),
+    Refused(u64, im_front::Fault),
     /// The key of this line is in the store already.
     Duplicate(u64),
     /// The opening was refused.
@@ -137,7 +138,7 @@ fn load_entry<D: Disk>(
     let (key, rid) = match entry_of(alloc, line) {
         Ok(entry) => entry,
         Err(Fault::BadScript) => return Ok(Some(Loaded::BadLine(at))),
-        Err(fault) => return Ok(Some(Loaded::Refused(at, fault))),
+        Err(_) => return Ok(Some(Loaded::Refused(at, im_front::Fault::Memory))),
     };
     match engine.step(&Step::Insert(number, key, rid)) {
         Reply::Inserted => Ok(None),
@@ -183,9 +184,9 @@ fn number_of(digits: &[u8]) -> Option<u64> {
 }
 
 // The refusal of a step that was to be made.
-fn fault_of(reply: Reply) -> Fault {
+fn fault_of(reply: Reply) -> im_front::Fault {
     match reply {
         Reply::Refused(fault) => fault,
-        _ => Fault::Failed,
+        _ => im_front::Fault::Failed,
     }
 }

@@ -4,23 +4,30 @@ ghost use Rattle.std.specs.Prelude.{◌≤◌, length, IfSome};
 
 use crate::key_notation::noted_key;
 use im_drill::step_line;
-use im_types::{Fault, Step};
+use im_front::Step;
+use im_types::Fault;
 use std::alloc::Global;
 
-/// The step that a line asks for: a line of the grammar of steps, or one of them with `x'6100'` or `"a b"` for its key.
+/// The step that a line asks for: a line of the grammar of steps, or one of them with `x'6100'` or `"a b"` for a key.
 ///
 /// Refused `BadScript` where the line asks for none; `Memory`.
 pub(crate) fn words_step(alloc: Global, line: &[u8]) -> Result<Step, Fault> {
     let Some(place) = key_place(line) else {
         return step_line(alloc, line);
     };
-    match noted_key(alloc, &line[place..])? {
-        None => step_line(alloc, line),
-        Some((key, behind)) => {
-            let plain = with_plain_key(alloc, &line[..place], behind)?;
-            Ok(with_key(step_line(alloc, &plain)?, key))
+    let mut plain = Vec::from_slice(alloc, &line[..place]).map_err(|_| Fault::Memory)?;
+    let (key, behind) = take_key(alloc, &mut plain, &line[place..])?;
+    if line.starts_with(b"scan ") {
+        if let [b' ', last @ ..] = behind {
+            append(&mut plain, b" ")?;
+            let (other, behind) = take_key(alloc, &mut plain, last)?;
+            append(&mut plain, behind)?;
+            let step = step_line(alloc, &plain)?;
+            return Ok(with_second(with_key(step, key), other));
         }
     }
+    append(&mut plain, behind)?;
+    Ok(with_key(step_line(alloc, &plain)?, key))
 }
 
 // The place behind the second space, where a key stands.
@@ -39,21 +46,54 @@ fn key_place(line: &[u8]) -> Option<usize>
     None
 }
 
-// The line with a plain key in the place of the one that was read.
-fn with_plain_key(alloc: Global, front: &[u8], behind: &[u8]) -> Result<Vec<u8>, Fault> {
-    let mut line = Vec::new(alloc);
-    line.extend_from_slice(front).map_err(|_| Fault::Memory)?;
-    line.push(b'k').map_err(|_| Fault::Memory)?;
-    line.extend_from_slice(behind).map_err(|_| Fault::Memory)?;
-    Ok(line)
+// Takes a key off the front of a text, and gives what stands behind it. A plain one is put behind the line; of any other a
+// plain key stands there for it.
+fn take_key<'a>(
+    alloc: Global,
+    plain: &mut Vec<u8>,
+    text: &'a [u8],
+) -> Result<(Option<Vec<u8>>, &'a [u8]), Fault> {
+    if let Some((key, behind)) = noted_key(alloc, text)? {
+        append(plain, b"k")?;
+        return Ok((Some(key), behind));
+    }
+    for place in 0..text.len() {
+        if text[place] == b' ' {
+            append(plain, &text[..place])?;
+            return Ok((None, &text[place..]));
+        }
+    }
+    append(plain, text)?;
+    Ok((None, &text[text.len()..]))
 }
 
-// The step with another key.
-fn with_key(step: Step, key: Vec<u8>) -> Step {
+fn append(line: &mut Vec<u8>, text: &[u8]) -> Result<(), Fault> {
+    line.extend_from_slice(text).map_err(|_| Fault::Memory)
+}
+
+// The step with another key, or the first of two.
+fn with_key(step: Step, key: Option<Vec<u8>>) -> Step {
+    let Some(key) = key else {
+        return step;
+    };
     match step {
         Step::Fetch(number, _) => Step::Fetch(number, key),
+        Step::Seek(number, _) => Step::Seek(number, key),
+        Step::Next(number, _) => Step::Next(number, key),
+        Step::Scan(number, _, hi, limit) => Step::Scan(number, key, hi, limit),
         Step::Insert(number, _, rid) => Step::Insert(number, key, rid),
         Step::Delete(number, _) => Step::Delete(number, key),
+        other => other,
+    }
+}
+
+// The step with another second key.
+fn with_second(step: Step, key: Option<Vec<u8>>) -> Step {
+    let Some(key) = key else {
+        return step;
+    };
+    match step {
+        Step::Scan(number, lo, _, limit) => Step::Scan(number, lo, key, limit),
         other => other,
     }
 }

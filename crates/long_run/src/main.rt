@@ -24,8 +24,9 @@ ghost use Rattle.std.specs.Prelude.{◌≡◌, false};
 use anyhow::Result;
 use disk::{Calls, CountingDisk};
 use im_disk::{Disk, ModelDisk};
-use im_engine::{Config, Engine};
-use im_types::{FileId, Reply, Step};
+use im_front::{Reply, Step};
+use im_transactions::{Config, Engine};
+use im_types::FileId;
 use parts::{Kinds, Order, Span, Work, begun, committed, listed, pages_by_kind, worked};
 use stops::{Doubt, Life, founded, losing, stopped_at_each};
 use tally::Tally;
@@ -149,7 +150,8 @@ fn left(
             &mut tally,
         )?;
     }
-    tally.add(engine.step(&Step::Force), Reply::Done);
+    let reply = engine.step(&Step::Force);
+    tally.add(&reply, matches!(&reply, Reply::Done));
     println!(rt; "{name}")?;
     show_tally(rt, tally)?;
     show_calls(rt, engine.disk().calls())?;

@@ -3,8 +3,9 @@
 use crate::keys::{key_of, scattered};
 use crate::tally::Tally;
 use im_disk::Disk;
-use im_engine::Engine;
-use im_types::{Fault, PageKind, Reply, Rid, Step, TxnId};
+use im_front::{Reply, Step};
+use im_transactions::Engine;
+use im_types::{Fault, PageKind, Rid, TxnId};
 use std::alloc::Global;
 
 /// What is done with a key.
@@ -74,7 +75,8 @@ pub fn worked<D: Disk>(
     for place in 0..span.keys {
         let number = span.number(place);
         let step = step_of(alloc, transaction, work, number)?;
-        tally.add(engine.step(&step), wanted(work, number));
+        let reply = engine.step(&step);
+        tally.add(&reply, is_right(work, number, &reply));
     }
     Ok(())
 }
@@ -89,7 +91,8 @@ pub fn committed<D: Disk>(
 ) -> Result<(), Fault> {
     if let Some(transaction) = begun(engine) {
         worked(alloc, engine, transaction, work, span, tally)?;
-        tally.add(engine.step(&Step::Commit(transaction)), Reply::Committed);
+        let reply = engine.step(&Step::Commit(transaction));
+        tally.add(&reply, matches!(&reply, Reply::Committed));
     }
     Ok(())
 }
@@ -104,12 +107,13 @@ fn step_of(alloc: Global, transaction: TxnId, work: Work, number: u64) -> Result
     })
 }
 
-// The reply that it should have.
-fn wanted(work: Work, number: u64) -> Reply {
-    match work {
-        Work::Insert => Reply::Inserted,
-        Work::Fetch => Reply::Found(number),
-        Work::Delete => Reply::Deleted,
+// Whether it has the reply that it should have.
+fn is_right(work: Work, number: u64, reply: &Reply) -> bool {
+    match reply {
+        Reply::Inserted => work == Work::Insert,
+        Reply::Found(rid) => work == Work::Fetch && *rid == number,
+        Reply::Deleted => work == Work::Delete,
+        _ => false,
     }
 }
 

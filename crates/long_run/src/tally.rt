@@ -1,6 +1,6 @@
 //! How the steps of a part were answered.
 
-use im_types::{Fault, Reply};
+use im_front::{Fault, Reply};
 
 /// How many steps had the reply that they should have, and how many another one, by what it was.
 #[derive(Clone, Copy, Debug, Default, PartialEq, Eq)]
@@ -15,9 +15,9 @@ pub struct Tally {
 }
 
 impl Tally {
-    /// A step had this reply, and should have that one.
-    pub fn add(&mut self, reply: Reply, wanted: Reply) {
-        if reply == wanted {
+    /// A step had this reply, which is the one that it should have, or another.
+    pub fn add(&mut self, reply: &Reply, is_right: bool) {
+        if is_right {
             self.right = self.right.wrapping_add(1);
             return;
         }

@@ -26,7 +26,7 @@ ghost use Rattle.im_disk.specs.Runs.{IsSynced};
 use anyhow::Result;
 use counted::{Calls, Counted};
 use im_disk::{Disk, FileDisk};
-use im_engine::{Config, Engine};
+use im_transactions::{Config, Engine};
 use memory::MemoryDisk;
 use options::{Options, options_of};
 use std::env;
@@ -75,7 +75,7 @@ struct Named {
     each: u64,
 }
 
-const PARTS: [Named; 5] = [
+const PARTS: [Named; 7] = [
     Named {
         name: "insert, 64 a commit",
         work: Work::Insert,
@@ -98,6 +98,13 @@ const PARTS: [Named; 5] = [
         each: 1_000,
     },
     Named {
+        name: "scan of 100 entries",
+        work: Work::Scan,
+        from: 0,
+        parts: 16,
+        each: 16,
+    },
+    Named {
         name: "insert, one a commit",
         work: Work::Insert,
         from: 64,
@@ -109,6 +116,13 @@ const PARTS: [Named; 5] = [
         work: Work::Delete,
         from: 0,
         parts: 32,
+        each: 64,
+    },
+    Named {
+        name: "insert, 64 taken back",
+        work: Work::TakenBack,
+        from: 68,
+        parts: 8,
         each: 64,
     },
 ];

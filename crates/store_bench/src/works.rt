@@ -1,9 +1,10 @@
-//! Keys put into a store, looked up and dropped, by steps of its engine.
+//! Keys put into a store, looked up, listed, dropped and taken back, by steps of its engine.
 
 use crate::keys::{key_of, scattered};
 use im_disk::Disk;
-use im_engine::Engine;
-use im_types::{Fault, Reply, Step, TxnId};
+use im_front::{Reply, Step};
+use im_transactions::Engine;
+use im_types::{Fault, TxnId};
 use std::alloc::Global;
 
 /// What is done with each key.
@@ -14,8 +15,15 @@ pub enum Work {
     Present,
     /// A look-up of one that is not.
     Absent,
+    /// The first entries from a key on, as many as `SCANNED`.
+    Scan,
     Delete,
+    /// An insert that is taken back: its transaction rolls back.
+    TakenBack,
 }
+
+/// How many entries a scan asks for.
+pub const SCANNED: u64 = 100;
 
 /// A work on so many keys from a number on, so many in a transaction.
 #[derive(Clone, Copy, Debug)]
@@ -34,13 +42,13 @@ pub fn worked<D: Disk>(alloc: Global, engine: &mut Engine<D>, part: Part) -> Res
         let done = n.wrapping_mul(each);
         let keys = part.keys.wrapping_sub(done).min(each);
         let first = part.first.wrapping_add(done);
-        right = right.wrapping_add(committed(alloc, engine, part.work, first, keys)?);
+        right = right.wrapping_add(made(alloc, engine, part.work, first, keys)?);
     }
     Ok(right)
 }
 
-// A transaction of so many steps.
-fn committed<D: Disk>(
+// A transaction of so many steps, and its end.
+fn made<D: Disk>(
     alloc: Global,
     engine: &mut Engine<D>,
     work: Work,
@@ -54,14 +62,27 @@ fn committed<D: Disk>(
     for i in 0..keys {
         let number = first.wrapping_add(i);
         let step = step_of(alloc, transaction, work, number)?;
-        if engine.step(&step) == wanted(work, number) {
+        if is_wanted(work, number, &engine.step(&step)) {
             right = right.wrapping_add(1);
         }
     }
-    if engine.step(&Step::Commit(transaction)) != Reply::Committed {
-        return Ok(0);
+    let ended = match work {
+        Work::TakenBack => is_taken_back(engine, transaction, keys),
+        _ => matches!(engine.step(&Step::Commit(transaction)), Reply::Committed),
+    };
+    Ok(if ended { right } else { 0 })
+}
+
+// Takes back what a transaction did, which is so many changes.
+fn is_taken_back<D: Disk>(engine: &mut Engine<D>, transaction: TxnId, changes: u64) -> bool {
+    let mut reply = engine.step(&Step::Rollback(transaction));
+    for _ in 0..changes {
+        if !matches!(reply, Reply::More) {
+            return false;
+        }
+        reply = engine.step(&Step::Continue(transaction));
     }
-    Ok(right)
+    matches!(reply, Reply::RolledBack)
 }
 
 // The step of a number. Keys of numbers from 2^63 on are never put.
@@ -72,18 +93,26 @@ fn step_of(alloc: Global, transaction: TxnId, work: Work, number: u64) -> Result
     };
     let key = Vec::from_slice(alloc, &key_of(place)).map_err(|_| Fault::Memory)?;
     Ok(match work {
-        Work::Insert => Step::Insert(transaction, key, number),
+        Work::Insert | Work::TakenBack => Step::Insert(transaction, key, number),
         Work::Present | Work::Absent => Step::Fetch(transaction, key),
+        Work::Scan => {
+            let last = Vec::from_slice(alloc, &key_of(u64::MAX)).map_err(|_| Fault::Memory)?;
+            Step::Scan(transaction, key, last, SCANNED)
+        }
         Work::Delete => Step::Delete(transaction, key),
     })
 }
 
-// The reply that it should have.
-fn wanted(work: Work, number: u64) -> Reply {
+// Whether it is the reply that a step should have. A scan near the greatest key has fewer entries.
+fn is_wanted(work: Work, number: u64, reply: &Reply) -> bool {
     match work {
-        Work::Insert => Reply::Inserted,
-        Work::Present => Reply::Found(number),
-        Work::Absent => Reply::Absent,
-        Work::Delete => Reply::Deleted,
+        Work::Insert | Work::TakenBack => matches!(reply, Reply::Inserted),
+        Work::Present => matches!(reply, Reply::Found(rid) if *rid == number),
+        Work::Absent => matches!(reply, Reply::Absent),
+        Work::Scan => match reply {
+            Reply::Entries(list) => list.len() as u64 == SCANNED,
+            _ => false,
+        },
+        Work::Delete => matches!(reply, Reply::Deleted),
     }
 }

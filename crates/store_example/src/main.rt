@@ -2,8 +2,8 @@
 #![tactic(auto)]
 
 use im_disk::FileDisk;
-use im_engine::{Config, Engine};
-use im_types::{Reply, Step};
+use im_front::{Reply, Step};
+use im_transactions::{Config, Engine};
 use std::fs;
 
 const DIR: &str = "store_example_files";
@@ -19,7 +19,7 @@ fn main(rt: HostRuntime) -> anyhow::Result<()> {
         let key = Vec::from_slice(alloc, b"apple")?;
         let inserted = engine.step(&Step::Insert(number, key, 7));
         let committed = engine.step(&Step::Commit(number));
-        println!(rt; "{inserted:?} {committed:?}")?;
+        println!(rt; "{} {}", word_of(&inserted), word_of(&committed))?;
     }
     for (key, rid) in &engine.entries(alloc)? {
         let name = std::str::from_utf8(key.bytes())?;
@@ -28,4 +28,12 @@ fn main(rt: HostRuntime) -> anyhow::Result<()> {
     let _disk = engine.into_disk();
     fs::remove_dir_all(&rt, DIR)?;
     Ok(())
+}
+
+fn word_of(reply: &Reply) -> &'static str {
+    match reply {
+        Reply::Inserted => "inserted",
+        Reply::Committed => "committed",
+        _ => "another reply",
+    }
 }

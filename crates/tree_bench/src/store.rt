@@ -2,8 +2,9 @@
 
 use crate::keys::{key_of, scattered};
 use im_disk::Disk;
-use im_engine::Engine;
-use im_types::{Fault, Reply, Step, TxnId};
+use im_front::{Reply, Step};
+use im_transactions::Engine;
+use im_types::{Fault, TxnId};
 use std::alloc::Global;
 
 /// What is done with each key.
@@ -48,7 +49,7 @@ fn batch_worked<D: Disk>(
     for i in 0..STEPS {
         let number = first.wrapping_add(i);
         let step = step_of(alloc, transaction, work, rising, number)?;
-        if engine.step(&step) == wanted(work, number) {
+        if is_right(work, number, &engine.step(&step)) {
             done = done.wrapping_add(1);
         }
     }
@@ -73,11 +74,12 @@ fn step_of(
     })
 }
 
-// The reply that it should have.
-fn wanted(work: Work, number: u64) -> Reply {
-    match work {
-        Work::Insert => Reply::Inserted,
-        Work::Fetch => Reply::Found(number),
-        Work::Delete => Reply::Deleted,
+// Whether it has the reply that it should have.
+fn is_right(work: Work, number: u64, reply: &Reply) -> bool {
+    match reply {
+        Reply::Inserted => work == Work::Insert,
+        Reply::Found(rid) => work == Work::Fetch && *rid == number,
+        Reply::Deleted => work == Work::Delete,
+        _ => false,
     }
 }

@@ -1,4 +1,4 @@
-use Rattle.std.proofs.Common.{◌≡◌, List, ℕ, [], map, Ok, Err, refl, sym, ◌∙◌, ap, subst}
+use Rattle.std.proofs.Common.{◌≡◌, List, ℕ, [], map, Err, refl, sym, ◌∙◌, ap, subst}
 use Rattle.im_disk.specs.contracts.model_disk.ModelDiskDisk.TheImpl.{ghosts}
 use Rattle.im_disk.specs.Disk.{Files}
 use Rattle.im_drill.specs.declared.raw_line.RawLine.{RawLine}
@@ -6,7 +6,7 @@ use Rattle.im_drill.specs.declared.life_answers.RawReply.{RawReply}
 use Rattle.im_drill.specs.declared.life_answers.Opening.TheVariants as openings
 use Rattle.im_drill.specs.Lives.{StandsFor, Survives, asked_of, acked_of}
 use Rattle.im_drill.specs.Living.{IsLiving}
-use Rattle.im_drill.specs.RawRuns.{IsRawLifeRun, AreRawLinesRun}
+use Rattle.im_drill.specs.RawRuns.{AreRawLinesRun}
 use Rattle.im_drill.proofs.RawRunning.{raw_opening, opened_still}
 use Rattle.im_drill.proofs.Stands.{stands_once, survives_none}
 use Rattle.im_drill.proofs.Acked.{acked-none}

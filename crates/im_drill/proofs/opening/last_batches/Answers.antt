@@ -1,4 +1,4 @@
-use Rattle.std.proofs.Common.{map, Ok, Err, ap, sym, subst, refl}
+use Rattle.std.proofs.Common.{map, Err, ap}
 use Rattle.im_disk.specs.contracts.model_disk.ModelDiskDisk.TheImpl.{ghosts}
 use Rattle.im_drill.proofs.RawRunning.{raw_opening, raw_last_ok, raw_last_err}
 use Rattle.im_drill.proofs.Stands.{stands_once}

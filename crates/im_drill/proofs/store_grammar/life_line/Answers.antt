@@ -1,4 +1,4 @@
-use Rattle.std.proofs.Common.{◌≡◌, List, [], ◌∷◌, ℕ, codes, sym, subst, arith, rules}
+use Rattle.std.proofs.Common.{◌≡◌, List, [], ℕ, codes, sym, subst, arith, rules}
 use Rattle.std.proofs.lemmas.Grind.{common_steps}
 use Rattle.im_drill.specs.Lines.{behind_word}
 use Rattle.im_drill.specs.StoreScripts.{IsOption}

@@ -1,43 +1,34 @@
-use Rattle.std.proofs.Common.{◌≡◌, Bool, true, false, Ok, Err, refl, inl, inr, sym, ◌∙◌, subst}
-use Rattle.im_types.specs.Lives.{Shown}
+use Rattle.std.proofs.Common.{◌≡◌, true, false, Ok, Err, refl, inl, inr, sym, subst}
 use Rattle.im_disk.specs.contracts.model_disk.ModelDiskDisk.TheImpl.{ghosts}
-use Rattle.im_engine.specs.declared.header.Header.{Header}
-use Rattle.im_engine.specs.Stands.{Allowed}
-use Rattle.im_engine.specs.Running.{IsLife}
+use Rattle.im_transactions.specs.declared.header.Header.{Header}
 use Rattle.im_disk.specs.declared.model_disk.ModelDisk.{ModelDisk}
-use Rattle.im_engine.proofs.Looked.{look_works, look_fails, look_cause}
+use Rattle.im_transactions.proofs.Looked.{look_works, look_fails, look_cause}
 use Rattle.im_drill.specs.declared.store_answers.StoreReply.TheVariants as replies
 use Rattle.im_drill.specs.Stops.{HasCome}
 use Rattle.im_drill.proofs.StoreRunning.{look_run}
-use Rattle.im_drill.proofs.StoreShown.{not_failed, same_shown}
+use Rattle.im_drill.proofs.StoreShown.{looked_on, looked_as}
 use Rattle.im_drill.proofs.store_lives.look_at.Goals as goal
 
 pub returns-in-Ok-clause-kept : goal.returns-in-Ok-clause-kept
 returns-in-Ok-clause-kept c before s life =
+    let old = c.args.engine.now in
     let new = c.header-header.new.self in
-    let k = c.header-header.ensures.kept before s life in
-    let works : new.failed ≡ false = look_works ghosts c.args.engine.now new (Ok c.in-Ok.header) c.in-Ok.ensures.outcome in
-    let worked : c.args.engine.now.failed ≡ false = not_failed c.args.engine.now.failed (λ failed. let refused = c.in-Ok.ensures.outcome.failed.1 failed in absurd (cc refused)) in
-    let same = same_shown s new.failed (works ∙ sym worked ∙ sym life.failed) in
-    record {
-      after = λ going. subst (λ (t : Shown). IsLife ghosts before t new) same k.after;
-      stops = λ files left. subst (λ (t : Shown). Allowed before t files) same (k.after.stops files left);
-    }
+    let k = c.header-header.ensures.kept before s life.0 life.1 in
+    let works : new.failed ≡ false = look_works ghosts old new (Ok c.in-Ok.header) c.in-Ok.ensures.outcome in
+    record { after = λ going. looked_on ghosts before s life.0 old new k works; stops = λ files left. k.stops.each tt files (inl left) }
 
 pub returns-then-has_come-clause-kept : goal.returns-then-has_come-clause-kept
 returns-then-has_come-clause-kept c before s life =
-    let k = c.header-header.ensures.kept before s life in
+    let k = c.header-header.ensures.kept before s life.0 life.1 in
     record { after = λ no. absurd (no refl); stops = λ files left. k.stops.each tt files (inl left) }
 
 pub returns-in-Err-clause-kept : goal.returns-in-Err-clause-kept
 returns-in-Err-clause-kept c before s life =
+    let old = c.args.engine.now in
     let new = c.header-header.new.self in
-    let k = c.header-header.ensures.kept before s life in
-    let breaks = look_fails ghosts c.args.engine.now new {A = Header} (Err c.in-Err.fault) c.in-Err.ensures.outcome in
-    record {
-      after = λ going. subst (λ (failed : Bool). IsLife ghosts before (record s { failed = failed }) new) breaks k.after;
-      stops = λ files left. subst (λ (failed : Bool). Allowed before (record s { failed = failed }) files) breaks (k.after.stops files left);
-    }
+    let k = c.header-header.ensures.kept before s life.0 life.1 in
+    let breaks = look_fails ghosts old new {A = Header} (Err c.in-Err.fault) c.in-Err.ensures.outcome in
+    record { after = λ going. looked_as ghosts before s life.0 old new _ k breaks; stops = λ files left. k.stops.each tt files (inl left) }
 
 pub returns-then-has_come-clause-run : goal.returns-then-has_come-clause-run
 returns-then-has_come-clause-run c =

@@ -1,4 +1,3 @@
-use Rattle.std.proofs.Common.{false}
 use Rattle.im_disk.specs.contracts.model_disk.ModelDiskDisk.TheImpl.{ghosts}
 use Rattle.im_drill.proofs.StoreRunning.{opened_as}
 use Rattle.im_drill.proofs.store_lives.open_store.Goals as goal

@@ -26,10 +26,10 @@ returns-else-has_come-clause-run c =
 
 pub returns-else-has_come-clause-kept : goal.returns-else-has_come-clause-kept
 returns-else-has_come-clause-kept c before s life =
-    let k = c.step-reply.ensures.kept before s life in
-    record { after = λ going. k.after; stops = λ files left. k.after.stops files left }
+    let k = c.step-reply.ensures.kept before s life.0 life.1 in
+    record { after = λ going. (k.next, k.after); stops = λ files left. k.after.stops files left }
 
 pub returns-then-has_come-clause-kept : goal.returns-then-has_come-clause-kept
 returns-then-has_come-clause-kept c before s life =
-    let k = c.step-reply.ensures.kept before s life in
+    let k = c.step-reply.ensures.kept before s life.0 life.1 in
     record { after = λ no. absurd (no refl); stops = λ files left. k.stops.each tt files (inl left) }

@@ -1,10 +1,10 @@
-use Rattle.std.proofs.Common.{◌≡◌, ℕ, List, refl, sym, ap, subst, ◌∙◌, inl}
+use Rattle.std.proofs.Common.{ℕ, List, refl, sym, ap, subst, ◌∙◌, inl}
 use Rattle.im_types.specs.Lives.{Shown, nothing_shown}
 use Rattle.im_disk.specs.contracts.model_disk.ModelDiskDisk.TheImpl.{ghosts}
 use Rattle.im_disk.specs.declared.model_disk.ModelDisk.{ModelDisk}
 use Rattle.im_disk.specs.Disk.{Files}
 use Rattle.im_disk.specs.Model.{model_calls}
-use Rattle.im_engine.specs.Stands.{StandsFor, Allowed}
+use Rattle.im_transactions.specs.Stands.{StandsFor, Allowed}
 use Rattle.im_drill.specs.declared.life_answers.Opening.TheVariants as openings
 use Rattle.im_drill.specs.declared.store_life.StoreLine.{StoreLine}
 use Rattle.im_drill.specs.declared.store_answers.StoreReply.{StoreReply}
@@ -24,7 +24,7 @@ returns-in_ok-replies-in-Ok-clause-kept c before stands files left =
     let k = c.in-Ok.ensures.kept before (subst (λ (s : Files). StandsFor before s) (sym c.in_ok-arm_life.ensures.reads.seen) stands) in
     let now = subst (λ (disk : ModelDisk). ghosts.may_leave disk files) c.into_disk-disk.ensures left in
     subst (λ (l : List StoreLine). Allowed before (shown_in nothing_shown l c.in_ok-replies-in-Ok.replies.items) files) c.deref.ensures.value
-    (c.in_ok-replies-in-Ok.ensures.kept before k.ok.0 files now)
+    (c.in_ok-replies-in-Ok.ensures.kept before (_, k.ok.0) files now)
 
 pub returns-in-Err-clause-kept : goal.returns-in-Err-clause-kept
 returns-in-Err-clause-kept c before stands files left =

@@ -2,13 +2,12 @@ use Rattle.std.proofs.lemmas.List.{take_more}
 use Rattle.std.proofs.Common.{inl, inr, ◌++◌, ◌≡◌, List, ℕ, ◌+◌, [], ◌∷◌, length, take, sym, ◌∙◌, ap, subst, length-append}
 use Rattle.im_types.specs.Lives.{Shown, nothing_shown}
 use Rattle.im_disk.specs.contracts.model_disk.ModelDiskDisk.TheImpl.{ghosts}
-use Rattle.im_engine.specs.Stands.{Allowed}
-use Rattle.im_engine.specs.Running.{IsLife}
+use Rattle.im_transactions.specs.Stands.{Allowed}
 use Rattle.im_drill.specs.declared.store_answers.StoreReply.{StoreReply}
 use Rattle.im_drill.specs.declared.store_life.StoreLine.{StoreLine}
 use Rattle.im_drill.specs.declared.store_answers.StoreReply.TheVariants.{Stopped}
 use Rattle.im_drill.specs.Answered.{RepliedBy}
-use Rattle.im_drill.specs.StoreLives.{shown_in, IsStoreReply}
+use Rattle.im_drill.specs.StoreLives.{GoesOn, shown_in, IsStoreReply}
 use Rattle.im_drill.proofs.Replied.{replied_push}
 use Rattle.im_drill.specs.StoreRuns.{AreLinesRun}
 use Rattle.im_drill.proofs.StoreShown.{shown_to, shown_whole}
@@ -20,7 +19,7 @@ loop-line-init c = record {
   replied = subst (λ (l : List StoreReply). RepliedBy IsStoreReply [] l) (sym c.new-replies.ensures.items) tt;
   count = ap length c.new-replies.ensures.items;
   run = subst (λ (l : List StoreReply). AreLinesRun ghosts c.args.stop.now c.args.lines.now l c.args.engine.now c.args.engine.now) (sym c.new-replies.ensures.items) (no_line_run ghosts c.args.stop.now c.args.lines.now c.args.engine.now);
-  life = λ before living. subst (λ (l : List StoreReply). IsLife ghosts before (shown_in nothing_shown [] l) c.args.engine.now) (sym c.new-replies.ensures.items) living;
+  life = λ before living. subst (λ (l : List StoreReply). GoesOn ghosts before (shown_in nothing_shown [] l) c.args.engine.now) (sym c.new-replies.ensures.items) living;
 }
 
 pub loop-line-preserved : goal.loop-line-preserved
@@ -29,7 +28,7 @@ loop-line-preserved c =
     let all = c.args.lines.now in
     let told = c.loop-line.replies.items in
     let reply = c.run_store_line-reply.result in
-    let some : ¬ (reply ≡ Stopped) = λ is. let stopped = c.is_stopped.ensures.1 is in let goes_on = c.if-is_stopped.false in absurd (cc) in
+    let some : ¬ (reply ≡ Stopped) = λ is. let stopped = c.is_stopped-stopped.ensures.1 is in let goes_on = c.if-stopped.false in absurd (cc) in
     let fits : IsStoreReply c.line-item.result reply = elim c.run_store_line-reply.ensures.fits [ inl e ↦ absurd (some e) | inr is ↦ is ] in
     let more : take (i + 1) all ≡ take i all ++ c.line-item.result ∷ [] = take_more all i c.line-item.result c.loop-line-test.true ∙ ap (λ (l : StoreLine). take i all ++ l ∷ []) (sym c.line-item.is) in
     record {
@@ -44,14 +43,14 @@ loop-line-preserved c =
           c.loop-line.invariant.run c.run_store_line-reply.ensures.run);
       life = λ before living.
           let k = c.run_store_line-reply.ensures.kept before (shown_in nothing_shown (take i all) told) (c.loop-line.invariant.life before living) in
-          subst (λ (s : Shown). IsLife ghosts before s c.run_store_line-reply.new.engine)
+          subst (λ (s : Shown). GoesOn ghosts before s c.run_store_line-reply.new.engine)
           (sym (ap (λ (l : List StoreReply). shown_in nothing_shown (take (i + 1) all) l) c.in_ok-push.ensures.items ∙ shown_to nothing_shown all i told c.line-item.result reply c.line-item.is c.loop-line.invariant.count c.loop-line-test.true))
           (k.after some);
     }
 
-pub returns-then-is_stopped-clause-answered : goal.returns-then-is_stopped-clause-answered
-returns-then-is_stopped-clause-answered c =
-    let stopped : c.run_store_line-reply.result ≡ Stopped = c.is_stopped.ensures.0 c.if-is_stopped.true in
+pub returns-then-stopped-clause-answered : goal.returns-then-stopped-clause-answered
+returns-then-stopped-clause-answered c =
+    let stopped : c.run_store_line-reply.result ≡ Stopped = c.is_stopped-stopped.ensures.0 c.if-stopped.true in
     inr (record {
       line = c.loop-line.line-index;
       front = c.loop-line.replies.items;
@@ -60,16 +59,16 @@ returns-then-is_stopped-clause-answered c =
       is = c.in_ok-push.ensures.items ∙ ap (λ (reply : StoreReply). c.loop-line.replies.items ++ reply ∷ []) stopped;
     })
 
-pub returns-then-is_stopped-clause-run : goal.returns-then-is_stopped-clause-run
-returns-then-is_stopped-clause-run c =
+pub returns-then-stopped-clause-run : goal.returns-then-stopped-clause-run
+returns-then-stopped-clause-run c =
     let told = c.loop-line.replies.items in
     let reply = c.run_store_line-reply.result in
     subst (λ (l : List StoreReply). AreLinesRun ghosts c.args.stop.now c.args.lines.now l c.args.engine.now c.run_store_line-reply.new.engine) (sym c.in_ok-push.ensures.items)
     (lines_run_push ghosts c.args.stop.now c.args.lines.now told c.loop-line.line-index c.line-item.result reply c.args.engine.now c.loop-line.engine c.run_store_line-reply.new.engine c.line-item.is c.loop-line.invariant.count c.loop-line-test.true
     c.loop-line.invariant.run c.run_store_line-reply.ensures.run)
 
-pub returns-then-is_stopped-clause-kept : goal.returns-then-is_stopped-clause-kept
-returns-then-is_stopped-clause-kept c before living files left =
+pub returns-then-stopped-clause-kept : goal.returns-then-stopped-clause-kept
+returns-then-stopped-clause-kept c before living files left =
     let i = c.loop-line.line-index in
     let all = c.args.lines.now in
     let told = c.loop-line.replies.items in
@@ -83,4 +82,4 @@ returns-then-is_stopped-clause-kept c before living files left =
 pub returns-clause-kept : goal.returns-clause-kept
 returns-clause-kept c before living files left =
     subst (λ (s : Shown). Allowed before s files) (shown_whole nothing_shown c.args.lines.now c.loop-line.replies.items c.loop-line.line-index c.loop-line.invariant.count)
-    ((c.loop-line.invariant.life before living).stops files left)
+    ((c.loop-line.invariant.life before living).1.stops files left)

@@ -2,9 +2,8 @@ use Rattle.std.proofs.Common.{◌≡◌, List, length, take}
 use Rattle.im_types.specs.Changes.{Effect}
 use Rattle.im_types.specs.Lives.{nothing_shown}
 use Rattle.im_disk.specs.contracts.model_disk.ModelDiskDisk.TheImpl.{ghosts}
-use Rattle.im_engine.specs.Running.{IsLife}
 use Rattle.im_drill.specs.Answered.{RepliedBy}
-use Rattle.im_drill.specs.StoreLives.{shown_in, IsStoreReply}
+use Rattle.im_drill.specs.StoreLives.{GoesOn, shown_in, IsStoreReply}
 use Rattle.im_drill.specs.StoreRuns.{AreLinesRun}
 use Rattle.im_drill.proofs.store_lives.run_store_lines.Given as goal
 
@@ -14,5 +13,5 @@ invariant-loop-line l = record {
   replied : RepliedBy IsStoreReply (take l.line-index l.lines) l.replies.items;
   count : length l.replies.items ≡ l.line-index;
   run : AreLinesRun ghosts l.stop l.lines l.replies.items l.fn.engine l.engine;
-  life : (before : List Effect) → IsLife ghosts before nothing_shown l.fn.engine → IsLife ghosts before (shown_in nothing_shown (take l.line-index l.lines) l.replies.items) l.engine;
+  life : (before : List Effect) → GoesOn ghosts before nothing_shown l.fn.engine → GoesOn ghosts before (shown_in nothing_shown (take l.line-index l.lines) l.replies.items) l.engine;
 }

@@ -14,7 +14,7 @@ loop-i-init c = (λ d. d, λ d. d)
 pub returns-then-not-is_next : goal.returns-then-not-is_next
 returns-then-not-is_next c =
     let in_told : c.loop-i.i < length c.args.told.now = subst (λ (n : ℕ). c.loop-i.i < n) c.if-plain-told.false c.loop-i-test.true in
-    let step = step_on c.loop-i.failed c.args.plain.now c.args.told.now c.loop-i.i c.reply_at-expected.result c.reply_at-reply.result c.loop-i-test.true in_told c.reply_at-expected.ensures c.reply_at-reply.ensures in
+    let step = step_on c.loop-i.failed c.args.plain.now c.args.told.now c.loop-i.i c.index-plain-i.result c.index-told-i.result c.loop-i-test.true in_told c.index-plain-i.is c.index-told-i.is in
     (λ no. absurd (cc), λ d. absurd (let yes = c.is_next.ensures.1 (step.0 (c.loop-i.invariant.0 d)).0 in let no = c.if-not-is_next.true in cc))
 
 pub loop-i-preserved : goal.loop-i-preserved
@@ -22,9 +22,9 @@ loop-i-preserved c =
     let plain = c.args.plain.now in
     let told = c.args.told.now in
     let i = c.loop-i.i in
-    let reply = c.reply_at-reply.result in
+    let reply = c.index-told-i.result in
     let in_told : i < length told = subst (λ (n : ℕ). i < n) c.if-plain-told.false c.loop-i-test.true in
-    let step = step_on c.loop-i.failed plain told i c.reply_at-expected.result reply c.loop-i-test.true in_told c.reply_at-expected.ensures c.reply_at-reply.ensures in
+    let step = step_on c.loop-i.failed plain told i c.index-plain-i.result reply c.loop-i-test.true in_told c.index-plain-i.is c.index-told-i.is in
     let now : (c.loop-i.failed || is_by_device reply) ≡ c.if-failed.failed = elim c.if-failed.branch [
       | then-failed w ↦ ap (λ (b : Bool). b || is_by_device reply) w.if-failed.true ∙ sym (w.failed-is ∙ w.if-failed.true)
       | else-failed w ↦ ap (λ (b : Bool). b || is_by_device reply) w.if-failed.false ∙ sym (w.failed-is ∙ c.is_by_device-by_device.ensures)

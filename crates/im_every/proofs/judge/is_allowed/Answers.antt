@@ -1,10 +1,9 @@
-use Rattle.std.proofs.Common.{◌≡◌, ◌≤◌, ◌+◌, ℕ, suc, true, List, length, take, drop, ◌-◌, ◌↔◌, inl, inr, refl, sym, ◌∙◌, ap, subst, rules, arith}
+use Rattle.std.proofs.Common.{◌≡◌, ◌≤◌, ◌+◌, ℕ, true, List, length, take, drop, ◌-◌, ◌↔◌, inl, inr, sym, ◌∙◌, ap, subst, arith}
 use Rattle.std.proofs.lemmas.Grind.{common_steps}
 use Rattle.std.specs.FinMap.{entries}
 use Rattle.im_types.specs.Lives.{NoneAcked}
 use Rattle.im_types.specs.Maps.{IndexMap}
-use Rattle.im_types.specs.Pages.{Entry}
-use Rattle.im_every.specs.Judged.{IsAllowed, asked_in, held, made_in_turn}
+use Rattle.im_every.specs.Judged.{asked_in, held, made_in_turn}
 use Rattle.im_every.specs.declared.change.Change.{Change}
 use Rattle.im_every.specs.declared.change.AskedEffect.{AskedEffect}
 use Rattle.im_every.proofs.Fronts.{IsGoodFront, map_behind, map_more, front_tested, front_tells, allowed_by, front_of, last_or_before, rest_is}

@@ -1,5 +1,5 @@
 use Rattle.im_every.proofs.Fronts.{none_more, some_acked}
-use Rattle.std.proofs.Common.{◌≡◌, false, true, arith}
+use Rattle.std.proofs.Common.{◌≡◌, false, arith}
 use Rattle.std.proofs.lemmas.Grind.{common_steps}
 use Rattle.im_every.proofs.judge.none_acked.Goals as goal
 

@@ -1,4 +1,4 @@
-use Rattle.std.proofs.Common.{◌≡◌, ◌↔◌, true, List, Result, Vec, sym, subst}
+use Rattle.std.proofs.Common.{◌≡◌, ◌↔◌, true, List, Result, sym, subst}
 use Rattle.im_types.specs.Pages.{Entry}
 use Rattle.im_types.specs.declared.fault.Fault.{Fault}
 use Rattle.im_every.specs.Judged.{IsAllowed}

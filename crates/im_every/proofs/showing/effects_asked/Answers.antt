@@ -1,4 +1,4 @@
-use Rattle.std.proofs.Common.{◌≡◌, ◌<◌, ◌≤◌, ◌⊎◌, inl, inr, length, take, sym, ◌∙◌, ap, subst, arith}
+use Rattle.std.proofs.Common.{◌<◌, ◌≤◌, ◌⊎◌, inl, inr, length, take, sym, ◌∙◌, ap, subst, arith}
 use Rattle.im_types.specs.Lives.{Shown, nothing_shown}
 use Rattle.im_drill.specs.StoreLives.{shown_in}
 use Rattle.im_every.specs.Shows.{IsShown}
@@ -12,7 +12,7 @@ loop-i-preserved c =
     let told = c.args.replies.now in
     let within : i < length all = omega (arith, c.loop-i-test.true, c.shorter-count.ensures.within_first) in
     let replied : i < length told = omega (arith, c.loop-i-test.true, c.shorter-count.ensures.within_second) in
-    subst (λ (s : Shown). IsShown c.add.new.self s) (sym (shown_more nothing_shown all told i c.index-lines-i.result c.reply_at-reply.result within replied c.index-lines-i.is c.reply_at-reply.ensures))
+    subst (λ (s : Shown). IsShown c.add.new.self s) (sym (shown_more nothing_shown all told i c.index-lines-i.result c.index-replies-i.result within replied c.index-lines-i.is c.index-replies-i.is))
     (c.in_ok-add.ensures (shown_in nothing_shown (take i all) (take i told)) c.loop-i.invariant)
 
 pub returns : goal.returns

@@ -1,4 +1,4 @@
-use Rattle.std.proofs.Common.{◌≡◌, ◌≢◌, sym, rules, arith}
+use Rattle.std.proofs.Common.{◌≡◌, ◌≢◌, rules, arith}
 use Rattle.std.proofs.lemmas.Grind.{common_steps}
 use Rattle.im_every.proofs.Shows.{found_own, found_other}
 use Rattle.im_every.proofs.showing.find.Goals as goal

@@ -1,10 +1,10 @@
 use Rattle.std.proofs.Common.{◌≡◌, ◌≤◌, ◌<◌, List, Vec, Global, ℕ, get_or, length, rules, sym, ◌∙◌, ap, arith}
 use Rattle.std.proofs.lemmas.Grind.{common_steps}
 use Rattle.std.proofs.lemmas.List.{set_split}
-use Rattle.std.specs.declared.cmp.Ordering.TheVariants.{Less, Equal, Greater}
+use Rattle.std.specs.declared.cmp.Ordering.TheVariants.{Less, Equal}
 use Rattle.im_types.specs.Keys.{key_order}
 use Rattle.im_every.specs.Judged.{held, with_entry}
-use Rattle.im_every.proofs.Entries.{passed_none, put_here, put_over, put_last, passed_more, same_item}
+use Rattle.im_every.proofs.Entries.{put_here, put_over, put_last, same_item}
 use Rattle.im_every.proofs.sorted.put.Goals as goal
 
 pub returns-in-Less : goal.returns-in-Less

@@ -1,4 +1,4 @@
-use Rattle.std.proofs.Common.{◌≡◌, ◌<◌, ℕ, List, Vec, Global, length, get_or, take, rules, refl, sym, ◌∙◌, ap, arith}
+use Rattle.std.proofs.Common.{◌≡◌, length, get_or, rules, arith}
 use Rattle.std.proofs.lemmas.Grind.{common_steps}
 use Rattle.im_every.proofs.Entries.{same_at}
 use Rattle.im_every.proofs.sorted.Sorted.is.Goals as goal
