@@ -5,8 +5,8 @@ ghost use Rattle.im_disk.specs.Runs.{IsSynced};
 
 use crate::disk::{BoundedDisk, Files};
 use im_disk::Disk;
+use im_engine::{Config, Engine};
 use im_front::Step;
-use im_transactions::{Config, Engine};
 use im_types::{Fault, Key, Rid};
 use std::alloc::Global;
 

@@ -4,7 +4,7 @@ use Rattle.im_types.specs.declared.fault.Fault.{Fault}
 use Rattle.im_disk.specs.declared.disk.Disk.{Ghosts}
 use Rattle.im_disk.specs.declared.model_disk.ModelDisk.{ModelDisk}
 use Rattle.im_disk.specs.declared.stop.Stop.{Stop}
-use Rattle.im_transactions.specs.declared.engine.Engine.{Engine}
+use Rattle.im_engine.specs.declared.engine.Engine.{Engine}
 use Rattle.im_drill.specs.declared.store_life.StoreLine.{StoreLine}
 use Rattle.im_drill.specs.declared.store_life.StoreLife.{StoreLife}
 use Rattle.im_drill.specs.declared.store_answers.StoreReply.{StoreReply}
@@ -13,12 +13,12 @@ use Rattle.im_types.specs.Changes.{Effect}
 use Rattle.im_types.specs.Lives.{Shown}
 use Rattle.im_lock.specs.View.{View}
 use Rattle.im_pool.specs.Pool.{page_at}
-use Rattle.im_transactions.specs.declared.header.Header.{Header}
-use Rattle.im_transactions.specs.Faults.{told_as}
-use Rattle.im_transactions.specs.Looking.{header_of}
-use Rattle.im_transactions.specs.Told.{ReadCause}
-use Rattle.im_transactions.specs.Kept.{LookKept}
-use Rattle.im_transactions.specs.Running.{IsLife}
+use Rattle.im_engine.specs.declared.header.Header.{Header}
+use Rattle.im_engine.specs.Faults.{told_as}
+use Rattle.im_engine.specs.Looking.{header_of}
+use Rattle.im_engine.specs.Told.{ReadCause}
+use Rattle.im_engine.specs.Kept.{LookKept}
+use Rattle.im_engine.specs.Running.{IsLife}
 use Rattle.im_drill.specs.declared.store_answers.StoreReply.TheVariants as replies
 use Rattle.im_drill.specs.Stops.{HasCome, IsNextDisk}
 use Rattle.im_drill.specs.StoreRuns.{IsLookRun, IsLineRun, AreLinesRun, IsLifeRun, AreLivesRun}

@@ -11,9 +11,9 @@ use Rattle.im_types.specs.Lives.{Shown, nothing_shown}
 use Rattle.im_disk.specs.declared.disk.Disk.{Ghosts}
 use Rattle.im_lock.specs.Locks.{Lock}
 use Rattle.im_lock.specs.View.{View, broken}
-use Rattle.im_transactions.specs.declared.engine.Engine.{Engine}
-use Rattle.im_transactions.specs.Kept.{LookKept, EntriesKept}
-use Rattle.im_transactions.specs.Running.{IsLife}
+use Rattle.im_engine.specs.declared.engine.Engine.{Engine}
+use Rattle.im_engine.specs.Kept.{LookKept, EntriesKept}
+use Rattle.im_engine.specs.Running.{IsLife}
 use Rattle.im_drill.specs.declared.store_life.StoreLine.{StoreLine}
 use Rattle.im_drill.specs.declared.store_answers.StoreReply.{StoreReply}
 use Rattle.im_drill.specs.StoreLives.{GoesOn, shown_after, shown_in}

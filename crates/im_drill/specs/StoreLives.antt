@@ -7,10 +7,10 @@ use Rattle.im_lock.specs.View.{View}
 use Rattle.im_front.specs.Calls.{asked_by, told_by}
 use Rattle.im_disk.specs.Disk.{Files}
 use Rattle.im_disk.specs.declared.disk.Disk.{Ghosts}
-use Rattle.im_transactions.specs.declared.config.Config.{Config}
-use Rattle.im_transactions.specs.declared.engine.Engine.{Engine}
-use Rattle.im_transactions.specs.Stands.{Allowed}
-use Rattle.im_transactions.specs.Running.{IsLife}
+use Rattle.im_engine.specs.declared.config.Config.{Config}
+use Rattle.im_engine.specs.declared.engine.Engine.{Engine}
+use Rattle.im_engine.specs.Stands.{Allowed}
+use Rattle.im_engine.specs.Running.{IsLife}
 use Rattle.im_drill.specs.declared.store_life.StoreLine.{StoreLine}
 use Rattle.im_drill.specs.declared.store_life.StoreLine.TheVariants as lines
 use Rattle.im_drill.specs.declared.store_life.LifeOptions.{LifeOptions}

@@ -18,15 +18,15 @@ use Rattle.im_disk.specs.Model.{IsFresh, model_calls}
 use Rattle.im_disk.specs.Runs.{Reads}
 use Rattle.im_pool.specs.Pool.{page_at}
 use Rattle.im_restart.specs.Restart.{IsFullLog, SpellsLog}
-use Rattle.im_transactions.specs.declared.config.Config.{Config}
-use Rattle.im_transactions.specs.declared.header.Header.{Header}
-use Rattle.im_transactions.specs.declared.engine.Engine.{Engine}
-use Rattle.im_transactions.specs.Faults.{told_as}
-use Rattle.im_transactions.specs.Looking.{header_of}
-use Rattle.im_transactions.specs.Kept.{OpenKept, LookKept, disk_of}
-use Rattle.im_transactions.specs.Running.{IsLife}
-use Rattle.im_transactions.specs.Stands.{StandsFor}
-use Rattle.im_transactions.specs.Told.{IsStep, ReadCause, Where}
+use Rattle.im_engine.specs.declared.config.Config.{Config}
+use Rattle.im_engine.specs.declared.header.Header.{Header}
+use Rattle.im_engine.specs.declared.engine.Engine.{Engine}
+use Rattle.im_engine.specs.Faults.{told_as}
+use Rattle.im_engine.specs.Looking.{header_of}
+use Rattle.im_engine.specs.Kept.{OpenKept, LookKept, disk_of}
+use Rattle.im_engine.specs.Running.{IsLife}
+use Rattle.im_engine.specs.Stands.{StandsFor}
+use Rattle.im_engine.specs.Told.{IsStep, ReadCause, Where}
 use Rattle.im_drill.specs.declared.life_answers.Opening.TheVariants as openings
 use Rattle.im_drill.specs.declared.store_life.StoreLine.{StoreLine}
 use Rattle.im_drill.specs.declared.store_life.StoreLine.TheVariants as lines

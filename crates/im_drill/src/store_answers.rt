@@ -1,8 +1,8 @@
 //! What the lives of a store answer.
 
 use crate::Opening;
+use im_engine::Header;
 use im_front::Reply;
-use im_transactions::Header;
 use im_types::{Fault, Key, PageNo, Rid};
 
 /// What a line of a life of a store answers.

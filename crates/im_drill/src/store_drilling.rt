@@ -6,7 +6,7 @@ ghost use Rattle.im_types.specs.declared.fault.Fault.TheVariants.{NotAStore};
 ghost use Rattle.im_types.specs.Changes.{Effect, apply_all};
 ghost use Rattle.im_types.specs.Lives.{Lives};
 ghost use Rattle.im_disk.specs.Disk.{both};
-ghost use Rattle.im_transactions.specs.Stands.{StandsFor};
+ghost use Rattle.im_engine.specs.Stands.{StandsFor};
 ghost use Rattle.im_drill.specs.StoreLives.{asked_in_each, EachStoreAnswered, AreStores};
 ghost use Rattle.im_drill.specs.StoreRuns.{IsRun};
 

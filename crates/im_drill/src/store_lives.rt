@@ -7,7 +7,7 @@ ghost use Rattle.im_types.specs.Changes.{Effect, apply_all};
 ghost use Rattle.im_types.specs.Lives.{Shown, nothing_shown, StandsForMore};
 ghost use Rattle.im_disk.specs.Disk.{Files};
 ghost use Rattle.im_disk.specs.Runs.{IsSynced, Reads};
-ghost use Rattle.im_transactions.specs.Stands.{StandsFor, Allowed};
+ghost use Rattle.im_engine.specs.Stands.{StandsFor, Allowed};
 ghost use Rattle.im_drill.specs.declared.store_answers.StoreReply.TheVariants.{Stopped};
 ghost use Rattle.im_drill.specs.Answered.{AnsweredBy};
 ghost use Rattle.im_drill.specs.Stops.{IsArmedAll, IsCallArmed, IsReadArmed};
@@ -20,8 +20,8 @@ use crate::stop::has_come;
 use crate::store_answers::{StoreAnswers, StoreReply};
 use crate::store_life::{LifeOptions, StoreLife, StoreLine};
 use im_disk::{Disk, ModelDisk, Stop};
+use im_engine::{Config, Engine};
 use im_front::Step;
-use im_transactions::{Config, Engine};
 use im_types::{Fault, Key, PageNo, Rid};
 use std::alloc::{AllocError, Global};
 

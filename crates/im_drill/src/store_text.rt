@@ -9,7 +9,7 @@ use crate::entry_lines::entries_text;
 use crate::pieces::first_piece;
 use crate::reply_words::reply_text;
 use crate::store_answers::{StoreAnswers, StoreDrilled, StoreReply};
-use im_transactions::Header;
+use im_engine::Header;
 use im_types::{PageKind, PageNo};
 use std::alloc::Global;
 use std::io;

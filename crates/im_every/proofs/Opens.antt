@@ -7,8 +7,8 @@ use Rattle.im_disk.specs.declared.model_disk.ModelDisk.{ModelDisk}
 use Rattle.im_disk.specs.declared.stop.Stop.{Stop}
 use Rattle.im_disk.specs.Left.{IsLeftBy}
 use Rattle.im_disk.specs.Model.{IsArmed, IsFresh, armed_of, file_of, model_stop}
-use Rattle.im_transactions.specs.declared.engine.Engine.{Engine}
-use Rattle.im_transactions.specs.Kept.{disk_of}
+use Rattle.im_engine.specs.declared.engine.Engine.{Engine}
+use Rattle.im_engine.specs.Kept.{disk_of}
 use Rattle.im_drill.specs.declared.store_life.LifeOptions.{LifeOptions}
 use Rattle.im_every.specs.Opened.{IsOpened, IsStopped}
 

@@ -14,13 +14,13 @@ use Rattle.im_disk.specs.declared.model_disk.ModelDisk.{ModelDisk}
 use Rattle.im_disk.specs.declared.stop.Stop.{Stop}
 use Rattle.im_disk.specs.Left.{IsLeftBy}
 use Rattle.im_disk.specs.Model.{IsArmed, IsFresh, armed_of, file_of, model_calls, model_stop}
-use Rattle.im_transactions.specs.declared.config.Config.{Config}
-use Rattle.im_transactions.specs.declared.engine.Engine.{Engine}
-use Rattle.im_transactions.specs.Faults.{told_as}
-use Rattle.im_transactions.specs.Told.{ReadCause}
-use Rattle.im_transactions.specs.Kept.{OpenKept, EntriesKept, disk_of}
-use Rattle.im_transactions.specs.Running.{IsLife}
-use Rattle.im_transactions.specs.Stands.{StandsFor}
+use Rattle.im_engine.specs.declared.config.Config.{Config}
+use Rattle.im_engine.specs.declared.engine.Engine.{Engine}
+use Rattle.im_engine.specs.Faults.{told_as}
+use Rattle.im_engine.specs.Told.{ReadCause}
+use Rattle.im_engine.specs.Kept.{OpenKept, EntriesKept, disk_of}
+use Rattle.im_engine.specs.Running.{IsLife}
+use Rattle.im_engine.specs.Stands.{StandsFor}
 use Rattle.im_drill.specs.declared.store_life.LifeOptions.{LifeOptions}
 use Rattle.im_drill.specs.StoreLives.{IsConfigOf}
 use Rattle.im_every.specs.declared.change.AskedEffect.{AskedEffect}

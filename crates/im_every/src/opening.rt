@@ -11,7 +11,7 @@ use crate::change::AskedEffect;
 use crate::judge::is_allowed;
 use im_disk::{Disk, ModelDisk, Stop};
 use im_drill::{LifeOptions, config_of};
-use im_transactions::Engine;
+use im_engine::Engine;
 use im_types::{Fault, Key, Rid};
 use std::alloc::{AllocError, Global};
 

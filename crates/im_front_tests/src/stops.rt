@@ -2,11 +2,11 @@
 
 ghost use Rattle.std.specs.Prelude.{◌≡◌, IfOk};
 ghost use Rattle.im_front.specs.Store.{IsResting};
-ghost use Rattle.im_transactions.specs.Serves.{IsStoreLife};
+ghost use Rattle.im_engine.specs.Serves.{IsStoreLife};
 
 use im_disk::{Fill, Length, ModelDisk, Stop};
+use im_engine::{Config, Engine, every_list_of_lives};
 use im_front::{Closed, Fault, Front, Recorded, Reply, Share, Step, Store, Told};
-use im_transactions::{Config, Engine, every_list_of_lives};
 use im_types::{Key, Rid, TxnId};
 use std::alloc::Global;
 use std::marker::Brand;

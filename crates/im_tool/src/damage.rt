@@ -3,8 +3,8 @@ ghost use Rattle.im_disk.specs.Runs.{IsSynced};
 
 use im_disk::{Disk, ModelDisk};
 use im_drill::StoreScript;
+use im_engine::{Config, Engine};
 use im_front::{Reply, Step};
-use im_transactions::{Config, Engine};
 use im_types::Fault;
 use std::alloc::{AllocError, Global};
 use std::test::Fail;

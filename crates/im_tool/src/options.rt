@@ -2,7 +2,7 @@
 
 use clap::builder::ValueParser;
 use clap::{Arg, ArgAction, ArgMatches, Command, Error};
-use im_transactions::Config;
+use im_engine::Config;
 use std::alloc::Global;
 
 /// The frames of a store in a folder, where the words name no number.

@@ -3,8 +3,8 @@
 ghost use Rattle.std.specs.Prelude.{◌≡◌, false, OnOk};
 
 use im_disk::{Disk, ModelDisk, read_vec};
+use im_engine::{Config, Engine};
 use im_front::{Reply, Step};
-use im_transactions::{Config, Engine};
 use im_types::{Fault, FileId, Key, PageNo, Rid};
 use std::alloc::Global;
 

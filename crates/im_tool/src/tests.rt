@@ -6,7 +6,7 @@ use crate::transfer::{Loaded, load_text};
 use crate::{Manner, StoreEnd, drill_program, store_program, store_text};
 use im_disk::{Disk, FileDisk, ModelDisk};
 use im_drill::drill_text;
-use im_transactions::Config;
+use im_engine::Config;
 use im_types::Fault;
 use std::alloc::Global;
 use std::io::{BufReader, Write};

@@ -3,8 +3,8 @@
 use crate::keys::{key_of, scattered};
 use crate::tally::Tally;
 use im_disk::Disk;
+use im_engine::Engine;
 use im_front::{Reply, Step};
-use im_transactions::Engine;
 use im_types::{Fault, PageKind, Rid, TxnId};
 use std::alloc::Global;
 

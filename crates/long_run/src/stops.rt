@@ -10,8 +10,8 @@ ghost use Rattle.im_disk.specs.Runs.{IsSynced};
 use crate::parts::{Kinds, Order, Span, Work, begun, committed, listed, pages_by_kind, worked};
 use crate::tally::Tally;
 use im_disk::{Disk, Fill, Length, ModelDisk, Stop};
+use im_engine::{Config, Engine};
 use im_front::Step;
-use im_transactions::{Config, Engine};
 use im_types::Fault;
 use std::alloc::Global;
 

@@ -26,7 +26,7 @@ ghost use Rattle.im_disk.specs.Runs.{IsSynced};
 use anyhow::Result;
 use counted::{Calls, Counted};
 use im_disk::{Disk, FileDisk};
-use im_transactions::{Config, Engine};
+use im_engine::{Config, Engine};
 use memory::MemoryDisk;
 use options::{Options, options_of};
 use std::env;

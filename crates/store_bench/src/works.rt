@@ -2,8 +2,8 @@
 
 use crate::keys::{key_of, scattered};
 use im_disk::Disk;
+use im_engine::Engine;
 use im_front::{Reply, Step};
-use im_transactions::Engine;
 use im_types::{Fault, TxnId};
 use std::alloc::Global;
 

@@ -2,8 +2,8 @@
 #![tactic(auto)]
 
 use im_disk::FileDisk;
+use im_engine::{Config, Engine};
 use im_front::{Reply, Step};
-use im_transactions::{Config, Engine};
 use std::fs;
 
 const DIR: &str = "store_example_files";

@@ -33,7 +33,7 @@ mod store;
 
 use anyhow::Result;
 use im_disk::{Disk, ModelDisk};
-use im_transactions::{Config, Engine};
+use im_engine::{Config, Engine};
 use im_types::Fault;
 use lookups::{disk_of, found, opened};
 use pages::{keys_in, tree};

@@ -4,7 +4,7 @@ use Rattle.std.proofs.lemmas.List.{take_more}
 use Rattle.im_types.specs.Lives.{Lives}
 use Rattle.im_disk.specs.contracts.model_disk.ModelDiskDisk.TheImpl.{ghosts}
 use Rattle.im_disk.specs.Disk.{Files, both}
-use Rattle.im_transactions.specs.Stands.{StandsFor}
+use Rattle.im_engine.specs.Stands.{StandsFor}
 use Rattle.im_drill.specs.declared.store_life.StoreLife.{StoreLife}
 use Rattle.im_drill.specs.declared.store_answers.StoreAnswers.{StoreAnswers}
 use Rattle.im_drill.specs.StoreLives.{asked_in_each, EachStoreAnswered, AreStores}

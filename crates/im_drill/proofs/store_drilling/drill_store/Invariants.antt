@@ -4,7 +4,7 @@ use Rattle.im_types.specs.Lives.{Lives}
 use Rattle.im_disk.specs.contracts.model_disk.ModelDiskDisk.TheImpl.{ghosts}
 use Rattle.im_disk.specs.Disk.{both}
 use Rattle.im_disk.specs.Runs.{IsSynced}
-use Rattle.im_transactions.specs.Stands.{StandsFor}
+use Rattle.im_engine.specs.Stands.{StandsFor}
 use Rattle.im_drill.specs.StoreLives.{asked_in_each, EachStoreAnswered, AreStores}
 use Rattle.im_drill.specs.StoreRuns.{AreLivesRun}
 use Rattle.im_drill.proofs.store_drilling.drill_store.Given as goal

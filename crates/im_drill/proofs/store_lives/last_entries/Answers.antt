@@ -3,10 +3,10 @@ use Rattle.std.specs.FinMap.{empty}
 use Rattle.im_types.specs.Changes.{apply_all}
 use Rattle.im_lock.specs.Machine.{start}
 use Rattle.im_disk.specs.contracts.model_disk.ModelDiskDisk.TheImpl.{ghosts}
-use Rattle.im_transactions.specs.Faults.{told_as}
-use Rattle.im_transactions.specs.Told.{ReadCause}
-use Rattle.im_transactions.specs.Running.{IsLife}
-use Rattle.im_transactions.proofs.Looked.{look_cause}
+use Rattle.im_engine.specs.Faults.{told_as}
+use Rattle.im_engine.specs.Told.{ReadCause}
+use Rattle.im_engine.specs.Running.{IsLife}
+use Rattle.im_engine.proofs.Looked.{look_cause}
 use Rattle.im_drill.proofs.StoreShown.{entries_match, caused}
 use Rattle.im_drill.proofs.store_lives.last_entries.Goals as goal
 

@@ -1,8 +1,8 @@
 use Rattle.std.proofs.Common.{◌≡◌, true, false, Ok, Err, refl, inl, inr, sym, subst}
 use Rattle.im_disk.specs.contracts.model_disk.ModelDiskDisk.TheImpl.{ghosts}
-use Rattle.im_transactions.specs.declared.header.Header.{Header}
+use Rattle.im_engine.specs.declared.header.Header.{Header}
 use Rattle.im_disk.specs.declared.model_disk.ModelDisk.{ModelDisk}
-use Rattle.im_transactions.proofs.Looked.{look_works, look_fails, look_cause}
+use Rattle.im_engine.proofs.Looked.{look_works, look_fails, look_cause}
 use Rattle.im_drill.specs.declared.store_answers.StoreReply.TheVariants as replies
 use Rattle.im_drill.specs.Stops.{HasCome}
 use Rattle.im_drill.proofs.StoreRunning.{look_run}

@@ -4,7 +4,7 @@ use Rattle.im_disk.specs.contracts.model_disk.ModelDiskDisk.TheImpl.{ghosts}
 use Rattle.im_disk.specs.declared.model_disk.ModelDisk.{ModelDisk}
 use Rattle.im_disk.specs.Disk.{Files}
 use Rattle.im_disk.specs.Model.{model_calls}
-use Rattle.im_transactions.specs.Stands.{StandsFor, Allowed}
+use Rattle.im_engine.specs.Stands.{StandsFor, Allowed}
 use Rattle.im_drill.specs.declared.life_answers.Opening.TheVariants as openings
 use Rattle.im_drill.specs.declared.store_life.StoreLine.{StoreLine}
 use Rattle.im_drill.specs.declared.store_answers.StoreReply.{StoreReply}

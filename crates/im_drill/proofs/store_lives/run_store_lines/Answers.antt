@@ -2,7 +2,7 @@ use Rattle.std.proofs.lemmas.List.{take_more}
 use Rattle.std.proofs.Common.{inl, inr, ◌++◌, ◌≡◌, List, ℕ, ◌+◌, [], ◌∷◌, length, take, sym, ◌∙◌, ap, subst, length-append}
 use Rattle.im_types.specs.Lives.{Shown, nothing_shown}
 use Rattle.im_disk.specs.contracts.model_disk.ModelDiskDisk.TheImpl.{ghosts}
-use Rattle.im_transactions.specs.Stands.{Allowed}
+use Rattle.im_engine.specs.Stands.{Allowed}
 use Rattle.im_drill.specs.declared.store_answers.StoreReply.{StoreReply}
 use Rattle.im_drill.specs.declared.store_life.StoreLine.{StoreLine}
 use Rattle.im_drill.specs.declared.store_answers.StoreReply.TheVariants.{Stopped}

@@ -1,5 +1,5 @@
 use Rattle.im_disk.specs.contracts.model_disk.ModelDiskDisk.TheImpl.{ghosts}
-use Rattle.im_transactions.proofs.Looked.{look_cause}
+use Rattle.im_engine.proofs.Looked.{look_cause}
 use Rattle.im_every.proofs.opening.judge_entries.Goals as goal
 
 pub returns : goal.returns

@@ -1,6 +1,6 @@
 use Rattle.std.proofs.Common.{[], length, sym, ap, ◌∙◌, subst}
 use Rattle.im_disk.specs.Disk.{Files, both}
-use Rattle.im_transactions.specs.Stands.{StandsFor}
+use Rattle.im_engine.specs.Stands.{StandsFor}
 use Rattle.im_front_tests.proofs.stops.new_store.Goals as goal
 
 -- two empty files stand for no effect, so the store is at rest

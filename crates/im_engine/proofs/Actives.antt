@@ -1,0 +1,125 @@
+-- The table of an engine, also of one that has failed, has as many transactions as the machine.
+use Rattle.std.proofs.Common.{◌≡◌, ◌≢◌, ℕ, Bool, true, false, List, Option, Some, None, length, ◌⊎◌, refl, sym, ap, subst, ◌∙◌, inl, inr}
+use Rattle.std.proofs.lemmas.Bool.{cases_Bool}
+use Rattle.im_types.specs.Changes.{Effect}
+use Rattle.im_types.specs.Answers as answers
+use Rattle.im_types.specs.Answers.{Step, Refused}
+use Rattle.im_types.specs.Lives.{Shown}
+use Rattle.im_disk.specs.declared.disk.Disk.{Ghosts}
+use Rattle.im_types.specs.declared.fault.Fault as below
+use Rattle.im_types.specs.declared.fault.Fault.TheVariants.{Failed}
+use Rattle.im_lock.specs.Locks.{Lock}
+use Rattle.im_lock.specs.View.{View, broken}
+use Rattle.im_front.specs.Store as front
+use Rattle.im_lock.specs.Machine.{barred, Answers, Goes, Moves, begins, does, waits, dies, commits, drops, turns, undoes, ends, flushes, forces, checkpoints, lacks, breaks}
+use Rattle.im_front.specs.declared.step.Step as steps
+use Rattle.im_front.specs.declared.fault.Fault.{Fault}
+use Rattle.im_front.specs.declared.fault.Fault.TheVariants as faults
+use Rattle.im_front.specs.declared.reply.Reply.{Reply}
+use Rattle.im_front.specs.declared.reply.Reply.TheVariants as replies
+use Rattle.im_front.specs.Calls.{asked_by, told_by, number_of}
+use Rattle.im_engine.specs.declared.engine.Engine.{Engine}
+use Rattle.im_engine.specs.Running.{IsLife}
+use Rattle.im_engine.specs.Kept.{StepKept, LookKept}
+use Rattle.im_engine.specs.Numbered.{Numbered}
+use Rattle.im_engine.specs.Looking.{Looks, broken_by}
+use Rattle.im_engine.specs.Told.{Known, after, IsStep}
+use Rattle.im_engine.specs.Serves.{IsStoreLife}
+use Rattle.im_engine.proofs.Looked.{not_true}
+
+-- a step that was refused leaves as many active
+refused_goes : (v w : View) (step : Step) (n : ℕ) → Goes v step (Refused n) w → w.active ≡ v.active
+refused_goes v w step n (begins s le r e) = cc r
+refused_goes v w step n (does t a ls s m f l r e) = ap (λ (x : View). x.active) e
+refused_goes v w step n (waits t a h s m f r e) = ap (λ (x : View). x.active) e
+refused_goes v w step n (dies t a s m f r e) = ap (λ (x : View). x.active) e
+refused_goes v w step n (commits t s m r e) = cc r
+refused_goes v w step n (drops t s m none r e) = cc r
+refused_goes v w step n (turns t c cs s m is r e) = ap (λ (x : View). x.active) e
+refused_goes v w step n (undoes t c d cs s m is r e) = ap (λ (x : View). x.active) e
+refused_goes v w step n (ends t c s m is r e) = cc r
+refused_goes v w step n (flushes p s r e) = ap (λ (x : View). x.active) e
+refused_goes v w step n (forces s r e) = ap (λ (x : View). x.active) e
+refused_goes v w step n (checkpoints s r e) = ap (λ (x : View). x.active) e
+refused_goes v w step n (lacks f wants r e) = ap (λ (x : View). x.active) e
+refused_goes v w step n (breaks f ls is r e) = ap (λ (x : View). x.active) e
+
+refused_active : (v w : View) (step : Step) (n : ℕ) → Moves v step (Refused n) w → w.active ≡ v.active
+refused_active v w step n moves = by (barred v step) moves
+  where
+    by : (o : Option ℕ) → Answers v step (Refused n) w o → w.active ≡ v.active
+    by None goes = refused_goes v w step n goes
+    by (Some fault) is = ap (λ (x : View). x.active) is.1
+
+-- a reply that breaks what works is a refusal
+broken_reply : (reply : Reply) (k : Known) → k.failed ≡ false → (after reply k).failed ≡ true → (fault : Fault) × (reply ≡ replies.Refused fault)
+broken_reply (replies.Refused fault) k works broke = (fault, refl)
+broken_reply (replies.Started n) k works broke = absurd (not_true k.failed works broke)
+broken_reply (replies.Found rid) k works broke = absurd (not_true k.failed works broke)
+broken_reply replies.Absent k works broke = absurd (not_true k.failed works broke)
+broken_reply (replies.Entry key rid) k works broke = absurd (not_true k.failed works broke)
+broken_reply replies.End k works broke = absurd (not_true k.failed works broke)
+broken_reply (replies.Entries list) k works broke = absurd (not_true k.failed works broke)
+broken_reply replies.Inserted k works broke = absurd (not_true k.failed works broke)
+broken_reply replies.Duplicate k works broke = absurd (not_true k.failed works broke)
+broken_reply replies.Deleted k works broke = absurd (not_true k.failed works broke)
+broken_reply replies.Committed k works broke = absurd (not_true k.failed works broke)
+broken_reply replies.RolledBack k works broke = absurd (not_true k.failed works broke)
+broken_reply replies.More k works broke = absurd (not_true k.failed works broke)
+broken_reply (replies.Blocked b) k works broke = absurd (not_true k.failed works broke)
+broken_reply replies.Die k works broke = absurd (not_true k.failed works broke)
+broken_reply replies.Done k works broke = absurd (not_true k.failed works broke)
+
+module _ {D : Type 0} (d : Ghosts D) (before : List Effect) (s : Shown) (v : View) where
+  -- an engine that works
+  pub counted : (e : Engine D d) → IsLife d before s v e → e.failed ≡ false → IsStoreLife d before s v e
+  counted e life works = record { life = life; active = sym (life.running works).1.serving.table.active }
+
+  -- behind a step
+  pub still_counted : (step : steps.Step) (reply : Reply) (old new : Engine D d) → IsStep d step reply old new → IsStoreLife d before s v old → (made : StepKept d before s v (asked_by step) (told_by reply) old new) → length new.txns.rows ≡ made.next.active
+  still_counted step reply old new one was made = elim (cases_Bool new.failed) [
+    | inl broke ↦
+        (let why : (fault : Fault) × (reply ≡ replies.Refused fault) = refusal broke in
+        let moves = subst_moves why in
+        ap (λ (k : Known). k.active) one.told.known ∙ ap (λ (r : Reply). (after r (record { failed = old.failed; active = length old.txns.rows; next = old.txns.next; max_pages = old.max_pages })).active) why.1 ∙ was.active ∙ sym moves)
+    | inr works ↦ sym (made.after.running works).1.serving.table.active
+  ]
+    where
+      refusal : new.failed ≡ true → (fault : Fault) × (reply ≡ replies.Refused fault)
+      refusal broke = elim (cases_Bool old.failed) [
+        | inl before_it ↦ (faults.Failed, one.told.failed before_it)
+        | inr worked ↦ broken_reply reply (record { failed = old.failed; active = length old.txns.rows; next = old.txns.next; max_pages = old.max_pages }) worked (sym (ap (λ (k : Known). k.failed) one.told.known) ∙ broke)
+      ]
+
+      subst_moves : (fault : Fault) × (reply ≡ replies.Refused fault) → made.next.active ≡ v.active
+      subst_moves why = refused_active v made.next (asked_by step) (number_of why.0) (subst (λ (r : Reply). Moves v (asked_by step) (told_by r) made.next) why.1 made.moves)
+
+  -- behind a look
+  module _ (old new : Engine D d) {why : Option below.Fault} (looks : Looks d why old new) (was : IsStoreLife d before s v old) where
+    rows_are : length new.txns.rows ≡ v.active
+    rows_are = elim (cases_Bool old.failed) [
+      | inl failed ↦ ap (λ (e : Engine D d). length e.txns.rows) (looks.same failed) ∙ was.active
+      | inr works ↦ ap (λ (x : Numbered). length x.rows) (looks.searched works).txns ∙ was.active
+    ]
+
+    -- that was answered
+    pub look_counted : why ≡ None → LookKept d before s v old new → IsStoreLife d before s v new
+    look_counted none kept = by kept.after
+      where
+        works : new.failed ≡ false
+        works = elim (cases_Bool old.failed) [
+          | inl failed ↦ (let never : Some Failed ≡ None = sym (looks.failed.1 failed) ∙ none in absurd (cc never))
+          | inr was_on ↦ (looks.searched was_on).failed ∙ ap broken_by none
+        ]
+
+        by : ((new.failed ≡ false) × IsLife d before s v new) ⊎ ((locks : ℕ → List Lock) × IsLife d before (record s { failed = true }) (broken v locks) new) → IsStoreLife d before s v new
+        by (inl on) = record { life = on.1; active = rows_are }
+        by (inr off) = absurd (not_true new.failed works (sym off.1.failed))
+
+    -- or refused
+    pub look_left : LookKept d before s v old new → front.LookKept (IsStoreLife d) before s v new
+    look_left kept = by kept.after
+      where
+        by : ((new.failed ≡ false) × IsLife d before s v new) ⊎ ((locks : ℕ → List Lock) × IsLife d before (record s { failed = true }) (broken v locks) new) → front.LookKept (IsStoreLife d) before s v new
+        by (inl on) = inl (record { life = on.1; active = rows_are })
+        by (inr off) = inr (off.0, record { life = off.1; active = rows_are })

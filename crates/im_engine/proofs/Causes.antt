@@ -1,0 +1,201 @@
+-- Why a step is refused, from how the calls within it ended.
+use Rattle.std.proofs.Common.{◌≡◌, ◌≢◌, ◌⊎◌, inl, inr, ⊎_elim, ℕ, ◌^◌, ◌<◌, ◌≤◌, Bool, true, false, List, length, Option, None, Some, refl, sym, ap, subst, ◌∙◌, arith}
+use Rattle.std.specs.Prelude.{◌↔◌, find}
+use Rattle.im_types.specs.Answers as answers
+use Rattle.im_types.specs.declared.fault.Fault.{Fault}
+use Rattle.im_types.specs.declared.fault.Fault.TheVariants.{PagesFull, Capacity, LogFull, Device, Memory, Failed, NotAStore}
+use Rattle.im_types.specs.Keys.{Key}
+use Rattle.im_disk.specs.declared.disk.Disk.{Ghosts}
+use Rattle.im_log.specs.declared.log_file.LogFile.{LogFile}
+use Rattle.im_log.specs.LogFile.{HasNoRoom, end_with}
+use Rattle.im_flush.specs.declared.page_writer.PageWriter.{PageWriter}
+use Rattle.im_flush.specs.Outcome.{AreLoaded, AsksNothing, Ends, LogEnds, mild, none_mild}
+use Rattle.im_index.specs.Outcomes.{seek_at}
+use Rattle.im_txn.specs.declared.transaction.Transaction.{Transaction}
+use Rattle.im_txn.specs.Rows.{is_of}
+use Rattle.im_lock.specs.Machine.{first_check, mark_for}
+use Rattle.im_steps.specs.Checks.{checked_by, marks_in}
+use Rattle.im_front.specs.declared.fault.Fault.{Fault as Refusal}
+use Rattle.im_front.specs.declared.fault.Fault.TheVariants as above
+use Rattle.im_front.specs.declared.reply.Reply.{Reply}
+use Rattle.im_front.specs.declared.reply.Reply.TheVariants.{Refused}
+use Rattle.im_engine.specs.declared.engine.Engine.{Engine}
+use Rattle.im_engine.specs.Faults.{told_as}
+use Rattle.im_engine.specs.Told.{Where, Checked, HasLogged, IsFor, OfForce, Refuses, ReadCause, FlushCause, DeleteCause, InsertCause, check_of}
+use Rattle.im_engine.proofs.Telling.{not_true}
+
+-- ---- one check after another
+
+-- this one holds
+pub here : {X P A B : Type 0} → P → (X ↔ A) → (X ↔ Where P A B)
+here p same = (λ x. inl (p, same.0 x), λ w. ⊎_elim (λ h. same.1 h.1) (λ h. absurd (h.0 p)) w)
+
+-- this one does not
+pub past : {X P A B : Type 0} → (P → ⊥) → (X ↔ B) → (X ↔ Where P A B)
+past not same = (λ x. inr (not, same.0 x), λ w. ⊎_elim (λ h. absurd (not h.0)) (λ h. same.1 h.1) w)
+
+-- no cause is left
+pub none : {X : Type 0} → (X → ⊥) → (X ↔ ⊥)
+none not = (not, λ never. absurd never)
+
+pub refused_inj : (a b : Refusal) → Refused a ≡ Refused b → a ≡ b
+refused_inj a b e = ap (λ (x : Reply). elim x as (λ _. Refusal) [ Refused y ↦ y | _ ↦ a ]) e
+
+-- the reply has this fault
+pub named : (fault other is : Refusal) → fault ≡ is → ((Refused fault ≡ Refused other) ↔ (other ≡ is))
+named fault other is same = (λ e. sym (refused_inj fault other e) ∙ same, λ e. ap (λ (x : Refusal). Refused x) (same ∙ sym e))
+
+-- ---- the cause that a call below had
+
+module _ {D : Type 0} (d : Ghosts D) (v : PageWriter) (old : D) (w : PageWriter) (new : D) where
+  -- a search
+  pub read_cause : (f : Fault) → Ends d AreLoaded mild v old w new (Some f) → v.failed ≡ false → ReadCause d w.log new (told_as f)
+  read_cause Device x works = x.1
+  read_cause LogFull x works = x.2
+  read_cause Memory x works = tt
+  read_cause NotAStore x works = tt
+  read_cause Failed x works = absurd (not_true v.failed works x.0)
+  read_cause e x works = absurd (let never = x.0 in cc never)
+
+  -- the flush of a page
+  pub flush_cause : (f : Fault) → Ends d AsksNothing none_mild v old w new (Some f) → v.failed ≡ false → FlushCause d w.log new (told_as f)
+  flush_cause Device x works = x.1
+  flush_cause LogFull x works = x.2
+  flush_cause Failed x works = absurd (not_true v.failed works x.0)
+  flush_cause e x works = absurd (let never = x.0 in cc never)
+
+  -- an insert
+  pub insert_cause : (goes_on : Fault → Bool) (f : Fault) → LogEnds d true goes_on v old w new (Some f) → InsertCause d w.log new (told_as f)
+  insert_cause goes_on Device x = x.1
+  insert_cause goes_on LogFull x = x.2
+  insert_cause goes_on e x = tt
+
+  -- a delete
+  pub delete_cause : (f : Fault) → LogEnds d true mild v old w new (Some f) → DeleteCause d w.log new (told_as f)
+  delete_cause Device x = x.1
+  delete_cause LogFull x = x.2
+  delete_cause PagesFull x = absurd (let never = x.0 in cc never)
+  delete_cause Capacity x = absurd (let never = x.0 in cc never)
+  delete_cause e x = tt
+
+  -- a force
+  pub force_cause : (f : Fault) → LogEnds d false none_mild v old w new (Some f) → v.failed ≡ false → (f ≡ LogFull → ⊥) → (told_as f ≡ above.Device) × (d.failed new ≡ true)
+  force_cause Device x works room = (refl, x.1)
+  force_cause LogFull x works room = absurd (room refl)
+  force_cause Failed x works room = absurd (not_true v.failed works x.0)
+  force_cause NotAStore x works room = absurd (let never = x.0 in cc never)
+  force_cause e x works room = absurd (let never = x.0 in cc never)
+
+  -- an append
+  pub append_cause : (f : Fault) → LogEnds d false none_mild v old w new (Some f) → v.failed ≡ false → (f ≡ LogFull) ⊎ ((f ≡ Device) × (d.failed new ≡ true))
+  append_cause Device x works = inr (refl, x.1)
+  append_cause LogFull x works = inl refl
+  append_cause Failed x works = absurd (not_true v.failed works x.0)
+  append_cause NotAStore x works = absurd (let never = x.0 in cc never)
+  append_cause e x works = absurd (let never = x.0 in cc never)
+
+-- ---- at the exits of a step
+
+-- as `IsAnswered` has it, by the log and the disk that a step left
+abbrev pub Answers : {D : Type 0} (d : Ghosts D) → Engine D d → LogFile → D → answers.Step → Reply → Type 0
+Answers d old log disk step reply = (fault : Refusal) → (reply ≡ Refused fault) ↔ Checked (check_of d step old) fault (Refuses d reply old log disk fault step)
+
+module _ {D : Type 0} (d : Ghosts D) (old : Engine D d) (log : LogFile) (disk : D) (works : old.failed ≡ false) where
+  -- behind the checks
+  pub behind : (step : answers.Step) (reply : Reply) → checked_by old.txns.rows step ≡ None → ((fault : Refusal) → (reply ≡ Refused fault) ↔ Refuses d reply old log disk fault step) → Answers d old log disk step reply
+  behind step reply checked h fault =
+      let is : check_of d step old ≡ None = ap (λ (b : Bool). first_check b (length old.txns.rows) (mark_for (marks_in old.txns.rows) step) step) works ∙ checked in
+      subst (λ (o : Option ℕ). (reply ≡ Refused fault) ↔ Checked o fault (Refuses d reply old log disk fault step)) (sym is) (h fault)
+
+  -- it is refused for a cause of this kind, or not refused
+  pub refused_for : (Cause : Refusal → Type 0) (f : Fault) (told : Refusal) → told ≡ told_as f → Cause (told_as f) → (fault : Refusal) → ((Refused told ≡ Refused fault) ↔ IsFor d (Refused told) old log disk fault Cause)
+  refused_for Cause f told is cause fault = (λ e. (e, subst Cause (sym is ∙ refused_inj told fault e) cause), λ y. y.0)
+
+  pub not_refused_for : (Cause : Refusal → Type 0) (reply : Reply) → ((x : Refusal) → reply ≢ Refused x) → (fault : Refusal) → ((reply ≡ Refused fault) ↔ IsFor d reply old log disk fault Cause)
+  not_refused_for Cause reply not fault = (λ e. absurd (not fault e), λ y. y.0)
+
+-- an access that changes nothing
+abbrev pub reads : answers.Access → Bool
+reads (answers.Insert key rid) = false
+reads (answers.Delete key) = false
+reads _ = true
+
+pub seeks_read : (inclusive : Bool) (key : Key) → reads (seek_at inclusive key) ≡ true
+seeks_read true key = refl
+seeks_read false key = refl
+
+module _ {D : Type 0} (d : Ghosts D) (old : Engine D d) (log : LogFile) (disk : D) (works : old.failed ≡ false) (t : ℕ) where
+  reading_is : (a : answers.Access) → reads a ≡ true → (reply : Reply) (fault : Refusal) → ((reply ≡ Refused fault) ↔ IsFor d reply old log disk fault (ReadCause d log disk)) → ((reply ≡ Refused fault) ↔ Refuses d reply old log disk fault (answers.Do t a))
+  reading_is (answers.Fetch key) is reply fault h = h
+  reading_is (answers.Seek key) is reply fault h = h
+  reading_is (answers.Next key) is reply fault h = h
+  reading_is (answers.Scan lo hi limit) is reply fault h = h
+  reading_is (answers.Insert key rid) is reply fault h = absurd (cc is)
+  reading_is (answers.Delete key) is reply fault h = absurd (cc is)
+
+  module _ (a : answers.Access) (is : reads a ≡ true) (checked : checked_by old.txns.rows (answers.Do t a) ≡ None) where
+    -- it was answered
+    pub read_answered : (reply : Reply) → ((x : Refusal) → reply ≢ Refused x) → Answers d old log disk (answers.Do t a) reply
+    read_answered reply not = behind d old log disk works (answers.Do t a) reply checked (λ fault. reading_is a is reply fault (not_refused_for d old log disk works (ReadCause d log disk) reply not fault))
+
+    -- a search refused it
+    pub read_refused : (f : Fault) (told : Refusal) → told ≡ told_as f → ReadCause d log disk (told_as f) → Answers d old log disk (answers.Do t a) (Refused told)
+    read_refused f told same cause =
+        behind d old log disk works (answers.Do t a) (Refused told) checked (λ fault. reading_is a is (Refused told) fault
+        (refused_for d old log disk works (ReadCause d log disk) f told same cause fault))
+
+-- ---- a Begin
+
+module _ {D : Type 0} (d : Ghosts D) (old : Engine D d) (log : LogFile) (disk : D) (works : old.failed ≡ false) (checked : checked_by old.txns.rows answers.Begin ≡ None) where
+  pub begin_made : (reply : Reply) → old.txns.next ≤ 2 ^ 62 → ((x : Refusal) → reply ≢ Refused x) → Answers d old log disk answers.Begin reply
+  begin_made reply le not = behind d old log disk works answers.Begin reply checked (λ fault. past (λ over. omega (arith, le, over)) (none (not fault)))
+
+  pub begin_full : 2 ^ 62 < old.txns.next → Answers d old log disk answers.Begin (Refused above.Capacity)
+  begin_full over = behind d old log disk works answers.Begin (Refused above.Capacity) checked (λ fault. here over (named above.Capacity fault above.Capacity refl))
+
+-- ---- a Rollback
+
+module _ {D : Type 0} (d : Ghosts D) (old : Engine D d) (log : LogFile) (disk : D) (works : old.failed ≡ false) (t : ℕ) (checked : checked_by old.txns.rows (answers.Rollback t) ≡ None) where
+  pub rollback_made : (reply : Reply) → ((x : Refusal) → reply ≢ Refused x) → Answers d old log disk (answers.Rollback t) reply
+  rollback_made reply not = behind d old log disk works (answers.Rollback t) reply checked (λ fault. none (not fault))
+
+-- ---- a Commit
+
+module _ {D : Type 0} (d : Ghosts D) (old : Engine D d) (log : LogFile) (disk : D) (works : old.failed ≡ false) (t : ℕ) (row : Transaction) (found : find (is_of t) old.txns.rows ≡ Some row) (checked : checked_by old.txns.rows (answers.Commit t) ≡ None) where
+  pub logged : 1 ≤ row.last → HasLogged (find (is_of t) old.txns.rows)
+  logged some = subst (λ (o : Option Transaction). HasLogged o) (sym found) some
+
+  unlogged : row.last ≡ 0 → HasLogged (find (is_of t) old.txns.rows) → ⊥
+  unlogged zero_is has = let some = subst (λ (o : Option Transaction). HasLogged o) found has in omega (arith, zero_is, some)
+
+  -- of a transaction without records
+  pub commit_empty : (reply : Reply) → row.last ≡ 0 → ((x : Refusal) → reply ≢ Refused x) → Answers d old log disk (answers.Commit t) reply
+  commit_empty reply zero_is not = behind d old log disk works (answers.Commit t) reply checked (λ fault. past (unlogged zero_is) (none (not fault)))
+
+  module _ (some : 1 ≤ row.last) where
+    -- one that was made
+    pub commit_made : (reply : Reply) → (2 ^ 62 < end_with old.writer.log 33 → ⊥) → (d.failed disk ≡ true → ⊥) → ((x : Refusal) → reply ≢ Refused x) → Answers d old log disk (answers.Commit t) reply
+    commit_made reply fits on not = behind d old log disk works (answers.Commit t) reply checked (λ fault. here (logged some) (past fits (past on (none (not fault)))))
+
+    -- one whose record was refused
+    pub commit_full : (told : Refusal) → told ≡ above.LogFull → 2 ^ 62 < end_with old.writer.log 33 → Answers d old log disk (answers.Commit t) (Refused told)
+    commit_full told is over = behind d old log disk works (answers.Commit t) (Refused told) checked (λ fault. here (logged some) (here over (named told fault above.LogFull is)))
+
+    -- one behind which the disk has failed
+    pub commit_lost : (told : Refusal) → told ≡ above.Device → (2 ^ 62 < end_with old.writer.log 33 → ⊥) → d.failed disk ≡ true → Answers d old log disk (answers.Commit t) (Refused told)
+    commit_lost told is fits broken = behind d old log disk works (answers.Commit t) (Refused told) checked (λ fault. here (logged some) (past fits (here broken (named told fault above.Device is))))
+
+    -- one whose append was refused
+    pub commit_append : (f : Fault) (told : Refusal) → told ≡ told_as f → (f ≡ LogFull) ⊎ ((f ≡ Device) × (d.failed disk ≡ true)) → (f ≡ LogFull → 2 ^ 62 < end_with old.writer.log 33) → (2 ^ 62 < end_with old.writer.log 33 → f ≡ LogFull)
+        → Answers d old log disk (answers.Commit t) (Refused told)
+    commit_append f told is (inl full) over exact = commit_full told (is ∙ ap told_as full) (over full)
+    commit_append f told is (inr lost) over exact = commit_lost told (is ∙ ap told_as lost.0) (λ wide. let never : Device ≡ LogFull = sym lost.0 ∙ exact wide in cc never) lost.1
+
+-- ---- a force, and the flush of a page
+
+module _ {D : Type 0} (d : Ghosts D) (old : Engine D d) (log : LogFile) (disk : D) where
+  pub force_made : (reply : Reply) → (d.failed disk ≡ true → ⊥) → ((x : Refusal) → reply ≢ Refused x) → (fault : Refusal) → ((reply ≡ Refused fault) ↔ OfForce d reply old log disk fault)
+  force_made reply on not fault = past on (none (not fault))
+
+  pub force_lost : (told : Refusal) → told ≡ above.Device → d.failed disk ≡ true → (fault : Refusal) → ((Refused told ≡ Refused fault) ↔ OfForce d (Refused told) old log disk fault)
+  force_lost told is broken fault = here broken (named told fault above.Device is)

@@ -1,0 +1,124 @@
+-- A delete of a key, from how the call below ended.
+use Rattle.std.proofs.Common.{◌≡◌, ◌≢◌, ℕ, ◌≤◌, List, true, false, cond, is_some, Option, Some, None, Result, Ok, Err, map, refl, sym, ap, subst, ◌∙◌}
+use Rattle.std.specs.Prelude.{find}
+use Rattle.std.specs.FinMap.{get}
+use Rattle.im_types.specs.Answers as answers
+use Rattle.im_types.specs.Answers.{Delete, Do, Refused, dropped}
+use Rattle.im_types.specs.Changes.{Effect}
+use Rattle.im_types.specs.Histories.{Base}
+use Rattle.im_types.specs.Keys.{Key}
+use Rattle.im_types.specs.Lives.{Shown}
+use Rattle.im_types.specs.Maps.{IndexMap}
+use Rattle.im_types.specs.Transactions.{contents}
+use Rattle.im_types.specs.Writer.{Writer}
+use Rattle.im_types.specs.declared.fault.Fault.{Fault}
+use Rattle.im_types.specs.declared.fault.Fault.TheVariants.{Failed, Memory}
+use Rattle.im_disk.specs.declared.disk.Disk.{Ghosts}
+use Rattle.im_disk.specs.Disk.{Files}
+use Rattle.im_flush.specs.declared.page_writer.PageWriter.{PageWriter}
+use Rattle.im_flush.specs.Outcome.{LogEnds, mild}
+use Rattle.im_txn.specs.declared.transaction.Mark.TheVariants.{Going, MustRollBack}
+use Rattle.im_txn.specs.declared.transaction.Transaction.{Transaction}
+use Rattle.im_txn.specs.Rows.{is_of, changed, with_mark, with_record}
+use Rattle.im_txn.proofs.LookUps.{look_ups_follow}
+use Rattle.im_lock.specs.Table.{SameTable, Table}
+use Rattle.im_lock.specs.View.{View}
+use Rattle.im_lock.specs.Machine.{keys_fit}
+use Rattle.im_front.specs.declared.fault.Fault.{Fault as Refusal}
+use Rattle.im_front.specs.declared.fault.Fault.TheVariants as above
+use Rattle.im_front.specs.declared.reply.Reply.TheVariants as replies
+use Rattle.im_front.specs.Calls.{number_of}
+use Rattle.im_steps.specs.Checks.{checked_by}
+use Rattle.im_index.specs.declared.noted.Taken.{Taken}
+use Rattle.im_index.specs.declared.outcome.Outcome.{Outcome}
+use Rattle.im_index.specs.declared.outcome.Outcome.TheVariants.{Granted, Wait, Die}
+use Rattle.im_index.specs.Edits.{MayEdit, DeleteKept}
+use Rattle.im_engine.specs.declared.engine.Engine.{Engine}
+use Rattle.im_engine.specs.Faults.{told_as, ends_engine}
+use Rattle.im_engine.specs.Running.{IsRunning, IsLife}
+use Rattle.im_engine.specs.Kept.{StepKept}
+use Rattle.im_engine.proofs.Causes.{refused_inj}
+use Rattle.im_engine.proofs.Checked.{access_fits, access_going}
+use Rattle.im_engine.proofs.Edited.{blocked, deleted, died, edit_refused, edit_stops, failed_as, may_edit, unchanged}
+
+-- the row that was found is the row of the step
+pub access_mark : (rows : List Transaction) (t : ℕ) (a : answers.Access) (row : Transaction) → find (is_of t) rows ≡ Some row → checked_by rows (Do t a) ≡ None → row.mark ≡ Going
+access_mark rows t a row found checked =
+    let going = access_going rows t a checked in
+    let both : Some going.row ≡ Some row = sym going.found ∙ found in
+    let same : going.row ≡ row = cc both in
+    subst (λ (x : Transaction). x.mark ≡ Going) same going.mark
+
+module _ {D : Type 0} (d : Ghosts D) (old : Engine D d) (t : ℕ) (key : Key) (row : Transaction) (found : find (is_of t) old.txns.rows ≡ Some row) (checked : checked_by old.txns.rows (Do t (Delete key)) ≡ None) where
+  mark : row.mark ≡ Going
+  mark = access_mark old.txns.rows t (Delete key) row found checked
+
+  number : row.number ≡ t
+  number = look_ups_follow.found t old.txns.rows row found
+
+  fits : keys_fit (Delete key) ≡ true
+  fits = access_fits old.txns.rows t (Delete key) checked
+
+  module _ (locks : Table) (w : PageWriter) (disk : D) where
+    -- what the call below kept, whatever it stood on
+    abbrev pub Below : Result (Outcome (Option Taken)) Fault → Type 0
+    Below result = (b : Base) (base : ℕ) (s : Writer) (e : ℕ) → MayEdit d b base s e row.number row.last row.undo_next (Delete key) old.locks old.writer old.disk → DeleteKept d b base s e row.number row.last key old.locks locks old.disk w disk result
+
+    module _ {b : Base} (before : List Effect) (s : Shown) (v : View) (r : IsRunning d b before s v old) where
+      abbrev pub Here : Result (Outcome (Option Taken)) Fault → Type 0
+      Here result = DeleteKept d b r.base r.now r.redo_end t row.last key old.locks locks old.disk w disk result
+
+      pub kept_here : (result : Result (Outcome (Option Taken)) Fault) → Below result → Here result
+      kept_here result below =
+          subst (λ (n : ℕ). DeleteKept d b r.base r.now r.redo_end n row.last key old.locks locks old.disk w disk result) number
+          (below b r.base r.now r.redo_end (subst (λ (n : ℕ). MayEdit d b r.base r.now r.redo_end n row.last row.undo_next (Delete key) old.locks old.writer old.disk) (sym number) (may_edit d before s v old r t row found mark (Delete key))))
+
+      -- it fails late only where the key is there
+      pub delete_wants : (f : Fault) → Below (Err f) → LogEnds d true mild old.writer old.disk w disk (Some f) → (told : Refusal) → told ≡ told_as f → replies.Refused told ≡ replies.Refused above.Failed → get v.walk key ≢ None
+      delete_wants f below ends told is failed =
+          let late : f ≡ Failed = failed_as d old.writer old.disk w disk f ends (sym is ∙ refused_inj told above.Failed failed) in
+          subst (λ (m : IndexMap). get m key ≢ None) (sym r.serving.seen_by.walk) ((kept_here (Err f) below).begun late).0
+
+  module _ (new : Engine D d) where
+    abbrev Of : Result (Outcome (Option Taken)) Fault → Type 0
+    Of result = Below new.locks new.writer new.disk result
+
+    module _ {b : Base} (before : List Effect) (s : Shown) (v : View) (r : IsRunning d b before s v old) where
+      abbrev At : Result (Outcome (Option Taken)) Fault → Type 0
+      At result = Here new.locks new.writer new.disk before s v r result
+
+      at : (result : Result (Outcome (Option Taken)) Fault) → Of result → At result
+      at result below = kept_here new.locks new.writer new.disk before s v r result below
+
+      -- it was made
+      pub delete_made : (o : Outcome (Option Taken)) → Of (Ok o) → (x : Option Taken) → o ≡ Granted x → (taken : Taken) → x ≡ Some taken → new.txns ≡ record old.txns { rows = map (changed t (with_record taken.last taken.undo_next)) old.txns.rows } → new.failed ≡ false
+          → StepKept d before s v (Do t (Delete key)) answers.Deleted old new
+      delete_made o below x granted taken some table works_on =
+          let kept = subst (λ (y : Outcome (Option Taken)). At (Ok y)) (granted ∙ ap Granted some) (at (Ok o) below) in
+          deleted d before s v old r t row found mark key new fits taken kept.sound.1 kept.sound.0 table kept.stops works_on
+
+      -- the key is not there
+      pub delete_absent : (o : Outcome (Option Taken)) → Of (Ok o) → (x : Option Taken) → o ≡ Granted x → x ≡ None → new.txns ≡ old.txns → new.failed ≡ false → StepKept d before s v (Do t (Delete key)) answers.Absent old new
+      delete_absent o below x granted none table works_on =
+          let kept = subst (λ (y : Outcome (Option Taken)). At (Ok y)) (granted ∙ ap Granted none) (at (Ok o) below) in
+          unchanged d before s v old r t row found mark (Delete key) new kept.stops fits (ap (dropped key) kept.sound.1.0) kept.sound.0 kept.sound.1.1 answers.Absent (ap (λ (y : Option ℕ). cond (is_some y) answers.Deleted answers.Absent) kept.sound.1.0) table works_on
+
+      -- it has to wait, or its transaction must die
+      pub delete_waits : (o : Outcome (Option Taken)) → Of (Ok o) → (holder : ℕ) → o ≡ Wait holder → new.txns ≡ old.txns → new.failed ≡ false → StepKept d before s v (Do t (Delete key)) (answers.Blocked holder) old new
+      delete_waits o below holder is table works_on =
+          let kept = subst (λ (y : Outcome (Option Taken)). At (Ok y)) is (at (Ok o) below) in
+          blocked d before s v old r t row found mark (Delete key) new kept.stops fits holder kept.sound.0 kept.sound.1 table works_on
+
+      pub delete_dies : (o : Outcome (Option Taken)) → Of (Ok o) → o ≡ Die → new.txns ≡ record old.txns { rows = map (changed t (with_mark MustRollBack)) old.txns.rows } → new.failed ≡ false → StepKept d before s v (Do t (Delete key)) answers.Die old new
+      delete_dies o below is table works_on =
+          let kept = subst (λ (y : Outcome (Option Taken)). At (Ok y)) is (at (Ok o) below) in
+          died d before s v old r t row found mark (Delete key) new kept.stops fits kept.sound.0 kept.sound.1 table works_on
+
+    -- a call below refused it
+    pub delete_refused : (before : List Effect) (s : Shown) (v : View) (life : IsLife d before s v old) (works : old.failed ≡ false) → ((u : ℕ) (c : Files) → u ≤ d.moment new.disk → d.may_leave new.disk c → d.left_since new.disk u c) → (f : Fault) → Of (Err f)
+        → LogEnds d true mild old.writer old.disk new.writer new.disk (Some f) → new.failed ≡ ends_engine f → new.txns ≡ old.txns → (f ≡ Memory → SameTable old.locks new.locks) → (told : Refusal) → told ≡ told_as f
+        → StepKept d before s v (Do t (Delete key)) (Refused (number_of told)) old new
+    delete_refused before s v life works counts_now f below ends fails table same told is =
+        let r = (life.running works).1 in
+        let kept = at before s v r (Err f) below in
+        edit_refused d before s v t (Delete key) old new life works checked counts_now f refl ends (edit_stops d before s v old r t row found mark new.disk kept.stops) kept.sound fails table same told is

@@ -1,0 +1,352 @@
+-- Transactions that begin and end, and the force of the log.
+use Rattle.std.proofs.Common.{◌≡◌, ◌⊎◌, inl, inr, ℕ, suc, ◌+◌, ◌≤◌, ◌<◌, ◌^◌, List, [], ◌∷◌, ◌++◌, append-nil, Bool, true, false, Option, Some, None, Result, Ok, length, refl, sym, ap, subst, ◌∙◌, arith}
+use Rattle.std.specs.Prelude.{find, map, nat_lt, not}
+use Rattle.std.proofs.lemmas.Bool.{ltb-true}
+use Rattle.im_front.specs.Calls.{number_of}
+use Rattle.im_front.specs.declared.fault.Fault.{Fault as Refusal}
+use Rattle.im_flush.specs.Outcome.{LogEnds, Ends, Flushes, AsksNothing, none_mild}
+use Rattle.im_flush.proofs.Outcomes.{flush_asks}
+use Rattle.im_types.specs.Pages.{Page}
+use Rattle.im_engine.specs.Faults.{told_as}
+use Rattle.im_engine.proofs.Refused.{breaks_with}
+use Rattle.std.specs.FinMap.{empty}
+use Rattle.im_types.specs.Answers as answers
+use Rattle.im_types.specs.Answers.{Begin, Started, Commit, Committed, Rollback, RolledBack, More, Force, FlushPage, Done, Refused}
+use Rattle.im_types.specs.Changes.{Effect, apply_all, seen, seen_effect}
+use Rattle.im_types.specs.Histories.{Base, History, Rises, end_of}
+use Rattle.im_types.specs.Lawful.{IsLawful, Follows, IsOutside}
+use Rattle.im_types.specs.Structure.{open_smo}
+use Rattle.im_types.proofs.LogLaws.{logs_stay_lawful}
+use Rattle.im_types.specs.Transactions.{committed, last_of, to_undo, net, changes_of, is_finished, is_rolling_back}
+use Rattle.im_types.specs.Refusals.{memory, unfinished, too_many}
+use Rattle.im_types.specs.declared.fault.Fault.{Fault}
+use Rattle.im_types.specs.declared.fault.Fault.TheVariants.{Failed, LogFull, Device, NotAStore}
+use Rattle.im_types.specs.Writer.{Writer}
+use Rattle.im_types.specs.WriterSteps.{appended, forced}
+use Rattle.im_types.specs.Lives.{Asked, Shown, Survives, StandsForMore, all_acked, effects, effect_asked, shows}
+use Rattle.im_types.proofs.Fronts.{rises as rises_of}
+use Rattle.im_disk.specs.declared.disk.Disk.{Ghosts}
+use Rattle.im_disk.specs.Disk.{Files}
+use Rattle.im_disk.specs.Runs.{LeavesOnly}
+use Rattle.im_disk.proofs.Runs.{weakened, then_on}
+use Rattle.im_record.specs.Entry as entries
+use Rattle.im_log.specs.Spelled.{logged_at}
+use Rattle.im_log.proofs.Above.{left_now}
+use Rattle.im_flush.specs.Stands.{IsCovered, LeavesCovered}
+use Rattle.im_flush.specs.declared.page_writer.PageWriter.{PageWriter}
+use Rattle.im_flush.specs.PageWriter.{StandsAs, GoesOn, FlushedOne, LoggedOnly}
+use Rattle.im_flush.proofs.Writers.{goes_on_start}
+use Rattle.im_tree.specs.Theory.{page_tree}
+use Rattle.im_tree.proofs.TheoryLaws.{page_tree_laws}
+use Rattle.im_txn.specs.Rows.{begun as row_begun, is_of, changed, with_mark}
+use Rattle.im_txn.specs.LookUps.{without}
+use Rattle.im_txn.specs.declared.transaction.Mark.TheVariants.{Going, MustRollBack, RollingBack}
+use Rattle.im_txn.specs.declared.transaction.Transaction.{Transaction}
+use Rattle.im_lock.specs.Table.{Table, IsReleased, locks_of}
+use Rattle.im_lock.specs.View.{View, begun, marked, committed_by, dropped_by}
+use Rattle.im_lock.specs.Machine.{Breaks, barred, fault_if}
+use Rattle.im_steps.specs.Checks.{checked_by}
+use Rattle.im_steps.specs.Durable.{AreCommitted}
+use Rattle.im_steps.specs.Growth.{AreBelow, Stays, IsOfAll}
+use Rattle.im_steps.specs.Serving.{IsServing, IsServed}
+use Rattle.im_steps.proofs.Asking.{empty_asked, effects_acked}
+use Rattle.im_steps.proofs.Growth.{copies_are_images, images_change_nothing, numbers_stay_new, same_here}
+use Rattle.im_steps.proofs.Durable.{commits_stand, others_ask_nothing}
+use Rattle.im_steps.proofs.Lived.{rows_tell}
+use Rattle.im_steps.specs.Serving.{mark_of}
+use Rattle.im_steps.specs.Steps.{commit_record}
+use Rattle.im_steps.proofs.Growth.{unlogged}
+use Rattle.im_steps.proofs.Records.{commit_commits}
+use Rattle.im_steps.proofs.Durable.{cut_commits_stand}
+use Rattle.im_steps.proofs.Logging.{logged_commits_served}
+use Rattle.im_steps.proofs.Steps.{at, unlogged_commits_served, begins_served, drops_served, turns_served, flushes_served, forces_served, barred_served}
+use Rattle.im_engine.specs.declared.engine.Engine.{Engine}
+use Rattle.im_engine.specs.Numbered.{Numbered}
+use Rattle.im_engine.specs.Stands.{StandsFor, Allowed}
+use Rattle.im_engine.specs.Running.{IsRunning, IsLife}
+use Rattle.im_engine.specs.Kept.{StepKept, IsDurable}
+use Rattle.im_engine.proofs.Stands.{covered_allowed}
+use Rattle.im_engine.proofs.Running.{allowed_as, tells, none_waits, page_is, read_stops, covered_stops, idle_stops, runs_on}
+use Rattle.im_engine.proofs.Made.{step_made, step_broke, leaves_as}
+
+-- outside structure changes
+outside : (t : ℕ) (l : History) → l ≡ [] → IsOutside t l
+outside t l closed = subst (λ (x : History). IsOutside t x) (sym closed) tt
+
+-- the record of a Commit leaves a lawful log
+commit_lawful : (b : Base) (earlier before : List Effect) (s : Shown) (v : View) (older : History) (rows : List Transaction) (next : ℕ) (held : Table) (t lsn : ℕ) (row : Transaction) → IsServing b earlier before s v older rows next held
+    → find (is_of t) rows ≡ Some row → row.mark ≡ Going → IsLawful b page_tree older → open_smo older ≡ [] → end_of b older < lsn → IsLawful b page_tree (commit_record t row.last lsn ∷ older)
+commit_lawful b earlier before s v older rows next held t lsn row h found mark law closed rises =
+    let is = at b earlier before s v older rows next held h t row found in
+    let newest = commit_record t row.last lsn in
+    let follows : Follows b page_tree newest older = record {
+      rises = rises;
+      chained = λ owned. record {
+        number = subst (λ (n : ℕ). 1 ≤ n) is.0 is.1.number;
+        prev = is.1.last ∙ ap (λ (n : ℕ). last_of n older) is.0;
+        unfinished = ap (λ (n : ℕ). is_finished n older) (sym is.0) ∙ is.1.unfinished;
+      };
+      may = record {
+        no_undo_next = refl;
+        outside = outside t (open_smo older) closed;
+        not_rolling_back = ap (λ (n : ℕ). is_rolling_back n older) (sym is.0) ∙ is.1.forward (λ e. let never : Going ≡ RollingBack = sym mark ∙ e in cc);
+      };
+    } in
+    logs_stay_lawful page_tree page_tree_laws b older newest law follows (λ e. absurd cc)
+
+-- records that are none of a transaction's leave it as it is
+stays_here : (b : Base) (log : History) → Stays b log log × IsOfAll log log
+stays_here b log = images_change_nothing b log log (record { more = []; is = refl; images = tt })
+
+-- a stop within a Commit may leave what it might leave before
+pub cut_leaves : {D : Type 0} (d : Ghosts D) (before : List Effect) (s : Shown) (t : ℕ) (old new : D) → LeavesOnly d old new (Allowed before s) → LeavesOnly d old new (Allowed before (shows s (Commit t) None))
+cut_leaves d before s t old new leaves =
+    let more = others_ask_nothing.more s t in
+    weakened d old new (Allowed before s) (Allowed before (shows s (Commit t) None)) leaves
+    (λ told c is. (is.0, subst (λ (l : List Asked). Survives before l is.0) (sym more.2) (commits_stand.lost before is.0 s.asked more.0 is.1 more.1), is.2))
+
+-- a refusal of an append or a force, by its number
+pub record IsOfLog (f : Fault) : Type 0 where
+  pub broken : Breaks (number_of (told_as f))
+  pub no_memory : number_of (told_as f) ≡ memory → ⊥
+  pub no_structure : number_of (told_as f) ≡ unfinished → ⊥
+
+pub of_log : {D : Type 0} (d : Ghosts D) (v : PageWriter) (old : D) (w : PageWriter) (new : D) → v.failed ≡ false → (f : Fault) → LogEnds d false none_mild v old w new (Some f) → IsOfLog f
+of_log d v old w new works Failed x = absurd (let never : false ≡ true = sym works ∙ x.0 in cc never)
+of_log d v old w new works NotAStore x = absurd (let never = x.0 in cc never)
+of_log d v old w new works Device x = record { broken = inr (inr (inl refl)); no_memory = λ e. cc e; no_structure = λ e. cc e }
+of_log d v old w new works LogFull x = record { broken = inr (inl refl); no_memory = λ e. cc e; no_structure = λ e. cc e }
+of_log d v old w new works f x = absurd (let never = x.0 in cc never)
+
+pub of_flush : {D : Type 0} (d : Ghosts D) (v : PageWriter) (old : D) (w : PageWriter) (new : D) → v.failed ≡ false → (f : Fault) → Ends d AsksNothing none_mild v old w new (Some f) → IsOfLog f
+of_flush d v old w new works Failed x = absurd (let never : false ≡ true = sym works ∙ x.0 in cc never)
+of_flush d v old w new works Device x = record { broken = inr (inr (inl refl)); no_memory = λ e. cc e; no_structure = λ e. cc e }
+of_flush d v old w new works LogFull x = record { broken = inr (inl refl); no_memory = λ e. cc e; no_structure = λ e. cc e }
+of_flush d v old w new works f x = absurd (let never = x.0 in cc never)
+
+few_of : (n : ℕ) → fault_if (not (nat_lt n 64)) too_many ≡ None → n < 64
+few_of n is = by (nat_lt n 64) refl is
+  where
+    by : (b : Bool) → nat_lt n 64 ≡ b → fault_if (not b) too_many ≡ None → n < 64
+    by true here none = ltb-true n 64 here
+    by false here none = absurd (cc none)
+
+-- a Begin finds room in the table
+pub begin_few : (rows : List Transaction) → checked_by rows Begin ≡ None → length rows < 64
+begin_few rows is = few_of (length rows) is
+
+module _ {D : Type 0} (d : Ghosts D) (before : List Effect) (s : Shown) (v : View) (old new : Engine D d) (life : IsLife d before s v old) (works : old.failed ≡ false) where
+  abbrev run : (b : Base) × IsRunning d b before s v old
+  run = life.running works
+
+  -- what a step is that made no call of the writer
+  module _ (writer : new.writer ≡ old.writer) (disk : new.disk ≡ old.disk) (only_now : (c : Files) → d.left_since old.disk (d.moment old.disk) c → d.may_leave old.disk c) where
+    on_here : GoesOn d run.0 run.1.base run.1.now old.disk run.1.now new.writer new.disk
+    on_here = subst (λ (w : PageWriter). GoesOn d run.0 run.1.base run.1.now old.disk run.1.now w new.disk) (sym writer)
+        (subst (λ (x : D). GoesOn d run.0 run.1.base run.1.now old.disk run.1.now old.writer x) (sym disk) (goes_on_start d run.0 run.1.base run.1.now old.writer old.disk only_now run.1.stands))
+
+    stops_here : (t : Shown) → t.asked ≡ s.asked → LeavesOnly d old.disk new.disk (Allowed before t)
+    stops_here t same = leaves_as d before s t old.disk new.disk same (subst (λ (x : D). LeavesOnly d old.disk x (Allowed before s)) (sym disk) (idle_stops d before s v old run.1 only_now))
+
+    -- a transaction began
+    pub began : (number : ℕ) → number ≡ old.txns.next → number ≤ 2 ^ 62 → length old.txns.rows < 64 → new.txns ≡ record { rows = old.txns.rows ++ row_begun number ∷ []; next = number + 1 } → new.locks ≡ old.locks → new.failed ≡ false
+        → StepKept d before s v Begin (Started number) old new
+    began number is le few table locks works_on =
+        let r = run.1 in
+        let le_old : old.txns.next ≤ 2 ^ 62 = subst (λ (n : ℕ). n ≤ 2 ^ 62) is le in
+        let below = r.numbered le_old in
+        let served = begins_served run.0 r.earlier before s v r.now.log old.txns.rows old.txns.next old.locks r.serving (numbers_stay_new.none old.txns.next r.now.log below) old.first le_old few in
+        let after : Numbered = record { rows = old.txns.rows ++ row_begun old.txns.next ∷ []; next = suc old.txns.next } in
+        let next_is : number + 1 ≡ suc old.txns.next = omega (arith, is) in
+        let table_is : new.txns ≡ after = table ∙ ap (λ (n : ℕ). record { rows = old.txns.rows ++ row_begun n ∷ []; next = number + 1 }) is ∙ ap (λ (n : ℕ). record { rows = old.txns.rows ++ row_begun old.txns.next ∷ []; next = n }) next_is in
+        let t = shows s Begin (Some (Started old.txns.next)) in
+        let w = begun v in
+        let serving : IsServing run.0 r.earlier before t w r.now.log new.txns.rows new.txns.next new.locks =
+        subst (λ (x : Numbered). IsServing run.0 r.earlier before t w r.now.log x.rows x.next new.locks) (sym table_is)
+        (subst (λ (l : _). IsServing run.0 r.earlier before t w r.now.log after.rows after.next l) (sym locks) served.1) in
+        let running = runs_on d before s v old r t w new r.now on_here serving r.commits
+        (subst (λ (n : ℕ). n ≤ 2 ^ 62 → AreBelow n r.now.log) (sym (ap (λ (x : Numbered). x.next) table_is)) (λ le_new. numbers_stay_new.more old.txns.next (suc old.txns.next) r.now.log (omega arith) below)) in
+        subst (λ (n : ℕ). StepKept d before s v Begin (Started n) old new) (sym is) (step_made d before s v Begin (Started old.txns.next) old new w served.0 running works_on (stops_here (shows s Begin None) refl) tt)
+
+    module _ (t : ℕ) (row : Transaction) (found : find (is_of t) old.txns.rows ≡ Some row) (mark : (row.mark ≡ Going) ⊎ (row.mark ≡ MustRollBack)) where
+      rises : Rises run.0 run.1.now.log
+      rises = rises_of run.0 page_tree run.1.now.log run.1.lawful
+
+      -- it has no record, and is over
+      pub dropped : row.last ≡ 0 → IsReleased old.locks t new.locks → length old.txns.rows ≡ length (without t old.txns.rows) + 1 → new.txns ≡ record old.txns { rows = without t old.txns.rows } → new.failed ≡ false → StepKept d before s v (Rollback t) RolledBack old new
+      dropped none released once table works_on =
+          let r = run.1 in
+          let served = drops_served run.0 r.earlier before s v r.now.log old.txns.rows old.txns.next old.locks new.locks t row r.serving rises found mark none released once in
+          let after : Numbered = record old.txns { rows = without t old.txns.rows } in
+          let shown = shows s (Rollback t) (Some RolledBack) in
+          let w = dropped_by v t in
+          let running = runs_on d before s v old r shown w new r.now on_here
+          (subst (λ (x : Numbered). IsServing run.0 r.earlier before shown w r.now.log x.rows x.next new.locks) (sym table) served.1) r.commits
+          (subst (λ (n : ℕ). n ≤ 2 ^ 62 → AreBelow n r.now.log) (sym (ap (λ (x : Numbered). x.next) table)) r.numbered) in
+          step_made d before s v (Rollback t) RolledBack old new w served.0 running works_on (stops_here (shows s (Rollback t) None) refl) tt
+
+      -- it has one, and is marked
+      pub turned : 1 ≤ row.last → new.locks ≡ old.locks → new.txns ≡ record old.txns { rows = map (changed t (with_mark RollingBack)) old.txns.rows } → new.failed ≡ false → StepKept d before s v (Rollback t) More old new
+      turned some locks table works_on =
+          let r = run.1 in
+          let served = turns_served run.0 r.earlier before s v r.now.log old.txns.rows old.txns.next old.locks t row r.serving found mark some in
+          let after : Numbered = record old.txns { rows = map (changed t (with_mark RollingBack)) old.txns.rows } in
+          let shown = shows s (Rollback t) (Some More) in
+          let w = marked v t answers.RollingBack in
+          let running = runs_on d before s v old r shown w new r.now on_here
+          (subst (λ (x : Numbered). IsServing run.0 r.earlier before shown w r.now.log x.rows x.next new.locks) (sym table)
+          (subst (λ (l : _). IsServing run.0 r.earlier before shown w r.now.log after.rows after.next l) (sym locks) served.1)) r.commits
+          (subst (λ (n : ℕ). n ≤ 2 ^ 62 → AreBelow n r.now.log) (sym (ap (λ (x : Numbered). x.next) table)) r.numbered) in
+          step_made d before s v (Rollback t) More old new w served.0 running works_on (stops_here (shows s (Rollback t) None) refl) tt
+
+  -- the log was forced
+  pub log_forced : GoesOn d run.0 run.1.base run.1.now old.disk (forced run.1.now) new.writer new.disk → LeavesCovered d run.0 run.1.base run.1.now.durable run.1.now.log old.disk new.disk → new.txns ≡ old.txns → new.locks ≡ old.locks → new.failed ≡ false
+      → StepKept d before s v Force Done old new
+  unfolding runs_on
+  log_forced on run_stops table locks works_on =
+      let r = run.1 in
+      let same = stays_here run.0 r.now.log in
+      let served = forces_served run.0 r.earlier before s v r.now.log r.now.log old.txns.rows old.txns.next old.locks r.serving same.0 same.1 in
+      let shown = shows s Force (Some Done) in
+      let running = runs_on d before s v old r shown v new (forced r.now) on
+      (subst (λ (x : Numbered). IsServing run.0 r.earlier before shown v r.now.log x.rows x.next new.locks) (sym table)
+      (subst (λ (l : _). IsServing run.0 r.earlier before shown v r.now.log old.txns.rows old.txns.next l) (sym locks) served.1))
+      (commits_stand.all r.earlier before shown.asked r.now.log served.1.says)
+      (subst (λ (n : ℕ). n ≤ 2 ^ 62 → AreBelow n r.now.log) (sym (ap (λ (x : Numbered). x.next) table)) r.numbered) in
+      step_made d before s v Force Done old new v served.0 running works_on (covered_stops d before s v old r new.disk run_stops) (record { b = run.0; running = running; all = refl })
+
+  -- what a Commit asks, of a transaction that logged nothing
+  module _ (t : ℕ) (row : Transaction) (found : find (is_of t) old.txns.rows ≡ Some row) (mark : row.mark ≡ Going) (released : IsReleased old.locks t new.locks) (once : length old.txns.rows ≡ length (without t old.txns.rows) + 1)
+      (table : new.txns ≡ record old.txns { rows = without t old.txns.rows }) (works_on : new.failed ≡ false) where
+    abbrev after : Numbered
+    after = record old.txns { rows = without t old.txns.rows }
+
+    -- it logged nothing
+    pub ended : row.last ≡ 0 → new.writer ≡ old.writer → new.disk ≡ old.disk → ((c : Files) → d.left_since old.disk (d.moment old.disk) c → d.may_leave old.disk c) → StepKept d before s v (Commit t) Committed old new
+    ended none writer disk only_now =
+        let r = run.1 in
+        let rises = rises_of run.0 page_tree r.now.log r.lawful in
+        let served = unlogged_commits_served run.0 r.earlier before s v r.now.log old.txns.rows old.txns.next old.locks new.locks t row r.serving rises found mark none released once in
+        let shown = shows s (Commit t) (Some Committed) in
+        let w = committed_by v t in
+        let is = at run.0 r.earlier before s v r.now.log old.txns.rows old.txns.next old.locks r.serving t row found in
+        let last_is : last_of t r.now.log ≡ 0 = sym (is.1.last ∙ ap (λ (n : ℕ). last_of n r.now.log) is.0) ∙ none in
+        let empty : net t r.now.log ≡ [] = ap changes_of (unlogged run.0 t r.now.log rises last_is) in
+        let effect_is : (s.running t).effect ≡ [] = r.serving.shows.shown.effects t (inl (is.2 ∙ ap mark_of mark)) ∙ ap seen_effect (r.serving.seen_by.nets t ∙ empty) in
+        let asks : shown.asked ≡ s.asked = ap (λ (l : List Asked). s.asked ++ l) (empty_asked t true (s.running t).mark (s.running t).effect effect_is) ∙ append-nil s.asked in
+        let running = runs_on d before s v old r shown w new r.now (on_here writer disk only_now)
+        (subst (λ (x : Numbered). IsServing run.0 r.earlier before shown w r.now.log x.rows x.next new.locks) (sym table) served.1)
+        (subst (λ (l : List Asked). AreCommitted r.earlier before l r.now.durable r.now.log) (sym asks) r.commits)
+        (subst (λ (n : ℕ). n ≤ 2 ^ 62 → AreBelow n r.now.log) (sym (ap (λ (x : Numbered). x.next) table)) r.numbered) in
+        step_made d before s v (Commit t) Committed old new w served.0 running works_on (cut_leaves d before s t old.disk new.disk (stops_here writer disk only_now s refl)) tt
+
+  -- a Commit that was logged
+  module _ (t : ℕ) (row : Transaction) (found : find (is_of t) old.txns.rows ≡ Some row) (mark : row.mark ≡ Going) (some : 1 ≤ row.last) (lsn : ℕ) (x : PageWriter) (mid : D) (logged : LoggedOnly d run.0 run.1.base run.1.now (entries.Commit t row.last) lsn x mid) where
+    abbrev longer : History
+    longer = commit_record t row.last lsn ∷ run.1.now.log
+
+    abbrev with_commit : Writer
+    with_commit = record (appended (logged_at lsn (entries.Commit t row.last)) run.1.now) { durable = logged.durable }
+
+    lawful_on : IsLawful run.0 page_tree longer
+    lawful_on =
+        let r = run.1 in
+        commit_lawful run.0 r.earlier before s v r.now.log old.txns.rows old.txns.next old.locks t lsn row r.serving found mark r.lawful r.closed logged.high
+
+    -- as long as it is not acknowledged, it may be left or not
+    asked_on : AreCommitted run.1.earlier before (shows s (Commit t) None).asked logged.durable longer
+    asked_on =
+        let r = run.1 in
+        let cut = cut_commits_stand run.0 r.earlier before s v r.now.log longer r.now.durable old.txns.rows old.txns.next old.locks t row r.serving found mark some
+        (commit_commits run.0 r.now.log (commit_record t row.last lsn) t refl refl) r.commits in
+        commits_stand.more r.earlier before (shows s (Commit t) None).asked r.now.durable longer logged.durable cut (record { from = logged.grows; upto = logged.stands.writing.stands.kept.front })
+
+    -- a stop within both calls
+    pub commit_stops : (last : D) → LeavesCovered d run.0 run.1.base run.1.now.durable run.1.now.log old.disk mid → LeavesCovered d run.0 run.1.base logged.durable longer mid last → LeavesOnly d old.disk last (Allowed before (shows s (Commit t) None))
+    commit_stops last first second =
+        let r = run.1 in
+        then_on d old.disk mid last (Allowed before (shows s (Commit t) None)) (IsCovered run.0 r.base logged.durable longer) (cut_leaves d before s t old.disk mid (covered_stops d before s v old r mid first)) second
+        (λ told c is. covered_allowed run.0 r.base r.earlier before (shows s (Commit t) None) logged.durable longer r.start r.serving.made lawful_on asked_on c is)
+
+    -- behind them
+    pub committed_on : GoesOn d run.0 run.1.base with_commit mid (forced with_commit) new.writer new.disk → LeavesOnly d old.disk new.disk (Allowed before (shows s (Commit t) None))
+        → IsReleased old.locks t new.locks → length old.txns.rows ≡ length (without t old.txns.rows) + 1 → new.txns ≡ record old.txns { rows = without t old.txns.rows } → new.failed ≡ false → StepKept d before s v (Commit t) Committed old new
+    committed_on on stops released once table works_on =
+        let r = run.1 in
+        let law = logged_commits_served page_tree page_tree_laws run.0 r.earlier before s v r.now.log old.txns.rows old.txns.next old.locks new.locks t lsn row r.serving found mark some r.lawful r.closed logged.high released once in
+        let shown = shows s (Commit t) (Some Committed) in
+        let w = committed_by v t in
+        let is = at run.0 r.earlier before s v r.now.log old.txns.rows old.txns.next old.locks r.serving t row found in
+        let running : IsRunning d run.0 before shown w new = record {
+          base = r.base;
+          start = r.start;
+          earlier = r.earlier;
+          now = forced with_commit;
+          stands = record { working = on.working; writing = on.goes.writing; known = on.known };
+          redo_end = r.redo_end;
+          over = r.over;
+          lawful = law.lawful;
+          closed = r.closed;
+          serving = subst (λ (x : Numbered). IsServing run.0 r.earlier before shown w longer x.rows x.next new.locks) (sym table) law.served.1;
+          commits = commits_stand.all r.earlier before shown.asked longer law.served.1.says;
+          numbered = subst (λ (n : ℕ). n ≤ 2 ^ 62 → AreBelow n longer) (sym (ap (λ (x : Numbered). x.next) table)) (λ le. (subst (λ (n : ℕ). n < old.txns.next) is.0 is.1.below, r.numbered le));
+        } in
+        step_made d before s v (Commit t) Committed old new w law.served.0 running works_on stops tt
+
+  -- one that a call refused has failed
+  pub commit_broke : (t fault : ℕ) → barred v (Commit t) ≡ None → Breaks fault → (fault ≡ memory → ⊥) → (fault ≡ unfinished → ⊥) → new.failed ≡ true → LeavesOnly d old.disk new.disk (Allowed before (shows s (Commit t) None))
+      → ((u : ℕ) (c : Files) → u ≤ d.moment new.disk → d.may_leave new.disk c → d.left_since new.disk u c) → StepKept d before s v (Commit t) (Refused fault) old new
+  commit_broke t fault checked is no_memory no_structure fails leaves counts_now =
+      step_broke d before s v (Commit t) fault old new (locks_of new.locks) life checked is fails leaves
+      (λ c left. allowed_as before (shows s (Commit t) None) (shows s (Commit t) (Some (Refused fault))) c (others_ask_nothing.refused s t fault no_memory no_structure)
+      (left_now d old.disk new.disk (Allowed before (shows s (Commit t) None)) counts_now leaves (tells d before s v old run.1) c left))
+      tt
+
+  -- a Commit that an append or the force refused
+  pub commit_refused : (t : ℕ) → checked_by old.txns.rows (Commit t) ≡ None → (f : Fault) → IsOfLog f → (told : Refusal) → told ≡ told_as f → new.failed ≡ true → LeavesOnly d old.disk new.disk (Allowed before (shows s (Commit t) None))
+      → ((u : ℕ) (c : Files) → u ≤ d.moment new.disk → d.may_leave new.disk c → d.left_since new.disk u c) → StepKept d before s v (Commit t) (Refused (number_of told)) old new
+  commit_refused t checked f of told is fails leaves counts_now =
+      subst (λ (y : Refusal). StepKept d before s v (Commit t) (Refused (number_of y)) old new) (sym is)
+      (commit_broke t (number_of (told_as f)) (rows_tell run.0 run.1.earlier before s v run.1.now.log old.txns.rows old.txns.next old.locks (Commit t) run.1.serving ∙ checked) of.broken of.no_memory of.no_structure fails leaves counts_now)
+
+  -- a force that the disk refused
+  pub force_refused : (f : Fault) → IsOfLog f → (told : Refusal) → told ≡ told_as f → new.failed ≡ true → LeavesCovered d run.0 run.1.base run.1.now.durable run.1.now.log old.disk new.disk
+      → ((u : ℕ) (c : Files) → u ≤ d.moment new.disk → d.may_leave new.disk c → d.left_since new.disk u c) → StepKept d before s v Force (Refused (number_of told)) old new
+  force_refused f of told is fails run_stops counts_now =
+      subst (λ (y : Refusal). StepKept d before s v Force (Refused (number_of y)) old new) (sym is)
+      (breaks_with d before s v Force (λ u e. cc e) (rows_tell run.0 run.1.earlier before s v run.1.now.log old.txns.rows old.txns.next old.locks Force run.1.serving) old new life works counts_now (number_of (told_as f)) of.broken fails
+      (covered_stops d before s v old run.1 new.disk run_stops))
+
+  -- numbers are used up
+  pub numbers_end : checked_by old.txns.rows Begin ≡ None → new.failed ≡ true → new.disk ≡ old.disk → ((c : Files) → d.left_since old.disk (d.moment old.disk) c → d.may_leave old.disk c)
+      → ((u : ℕ) (c : Files) → u ≤ d.moment new.disk → d.may_leave new.disk c → d.left_since new.disk u c) → StepKept d before s v Begin (Refused 6) old new
+  numbers_end checked fails disk only_now counts_now =
+      breaks_with d before s v Begin (λ u e. cc e) (rows_tell run.0 run.1.earlier before s v run.1.now.log old.txns.rows old.txns.next old.locks Begin run.1.serving ∙ checked) old new life works counts_now 6 (inl refl) fails
+      (subst (λ (x : D). LeavesOnly d old.disk x (Allowed before s)) (sym disk) (idle_stops d before s v old run.1 only_now))
+
+  -- a page was written, behind Images
+  pub flushed : (p : ℕ) → Flushes d old.writer old.disk new.writer new.disk None → FlushedOne d run.0 run.1.base run.1.now p old.disk new.writer new.disk → new.txns ≡ old.txns → new.locks ≡ old.locks → new.failed ≡ false
+      → StepKept d before s v (FlushPage p) Done old new
+  unfolding runs_on
+  flushed p one f table locks works_on =
+      let b = run.0 in
+      let r = run.1 in
+      let same = copies_are_images page_tree b r.now.log f.now.log f.on.goes.keeps.log in
+      let grown = images_change_nothing b r.now.log f.now.log same.images in
+      let served = flushes_served b r.earlier before s v r.now.log f.now.log old.txns.rows old.txns.next old.locks p r.serving grown.0 grown.1 in
+      let commits = commits_stand.more r.earlier before s.asked r.now.durable f.now.log f.now.durable (commits_stand.stay r.earlier before s.asked r.now.durable r.now.log f.now.log r.commits grown.0.commits)
+      (record { from = f.on.goes.keeps.durable; upto = f.on.goes.writing.stands.kept.front }) in
+      let running = runs_on d before s v old r s v new f.now f.on
+      (subst (λ (x : Numbered). IsServing b r.earlier before s v f.now.log x.rows x.next new.locks) (sym table)
+      (subst (λ (l : _). IsServing b r.earlier before s v f.now.log old.txns.rows old.txns.next l) (sym locks) served.1)) commits
+      (subst (λ (n : ℕ). n ≤ 2 ^ 62 → AreBelow n f.now.log) (sym (ap (λ (x : Numbered). x.next) table)) (λ le. same.below old.txns.next old.first (r.numbered le))) in
+      let reads = f.on.goes.writing.stands.file.reads p ∙ f.in_file ((f.on.goes.keeps.pages p).waits ∙ none_waits d before s v old r p) ∙ ap (λ (g : Page). Some g) (page_is d before s v new running p) in
+      step_made d before s v (FlushPage p) Done old new v served.0 running works_on (read_stops d before s v old r new.writer new.disk (flush_asks d one)) (record { b = b; running = running; reads = reads })
+
+  -- a flush that was refused
+  pub flush_refused : (p : ℕ) (f : Fault) → Flushes d old.writer old.disk new.writer new.disk (Some f) → (told : Refusal) → told ≡ told_as f → new.failed ≡ true
+      → ((u : ℕ) (c : Files) → u ≤ d.moment new.disk → d.may_leave new.disk c → d.left_since new.disk u c) → StepKept d before s v (FlushPage p) (Refused (number_of told)) old new
+  flush_refused p f one told is fails counts_now =
+      subst (λ (y : Refusal). StepKept d before s v (FlushPage p) (Refused (number_of y)) old new) (sym is)
+      (breaks_with d before s v (FlushPage p) (λ u e. cc e) (rows_tell run.0 run.1.earlier before s v run.1.now.log old.txns.rows old.txns.next old.locks (FlushPage p) run.1.serving) old new life works counts_now (number_of (told_as f))
+      (of_flush d old.writer old.disk new.writer new.disk (old.working works) f one.ends).broken fails (read_stops d before s v old run.1 new.writer new.disk (flush_asks d one)))

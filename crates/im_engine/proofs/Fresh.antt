@@ -1,0 +1,106 @@
+-- Where a new store begins: files without a log and without pages stand for no effect.
+use Rattle.std.proofs.Common.{◌≡◌, ℕ, ◌≤◌, length, List, [], ◌∷◌, Some, false, refl, sym, ap, ◌∙◌, inl, inr, arith, nat_lt, if◌then◌else◌}
+use Rattle.std.specs.Prelude.{◌==◌}
+use Rattle.std.specs.FinMap.{empty, entries, len-empty, len-entries}
+use Rattle.std.proofs.lemmas.Bool.{cases_eq, ne_eqb}
+use Rattle.std.proofs.lemmas.Bool.Decides.{nat_tests}
+use Rattle.im_types.specs.Keys.{key_order}
+use Rattle.im_types.specs.Pages.{Entry, Body, Page}
+use Rattle.im_types.specs.declared.page_kind.PageKind.TheVariants.{Free, Meta, Leaf}
+use Rattle.im_types.specs.declared.file_id.FileId.TheVariants.{Log, Pages}
+use Rattle.im_types.specs.Histories.{Base}
+use Rattle.im_types.specs.LogLaws.{bodies}
+use Rattle.im_types.specs.Lawful.{IsLawful}
+use Rattle.im_types.proofs.RedoPoints.{covers_base}
+use Rattle.im_disk.specs.Disk.{Files}
+use Rattle.im_gate.specs.Header.{base_of}
+use Rattle.im_page.specs.Header.{initial}
+use Rattle.im_page.specs.PageFile.{file_page}
+use Rattle.im_page.proofs.PageFileLemmas.{page_past}
+use Rattle.im_restart.specs.Restart.{IsFresh, HasStore}
+use Rattle.im_tree.specs.Good.{times, IsGoodTree}
+use Rattle.im_tree.specs.Theory.{page_tree}
+use Rattle.im_engine.specs.Stands.{StandsFor}
+
+-- ---- what a new store finds
+
+-- a page that says only its kind, and where it leads
+abbrev blank : Body
+blank = record { kind = Free; level = 0; marked = false; prev = 0; next = 0; leftmost = 0; entries = [] }
+
+-- the pages that a new store finds: the meta page with two pages and none free, the root as an empty leaf, free pages
+abbrev first_pages : ℕ → Page
+first_pages p =
+    if p == 0 then record { lsn = 0; body = record blank { kind = Meta; leftmost = 2 } }
+    else (if p == 1 then record { lsn = 0; body = record blank { kind = Leaf } } else record { lsn = 0; body = blank })
+
+-- where the log of a new store starts: with these pages, no key, and LSNs above this one
+abbrev new_from : ℕ → Base
+new_from start = record { pages = first_pages; map = empty; start = start }
+
+-- ---- a log of no record
+
+no_entries : (es : List Entry) → length es ≡ 0 → es ≡ []
+no_entries [] h = refl
+no_entries (e ∷ es) h = absurd (omega (arith, h))
+
+-- a map without a key lists none
+none_in_empty : (start : ℕ) → entries ((new_from start).map) ≡ []
+none_in_empty start = no_entries (entries ((new_from start).map)) (sym (len-entries (new_from start).map) ∙ len-empty key_order ℕ)
+
+two_once : (p : ℕ) → times p (0 ∷ 1 ∷ []) ≡ (if nat_lt p 2 then 1 else 0)
+two_once p = grind (arith, nat_tests)
+
+-- the pages that a new store finds: the meta page, and the root as an empty leaf
+first_good : (start : ℕ) → IsGoodTree (bodies (new_from start) []) []
+first_good start = record {
+  meta = refl;
+  levels = ((refl, refl), tt);
+  ordered = (tt, tt, tt);
+  chained = (refl, refl, tt);
+  free = refl;
+  cover = λ p. two_once p;
+}
+
+lsn_low : (start p : ℕ) → ((new_from start).pages p).lsn ≤ start
+lsn_low start p = elim (cases_eq p 0) [
+  | inl zero_is ↦ rw zero_is (omega arith)
+  | inr other ↦ elim (cases_eq p 1) [
+    | inl one_is ↦ rw one_is (omega arith)
+    | inr neither ↦ rw (ne_eqb p 0 other, ne_eqb p 1 neither) (omega arith)
+  ]
+]
+
+empty_log : (start : ℕ) → IsLawful (new_from start) page_tree []
+empty_log start = record { lsns = λ p. lsn_low start p; stands = record { good = first_good start; walk = sym (none_in_empty start) } }
+
+-- files without a log and without pages hold it: past the end of the file a page is as a new store finds it
+first_is : (p : ℕ) → initial p ≡ first_pages p
+first_is p = elim (cases_eq p 0) [
+  | inl zero_is ↦ rw zero_is refl
+  | inr other ↦ elim (cases_eq p 1) [
+    | inl one_is ↦ rw one_is refl
+    | inr neither ↦ rw (ne_eqb p 0 other, ne_eqb p 1 neither) refl
+  ]
+]
+
+fresh_store : (files : Files) → IsFresh files → HasStore (new_from (base_of (files Log))) (base_of (files Log)) [] files
+fresh_store files fresh = record {
+  log = inl (fresh.0, refl, refl);
+  bare = λ _. fresh.1;
+  covers = covers_base (new_from (base_of (files Log))) (file_page (files Pages)) (λ p. page_past (files Pages) p (let none = fresh.1 in omega (arith, none)) ∙ ap (λ x. Some x) (first_is p));
+}
+
+-- they stand for no effect
+pub fresh_stands : (files : Files) → IsFresh files → StandsFor [] files
+fresh_stands files fresh = record {
+  b = new_from (base_of (files Log));
+  base = base_of (files Log);
+  start = omega arith;
+  log = [];
+  has = fresh_store files fresh;
+  lawful = empty_log (base_of (files Log));
+  earlier = [];
+  made = refl;
+  is = refl;
+}

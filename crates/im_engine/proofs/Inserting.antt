@@ -1,0 +1,344 @@
+-- An insert of a key, from how the call below ended.
+use Rattle.std.proofs.Common.{◌≡◌, ◌≢◌, ◌⊎◌, inl, inr, ℕ, ◌≤◌, List, [], ◌∷◌, ◌++◌, true, false, cond, is_some, Option, Some, None, Result, Ok, Err, map, refl, sym, ap, subst, ◌∙◌}
+use Rattle.std.specs.Prelude.{find}
+use Rattle.std.specs.FinMap.{get}
+use Rattle.im_types.specs.Answers as answers
+use Rattle.im_types.specs.Answers.{Insert, Do, Refused, Reply, answer, changes}
+use Rattle.im_types.specs.Changes.{Change, Effect, Put}
+use Rattle.im_types.specs.Histories.{Base, History}
+use Rattle.im_types.specs.Keys.{Key}
+use Rattle.im_types.specs.Lawful.{IsLawful}
+use Rattle.im_types.specs.Lawful as lawful
+use Rattle.im_types.specs.Lives.{Shown, shows}
+use Rattle.im_types.specs.Maps.{IndexMap}
+use Rattle.im_types.specs.Records.{InsertKey, Logged}
+use Rattle.im_types.specs.Refusals.{memory, pages_full}
+use Rattle.im_types.specs.Structure.{open_smo, settled}
+use Rattle.im_types.specs.Transactions.{contents, last_of}
+use Rattle.im_types.specs.Writer.{Writer}
+use Rattle.im_types.specs.declared.fault.Fault.{Fault}
+use Rattle.im_types.specs.declared.fault.Fault.TheVariants.{Capacity, Device, Failed, LogFull, Memory, NotAStore, PagesFull}
+use Rattle.im_disk.specs.declared.disk.Disk.{Ghosts}
+use Rattle.im_disk.specs.Disk.{Files}
+use Rattle.im_disk.specs.Runs.{LeavesOnly}
+use Rattle.im_log.specs.declared.log_file.LogFile.{LogFile}
+use Rattle.im_flush.specs.declared.page_writer.PageWriter.{PageWriter}
+use Rattle.im_flush.specs.Outcome.{LogEnds, pages_of}
+use Rattle.im_flush.specs.PageWriter.{Evicted}
+use Rattle.im_tree.specs.Levels.{Pages}
+use Rattle.im_tree.specs.Theory.{page_tree}
+use Rattle.im_tree.proofs.TheoryLaws.{page_tree_laws}
+use Rattle.im_search.specs.Levels.{bodies_of}
+use Rattle.im_split.specs.Kept.{mild_to_split}
+use Rattle.im_split.specs.Plan.{IsOver, IsWithin}
+use Rattle.im_split.specs.Tops.{LacksRoomFor}
+use Rattle.im_structure.specs.Structure.{IsUsedUp}
+use Rattle.im_txn.specs.declared.transaction.Mark.TheVariants.{Going, MustRollBack}
+use Rattle.im_txn.specs.declared.transaction.Transaction.{Transaction}
+use Rattle.im_txn.specs.Rows.{is_of, changed, with_mark, with_record}
+use Rattle.im_txn.proofs.LookUps.{look_ups_follow}
+use Rattle.im_lock.specs.Rows.{asked}
+use Rattle.im_lock.specs.Table.{Table, Decides, SameTable, locks_of}
+use Rattle.im_lock.specs.declared.verdict.Verdict.TheVariants.{Granted as GrantedAll}
+use Rattle.im_lock.specs.View.{View, did}
+use Rattle.im_lock.specs.Machine.{Breaks, barred, keys_fit}
+use Rattle.im_front.specs.declared.fault.Fault.{Fault as Refusal}
+use Rattle.im_front.specs.declared.fault.Fault.TheVariants as above
+use Rattle.im_front.specs.declared.reply.Reply as said
+use Rattle.im_front.specs.declared.reply.Reply.TheVariants as replies
+use Rattle.im_front.specs.Calls.{number_of}
+use Rattle.im_steps.specs.Checks.{checked_by}
+use Rattle.im_steps.specs.Growth.{GrowsWithin}
+use Rattle.im_steps.specs.Serving.{IsServed}
+use Rattle.im_steps.specs.Steps.{IsOnTheWay, key_record}
+use Rattle.im_steps.proofs.Lived.{rows_tell}
+use Rattle.im_steps.proofs.Logging.{inserts_served}
+use Rattle.im_steps.proofs.Steps.{lacks_served, ways_lead_on}
+use Rattle.im_index.specs.declared.noted.Noted.{Noted}
+use Rattle.im_index.specs.declared.outcome.Outcome.{Outcome}
+use Rattle.im_index.specs.declared.outcome.Outcome.TheVariants.{Granted, Wait, Die}
+use Rattle.im_index.specs.Edits.{MayEdit, Inserted, InsertKept}
+use Rattle.im_index.specs.KeyLogs.{LeavesEdit}
+use Rattle.im_index.proofs.KeyLogs.{grows_within}
+use Rattle.im_engine.specs.declared.engine.Engine.{Engine}
+use Rattle.im_engine.specs.Faults.{told_as, ends_engine}
+use Rattle.im_engine.specs.Running.{IsRunning, IsLife}
+use Rattle.im_engine.specs.Stands.{Allowed}
+use Rattle.im_engine.specs.Kept.{StepKept}
+use Rattle.im_engine.specs.Told.{AsksChange, InsertCause, InsertWants, wants_pages, wants_numbers, wants_memory}
+use Rattle.im_engine.proofs.Causes.{Answers, behind, not_refused_for, refused_for, refused_inj}
+use Rattle.im_engine.proofs.Checked.{access_fits}
+use Rattle.im_engine.proofs.Deleting.{access_mark}
+use Rattle.im_engine.proofs.Edited.{blocked, by_structure, died, edit_stops, edited, may_edit, unchanged}
+use Rattle.im_engine.proofs.Made.{grown_made}
+use Rattle.im_engine.proofs.Refused.{breaks_with, lacks_with, serving_with}
+use Rattle.im_engine.proofs.Running.{bodies_are, read_on}
+
+-- ---- a key that came
+
+module _ {D : Type 0} (d : Ghosts D) {b : Base} (before : List Effect) (s : Shown) (v : View) (old : Engine D d) (r : IsRunning d b before s v old) (t : ℕ) (row : Transaction) (found : find (is_of t) old.txns.rows ≡ Some row) (mark : row.mark ≡ Going) where
+  module _ (key : Key) (rid max : ℕ) (new : Engine D d) (fits : keys_fit (Insert key rid) ≡ true) (noted : Noted) (is : Inserted d b r.base r.now r.redo_end t key rid max noted new.writer new.disk)
+      (decides : Decides old.locks t (asked (Insert key rid) (contents b r.now.log)) GrantedAll new.locks) where
+    abbrev newest : Logged
+    newest = key_record t is.newest noted.last is.page (InsertKey key rid)
+
+    law : IsLawful b page_tree (newest ∷ is.between)
+    law = subst (λ (l : History). IsLawful b page_tree l) is.is is.stands.lawful
+
+    may : lawful.MayInsert b page_tree newest is.between key rid
+    may = law.1.may
+
+    closed : open_smo is.between ≡ []
+    closed = subst (λ (l : History). open_smo l ≡ []) is.is is.stands.closed
+
+    walk_of : v.walk ≡ contents b r.now.log
+    walk_of = r.serving.seen_by.walk
+
+    decided : Decides old.locks t (asked (Insert key rid) v.walk) GrantedAll new.locks
+    decided = subst (λ (m : IndexMap). Decides old.locks t (asked (Insert key rid) m) GrantedAll new.locks) (sym walk_of) decides
+
+    way : IsOnTheWay b t is.newest r.now.log is.between
+    way =
+        let first = ways_lead_on.begins b r.earlier before s v r.now.log old.txns.rows old.txns.next old.locks t row r.serving found mark in
+        subst (λ (n : ℕ). IsOnTheWay b t n r.now.log is.between) (sym (law.1.chained refl).prev) (ways_lead_on.leads b t row.last r.now.log r.now.log is.between first (by_structure t r.now.log is.between is.change))
+
+    abbrev rows : List Transaction
+    rows = map (changed t (with_record noted.last noted.undo_next)) old.txns.rows
+
+    after_record : IsServed b r.earlier before s v (Do t (Insert key rid)) answers.Inserted (did v t (Insert key rid) (locks_of new.locks t)) is.now.log rows old.txns.next new.locks
+    after_record =
+        subst (λ (n : ℕ). IsServed b r.earlier before s v (Do t (Insert key rid)) answers.Inserted (did v t (Insert key rid) (locks_of new.locks t)) is.now.log (map (changed t (with_record noted.last n)) old.txns.rows) old.txns.next new.locks) (sym is.same)
+        (subst (λ (l : History). IsServed b r.earlier before s v (Do t (Insert key rid)) answers.Inserted (did v t (Insert key rid) (locks_of new.locks t)) l (map (changed t (with_record noted.last noted.last)) old.txns.rows) old.txns.next new.locks) (sym is.is)
+        (inserts_served page_tree page_tree_laws b r.earlier before s v r.now.log is.between old.txns.rows old.txns.next old.locks new.locks t is.newest noted.last is.page row key rid r.serving found mark fits
+        way law.0 closed is.absent decided may.can_put law.1.rises).served)
+
+    says : answer (Insert key rid) v.walk ≡ answers.Inserted
+    says = ap (λ (m : IndexMap). answer (Insert key rid) m) walk_of ∙ ap (λ (o : Option ℕ). cond (is_some o) answers.Duplicate answers.Inserted) is.absent
+
+    grown : GrowsWithin t r.now.log is.now.log
+    grown =
+        let way_there = grows_within t r.now.log is.between is.change in
+        record { more = newest ∷ way_there.more; is = ap (λ (l : History). newest ∷ l) way_there.is ∙ sym is.is; within = (inr (refl, refl), way_there.within) }
+
+    pub inserted : new.txns ≡ record old.txns { rows = map (changed t (with_record noted.last noted.undo_next)) old.txns.rows } → LeavesEdit d b r.base r.now t old.disk new.disk → new.failed ≡ false → StepKept d before s v (Do t (Insert key rid)) answers.Inserted old new
+    inserted table stops works =
+        let w = did v t (Insert key rid) (locks_of new.locks t) in
+        subst (λ (reply : Reply). StepKept d before s v (Do t (Insert key rid)) reply old new) says
+        (edited d before s v old r t row found mark (Insert key rid) new is.now r.redo_end noted.last noted.undo_next is.stands is.durable grown rows table w
+        (subst (λ (reply : Reply). IsServed b r.earlier before s v (Do t (Insert key rid)) reply w is.now.log rows old.txns.next new.locks) (sym says) after_record) stops works)
+
+-- ---- refusals
+
+no_commit : (t : ℕ) (a : answers.Access) (u : ℕ) → Do t a ≡ answers.Commit u → ⊥
+no_commit t a u is = cc is
+
+module _ {D : Type 0} (d : Ghosts D) (before : List Effect) (s : Shown) (v : View) (t : ℕ) (key : Key) (rid : ℕ) (old new : Engine D d) (life : IsLife d before s v old) (works : old.failed ≡ false) (checked : checked_by old.txns.rows (Do t (Insert key rid)) ≡ None)
+    (counts_now : (u : ℕ) (c : Files) → u ≤ d.moment new.disk → d.may_leave new.disk c → d.left_since new.disk u c) where
+  abbrev run : (b : Base) × IsRunning d b before s v old
+  run = life.running works
+
+  bars : barred v (Do t (Insert key rid)) ≡ None
+  bars = rows_tell run.0 run.1.earlier before s v run.1.now.log old.txns.rows old.txns.next old.locks (Do t (Insert key rid)) run.1.serving ∙ checked
+
+  -- pages are wanting
+  lacks_pages : Evicted d run.0 run.1.base run.1.now old.disk new.writer new.disk → LeavesOnly d old.disk new.disk (Allowed before s) → new.txns ≡ old.txns → SameTable old.locks new.locks → new.failed ≡ false → StepKept d before s v (Do t (Insert key rid)) (Refused pages_full) old new
+  lacks_pages is leaves table same works_on =
+      grown_made d before s v v (Do t (Insert key rid)) (Refused pages_full) old new run.1 old.txns is
+      (λ longer stays all. lacks_served run.0 run.1.earlier before s v run.1.now.log longer old.txns.rows old.txns.next new.locks (Do t (Insert key rid)) pages_full
+      (serving_with run.0 run.1.earlier before s v run.1.now.log old.txns.rows old.txns.next old.locks new.locks same run.1.serving) bars (inl refl) stays all)
+      refl refl table refl leaves works_on tt
+
+  pub insert_stopped : (f : Fault) → LogEnds d true (mild_to_split (Some old.max_pages)) old.writer old.disk new.writer new.disk (Some f) → LeavesOnly d old.disk new.disk (Allowed before s) → f ≢ NotAStore → new.failed ≡ ends_engine f → new.txns ≡ old.txns
+      → ((f ≡ Memory) ⊎ (f ≡ PagesFull) → SameTable old.locks new.locks) → (told : Refusal) → told ≡ told_as f → StepKept d before s v (Do t (Insert key rid)) (Refused (number_of told)) old new
+  insert_stopped f ends leaves sound fails table same told is = subst (λ (y : Refusal). StepKept d before s v (Do t (Insert key rid)) (Refused (number_of y)) old new) (sym is) (by f ends sound fails same)
+    where
+      breaks_so : (fault : ℕ) → Breaks fault → new.failed ≡ true → StepKept d before s v (Do t (Insert key rid)) (Refused fault) old new
+      breaks_so fault why on = breaks_with d before s v (Do t (Insert key rid)) (no_commit t (Insert key rid)) bars old new life works counts_now fault why on leaves
+
+      by : (g : Fault) → LogEnds d true (mild_to_split (Some old.max_pages)) old.writer old.disk new.writer new.disk (Some g) → g ≢ NotAStore → new.failed ≡ ends_engine g → ((g ≡ Memory) ⊎ (g ≡ PagesFull) → SameTable old.locks new.locks)
+          → StepKept d before s v (Do t (Insert key rid)) (Refused (number_of (told_as g))) old new
+      by Memory x other on same_locks = lacks_with d before s v (Do t (Insert key rid)) (no_commit t (Insert key rid)) bars old new life works counts_now (inr refl) (read_on d before s v old run.1 new.writer new.disk x.1) leaves table (same_locks (inl refl)) on
+      by PagesFull x other on same_locks = lacks_pages (read_on d before s v old run.1 new.writer new.disk x.1) leaves table (same_locks (inr refl)) on
+      by Capacity x other on same_locks = breaks_so 6 (inl refl) on
+      by LogFull x other on same_locks = breaks_so 7 (inr (inl refl)) on
+      by Device x other on same_locks = breaks_so 8 (inr (inr (inl refl))) on
+      by Failed x other on same_locks = breaks_so 10 (inr (inr (inr refl))) on
+      by NotAStore x other on same_locks = absurd (other refl)
+      by g x other on same_locks = absurd (let never = x.0 in cc never)
+
+-- it is told so only where it is so
+module _ {D : Type 0} (d : Ghosts D) (max : ℕ) (v : PageWriter) (old : D) (w : PageWriter) (new : D) where
+  pub failed_is : (f : Fault) → LogEnds d true (mild_to_split (Some max)) v old w new (Some f) → told_as f ≡ above.Failed → f ≡ Failed
+  failed_is Failed x is = refl
+  failed_is Memory x is = absurd (cc is)
+  failed_is PagesFull x is = absurd (cc is)
+  failed_is Capacity x is = absurd (cc is)
+  failed_is LogFull x is = absurd (cc is)
+  failed_is Device x is = absurd (cc is)
+  failed_is NotAStore x is = absurd (cc is)
+  failed_is g x is = absurd (let never = x.0 in cc never)
+
+pub full_is : (f : Fault) → told_as f ≡ above.PagesFull → f ≡ PagesFull
+full_is PagesFull is = refl
+full_is Capacity is = absurd (cc is)
+full_is LogFull is = absurd (cc is)
+full_is Device is = absurd (cc is)
+full_is Memory is = absurd (cc is)
+full_is NotAStore is = absurd (cc is)
+full_is g is = absurd (cc is)
+
+pub used_up_is : (f : Fault) → told_as f ≡ above.Capacity → f ≡ Capacity
+used_up_is Capacity is = refl
+used_up_is PagesFull is = absurd (cc is)
+used_up_is LogFull is = absurd (cc is)
+used_up_is Device is = absurd (cc is)
+used_up_is Memory is = absurd (cc is)
+used_up_is NotAStore is = absurd (cc is)
+used_up_is g is = absurd (cc is)
+
+-- ---- what an insert wants
+
+-- one that was answered otherwise
+pub wants_none : (pages : Pages) (m : IndexMap) (max : ℕ) (key : Key) (reply : said.Reply) → reply ≢ replies.Inserted → ((x : Refusal) → reply ≢ replies.Refused x) → InsertWants pages m max key reply
+wants_none pages m max key reply no_insert not = record {
+  made = λ is lacks. absurd (no_insert is);
+  full = λ is. absurd (not above.PagesFull is);
+  used_up = λ is. absurd (not above.Capacity is);
+  absent = asks;
+}
+  where
+    asks : AsksChange reply → get m key ≡ None
+    asks (wants_pages is) = absurd (not above.PagesFull is)
+    asks (wants_numbers is) = absurd (not above.Capacity is)
+    asks (wants_memory is) = absurd (not above.Failed is)
+
+pub wants_made : (pages : Pages) (m : IndexMap) (max : ℕ) (key : Key) → (LacksRoomFor pages key → IsWithin pages key max) → InsertWants pages m max key replies.Inserted
+wants_made pages m max key within = record {
+  made = λ is lacks. within lacks;
+  full = λ is. absurd (cc is);
+  used_up = λ is. absurd (cc is);
+  absent = asks;
+}
+  where
+    asks : AsksChange replies.Inserted → get m key ≡ None
+    asks (wants_pages is) = absurd (cc is)
+    asks (wants_numbers is) = absurd (cc is)
+    asks (wants_memory is) = absurd (cc is)
+
+-- ---- by the call below
+
+module _ {D : Type 0} (d : Ghosts D) (old : Engine D d) (locks : Table) (writer : PageWriter) (disk : D) (t : ℕ) (key : Key) (rid : ℕ) (row : Transaction) (found : find (is_of t) old.txns.rows ≡ Some row) (checked : checked_by old.txns.rows (Do t (Insert key rid)) ≡ None) where
+  -- what the call below kept, whatever it stood on
+  abbrev pub Below : Result (Outcome (Option Noted)) Fault → Type 0
+  Below result = (b : Base) (base : ℕ) (s : Writer) (e : ℕ) → MayEdit d b base s e row.number row.last row.undo_next (Insert key rid) old.locks old.writer old.disk
+      → InsertKept d b base s e row.number key rid old.max_pages old.locks locks old.disk writer disk result
+
+  module _ {b : Base} (before : List Effect) (s : Shown) (v : View) (r : IsRunning d b before s v old) where
+    abbrev pub Here : Result (Outcome (Option Noted)) Fault → Type 0
+    Here result = InsertKept d b r.base r.now r.redo_end t key rid old.max_pages old.locks locks old.disk writer disk result
+
+    mark : row.mark ≡ Going
+    mark = access_mark old.txns.rows t (Insert key rid) row found checked
+
+    number : row.number ≡ t
+    number = look_ups_follow.found t old.txns.rows row found
+
+    pub kept_here : (result : Result (Outcome (Option Noted)) Fault) → Below result → Here result
+    kept_here result below =
+        subst (λ (n : ℕ). InsertKept d b r.base r.now r.redo_end n key rid old.max_pages old.locks locks old.disk writer disk result) number
+        (below b r.base r.now r.redo_end (subst (λ (n : ℕ). MayEdit d b r.base r.now r.redo_end n row.last row.undo_next (Insert key rid) old.locks old.writer old.disk) (sym number) (may_edit d before s v old r t row found mark (Insert key rid))))
+
+    -- what is said of its pages
+    pub made_wants : (o : Outcome (Option Noted)) → Below (Ok o) → (x : Option Noted) → o ≡ Granted x → (noted : Noted) → x ≡ Some noted → InsertWants (settled b r.now.log) v.walk old.max_pages key replies.Inserted
+    made_wants o below x granted noted some =
+        let kept = subst (λ (y : Outcome (Option Noted)). Here (Ok y)) (granted ∙ ap Granted some) (kept_here (Ok o) below) in
+        wants_made (settled b r.now.log) v.walk old.max_pages key
+        (subst (λ (pages : Pages). LacksRoomFor pages key → IsWithin pages key old.max_pages) (bodies_are d before s v old r) kept.sound.1.within)
+
+    -- refused, and why
+    pub refused_wants : (f : Fault) → Below (Err f) → LogEnds d true (mild_to_split (Some old.max_pages)) old.writer old.disk writer disk (Some f) → (told : Refusal) → told ≡ told_as f → InsertWants (settled b r.now.log) v.walk old.max_pages key (replies.Refused told)
+    refused_wants f below ends told is = record {
+      made = λ clash lacks. absurd (cc clash);
+      full = λ full.
+          let why = kept.full (full_is f (sym is ∙ refused_inj told above.PagesFull full)) in
+          subst (λ (pages : Pages). LacksRoomFor pages key × IsOver pages key old.max_pages) same (why.1, why.2);
+      used_up = λ full.
+          let why = kept.used_up (used_up_is f (sym is ∙ refused_inj told above.Capacity full)) in
+          subst (λ (pages : Pages). LacksRoomFor pages key × IsUsedUp pages key) same (why.1, why.2);
+      absent = asks;
+    }
+      where
+        kept : Here (Err f)
+        kept = kept_here (Err f) below
+
+        same : bodies_of (pages_of r.now) ≡ settled b r.now.log
+        same = bodies_are d before s v old r
+
+        lacks : get (contents b r.now.log) key ≡ None → get v.walk key ≡ None
+        lacks none = ap (λ (m : IndexMap). get m key) r.serving.seen_by.walk ∙ none
+
+        asks : AsksChange (replies.Refused told) → get v.walk key ≡ None
+        asks (wants_pages why) = lacks (kept.full (full_is f (sym is ∙ refused_inj told above.PagesFull why))).0
+        asks (wants_numbers why) = lacks (kept.used_up (used_up_is f (sym is ∙ refused_inj told above.Capacity why))).0
+        asks (wants_memory why) = lacks (kept.begun (failed_is d old.max_pages old.writer old.disk writer disk f ends (sym is ∙ refused_inj told above.Failed why))).0
+
+module _ {D : Type 0} (d : Ghosts D) (old new : Engine D d) (t : ℕ) (key : Key) (rid : ℕ) (row : Transaction) (found : find (is_of t) old.txns.rows ≡ Some row) (checked : checked_by old.txns.rows (Do t (Insert key rid)) ≡ None) where
+  abbrev pub Under : Result (Outcome (Option Noted)) Fault → Type 0
+  Under result = Below d old new.locks new.writer new.disk t key rid row found checked result
+
+  module _ {b : Base} (before : List Effect) (s : Shown) (v : View) (r : IsRunning d b before s v old) where
+    abbrev pub Now : Result (Outcome (Option Noted)) Fault → Type 0
+    Now result = Here d old new.locks new.writer new.disk t key rid row found checked before s v r result
+
+    its_mark : row.mark ≡ Going
+    its_mark = access_mark old.txns.rows t (Insert key rid) row found checked
+
+    fits : keys_fit (Insert key rid) ≡ true
+    fits = access_fits old.txns.rows t (Insert key rid) checked
+
+    kept_now : (result : Result (Outcome (Option Noted)) Fault) → Under result → Now result
+    kept_now result below = kept_here d old new.locks new.writer new.disk t key rid row found checked before s v r result below
+
+    -- it was made
+    pub insert_made : (o : Outcome (Option Noted)) → Under (Ok o) → (x : Option Noted) → o ≡ Granted x → (noted : Noted) → x ≡ Some noted → new.txns ≡ record old.txns { rows = map (changed t (with_record noted.last noted.undo_next)) old.txns.rows } → new.failed ≡ false
+        → StepKept d before s v (Do t (Insert key rid)) answers.Inserted old new
+    insert_made o below x granted noted some table works_on =
+        let kept = subst (λ (y : Outcome (Option Noted)). Now (Ok y)) (granted ∙ ap Granted some) (kept_now (Ok o) below) in
+        inserted d before s v old r t row found its_mark key rid old.max_pages new fits noted kept.sound.1 kept.sound.0 table kept.stops works_on
+
+    -- the key is there
+    pub insert_there : (o : Outcome (Option Noted)) → Under (Ok o) → (x : Option Noted) → o ≡ Granted x → x ≡ None → new.txns ≡ old.txns → new.failed ≡ false → StepKept d before s v (Do t (Insert key rid)) answers.Duplicate old new
+    insert_there o below x granted none table works_on =
+        let kept = subst (λ (y : Outcome (Option Noted)). Now (Ok y)) (granted ∙ ap Granted none) (kept_now (Ok o) below) in
+        let there = kept.sound.1.1 in
+        unchanged d before s v old r t row found its_mark (Insert key rid) new kept.stops fits (ap (λ (y : Option ℕ). cond (is_some y) [] (Put key rid ∷ [])) there) kept.sound.0 kept.sound.1.2
+        answers.Duplicate (ap (λ (y : Option ℕ). cond (is_some y) answers.Duplicate answers.Inserted) there) table works_on
+
+    -- it has to wait, or its transaction must die
+    pub insert_waits : (o : Outcome (Option Noted)) → Under (Ok o) → (holder : ℕ) → o ≡ Wait holder → new.txns ≡ old.txns → new.failed ≡ false → StepKept d before s v (Do t (Insert key rid)) (answers.Blocked holder) old new
+    insert_waits o below holder is table works_on =
+        let kept = subst (λ (y : Outcome (Option Noted)). Now (Ok y)) is (kept_now (Ok o) below) in
+        blocked d before s v old r t row found its_mark (Insert key rid) new kept.stops fits holder kept.sound.0 kept.sound.1 table works_on
+
+    pub insert_dies : (o : Outcome (Option Noted)) → Under (Ok o) → o ≡ Die → new.txns ≡ record old.txns { rows = map (changed t (with_mark MustRollBack)) old.txns.rows } → new.failed ≡ false → StepKept d before s v (Do t (Insert key rid)) answers.Die old new
+    insert_dies o below is table works_on =
+        let kept = subst (λ (y : Outcome (Option Noted)). Now (Ok y)) is (kept_now (Ok o) below) in
+        died d before s v old r t row found its_mark (Insert key rid) new kept.stops fits kept.sound.0 kept.sound.1 table works_on
+
+  -- a call below refused it
+  pub insert_refused : (before : List Effect) (s : Shown) (v : View) (life : IsLife d before s v old) (works : old.failed ≡ false) → ((u : ℕ) (c : Files) → u ≤ d.moment new.disk → d.may_leave new.disk c → d.left_since new.disk u c) → (f : Fault) → Under (Err f)
+      → LogEnds d true (mild_to_split (Some old.max_pages)) old.writer old.disk new.writer new.disk (Some f) → new.failed ≡ ends_engine f → new.txns ≡ old.txns → ((f ≡ Memory) ⊎ (f ≡ PagesFull) → SameTable old.locks new.locks) → (told : Refusal) → told ≡ told_as f
+      → StepKept d before s v (Do t (Insert key rid)) (Refused (number_of told)) old new
+  insert_refused before s v life works counts_now f below ends fails table same told is =
+      let r = (life.running works).1 in
+      let kept = kept_now before s v r (Err f) below in
+      insert_stopped d before s v t key rid old new life works checked counts_now f ends (edit_stops d before s v old r t row found (access_mark old.txns.rows t (Insert key rid) row found checked) new.disk kept.stops) kept.sound fails table same told is
+
+-- ---- as `IsAnswered` has it
+
+module _ {D : Type 0} (d : Ghosts D) (old : Engine D d) (log : LogFile) (disk : D) (works : old.failed ≡ false) (t : ℕ) (key : Key) (rid : ℕ) (checked : checked_by old.txns.rows (Do t (Insert key rid)) ≡ None) where
+  pub insert_answered : (reply : said.Reply) → ((x : Refusal) → reply ≢ replies.Refused x) → Answers d old log disk (Do t (Insert key rid)) reply
+  insert_answered reply not = behind d old log disk works (Do t (Insert key rid)) reply checked (λ fault. not_refused_for d old log disk works (InsertCause d log disk) reply not fault)
+
+  pub insert_not_answered : (f : Fault) (told : Refusal) → told ≡ told_as f → InsertCause d log disk (told_as f) → Answers d old log disk (Do t (Insert key rid)) (replies.Refused told)
+  insert_not_answered f told is cause = behind d old log disk works (Do t (Insert key rid)) (replies.Refused told) checked (λ fault. refused_for d old log disk works (InsertCause d log disk) f told is cause fault)

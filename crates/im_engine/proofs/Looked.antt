@@ -1,0 +1,184 @@
+-- Calls that only look.
+use Rattle.std.proofs.Common.{◌≡◌, ◌≢◌, inl, inr, ℕ, ◌≤◌, ◌^◌, List, [], ◌++◌, Bool, true, false, Option, None, Some, Result, Ok, Err, IfErr, OnOk, refl, sym, ap, subst, ◌∙◌}
+use Rattle.std.proofs.lemmas.Bool.{cases_Bool}
+use Rattle.std.specs.FinMap.{empty, entries}
+use Rattle.im_types.specs.Maps.{IndexMap}
+use Rattle.im_types.specs.Pages.{Entry}
+use Rattle.im_types.specs.Changes.{Effect, apply_all}
+use Rattle.im_types.specs.Histories.{Base}
+use Rattle.im_types.specs.Lives.{Shown, breaks, effects}
+use Rattle.im_types.specs.Faults.{number_of}
+use Rattle.im_types.specs.declared.fault.Fault.{Fault}
+use Rattle.im_types.specs.declared.fault.Fault.TheVariants.{Failed, LogFull, Device, Memory, NotAStore}
+use Rattle.im_disk.specs.declared.disk.Disk.{Ghosts}
+use Rattle.im_disk.specs.Disk.{Files}
+use Rattle.im_disk.specs.Runs.{LeavesOnly}
+use Rattle.im_disk.proofs.Runs.{started}
+use Rattle.im_log.proofs.Above.{left_now}
+use Rattle.im_flush.specs.PageWriter.{Evicted}
+use Rattle.im_flush.specs.Outcome.{fault_of, AreLoaded, Ends, mild}
+use Rattle.im_tree.specs.Theory.{page_tree}
+use Rattle.im_lock.specs.Locks.{Lock}
+use Rattle.im_lock.specs.Table.{Table, locks_of}
+use Rattle.im_lock.specs.View.{View, locks_in, broken}
+use Rattle.im_steps.specs.Growth.{AreBelow}
+use Rattle.im_steps.specs.Serving.{IsServing}
+use Rattle.im_steps.proofs.Growth.{copies_are_images, images_change_nothing}
+use Rattle.im_steps.proofs.Steps.{images_keep}
+use Rattle.im_steps.proofs.Durable.{commits_stand, quiet_lives_settle}
+use Rattle.im_steps.proofs.Lived.{lives_go_on}
+use Rattle.im_engine.specs.declared.engine.Engine.{Engine}
+use Rattle.im_engine.specs.Faults.{told_as, ends_engine}
+use Rattle.im_engine.specs.Told.{ReadCause}
+use Rattle.im_engine.specs.Numbered.{Numbered}
+use Rattle.im_engine.specs.Stands.{Allowed}
+use Rattle.im_engine.specs.Running.{IsRunning, IsLife}
+use Rattle.im_engine.specs.Kept.{LookKept, EntriesKept}
+use Rattle.im_engine.specs.Looking.{Searched, Looks, broken_by}
+use Rattle.im_engine.proofs.Running.{tells, read_on, read_stops, runs_on}
+use Rattle.im_engine.proofs.Openings.{lives_on}
+
+pub not_true : (b : Bool) → b ≡ false → b ≡ true → ⊥
+not_true b off on = let never : false ≡ true = sym off ∙ on in cc never
+
+module _ {D : Type 0} (d : Ghosts D) (old new : Engine D d) where
+  never_failed : old.writer.failed ≡ false → (why : Option Fault) → Ends d AreLoaded mild old.writer old.disk new.writer new.disk why → why ≡ Some Failed → ⊥
+  never_failed works None x is = cc is
+  never_failed works (Some Failed) x is = not_true old.writer.failed works x.0
+  never_failed works (Some e) x is = cc is
+
+  -- a search of an engine that works
+  pub looks_of : old.failed ≡ false → (why : Option Fault) → Searched d why old new → Looks d why old new
+  looks_of works why one = record {
+    failed = (λ is. absurd (never_failed (old.working works) why one.writer.ends is), λ was. absurd (not_true old.failed works was));
+    same = λ was. absurd (not_true old.failed works was);
+    searched = λ _. one;
+  }
+
+  -- ---- what it says of the engine
+
+  -- it works where it was not refused
+  pub look_works : {A : Type 0} (r : Result A Fault) → Looks d (fault_of r) old new → OnOk r (new.failed ≡ false)
+  look_works {A} (Ok a) one = elim (cases_Bool old.failed) [
+    | inl was ↦ (let never = one.failed.1 was in absurd (cc never))
+    | inr was ↦ (one.searched was).failed
+  ]
+  look_works {A} (Err e) one = tt
+
+  ends_as : old.writer.failed ≡ false → (f : Fault) → Ends d AreLoaded mild old.writer old.disk new.writer new.disk (Some f) → ends_engine f ≡ breaks (number_of f)
+  ends_as works Memory x = refl
+  ends_as works LogFull x = refl
+  ends_as works Device x = refl
+  ends_as works NotAStore x = refl
+  ends_as works Failed x = refl
+  ends_as works g x = absurd (let never = x.0 in cc never)
+
+  -- and has failed where the refusal breaks it
+  pub look_fails : {A : Type 0} (r : Result A Fault) → Looks d (fault_of r) old new → IfErr r (λ e. new.failed ≡ breaks (number_of e))
+  look_fails {A} (Ok a) one = tt
+  look_fails {A} (Err e) one = elim (cases_Bool old.failed) [
+    | inl was ↦ ap (λ (x : Engine D d). x.failed) (one.same was) ∙ was ∙ sym (ap (λ (why : Option Fault). told_by why) (one.failed.1 was))
+    | inr was ↦ (one.searched was).failed ∙ ends_as (old.working was) e (one.searched was).writer.ends
+  ]
+    where
+      told_by : Option Fault → Bool
+      told_by None = false
+      told_by (Some f) = breaks (number_of f)
+
+  cause_of : old.writer.failed ≡ false → (f : Fault) → Ends d AreLoaded mild old.writer old.disk new.writer new.disk (Some f) → ReadCause d new.writer.log new.disk (told_as f)
+  cause_of works Memory x = tt
+  cause_of works LogFull x = x.2
+  cause_of works Device x = x.1
+  cause_of works NotAStore x = tt
+  cause_of works Failed x = absurd (not_true old.writer.failed works x.0)
+  cause_of works g x = absurd (let never = x.0 in cc never)
+
+  -- why it was refused
+  pub look_cause : {A : Type 0} (r : Result A Fault) → Looks d (fault_of r) old new → IfErr r (λ e. old.failed ≡ false → ReadCause d new.writer.log new.disk (told_as e))
+  look_cause {A} (Ok a) one = tt
+  look_cause {A} (Err e) one = λ works. cause_of (old.working works) e (one.searched works).writer.ends
+
+-- an engine that has failed
+pub looks_failed : {D : Type 0} (d : Ghosts D) (e : Engine D d) → e.failed ≡ true → Looks d (Some Failed) e e
+looks_failed d e was = record {
+  failed = (λ _. was, λ _. refl);
+  same = λ _. refl;
+  searched = λ works. absurd (not_true e.failed works was);
+}
+
+module _ {D : Type 0} (d : Ghosts D) (before : List Effect) (s : Shown) (v : View) where
+  -- one that has failed stays as it was
+  pub look_barred : (e : Engine D d) → IsLife d before s v e → e.failed ≡ true → ((c : Files) → d.left_since e.disk (d.moment e.disk) c → d.may_leave e.disk c) → LookKept d before s v e e
+  look_barred e life was only_now =
+      let gone : v.failed ≡ true = life.failed ∙ was in
+      let told : s.failed ≡ true = life.lived.shows.shown.failed ∙ gone in
+      let here : IsLife d before (record s { failed = true }) v e = subst (λ (b : Bool). IsLife d before (record s { failed = b }) v e) told life in
+      record {
+        after = inr (locks_in v, subst (λ (b : Bool). IsLife d before (record s { failed = true }) (record v { failed = b }) e) gone here);
+        stops = started d e.disk (Allowed before s) (λ on c left. life.stops c (only_now c left));
+      }
+
+  module _ (old new : Engine D d) (life : IsLife d before s v old) (works : old.failed ≡ false) where
+    abbrev run : (b : Base) × IsRunning d b before s v old
+    run = life.running works
+
+    -- behind calls that added no more than Images
+    pub still_runs : Evicted d run.0 run.1.base run.1.now old.disk new.writer new.disk → new.txns ≡ old.txns → new.locks ≡ old.locks → IsRunning d run.0 before s v new
+    still_runs is table locks =
+        let b = run.0 in
+        let r = run.1 in
+        let same = copies_are_images page_tree b r.now.log is.now.log is.on.goes.keeps.log in
+        let on = images_change_nothing b r.now.log is.now.log same.images in
+        let serves = images_keep b r.earlier before s v r.now.log is.now.log old.txns.rows old.txns.next old.locks r.serving same.images in
+        let commits = commits_stand.more r.earlier before s.asked r.now.durable is.now.log is.now.durable
+        (commits_stand.stay r.earlier before s.asked r.now.durable r.now.log is.now.log r.commits on.0.commits)
+        (record { from = is.on.goes.keeps.durable; upto = is.on.goes.writing.stands.kept.front }) in
+        runs_on d before s v old r s v new is.now is.on
+        (subst (λ (held : Table). IsServing b r.earlier before s v is.now.log new.txns.rows new.txns.next held) (sym locks) (subst (λ (x : Numbered). IsServing b r.earlier before s v is.now.log x.rows x.next old.locks) (sym table) serves))
+        commits
+        (subst (λ (n : ℕ). n ≤ 2 ^ 62 → AreBelow n is.now.log) (sym (ap (λ (x : Numbered). x.next) table)) (λ le. same.below old.txns.next old.first (r.numbered le)))
+
+    -- a look that was answered
+    pub look_kept : Searched d None old new → LookKept d before s v old new
+    look_kept one = record {
+      after = inl (one.failed, lives_on d before s v new one.failed (still_runs (read_on d before s v old run.1 new.writer new.disk one.writer.ends) one.txns one.locks));
+      stops = read_stops d before s v old run.1 new.writer new.disk one.writer;
+    }
+
+    -- one that was refused
+    pub look_refused : ((t : ℕ) (c : Files) → t ≤ d.moment new.disk → d.may_leave new.disk c → d.left_since new.disk t c) → (fault : Fault) → Searched d (Some fault) old new → LookKept d before s v old new
+    look_refused counts_now fault one = by fault one.writer.ends one.failed
+      where
+        leaves : LeavesOnly d old.disk new.disk (Allowed before s)
+        leaves = read_stops d before s v old run.1 new.writer new.disk one.writer
+
+        broke : new.failed ≡ true → LookKept d before s v old new
+        broke fails = record {
+          after = inr (
+            locks_in v,
+            record {
+              stops = λ c left. left_now d old.disk new.disk (Allowed before s) counts_now leaves (tells d before s v old run.1) c left;
+              failed = sym fails;
+              lived = lives_go_on.looks (apply_all empty before) s v (locks_in v) life.lived (life.failed ∙ works);
+              running = λ on. absurd (not_true new.failed on fails);
+            },
+          );
+          stops = leaves;
+        }
+
+        by : (g : Fault) → Ends d AreLoaded mild old.writer old.disk new.writer new.disk (Some g) → new.failed ≡ ends_engine g → LookKept d before s v old new
+        by Memory x on = record { after = inl (on, lives_on d before s v new on (still_runs (read_on d before s v old run.1 new.writer new.disk x.1) one.txns one.locks)); stops = leaves }
+        by LogFull x on = broke on
+        by Device x on = broke on
+        by NotAStore x on = broke on
+        by Failed x on = absurd (not_true old.writer.failed (old.working works) x.0)
+        by g x on = absurd (let never = x.0 in cc never)
+
+-- the entries
+pub entries_kept : {D : Type 0} (d : Ghosts D) {b : Base} (before : List Effect) (s : Shown) (v : View) (e : Engine D d) (r : IsRunning d b before s v e) (list : List Entry) → list ≡ entries v.walk → EntriesKept before s v list
+entries_kept d {b = b} before s v e r list here = record {
+  walk = here;
+  quiet = λ none.
+      let on = quiet_lives_settle b r.earlier before s v r.now.durable r.now.log e.txns.rows e.txns.next e.locks r.serving r.commits none in
+      here ∙ ap (λ (m : IndexMap). entries m) (r.serving.seen_by.walk ∙ sym on.serving.seen_by.walk ∙ on.committed);
+}

@@ -1,0 +1,96 @@
+-- Accesses that change nothing.
+use Rattle.std.proofs.Common.{◌≡◌, ◌≢◌, inl, inr, ℕ, ◌≤◌, List, [], Bool, true, false, Option, Some, None, refl, sym, ap, subst, ◌∙◌}
+use Rattle.std.specs.Prelude.{map}
+use Rattle.im_types.specs.Answers as answers
+use Rattle.im_types.specs.Answers.{Access, Do, Commit, Reply, Refused, Blocked, Die, answer, changes}
+use Rattle.im_types.specs.Changes.{Effect}
+use Rattle.im_types.specs.Histories.{Base}
+use Rattle.im_types.specs.Refusals.{memory}
+use Rattle.im_types.specs.declared.fault.Fault.{Fault}
+use Rattle.im_types.specs.declared.fault.Fault.TheVariants.{NotAStore}
+use Rattle.im_types.specs.Lives.{Shown, shows}
+use Rattle.im_disk.specs.declared.disk.Disk.{Ghosts}
+use Rattle.im_disk.specs.Disk.{Files}
+use Rattle.im_flush.specs.Outcome.{Reads}
+use Rattle.im_front.specs.Calls.{number_of}
+use Rattle.im_front.specs.declared.fault.Fault.{Fault as Refusal}
+use Rattle.im_index.specs.declared.outcome.Outcome.{Outcome}
+use Rattle.im_index.specs.declared.outcome.Outcome.TheVariants.{Granted as OutcomeGranted, Wait as OutcomeWait, Die as OutcomeDie}
+use Rattle.im_index.specs.Outcomes.{seek_at}
+use Rattle.im_index.specs.Reads.{IsRead}
+use Rattle.im_types.specs.Keys.{Key}
+use Rattle.im_types.specs.Maps.{IndexMap}
+use Rattle.im_txn.specs.Rows.{changed, with_mark}
+use Rattle.im_txn.specs.declared.transaction.Mark.TheVariants.{MustRollBack}
+use Rattle.im_lock.specs.Rows.{asked}
+use Rattle.im_lock.specs.Table.{SameTable, Decides, locks_of}
+use Rattle.im_lock.specs.declared.verdict.Verdict.TheVariants.{Granted, Wait, Die as MustDie}
+use Rattle.im_lock.specs.View.{View, did, marked}
+use Rattle.im_lock.specs.Machine.{Wants, barred}
+use Rattle.im_steps.specs.Checks.{checked_by}
+use Rattle.im_steps.proofs.Asking.{asks_nothing, waits_ask_nothing, dies_ask_nothing}
+use Rattle.im_steps.proofs.Lived.{rows_tell}
+use Rattle.im_steps.proofs.Steps.{reads_served, waits_served, dies_served}
+use Rattle.im_engine.specs.declared.engine.Engine.{Engine}
+use Rattle.im_engine.specs.Faults.{told_as, ends_engine}
+use Rattle.im_engine.specs.Numbered.{Numbered}
+use Rattle.im_engine.specs.Running.{IsRunning, IsLife}
+use Rattle.im_engine.specs.Kept.{StepKept}
+use Rattle.im_engine.proofs.Checked.{IsGoing, access_going, access_fits}
+use Rattle.im_engine.proofs.Running.{read_on, read_stops}
+use Rattle.im_engine.proofs.Made.{grown_made}
+use Rattle.im_engine.proofs.Refused.{search_refused}
+
+-- a search from a key on, or from above it
+pub seeks_change_nothing : (inclusive : Bool) (key : Key) (m : IndexMap) → changes (seek_at inclusive key) m ≡ []
+seeks_change_nothing true key m = refl
+seeks_change_nothing false key m = refl
+
+pub seeks_want_memory : (t : ℕ) (inclusive : Bool) (key : Key) → Wants (Do t (seek_at inclusive key)) memory
+seeks_want_memory t true key = refl
+seeks_want_memory t false key = refl
+
+module _ {D : Type 0} (d : Ghosts D) (before : List Effect) (s : Shown) (v : View) (t : ℕ) (a : Access) (old new : Engine D d) (life : IsLife d before s v old) (works : old.failed ≡ false) (checked : checked_by old.txns.rows (Do t a) ≡ None) where
+  abbrev run : (b : Base) × IsRunning d b before s v old
+  run = life.running works
+
+  going : IsGoing old.txns.rows t
+  going = access_going old.txns.rows t a checked
+
+  no_commit : (u : ℕ) → Do t a ≡ Commit u → ⊥
+  no_commit u is = cc is
+
+  -- granted, with its answer
+  pub granted : changes a v.walk ≡ [] → {X : Type 0} (says : X → Reply) (o : Outcome X) → IsRead says t a v.walk old.locks new.locks o → (x : X) → o ≡ OutcomeGranted x → (reply : Reply) → says x ≡ reply
+      → Reads d old.writer old.disk new.writer new.disk None → new.txns ≡ old.txns → new.failed ≡ false → StepKept d before s v (Do t a) reply old new
+  granted none {X} says o read x is reply told one table works_on =
+      let now = subst (λ (y : Outcome X). IsRead says t a v.walk old.locks new.locks y) is read in
+      subst (λ (y : Reply). StepKept d before s v (Do t a) y old new) (sym now.says ∙ told)
+      (grown_made d before s v (did v t a (locks_of new.locks t)) (Do t a) (answer a v.walk) old new run.1 old.txns (read_on d before s v old run.1 new.writer new.disk one.ends)
+      (λ longer stays all. reads_served run.0 run.1.earlier before s v run.1.now.log longer old.txns.rows old.txns.next old.locks new.locks t going.row a run.1.serving going.found going.mark (access_fits old.txns.rows t a checked) none now.decides stays all)
+      (asks_nothing s t a v) refl table refl (read_stops d before s v old run.1 new.writer new.disk one) works_on tt)
+
+  -- it has to wait
+  pub waits : {X : Type 0} (says : X → Reply) (o : Outcome X) → IsRead says t a v.walk old.locks new.locks o → (holder : ℕ) → o ≡ OutcomeWait holder → Reads d old.writer old.disk new.writer new.disk None → new.txns ≡ old.txns → new.failed ≡ false
+      → StepKept d before s v (Do t a) (Blocked holder) old new
+  waits {X} says o read holder is one table works_on =
+      let decides : Decides old.locks t (asked a v.walk) (Wait holder) new.locks = (subst (λ (y : Outcome X). IsRead says t a v.walk old.locks new.locks y) is read).decides in
+      grown_made d before s v v (Do t a) (Blocked holder) old new run.1 old.txns (read_on d before s v old run.1 new.writer new.disk one.ends)
+      (λ longer stays all. waits_served run.0 run.1.earlier before s v run.1.now.log longer old.txns.rows old.txns.next old.locks new.locks t holder going.row a run.1.serving going.found going.mark (access_fits old.txns.rows t a checked) decides stays all)
+      (waits_ask_nothing s t holder a) refl table refl (read_stops d before s v old run.1 new.writer new.disk one) works_on tt
+
+  -- its transaction must die
+  pub dies : {X : Type 0} (says : X → Reply) (o : Outcome X) → IsRead says t a v.walk old.locks new.locks o → o ≡ OutcomeDie → Reads d old.writer old.disk new.writer new.disk None → new.txns ≡ record old.txns { rows = map (changed t (with_mark MustRollBack)) old.txns.rows } → new.failed ≡ false
+      → StepKept d before s v (Do t a) Die old new
+  dies {X} says o read is one table works_on =
+      let decides : Decides old.locks t (asked a v.walk) MustDie new.locks = (subst (λ (y : Outcome X). IsRead says t a v.walk old.locks new.locks y) is read).decides in
+      grown_made d before s v (marked v t answers.MustRollBack) (Do t a) Die old new run.1 (record old.txns { rows = map (changed t (with_mark MustRollBack)) old.txns.rows }) (read_on d before s v old run.1 new.writer new.disk one.ends)
+      (λ longer stays all. dies_served run.0 run.1.earlier before s v run.1.now.log longer old.txns.rows old.txns.next old.locks new.locks t going.row a run.1.serving going.found going.mark (access_fits old.txns.rows t a checked) decides stays all)
+      (dies_ask_nothing s t a) refl table refl (read_stops d before s v old run.1 new.writer new.disk one) works_on tt
+
+  -- a call below refused it
+  pub refused : ((u : ℕ) (c : Files) → u ≤ d.moment new.disk → d.may_leave new.disk c → d.left_since new.disk u c) → (f : Fault) → Wants (Do t a) memory → Reads d old.writer old.disk new.writer new.disk (Some f) → f ≢ NotAStore → new.failed ≡ ends_engine f
+      → new.txns ≡ old.txns → SameTable old.locks new.locks → (told : Refusal) → told ≡ told_as f → StepKept d before s v (Do t a) (Refused (number_of told)) old new
+  refused counts_now f wants one sound fails table same told is =
+      subst (λ (y : Refusal). StepKept d before s v (Do t a) (Refused (number_of y)) old new) (sym is) (search_refused d before s v (Do t a) no_commit
+      (rows_tell run.0 run.1.earlier before s v run.1.now.log old.txns.rows old.txns.next old.locks (Do t a) run.1.serving ∙ checked) old new life works counts_now f wants one sound fails table same)

@@ -1,0 +1,97 @@
+-- Steps that calls of the writer refuse.
+use Rattle.std.proofs.Common.{◌≡◌, ◌≢◌, ◌⊎◌, inl, inr, ℕ, ◌≤◌, List, Bool, true, false, not, Option, Some, None, refl, sym, ap, subst, ◌∙◌}
+use Rattle.im_types.specs.Answers.{Step, Begin, Do, Commit, Rollback, Continue, FlushPage, Force, Checkpoint, Reply, Refused}
+use Rattle.im_types.specs.Changes.{Effect}
+use Rattle.im_types.specs.Histories.{Base, History}
+use Rattle.im_types.specs.Refusals.{memory}
+use Rattle.im_types.specs.declared.fault.Fault.{Fault}
+use Rattle.im_types.specs.declared.fault.Fault.TheVariants.{Failed, LogFull, Device, Memory, NotAStore}
+use Rattle.im_types.specs.Lives.{Shown, shows}
+use Rattle.im_disk.specs.declared.disk.Disk.{Ghosts}
+use Rattle.im_disk.specs.Disk.{Files}
+use Rattle.im_disk.specs.Runs.{LeavesOnly}
+use Rattle.im_log.proofs.Above.{left_now}
+use Rattle.im_flush.specs.declared.page_writer.PageWriter.{PageWriter}
+use Rattle.im_flush.specs.PageWriter.{Evicted}
+use Rattle.im_flush.specs.Outcome.{Reads, AreLoaded, mild, Ends, none_mild, LogEnds}
+use Rattle.im_front.specs.Calls.{number_of}
+use Rattle.im_lock.specs.Table.{Table, SameTable, locks_of}
+use Rattle.im_lock.specs.View.{View}
+use Rattle.im_lock.specs.Machine.{Breaks, Wants, barred}
+use Rattle.im_steps.specs.Serving.{IsServing}
+use Rattle.im_steps.proofs.Asking.{refusals_ask_nothing}
+use Rattle.im_steps.proofs.Durable.{others_ask_nothing}
+use Rattle.im_steps.proofs.Steps.{lacks_served}
+use Rattle.im_engine.specs.declared.engine.Engine.{Engine}
+use Rattle.im_engine.specs.Faults.{told_as, ends_engine}
+use Rattle.im_engine.specs.Stands.{Allowed}
+use Rattle.im_engine.specs.Running.{IsRunning, IsLife}
+use Rattle.im_engine.specs.Kept.{StepKept, IsDone}
+use Rattle.im_engine.proofs.Running.{allowed_as, tells, read_on, read_stops}
+use Rattle.im_engine.proofs.Made.{grown_made, leaves_as, step_broke}
+
+not_true : (b : Bool) → b ≡ false → b ≡ true → ⊥
+not_true b off on = let never : false ≡ true = sym off ∙ on in cc never
+
+-- nothing was done
+pub none_done : {D : Type 0} (d : Ghosts D) (before : List Effect) (s : Shown) (v : View) (step : Step) (n : ℕ) (e : Engine D d) → IsDone d before s v step (Refused n) e
+none_done d before s v Begin n e = tt
+none_done d before s v (Do t a) n e = tt
+none_done d before s v (Commit t) n e = tt
+none_done d before s v (Rollback t) n e = tt
+none_done d before s v (Continue t) n e = tt
+none_done d before s v (FlushPage p) n e = tt
+none_done d before s v Force n e = tt
+none_done d before s v Checkpoint n e = tt
+
+-- another table with the same locks
+pub serving_with : (b : Base) (earlier before : List Effect) (s : Shown) (v : View) (log : History) (rows : List _) (next : ℕ) (old new : Table) → SameTable old new → IsServing b earlier before s v log rows next old → IsServing b earlier before s v log rows next new
+serving_with b earlier before s v log rows next old new same is = record {
+  made = is.made;
+  works = is.works;
+  seen_by = is.seen_by;
+  shows = is.shows;
+  reached = is.reached;
+  says = is.says;
+  table = is.table;
+  locks = λ u. is.locks u ∙ sym (same u);
+}
+
+module _ {D : Type 0} (d : Ghosts D) (before : List Effect) (s : Shown) (v : View) (step : Step) (other : (u : ℕ) → step ≡ Commit u → ⊥) (checked : barred v step ≡ None) (old new : Engine D d) (life : IsLife d before s v old)
+    (works : old.failed ≡ false) (counts_now : (t : ℕ) (c : Files) → t ≤ d.moment new.disk → d.may_leave new.disk c → d.left_since new.disk t c) where
+  abbrev run : (b : Base) × IsRunning d b before s v old
+  run = life.running works
+
+  -- one that breaks the engine
+  pub breaks_with : (fault : ℕ) → Breaks fault → new.failed ≡ true → LeavesOnly d old.disk new.disk (Allowed before s) → StepKept d before s v step (Refused fault) old new
+  breaks_with fault is fails leaves =
+      step_broke d before s v step fault old new (locks_of new.locks) life checked is fails
+      (leaves_as d before s (shows s step None) old.disk new.disk (others_ask_nothing.cut s step other) leaves)
+      (λ c left. allowed_as before s (shows s step (Some (Refused fault))) c (refusals_ask_nothing fault step s (λ t is. absurd (other t is)))
+      (left_now d old.disk new.disk (Allowed before s) counts_now leaves (tells d before s v old run.1) c left))
+      (none_done d before (shows s step (Some (Refused fault))) _ step fault new)
+
+  -- one for which memory was wanting
+  pub lacks_with : Wants step memory → Evicted d run.0 run.1.base run.1.now old.disk new.writer new.disk → LeavesOnly d old.disk new.disk (Allowed before s) → new.txns ≡ old.txns → SameTable old.locks new.locks → new.failed ≡ false
+      → StepKept d before s v step (Refused memory) old new
+  lacks_with wants is leaves table same works_on =
+      grown_made d before s v v step (Refused memory) old new run.1 old.txns is
+      (λ longer stays all. lacks_served run.0 run.1.earlier before s v run.1.now.log longer old.txns.rows old.txns.next new.locks step memory
+      (serving_with run.0 run.1.earlier before s v run.1.now.log old.txns.rows old.txns.next old.locks new.locks same run.1.serving) checked wants stays all)
+      (refusals_ask_nothing memory step s (λ t is. inl refl)) (others_ask_nothing.cut s step other) table refl leaves works_on (none_done d before (shows s step (Some (Refused memory))) v step memory new)
+
+  -- one that a search refuses
+  pub search_refused : (f : Fault) → Wants step memory → Reads d old.writer old.disk new.writer new.disk (Some f) → f ≢ NotAStore → new.failed ≡ ends_engine f → new.txns ≡ old.txns → SameTable old.locks new.locks
+      → StepKept d before s v step (Refused (number_of (told_as f))) old new
+  search_refused f wants one sound fails table same = by f one.ends sound fails
+    where
+      leaves : LeavesOnly d old.disk new.disk (Allowed before s)
+      leaves = read_stops d before s v old run.1 new.writer new.disk one
+
+      by : (g : Fault) → Ends d AreLoaded mild old.writer old.disk new.writer new.disk (Some g) → g ≢ NotAStore → new.failed ≡ ends_engine g → StepKept d before s v step (Refused (number_of (told_as g))) old new
+      by Memory x other_than on = lacks_with wants (read_on d before s v old run.1 new.writer new.disk x.1) leaves table same on
+      by LogFull x other_than on = breaks_with 7 (inr (inl refl)) on leaves
+      by Device x other_than on = breaks_with 8 (inr (inr (inl refl))) on leaves
+      by Failed x other_than on = absurd (not_true old.writer.failed (old.working works) x.0)
+      by NotAStore x other_than on = absurd (other_than refl)
+      by g x other_than on = absurd (let never = x.0 in cc never)

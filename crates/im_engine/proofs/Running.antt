@@ -1,0 +1,134 @@
+-- What is known of an engine that works, of its tree, of stops within calls that log nothing of their own, and of the engine behind them.
+use Rattle.std.proofs.Common.{◌≡◌, ℕ, ◌≤◌, ◌^◌, List, [], false, Option, refl, sym, ap, subst, ◌∙◌}
+use Rattle.std.proofs.Math.Path.{fun_ext}
+use Rattle.std.specs.FinMap.{entries}
+use Rattle.im_types.specs.declared.fault.Fault.{Fault}
+use Rattle.im_types.specs.Maps.{IndexMap}
+use Rattle.im_types.specs.Pages.{Page}
+use Rattle.im_types.specs.Structure.{settled, taken_back}
+use Rattle.im_types.proofs.Redo.{reached_end}
+use Rattle.im_types.proofs.Fronts.{has_tree}
+use Rattle.im_flush.specs.Outcome.{AreLoaded, Reads, Stays, pages_of}
+use Rattle.im_flush.proofs.Outcomes.{leaves_of_end, pages_here}
+use Rattle.im_tree.specs.Levels.{Pages, walk}
+use Rattle.im_tree.specs.Good.{IsGoodTree}
+use Rattle.im_search.specs.Found.{HasTree}
+use Rattle.im_search.specs.Levels.{bodies_of}
+use Rattle.im_types.specs.Changes.{Effect}
+use Rattle.im_types.specs.Histories.{Base, History, page_at}
+use Rattle.im_types.specs.Lawful.{IsLawful}
+use Rattle.im_types.specs.Transactions.{committed}
+use Rattle.im_types.specs.Writer.{Writer, WriterKept}
+use Rattle.im_types.specs.Lives.{Asked, Shown, StandsForMore, shows}
+use Rattle.im_disk.specs.declared.disk.Disk.{Ghosts}
+use Rattle.im_disk.specs.Disk.{Files}
+use Rattle.im_disk.specs.Runs.{LeavesOnly}
+use Rattle.im_disk.proofs.Runs.{started, weakened}
+use Rattle.im_flush.specs.Stands.{IsCovered, LeavesCovered}
+use Rattle.im_flush.specs.Writing.{LeavesGrown}
+use Rattle.im_flush.specs.declared.page_writer.PageWriter.{PageWriter}
+use Rattle.im_flush.specs.PageWriter.{StandsAs, GoesOn, Evicted}
+use Rattle.im_flush.proofs.Standing.{stop_now}
+use Rattle.im_tree.specs.Theory.{page_tree}
+use Rattle.im_txn.specs.declared.transaction.Transaction.{Transaction}
+use Rattle.im_lock.specs.Table.{Table}
+use Rattle.im_lock.specs.View.{View}
+use Rattle.im_steps.specs.Growth.{AreBelow}
+use Rattle.im_steps.specs.Serving.{IsServing}
+use Rattle.im_steps.specs.Durable.{AreCommitted}
+use Rattle.im_steps.proofs.Growth.{copies_are_images, images_change_nothing}
+use Rattle.im_steps.proofs.Durable.{commits_stand}
+use Rattle.im_engine.specs.declared.engine.Engine.{Engine}
+use Rattle.im_engine.specs.Stands.{StandsFor, Allowed}
+use Rattle.im_engine.specs.Running.{IsRunning}
+use Rattle.im_engine.proofs.Stands.{covered_allowed}
+
+-- what may be left where the same is asked
+pub allowed_as : (before : List Effect) (s t : Shown) (c : Files) → t.asked ≡ s.asked → Allowed before s c → Allowed before t c
+allowed_as before s t c same h = subst (λ (l : List Asked). StandsForMore StandsFor before l c) (sym same) h
+
+module _ {D : Type 0} (d : Ghosts D) {b : Base} (before : List Effect) (s : Shown) (v : View) (e : Engine D d) (r : IsRunning d b before s v e) where
+  pub writer_kept : WriterKept b r.now
+  writer_kept = r.stands.writing.stands.kept
+
+  -- redo is over: no page waits for a copy
+  pub none_waits : (p : ℕ) → (r.now.pages p).waits ≡ false
+  none_waits p = ((writer_kept.pages p).run r.redo_end r.over).0
+
+  -- each page is as the log's records have made it
+  pub page_is : (p : ℕ) → (r.now.pages p).page ≡ page_at b r.now.log p
+  page_is p =
+      let kept = writer_kept.pages p in
+      let run = kept.run r.redo_end r.over in
+      reached_end b r.now.log (r.now.pages p).upto p (r.now.pages p).page run.1 (kept.now run.0)
+
+  pub bodies_are : bodies_of (pages_of r.now) ≡ settled b r.now.log
+  bodies_are = fun_ext (λ (p : ℕ). ap (λ (g : Page). g.body) (page_is p) ∙ sym (ap (λ (l : History). taken_back l p (page_at b r.now.log p).body) r.closed))
+
+  -- the writer's pages are a good tree
+  pub has_good_tree : HasTree d (pages_of r.now) e.writer e.disk
+  has_good_tree = record {
+    has = pages_here d b r.base r.now e.writer e.disk r.stands none_waits;
+    spare = [];
+    good = subst (λ (pages : Pages). IsGoodTree pages []) (sym bodies_are) (has_tree b page_tree r.now.log r.lawful).good;
+  }
+
+  -- its walk is the machine's
+  pub walk_is : walk (bodies_of (pages_of r.now)) ≡ entries v.walk
+  walk_is = ap walk bodies_are ∙ (has_tree b page_tree r.now.log r.lawful).walk ∙ ap (λ (m : IndexMap). entries m) (sym r.serving.seen_by.walk)
+
+  -- the files of pages read as they are
+  pub tells : d.tells
+  tells = r.stands.writing.stands.log_is.tells
+
+  -- what a stop leaves of a longer log that committed no more
+  pub left_on : (high : History) → IsLawful b page_tree high → committed high ≡ committed r.now.log → (c : Files) → IsCovered b r.base r.now.durable high c → Allowed before s c
+  left_on high law same c is =
+      covered_allowed b r.base r.earlier before s r.now.durable high r.start r.serving.made law (commits_stand.stay r.earlier before s.asked r.now.durable r.now.log high r.commits same) c is
+
+  -- a stop now
+  pub stops_now : (c : Files) → d.may_leave e.disk c → Allowed before s c
+  stops_now c left = left_on r.now.log r.lawful refl c (stop_now d b r.base r.now e.writer.log e.writer.table e.disk r.stands.writing.stands c left)
+
+  -- a stop within calls that add Images
+  pub grown_stops : (new : D) → LeavesGrown d b r.base r.now e.disk new → LeavesOnly d e.disk new (Allowed before s)
+  grown_stops new run =
+      let same = copies_are_images page_tree b r.now.log run.high run.grows in
+      let stays = images_change_nothing b r.now.log run.high same.images in
+      weakened d e.disk new (IsCovered b r.base r.now.durable run.high) (Allowed before s) run.stops (λ told c is. left_on run.high (same.lawful r.lawful) stays.0.commits c is)
+
+  -- a stop within a search
+  pub read_stops : {why : Option Fault} (w : PageWriter) (new : D) → Reads d e.writer e.disk w new why → LeavesOnly d e.disk new (Allowed before s)
+  read_stops {why} w new one = grown_stops new (leaves_of_end d one b r.base r.now r.stands none_waits)
+
+  -- where it is not refused the writer goes on from where it stood
+  pub read_on : (w : PageWriter) (new : D) → Stays d AreLoaded e.writer e.disk w new → Evicted d b r.base r.now e.disk w new
+  read_on w new one = one.goes b r.base r.now r.stands none_waits
+
+  -- a stop where no call was made
+  pub idle_stops : ((c : Files) → d.left_since e.disk (d.moment e.disk) c → d.may_leave e.disk c) → LeavesOnly d e.disk e.disk (Allowed before s)
+  idle_stops only_now = started d e.disk (Allowed before s) (λ told c left. stops_now c (only_now c left))
+
+  -- and within a call that adds none
+  pub covered_stops : (new : D) → LeavesCovered d b r.base r.now.durable r.now.log e.disk new → LeavesOnly d e.disk new (Allowed before s)
+  covered_stops new run = weakened d e.disk new (IsCovered b r.base r.now.durable r.now.log) (Allowed before s) run (λ told c is. left_on r.now.log r.lawful refl c is)
+
+  -- the same engine, where its log has grown by Images, and table, locks and next number have gone on to what a step made of them
+  unfoldable pub runs_on : (t : Shown) (w : View) (new : Engine D d) (now : Writer) (on : GoesOn d b r.base r.now e.disk now new.writer new.disk) → IsServing b r.earlier before t w now.log new.txns.rows new.txns.next new.locks
+      → AreCommitted r.earlier before t.asked now.durable now.log → (new.txns.next ≤ 2 ^ 62 → AreBelow new.txns.next now.log) → IsRunning d b before t w new
+  runs_on t w new now on serving commits numbered =
+      let same = copies_are_images page_tree b r.now.log now.log on.goes.keeps.log in
+      record {
+        base = r.base;
+        start = r.start;
+        earlier = r.earlier;
+        now = now;
+        stands = record { working = on.working; writing = on.goes.writing; known = on.known };
+        redo_end = r.redo_end;
+        over = on.goes.keeps.redo_end ∙ r.over;
+        lawful = same.lawful r.lawful;
+        closed = same.opened ∙ r.closed;
+        serving = serving;
+        commits = commits;
+        numbered = numbered;
+      }

@@ -1,0 +1,358 @@
+-- Changes that are taken back, one at a time.
+use Rattle.std.proofs.Common.{◌≡◌, ◌≢◌, inl, inr, ℕ, ◌+◌, ◌≤◌, ◌<◌, ◌^◌, List, [], ◌∷◌, Bool, true, false, Option, Some, None, Result, Ok, Err, length, map, refl, sym, ap, subst, ◌∙◌, arith}
+use Rattle.std.specs.Prelude.{find}
+use Rattle.im_types.specs.Maps.{IndexMap}
+use Rattle.im_types.specs.Changes.{Change, Put, Drop, Effect, undone}
+use Rattle.im_types.specs.Records.{What, InsertKey, DeleteKey, UndoInsert, UndoDelete, Smo, UndoSmo, DummyClr, Commit, End, Image, Checkpoint, Unreadable, Logged}
+use Rattle.im_types.specs.Answers.{Continue, More, RolledBack, Refused}
+use Rattle.im_types.specs.declared.fault.Fault.{Fault}
+use Rattle.im_types.specs.declared.fault.Fault.TheVariants.{Capacity, Failed, LogFull, Device, Memory, NotAStore, PagesFull}
+use Rattle.im_types.specs.Histories.{Base, History, IsFront}
+use Rattle.im_types.specs.LogLaws as logs
+use Rattle.im_types.specs.Structure.{settled}
+use Rattle.std.specs.FinMap.{get}
+use Rattle.im_types.specs.Transactions.{change_of, committed, contents, contents_after, net, is_end, is_finished, is_key, last_of, undo_next_of, to_undo}
+use Rattle.im_types.specs.Lives.{Shown, shows}
+use Rattle.im_types.specs.Writer.{Writer}
+use Rattle.im_disk.specs.declared.disk.Disk.{Ghosts}
+use Rattle.im_disk.specs.Disk.{Files}
+use Rattle.im_disk.specs.Runs.{LeavesOnly}
+use Rattle.im_disk.proofs.Runs.{weakened}
+use Rattle.im_record.specs.Entry as entries
+use Rattle.im_record.specs.Entry.{prev_of}
+use Rattle.im_log.specs.Whats.{what_of}
+use Rattle.im_log.specs.Spelled.{logged_at}
+use Rattle.im_log.specs.declared.log_file.LogFile.{LogFile}
+use Rattle.im_log.proofs.Above.{front_then}
+use Rattle.im_flush.specs.declared.page_writer.PageWriter.{PageWriter}
+use Rattle.im_flush.specs.PageWriter.{StandsAs, Evicted}
+use Rattle.im_tree.specs.Good.{AllOf}
+use Rattle.im_tree.specs.Theory.{page_tree}
+use Rattle.im_tree.specs.Levels.{Pages}
+use Rattle.im_search.specs.Levels.{bodies}
+use Rattle.im_split.specs.Tops.{LacksRoomFor}
+use Rattle.im_structure.specs.Structure.{IsUsedUp}
+use Rattle.im_analysis.specs.Undo.{IsUndoable}
+use Rattle.im_analysis.specs.Losers.{row_of}
+use Rattle.im_analysis.specs.declared.rows.Loser.{Loser}
+use Rattle.im_undo.specs.Records.{IsOfUndo, GrowsByUndo, inverse_of}
+use Rattle.im_undo.specs.Undoing.{IsGoing, LeavesUndo, LeftByUndo, ShowsChange, UsesUp}
+use Rattle.im_undo.proofs.Shown.{get_is, shows_change}
+use Rattle.im_rollback.specs.Ends.{TurnEnds, may_turn}
+use Rattle.im_rollback.specs.declared.undone.Undone.{Undone}
+use Rattle.im_rollback.specs.declared.undone.Undone.TheVariants as turns
+use Rattle.im_rollback.specs.Turns.{Took, HasMore, HasEndedNow, LacksWayBack, Turned}
+use Rattle.im_txn.specs.Rows.{is_of, changed, with_record}
+use Rattle.im_txn.specs.LookUps.{without}
+use Rattle.im_txn.specs.declared.transaction.Mark.{Mark}
+use Rattle.im_txn.specs.declared.transaction.Mark.TheVariants as marks
+use Rattle.im_txn.specs.declared.transaction.Transaction.{Transaction}
+use Rattle.im_front.specs.declared.fault.Fault.{Fault as Refusal}
+use Rattle.im_front.specs.declared.fault.Fault.TheVariants as above
+use Rattle.im_front.specs.declared.reply.Reply.{Reply}
+use Rattle.im_front.specs.declared.reply.Reply.TheVariants as replies
+use Rattle.im_front.specs.Calls.{number_of}
+use Rattle.im_lock.specs.Table.{Table, IsReleased, locks_of}
+use Rattle.im_lock.specs.View.{View, undid_more, undid_last}
+use Rattle.im_lock.specs.Machine.{barred, barred_to_continue}
+use Rattle.im_steps.specs.Checks.{checked_by, mark_at}
+use Rattle.im_steps.specs.Growth.{AreBelow, AreWithin, GrowsWithin, IsWithin}
+use Rattle.im_steps.specs.Undone.{UndoesNewest}
+use Rattle.im_steps.specs.Serving.{IsRow, IsServing, mark_of}
+use Rattle.im_steps.specs.Durable.{AreCommitted}
+use Rattle.im_steps.proofs.Growth.{numbers_stay_new, within_leaves_others}
+use Rattle.im_steps.proofs.Durable.{commits_stand}
+use Rattle.im_steps.proofs.Lived.{rows_tell}
+use Rattle.im_steps.proofs.Steps.{at}
+use Rattle.im_steps.proofs.Undone.{ends_leave_nothing, last_undone_served, rolling_has_more, undo_takes_back, undone_served}
+use Rattle.im_engine.specs.declared.engine.Engine.{Engine}
+use Rattle.im_engine.specs.Faults.{told_as, ends_engine}
+use Rattle.im_engine.specs.Numbered.{Numbered}
+use Rattle.im_engine.specs.Stands.{Allowed}
+use Rattle.im_engine.specs.Running.{IsRunning, IsLife}
+use Rattle.im_engine.specs.Kept.{StepKept}
+use Rattle.im_engine.specs.Told.{LacksWay, TurnCause}
+use Rattle.im_engine.proofs.Running.{bodies_are, left_on}
+use Rattle.im_engine.proofs.Made.{step_made}
+use Rattle.im_engine.proofs.Refused.{breaks_with, lacks_with}
+use Rattle.im_engine.proofs.Telling.{not_true}
+use Rattle.im_engine.proofs.Causes.{Answers, behind, not_refused_for, refused_for}
+
+-- ---- the row of a step that goes on
+
+back_by : (m : Mark) (row : Transaction) → row.mark ≡ m → barred_to_continue (mark_at (Some row)) ≡ None → row.mark ≡ marks.RollingBack
+back_by marks.RollingBack row is none = is
+back_by marks.Going row is none = absurd (let never = sym (ap (λ (x : Mark). barred_to_continue (mark_at (Some (record row { mark = x })))) is) ∙ none in cc never)
+back_by marks.MustRollBack row is none = absurd (let never = sym (ap (λ (x : Mark). barred_to_continue (mark_at (Some (record row { mark = x })))) is) ∙ none in cc never)
+back_by marks.Committing row is none = absurd (let never = sym (ap (λ (x : Mark). barred_to_continue (mark_at (Some (record row { mark = x })))) is) ∙ none in cc never)
+
+pub continue_mark : (rows : List Transaction) (t : ℕ) (row : Transaction) → find (is_of t) rows ≡ Some row → checked_by rows (Continue t) ≡ None → row.mark ≡ marks.RollingBack
+continue_mark rows t row found is = back_by row.mark row refl (sym (ap (λ (o : Option Transaction). barred_to_continue (mark_at o)) found) ∙ is)
+
+pub continue_found : (rows : List Transaction) (t : ℕ) → find (is_of t) rows ≡ None → checked_by rows (Continue t) ≡ None → ⊥
+continue_found rows t none is = let never = sym (ap (λ (o : Option Transaction). barred_to_continue (mark_at o)) none) ∙ is in cc never
+
+-- ---- what an undo adds to a log, in the words of steps
+
+undo_record : (t : ℕ) (r : Logged) (w : What) → r.what ≡ w → IsOfUndo t r w → IsWithin t r
+undo_record t r (UndoInsert k i) is own = inr (own, ap is_end is)
+undo_record t r (UndoDelete k i) is own = inr (own, ap is_end is)
+undo_record t r (Smo was now) is own = inr (own, ap is_end is)
+undo_record t r DummyClr is own = inr (own, ap is_end is)
+undo_record t r (Image c) is own = inl (record { copy = c; what = is; no_owner = own })
+undo_record t r (InsertKey k i) is own = absurd own
+undo_record t r (DeleteKey k i) is own = absurd own
+undo_record t r (UndoSmo now) is own = absurd own
+undo_record t r Commit is own = absurd own
+undo_record t r End is own = absurd own
+undo_record t r (Checkpoint n a dirty) is own = absurd own
+undo_record t r Unreadable is own = absurd own
+
+undo_records : (t : ℕ) (more : History) → AllOf (λ (r : Logged). IsOfUndo t r r.what) more → AreWithin t more
+undo_records t [] all = tt
+undo_records t (r ∷ more) all = (undo_record t r r.what refl all.0, undo_records t more all.1)
+
+pub undo_grows : (t : ℕ) (older longer : History) → GrowsByUndo t older longer → GrowsWithin t older longer
+undo_grows t older longer by = record { more = by.more; is = sym by.is; within = undo_records t by.more by.all }
+
+-- the change of a key record, and what its inverse does
+made_by : (w : What) → is_key w ≡ true → (c : Change) × (change_of w ≡ c ∷ []) × ((m : IndexMap) → contents_after (inverse_of w) m ≡ undone m c)
+made_by (InsertKey k i) is = (Put k i, refl, λ m. refl)
+made_by (DeleteKey k i) is = (Drop k i, refl, λ m. refl)
+made_by (UndoInsert k i) is = absurd cc
+made_by (UndoDelete k i) is = absurd cc
+made_by (Smo was now) is = absurd cc
+made_by (UndoSmo now) is = absurd cc
+made_by DummyClr is = absurd cc
+made_by Commit is = absurd cc
+made_by End is = absurd cc
+made_by (Image c) is = absurd cc
+made_by (Checkpoint n a dirty) is = absurd cc
+made_by Unreadable is = absurd cc
+
+module _ {D : Type 0} (d : Ghosts D) (b : Base) (base : ℕ) (s : Writer) (e t last undo_next : ℕ) (old : D) (w : PageWriter) (disk : D) (took : Took d b base s e t last undo_next old w disk) where
+  undone_change : Change
+  undone_change = (made_by (what_of took.entry) took.next.next.key).0
+
+  -- one change was taken back
+  took_newest : UndoesNewest b t undone_change s.log took.taken.now.log
+  unfolding undone_change
+  took_newest =
+      let made = made_by (what_of took.entry) took.next.next.key in
+      record {
+        grows = undo_grows t s.log took.taken.now.log took.taken.goes.grows;
+        newest = logged_at took.taken.lsn took.entry;
+        made = made.1;
+        stack = took.taken.stack;
+        walk = took.taken.map ∙ made.2 (contents b s.log);
+      }
+
+  -- and the transaction's records end, and its undo goes on, where the row says so
+  took_last : last_of t took.taken.now.log ≡ last
+  took_last = ap (λ (x : Loser). x.last) took.taken.goes.going.row
+
+  took_next : undo_next_of t took.taken.now.log ≡ undo_next
+  took_next = ap (λ (x : Loser). x.undo_next) took.taken.goes.going.row ∙ sym took.leads
+
+-- ---- a step
+
+module _ {D : Type 0} (d : Ghosts D) {b : Base} (before : List Effect) (s : Shown) (v : View) (t : ℕ) (row : Transaction) (old : Engine D d) (r : IsRunning d b before s v old)
+    (found : find (is_of t) old.txns.rows ≡ Some row) (checked : checked_by old.txns.rows (Continue t) ≡ None) where
+  mark : row.mark ≡ marks.RollingBack
+  mark = continue_mark old.txns.rows t row found checked
+
+  its : (row.number ≡ t) × IsRow row old.txns.next r.now.log × ((v.txns t).mark ≡ mark_of row.mark)
+  its = at b r.earlier before s v r.now.log old.txns.rows old.txns.next old.locks r.serving t row found
+
+  -- how the transaction stands in front of it
+  pub stands_going : IsGoing d b r.base r.now r.redo_end t row.last row.undo_next old.writer old.disk
+  stands_going = record {
+    stands = r.stands;
+    over = r.over;
+    can = record { lawful = r.lawful; closed = r.closed };
+    owner = subst (λ (n : ℕ). 1 ≤ n) its.0 its.1.number;
+    unfinished = ap (λ (n : ℕ). is_finished n r.now.log) (sym its.0) ∙ its.1.unfinished;
+    row = ap (λ (n : ℕ). row_of n r.now.log) (sym its.0)
+        ∙ ap (λ (n : ℕ). record { last = n; undo_next = undo_next_of row.number r.now.log }) (sym its.1.last)
+        ∙ ap (λ (n : ℕ). record { last = row.last; undo_next = n }) (sym its.1.undo);
+  }
+
+  pub has_more_to_undo : to_undo t r.now.log ≢ []
+  has_more_to_undo = rolling_has_more b r.earlier before s v r.now.log old.txns.rows old.txns.next old.locks t row r.serving found mark
+
+  -- numbers from the next one on stay new
+  below_next : t < old.txns.next
+  below_next = subst (λ (n : ℕ). n < old.txns.next) its.0 its.1.below
+
+  -- a key that comes back finds no room
+  pub lacks_way : LacksWayBack d b r.base r.now t → LacksWay (settled b r.now.log) v.walk
+  lacks_way is = by (what_of is.entry) (shows_change b r.now.log can t (logged_at is.next.lsn is.entry) is.next.next) is.used_up
+    where
+      can : IsUndoable b page_tree r.now.log
+      can = record { lawful = r.lawful; closed = r.closed }
+
+      by : (w : What) → ShowsChange (logs.bodies b r.now.log) w → UsesUp (bodies r.now) w → LacksWay (settled b r.now.log) v.walk
+      by (DeleteKey k i) shows full =
+          let lacks = subst (λ (pages : Pages). LacksRoomFor pages k) (bodies_are d before s v old r) full.lacks in
+          let used_up = subst (λ (pages : Pages). IsUsedUp pages k) (bodies_are d before s v old r) full.used_up in
+          record { key = k; absent = ap (λ (m : IndexMap). get m k) r.serving.seen_by.walk ∙ get_is b r.now.log can k ∙ shows; lacks = lacks; used_up = used_up }
+      by (InsertKey k i) shows full = absurd full
+      by (UndoInsert k i) shows full = absurd full
+      by (UndoDelete k i) shows full = absurd full
+      by (Smo was now) shows full = absurd full
+      by (UndoSmo now) shows full = absurd full
+      by DummyClr shows full = absurd full
+      by Commit shows full = absurd full
+      by End shows full = absurd full
+      by (Image c) shows full = absurd full
+      by (Checkpoint n a dirty) shows full = absurd full
+      by Unreadable shows full = absurd full
+
+module _ {D : Type 0} (d : Ghosts D) (before : List Effect) (s : Shown) (v : View) (t : ℕ) (row : Transaction) (old new : Engine D d) (life : IsLife d before s v old) (works : old.failed ≡ false)
+    (found : find (is_of t) old.txns.rows ≡ Some row) (checked : checked_by old.txns.rows (Continue t) ≡ None) where
+  abbrev run : (b : Base) × IsRunning d b before s v old
+  run = life.running works
+
+  -- a stop within it
+  pub undo_stops : LeavesUndo d run.0 run.1.base run.1.now t old.disk new.disk → LeavesOnly d old.disk new.disk (Allowed before s)
+  undo_stops stops =
+      let r = run.1 in
+      weakened d old.disk new.disk (LeftByUndo d run.0 r.base r.now t) (Allowed before s) stops
+      (λ told c is. left_on d before s v old r is.high is.lawful (within_leaves_others t r.now.log is.high (undo_grows t r.now.log is.high is.grows)).1 c is.covered)
+
+  module _ (works_on : new.failed ≡ false) (stops : LeavesUndo d run.0 run.1.base run.1.now t old.disk new.disk) where
+    -- other changes are left
+    pub has_more : (u : Undone) (last undo_next : ℕ) → u ≡ turns.More last undo_next → Turned d run.0 run.1.base run.1.now run.1.redo_end t old.disk new.writer new.disk u → new.locks ≡ old.locks
+        → new.txns ≡ record old.txns { rows = map (changed t (with_record last undo_next)) old.txns.rows } → StepKept d before s v (Continue t) More old new
+    has_more u last undo_next same turned locks table =
+        let b = run.0 in
+        let r = run.1 in
+        let below = below_next d before s v t row old r found checked in
+        let is : HasMore d b r.base r.now r.redo_end t last undo_next old.disk new.writer new.disk = subst (λ (x : Undone). Turned d b r.base r.now r.redo_end t old.disk new.writer new.disk x) same turned in
+        let took = is.took in
+        let now = took.taken.now in
+        let going = took.taken.goes.going in
+        let undoes = took_newest d b r.base r.now r.redo_end t last undo_next old.disk new.writer new.disk took in
+        let c = undone_change d b r.base r.now r.redo_end t last undo_next old.disk new.writer new.disk took in
+        let left_same = within_leaves_others t r.now.log now.log undoes.grows in
+        let w = undid_more v t c (net t now.log) in
+        let served = undone_served b r.earlier before s v r.now.log now.log old.txns.rows old.txns.next old.locks t row c r.serving found (mark d before s v t row old r found checked) undoes is.left going.unfinished in
+        let rows_of : ℕ → ℕ → List Transaction = λ l n. map (changed t (with_record l n)) old.txns.rows in
+        let table_is : new.txns ≡ record old.txns { rows = rows_of (last_of t now.log) (undo_next_of t now.log) } =
+        table ∙ ap (λ (l : ℕ). record old.txns { rows = rows_of l undo_next }) (sym (took_last d b r.base r.now r.redo_end t last undo_next old.disk new.writer new.disk took))
+        ∙ ap (λ (n : ℕ). record old.txns { rows = rows_of (last_of t now.log) n }) (sym (took_next d b r.base r.now r.redo_end t last undo_next old.disk new.writer new.disk took)) in
+        let running : IsRunning d b before s w new = record {
+          base = r.base;
+          start = r.start;
+          earlier = r.earlier;
+          now = now;
+          stands = going.stands;
+          redo_end = r.redo_end;
+          over = going.over;
+          lawful = going.can.lawful;
+          closed = going.can.closed;
+          serving = subst (λ (x : Numbered). IsServing b r.earlier before s w now.log x.rows x.next new.locks) (sym table_is)
+              (subst (λ (l : Table). IsServing b r.earlier before s w now.log (rows_of (last_of t now.log) (undo_next_of t now.log)) old.txns.next l) (sym locks) served.1);
+          commits = commits_stand.more r.earlier before s.asked r.now.durable now.log now.durable (commits_stand.stay r.earlier before s.asked r.now.durable r.now.log now.log r.commits left_same.1)
+              (record { from = took.taken.goes.durable; upto = going.stands.writing.stands.kept.front });
+          numbered = subst (λ (n : ℕ). n ≤ 2 ^ 62 → AreBelow n now.log) (sym (ap (λ (x : Numbered). x.next) table))
+              (λ le. numbers_stay_new.within old.txns.next t r.now.log now.log below (r.numbered le) undoes.grows);
+        } in
+        step_made d before s v (Continue t) More old new w served.0 running works_on (undo_stops stops) tt
+
+    -- the last one was taken back
+    pub has_ended : (u : Undone) → u ≡ turns.Ended → Turned d run.0 run.1.base run.1.now run.1.redo_end t old.disk new.writer new.disk u → IsReleased old.locks t new.locks → length old.txns.rows ≡ length (without t old.txns.rows) + 1
+        → new.txns ≡ record old.txns { rows = without t old.txns.rows } → StepKept d before s v (Continue t) RolledBack old new
+    has_ended u same turned released once table =
+        let b = run.0 in
+        let r = run.1 in
+        let below = below_next d before s v t row old r found checked in
+        let is : HasEndedNow d b r.base r.now r.redo_end t old.disk new.writer new.disk = subst (λ (x : Undone). Turned d b r.base r.now r.redo_end t old.disk new.writer new.disk x) same turned in
+        let took = is.took in
+        let between = took.taken.now.log in
+        let undoes = took_newest d b r.base r.now r.redo_end t is.last is.undo_next old.disk is.between is.mid took in
+        let c = undone_change d b r.base r.now r.redo_end t is.last is.undo_next old.disk is.between is.mid took in
+        let newest = logged_at is.end.lsn (entries.End t is.last) in
+        let longer : History = newest ∷ between in
+        let ended = ends_leave_nothing b t c r.now.log between newest undoes is.none refl refl in
+        let w = undid_last v t c in
+        let shown = shows s (Continue t) (Some RolledBack) in
+        let served = last_undone_served b r.earlier before s v r.now.log between old.txns.rows old.txns.next old.locks new.locks t row c newest r.serving found (mark d before s v t row old r found checked) undoes is.none refl refl released once in
+        let now = is.end.now in
+        let running : IsRunning d b before shown w new = record {
+          base = r.base;
+          start = r.start;
+          earlier = r.earlier;
+          now = now;
+          stands = is.end.stands;
+          redo_end = r.redo_end;
+          over = is.end.over;
+          lawful = is.end.can.lawful;
+          closed = is.end.can.closed;
+          serving = subst (λ (x : Numbered). IsServing b r.earlier before shown w now.log x.rows x.next new.locks) (sym table)
+              (subst (λ (l : History). IsServing b r.earlier before shown w l (without t old.txns.rows) old.txns.next new.locks) (sym is.end.log) served.1);
+          commits = commits_stand.more r.earlier before s.asked r.now.durable now.log now.durable
+              (commits_stand.stay r.earlier before s.asked r.now.durable r.now.log now.log r.commits (ap committed is.end.log ∙ ended.back.commits))
+              (record { from = front_then r.now.durable took.taken.now.durable now.durable took.taken.goes.durable is.end.durable; upto = is.end.stands.writing.stands.kept.front });
+          numbered = subst (λ (n : ℕ). n ≤ 2 ^ 62 → AreBelow n now.log) (sym (ap (λ (x : Numbered). x.next) table))
+              (λ le. subst (λ (l : History). AreBelow old.txns.next l) (sym is.end.log) (below, numbers_stay_new.within old.txns.next t r.now.log between below (r.numbered le) undoes.grows));
+        } in
+        step_made d before s v (Continue t) RolledBack old new w served.0 running works_on (undo_stops stops) tt
+
+  -- it is refused: for want of memory all is as it was, and any other refusal breaks the engine
+  pub turn_refused : (f : Fault) → TurnEnds d may_turn old.writer new.writer new.disk (Some f) → f ≢ NotAStore → (f ≡ Memory → Evicted d run.0 run.1.base run.1.now old.disk new.writer new.disk)
+      → LeavesUndo d run.0 run.1.base run.1.now t old.disk new.disk → new.failed ≡ ends_engine f → new.txns ≡ old.txns → new.locks ≡ old.locks → (told : Refusal) → told ≡ told_as f
+      → ((u : ℕ) (c : Files) → u ≤ d.moment new.disk → d.may_leave new.disk c → d.left_since new.disk u c) → StepKept d before s v (Continue t) (Refused (number_of told)) old new
+  turn_refused f one sound again stops fails table locks told is counts_now =
+      subst (λ (y : Refusal). StepKept d before s v (Continue t) (Refused (number_of y)) old new) (sym is) (by f one sound again fails)
+    where
+      let_pass : barred v (Continue t) ≡ None
+      let_pass = rows_tell run.0 run.1.earlier before s v run.1.now.log old.txns.rows old.txns.next old.locks (Continue t) run.1.serving ∙ checked
+
+      by : (g : Fault) → TurnEnds d may_turn old.writer new.writer new.disk (Some g) → g ≢ NotAStore → (g ≡ Memory → Evicted d run.0 run.1.base run.1.now old.disk new.writer new.disk) → new.failed ≡ ends_engine g
+          → StepKept d before s v (Continue t) (Refused (number_of (told_as g))) old new
+      by Memory x other back on =
+          lacks_with d before s v (Continue t) (λ u e. cc e) let_pass old new life works counts_now refl (back refl) (undo_stops stops) table (λ u. ap (λ (l : Table). locks_of l u) locks) on
+      by Capacity x other back on = breaks_with d before s v (Continue t) (λ u e. cc e) let_pass old new life works counts_now 6 (inl refl) on (undo_stops stops)
+      by LogFull x other back on = breaks_with d before s v (Continue t) (λ u e. cc e) let_pass old new life works counts_now 7 (inr (inl refl)) on (undo_stops stops)
+      by Device x other back on = breaks_with d before s v (Continue t) (λ u e. cc e) let_pass old new life works counts_now 8 (inr (inr (inl refl))) on (undo_stops stops)
+      by Failed x other back on = breaks_with d before s v (Continue t) (λ u e. cc e) let_pass old new life works counts_now 10 (inr (inr (inr refl))) on (undo_stops stops)
+      by NotAStore x other back on = absurd (other refl)
+      by g x other back on = absurd (let never = x.0 in cc never)
+
+-- ---- what its refusal says
+
+module _ {D : Type 0} (d : Ghosts D) (v w : PageWriter) (new : D) where
+  -- why it is refused
+  pub turn_cause : (f : Fault) → TurnEnds d may_turn v w new (Some f) → TurnCause d w.log new (told_as f)
+  turn_cause Device x = x.1
+  turn_cause LogFull x = x.3
+  turn_cause PagesFull x = absurd (let never = x.0 in cc never)
+  turn_cause e x = tt
+
+  -- a disk that failed is told
+  pub turn_lost : d.failed new ≡ true → (f : Fault) → TurnEnds d may_turn v w new (Some f) → told_as f ≡ above.Device
+  turn_lost lost Device x = refl
+  turn_lost lost LogFull x = absurd (not_true (d.failed new) x.2 lost)
+  turn_lost lost NotAStore x = absurd (not_true (d.failed new) x.1 lost)
+  turn_lost lost e x = absurd (not_true (d.failed new) x.1.alive lost)
+
+-- ---- what a Continue says of its cause
+
+module _ {D : Type 0} (d : Ghosts D) (old : Engine D d) (works : old.failed ≡ false) (t : ℕ) (checked : checked_by old.txns.rows (Continue t) ≡ None) where
+  pub continue_made : (log : LogFile) (disk : D) (reply : Reply) → ((x : Refusal) → reply ≢ replies.Refused x) → Answers d old log disk (Continue t) reply
+  continue_made log disk reply not = behind d old log disk works (Continue t) reply checked (λ fault. not_refused_for d old log disk works (TurnCause d log disk) reply not fault)
+
+  pub continue_refused : (w : PageWriter) (disk : D) (f : Fault) (told : Refusal) → told ≡ told_as f → TurnEnds d may_turn old.writer w disk (Some f) → Answers d old w.log disk (Continue t) (replies.Refused told)
+  continue_refused w disk f told is x =
+      behind d old w.log disk works (Continue t) (replies.Refused told) checked (λ fault. refused_for d old w.log disk works (TurnCause d w.log disk) f told is (turn_cause d old.writer w disk f x) fault)
+
+-- a refusal that is told so was one
+pub told_capacity : (f : Fault) → told_as f ≡ above.Capacity → f ≡ Capacity
+told_capacity Capacity is = refl
+told_capacity PagesFull is = absurd (cc is)
+told_capacity LogFull is = absurd (cc is)
+told_capacity Device is = absurd (cc is)
+told_capacity Memory is = absurd (cc is)
+told_capacity NotAStore is = absurd (cc is)
+told_capacity e is = absurd (cc is)

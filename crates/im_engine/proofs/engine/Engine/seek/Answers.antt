@@ -1,0 +1,84 @@
+use Rattle.std.proofs.Common.{refl, ap, ◌∙◌, length}
+use Rattle.im_types.specs.Answers as answers
+use Rattle.im_flush.specs.Outcome.{pages_of}
+use Rattle.im_engine.proofs.Running.{has_good_tree, walk_is}
+use Rattle.im_index.specs.Outcomes.{seek_at}
+use Rattle.im_engine.proofs.Reading.{granted, waits, dies, refused, seeks_change_nothing, seeks_want_memory}
+use Rattle.std.proofs.lemmas.List.{length-map}
+use Rattle.im_front.specs.declared.reply.Blocker.TheVariants.{Lock}
+use Rattle.im_front.specs.declared.reply.Reply.TheVariants as replies
+use Rattle.im_txn.specs.Rows.{changed, with_mark}
+use Rattle.im_txn.specs.declared.transaction.Mark.TheVariants.{MustRollBack}
+use Rattle.im_engine.specs.Numbered.{Numbered}
+use Rattle.im_engine.proofs.Telling.{told_answered, told_refused, read_lost}
+use Rattle.im_engine.proofs.Causes.{read_answered, read_cause, read_refused, seeks_read}
+use Rattle.im_engine.proofs.engine.Engine.seek.Goals as goal
+
+pub returns-in-Some-clause-kept : goal.returns-in-Some-clause-kept
+returns-in-Some-clause-kept g c before s v life =
+    let r = (life.running c.requires.works).1 in
+    let old = c.args.self.now in
+    let read = c.in-Ok-Granted.ensures.kept (pages_of r.now) v.walk (has_good_tree g.D.Disk before s v old r) (walk_is g.D.Disk before s v old r) in
+    granted g.D.Disk before s v c.args.t (seek_at c.args.inclusive c.args.key.now) old _ life c.requires.works c.requires.checked (seeks_change_nothing c.args.inclusive c.args.key.now v.walk) answers.entry c.in-Ok-Granted.field-0 read c.in-Ok-Granted.found c.in-Ok-Granted.field-0-is (answers.Entry c.in-Some.key c.in-Some.rid) (ap answers.entry c.in-Some.is) c.in-Ok-Granted.ensures.outcome refl refl
+
+pub returns-in-None-clause-kept : goal.returns-in-None-clause-kept
+returns-in-None-clause-kept g c before s v life =
+    let r = (life.running c.requires.works).1 in
+    let old = c.args.self.now in
+    let read = c.in-Ok-Granted.ensures.kept (pages_of r.now) v.walk (has_good_tree g.D.Disk before s v old r) (walk_is g.D.Disk before s v old r) in
+    granted g.D.Disk before s v c.args.t (seek_at c.args.inclusive c.args.key.now) old _ life c.requires.works c.requires.checked (seeks_change_nothing c.args.inclusive c.args.key.now v.walk) answers.entry c.in-Ok-Granted.field-0 read c.in-Ok-Granted.found c.in-Ok-Granted.field-0-is answers.End (ap answers.entry c.in-None.is) c.in-Ok-Granted.ensures.outcome refl refl
+
+pub returns-in-Ok-Wait-clause-kept : goal.returns-in-Ok-Wait-clause-kept
+returns-in-Ok-Wait-clause-kept g c before s v life =
+    let r = (life.running c.requires.works).1 in
+    let old = c.args.self.now in
+    let read = c.in-Ok-Wait.ensures.kept (pages_of r.now) v.walk (has_good_tree g.D.Disk before s v old r) (walk_is g.D.Disk before s v old r) in
+    waits g.D.Disk before s v c.args.t (seek_at c.args.inclusive c.args.key.now) old _ life c.requires.works c.requires.checked answers.entry c.in-Ok-Wait.field-0 read c.in-Ok-Wait.holder c.in-Ok-Wait.field-0-is c.in-Ok-Wait.ensures.outcome refl refl
+
+pub returns-in-Ok-Die-clause-kept : goal.returns-in-Ok-Die-clause-kept
+returns-in-Ok-Die-clause-kept g c before s v life =
+    let r = (life.running c.requires.works).1 in
+    let old = c.args.self.now in
+    let read = c.in-Ok-Die.ensures.kept (pages_of r.now) v.walk (has_good_tree g.D.Disk before s v old r) (walk_is g.D.Disk before s v old r) in
+    dies g.D.Disk before s v c.args.t (seek_at c.args.inclusive c.args.key.now) old _ life c.requires.works c.requires.checked answers.entry c.in-Ok-Die.field-0 read c.in-Ok-Die.field-0-is c.in-Ok-Die.ensures.outcome c.set_mark.ensures refl
+
+pub returns-in-Err-clause-kept : goal.returns-in-Err-clause-kept
+returns-in-Err-clause-kept g c before s v life =
+    let r = (life.running c.requires.works).1 in
+    let old = c.args.self.now in
+    let sound = c.in-Err.ensures.kept (pages_of r.now) v.walk (has_good_tree g.D.Disk before s v old r) (walk_is g.D.Disk before s v old r) in
+    refused g.D.Disk before s v c.args.t (seek_at c.args.inclusive c.args.key.now) old _ life c.requires.works c.requires.checked (λ t f le left. g.met.D.Disk.counts_now c.seek.new.disk t f le left) c.in-Err.fault (seeks_want_memory c.args.t c.args.inclusive c.args.key.now) c.in-Err.ensures.outcome sound
+    c.breaks-self.ensures refl c.in-Err.ensures.table c.told.result c.told.ensures
+
+pub returns-in-Some-clause-told : goal.returns-in-Some-clause-told
+returns-in-Some-clause-told g c = told_answered g.D.Disk c.args.self.now _ c.requires.works refl refl (replies.Entry c.in-Some.key c.in-Some.rid) (λ k. refl) refl tt refl refl c.in-Ok-Granted.ensures.outcome.ends.alive
+
+pub returns-in-Some-clause-answered : goal.returns-in-Some-clause-answered
+returns-in-Some-clause-answered g c = read_answered g.D.Disk c.args.self.now c.seek.new.writer.log c.seek.new.disk c.requires.works c.args.t (seek_at c.args.inclusive c.args.key.now) (seeks_read c.args.inclusive c.args.key.now) c.requires.checked (replies.Entry c.in-Some.key c.in-Some.rid) (λ x e. cc e)
+
+pub returns-in-None-clause-told : goal.returns-in-None-clause-told
+returns-in-None-clause-told g c = told_answered g.D.Disk c.args.self.now _ c.requires.works refl refl replies.End (λ k. refl) refl tt refl refl c.in-Ok-Granted.ensures.outcome.ends.alive
+
+pub returns-in-None-clause-answered : goal.returns-in-None-clause-answered
+returns-in-None-clause-answered g c = read_answered g.D.Disk c.args.self.now c.seek.new.writer.log c.seek.new.disk c.requires.works c.args.t (seek_at c.args.inclusive c.args.key.now) (seeks_read c.args.inclusive c.args.key.now) c.requires.checked replies.End (λ x e. cc e)
+
+pub returns-in-Ok-Wait-clause-told : goal.returns-in-Ok-Wait-clause-told
+returns-in-Ok-Wait-clause-told g c = told_answered g.D.Disk c.args.self.now _ c.requires.works refl refl (replies.Blocked (Lock c.in-Ok-Wait.holder)) (λ k. refl) refl tt refl refl c.in-Ok-Wait.ensures.outcome.ends.alive
+
+pub returns-in-Ok-Wait-clause-answered : goal.returns-in-Ok-Wait-clause-answered
+returns-in-Ok-Wait-clause-answered g c = read_answered g.D.Disk c.args.self.now c.seek.new.writer.log c.seek.new.disk c.requires.works c.args.t (seek_at c.args.inclusive c.args.key.now) (seeks_read c.args.inclusive c.args.key.now) c.requires.checked (replies.Blocked (Lock c.in-Ok-Wait.holder)) (λ x e. cc e)
+
+pub returns-in-Ok-Die-clause-told : goal.returns-in-Ok-Die-clause-told
+returns-in-Ok-Die-clause-told g c = told_answered g.D.Disk c.args.self.now _ c.requires.works (ap (λ (x : Numbered). x.next) c.set_mark.ensures) refl replies.Die (λ k. refl) refl tt refl (ap (λ (x : Numbered). length x.rows) c.set_mark.ensures ∙ length-map c.args.self.now.txns.rows (changed c.args.t (with_mark MustRollBack))) c.in-Ok-Die.ensures.outcome.ends.alive
+
+pub returns-in-Ok-Die-clause-answered : goal.returns-in-Ok-Die-clause-answered
+returns-in-Ok-Die-clause-answered g c = read_answered g.D.Disk c.args.self.now c.seek.new.writer.log c.seek.new.disk c.requires.works c.args.t (seek_at c.args.inclusive c.args.key.now) (seeks_read c.args.inclusive c.args.key.now) c.requires.checked replies.Die (λ x e. cc e)
+
+pub returns-in-Err-clause-told : goal.returns-in-Err-clause-told
+returns-in-Err-clause-told g c =
+    let old = c.args.self.now in
+    told_refused g.D.Disk old _ c.requires.works refl refl c.in-Err.fault c.told.result c.told.ensures c.breaks-self.ensures refl (λ lost. read_lost g.D.Disk old.writer old.disk c.seek.new.writer c.seek.new.disk lost c.in-Err.fault c.in-Err.ensures.outcome.ends (old.working c.requires.works))
+
+pub returns-in-Err-clause-answered : goal.returns-in-Err-clause-answered
+returns-in-Err-clause-answered g c = read_refused g.D.Disk c.args.self.now c.seek.new.writer.log c.seek.new.disk c.requires.works c.args.t (seek_at c.args.inclusive c.args.key.now) (seeks_read c.args.inclusive c.args.key.now) c.requires.checked c.in-Err.fault c.told.result c.told.ensures
+    (read_cause g.D.Disk c.args.self.now.writer c.args.self.now.disk c.seek.new.writer c.seek.new.disk c.in-Err.fault c.in-Err.ensures.outcome.ends (c.args.self.now.working c.requires.works))

@@ -1,0 +1,11 @@
+use Rattle.std.proofs.Common.{[], inl, refl, arith}
+use Rattle.im_disk.specs.Disk.{both}
+use Rattle.im_engine.proofs.Fresh.{fresh_stands}
+use Rattle.im_engine.proofs.LivedLives.{lives_in_turn}
+use Rattle.im_engine.proofs.laws.every_list_of_lives.Goals as goal
+
+pub returns-clause-lives : goal.returns-clause-lives
+returns-clause-lives c old new lives before stands chain = lives_in_turn old new lives before stands chain
+
+pub returns-clause-first : goal.returns-clause-first
+returns-clause-first c = fresh_stands (both [] []) (inl (omega arith), refl)

@@ -1,0 +1,17 @@
+use Rattle.std.proofs.Common.{length, ap, sym, subst, refl, arith, ◌∙◌}
+use Rattle.im_steps.proofs.Rows.{length_map}
+use Rattle.im_txn.specs.Rows.{AreAbove, AreBelow, changed, with_mark}
+use Rattle.im_engine.proofs.Numbers.{above_changed}
+use Rattle.im_engine.proofs.transactions.Transactions.set_mark.Goals as goal
+
+pub invariant_of-self : goal.invariant_of-self
+invariant_of-self c =
+    let f = with_mark c.args.mark in
+    let is = c.set_mark.ensures in
+    let long = ap length is ∙ length_map (changed c.args.number f) c.self.inside.table in
+    let few = c.self.invariant.1 in (
+      subst (AreBelow c.self.inside.next) (sym is) (c.numbers_stay_below.ensures.changes c.self.inside.next c.args.number f (λ row. refl) c.self.inside.table c.self.invariant.0),
+      omega (arith, long, few),
+      subst (AreAbove 0) (sym is) (above_changed 0 c.args.number f (λ row. refl) c.self.inside.table c.self.invariant.2),
+      c.self.invariant.3,
+    )

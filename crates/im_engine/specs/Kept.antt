@@ -1,0 +1,80 @@
+-- What the calls of an engine keep.
+use Rattle.std.specs.Prelude.{◌≡◌, ◌≢◌, ◌⊎◌, ◌++◌, ℕ, List, [], Option, Some, None, Result, Ok, Err, IfOk, IfErr, true, false}
+use Rattle.std.specs.FinMap.{empty, entries}
+use Rattle.im_types.specs.Answers.{Step, Reply, FlushPage, Force, Checkpoint, Done, Refused}
+use Rattle.im_types.specs.declared.file_id.FileId.TheVariants.{Log, Pages}
+use Rattle.im_types.specs.declared.fault.Fault.{Fault}
+use Rattle.im_types.specs.declared.fault.Fault.TheVariants.{NotAStore}
+use Rattle.im_types.specs.Pages.{Entry}
+use Rattle.im_types.specs.Changes.{Effect, apply_all}
+use Rattle.im_types.specs.Histories.{Base, page_at}
+use Rattle.im_types.specs.Lives.{Shown, effects, nothing_shown, shows}
+use Rattle.im_disk.specs.declared.disk.Disk.{Ghosts}
+use Rattle.im_disk.specs.Runs.{LeavesOnly}
+use Rattle.im_gate.specs.Header.{least_number}
+use Rattle.im_analysis.specs.Numbers.{IsNextNumber}
+use Rattle.im_page.specs.PageFile.{file_page}
+use Rattle.im_lock.specs.Locks.{Lock}
+use Rattle.im_lock.specs.View.{View, broken}
+use Rattle.im_lock.specs.Machine.{Moves, start}
+use Rattle.im_front.specs.declared.fault.Fault.{Fault as Refusal}
+use Rattle.im_front.specs.Calls.{number_of}
+use Rattle.im_engine.specs.declared.engine.Engine.{Engine}
+use Rattle.im_engine.specs.Stands.{StandsFor, Allowed}
+use Rattle.im_engine.specs.Running.{IsRunning, IsLife}
+
+-- the number of a refusal, if there is one
+abbrev pub numbered : Option Refusal → Option ℕ
+numbered None = None
+numbered (Some fault) = Some (number_of fault)
+
+module _ {D : Type 0} (d : Ghosts D) where
+  -- the disk that an opening answers
+  abbrev pub disk_of : Result (Engine D d) (Fault × D) → D
+  disk_of (Ok e) = e.disk
+  disk_of (Err x) = x.1
+
+  -- An opening of files that stand for these effects: a run of the machine begins on their map, with the number that comes next in the log that was found; a stop within leaves files
+  -- that stand for the same, and the files are never found to be no store.
+  pub record OpenKept (before : List Effect) (old : D) (stands : StandsFor before (d.seen old)) (result : Result (Engine D d) (Fault × D)) : Type 0 where
+    pub ok : IfOk result (λ e. IsLife d before nothing_shown (start (apply_all empty before) e.txns.next) e × (e.failed ≡ false))
+    pub next : IfOk result (λ e. IsNextNumber (least_number (d.seen old Log)) e.txns.next stands.log)
+    pub stops : LeavesOnly d old (disk_of result) (Allowed before nothing_shown)
+    pub cause : IfErr result (λ x. x.0 ≢ NotAStore)
+
+  -- Every record is durable: a stop leaves the whole log.
+  pub record IsDurable (before : List Effect) (s : Shown) (v : View) (e : Engine D d) : Type 0 where
+    pub b : Base
+    pub running : IsRunning d b before s v e
+    pub all : running.now.durable ≡ running.now.log
+
+  -- The file of pages has the page as the log's records have made it.
+  pub record IsInFile (before : List Effect) (s : Shown) (v : View) (page : ℕ) (e : Engine D d) : Type 0 where
+    pub b : Base
+    pub running : IsRunning d b before s v e
+    pub reads : file_page (d.seen e.disk Pages) page ≡ Some (page_at b running.now.log page)
+
+  -- what Done says, by the step
+  abbrev pub IsDone : List Effect → Shown → View → Step → Reply → Engine D d → Type 0
+  IsDone before s v (FlushPage page) Done e = IsInFile before s v page e
+  IsDone before s v Force Done e = IsDurable before s v e
+  IsDone before s v Checkpoint Done e = IsDurable before s v e
+  IsDone before s v _ _ e = Unit {0}
+
+  -- A step: it is a step of the machine, with which the life goes on and what the reply shows; a stop within it leaves what is allowed; and what Done says is so.
+  pub record StepKept (before : List Effect) (s : Shown) (v : View) (step : Step) (reply : Reply) (old new : Engine D d) : Type 0 where
+    pub next : View
+    pub moves : Moves v step reply next
+    pub after : IsLife d before (shows s step (Some reply)) next new
+    pub stops : LeavesOnly d old.disk new.disk (Allowed before (shows s step None))
+    pub done : IsDone before (shows s step (Some reply)) next step reply new
+
+  -- A call that only looks: the life goes on as it was, or the call broke the engine.
+  pub record LookKept (before : List Effect) (s : Shown) (v : View) (old new : Engine D d) : Type 0 where
+    pub after : ((new.failed ≡ false) × IsLife d before s v new) ⊎ ((locks : ℕ → List Lock) × IsLife d before (record s { failed = true }) (broken v locks) new)
+    pub stops : LeavesOnly d old.disk new.disk (Allowed before s)
+
+-- The entries are the walk of the machine; where it is quiet, those are the effects before the life and the asked ones.
+pub record EntriesKept (before : List Effect) (s : Shown) (v : View) (list : List Entry) : Type 0 where
+  pub walk : list ≡ entries v.walk
+  pub quiet : v.active ≡ 0 → list ≡ entries (apply_all empty (before ++ effects s.asked))

@@ -1,0 +1,34 @@
+-- How calls end that only look.
+use Rattle.std.specs.Prelude.{◌≡◌, ◌↔◌, Bool, true, false, Option, Some, None, length}
+use Rattle.im_types.specs.Pages.{Page}
+use Rattle.im_types.specs.declared.fault.Fault.{Fault}
+use Rattle.im_types.specs.declared.fault.Fault.TheVariants.{Failed}
+use Rattle.im_disk.specs.declared.disk.Disk.{Ghosts}
+use Rattle.im_flush.specs.Outcome.{Reads}
+use Rattle.im_engine.specs.declared.header.Header.{Header}
+use Rattle.im_engine.specs.declared.engine.Engine.{Engine}
+use Rattle.im_engine.specs.Faults.{ends_engine}
+
+-- what the header of a page says
+abbrev pub header_of : Page → Header
+header_of page = record { kind = page.body.kind; level = page.body.level; count = length page.body.entries }
+
+-- whether a call that was refused so, if it was, leaves a working engine failed
+abbrev pub broken_by : Option Fault → Bool
+broken_by None = false
+broken_by (Some fault) = ends_engine fault
+
+module _ {D : Type 0} (d : Ghosts D) where
+  -- How a search of a working engine ends: its writer as searches do, and the rest is as it was, but that a refusal may break the engine.
+  pub record Searched (why : Option Fault) (old new : Engine D d) : Type 0 where
+    pub writer : Reads d old.writer old.disk new.writer new.disk why
+    pub failed : new.failed ≡ broken_by why
+    pub txns : new.txns ≡ old.txns
+    pub locks : new.locks ≡ old.locks
+    pub max_pages : new.max_pages ≡ old.max_pages
+
+  -- How a call ends that only looks: an engine that has failed answers that alone and stays as it was, and any other ends as a search.
+  pub record Looks (why : Option Fault) (old new : Engine D d) : Type 0 where
+    pub failed : (why ≡ Some Failed) ↔ (old.failed ≡ true)
+    pub same : old.failed ≡ true → new ≡ old
+    pub searched : old.failed ≡ false → Searched why old new

@@ -1,0 +1,74 @@
+-- An engine as a store that a front shares among threads.
+use Rattle.std.specs.Prelude.{◌≡◌, ℕ, false, List, ◌++◌, [], length, Some}
+use Rattle.std.proofs.Common.{sym, ◌∙◌}
+use Rattle.std.specs.FinMap.{empty}
+use Rattle.im_types.specs.Changes.{Effect, apply_all}
+use Rattle.im_types.specs.Lives.{Shown, Survives, effects, nothing_shown}
+use Rattle.im_types.specs.declared.fault.Fault as below
+use Rattle.im_disk.specs.declared.disk.Disk.{Ghosts}
+use Rattle.im_disk.specs.Disk.{Files}
+use Rattle.im_lock.specs.View.{View}
+use Rattle.im_lock.specs.Machine.{start}
+use Rattle.im_steps.proofs.Durable.{quiet_lives_settle}
+use Rattle.im_front.specs.declared.fault.Fault.{Fault}
+use Rattle.im_engine.specs.declared.engine.Engine.{Engine}
+use Rattle.im_engine.specs.Faults.{told_as}
+use Rattle.im_engine.specs.Stands.{StandsFor, Allowed}
+use Rattle.im_engine.specs.Running.{IsRunning, IsLife}
+use Rattle.im_engine.specs.Looking.{Looks}
+
+module _ {D : Type 0} (d : Ghosts D) where
+  -- Between two steps, and the table has as many transactions as the machine.
+  pub record IsStoreLife (before : List Effect) (s : Shown) (v : View) (e : Engine D d) : Type 0 where
+    pub life : IsLife d before s v e
+    pub active : length e.txns.rows ≡ v.active
+
+  -- Whatever files a stop now leaves stand for such effects.
+  abbrev pub Leaves : Engine D d → (List Effect → Type 0) → Type 0
+  Leaves e P = (c : Files) → d.may_leave e.disk c → (after : List Effect) × StandsFor after c × P after
+
+  -- why the entries are refused
+  pub record IsRefused (old new : Engine D d) (fault : Fault) : Type 0 where
+    pub why : below.Fault
+    pub told : fault ≡ told_as why
+    pub looks : Looks d (Some why) old new
+
+module _ {D : Type 0} {d : Ghosts D} where
+  -- what was acknowledged survives a stop
+  pub stops_keep : (before : List Effect) (s : Shown) (v : View) (e : Engine D d) → IsStoreLife d before s v e → Leaves d e (λ after. Survives before s.asked after)
+  stops_keep before s v e h c left = let on = h.life.stops c left in (on.0, on.2, on.1)
+
+  -- where nothing is active and the engine works, a new life begins with what was asked
+  pub settled : (before : List Effect) (s : Shown) (v : View) (e : Engine D d) → IsStoreLife d before s v e → v.failed ≡ false → v.active ≡ 0
+      → (v.committed ≡ apply_all empty (before ++ effects s.asked)) × IsStoreLife d (before ++ effects s.asked) nothing_shown (start v.committed v.next) e
+  settled before s v e h works none =
+      let run = h.life.running (sym h.life.failed ∙ works) in
+      let r = run.1 in
+      let on = quiet_lives_settle run.0 r.earlier before s v r.now.durable r.now.log e.txns.rows e.txns.next e.locks r.serving r.commits none in (
+        on.committed,
+        record {
+          life = record {
+            stops = λ c left. let was = h.life.stops c left in (was.0, on.stops was.0 was.1, was.2);
+            failed = sym works ∙ h.life.failed;
+            lived = record { shows = on.serving.shows; reached = on.serving.reached };
+            running = λ _. (
+              run.0,
+              record {
+                base = r.base;
+                start = r.start;
+                earlier = r.earlier;
+                now = r.now;
+                stands = r.stands;
+                redo_end = r.redo_end;
+                over = r.over;
+                lawful = r.lawful;
+                closed = r.closed;
+                serving = on.serving;
+                commits = on.commits;
+                numbered = r.numbered;
+              },
+            );
+          };
+          active = h.active ∙ none;
+        },
+      )

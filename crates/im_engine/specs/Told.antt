@@ -1,0 +1,235 @@
+-- What a reply alone says of an engine, and why a step is refused.
+use Rattle.std.specs.Prelude.{◌≡◌, ◌≢◌, ◌⊎◌, ◌↔◌, ◌||◌, ◌+◌, ◌-◌, ◌++◌, ◌∷◌, [], ◌≤◌, ◌<◌, ◌^◌, ℕ, Bool, true, false, List, Option, None, Some, find, length}
+use Rattle.std.specs.FinMap.{empty, get}
+use Rattle.im_types.specs.Answers as answers
+use Rattle.im_types.specs.Changes.{Effect, apply_all}
+use Rattle.im_types.specs.Histories.{Base}
+use Rattle.im_types.specs.Keys.{Key}
+use Rattle.im_types.specs.Lives.{Shown, breaks, effects}
+use Rattle.im_types.specs.Maps.{IndexMap}
+use Rattle.im_types.specs.Structure.{settled}
+use Rattle.im_disk.specs.declared.disk.Disk.{Ghosts}
+use Rattle.im_log.specs.declared.log_file.LogFile.{LogFile}
+use Rattle.im_log.specs.LogFile.{HasNoRoom, end_with}
+use Rattle.im_pool.specs.Pool.{is_changed}
+use Rattle.im_tree.specs.Levels.{Pages}
+use Rattle.im_split.specs.Plan.{IsWithin, IsOver}
+use Rattle.im_split.specs.Tops.{LacksRoomFor}
+use Rattle.im_structure.specs.Structure.{IsUsedUp}
+use Rattle.im_txn.specs.declared.transaction.Transaction.{Transaction}
+use Rattle.im_txn.specs.Rows.{is_of}
+use Rattle.im_lock.specs.View.{View}
+use Rattle.im_lock.specs.Machine.{first_check, mark_for}
+use Rattle.im_steps.specs.Checks.{marks_in}
+use Rattle.im_front.specs.declared.fault.Fault.{Fault}
+use Rattle.im_front.specs.declared.fault.Fault.TheVariants.{NoTransaction, MustRollBack, KeyLength, RollingBack, PagesFull, Capacity, LogFull, Device, Memory, Failed, NotAStore, TooMany}
+use Rattle.im_front.specs.declared.step.Step.{Step}
+use Rattle.im_front.specs.declared.reply.Reply.{Reply}
+use Rattle.im_front.specs.declared.reply.Reply.TheVariants.{Started, Inserted, Committed, RolledBack, Refused}
+use Rattle.im_front.specs.Calls.{asked_by, told_by, number_of}
+use Rattle.im_engine.specs.declared.engine.Engine.{Engine}
+use Rattle.im_engine.specs.Running.{IsRunning, IsLife}
+use Rattle.im_engine.specs.Kept.{StepKept}
+
+-- ---- what a reply says of the engine
+
+-- what a user knows of an engine between steps
+pub record Known : Type 0 where
+  -- whether it has failed
+  pub failed : Bool
+  -- how many transactions are active
+  pub active : ℕ
+  -- the number that a Begin takes next
+  pub next : ℕ
+  -- the most pages
+  pub max_pages : ℕ
+
+-- What a reply makes of it: a Begin takes the next number, and one more is active; a transaction that ended is active no more; a refusal may break the engine; no other reply changes it.
+abbrev pub after : Reply → Known → Known
+after (Started n) k = record k { active = k.active + 1; next = k.next + 1 }
+after Committed k = record k { active = k.active - 1 }
+after RolledBack k = record k { active = k.active - 1 }
+after (Refused fault) k = record k { failed = k.failed || breaks (number_of fault) }
+after _ k = k
+
+-- a transaction that begins has the number that was next
+abbrev pub HasNext : Reply → ℕ → Type 0
+HasNext (Started n) next = n ≡ next
+HasNext _ next = Unit {0}
+
+-- the refusals before any page is read
+abbrev pub is_early : Reply → Bool
+is_early (Refused NoTransaction) = true
+is_early (Refused MustRollBack) = true
+is_early (Refused KeyLength) = true
+is_early (Refused RollingBack) = true
+is_early (Refused TooMany) = true
+is_early _ = false
+
+module _ {D : Type 0} (d : Ghosts D) where
+  abbrev pub known_of : Engine D d → Known
+  known_of e = record { failed = e.failed; active = length e.txns.rows; next = e.txns.next; max_pages = e.max_pages }
+
+  -- What the reply to a step alone says of the engine.
+  pub record IsTold (reply : Reply) (old new : Engine D d) : Type 0 where
+    pub known : known_of new ≡ after reply (known_of old)
+    pub number : HasNext reply old.txns.next
+    -- an engine that has failed answers nothing else
+    pub failed : old.failed ≡ true → reply ≡ Refused Failed
+    -- the whole engine is as it was where it had failed, or was asked what no page had to be read to refuse
+    pub same : (old.failed || is_early reply) ≡ true → new ≡ old
+    -- a disk that fails is told, whatever else would refuse the step
+    pub device : old.failed ≡ false → d.failed new.disk ≡ true → reply ≡ Refused Device
+
+-- ---- why a step is refused
+
+-- One thing where this holds, and the other where it does not.
+abbrev pub Where : Type 0 → Type 0 → Type 0 → Type 0
+Where P A B = (P × A) ⊎ ((P → ⊥) × B)
+
+-- the transaction of a row has records
+abbrev pub HasLogged : Option Transaction → Type 0
+HasLogged None = ⊥
+HasLogged (Some row) = 1 ≤ row.last
+
+-- The fault is that of the first check that is failed; where none is, it has this cause.
+abbrev pub Checked : Option ℕ → Fault → Type 0 → Type 0
+Checked None fault cause = cause
+Checked (Some n) fault cause = number_of fault ≡ n
+
+module _ {D : Type 0} (d : Ghosts D) (log : LogFile) (disk : D) where
+  -- why a step that reads is refused, by the log and the disk that it left; that the bytes are no store's comes of no store that was sound
+  abbrev pub ReadCause : Fault → Type 0
+  ReadCause Device = d.failed disk ≡ true
+  ReadCause LogFull = HasNoRoom log
+  ReadCause Memory = Unit {0}
+  ReadCause NotAStore = Unit {0}
+  ReadCause _ = ⊥
+
+  -- why the flush of a page is
+  abbrev pub FlushCause : Fault → Type 0
+  FlushCause Device = d.failed disk ≡ true
+  FlushCause LogFull = HasNoRoom log
+  FlushCause _ = ⊥
+
+  -- why a delete is: it fails for want of memory behind the grant of its locks
+  abbrev pub DeleteCause : Fault → Type 0
+  DeleteCause Failed = Unit {0}
+  DeleteCause fault = ReadCause fault
+
+  -- and a change that is taken back, where a key that comes back may want pages
+  abbrev pub TurnCause : Fault → Type 0
+  TurnCause Failed = Unit {0}
+  TurnCause Capacity = Unit {0}
+  TurnCause fault = ReadCause fault
+
+  -- and an insert: `InsertWants` says when pages and numbers are wanted
+  abbrev pub InsertCause : Fault → Type 0
+  InsertCause PagesFull = Unit {0}
+  InsertCause fault = TurnCause fault
+
+module _ {D : Type 0} (d : Ghosts D) where
+  -- Steps that make no device call: a Begin, a Rollback, a Commit of a transaction that has no records, the flush of a page that was not changed, a force where nothing is buffered.
+  abbrev pub CallsDevice : answers.Step → Engine D d → Type 0
+  CallsDevice answers.Begin e = ⊥
+  CallsDevice (answers.Do t access) e = Unit {0}
+  CallsDevice (answers.Commit t) e = HasLogged (find (is_of t) e.txns.rows)
+  CallsDevice (answers.Rollback t) e = ⊥
+  CallsDevice (answers.Continue t) e = Unit {0}
+  CallsDevice (answers.FlushPage page) e = is_changed e.writer.pool page ≡ true
+  CallsDevice answers.Force e = 1 ≤ e.writer.log.used
+  CallsDevice answers.Checkpoint e = 1 ≤ e.writer.log.used
+
+  -- the first check that a step fails, by what the engine knows without any page or lock
+  abbrev pub check_of : answers.Step → Engine D d → Option ℕ
+  check_of step e = first_check e.failed (length e.txns.rows) (mark_for (marks_in e.txns.rows) step) step
+
+  module _ (reply : Reply) (old : Engine D d) (log : LogFile) (disk : D) (fault : Fault) where
+    -- refused for a cause of this kind
+    abbrev pub IsFor : (Fault → Type 0) → Type 0
+    IsFor Cause = (reply ≡ Refused fault) × Cause fault
+
+    -- a force is refused just where the disk fails
+    abbrev pub OfForce : Type 0
+    OfForce = Where (d.failed disk ≡ true) (fault ≡ Device) ⊥
+
+    -- Behind the checks, why this fault refuses a step that left this log and this disk. The record of a Commit takes 33 bytes, and a Rollback that was let through is never refused.
+    abbrev pub Refuses : answers.Step → Type 0
+    Refuses answers.Begin = Where (2 ^ 62 < old.txns.next) (fault ≡ Capacity) ⊥
+    Refuses (answers.Do t (answers.Fetch key)) = IsFor (ReadCause d log disk)
+    Refuses (answers.Do t (answers.Seek key)) = IsFor (ReadCause d log disk)
+    Refuses (answers.Do t (answers.Next key)) = IsFor (ReadCause d log disk)
+    Refuses (answers.Do t (answers.Scan lo hi limit)) = IsFor (ReadCause d log disk)
+    Refuses (answers.Do t (answers.Insert key rid)) = IsFor (InsertCause d log disk)
+    Refuses (answers.Do t (answers.Delete key)) = IsFor (DeleteCause d log disk)
+    Refuses (answers.Commit t) = Where (HasLogged (find (is_of t) old.txns.rows)) (Where (2 ^ 62 < end_with old.writer.log 33) (fault ≡ LogFull) OfForce) ⊥
+    Refuses (answers.Rollback t) = ⊥
+    Refuses (answers.Continue t) = IsFor (TurnCause d log disk)
+    Refuses (answers.FlushPage page) = IsFor (FlushCause d log disk)
+    Refuses answers.Force = OfForce
+    Refuses answers.Checkpoint = OfForce
+
+  -- A step is refused exactly by the first check that it fails, or else for its cause.
+  abbrev pub IsAnswered : answers.Step → Reply → Engine D d → Engine D d → Type 0
+  IsAnswered step reply old new = (fault : Fault) → (reply ≡ Refused fault) ↔ Checked (check_of step old) fault (Refuses reply old new.writer.log new.disk fault step)
+
+-- ---- what a step asks of the pages that users see
+
+-- refused for pages, for page numbers, or for want of memory behind the grant of its locks
+pub data AsksChange (reply : Reply) : Type 0 where
+  wants_pages : reply ≡ Refused PagesFull → AsksChange reply
+  wants_numbers : reply ≡ Refused Capacity → AsksChange reply
+  wants_memory : reply ≡ Refused Failed → AsksChange reply
+
+module _ (pages : Pages) (map : IndexMap) where
+  -- An insert meets the limit of pages: where the key's leaf lacks room it is made only within it, and refused `PagesFull` only over it, and `Capacity` only where page numbers or levels are used up. A key that is there is a Duplicate, and none of these.
+  pub record InsertWants (max_pages : ℕ) (key : Key) (reply : Reply) : Type 0 where
+    pub made : reply ≡ Inserted → LacksRoomFor pages key → IsWithin pages key max_pages
+    pub full : reply ≡ Refused PagesFull → LacksRoomFor pages key × IsOver pages key max_pages
+    pub used_up : reply ≡ Refused Capacity → LacksRoomFor pages key × IsUsedUp pages key
+    pub absent : AsksChange reply → get map key ≡ None
+
+  -- A key that the tree lacks finds its leaf without room, and page numbers or levels are used up.
+  pub record LacksWay : Type 0 where
+    pub key : Key
+    pub absent : get map key ≡ None
+    pub lacks : LacksRoomFor pages key
+    pub used_up : IsUsedUp pages key
+
+  -- of the steps inserts and deletes are asked that: a key that is not there is Absent, and no delete of it fails late. A change that is taken back is refused `Capacity` only where a key can't come back
+  abbrev pub WantsOf : ℕ → answers.Step → Reply → Type 0
+  WantsOf max_pages (answers.Do t (answers.Insert key rid)) reply = InsertWants max_pages key reply
+  WantsOf max_pages (answers.Do t (answers.Delete key)) reply = reply ≡ Refused Failed → get map key ≢ None
+  WantsOf max_pages (answers.Continue t) reply = reply ≡ Refused Capacity → LacksWay
+  WantsOf max_pages _ reply = Unit {0}
+
+-- An access that is answered has the answer of one user alone on the map of all that was committed, with what its transaction did on top.
+abbrev pub AnswersAlone : List Effect → Shown → answers.Step → answers.Reply → Type 0
+AnswersAlone before s (answers.Do t access) reply = answers.is_answer reply ≡ true → reply ≡ answers.answer access (apply_all empty ((before ++ effects s.asked) ++ (s.running t).effect ∷ []))
+AnswersAlone before s _ reply = Unit {0}
+
+-- ---- a step that was made
+
+module _ {D : Type 0} (d : Ghosts D) where
+  -- a step of what was asked so, behind the checks
+  pub record IsMade (step : answers.Step) (reply : Reply) (old new : Engine D d) : Type 0 where
+    pub kept : (before : List Effect) (s : Shown) (v : View) → IsLife d before s v old → StepKept d before s v step (told_by reply) old new
+    pub told : IsTold d reply old new
+    pub answered : IsAnswered d step reply old new
+    pub wants : (b : Base) (before : List Effect) (s : Shown) (v : View) (r : IsRunning d b before s v old) → WantsOf (settled b r.now.log) v.walk old.max_pages step reply
+    pub quiet : (CallsDevice d step old → ⊥) → new.disk ≡ old.disk
+
+  -- a step of the engine
+  pub record IsStep (step : Step) (reply : Reply) (old new : Engine D d) : Type 0 where
+    pub kept : (before : List Effect) (s : Shown) (v : View) → IsLife d before s v old → StepKept d before s v (asked_by step) (told_by reply) old new
+    pub alone : (before : List Effect) (s : Shown) (v : View) → IsLife d before s v old → AnswersAlone before s (asked_by step) (told_by reply)
+    pub told : IsTold d reply old new
+    -- a step that fails a check is refused by it, and changes nothing
+    pub checked : (fault : Fault) → Some (number_of fault) ≡ check_of d (asked_by step) old → (reply ≡ Refused fault) × (new ≡ old)
+    pub answered : IsAnswered d (asked_by step) reply old new
+    pub wants : old.failed ≡ false → (b : Base) (before : List Effect) (s : Shown) (v : View) (r : IsRunning d b before s v old) → WantsOf (settled b r.now.log) v.walk old.max_pages (asked_by step) reply
+    pub quiet : (CallsDevice d (asked_by step) old → ⊥) → new.disk ≡ old.disk
+    pub works : d.failed new.disk ≡ true → new.failed ≡ true
+    -- the bytes of a sound store are never found to be none
+    pub never : (before : List Effect) (s : Shown) (v : View) → IsLife d before s v old → reply ≢ Refused NotAStore
+    pub max_pages : new.max_pages ≡ old.max_pages

@@ -1,0 +1,159 @@
+//! Steps by a key.
+
+ghost use Rattle.std.specs.Prelude.{◌≡◌, None, false, List};
+ghost use Rattle.im_engine.specs.Faults.{told_as, ends_engine};
+
+use crate::engine::Engine;
+use im_disk::Disk;
+use im_front::{Blocker, Fault, Reply};
+use im_index::Outcome;
+use im_txn::Mark;
+use im_types::TxnId;
+
+// A refusal of the calls below, as a store answers it.
+pub(crate) fn told(fault: im_types::Fault) -> Fault
+    ensures { result ≡ told_as fault }
+{
+    match fault {
+        im_types::Fault::PagesFull => Fault::PagesFull,
+        im_types::Fault::Capacity => Fault::Capacity,
+        im_types::Fault::LogFull => Fault::LogFull,
+        im_types::Fault::Device => Fault::Device,
+        im_types::Fault::Memory => Fault::Memory,
+        im_types::Fault::NotAStore => Fault::NotAStore,
+        _ => Fault::Failed,
+    }
+}
+
+// Whether the engine has failed behind it.
+pub(crate) fn breaks(fault: im_types::Fault) -> bool
+    ensures { result ≡ ends_engine fault }
+{
+    !matches!(fault, im_types::Fault::PagesFull | im_types::Fault::Memory)
+}
+
+impl<D: Disk> Engine<D> {
+    ghost use Rattle.im_types.specs.Changes.{Effect};
+    ghost use Rattle.im_types.specs.Lives.{Shown};
+    ghost use Rattle.im_types.specs.Answers as answers;
+    ghost use Rattle.im_lock.specs.View.{View};
+    ghost use Rattle.im_index.specs.Outcomes.{seek_at};
+    ghost use Rattle.im_front.specs.Calls.{told_by};
+    ghost use Rattle.im_steps.specs.Checks.{checked_by};
+    ghost use Rattle.im_engine.specs.Running.{IsLife};
+    ghost use Rattle.im_engine.specs.Kept.{StepKept};
+    ghost use Rattle.im_engine.specs.Told.{IsTold, IsAnswered};
+
+    // The row id of a key. The law of its answer is `reads_are_served`, of the other two `waits_are_served` and `dies_are_served`, and of a
+    // refusal `lacks_are_served` or, where it broke the engine, `lives_go_on`.
+    pub(crate) fn fetch(&mut self, t: TxnId, key: &[u8]) -> Reply
+        requires works { self.old.failed ≡ false }
+        requires checked { checked_by self.old.txns.rows (answers.Do t (answers.Fetch key.now)) ≡ None }
+        ensures kept { (before : List Effect) (s : Shown) (v : View) → IsLife D.Disk before s v self.old → StepKept D.Disk before s v (answers.Do t (answers.Fetch key.now)) (told_by result) self.old self.new }
+        ensures told { IsTold D.Disk result self.old self.new }
+        ensures answered { IsAnswered D.Disk (answers.Do t (answers.Fetch key.now)) result self.old self.new }
+    {
+        self.failed = true;
+        match im_index::fetch(&mut self.writer, &mut self.disk, &mut self.locks, t, key) {
+            Ok(Outcome::Granted(found)) => {
+                self.failed = false;
+                match found {
+                    Some(rid) => Reply::Found(rid),
+                    None => Reply::Absent,
+                }
+            }
+            Ok(Outcome::Wait(holder)) => {
+                self.failed = false;
+                Reply::Blocked(Blocker::Lock(holder))
+            }
+            Ok(Outcome::Die) => {
+                self.failed = false;
+                self.txns.set_mark(t, Mark::MustRollBack);
+                Reply::Die
+            }
+            Err(fault) => {
+                self.failed = breaks(fault);
+                Reply::Refused(told(fault))
+            }
+        }
+    }
+
+    // The first entry at or above a key (`inclusive`), or above it.
+    pub(crate) fn seek(&mut self, t: TxnId, key: &[u8], inclusive: bool) -> Reply
+        requires works { self.old.failed ≡ false }
+        requires checked { checked_by self.old.txns.rows (answers.Do t (seek_at inclusive key.now)) ≡ None }
+        ensures kept { (before : List Effect) (s : Shown) (v : View) → IsLife D.Disk before s v self.old → StepKept D.Disk before s v (answers.Do t (seek_at inclusive key.now)) (told_by result) self.old self.new }
+        ensures told { IsTold D.Disk result self.old self.new }
+        ensures answered { IsAnswered D.Disk (answers.Do t (seek_at inclusive key.now)) result self.old self.new }
+    {
+        self.failed = true;
+        match im_index::seek(
+            &mut self.writer,
+            &mut self.disk,
+            &mut self.locks,
+            t,
+            key,
+            inclusive,
+        ) {
+            Ok(Outcome::Granted(found)) => {
+                self.failed = false;
+                match found {
+                    Some((key, rid)) => Reply::Entry(key, rid),
+                    None => Reply::End,
+                }
+            }
+            Ok(Outcome::Wait(holder)) => {
+                self.failed = false;
+                Reply::Blocked(Blocker::Lock(holder))
+            }
+            Ok(Outcome::Die) => {
+                self.failed = false;
+                self.txns.set_mark(t, Mark::MustRollBack);
+                Reply::Die
+            }
+            Err(fault) => {
+                self.failed = breaks(fault);
+                Reply::Refused(told(fault))
+            }
+        }
+    }
+
+    // The first entries of a range, up to a limit.
+    pub(crate) fn scan(&mut self, t: TxnId, lo: &[u8], hi: &[u8], limit: u64) -> Reply
+        requires works { self.old.failed ≡ false }
+        requires checked { checked_by self.old.txns.rows (answers.Do t (answers.Scan lo.now hi.now limit)) ≡ None }
+        ensures kept { (before : List Effect) (s : Shown) (v : View) → IsLife D.Disk before s v self.old → StepKept D.Disk before s v (answers.Do t (answers.Scan lo.now hi.now limit)) (told_by result) self.old self.new }
+        ensures told { IsTold D.Disk result self.old self.new }
+        ensures answered { IsAnswered D.Disk (answers.Do t (answers.Scan lo.now hi.now limit)) result self.old self.new }
+    {
+        self.failed = true;
+        match im_index::scan(
+            self.alloc,
+            &mut self.writer,
+            &mut self.disk,
+            &mut self.locks,
+            t,
+            lo,
+            hi,
+            limit as usize,
+        ) {
+            Ok(Outcome::Granted(list)) => {
+                self.failed = false;
+                Reply::Entries(list)
+            }
+            Ok(Outcome::Wait(holder)) => {
+                self.failed = false;
+                Reply::Blocked(Blocker::Lock(holder))
+            }
+            Ok(Outcome::Die) => {
+                self.failed = false;
+                self.txns.set_mark(t, Mark::MustRollBack);
+                Reply::Die
+            }
+            Err(fault) => {
+                self.failed = breaks(fault);
+                Reply::Refused(told(fault))
+            }
+        }
+    }
+}

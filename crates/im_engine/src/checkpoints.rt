@@ -1,0 +1,37 @@
+//! Checkpoints.
+
+ghost use Rattle.std.specs.Prelude.{◌≡◌, false, List};
+
+use crate::accesses::told;
+use crate::engine::Engine;
+use im_disk::Disk;
+use im_front::Reply;
+
+impl<D: Disk> Engine<D> {
+    ghost use Rattle.im_types.specs.Changes.{Effect};
+    ghost use Rattle.im_types.specs.Lives.{Shown};
+    ghost use Rattle.im_types.specs.Answers as answers;
+    ghost use Rattle.im_lock.specs.View.{View};
+    ghost use Rattle.im_front.specs.Calls.{told_by};
+    ghost use Rattle.im_engine.specs.Running.{IsLife};
+    ghost use Rattle.im_engine.specs.Kept.{StepKept};
+    ghost use Rattle.im_engine.specs.Told.{IsTold, IsAnswered, CallsDevice};
+
+    // Makes every record durable (`checkpoints_are_served`). No record is logged: a restart reads the log from its first record on.
+    pub(crate) fn checkpoint(&mut self) -> Reply
+        requires works { self.old.failed ≡ false }
+        ensures kept { (before : List Effect) (s : Shown) (v : View) → IsLife D.Disk before s v self.old → StepKept D.Disk before s v answers.Checkpoint (told_by result) self.old self.new }
+        ensures told { IsTold D.Disk result self.old self.new }
+        ensures answered { IsAnswered D.Disk answers.Checkpoint result self.old self.new }
+        ensures quiet { (CallsDevice D.Disk answers.Checkpoint self.old → ⊥) → self.new.disk ≡ self.old.disk }
+    {
+        self.failed = true;
+        match self.writer.force(&mut self.disk) {
+            Ok(()) => {
+                self.failed = false;
+                Reply::Done
+            }
+            Err(fault) => Reply::Refused(told(fault)),
+        }
+    }
+}

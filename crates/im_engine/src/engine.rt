@@ -1,0 +1,125 @@
+//! The engine: a store that is open, and its steps.
+
+ghost use Rattle.std.specs.Prelude.{◌≡◌, ◌≤◌, length, false, None, Some, Option, List, IfOk, IfErr};
+ghost use Rattle.std.specs.FinMap.{entries as entries_of};
+ghost use Rattle.im_types.specs.Changes.{Effect};
+ghost use Rattle.im_types.specs.Lives.{Shown};
+ghost use Rattle.im_flush.specs.PageWriter.{IsReadyWriter};
+
+use crate::engine::checks::{has_length, to_access, to_commit, to_continue, to_rollback};
+use crate::transactions::Transactions;
+use im_disk::Disk;
+use im_flush::PageWriter;
+use im_front::{Fault, Reply, Step};
+use im_lock::LockTable;
+use im_types::PageNo;
+use std::alloc::Global;
+
+mod checks;
+
+/// A store that is open, for up to 64 transactions at once.
+#[derive(Drop)]
+pub struct Engine<D: Disk> {
+    pub(crate) alloc: Global,
+    pub(crate) writer: PageWriter,
+    pub(crate) disk: D,
+    pub(crate) max_pages: PageNo,
+    pub(crate) txns: Transactions,
+    pub(crate) locks: LockTable,
+    // where records are read again for a rollback
+    pub(crate) room: Vec<u8>,
+    pub(crate) failed: bool,
+    ghost ready: { IsReadyWriter D.Disk writer disk },
+    ghost working: { failed ≡ false → writer.failed ≡ false },
+    ghost first: { 1 ≤ txns.next },
+    ghost sized: { length room.items ≡ 16384 },
+}
+
+impl<D: Disk> Engine<D> {
+    ghost use Rattle.im_lock.specs.Machine.{first_check, mark_for};
+    ghost use Rattle.im_front.specs.Calls.{asked_by};
+    ghost use Rattle.im_steps.specs.Checks.{marks_in};
+    ghost use Rattle.im_engine.specs.Kept.{numbered};
+    ghost use Rattle.im_engine.specs.Told.{IsStep};
+
+    // The first refusal that a check gives to a step.
+    fn refusal(&self, step: &Step) -> Option<Fault>
+        ensures { numbered result ≡ first_check self.now.failed (length self.now.txns.rows) (mark_for (marks_in self.now.txns.rows) (asked_by step.now)) (asked_by step.now) }
+    {
+        if self.failed {
+            return Some(Fault::Failed);
+        }
+        match step {
+            Step::Begin => {
+                if self.txns.len() < 64 {
+                    None
+                } else {
+                    Some(Fault::TooMany)
+                }
+            }
+            Step::Fetch(t, key) => to_access(self.txns.find(*t), has_length(key)),
+            Step::Seek(t, key) => to_access(self.txns.find(*t), has_length(key)),
+            Step::Next(t, key) => to_access(self.txns.find(*t), has_length(key)),
+            Step::Scan(t, lo, hi, _) => to_access(
+                self.txns.find(*t),
+                has_length(lo) && has_length(hi),
+            ),
+            Step::Insert(t, key, _) => to_access(self.txns.find(*t), has_length(key)),
+            Step::Delete(t, key) => to_access(self.txns.find(*t), has_length(key)),
+            Step::Commit(t) => to_commit(self.txns.find(*t)),
+            Step::Rollback(t) => to_rollback(self.txns.find(*t)),
+            Step::Continue(t) => to_continue(self.txns.find(*t)),
+            Step::FlushPage(_) => None,
+            Step::Force => None,
+            Step::Checkpoint => None,
+        }
+    }
+
+    /// Makes a step, and answers it. A step by a key reads the pages on the key's way, which makes device calls where the pool does not
+    /// hold them; what is read needs a frame, so a page that was changed may be written to make one free. A Commit of a transaction that
+    /// has records forces the log, `Force` and `Checkpoint` do where records are buffered, and `FlushPage` writes a page that was changed.
+    ///
+    /// Refused by the first of these that holds: `Failed` where an earlier step broke the engine; `TooMany` at Begin where 64 transactions
+    /// are active; `NoTransaction` where none of that number is active, or at Continue where it has nothing to go on with; `MustRollBack`
+    /// where it was answered `Die`; `RollingBack` where it is taking back; `KeyLength`; `PagesFull` where an insert needs pages past the
+    /// limit; `Capacity` where page numbers, levels or transaction numbers are used up. In between come `LogFull` where the log has no room
+    /// below LSN 2^62, `Device`, `NotAStore` where a page's bytes are none, `Memory`, and `Failed` where memory was wanted too late.
+    /// `LogFull`, `Capacity`, `Device`, `NotAStore` and `Failed` break the engine; after every other refusal the entries, the locks and the
+    /// transactions are as they were.
+    pub fn step(&mut self, step: &Step) -> Reply
+        ensures { IsStep D.Disk step.now result self.old self.new }
+    {
+        if let Some(fault) = self.refusal(step) {
+            return Reply::Refused(fault);
+        }
+        match step {
+            Step::Begin => self.begin(),
+            Step::Fetch(t, key) => self.fetch(*t, key),
+            Step::Seek(t, key) => self.seek(*t, key, true),
+            Step::Next(t, key) => self.seek(*t, key, false),
+            Step::Scan(t, lo, hi, limit) => self.scan(*t, lo, hi, *limit),
+            Step::Commit(t) => self.commit(*t),
+            Step::Rollback(t) => self.roll_back(*t),
+            Step::Continue(t) => self.go_on(*t),
+            Step::Force => self.force(),
+            Step::FlushPage(page) => self.flush_page(*page),
+            Step::Checkpoint => self.checkpoint(),
+            Step::Insert(t, key, rid) => self.insert(*t, key, *rid),
+            Step::Delete(t, key) => self.delete(*t, key),
+        }
+    }
+
+    /// How many transactions are active.
+    pub fn active(&self) -> usize
+        ensures { result ≡ length self.now.txns.rows }
+    {
+        self.txns.len()
+    }
+
+    /// Whether an earlier call broke it.
+    pub fn failed(&self) -> bool
+        ensures { result ≡ self.now.failed }
+    {
+        self.failed
+    }
+}

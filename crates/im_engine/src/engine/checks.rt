@@ -1,0 +1,72 @@
+//! What a row of the table lets its transaction do.
+
+ghost use Rattle.std.specs.Prelude.{◌≡◌, not, ◌&&◌};
+ghost use Rattle.im_types.specs.Refusals.{key_length};
+ghost use Rattle.im_lock.specs.Machine.{barred_to, barred_to_rollback, barred_to_continue, fits, or_else, fault_if};
+ghost use Rattle.im_steps.specs.Checks.{mark_at};
+ghost use Rattle.im_engine.specs.Kept.{numbered};
+
+use im_front::Fault;
+use im_txn::{Mark, Transaction};
+
+// What it refuses to an access, where its keys have their length or not.
+pub(crate) fn to_access(row: Option<Transaction>, fit: bool) -> Option<Fault>
+    ensures { numbered result ≡ or_else (barred_to (mark_at row)) (fault_if (not fit) key_length) }
+{
+    if let Some(fault) = to_commit(row) {
+        return Some(fault);
+    }
+    if fit { None } else { Some(Fault::KeyLength) }
+}
+
+// What it refuses to an access and to a Commit.
+pub(crate) fn to_commit(row: Option<Transaction>) -> Option<Fault>
+    ensures { numbered result ≡ barred_to (mark_at row) }
+{
+    let Some(row) = row else {
+        return Some(Fault::NoTransaction);
+    };
+    match row.mark {
+        Mark::Going => None,
+        Mark::MustRollBack => Some(Fault::MustRollBack),
+        Mark::RollingBack => Some(Fault::RollingBack),
+        Mark::Committing => Some(Fault::NoTransaction),
+    }
+}
+
+// What it refuses to a Rollback.
+pub(crate) fn to_rollback(row: Option<Transaction>) -> Option<Fault>
+    ensures { numbered result ≡ barred_to_rollback (mark_at row) }
+{
+    let Some(row) = row else {
+        return Some(Fault::NoTransaction);
+    };
+    match row.mark {
+        Mark::Going => None,
+        Mark::MustRollBack => None,
+        Mark::RollingBack => Some(Fault::RollingBack),
+        Mark::Committing => Some(Fault::NoTransaction),
+    }
+}
+
+// What it refuses to a Continue.
+pub(crate) fn to_continue(row: Option<Transaction>) -> Option<Fault>
+    ensures { numbered result ≡ barred_to_continue (mark_at row) }
+{
+    let Some(row) = row else {
+        return Some(Fault::NoTransaction);
+    };
+    match row.mark {
+        Mark::Going => Some(Fault::NoTransaction),
+        Mark::MustRollBack => Some(Fault::NoTransaction),
+        Mark::RollingBack => None,
+        Mark::Committing => Some(Fault::NoTransaction),
+    }
+}
+
+// Whether it has 1 to 255 bytes.
+pub(crate) fn has_length(key: &Vec<u8>) -> bool
+    ensures { result ≡ fits key.now.items }
+{
+    !key.is_empty() && key.len() < 256
+}

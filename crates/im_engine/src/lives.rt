@@ -1,0 +1,81 @@
+//! Steps in turn, and one life of a store.
+
+ghost use Rattle.std.specs.Prelude.{◌≡◌, ◌≢◌, false, length, List, [], IfOk, IfErr};
+ghost use Rattle.std.specs.FinMap.{empty};
+ghost use Rattle.im_types.specs.Changes.{Effect, apply_all};
+ghost use Rattle.im_types.specs.declared.fault.Fault.TheVariants.{NotAStore};
+ghost use Rattle.im_disk.specs.Disk.{Files};
+ghost use Rattle.im_disk.specs.Runs.{IsSynced};
+ghost use Rattle.im_engine.specs.Stands.{StandsFor};
+ghost use Rattle.im_engine.specs.Turns.{answered_by, IsRunFrom};
+ghost use Rattle.im_engine.specs.Lived.{TakesFiles};
+
+use crate::config::Config;
+use crate::engine::Engine;
+use im_disk::Disk;
+use im_front::{Reply, Step};
+use im_types::Fault;
+use std::alloc::Global;
+
+impl<D: Disk> Engine<D> {
+    ghost use Rattle.std.specs.Prelude.{OnErr};
+    ghost use Rattle.im_types.specs.Changes.{Effect};
+    ghost use Rattle.im_types.specs.Lives.{Shown};
+    ghost use Rattle.im_types.specs.declared.fault.Fault.TheVariants.{Memory};
+    ghost use Rattle.im_disk.specs.Runs.{LeavesOnly};
+    ghost use Rattle.im_lock.specs.View.{View};
+    ghost use Rattle.im_engine.specs.Running.{IsLife};
+    ghost use Rattle.im_engine.specs.Turns.{answered_by, LivesOn, AreSteps, IsCutOff};
+
+    /// Makes steps in turn, of any transactions in any order, and answers their replies: they are a run of the machine of transactions.
+    /// Refused `Memory`, with no step made, where there is no room for the replies.
+    pub fn life(&mut self, alloc: Global, steps: &[Step]) -> Result<Vec<Reply>, Fault>
+        ensures kept { IfOk result (λ replies. (before : List Effect) (s : Shown) (v : View) → IsLife D.Disk before s v self.old → LivesOn D.Disk before s v (answered_by steps.now replies.items) self.new) }
+        ensures each { IfOk result (λ replies. length replies.items ≡ length steps.now) }
+        ensures turns { IfOk result (λ replies. AreSteps D.Disk steps.now replies.items self.old self.new) }
+        ensures stops { IfOk result (λ replies. (before : List Effect) (s : Shown) (v : View) → IsLife D.Disk before s v self.old → LeavesOnly D.Disk self.old.disk self.new.disk (IsCutOff before s steps.now replies.items)) }
+        ensures max_pages { self.new.max_pages ≡ self.old.max_pages }
+        ensures none { OnErr result (self.new ≡ self.old) }
+        ensures memory { IfErr result (λ e. e ≡ Memory) }
+    {
+        let mut replies = Vec::with_capacity(alloc, steps.len()).map_err(|_| Fault::Memory)?;
+        for step in steps {
+            let reply = self.step(step);
+            match replies.push(reply) {
+                Ok(()) => {}
+                Err(_) => return Err(Fault::Memory),
+            }
+        }
+        Ok(replies)
+    }
+}
+
+/// One life: opens the store of a disk, makes the steps in turn, and hands the disk on with their replies. Whatever a stop at any
+/// moment of it left on the disk, the life took the files there: that is what a list of lives is made of (`every_list_of_lives`). The steps
+/// with their replies are a run of the machine of transactions from the map of the effects that the files stood for: each transaction is
+/// as good as alone at its place in the order of Commits (`im_lock::isolation`).
+///
+/// Refused as an opening is, with no step made, and `Memory` where there is no room for the replies.
+pub fn live<D: Disk>(
+    alloc: Global,
+    disk: D,
+    config: Config,
+    steps: &[Step],
+) -> (Result<Vec<Reply>, Fault>, D)
+    requires working { D.failed disk ≡ false }
+    requires synced { IsSynced D.Disk disk }
+    ensures takes { IfOk result.0 (λ replies. D.tells → (c : Files) → D.left_since result.1 (D.moment disk) c → TakesFiles steps.now replies.items (D.seen disk) c) }
+    ensures refused { IfErr result.0 (λ e. D.tells → (c : Files) → D.left_since result.1 (D.moment disk) c → TakesFiles [] [] (D.seen disk) c) }
+    ensures isolated { IfOk result.0 (λ replies. (before : List Effect) → D.tells → StandsFor before (D.seen disk) → IsRunFrom (apply_all empty before) (answered_by steps.now replies.items)) }
+    ensures each { IfOk result.0 (λ replies. length replies.items ≡ length steps.now) }
+    ensures never { IfErr result.0 (λ e. (before : List Effect) → D.tells → StandsFor before (D.seen disk) → e ≢ NotAStore) }
+{
+    match Engine::open_or_create(alloc, disk, config) {
+        Err((fault, disk)) => (Err(fault), disk),
+        Ok(opened) => {
+            let mut engine = opened;
+            let replies = engine.life(alloc, steps);
+            (replies, engine.into_disk())
+        }
+    }
+}

@@ -1,0 +1,87 @@
+//! Calls that only look.
+
+ghost use Rattle.std.specs.Prelude.{◌≡◌, ◌≢◌, List, IfOk, IfErr};
+
+use crate::accesses::breaks;
+use crate::engine::Engine;
+use crate::header::Header;
+use im_disk::Disk;
+use im_pool::Frame;
+use im_types::{Fault, Key, PageNo, Rid};
+use std::alloc::Global;
+
+impl<D: Disk> Engine<D> {
+    ghost use Rattle.std.specs.Prelude.{false};
+    ghost use Rattle.im_types.specs.Changes.{Effect};
+    ghost use Rattle.im_types.specs.Histories.{Base};
+    ghost use Rattle.im_types.specs.Histories as histories;
+    ghost use Rattle.im_types.specs.Lives.{Shown};
+    ghost use Rattle.im_types.specs.declared.fault.Fault.TheVariants.{NotAStore};
+    ghost use Rattle.im_pool.specs.Pool.{page_at, IsAt};
+    ghost use Rattle.im_flush.specs.Outcome.{fault_of};
+    ghost use Rattle.im_lock.specs.View.{View};
+    ghost use Rattle.im_engine.specs.Running.{IsRunning, IsLife};
+    ghost use Rattle.im_engine.specs.Kept.{LookKept, EntriesKept};
+    ghost use Rattle.im_engine.specs.Looking.{Looks, header_of};
+
+    /// The entries of the store, those of active transactions included, in rising key order. Refused `Failed`, `Memory`, and as a step is
+    /// that reads a leaf; every refusal but `Memory` then breaks the engine.
+    pub fn entries(&mut self, alloc: Global) -> Result<Vec<(Key, Rid)>, Fault>
+        ensures outcome { Looks D.Disk (fault_of result) self.old self.new }
+        ensures kept { (before : List Effect) (s : Shown) (v : View) → IsLife D.Disk before s v self.old → LookKept D.Disk before s v self.old self.new }
+        ensures entries { IfOk result (λ list. (before : List Effect) (s : Shown) (v : View) → IsLife D.Disk before s v self.old → EntriesKept before s v list.items) }
+        ensures never { IfErr result (λ e. (before : List Effect) (s : Shown) (v : View) → IsLife D.Disk before s v self.old → e ≢ NotAStore) }
+    {
+        if self.failed {
+            return Err(Fault::Failed);
+        }
+        self.failed = true;
+        match im_search::entries(alloc, &mut self.writer, &mut self.disk) {
+            Ok(list) => {
+                self.failed = false;
+                Ok(list)
+            }
+            Err(fault) => {
+                self.failed = breaks(fault);
+                Err(fault)
+            }
+        }
+    }
+
+    /// What a page is for. Refused as `entries` is.
+    pub fn header(&mut self, page: PageNo) -> Result<Header, Fault>
+        ensures outcome { Looks D.Disk (fault_of result) self.old self.new }
+        ensures kept { (before : List Effect) (s : Shown) (v : View) → IsLife D.Disk before s v self.old → LookKept D.Disk before s v self.old self.new }
+        ensures header { IfOk result (λ header. header ≡ header_of (page_at self.new.writer.pool page)) }
+        ensures logged { IfOk result (λ header. (b : Base) (before : List Effect) (s : Shown) (v : View) (r : IsRunning D.Disk b before s v self.old) → header ≡ header_of (histories.page_at b r.now.log page)) }
+        ensures never { IfErr result (λ e. (before : List Effect) (s : Shown) (v : View) → IsLife D.Disk before s v self.old → e ≢ NotAStore) }
+    {
+        if self.failed {
+            return Err(Fault::Failed);
+        }
+        self.failed = true;
+        match self.writer.get(&mut self.disk, page) {
+            Ok(frame) => {
+                self.failed = false;
+                Ok(self.header_at(frame))
+            }
+            Err(fault) => {
+                self.failed = breaks(fault);
+                Err(fault)
+            }
+        }
+    }
+
+    // The header of the page that a frame holds.
+    fn header_at(&self, frame: Frame) -> Header
+        requires at { IsAt self.now.writer.pool frame }
+        ensures { result ≡ header_of (page_at self.now.writer.pool frame.number) }
+    {
+        let page = self.writer.page(frame);
+        Header {
+            kind: page.kind(),
+            level: page.level(),
+            count: page.len(),
+        }
+    }
+}

@@ -1,0 +1,100 @@
+//! How a store is opened, and how its engine ends.
+
+ghost use Rattle.std.specs.Prelude.{◌≡◌, ◌<◌, ◌⊎◌, ◌↔◌, [], false, true, length, List, IfOk, IfErr};
+ghost use Rattle.std.specs.Result.{IsErrAnd};
+ghost use Rattle.im_types.specs.declared.fault.Fault.TheVariants.{Memory};
+
+use crate::config::Config;
+use crate::engine::Engine;
+use crate::transactions::Transactions;
+use im_disk::Disk;
+use im_lock::LockTable;
+use im_types::Fault;
+use std::alloc::Global;
+
+const ROOM: usize = 16_384;
+
+// The room in which records are read again.
+fn make_room(alloc: Global) -> Result<Vec<u8>, Fault>
+    ensures size { IfOk result (λ room. length room.items ≡ 16384) }
+    ensures causes { IfErr result (λ e. e ≡ Memory) }
+{
+    vec![in alloc; 0; ROOM].map_err(|_| Fault::Memory)
+}
+
+impl<D: Disk> Engine<D> {
+    ghost use Rattle.im_types.specs.Changes.{Effect};
+    ghost use Rattle.im_types.specs.declared.fault.Fault.TheVariants.{LogFull, Capacity, Device, Memory, NotAStore, PoolSize};
+    ghost use Rattle.im_disk.specs.Runs.{IsSynced, Reads};
+    ghost use Rattle.im_restart.specs.Restart.{IsFullLog, SpellsLog};
+    ghost use Rattle.im_engine.specs.Stands.{StandsFor};
+    ghost use Rattle.im_engine.specs.Kept.{OpenKept, disk_of};
+
+    /// Opens the store of a disk, or makes a new one where both files are empty: what was committed is there, and what was not is
+    /// taken back. No transaction is active, and nothing is locked. Gives the disk back with a refusal.
+    ///
+    /// Refused `PoolSize`, with no device call, where the frames are not 8 to 1,024; `NotAStore` where the bytes are no store;
+    /// `LogFull` only where the log's file then ends less than 32,778 bytes below LSN 2^62; `Capacity` where what is taken back needs
+    /// a page and page numbers or levels are used up; `Memory`; `Device`. Where the log's bytes are no log's, one of its records leads to a
+    /// later one, or one opens a structure change beside another's, nothing is written.
+    pub fn open_or_create(alloc: Global, disk: D, config: Config) -> Result<Engine<D>, (Fault, D)>
+        requires working { D.failed disk ≡ false }
+        requires synced { IsSynced D.Disk disk }
+        ensures kept { (before : List Effect) → D.tells → IsSynced D.Disk disk → (stands : StandsFor before (D.seen disk)) → OpenKept D.Disk before disk stands result }
+        ensures frames { IsErrAnd result (λ x. x.0 ≡ PoolSize) ↔ ((config.frames < 8) ⊎ (1024 < config.frames)) }
+        ensures untouched { IfErr result (λ x. x.0 ≡ PoolSize → x.1 ≡ disk) }
+        ensures opened { IfOk result (λ e. (e.failed ≡ false) × (e.txns.rows ≡ []) × (e.locks ≡ []) × (D.failed e.disk ≡ false)) }
+        ensures limit { IfOk result (λ e. e.max_pages ≡ config.max_pages) }
+        ensures spelled { IfOk result (λ _. D.tells → SpellsLog (D.seen disk)) }
+        ensures causes { IfErr result (λ x. (x.0 ≡ PoolSize) ⊎ (x.0 ≡ Memory) ⊎ (x.0 ≡ Device) ⊎ (x.0 ≡ NotAStore) ⊎ (x.0 ≡ LogFull) ⊎ (x.0 ≡ Capacity)) }
+        ensures unspelled { D.tells → ¬ (SpellsLog (D.seen disk)) → Reads D.Disk disk (disk_of D.Disk result) × IfErr result (λ x. (x.0 ≡ PoolSize) ⊎ (x.0 ≡ Memory) ⊎ (x.0 ≡ Device) ⊎ (x.0 ≡ NotAStore)) }
+        ensures full { IfErr result (λ x. x.0 ≡ LogFull → D.tells → IsFullLog (D.seen x.1)) }
+        ensures device { IsErrAnd result (λ x. x.0 ≡ Device) ↔ (D.failed (disk_of D.Disk result) ≡ true) }
+    {
+        if config.frames < 8 || config.frames > 1024 {
+            return Err((Fault::PoolSize, disk));
+        }
+        let room = match make_room(alloc) {
+            Ok(room) => room,
+            Err(fault) => return Err((fault, disk)),
+        };
+        let mut disk = disk;
+        match im_restart::open_or_create(alloc, &mut disk, config.frames) {
+            Err(fault) => Err((fault, disk)),
+            Ok(restarted) => Ok(Engine {
+                alloc,
+                writer: restarted.writer,
+                disk,
+                max_pages: config.max_pages,
+                txns: Transactions::starting_at(restarted.next),
+                locks: LockTable::new(alloc),
+                room,
+                failed: false,
+            }),
+        }
+    }
+
+    /// The disk, for reading.
+    pub fn disk(&self) -> &D
+        ensures { result.now ≡ self.now.disk }
+    {
+        &self.disk
+    }
+
+    /// Ends the engine, with no device call, and hands the disk back.
+    pub fn into_disk(self) -> D
+        ensures { result ≡ self.disk }
+    {
+        let Engine {
+            alloc: _alloc,
+            writer: _writer,
+            disk,
+            max_pages: _max_pages,
+            txns: _txns,
+            locks: _locks,
+            room: _room,
+            failed: _failed,
+        } = self;
+        disk
+    }
+}

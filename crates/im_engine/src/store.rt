@@ -1,0 +1,41 @@
+//! An engine is a store that a front can share among threads.
+
+use crate::accesses::told;
+use crate::engine::Engine;
+use im_disk::Disk;
+use im_front::{Fault, Reply, Step, Store};
+use im_types::{Key, Rid};
+use std::alloc::Global;
+
+impl<D: Disk + Drop> Store for Engine<D> {
+    ghost use Rattle.im_engine.specs.Serves.{IsStoreLife, Leaves, IsRefused, stops_keep, settled};
+
+    ghost life = { λ before s v e. IsStoreLife D.Disk before s v e };
+
+    ghost leaves = { λ e P. Leaves D.Disk e P };
+
+    ghost refuses = { λ old new fault. IsRefused D.Disk old new fault };
+
+    fn step(&mut self, step: &Step) -> Reply {
+        Engine::step(self, step)
+    }
+
+    fn entries(&mut self, alloc: Global) -> Result<Vec<(Key, Rid)>, Fault> {
+        match Engine::entries(self, alloc) {
+            Ok(list) => Ok(list),
+            Err(fault) => Err(told(fault)),
+        }
+    }
+
+    fn active(&self) -> usize {
+        Engine::active(self)
+    }
+
+    fn failed(&self) -> bool {
+        Engine::failed(self)
+    }
+
+    ghost stops = { λ before s v e h. stops_keep before s v e h };
+
+    ghost settles = { λ before s v e h works none. settled before s v e h works none };
+}
