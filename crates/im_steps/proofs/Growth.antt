@@ -6,13 +6,15 @@ use Rattle.im_types.specs.Maps.{IndexMap}
 use Rattle.im_types.specs.Changes.{Effect}
 use Rattle.im_types.specs.Records.{What, InsertKey, DeleteKey, UndoInsert, UndoDelete, Smo, UndoSmo, DummyClr, Commit, End, Image, Checkpoint, Unreadable, Logged}
 use Rattle.im_types.specs.Tree.{Tree}
-use Rattle.im_types.specs.Histories.{History, Base, Rises, end_of}
-use Rattle.im_types.specs.Structure.{open_smo}
+use Rattle.im_types.specs.Histories.{History, Base, Rises, end_of, page_after}
+use Rattle.im_types.specs.Structure.{open_after, open_smo}
 use Rattle.im_types.specs.Copies as copies
-use Rattle.im_types.specs.Lawful.{IsLawful}
+use Rattle.im_types.specs.Lawful.{IsLawful, MayCome, has_owner}
+use Rattle.im_types.proofs.Appends.{append_checkpoint}
+use Rattle.im_types.proofs.Histories.{page_same}
 use Rattle.im_types.proofs.Images.{images_open, lawful_images}
 use Rattle.im_types.specs.Transactions.{committed, committed_after, contents, contents_after, net, change_of, changes_of, without_smo, is_smo, last_of, undo_next_of, undo_from, to_undo, stack_after, is_finished, is_rolling_back, is_end, is_compensation}
-use Rattle.im_steps.specs.Growth.{Stays, IsSameOf, HasNone, IsImage, IsWithin, AreWithin, AreImages, GrowthWithinLeavesOthers, ImagesChangeNothing, AreBelow, AreStructural, CopiesAreImages, IsRestructured, IsStructural, NumbersStayNew, StructureChangesNoKey, is_structural}
+use Rattle.im_steps.specs.Growth.{Stays, IsSameOf, HasNone, IsImage, IsCheckpoint, IsUnowned, IsWithin, AreWithin, AreImages, AreUnowned, GrowthWithinLeavesOthers, ImagesChangeNothing, UnownedChangeNothing, CheckpointsChangeNothing, AreBelow, AreStructural, CopiesAreImages, IsRestructured, IsStructural, NumbersStayNew, StructureChangesNoKey, is_structural}
 
 -- ---- one record
 
@@ -30,18 +32,54 @@ either_way : {A : Type 0} (b : Bool) (x y : A) → x ≡ y → (if b then x else
 either_way true x y e = e
 either_way false x y e = refl
 
--- an Image, which is nobody's
-pub same_by_image : (u : ℕ) (r : Logged) (older : History) → IsImage r → IsSameOf u older (r ∷ older)
-same_by_image u r older image = record {
+-- ---- a record that says nothing of any transaction or key
+
+pub record SaysNothing (r : Logged) : Type 0 where
+  pub no_owner : r.txn ≡ 0
+  pub end : is_end r.what ≡ false
+  pub forward : is_compensation r.what ≡ false
+  pub stack : (rest : History) → stack_after r r.what rest ≡ rest
+  pub commits : (e : Effect) (es : List Effect) → committed_after r.what e es ≡ es
+  pub walk : (m : IndexMap) → contents_after r.what m ≡ m
+
+pub image_says_nothing : (r : Logged) → IsImage r → SaysNothing r
+image_says_nothing r image = record {
+  no_owner = image.no_owner;
+  end = ap is_end image.what;
+  forward = ap is_compensation image.what;
+  stack = λ rest. ap (λ (w : What). stack_after r w rest) image.what;
+  commits = λ e es. ap (λ (w : What). committed_after w e es) image.what;
+  walk = λ m. ap (λ (w : What). contents_after w m) image.what;
+}
+
+pub checkpoint_says_nothing : (r : Logged) → IsCheckpoint r → SaysNothing r
+checkpoint_says_nothing r is = record {
+  no_owner = is.no_owner;
+  end = ap is_end is.what;
+  forward = ap is_compensation is.what;
+  stack = λ rest. ap (λ (w : What). stack_after r w rest) is.what;
+  commits = λ e es. ap (λ (w : What). committed_after w e es) is.what;
+  walk = λ m. ap (λ (w : What). contents_after w m) is.what;
+}
+
+unowned_says_nothing : (r : Logged) → IsUnowned r → SaysNothing r
+unowned_says_nothing r (inl image) = image_says_nothing r image
+unowned_says_nothing r (inr is) = checkpoint_says_nothing r is
+
+pub same_by_none : (u : ℕ) (r : Logged) (older : History) → SaysNothing r → IsSameOf u older (r ∷ older)
+same_by_none u r older says = record {
   last = λ le. cond-false (r.txn == u) r.lsn (last_of u older) (ne_eqb r.txn u (other le));
   undo = λ le. cond-false (r.txn == u) (undo_from r r.what) (undo_next_of u older) (ne_eqb r.txn u (other le));
-  finished = either_way (r.txn == u) (is_end r.what || is_finished u older) (is_finished u older) (ap (λ (w : What). is_end w || is_finished u older) image.what);
-  rolling = either_way (r.txn == u) (is_compensation r.what || is_rolling_back u older) (is_rolling_back u older) (ap (λ (w : What). is_compensation w || is_rolling_back u older) image.what);
-  stack = either_way (r.txn == u) (stack_after r r.what (to_undo u older)) (to_undo u older) (ap (λ (w : What). stack_after r w (to_undo u older)) image.what);
+  finished = either_way (r.txn == u) (is_end r.what || is_finished u older) (is_finished u older) (ap (λ (x : Bool). x || is_finished u older) says.end);
+  rolling = either_way (r.txn == u) (is_compensation r.what || is_rolling_back u older) (is_rolling_back u older) (ap (λ (x : Bool). x || is_rolling_back u older) says.forward);
+  stack = either_way (r.txn == u) (stack_after r r.what (to_undo u older)) (to_undo u older) (says.stack (to_undo u older));
 }
   where
     other : 1 ≤ u → r.txn ≡ u → ⊥
-    other le e = let zero_is : r.txn ≡ 0 = image.no_owner in omega (arith, le, e, zero_is)
+    other le e = let zero_is : r.txn ≡ 0 = says.no_owner in omega (arith, le, e, zero_is)
+
+pub same_by_image : (u : ℕ) (r : Logged) (older : History) → IsImage r → IsSameOf u older (r ∷ older)
+same_by_image u r older image = same_by_none u r older (image_says_nothing r image)
 
 -- ---- one after another
 
@@ -93,27 +131,54 @@ within_leaves_others t older longer grows = (
   subst (λ (l : History). committed l ≡ committed older) grows.is (within_committed t grows.more older grows.within),
 )
 
--- ---- Images
+-- ---- Images and Checkpoints
 
-images_same : (u : ℕ) (more older : History) → AreImages more → IsSameOf u older (more ++ older)
-images_same u [] older all = same_here u older
-images_same u (r ∷ more) older all = same_then u older (more ++ older) (r ∷ (more ++ older)) (images_same u more older all.1) (same_by_image u r (more ++ older) all.0)
+unowned_same : (u : ℕ) (more older : History) → AreUnowned more → IsSameOf u older (more ++ older)
+unowned_same u [] older all = same_here u older
+unowned_same u (r ∷ more) older all = same_then u older (more ++ older) (r ∷ (more ++ older)) (unowned_same u more older all.1) (same_by_none u r (more ++ older) (unowned_says_nothing r all.0))
 
-images_stay : (b : Base) (more older : History) → AreImages more → Stays b older (more ++ older)
-images_stay b [] older all = record { commits = refl; walk = refl; nets = λ t. refl }
-images_stay b (r ∷ more) older all =
-    let rest = images_stay b more older all.1 in
+unowned_stay : (b : Base) (more older : History) → AreUnowned more → Stays b older (more ++ older)
+unowned_stay b [] older all = record { commits = refl; walk = refl; nets = λ t. refl }
+unowned_stay b (r ∷ more) older all =
+    let rest = unowned_stay b more older all.1 in
+    let says = unowned_says_nothing r all.0 in
     record {
-      commits = ap (λ (w : What). committed_after w (net r.txn (more ++ older)) (committed (more ++ older))) (all.0).what ∙ rest.commits;
-      walk = ap (λ (w : What). contents_after w (contents b (more ++ older))) (all.0).what ∙ rest.walk;
-      nets = λ t. ap changes_of (same_by_image t r (more ++ older) all.0).stack ∙ rest.nets t;
+      commits = says.commits (net r.txn (more ++ older)) (committed (more ++ older)) ∙ rest.commits;
+      walk = says.walk (contents b (more ++ older)) ∙ rest.walk;
+      nets = λ t. ap changes_of (same_by_none t r (more ++ older) says).stack ∙ rest.nets t;
     }
 
-pub images_change_nothing : ImagesChangeNothing
-images_change_nothing b older longer grows = (
-  subst (λ (l : History). Stays b older l) grows.is (images_stay b grows.more older grows.images),
-  λ u. subst (λ (l : History). IsSameOf u older l) grows.is (images_same u grows.more older grows.images),
+pub unowned_change_nothing : UnownedChangeNothing
+unowned_change_nothing b older longer grows = (
+  subst (λ (l : History). Stays b older l) grows.is (unowned_stay b grows.more older grows.unowned),
+  λ u. subst (λ (l : History). IsSameOf u older l) grows.is (unowned_same u grows.more older grows.unowned),
 )
+
+images_unowned : (more : History) → AreImages more → AreUnowned more
+images_unowned [] all = tt
+images_unowned (r ∷ more) all = (inl all.0, images_unowned more all.1)
+
+pub images_change_nothing : ImagesChangeNothing
+images_change_nothing b older longer grows = unowned_change_nothing b older longer (record { more = grows.more; is = grows.is; unowned = images_unowned grows.more grows.images })
+
+-- what the record of a Checkpoint leaves
+pub checkpoints_change_nothing : (tree : Tree) → CheckpointsChangeNothing tree
+checkpoints_change_nothing tree b r older is rises =
+    let same = unowned_change_nothing b older (r ∷ older) (record { more = r ∷ []; is = refl; unowned = (inr is, tt) }) in
+    record {
+      stays = same.0;
+      all = same.1;
+      lawful = λ law. append_checkpoint b tree older r law
+          (record {
+            rises = rises;
+            chained = λ owned. absurd (let t : false ≡ true = sym (ap has_owner is.what) ∙ owned in cc t);
+            may = subst (λ (w : What). MayCome b tree r older w) (sym is.what) is.no_owner;
+          })
+          is.next is.active is.dirty is.what;
+      opened = ap (λ (w : What). open_after r w (open_smo older)) is.what;
+      pages = page_same b r older (λ g. ap (λ (w : What). page_after r.lsn w g) is.what);
+      below = λ next one under. (let zero_is : r.txn ≡ 0 = is.no_owner in omega (arith, zero_is, one), under);
+    }
 
 -- ---- a transaction without a record
 
@@ -247,7 +312,7 @@ module _ (b : Base) (t : ℕ) where
 
   image_record : (r : Logged) (older : History) → IsImage r → IsRestructured b t older (r ∷ older)
   image_record r older image = record {
-    stays = images_stay b (r ∷ []) older (image, tt);
+    stays = unowned_stay b (r ∷ []) older (inl image, tt);
     others = λ u differ. same_by_image u r older image;
     finished = (same_by_image t r older image).finished;
     rolling = (same_by_image t r older image).rolling;

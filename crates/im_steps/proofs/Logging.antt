@@ -1,4 +1,4 @@
--- A key record that was granted its locks, and a Commit, logged.
+-- A key record that was granted its locks, a Commit and a Checkpoint, logged.
 use Rattle.std.proofs.Common.{◌≡◌, ◌≤◌, ◌<◌, ℕ, List, [], ◌∷◌, ◌++◌, map, refl, sym, ◌∙◌, ap, subst, cond, is_some, Bool, true, false, Option, None, Some}
 use Rattle.std.specs.Prelude.{find, if◌then◌else◌, ◌==◌, ◌||◌}
 use Rattle.std.specs.FinMap.{get}
@@ -29,12 +29,12 @@ use Rattle.im_lock.specs.Serving.{Matches}
 use Rattle.im_lock.specs.View.{View, locks_in, did}
 use Rattle.im_steps.specs.Growth.{Stays, Adds, IsOfOthers}
 use Rattle.im_steps.specs.Serving.{IsServing, IsServed, IsRow, mark_of}
-use Rattle.im_steps.specs.Steps.{key_record, commit_record, IsOnTheWay, InsertsAreServed, DeletesAreServed, LoggedCommitsAreServed}
-use Rattle.im_steps.proofs.Growth.{same_by, same_then}
+use Rattle.im_steps.specs.Steps.{key_record, commit_record, IsOnTheWay, InsertsAreServed, DeletesAreServed, LoggedCommitsAreServed, LoggedCheckpointsAreServed}
+use Rattle.im_steps.proofs.Growth.{same_by, same_then, checkpoints_change_nothing}
 use Rattle.im_steps.proofs.Promises.{granted_keys_free}
 use Rattle.im_steps.proofs.Records.{put_adds, drop_adds, commit_commits}
 use Rattle.im_steps.proofs.Together.{together}
-use Rattle.im_steps.proofs.Steps.{at, changes_served, commits_served}
+use Rattle.im_steps.proofs.Steps.{at, changes_served, commits_served, checkpoints_served}
 
 -- what a key record says of its transaction
 module _ (older : History) (t last lsn page : ℕ) (w : What) (c : Change) (no_end : is_end w ≡ false) (no_undo : is_compensation w ≡ false) (from : undo_from (key_record t last lsn page w) w ≡ lsn)
@@ -195,3 +195,9 @@ logged_commits_served tree laws b earlier before s v older rows next old new t l
           (cond-true (t == t) [] (to_undo t older) (eq-eqb t t refl))
           once;
     }
+
+-- the record of a Checkpoint
+pub logged_checkpoints_served : (tree : Tree) → LoggedCheckpointsAreServed tree
+logged_checkpoints_served tree b earlier before s v r older rows next held h law is rises =
+    let on = checkpoints_change_nothing tree b r older is rises in
+    record { lawful = on.lawful law; served = checkpoints_served b earlier before s v older (r ∷ older) rows next held h on.stays on.all }

@@ -1,10 +1,12 @@
 -- How a log grows by a step.
-use Rattle.std.specs.Prelude.{◌≡◌, ◌≢◌, ◌≤◌, ◌<◌, ◌⊎◌, ℕ, Bool, true, false, [], ◌∷◌, ◌++◌}
+use Rattle.std.specs.Prelude.{◌≡◌, ◌≢◌, ◌≤◌, ◌<◌, ◌⊎◌, ℕ, Bool, true, false, List, [], ◌∷◌, ◌++◌}
 use Rattle.im_types.specs.Pages.{Page}
 use Rattle.im_types.specs.Changes.{Change, applied, undone}
-use Rattle.im_types.specs.Records.{What, Smo, DummyClr, Image, Logged}
+use Rattle.im_types.specs.Records.{What, Smo, DummyClr, Image, Checkpoint, Logged}
+use Rattle.im_types.specs.declared.tables.ActiveTransaction.{ActiveTransaction}
+use Rattle.im_types.specs.declared.tables.DirtyPage.{DirtyPage}
 use Rattle.im_types.specs.Tree.{Tree}
-use Rattle.im_types.specs.Histories.{History, Base}
+use Rattle.im_types.specs.Histories.{History, Base, end_of, page_at}
 use Rattle.im_types.specs.Structure.{open_smo}
 use Rattle.im_types.specs.Copies as copies
 use Rattle.im_types.specs.Lawful.{IsLawful}
@@ -87,6 +89,28 @@ abbrev pub AreImages : History → Type 0
 AreImages [] = Unit {0}
 AreImages (r ∷ rs) = IsImage r × AreImages rs
 
+-- a Checkpoint, whatever its tables
+pub record IsCheckpoint (r : Logged) : Type 0 where
+  pub next : ℕ
+  pub active : List ActiveTransaction
+  pub dirty : List DirtyPage
+  pub what : r.what ≡ Checkpoint next active dirty
+  pub no_owner : r.txn ≡ 0
+
+-- an Image or a Checkpoint, which are no transaction's
+abbrev pub IsUnowned : Logged → Type 0
+IsUnowned r = IsImage r ⊎ IsCheckpoint r
+
+abbrev pub AreUnowned : History → Type 0
+AreUnowned [] = Unit {0}
+AreUnowned (r ∷ rs) = IsUnowned r × AreUnowned rs
+
+-- The log has grown by Images and Checkpoints.
+pub record GrowsUnowned (older longer : History) : Type 0 where
+  pub more : History
+  pub is : more ++ older ≡ longer
+  pub unowned : AreUnowned more
+
 -- The log has grown within t.
 pub record GrowsWithin (t : ℕ) (older longer : History) : Type 0 where
   pub more : History
@@ -129,6 +153,10 @@ GrowthWithinLeavesOthers = (t : ℕ) (older longer : History) → GrowsWithin t 
 abbrev pub ImagesChangeNothing : Type 0
 ImagesChangeNothing = (b : Base) (older longer : History) → GrowsByImages older longer → Stays b older longer × IsOfAll older longer
 
+-- Images and Checkpoints say of keys and transactions what was said.
+abbrev pub UnownedChangeNothing : Type 0
+UnownedChangeNothing = (b : Base) (older longer : History) → GrowsUnowned older longer → Stays b older longer × IsOfAll older longer
+
 -- what a structure change of t leaves: the tree's map, the committed effects and all nets, the other transactions, and that t goes on
 pub record IsRestructured (b : Base) (t : ℕ) (older longer : History) : Type 0 where
   pub stays : Stays b older longer
@@ -161,3 +189,16 @@ pub record IsCopied (b : Base) (tree : Tree) (older longer : History) : Type 0 w
 -- They are Images.
 abbrev pub CopiesAreImages : Tree → Type 0
 CopiesAreImages tree = (b : Base) (older longer : History) → copies.GrowsByImages b older longer → IsCopied b tree older longer
+
+-- What a Checkpoint on top leaves of a log: its keys and transactions, its pages, and that it is lawful.
+pub record IsCheckpointed (b : Base) (tree : Tree) (r : Logged) (older : History) : Type 0 where
+  pub stays : Stays b older (r ∷ older)
+  pub all : IsOfAll older (r ∷ older)
+  pub lawful : IsLawful b tree older → IsLawful b tree (r ∷ older)
+  pub opened : open_smo (r ∷ older) ≡ open_smo older
+  pub pages : (p : ℕ) → page_at b (r ∷ older) p ≡ page_at b older p
+  pub below : (next : ℕ) → 1 ≤ next → AreBelow next older → AreBelow next (r ∷ older)
+
+-- Whatever its tables, where its LSN is past the log's end.
+abbrev pub CheckpointsChangeNothing : Tree → Type 0
+CheckpointsChangeNothing tree = (b : Base) (r : Logged) (older : History) → IsCheckpoint r → end_of b older < r.lsn → IsCheckpointed b tree r older

@@ -21,7 +21,7 @@ use Rattle.im_lock.specs.declared.verdict.Verdict.TheVariants.{Granted, Wait, Di
 use Rattle.im_lock.specs.Rows.{asked}
 use Rattle.im_lock.specs.View.{View, begun, did, marked, committed_by, dropped_by, undid_more, undid_last}
 use Rattle.im_lock.specs.Machine.{keys_fit, barred, start, Wants}
-use Rattle.im_steps.specs.Growth.{Stays, Adds, TakesBack, Commits, IsOfOthers, IsOfAll, IsOver, HasNone, GrowsByImages, GrowsByStructure}
+use Rattle.im_steps.specs.Growth.{Stays, Adds, TakesBack, Commits, IsOfOthers, IsOfAll, IsOver, HasNone, IsCheckpoint, GrowsByImages, GrowsByStructure}
 use Rattle.im_steps.specs.Serving.{IsRow, IsServing, IsServed}
 
 -- ---- what an opening leaves
@@ -81,7 +81,7 @@ ChangesAreServed = (b : Base) (earlier before : List Effect) (s : Shown) (v : Vi
 abbrev pub key_record : (t last lsn page : ℕ) → What → Logged
 key_record t last lsn page w = record { lsn = lsn; txn = t; prev = last; undo_next = 0; page = page; what = w }
 
--- A key record that was granted its locks leaves a lawful log, and is a step of the machine.
+-- A record that was logged leaves a lawful log, and is a step of the machine.
 pub record IsLogged (b : Base) (tree : Tree) (earlier before : List Effect) (s : Shown) (v : View) (step : Step) (reply : answers.Reply) (w : View) (longer : History) (rows : List Transaction) (next : ℕ) (new : Table) : Type 0 where
   pub lawful : IsLawful b tree longer
   pub served : IsServed b earlier before s v step reply w longer rows next new
@@ -190,10 +190,15 @@ abbrev pub ForcesAreServed : Type 0
 ForcesAreServed = (b : Base) (earlier before : List Effect) (s : Shown) (v : View) (older longer : History) (rows : List Transaction) (next : ℕ) (held : Table)
     → IsServing b earlier before s v older rows next held → Stays b older longer → IsOfAll older longer → IsServed b earlier before s v Force Done v longer rows next held
 
--- A Checkpoint was answered, behind Images.
+-- A Checkpoint was answered, behind records that are no transaction's.
 abbrev pub CheckpointsAreServed : Type 0
 CheckpointsAreServed = (b : Base) (earlier before : List Effect) (s : Shown) (v : View) (older longer : History) (rows : List Transaction) (next : ℕ) (held : Table)
     → IsServing b earlier before s v older rows next held → Stays b older longer → IsOfAll older longer → IsServed b earlier before s v Checkpoint Done v longer rows next held
+
+-- The record of a Checkpoint on top leaves a lawful log, and is a step of the machine.
+abbrev pub LoggedCheckpointsAreServed : Tree → Type 0
+LoggedCheckpointsAreServed tree = (b : Base) (earlier before : List Effect) (s : Shown) (v : View) (r : Logged) (older : History) (rows : List Transaction) (next : ℕ) (held : Table)
+    → IsServing b earlier before s v older rows next held → IsLawful b tree older → IsCheckpoint r → end_of b older < r.lsn → IsLogged b tree earlier before s v Checkpoint Done v (r ∷ older) rows next held
 
 -- ---- refusals
 

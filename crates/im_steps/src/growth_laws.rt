@@ -1,7 +1,7 @@
 //! How the log and the machine go on together.
 
 ghost use Rattle.im_steps.specs.Laws.{GrantedKeysAreFree, LogAndViewGoTogether};
-ghost use Rattle.im_steps.specs.Growth.{GrowthWithinLeavesOthers, CopiesAreImages, ImagesChangeNothing, NumbersStayNew, StructureChangesNoKey};
+ghost use Rattle.im_steps.specs.Growth.{GrowthWithinLeavesOthers, CopiesAreImages, ImagesChangeNothing, UnownedChangeNothing, CheckpointsChangeNothing, NumbersStayNew, StructureChangesNoKey};
 
 use im_types::laws::logs::PageTree;
 
@@ -23,6 +23,16 @@ pub fn growth_within_leaves_others()
 /// Images change nothing of any transaction, nor of the tree.
 pub fn images_change_nothing()
     ensures { ImagesChangeNothing }
+{}
+
+/// Nor do Checkpoints.
+pub fn unowned_records_change_nothing()
+    ensures { UnownedChangeNothing }
+{}
+
+/// A Checkpoint on top leaves a log lawful, whatever its tables, and its pages as they were.
+pub fn checkpoints_change_nothing<T: PageTree>()
+    ensures { CheckpointsChangeNothing T.tree }
 {}
 
 /// A structure change leaves the tree's map, what is committed, all nets and the other transactions, and its own goes on.

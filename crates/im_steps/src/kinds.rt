@@ -1,6 +1,6 @@
 //! Each kind of step keeps what holds between steps. These functions do nothing: their contracts are the laws.
 
-ghost use Rattle.im_steps.specs.Steps.{NewStoresServe, OpenedStoresServe, QuietLogsHoldCommitted, ImagesKeepServing, StructureKeepsServing, WaysLeadOn, LoggedCommitsAreServed, BeginsAreServed, ChangesAreServed, InsertsAreServed, DeletesAreServed, ReadsAreServed, WaitsAreServed, DiesAreServed, CommitsAreServed, UnloggedCommitsAreServed, DropsAreServed, TurnsAreServed, UndoIsServed, EndsAreServed, FlushesAreServed, ForcesAreServed, CheckpointsAreServed, BarredStepsAreServed, LacksAreServed};
+ghost use Rattle.im_steps.specs.Steps.{NewStoresServe, OpenedStoresServe, QuietLogsHoldCommitted, ImagesKeepServing, StructureKeepsServing, WaysLeadOn, LoggedCommitsAreServed, BeginsAreServed, ChangesAreServed, InsertsAreServed, DeletesAreServed, ReadsAreServed, WaitsAreServed, DiesAreServed, CommitsAreServed, UnloggedCommitsAreServed, DropsAreServed, TurnsAreServed, UndoIsServed, EndsAreServed, FlushesAreServed, ForcesAreServed, CheckpointsAreServed, LoggedCheckpointsAreServed, BarredStepsAreServed, LacksAreServed};
 
 use im_types::laws::logs::PageTree;
 
@@ -117,6 +117,11 @@ pub fn forces_are_served()
 /// A Checkpoint.
 pub fn checkpoints_are_served()
     ensures { CheckpointsAreServed }
+{}
+
+/// The record of a Checkpoint leaves a lawful log.
+pub fn logged_checkpoints_are_served<T: PageTree>()
+    ensures { LoggedCheckpointsAreServed T.tree }
 {}
 
 /// A step that a check refuses.
