@@ -25,3 +25,4 @@ pub mod RedoneRecords
 pub mod Structure
 pub mod Restarting
 pub mod Outcomes
+pub mod Checkpointing

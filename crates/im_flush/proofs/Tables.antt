@@ -8,8 +8,8 @@ use Rattle.std.proofs.lemmas.Bool.{cases_eq, cases_order, cond-true, cond-false,
 use Rattle.im_types.specs.Writer.{DirtyEntry}
 use Rattle.im_flush.specs.declared.dirty_table.TheConstants.{MOST}
 use Rattle.im_flush.specs.declared.table_entry.TableEntry.{TableEntry}
-use Rattle.im_flush.specs.DirtyTable.{table_entry, dirty_entry, entry_in, has_room, written_in, ChangesEntry, IsFound, IsAbsent, IsAbove, IsRising, put, synced_onto, synced_entries}
-use Rattle.im_types.specs.WriterSteps.{synced_entry, entry_since, written_entry}
+use Rattle.im_flush.specs.DirtyTable.{table_entry, dirty_entry, entry_in, has_room, written_in, ChangesEntry, IsFound, IsAbsent, IsAbove, IsRising, put, synced_onto, synced_entries, forgotten_entries}
+use Rattle.im_types.specs.WriterSteps.{forgotten_entry, synced_entry, entry_since, written_entry}
 
 above_all : (n : ℕ) (xs : List TableEntry) (k : ℕ) (d : TableEntry) → IsAbove n xs → k < length xs → n < (get_or xs k d).page
 above_all n [] k d up within = absurd (omega arith)
@@ -355,3 +355,25 @@ written_not l p old full = sym (cond-false (has_room p old) (put p (written_entr
 -- what a sync leaves, page by page
 pub syncs_entries : (old new : List TableEntry) → IsRising old → new ≡ synced_entries old → (p : ℕ) → entry_in new p ≡ synced_entry (entry_in old p)
 syncs_entries old new up is p = ap (λ (l : List TableEntry). entry_in l p) is ∙ held_synced old p up
+
+-- ---- copies are forgotten
+
+forgotten_above : (n : ℕ) (xs : List TableEntry) → IsAbove n xs → IsAbove n (forgotten_entries xs)
+forgotten_above n [] up = tt
+forgotten_above n (x ∷ xs) up = (up.0, forgotten_above x.page xs up.1)
+
+pub forgotten_rising : (xs : List TableEntry) → IsRising xs → IsRising (forgotten_entries xs)
+forgotten_rising [] up = tt
+forgotten_rising (x ∷ xs) up = forgotten_above x.page xs up
+
+-- what that leaves, page by page
+pub forgets_entries : (xs : List TableEntry) (p : ℕ) → entry_in (forgotten_entries xs) p ≡ forgotten_entry (entry_in xs p)
+forgets_entries [] p = refl
+forgets_entries (x ∷ xs) p = elim (cases_eq x.page p) [
+  | inl here ↦
+      cond-true (x.page == p) (Some (record (dirty_entry x) { copied = false })) (entry_in (forgotten_entries xs) p) (eq-eqb x.page p here)
+      ∙ ap (λ (o : Option DirtyEntry). forgotten_entry o) (sym (cond-true (x.page == p) (Some (dirty_entry x)) (entry_in xs p) (eq-eqb x.page p here)))
+  | inr other ↦
+      cond-false (x.page == p) (Some (record (dirty_entry x) { copied = false })) (entry_in (forgotten_entries xs) p) (ne_eqb x.page p other) ∙ forgets_entries xs p
+      ∙ ap (λ (o : Option DirtyEntry). forgotten_entry o) (sym (cond-false (x.page == p) (Some (dirty_entry x)) (entry_in xs p) (ne_eqb x.page p other)))
+]

@@ -1,5 +1,5 @@
 -- The dirty table as a list in rising page order, and the function of the page for which it stands.
-use Rattle.std.specs.Prelude.{◌≡◌, ◌≢◌, ◌<◌, ◌≤◌, ℕ, List, [], ◌∷◌, length, map, slice_index_or, if◌then◌else◌, ◌==◌, nat_lt, Bool, true, ◌||◌, Option, None, Some}
+use Rattle.std.specs.Prelude.{◌≡◌, ◌≢◌, ◌<◌, ◌≤◌, ℕ, List, [], ◌∷◌, length, map, slice_index_or, if◌then◌else◌, ◌==◌, nat_lt, Bool, false, true, ◌||◌, Option, None, Some}
 use Rattle.std.specs.Option.{is_some}
 use Rattle.im_types.specs.Writer.{DirtyEntry}
 use Rattle.im_types.specs.declared.tables.DirtyPage.{DirtyPage}
@@ -78,6 +78,14 @@ pub record IsAbsent (xs : List TableEntry) (p i : ℕ) : Type 0 where
   pub above : (d : TableEntry) → i < length xs → p < (slice_index_or xs i d).page
 
 -- ---- as a Checkpoint has it
+
+-- an entry of which no copy counts as known
+abbrev pub uncopied : TableEntry → TableEntry
+uncopied x = record x { copied = false }
+
+-- the entries, none of which counts a copy as known
+abbrev pub forgotten_entries : List TableEntry → List TableEntry
+forgotten_entries xs = map uncopied xs
 
 -- a row of the Checkpoint's list
 abbrev pub dirty_page : TableEntry → DirtyPage

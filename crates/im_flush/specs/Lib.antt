@@ -10,6 +10,7 @@ pub mod Writing
 pub mod PageWriter
 pub mod LeafChange
 pub mod LoggedChange
+pub mod Checkpoints
 pub mod PageCopy
 pub mod StructureChange
 pub mod Redoing

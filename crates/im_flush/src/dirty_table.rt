@@ -1,10 +1,11 @@
 //! The dirty table.
 ghost use Rattle.std.specs.Prelude.{◌≡◌, ℕ, ◌<◌, ◌≤◌, ◌↔◌, ◌||◌, true, false, List, [], ◌∷◌, length, vec_len, vec_capacity, slice_index_or, IsTrue, IfOk, IfErr, IfSome, IsNone, Option, Some, None};
 ghost use Rattle.im_types.specs.Writer.{PageState};
-ghost use Rattle.im_types.specs.WriterSteps.{changed_entry, written_entry, synced_entry, at_point, is_copied, Lists};
+ghost use Rattle.im_record.specs.Spelling.{Rise};
+ghost use Rattle.im_types.specs.WriterSteps.{changed_entry, written_entry, synced_entry, forgotten_entry, at_point, is_copied, Lists};
 ghost use Rattle.im_flush.specs.declared.table_entry.TableEntry.{TableEntry};
 ghost use Rattle.im_flush.specs.declared.dirty_table.TheConstants.{MOST};
-ghost use Rattle.im_flush.specs.DirtyTable.{entry_in, table_entry, dirty_entry, dirty_pages, put, has_room, written_in, synced_entries, ChangesEntry, IsRising, IsCopied, IsFound, IsAbsent};
+ghost use Rattle.im_flush.specs.DirtyTable.{entry_in, table_entry, dirty_entry, dirty_pages, put, has_room, written_in, synced_entries, forgotten_entries, ChangesEntry, IsRising, IsCopied, IsFound, IsAbsent};
 
 use crate::TableEntry;
 use im_types::{DirtyPage, Lsn, PageNo};
@@ -224,6 +225,22 @@ impl DirtyTable {
         self.entries.truncate(kept);
     }
 
+    /// No copy counts as known any more.
+    pub fn forget(&mut self)
+        ensures table { self.new ≡ forgotten_entries self.old }
+        ensures entry { (p : ℕ) → entry_in self.new p ≡ forgotten_entry (entry_in self.old p) }
+    {
+        for at in 0..self.entries.len() {
+            let entry = self.entries[at];
+            self.entries[at] = TableEntry {
+                page: entry.page,
+                rec_lsn: entry.rec_lsn,
+                since: entry.since,
+                copied: false,
+            };
+        }
+    }
+
     /// The entries, each page once, in rising order.
     pub fn entries(&self) -> &[TableEntry]
         ensures same { result.now ≡ self.now }
@@ -238,6 +255,8 @@ impl DirtyTable {
         ensures rows { rows.new.items ≡ dirty_pages self.now }
         ensures lists { (pages : ℕ → PageState) → ((p : ℕ) → entry_in self.now p ≡ (pages p).entry) → Lists pages rows.new.items }
         ensures room { MOST ≤ vec_capacity rows.new }
+        ensures few { length rows.new.items ≤ MOST }
+        ensures rise { Rise (λ r. r.page) None rows.new.items }
     {
         rows.clear();
         for at in 0..self.entries.len() {

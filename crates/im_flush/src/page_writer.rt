@@ -7,16 +7,17 @@ ghost use Rattle.im_types.specs.Writer.{Writer};
 ghost use Rattle.im_log.specs.LogFile.{end_with, HasNoRoom, IsOpen};
 
 use crate::flush::flush_page;
-use crate::{DirtyTable, sync_pages};
+use crate::{DirtyTable, MOST, sync_pages};
 use im_disk::Disk;
 use im_log::LogFile;
 use im_page::Page;
 use im_pool::{Frame, Pool};
 use im_record::Record;
-use im_types::{Fault, Lsn, PageNo};
+use im_types::{DirtyPage, Fault, Lsn, PageNo};
 use std::alloc::Global;
 
 mod changes;
+mod checkpoints;
 mod redo;
 mod structure;
 #[cfg(test)]
@@ -30,13 +31,16 @@ pub struct PageWriter {
     table: DirtyTable,
     /// An LSN for each page of a flush: that of its Image, or its rec_lsn where no Image is wanted.
     lsns: Vec<Lsn>,
+    /// The rows of the dirty table, as a Checkpoint has them.
+    rows: Vec<DirtyPage>,
     /// A page past the file's end that is written along.
     spare: Box<Page>,
-    /// The LSN of the first record of this life that changed a leaf. A page without an entry that has this LSN or a later one was
-    /// changed in this life, and written since: the log has a full copy of it at or after its redo point.
+    /// The LSN of the first record of this life, behind its last Checkpoint, that changed a leaf. A page without an entry that has this
+    /// LSN or a later one was changed since, and written since: the log has a full copy of it at or after its redo point.
     known_from: Option<Lsn>,
     failed: bool,
     ghost noted: { 1024 ≤ vec_capacity lsns },
+    ghost listed: { 1024 ≤ vec_capacity rows },
 }
 
 impl PageWriter {
@@ -230,12 +234,14 @@ impl PageWriter {
         let pool = Pool::new(alloc, frames)?;
         let table = DirtyTable::new(alloc).map_err(|_| Fault::Memory)?;
         let lsns = Vec::with_capacity(alloc, 1_024).map_err(|_| Fault::Memory)?;
+        let rows = Vec::with_capacity(alloc, MOST).map_err(|_| Fault::Memory)?;
         let spare = Box::new(alloc, Page::initial(0)).map_err(|_| Fault::Memory)?;
         Ok(PageWriter {
             log,
             pool,
             table,
             lsns,
+            rows,
             spare,
             known_from: None,
             failed: false,

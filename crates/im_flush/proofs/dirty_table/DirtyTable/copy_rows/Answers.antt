@@ -1,10 +1,11 @@
-use Rattle.std.proofs.Common.{arith, ◌≡◌, List, ◌∷◌, [], ◌++◌, ◌<◌, ◌≤◌, length, ap, sym, subst, ◌∙◌, get_or, take, map, rules}
+use Rattle.std.proofs.Common.{arith, ◌≡◌, List, ◌∷◌, [], ◌++◌, ◌<◌, ◌≤◌, length, ap, sym, subst, ◌∙◌, get_or, take, map, None, rules}
 use Rattle.std.proofs.lemmas.List.{map_more, take_all}
 use Rattle.im_types.specs.declared.tables.DirtyPage.{DirtyPage}
 use Rattle.im_flush.specs.declared.table_entry.TableEntry.{TableEntry}
 use Rattle.im_types.specs.WriterSteps.{Lists}
 use Rattle.im_flush.specs.DirtyTable.{dirty_page, dirty_pages, IsRising}
-use Rattle.im_flush.proofs.Lists.{lists}
+use Rattle.im_record.specs.Spelling.{Rise}
+use Rattle.im_flush.proofs.Lists.{lists, rows_rise}
 use Rattle.im_flush.proofs.dirty_table.DirtyTable.copy_rows.Goals as goal
 
 pub loop-at-preserved : goal.loop-at-preserved
@@ -26,3 +27,9 @@ returns-clause-lists c pages tie =
     let all : length c.args.self.now ≤ c.loop-at.at = search (rules, arith) in
     let is : c.loop-at.rows.items ≡ dirty_pages c.args.self.now = c.loop-at.invariant.done ∙ ap (λ (l : List TableEntry). map dirty_page l) (take_all c.loop-at.at c.args.self.now all) in
     subst (λ (rows : List DirtyPage). Lists pages rows) (sym is) (lists pages c.args.self.now (subst (λ (l : List TableEntry). IsRising l) c.self.view_is c.self.invariant.0) tie)
+
+pub returns-clause-rise : goal.returns-clause-rise
+returns-clause-rise c =
+    let all : length c.args.self.now ≤ c.loop-at.at = search (rules, arith) in
+    let is : c.loop-at.rows.items ≡ dirty_pages c.args.self.now = c.loop-at.invariant.done ∙ ap (λ (l : List TableEntry). map dirty_page l) (take_all c.loop-at.at c.args.self.now all) in
+    subst (λ (rows : List DirtyPage). Rise (λ r. r.page) None rows) (sym is) (rows_rise c.args.self.now (subst (λ (l : List TableEntry). IsRising l) c.self.view_is c.self.invariant.0))
