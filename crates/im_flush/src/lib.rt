@@ -12,7 +12,8 @@
 //! copy of it at or after its redo point: behind a write, behind a record of a structure change, where redo has loaded a noted
 //! copy, and for a page that comes in by a change once more. Such a page had an entry in this life before, was written, and left by a
 //! sync: its write found a copy, and the redo point has not moved since. Its own LSN says so, which is at or after that of the first
-//! record of this life that changed a leaf (`KnowsCopies`, `IsKnownFrom`): no copy is remembered beside the table.
+//! record of this life, behind its last Checkpoint, that changed a leaf (`KnowsCopies`, `IsKnownFrom`): no copy is remembered beside
+//! the table.
 //! There are at most 1,024 entries, in rising page order. Room for them is made once: no call after `new` takes memory, and none is
 //! refused. Each call says what it makes of the list (`table`), and of each page's entry (`entry`). `copy_rows` gives the list that a
 //! Checkpoint has (`lists`).
@@ -41,6 +42,9 @@
 //!   stays in the table then is changed pages in frames, and of those there are at most 1,023: one entry is free (`room`).
 //! - `log_only` appends a record that changes no page, `log_image` one page of a structure change, which then is the record's
 //!   page; `force` forces the log, `sync_pages` syncs the file, `read_at` reads a record again.
+//! - A Checkpoint (`log_checkpoint`) syncs the file, appends one record with the next transaction number, the rows of active transactions
+//!   that it is handed and the rows of the dirty table, and forces the log. The redo point moves with it, so that no page counts as
+//!   having a full copy at or after it: the next write of each adds its Image.
 //! - In redo, `load_copy` takes a page from the full copy that a record holds, in place of what the file has there, and
 //!   `redo_change` applies a record to its page, if the page's LSN is below the record's. Both make frame and entry free as at
 //!   any time, so that redo needs no more frames than a store that runs. A page so loaded or changed counts as changed from the

@@ -7,7 +7,7 @@ use crate::{DirtyTable, PageWriter};
 use im_disk::{Disk, ModelDisk};
 use im_log::open_or_create;
 use im_record::Record;
-use im_types::{Fault, FileId, Lsn, PageNo};
+use im_types::{ActiveTransaction, Fault, FileId, Lsn, PageNo};
 use std::alloc::Global;
 use std::test::Fail;
 
@@ -186,5 +186,38 @@ fn a_full_table_is_synced(rt: HostRuntime) -> Result<(), Fail> {
     writer.make_entry_room(&mut disk)?;
     assert_eq!(rt; since(&disk, opened), 1);
     assert_eq!(rt; writer.table.len(), 0);
+    Ok(())
+}
+
+#[test]
+fn a_checkpoint_takes_one_sync_and_one_force(rt: HostRuntime) -> Result<(), Fail> {
+    let alloc = rt.alloc();
+    let mut disk = ModelDisk::new(Vec::new(alloc), Vec::new(alloc));
+    let mut writer = open(alloc, &mut disk)?;
+    let lsn = change(&mut writer, &mut disk, 1)?;
+    let changed = disk.calls();
+    let active = [ActiveTransaction {
+        transaction: 1,
+        last: lsn,
+        undo_next: lsn,
+    }];
+    assert_eq!(rt; writer.log_checkpoint(&mut disk, 2, &active)?, 79);
+    assert_eq!(rt; since(&disk, changed), 5);
+    assert_eq!(rt; writer.log.durable_end(), 160);
+    Ok(())
+}
+
+#[test]
+fn a_page_is_copied_again_behind_a_checkpoint(rt: HostRuntime) -> Result<(), Fail> {
+    let alloc = rt.alloc();
+    let mut disk = ModelDisk::new(Vec::new(alloc), Vec::new(alloc));
+    let mut writer = open(alloc, &mut disk)?;
+    change(&mut writer, &mut disk, 0)?;
+    writer.flush_one(&mut disk, 0)?;
+    change(&mut writer, &mut disk, 0)?;
+    assert_eq!(rt; writer.log_checkpoint(&mut disk, 2, &[])?, 4_256);
+    assert_eq!(rt; writer.log.durable_end(), 4_313);
+    writer.flush_one(&mut disk, 0)?;
+    assert_eq!(rt; writer.log.durable_end(), 8_447);
     Ok(())
 }
