@@ -18,7 +18,11 @@ pub mod Reopened
 pub mod Openings
 pub mod Looked
 pub mod TurnLemmas
+pub mod Acknowledging
+pub mod Stopping
 pub mod LivedLives
+pub mod OneLife
+pub mod BothFiles
 pub mod Fresh
 pub mod Actives
 pub mod Edited

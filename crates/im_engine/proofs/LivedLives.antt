@@ -1,29 +1,37 @@
 -- Lives one after another.
-use Rattle.std.proofs.Common.{◌≡◌, ◌⊎◌, inl, inr, List, [], ◌∷◌, Option, None, Some, Result, Ok, Err, IfOk, IfErr, OnErr, refl, sym, subst}
+use Rattle.std.proofs.Common.{inl, inr, ℕ, zero, suc, List, [], ◌∷◌, take, None, Some, Result, Ok, Err, IfOk, IfErr, OnErr, refl, sym, subst}
 use Rattle.im_types.specs.Changes.{Effect}
-use Rattle.im_types.specs.Lives.{Asked, Shown, Lives, StandsForMore, nothing_shown, shows}
+use Rattle.im_types.specs.Lives.{Asked, Shown, StandsForMore, nothing_shown, shows, shown_by}
 use Rattle.im_front.specs.Calls.{asked_by, told_by}
 use Rattle.im_front.specs.declared.reply.Reply.{Reply}
 use Rattle.im_front.specs.declared.step.Step.{Step}
 use Rattle.im_disk.specs.Disk.{Files}
 use Rattle.im_engine.specs.Stands.{StandsFor, Allowed}
-use Rattle.im_engine.specs.Turns.{IsCutOff}
-use Rattle.im_engine.specs.Lived.{AreLives, IsAskedBy, AreAskedBy}
+use Rattle.im_engine.specs.Turns.{answered_by, IsCutOff, IsCutOffBehind}
+use Rattle.im_engine.specs.Lived.{Life, AreLives, AreKept, IsAskedBehind}
+use Rattle.im_engine.proofs.Acknowledging.{StayAcked, all_stay, stay_then, answered_stays, stopped_stays, kept_of}
 use Rattle.im_engine.proofs.TurnLemmas.{allowed_within}
 
--- what a stop left stands for what was asked up to it
-record IsLeftBy (before : List Effect) (s : Shown) (steps : List Step) (replies : List Reply) (c : Files) : Type 0 where
+-- what a stop left stands for what was asked up to it, in which is what was acknowledged
+record IsLeftBy (n : ℕ) (before : List Effect) (s : Shown) (steps : List Step) (replies : List Reply) (c : Files) : Type 0 where
   asked : List Asked
-  by : IsAskedBy s steps replies asked
+  by : IsAskedBehind n s steps replies asked
+  holds : StayAcked (shown_by s (take n (answered_by steps replies))).asked asked
   stands : StandsForMore StandsFor before asked c
 
-left_by : (before : List Effect) (s : Shown) (steps : List Step) (replies : List Reply) (c : Files) → IsCutOff before s steps replies c → IsLeftBy before s steps replies c
-left_by before s [] replies c is = record { asked = s.asked; by = refl; stands = is }
-left_by before s (step ∷ steps) [] c is = record { asked = s.asked; by = refl; stands = is }
-left_by before s (step ∷ steps) (reply ∷ replies) c (inl here) = record { asked = (shows s (asked_by step) None).asked; by = inl refl; stands = here }
-left_by before s (step ∷ steps) (reply ∷ replies) c (inr later) =
-    let l = left_by before (shows s (asked_by step) (Some (told_by reply))) steps replies c later in
-    record { asked = l.asked; by = inr l.by; stands = l.stands }
+left_by : (n : ℕ) (before : List Effect) (s : Shown) (steps : List Step) (replies : List Reply) (c : Files) → IsCutOffBehind n before s steps replies c → IsLeftBy n before s steps replies c
+left_by zero before s [] replies c is = record { asked = s.asked; by = refl; holds = all_stay s.asked; stands = is }
+left_by zero before s (step ∷ steps) [] c is = record { asked = s.asked; by = refl; holds = all_stay s.asked; stands = is }
+left_by zero before s (step ∷ steps) (reply ∷ replies) c (inl here) = record { asked = (shows s (asked_by step) None).asked; by = inl refl; holds = stopped_stays (asked_by step) s; stands = here }
+left_by zero before s (step ∷ steps) (reply ∷ replies) c (inr later) =
+    let more = shows s (asked_by step) (Some (told_by reply)) in
+    let l = left_by zero before more steps replies c later in
+    record { asked = l.asked; by = inr l.by; holds = stay_then s.asked more.asked l.asked (answered_stays (asked_by step) (told_by reply) s) l.holds; stands = l.stands }
+left_by (suc n) before s [] replies c is = record { asked = s.asked; by = refl; holds = all_stay s.asked; stands = is }
+left_by (suc n) before s (step ∷ steps) [] c is = record { asked = s.asked; by = refl; holds = all_stay s.asked; stands = is }
+left_by (suc n) before s (step ∷ steps) (reply ∷ replies) c is =
+    let l = left_by n before (shows s (asked_by step) (Some (told_by reply))) steps replies c is in
+    record { asked = l.asked; by = l.by; holds = l.holds; stands = l.stands }
 
 -- a stop before the first step
 pub left_before : (before : List Effect) (s : Shown) (steps : List Step) (replies : List Reply) (c : Files) → Allowed before s c → IsCutOff before s steps replies c
@@ -36,15 +44,27 @@ pub listed : {A E : Type 0} (r : Result A E) (P Q : A → Type 0) → IfOk r P �
 listed (Ok x) P Q h then = then x h
 listed (Err e) P Q h then = tt
 
--- a fact of a refusal that follows from one of every refusal
-pub on_err : {A E : Type 0} (r : Result A E) (P : Type 0) (Q : E → Type 0) → OnErr r P → (P → (e : E) → Q e) → IfErr r Q
-on_err (Ok x) P Q h then = tt
-on_err (Err e) P Q h then = then h e
+-- a fact of a refusal that follows from two of every refusal
+pub on_err : {A E : Type 0} (r : Result A E) (P : Type 0) (Q R : E → Type 0) → OnErr r P → IfErr r Q → (P → (e : E) → Q e → R e) → IfErr r R
+on_err (Ok x) P Q R h k then = tt
+on_err (Err e) P Q R h k then = then h e k
 
-pub lives_in_turn : (old new : Files) (lives : List (List Step × List Reply × Files)) (before : List Effect) → StandsFor before old → AreLives old lives new
-    → (asked : List (List Asked)) × AreAskedBy lives asked × ((after : List Effect) × Lives before asked after × StandsFor after new)
-lives_in_turn old new [] before stands is = ([], tt, (before, refl, subst (λ (c : Files). StandsFor before c) (sym is) stands))
+pub lives_in_turn : (old new : Files) (lives : List Life) (before : List Effect) → StandsFor before old → AreLives old lives new → (after : List Effect) × AreKept before lives after × StandsFor after new
+lives_in_turn old new [] before stands is = (before, refl, subst (λ (c : Files). StandsFor before c) (sym is) stands)
 lives_in_turn old new (life ∷ lives) before stands are =
-    let one = left_by before nothing_shown life.0 life.1 life.2 (are.0 before stands) in
-    let rest = lives_in_turn life.2 new lives one.stands.0 one.stands.2 are.1 in
-    (one.asked ∷ rest.0, (one.by, rest.1), (rest.2.0, (one.stands.0, one.stands.1, rest.2.1), rest.2.2))
+    let one = left_by life.answered before nothing_shown life.steps life.replies life.left (are.0 before stands) in
+    let survives = one.stands.1 in
+    let rest = lives_in_turn life.left new lives one.stands.0 one.stands.2 are.1 in (
+      rest.0,
+      (
+        one.stands.0,
+        record {
+          asked = one.asked;
+          by = one.by;
+          survives = survives;
+          acknowledged = λ a told acked. kept_of survives.kept survives.lost one.asked survives.all survives.no_ack_lost a (one.holds a told acked) acked;
+        },
+        rest.1,
+      ),
+      rest.2,
+    )

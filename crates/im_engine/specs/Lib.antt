@@ -7,5 +7,6 @@ pub mod Looking
 pub mod Told
 pub mod Counted
 pub mod Turns
+pub mod Opening
 pub mod Lived
 pub mod Serves

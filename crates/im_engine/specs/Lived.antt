@@ -1,30 +1,98 @@
 -- Lives of a store, each an opening with steps of many transactions, which may stop at any moment.
-use Rattle.std.specs.Prelude.{◌≡◌, ◌⊎◌, List, [], ◌∷◌, Option, None, Some}
+use Rattle.std.specs.Prelude.{◌≡◌, ◌⊎◌, ◌≤◌, ℕ, zero, suc, true, false, List, [], ◌∷◌, length, take, Contains, None, Some, Result, Ok, Err}
 use Rattle.im_types.specs.Changes.{Effect}
-use Rattle.im_types.specs.Lives.{Asked, Shown, nothing_shown, shows}
+use Rattle.im_types.specs.Lives.{Asked, Shown, Survives, nothing_shown, shows, shown_by}
+use Rattle.im_types.specs.declared.fault.Fault.{Fault}
+use Rattle.im_types.specs.declared.fault.Fault.TheVariants.{Memory}
 use Rattle.im_front.specs.Calls.{asked_by, told_by}
 use Rattle.im_front.specs.declared.reply.Reply.{Reply}
 use Rattle.im_front.specs.declared.step.Step.{Step}
+use Rattle.im_disk.specs.declared.disk.Disk.{Ghosts}
 use Rattle.im_disk.specs.Disk.{Files}
+use Rattle.im_engine.specs.declared.config.Config.{Config}
+use Rattle.im_engine.specs.declared.engine.Engine.{Engine}
+use Rattle.im_engine.specs.Opening.{IsOpening}
 use Rattle.im_engine.specs.Stands.{StandsFor}
-use Rattle.im_engine.specs.Turns.{IsCutOff}
+use Rattle.im_engine.specs.Turns.{answered_by, behind, AreSteps, IsCutOffBehind, NoneIsLost}
 
--- A life of these steps with these replies took the files to what a stop in it left: whatever effects the first stand for, the others stand for what the life may make of them.
-abbrev pub TakesFiles : List Step → List Reply → Files → Files → Type 0
-TakesFiles steps replies old new = (before : List Effect) → StandsFor before old → IsCutOff before nothing_shown steps replies new
+-- A stop when the first `answered` of these replies had been handed out took the files to others: whatever effects the first stand for, the others stand for what a life may make of them that was cut off there or later.
+abbrev pub TakesFiles : List Step → List Reply → ℕ → Files → Files → Type 0
+TakesFiles steps replies answered old new = (before : List Effect) → StandsFor before old → IsCutOffBehind answered before nothing_shown steps replies new
 
--- lives in turn, each with its steps, their replies, and what a stop in it left
-abbrev pub AreLives : Files → List (List Step × List Reply × Files) → Files → Type 0
+-- ---- lists of lives
+
+-- a life: its steps, their replies, how many of these had been handed out when it stopped, and the files that the stop left
+pub record Life : Type 0 where
+  pub steps : List Step
+  pub replies : List Reply
+  pub answered : ℕ
+  pub left : Files
+
+-- lives in turn, each on the files that the stop of the one before left
+abbrev pub AreLives : Files → List Life → Files → Type 0
 AreLives old [] new = new ≡ old
-AreLives old (life ∷ lives) new = TakesFiles life.0 life.1 old life.2 × AreLives life.2 lives new
+AreLives old (life ∷ lives) new = TakesFiles life.steps life.replies life.answered old life.left × AreLives life.left lives new
 
 -- what steps with these replies asked, where the stop fell within one of them or behind the last
 abbrev pub IsAskedBy : Shown → List Step → List Reply → List Asked → Type 0
 IsAskedBy s (step ∷ steps) (reply ∷ replies) asked = (asked ≡ (shows s (asked_by step) None).asked) ⊎ IsAskedBy (shows s (asked_by step) (Some (told_by reply))) steps replies asked
 IsAskedBy s _ _ asked = asked ≡ s.asked
 
--- and each of some lives
-abbrev pub AreAskedBy : List (List Step × List Reply × Files) → List (List Asked) → Type 0
-AreAskedBy [] [] = Unit {0}
-AreAskedBy (life ∷ lives) (asked ∷ more) = IsAskedBy nothing_shown life.0 life.1 asked × AreAskedBy lives more
-AreAskedBy _ _ = ⊥
+-- the same, where the first n replies had been handed out
+abbrev pub IsAskedBehind : ℕ → Shown → List Step → List Reply → List Asked → Type 0
+IsAskedBehind zero s steps replies asked = IsAskedBy s steps replies asked
+IsAskedBehind (suc n) s (step ∷ steps) (reply ∷ replies) asked = IsAskedBehind n (shows s (asked_by step) (Some (told_by reply))) steps replies asked
+IsAskedBehind (suc n) s steps replies asked = asked ≡ s.asked
+
+-- the effects whose Commit was asked in the steps whose replies had been handed out when the life stopped, each with whether it was acknowledged
+abbrev pub told_of : Life → List Asked
+told_of life = (shown_by nothing_shown (take life.answered (answered_by life.steps life.replies))).asked
+
+-- What a life leaves: the effects from before it and a front, in commit order, of those that it had asked when it stopped. Each whose Commit was acknowledged before the stop is among them.
+pub record IsKept (before : List Effect) (life : Life) (after : List Effect) : Type 0 where
+  pub asked : List Asked
+  pub by : IsAskedBehind life.answered nothing_shown life.steps life.replies asked
+  pub survives : Survives before asked after
+  pub acknowledged : (a : Asked) → Contains (told_of life) a → a.acked ≡ true → Contains survives.kept a
+
+-- and what several leave, one after another
+abbrev pub AreKept : List Effect → List Life → List Effect → Type 0
+AreKept before [] after = after ≡ before
+AreKept before (life ∷ lives) after = (between : List Effect) × IsKept before life between × AreKept between lives after
+
+-- ---- one life
+
+module _ {D : Type 0} (d : Ghosts D) where
+  -- The disk when the first n replies had been handed out: for none, that with which the life began.
+  abbrev pub disk_at : D → ℕ → (steps : List Step) (replies : List Reply) (opened last : Engine D d) → AreSteps d steps replies opened last → D
+  disk_at old zero steps replies opened last turns = old
+  disk_at old (suc n) steps replies opened last turns = (behind d (suc n) steps replies opened last turns).disk
+
+  -- A life: an engine was opened on the disk, and each step was made by the engine that the one before left.
+  pub record IsLived (config : Config) (steps : List Step) (replies : List Reply) (old new : D) : Type 0 where
+    pub opened : Engine D d
+    pub opening : IsOpening d config old (Ok opened)
+    pub last : Engine D d
+    pub turns : AreSteps d steps replies opened last
+    pub disk : new ≡ last.disk
+    -- what a stop leaves that falls when the first n replies have been handed out, at any moment since
+    pub since : d.tells → (n : ℕ) → n ≤ length replies → (c : Files) → d.left_since new (d.moment (disk_at old n steps replies opened last turns)) c → TakesFiles steps replies n (d.seen old) c
+    -- and what one leaves that falls no later than the reply to the m-th step
+    pub within : d.tells → (n m : ℕ) → n ≤ m → m ≤ length replies → (c : Files) → d.left_since (behind d m steps replies opened last turns).disk (d.moment (disk_at old n steps replies opened last turns)) c
+        → TakesFiles (take m steps) (take m replies) n (d.seen old) c
+    -- a stop behind the last
+    pub ends : d.tells → (c : Files) → d.may_leave new c → TakesFiles steps replies (length replies) (d.seen old) c
+    -- the disk has failed only where a reply says so
+    pub alive : NoneIsLost replies → d.failed new ≡ false
+
+  -- why a life has no replies: its opening was refused, or there was no room for them
+  abbrev pub IsRefusedBy : Result (Engine D d) (Fault × D) → Fault → D → Type 0
+  IsRefusedBy (Err x) fault new = (fault ≡ x.0) × (new ≡ x.1)
+  IsRefusedBy (Ok opened) fault new = (fault ≡ Memory) × (new ≡ opened.disk)
+
+  -- A life without a step. A stop at any moment of it leaves files that stand for what they stood for.
+  pub record IsUnlived (config : Config) (old : D) (fault : Fault) (new : D) : Type 0 where
+    pub result : Result (Engine D d) (Fault × D)
+    pub opening : IsOpening d config old result
+    pub refused : IsRefusedBy result fault new
+    pub since : d.tells → (c : Files) → d.left_since new (d.moment old) c → TakesFiles [] [] 0 (d.seen old) c

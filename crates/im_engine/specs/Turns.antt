@@ -1,5 +1,5 @@
 -- Steps in turn.
-use Rattle.std.specs.Prelude.{◌≡◌, ◌⊎◌, ℕ, List, [], ◌∷◌, None, Some}
+use Rattle.std.specs.Prelude.{◌≡◌, ◌≢◌, ◌⊎◌, ℕ, zero, suc, List, [], ◌∷◌, None, Some}
 use Rattle.im_types.specs.Answers as answers
 use Rattle.im_types.specs.Maps.{IndexMap}
 use Rattle.im_types.specs.Changes.{Effect}
@@ -9,7 +9,9 @@ use Rattle.im_disk.specs.Disk.{Files}
 use Rattle.im_lock.specs.View.{View}
 use Rattle.im_lock.specs.Machine.{Run, start}
 use Rattle.im_front.specs.declared.step.Step.{Step}
+use Rattle.im_front.specs.declared.fault.Fault.TheVariants.{Device}
 use Rattle.im_front.specs.declared.reply.Reply.{Reply}
+use Rattle.im_front.specs.declared.reply.Reply.TheVariants.{Refused}
 use Rattle.im_front.specs.Calls.{asked_by, told_by}
 use Rattle.im_engine.specs.declared.engine.Engine.{Engine}
 use Rattle.im_engine.specs.Stands.{Allowed}
@@ -40,7 +42,24 @@ module _ {D : Type 0} (d : Ghosts D) where
   AreSteps (step ∷ steps) (reply ∷ replies) old new = (mid : Engine D d) × IsStep d step reply old mid × AreSteps steps replies mid new
   AreSteps _ _ old new = ⊥
 
+  -- the engine that the first n of them left
+  abbrev pub behind : ℕ → (steps : List Step) (replies : List Reply) (old new : Engine D d) → AreSteps steps replies old new → Engine D d
+  behind zero steps replies old new turns = old
+  behind (suc n) (step ∷ steps) (reply ∷ replies) old new turns = behind n steps replies turns.0 new turns.2
+  behind (suc n) steps replies old new turns = new
+
+-- no reply says that the disk has failed
+abbrev pub NoneIsLost : List Reply → Type 0
+NoneIsLost [] = Unit {0}
+NoneIsLost (reply ∷ replies) = (reply ≢ Refused Device) × NoneIsLost replies
+
 -- A stop within steps that have these replies: it fell within one of them, whose reply is then not known, or behind the last.
 abbrev pub IsCutOff : List Effect → Shown → List Step → List Reply → Files → Type 0
 IsCutOff before s (step ∷ steps) (reply ∷ replies) c = Allowed before (shows s (asked_by step) None) c ⊎ IsCutOff before (shows s (asked_by step) (Some (told_by reply))) steps replies c
 IsCutOff before s _ _ c = Allowed before s c
+
+-- A stop that came when the first n replies had been handed out.
+abbrev pub IsCutOffBehind : ℕ → List Effect → Shown → List Step → List Reply → Files → Type 0
+IsCutOffBehind zero before s steps replies c = IsCutOff before s steps replies c
+IsCutOffBehind (suc n) before s (step ∷ steps) (reply ∷ replies) c = IsCutOffBehind n before (shows s (asked_by step) (Some (told_by reply))) steps replies c
+IsCutOffBehind (suc n) before s steps replies c = Allowed before s c

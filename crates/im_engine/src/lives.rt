@@ -1,14 +1,13 @@
 //! Steps in turn, and one life of a store.
 
-ghost use Rattle.std.specs.Prelude.{◌≡◌, ◌≢◌, false, length, List, [], IfOk, IfErr};
+ghost use Rattle.std.specs.Prelude.{◌≡◌, ◌≢◌, false, length, List, IfOk, IfErr};
 ghost use Rattle.std.specs.FinMap.{empty};
 ghost use Rattle.im_types.specs.Changes.{Effect, apply_all};
 ghost use Rattle.im_types.specs.declared.fault.Fault.TheVariants.{NotAStore};
-ghost use Rattle.im_disk.specs.Disk.{Files};
 ghost use Rattle.im_disk.specs.Runs.{IsSynced};
 ghost use Rattle.im_engine.specs.Stands.{StandsFor};
 ghost use Rattle.im_engine.specs.Turns.{answered_by, IsRunFrom};
-ghost use Rattle.im_engine.specs.Lived.{TakesFiles};
+ghost use Rattle.im_engine.specs.Lived.{IsLived, IsUnlived};
 
 use crate::config::Config;
 use crate::engine::Engine;
@@ -50,12 +49,15 @@ impl<D: Disk> Engine<D> {
     }
 }
 
-/// One life: opens the store of a disk, makes the steps in turn, and hands the disk on with their replies. Whatever a stop at any
-/// moment of it left on the disk, the life took the files there: that is what a list of lives is made of (`every_list_of_lives`). The steps
-/// with their replies are a run of the machine of transactions from the map of the effects that the files stood for: each transaction is
-/// as good as alone at its place in the order of Commits (`im_lock::isolation`).
+/// One life: opens the store of a disk, makes the steps in turn, and hands the disk on with their replies. A stop that falls when the first
+/// n replies have been handed out takes the files to what a life may make of them that was cut off there or later (`since`), for every n;
+/// and where it falls no later than the reply to the m-th step, nothing is there of what was asked only behind that (`within`). That is
+/// what a list of lives is made of (`every_list_of_lives`). The steps with their replies are a run of the machine of transactions from the
+/// map of the effects that the files stood for: each transaction is as good as alone at its place in the order of Commits
+/// (`im_lock::isolation`).
 ///
-/// Refused as an opening is, with no step made, and `Memory` where there is no room for the replies.
+/// Refused as an opening is, and for its causes, with no step made, and `Memory` where there is no room for the replies: then the files
+/// stand for what they stood for.
 pub fn live<D: Disk>(
     alloc: Global,
     disk: D,
@@ -64,8 +66,8 @@ pub fn live<D: Disk>(
 ) -> (Result<Vec<Reply>, Fault>, D)
     requires working { D.failed disk ≡ false }
     requires synced { IsSynced D.Disk disk }
-    ensures takes { IfOk result.0 (λ replies. D.tells → (c : Files) → D.left_since result.1 (D.moment disk) c → TakesFiles steps.now replies.items (D.seen disk) c) }
-    ensures refused { IfErr result.0 (λ e. D.tells → (c : Files) → D.left_since result.1 (D.moment disk) c → TakesFiles [] [] (D.seen disk) c) }
+    ensures lived { IfOk result.0 (λ replies. IsLived D.Disk config steps.now replies.items disk result.1) }
+    ensures refused { IfErr result.0 (λ e. IsUnlived D.Disk config disk e result.1) }
     ensures isolated { IfOk result.0 (λ replies. (before : List Effect) → D.tells → StandsFor before (D.seen disk) → IsRunFrom (apply_all empty before) (answered_by steps.now replies.items)) }
     ensures each { IfOk result.0 (λ replies. length replies.items ≡ length steps.now) }
     ensures never { IfErr result.0 (λ e. (before : List Effect) → D.tells → StandsFor before (D.seen disk) → e ≢ NotAStore) }

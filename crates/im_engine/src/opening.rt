@@ -6,6 +6,7 @@ ghost use Rattle.im_types.specs.declared.fault.Fault.TheVariants.{Memory};
 
 use crate::config::Config;
 use crate::engine::Engine;
+use crate::syncing::sync_files;
 use crate::transactions::Transactions;
 use im_disk::Disk;
 use im_lock::LockTable;
@@ -24,8 +25,10 @@ fn make_room(alloc: Global) -> Result<Vec<u8>, Fault>
 
 impl<D: Disk> Engine<D> {
     ghost use Rattle.im_types.specs.Changes.{Effect};
-    ghost use Rattle.im_types.specs.declared.fault.Fault.TheVariants.{LogFull, Capacity, Device, Memory, NotAStore, PoolSize};
-    ghost use Rattle.im_disk.specs.Runs.{IsSynced, Reads};
+    ghost use Rattle.std.specs.Prelude.{OnOk};
+    ghost use Rattle.im_types.specs.declared.fault.Fault.TheVariants.{LogFull, Capacity, Device, Failed, Memory, NotAStore, PoolSize};
+    ghost use Rattle.im_disk.specs.Disk.{Files};
+    ghost use Rattle.im_disk.specs.Runs.{IsSynced, LeavesOnly, Reads};
     ghost use Rattle.im_restart.specs.Restart.{IsFullLog, SpellsLog};
     ghost use Rattle.im_engine.specs.Stands.{StandsFor};
     ghost use Rattle.im_engine.specs.Kept.{OpenKept, disk_of};
@@ -81,7 +84,26 @@ impl<D: Disk> Engine<D> {
         &self.disk
     }
 
-    /// Ends the engine, with no device call, and hands the disk back.
+    /// Closes the store: ends the engine, brings both files to the disk, and hands it back, so that the store may be opened again. The
+    /// files read as they did. Refused `Failed`, with no device call, where an earlier step broke the engine; `Device`.
+    pub fn close(self) -> (Result<(), Fault>, D)
+        ensures synced { OnOk result.0 ((self.failed ≡ false) × IsSynced D.Disk result.1 × (D.failed result.1 ≡ false)) }
+        ensures seen { D.seen result.1 ≡ D.seen self.disk }
+        ensures outcomes { (c : Files) → D.may_leave result.1 c → D.may_leave self.disk c }
+        ensures stops { LeavesOnly D.Disk self.disk result.1 (D.may_leave self.disk) }
+        ensures causes { IfErr result.0 (λ e. ((e ≡ Failed) × (self.failed ≡ true) × (result.1 ≡ self.disk)) ⊎ ((e ≡ Device) × (D.failed result.1 ≡ true))) }
+    {
+        let failed = self.failed;
+        let mut disk = self.into_disk();
+        if failed {
+            return (Err(Fault::Failed), disk);
+        }
+        let synced = sync_files(&mut disk);
+        (synced, disk)
+    }
+
+    /// Ends the engine, with no device call, and hands the disk back. What was written and not synced is not on the disk then: before its
+    /// store is opened again, both files are synced (`close`, `sync_files`), or it is a disk of the files anew.
     pub fn into_disk(self) -> D
         ensures { result ≡ self.disk }
     {

@@ -1,36 +1,80 @@
-use Rattle.std.proofs.Common.{◌≡◌, List, [], ap, subst}
+use Rattle.std.proofs.Common.{Ok, Err, refl, sym, subst, ap, ◌∙◌}
 use Rattle.im_types.specs.Lives.{nothing_shown}
-use Rattle.im_disk.proofs.Runs.{weakened, then_on}
 use Rattle.im_engine.specs.declared.engine.Engine.{Engine}
-use Rattle.im_engine.specs.Stands.{Allowed}
-use Rattle.im_engine.specs.Turns.{IsCutOff}
-use Rattle.im_engine.proofs.LivedLives.{left_before, listed, on_err}
+use Rattle.im_engine.specs.Lived.{IsLived}
+use Rattle.im_engine.specs.Opening.{IsOpening}
+use Rattle.im_engine.proofs.LivedLives.{listed, on_err}
+use Rattle.im_engine.proofs.OneLife.{lived, unlived}
 use Rattle.im_engine.proofs.lives.live.Goals as goal
 
 pub returns-in-Err-clause-refused : goal.returns-in-Err-clause-refused
-returns-in-Err-clause-refused g c told files left before stands = (c.in-Err.ensures.kept before told c.requires.synced stands).stops.each told files left
+returns-in-Err-clause-refused g c =
+    let is = c.in-Err.ensures in
+    record {
+      result = Err (c.in-Err.fault, c.in-Err.disk);
+      opening = record {
+        kept = λ before told stands. is.kept before told c.requires.synced stands;
+        opened = is.opened;
+        limit = is.limit;
+        spelled = is.spelled;
+        frames = is.frames;
+        untouched = is.untouched;
+        device = is.device;
+        causes = is.causes;
+        full = is.full;
+        unspelled = is.unspelled;
+      };
+      refused = (refl, refl);
+      since = λ told files left before stands. (is.kept before told c.requires.synced stands).stops.each told files left;
+    }
 
 pub returns-in-Err-clause-never : goal.returns-in-Err-clause-never
 returns-in-Err-clause-never g c before told stands = (c.in-Err.ensures.kept before told c.requires.synced stands).cause
 
-pub returns-in-Ok-clause-takes : goal.returns-in-Ok-clause-takes
-returns-in-Ok-clause-takes g c =
+pub returns-in-Ok-clause-lived : goal.returns-in-Ok-clause-lived
+returns-in-Ok-clause-lived g c =
     let d = g.D.Disk in
-    let mid = c.in-Ok.opened.disk in
-    let new = c.life-replies.new.self.disk in
-    listed c.life-replies.result _ _ c.life-replies.ensures.stops (λ replies stops told files left before stands.
-    let kept = c.in-Ok.ensures.kept before told c.requires.synced stands in
-    let cut = IsCutOff before nothing_shown c.args.steps.now replies.items in
-    (then_on d c.args.disk mid new cut cut
-    (weakened d c.args.disk mid (Allowed before nothing_shown) cut kept.stops (λ on c2 h. left_before before nothing_shown c.args.steps.now replies.items c2 h)) (stops before nothing_shown _ kept.ok.0) (λ on c2 h. h)).each told files
-    (subst (λ x. d.left_since x (d.moment c.args.disk) files) c.into_disk.ensures left))
+    let is = c.in-Ok.ensures in
+    let opening : IsOpening d c.args.config c.args.disk (Ok c.in-Ok.opened) = record {
+      kept = λ before told stands. is.kept before told c.requires.synced stands;
+      opened = is.opened;
+      limit = is.limit;
+      spelled = is.spelled;
+      frames = is.frames;
+      untouched = is.untouched;
+      device = is.device;
+      causes = is.causes;
+      full = is.full;
+      unspelled = is.unspelled;
+    } in
+    listed c.life-replies.result _ _ c.life-replies.ensures.turns (λ replies turns.
+    subst (λ x. IsLived d c.args.config c.args.steps.now replies.items c.args.disk x) (sym c.into_disk.ensures)
+    (lived d g.met.D.Disk.only_now c.args.config c.args.steps.now replies.items c.args.disk c.in-Ok.opened c.life-replies.new.self opening turns))
 
 pub returns-in-Ok-clause-refused : goal.returns-in-Ok-clause-refused
 returns-in-Ok-clause-refused g c =
     let d = g.D.Disk in
-    on_err c.life-replies.result _ _ c.life-replies.ensures.none (λ same e told files left before stands.
-    let kept = c.in-Ok.ensures.kept before told c.requires.synced stands in
-    kept.stops.each told files (subst (λ (x : Engine _ d). d.left_since x.disk (d.moment c.args.disk) files) same (subst (λ x. d.left_since x (d.moment c.args.disk) files) c.into_disk.ensures left)))
+    let is = c.in-Ok.ensures in
+    let opening : IsOpening d c.args.config c.args.disk (Ok c.in-Ok.opened) = record {
+      kept = λ before told stands. is.kept before told c.requires.synced stands;
+      opened = is.opened;
+      limit = is.limit;
+      spelled = is.spelled;
+      frames = is.frames;
+      untouched = is.untouched;
+      device = is.device;
+      causes = is.causes;
+      full = is.full;
+      unspelled = is.unspelled;
+    } in
+    on_err c.life-replies.result _ _ _ c.life-replies.ensures.none c.life-replies.ensures.memory (λ same e memory.
+    let disk = c.into_disk.ensures ∙ ap (λ (x : Engine _ d). x.disk) same in
+    record {
+      result = Ok c.in-Ok.opened;
+      opening = opening;
+      refused = (memory, disk);
+      since = λ told files left. unlived d g.met.D.Disk.only_now c.args.config c.args.disk c.in-Ok.opened opening told files (subst (λ x. d.left_since x (d.moment c.args.disk) files) disk left);
+    })
 
 pub returns-in-Ok-clause-isolated : goal.returns-in-Ok-clause-isolated
 returns-in-Ok-clause-isolated g c =
