@@ -23,7 +23,7 @@ use Rattle.im_engine.specs.Running.{IsLife}
 use Rattle.im_engine.specs.Kept.{StepKept, LookKept}
 use Rattle.im_engine.specs.Numbered.{Numbered}
 use Rattle.im_engine.specs.Looking.{Looks, broken_by}
-use Rattle.im_engine.specs.Told.{Known, after, IsStep}
+use Rattle.im_engine.specs.Told.{Known, after, known_of, IsStep}
 use Rattle.im_engine.specs.Serves.{IsStoreLife}
 use Rattle.im_engine.proofs.Looked.{not_true}
 
@@ -81,14 +81,14 @@ module _ {D : Type 0} (d : Ghosts D) (before : List Effect) (s : Shown) (v : Vie
     | inl broke ↦
         (let why : (fault : Fault) × (reply ≡ replies.Refused fault) = refusal broke in
         let moves = subst_moves why in
-        ap (λ (k : Known). k.active) one.told.known ∙ ap (λ (r : Reply). (after r (record { failed = old.failed; active = length old.txns.rows; next = old.txns.next; max_pages = old.max_pages })).active) why.1 ∙ was.active ∙ sym moves)
+        ap (λ (k : Known). k.active) one.told.known ∙ ap (λ (r : Reply). (after r (known_of d old)).active) why.1 ∙ was.active ∙ sym moves)
     | inr works ↦ sym (made.after.running works).1.serving.table.active
   ]
     where
       refusal : new.failed ≡ true → (fault : Fault) × (reply ≡ replies.Refused fault)
       refusal broke = elim (cases_Bool old.failed) [
         | inl before_it ↦ (faults.Failed, one.told.failed before_it)
-        | inr worked ↦ broken_reply reply (record { failed = old.failed; active = length old.txns.rows; next = old.txns.next; max_pages = old.max_pages }) worked (sym (ap (λ (k : Known). k.failed) one.told.known) ∙ broke)
+        | inr worked ↦ broken_reply reply (known_of d old) worked (sym (ap (λ (k : Known). k.failed) one.told.known) ∙ broke)
       ]
 
       subst_moves : (fault : Fault) × (reply ≡ replies.Refused fault) → made.next.active ≡ v.active

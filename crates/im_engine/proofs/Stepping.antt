@@ -25,7 +25,7 @@ use Rattle.im_front.specs.Calls.{asked_by, told_by, number_of}
 use Rattle.im_engine.specs.declared.engine.Engine.{Engine}
 use Rattle.im_engine.specs.Running.{IsLife}
 use Rattle.im_engine.specs.Kept.{StepKept}
-use Rattle.im_engine.specs.Told.{Known, AnswersAlone, AsksChange, wants_pages, wants_numbers, wants_memory, Checked, IsAnswered, IsMade, IsStep, IsTold, Refuses, WantsOf, after, check_of, is_early, known_of}
+use Rattle.im_engine.specs.Told.{Fixed, Known, AnswersAlone, AsksChange, wants_pages, wants_numbers, wants_memory, Checked, IsAnswered, IsMade, IsStep, IsTold, Refuses, WantsOf, after, check_of, fixed_of, is_early, known_of}
 use Rattle.im_engine.proofs.Alone.{answers_alone}
 use Rattle.im_engine.proofs.Barred.{barred_kept, first_failed}
 use Rattle.im_engine.proofs.Causes.{refused_inj}
@@ -169,12 +169,12 @@ refused_alone before s (FlushPage p) n = tt
 refused_alone before s Force n = tt
 refused_alone before s Checkpoint n = tt
 
-keeps_max : (reply : Reply) (k : Known) → (after reply k).max_pages ≡ k.max_pages
-keeps_max (Started n) k = refl
-keeps_max Committed k = refl
-keeps_max RolledBack k = refl
-keeps_max (Refused fault) k = refl
-keeps_max _ k = refl
+keeps_fixed : (reply : Reply) (k : Known) → (after reply k).fixed ≡ k.fixed
+keeps_fixed (Started n) k = refl
+keeps_fixed Committed k = refl
+keeps_fixed RolledBack k = refl
+keeps_fixed (Refused fault) k = refl
+keeps_fixed _ k = refl
 
 module _ {D : Type 0} (d : Ghosts D) (reply : Reply) (old new : Engine D d) (told : IsTold d reply old new) where
   -- a disk that has failed leaves no working engine
@@ -186,8 +186,8 @@ module _ {D : Type 0} (d : Ghosts D) (reply : Reply) (old new : Engine D d) (tol
       by false works =
           ap (λ (k : Known). k.failed) told.known ∙ ap (λ (r : Reply). (after r (known_of d old)).failed) (told.device works lost) ∙ ap (λ (b : Bool). b || breaks (number_of faults.Device)) works
 
-  told_max : new.max_pages ≡ old.max_pages
-  told_max = ap (λ (k : Known). k.max_pages) told.known ∙ keeps_max reply (known_of d old)
+  told_fixed : fixed_of d new ≡ fixed_of d old
+  told_fixed = ap (λ (k : Known). k.fixed) told.known ∙ keeps_fixed reply (known_of d old)
 
 -- no step of a sound store finds bytes that are none
 never_found : {D : Type 0} (d : Ghosts D) (step : Step) (reply : Reply) (old new : Engine D d) → ((before : List Effect) (s : Shown) (v : View) → IsLife d before s v old → StepKept d before s v step (told_by reply) old new)
@@ -223,7 +223,8 @@ step_made_of d step reply old new none m = record {
   quiet = m.quiet;
   works = told_works d reply old new m.told;
   never = never_found d (asked_by step) reply old new m.kept m.told;
-  max_pages = told_max d reply old new m.told;
+  max_pages = ap (λ (f : Fixed). f.max_pages) (told_fixed d reply old new m.told);
+  report = ap (λ (f : Fixed). f.redo) (told_fixed d reply old new m.told);
 }
 
 -- of a step that is this one
@@ -280,7 +281,7 @@ module _ {D : Type 0} (d : Ghosts D) (step : Asked) (e : Engine D d) (only_now :
 
   told_so : IsTold d (Refused fault) e e
   told_so = record {
-    known = λ j. record { failed = stays_so j; active = length e.txns.rows; next = e.txns.next; max_pages = e.max_pages };
+    known = λ j. record { failed = stays_so j; active = length e.txns.rows; next = e.txns.next; fixed = fixed_of d e };
     number = tt;
     failed = λ was. ap (λ (f : Fault). Refused f) (fails_so was);
     same = λ _. refl;
@@ -300,4 +301,5 @@ module _ {D : Type 0} (d : Ghosts D) (step : Asked) (e : Engine D d) (only_now :
     works = told_works d (Refused fault) e e told_so;
     never = never_found d (asked_by step) (Refused fault) e e (λ before s v life. barred_kept d before s v (asked_by step) e life only_now (number_of fault) is) told_so;
     max_pages = refl;
+    report = refl;
   }

@@ -16,7 +16,7 @@ use Rattle.im_front.specs.Calls.{number_of}
 use Rattle.im_engine.specs.declared.engine.Engine.{Engine}
 use Rattle.im_engine.specs.Faults.{told_as, ends_engine}
 use Rattle.im_engine.specs.Numbered.{Numbered}
-use Rattle.im_engine.specs.Told.{Known, HasNext, IsTold, after, is_early, known_of}
+use Rattle.im_engine.specs.Told.{Known, HasNext, IsTold, after, fixed_of, is_early, known_of}
 
 pub not_true : (b : Bool) → b ≡ false → b ≡ true → ⊥
 not_true b off on = let never : false ≡ true = sym off ∙ on in cc never
@@ -108,13 +108,13 @@ module _ {D : Type 0} (d : Ghosts D) (old new : Engine D d) (works : old.failed 
   fresh reply late is = absurd (not_true (old.failed || is_early reply) (ap (λ (b : Bool). b || is_early reply) works ∙ late) is)
 
   -- a transaction began
-  pub told_started : (number : ℕ) → number ≡ old.txns.next → new.txns ≡ record { rows = old.txns.rows ++ begun number ∷ []; next = number + 1 } → new.max_pages ≡ old.max_pages → new.failed ≡ false → new.disk ≡ old.disk → IsTold d (Started number) old new
-  told_started number is table max_pages works_on disk = record {
+  pub told_started : (number : ℕ) → number ≡ old.txns.next → new.txns ≡ record { rows = old.txns.rows ++ begun number ∷ []; next = number + 1 } → fixed_of d new ≡ fixed_of d old → new.failed ≡ false → new.disk ≡ old.disk → IsTold d (Started number) old new
+  told_started number is table fixed works_on disk = record {
     known = λ j. record {
       failed = (works_on ∙ sym works) j;
       active = (ap (λ (x : Numbered). length x.rows) table ∙ length-append old.txns.rows (begun number ∷ [])) j;
       next = (ap (λ (x : Numbered). x.next) table ∙ ap (λ (n : ℕ). n + 1) is) j;
-      max_pages = max_pages j;
+      fixed = fixed j;
     };
     number = is;
     failed = λ was. absurd (not_true old.failed works was);
@@ -122,11 +122,11 @@ module _ {D : Type 0} (d : Ghosts D) (old new : Engine D d) (works : old.failed 
     device = λ was broken. absurd (not_true (d.failed old.disk) (alive_now d old works) (subst (λ (x : D). d.failed x ≡ true) disk broken));
   }
 
-  module _ (next : new.txns.next ≡ old.txns.next) (max_pages : new.max_pages ≡ old.max_pages) where
+  module _ (next : new.txns.next ≡ old.txns.next) (fixed : fixed_of d new ≡ fixed_of d old) where
     -- it was answered, and what is known of the engine stays
     pub told_answered : (reply : Reply) → ((k : Known) → after reply k ≡ k) → is_early reply ≡ false → HasNext reply old.txns.next → new.failed ≡ false → length new.txns.rows ≡ length old.txns.rows → d.failed new.disk ≡ false → IsTold d reply old new
     told_answered reply stays late number works_on rows alive = record {
-      known = (λ j. record { failed = (works_on ∙ sym works) j; active = rows j; next = next j; max_pages = max_pages j }) ∙ sym (stays (known_of d old));
+      known = (λ j. record { failed = (works_on ∙ sym works) j; active = rows j; next = next j; fixed = fixed j }) ∙ sym (stays (known_of d old));
       number = number;
       failed = λ was. absurd (not_true old.failed works was);
       same = fresh reply late;
@@ -140,7 +140,7 @@ module _ {D : Type 0} (d : Ghosts D) (old new : Engine D d) (works : old.failed 
         failed = (fails ∙ sym (ends_breaks f) ∙ ap (λ (e : Refusal). breaks (number_of e)) (sym is) ∙ sym (ap (λ (b : Bool). b || breaks (number_of told)) works)) j;
         active = rows j;
         next = next j;
-        max_pages = max_pages j;
+        fixed = fixed j;
       };
       number = tt;
       failed = λ was. absurd (not_true old.failed works was);
@@ -154,7 +154,7 @@ module _ {D : Type 0} (d : Ghosts D) (old new : Engine D d) (works : old.failed 
 
     pub told_committed : length old.txns.rows ≡ length new.txns.rows + 1 → new.failed ≡ false → (d.failed new.disk ≡ true → Committed ≡ Refused above.Device) → IsTold d Committed old new
     told_committed once works_on lost = record {
-      known = λ j. record { failed = (works_on ∙ sym works) j; active = fewer once j; next = next j; max_pages = max_pages j };
+      known = λ j. record { failed = (works_on ∙ sym works) j; active = fewer once j; next = next j; fixed = fixed j };
       number = tt;
       failed = λ was. absurd (not_true old.failed works was);
       same = fresh Committed refl;
@@ -163,7 +163,7 @@ module _ {D : Type 0} (d : Ghosts D) (old new : Engine D d) (works : old.failed 
 
     pub told_rolled_back : length old.txns.rows ≡ length new.txns.rows + 1 → new.failed ≡ false → (d.failed new.disk ≡ true → RolledBack ≡ Refused above.Device) → IsTold d RolledBack old new
     told_rolled_back once works_on lost = record {
-      known = λ j. record { failed = (works_on ∙ sym works) j; active = fewer once j; next = next j; max_pages = max_pages j };
+      known = λ j. record { failed = (works_on ∙ sym works) j; active = fewer once j; next = next j; fixed = fixed j };
       number = tt;
       failed = λ was. absurd (not_true old.failed works was);
       same = fresh RolledBack refl;

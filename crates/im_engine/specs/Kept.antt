@@ -19,6 +19,7 @@ use Rattle.im_lock.specs.View.{View, broken}
 use Rattle.im_lock.specs.Machine.{Moves, start}
 use Rattle.im_front.specs.declared.fault.Fault.{Fault as Refusal}
 use Rattle.im_front.specs.Calls.{number_of}
+use Rattle.im_restart.specs.Restart.{IsReport}
 use Rattle.im_engine.specs.declared.engine.Engine.{Engine}
 use Rattle.im_engine.specs.Stands.{StandsFor, Allowed}
 use Rattle.im_engine.specs.Running.{IsRunning, IsLife}
@@ -39,6 +40,8 @@ module _ {D : Type 0} (d : Ghosts D) where
   pub record OpenKept (before : List Effect) (old : D) (stands : StandsFor before (d.seen old)) (result : Result (Engine D d) (Fault × D)) : Type 0 where
     pub ok : IfOk result (λ e. IsLife d before nothing_shown (start (apply_all empty before) e.txns.next) e × (e.failed ≡ false))
     pub next : IfOk result (λ e. IsNextNumber (least_number (d.seen old Log)) e.txns.next stands.log)
+    -- redo began at the redo point of the log that was found, and applied as many of its records as the report says
+    pub report : IfOk result (λ e. IsReport stands.b stands.log (file_page (d.seen old Pages)) e.report)
     pub stops : LeavesOnly d old (disk_of result) (Allowed before nothing_shown)
     pub cause : IfErr result (λ x. x.0 ≢ NotAStore)
 

@@ -26,6 +26,7 @@ module _ {D : Type 0} (d : Ghosts D) where
     pub txns : new.txns ≡ old.txns
     pub locks : new.locks ≡ old.locks
     pub max_pages : new.max_pages ≡ old.max_pages
+    pub report : new.report ≡ old.report
 
   -- How a call ends that only looks: an engine that has failed answers that alone and stays as it was, and any other ends as a search.
   pub record Looks (why : Option Fault) (old new : Engine D d) : Type 0 where

@@ -21,6 +21,7 @@ use Rattle.im_txn.specs.Rows.{is_of}
 use Rattle.im_lock.specs.View.{View}
 use Rattle.im_lock.specs.Machine.{first_check, mark_for}
 use Rattle.im_steps.specs.Checks.{marks_in}
+use Rattle.im_restart.specs.declared.redo_report.RedoReport.{RedoReport}
 use Rattle.im_front.specs.declared.fault.Fault.{Fault}
 use Rattle.im_front.specs.declared.fault.Fault.TheVariants.{NoTransaction, MustRollBack, KeyLength, RollingBack, PagesFull, Capacity, LogFull, Device, Memory, Failed, NotAStore, TooMany}
 use Rattle.im_front.specs.declared.step.Step.{Step}
@@ -33,6 +34,13 @@ use Rattle.im_engine.specs.Kept.{StepKept}
 
 -- ---- what a reply says of the engine
 
+-- what an opening settles, and no step changes
+pub record Fixed : Type 0 where
+  -- the most pages
+  pub max_pages : ℕ
+  -- what redo did
+  pub redo : RedoReport
+
 -- what a user knows of an engine between steps
 pub record Known : Type 0 where
   -- whether it has failed
@@ -41,8 +49,7 @@ pub record Known : Type 0 where
   pub active : ℕ
   -- the number that a Begin takes next
   pub next : ℕ
-  -- the most pages
-  pub max_pages : ℕ
+  pub fixed : Fixed
 
 -- What a reply makes of it: a Begin takes the next number, and one more is active; a transaction that ended is active no more; a refusal may break the engine; no other reply changes it.
 abbrev pub after : Reply → Known → Known
@@ -67,8 +74,11 @@ is_early (Refused TooMany) = true
 is_early _ = false
 
 module _ {D : Type 0} (d : Ghosts D) where
+  abbrev pub fixed_of : Engine D d → Fixed
+  fixed_of e = record { max_pages = e.max_pages; redo = e.report }
+
   abbrev pub known_of : Engine D d → Known
-  known_of e = record { failed = e.failed; active = length e.txns.rows; next = e.txns.next; max_pages = e.max_pages }
+  known_of e = record { failed = e.failed; active = length e.txns.rows; next = e.txns.next; fixed = fixed_of e }
 
   -- What the reply to a step alone says of the engine.
   pub record IsTold (reply : Reply) (old new : Engine D d) : Type 0 where
@@ -233,3 +243,4 @@ module _ {D : Type 0} (d : Ghosts D) where
     -- the bytes of a sound store are never found to be none
     pub never : (before : List Effect) (s : Shown) (v : View) → IsLife d before s v old → reply ≢ Refused NotAStore
     pub max_pages : new.max_pages ≡ old.max_pages
+    pub report : new.report ≡ old.report

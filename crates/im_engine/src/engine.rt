@@ -12,6 +12,7 @@ use im_disk::Disk;
 use im_flush::PageWriter;
 use im_front::{Fault, Reply, Step};
 use im_lock::LockTable;
+use im_restart::RedoReport;
 use im_types::PageNo;
 use std::alloc::Global;
 
@@ -24,6 +25,8 @@ pub struct Engine<D: Disk> {
     pub(crate) writer: PageWriter,
     pub(crate) disk: D,
     pub(crate) max_pages: PageNo,
+    // what redo did in this opening
+    pub(crate) report: RedoReport,
     pub(crate) txns: Transactions,
     pub(crate) locks: LockTable,
     // where records are read again for a rollback
@@ -114,6 +117,13 @@ impl<D: Disk> Engine<D> {
         ensures { result ≡ length self.now.txns.rows }
     {
         self.txns.len()
+    }
+
+    /// What redo did in the opening that made this engine: where it began, and how many records it applied.
+    pub fn redo_report(&self) -> RedoReport
+        ensures { result ≡ self.now.report }
+    {
+        self.report
     }
 
     /// Whether an earlier call broke it.

@@ -12,7 +12,7 @@ returns-then-self-clause-kept g c before s v life = look_barred g.D.Disk before 
 
 pub returns-in-Ok-clause-kept : goal.returns-in-Ok-clause-kept
 returns-in-Ok-clause-kept g c before s v life =
-    look_kept g.D.Disk before s v c.args.self.now _ life c.if-self.false (record { writer = search_of g.D.Disk c.in-Ok.ensures.outcome; failed = refl; txns = refl; locks = refl; max_pages = refl })
+    look_kept g.D.Disk before s v c.args.self.now _ life c.if-self.false (record { writer = search_of g.D.Disk c.in-Ok.ensures.outcome; failed = refl; txns = refl; locks = refl; max_pages = refl; report = refl })
 
 pub returns-in-Ok-clause-logged : goal.returns-in-Ok-clause-logged
 returns-in-Ok-clause-logged g c b before s v r =
@@ -23,7 +23,7 @@ returns-in-Ok-clause-logged g c b before s v r =
 pub returns-in-Err-clause-kept : goal.returns-in-Err-clause-kept
 returns-in-Err-clause-kept g c before s v life =
     look_refused g.D.Disk before s v c.args.self.now _ life c.if-self.false (λ t f le left. g.met.D.Disk.counts_now c.get.new.disk t f le left) c.in-Err.fault
-    (record { writer = search_of g.D.Disk c.in-Err.ensures.outcome; failed = c.breaks-self.ensures; txns = refl; locks = refl; max_pages = refl })
+    (record { writer = search_of g.D.Disk c.in-Err.ensures.outcome; failed = c.breaks-self.ensures; txns = refl; locks = refl; max_pages = refl; report = refl })
 
 pub returns-in-Err-clause-never : goal.returns-in-Err-clause-never
 returns-in-Err-clause-never g c before s v life =

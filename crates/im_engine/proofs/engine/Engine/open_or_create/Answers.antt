@@ -9,6 +9,7 @@ pub returns-then-config-lt8-clause-kept : goal.returns-then-config-lt8-clause-ke
 returns-then-config-lt8-clause-kept g c before told synced stands = record {
   ok = tt;
   next = tt;
+  report = tt;
   stops = none_opened g.D.Disk before c.args.disk stands synced (g.met.D.Disk.only_now c.args.disk);
   cause = λ e. cc e;
 }
@@ -17,6 +18,7 @@ pub returns-in-Err-clause-kept : goal.returns-in-Err-clause-kept
 returns-in-Err-clause-kept g c before told synced stands = record {
   ok = tt;
   next = tt;
+  report = tt;
   stops = none_opened g.D.Disk before c.args.disk stands synced (g.met.D.Disk.only_now c.args.disk);
   cause = λ e. let never = sym c.in-Err.ensures.causes ∙ e in cc never;
 }
@@ -27,6 +29,7 @@ returns-in-Err-open_or_create-clause-kept g c before told synced stands =
     record {
       ok = tt;
       next = tt;
+      report = tt;
       stops = opening_stops g.D.Disk before c.args.disk stands c.open_or_create.new.disk kept.stops;
       cause = kept.sound;
     }
@@ -37,6 +40,7 @@ returns-in-Ok-open_or_create-clause-kept g c before told synced stands =
     record {
       ok = (engine_opened g.D.Disk before c.args.disk stands _ c.in-Ok-open_or_create.restarted kept.sound.restarted kept.sound.next refl c.starting_at.ensures.0 c.starting_at.ensures.1 c.new.ensures refl, refl);
       next = subst (λ (n : ℕ). IsNextNumber (least_number (g.D.Disk.seen c.args.disk Log)) n stands.log) (sym c.starting_at.ensures.1) kept.sound.next;
+      report = kept.sound.report;
       stops = opening_stops g.D.Disk before c.args.disk stands c.open_or_create.new.disk kept.stops;
       cause = tt;
     }
