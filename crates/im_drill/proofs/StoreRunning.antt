@@ -1,5 +1,5 @@
 -- Lives of a store, run: one line more, one life more.
-use Rattle.std.proofs.Common.{◌≡◌, ℕ, zero, suc, ◌<◌, List, [], ◌∷◌, ◌++◌, length, get_or, Option, Result, Ok, Err, IfOk, IfErr, MatchResult, ◌⊎◌, false, refl, subst, arith}
+use Rattle.std.proofs.Common.{◌≡◌, ℕ, zero, suc, ◌<◌, List, [], ◌∷◌, ◌++◌, length, get_or, Option, Result, Ok, Err, IfOk, MatchResult, ◌⊎◌, false, refl, subst, arith}
 use Rattle.im_types.specs.declared.fault.Fault.{Fault}
 use Rattle.im_disk.specs.declared.disk.Disk.{Ghosts}
 use Rattle.im_disk.specs.declared.model_disk.ModelDisk.{ModelDisk}
@@ -13,10 +13,9 @@ use Rattle.im_types.specs.Changes.{Effect}
 use Rattle.im_types.specs.Lives.{Shown}
 use Rattle.im_lock.specs.View.{View}
 use Rattle.im_pool.specs.Pool.{page_at}
+use Rattle.im_flush.specs.Outcome.{fault_of}
 use Rattle.im_engine.specs.declared.header.Header.{Header}
-use Rattle.im_engine.specs.Faults.{told_as}
-use Rattle.im_engine.specs.Looking.{header_of}
-use Rattle.im_engine.specs.Told.{ReadCause}
+use Rattle.im_engine.specs.Looking.{Looks, header_of}
 use Rattle.im_engine.specs.Kept.{LookKept}
 use Rattle.im_engine.specs.Running.{IsLife}
 use Rattle.im_drill.specs.declared.store_answers.StoreReply.TheVariants as replies
@@ -54,9 +53,9 @@ module _ (d : Ghosts ModelDisk) where
 
   -- the engine was asked what a page is for, and the stop fell into that or did not
   pub look_run : (stop : Option Stop) (page : ℕ) (told : StoreReply) (old new : Engine ModelDisk d) (header : Result Header Fault) → IfOk header (λ h. h ≡ header_of (page_at new.writer.pool page))
-      → IfErr header (λ f. old.failed ≡ false → ReadCause d new.writer.log new.disk (told_as f)) → ((before : List Effect) (s : Shown) (v : View) → IsLife d before s v old → LookKept d before s v old new)
+      → Looks d (fault_of header) old new → ((before : List Effect) (s : Shown) (v : View) → IsLife d before s v old → LookKept d before s v old new)
       → (HasCome stop new.disk × (told ≡ replies.Stopped)) ⊎ ((HasCome stop new.disk → ⊥) × MatchResult header (λ h. told ≡ replies.Page page h) (λ f. told ≡ replies.Refused f)) → IsLookRun d stop page told old new
-  look_run stop page told old new header shows refused kept says = record { header = header; shows = shows; refused = refused; kept = kept; says = says }
+  look_run stop page told old new header shows outcome kept says = record { header = header; shows = shows; outcome = outcome; kept = kept; says = says }
 
   -- an engine that was opened
   pub opened_as : (most : ℕ) (result : Result (Engine ModelDisk d) (Fault × ModelDisk)) → IfOk result (λ e. (e.failed ≡ false) × (e.txns.rows ≡ []) × (e.locks ≡ []) × (d.failed e.disk ≡ false)) → IfOk result (λ e. e.max_pages ≡ most)

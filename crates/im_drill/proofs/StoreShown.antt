@@ -73,8 +73,3 @@ looked_as d before s v old new failed k is = by k.after
     by : ((new.failed ≡ false) × IsLife d before s v new) ⊎ ((locks : ℕ → List Lock) × IsLife d before (record s { failed = true }) (broken v locks) new) → GoesOn d before (record s { failed = failed }) new
     by (inl on) = (v, subst (λ (t : Shown). IsLife d before t v new) (sym (same_shown s failed (sym is ∙ sym on.1.failed ∙ sym on.1.lived.shows.shown.failed))) on.1)
     by (inr gone) = (broken v gone.0, subst (λ (f : Bool). IsLife d before (record s { failed = f }) (broken v gone.0) new) (gone.1.failed ∙ is) gone.1)
-
--- why a call of an engine that works was refused
-pub caused : {A : Type 0} (Cause : Fault → Type 0) (failed : Bool) (r : Result A Fault) → IfErr r (λ f. failed ≡ false → Cause f) → failed ≡ false → IfErr r (λ f. Cause f)
-caused Cause failed (Ok a) cause works = tt
-caused Cause failed (Err f) cause works = cause works

@@ -6,6 +6,7 @@ pub mod Scripts
 pub mod Reading
 pub mod Answered
 pub mod StoreLives
+pub mod Listing
 pub mod StoreRuns
 pub mod Steps
 pub mod StoreScripts

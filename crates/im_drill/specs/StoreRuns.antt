@@ -17,16 +17,16 @@ use Rattle.im_disk.specs.Disk.{both}
 use Rattle.im_disk.specs.Model.{IsFresh, model_calls}
 use Rattle.im_disk.specs.Runs.{Reads}
 use Rattle.im_pool.specs.Pool.{page_at}
+use Rattle.im_flush.specs.Outcome.{fault_of}
 use Rattle.im_restart.specs.Restart.{IsFullLog, SpellsLog}
 use Rattle.im_engine.specs.declared.config.Config.{Config}
 use Rattle.im_engine.specs.declared.header.Header.{Header}
 use Rattle.im_engine.specs.declared.engine.Engine.{Engine}
-use Rattle.im_engine.specs.Faults.{told_as}
-use Rattle.im_engine.specs.Looking.{header_of}
+use Rattle.im_engine.specs.Looking.{Looks, header_of}
 use Rattle.im_engine.specs.Kept.{OpenKept, LookKept, disk_of}
 use Rattle.im_engine.specs.Running.{IsLife}
 use Rattle.im_engine.specs.Stands.{StandsFor}
-use Rattle.im_engine.specs.Told.{IsStep, ReadCause, Where}
+use Rattle.im_engine.specs.Told.{IsStep, Where}
 use Rattle.im_drill.specs.declared.life_answers.Opening.TheVariants as openings
 use Rattle.im_drill.specs.declared.store_life.StoreLine.{StoreLine}
 use Rattle.im_drill.specs.declared.store_life.StoreLine.TheVariants as lines
@@ -39,6 +39,7 @@ use Rattle.im_drill.specs.declared.store_answers.StoreAnswers.{StoreAnswers}
 use Rattle.im_drill.specs.declared.store_answers.StoreDrilled.{StoreDrilled}
 use Rattle.im_drill.specs.Stops.{IsArmedAll, HasCome, IsNextDisk, IsOpenedOr}
 use Rattle.im_drill.specs.StoreLives.{IsConfigOf}
+use Rattle.im_drill.specs.Listing.{IsListing}
 
 -- a life whose options are left out
 abbrev pub no_options : LifeOptions
@@ -55,7 +56,7 @@ module _ (d : Ghosts ModelDisk) where
   pub record IsLookRun (stop : Option Stop) (page : ℕ) (told : StoreReply) (old new : Engine ModelDisk d) : Type 0 where
     pub header : Result Header Fault
     pub shows : IfOk header (λ h. h ≡ header_of (page_at new.writer.pool page))
-    pub refused : IfErr header (λ f. old.failed ≡ false → ReadCause d new.writer.log new.disk (told_as f))
+    pub outcome : Looks d (fault_of header) old new
     pub kept : (before : List Effect) (s : Shown) (v : View) → IsLife d before s v old → LookKept d before s v old new
     pub says : Where (HasCome stop new.disk) (told ≡ replies.Stopped) (MatchResult header (λ h. told ≡ replies.Page page h) (λ f. told ≡ replies.Refused f))
 
@@ -106,16 +107,16 @@ module _ (d : Ghosts ModelDisk) where
   AreLivesRun (life ∷ rest) (told ∷ others) old new = (left : ModelDisk) × (next : ModelDisk) × IsLifeRun life told old left × IsNextDisk d left next × AreLivesRun rest others next new
   AreLivesRun _ _ old new = ⊥
 
-  -- What stands behind the last life: the engine's entries, or why it has none.
-  abbrev pub IsFoundBy : Result (Vec Entry) Fault → Result (Engine ModelDisk d) (Fault × ModelDisk) → Type 0
-  IsFoundBy last (Ok e) = (new : Engine ModelDisk d) × IfErr last (λ f. ReadCause d new.writer.log new.disk (told_as f))
-  IsFoundBy last (Err x) = last ≡ Err x.0
+  -- What stands behind the last life, and the disk then: what the engine answered when it was asked for its entries, or why there is no engine.
+  abbrev pub IsFoundBy : Result (Vec Entry) Fault → ModelDisk → Result (Engine ModelDisk d) (Fault × ModelDisk) → Type 0
+  IsFoundBy last new (Ok e) = (listed : Engine ModelDisk d) × IsListing d last e listed × (new ≡ listed.disk)
+  IsFoundBy last new (Err x) = (last ≡ Err x.0) × (new ≡ x.1)
 
-  -- The last opening was made on this disk.
-  pub record IsLastRun (old : ModelDisk) (last : Result (Vec Entry) Fault) : Type 0 where
+  -- The last opening was made on this disk, and left it so.
+  pub record IsLastRun (old : ModelDisk) (last : Result (Vec Entry) Fault) (new : ModelDisk) : Type 0 where
     pub result : Result (Engine ModelDisk d) (Fault × ModelDisk)
     pub opening : IsOpening no_options old result
-    pub found : IsFoundBy last result
+    pub found : IsFoundBy last new result
 
   -- The lives of a script were run on a disk that begins with the script's files, and then one opening more.
   pub record IsRun (script : StoreScript) (told : StoreDrilled) : Type 0 where
@@ -124,4 +125,4 @@ module _ (d : Ghosts ModelDisk) where
     pub seen : d.seen first ≡ both script.log.items []
     pub end : ModelDisk
     pub lives : AreLivesRun script.lives.items told.lives.items first end
-    pub last : IsLastRun end told.last
+    pub last : IsLastRun end told.last told.disk

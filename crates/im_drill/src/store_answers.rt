@@ -1,6 +1,7 @@
 //! What the lives of a store answer.
 
 use crate::Opening;
+use im_disk::ModelDisk;
 use im_engine::Header;
 use im_front::Reply;
 use im_types::{Fault, Key, PageNo, Rid};
@@ -36,4 +37,6 @@ pub struct StoreDrilled {
     pub lives: Vec<StoreAnswers>,
     /// The entries that the last opening finds.
     pub last: Result<Vec<(Key, Rid)>, Fault>,
+    /// The disk as the last opening has left it.
+    pub disk: ModelDisk,
 }

@@ -48,6 +48,6 @@ pub fn drill_store(alloc: Global, script: &StoreScript) -> Result<StoreDrilled, 
             Err(_) => return Err(AllocError),
         };
     }
-    let last = last_entries(alloc, disk);
-    Ok(StoreDrilled { lives, last })
+    let (last, disk) = last_entries(alloc, disk);
+    Ok(StoreDrilled { lives, last, disk })
 }

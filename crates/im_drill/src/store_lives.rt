@@ -218,13 +218,16 @@ fn is_stopped(reply: &StoreReply) -> bool
     matches!(reply, StoreReply::Stopped)
 }
 
-/// The entries that an opening finds.
-pub(crate) fn last_entries(alloc: Global, disk: ModelDisk) -> Result<Vec<(Key, Rid)>, Fault>
+/// The entries that an opening finds, and the disk behind it.
+pub(crate) fn last_entries(
+    alloc: Global,
+    disk: ModelDisk,
+) -> (Result<Vec<(Key, Rid)>, Fault>, ModelDisk)
     requires working { ⟦<ModelDisk as Disk>⟧.failed disk ≡ false }
     requires synced { IsSynced ⟦<ModelDisk as Disk>⟧ disk }
-    ensures run { IsLastRun ⟦<ModelDisk as Disk>⟧ disk result }
+    ensures run { IsLastRun ⟦<ModelDisk as Disk>⟧ disk result.0 result.1 }
     ensures found { (after : List Effect) → StandsFor after (⟦<ModelDisk as Disk>⟧.seen disk)
-        → MatchResult result (λ found. found.items ≡ entries (apply_all empty after)) (λ fault. fault ≢ NotAStore) }
+        → MatchResult result.0 (λ found. found.items ≡ entries (apply_all empty after)) (λ fault. fault ≢ NotAStore) }
 {
     let options = LifeOptions {
         frames: None,
@@ -235,9 +238,9 @@ pub(crate) fn last_entries(alloc: Global, disk: ModelDisk) -> Result<Vec<(Key, R
     match open_store(alloc, disk, options) {
         Ok(mut engine) => {
             let entries = engine.entries(alloc);
-            let _disk = engine.into_disk();
-            entries
+            let disk = engine.into_disk();
+            (entries, disk)
         }
-        Err((fault, _disk)) => Err(fault),
+        Err((fault, disk)) => (Err(fault), disk),
     }
 }

@@ -10,10 +10,11 @@ use Rattle.im_disk.specs.Model.{IsArmed, IsFresh, armed_of, file_of, model_stop}
 use Rattle.im_engine.specs.declared.engine.Engine.{Engine}
 use Rattle.im_engine.specs.Kept.{disk_of}
 use Rattle.im_drill.specs.declared.store_life.LifeOptions.{LifeOptions}
-use Rattle.im_every.specs.Opened.{IsOpened, IsStopped}
+use Rattle.im_drill.specs.StoreRuns.{IsOpening}
+use Rattle.im_every.specs.Opened.{IsStopped}
 
 pub stopped_so : (d : Ghosts ModelDisk) (options : LifeOptions) (stop : Stop) (old armed : ModelDisk) (result : Result (Engine ModelDisk d) (Fault × ModelDisk)) (end next : ModelDisk) → IsArmed (record (armed_of old) { stop = Some stop }) old armed
-    → IsOpened d options armed result → disk_of d result ≡ end → ((file : FileId) → IsLeftBy (model_stop end) (file_of end file) (d.seen next file)) → IsFresh next → IsStopped d options stop old next
+    → IsOpening d options armed result → disk_of d result ≡ end → ((file : FileId) → IsLeftBy (model_stop end) (file_of end file) (d.seen next file)) → IsFresh next → IsStopped d options stop old next
 stopped_so d options stop old armed result end next arms opened is leaves fresh = record {
   armed = armed;
   arms = arms;

@@ -116,7 +116,7 @@ pub(crate) fn judge(
     counts: &mut Counts,
 ) -> Result<u64, AllocError> {
     let copy = left_by(alloc, disk)?;
-    let judged = judge_opening(alloc, copy, options, asked)?;
+    let (judged, _disk) = judge_opening(alloc, copy, options, asked)?;
     counts.count(judged.good);
     Ok(judged.calls)
 }

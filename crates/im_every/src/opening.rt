@@ -1,16 +1,16 @@
 //! An opening that is judged, and one that is stopped.
 
-ghost use Rattle.std.specs.Prelude.{◌≡◌, ◌↔◌, true, false, Ok, Err, IfOk};
+ghost use Rattle.std.specs.Prelude.{◌≡◌, ◌↔◌, true, false, IfOk};
 ghost use Rattle.im_types.specs.declared.file_id.FileId.{FileId};
 ghost use Rattle.im_disk.specs.Left.{IsLeftBy};
 ghost use Rattle.im_disk.specs.Model.{IsFresh, file_of, model_stop};
 ghost use Rattle.im_disk.specs.Runs.{IsSynced};
-ghost use Rattle.im_every.specs.Opened.{IsGood, IsJudged, IsJudgedBy, IsOpened, IsPassedOver, IsStopped};
+ghost use Rattle.im_every.specs.Opened.{IsGood, IsJudged, IsJudgedBy, IsPassedOver, IsStopped};
 
 use crate::change::AskedEffect;
 use crate::judge::is_allowed;
 use im_disk::{Disk, ModelDisk, Stop};
-use im_drill::{LifeOptions, config_of};
+use im_drill::{LifeOptions, open_store};
 use im_engine::Engine;
 use im_types::{Fault, Key, Rid};
 use std::alloc::{AllocError, Global};
@@ -22,27 +22,28 @@ pub(crate) struct Judged {
     pub(crate) good: bool,
 }
 
-/// Opens to the end, and judges what is there by what was asked.
+/// Opens to the end, and judges what is there by what was asked. It gives the disk back as it is then.
 pub(crate) fn judge_opening(
     alloc: Global,
     disk: ModelDisk,
     options: LifeOptions,
     asked: &[AskedEffect],
-) -> Result<Judged, AllocError>
+) -> Result<(Judged, ModelDisk), AllocError>
     requires working { ⟦<ModelDisk as Disk>⟧.failed disk ≡ false }
     requires synced { IsSynced ⟦<ModelDisk as Disk>⟧ disk }
-    ensures { IfOk result (λ judged. IsJudged ⟦<ModelDisk as Disk>⟧ options asked.now disk judged) }
+    ensures { IfOk result (λ told. IsJudged ⟦<ModelDisk as Disk>⟧ options asked.now disk told.1 told.0) }
 {
-    match open(alloc, disk, options) {
-        Ok(engine) => {
+    match open_store(alloc, disk, options) {
+        Ok(mut engine) => {
             let calls = engine.disk().calls();
-            let good = judge_entries(alloc, engine, asked)?;
-            Ok(Judged { calls, good })
+            let good = judge_entries(alloc, &mut engine, asked)?;
+            let disk = engine.into_disk();
+            Ok((Judged { calls, good }, disk))
         }
         Err((fault, disk)) => {
             let calls = disk.calls();
             let good = is_passed_over(fault);
-            Ok(Judged { calls, good })
+            Ok((Judged { calls, good }, disk))
         }
     }
 }
@@ -50,14 +51,12 @@ pub(crate) fn judge_opening(
 // Judges the entries that an engine hands out.
 fn judge_entries(
     alloc: Global,
-    engine: Engine<ModelDisk>,
+    engine: &mut Engine<ModelDisk>,
     asked: &[AskedEffect],
 ) -> Result<bool, AllocError>
-    ensures { IfOk result (λ good. IsJudgedBy ⟦<ModelDisk as Disk>⟧ asked.now engine good) }
+    ensures { IfOk result (λ good. IsJudgedBy ⟦<ModelDisk as Disk>⟧ asked.now engine.old engine.new good) }
 {
-    let mut engine = engine;
     let found = engine.entries(alloc);
-    let _disk = engine.into_disk();
     let good = is_good(alloc, asked, found)?;
     Ok(good)
 }
@@ -93,7 +92,7 @@ pub(crate) fn stop_opening(
 {
     let mut disk = disk;
     disk.arm(stop);
-    match open(alloc, disk, options) {
+    match open_store(alloc, disk, options) {
         Ok(engine) => {
             let disk = engine.into_disk();
             let next = left_by(alloc, &disk)?;
@@ -104,19 +103,6 @@ pub(crate) fn stop_opening(
             Ok(left)
         }
     }
-}
-
-fn open(
-    alloc: Global,
-    disk: ModelDisk,
-    options: LifeOptions,
-) -> Result<Engine<ModelDisk>, (Fault, ModelDisk)>
-    requires working { ⟦<ModelDisk as Disk>⟧.failed disk ≡ false }
-    requires synced { IsSynced ⟦<ModelDisk as Disk>⟧ disk }
-    ensures opened { IsOpened ⟦<ModelDisk as Disk>⟧ options disk result }
-    ensures works { IfOk result (λ e. e.failed ≡ false) }
-{
-    Engine::open_or_create(alloc, disk, config_of(options))
 }
 
 /// The disk that a stop leaves.

@@ -2,7 +2,7 @@ use Rattle.std.proofs.Common.{◌≡◌, true, false, Ok, Err, refl, inl, inr, s
 use Rattle.im_disk.specs.contracts.model_disk.ModelDiskDisk.TheImpl.{ghosts}
 use Rattle.im_engine.specs.declared.header.Header.{Header}
 use Rattle.im_disk.specs.declared.model_disk.ModelDisk.{ModelDisk}
-use Rattle.im_engine.proofs.Looked.{look_works, look_fails, look_cause}
+use Rattle.im_engine.proofs.Looked.{look_works, look_fails}
 use Rattle.im_drill.specs.declared.store_answers.StoreReply.TheVariants as replies
 use Rattle.im_drill.specs.Stops.{HasCome}
 use Rattle.im_drill.proofs.StoreRunning.{look_run}
@@ -33,13 +33,13 @@ returns-in-Err-clause-kept c before s life =
 pub returns-then-has_come-clause-run : goal.returns-then-has_come-clause-run
 returns-then-has_come-clause-run c =
     let e = c.header-header.ensures in
-    look_run ghosts c.args.stop.now c.args.page replies.Stopped c.args.engine.now c.header-header.new.self c.header-header.result e.header (look_cause ghosts c.args.engine.now c.header-header.new.self c.header-header.result e.outcome) e.kept
+    look_run ghosts c.args.stop.now c.args.page replies.Stopped c.args.engine.now c.header-header.new.self c.header-header.result e.header e.outcome e.kept
     (inl (subst (λ (disk : ModelDisk). HasCome c.args.stop.now disk) c.disk.ensures (c.has_come.ensures.0 c.if-has_come.true), refl))
 
 pub returns-in-Ok-clause-run : goal.returns-in-Ok-clause-run
 returns-in-Ok-clause-run c =
     let e = c.header-header.ensures in
-    look_run ghosts c.args.stop.now c.args.page (replies.Page c.args.page c.in-Ok.header) c.args.engine.now c.header-header.new.self c.header-header.result e.header (look_cause ghosts c.args.engine.now c.header-header.new.self c.header-header.result e.outcome) e.kept
+    look_run ghosts c.args.stop.now c.args.page (replies.Page c.args.page c.in-Ok.header) c.args.engine.now c.header-header.new.self c.header-header.result e.header e.outcome e.kept
     (inr (
       (λ come.
           let yes : c.has_come.result ≡ true = c.has_come.ensures.1 (subst (λ (disk : ModelDisk). HasCome c.args.stop.now disk) (sym c.disk.ensures) come) in
@@ -50,7 +50,7 @@ returns-in-Ok-clause-run c =
 pub returns-in-Err-clause-run : goal.returns-in-Err-clause-run
 returns-in-Err-clause-run c =
     let e = c.header-header.ensures in
-    look_run ghosts c.args.stop.now c.args.page (replies.Refused c.in-Err.fault) c.args.engine.now c.header-header.new.self c.header-header.result e.header (look_cause ghosts c.args.engine.now c.header-header.new.self c.header-header.result e.outcome) e.kept
+    look_run ghosts c.args.stop.now c.args.page (replies.Refused c.in-Err.fault) c.args.engine.now c.header-header.new.self c.header-header.result e.header e.outcome e.kept
     (inr (
       (λ come.
           let yes : c.has_come.result ≡ true = c.has_come.ensures.1 (subst (λ (disk : ModelDisk). HasCome c.args.stop.now disk) (sym c.disk.ensures) come) in

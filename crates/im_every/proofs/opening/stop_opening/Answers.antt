@@ -5,8 +5,8 @@ use Rattle.im_every.proofs.opening.stop_opening.Goals as goal
 
 pub returns-in_ok-next-in-Ok-clause-stopped : goal.returns-in_ok-next-in-Ok-clause-stopped
 returns-in_ok-next-in-Ok-clause-stopped c =
-    stopped_so ghosts c.args.options c.args.stop c.args.disk _ _ _ _ c.arm.ensures.armed c.in-Ok.ensures.opened (sym c.into_disk-disk.ensures) c.in_ok-next-in-Ok.ensures.bytes c.in_ok-next-in-Ok.ensures.fresh
+    stopped_so ghosts c.args.options c.args.stop c.args.disk _ _ _ _ c.arm.ensures.armed c.in-Ok.ensures (sym c.into_disk-disk.ensures) c.in_ok-next-in-Ok.ensures.bytes c.in_ok-next-in-Ok.ensures.fresh
 
 pub returns-in_ok-left-in-Err-clause-stopped : goal.returns-in_ok-left-in-Err-clause-stopped
 returns-in_ok-left-in-Err-clause-stopped c =
-    stopped_so ghosts c.args.options c.args.stop c.args.disk _ _ _ _ c.arm.ensures.armed c.in-Err.ensures.opened refl c.in_ok-left-in-Err.ensures.bytes c.in_ok-left-in-Err.ensures.fresh
+    stopped_so ghosts c.args.options c.args.stop c.args.disk _ _ _ _ c.arm.ensures.armed c.in-Err.ensures refl c.in_ok-left-in-Err.ensures.bytes c.in_ok-left-in-Err.ensures.fresh
