@@ -33,7 +33,7 @@ step_kind text (steps.Rollback t) s = sym (ap store_text_kind s.1)
 step_kind text (steps.Continue t) s = sym (ap store_text_kind s.1)
 step_kind text (steps.FlushPage page) s = sym (ap store_text_kind s.1)
 step_kind text steps.Force s = sym (ap store_text_kind s)
-step_kind text steps.Checkpoint s = absurd s
+step_kind text steps.Checkpoint s = sym (ap store_text_kind s)
 
 -- the first word of a line that asks for a step
 abbrev pub word_of : Step → List ℕ
@@ -49,7 +49,7 @@ word_of (steps.Rollback t) = codes "rollback"
 word_of (steps.Continue t) = codes "continue"
 word_of (steps.FlushPage page) = codes "flush"
 word_of steps.Force = codes "force"
-word_of steps.Checkpoint = []
+word_of steps.Checkpoint = codes "checkpoint"
 
 -- what stands behind the word and a space
 abbrev pub SpellsRest : Step → List ℕ → Type 0
@@ -103,6 +103,9 @@ flush_lacks = (λ x. omega arith, (λ x. omega arith, (λ x. omega arith, (λ x.
 force_lacks : Lacks 32 (codes "force")
 force_lacks = (λ x. omega arith, (λ x. omega arith, (λ x. omega arith, (λ x. omega arith, (λ x. omega arith, tt)))))
 
+checkpoint_lacks : Lacks 32 (codes "checkpoint")
+checkpoint_lacks = (λ x. omega arith, (λ x. omega arith, (λ x. omega arith, (λ x. omega arith, (λ x. omega arith, (λ x. omega arith, (λ x. omega arith, (λ x. omega arith, (λ x. omega arith, (λ x. omega arith, tt))))))))))
+
 -- a line is cut in one way at its first space
 pub words_said : (word rest : List ℕ) (step : Step) → SpellsStep (word ++ 32 ∷ rest) step → Lacks 32 word → (word ≡ word_of step) × SpellsRest step rest
 words_said word rest steps.Begin s l = absurd (lacks_mid 32 word rest (subst (λ (x : List ℕ). Lacks 32 x) (sym s) begin_lacks))
@@ -137,23 +140,23 @@ words_said word rest (steps.FlushPage page) s l =
     let e = cut_once 32 word (codes "flush") rest s.0 l flush_lacks s.1 in
     (e.0, subst (λ (x : List ℕ). IsPageNumber x page) (sym e.1) s.2)
 words_said word rest steps.Force s l = absurd (lacks_mid 32 word rest (subst (λ (x : List ℕ). Lacks 32 x) (sym s) force_lacks))
-words_said word rest steps.Checkpoint s l = absurd s
+words_said word rest steps.Checkpoint s l = absurd (lacks_mid 32 word rest (subst (λ (x : List ℕ). Lacks 32 x) (sym s) checkpoint_lacks))
 
--- a word alone is `begin` or `force`, or asks for no step
-pub lone_step_bad : (word : List ℕ) (step : Step) → SpellsStep word step → Lacks 32 word → word ≢ codes "begin" → word ≢ codes "force" → ⊥
-lone_step_bad word steps.Begin s l b f = b s
-lone_step_bad word (steps.Fetch t key) s l b f = lacks_mid 32 (codes "fetch") s.0 (subst (λ (t : List ℕ). Lacks 32 t) s.1 l)
-lone_step_bad word (steps.Seek t key) s l b f = lacks_mid 32 (codes "seek") s.0 (subst (λ (t : List ℕ). Lacks 32 t) s.1 l)
-lone_step_bad word (steps.Next t key) s l b f = lacks_mid 32 (codes "next") s.0 (subst (λ (t : List ℕ). Lacks 32 t) s.1 l)
-lone_step_bad word (steps.Scan t lo hi limit) s l b f = lacks_mid 32 (codes "scan") s.0 (subst (λ (t : List ℕ). Lacks 32 t) s.1 l)
-lone_step_bad word (steps.Insert t key rid) s l b f = lacks_mid 32 (codes "insert") s.0 (subst (λ (t : List ℕ). Lacks 32 t) s.1 l)
-lone_step_bad word (steps.Delete t key) s l b f = lacks_mid 32 (codes "delete") s.0 (subst (λ (t : List ℕ). Lacks 32 t) s.1 l)
-lone_step_bad word (steps.Commit t) s l b f = lacks_mid 32 (codes "commit") s.0 (subst (λ (t : List ℕ). Lacks 32 t) s.1 l)
-lone_step_bad word (steps.Rollback t) s l b f = lacks_mid 32 (codes "rollback") s.0 (subst (λ (t : List ℕ). Lacks 32 t) s.1 l)
-lone_step_bad word (steps.Continue t) s l b f = lacks_mid 32 (codes "continue") s.0 (subst (λ (t : List ℕ). Lacks 32 t) s.1 l)
-lone_step_bad word (steps.FlushPage page) s l b f = lacks_mid 32 (codes "flush") s.0 (subst (λ (t : List ℕ). Lacks 32 t) s.1 l)
-lone_step_bad word steps.Force s l b f = f s
-lone_step_bad word steps.Checkpoint s l b f = s
+-- a word alone is `begin`, `force` or `checkpoint`, or asks for no step
+pub lone_step_bad : (word : List ℕ) (step : Step) → SpellsStep word step → Lacks 32 word → word ≢ codes "begin" → word ≢ codes "force" → word ≢ codes "checkpoint" → ⊥
+lone_step_bad word steps.Begin s l b f c = b s
+lone_step_bad word (steps.Fetch t key) s l b f c = lacks_mid 32 (codes "fetch") s.0 (subst (λ (t : List ℕ). Lacks 32 t) s.1 l)
+lone_step_bad word (steps.Seek t key) s l b f c = lacks_mid 32 (codes "seek") s.0 (subst (λ (t : List ℕ). Lacks 32 t) s.1 l)
+lone_step_bad word (steps.Next t key) s l b f c = lacks_mid 32 (codes "next") s.0 (subst (λ (t : List ℕ). Lacks 32 t) s.1 l)
+lone_step_bad word (steps.Scan t lo hi limit) s l b f c = lacks_mid 32 (codes "scan") s.0 (subst (λ (t : List ℕ). Lacks 32 t) s.1 l)
+lone_step_bad word (steps.Insert t key rid) s l b f c = lacks_mid 32 (codes "insert") s.0 (subst (λ (t : List ℕ). Lacks 32 t) s.1 l)
+lone_step_bad word (steps.Delete t key) s l b f c = lacks_mid 32 (codes "delete") s.0 (subst (λ (t : List ℕ). Lacks 32 t) s.1 l)
+lone_step_bad word (steps.Commit t) s l b f c = lacks_mid 32 (codes "commit") s.0 (subst (λ (t : List ℕ). Lacks 32 t) s.1 l)
+lone_step_bad word (steps.Rollback t) s l b f c = lacks_mid 32 (codes "rollback") s.0 (subst (λ (t : List ℕ). Lacks 32 t) s.1 l)
+lone_step_bad word (steps.Continue t) s l b f c = lacks_mid 32 (codes "continue") s.0 (subst (λ (t : List ℕ). Lacks 32 t) s.1 l)
+lone_step_bad word (steps.FlushPage page) s l b f c = lacks_mid 32 (codes "flush") s.0 (subst (λ (t : List ℕ). Lacks 32 t) s.1 l)
+lone_step_bad word steps.Force s l b f c = f s
+lone_step_bad word steps.Checkpoint s l b f c = c s
 
 -- a line of several words that asks for a step begins with one of ten
 pub step_word_said : (word rest : List ℕ) (step : Step) → SpellsStep (word ++ 32 ∷ rest) step → Lacks 32 word → word ≢ codes "commit" → word ≢ codes "rollback" → word ≢ codes "continue" → word ≢ codes "flush" → word ≢ codes "fetch" → word ≢ codes "seek" → word ≢ codes "next" → word ≢ codes "scan" → word ≢ codes "insert" → word ≢ codes "delete" → ⊥

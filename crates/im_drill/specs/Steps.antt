@@ -79,7 +79,7 @@ pub record IsRanged (text : List ℕ) (t : ℕ) (lo hi : List ℕ) (limit : ℕ)
   pub high : IsBehindKey rest hi last
   pub is_limit : IsNumber last limit
 
--- The bytes of a line that asks for this step. None asks for a checkpoint.
+-- The bytes of a line that asks for this step.
 abbrev pub SpellsStep : List ℕ → Step → Type 0
 SpellsStep text steps.Begin = text ≡ codes "begin"
 SpellsStep text (steps.Fetch t key) = (rest : List ℕ) × (text ≡ codes "fetch " ++ rest) × IsKeyed rest t key.items
@@ -93,4 +93,4 @@ SpellsStep text (steps.Rollback t) = (rest : List ℕ) × (text ≡ codes "rollb
 SpellsStep text (steps.Continue t) = (rest : List ℕ) × (text ≡ codes "continue " ++ rest) × IsNumber rest t
 SpellsStep text (steps.FlushPage page) = (rest : List ℕ) × (text ≡ codes "flush " ++ rest) × IsPageNumber rest page
 SpellsStep text steps.Force = text ≡ codes "force"
-SpellsStep text steps.Checkpoint = ⊥
+SpellsStep text steps.Checkpoint = text ≡ codes "checkpoint"

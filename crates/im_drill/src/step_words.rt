@@ -83,6 +83,9 @@ fn lone_step(word: &[u8]) -> Result<Step, Fault>
     if word == b"force".as_slice() {
         return Ok(Step::Force);
     }
+    if word == b"checkpoint".as_slice() {
+        return Ok(Step::Checkpoint);
+    }
     Err(Fault::BadScript)
 }
 

@@ -62,6 +62,7 @@ fn usage_of(word: &[u8]) -> &'static str {
         b"continue" => "`continue TRANSACTION`, in a life",
         b"force" => "`force` stands alone, in a life",
         b"flush" => "`flush PAGE`, in a life",
+        b"checkpoint" => "`checkpoint` stands alone, in a life",
         b"page" => "`page PAGE`, in a life",
         _ => "no line begins with this word",
     }

@@ -29,6 +29,7 @@ continue N               takes back the next of it
 entries                  all keys with their row ids
 force                    makes the log durable
 flush PAGE               writes a page to the file of pages
+checkpoint               makes the log durable
 help                     this list
 KEY is text without spaces, \"text with spaces\", or x'6100'. Up to 64 transactions are active at a time.
 A step that is `blocked` is asked for again once that transaction has ended; behind `die` its transaction has to roll back.

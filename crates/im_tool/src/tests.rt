@@ -163,6 +163,10 @@ fn lives_of_a_store_print_their_replies(rt: HostRuntime) -> Result<(), Fail> {
             "life\nbegin\ninsert 1 a 7\nforce\nlife\nstop 3 long 00\nlife\nstop 3 long 01\nlife\n",
             "open ok 6\nstarted 1\ninserted\ndone\nopen stopped\nopen stopped\nopen ok 0\nfinal 0\n",
         ),
+        (
+            "life\nbegin\ninsert 1 a 7\ncheckpoint\nrollback 1\ncheckpoint\ncontinue 1\nstop end short written\n",
+            "open ok 6\nstarted 1\ninserted\ndone\nmore\ndone\nrolledback\nfinal 0\n",
+        ),
         ("set log 00\nset log 01\n", "final 0\n"),
     ] {
         let (status, printed) = drilled(&rt, script)?;
@@ -205,7 +209,9 @@ fn a_life_takes_no_other_line(rt: HostRuntime) -> Result<(), Fail> {
         "page",
         "page 1 2",
         "page 4294967296",
-        "checkpoint",
+        "checkpoint ",
+        "checkpoint 1",
+        "checkpoints",
         "Begin",
         "commit",
         "commit 01",
