@@ -19,6 +19,8 @@ mod log_bytes;
 mod log_damage;
 mod log_text;
 mod look;
+#[cfg(test)]
+mod looked;
 mod options;
 mod progress;
 mod reason;

@@ -4,8 +4,10 @@ ghost use Rattle.std.specs.Prelude.{◌≤◌, IfOk};
 
 use crate::log_bytes::{Survey, batches_behind, read_log};
 use crate::log_damage::LogDamage;
-use crate::recovered::{Copies, pages_of};
+use crate::recovered::{Copies, log_of, opened, pages_of};
 use crate::tree_check::{ROOM, TreeSurvey, check_pages};
+use im_disk::ModelDisk;
+use im_engine::Engine;
 use im_types::{Fault, PageNo};
 use std::alloc::{AllocError, Global};
 use std::io;
@@ -26,8 +28,7 @@ enum Looked {
 fn look(alloc: Global, copies: Copies) -> Result<Looked, Fault> {
     let said = match read_log(alloc, &copies.log) {
         Ok(said) => said,
-        Err(LogDamage::Memory) => return Err(Fault::Memory),
-        Err(damage) => return Ok(Looked::Log(damage)),
+        Err(damage) => return broken_log(damage),
     };
     let in_file = (copies.pages.len() / PAGE_SIZE) as u64;
     let most = in_file.saturating_add(said.records).saturating_add(2);
@@ -35,13 +36,50 @@ fn look(alloc: Global, copies: Copies) -> Result<Looked, Fault> {
         return Ok(Looked::PastRecords(said.greatest_page));
     }
     let count = u64::from(said.greatest_page).max(in_file).saturating_add(1);
+    let engine = match opened(alloc, copies) {
+        Ok(engine) => engine,
+        Err(fault) => return refused_opening(fault),
+    };
+    if said.analysed.losers.is_empty() {
+        return look_at_pages(alloc, said, engine, count);
+    }
+    // what was unfinished is taken back, which may have taken pages that only the log behind it names
+    match read_log(alloc, &log_of(alloc, &engine)?) {
+        Ok(behind) => {
+            let named = u64::from(behind.greatest_page).saturating_add(1);
+            look_at_pages(alloc, said, engine, count.max(named))
+        }
+        Err(damage) => broken_log(damage),
+    }
+}
+
+// The pages below a number, as the opening left them.
+fn look_at_pages(
+    alloc: Global,
+    said: Survey,
+    engine: Engine<ModelDisk>,
+    count: u64,
+) -> Result<Looked, Fault> {
     let Ok(count) = PageNo::try_from(count) else {
         return Ok(Looked::PastRecords(said.greatest_page));
     };
-    match pages_of(alloc, copies, count) {
+    match pages_of(alloc, engine, count) {
         Ok(pages) => Ok(Looked::Whole(said, check_pages(alloc, &pages)?)),
-        Err(Fault::Memory) => Err(Fault::Memory),
-        Err(fault) => Ok(Looked::Opening(fault)),
+        Err(fault) => refused_opening(fault),
+    }
+}
+
+fn broken_log(damage: LogDamage) -> Result<Looked, Fault> {
+    match damage {
+        LogDamage::Memory => Err(Fault::Memory),
+        damage => Ok(Looked::Log(damage)),
+    }
+}
+
+fn refused_opening(fault: Fault) -> Result<Looked, Fault> {
+    match fault {
+        Fault::Memory => Err(Fault::Memory),
+        fault => Ok(Looked::Opening(fault)),
     }
 }
 

@@ -35,8 +35,8 @@ fn whole_file<D: Disk>(alloc: Global, disk: &mut D, file: FileId) -> Result<Vec<
     read_vec(alloc, disk, file, 0, len)
 }
 
-// The store of the copies, opened in memory.
-fn opened(alloc: Global, copies: Copies) -> Result<Engine<ModelDisk>, Fault> {
+/// The store of the copies, opened in memory.
+pub(crate) fn opened(alloc: Global, copies: Copies) -> Result<Engine<ModelDisk>, Fault> {
     let disk = ModelDisk::new(copies.log, copies.pages);
     let config = Config {
         frames: 1_024,
@@ -54,15 +54,25 @@ pub(crate) fn entries_of(alloc: Global, copies: Copies) -> Result<Vec<(Key, Rid)
     engine.entries(alloc)
 }
 
-/// The file of pages as it is once an opening is done and so many pages were written.
-pub(crate) fn pages_of(alloc: Global, copies: Copies, count: PageNo) -> Result<Vec<u8>, Fault> {
-    let mut engine = opened(alloc, copies)?;
+/// The log as it stands in the file of an open store.
+pub(crate) fn log_of(alloc: Global, engine: &Engine<ModelDisk>) -> Result<Vec<u8>, Fault> {
+    let mut left = engine.disk().after_stop(alloc)?;
+    whole_file(alloc, &mut left, FileId::Log)
+}
+
+/// The file of pages of an open store, as it is once so many pages were written.
+pub(crate) fn pages_of(
+    alloc: Global,
+    engine: Engine<ModelDisk>,
+    count: PageNo,
+) -> Result<Vec<u8>, Fault> {
+    let mut engine = engine;
     for page in 0..count {
         if let Reply::Refused(fault) = engine.step(&Step::FlushPage(page)) {
             return Err(fault_of(fault));
         }
     }
-    let mut left = engine.into_disk().after_stop(alloc)?;
+    let mut left = engine.disk().after_stop(alloc)?;
     whole_file(alloc, &mut left, FileId::Pages)
 }
 
