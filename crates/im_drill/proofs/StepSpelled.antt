@@ -16,7 +16,7 @@ store_text_kind text =
     else if slice_index text 0 == 115 then (if slice_index text 1 == 116 then Stops else if slice_index text 2 == 116 then SetsLog else Steps)
     else if slice_index text 0 == 99 then (if slice_index text 1 == 97 then Counts else Steps)
     else if slice_index text 0 == 112 then (if slice_index text 1 == 97 then Counts else Puts)
-    else if slice_index text 0 == 114 then (if slice_index text 1 == 97 then Puts else Steps)
+    else if slice_index text 0 == 114 then (if slice_index text 1 == 97 then Puts else if slice_index text 1 == 101 then Counts else Steps)
     else Steps
 
 -- a line that asks for a step is of that kind

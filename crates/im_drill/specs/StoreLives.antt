@@ -55,10 +55,11 @@ pub record LineKept {D : Type 0} (d : Ghosts D) (before : List Effect) (s : Show
   pub after : reply ≢ replies.Stopped → GoesOn d before (shown_after s line reply) new
   pub stops : (c : Files) → d.may_leave new.disk c → Allowed before (shown_after s line reply) c
 
--- A step has its reply, `calls` answers a number, and `page` what that page is for, or why that can't be told.
+-- A step has its reply, `calls` answers a number, `redo` a report, and `page` what that page is for, or why that can't be told.
 abbrev pub IsStoreReply : StoreLine → StoreReply → Type 0
 IsStoreReply (lines.Step step) (replies.Step reply) = Unit {0}
 IsStoreReply lines.Calls (replies.Calls n) = Unit {0}
+IsStoreReply lines.Redo (replies.Redo report) = Unit {0}
 IsStoreReply (lines.Page page) (replies.Page of header) = of ≡ page
 IsStoreReply (lines.Page page) (replies.Refused fault) = Unit {0}
 IsStoreReply _ _ = ⊥

@@ -18,6 +18,7 @@ use Rattle.im_disk.specs.Model.{IsFresh, model_calls}
 use Rattle.im_disk.specs.Runs.{Reads}
 use Rattle.im_pool.specs.Pool.{page_at}
 use Rattle.im_flush.specs.Outcome.{fault_of}
+use Rattle.im_restart.specs.declared.redo_report.RedoReport.{RedoReport}
 use Rattle.im_restart.specs.Restart.{IsFullLog, SpellsLog}
 use Rattle.im_engine.specs.declared.config.Config.{Config}
 use Rattle.im_engine.specs.declared.header.Header.{Header}
@@ -45,6 +46,12 @@ use Rattle.im_drill.specs.Listing.{IsListing}
 abbrev pub no_options : LifeOptions
 no_options = record { frames = None; max_pages = None; failing_call = None; failing_read = None }
 
+-- Each report among these replies is this one.
+abbrev pub AllReport : RedoReport → List StoreReply → Type 0
+AllReport report [] = Unit {0}
+AllReport report (replies.Redo told ∷ others) = (told ≡ report) × AllReport report others
+AllReport report (_ ∷ others) = AllReport report others
+
 module _ (d : Ghosts ModelDisk) where
   -- A step was made by the engine, and its reply is the engine's, unless the stop fell into it.
   pub record IsStepRun (stop : Option Stop) (step : Step) (told : StoreReply) (old new : Engine ModelDisk d) : Type 0 where
@@ -60,11 +67,12 @@ module _ (d : Ghosts ModelDisk) where
     pub kept : (before : List Effect) (s : Shown) (v : View) → IsLife d before s v old → LookKept d before s v old new
     pub says : Where (HasCome stop new.disk) (told ≡ replies.Stopped) (MatchResult header (λ h. told ≡ replies.Page page h) (λ f. told ≡ replies.Refused f))
 
-  -- A line was run by the engine. `calls` counts the device calls so far.
+  -- A line was run by the engine. `calls` counts the device calls so far, `redo` tells the engine's report.
   abbrev pub IsLineRun : Option Stop → StoreLine → StoreReply → Engine ModelDisk d → Engine ModelDisk d → Type 0
   IsLineRun stop (lines.Step step) told old new = IsStepRun stop step told old new
   IsLineRun stop (lines.Page page) told old new = IsLookRun stop page told old new
   IsLineRun stop lines.Calls told old new = (told ≡ replies.Calls (model_calls old.disk)) × (new ≡ old)
+  IsLineRun stop lines.Redo told old new = (told ≡ replies.Redo old.report) × (new ≡ old)
 
   -- The lines that have replies were run in turn, each by the engine that the one before it left.
   abbrev pub AreLinesRun : Option Stop → List StoreLine → List StoreReply → Engine ModelDisk d → Engine ModelDisk d → Type 0
@@ -88,9 +96,10 @@ module _ (d : Ghosts ModelDisk) where
     pub unspelled : d.tells → ¬ (SpellsLog (d.seen old)) → Reads d old (disk_of d result) × IfErr result (λ x. (x.0 ≡ PoolSize) ⊎ (x.0 ≡ Memory) ⊎ (x.0 ≡ Device) ⊎ (x.0 ≡ NotAStore))
     pub full : IfErr result (λ x. x.0 ≡ LogFull → d.tells → IsFullLog (d.seen x.1))
 
-  -- The answers of a life whose opening came out so: its number of device calls, and the replies of its lines; or why there is no engine, and no reply.
+  -- The answers of a life whose opening came out so: its number of device calls, and the replies of its lines, of which each report is that of this
+  -- opening (`OpenKept.report` has what it says); or why there is no engine, and no reply.
   abbrev pub AreAnswersOf : Option Stop → List StoreLine → StoreAnswers → ModelDisk → Result (Engine ModelDisk d) (Fault × ModelDisk) → Type 0
-  AreAnswersOf stop all told new (Ok e) = (told.opening ≡ openings.Open (model_calls e.disk)) × (last : Engine ModelDisk d) × AreLinesRun stop all told.replies.items e last × (new ≡ last.disk)
+  AreAnswersOf stop all told new (Ok e) = (told.opening ≡ openings.Open (model_calls e.disk)) × (last : Engine ModelDisk d) × AreLinesRun stop all told.replies.items e last × (new ≡ last.disk) × AllReport e.report told.replies.items
   AreAnswersOf stop all told new (Err x) = IsOpenedOr stop x.1 told.opening x.0 × (told.replies.items ≡ []) × (new ≡ x.1)
 
   -- A life was run: its stop, and the device call and the read that fail in it, were armed, an engine was opened on the disk, and it made the lines.

@@ -47,13 +47,15 @@ SpellsStore text (lines.Life options) = SpellsLife text options
 SpellsStore text (lines.SetLog bytes) = Spells text (raws.SetLog bytes)
 SpellsStore text (lines.Within within.Calls) = Spells text raws.Calls
 SpellsStore text (lines.Within (within.Page page)) = (rest : List ℕ) × (text ≡ codes "page " ++ rest) × IsPageNumber rest page
+SpellsStore text (lines.Within within.Redo) = text ≡ codes "redo"
 SpellsStore text (lines.Within (within.Step step)) = SpellsStep text step
 SpellsStore text (lines.Stop stop) = Spells text (raws.Stop stop)
 
--- a line that is neither `life` nor `page`
+-- a line that is none of `life`, `page` and `redo`
 abbrev pub IsPlainLine : StoreScriptLine → Type 0
 IsPlainLine (lines.Life options) = ⊥
 IsPlainLine (lines.Within (within.Page page)) = ⊥
+IsPlainLine (lines.Within within.Redo) = ⊥
 IsPlainLine _ = Unit {0}
 
 -- `life` begins a life as `raw` does, and a step stands where a put does.
@@ -62,6 +64,7 @@ store_kind_of (lines.Life options) = Begins
 store_kind_of (lines.SetLog bytes) = SetsLog
 store_kind_of (lines.Within within.Calls) = Counts
 store_kind_of (lines.Within (within.Page page)) = Counts
+store_kind_of (lines.Within within.Redo) = Counts
 store_kind_of (lines.Within (within.Step step)) = Steps
 store_kind_of (lines.Stop stop) = Stops
 

@@ -82,5 +82,5 @@ pub use store_life::{LifeOptions, StoreLife, StoreLine};
 pub use store_lives::{config_of, open_store, run_store_life};
 pub use store_script::StoreScript;
 pub use store_script_line::StoreScriptLine;
-pub use store_text::is_raw;
+pub use store_text::{is_raw, report_text};
 pub use text::drill_text;

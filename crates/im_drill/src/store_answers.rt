@@ -4,6 +4,7 @@ use crate::Opening;
 use im_disk::ModelDisk;
 use im_engine::Header;
 use im_front::Reply;
+use im_restart::RedoReport;
 use im_types::{Fault, Key, PageNo, Rid};
 
 /// What a line of a life of a store answers.
@@ -15,6 +16,8 @@ pub enum StoreReply {
     Calls(u64),
     /// What a page is for.
     Page(PageNo, Header),
+    /// What redo did in the life's opening: where it began, and how many records it applied. Without any record it began at 0.
+    Redo(RedoReport),
     /// What a page is for can't be told.
     Refused(Fault),
     /// The stop fell into it. The life's other lines answer nothing.

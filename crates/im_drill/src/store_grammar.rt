@@ -1,6 +1,6 @@
 //! The lines that scripts of lives of a store may have.
 
-ghost use Rattle.std.specs.Prelude.{◌≡◌, ◌⊎◌, ◌++◌, ◌↔◌, ℕ, List, Option, true, codes, IfOk, IfErr};
+ghost use Rattle.std.specs.Prelude.{◌≡◌, ◌≢◌, ◌⊎◌, ◌++◌, ◌↔◌, ℕ, List, Option, true, codes, IfOk, IfErr};
 ghost use Rattle.im_types.specs.declared.fault.Fault.TheVariants.{BadScript, Memory};
 ghost use Rattle.im_drill.specs.declared.store_script_line.StoreScriptLine.{StoreScriptLine};
 ghost use Rattle.im_drill.specs.StoreScripts.{SpellsStore, IsOption, IsBehindOption, IsPlainLine};
@@ -17,7 +17,7 @@ use std::alloc::Global;
 
 /// What the line of a script of lives of a store says. It has no newline. Refused `BadScript` exactly where the grammar has no
 /// such line; `Memory`.
-#[tactic(auto, using(crate::proofs::StoreSpelled::no_lone_line, crate::proofs::StoreSpelled::no_spaced_line))]
+#[tactic(auto, using(crate::proofs::StoreSpelled::no_spaced_line))]
 pub fn parse_store_line(alloc: Global, line: &[u8]) -> Result<StoreScriptLine, Fault>
     ensures says { IfOk result (λ said. SpellsStore line.now said) }
     ensures refused { result ≡ Err BadScript → (said : StoreScriptLine) → ¬ (SpellsStore line.now said) }
@@ -28,12 +28,26 @@ pub fn parse_store_line(alloc: Global, line: &[u8]) -> Result<StoreScriptLine, F
         return life_line(rest);
     }
     let Some(rest) = rest else {
-        return plain_line(alloc, word);
+        return lone_line(alloc, word);
     };
     if word == b"page".as_slice() {
         return page_line(rest);
     }
     plain_line(alloc, line)
+}
+
+// The line of one word other than `life`.
+#[tactic(auto, using(crate::proofs::StoreSpelled::no_lone_line))]
+fn lone_line(alloc: Global, word: &[u8]) -> Result<StoreScriptLine, Fault>
+    requires { Lacks 32 word.now }
+    ensures says { IfOk result (λ said. SpellsStore word.now said) }
+    ensures refused { result ≡ Err BadScript → word.now ≢ codes "life" → (said : StoreScriptLine) → ¬ (SpellsStore word.now said) }
+    ensures causes { IfErr result (λ e. (e ≡ Memory) ⊎ (e ≡ BadScript)) }
+{
+    if word == b"redo".as_slice() {
+        return Ok(StoreScriptLine::Within(StoreLine::Redo));
+    }
+    plain_line(alloc, word)
 }
 
 // A life with its options.

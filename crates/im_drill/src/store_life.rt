@@ -13,6 +13,8 @@ pub enum StoreLine {
     Calls,
     /// Prints what a page is for.
     Page(PageNo),
+    /// Prints what redo did in the life's opening.
+    Redo,
 }
 
 /// How the store of a life is opened.

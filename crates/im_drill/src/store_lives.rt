@@ -177,6 +177,7 @@ fn run_store_line(
         StoreLine::Calls => StoreReply::Calls(engine.disk().calls()),
         StoreLine::Step(step) => run_step(engine, step, stop),
         StoreLine::Page(page) => look_at(engine, *page, stop),
+        StoreLine::Redo => StoreReply::Redo(engine.redo_report()),
     }
 }
 

@@ -10,7 +10,7 @@ pub enum StoreScriptLine {
     Life(LifeOptions),
     /// `set log HEX`: the bytes of the log file before the first life.
     SetLog(Vec<u8>),
-    /// A step, `calls`, or `page P`.
+    /// A step, `calls`, `page P`, or `redo`.
     Within(StoreLine),
     /// `stop N LEN FILL`: the last line of a life. No call has the number 0, which stands for `end`.
     Stop(Stop),

@@ -27,13 +27,19 @@ abbrev pub SaysSame : StoreReply → StoreReply → Type 0
 SaysSame (replies.Step told) (replies.Step plain) = told_by told ≡ told_by plain
 SaysSame (replies.Calls told) (replies.Calls plain) = told ≡ plain
 SaysSame (replies.Page page told) (replies.Page other plain) = (page ≡ other) × (told ≡ plain)
+SaysSame (replies.Redo told) (replies.Redo plain) = told ≡ plain
 SaysSame (replies.Refused told) (replies.Refused plain) = told ≡ plain
 SaysSame replies.Stopped replies.Stopped = Unit {0}
 SaysSame _ _ = ⊥
 
--- Until a device call has failed a line has a reply that says what it says undisturbed, or is refused by the device; behind that, that of an engine which has failed.
+-- The replies tell one report of an opening.
+abbrev pub TellsSame : StoreReply → StoreReply → Type 0
+TellsSame (replies.Redo told) (replies.Redo plain) = told ≡ plain
+TellsSame _ _ = ⊥
+
+-- Until a device call has failed a line has a reply that says what it says undisturbed, or is refused by the device; behind that, that of an engine which has failed, whose report of its opening stays.
 abbrev pub IsNext : Bool → StoreReply → StoreReply → Type 0
-IsNext true plain told = is_behind_failure told ≡ true
+IsNext true plain told = (is_behind_failure told ≡ true) ⊎ TellsSame told plain
 IsNext false plain told = (is_by_device told ≡ true) ⊎ SaysSame told plain
 
 -- Each line has such a reply in turn; the first refusal by the device says that a call has failed.

@@ -1,7 +1,7 @@
 //! Every device call of a life that fails once, and every read.
 
 ghost use Rattle.std.specs.Prelude.{◌≡◌, ◌↔◌, true, false};
-ghost use Rattle.im_every.specs.Disturbed.{IsDisturbed, AreDisturbed, IsNext, is_behind_failure, is_by_device};
+ghost use Rattle.im_every.specs.Disturbed.{IsDisturbed, AreDisturbed, IsNext, TellsSame, is_behind_failure, is_by_device};
 
 use crate::every::{Counts, WAYS, judge, new_disk, stop_at};
 use crate::opening::left_by;
@@ -117,7 +117,7 @@ fn is_next(failed: bool, plain: &StoreReply, told: &StoreReply) -> bool
     ensures { result ≡ true ↔ IsNext failed plain.now told.now }
 {
     if failed {
-        is_behind_failure(told)
+        is_behind_failure(told) || tells_same(told, plain)
     } else {
         is_by_device(told) || says_same(told, plain)
     }
@@ -133,6 +133,19 @@ fn is_behind_failure(reply: &StoreReply) -> bool
             | StoreReply::Step(Reply::Refused(im_front::Fault::Failed))
             | StoreReply::Refused(Fault::Failed)
     )
+}
+
+// Whether both tell one report of an opening.
+fn tells_same(told: &StoreReply, plain: &StoreReply) -> bool
+    ensures { result ≡ true ↔ TellsSame told.now plain.now }
+{
+    match told {
+        StoreReply::Redo(told) => match plain {
+            StoreReply::Redo(plain) => told == plain,
+            _ => false,
+        },
+        _ => false,
+    }
 }
 
 fn is_by_device(reply: &StoreReply) -> bool

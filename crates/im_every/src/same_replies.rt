@@ -26,6 +26,10 @@ pub(crate) fn says_same(told: &StoreReply, plain: &StoreReply) -> bool
             StoreReply::Page(other, plain) => page == other && header == plain,
             _ => false,
         },
+        StoreReply::Redo(told) => match plain {
+            StoreReply::Redo(plain) => told == plain,
+            _ => false,
+        },
         StoreReply::Refused(told) => match plain {
             StoreReply::Refused(plain) => told == plain,
             _ => false,

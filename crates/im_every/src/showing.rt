@@ -100,6 +100,7 @@ impl Showing {
         match line {
             StoreLine::Step(step) => self.step(step, reply),
             StoreLine::Calls => Ok(()),
+            StoreLine::Redo => Ok(()),
             StoreLine::Page(_) => {
                 self.look(reply);
                 Ok(())
@@ -123,6 +124,7 @@ impl Showing {
             StoreReply::Stopped => self.cut_off(step),
             StoreReply::Calls(_) => Ok(()),
             StoreReply::Page(_, _) => Ok(()),
+            StoreReply::Redo(_) => Ok(()),
             StoreReply::Refused(_) => Ok(()),
         }
     }

@@ -64,6 +64,7 @@ fn usage_of(word: &[u8]) -> &'static str {
         b"flush" => "`flush PAGE`, in a life",
         b"checkpoint" => "`checkpoint` stands alone, in a life",
         b"page" => "`page PAGE`, in a life",
+        b"redo" => "`redo` stands alone, in a life",
         _ => "no line begins with this word",
     }
 }

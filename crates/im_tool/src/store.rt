@@ -7,7 +7,7 @@ use crate::key_notation::write_key;
 use crate::line_input::{LineInput, without_newline};
 use crate::words_step::words_step;
 use im_disk::Disk;
-use im_drill::{entries_text, reply_text, step_line};
+use im_drill::{entries_text, reply_text, report_text, step_line};
 use im_engine::{Config, Engine};
 use im_front::{Reply, Step};
 use im_types::{Fault, Key, Rid};
@@ -30,6 +30,7 @@ entries                  all keys with their row ids
 force                    makes the log durable
 flush PAGE               writes a page to the file of pages
 checkpoint               makes the log durable
+redo                     where the opening began to redo the log, and how many records it applied
 help                     this list
 KEY is text without spaces, \"text with spaces\", or x'6100'. Up to 64 transactions are active at a time.
 A step that is `blocked` is asked for again once that transaction has ended; behind `die` its transaction has to roll back.
@@ -60,7 +61,7 @@ pub enum StoreEnd {
 /// Opens the store of a disk, makes the steps that the input's lines ask for, and writes each reply, one a line.
 ///
 /// Replies are flushed before a line is waited for, behind each `committed`, and at the end. The line `entries` writes how
-/// many entries there are, and each. A bad line is answered `refused 16`, and the store goes on. Empty lines are passed over,
+/// many entries there are, and each; `redo` what redo did in the opening. A bad line is answered `refused 16`, and the store goes on. Empty lines are passed over,
 /// and a carriage return in front of a newline is left out. An error is of the program's own memory, input or output.
 pub fn store_text<D: Disk + Drop, R: LineInput, W: Write>(
     alloc: Global,
@@ -154,6 +155,10 @@ fn run_line<D: Disk, W: Write>(
             }
             Err(fault) => print_refused(writer, manner, fault.number(), &fault),
         };
+    }
+    if line == b"redo".as_slice() {
+        report_text(writer, engine.redo_report())?;
+        return Ok(false);
     }
     if manner.has_words && line == b"help".as_slice() {
         writer.write_all(HELP.as_bytes())?;

@@ -167,6 +167,10 @@ fn lives_of_a_store_print_their_replies(rt: HostRuntime) -> Result<(), Fail> {
             "life\nbegin\ninsert 1 a 7\ncheckpoint\nrollback 1\ncheckpoint\ncontinue 1\nstop end short written\n",
             "open ok 6\nstarted 1\ninserted\ndone\nmore\ndone\nrolledback\nfinal 0\n",
         ),
+        (
+            "life\nredo\nbegin\ninsert 1 a 7\ncommit 1\nredo\nlife\nredo\nlife\nbegin\ninsert 2 b 8\nforce\nflush 1\nlife\nredo\n",
+            "open ok 6\nredo 0 0\nstarted 1\ninserted\ncommitted\nredo 0 0\nopen ok 0\nredo 36 1\nopen ok 0\nstarted 2\ninserted\ndone\ndone\nopen ok 4\nredo 36 0\nfinal 1\n61 7\n",
+        ),
         ("set log 00\nset log 01\n", "final 0\n"),
     ] {
         let (status, printed) = drilled(&rt, script)?;
@@ -209,6 +213,9 @@ fn a_life_takes_no_other_line(rt: HostRuntime) -> Result<(), Fail> {
         "page",
         "page 1 2",
         "page 4294967296",
+        "redo ",
+        "redo 1",
+        "redone",
         "checkpoint ",
         "checkpoint 1",
         "checkpoints",
@@ -283,12 +290,12 @@ fn a_store_answers_each_line(rt: HostRuntime) -> Result<(), Fail> {
         alloc,
         disk,
         Manner::default(),
-        "begin\r\n\ninsert 1 a 7\ninsert 1 a 8\nfetch 1 a\nfetch 1 b\ndelete 1 b\ncalls\ninsert 1 b 1\ndelete 1 b\ncommit 2\ncommit 1\nentries",
+        "begin\r\n\ninsert 1 a 7\ninsert 1 a 8\nfetch 1 a\nfetch 1 b\ndelete 1 b\ncalls\nredo\ninsert 1 b 1\ndelete 1 b\ncommit 2\ncommit 1\nentries",
     )?;
     assert!(rt; end == StoreEnd::Input);
     assert!(rt;
         printed.as_slice()
-            == "started 1\ninserted\nduplicate\nfound 7\nabsent\nabsent\nrefused 16\ninserted\ndeleted\nrefused 1\ncommitted\ntotal 1\n61 7\n".as_bytes()
+            == "started 1\ninserted\nduplicate\nfound 7\nabsent\nabsent\nrefused 16\nredo 0 0\ninserted\ndeleted\nrefused 1\ncommitted\ntotal 1\n61 7\n".as_bytes()
     );
     let mut log = Vec::new(alloc);
     log.extend_from_slice(b"\x01A")?;

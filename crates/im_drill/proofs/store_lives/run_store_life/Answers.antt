@@ -14,6 +14,7 @@ use Rattle.im_drill.specs.StoreLives.{shown_in, IsStoreReply}
 use Rattle.im_drill.specs.StoreRuns.{AreLinesRun}
 use Rattle.im_drill.proofs.RawRunning.{opened_still}
 use Rattle.im_drill.proofs.StoreShown.{shown_none}
+use Rattle.im_drill.proofs.StoreRunning.{lines_report}
 use Rattle.im_drill.proofs.store_lives.run_store_life.Goals as goal
 
 pub returns-in_ok-replies-in-Ok-clause-answered : goal.returns-in_ok-replies-in-Ok-clause-answered
@@ -48,6 +49,7 @@ returns-in_ok-replies-in-Ok-clause-run c = record {
     c.run_store_lines-replies.new.engine,
     subst (λ (l : List StoreLine). AreLinesRun ghosts c.args.life.now.stop l c.in_ok-replies-in-Ok.replies.items c.in-Ok.engine c.run_store_lines-replies.new.engine) c.deref.ensures.value c.in_ok-replies-in-Ok.ensures.run,
     c.into_disk-disk.ensures,
+    lines_report ghosts c.args.life.now.stop _ c.in_ok-replies-in-Ok.replies.items c.in-Ok.engine c.run_store_lines-replies.new.engine c.in_ok-replies-in-Ok.ensures.run,
   );
 }
 

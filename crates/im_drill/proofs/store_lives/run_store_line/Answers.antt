@@ -9,3 +9,8 @@ pub returns-in-Calls-clause-kept : goal.returns-in-Calls-clause-kept
 returns-in-Calls-clause-kept c before s life =
     subst (λ (line : StoreLine). LineKept ghosts before s line (replies.Calls c.calls.result) c.args.engine.now) (sym c.in-Calls.is)
     (record { after = λ going. life; stops = λ files left. life.1.stops files left })
+
+pub returns-in-Redo-clause-kept : goal.returns-in-Redo-clause-kept
+returns-in-Redo-clause-kept c before s life =
+    subst (λ (line : StoreLine). LineKept ghosts before s line (replies.Redo c.redo_report.result) c.args.engine.now) (sym c.in-Redo.is)
+    (record { after = λ going. life; stops = λ files left. life.1.stops files left })
