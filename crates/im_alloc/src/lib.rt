@@ -9,8 +9,6 @@
 mod allocation;
 mod laws;
 mod page_image;
-#[cfg(test)]
-mod tests;
 
 pub use allocation::{allocate, free};
 pub use laws::images_are_seen;

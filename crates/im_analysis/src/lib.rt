@@ -26,6 +26,3 @@ mod rows;
 
 pub use analysis::{Analysed, Analysis};
 pub use rows::{Loser, OpenRecord};
-
-#[cfg(test)]
-mod tests;

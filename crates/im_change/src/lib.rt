@@ -11,8 +11,6 @@ mod laws;
 mod page_bytes;
 mod page_record;
 mod structure_change;
-#[cfg(test)]
-mod tests;
 
 pub use late_fault::late;
 pub use laws::changes_keep;

@@ -16,8 +16,6 @@
 mod checkpoint;
 pub mod laws;
 mod rows;
-#[cfg(test)]
-mod tests;
 
 pub use checkpoint::take;
 pub use rows::rows_of;

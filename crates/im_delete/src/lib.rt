@@ -25,8 +25,6 @@ mod dropping;
 mod giving;
 mod plan;
 mod reading;
-#[cfg(test)]
-mod tests;
 mod way;
 
 pub use plan::plan_delete;

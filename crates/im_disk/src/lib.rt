@@ -33,8 +33,6 @@ mod open_error;
 mod plan;
 mod steps;
 mod stop;
-#[cfg(test)]
-mod tests;
 
 pub use disk::Disk;
 pub use file_disk::FileDisk;

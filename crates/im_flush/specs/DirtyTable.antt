@@ -1,5 +1,5 @@
 -- The dirty table as a list in rising page order, and the function of the page for which it stands.
-use Rattle.std.specs.Prelude.{◌≡◌, ◌≢◌, ◌<◌, ◌≤◌, ℕ, List, [], ◌∷◌, length, map, slice_index_or, if◌then◌else◌, ◌==◌, nat_lt, Bool, false, true, ◌||◌, Option, None, Some}
+use Rattle.std.specs.Prelude.{◌≡◌, ◌≢◌, ◌<◌, ◌≤◌, ℕ, List, [], ◌∷◌, length, map, slice_index_or, if◌then◌else◌, ◌==◌, nat_lt, Bool, false, true, ◌||◌, Option, None, Some, option_map}
 use Rattle.std.specs.Option.{is_some}
 use Rattle.im_types.specs.Writer.{DirtyEntry}
 use Rattle.im_types.specs.declared.tables.DirtyPage.{DirtyPage}
@@ -94,3 +94,20 @@ dirty_page x = record { page = x.page; rec_lsn = x.rec_lsn }
 -- the Checkpoint's list
 abbrev pub dirty_pages : List TableEntry → List DirtyPage
 dirty_pages xs = map dirty_page xs
+
+-- ---- the oldest change
+
+-- a page's first change since its last write, where it has one: the row that a Checkpoint has of it behind its sync
+abbrev pub changed_page : TableEntry → Option DirtyPage
+changed_page x = option_map (λ l. record { page = x.page; rec_lsn = l }) x.since
+
+-- the older of two, and the first of two at one LSN
+abbrev pub older : Option DirtyPage → Option DirtyPage → Option DirtyPage
+older None b = b
+older (Some a) None = Some a
+older (Some a) (Some b) = if nat_lt b.rec_lsn a.rec_lsn then Some b else Some a
+
+-- the oldest of them all
+abbrev pub oldest : Option DirtyPage → List TableEntry → Option DirtyPage
+oldest o [] = o
+oldest o (x ∷ xs) = oldest (older o (changed_page x)) xs

@@ -5,7 +5,7 @@ ghost use Rattle.im_record.specs.Spelling.{Rise};
 ghost use Rattle.im_types.specs.WriterSteps.{changed_entry, written_entry, synced_entry, forgotten_entry, at_point, is_copied, Lists};
 ghost use Rattle.im_flush.specs.declared.table_entry.TableEntry.{TableEntry};
 ghost use Rattle.im_flush.specs.declared.dirty_table.TheConstants.{MOST};
-ghost use Rattle.im_flush.specs.DirtyTable.{entry_in, table_entry, dirty_entry, dirty_pages, put, has_room, written_in, synced_entries, forgotten_entries, ChangesEntry, IsRising, IsCopied, IsFound, IsAbsent};
+ghost use Rattle.im_flush.specs.DirtyTable.{entry_in, table_entry, dirty_entry, dirty_pages, put, has_room, written_in, synced_entries, forgotten_entries, changed_page, older, oldest, ChangesEntry, IsRising, IsCopied, IsFound, IsAbsent};
 
 use crate::TableEntry;
 use im_types::{DirtyPage, Lsn, PageNo};
@@ -249,6 +249,18 @@ impl DirtyTable {
         self.entries.as_slice()
     }
 
+    /// The page whose first change since its last write is the oldest, with the LSN of that change; none where each page is written. A
+    /// Checkpoint that comes now lists no LSN below it.
+    pub fn oldest_change(&self) -> Option<DirtyPage>
+        ensures oldest { result ≡ oldest None self.now }
+    {
+        let mut found = None;
+        for at in 0..self.entries.len() {
+            found = older(found, self.entries[at]);
+        }
+        found
+    }
+
     /// Makes `rows`, which has room for `MOST`, a Checkpoint's list: each page with its rec_lsn, in rising order.
     pub fn copy_rows(&self, rows: &mut Vec<DirtyPage>)
         requires room { MOST ≤ vec_capacity rows.old }
@@ -268,6 +280,24 @@ impl DirtyTable {
             rows.push(row).unwrap();
         }
     }
+}
+
+// The older of a change and the first one of a page since its last write.
+fn older(found: Option<DirtyPage>, entry: TableEntry) -> Option<DirtyPage>
+    ensures { result ≡ older found (changed_page entry) }
+{
+    let Some(since) = entry.since else {
+        return found;
+    };
+    if let Some(first) = found {
+        if first.rec_lsn <= since {
+            return found;
+        }
+    }
+    Some(DirtyPage {
+        page: entry.page,
+        rec_lsn: since,
+    })
 }
 
 // The entry of a page that is changed by the record at an LSN, which holds a full copy of it or does not.

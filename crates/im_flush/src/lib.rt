@@ -55,7 +55,7 @@
 //!
 //! # Speed
 //!
-//! By `flush_bench --time`, over a disk in memory: a get of the page that was got last takes 6 ns; a logged change of a leaf,
+//! By `im_bench flush --time`, over a disk in memory: a get of the page that was got last takes 6 ns; a logged change of a leaf,
 //! record, search, entry and all, 54 to 64 ns, the forces among them; a change with a flush and a sync 2.0 to 2.1 µs, in which
 //! six device calls are made: four of the force, one write and one sync.
 //!
@@ -87,8 +87,6 @@ mod page_range;
 mod page_writer;
 mod redone_page;
 mod table_entry;
-#[cfg(test)]
-mod tests;
 
 pub use dirty_table::{DirtyTable, MOST};
 pub use images::append_image;

@@ -1,5 +1,5 @@
 //! The writer of pages.
-ghost use Rattle.std.specs.Prelude.{◌≡◌, ◌≢◌, ◌≤◌, ◌<◌, ◌+◌, ◌^◌, ◌⊎◌, ◌↔◌, ℕ, List, [], None, Some, Ok, Err, false, true, not, is_ok, is_some, length, vec_capacity, IsOk, IfErr, IfOk, OnOk};
+ghost use Rattle.std.specs.Prelude.{◌≡◌, ◌≢◌, ◌≤◌, ◌<◌, ◌+◌, ◌-◌, ◌^◌, min, ◌⊎◌, ◌↔◌, ℕ, List, [], None, Some, Ok, Err, false, true, not, is_ok, is_some, length, vec_capacity, IsOk, IfErr, IfOk, OnOk};
 ghost use Rattle.im_types.specs.declared.fault.Fault.TheVariants.{Device, Failed, LogFull, Memory, NotAStore};
 ghost use Rattle.im_types.specs.declared.file_id.FileId.TheVariants.{Pages};
 ghost use Rattle.im_types.specs.Histories.{Base};
@@ -20,8 +20,6 @@ mod changes;
 mod checkpoints;
 mod redo;
 mod structure;
-#[cfg(test)]
-mod tests;
 
 /// The pages of a store in a bounded pool over its file, with the log that goes before every write. It owns no disk.
 #[derive(Drop)]
@@ -47,10 +45,11 @@ impl PageWriter {
     ghost use Rattle.im_page.specs.PageFile.{file_page, page_count};
     ghost use Rattle.im_pool.specs.Pool.{held_of, is_changed, page_at, Evicts, Holds, IsAt, MovesFirst};
     ghost use Rattle.im_types.specs.WriterSteps.{forced, synced};
-    ghost use Rattle.im_flush.specs.DirtyTable.{entry_in, synced_entries};
+    ghost use Rattle.im_flush.specs.DirtyTable.{entry_in, oldest, synced_entries};
     ghost use Rattle.im_record.specs.Entry.{view};
     ghost use Rattle.im_record.specs.Spelling.{IsEntry, size_of};
     ghost use Rattle.im_log.specs.Whats.{what_of};
+    ghost use Rattle.im_gate.specs.Gate.{place_of};
     ghost use Rattle.im_flush.specs.LogEnds.{EndsNoSooner};
     ghost use Rattle.im_flush.specs.Writing.{SameHeld};
     ghost use Rattle.im_flush.specs.Outcome.{fault_of, mild, none_mild, AllPages, AreLoadedTo, Flushes, HasPages, IsSound, Logs, Outcome};
@@ -288,6 +287,28 @@ impl PageWriter {
         sync_pages(disk, &mut self.table)?;
         self.failed = false;
         Ok(())
+    }
+
+    /// The LSN below which each record of the log is durable. A writer that failed answers any number.
+    pub fn durable_end(&self) -> Lsn
+        ensures { result ≡ min (self.now.log.base + place_of self.now.log.gate) (2 ^ 64 - 1) }
+    {
+        self.log.durable_end()
+    }
+
+    /// How many pages may lack changes in their file, or have a write that is not synced: at most 1,024.
+    pub fn dirty_count(&self) -> usize
+        ensures { result ≡ length self.now.table }
+    {
+        self.table.len()
+    }
+
+    /// The page whose first change since its last write is the oldest, with the LSN of that change; none where each page is written. A
+    /// Checkpoint that comes now has its redo point no earlier.
+    pub fn oldest_change(&self) -> Option<DirtyPage>
+        ensures { result ≡ oldest None self.now.table }
+    {
+        self.table.oldest_change()
     }
 
     // Flushes the least recently used page that was changed, if there is one.

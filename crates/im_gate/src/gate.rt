@@ -16,9 +16,10 @@ const PLACES: u64 = 1 << 62;
 // The most that stands behind a gate and is written with a batch: a length, 16,384 bytes of records and the next gate.
 const ROOM: usize = 16_389;
 
-// Where the log of a file of this format starts: its first gate, the LSN of its first byte, and the least number of a transaction.
-const FIRST_GATE: u64 = 31;
+/// Where a log file has its first gate, in bytes from its start: behind the header.
+pub const FIRST_GATE: u64 = 31;
 
+// Where the log of a file of this format starts: the LSN of its first byte, and the least number of a transaction.
 const BASE: u64 = 0;
 
 const LEAST_NUMBER: TxnId = 1;

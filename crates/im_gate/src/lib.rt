@@ -39,7 +39,5 @@ mod gate;
 mod opening;
 mod put;
 mod size;
-#[cfg(test)]
-mod tests;
 
-pub use gate::Gate;
+pub use gate::{FIRST_GATE, Gate};

@@ -14,9 +14,9 @@ use Rattle.im_types.specs.Histories.{Base}
 use Rattle.im_types.specs.Transactions.{contents}
 use Rattle.im_types.specs.Writer.{Writer}
 use Rattle.im_disk.specs.declared.disk.Disk.{Ghosts}
-use Rattle.im_pool.specs.Pool.{PoolView}
+use Rattle.im_pool.specs.Pool.{PoolView, page_at}
 use Rattle.im_flush.specs.declared.page_writer.PageWriter.{PageWriter}
-use Rattle.im_flush.specs.Outcome.{fault_of, mild, want_of_memory, pages_of, AllPages, AreLoaded, HasPages, IsSound, Outcome as Ends, Logs, Stays}
+use Rattle.im_flush.specs.Outcome.{fault_of, mild, want_of_memory, pages_of, AllPages, AreLoaded, HasPages, IsSound, Outcome as Ends, Logs, Reads, Stays}
 use Rattle.im_flush.specs.PageWriter.{Evicted}
 use Rattle.im_flush.proofs.Outcomes.{stays_then}
 use Rattle.im_page.specs.Split.{HasRoom}
@@ -27,6 +27,7 @@ use Rattle.im_tree.proofs.LookupLemmas.{leaf_value}
 use Rattle.im_search.specs.Levels.{bodies, bodies_of}
 use Rattle.im_smo.specs.Images.{Numbered}
 use Rattle.im_split.specs.Kept.{mild_to_split}
+use Rattle.im_split.proofs.Reasons.{never_capacity, never_pages_full}
 use Rattle.im_split.specs.Plan.{IsOver, Planned, WantsPages}
 use Rattle.im_split.specs.Tops.{LacksRoomFor}
 use Rattle.im_lock.specs.Rows.{asked}
@@ -47,6 +48,7 @@ use Rattle.im_index.specs.KeyLogs.{LeavesEdit}
 use Rattle.im_index.specs.InsertPlans.{IsFull, HasNoneLeft, IsInsertPlan, PlanKept, prepared_with, IsPrepared, PreparedKept, MayInsert, PutKept}
 use Rattle.im_index.specs.Outcomes.{verdict_of, IfGranted}
 use Rattle.im_index.proofs.KeyLogs.{bodies_are, walk_is, walk_says}
+use Rattle.im_index.proofs.Names.{walk_says_map}
 use Rattle.im_index.proofs.Inserts.{calls_left, is_memory, late_sound, loaded, loaded_same, stands_behind}
 
 -- ---- what a leaf has of its key
@@ -69,6 +71,12 @@ pub is_there : (rid found : Option ℕ) (there : Bool) → there ≡ is_some rid
 is_there rid found there is true_is same none = let clash : true ≡ false = sym true_is ∙ is ∙ ap is_some (sym same ∙ none) in cc clash
 
 -- ---- a plan
+
+-- none is wanted: the key is there, or its leaf has room for it
+pub nothing_planned : (pages : AllPages) (key : Key) (max : ℕ) (m : IndexMap) (pool : PoolView) (place : Place) → walk (bodies_of pages) ≡ entries m → IsPlace pages key m pool place
+    → (place.rid ≢ None) ⊎ HasRoom true (page_at pool place.leaf.number).body.entries (key, 0) → IsInsertPlan pages key max Fits
+nothing_planned pages key max m pool place same at (inl there) = inl (λ none. there (at.value ∙ sym (walk_says_map m (walk (bodies_of pages)) key same) ∙ none))
+nothing_planned pages key max m pool place same at (inr room) = inr (record { page = place.leaf.number; way = at.leaf.way; room = subst (λ (x : Page). HasRoom true x.body.entries (key, 0)) at.leaf.shown room })
 
 pub plan_refused : (pages : AllPages) (key : Key) (max : ℕ) (f : Fault) (r : Result Plan Fault) → IsErrAnd r (λ y. y ≡ f) → f ≢ NotAStore → (f ≡ PagesFull → IsFull pages key max) → PlanKept pages key max r
 plan_refused pages key max f (Ok plan) is sound full = absurd is
@@ -112,6 +120,17 @@ pub prepare_refused : (pages : AllPages) (t : ℕ) (key : Key) (rid max : ℕ) (
     → PreparedKept pages t key rid max m old new pool r
 prepare_refused pages t key rid max m old new pool f (Ok x) is sound full = absurd is
 prepare_refused pages t key rid max m old new pool f (Err y) is sound full = record { sound = λ same. sound (sym is ∙ same); full = λ same. full (sym is ∙ same) }
+
+-- where they are asked alone, without a plan
+pub prepared_kept : {D : Type 0} (d : Ghosts D) {v : PageWriter} {old : D} {w : PageWriter} {disk : D} (pages : AllPages) (t : ℕ) (key : Key) (rid max : ℕ) (m : IndexMap) (held new : Table) (pool : PoolView) (r : Result (Outcome Prepared) Fault)
+    → Reads d v old w disk (fault_of r) → IsSound r (IsPrepared pages t key rid max m held new pool) → PreparedKept pages t key rid max m held new pool r
+prepared_kept {D} d {v} {old} {w} {disk} pages t key rid max m held new pool (Ok x) one sound = record { sound = sound; full = tt }
+prepared_kept {D} d {v} {old} {w} {disk} pages t key rid max m held new pool (Err y) one sound = record { sound = sound; full = λ full. absurd (never_pages_full d refl one full) }
+
+-- a search has no refusal for want of page numbers
+pub none_used_up : {D : Type 0} (d : Ghosts D) {A : Type 0} {v : PageWriter} {old : D} {w : PageWriter} {disk : D} (r : Result A Fault) → Reads d v old w disk (fault_of r) → IfErr r (λ y. y ≢ Capacity)
+none_used_up {D} d {A} {v} {old} {w} {disk} (Ok a) one = tt
+none_used_up {D} d {A} {v} {old} {w} {disk} (Err y) one = never_capacity d refl one
 
 -- ---- the whole
 

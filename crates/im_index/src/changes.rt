@@ -1,6 +1,6 @@
 //! What inserts and deletes ask of the lock table, before they change anything.
 
-ghost use Rattle.std.specs.Prelude.{◌≡◌, ℕ, IfOk, OnErr, is_some};
+ghost use Rattle.std.specs.Prelude.{◌≡◌, ℕ, false, IfOk, OnErr, is_some};
 ghost use Rattle.std.specs.FinMap.{entries};
 ghost use Rattle.std.specs.FinMap.Entries.{find};
 ghost use Rattle.im_types.specs.Keys.{key_order};
@@ -14,7 +14,7 @@ ghost use Rattle.im_search.specs.Levels.{HasLevel, bodies_of};
 ghost use Rattle.im_search.specs.Found.{HasTree};
 ghost use Rattle.im_lock.specs.Table.{SameTable};
 ghost use Rattle.im_index.specs.Outcomes.{IfGranted};
-ghost use Rattle.im_index.specs.Asks.{IsAsked};
+ghost use Rattle.im_index.specs.Asks.{IsAsked, IsPlace};
 
 use crate::asking::{name_in, outcome_of};
 use crate::outcome::Outcome;
@@ -23,7 +23,7 @@ use im_disk::Disk;
 use im_flush::PageWriter;
 use im_lock::{LockTable, delete_row, insert_row};
 use im_page::Page;
-use im_search::leaf_and_next;
+use im_search::{leaf_and_next, leaf_for, next_in_leaf};
 use im_types::{Fault, Rid, TxnId};
 
 // What a leaf has of a key.
@@ -42,6 +42,41 @@ pub(crate) fn is_there(rid: &Option<Rid>) -> bool
     ensures { result ≡ is_some rid.now }
 {
     rid.is_some()
+}
+
+// Asks what an Insert of a key asks, which goes into this leaf, which is held, where the index has this row id with it. Where it is granted,
+// the leaf is held from now on. Where the next key stands in the leaf no page is got.
+pub(crate) fn ask_insert_at<D: Disk>(
+    writer: &mut PageWriter,
+    disk: &mut D,
+    locks: &mut LockTable,
+    transaction: TxnId,
+    key: &[u8],
+    found: Place,
+) -> Result<Outcome<Place>, Fault>
+    requires ready { IsReadyWriter D.Disk writer.old disk.old }
+    requires working { writer.old.failed ≡ false }
+    requires at { IsAt writer.old.pool found.leaf }
+    requires leaf { HasLevel 0 (page_at writer.old.pool found.leaf.number).body }
+    ensures outcome { Reads D.Disk writer.old disk.old writer.new disk.new (fault_of result) }
+    ensures kept { (pages : AllPages) (m : IndexMap) (rid : ℕ) → HasTree D.Disk pages writer.old disk.old → walk (bodies_of pages) ≡ entries m → IsPlace pages key.now m writer.old.pool found
+        → IsSound result (IsAsked pages transaction (Insert key.now rid) key.now m locks.old locks.new writer.new.pool) }
+    ensures at { IfOk result (λ outcome. IfGranted outcome (λ place. IsAt writer.new.pool place.leaf)) }
+    ensures leaf { IfOk result (λ outcome. IfGranted outcome (λ place. HasLevel 0 (page_at writer.new.pool place.leaf.number).body)) }
+    ensures table { OnErr result (SameTable locks.old locks.new) }
+{
+    let (leaf, next) = next_in_leaf(writer, disk, found.leaf, key)?;
+    let page = writer.page(leaf);
+    let there = is_there(&found.rid);
+    let row = insert_row(key, there, name_in(page, &next));
+    let verdict = locks.try_all(transaction, row.as_slice())?;
+    Ok(outcome_of(
+        verdict,
+        Place {
+            leaf,
+            rid: found.rid,
+        },
+    ))
 }
 
 /// Asks what an Insert of a key asks: where the key is there its lock, shared; else the lock of the next name for the instant and the
@@ -64,13 +99,9 @@ pub fn ask_insert<D: Disk>(
     ensures leaf { IfOk result (λ outcome. IfGranted outcome (λ place. HasLevel 0 (page_at writer.new.pool place.leaf.number).body)) }
     ensures table { OnErr result (SameTable locks.old locks.new) }
 {
-    let (leaf, next) = leaf_and_next(writer, disk, key)?;
-    let page = writer.page(leaf);
-    let rid = value_in(page, key);
-    let there = is_there(&rid);
-    let row = insert_row(key, there, name_in(page, &next));
-    let verdict = locks.try_all(transaction, row.as_slice())?;
-    Ok(outcome_of(verdict, Place { leaf, rid }))
+    let leaf = leaf_for(writer, disk, key)?;
+    let rid = value_in(writer.page(leaf), key);
+    ask_insert_at(writer, disk, locks, transaction, key, Place { leaf, rid })
 }
 
 /// Asks what a Delete of a key asks: where the key is there the lock of the next name, and for the instant the key's own, both against

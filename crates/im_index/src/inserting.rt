@@ -1,27 +1,33 @@
 //! Inserts.
 
 ghost use Rattle.std.specs.Prelude.{◌≡◌, ◌≢◌, ◌≤◌, ◌⊎◌, ℕ, [], None, Some, length, false, true, IfOk, IfErr, OnErr};
-ghost use Rattle.std.specs.FinMap.{entries};
+ghost use Rattle.std.specs.FinMap.{entries, get};
+ghost use Rattle.std.specs.FinMap.Entries.{find};
 ghost use Rattle.im_types.specs.declared.fault.Fault.TheVariants.{Memory, PagesFull, Capacity, Failed};
+ghost use Rattle.im_types.specs.Keys.{key_order};
 ghost use Rattle.im_types.specs.Answers.{Insert};
 ghost use Rattle.im_types.specs.Histories.{Base};
 ghost use Rattle.im_types.specs.Maps.{IndexMap};
 ghost use Rattle.im_types.specs.Writer.{Writer};
+ghost use Rattle.im_pool.specs.Pool.{page_at, IsAt};
 ghost use Rattle.im_flush.specs.PageWriter.{IsReadyWriter};
-ghost use Rattle.im_flush.specs.Outcome.{fault_of, mild, AllPages, AreLoaded, HasPages, Logs, Outcome as Ends, Stays};
+ghost use Rattle.im_flush.specs.Outcome.{fault_of, mild, AllPages, AreLoaded, HasPages, IsSound, Logs, Outcome as Ends, Reads, Stays};
 ghost use Rattle.im_page.specs.Split.{HasRoom};
 ghost use Rattle.im_tree.specs.Good.{IsGoodTree};
 ghost use Rattle.im_tree.specs.Levels.{walk};
 ghost use Rattle.im_tree.specs.Search.{IsOnWay};
-ghost use Rattle.im_search.specs.Levels.{bodies, bodies_of};
+ghost use Rattle.im_search.specs.Levels.{HasLevel, bodies, bodies_of};
+ghost use Rattle.im_search.specs.Found.{HasTree};
 ghost use Rattle.im_split.specs.Kept.{mild_to_split};
 ghost use Rattle.im_split.specs.Plan.{FitsInLeaf};
+ghost use Rattle.im_split.specs.Tops.{LacksRoomFor};
 ghost use Rattle.im_lock.specs.Table.{SameTable};
 ghost use Rattle.im_index.specs.declared.plan.Plan.TheVariants.{Fits, Split, UsedUp};
+ghost use Rattle.im_index.specs.Asks.{IsPlace};
 ghost use Rattle.im_index.specs.Edits.{MayEdit, InsertKept};
-ghost use Rattle.im_index.specs.InsertPlans.{PlanKept, PreparedKept, prepared_with, ComesTo, MayInsert, PutKept};
+ghost use Rattle.im_index.specs.InsertPlans.{IsInsertPlan, PlanKept, IsPrepared, PreparedKept, prepared_with, ComesTo, MayInsert, PutKept};
 
-use crate::changes::{ask_insert, is_there, value_in};
+use crate::changes::{ask_insert_at, is_there, value_in};
 use crate::logging::log_insert;
 use crate::noted::Noted;
 use crate::outcome::Outcome;
@@ -31,7 +37,7 @@ use im_change::{late, run};
 use im_disk::Disk;
 use im_flush::PageWriter;
 use im_lock::LockTable;
-use im_search::leaf_for;
+use im_search::{leaf_for, tree_page};
 use im_smo::Images;
 use im_split::plan_split;
 use im_structure::has_room;
@@ -52,8 +58,22 @@ fn not_planned(fault: Fault) -> Result<Plan, Fault>
     }
 }
 
-// The plan of an insert. A key that is there needs nothing.
-fn plan_insert<D: Disk>(
+// Whether a key goes into its leaf as that is: the key is there, or the leaf has room for it.
+fn goes_in(writer: &PageWriter, place: Place, key: &[u8]) -> bool
+    requires at { IsAt writer.now.pool place.leaf }
+    requires leaf { HasLevel 0 (page_at writer.now.pool place.leaf.number).body }
+    requires short { length key.now ≤ 255 }
+    ensures goes { result ≡ true → (place.rid ≢ None) ⊎ HasRoom true (page_at writer.now.pool place.leaf.number).body.entries (key.now, 0) }
+    ensures not { result ≡ false → (place.rid ≡ None) × ¬ (HasRoom true (page_at writer.now.pool place.leaf.number).body.entries (key.now, 0)) }
+{
+    if is_there(&place.rid) {
+        return true;
+    }
+    has_room(writer, place.leaf, key)
+}
+
+// The pages of the split that an absent key's leaf wants, which lacks room for the key.
+fn plan_pages<D: Disk>(
     alloc: Global,
     writer: &mut PageWriter,
     disk: &mut D,
@@ -64,17 +84,10 @@ fn plan_insert<D: Disk>(
     requires working { writer.old.failed ≡ false }
     requires short { length key.now ≤ 255 }
     ensures outcome { Ends D.Disk AreLoaded (mild_to_split (Some max)) writer.old disk.old writer.new disk.new (fault_of result) }
-    ensures kept { (pages : AllPages) → HasPages D.Disk AreLoaded pages writer.old disk.old → IsGoodTree (bodies_of pages) [] → PlanKept pages key.now max result }
+    ensures kept { (pages : AllPages) → HasPages D.Disk AreLoaded pages writer.old disk.old → IsGoodTree (bodies_of pages) [] → find key_order key.now (walk (bodies_of pages)) ≡ None
+        → LacksRoomFor (bodies_of pages) key.now → PlanKept pages key.now max result }
     ensures never { IfErr result (λ e. e ≢ Capacity) }
 {
-    let leaf = leaf_for(writer, disk, key)?;
-    let rid = value_in(writer.page(leaf), key);
-    if is_there(&rid) {
-        return Ok(Plan::Fits);
-    }
-    if has_room(writer, leaf, key) {
-        return Ok(Plan::Fits);
-    }
     match plan_split(alloc, writer, disk, key, Some(max)) {
         Ok(images) => Ok(Plan::Split(images)),
         Err(fault) => not_planned(fault),
@@ -92,7 +105,59 @@ fn with_plan(plan: Plan, outcome: Outcome<Place>) -> Outcome<Prepared>
     }
 }
 
-// Plans an insert, and then asks its locks. Behind a refusal nobody holds another lock than before.
+// Asks the locks of an insert that is planned, whose key goes into this leaf, which is held.
+fn ask_planned<D: Disk>(
+    writer: &mut PageWriter,
+    disk: &mut D,
+    locks: &mut LockTable,
+    transaction: TxnId,
+    key: &[u8],
+    place: Place,
+    plan: Plan,
+) -> Result<Outcome<Prepared>, Fault>
+    requires ready { IsReadyWriter D.Disk writer.old disk.old }
+    requires working { writer.old.failed ≡ false }
+    requires at { IsAt writer.old.pool place.leaf }
+    requires leaf { HasLevel 0 (page_at writer.old.pool place.leaf.number).body }
+    ensures outcome { Reads D.Disk writer.old disk.old writer.new disk.new (fault_of result) }
+    ensures kept { (pages : AllPages) (m : IndexMap) (rid max : ℕ) → HasTree D.Disk pages writer.old disk.old → walk (bodies_of pages) ≡ entries m → IsPlace pages key.now m writer.old.pool place
+        → IsInsertPlan pages key.now max plan → IsSound result (IsPrepared pages transaction key.now rid max m locks.old locks.new writer.new.pool) }
+    ensures table { OnErr result (SameTable locks.old locks.new) }
+{
+    let outcome = ask_insert_at(writer, disk, locks, transaction, key, place)?;
+    Ok(with_plan(plan, outcome))
+}
+
+// Plans the split of an absent key's leaf, which lacks room for the key, and then asks the key's locks. Behind a refusal nobody holds
+// another lock than before.
+fn prepare_split<D: Disk>(
+    alloc: Global,
+    writer: &mut PageWriter,
+    disk: &mut D,
+    locks: &mut LockTable,
+    transaction: TxnId,
+    key: &[u8],
+    page: PageNo,
+    max: PageNo,
+) -> Result<Outcome<Prepared>, Fault>
+    requires ready { IsReadyWriter D.Disk writer.old disk.old }
+    requires working { writer.old.failed ≡ false }
+    requires short { length key.now ≤ 255 }
+    ensures outcome { Ends D.Disk AreLoaded (mild_to_split (Some max)) writer.old disk.old writer.new disk.new (fault_of result) }
+    ensures kept { (pages : AllPages) (m : IndexMap) (rid : ℕ) → HasPages D.Disk AreLoaded pages writer.old disk.old → IsGoodTree (bodies_of pages) [] → walk (bodies_of pages) ≡ entries m
+        → get m key.now ≡ None → IsOnWay (bodies_of pages) 0 key.now page → ¬ (HasRoom true (pages page).body.entries (key.now, 0))
+        → PreparedKept pages transaction key.now rid max m locks.old locks.new writer.new.pool result }
+    ensures never { IfErr result (λ e. e ≢ Capacity) }
+    ensures table { OnErr result (SameTable locks.old locks.new) }
+{
+    let plan = plan_pages(alloc, writer, disk, key, max)?;
+    let leaf = tree_page(writer, disk, page, 0)?;
+    let place = Place { leaf, rid: None };
+    ask_planned(writer, disk, locks, transaction, key, place, plan)
+}
+
+// Searches the leaf of a key, plans the split that it wants, and then asks the key's locks. Behind a refusal nobody holds another lock than
+// before.
 fn prepare<D: Disk>(
     alloc: Global,
     writer: &mut PageWriter,
@@ -111,9 +176,22 @@ fn prepare<D: Disk>(
     ensures never { IfErr result (λ e. e ≢ Capacity) }
     ensures table { OnErr result (SameTable locks.old locks.new) }
 {
-    let plan = plan_insert(alloc, writer, disk, key, max)?;
-    let outcome = ask_insert(writer, disk, locks, transaction, key)?;
-    Ok(with_plan(plan, outcome))
+    let leaf = leaf_for(writer, disk, key)?;
+    let rid = value_in(writer.page(leaf), key);
+    let place = Place { leaf, rid };
+    if goes_in(writer, place, key) {
+        return ask_planned(writer, disk, locks, transaction, key, place, Plan::Fits);
+    }
+    prepare_split(
+        alloc,
+        writer,
+        disk,
+        locks,
+        transaction,
+        key,
+        leaf.number,
+        max,
+    )
 }
 
 // ---- behind it
@@ -244,6 +322,8 @@ fn log_prepared<D: Disk>(
 /// The pages of a split are planned before a lock is asked. So `PagesFull` comes, and a want of memory for the plan, before the locks,
 /// `Capacity` behind them, and a want of memory behind the grant is `Failed`. Behind `Memory`, `PagesFull`, `Wait` and `Die` nobody holds
 /// another lock than before.
+///
+/// The leaf is searched once. Where it has room and holds the next key, that is one get for each level, and the change is one more.
 pub fn insert<D: Disk>(
     alloc: Global,
     writer: &mut PageWriter,

@@ -8,7 +8,7 @@
 //! - `scan` answers the entries of a range.
 //! - `ask_insert` and `ask_delete` ask the locks of a change, and hold the leaf where it goes.
 //! - `log_insert` and `log_delete` log the change on that leaf, behind which the log is lawful and the transaction not finished.
-//! - `insert` plans the split that the key's leaf wants, asks its locks, and logs its key where they are granted, behind that split. What it
+//! - `insert` searches the key's leaf, plans the split that it wants, asks its locks, and logs its key where they are granted, behind that split. What it
 //!   logged is one record of the key, Images, and those of the split, which comes just where the leaf lacks room, within a limit of pages.
 //! - `delete` asks its locks, drops the key where they are granted, and takes out of the tree the leaf that it leaves empty. What it
 //!   logged is one record of the key, Images, and those of that structure change. A leaf stays empty only for want of memory, and the
@@ -18,8 +18,6 @@
 mod asking;
 mod changes;
 mod deleting;
-#[cfg(test)]
-mod insert_tests;
 mod inserting;
 mod logging;
 mod noted;
@@ -28,8 +26,6 @@ mod place;
 mod plan;
 mod reads;
 mod scans;
-#[cfg(test)]
-mod tests;
 
 pub use changes::{ask_delete, ask_insert};
 pub use deleting::delete;

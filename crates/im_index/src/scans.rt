@@ -1,6 +1,6 @@
 //! The entries of a range.
 
-ghost use Rattle.std.specs.Prelude.{◌≡◌, ℕ, IfOk, IfErr, IfSome, OnErr};
+ghost use Rattle.std.specs.Prelude.{◌≡◌, ◌≤◌, ℕ, length, IfOk, IfErr, IfSome, OnErr};
 ghost use Rattle.std.specs.FinMap.{entries};
 ghost use Rattle.im_types.specs.declared.fault.Fault.TheVariants.{Memory};
 ghost use Rattle.im_types.specs.Keys.{Key as KeyBytes};
@@ -17,7 +17,7 @@ ghost use Rattle.im_lock.specs.Locks.{IsFree};
 ghost use Rattle.im_lock.specs.Rows.{asked};
 ghost use Rattle.im_lock.specs.Found.{IsScanOf, named_if};
 ghost use Rattle.im_lock.specs.Table.{Decides, SameTable, locks_of};
-ghost use Rattle.im_index.specs.Outcomes.{name_behind, entries_found};
+ghost use Rattle.im_index.specs.Outcomes.{name_behind, entries_found, IfGranted};
 ghost use Rattle.im_index.specs.Reads.{IsRead};
 
 use crate::asking::outcome_of;
@@ -71,9 +71,9 @@ fn ask_range(
     locks.try_all(transaction, requests.as_slice())
 }
 
-/// Copies of the entries from `lo` to `hi`, in rising key order, the first `limit` of them, which is brought into 1 to 256. The lock of
-/// each entry is asked and, where they are fewer than the limit, that of the first key above `hi`, else of the name past the last key;
-/// where `hi` is below `lo` there is no entry, and no lock is asked.
+/// Copies of the entries from `lo` to `hi`, in rising key order, the first `limit` of them, which is brought into 1 to 256, and never
+/// more (`most`). The lock of each entry is asked and, where they are fewer than the limit, that of the first key above `hi`, else of
+/// the name past the last key; where `hi` is below `lo` there is no entry, and no lock is asked.
 ///
 /// Refused as `im_search::entries_between` is, and `Memory` where it is wanted for the locks. Behind a refusal, `Wait` and `Die` nobody
 /// holds another lock than before.
@@ -91,6 +91,7 @@ pub fn scan<D: Disk>(
     ensures outcome { Reads D.Disk writer.old disk.old writer.new disk.new (fault_of result) }
     ensures kept { (pages : AllPages) (m : IndexMap) → HasTree D.Disk pages writer.old disk.old → walk (bodies_of pages) ≡ entries m
         → IsSound result (IsRead entries_found transaction (Scan lo.now hi.now limit) m locks.old locks.new) }
+    ensures most { IfOk result (λ outcome. IfGranted outcome (λ list. length list.items ≤ limit_of limit)) }
     ensures table { OnErr result (SameTable locks.old locks.new) }
 {
     let (list, behind) = entries_between(alloc, writer, disk, lo, hi, bounded(limit))?;

@@ -109,6 +109,18 @@ stays-removed old new t ls l name e here others agrees once =
 pub OthersHold-on : (a b c : NameIndex) (t : ℕ) → OthersHold a t b → OthersHold b t c → OthersHold a t c
 OthersHold-on a b c t p q s ne n m = q s ne n m ∙ p s ne n m
 
+-- one lock that was added and taken out again
+pub stays-taken_back : (old added back : NameIndex) (t : ℕ) (ls : List Lock) (name : Name) (mode : Mode) → holders_at added name ≡ holders_at old name ++ record { owner = t; mode = mode } ∷ [] → ((n : Name) → same_name name n ≡ false → holders_at added n ≡ holders_at old n) → Agrees old t ls → IsOnce ls → holds_by_name old t name mode ≡ false → holders_at back name ≡ filter (λ h. not (is_holder h t mode)) (holders_at added name) → ((n : Name) → same_name name n ≡ false → holders_at back n ≡ holders_at added n) → Stays old t back ls
+stays-taken_back old added back t ls name mode here others agrees once not_held gone others_too =
+    let l : Lock = record { name = name; mode = mode } in
+    let with_it : Stays old t added (ls ++ l ∷ []) = stays-added old added t ls name mode name refl here others agrees once not_held in
+    let without_it : Stays added t back ls = stays-removed added back t ls l name refl gone others_too with_it.agrees with_it.once in
+    record {
+      agrees = without_it.agrees;
+      once = without_it.once;
+      others = OthersHold-on old added back t with_it.others without_it.others;
+    }
+
 -- ---- what is kept of the requests
 
 pub keeps-append : (qs rs : List Request) (n : Name) (m : Mode) → keeps (qs ++ rs) n m ≡ (keeps qs n m || keeps rs n m)

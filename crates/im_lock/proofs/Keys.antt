@@ -1,79 +1,170 @@
--- What a change at one key of the map of names leaves at the others.
-use Rattle.std.proofs.Common.{◌≡◌, ◌≢◌, ℕ, Bool, true, false, ◌==◌, List, [], ◌∷◌, ◌++◌, length, vec_len, Option, None, Some, Vec, refl, ap, sym, subst, ◌∙◌}
+-- What a change at one digest leaves of the holders of keys.
+use Rattle.std.proofs.Common.{◌≡◌, ℕ, ◌<◌, ◌+◌, suc, zero, Bool, true, false, not, ◌&&◌, ◌||◌, cond, nat_eq, filter, List, [], ◌∷◌, ◌++◌, length, take, get_or, Option, None, Some, Result, Ok, Err, IfOk, OnErr, Vec, vec_len, ◌==◌, slice_index_or, remove, refl, ap, sym, subst, ◌∙◌, arith}
+use Rattle.std.proofs.lemmas.Bool.Decides.{nat_tests}
 use Rattle.std.proofs.lemmas.Bool.{eq-eqb}
-use Rattle.std.specs.Option.{ForSome}
-use Rattle.std.specs.HashMap.{HashMap, UpdatesBy, get_by}
-use Rattle.std.specs.Map.{KeepsOthers, IsKeyTest, AreApart, lookup}
+use Rattle.std.proofs.lemmas.List.{take_more}
+use Rattle.std.specs.HashMap.{HashMap, UpdatesBy, get}
 use Rattle.std.specs.Str.{bytes_eq}
 use Rattle.std.specs.Cmp.Lexicographic.{nat_list_eq_equiv, bytes_decides}
-use Rattle.im_lock.specs.HeldKeys.{HasHolders}
-use Rattle.im_lock.specs.Index.{holders_of, or_none}
+use Rattle.im_types.specs.Keys.{Key}
+use Rattle.im_lock.specs.HeldKeys.{spelled, digest, among, listed_there, IsOneMore}
+use Rattle.im_lock.specs.Index.{holders_of, is_holder, is_among, without}
+use Rattle.im_lock.specs.declared.request.Mode.{Mode}
 use Rattle.im_lock.specs.declared.holder.Holder.{Holder}
+use Rattle.im_lock.specs.declared.held_key.HeldKey.{HeldKey}
+use Rattle.im_lock.specs.declared.bucket.Bucket.{Bucket}
+use Rattle.im_lock.proofs.Bools.{or_true, or_false, neither}
+use Rattle.im_lock.proofs.Holders.{is_among-append}
 
-other_entries : {K X : Type 0} (eq : K → K → Bool) (test : K → Bool) (old new : List (K × X)) → KeepsOthers eq test old new → (other : K → Bool) → IsKeyTest eq other → AreApart test other → lookup other new ≡ lookup other old
-unfolding KeepsOthers
-other_entries eq test old new h = h
-
-apart : (bs cs ks : List ℕ) → bytes_eq bs cs ≡ false → bytes_eq bs ks ≡ true → bytes_eq cs ks ≡ false
-apart bs cs ks n y = nat_list_eq_equiv.symm cs ks ∙ sym (nat_list_eq_equiv.congr bs ks cs y) ∙ n
-
--- a change at one key leaves the holders of another
-pub holders-elsewhere : {S Z Y : Type 0} (m n : HashMap (Vec ℕ Z) (Vec Holder Y) S) (bs : List ℕ) (w : Option (Vec Holder Y)) → UpdatesBy (λ x y. bytes_eq x.items y.items) (λ v. bytes_eq bs v.items) m n w → (k : List ℕ) → bytes_eq bs k ≡ false → holders_of n k ≡ holders_of m k
-holders-elsewhere m n bs w h k e =
-    ap or_none (other_entries _ _ _ _ h.3 (λ v. bytes_eq k v.items) (λ x y. nat_list_eq_equiv.congr k x.items y.items) (λ v. apart bs k v.items e))
-
--- the same, where the change was made by a key with these bytes
-pub holders-elsewhere_by : {S Z Y : Type 0} (m n : HashMap (Vec ℕ Z) (Vec Holder Y) S) (key : Vec ℕ Z) (bs : List ℕ) (w : Option (Vec Holder Y)) → key.items ≡ bs → UpdatesBy (λ x y. bytes_eq x.items y.items) (λ v. bytes_eq key.items v.items) m n w → (k : List ℕ) → bytes_eq bs k ≡ false → holders_of n k ≡ holders_of m k
-holders-elsewhere_by m n key bs w q h k e = holders-elsewhere m n key.items w h k (ap (λ xs. bytes_eq xs k) q ∙ e)
-
--- a change at one key that leaves its holders leaves all
-pub holders-same : {S Z Y : Type 0} (m n : HashMap (Vec ℕ Z) (Vec Holder Y) S) (bs : List ℕ) (w : Option (Vec Holder Y)) → UpdatesBy (λ x y. bytes_eq x.items y.items) (λ v. bytes_eq bs v.items) m n w → holders_of n bs ≡ holders_of m bs → (k : List ℕ) → holders_of n k ≡ holders_of m k
-holders-same m n bs w h here k = go (bytes_eq bs k) refl
+pub among-append : (k : Key) (xs ys : List HeldKey) → among k (xs ++ ys) ≡ among k xs ++ among k ys
+among-append k [] ys = refl
+among-append k (x ∷ xs) ys = go (bytes_eq k (spelled x.key)) (among-append k xs ys)
   where
-    go : (b : Bool) → bytes_eq bs k ≡ b → holders_of n k ≡ holders_of m k
-    go true e = subst (λ ks. holders_of n ks ≡ holders_of m ks) ((bytes_decides bs k).0 e) here
-    go false e = holders-elsewhere m n bs w h k e
+    go : (b : Bool) → among k (xs ++ ys) ≡ among k xs ++ among k ys → cond b (x.holder ∷ among k (xs ++ ys)) (among k (xs ++ ys)) ≡ cond b (x.holder ∷ among k xs) (among k xs) ++ among k ys
+    go true ih = ap (λ hs. x.holder ∷ hs) ih
+    go false ih = ih
 
--- ---- each key has a holder
+-- ---- one more
 
--- a change at one key that leaves it a holder, or takes it out
-pub held_after : {S Z Y : Type 0} (m n : HashMap (Vec ℕ Z) (Vec Holder Y) S) (bs : List ℕ) (w : Option (Vec Holder Y)) → UpdatesBy (λ x y. bytes_eq x.items y.items) (λ v. bytes_eq bs v.items) m n w → HasHolders m → ForSome w (λ v. v.items ≢ []) → HasHolders n
-held_after {S} {Z} {Y} m n bs w h used new k = go (bytes_eq bs k) refl
+pub among-itself : (k : Key) (e : HeldKey) → spelled e.key ≡ k → among k (e ∷ []) ≡ e.holder ∷ []
+among-itself k e q = ap (λ b. cond b (e.holder ∷ []) []) ((bytes_decides k (spelled e.key)).1 (sym q))
+
+pub one_more_here : (k : Key) (h : Holder) (old new : List HeldKey) → IsOneMore k h old new → among k new ≡ among k old ++ h ∷ []
+one_more_here k h old new more =
+    ap (among k) more.list ∙ (among-append k old (more.held ∷ []) ∙ ap (λ hs. among k old ++ hs) (among-itself k more.held more.key ∙ ap (λ x. x ∷ []) more.holder))
+
+append_none : {A : Type 0} (xs : List A) → xs ++ [] ≡ xs
+append_none [] = refl
+append_none (x ∷ xs) = ap (λ ys. x ∷ ys) (append_none xs)
+
+pub one_more_others : (k : Key) (h : Holder) (old new : List HeldKey) → IsOneMore k h old new → (other : Key) → bytes_eq k other ≡ false → among other new ≡ among other old
+one_more_others k h old new more other ne =
+    ap (among other) more.list
+    ∙ (among-append other old (more.held ∷ [])
+    ∙ (ap (λ b. among other old ++ cond b (more.held.holder ∷ []) []) (ap (bytes_eq other) more.key ∙ (nat_list_eq_equiv.symm other k ∙ ne))
+    ∙ append_none (among other old)))
+
+-- ---- one less
+
+pub without_here : (k : Key) (t : ℕ) (m : Mode) (es : List HeldKey) → among k (without k t m es) ≡ filter (λ h. not (is_holder h t m)) (among k es)
+without_here k t m [] = refl
+without_here k t m (e ∷ es) = go (bytes_eq k (spelled e.key)) refl (is_holder e.holder t m) refl (without_here k t m es)
   where
-    go : (b : Bool) → bytes_eq bs k ≡ b → ForSome (get_by (λ v. bytes_eq k v.items) n) (λ v. v.items ≢ [])
-    go true e = subst (λ (ks : List ℕ). ForSome (get_by (λ v. bytes_eq ks v.items) n) (λ v. v.items ≢ [])) ((bytes_decides bs k).0 e)
-        (subst (λ (o : Option (Vec Holder Y)). ForSome o (λ v. v.items ≢ [])) (sym h.1) new)
-    go false e = subst (λ (o : Option (Vec Holder Y)). ForSome o (λ v. v.items ≢ []))
-        (sym (other_entries _ _ _ _ h.3 (λ v. bytes_eq k v.items) (λ x y. nat_list_eq_equiv.congr k x.items y.items) (λ v. apart bs k v.items e))) (used k)
+    go : (b : Bool) → bytes_eq k (spelled e.key) ≡ b → (i : Bool) → is_holder e.holder t m ≡ i → among k (without k t m es) ≡ filter (λ h. not (is_holder h t m)) (among k es) →
+        among k (cond (not (b && i)) (e ∷ without k t m es) (without k t m es)) ≡ filter (λ h. not (is_holder h t m)) (cond b (e.holder ∷ among k es) (among k es))
+    go true q true r ih = ih ∙ sym (ap (λ i. cond (not i) (e.holder ∷ filter (λ h. not (is_holder h t m)) (among k es)) (filter (λ h. not (is_holder h t m)) (among k es))) r)
+    go true q false r ih =
+        ap (λ b. cond b (e.holder ∷ among k (without k t m es)) (among k (without k t m es))) q
+        ∙ (ap (λ hs. e.holder ∷ hs) ih
+        ∙ sym (ap (λ i. cond (not i) (e.holder ∷ filter (λ h. not (is_holder h t m)) (among k es)) (filter (λ h. not (is_holder h t m)) (among k es))) r))
+    go false q i r ih = ap (λ b. cond b (e.holder ∷ among k (without k t m es)) (among k (without k t m es))) q ∙ ih
 
--- a change at one key, which is then taken out
-pub held_without : {S Z Y : Type 0} (m mid n : HashMap (Vec ℕ Z) (Vec Holder Y) S) (bs : List ℕ) (w : Option (Vec Holder Y)) → UpdatesBy (λ x y. bytes_eq x.items y.items) (λ v. bytes_eq bs v.items) m mid w → UpdatesBy (λ x y. bytes_eq x.items y.items) (λ v. bytes_eq bs v.items) mid n None → HasHolders m → HasHolders n
-held_without {S} {Z} {Y} m mid n bs w h g used k = go (bytes_eq bs k) refl
+apart_from : (k other ks : Key) → bytes_eq k other ≡ false → bytes_eq k ks ≡ true → bytes_eq other ks ≡ false
+apart_from k other ks ne same = nat_list_eq_equiv.symm other ks ∙ sym (nat_list_eq_equiv.congr k ks other same) ∙ ne
+
+pub without_others : (k : Key) (t : ℕ) (m : Mode) (es : List HeldKey) (other : Key) → bytes_eq k other ≡ false → among other (without k t m es) ≡ among other es
+without_others k t m [] other ne = refl
+without_others k t m (e ∷ es) other ne = go (bytes_eq k (spelled e.key)) refl (is_holder e.holder t m) (without_others k t m es other ne)
   where
-    elsewhere : (x y : HashMap (Vec ℕ Z) (Vec Holder Y) S) (o : Option (Vec Holder Y)) → UpdatesBy (λ x y. bytes_eq x.items y.items) (λ v. bytes_eq bs v.items) x y o → bytes_eq bs k ≡ false → get_by (λ v. bytes_eq k v.items) y ≡ get_by (λ v. bytes_eq k v.items) x
-    elsewhere x y o f e = other_entries _ _ _ _ f.3 (λ v. bytes_eq k v.items) (λ x y. nat_list_eq_equiv.congr k x.items y.items) (λ v. apart bs k v.items e)
+    go : (b : Bool) → bytes_eq k (spelled e.key) ≡ b → (i : Bool) → among other (without k t m es) ≡ among other es →
+        among other (cond (not (b && i)) (e ∷ without k t m es) (without k t m es)) ≡ among other (e ∷ es)
+    go true q true ih = ih ∙ sym (ap (λ b. cond b (e.holder ∷ among other es) (among other es)) (apart_from k other (spelled e.key) ne q))
+    go true q false ih = ap (λ hs. cond (bytes_eq other (spelled e.key)) (e.holder ∷ hs) hs) ih
+    go false q i ih = ap (λ hs. cond (bytes_eq other (spelled e.key)) (e.holder ∷ hs) hs) ih
 
-    go : (b : Bool) → bytes_eq bs k ≡ b → ForSome (get_by (λ v. bytes_eq k v.items) n) (λ v. v.items ≢ [])
-    go true e = subst (λ (ks : List ℕ). ForSome (get_by (λ v. bytes_eq ks v.items) n) (λ v. v.items ≢ [])) ((bytes_decides bs k).0 e)
-        (subst (λ (o : Option (Vec Holder Y)). ForSome o (λ v. v.items ≢ [])) (sym g.1) (λ v q. absurd cc))
-    go false e = subst (λ (o : Option (Vec Holder Y)). ForSome o (λ v. v.items ≢ [])) (sym (elsewhere mid n None g e ∙ elsewhere m mid w h e)) (used k)
+-- one that is not taken out, and one that is
+pub without_kept : (k : Key) (t : ℕ) (m : Mode) (e : HeldKey) (es : List HeldKey) → (bytes_eq k (spelled e.key) && is_holder e.holder t m) ≡ false → without k t m (e ∷ es) ≡ e ∷ without k t m es
+without_kept k t m e es h = ap (λ b. cond (not b) (e ∷ without k t m es) (without k t m es)) h
 
--- the same, where the change was made by a key with these bytes
-pub held_after_by : {S Z Y : Type 0} (m n : HashMap (Vec ℕ Z) (Vec Holder Y) S) (key : Vec ℕ Z) (bs : List ℕ) (w : Option (Vec Holder Y)) → key.items ≡ bs → UpdatesBy (λ x y. bytes_eq x.items y.items) (λ v. bytes_eq key.items v.items) m n w → HasHolders m → ForSome w (λ v. v.items ≢ []) → HasHolders n
-held_after_by m n key bs w q h used new = held_after m n key.items w h used new
+pub without_gone : (k : Key) (t : ℕ) (m : Mode) (e : HeldKey) (es : List HeldKey) → (bytes_eq k (spelled e.key) && is_holder e.holder t m) ≡ true → without k t m (e ∷ es) ≡ without k t m es
+without_gone k t m e es h = ap (λ b. cond (not b) (e ∷ without k t m es) (without k t m es)) h
 
--- a list with one more
-pub with_one_more : {Y : Type 0} (v : Vec Holder Y) (xs : List Holder) (x : Holder) → v.items ≡ xs ++ x ∷ [] → ForSome (Some v) (λ u. u.items ≢ [])
-with_one_more v xs x is u e none = grows xs (sym is ∙ (let q : v ≡ u = cc in ap (λ (w : Vec Holder _). w.items) q) ∙ none)
+-- the first of a list that is taken from it, and the others
+pub first_moved : (xs ys : List HeldKey) (e : HeldKey) → 0 < length xs → e ≡ slice_index_or xs 0 e → ys ≡ remove xs 0 → e ∷ ys ≡ xs
+first_moved [] ys e some is rest = absurd (omega arith)
+first_moved (x ∷ xs) ys e some is rest = ap (λ d. d ∷ ys) is ∙ ap (λ zs. x ∷ zs) rest
+
+nothing_in : (xs : List HeldKey) → length xs ≡ 0 → xs ≡ []
+nothing_in [] h = refl
+nothing_in (x ∷ xs) h = absurd (omega (arith, h))
+
+pub no_items : {Y : Type 0} (v : Vec HeldKey Y) → (vec_len v == 0) ≡ true → v.items ≡ []
+no_items v h = nothing_in v.items (let zero_long : vec_len v ≡ 0 = grind (arith, nat_tests) in sym v.ok.0 ∙ zero_long)
+
+some_in : (xs : List HeldKey) → (length xs ≡ 0 → ⊥) → 0 < length xs
+some_in [] h = absurd (h refl)
+some_in (x ∷ xs) h = omega arith
+
+pub some_items : {Y : Type 0} (v : Vec HeldKey Y) → (vec_len v == 0) ≡ false → 0 < length v.items
+some_items v h = some_in v.items (λ none. let zero_long : vec_len v ≡ 0 = v.ok.0 ∙ none in let yes : (vec_len v == 0) ≡ true = eq-eqb (vec_len v) 0 zero_long in let never : true ≡ false = sym yes ∙ h in cc)
+
+-- ---- in the map
+
+-- what is said at the digest that was computed is said at that of the key
+pub put_at : {S : Type 0} (m n : HashMap ℕ Bucket S) (k : Key) (d : ℕ) (w : Option Bucket) → d ≡ digest k → UpdatesBy nat_eq (nat_eq d) m n w → UpdatesBy nat_eq (nat_eq (digest k)) m n w
+put_at m n k d w is h = subst (λ x. UpdatesBy nat_eq (nat_eq x) m n w) is h
+
+pub there_at : {S : Type 0} (m : HashMap ℕ Bucket S) (k : Key) (d : ℕ) (b : Bucket) → d ≡ digest k → Some b ≡ get nat_eq m d → Some b ≡ get nat_eq m (digest k)
+there_at m k d b is h = h ∙ ap (λ x. get nat_eq m x) is
+
+-- a change at the digest of one key leaves the holders of another, where the bucket there does
+pub holders_left : {S : Type 0} (m n : HashMap ℕ Bucket S) (k : Key) (w : Option Bucket) → UpdatesBy nat_eq (nat_eq (digest k)) m n w → (other : Key) → among other (listed_there w) ≡ among other (listed_there (get nat_eq m (digest k))) → holders_of n other ≡ holders_of m other
+holders_left m n k w h other left = go (nat_eq (digest k) (digest other)) refl
   where
-    grows : (ys : List Holder) → ys ++ x ∷ [] ≡ [] → ⊥
-    grows [] n = cc
-    grows (y ∷ ys) n = cc
+    go : (b : Bool) → nat_eq (digest k) (digest other) ≡ b → holders_of n other ≡ holders_of m other
+    go true e =
+        let same : digest k ≡ digest other = grind (arith, nat_tests) in
+        ap (λ o. among other (listed_there o)) (h.0 (digest other) ∙ ap (λ b. cond b w (get nat_eq m (digest other))) e)
+        ∙ (left ∙ ap (λ d. among other (listed_there (get nat_eq m d))) same)
+    go false e = ap (λ o. among other (listed_there o)) (h.0 (digest other) ∙ ap (λ b. cond b w (get nat_eq m (digest other))) e)
 
--- a list that is not empty
-pub with_some : {Y : Type 0} (v : Vec Holder Y) → v.items ≢ [] → ForSome (Some v) (λ u. u.items ≢ [])
-with_some v some u e none = some ((let q : v ≡ u = cc in ap (λ (w : Vec Holder _). w.items) q) ∙ none)
+-- the holders of the key itself are those that the bucket has
+pub holders_put : {S : Type 0} (m n : HashMap ℕ Bucket S) (k : Key) (w : Option Bucket) → UpdatesBy nat_eq (nat_eq (digest k)) m n w → holders_of n k ≡ among k (listed_there w)
+holders_put m n k w h = ap (λ o. among k (listed_there o)) h.1
 
--- a list whose length is not zero is not empty
-pub not_empty : {Y : Type 0} (v : Vec Holder Y) → (vec_len v == 0) ≡ false → v.items ≢ []
-not_empty v n none = absurd (let zero_long : vec_len v ≡ 0 = v.ok.0 ∙ ap (λ (xs : List Holder). length xs) none in let yes : (vec_len v == 0) ≡ true = eq-eqb (vec_len v) 0 zero_long in let never : true ≡ false = sym yes ∙ n in cc)
+-- the same, where the bucket was changed and then taken out
+pub holders_out : {S : Type 0} (m mid n : HashMap ℕ Bucket S) (k : Key) (w : Option Bucket) → UpdatesBy nat_eq (nat_eq (digest k)) m mid w → UpdatesBy nat_eq (nat_eq (digest k)) mid n None → (other : Key) → among other (listed_there (get nat_eq m (digest k))) ≡ [] → holders_of n other ≡ holders_of m other
+holders_out m mid n k w h g other none = go (nat_eq (digest k) (digest other)) refl
+  where
+    go : (b : Bool) → nat_eq (digest k) (digest other) ≡ b → holders_of n other ≡ holders_of m other
+    go true e =
+        let same : digest k ≡ digest other = grind (arith, nat_tests) in
+        ap (λ o. among other (listed_there o)) (g.0 (digest other) ∙ ap (λ b. cond b None (get nat_eq mid (digest other))) e)
+        ∙ (sym none ∙ ap (λ d. among other (listed_there (get nat_eq m d))) same)
+    go false e =
+        ap (λ o. among other (listed_there o))
+        ((g.0 (digest other) ∙ ap (λ b. cond b None (get nat_eq mid (digest other))) e) ∙ (h.0 (digest other) ∙ ap (λ b. cond b w (get nat_eq m (digest other))) e))
+
+-- ---- a bucket that one more may have come to
+
+pub added_others : {E : Type 0} (r : Result Bool E) (k : Key) (h : Holder) (old new : List HeldKey) → IfOk r (λ new_one. new_one ≡ true → IsOneMore k h old new) → IfOk r (λ new_one. new_one ≡ false → new ≡ old) → OnErr r (new ≡ old) → (other : Key) → bytes_eq k other ≡ false → among other new ≡ among other old
+added_others (Ok true) k h old new here there err other ne = one_more_others k h old new (here refl) other ne
+added_others (Ok false) k h old new here there err other ne = ap (among other) (there refl)
+added_others (Err e) k h old new here there err other ne = ap (among other) err
+
+pub if_ok : {A E : Type 0} {P Q : A → Type 0} (r : Result A E) → ((a : A) → P a → Q a) → IfOk r P → IfOk r Q
+if_ok (Ok a) f h = f a h
+if_ok (Err e) f h = h
+
+-- ---- tests over lists of keys held
+
+pub held_first : (k : Key) (e : HeldKey) (es : List HeldKey) (t : ℕ) (m : Mode) → is_among (among k (e ∷ es)) t m ≡ ((bytes_eq k (spelled e.key) && is_holder e.holder t m) || is_among (among k es) t m)
+held_first k e es t m = go (bytes_eq k (spelled e.key))
+  where
+    go : (b : Bool) → is_among (cond b (e.holder ∷ among k es) (among k es)) t m ≡ ((b && is_holder e.holder t m) || is_among (among k es) t m)
+    go true = refl
+    go false = refl
+
+-- a key held at some place
+pub held_at : (k : Key) (es : List HeldKey) (i : ℕ) (d : HeldKey) (t : ℕ) (m : Mode) → i < length es → (bytes_eq k (spelled ((get_or es i d).key)) && is_holder ((get_or es i d).holder) t m) ≡ true → is_among (among k es) t m ≡ true
+held_at k [] i d t m lt y = absurd (omega arith)
+held_at k (e ∷ es) zero d t m lt y = held_first k e es t m ∙ ap (λ b. b || is_among (among k es) t m) y
+held_at k (e ∷ es) (suc i) d t m lt y = held_first k e es t m ∙ or_true (bytes_eq k (spelled e.key) && is_holder e.holder t m) (is_among (among k es) t m) (held_at k es i d t m (omega arith) y)
+
+-- one more is looked at
+pub held_step : (k : Key) (es : List HeldKey) (i : ℕ) (d : HeldKey) (t : ℕ) (m : Mode) → i < length es → is_among (among k (take i es)) t m ≡ false → (bytes_eq k (spelled ((get_or es i d).key)) && is_holder ((get_or es i d).holder) t m) ≡ false → is_among (among k (take (i + 1) es)) t m ≡ false
+held_step k es i d t m lt f e =
+    ap (λ ks. is_among (among k ks) t m) (take_more es i d lt)
+    ∙ (ap (λ hs. is_among hs t m) (among-append k (take i es) (get_or es i d ∷ []))
+    ∙ (is_among-append (among k (take i es)) (among k (get_or es i d ∷ [])) t m
+    ∙ neither (is_among (among k (take i es)) t m) (is_among (among k (get_or es i d ∷ [])) t m) f (held_first k (get_or es i d) [] t m ∙ (or_false _ ∙ e))))

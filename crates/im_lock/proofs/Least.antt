@@ -3,6 +3,11 @@ use Rattle.std.proofs.Common.{◌≡◌, ℕ, ◌≤◌, Bool, true, false, ◌&
 use Rattle.std.proofs.lemmas.Bool.{eq-eqb}
 use Rattle.std.proofs.lemmas.List.{take_more, map-append, take_all}
 use Rattle.std.proofs.lemmas.Bool.Decides.{nat_tests}
+use Rattle.std.specs.Str.{bytes_eq}
+use Rattle.im_types.specs.Keys.{Key}
+use Rattle.im_lock.specs.HeldKeys.{spelled, among}
+use Rattle.im_lock.specs.declared.held_key.HeldKey.{HeldKey}
+use Rattle.im_lock.proofs.Keys.{among-append}
 use Rattle.im_lock.specs.Locks.{Request}
 use Rattle.im_lock.specs.Index.{IsLeast, smaller_of, is_rival, is_rival_of, is_against, rival_in, holders_at}
 use Rattle.im_lock.specs.Table.{row, requested, named}
@@ -66,18 +71,39 @@ is_rival-step hs i d t m least lt h =
     h
     (rival_in-least (get_or hs i d) t m)
 
+-- one key held more is looked at
+pub rival_among-step : (k : Key) (es : List HeldKey) (i : ℕ) (d : HeldKey) (t : ℕ) (m : Mode) (least one : Option ℕ) → i < length es → IsLeast (is_rival (among k (take i es)) t m) least → IsLeast (is_rival (among k (get_or es i d ∷ [])) t m) one → IsLeast (is_rival (among k (take (i + 1) es)) t m) (smaller_of least one)
+rival_among-step k es i d t m least one lt h g =
+    least-smaller (is_rival (among k (take i es)) t m) (is_rival (among k (get_or es i d ∷ [])) t m) (is_rival (among k (take (i + 1) es)) t m) least one
+    (λ s. ap (λ hs. is_rival hs t m s) (ap (among k) (take_more es i d lt) ∙ among-append k (take i es) (get_or es i d ∷ [])) ∙ is_rival-append (among k (take i es)) (among k (get_or es i d ∷ [])) t m s)
+    h
+    g
+
+-- the first key held, and the others
+pub rival_among-first : (k : Key) (e : HeldKey) (es : List HeldKey) (t : ℕ) (m : Mode) (a b : Option ℕ) → IsLeast (is_rival (among k (e ∷ [])) t m) a → IsLeast (is_rival (among k es) t m) b → IsLeast (is_rival (among k (e ∷ es)) t m) (smaller_of a b)
+rival_among-first k e es t m a b h g =
+    least-smaller (is_rival (among k (e ∷ [])) t m) (is_rival (among k es) t m) (is_rival (among k (e ∷ es)) t m) a b
+    (λ s. ap (λ hs. is_rival hs t m s) (among-append k (e ∷ []) es) ∙ is_rival-append (among k (e ∷ [])) (among k es) t m s)
+    h
+    g
+
+-- one key held, of the key or of another
+pub rival_among-one : (k : Key) (e : HeldKey) (t : ℕ) (m : Mode) (b : Bool) → bytes_eq k (spelled e.key) ≡ b → IsLeast (is_rival (among k (e ∷ [])) t m) (cond b (rival_in e.holder t m) None)
+rival_among-one k e t m true q = subst (λ c. IsLeast (is_rival (cond c (e.holder ∷ []) []) t m) (rival_in e.holder t m)) (sym q) (rival_in-least e.holder t m)
+rival_among-one k e t m false q = subst (λ c. IsLeast (is_rival (cond c (e.holder ∷ []) []) t m) None) (sym q) (λ s. refl)
+
 pub row-step : (qs : List RequestInCode) (i : ℕ) (d : RequestInCode) → i < length qs → row (take (i + 1) qs) ≡ row (take i qs) ++ requested (get_or qs i d) ∷ []
 row-step qs i d lt = ap row (take_more qs i d lt) ∙ map-append requested (take i qs) (get_or qs i d ∷ [])
 
 -- one request more is looked at
-pub is_rival_of-step : (ix : NameIndex) (t : ℕ) (qs : List RequestInCode) (i : ℕ) (d : RequestInCode) (least one : Option ℕ) (hs : List Holder) → i < length qs → IsLeast (is_rival_of ix t (row (take i qs))) least → hs ≡ holders_at ix (named ((get_or qs i d).name)) → IsLeast (is_rival hs t ((get_or qs i d).mode)) one → IsLeast (is_rival_of ix t (row (take (i + 1) qs))) (smaller_of least one)
-is_rival_of-step ix t qs i d least one hs lt h e k =
+pub is_rival_of-step : (ix : NameIndex) (t : ℕ) (qs : List RequestInCode) (i : ℕ) (d : RequestInCode) (least one : Option ℕ) → i < length qs → IsLeast (is_rival_of ix t (row (take i qs))) least → IsLeast (is_rival (holders_at ix (named ((get_or qs i d).name))) t ((get_or qs i d).mode)) one → IsLeast (is_rival_of ix t (row (take (i + 1) qs))) (smaller_of least one)
+is_rival_of-step ix t qs i d least one lt h k =
     least-smaller (is_rival_of ix t (row (take i qs))) (is_rival (holders_at ix (named ((get_or qs i d).name))) t ((get_or qs i d).mode)) (is_rival_of ix t (row (take (i + 1) qs))) least one
     (λ s. ap (λ rs. is_rival_of ix t rs s) (row-step qs i d lt)
     ∙ (is_rival_of-append ix t (row (take i qs)) (requested (get_or qs i d) ∷ []) s
     ∙ ap (λ b. is_rival_of ix t (row (take i qs)) s || b) (or_false (is_rival (holders_at ix (named ((get_or qs i d).name))) t ((get_or qs i d).mode) s))))
     h
-    (subst (λ (ks : List Holder). IsLeast (is_rival ks t ((get_or qs i d).mode)) one) e k)
+    k
 
 pub all-requests : (ix : NameIndex) (t : ℕ) (qs : List RequestInCode) (i : ℕ) (least : Option ℕ) → length qs ≤ i → IsLeast (is_rival_of ix t (row (take i qs))) least → IsLeast (is_rival_of ix t (row qs)) least
 all-requests ix t qs i least le h = subst (λ (rs : List RequestInCode). IsLeast (is_rival_of ix t (row rs)) least) (take_all i qs le) h

@@ -1,14 +1,17 @@
 -- The two ways into the lock table, by name and by owner, as they agree.
-use Rattle.std.specs.Prelude.{◌≡◌, ◌≢◌, ℕ, Bool, true, false, ◌&&◌, ◌||◌, not, nat_eq, nat_lt, ◌≤◌, cond, map, List, [], ◌∷◌, Option, None, Some, Vec}
+use Rattle.std.specs.Prelude.{◌≡◌, ◌≢◌, ℕ, Bool, true, false, ◌&&◌, ◌||◌, not, nat_eq, nat_lt, ◌≤◌, cond, filter, map, List, [], ◌∷◌, Option, None, Some, Vec}
 use Rattle.std.specs.Str.{bytes_eq}
-use Rattle.std.specs.HashMap.{HashMap, get_by}
+use Rattle.std.specs.HashMap.{HashMap, get}
 use Rattle.im_types.specs.Keys.{Key}
 use Rattle.im_lock.specs.Locks.{Name, At, PastAll, Lock, Request}
 use Rattle.im_lock.specs.declared.request.Mode.{Mode}
 use Rattle.im_lock.specs.declared.request.Mode.TheVariants.{Shared, Exclusive}
 use Rattle.im_lock.specs.declared.request.Duration.{Duration}
 use Rattle.im_lock.specs.declared.request.Duration.TheVariants.{Instant, ToCommit}
+use Rattle.im_lock.specs.HeldKeys.{spelled, digest, among, listed_there}
 use Rattle.im_lock.specs.declared.holder.Holder.{Holder}
+use Rattle.im_lock.specs.declared.held_key.HeldKey.{HeldKey}
+use Rattle.im_lock.specs.declared.bucket.Bucket.{Bucket}
 use Rattle.im_lock.specs.declared.name_index.NameIndex.{NameIndex}
 use Rattle.im_lock.specs.declared.stored_lock.StoredName.{StoredName}
 use Rattle.im_lock.specs.declared.stored_lock.StoredName.TheVariants.{Key as StoredKey, End as StoredEnd}
@@ -53,21 +56,20 @@ is_among (h ∷ hs) s m = is_holder h s m || is_among hs s m
 
 -- a name as it is stored
 abbrev pub stored : StoredName → Name
-stored (StoredKey key) = At key.items
+stored (StoredKey key) = At (spelled key)
 stored StoredEnd = PastAll
 
 -- a lock as it is stored
 abbrev pub seen : StoredLock → Lock
 seen l = record { name = stored l.name; mode = l.mode }
 
--- the items of a vector, or none where there is no vector
-abbrev pub or_none : {A Z : Type 0} → Option (Vec A Z) → List A
-or_none None = []
-or_none (Some v) = v.items
+-- the keys held but for this one by t, in this mode
+abbrev pub without : Key → ℕ → Mode → List HeldKey → List HeldKey
+without k t m es = filter (λ e. not (bytes_eq k (spelled e.key) && is_holder e.holder t m)) es
 
--- who holds the key, by a map of keys
-abbrev pub holders_of : {S Z Y : Type 0} → HashMap (Vec ℕ Z) (Vec Holder Y) S → Key → List Holder
-holders_of keys k = or_none (get_by (λ v. bytes_eq k v.items) keys)
+-- who holds the key, by a map from digests
+abbrev pub holders_of : {S : Type 0} → HashMap ℕ Bucket S → Key → List Holder
+holders_of keys k = among k (listed_there (get nat_eq keys (digest k)))
 
 -- who holds the name, by the index of names
 abbrev pub holders_at : NameIndex → Name → List Holder

@@ -86,22 +86,25 @@ fn keep(
     if let Duration::Instant = request.duration {
         return Ok(());
     }
-    if names.is_held(request.name, t, request.mode) {
-        return Ok(());
-    }
-    let alloc = *locks.allocator();
-    let lock = StoredLock {
-        name: store(alloc, request.name)?,
+    locks.reserve(1)?;
+    let holder = Holder {
+        owner: t,
         mode: request.mode,
     };
-    locks.reserve(1)?;
-    names.add(
-        request.name,
-        Holder {
-            owner: t,
-            mode: request.mode,
-        },
-    )?;
-    locks.push_reserved(lock);
-    Ok(())
+    if !names.add(request.name, holder)? {
+        return Ok(());
+    }
+    match store(*locks.allocator(), request.name) {
+        Ok(name) => {
+            locks.push_reserved(StoredLock {
+                name,
+                mode: request.mode,
+            });
+            Ok(())
+        }
+        Err(error) => {
+            names.remove(request.name, t, request.mode);
+            Err(error)
+        }
+    }
 }

@@ -1,5 +1,8 @@
 //! Who holds a name.
 
+ghost use Rattle.std.specs.Prelude.{◌≡◌};
+ghost use Rattle.im_lock.specs.Index.{is_holder};
+
 use crate::request::Mode;
 use im_types::TxnId;
 
@@ -8,4 +11,13 @@ use im_types::TxnId;
 pub struct Holder {
     pub owner: TxnId,
     pub mode: Mode,
+}
+
+impl Holder {
+    /// Whether this is the owner, in this mode.
+    pub fn is(&self, owner: TxnId, mode: Mode) -> bool
+        ensures { result ≡ is_holder self.now owner mode }
+    {
+        self.owner == owner && self.mode == mode
+    }
 }

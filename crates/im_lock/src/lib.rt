@@ -8,11 +8,11 @@
 //! refused nothing is. `release_all` takes out the locks of one owner; it cannot fail and takes no memory.
 //!
 //! Contracts see the table as a list of owners, each with its locks (`Table`, `locks_of`). Within, each lock stands
-//! twice: in the list of its owner, and in a map from names to holders. That both say the same, and each lock once,
-//! is the table's invariant (`IsInStep`). So a request costs look-ups of its name, however many locks are held, and
-//! a release costs what its owner holds. `lock_bench --time` measures it: on one machine some 7, 8 and 4 million locks
-//! a second are granted to one that takes 10, 1,000 and 30,000 and lets them go, 9, 11 and 7 million are released, and
-//! another that takes one lock and lets it go does so 4 million times a second beside each of these.
+//! twice: in the list of its owner, and in an index from names to holders. That both say the same, and each lock once,
+//! is the table's invariant (`IsInStep`). The index finds a key by a digest of its bytes, whose bucket lists the keys of
+//! that digest that are held: mostly one, in place, as are keys of up to 31 bytes, so that a lock on such a key that
+//! nobody else holds wants no memory but room in the two. So a request costs look-ups of its name, however many
+//! locks are held, and a release costs what its owner holds. `im_bench lock --time` measures it.
 //!
 //! **The rows.** `fetch_row`, `seek_row`, `scan_row`, `insert_row`, `delete_row` and `shared` give what each access asks,
 //! from what its search found; by their contracts these are the rows of the machine (`asked`).
@@ -27,9 +27,12 @@
 //! The crate stands on `im_types` alone.
 #![tactic(auto)]
 
+mod bucket;
 mod grants;
+mod held_key;
 mod holder;
 mod isolated;
+mod key_bytes;
 mod lock_table;
 mod name;
 mod name_holders;
@@ -39,9 +42,8 @@ mod rivals;
 mod row;
 mod rows;
 mod scan_requests;
+mod short_key;
 mod stored_lock;
-#[cfg(test)]
-mod tests;
 mod verdict;
 mod worked;
 

@@ -15,16 +15,13 @@ pub fn smallest_rival(names: &NameIndex, t: TxnId, requests: &[Request<'_>]) -> 
 {
     let mut least: Option<TxnId> = None;
     for request in requests {
-        least = smaller(
-            least,
-            smallest_among(names.holders(request.name), t, request.mode),
-        );
+        least = smaller(least, names.smallest_rival(request.name, t, request.mode));
     }
     least
 }
 
-// The smallest number among holders that are against `t`, who asks in this mode.
-fn smallest_among(holders: &[Holder], t: TxnId, mode: Mode) -> Option<TxnId>
+/// The smallest number among holders that are against `t`, who asks in this mode.
+pub fn smallest_among(holders: &[Holder], t: TxnId, mode: Mode) -> Option<TxnId>
     ensures { IsLeast (is_rival holders.now t mode) result }
 {
     let mut least: Option<TxnId> = None;
@@ -34,8 +31,8 @@ fn smallest_among(holders: &[Holder], t: TxnId, mode: Mode) -> Option<TxnId>
     least
 }
 
-// The owner of the holder, where it is against `t`.
-fn rival(holder: &Holder, t: TxnId, mode: Mode) -> Option<TxnId>
+/// The owner of the holder, where it is against `t`.
+pub fn rival(holder: &Holder, t: TxnId, mode: Mode) -> Option<TxnId>
     ensures { result ≡ rival_in holder.now t mode }
 {
     if holder.owner != t && (mode == Mode::Exclusive || holder.mode == Mode::Exclusive) {
@@ -45,8 +42,8 @@ fn rival(holder: &Holder, t: TxnId, mode: Mode) -> Option<TxnId>
     }
 }
 
-// The smaller of two numbers that may be missing.
-fn smaller(a: Option<TxnId>, b: Option<TxnId>) -> Option<TxnId>
+/// The smaller of two numbers that may be missing.
+pub fn smaller(a: Option<TxnId>, b: Option<TxnId>) -> Option<TxnId>
     ensures { result ≡ smaller_of a b }
 {
     match (a, b) {

@@ -54,7 +54,7 @@ fn read_entries<'a>(
 ) -> Result<Vec<Request<'a>>, AllocError>
     ensures { IfOk result (λ requests. row requests.items ≡ map (λ e. asked_shared (At e.0)) entries.now) }
 {
-    let mut requests = Vec::new(alloc);
+    let mut requests = Vec::with_capacity(alloc, entries.len().saturating_add(1))?;
     for (key, _) in entries {
         requests.push(shared(Name::Key(key.bytes())))?;
     }

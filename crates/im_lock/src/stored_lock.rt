@@ -4,6 +4,7 @@ ghost use Rattle.std.specs.Prelude.{◌≡◌, IfOk};
 ghost use Rattle.im_lock.specs.Table.{named};
 ghost use Rattle.im_lock.specs.Index.{stored};
 
+use crate::key_bytes::KeyBytes;
 use crate::name::Name;
 use crate::request::Mode;
 use std::alloc::{AllocError, Global};
@@ -11,7 +12,7 @@ use std::alloc::{AllocError, Global};
 /// A name with bytes of its own.
 #[derive(Drop)]
 pub enum StoredName {
-    Key(Vec<u8>),
+    Key(KeyBytes),
     End,
 }
 
@@ -27,7 +28,7 @@ pub fn store(alloc: Global, name: Name<'_>) -> Result<StoredName, AllocError>
     ensures { IfOk result (λ copy. stored copy ≡ named name.entry) }
 {
     match name {
-        Name::Key(bytes) => Ok(StoredName::Key(Vec::from_slice(alloc, bytes)?)),
+        Name::Key(bytes) => Ok(StoredName::Key(KeyBytes::from_slice(alloc, bytes)?)),
         Name::End => Ok(StoredName::End),
     }
 }
@@ -37,7 +38,7 @@ pub fn lend(name: &StoredName) -> Name<'_>
     ensures { named result ≡ stored name.now }
 {
     match name {
-        StoredName::Key(bytes) => Name::Key(bytes.as_slice()),
+        StoredName::Key(key) => Name::Key(key.as_slice()),
         StoredName::End => Name::End,
     }
 }

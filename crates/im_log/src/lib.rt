@@ -10,7 +10,7 @@
 //! its bytes; what each call keeps of it stands in its clause `kept`. After a call that failed every later one is refused.
 //!
 //! Nothing that was written is read again but by `read_at` and a scan: an append costs a copy of its record into the buffer, and
-//! a force one write of what is buffered and one of a byte, however long the log is. `log_bench --time` measures it on the model
+//! a force one write of what is buffered and one of a byte, however long the log is. `im_bench log --time` measures it on the model
 //! disk; one run on four cores, for records of 50 bytes, in nanoseconds a record:
 //!
 //! | | log of 160 KB | log of 33 MB | by hand |
@@ -30,8 +30,6 @@ mod log_file;
 mod opening;
 mod reading;
 mod scan;
-#[cfg(test)]
-mod tests;
 
 pub use creation::open_or_create;
 pub use log_file::LogFile;

@@ -41,7 +41,7 @@
 //!
 //! # Speed
 //!
-//! `page_bench` times the calls over leaves with keys of eight bytes, and `peer/page.c` beside it does the same work in
+//! `im_bench page` times the calls over leaves with keys of eight bytes, and its `peer/page.c` does the same work in
 //! C (`cc -O2`) over the same bytes. Nanoseconds a call, the least of six runs of each in turn on one machine with other
 //! work on it:
 //!
@@ -72,6 +72,3 @@ mod removal;
 mod split;
 
 pub use page::{Full, Page};
-
-#[cfg(test)]
-mod tests;

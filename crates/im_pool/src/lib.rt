@@ -28,7 +28,7 @@
 //!
 //! # Speed
 //!
-//! By `pool_bench --time`, with 1,000 pages: a get of a held page takes 12 to 22 ns, beside 4 to 6 for a look-up alone in a hash
+//! By `im_bench pool --time`, with 1,000 pages: a get of a held page takes 12 to 22 ns, beside 4 to 6 for a look-up alone in a hash
 //! map of the same numbers; no page is copied and nothing allocated. A get that reads takes 1.3 to 1.6 µs from a disk in
 //! memory: one copy of 4 KiB, and the check of the page's form, which is most of it.
 //!
@@ -47,8 +47,6 @@ mod frames;
 mod gets;
 mod places;
 mod pool;
-#[cfg(test)]
-mod tests;
 
 pub use files::write_page;
 pub use frame::Frame;

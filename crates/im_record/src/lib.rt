@@ -33,6 +33,3 @@ pub use kind::Kind;
 pub use laws::{read_back, spellings};
 pub use reading::{decode, decode_front};
 pub use record::Record;
-
-#[cfg(test)]
-mod tests;

@@ -39,7 +39,5 @@
 mod copies;
 mod records;
 mod redoing;
-#[cfg(test)]
-mod tests;
 
 pub use redoing::redo;

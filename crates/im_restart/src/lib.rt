@@ -54,6 +54,3 @@ mod undo;
 pub use opening::open_or_create;
 pub use redo_report::RedoReport;
 pub use restarted::Restarted;
-
-#[cfg(test)]
-mod tests;

@@ -12,8 +12,6 @@
 #![tactic(auto)]
 
 mod next_record;
-#[cfg(test)]
-mod tests;
 mod turn;
 mod undone;
 

@@ -46,6 +46,12 @@ IsFar (Here i) = ⊥
 IsFar (There key) = Unit {0}
 IsFar End = Unit {0}
 
+-- The key's leaf is held, and is the writer's, and what is answered beside it names the first key of the walk above the key; by no get, where that key stands in the leaf.
+pub record IsNextInLeaf (pages : AllPages) (key : Key) (p : ℕ) (next : NextKey) (old_gets : ℕ) (pool : PoolView) : Type 0 where
+  pub leaf : IsReached pages key 0 p pool
+  pub name : next_name pool p next ≡ name_above key (bodies_of pages)
+  pub gets : IsHere next → pool.gets ≡ old_gets
+
 -- The key's leaf is held, and is the writer's, and what is answered beside it names the first key of the walk above the key; by one get for each level, where that key stands in the leaf.
 pub record IsLeafAndNext (pages : AllPages) (key : Key) (p : ℕ) (next : NextKey) (old_gets : ℕ) (pool : PoolView) : Type 0 where
   pub leaf : IsReached pages key 0 p pool

@@ -4,7 +4,7 @@
 //! - `locate` answers the row id of a key.
 //! - `next_entry` answers where the first entry at or above a key stands, or the first above it: it goes down to the key's
 //!   leaf, and from there along the leaf chain past leaves that have no such entry.
-//! - `leaf_and_next` answers the leaf of a key, and the key behind it.
+//! - `leaf_and_next` answers the leaf of a key, and the key behind it; `next_in_leaf` answers that key beside a leaf that the caller holds.
 //! - `entries` answers copies of all entries, along the leaf chain.
 //! - `entries_between` answers copies of the entries of a range, at most so many, and the key behind them.
 //! - `level_of` answers the level of a page of the tree, `child_of` the child of an inner page on a key's way, and where it
@@ -37,8 +37,6 @@ mod lookup;
 mod next_key;
 mod range;
 mod reading;
-#[cfg(test)]
-mod tests;
 
 pub use child_place::{Child, ChildPlace};
 pub use descent::leaf_for;
@@ -47,6 +45,6 @@ pub use leaf_chain::next_entry;
 pub use levels::{has_level, tree_page};
 pub use listing::entries;
 pub use lookup::locate;
-pub use next_key::{NextKey, leaf_and_next};
+pub use next_key::{NextKey, leaf_and_next, next_in_leaf};
 pub use range::entries_between;
 pub use reading::{child_in, child_of, level_of};

@@ -1,6 +1,6 @@
 //! The leaf of a key, and the key behind it.
 
-ghost use Rattle.std.specs.Prelude.{◌≡◌, ◌<◌, ℕ, IfOk, length};
+ghost use Rattle.std.specs.Prelude.{◌≡◌, ◌<◌, ℕ, false, IfOk, length};
 ghost use Rattle.im_types.specs.Maps.{Above};
 ghost use Rattle.im_page.specs.Entry.{entry_at};
 ghost use Rattle.im_pool.specs.Pool.{page_at, IsAt};
@@ -8,8 +8,8 @@ ghost use Rattle.im_flush.specs.PageWriter.{IsReadyWriter};
 ghost use Rattle.im_flush.specs.Outcome.{fault_of, AllPages, IsSound, Reads};
 ghost use Rattle.im_tree.specs.Lookups.{IsAhead};
 ghost use Rattle.im_search.specs.Levels.{HasLevel, bodies_of};
-ghost use Rattle.im_search.specs.Found.{HasTree, entries_of};
-ghost use Rattle.im_search.specs.NextKeys.{far_name, name_above, IsFar, IsWithin, IsLeafAndNext};
+ghost use Rattle.im_search.specs.Found.{HasTree, IsReached, entries_of};
+ghost use Rattle.im_search.specs.NextKeys.{far_name, name_above, IsFar, IsWithin, IsNextInLeaf, IsLeafAndNext};
 ghost use Rattle.im_search.specs.declared.next_key.NextKey.TheVariants.{There};
 
 use crate::descent::leaf_for;
@@ -59,6 +59,39 @@ fn name_along<D: Disk>(
     Ok(copied(writer.page(place.frame), place.at))
 }
 
+/// The next key above a key, beside the key's leaf, which is held: the leaf's own entries are looked at first, by no get; where none is
+/// above the key, the search goes along the leaf chain, and then gets the leaf again. Answered is where the leaf is held from now on.
+///
+/// Refused as `next_entry` is.
+#[tactic(auto, using(im_flush::proofs::Outcomes::then, im_flush::proofs::Outcomes::refused))]
+pub fn next_in_leaf<D: Disk>(
+    writer: &mut PageWriter,
+    disk: &mut D,
+    leaf: Frame,
+    key: &[u8],
+) -> Result<(Frame, NextKey), Fault>
+    requires ready { IsReadyWriter D.Disk writer.old disk.old }
+    requires working { writer.old.failed ≡ false }
+    requires at { IsAt writer.old.pool leaf }
+    requires page { HasLevel 0 (page_at writer.old.pool leaf.number).body }
+    ensures outcome { Reads D.Disk writer.old disk.old writer.new disk.new (fault_of result) }
+    ensures kept { (pages : AllPages) → HasTree D.Disk pages writer.old disk.old → IsReached pages key.now 0 leaf.number writer.old.pool
+        → IsSound result (λ x. IsNextInLeaf pages key.now x.0.number x.1 writer.old.pool.gets writer.new.pool) }
+    ensures at { IfOk result (λ x. IsAt writer.new.pool x.0) }
+    ensures number { IfOk result (λ x. x.0.number ≡ leaf.number) }
+    ensures leaf { IfOk result (λ x. HasLevel 0 (page_at writer.new.pool x.0.number).body) }
+    ensures within { IfOk result (λ x. IsWithin (entries_of writer.new.pool x.0.number) x.1) }
+{
+    let page = writer.page(leaf);
+    if let Some(at) = first_past(page, key, false) {
+        return Ok((leaf, NextKey::Here(at)));
+    }
+    let next = page.next();
+    let name = name_along(writer, disk, next, key)?;
+    let frame = tree_page(writer, disk, leaf.number, 0)?;
+    Ok((frame, name))
+}
+
 /// Where the leaf of a key is held from now on, and the next key above it. The leaf's own entries are looked at first, by one get for
 /// each level; where none is above the key, the search goes along the leaf chain, and then gets the leaf again, so that it is held.
 ///
@@ -77,13 +110,6 @@ pub fn leaf_and_next<D: Disk>(
     ensures leaf { IfOk result (λ x. HasLevel 0 (page_at writer.new.pool x.0.number).body) }
     ensures within { IfOk result (λ x. IsWithin (entries_of writer.new.pool x.0.number) x.1) }
 {
-    let first = leaf_for(writer, disk, key)?;
-    let leaf = writer.page(first);
-    if let Some(at) = first_past(leaf, key, false) {
-        return Ok((first, NextKey::Here(at)));
-    }
-    let next = leaf.next();
-    let name = name_along(writer, disk, next, key)?;
-    let frame = tree_page(writer, disk, first.number, 0)?;
-    Ok((frame, name))
+    let leaf = leaf_for(writer, disk, key)?;
+    next_in_leaf(writer, disk, leaf, key)
 }

@@ -28,6 +28,14 @@ fn lies_below(a: &[u8], b: &[u8]) -> bool
     compare(a, b).is_lt()
 }
 
+// An empty list with room for so many entries, at most 256.
+fn list_for(alloc: Global, limit: usize) -> Result<Vec<(Key, Rid)>, Fault>
+    ensures none { IfOk result (λ list. list.items ≡ []) }
+    ensures memory { IfErr result (λ e. e ≡ Memory) }
+{
+    Vec::with_capacity(alloc, limit.min(256)).map_err(|_| Fault::Memory)
+}
+
 // Adds an entry of a page to a list.
 fn add_entry(list: &mut Vec<(Key, Rid)>, page: &Page, i: usize) -> Result<(), Fault>
     requires { i < length page.now.body.entries }
@@ -126,7 +134,7 @@ pub fn entries_between<D: Disk>(
     ensures most { IfOk result (λ x. length x.0.items ≤ limit) }
 {
     let frame = leaf_for(writer, disk, lo)?;
-    let mut list = Vec::new(alloc);
+    let mut list = list_for(alloc, limit)?;
     if limit == 0 {
         return Ok((list, None));
     }

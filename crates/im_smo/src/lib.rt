@@ -56,6 +56,3 @@ pub use chain::{link_next, link_prev};
 pub use deletions::{drop_entry, drop_leftmost, empty_root};
 pub use images::Images;
 pub use splits::{split_inner, split_leaf, split_root_inner, split_root_leaf};
-
-#[cfg(test)]
-mod tests;

@@ -29,8 +29,6 @@ mod leaves;
 mod plan;
 mod reading;
 mod taking;
-#[cfg(test)]
-mod tests;
 mod top;
 mod turns;
 

@@ -31,8 +31,6 @@ mod kinds;
 mod lived_laws;
 mod marks;
 mod shown_laws;
-#[cfg(test)]
-mod tests;
 mod undone_laws;
 
 pub use durable_laws::{

@@ -7,8 +7,6 @@
 
 mod look_ups;
 mod table;
-#[cfg(test)]
-mod tests;
 mod transaction;
 
 pub use look_ups::{look_ups_follow, numbers_stay_below};

@@ -5,5 +5,3 @@ pub mod lives;
 pub mod logs;
 pub mod one_leaf;
 pub mod pages;
-#[cfg(test)]
-mod tests;

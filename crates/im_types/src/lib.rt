@@ -19,8 +19,6 @@ mod page_kind;
 mod reply;
 mod step;
 mod tables;
-#[cfg(test)]
-mod tests;
 
 pub use fault::Fault;
 pub use file_id::FileId;

@@ -29,8 +29,6 @@
 mod compensation;
 mod laws;
 mod place;
-#[cfg(test)]
-mod tests;
 mod undo;
 
 pub use laws::undo_keeps;

@@ -14,9 +14,6 @@ use im_pool::Frame;
 use im_record::Record;
 use im_types::{Fault, Lsn, PageNo};
 
-#[cfg(test)]
-mod tests;
-
 impl PageWriter {
     ghost use Rattle.im_types.specs.Pages.{Page};
     ghost use Rattle.im_types.specs.Records.{Logged};

@@ -1,5 +1,5 @@
-use Rattle.std.proofs.Common.{List, refl, sym, ap, subst}
-use Rattle.im_types.specs.Answers.{Scan, Entries, answer}
+use Rattle.std.proofs.Common.{◌≤◌, ℕ, List, length, refl, sym, ap, subst}
+use Rattle.im_types.specs.Answers.{Scan, Entries, answer, limit_of}
 use Rattle.im_types.specs.Pages.{Entry}
 use Rattle.im_flush.proofs.Outcomes.{out_of_memory, refused, sound_on}
 use Rattle.im_tree.specs.Levels.{walk}
@@ -8,7 +8,7 @@ use Rattle.im_lock.specs.Rows.{asked}
 use Rattle.im_lock.specs.Found.{IsScanOf}
 use Rattle.im_index.specs.Outcomes.{entries_found, name_behind}
 use Rattle.im_index.proofs.Names.{scan_is}
-use Rattle.im_index.proofs.Calls.{decided_as, memory_not, says_as}
+use Rattle.im_index.proofs.Calls.{decided_as, granted_as, memory_not, says_as}
 use Rattle.im_index.proofs.scans.scan.Goals as goal
 
 pub returns-in_err-list-clause-kept : goal.returns-in_err-list-clause-kept
@@ -33,3 +33,6 @@ returns-clause-kept g c pages m tree is =
       decides = decided_as c.args.locks.now c.ask_range.new.locks c.args.transaction (asked (Scan lo hi c.args.limit) m) (asked (Scan lo hi c.args.limit) m) c.in_ok-verdict.verdict c.outcome_of.result (c.in_ok-verdict.ensures.decided m lo hi c.args.limit lent) refl c.outcome_of.ensures.verdict;
       says = says_as entries_found c.outcome_of.result c.in_ok-list.list (answer (Scan lo hi c.args.limit) m) c.outcome_of.ensures.value (ap Entries scanned.entries);
     }
+
+pub returns-clause-most : goal.returns-clause-most
+returns-clause-most g c = granted_as (λ l. length l.items ≤ limit_of c.args.limit) c.outcome_of.result c.in_ok-list.list c.outcome_of.ensures.value (subst (λ (n : ℕ). length c.in_ok-list.list.items ≤ n) c.bounded.ensures c.in_ok-list.ensures.most)

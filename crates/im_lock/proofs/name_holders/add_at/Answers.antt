@@ -1,38 +1,31 @@
-use Rattle.std.proofs.Common.{rules, ◌≡◌, ℕ, List, ap, sym, subst, ◌∙◌}
-use Rattle.im_lock.specs.HeldKeys.{HasHolders}
-use Rattle.im_lock.specs.Index.{holders_of}
-use Rattle.im_lock.proofs.Keys.{holders-elsewhere, holders-elsewhere_by, holders-same, held_after, held_after_by, with_one_more, with_some}
+use Rattle.std.proofs.Common.{rules, ◌++◌, ◌∷◌, [], Some, ap, ◌∙◌}
+use Rattle.im_lock.specs.HeldKeys.{among, listed, listed_there}
+use Rattle.im_lock.proofs.Keys.{one_more_here, added_others, holders_left, holders_put, put_at, there_at, if_ok}
 use Rattle.im_lock.proofs.name_holders.add_at.Goals as goal
 
-pub returns-in_err-push-clause-others : goal.returns-in_err-push-clause-others
-returns-in_err-push-clause-others c = λ k e. holders-elsewhere c.args.keys.now (c.get_mut.follows.lender c.push.new.self) c.args.key.now _ ((c.get_mut.follows.holds c.push.new.self).3 (search rules)) k e
-
-pub returns-in_err-push-clause-err : goal.returns-in_err-push-clause-err
-returns-in_err-push-clause-err c =
-    let same : (k : List ℕ) → holders_of (c.get_mut.follows.lender c.push.new.self) k ≡ holders_of c.args.keys.now k =
-    holders-same c.args.keys.now (c.get_mut.follows.lender c.push.new.self) c.args.key.now _ ((c.get_mut.follows.holds c.push.new.self).3 (search rules)) (search rules) in
-    search (rules, same)
+pub returns-in-Some-clause-here : goal.returns-in-Some-clause-here
+returns-in-Some-clause-here c =
+    let keys = c.args.keys.now in
+    let k = c.args.key.now in
+    let old = c.in-Some.bucket.now in
+    let new = c.add_in.new.bucket in
+    let after = c.get_mut.follows.lender new in
+    let updates = put_at keys after k c.digest_of-digest.result (Some new) c.digest_of-digest.ensures ((c.get_mut.follows.holds new).3 (search rules)) in
+    let there = there_at keys k c.digest_of-digest.result old c.digest_of-digest.ensures c.in-Some.ensures.value in
+    if_ok c.add_in.result (λ is_new more e.
+    holders_put keys after k (Some new) updates
+    ∙ (one_more_here k c.args.holder (listed old) (listed new) (more e)
+    ∙ ap (λ o. among k (listed_there o) ++ c.args.holder ∷ []) there)) c.add_in.ensures.here
 
 pub returns-in-Some-clause-others : goal.returns-in-Some-clause-others
-returns-in-Some-clause-others c = λ k e. holders-elsewhere c.args.keys.now (c.get_mut.follows.lender c.push.new.self) c.args.key.now _ ((c.get_mut.follows.holds c.push.new.self).3 (search rules)) k e
-
-pub returns-clause-others : goal.returns-clause-others
-returns-clause-others c = λ k e.
-    holders-elsewhere_by c.get_mut.follows.lender-at-none c.insert.new.self c.in_ok-from_slice.field-0 c.args.key.now _ c.in_ok-from_slice.ensures.items c.in_ok-insert.ensures.updates k e
-    ∙ ap (λ m. holders_of m k) c.get_mut.follows.holds-at-none
-
-pub returns-in_err-push-clause-used : goal.returns-in_err-push-clause-used
-returns-in_err-push-clause-used c =
-    held_after c.args.keys.now (c.get_mut.follows.lender c.push.new.self) c.args.key.now _ ((c.get_mut.follows.holds c.push.new.self).3 (search rules)) c.requires.used
-    (with_some c.push.new.self (λ none. c.requires.used c.args.key.now c.in-Some.holders.now (sym c.in-Some.ensures.value) (sym c.in_err-push.ensures.items ∙ none)))
-
-pub returns-in-Some-clause-used : goal.returns-in-Some-clause-used
-returns-in-Some-clause-used c =
-    held_after c.args.keys.now (c.get_mut.follows.lender c.push.new.self) c.args.key.now _ ((c.get_mut.follows.holds c.push.new.self).3 (search rules)) c.requires.used
-    (with_one_more c.push.new.self _ _ c.in_ok-push.ensures.items)
-
-pub returns-clause-used : goal.returns-clause-used
-returns-clause-used c =
-    held_after_by c.get_mut.follows.lender-at-none c.insert.new.self c.in_ok-from_slice.field-0 c.args.key.now _ c.in_ok-from_slice.ensures.items c.in_ok-insert.ensures.updates
-    (subst (λ m. HasHolders m) (sym c.get_mut.follows.holds-at-none) c.requires.used)
-    (with_one_more c.push-2.new.self _ _ c.in_ok-push-2.ensures.items)
+returns-in-Some-clause-others c = λ other ne.
+    let keys = c.args.keys.now in
+    let k = c.args.key.now in
+    let old = c.in-Some.bucket.now in
+    let new = c.add_in.new.bucket in
+    let after = c.get_mut.follows.lender new in
+    let updates = put_at keys after k c.digest_of-digest.result (Some new) c.digest_of-digest.ensures ((c.get_mut.follows.holds new).3 (search rules)) in
+    let there = there_at keys k c.digest_of-digest.result old c.digest_of-digest.ensures c.in-Some.ensures.value in
+    holders_left keys after k (Some new) updates other
+    (added_others c.add_in.result k c.args.holder (listed old) (listed new) c.add_in.ensures.here c.add_in.ensures.there c.add_in.ensures.err other ne
+    ∙ ap (λ o. among other (listed_there o)) there)

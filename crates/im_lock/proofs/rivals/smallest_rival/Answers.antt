@@ -8,7 +8,7 @@ pub loop-request-preserved : goal.loop-request-preserved
 loop-request-preserved c =
     subst (λ (o : Option ℕ). IsLeast (is_rival_of c.args.names.now c.args.t (row (take (c.loop-request.request-index + 1) c.args.requests.now))) o)
     (sym c.smaller-least.ensures)
-    (is_rival_of-step c.args.names.now c.args.t c.args.requests.now c.loop-request.request-index _ c.loop-request.least c.smallest_among.result c.holders.result.now c.loop-request-test.true c.loop-request.invariant c.holders.ensures c.smallest_among.ensures)
+    (is_rival_of-step c.args.names.now c.args.t c.args.requests.now c.loop-request.request-index _ c.loop-request.least c.smallest_rival.result c.loop-request-test.true c.loop-request.invariant c.smallest_rival.ensures)
 
 pub returns : goal.returns
 returns c = all-requests c.args.names.now c.args.t c.args.requests.now c.loop-request.request-index c.loop-request.least c.loop-request-test.false c.loop-request.invariant

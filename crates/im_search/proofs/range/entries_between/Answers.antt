@@ -16,13 +16,19 @@ use Rattle.im_search.proofs.range.entries_between.Goals as goal
 pub returns-in_err-frame-clause-kept : goal.returns-in_err-frame-clause-kept
 returns-in_err-frame-clause-kept g c pages tree = sound_on c.from_residual.result _ _ c.from_residual.ensures.1 (c.in_err-frame.ensures.kept pages tree)
 
+pub returns-in_err-list-clause-outcome : goal.returns-in_err-list-clause-outcome
+returns-in_err-list-clause-outcome g c = refused g.D.Disk c.from_residual-in_err-list.result c.from_residual-in_err-list.ensures.1 (out_of_memory g.D.Disk c.in_err-list.ensures.memory c.in_ok-frame.ensures.outcome)
+
+pub returns-in_err-list-clause-kept : goal.returns-in_err-list-clause-kept
+returns-in_err-list-clause-kept g c pages tree = sound_on c.from_residual-in_err-list.result _ _ c.from_residual-in_err-list.ensures.1 (memory_not c.in_err-list.field-0.0 c.in_err-list.ensures.memory)
+
 pub returns-then-limit-eq0-clause-kept : goal.returns-then-limit-eq0-clause-kept
 returns-then-limit-eq0-clause-kept g c pages tree =
     let r = c.in_ok-frame.ensures.kept pages tree in
     let lo = c.args.lo.now in
     let hi = c.args.hi.now in
     record {
-      range = subst (λ (es : List Entry). IsRange (walk (bodies_of pages)) lo hi c.args.limit es None) (sym c.new-list.ensures.items) (range_of_none (walk (bodies_of pages)) lo hi c.args.limit c.if-limit-eq0.true);
+      range = subst (λ (es : List Entry). IsRange (walk (bodies_of pages)) lo hi c.args.limit es None) (sym c.in_ok-list.ensures.none) (range_of_none (walk (bodies_of pages)) lo hi c.args.limit c.if-limit-eq0.true);
       gets = record { n = 0; passes = passes_none (bodies_of pages) lo hi c.in_ok-frame.frame.number r.reached.way; one = λ _. r.gets; more = omega (arith, r.gets) };
     }
 
@@ -32,7 +38,7 @@ returns-then-lies_below-clause-kept g c pages tree =
     let lo = c.args.lo.now in
     let hi = c.args.hi.now in
     record {
-      range = subst (λ (es : List Entry). IsRange (walk (bodies_of pages)) lo hi c.args.limit es None) (sym c.new-list.ensures.items) (empty_range (walk (bodies_of pages)) lo hi c.args.limit (search rules));
+      range = subst (λ (es : List Entry). IsRange (walk (bodies_of pages)) lo hi c.args.limit es None) (sym c.in_ok-list.ensures.none) (empty_range (walk (bodies_of pages)) lo hi c.args.limit (search rules));
       gets = record { n = 0; passes = passes_none (bodies_of pages) lo hi c.in_ok-frame.frame.number r.reached.way; one = λ _. r.gets; more = omega (arith, r.gets) };
     }
 
@@ -52,8 +58,8 @@ returns-in-Some-clause-kept g c pages tree =
     let list = c.add_part.new.list.items in
     let not_less : is_below hi lo ≡ false = search rules in
     let begun = along_begins (bodies_of pages) tree.spare lo hi p tree.good r.reached.way not_less in
-    let part = part_some lo hi c.args.limit lent.body.entries c.new-list.result.items list c.in_ok-behind.field-0 c.in-Some.behind c.in-Some.is c.in_ok-behind.ensures.part in
-    let from_none = subst (λ (es : List Entry). IsPart lo hi c.args.limit lent.body.entries es list (Some c.in-Some.behind)) c.new-list.ensures.items part in
+    let part = part_some lo hi c.args.limit lent.body.entries c.in_ok-list.list.items list c.in_ok-behind.field-0 c.in-Some.behind c.in-Some.is c.in_ok-behind.ensures.part in
+    let from_none = subst (λ (es : List Entry). IsPart lo hi c.args.limit lent.body.entries es list (Some c.in-Some.behind)) c.in_ok-list.ensures.none part in
     record {
       range = along_stops (bodies_of pages) tree.spare lo hi c.args.limit [] list 0 p tree.good not_less begun (way_known (bodies_of pages) tree.spare 0 lo p tree.good r.reached.way).0 lent (page_at c.leaf_for.new.writer.pool p) c.page-leaf.ensures.page
           (ap (λ (x : Page). x.body) r.reached.shown) c.in-Some.behind from_none;
@@ -70,8 +76,8 @@ returns-in_err-behind-2-clause-kept g c pages tree =
     let list = c.add_part.new.list.items in
     let not_less : is_below hi lo ≡ false = search rules in
     let begun = along_begins (bodies_of pages) tree.spare lo hi p tree.good r.way not_less in
-    let part = part_none lo hi c.args.limit lent.body.entries c.new-list.result.items list c.in_ok-behind.field-0 c.in_default.not-Some c.in_ok-behind.ensures.part in
-    let from_none = subst (λ (es : List Entry). IsPart lo hi c.args.limit lent.body.entries es list None) c.new-list.ensures.items part in
+    let part = part_none lo hi c.args.limit lent.body.entries c.in_ok-list.list.items list c.in_ok-behind.field-0 c.in_default.not-Some c.in_ok-behind.ensures.part in
+    let from_none = subst (λ (es : List Entry). IsPart lo hi c.args.limit lent.body.entries es list None) c.in_ok-list.ensures.none part in
     let past = along_on (bodies_of pages) tree.spare lo hi c.args.limit [] list 0 p tree.good begun (way_known (bodies_of pages) tree.spare 0 lo p tree.good r.way).0 lent (page_at c.leaf_for.new.writer.pool p) c.page-leaf.ensures.page (ap (λ (x : Page). x.body) r.shown) from_none in
     let next : IsAlong (bodies_of pages) lo hi list 1 c.next-next.result = subst (λ (q : ℕ). IsAlong (bodies_of pages) lo hi list 1 q) (sym c.next-next.ensures) past in
     sound_on c.from_residual-in_err-behind-2.result _ _ c.from_residual-in_err-behind-2.ensures.1 (c.in_err-behind-2.ensures.kept pages 1 (tree_still g.D.Disk tree c.in_ok-frame.ensures.outcome) next (omega arith))
@@ -94,8 +100,8 @@ returns-clause-kept g c pages tree =
     let list = c.add_part.new.list.items in
     let not_less : is_below hi lo ≡ false = search rules in
     let begun = along_begins (bodies_of pages) tree.spare lo hi p tree.good r.way not_less in
-    let part = part_none lo hi c.args.limit lent.body.entries c.new-list.result.items list c.in_ok-behind.field-0 c.in_default.not-Some c.in_ok-behind.ensures.part in
-    let from_none = subst (λ (es : List Entry). IsPart lo hi c.args.limit lent.body.entries es list None) c.new-list.ensures.items part in
+    let part = part_none lo hi c.args.limit lent.body.entries c.in_ok-list.list.items list c.in_ok-behind.field-0 c.in_default.not-Some c.in_ok-behind.ensures.part in
+    let from_none = subst (λ (es : List Entry). IsPart lo hi c.args.limit lent.body.entries es list None) c.in_ok-list.ensures.none part in
     let past = along_on (bodies_of pages) tree.spare lo hi c.args.limit [] list 0 p tree.good begun (way_known (bodies_of pages) tree.spare 0 lo p tree.good r.way).0 lent (page_at v.pool p) c.page-leaf.ensures.page (ap (λ (x : Page). x.body) r.shown) from_none in
     let next : IsAlong (bodies_of pages) lo hi list 1 c.next-next.result = subst (λ (q : ℕ). IsAlong (bodies_of pages) lo hi list 1 q) (sym c.next-next.ensures) past in
     let rest = c.in_ok-behind-2.ensures.kept pages 1 (tree_still g.D.Disk tree c.in_ok-frame.ensures.outcome) next (omega arith) in
