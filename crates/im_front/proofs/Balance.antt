@@ -9,7 +9,7 @@ use Rattle.im_types.specs.Answers.{Access, Fetch, Seek, Next, Scan, Insert, Dele
 use Rattle.im_lock.specs.Locks.{Lock}
 use Rattle.im_lock.specs.View.{Txn, View, idle, set_txn, begun, did, did_txn, marked, committed_by, dropped_by, undid_more, undid_last, broken, MayRollBack}
 use Rattle.im_lock.specs.Machine.{barred, Answers, Goes, Moves, begins, does, waits, dies, commits, drops, turns, undoes, ends, flushes, forces, checkpoints, lacks, breaks, start}
-use Rattle.im_front.specs.Held.{started_in, committed_in, rolled_back_in}
+use Rattle.im_front.specs.Replies.{started_in, committed_in, rolled_back_in, IsCounted}
 use Rattle.im_front.specs.Events.{Event, Made, Broke, Runs}
 
 pub cases_number : (s t : ℕ) → (s ≡ t) ⊎ (s ≢ t)
@@ -167,7 +167,7 @@ answer_plain (Delete k) m = plain_delete (is_some (get m k))
 
 -- what a step leaves, and what its reply began and ended
 abbrev pub Leaves : View → Reply → View → Type 0
-Leaves v r w = IsBusy w × (started_in r + v.active ≡ (committed_in r + rolled_back_in r) + w.active)
+Leaves v r w = IsBusy w × IsCounted r v.active w.active
 
 leaves_at : (v w w' : View) (r r' : Reply) → r ≡ r' → w ≡ w' → Leaves v r' w' → Leaves v r w
 leaves_at v w w' r r' e is h = subst (λ (x : Reply × View). Leaves v x.0 x.1) (λ i. (sym e i, sym is i)) h

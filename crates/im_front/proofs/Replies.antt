@@ -1,4 +1,4 @@
--- What the machine never answers: a full trace, more entries than a scan's limit. And a machine that has failed stays so.
+-- What the machine answers, a store may: a reply that suits its step, and no full trace. And a machine that has failed stays so.
 use Rattle.std.proofs.Common.{◌≡◌, ℕ, zero, suc, ◌≤◌, Bool, true, false, true≢false, List, [], ◌∷◌, length, take, Option, Some, None, refl, ap, sym, subst, ◌∙◌, inl, inr, arith}
 use Rattle.std.specs.Prelude.{◌==◌, cond, is_some}
 use Rattle.std.specs.FinMap.{get}
@@ -9,8 +9,8 @@ use Rattle.im_types.specs.Answers.{Access, Fetch, Seek, Next, Scan, Insert, Dele
 use Rattle.im_types.specs.Lives.{Shown, shows, accessed}
 use Rattle.im_lock.specs.View.{View}
 use Rattle.im_lock.specs.Machine.{barred, barred_to, barred_to_rollback, barred_to_continue, or_else, fault_if, Answers, Goes, Moves, Wants, Breaks, begins, does, waits, dies, commits, drops, turns, undoes, ends, flushes, forces, checkpoints, lacks, breaks}
-use Rattle.im_front.specs.Calls.{most_of, most_entries, entries_in, key_of, most_key, has_entry, is_blocked}
-use Rattle.im_front.specs.Held.{is_full}
+use Rattle.im_front.specs.Calls.{most_entries, entries_in, most_key, has_entry, is_blocked}
+use Rattle.im_front.specs.Replies.{is_full, is_search, Suits, IsReply, IsCounted}
 
 -- ---- no reply is a full trace
 
@@ -109,117 +109,124 @@ answers-full : (v w : View) (s : Step) (r : Reply) (o : Option ℕ) → NotFull 
 answers-full v w s r None n a = goes-full v w s r a
 answers-full v w s r (Some f) n a = ap is_full a.0 ∙ n
 
-pub never_full : (v w : View) (s : Step) (r : Reply) → Moves v s r w → is_full r ≡ false
+never_full : (v w : View) (s : Step) (r : Reply) → Moves v s r w → is_full r ≡ false
 never_full v w s r m = answers-full v w s r (barred v s) (barred-full v s) m
 
--- ---- no reply has more entries than its step allows
-
-few_at : (r q : Reply) (n : ℕ) → r ≡ q → entries_in q ≡ [] → length (entries_in r) ≤ n
-few_at r q n e none = let z : length (entries_in r) ≡ 0 = ap (λ (x : Reply). length (entries_in x)) e ∙ ap length none in omega arith
+-- ---- each reply suits its step
 
 taken : (n : ℕ) (l : List pages.Entry) → length (take n l) ≤ n
 taken zero l = omega arith
 taken (suc n) [] = omega arith
 taken (suc n) (x ∷ xs) = let e : length (take n xs) ≤ n = taken n xs in omega arith
 
-none_found : (o : Option ℕ) → entries_in (found o) ≡ []
-none_found None = refl
-none_found (Some r) = refl
+suits_found : (t : ℕ) (k : List ℕ) (o : Option ℕ) → Suits (Do t (Fetch k)) (found o)
+suits_found t k None = refl
+suits_found t k (Some r) = refl
 
-none_entry : (o : Option pages.Entry) → entries_in (entry o) ≡ []
-none_entry None = refl
-none_entry (Some e) = refl
+suits_entry : (s : Step) (o : Option pages.Entry) → is_search s ≡ true → Suits s (entry o)
+suits_entry s None e = e
+suits_entry s (Some x) e = e
 
-none_insert : (b : Bool) → entries_in (cond b Duplicate Inserted) ≡ []
-none_insert true = refl
-none_insert false = refl
+suits_insert : (t : ℕ) (k : List ℕ) (r : ℕ) (b : Bool) → Suits (Do t (Insert k r)) (cond b Duplicate Inserted)
+suits_insert t k r true = refl
+suits_insert t k r false = refl
 
-none_delete : (b : Bool) → entries_in (cond b Deleted Absent) ≡ []
-none_delete true = refl
-none_delete false = refl
+suits_delete : (t : ℕ) (k : List ℕ) (b : Bool) → Suits (Do t (Delete k)) (cond b Deleted Absent)
+suits_delete t k true = refl
+suits_delete t k false = refl
 
-answer-few : (a : Access) (m : IndexMap) → length (entries_in (answer a m)) ≤ most_of a
-answer-few (Fetch k) m = few_at (answer (Fetch k) m) (answer (Fetch k) m) 0 refl (none_found (get m k))
-answer-few (Seek k) m = few_at (answer (Seek k) m) (answer (Seek k) m) 0 refl (none_entry (first (From k) m))
-answer-few (Next k) m = few_at (answer (Next k) m) (answer (Next k) m) 0 refl (none_entry (first (Above k) m))
-answer-few (Scan lo hi n) m = taken (limit_of n) _
-answer-few (Insert k r) m = few_at (answer (Insert k r) m) (answer (Insert k r) m) 0 refl (none_insert (is_some (get m k)))
-answer-few (Delete k) m = few_at (answer (Delete k) m) (answer (Delete k) m) 0 refl (none_delete (is_some (get m k)))
+answer_suits : (t : ℕ) (a : Access) (m : IndexMap) → Suits (Do t a) (answer a m)
+answer_suits t (Fetch k) m = suits_found t k (get m k)
+answer_suits t (Seek k) m = suits_entry (Do t (Seek k)) (first (From k) m) refl
+answer_suits t (Next k) m = suits_entry (Do t (Next k)) (first (Above k) m) refl
+answer_suits t (Scan lo hi n) m = (refl, taken (limit_of n) _)
+answer_suits t (Insert k r) m = suits_insert t k r (is_some (get m k))
+answer_suits t (Delete k) m = suits_delete t k (is_some (get m k))
 
-goes-few : (v w : View) (s : Step) (r : Reply) → Goes v s r w → length (entries_in r) ≤ most_entries s
-goes-few v w s r (begins a limit b c) = few_at r _ _ b refl
-goes-few v w s r (does t a ls b going free same d e) =
-    let most : most_entries s ≡ most_of a = ap most_entries b in
-    let many : length (entries_in r) ≡ length (entries_in (answer a v.walk)) = ap (λ (x : Reply). length (entries_in x)) d in
-    let bound = answer-few a v.walk in
-    omega arith
-goes-few v w s r (waits t a holder b going wait d e) = few_at r _ _ d refl
-goes-few v w s r (dies t a b going die d e) = few_at r _ _ d refl
-goes-few v w s r (commits t b going d e) = few_at r _ _ d refl
-goes-few v w s r (drops t b may none d e) = few_at r _ _ d refl
-goes-few v w s r (turns t x xs b may net d e) = few_at r _ _ d refl
-goes-few v w s r (undoes t x y xs b rolling net d e) = few_at r _ _ d refl
-goes-few v w s r (ends t x b rolling net d e) = few_at r _ _ d refl
-goes-few v w s r (flushes p b d e) = few_at r _ _ d refl
-goes-few v w s r (forces b d e) = few_at r _ _ d refl
-goes-few v w s r (checkpoints b d e) = few_at r _ _ d refl
-goes-few v w s r (lacks fault want d e) = few_at r (Refused fault) _ d refl
-goes-few v w s r (breaks fault ls break d e) = few_at r (Refused fault) _ d refl
+suits_at : (s s' : Step) (r r' : Reply) → s ≡ s' → r ≡ r' → Suits s' r' → Suits s r
+suits_at s s' r r' e is h = subst (λ (x : Step × Reply). Suits x.0 x.1) (λ i. (sym e i, sym is i)) h
 
-answers-few : (v w : View) (s : Step) (r : Reply) (o : Option ℕ) → Answers v s r w o → length (entries_in r) ≤ most_entries s
-answers-few v w s r None a = goes-few v w s r a
-answers-few v w s r (Some f) a = few_at r (Refused f) _ a.0 refl
+goes_suits : (v w : View) (s : Step) (r : Reply) → Goes v s r w → Suits s r
+goes_suits v w s r (begins a limit b c) = suits_at s Begin r _ a b refl
+goes_suits v w s r (does t a ls b going free same d e) = suits_at s (Do t a) r _ b d (answer_suits t a v.walk)
+goes_suits v w s r (waits t a holder b going wait d e) = suits_at s (Do t a) r (Blocked holder) b d refl
+goes_suits v w s r (dies t a b going die d e) = suits_at s (Do t a) r Die b d refl
+goes_suits v w s r (commits t b going d e) = suits_at s (Commit t) r Committed b d refl
+goes_suits v w s r (drops t b may none d e) = suits_at s (Rollback t) r RolledBack b d refl
+goes_suits v w s r (turns t x xs b may net d e) = suits_at s (Rollback t) r More b d refl
+goes_suits v w s r (undoes t x y xs b rolling net d e) = suits_at s (Continue t) r More b d refl
+goes_suits v w s r (ends t x b rolling net d e) = suits_at s (Continue t) r RolledBack b d refl
+goes_suits v w s r (flushes p b d e) = suits_at s (FlushPage p) r Done b d refl
+goes_suits v w s r (forces b d e) = suits_at s Force r Done b d refl
+goes_suits v w s r (checkpoints b d e) = suits_at s Checkpoint r Done b d refl
+goes_suits v w s r (lacks fault want d e) = suits_at s s r (Refused fault) refl d tt
+goes_suits v w s r (breaks fault ls break d e) = suits_at s s r (Refused fault) refl d tt
 
-pub few_entries : (v w : View) (s : Step) (r : Reply) → Moves v s r w → length (entries_in r) ≤ most_entries s
-few_entries v w s r m = answers-few v w s r (barred v s) m
+answers_suit : (v w : View) (s : Step) (r : Reply) (o : Option ℕ) → Answers v s r w o → Suits s r
+answers_suit v w s r None a = goes_suits v w s r a
+answers_suit v w s r (Some f) a = suits_at s s r (Refused f) refl a.0 tt
 
--- ---- a reply names an entry only where its step asks for one
+-- what the machine answers, a store may
+pub moves_reply : (v w : View) (s : Step) (r : Reply) → Moves v s r w → IsReply s r
+moves_reply v w s r m = record { suits = answers_suit v w s r (barred v s) m; room = never_full v w s r m }
 
-no_entry : (r q : Reply) (n : ℕ) → r ≡ q → has_entry q ≡ false → has_entry r ≡ true → n ≡ 255
-no_entry r q n e none h = absurd (true≢false (sym h ∙ ap has_entry e ∙ none))
+-- ---- so it has no more entries than its step allows, and names an entry only where its step asks for one
 
-entry_found : (o : Option ℕ) → has_entry (found o) ≡ false
-entry_found None = refl
-entry_found (Some r) = refl
+few : (r : Reply) (n : ℕ) → entries_in r ≡ [] → length (entries_in r) ≤ n
+few r n none = let z : length (entries_in r) ≡ 0 = ap length none in omega arith
 
-entry_insert : (b : Bool) → has_entry (cond b Duplicate Inserted) ≡ false
-entry_insert true = refl
-entry_insert false = refl
+pub few_entries : (s : Step) (r : Reply) → Suits s r → length (entries_in r) ≤ most_entries s
+few_entries s (Entries l) h = h.1
+few_entries s (Started t) h = few (Started t) (most_entries s) refl
+few_entries s (Found t) h = few (Found t) (most_entries s) refl
+few_entries s Absent h = few Absent (most_entries s) refl
+few_entries s (Entry k r) h = few (Entry k r) (most_entries s) refl
+few_entries s End h = few End (most_entries s) refl
+few_entries s Inserted h = few Inserted (most_entries s) refl
+few_entries s Duplicate h = few Duplicate (most_entries s) refl
+few_entries s Deleted h = few Deleted (most_entries s) refl
+few_entries s Committed h = few Committed (most_entries s) refl
+few_entries s RolledBack h = few RolledBack (most_entries s) refl
+few_entries s More h = few More (most_entries s) refl
+few_entries s (Blocked t) h = few (Blocked t) (most_entries s) refl
+few_entries s BlockedTree h = few BlockedTree (most_entries s) refl
+few_entries s Die h = few Die (most_entries s) refl
+few_entries s Done h = few Done (most_entries s) refl
+few_entries s (Refused f) h = few (Refused f) (most_entries s) refl
 
-entry_delete : (b : Bool) → has_entry (cond b Deleted Absent) ≡ false
-entry_delete true = refl
-entry_delete false = refl
+search_most : (s : Step) → is_search s ≡ true → most_key s ≡ 255
+search_most (Do t (Seek k)) h = refl
+search_most (Do t (Next k)) h = refl
+search_most (Do t (Fetch k)) h = absurd (true≢false (sym h))
+search_most (Do t (Scan lo hi n)) h = absurd (true≢false (sym h))
+search_most (Do t (Insert k r)) h = absurd (true≢false (sym h))
+search_most (Do t (Delete k)) h = absurd (true≢false (sym h))
+search_most Begin h = absurd (true≢false (sym h))
+search_most (Commit t) h = absurd (true≢false (sym h))
+search_most (Rollback t) h = absurd (true≢false (sym h))
+search_most (Continue t) h = absurd (true≢false (sym h))
+search_most (FlushPage p) h = absurd (true≢false (sym h))
+search_most Force h = absurd (true≢false (sym h))
+search_most Checkpoint h = absurd (true≢false (sym h))
 
-answer-entry : (a : Access) (m : IndexMap) → has_entry (answer a m) ≡ true → key_of a ≡ 255
-answer-entry (Fetch k) m h = no_entry (answer (Fetch k) m) (answer (Fetch k) m) 0 refl (entry_found (get m k)) h
-answer-entry (Seek k) m h = refl
-answer-entry (Next k) m h = refl
-answer-entry (Scan lo hi n) m h = no_entry (answer (Scan lo hi n) m) (answer (Scan lo hi n) m) 0 refl refl h
-answer-entry (Insert k r) m h = no_entry (answer (Insert k r) m) (answer (Insert k r) m) 0 refl (entry_insert (is_some (get m k))) h
-answer-entry (Delete k) m h = no_entry (answer (Delete k) m) (answer (Delete k) m) 0 refl (entry_delete (is_some (get m k))) h
-
-goes-entry : (v w : View) (s : Step) (r : Reply) → Goes v s r w → has_entry r ≡ true → most_key s ≡ 255
-goes-entry v w s r (begins a limit b c) = no_entry r _ _ b refl
-goes-entry v w s r (does t a ls b going free same d e) = λ h. ap most_key b ∙ answer-entry a v.walk (sym (ap has_entry d) ∙ h)
-goes-entry v w s r (waits t a holder b going wait d e) = no_entry r _ _ d refl
-goes-entry v w s r (dies t a b going die d e) = no_entry r _ _ d refl
-goes-entry v w s r (commits t b going d e) = no_entry r _ _ d refl
-goes-entry v w s r (drops t b may none d e) = no_entry r _ _ d refl
-goes-entry v w s r (turns t x xs b may net d e) = no_entry r _ _ d refl
-goes-entry v w s r (undoes t x y xs b rolling net d e) = no_entry r _ _ d refl
-goes-entry v w s r (ends t x b rolling net d e) = no_entry r _ _ d refl
-goes-entry v w s r (flushes p b d e) = no_entry r _ _ d refl
-goes-entry v w s r (forces b d e) = no_entry r _ _ d refl
-goes-entry v w s r (checkpoints b d e) = no_entry r _ _ d refl
-goes-entry v w s r (lacks fault want d e) = no_entry r (Refused fault) _ d refl
-goes-entry v w s r (breaks fault ls break d e) = no_entry r (Refused fault) _ d refl
-
-answers-entry : (v w : View) (s : Step) (r : Reply) (o : Option ℕ) → Answers v s r w o → has_entry r ≡ true → most_key s ≡ 255
-answers-entry v w s r None a = goes-entry v w s r a
-answers-entry v w s r (Some f) a = no_entry r (Refused f) _ a.0 refl
-
-pub entry_asked : (v w : View) (s : Step) (r : Reply) → Moves v s r w → has_entry r ≡ true → most_key s ≡ 255
-entry_asked v w s r m = answers-entry v w s r (barred v s) m
+pub entry_asked : (s : Step) (r : Reply) → Suits s r → has_entry r ≡ true → most_key s ≡ 255
+entry_asked s (Entry k r) h e = search_most s h
+entry_asked s (Started t) h e = absurd (true≢false (sym e))
+entry_asked s (Found t) h e = absurd (true≢false (sym e))
+entry_asked s Absent h e = absurd (true≢false (sym e))
+entry_asked s End h e = absurd (true≢false (sym e))
+entry_asked s (Entries l) h e = absurd (true≢false (sym e))
+entry_asked s Inserted h e = absurd (true≢false (sym e))
+entry_asked s Duplicate h e = absurd (true≢false (sym e))
+entry_asked s Deleted h e = absurd (true≢false (sym e))
+entry_asked s Committed h e = absurd (true≢false (sym e))
+entry_asked s RolledBack h e = absurd (true≢false (sym e))
+entry_asked s More h e = absurd (true≢false (sym e))
+entry_asked s (Blocked t) h e = absurd (true≢false (sym e))
+entry_asked s BlockedTree h e = absurd (true≢false (sym e))
+entry_asked s Die h e = absurd (true≢false (sym e))
+entry_asked s Done h e = absurd (true≢false (sym e))
+entry_asked s (Refused f) h e = absurd (true≢false (sym e))
 
 -- ---- a machine that has failed stays as it is
 
@@ -332,3 +339,23 @@ blocked_shows step More s b = absurd (true≢false (sym b))
 blocked_shows step Die s b = absurd (true≢false (sym b))
 blocked_shows step Done s b = absurd (true≢false (sym b))
 blocked_shows step (Refused f) s b = absurd (true≢false (sym b))
+
+-- and leaves as many active
+pub blocked_counts : (r : Reply) (old new : ℕ) → is_blocked r ≡ true → IsCounted r old new → new ≡ old
+blocked_counts (Blocked h) old new b e = omega (arith, e)
+blocked_counts BlockedTree old new b e = omega (arith, e)
+blocked_counts (Started t) old new b e = absurd (true≢false (sym b))
+blocked_counts (Found t) old new b e = absurd (true≢false (sym b))
+blocked_counts Absent old new b e = absurd (true≢false (sym b))
+blocked_counts (Entry k r) old new b e = absurd (true≢false (sym b))
+blocked_counts End old new b e = absurd (true≢false (sym b))
+blocked_counts (Entries l) old new b e = absurd (true≢false (sym b))
+blocked_counts Inserted old new b e = absurd (true≢false (sym b))
+blocked_counts Duplicate old new b e = absurd (true≢false (sym b))
+blocked_counts Deleted old new b e = absurd (true≢false (sym b))
+blocked_counts Committed old new b e = absurd (true≢false (sym b))
+blocked_counts RolledBack old new b e = absurd (true≢false (sym b))
+blocked_counts More old new b e = absurd (true≢false (sym b))
+blocked_counts Die old new b e = absurd (true≢false (sym b))
+blocked_counts Done old new b e = absurd (true≢false (sym b))
+blocked_counts (Refused f) old new b e = absurd (true≢false (sym b))

@@ -1,6 +1,7 @@
 -- What a step, a cut and a refused look do to what lies under the lock.
 use Rattle.std.proofs.Common.{◌≡◌, ℕ, ◌+◌, ◌≤◌, ◌^◌, true, false, true≢false, List, [], ◌∷◌, ◌++◌, length, slice_index, Some, refl, ap, sym, subst, ◌∙◌, inl, inr, arith, length-append}
 use Rattle.std.specs.FinMap.{empty, entries}
+use Rattle.std.proofs.lemmas.List.Elements.{All-nil, All-push}
 use Rattle.im_types.specs.Pages.{Entry}
 use Rattle.im_types.specs.Answers as answers
 use Rattle.im_types.specs.Answers.{Step, Reply}
@@ -12,12 +13,13 @@ use Rattle.im_lock.specs.View.{Txn, View, broken}
 use Rattle.im_lock.specs.Machine.{Moves, Run, start}
 use Rattle.im_lock.specs.Isolation.{Isolates}
 use Rattle.im_front.specs.declared.recorded.Recorded.{Recorded}
-use Rattle.im_front.specs.Calls.{asked_by, said_by, trace_of}
+use Rattle.im_front.specs.Calls.{asked_by, said_by, trace_of, is_blocked}
 use Rattle.im_front.specs.Events.{Event, Made, Broke, made_in, Runs, shown_in}
-use Rattle.im_front.specs.Store.{StepKept, LookKept}
-use Rattle.im_front.specs.Held.{started_in, committed_in, rolled_back_in, after_reply, after_trace, Stands, IsRun, IsCut}
-use Rattle.im_front.proofs.Balance.{runs_busy, start_busy, moves_leaves, all_idle}
-use Rattle.im_front.proofs.Replies.{stays_failed}
+use Rattle.im_front.specs.Replies.{started_in, committed_in, rolled_back_in, IsReply, IsCounted}
+use Rattle.im_front.specs.Store.{IsAlive, StepKept, LookKept}
+use Rattle.im_front.specs.Held.{after_reply, after_trace, IsTallied, Stands, IsRun, IsCut}
+use Rattle.im_front.proofs.Balance.{runs_busy, start_busy, all_idle}
+use Rattle.im_front.proofs.Replies.{stays_failed, blocked_stays, blocked_shows}
 
 -- ---- lists of events
 
@@ -104,15 +106,12 @@ at_most_one answers.Die = (omega arith, omega arith, omega arith)
 at_most_one answers.Done = (omega arith, omega arith, omega arith)
 at_most_one (answers.Refused f) = (omega arith, omega arith, omega arith)
 
--- ---- what stands under the lock
+-- ---- counts
 
-module _ {E : Type 0} (life : List Effect → Shown → View → E → Type 0) (base : List Entry) (trace : List (Step × Reply)) (engine : E) (cut : ℕ) (kept counts : List ℕ) (h : Stands life base trace engine cut kept counts) where
+module _ (trace : List (Step × Reply)) (active cut : ℕ) (kept counts : List ℕ) (h : IsTallied trace active cut kept counts) where
   -- a step that is recorded
-  pub stands_push : (new : E) (now : List ℕ) (step : Step) (reply : Reply) → StepKept life h.before (shown_in nothing_shown h.events) h.view step reply new → now ≡ after_reply counts reply →
-      Stands life base (trace ++ (step, reply) ∷ []) new cut kept now
-  stands_push new now step reply made e =
-      let busy = runs_busy (start (apply_all empty h.before) h.first) h.view h.events (start_busy (apply_all empty h.before) h.first) h.runs in
-      let leaves = moves_leaves h.view made.next step reply busy made.moves in
+  pub tallied_push : (after : ℕ) (now : List ℕ) (step : Step) (reply : Reply) → IsReply step reply → IsCounted reply active after → now ≡ after_reply counts reply → IsTallied (trace ++ (step, reply) ∷ []) after cut kept now
+  tallied_push after now step reply is leaves e =
       let one = at_most_one reply in
       let a : slice_index now 0 ≡ slice_index counts 0 + started_in reply = ap (λ l. slice_index l 0) e in
       let b : slice_index now 1 ≡ slice_index counts 1 + committed_in reply = ap (λ l. slice_index l 1) e in
@@ -121,23 +120,69 @@ module _ {E : Type 0} (life : List Effect → Shown → View → E → Type 0) (
       let small = h.counts_small in
       let was = h.balanced in
       record {
-        before = h.before;
-        first = h.first;
-        events = h.events ++ Made step reply ∷ [];
-        view = made.next;
-        based = h.based;
-        made = made_in-push h.events step reply ∙ ap (λ l. l ++ (step, reply) ∷ []) h.made;
-        runs = Runs-push (start (apply_all empty h.before) h.first) h.view made.next h.events step reply h.runs made.moves;
-        life_is = subst (λ (s : Shown). life h.before s made.next new) (sym (shown_in-push nothing_shown h.events step reply)) made.after;
+        replies = All-push (λ x. IsReply x.0 x.1) trace (step, reply) h.replies is;
         counted = e ∙ ap (λ l. after_reply l reply) h.counted ∙ sym (after_trace-push kept trace (step, reply));
         long = ap length e;
         cut_small = h.cut_small;
         counts_small = (omega (arith, one.0, small.0), omega (arith, one.1, small.1), omega (arith, one.2, small.2));
-        balanced = omega (arith, leaves.1);
+        balanced = omega (arith, leaves);
       }
 
+  -- as many are active as before
+  pub tallied_as : (after : ℕ) → after ≡ active → IsTallied trace after cut kept counts
+  tallied_as after e = subst (λ (n : ℕ). IsTallied trace n cut kept counts) (sym e) h
+
+  -- the trace is cut
+  pub tallied_cut : (after : ℕ) → after ≡ active → cut + length trace ≤ 2 ^ 62 → IsTallied [] after (cut + length trace) counts counts
+  tallied_cut after e small =
+      let few = h.counts_small in
+      let was = h.balanced in
+      record {
+        replies = All-nil (λ x. IsReply x.0 x.1);
+        counted = refl;
+        long = h.long;
+        cut_small = small;
+        counts_small = (omega (arith, few.0), omega (arith, few.1), omega (arith, few.2));
+        balanced = omega (arith, e, was);
+      }
+
+-- an empty trace, and nothing active
+pub tallied_new : (active : ℕ) (counts : List ℕ) → active ≡ 0 → counts ≡ 0 ∷ 0 ∷ 0 ∷ [] → IsTallied [] active 0 counts counts
+tallied_new active counts none zeros =
+    let x : slice_index counts 0 ≡ 0 = ap (λ l. slice_index l 0) zeros in
+    let y : slice_index counts 1 ≡ 0 = ap (λ l. slice_index l 1) zeros in
+    let z : slice_index counts 2 ≡ 0 = ap (λ l. slice_index l 2) zeros in
+    record {
+      replies = All-nil (λ x. IsReply x.0 x.1);
+      counted = refl;
+      long = ap length zeros;
+      cut_small = omega arith;
+      counts_small = (omega arith, omega arith, omega arith);
+      balanced = omega arith;
+    }
+
+-- ---- what stands under the lock
+
+-- the engine is a view of the machine, where it tells
+pub alive_of : {E : Type 0} (life : List Effect → Shown → View → E → Type 0) (tells : Type 0) (base : List Entry) (trace : List (Step × Reply)) (engine : E) → (tells → Stands life base trace engine) → IsAlive life tells engine
+alive_of life tells base trace engine stands t = let h = stands t in (h.before, shown_in nothing_shown h.events, h.view, h.life_is)
+
+module _ {E : Type 0} (life : List Effect → Shown → View → E → Type 0) (base : List Entry) (trace : List (Step × Reply)) (engine : E) (h : Stands life base trace engine) where
+  -- a step that is recorded
+  pub stands_push : (new : E) (step : Step) (reply : Reply) → StepKept life h.before (shown_in nothing_shown h.events) h.view step reply new → Stands life base (trace ++ (step, reply) ∷ []) new
+  stands_push new step reply made = record {
+    before = h.before;
+    first = h.first;
+    events = h.events ++ Made step reply ∷ [];
+    view = made.next;
+    based = h.based;
+    made = made_in-push h.events step reply ∙ ap (λ l. l ++ (step, reply) ∷ []) h.made;
+    runs = Runs-push (start (apply_all empty h.before) h.first) h.view made.next h.events step reply h.runs made.moves;
+    life_is = subst (λ (s : Shown). life h.before s made.next new) (sym (shown_in-push nothing_shown h.events step reply)) made.after;
+  }
+
   -- the engine went on with nothing shown
-  pub stands_life : (new : E) → life h.before (shown_in nothing_shown h.events) h.view new → Stands life base trace new cut kept counts
+  pub stands_life : (new : E) → life h.before (shown_in nothing_shown h.events) h.view new → Stands life base trace new
   stands_life new now = record {
     before = h.before;
     first = h.first;
@@ -147,15 +192,17 @@ module _ {E : Type 0} (life : List Effect → Shown → View → E → Type 0) (
     made = h.made;
     runs = h.runs;
     life_is = now;
-    counted = h.counted;
-    long = h.long;
-    cut_small = h.cut_small;
-    counts_small = h.counts_small;
-    balanced = h.balanced;
   }
 
+  -- a step that was blocked
+  pub stands_blocked : (new : E) (step : Step) (reply : Reply) → StepKept life h.before (shown_in nothing_shown h.events) h.view step reply new → is_blocked reply ≡ true → Stands life base trace new
+  stands_blocked new step reply made b =
+      let same = blocked_stays h.view made.next step reply made.moves b in
+      let shown = blocked_shows step reply (shown_in nothing_shown h.events) b in
+      stands_life new (subst (λ (x : Shown × View). life h.before x.0 x.1 new) (λ j. (shown j, same j)) made.after)
+
   -- a look at the entries that was refused
-  pub stands_look : (new : E) → LookKept life h.before (shown_in nothing_shown h.events) h.view new → Stands life base trace new cut kept counts
+  pub stands_look : (new : E) → LookKept life h.before (shown_in nothing_shown h.events) h.view new → Stands life base trace new
   stands_look new (inl same) = stands_life new same
   stands_look new (inr broke) = record {
     before = h.before;
@@ -166,11 +213,6 @@ module _ {E : Type 0} (life : List Effect → Shown → View → E → Type 0) (
     made = made_in-broke h.events broke.0 ∙ h.made;
     runs = Runs-broke (start (apply_all empty h.before) h.first) h.view h.events broke.0 h.runs;
     life_is = subst (λ (s : Shown). life h.before s (broken h.view broke.0) new) (sym (shown_in-broke nothing_shown h.events broke.0)) broke.1;
-    counted = h.counted;
-    long = h.long;
-    cut_small = h.cut_small;
-    counts_small = h.counts_small;
-    balanced = h.balanced;
   }
 
   -- an engine at rest: its walk is the committed map
@@ -182,13 +224,10 @@ module _ {E : Type 0} (life : List Effect → Shown → View → E → Type 0) (
   -- the trace is cut: a new run begins with what was committed
   pub stands_cut : (new : E) (list : List Entry) → h.view.active ≡ 0
       → (h.view.committed ≡ apply_all empty (h.before ++ effects (shown_in nothing_shown h.events).asked)) × life (h.before ++ effects (shown_in nothing_shown h.events).asked) nothing_shown (start h.view.committed h.view.next) new
-      → list ≡ entries h.view.committed → cut + length trace ≤ 2 ^ 62 → Stands life list [] new (cut + length trace) counts counts
-  stands_cut new list none settled is small =
-      let after : List Effect = h.before ++ effects (shown_in nothing_shown h.events).asked in
-      let few = h.counts_small in
-      let was = h.balanced in
+      → list ≡ entries h.view.committed → Stands life list [] new
+  stands_cut new list none settled is =
       record {
-        before = after;
+        before = h.before ++ effects (shown_in nothing_shown h.events).asked;
         first = h.view.next;
         events = [];
         view = start h.view.committed h.view.next;
@@ -196,11 +235,6 @@ module _ {E : Type 0} (life : List Effect → Shown → View → E → Type 0) (
         made = refl;
         runs = ap (λ (m : IndexMap). start m h.view.next) settled.0;
         life_is = settled.1;
-        counted = refl;
-        long = h.long;
-        cut_small = small;
-        counts_small = (omega (arith, few.0), omega (arith, few.1), omega (arith, few.2));
-        balanced = omega arith;
       }
 
   -- what was cut
@@ -228,24 +262,15 @@ module _ {E : Type 0} (life : List Effect → Shown → View → E → Type 0) (
   }
 
 -- an engine at rest, and an empty trace
-pub stands_new : {E : Type 0} (life : List Effect → Shown → View → E → Type 0) (base : List Entry) (engine : E) (counts : List ℕ) (before : List Effect) (first : ℕ)
-    → life before nothing_shown (start (apply_all empty before) first) engine → base ≡ entries (apply_all empty before) → counts ≡ 0 ∷ 0 ∷ 0 ∷ [] → Stands life base [] engine 0 counts counts
-stands_new life base engine counts before first resting is zeros =
-    let x : slice_index counts 0 ≡ 0 = ap (λ l. slice_index l 0) zeros in
-    let y : slice_index counts 1 ≡ 0 = ap (λ l. slice_index l 1) zeros in
-    let z : slice_index counts 2 ≡ 0 = ap (λ l. slice_index l 2) zeros in
-    record {
-      before = before;
-      first = first;
-      events = [];
-      view = start (apply_all empty before) first;
-      based = is;
-      made = refl;
-      runs = refl;
-      life_is = resting;
-      counted = refl;
-      long = ap length zeros;
-      cut_small = omega arith;
-      counts_small = (omega arith, omega arith, omega arith);
-      balanced = omega arith;
-    }
+pub stands_new : {E : Type 0} (life : List Effect → Shown → View → E → Type 0) (base : List Entry) (engine : E) (before : List Effect) (first : ℕ)
+    → life before nothing_shown (start (apply_all empty before) first) engine → base ≡ entries (apply_all empty before) → Stands life base [] engine
+stands_new life base engine before first resting is = record {
+  before = before;
+  first = first;
+  events = [];
+  view = start (apply_all empty before) first;
+  based = is;
+  made = refl;
+  runs = refl;
+  life_is = resting;
+}

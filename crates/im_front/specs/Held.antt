@@ -1,11 +1,11 @@
 -- What lies under the lock: an engine, and a trace of its steps that is a run.
-use Rattle.std.specs.Prelude.{◌≡◌, ℕ, ◌+◌, ◌<◌, ◌≤◌, ◌^◌, ◌==◌, Bool, true, false, List, [], ◌∷◌, ◌++◌, length, ◌⊎◌}
+use Rattle.std.specs.Prelude.{◌≡◌, ℕ, ◌+◌, ◌<◌, ◌≤◌, ◌^◌, true, false, List, [], ◌∷◌, ◌++◌, length, ◌⊎◌}
+use Rattle.std.specs.List.{All}
 use Rattle.std.specs.FinMap.{empty, entries}
 use Rattle.im_types.specs.Pages.{Entry}
-use Rattle.im_types.specs.Answers.{Step, Reply, Started, Committed, RolledBack, Refused}
+use Rattle.im_types.specs.Answers.{Step, Reply}
 use Rattle.im_types.specs.Changes.{Effect, apply_all}
 use Rattle.im_types.specs.Lives.{Shown, Survives, effects, nothing_shown, shown_by}
-use Rattle.im_types.specs.Refusals.{memory}
 use Rattle.im_lock.specs.View.{View}
 use Rattle.im_lock.specs.Machine.{Run, start}
 use Rattle.im_stats.specs.Counts.{started, committed, rolled_back}
@@ -13,7 +13,10 @@ use Rattle.im_front.specs.declared.fault.Fault.{Fault}
 use Rattle.im_front.specs.declared.fault.Fault.TheVariants.{Failed, Busy, TraceFull}
 use Rattle.im_front.specs.declared.recorded.Recorded.{Recorded}
 use Rattle.im_front.specs.Calls.{trace_of, is_blocked}
+use Rattle.im_front.specs.Store.{Rests}
 use Rattle.im_front.specs.Events.{Event, made_in, Runs, shown_in}
+use Rattle.im_front.specs.Replies.{is_full, lacks_memory, started_in, committed_in, rolled_back_in, IsReply}
+use Rattle.im_front.specs.declared.store.Store.{Ghosts}
 
 -- the value behind the lock, as contracts see it
 pub record State (E : Type 0) : Type 0 where
@@ -31,18 +34,6 @@ pub record State (E : Type 0) : Type 0 where
 
 -- ---- counts
 
-abbrev pub started_in : Reply → ℕ
-started_in (Started t) = 1
-started_in _ = 0
-
-abbrev pub committed_in : Reply → ℕ
-committed_in Committed = 1
-committed_in _ = 0
-
-abbrev pub rolled_back_in : Reply → ℕ
-rolled_back_in RolledBack = 1
-rolled_back_in _ = 0
-
 -- the counts after a step with this reply
 abbrev pub after_reply : List ℕ → Reply → List ℕ
 after_reply counts reply = (started counts + started_in reply) ∷ (committed counts + committed_in reply) ∷ (rolled_back counts + rolled_back_in reply) ∷ []
@@ -53,16 +44,6 @@ after_trace counts [] = counts
 after_trace counts (e ∷ es) = after_trace (after_reply counts e.1) es
 
 -- ---- a step
-
--- refused for a full trace
-abbrev pub is_full : Reply → Bool
-is_full (Refused fault) = fault == 14
-is_full _ = false
-
--- refused for want of memory
-abbrev pub lacks_memory : Reply → Bool
-lacks_memory (Refused fault) = fault == memory
-lacks_memory _ = false
 
 module _ {E : Type 0} (step : Step) (reply : Reply) (old new : State E) (before after : ℕ) where
   -- the step with its reply stands at the end of the trace, and is counted once
@@ -85,9 +66,18 @@ module _ {E : Type 0} (step : Step) (reply : Reply) (old new : State E) (before 
 
 -- ---- what always holds
 
+-- Over any disk: each reply of the trace suits its step, the counts are those of the trace, and what was started has ended or is active.
+pub record IsTallied (trace : List (Step × Reply)) (active cut : ℕ) (kept counts : List ℕ) : Type 0 where
+  pub replies : All (λ e. IsReply e.0 e.1) trace
+  pub counted : counts ≡ after_trace kept trace
+  pub long : length counts ≡ 3
+  pub cut_small : cut ≤ 2 ^ 62
+  pub counts_small : (started counts ≤ cut + length trace) × (committed counts ≤ cut + length trace) × (rolled_back counts ≤ cut + length trace)
+  pub balanced : started counts ≡ committed counts + rolled_back counts + active
+
 module _ {E : Type 0} (life : List Effect → Shown → View → E → Type 0) where
-  -- The trace is what was done since the base entries, it leads to a view of the engine, and the counts are those of the trace.
-  pub record Stands (base : List Entry) (trace : List (Step × Reply)) (engine : E) (cut : ℕ) (kept counts : List ℕ) : Type 0 where
+  -- The trace is what was done since the base entries, and leads to a view of the engine.
+  pub record Stands (base : List Entry) (trace : List (Step × Reply)) (engine : E) : Type 0 where
     pub before : List Effect
     pub first : ℕ
     pub events : List Event
@@ -96,12 +86,6 @@ module _ {E : Type 0} (life : List Effect → Shown → View → E → Type 0) w
     pub made : made_in events ≡ trace
     pub runs : Runs (start (apply_all empty before) first) events view
     pub life_is : life before (shown_in nothing_shown events) view engine
-    pub counted : counts ≡ after_trace kept trace
-    pub long : length counts ≡ 3
-    pub cut_small : cut ≤ 2 ^ 62
-    pub counts_small : (started counts ≤ cut + length trace) × (committed counts ≤ cut + length trace) × (rolled_back counts ≤ cut + length trace)
-    -- what was started has ended or is active
-    pub balanced : started counts ≡ committed counts + rolled_back counts + view.active
 
   -- The trace is a run from the map with the base entries, and ends in a view of the engine. Where a look broke the engine the machine broke
   -- with it, at that place of the trace.
@@ -124,6 +108,11 @@ pub record StopKeeps {E : Type 0} (leaves : E → (List Effect → Type 0) → T
   pub made : made_in events ≡ trace
   pub files : leaves engine (λ after. Survives before (shown_in nothing_shown events).asked after)
 
+-- A store at rest: no transaction is active, and where it tells what it holds it works and a run may begin from its map.
+pub record IsResting {E : Type 0} (d : Ghosts E) (e : E) : Type 0 where
+  pub idle : d.actives e ≡ 0
+  pub rests : d.tells → Rests d.life e
+
 -- The new base entries are the old ones with what was asked in the trace.
 pub record IsCut (old new : List Entry) (trace : List (Step × Reply)) : Type 0 where
   pub before : List Effect
@@ -131,15 +120,15 @@ pub record IsCut (old new : List Entry) (trace : List (Step × Reply)) : Type 0 
   pub next : new ≡ entries (apply_all empty (before ++ effects (shown_by nothing_shown trace).asked))
 
 -- Why a cut is refused: the engine has failed; a transaction is active; too many steps were cut; as the entries are.
-module _ {E : Type 0} (life : List Effect → Shown → View → E → Type 0) (refuses : E → E → Fault → Type 0) (old new : State E) where
+module _ {E : Type 0} (d : Ghosts E) (old new : State E) where
   abbrev pub WhyFailed : Fault → Type 0
-  WhyFailed fault = (new ≡ old) × (fault ≡ Failed) × ((before : List Effect) (s : Shown) (v : View) → life before s v old.engine → v.failed ≡ true)
+  WhyFailed fault = (new ≡ old) × (fault ≡ Failed) × ((before : List Effect) (s : Shown) (v : View) → d.life before s v old.engine → v.failed ≡ true)
 
   abbrev pub WhyBusy : Fault → Type 0
-  WhyBusy fault = (new ≡ old) × (fault ≡ Busy) × ((before : List Effect) (s : Shown) (v : View) → life before s v old.engine → (v.failed ≡ false) × (0 < v.active))
+  WhyBusy fault = (new ≡ old) × (fault ≡ Busy) × (0 < d.actives old.engine) × ((before : List Effect) (s : Shown) (v : View) → d.life before s v old.engine → (v.failed ≡ false) × (0 < v.active))
 
   abbrev pub WhyFull : Fault → Type 0
   WhyFull fault = (new ≡ old) × (fault ≡ TraceFull) × (2 ^ 62 < old.cut + length old.trace)
 
   abbrev pub WhyNotCut : Fault → Type 0
-  WhyNotCut fault = WhyFailed fault ⊎ (WhyBusy fault ⊎ (WhyFull fault ⊎ refuses old.engine new.engine fault))
+  WhyNotCut fault = WhyFailed fault ⊎ (WhyBusy fault ⊎ (WhyFull fault ⊎ d.refuses old.engine new.engine fault))

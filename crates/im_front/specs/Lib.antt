@@ -1,4 +1,5 @@
 pub mod Calls
 pub mod Events
 pub mod Held
+pub mod Replies
 pub mod Store

@@ -15,12 +15,16 @@ module _ {E : Type 0} (life : List Effect → Shown → View → E → Type 0) w
     pub moves : Moves v step reply next
     pub after : life before (shows s step (Some reply)) next new
 
+  -- Where the store tells what it holds, it is a view of the machine.
+  abbrev pub IsAlive : (tells : Type 0) → E → Type 0
+  IsAlive tells e = tells → (before : List Effect) × (s : Shown) × (v : View) × life before s v e
+
   -- A look that was refused: the life goes on as it was, or the store is broken.
   abbrev pub LookKept : List Effect → Shown → View → E → Type 0
   LookKept before s v new = life before s v new ⊎ ((locks : ℕ → List Lock) × life before (record s { failed = true }) (broken v locks) new)
 
-  -- The store works, and no transaction is active.
-  pub record IsResting (e : E) : Type 0 where
+  -- A run may begin with the store: it works, and no transaction is active.
+  pub record Rests (e : E) : Type 0 where
     pub before : List Effect
     pub first : ℕ  -- the number that is given next
     pub life_is : life before nothing_shown (start (apply_all empty before) first) e

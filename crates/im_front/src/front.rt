@@ -1,15 +1,16 @@
 //! The lock.
 
 ghost use Rattle.std.specs.Prelude.{◌≡◌, ◌≤◌, ◌+◌, ◌⊎◌, List, true, false, length, IfOk, IfErr, IfSome};
-ghost use Rattle.std.specs.List.{sum_by};
+ghost use Rattle.std.specs.List.{sum_by, All};
 ghost use Rattle.im_types.specs.Changes.{Effect};
 ghost use Rattle.im_types.specs.Lives.{Shown};
 ghost use Rattle.im_lock.specs.View.{View};
 ghost use Rattle.im_stats.specs.Counts.{NoLess};
 ghost use Rattle.im_front.specs.declared.fault.Fault.TheVariants.{Memory};
 ghost use Rattle.im_front.specs.Calls.{told_by, trace_of, is_blocked, counts_of};
-ghost use Rattle.im_front.specs.Store.{IsResting, LookKept};
-ghost use Rattle.im_front.specs.Held.{IsRun, StopKeeps, is_full, lacks_memory};
+ghost use Rattle.im_front.specs.Replies.{is_full, lacks_memory, IsReply};
+ghost use Rattle.im_front.specs.Store.{LookKept};
+ghost use Rattle.im_front.specs.Held.{IsResting, IsRun, StopKeeps};
 
 use crate::fault::Fault;
 use crate::held::{Closed, Held};
@@ -30,10 +31,10 @@ pub struct Front<E: Store, L: Ledger> {
 }
 
 impl<E: Store, L: Ledger> Front<E, L> {
-    /// A front over an engine at rest: it works, and no transaction is active. The blank is of a ledger of 1,024 parts, one for each
+    /// A front over an engine at rest: no transaction is active, and where it tells what it holds it works. The blank is of a ledger of 1,024 parts, one for each
     /// share. Refused as `entries` is, and `Memory`; engine and blank come back then.
     pub fn new(alloc: Global, engine: E, blank: Blank) -> Result<Front<E, L>, (Fault, E, Blank)>
-        requires resting { IsResting E.life engine }
+        requires resting { IsResting E.Store engine }
         requires blank { (blank.name ≡ L.name) × (blank.parts ≡ L.parts) × (blank.parts ≡ 1024) }
         ensures engine { IfErr result (λ e. (before : List Effect) (s : Shown) (v : View) → E.life before s v engine → LookKept E.life before s v e.1) }
         ensures blank { IfErr result (λ e. e.2 ≡ blank) }
@@ -94,8 +95,9 @@ impl<E: Store, L: Ledger> Front<E, L> {
     /// Ends the front. There is a sum where as many shares came back as were handed out, and it is the number of all steps.
     pub fn close(self, shares: Vec<Share<L>>) -> Closed<E>
         requires { L.parts ≡ 1024 }
-        ensures run { IsRun E.life result.base.items (trace_of result.trace.items) result.engine }
-        ensures stops { StopKeeps E.leaves result.base.items (trace_of result.trace.items) result.engine }
+        ensures run { E.tells → IsRun E.life result.base.items (trace_of result.trace.items) result.engine }
+        ensures stops { E.tells → StopKeeps E.leaves result.base.items (trace_of result.trace.items) result.engine }
+        ensures replies { All (λ e. IsReply e.0 e.1) (trace_of result.trace.items) }
         ensures sum { IfSome result.sum (λ n. (n ≡ result.cut + length result.trace.items) × (n ≡ sum_by (λ s. s.made.amount) shares.items)) }
     {
         let Front { held, ended: _ } = self;

@@ -1,18 +1,19 @@
 //! What lies under the lock.
 
 ghost use Rattle.std.specs.Prelude.{◌≡◌, ◌≢◌, ◌<◌, ◌≤◌, ◌^◌, ◌+◌, ◌↔◌, ◌⊎◌, List, true, false, [], length, vec_len, vec_capacity, slice_index, Err, IfOk, IfErr, OnErr, IfSome, IsSome};
-ghost use Rattle.std.specs.List.{sum_by};
+ghost use Rattle.std.specs.List.{sum_by, All};
 ghost use Rattle.std.specs.Arc.{arc_value};
 ghost use Rattle.std.specs.FinMap.{entries};
 ghost use Rattle.crossbeam_utils.specs.Seq.{cell_view};
 ghost use Rattle.im_types.specs.Changes.{Effect};
 ghost use Rattle.im_types.specs.Lives.{Shown};
 ghost use Rattle.im_lock.specs.View.{View};
-ghost use Rattle.im_stats.specs.Counts.{nothing, writer, IsSound, NoLess};
+ghost use Rattle.im_stats.specs.Counts.{nothing, writer, started, committed, rolled_back, IsSound, NoLess};
 ghost use Rattle.im_front.specs.declared.fault.Fault.TheVariants.{Failed, Busy, TooMany, TraceFull, Memory};
 ghost use Rattle.im_front.specs.Calls.{asked_by, told_by, trace_of, is_blocked, may_end, most_entries, most_key};
-ghost use Rattle.im_front.specs.Store.{IsResting, LookKept};
-ghost use Rattle.im_front.specs.Held.{Records, is_full, IsRun, StopKeeps, IsCut, WhyNotCut, after_reply, after_trace};
+ghost use Rattle.im_front.specs.Replies.{is_full, IsReply};
+ghost use Rattle.im_front.specs.Store.{LookKept};
+ghost use Rattle.im_front.specs.Held.{IsResting, Records, IsRun, StopKeeps, IsCut, WhyNotCut, after_reply, after_trace};
 
 use crate::fault::Fault;
 use crate::recorded::Recorded;
@@ -61,13 +62,13 @@ impl<E: Store, L: Ledger> Model for Held<E, L> {
     ghost use Rattle.crossbeam_utils.specs.Seq.{cell_view};
     ghost use Rattle.im_stats.specs.Counts.{writer};
     ghost use Rattle.im_front.specs.Calls.{trace_of};
-    ghost use Rattle.im_front.specs.Held.{State, Stands};
+    ghost use Rattle.im_front.specs.Held.{State, IsTallied, Stands};
 
     ghost Value = { State E };
 
     ghost view = { λ h. record { engine = h.engine; base = h.base.items; trace = h.trace.items; cut = h.cut; kept = h.kept; counts = (cell_view h.pass).seen; handed = h.handed } };
 
-    ghost invariant = { λ h. Stands E.life h.base.items (trace_of h.trace.items) h.engine h.cut h.kept h.counts × (h.book.total ≡ h.cut + length h.trace.items) × (h.rest.parts + h.handed ≡ 1024) × (h.rest.amount ≡ 0) × (h.pass.table_id ≡ (arc_value h.cell).table.shared.table_id) × (cell_view h.pass ≡ writer h.counts) };
+    ghost invariant = { λ h. (E.tells → Stands E.life h.base.items (trace_of h.trace.items) h.engine) × IsTallied (trace_of h.trace.items) (E.actives h.engine) h.cut h.kept h.counts × (h.book.total ≡ h.cut + length h.trace.items) × (h.rest.parts + h.handed ≡ 1024) × (h.rest.amount ≡ 0) × (h.pass.table_id ≡ (arc_value h.cell).table.shared.table_id) × (cell_view h.pass ≡ writer h.counts) };
 }
 
 /// What is left of a front.
@@ -89,7 +90,7 @@ impl<E: Store, L: Ledger> Held<E, L> {
     /// An engine at rest, with an empty trace that begins from its entries. Refused as `entries` is, and `Memory`; engine and
     /// blank come back then.
     pub fn new(alloc: Global, engine: E, blank: Blank) -> Result<Held<E, L>, (Fault, E, Blank)>
-        requires resting { IsResting E.life engine }
+        requires resting { IsResting E.Store engine }
         requires blank { (blank.name ≡ L.name) × (blank.parts ≡ L.parts) × (blank.parts ≡ 1024) }
         ensures ok { IfOk result (λ h. (h.trace ≡ []) × (h.cut ≡ 0) × (h.handed ≡ 0) × (h.counts ≡ nothing)) }
         ensures engine { IfErr result (λ e. (before : List Effect) (s : Shown) (v : View) → E.life before s v engine → LookKept E.life before s v e.1) }
@@ -124,13 +125,16 @@ impl<E: Store, L: Ledger> Held<E, L> {
         })
     }
 
-    /// What always holds of the value behind the lock: its trace is a run that ends in its engine, a stop keeps what the trace
-    /// acknowledged, and the counts that were written last to the cell are those of the trace, added to those of the steps cut.
-    /// It does nothing: its contract says so.
+    /// What always holds of the value behind the lock. Over an engine that tells what it holds the trace is a run that ends in it,
+    /// and a stop keeps what the trace acknowledged. Over any engine each reply of the trace suits its step, the counts that were
+    /// written last to the cell are those of the trace, added to those of the steps cut, and what was started has ended or is
+    /// active. It does nothing: its contract says so.
     pub fn holds_always(&self)
-        ensures run { IsRun E.life self.now.base (trace_of self.now.trace) self.now.engine }
-        ensures stops { StopKeeps E.leaves self.now.base (trace_of self.now.trace) self.now.engine }
+        ensures run { E.tells → IsRun E.life self.now.base (trace_of self.now.trace) self.now.engine }
+        ensures stops { E.tells → StopKeeps E.leaves self.now.base (trace_of self.now.trace) self.now.engine }
+        ensures replies { All (λ e. IsReply e.0 e.1) (trace_of self.now.trace) }
         ensures counts { self.now.counts ≡ after_trace self.now.kept (trace_of self.now.trace) }
+        ensures active { started self.now.counts ≡ committed self.now.counts + rolled_back self.now.counts + E.actives self.now.engine }
         ensures sound { IsSound self.now.counts }
         ensures handed { self.now.handed ≤ 1024 }
     {
@@ -175,10 +179,10 @@ impl<E: Store, L: Ledger> Held<E, L> {
     /// its base stay then.
     pub fn cut_trace(&mut self) -> Result<(), Fault>
         ensures ok { IfOk result (λ _. (self.new.trace ≡ []) × (self.new.cut ≡ self.old.cut + length self.old.trace) × (self.new.kept ≡ self.old.counts)) }
-        ensures base { IfOk result (λ _. IsCut self.old.base self.new.base (trace_of self.old.trace)) }
+        ensures base { IfOk result (λ _. E.tells → IsCut self.old.base self.new.base (trace_of self.old.trace)) }
         ensures same { (self.new.counts ≡ self.old.counts) × (self.new.handed ≡ self.old.handed) }
         ensures err { OnErr result ((self.new.trace ≡ self.old.trace) × (self.new.base ≡ self.old.base) × (self.new.cut ≡ self.old.cut) × (self.new.kept ≡ self.old.kept)) }
-        ensures cause { IfErr result (λ fault. WhyNotCut E.life E.refuses self.old self.new fault) }
+        ensures cause { IfErr result (λ fault. WhyNotCut E.Store self.old self.new fault) }
     {
         if self.engine.failed() {
             return Err(Fault::Failed);
@@ -210,8 +214,9 @@ impl<E: Store, L: Ledger> Held<E, L> {
     /// Ends the front. There is a sum where as many shares came back as were handed out, and it is the number of all steps.
     pub fn close(self, shares: Vec<Share<L>>) -> Closed<E>
         requires { L.parts ≡ 1024 }
-        ensures run { IsRun E.life result.base.items (trace_of result.trace.items) result.engine }
-        ensures stops { StopKeeps E.leaves result.base.items (trace_of result.trace.items) result.engine }
+        ensures run { E.tells → IsRun E.life result.base.items (trace_of result.trace.items) result.engine }
+        ensures stops { E.tells → StopKeeps E.leaves result.base.items (trace_of result.trace.items) result.engine }
+        ensures replies { All (λ e. IsReply e.0 e.1) (trace_of result.trace.items) }
         ensures same { (result.base.items ≡ self.base) × (result.trace.items ≡ self.trace) × (result.cut ≡ self.cut) × (result.engine ≡ self.engine) }
         ensures sum { IfSome result.sum (λ n. (n ≡ self.cut + length self.trace) × (n ≡ sum_by (λ s. s.made.amount) shares.items)) }
         ensures all { IsSome result.sum ↔ (length shares.items ≡ self.handed) }

@@ -1,10 +1,11 @@
 //! An engine that threads share: one lock, and beside the engine a trace of its steps that is a run.
 //!
 //! **What lies under the lock** (`Held`): an engine, the entries from which the trace begins, the steps with their replies, and
-//! three counts. That the trace is a run of the machine of `im_lock`, from the map of those entries to a view of the engine, is
-//! the invariant of the type (`Stands`), so it holds each time that the lock is free; `holds_always` says what follows: a stop
-//! then leaves the base entries with a front of what the trace asked, each acknowledged commit in it. `Held::step` adds to the
-//! trace exactly the step and the reply that it answers.
+//! three counts. What holds each time that the lock is free is the invariant of the type, and `holds_always` says what follows.
+//! Over any engine (`IsTallied`) each reply of the trace suits its step, the counts are those of the trace, and what was started
+//! has ended or is active. Over an engine that tells what it holds (`Stands`) the trace is a run of the machine of `im_lock`, from
+//! the map of the base entries to a view of the engine: a stop then leaves the base entries with a front of what the trace asked,
+//! each acknowledged commit in it. `Held::step` adds to the trace exactly the step and the reply that it answers.
 //!
 //! **What each caller holds** (`Share`): a part of a ledger that counts the steps which it made, and the counts that it read
 //! last. The shares' sum is the number of all steps, where every share comes back to `close`. `Front::stats` reads the counts
@@ -13,8 +14,10 @@
 //! **The lock** (`Front`): `call` takes it, makes the step, and while the reply is `Blocked` waits until a transaction has
 //! ended, and makes it again. Nothing is claimed of who comes first, nor that a waiting call returns.
 //!
-//! **The engine** is any `Store`: its steps are the machine's, a stop keeps what it acknowledged, and where nothing is active a
-//! new life begins with what was committed. `Step`, `Reply` and `Fault` are those of a store of many transactions.
+//! **The engine** is any `Store`: its replies suit their steps, and it counts its transactions; where it tells what it holds its
+//! steps are the machine's, a stop keeps what it acknowledged, and where nothing is active a new life begins with what was
+//! committed. A store over real files tells nothing, and threads share it all the same. `Step`, `Reply` and `Fault` are those of a
+//! store of many transactions.
 #![tactic(auto)]
 
 mod fault;

@@ -1,6 +1,6 @@
 //! What a front asks of an engine.
 
-ghost use Rattle.std.specs.Prelude.{◌≡◌, List, false, ◌++◌, IfOk, IfErr};
+ghost use Rattle.std.specs.Prelude.{◌≡◌, ℕ, List, false, ◌++◌, IfOk, IfErr};
 ghost use Rattle.std.specs.FinMap.{empty, entries as entries_of};
 ghost use Rattle.im_types.specs.Changes.{Effect, apply_all};
 ghost use Rattle.im_types.specs.Lives.{Shown, Survives, effects, nothing_shown};
@@ -8,7 +8,8 @@ ghost use Rattle.im_lock.specs.View.{View};
 ghost use Rattle.im_lock.specs.Machine.{start};
 ghost use Rattle.im_front.specs.declared.fault.Fault as faults;
 ghost use Rattle.im_front.specs.Calls.{asked_by, told_by};
-ghost use Rattle.im_front.specs.Store.{StepKept, LookKept};
+ghost use Rattle.im_front.specs.Replies.{IsReply, IsCounted};
+ghost use Rattle.im_front.specs.Store.{IsAlive, StepKept, LookKept};
 
 use crate::fault::Fault;
 use crate::reply::Reply;
@@ -17,13 +18,20 @@ use im_types::{Key, Rid};
 use std::alloc::Global;
 
 /// A store of many transactions over one map, whose steps are those of the machine, and which a stop leaves with what it
-/// acknowledged.
+/// acknowledged. That is claimed of a store that tells what it holds; of any store, that its replies suit its steps, and that
+/// it counts its transactions.
 pub trait Store: Drop {
+    /// The premise of what follows from its lives: that it tells what it holds. A store over real files does not.
+    ghost tells: { Type 0 };
+
     /// It goes on from these effects, has shown this since, and is this view of the machine.
     ghost life: { List Effect → Shown → View → Self → Type 0 };
 
     /// Whatever a stop now leaves stands for such effects.
     ghost leaves: { Self → (List Effect → Type 0) → Type 0 };
+
+    /// How many transactions are active.
+    ghost actives: { Self → ℕ };
 
     /// Why the entries are refused.
     ghost refuses: { Self → Self → faults.Fault → Type 0 };
@@ -31,18 +39,22 @@ pub trait Store: Drop {
     /// Makes a step, and answers it.
     fn step(&mut self, step: &Step) -> Reply
         ensures kept { (before : List Effect) (s : Shown) (v : View) → life before s v self.old
-            → StepKept life before s v (asked_by step.now) (told_by result) self.new };
+            → StepKept life before s v (asked_by step.now) (told_by result) self.new }
+        ensures reply { IsAlive life tells self.old → IsReply (asked_by step.now) (told_by result) }
+        ensures counted { IsAlive life tells self.old → IsCounted (told_by result) (actives self.old) (actives self.new) };
 
     /// The entries of the map, those of active transactions included, in rising key order. A refusal may break the store.
     fn entries(&mut self, alloc: Global) -> Result<Vec<(Key, Rid)>, Fault>
         ensures list { IfOk result (λ list. (before : List Effect) (s : Shown) (v : View) → life before s v self.old
             → (list.items ≡ entries_of v.walk) × life before s v self.new) }
         ensures kept { IfErr result (λ fault. (before : List Effect) (s : Shown) (v : View) → life before s v self.old → LookKept life before s v self.new) }
-        ensures cause { IfErr result (λ fault. refuses self.old self.new fault) };
+        ensures cause { IfErr result (λ fault. refuses self.old self.new fault) }
+        ensures active { actives self.new ≡ actives self.old };
 
     /// How many transactions are active.
     fn active(&self) -> usize
-        ensures { (before : List Effect) (s : Shown) (v : View) → life before s v self.now → result ≡ v.active };
+        ensures count { result ≡ actives self.now }
+        ensures machine { (before : List Effect) (s : Shown) (v : View) → life before s v self.now → result ≡ v.active };
 
     /// Whether an earlier call broke it.
     fn failed(&self) -> bool

@@ -1,8 +1,7 @@
 //! Threads that share one store on a model disk which stops within one of its calls: what the trace acknowledged is there afterwards.
 
 ghost use Rattle.std.specs.Prelude.{◌≡◌, IfOk};
-ghost use Rattle.im_front.specs.Store.{IsResting};
-ghost use Rattle.im_engine.specs.Serves.{IsStoreLife};
+ghost use Rattle.im_front.specs.Held.{IsResting};
 
 use im_disk::{Fill, Length, ModelDisk, Stop};
 use im_engine::{Config, Engine, every_list_of_lives};
@@ -55,7 +54,7 @@ fn stop_at(alloc: Global, call: u64) -> Result<Stop, Fault> {
 
 // A new store at rest, on a disk that will stop.
 fn new_store(alloc: Global, stop: Stop) -> Result<Engine<ModelDisk>, Fault>
-    ensures resting { IfOk result (λ e. IsResting (IsStoreLife ⟦<ModelDisk as im_disk::Disk>⟧) e) }
+    ensures resting { IfOk result (λ e. IsResting ⟦<Engine<ModelDisk> as Store>⟧ e) }
 {
     every_list_of_lives();
     let mut disk = ModelDisk::new(Vec::new(alloc), Vec::new(alloc));
@@ -140,7 +139,7 @@ fn both<E: Store + Send, L: Ledger + Send + Sync, R: Threads + Wait + Sync>(
     engine: E,
     blank: Blank,
 ) -> Result<Closed<E>, Fault>
-    requires resting { IsResting E.life engine }
+    requires resting { IsResting E.Store engine }
     requires blank { (blank.name ≡ L.name) × (blank.parts ≡ L.parts) × (blank.parts ≡ 1024) }
 {
     let front = match Front::<E, L>::new(alloc, engine, blank) {

@@ -2,9 +2,9 @@
 //!
 //! Each worker makes its transactions one after another: it begins one, inserts a key of its own, and commits it, or rolls it back
 //! where it must die. The flusher writes pages and makes checkpoints. `load` is generic over the store, and over what each worker
-//! does before its first step (`Turn`). It answers the trace, which is a run that ends in the store, and where the shares' sum is
-//! there, each transaction has its three steps in it and each round of the flusher its nine: a worker that gives up early, or
-//! leaves steps out, is no load. `load_text` prints what came of it, and `load_args` reads the command line.
+//! does before its first step (`Turn`). It answers the trace, which is a run that ends in the store where that tells what it holds, and
+//! where the shares' sum is there, each transaction has its three steps in it and each round of the flusher its nine: a worker that
+//! gives up early, or leaves steps out, is no load. `load_text` prints what came of it, and `load_args` reads the command line.
 #![tactic(auto)]
 
 mod args;

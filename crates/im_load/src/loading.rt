@@ -3,8 +3,7 @@
 ghost use Rattle.std.specs.Prelude.{◌≡◌, ◌≤◌, ◌+◌, ◌*◌, ℕ, All, List, IfOk, IfSome, length};
 ghost use Rattle.std.specs.List.{sum_by};
 ghost use Rattle.im_front.specs.Calls.{trace_of};
-ghost use Rattle.im_front.specs.Store.{IsResting};
-ghost use Rattle.im_front.specs.Held.{IsRun, StopKeeps};
+ghost use Rattle.im_front.specs.Held.{IsResting, IsRun, StopKeeps};
 ghost use Rattle.im_load.specs.Counting.{least_of, IsDone};
 
 use crate::flusher::flush_rounds;
@@ -28,8 +27,8 @@ pub struct Loaded<E: Store> {
 /// Runs a load on a store at rest: each worker and, where it has rounds to make, the flusher in a thread of its own. The blank is of
 /// a ledger of 1,024 parts.
 ///
-/// The trace is a run that ends in the store, and a stop then keeps what it acknowledged. Where the sum is there it is the number of
-/// all steps: three at least for each transaction, and nine for each round of the flusher.
+/// Where the store tells what it holds, the trace is a run that ends in it, and a stop then keeps what it acknowledged. Over any store,
+/// where the sum is there it is the number of all steps: three at least for each transaction, and nine for each round of the flusher.
 ///
 /// Refused as the first step that was refused, and `Memory`.
 pub fn load<E: Store + Send, L: Ledger + Send + Sync, T: Turn + Sync, R: Threads + Wait + Sync>(
@@ -40,10 +39,10 @@ pub fn load<E: Store + Send, L: Ledger + Send + Sync, T: Turn + Sync, R: Threads
     args: LoadArgs,
     turn: &T,
 ) -> Result<Loaded<E>, Fault>
-    requires resting { IsResting E.life engine }
+    requires resting { IsResting E.Store engine }
     requires blank { (blank.name ≡ L.name) × (blank.parts ≡ L.parts) × (blank.parts ≡ 1024) }
-    ensures run { IfOk result (λ l. IsRun E.life l.closed.base.items (trace_of l.closed.trace.items) l.closed.engine) }
-    ensures stops { IfOk result (λ l. StopKeeps E.leaves l.closed.base.items (trace_of l.closed.trace.items) l.closed.engine) }
+    ensures run { IfOk result (λ l. E.tells → IsRun E.life l.closed.base.items (trace_of l.closed.trace.items) l.closed.engine) }
+    ensures stops { IfOk result (λ l. E.tells → StopKeeps E.leaves l.closed.base.items (trace_of l.closed.trace.items) l.closed.engine) }
     ensures sum { IfOk result (λ l. IfSome l.closed.sum (λ n. n ≡ l.closed.cut + length l.closed.trace.items)) }
     ensures steps { IfOk result (λ l. IfSome l.closed.sum (λ n. args.threads * (3 * args.txns) + 9 * args.flush ≤ n)) }
     ensures sound { IfOk result (λ l. l.stats.committed + l.stats.rolled_back ≤ l.stats.started) }

@@ -2,7 +2,7 @@
 
 ghost use Rattle.std.specs.Prelude.{◌≡◌, ◌+◌, false, OnOk, OnErr, IfOk};
 ghost use Rattle.im_front.specs.Calls.{told_by};
-ghost use Rattle.im_front.specs.Held.{is_full, lacks_memory};
+ghost use Rattle.im_front.specs.Replies.{is_full, lacks_memory};
 
 use im_front::{Fault, Front, Reply, Share, Step, Store};
 use std::sync::Wait;

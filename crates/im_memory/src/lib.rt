@@ -3,8 +3,8 @@
 //!
 //! It answers every step as the machine of `im_lock` does, and each access exactly: what it finds on its entries decides the locks
 //! that it asks, and what the lock table decides is its answer. What is committed stands in a journal, the effects in the order of
-//! their commits; a stop leaves the journal, whole. So it is a `Store` of `im_front` with all that the trait asks, and the front can
-//! be run over it.
+//! their commits; a stop leaves the journal, whole. So it is a `Store` of `im_front` that tells what it holds, with all that the
+//! trait asks, and the front can be run over it.
 //!
 //! Entries are looked up from the first on: it is for programs and tests of the front, not for many keys.
 #![tactic(auto)]

@@ -2,8 +2,8 @@
 
 ghost use Rattle.std.specs.Prelude.{◌≡◌};
 ghost use Rattle.im_front.specs.Calls.{asked_by, told_by};
-ghost use Rattle.im_front.specs.Store.{IsResting};
-ghost use Rattle.im_memory.specs.Stored.{IsStored, Serves, state_of};
+ghost use Rattle.im_front.specs.Held.{IsResting};
+ghost use Rattle.im_memory.specs.Stored.{Serves, state_of};
 
 use crate::memory_store::MemoryStore;
 use crate::sorted;
@@ -17,7 +17,7 @@ use std::collections::HashMap;
 impl MemoryStore {
     /// A store without entries.
     pub fn new(alloc: Global) -> MemoryStore
-        ensures { IsResting (λ before s v e. IsStored before s v (state_of e)) result }
+        ensures { IsResting ⟦<MemoryStore as Store>⟧ result }
     {
         MemoryStore {
             alloc,
@@ -56,14 +56,18 @@ impl MemoryStore {
 }
 
 impl Store for MemoryStore {
-    ghost use Rattle.std.specs.Prelude.{◌≡◌};
+    ghost use Rattle.std.specs.Prelude.{◌≡◌, length};
     ghost use Rattle.im_front.specs.declared.fault.Fault.TheVariants.{Memory};
     ghost use Rattle.im_memory.specs.Stored.{IsStored, state_of};
     ghost use Rattle.im_memory.specs.Laws.{stops_whole, settled};
 
+    ghost tells = { Unit {0} };
+
     ghost life = { λ before s v e. IsStored before s v (state_of e) };
 
     ghost leaves = { λ e P. P ((state_of e).journal) };
+
+    ghost actives = { λ e. length (state_of e).rows };
 
     ghost refuses = { λ old new fault. (new ≡ old) × (fault ≡ Memory) };
 

@@ -11,11 +11,15 @@ returns-in-Ok c =
     let kept = c.in-Ok.ensures.kept [] c.new-disk.ensures.tells (c.arm.ensures.synced c.new-disk.ensures.synced) stands in
     record {
       resting = record {
-        before = [];
-        first = c.in-Ok.engine.txns.next;
-        life_is = record {
-          life = kept.ok.0;
-          active = ap length c.in-Ok.ensures.opened.1;
-        };
+        idle = ap length c.in-Ok.ensures.opened.1;
+        rests = λ tells.
+            record {
+              before = [];
+              first = c.in-Ok.engine.txns.next;
+              life_is = record {
+                life = kept.ok.0;
+                active = ap length c.in-Ok.ensures.opened.1;
+              };
+            };
       };
     }

@@ -5,55 +5,62 @@ use Rattle.im_types.specs.Lives.{nothing_shown}
 use Rattle.im_front.specs.declared.recorded.Recorded.{Recorded}
 use Rattle.im_front.specs.Calls.{trace_of}
 use Rattle.im_front.specs.Events.{shown_in}
-use Rattle.im_front.specs.Held.{State, Stands, IsCut}
-use Rattle.im_front.proofs.Steps.{stands_cut, stands_look, rest_walk, is_cut, length-trace_of}
+use Rattle.im_front.specs.Held.{State, IsTallied, Stands, IsCut}
+use Rattle.im_front.proofs.Steps.{stands_cut, stands_look, tallied_as, tallied_cut, rest_walk, is_cut, length-trace_of}
 use Rattle.im_front.proofs.held.Held.cut_trace.Goals as goal
 
 pub invariant_of-self : goal.invariant_of-self
 invariant_of-self g c =
-    let i = c.self.invariant in
-    let h = i.0 in
-    let look = c.in_err-base.ensures.kept h.before (shown_in nothing_shown h.events) h.view h.life_is in (
-      stands_look g.E.Store.life c.self.inside.base.items (trace_of c.self.inside.trace.items) c.self.inside.engine c.self.inside.cut c.self.inside.kept c.self.inside.counts h c.entries.new.self look,
-      i.1,
+    let i = c.self.invariant in (
+      (λ tells.
+          let h = i.0 tells in
+          let look = c.in_err-base.ensures.kept h.before (shown_in nothing_shown h.events) h.view h.life_is in
+          stands_look g.E.Store.life c.self.inside.base.items (trace_of c.self.inside.trace.items) c.self.inside.engine h c.entries.new.self look),
+      tallied_as (trace_of c.self.inside.trace.items) (g.E.Store.actives c.self.inside.engine) c.self.inside.cut c.self.inside.kept c.self.inside.counts i.1 (g.E.Store.actives c.entries.new.self) c.in_err-base.ensures.active,
       i.2,
       i.3,
       i.4,
       i.5,
+      i.6,
     )
 
 pub invariant_of-self-2 : goal.invariant_of-self-2
 invariant_of-self-2 g c =
     let i = c.self.invariant in
-    let h = i.0 in
-    let list = c.in_ok-base.ensures.list h.before (shown_in nothing_shown h.events) h.view h.life_is in
-    let running : h.view.failed ≡ false = sym (c.failed.ensures h.before (shown_in nothing_shown h.events) h.view h.life_is) ∙ c.if-failed.false in
-    let active = c.active.ensures h.before (shown_in nothing_shown h.events) h.view h.life_is in
-    let none : h.view.active ≡ 0 = sym active ∙ c.is_busy.ensures.free c.if-is_busy.false in
-    let walk = rest_walk g.E.Store.life c.self.inside.base.items (trace_of c.self.inside.trace.items) c.self.inside.engine c.self.inside.cut c.self.inside.kept c.self.inside.counts h (c.isolation.ensures (apply_all empty h.before) h.first) running none in
-    let settled = g.met.E.Store.settles h.before (shown_in nothing_shown h.events) h.view c.entries.new.self list.1 running none in
+    let trace = trace_of c.self.inside.trace.items in
     let long = length-trace_of c.self.inside.trace.items in
     let cut : c.self.inside.cut + length (trace_of c.self.inside.trace.items) ≡ c.self.inside.cut + c.len-2.result = omega arith in
-    let stands = stands_cut g.E.Store.life c.self.inside.base.items (trace_of c.self.inside.trace.items) c.self.inside.engine c.self.inside.cut c.self.inside.kept c.self.inside.counts h c.entries.new.self c.in_ok-base.field-0.items none settled
-    (list.0 ∙ ap entries walk) (omega arith) in
-    let there : Stands g.E.Store.life c.in_ok-base.field-0.items [] c.entries.new.self (c.self.inside.cut + c.len-2.result) c.self.inside.counts c.self.inside.counts =
-    subst (λ (n : ℕ). Stands g.E.Store.life c.in_ok-base.field-0.items [] c.entries.new.self n c.self.inside.counts c.self.inside.counts) cut stands in (
-      subst (λ (l : List Recorded). Stands g.E.Store.life c.in_ok-base.field-0.items (trace_of l) c.entries.new.self (c.self.inside.cut + c.len-2.result) c.self.inside.counts c.self.inside.counts) (sym c.clear.ensures.items) there,
-      (let none_left = ap length c.clear.ensures.items in omega (arith, i.1, none_left)),
-      i.2,
+    let none_left = sym c.clear.ensures.items in
+    let actives = g.E.Store.actives c.entries.new.self in
+    let tallied = tallied_cut trace (g.E.Store.actives c.self.inside.engine) c.self.inside.cut c.self.inside.kept c.self.inside.counts i.1 actives c.in_ok-base.ensures.active (omega arith) in
+    let there : IsTallied [] actives (c.self.inside.cut + c.len-2.result) c.self.inside.counts c.self.inside.counts = subst (λ (n : ℕ). IsTallied [] actives n c.self.inside.counts c.self.inside.counts) cut tallied in (
+      (λ tells.
+          let h = i.0 tells in
+          let list = c.in_ok-base.ensures.list h.before (shown_in nothing_shown h.events) h.view h.life_is in
+          let running : h.view.failed ≡ false = sym (c.failed.ensures h.before (shown_in nothing_shown h.events) h.view h.life_is) ∙ c.if-failed.false in
+          let active = c.active.ensures.machine h.before (shown_in nothing_shown h.events) h.view h.life_is in
+          let none : h.view.active ≡ 0 = sym active ∙ c.is_busy.ensures.free c.if-is_busy.false in
+          let walk = rest_walk g.E.Store.life c.self.inside.base.items trace c.self.inside.engine h (c.isolation.ensures (apply_all empty h.before) h.first) running none in
+          let settled = g.met.E.Store.settles h.before (shown_in nothing_shown h.events) h.view c.entries.new.self list.1 running none in
+          let stands = stands_cut g.E.Store.life c.self.inside.base.items trace c.self.inside.engine h c.entries.new.self c.in_ok-base.field-0.items none settled (list.0 ∙ ap entries walk) in
+          subst (λ (l : List Recorded). Stands g.E.Store.life c.in_ok-base.field-0.items (trace_of l) c.entries.new.self) none_left stands),
+      subst (λ (l : List Recorded). IsTallied (trace_of l) actives (c.self.inside.cut + c.len-2.result) c.self.inside.counts c.self.inside.counts) none_left there,
+      (let empty_now = ap length c.clear.ensures.items in omega (arith, i.2, empty_now)),
       i.3,
       i.4,
       i.5,
+      i.6,
     )
 
 pub returns-clause-base : goal.returns-clause-base
-returns-clause-base g c =
-    let h = c.self.invariant.0 in
+returns-clause-base g c tells =
+    let h = c.self.invariant.0 tells in
+    let trace = trace_of c.self.inside.trace.items in
     let list = c.in_ok-base.ensures.list h.before (shown_in nothing_shown h.events) h.view h.life_is in
     let running : h.view.failed ≡ false = sym (c.failed.ensures h.before (shown_in nothing_shown h.events) h.view h.life_is) ∙ c.if-failed.false in
-    let active = c.active.ensures h.before (shown_in nothing_shown h.events) h.view h.life_is in
+    let active = c.active.ensures.machine h.before (shown_in nothing_shown h.events) h.view h.life_is in
     let none : h.view.active ≡ 0 = sym active ∙ c.is_busy.ensures.free c.if-is_busy.false in
-    let walk = rest_walk g.E.Store.life c.self.inside.base.items (trace_of c.self.inside.trace.items) c.self.inside.engine c.self.inside.cut c.self.inside.kept c.self.inside.counts h (c.isolation.ensures (apply_all empty h.before) h.first) running none in
+    let walk = rest_walk g.E.Store.life c.self.inside.base.items trace c.self.inside.engine h (c.isolation.ensures (apply_all empty h.before) h.first) running none in
     let settled = g.met.E.Store.settles h.before (shown_in nothing_shown h.events) h.view c.entries.new.self list.1 running none in
-    let is = is_cut g.E.Store.life c.self.inside.base.items (trace_of c.self.inside.trace.items) c.self.inside.engine c.self.inside.cut c.self.inside.kept c.self.inside.counts h c.in_ok-base.field-0.items running settled.0 (list.0 ∙ ap entries walk) in
+    let is = is_cut g.E.Store.life c.self.inside.base.items trace c.self.inside.engine h c.in_ok-base.field-0.items running settled.0 (list.0 ∙ ap entries walk) in
     subst (λ (s : State g.row.E.Denot). IsCut s.base c.in_ok-base.field-0.items (trace_of s.trace)) c.self.view_is is

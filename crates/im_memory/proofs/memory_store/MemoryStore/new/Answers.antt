@@ -20,17 +20,21 @@ empty_entries = none_long (entries {X = ℕ} {R = key_order} empty) (sym (len-en
 
 pub returns : goal.returns
 returns c = record {
-  before = [];
-  first = 1;
-  life_is = record {
-    reached = record { first = 1; trace = []; run = refl; shown = refl };
-    walk = empty_entries ∙ sym c.new.ensures.items;
-    marks = λ t. ap (λ (rows : List Transaction). mark_at (find (is_of t) rows)) (sym c.new-2.ensures.0);
-    nets = λ t. ap (λ es. net_in (lookup (nat_eq t) es)) (sym c.new-4.ensures.empty);
-    locks = λ t. ap (λ (table : Table). locks_of table t) (sym c.new-3.ensures);
-    active = ap length (sym c.new-2.ensures.0);
-    numbers = sym c.new-2.ensures.1;
-    failing = refl;
-    kept = ap effects_of c.new-5.ensures.items;
-  };
+  idle = ap length c.new-2.ensures.0;
+  rests = λ tells.
+      record {
+        before = [];
+        first = 1;
+        life_is = record {
+          reached = record { first = 1; trace = []; run = refl; shown = refl };
+          walk = empty_entries ∙ sym c.new.ensures.items;
+          marks = λ t. ap (λ (rows : List Transaction). mark_at (find (is_of t) rows)) (sym c.new-2.ensures.0);
+          nets = λ t. ap (λ es. net_in (lookup (nat_eq t) es)) (sym c.new-4.ensures.empty);
+          locks = λ t. ap (λ (table : Table). locks_of table t) (sym c.new-3.ensures);
+          active = ap length (sym c.new-2.ensures.0);
+          numbers = sym c.new-2.ensures.1;
+          failing = refl;
+          kept = ap effects_of c.new-5.ensures.items;
+        };
+      };
 }
