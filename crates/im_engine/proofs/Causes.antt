@@ -1,13 +1,14 @@
 -- Why a step is refused, from how the calls within it ended.
-use Rattle.std.proofs.Common.{◌≡◌, ◌≢◌, ◌⊎◌, inl, inr, ⊎_elim, ℕ, ◌^◌, ◌<◌, ◌≤◌, Bool, true, false, List, length, Option, None, Some, refl, sym, ap, subst, ◌∙◌, arith}
+use Rattle.std.proofs.Common.{◌≡◌, ◌≢◌, ◌⊎◌, inl, inr, ⊎_elim, ℕ, ◌^◌, ◌<◌, ◌≤◌, Bool, true, false, length, Option, None, Some, refl, sym, ap, subst, ◌∙◌, arith}
 use Rattle.std.specs.Prelude.{◌↔◌, find}
 use Rattle.im_types.specs.Answers as answers
 use Rattle.im_types.specs.declared.fault.Fault.{Fault}
 use Rattle.im_types.specs.declared.fault.Fault.TheVariants.{PagesFull, Capacity, LogFull, Device, Memory, Failed, NotAStore}
 use Rattle.im_types.specs.Keys.{Key}
 use Rattle.im_disk.specs.declared.disk.Disk.{Ghosts}
+use Rattle.im_record.specs.Spelling.{size_of}
 use Rattle.im_log.specs.declared.log_file.LogFile.{LogFile}
-use Rattle.im_log.specs.LogFile.{HasNoRoom, end_with}
+use Rattle.im_log.specs.LogFile.{end_with}
 use Rattle.im_flush.specs.declared.page_writer.PageWriter.{PageWriter}
 use Rattle.im_flush.specs.Outcome.{AreLoaded, AsksNothing, Ends, LogEnds, mild, none_mild}
 use Rattle.im_index.specs.Outcomes.{seek_at}
@@ -21,7 +22,7 @@ use Rattle.im_front.specs.declared.reply.Reply.{Reply}
 use Rattle.im_front.specs.declared.reply.Reply.TheVariants.{Refused}
 use Rattle.im_engine.specs.declared.engine.Engine.{Engine}
 use Rattle.im_engine.specs.Faults.{told_as}
-use Rattle.im_engine.specs.Told.{Where, Checked, HasLogged, IsFor, OfForce, Refuses, ReadCause, FlushCause, DeleteCause, InsertCause, check_of}
+use Rattle.im_engine.specs.Told.{Where, Checked, HasLogged, IsFor, OfForce, Refuses, ReadCause, FlushCause, DeleteCause, InsertCause, check_of, checkpoint_of}
 use Rattle.im_engine.proofs.Telling.{not_true}
 
 -- ---- one check after another
@@ -87,9 +88,9 @@ module _ {D : Type 0} (d : Ghosts D) (v : PageWriter) (old : D) (w : PageWriter)
   force_cause e x works room = absurd (let never = x.0 in cc never)
 
   -- an append
-  pub append_cause : (f : Fault) → LogEnds d false none_mild v old w new (Some f) → v.failed ≡ false → (f ≡ LogFull) ⊎ ((f ≡ Device) × (d.failed new ≡ true))
+  pub append_cause : (f : Fault) → LogEnds d false none_mild v old w new (Some f) → v.failed ≡ false → ((f ≡ LogFull) × (d.failed new ≡ false)) ⊎ ((f ≡ Device) × (d.failed new ≡ true))
   append_cause Device x works = inr (refl, x.1)
-  append_cause LogFull x works = inl refl
+  append_cause LogFull x works = inl (refl, x.1)
   append_cause Failed x works = absurd (not_true v.failed works x.0)
   append_cause NotAStore x works = absurd (let never = x.0 in cc never)
   append_cause e x works = absurd (let never = x.0 in cc never)
@@ -186,12 +187,12 @@ module _ {D : Type 0} (d : Ghosts D) (old : Engine D d) (log : LogFile) (disk : 
     commit_lost told is fits broken = behind d old log disk works (answers.Commit t) (Refused told) checked (λ fault. here (logged some) (past fits (here broken (named told fault above.Device is))))
 
     -- one whose append was refused
-    pub commit_append : (f : Fault) (told : Refusal) → told ≡ told_as f → (f ≡ LogFull) ⊎ ((f ≡ Device) × (d.failed disk ≡ true)) → (f ≡ LogFull → 2 ^ 62 < end_with old.writer.log 33) → (2 ^ 62 < end_with old.writer.log 33 → f ≡ LogFull)
+    pub commit_append : (f : Fault) (told : Refusal) → told ≡ told_as f → ((f ≡ LogFull) × (d.failed disk ≡ false)) ⊎ ((f ≡ Device) × (d.failed disk ≡ true)) → (f ≡ LogFull → 2 ^ 62 < end_with old.writer.log 33) → (2 ^ 62 < end_with old.writer.log 33 → f ≡ LogFull)
         → Answers d old log disk (answers.Commit t) (Refused told)
-    commit_append f told is (inl full) over exact = commit_full told (is ∙ ap told_as full) (over full)
+    commit_append f told is (inl full) over exact = commit_full told (is ∙ ap told_as full.0) (over full.0)
     commit_append f told is (inr lost) over exact = commit_lost told (is ∙ ap told_as lost.0) (λ wide. let never : Device ≡ LogFull = sym lost.0 ∙ exact wide in cc never) lost.1
 
--- ---- a force, and the flush of a page
+-- ---- a force, and a Checkpoint
 
 module _ {D : Type 0} (d : Ghosts D) (old : Engine D d) (log : LogFile) (disk : D) where
   pub force_made : (reply : Reply) → (d.failed disk ≡ true → ⊥) → ((x : Refusal) → reply ≢ Refused x) → (fault : Refusal) → ((reply ≡ Refused fault) ↔ OfForce d reply old log disk fault)
@@ -199,3 +200,14 @@ module _ {D : Type 0} (d : Ghosts D) (old : Engine D d) (log : LogFile) (disk : 
 
   pub force_lost : (told : Refusal) → told ≡ above.Device → d.failed disk ≡ true → (fault : Refusal) → ((Refused told ≡ Refused fault) ↔ OfForce d (Refused told) old log disk fault)
   force_lost told is broken fault = here broken (named told fault above.Device is)
+
+  -- a Checkpoint that was taken
+  pub checkpoint_made : (reply : Reply) → (d.failed disk ≡ true → ⊥) → end_with old.writer.log (size_of (checkpoint_of d old)) ≤ 2 ^ 62 → ((x : Refusal) → reply ≢ Refused x) → (fault : Refusal)
+      → ((reply ≡ Refused fault) ↔ Refuses d reply old log disk fault answers.Checkpoint)
+  checkpoint_made reply on fits not fault = past on (past (λ over. omega (arith, fits, over)) (none (not fault)))
+
+  -- one that was refused
+  pub checkpoint_lost : (f : Fault) (told : Refusal) → told ≡ told_as f → ((f ≡ LogFull) × (d.failed disk ≡ false)) ⊎ ((f ≡ Device) × (d.failed disk ≡ true)) → (f ≡ LogFull → 2 ^ 62 < end_with old.writer.log (size_of (checkpoint_of d old))) → (fault : Refusal)
+      → ((Refused told ≡ Refused fault) ↔ Refuses d (Refused told) old log disk fault answers.Checkpoint)
+  checkpoint_lost f told is (inl full) over fault = past (not_true (d.failed disk) full.1) (here (over full.0) (named told fault above.LogFull (is ∙ ap told_as full.0)))
+  checkpoint_lost f told is (inr lost) over fault = here lost.1 (named told fault above.Device (is ∙ ap told_as lost.0))

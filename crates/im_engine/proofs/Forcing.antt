@@ -1,57 +1,130 @@
--- A checkpoint, which makes every record durable.
-use Rattle.std.proofs.Common.{◌≡◌, ℕ, ◌≤◌, ◌^◌, List, [], true, false, refl, sym, ap, subst}
+-- A Checkpoint: its record joins the log behind a sync of the file of pages, and every record is durable.
+use Rattle.std.proofs.Common.{◌≡◌, inl, inr, ℕ, ◌≤◌, ◌<◌, ◌^◌, List, ◌∷◌, true, false, Option, Some, None, refl, sym, ap, subst, ◌∙◌}
+use Rattle.std.specs.Prelude.{◌⊎◌}
 use Rattle.im_types.specs.Answers.{Checkpoint, Done, Refused}
 use Rattle.im_types.specs.Changes.{Effect}
-use Rattle.im_types.specs.Histories.{Base}
+use Rattle.im_types.specs.Histories.{Base, History, end_of}
+use Rattle.im_types.specs.Lawful.{IsLawful}
+use Rattle.im_types.specs.Records.{Logged}
+use Rattle.im_types.specs.Transactions.{committed}
 use Rattle.im_types.specs.declared.fault.Fault.{Fault}
-use Rattle.im_types.specs.WriterSteps.{forced}
+use Rattle.im_types.specs.declared.tables.DirtyPage.{DirtyPage}
+use Rattle.im_types.specs.Writer.{DirtyEntry, PageState}
+use Rattle.im_types.specs.WriterSteps.{IsIn, Lists, appended, forced, forgotten, forgotten_entry, forgotten_page, passed, synced}
 use Rattle.im_types.specs.Lives.{Shown}
 use Rattle.im_disk.specs.declared.disk.Disk.{Ghosts}
 use Rattle.im_disk.specs.Disk.{Files}
-use Rattle.im_flush.specs.Stands.{LeavesCovered}
-use Rattle.im_flush.specs.PageWriter.{GoesOn}
+use Rattle.im_disk.specs.Runs.{LeavesOnly}
+use Rattle.im_disk.proofs.Runs.{weakened}
+use Rattle.im_flush.specs.Checkpoints.{checkpoint_at, Checkpointed, HasCheckpoint, LeavesCheckpointed}
+use Rattle.im_flush.specs.Stands.{IsCovered}
+use Rattle.im_tree.specs.Theory.{page_tree}
+use Rattle.im_checkpoint.specs.Rows.{listed}
 use Rattle.im_front.specs.Calls.{number_of}
 use Rattle.im_front.specs.declared.fault.Fault.{Fault as Refusal}
 use Rattle.im_lock.specs.View.{View}
-use Rattle.im_steps.specs.Growth.{AreBelow}
+use Rattle.im_steps.specs.Growth.{AreBelow, IsCheckpointed}
 use Rattle.im_steps.specs.Serving.{IsServing}
-use Rattle.im_steps.proofs.Growth.{images_change_nothing}
+use Rattle.im_steps.proofs.Growth.{checkpoints_change_nothing}
 use Rattle.im_steps.proofs.Durable.{commits_stand}
 use Rattle.im_steps.proofs.Lived.{rows_tell}
-use Rattle.im_steps.proofs.Steps.{checkpoints_served}
+use Rattle.im_steps.proofs.Logging.{logged_checkpoints_served}
 use Rattle.im_engine.specs.declared.engine.Engine.{Engine}
 use Rattle.im_engine.specs.Faults.{told_as}
 use Rattle.im_engine.specs.Numbered.{Numbered}
+use Rattle.im_engine.specs.Stands.{Allowed}
 use Rattle.im_engine.specs.Running.{IsRunning, IsLife}
 use Rattle.im_engine.specs.Kept.{StepKept}
-use Rattle.im_engine.proofs.Running.{covered_stops, runs_on}
+use Rattle.im_engine.proofs.Running.{left_on}
 use Rattle.im_engine.proofs.Made.{step_made}
 use Rattle.im_engine.proofs.Refused.{breaks_with}
 use Rattle.im_engine.proofs.Ending.{IsOfLog}
 
-module _ {D : Type 0} (d : Ghosts D) (before : List Effect) (s : Shown) (v : View) (old new : Engine D d) (life : IsLife d before s v old) (works : old.failed ≡ false) where
+-- the list says the same of the pages behind its record, of which no copy counts as known
+lists_on : (lsn : ℕ) (pages : ℕ → PageState) (dirty : List DirtyPage) → Lists pages dirty → Lists (λ (q : ℕ). passed lsn (forgotten_page (pages q))) dirty
+lists_on lsn pages dirty lists = record {
+  all = λ p e is. of p (pages p).entry refl e is;
+  each = λ x within. let has = lists.each x within in record { entry = record has.entry { copied = false }; is = ap forgotten_entry has.is; rec_lsn = has.rec_lsn };
+}
+  where
+    of : (p : ℕ) (o : Option DirtyEntry) → (pages p).entry ≡ o → (e : DirtyEntry) → forgotten_entry (pages p).entry ≡ Some e → IsIn (record { page = p; rec_lsn = e.rec_lsn }) dirty
+    of p None none e is = absurd (let clash : None ≡ Some e = sym (ap forgotten_entry none) ∙ is in cc clash)
+    of p (Some x) some e is =
+        let same : Some (record x { copied = false }) ≡ Some e = sym (ap forgotten_entry some) ∙ is in
+        let entry : record x { copied = false } ≡ e = cc same in
+        let lsn_is : x.rec_lsn ≡ e.rec_lsn = ap (λ (y : DirtyEntry). y.rec_lsn) entry in
+        subst (λ (l : ℕ). IsIn (record { page = p; rec_lsn = l }) dirty) lsn_is (lists.all p x some)
+
+module _ {D : Type 0} (d : Ghosts D) (before : List Effect) (s : Shown) (v : View) (old new : Engine D d) (life : IsLife d before s v old) (works : old.failed ≡ false) (dirty : List DirtyPage) where
   abbrev run : (b : Base) × IsRunning d b before s v old
   run = life.running works
 
-  -- it was made
-  pub checkpointed : GoesOn d run.0 run.1.base run.1.now old.disk (forced run.1.now) new.writer new.disk → LeavesCovered d run.0 run.1.base run.1.now.durable run.1.now.log old.disk new.disk → new.txns ≡ old.txns → new.locks ≡ old.locks → new.failed ≡ false
-      → StepKept d before s v Checkpoint Done old new
-  unfolding runs_on
-  checkpointed on run_stops table locks works_on =
-      let r = run.1 in
-      let same = images_change_nothing run.0 r.now.log r.now.log (record { more = []; is = refl; images = tt }) in
-      let served = checkpoints_served run.0 r.earlier before s v r.now.log r.now.log old.txns.rows old.txns.next old.locks r.serving same.0 same.1 in
-      let running = runs_on d before s v old r s v new (forced r.now) on
-      (subst (λ (x : Numbered). IsServing run.0 r.earlier before s v r.now.log x.rows x.next new.locks) (sym table)
-      (subst (λ (l : _). IsServing run.0 r.earlier before s v r.now.log old.txns.rows old.txns.next l) (sym locks) served.1))
-      (commits_stand.all r.earlier before s.asked r.now.log served.1.says)
-      (subst (λ (n : ℕ). n ≤ 2 ^ 62 → AreBelow n r.now.log) (sym (ap (λ (x : Numbered). x.next) table)) r.numbered) in
-      step_made d before s v Checkpoint Done old new v served.0 running works_on (covered_stops d before s v old r new.disk run_stops) (record { b = run.0; running = running; all = refl })
+  -- its record
+  abbrev taken_at : ℕ → Logged
+  taken_at lsn = checkpoint_at lsn old.txns.next (listed old.txns.rows) dirty
 
-  -- the disk refused it
-  pub checkpoint_refused : (f : Fault) → IsOfLog f → (told : Refusal) → told ≡ told_as f → new.failed ≡ true → LeavesCovered d run.0 run.1.base run.1.now.durable run.1.now.log old.disk new.disk
-      → ((u : ℕ) (c : Files) → u ≤ d.moment new.disk → d.may_leave new.disk c → d.left_since new.disk u c) → StepKept d before s v Checkpoint (Refused (number_of told)) old new
-  checkpoint_refused f of told is fails run_stops counts_now =
+  -- what it leaves of the log
+  changes : (lsn : ℕ) → end_of run.0 run.1.now.log < lsn → IsCheckpointed run.0 page_tree (taken_at lsn) run.1.now.log
+  changes lsn high = checkpoints_change_nothing page_tree run.0 (taken_at lsn) run.1.now.log (record { next = old.txns.next; active = listed old.txns.rows; dirty = dirty; what = refl; no_owner = refl }) high
+
+  -- the log as it was, or with that record, is lawful, and commits no more
+  left_log : (high : History) → (high ≡ run.1.now.log) ⊎ HasCheckpoint run.0 old.txns.next (listed old.txns.rows) dirty run.1.now.log high → IsLawful run.0 page_tree high × (committed high ≡ committed run.1.now.log)
+  left_log high (inl same) = (subst (λ (l : History). IsLawful run.0 page_tree l) (sym same) run.1.lawful, ap committed same)
+  left_log high (inr has) =
+      let on = changes has.lsn has.high in
+      (subst (λ (l : History). IsLawful run.0 page_tree l) (sym has.is) (on.lawful run.1.lawful), ap committed has.is ∙ on.stays.commits)
+
+  -- what a stop within it leaves
+  abbrev Leaves : Type 0
+  Leaves = LeavesCheckpointed d run.0 run.1.base run.1.now old.txns.next (listed old.txns.rows) dirty old.disk new.disk
+
+  taken_stops : Leaves → LeavesOnly d old.disk new.disk (Allowed before s)
+  taken_stops leaves =
+      let r = run.1 in
+      let law = left_log leaves.high leaves.is in
+      weakened d old.disk new.disk (IsCovered run.0 r.base r.now.durable leaves.high) (Allowed before s) leaves.stops (λ told c is. left_on d before s v old r leaves.high law.0 law.1 c is)
+
+  -- it was taken
+  pub checkpointed : (lsn : ℕ) → Checkpointed d run.0 run.1.base run.1.now old.txns.next (listed old.txns.rows) dirty lsn new.writer new.disk → Leaves → new.txns ≡ old.txns → new.locks ≡ old.locks → new.failed ≡ false
+      → StepKept d before s v Checkpoint Done old new
+  checkpointed lsn taken leaves table locks works_on =
+      let r = run.1 in
+      let newest = taken_at lsn in
+      let longer : History = newest ∷ r.now.log in
+      let on = changes lsn taken.high in
+      let law = logged_checkpoints_served page_tree run.0 r.earlier before s v newest r.now.log old.txns.rows old.txns.next old.locks r.serving r.lawful
+      (record { next = old.txns.next; active = listed old.txns.rows; dirty = dirty; what = refl; no_owner = refl }) taken.high in
+      let running : IsRunning d run.0 before s v new = record {
+        base = r.base;
+        start = r.start;
+        earlier = r.earlier;
+        now = forced (appended newest (forgotten (synced r.now)));
+        stands = taken.stands;
+        redo_end = r.redo_end;
+        over = r.over;
+        lawful = law.lawful;
+        closed = on.opened ∙ r.closed;
+        serving = subst (λ (x : Numbered). IsServing run.0 r.earlier before s v longer x.rows x.next new.locks) (sym table)
+            (subst (λ (l : _). IsServing run.0 r.earlier before s v longer old.txns.rows old.txns.next l) (sym locks) law.served.1);
+        commits = commits_stand.all r.earlier before s.asked longer law.served.1.says;
+        numbered = subst (λ (n : ℕ). n ≤ 2 ^ 62 → AreBelow n longer) (sym (ap (λ (x : Numbered). x.next) table)) (λ le. on.below old.txns.next old.first (r.numbered le));
+      } in
+      step_made d before s v Checkpoint Done old new v law.served.0 running works_on (taken_stops leaves) (record {
+        b = run.0;
+        running = running;
+        all = refl;
+        lsn = lsn;
+        dirty = dirty;
+        older = r.now.log;
+        newest = ap (λ (x : Numbered). checkpoint_at lsn x.next (listed x.rows) dirty ∷ r.now.log) (sym table);
+        lists = lists_on lsn (synced r.now).pages dirty taken.lists;
+        synced = λ p. refl;
+      })
+
+  -- a call within it was refused
+  pub checkpoint_refused : (f : Fault) → IsOfLog f → (told : Refusal) → told ≡ told_as f → new.failed ≡ true → Leaves → ((u : ℕ) (c : Files) → u ≤ d.moment new.disk → d.may_leave new.disk c → d.left_since new.disk u c)
+      → StepKept d before s v Checkpoint (Refused (number_of told)) old new
+  checkpoint_refused f of told is fails leaves counts_now =
       subst (λ (y : Refusal). StepKept d before s v Checkpoint (Refused (number_of y)) old new) (sym is)
       (breaks_with d before s v Checkpoint (λ u e. cc e) (rows_tell run.0 run.1.earlier before s v run.1.now.log old.txns.rows old.txns.next old.locks Checkpoint run.1.serving) old new life works counts_now (number_of (told_as f)) of.broken fails
-      (covered_stops d before s v old run.1 new.disk run_stops))
+      (taken_stops leaves))

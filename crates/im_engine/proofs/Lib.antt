@@ -25,6 +25,7 @@ pub mod OneLife
 pub mod BothFiles
 pub mod Fresh
 pub mod Actives
+pub mod Replying
 pub mod Edited
 pub mod Deleting
 pub mod Inserting

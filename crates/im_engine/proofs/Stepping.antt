@@ -219,6 +219,7 @@ step_made_of d step reply old new none m = record {
   told = m.told;
   checked = λ fault is. absurd (let never = is ∙ sym none in cc never);
   answered = m.answered;
+  suits = m.suits;
   wants = λ works. m.wants;
   quiet = m.quiet;
   works = told_works d reply old new m.told;
@@ -296,6 +297,7 @@ module _ {D : Type 0} (d : Ghosts D) (step : Asked) (e : Engine D d) (only_now :
     checked = λ other so. (ap (λ (f : Fault). Refused f) (let same = is ∙ sym so in let number : number_of fault ≡ number_of other = cc same in same_fault fault other number), refl);
     answered = λ other. subst (λ (o : Option ℕ). (Refused fault ≡ Refused other) ↔ Checked o other (Refuses d (Refused fault) e e.writer.log e.disk other (asked_by step))) is
         (λ so. ap number_of (sym (refused_inj fault other so)), λ so. ap (λ (f : Fault). Refused f) (same_fault fault other (sym so)));
+    suits = tt;
     wants = λ works b before s v r. wants_none works _ _ _ (asked_by step);
     quiet = λ _. refl;
     works = told_works d (Refused fault) e e told_so;

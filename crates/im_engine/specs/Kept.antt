@@ -1,19 +1,23 @@
 -- What the calls of an engine keep.
-use Rattle.std.specs.Prelude.{◌≡◌, ◌≢◌, ◌⊎◌, ◌++◌, ℕ, List, [], Option, Some, None, Result, Ok, Err, IfOk, IfErr, true, false}
+use Rattle.std.specs.Prelude.{◌≡◌, ◌≢◌, ◌⊎◌, ◌++◌, ◌∷◌, ℕ, List, Option, Some, None, Result, Ok, Err, IfOk, IfErr, true, false}
 use Rattle.std.specs.FinMap.{empty, entries}
-use Rattle.im_types.specs.Answers.{Step, Reply, FlushPage, Force, Checkpoint, Done, Refused}
+use Rattle.im_types.specs.Answers.{Step, Reply, FlushPage, Force, Checkpoint, Done}
 use Rattle.im_types.specs.declared.file_id.FileId.TheVariants.{Log, Pages}
 use Rattle.im_types.specs.declared.fault.Fault.{Fault}
+use Rattle.im_types.specs.declared.tables.DirtyPage.{DirtyPage}
 use Rattle.im_types.specs.declared.fault.Fault.TheVariants.{NotAStore}
 use Rattle.im_types.specs.Pages.{Entry}
 use Rattle.im_types.specs.Changes.{Effect, apply_all}
-use Rattle.im_types.specs.Histories.{Base, page_at}
+use Rattle.im_types.specs.Histories.{Base, History, page_at}
+use Rattle.im_types.specs.WriterSteps.{Lists}
 use Rattle.im_types.specs.Lives.{Shown, effects, nothing_shown, shows}
 use Rattle.im_disk.specs.declared.disk.Disk.{Ghosts}
 use Rattle.im_disk.specs.Runs.{LeavesOnly}
 use Rattle.im_gate.specs.Header.{least_number}
 use Rattle.im_analysis.specs.Numbers.{IsNextNumber}
 use Rattle.im_page.specs.PageFile.{file_page}
+use Rattle.im_flush.specs.Checkpoints.{checkpoint_at}
+use Rattle.im_checkpoint.specs.Rows.{listed}
 use Rattle.im_lock.specs.Locks.{Lock}
 use Rattle.im_lock.specs.View.{View, broken}
 use Rattle.im_lock.specs.Machine.{Moves, start}
@@ -57,11 +61,24 @@ module _ {D : Type 0} (d : Ghosts D) where
     pub running : IsRunning d b before s v e
     pub reads : file_page (d.seen e.disk Pages) page ≡ Some (page_at b running.now.log page)
 
+  -- A Checkpoint of both tables is the newest record, and no page was written since the last sync of its file; every record is durable. It lists the next number, the transactions that have
+  -- logged a record, and exactly the pages of which something is left to be written.
+  pub record IsCheckpointTaken (before : List Effect) (s : Shown) (v : View) (e : Engine D d) : Type 0 where
+    pub b : Base
+    pub running : IsRunning d b before s v e
+    pub all : running.now.durable ≡ running.now.log
+    pub lsn : ℕ
+    pub dirty : List DirtyPage
+    pub older : History
+    pub newest : running.now.log ≡ checkpoint_at lsn e.txns.next (listed e.txns.rows) dirty ∷ older
+    pub lists : Lists running.now.pages dirty
+    pub synced : (p : ℕ) → (running.now.pages p).unsynced ≡ false
+
   -- what Done says, by the step
   abbrev pub IsDone : List Effect → Shown → View → Step → Reply → Engine D d → Type 0
   IsDone before s v (FlushPage page) Done e = IsInFile before s v page e
   IsDone before s v Force Done e = IsDurable before s v e
-  IsDone before s v Checkpoint Done e = IsDurable before s v e
+  IsDone before s v Checkpoint Done e = IsCheckpointTaken before s v e
   IsDone before s v _ _ e = Unit {0}
 
   -- A step: it is a step of the machine, with which the life goes on and what the reply shows; a stop within it leaves what is allowed; and what Done says is so.

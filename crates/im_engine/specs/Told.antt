@@ -9,9 +9,14 @@ use Rattle.im_types.specs.Lives.{Shown, breaks, effects}
 use Rattle.im_types.specs.Maps.{IndexMap}
 use Rattle.im_types.specs.Structure.{settled}
 use Rattle.im_disk.specs.declared.disk.Disk.{Ghosts}
+use Rattle.im_record.specs.Entry as entries
+use Rattle.im_record.specs.Entry.{Entry}
+use Rattle.im_record.specs.Spelling.{size_of}
 use Rattle.im_log.specs.declared.log_file.LogFile.{LogFile}
 use Rattle.im_log.specs.LogFile.{HasNoRoom, end_with}
 use Rattle.im_pool.specs.Pool.{is_changed}
+use Rattle.im_flush.specs.DirtyTable.{dirty_pages, synced_entries}
+use Rattle.im_checkpoint.specs.Rows.{listed}
 use Rattle.im_tree.specs.Levels.{Pages}
 use Rattle.im_split.specs.Plan.{IsWithin, IsOver}
 use Rattle.im_split.specs.Tops.{LacksRoomFor}
@@ -28,6 +33,7 @@ use Rattle.im_front.specs.declared.step.Step.{Step}
 use Rattle.im_front.specs.declared.reply.Reply.{Reply}
 use Rattle.im_front.specs.declared.reply.Reply.TheVariants.{Started, Inserted, Committed, RolledBack, Refused}
 use Rattle.im_front.specs.Calls.{asked_by, told_by, number_of}
+use Rattle.im_front.specs.Replies.{Suits}
 use Rattle.im_engine.specs.declared.engine.Engine.{Engine}
 use Rattle.im_engine.specs.Running.{IsRunning, IsLife}
 use Rattle.im_engine.specs.Kept.{StepKept}
@@ -148,7 +154,11 @@ module _ {D : Type 0} (d : Ghosts D) where
   CallsDevice (answers.Continue t) e = Unit {0}
   CallsDevice (answers.FlushPage page) e = is_changed e.writer.pool page ≡ true
   CallsDevice answers.Force e = 1 ≤ e.writer.log.used
-  CallsDevice answers.Checkpoint e = 1 ≤ e.writer.log.used
+  CallsDevice answers.Checkpoint e = Unit {0}
+
+  -- the record of a Checkpoint that is taken now
+  abbrev pub checkpoint_of : Engine D d → Entry
+  checkpoint_of e = entries.Checkpoint e.txns.next (listed e.txns.rows) (dirty_pages (synced_entries e.writer.table))
 
   -- the first check that a step fails, by what the engine knows without any page or lock
   abbrev pub check_of : answers.Step → Engine D d → Option ℕ
@@ -163,7 +173,7 @@ module _ {D : Type 0} (d : Ghosts D) where
     abbrev pub OfForce : Type 0
     OfForce = Where (d.failed disk ≡ true) (fault ≡ Device) ⊥
 
-    -- Behind the checks, why this fault refuses a step that left this log and this disk. The record of a Commit takes 33 bytes, and a Rollback that was let through is never refused.
+    -- Behind the checks, why this fault refuses a step that left this log and this disk. The record of a Commit takes 33 bytes. A Checkpoint syncs the file of pages before its record joins the log, so a disk that fails is told first. A Rollback that was let through is never refused.
     abbrev pub Refuses : answers.Step → Type 0
     Refuses answers.Begin = Where (2 ^ 62 < old.txns.next) (fault ≡ Capacity) ⊥
     Refuses (answers.Do t (answers.Fetch key)) = IsFor (ReadCause d log disk)
@@ -177,7 +187,7 @@ module _ {D : Type 0} (d : Ghosts D) where
     Refuses (answers.Continue t) = IsFor (TurnCause d log disk)
     Refuses (answers.FlushPage page) = IsFor (FlushCause d log disk)
     Refuses answers.Force = OfForce
-    Refuses answers.Checkpoint = OfForce
+    Refuses answers.Checkpoint = Where (d.failed disk ≡ true) (fault ≡ Device) (Where (2 ^ 62 < end_with old.writer.log (size_of (checkpoint_of old))) (fault ≡ LogFull) ⊥)
 
   -- A step is refused exactly by the first check that it fails, or else for its cause.
   abbrev pub IsAnswered : answers.Step → Reply → Engine D d → Engine D d → Type 0
@@ -226,6 +236,7 @@ module _ {D : Type 0} (d : Ghosts D) where
     pub kept : (before : List Effect) (s : Shown) (v : View) → IsLife d before s v old → StepKept d before s v step (told_by reply) old new
     pub told : IsTold d reply old new
     pub answered : IsAnswered d step reply old new
+    pub suits : Suits step (told_by reply)
     pub wants : (b : Base) (before : List Effect) (s : Shown) (v : View) (r : IsRunning d b before s v old) → WantsOf (settled b r.now.log) v.walk old.max_pages step reply
     pub quiet : (CallsDevice d step old → ⊥) → new.disk ≡ old.disk
 
@@ -237,6 +248,8 @@ module _ {D : Type 0} (d : Ghosts D) where
     -- a step that fails a check is refused by it, and changes nothing
     pub checked : (fault : Fault) → Some (number_of fault) ≡ check_of d (asked_by step) old → (reply ≡ Refused fault) × (new ≡ old)
     pub answered : IsAnswered d (asked_by step) reply old new
+    -- over any disk, a reply is of those that its step may have
+    pub suits : Suits (asked_by step) (told_by reply)
     pub wants : old.failed ≡ false → (b : Base) (before : List Effect) (s : Shown) (v : View) (r : IsRunning d b before s v old) → WantsOf (settled b r.now.log) v.walk old.max_pages (asked_by step) reply
     pub quiet : (CallsDevice d (asked_by step) old → ⊥) → new.disk ≡ old.disk
     pub works : d.failed new.disk ≡ true → new.failed ≡ true

@@ -39,6 +39,7 @@ impl<D: Disk> Engine<D> {
     ghost use Rattle.im_lock.specs.View.{View};
     ghost use Rattle.im_index.specs.Outcomes.{seek_at};
     ghost use Rattle.im_front.specs.Calls.{told_by};
+    ghost use Rattle.im_front.specs.Replies.{Suits};
     ghost use Rattle.im_steps.specs.Checks.{checked_by};
     ghost use Rattle.im_engine.specs.Running.{IsLife};
     ghost use Rattle.im_engine.specs.Kept.{StepKept};
@@ -52,6 +53,7 @@ impl<D: Disk> Engine<D> {
         ensures kept { (before : List Effect) (s : Shown) (v : View) → IsLife D.Disk before s v self.old → StepKept D.Disk before s v (answers.Do t (answers.Fetch key.now)) (told_by result) self.old self.new }
         ensures told { IsTold D.Disk result self.old self.new }
         ensures answered { IsAnswered D.Disk (answers.Do t (answers.Fetch key.now)) result self.old self.new }
+        ensures suits { Suits (answers.Do t (answers.Fetch key.now)) (told_by result) }
     {
         self.failed = true;
         match im_index::fetch(&mut self.writer, &mut self.disk, &mut self.locks, t, key) {
@@ -85,6 +87,7 @@ impl<D: Disk> Engine<D> {
         ensures kept { (before : List Effect) (s : Shown) (v : View) → IsLife D.Disk before s v self.old → StepKept D.Disk before s v (answers.Do t (seek_at inclusive key.now)) (told_by result) self.old self.new }
         ensures told { IsTold D.Disk result self.old self.new }
         ensures answered { IsAnswered D.Disk (answers.Do t (seek_at inclusive key.now)) result self.old self.new }
+        ensures suits { Suits (answers.Do t (seek_at inclusive key.now)) (told_by result) }
     {
         self.failed = true;
         match im_index::seek(
@@ -125,6 +128,7 @@ impl<D: Disk> Engine<D> {
         ensures kept { (before : List Effect) (s : Shown) (v : View) → IsLife D.Disk before s v self.old → StepKept D.Disk before s v (answers.Do t (answers.Scan lo.now hi.now limit)) (told_by result) self.old self.new }
         ensures told { IsTold D.Disk result self.old self.new }
         ensures answered { IsAnswered D.Disk (answers.Do t (answers.Scan lo.now hi.now limit)) result self.old self.new }
+        ensures suits { Suits (answers.Do t (answers.Scan lo.now hi.now limit)) (told_by result) }
     {
         self.failed = true;
         match im_index::scan(

@@ -13,21 +13,27 @@ impl<D: Disk> Engine<D> {
     ghost use Rattle.im_types.specs.Answers as answers;
     ghost use Rattle.im_lock.specs.View.{View};
     ghost use Rattle.im_front.specs.Calls.{told_by};
+    ghost use Rattle.im_front.specs.Replies.{Suits};
     ghost use Rattle.im_engine.specs.Running.{IsLife};
     ghost use Rattle.im_engine.specs.Kept.{StepKept};
-    ghost use Rattle.im_engine.specs.Told.{IsTold, IsAnswered, CallsDevice};
+    ghost use Rattle.im_engine.specs.Told.{IsTold, IsAnswered};
 
-    // Makes every record durable (`checkpoints_are_served`). No record is logged: a restart reads the log from its first record on.
+    // Takes a Checkpoint of both tables (`logged_checkpoints_are_served`).
     pub(crate) fn checkpoint(&mut self) -> Reply
         requires works { self.old.failed ≡ false }
         ensures kept { (before : List Effect) (s : Shown) (v : View) → IsLife D.Disk before s v self.old → StepKept D.Disk before s v answers.Checkpoint (told_by result) self.old self.new }
         ensures told { IsTold D.Disk result self.old self.new }
         ensures answered { IsAnswered D.Disk answers.Checkpoint result self.old self.new }
-        ensures quiet { (CallsDevice D.Disk answers.Checkpoint self.old → ⊥) → self.new.disk ≡ self.old.disk }
+        ensures suits { Suits answers.Checkpoint (told_by result) }
     {
         self.failed = true;
-        match self.writer.force(&mut self.disk) {
-            Ok(()) => {
+        match im_checkpoint::take(
+            &mut self.writer,
+            &mut self.disk,
+            self.txns.table(),
+            self.txns.next(),
+        ) {
+            Ok(_lsn) => {
                 self.failed = false;
                 Reply::Done
             }

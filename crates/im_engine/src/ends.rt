@@ -16,6 +16,7 @@ impl<D: Disk> Engine<D> {
     ghost use Rattle.im_types.specs.Answers as answers;
     ghost use Rattle.im_lock.specs.View.{View};
     ghost use Rattle.im_front.specs.Calls.{told_by};
+    ghost use Rattle.im_front.specs.Replies.{Suits};
     ghost use Rattle.im_steps.specs.Checks.{checked_by};
     ghost use Rattle.im_engine.specs.Running.{IsLife};
     ghost use Rattle.im_engine.specs.Kept.{StepKept};
@@ -28,6 +29,7 @@ impl<D: Disk> Engine<D> {
         ensures kept { (before : List Effect) (s : Shown) (v : View) → IsLife D.Disk before s v self.old → StepKept D.Disk before s v answers.Begin (told_by result) self.old self.new }
         ensures told { IsTold D.Disk result self.old self.new }
         ensures answered { IsAnswered D.Disk answers.Begin result self.old self.new }
+        ensures suits { Suits answers.Begin (told_by result) }
         ensures quiet { self.new.disk ≡ self.old.disk }
     {
         match self.txns.begin() {
@@ -46,6 +48,7 @@ impl<D: Disk> Engine<D> {
         ensures kept { (before : List Effect) (s : Shown) (v : View) → IsLife D.Disk before s v self.old → StepKept D.Disk before s v (answers.Commit t) (told_by result) self.old self.new }
         ensures told { IsTold D.Disk result self.old self.new }
         ensures answered { IsAnswered D.Disk (answers.Commit t) result self.old self.new }
+        ensures suits { Suits (answers.Commit t) (told_by result) }
         ensures quiet { (CallsDevice D.Disk (answers.Commit t) self.old → ⊥) → self.new.disk ≡ self.old.disk }
     {
         let Some(row) = self.txns.find(t) else {
@@ -80,6 +83,7 @@ impl<D: Disk> Engine<D> {
         ensures kept { (before : List Effect) (s : Shown) (v : View) → IsLife D.Disk before s v self.old → StepKept D.Disk before s v (answers.Rollback t) (told_by result) self.old self.new }
         ensures told { IsTold D.Disk result self.old self.new }
         ensures answered { IsAnswered D.Disk (answers.Rollback t) result self.old self.new }
+        ensures suits { Suits (answers.Rollback t) (told_by result) }
         ensures quiet { self.new.disk ≡ self.old.disk }
     {
         let Some(row) = self.txns.find(t) else {
@@ -100,6 +104,7 @@ impl<D: Disk> Engine<D> {
         ensures kept { (before : List Effect) (s : Shown) (v : View) → IsLife D.Disk before s v self.old → StepKept D.Disk before s v answers.Force (told_by result) self.old self.new }
         ensures told { IsTold D.Disk result self.old self.new }
         ensures answered { IsAnswered D.Disk answers.Force result self.old self.new }
+        ensures suits { Suits answers.Force (told_by result) }
         ensures quiet { (CallsDevice D.Disk answers.Force self.old → ⊥) → self.new.disk ≡ self.old.disk }
     {
         self.failed = true;
@@ -118,6 +123,7 @@ impl<D: Disk> Engine<D> {
         ensures kept { (before : List Effect) (s : Shown) (v : View) → IsLife D.Disk before s v self.old → StepKept D.Disk before s v (answers.FlushPage page) (told_by result) self.old self.new }
         ensures told { IsTold D.Disk result self.old self.new }
         ensures answered { IsAnswered D.Disk (answers.FlushPage page) result self.old self.new }
+        ensures suits { Suits (answers.FlushPage page) (told_by result) }
         ensures quiet { (CallsDevice D.Disk (answers.FlushPage page) self.old → ⊥) → self.new.disk ≡ self.old.disk }
     {
         self.failed = true;

@@ -21,6 +21,7 @@ mod laws;
 mod lives;
 mod looks;
 mod opening;
+mod restart_bounds;
 mod store;
 mod syncing;
 mod transactions;

@@ -1,4 +1,5 @@
-//! An engine is a store that a front can share among threads.
+//! An engine is a store that a front can share among threads, over any disk: what follows from its lives is claimed over a disk that
+//! tells what it holds, and of any that its replies suit their steps and its table counts its transactions.
 
 use crate::accesses::told;
 use crate::engine::Engine;
@@ -8,11 +9,16 @@ use im_types::{Key, Rid};
 use std::alloc::Global;
 
 impl<D: Disk + Drop> Store for Engine<D> {
+    ghost use Rattle.std.specs.Prelude.{length};
     ghost use Rattle.im_engine.specs.Serves.{IsStoreLife, Leaves, IsRefused, stops_keep, settled};
+
+    ghost tells = { D.tells };
 
     ghost life = { λ before s v e. IsStoreLife D.Disk before s v e };
 
     ghost leaves = { λ e P. Leaves D.Disk e P };
+
+    ghost actives = { λ e. length e.txns.rows };
 
     ghost refuses = { λ old new fault. IsRefused D.Disk old new fault };
 

@@ -42,6 +42,21 @@ impl Transactions {
         }
     }
 
+    /// Their rows, at most 64.
+    pub fn table(&self) -> &Table
+        ensures rows { result.now ≡ self.now.rows }
+        ensures few { length result.now ≤ 64 }
+    {
+        &self.table
+    }
+
+    /// The number that is given next.
+    pub fn next(&self) -> TxnId
+        ensures { result ≡ self.now.next }
+    {
+        self.next
+    }
+
     /// How many are active.
     pub fn len(&self) -> usize
         ensures { result ≡ length self.now.rows }

@@ -19,6 +19,7 @@ impl<D: Disk> Engine<D> {
     ghost use Rattle.im_types.specs.Answers as answers;
     ghost use Rattle.im_lock.specs.View.{View};
     ghost use Rattle.im_front.specs.Calls.{told_by};
+    ghost use Rattle.im_front.specs.Replies.{Suits};
     ghost use Rattle.im_steps.specs.Checks.{checked_by};
     ghost use Rattle.im_engine.specs.Running.{IsRunning, IsLife};
     ghost use Rattle.im_engine.specs.Kept.{StepKept};
@@ -32,6 +33,7 @@ impl<D: Disk> Engine<D> {
         ensures kept { (before : List Effect) (s : Shown) (v : View) → IsLife D.Disk before s v self.old → StepKept D.Disk before s v (answers.Do t (answers.Delete key.now)) (told_by result) self.old self.new }
         ensures told { IsTold D.Disk result self.old self.new }
         ensures answered { IsAnswered D.Disk (answers.Do t (answers.Delete key.now)) result self.old self.new }
+        ensures suits { Suits (answers.Do t (answers.Delete key.now)) (told_by result) }
         ensures wants { (b : Base) (before : List Effect) (s : Shown) (v : View) (r : IsRunning D.Disk b before s v self.old) → WantsOf (settled b r.now.log) v.walk self.old.max_pages (answers.Do t (answers.Delete key.now)) result }
     {
         let Some(row) = self.txns.find(t) else {

@@ -6,6 +6,8 @@ mod lives;
 #[cfg(test)]
 mod many;
 #[cfg(test)]
+mod rollbacks;
+#[cfg(test)]
 mod said;
 #[cfg(test)]
 mod shared;

@@ -206,6 +206,53 @@ fn a_flush_writes_a_changed_page_once(rt: HostRuntime) -> Result<(), Fail> {
     Ok(())
 }
 
+// A commit of one key, whose page is written, a Checkpoint, and behind it an insert of another key that is forced and not committed.
+fn behind_a_checkpoint(alloc: Global) -> Result<Vec<Step>, Fail> {
+    let mut steps = one_insert(alloc, b'a', 7)?;
+    steps.push(Step::FlushPage(1))?;
+    steps.push(Step::Checkpoint)?;
+    steps.push(Step::Begin)?;
+    steps.push(Step::Insert(2, key_of(alloc, b'b')?, 8))?;
+    steps.push(Step::Force)?;
+    Ok(steps)
+}
+
+#[test]
+fn redo_begins_at_a_checkpoint(rt: HostRuntime) -> Result<(), Fail> {
+    let alloc = rt.alloc();
+    let disk = ModelDisk::new(Vec::new(alloc), Vec::new(alloc));
+    let steps = behind_a_checkpoint(alloc)?;
+    let mut engine = opened(alloc, disk, Config::default())?;
+    let replies = engine.life(alloc, &steps)?;
+    assert_eq!(rt; said_of(alloc, &replies)?.get(4).copied(), Some(Said::Done));
+    let left = engine.disk().after_stop(alloc)?;
+    let mut next = opened(alloc, left, Config::default())?;
+    let report = next.redo_report();
+    assert_eq!(rt; (report.point, report.applied), (8380, 1));
+    assert_eq!(rt; found(alloc, &mut next)?, (1, b'a', 7));
+    Ok(())
+}
+
+// One behind which a second one comes.
+fn one_checkpoint(alloc: Global) -> Result<Vec<Step>, Fail> {
+    let mut steps = one_insert(alloc, b'a', 7)?;
+    steps.push(Step::Checkpoint)?;
+    Ok(steps)
+}
+
+#[test]
+fn a_checkpoint_is_one_sync_and_one_force(rt: HostRuntime) -> Result<(), Fail> {
+    let alloc = rt.alloc();
+    let disk = ModelDisk::new(Vec::new(alloc), Vec::new(alloc));
+    let steps = one_checkpoint(alloc)?;
+    let mut engine = opened(alloc, disk, Config::default())?;
+    let _ = engine.life(alloc, &steps)?;
+    let before = engine.disk().calls();
+    assert_eq!(rt; make(&mut engine, Step::Checkpoint), Said::Done);
+    assert_eq!(rt; engine.disk().calls().wrapping_sub(before), 5);
+    Ok(())
+}
+
 // A page's kind, its level, and how many entries it has.
 type Shape = (PageKind, u8, usize);
 

@@ -202,7 +202,7 @@ fn locks_stay_until_a_rollback_ends(rt: HostRuntime) -> Result<(), Fail> {
 fn an_opening_takes_back_what_a_rollback_left(rt: HostRuntime) -> Result<(), Fail> {
     let alloc = rt.alloc();
     let mut disk = ModelDisk::new(Vec::new(alloc), Vec::new(alloc));
-    disk.fail_call(11);
+    disk.fail_call(12);
     let mut engine = opened(alloc, disk, Config::default())?;
     assert_eq!(rt; three_to_undo(alloc, &mut engine)?, Said::More);
     assert_eq!(rt; make(&mut engine, Step::Continue(1)), Said::More);

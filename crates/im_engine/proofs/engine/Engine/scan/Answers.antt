@@ -1,8 +1,10 @@
-use Rattle.std.proofs.Common.{refl, ap, ◌∙◌, length}
+use Rattle.std.proofs.Common.{◌≤◌, ℕ, List, Vec, Global, refl, ap, subst, ◌∙◌, length}
 use Rattle.im_types.specs.Answers as answers
+use Rattle.im_types.specs.Answers.{limit_of}
 use Rattle.im_flush.specs.Outcome.{pages_of}
 use Rattle.im_engine.proofs.Running.{has_good_tree, walk_is}
-use Rattle.im_index.specs.Outcomes.{entries_found}
+use Rattle.im_index.specs.Outcomes.{entries_found, IfGranted}
+use Rattle.im_index.specs.declared.outcome.Outcome.{Outcome}
 use Rattle.im_engine.proofs.Reading.{granted, waits, dies, refused}
 use Rattle.std.proofs.lemmas.List.{length-map}
 use Rattle.im_front.specs.declared.reply.Blocker.TheVariants.{Lock}
@@ -13,6 +15,10 @@ use Rattle.im_engine.specs.Numbered.{Numbered}
 use Rattle.im_engine.proofs.Telling.{told_answered, told_refused, read_lost}
 use Rattle.im_engine.proofs.Causes.{read_answered, read_cause, read_refused}
 use Rattle.im_engine.proofs.engine.Engine.scan.Goals as goal
+
+pub returns-in-Ok-Granted-clause-suits : goal.returns-in-Ok-Granted-clause-suits
+returns-in-Ok-Granted-clause-suits g c =
+    (refl, subst (λ (o : Outcome (Vec (List ℕ × ℕ) Global)). IfGranted o (λ l. length l.items ≤ limit_of c.args.limit)) c.in-Ok-Granted.field-0-is c.in-Ok-Granted.ensures.most)
 
 pub returns-in-Ok-Granted-clause-kept : goal.returns-in-Ok-Granted-clause-kept
 returns-in-Ok-Granted-clause-kept g c before s v life =

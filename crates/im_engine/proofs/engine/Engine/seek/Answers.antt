@@ -1,4 +1,4 @@
-use Rattle.std.proofs.Common.{refl, ap, ◌∙◌, length}
+use Rattle.std.proofs.Common.{◌≡◌, ℕ, Bool, true, false, List, refl, ap, ◌∙◌, length}
 use Rattle.im_types.specs.Answers as answers
 use Rattle.im_flush.specs.Outcome.{pages_of}
 use Rattle.im_engine.proofs.Running.{has_good_tree, walk_is}
@@ -12,7 +12,19 @@ use Rattle.im_txn.specs.declared.transaction.Mark.TheVariants.{MustRollBack}
 use Rattle.im_engine.specs.Numbered.{Numbered}
 use Rattle.im_engine.proofs.Telling.{told_answered, told_refused, read_lost}
 use Rattle.im_engine.proofs.Causes.{read_answered, read_cause, read_refused, seeks_read}
+use Rattle.im_front.specs.Replies.{is_search}
 use Rattle.im_engine.proofs.engine.Engine.seek.Goals as goal
+
+-- both searches are
+a_search : (t : ℕ) (inclusive : Bool) (key : List ℕ) → is_search (answers.Do t (seek_at inclusive key)) ≡ true
+a_search t true key = refl
+a_search t false key = refl
+
+pub returns-in-Some-clause-suits : goal.returns-in-Some-clause-suits
+returns-in-Some-clause-suits g c = a_search c.args.t c.args.inclusive c.args.key.now
+
+pub returns-in-None-clause-suits : goal.returns-in-None-clause-suits
+returns-in-None-clause-suits g c = a_search c.args.t c.args.inclusive c.args.key.now
 
 pub returns-in-Some-clause-kept : goal.returns-in-Some-clause-kept
 returns-in-Some-clause-kept g c before s v life =

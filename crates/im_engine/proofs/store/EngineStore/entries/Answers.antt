@@ -1,5 +1,6 @@
-use Rattle.std.proofs.Common.{refl}
+use Rattle.std.proofs.Common.{None, Some, refl}
 use Rattle.im_engine.proofs.Actives.{look_counted, look_left}
+use Rattle.im_engine.proofs.Replying.{looks_active}
 use Rattle.im_engine.proofs.store.EngineStore.entries.Goals as goal
 
 pub returns-in-Ok-clause-list : goal.returns-in-Ok-clause-list
@@ -8,3 +9,9 @@ returns-in-Ok-clause-list g c before s v h =
 
 pub returns-in-Err-clause-kept : goal.returns-in-Err-clause-kept
 returns-in-Err-clause-kept g c before s v h = look_left g.D.Disk before s v c.args.self.now c.entries.new.self c.in-Err.ensures.outcome h (c.in-Err.ensures.kept before s v h.life)
+
+pub returns-in-Ok-clause-active : goal.returns-in-Ok-clause-active
+returns-in-Ok-clause-active g c = looks_active g.D.Disk None c.args.self.now c.entries.new.self c.in-Ok.ensures.outcome
+
+pub returns-in-Err-clause-active : goal.returns-in-Err-clause-active
+returns-in-Err-clause-active g c = looks_active g.D.Disk (Some c.in-Err.fault) c.args.self.now c.entries.new.self c.in-Err.ensures.outcome

@@ -1,4 +1,5 @@
 use Rattle.im_engine.proofs.Actives.{still_counted}
+use Rattle.im_engine.proofs.Replying.{step_counts, step_replies}
 use Rattle.im_engine.proofs.store.EngineStore.step.Goals as goal
 
 pub returns : goal.returns
@@ -10,4 +11,6 @@ returns g c = record {
         moves = made.moves;
         after = record { life = made.after; active = still_counted g.D.Disk before s v c.args.step.now c.step.result c.args.self.now c.step.new.self c.step.ensures h made };
       };
+  reply = λ alive. step_replies g.D.Disk c.args.step.now c.step.result c.args.self.now c.step.new.self c.step.ensures;
+  counted = λ alive. step_counts g.D.Disk c.args.step.now c.step.result c.args.self.now c.step.new.self c.step.ensures;
 }

@@ -1,0 +1,181 @@
+-- What a step is answered over any disk: never a full trace, and what its reply begins and ends is what the table then has.
+use Rattle.std.proofs.Common.{◌≡◌, ◌⊎◌, inl, inr, ℕ, ◌≤◌, ◌+◌, ◌-◌, Bool, true, false, List, [], ◌∷◌, length, Option, None, Some, refl, sym, ap, subst, ◌∙◌, true≢false, arith}
+use Rattle.std.proofs.lemmas.Bool.{cases_Bool}
+use Rattle.im_types.specs.Answers as answers
+use Rattle.im_types.specs.declared.fault.Fault as below
+use Rattle.im_disk.specs.declared.disk.Disk.{Ghosts}
+use Rattle.im_log.specs.declared.log_file.LogFile.{LogFile}
+use Rattle.im_lock.specs.Machine.{first_check, mark_for}
+use Rattle.im_steps.specs.Checks.{marks_in}
+use Rattle.im_txn.specs.declared.transaction.Transaction.{Transaction}
+use Rattle.im_front.specs.declared.step.Step.{Step}
+use Rattle.im_front.specs.declared.fault.Fault.{Fault}
+use Rattle.im_front.specs.declared.fault.Fault.TheVariants as faults
+use Rattle.im_front.specs.declared.reply.Blocker.TheVariants as blockers
+use Rattle.im_front.specs.declared.reply.Reply.{Reply}
+use Rattle.im_front.specs.declared.reply.Reply.TheVariants as replies
+use Rattle.im_front.specs.Calls.{asked_by, told_by, number_of}
+use Rattle.im_front.specs.Replies.{is_commit, takes_back, is_full, Suits, IsReply, IsCounted}
+use Rattle.im_engine.specs.declared.engine.Engine.{Engine}
+use Rattle.im_engine.specs.Looking.{Looks}
+use Rattle.im_engine.specs.Numbered.{Numbered}
+use Rattle.im_engine.specs.Told.{Known, Where, Checked, Refuses, after, check_of, known_of, IsStep}
+use Rattle.im_engine.proofs.Causes.{refused_inj}
+use Rattle.im_engine.proofs.Stepping.{by_check}
+
+-- ---- no refusal is for a full trace
+
+no_where : {P A B : Type 0} → (A → ⊥) → (B → ⊥) → Where P A B → ⊥
+no_where a b (inl x) = a x.1
+no_where a b (inr x) = b x.1
+
+module _ {D : Type 0} (d : Ghosts D) (reply : Reply) (old : Engine D d) (log : LogFile) (disk : D) where
+  no_cause : (step : answers.Step) → Refuses d reply old log disk faults.TraceFull step → ⊥
+  no_cause answers.Begin is = no_where (λ e. cc e) (λ e. e) is
+  no_cause (answers.Do t (answers.Fetch k)) is = is.1
+  no_cause (answers.Do t (answers.Seek k)) is = is.1
+  no_cause (answers.Do t (answers.Next k)) is = is.1
+  no_cause (answers.Do t (answers.Scan lo hi n)) is = is.1
+  no_cause (answers.Do t (answers.Insert k r)) is = is.1
+  no_cause (answers.Do t (answers.Delete k)) is = is.1
+  no_cause (answers.Commit t) is = no_where (no_where (λ e. cc e) (no_where (λ e. cc e) (λ e. e))) (λ e. e) is
+  no_cause (answers.Rollback t) is = is
+  no_cause (answers.Continue t) is = is.1
+  no_cause (answers.FlushPage p) is = is.1
+  no_cause answers.Force is = no_where (λ e. cc e) (λ e. e) is
+  no_cause answers.Checkpoint is = no_where (λ e. cc e) (no_where (λ e. cc e) (λ e. e)) is
+
+module _ {D : Type 0} (d : Ghosts D) (step : Step) (reply : Reply) (old new : Engine D d) (one : IsStep d step reply old new) where
+  -- the first check, of an engine that works
+  checked_now : old.failed ≡ false → check_of d (asked_by step) old ≡ first_check false (length old.txns.rows) (mark_for (marks_in old.txns.rows) (asked_by step)) (asked_by step)
+  checked_now works = ap (λ (b : Bool). first_check b (length old.txns.rows) (mark_for (marks_in old.txns.rows) (asked_by step)) (asked_by step)) works
+
+  not_full : old.failed ≡ false → reply ≡ replies.Refused faults.TraceFull → ⊥
+  not_full works is = by (check_of d (asked_by step) old) refl ((one.answered faults.TraceFull).0 is)
+    where
+      by : (o : Option ℕ) → check_of d (asked_by step) old ≡ o → Checked o faults.TraceFull (Refuses d reply old new.writer.log new.disk faults.TraceFull (asked_by step)) → ⊥
+      by None none cause = no_cause d reply old new.writer.log new.disk (asked_by step) cause
+      by (Some n) some same = by_check (λ (k : ℕ). 14 ≡ k → ⊥) n (λ e. cc e) (λ e. cc e) (λ e. cc e) (λ e. cc e) (λ e. cc e) (length old.txns.rows) (mark_for (marks_in old.txns.rows) (asked_by step)) (asked_by step) (sym (checked_now works) ∙ some) same
+
+  never_full : (fault : Fault) → reply ≡ replies.Refused fault → is_full (told_by (replies.Refused fault)) ≡ false
+  never_full faults.TraceFull is = absurd (elim (cases_Bool old.failed) [
+    | inl failed ↦ (let never = refused_inj faults.TraceFull faults.Failed (sym is ∙ one.told.failed failed) in cc never)
+    | inr works ↦ not_full works is
+  ])
+  never_full faults.NoTransaction is = refl
+  never_full faults.MustRollBack is = refl
+  never_full faults.KeyLength is = refl
+  never_full faults.RollingBack is = refl
+  never_full faults.PagesFull is = refl
+  never_full faults.Capacity is = refl
+  never_full faults.LogFull is = refl
+  never_full faults.Device is = refl
+  never_full faults.Memory is = refl
+  never_full faults.Failed is = refl
+  never_full faults.NotAStore is = refl
+  never_full faults.TooMany is = refl
+  never_full faults.Busy is = refl
+
+  has_room : (r : Reply) → reply ≡ r → is_full (told_by r) ≡ false
+  has_room (replies.Refused fault) is = never_full fault is
+  has_room (replies.Started n) is = refl
+  has_room (replies.Found rid) is = refl
+  has_room replies.Absent is = refl
+  has_room (replies.Entry key rid) is = refl
+  has_room replies.End is = refl
+  has_room (replies.Entries list) is = refl
+  has_room replies.Inserted is = refl
+  has_room replies.Duplicate is = refl
+  has_room replies.Deleted is = refl
+  has_room replies.Committed is = refl
+  has_room replies.RolledBack is = refl
+  has_room replies.More is = refl
+  has_room (replies.Blocked (blockers.Lock h)) is = refl
+  has_room (replies.Blocked blockers.Tree) is = refl
+  has_room replies.Die is = refl
+  has_room replies.Done is = refl
+
+  -- a reply that the step may have, and no refusal of the front's own
+  pub step_replies : IsReply (asked_by step) (told_by reply)
+  step_replies = record { suits = one.suits; room = has_room reply refl }
+
+-- ---- who ends had begun
+
+-- a step that ends a transaction is refused where there is none
+no_row : (step : answers.Step) → ((is_commit step ≡ true) ⊎ (takes_back step ≡ true)) → first_check false 0 (mark_for (marks_in []) step) step ≡ Some (number_of faults.NoTransaction)
+no_row (answers.Commit t) e = refl
+no_row (answers.Rollback t) e = refl
+no_row (answers.Continue t) e = refl
+no_row answers.Begin (inl e) = absurd (true≢false (sym e))
+no_row answers.Begin (inr e) = absurd (true≢false (sym e))
+no_row (answers.Do t a) (inl e) = absurd (true≢false (sym e))
+no_row (answers.Do t a) (inr e) = absurd (true≢false (sym e))
+no_row (answers.FlushPage p) (inl e) = absurd (true≢false (sym e))
+no_row (answers.FlushPage p) (inr e) = absurd (true≢false (sym e))
+no_row answers.Force (inl e) = absurd (true≢false (sym e))
+no_row answers.Force (inr e) = absurd (true≢false (sym e))
+no_row answers.Checkpoint (inl e) = absurd (true≢false (sym e))
+no_row answers.Checkpoint (inr e) = absurd (true≢false (sym e))
+
+module _ {D : Type 0} (d : Ghosts D) (step : Step) (reply : Reply) (old new : Engine D d) (one : IsStep d step reply old new) where
+  -- where a reply that is no refusal ended a transaction, there was one
+  some_row : ((fault : Fault) → reply ≡ replies.Refused fault → ⊥) → ((is_commit (asked_by step) ≡ true) ⊎ (takes_back (asked_by step) ≡ true)) → 1 ≤ length old.txns.rows
+  some_row answered ends = by old.txns.rows refl
+    where
+      none : old.txns.rows ≡ [] → ⊥
+      none empty = elim (cases_Bool old.failed) [
+        | inl failed ↦ answered faults.Failed (one.told.failed failed)
+        | inr works ↦
+            (let check : check_of d (asked_by step) old ≡ Some (number_of faults.NoTransaction) = ap (λ (b : Bool). first_check b (length old.txns.rows) (mark_for (marks_in old.txns.rows) (asked_by step)) (asked_by step)) works
+            ∙ ap (λ (rows : List Transaction). first_check false (length rows) (mark_for (marks_in rows) (asked_by step)) (asked_by step)) empty ∙ no_row (asked_by step) ends in
+            answered faults.NoTransaction (one.checked faults.NoTransaction (sym check)).0)
+      ]
+
+      by : (rows : List Transaction) → old.txns.rows ≡ rows → 1 ≤ length old.txns.rows
+      by [] is = absurd (none is)
+      by (row ∷ rows) is = let long : length old.txns.rows ≡ length (row ∷ rows) = ap length is in omega (arith, long)
+
+  now : (r : Reply) → reply ≡ r → length new.txns.rows ≡ (after r (known_of d old)).active
+  now r is = ap (λ (k : Known). k.active) one.told.known ∙ ap (λ (x : Reply). (after x (known_of d old)).active) is
+
+  plain : length new.txns.rows ≡ length old.txns.rows → 0 + length old.txns.rows ≡ (0 + 0) + length new.txns.rows
+  plain e = omega (arith, e)
+
+  counts : (r : Reply) → reply ≡ r → IsCounted (told_by r) (length old.txns.rows) (length new.txns.rows)
+  counts (replies.Started n) is = let e : length new.txns.rows ≡ length old.txns.rows + 1 = now (replies.Started n) is in omega arith
+  counts replies.Committed is =
+      let e : length new.txns.rows ≡ length old.txns.rows - 1 = now replies.Committed is in
+      let suits : is_commit (asked_by step) ≡ true = subst (λ (r : Reply). Suits (asked_by step) (told_by r)) is one.suits in
+      let some = some_row (λ fault so. (let never = sym is ∙ so in cc never)) (inl suits) in
+      omega (arith, e, some)
+  counts replies.RolledBack is =
+      let e : length new.txns.rows ≡ length old.txns.rows - 1 = now replies.RolledBack is in
+      let suits : takes_back (asked_by step) ≡ true = subst (λ (r : Reply). Suits (asked_by step) (told_by r)) is one.suits in
+      let some = some_row (λ fault so. (let never = sym is ∙ so in cc never)) (inr suits) in
+      omega (arith, e, some)
+  counts (replies.Refused fault) is = plain (now (replies.Refused fault) is)
+  counts (replies.Found rid) is = plain (now (replies.Found rid) is)
+  counts replies.Absent is = plain (now replies.Absent is)
+  counts (replies.Entry key rid) is = plain (now (replies.Entry key rid) is)
+  counts replies.End is = plain (now replies.End is)
+  counts (replies.Entries list) is = plain (now (replies.Entries list) is)
+  counts replies.Inserted is = plain (now replies.Inserted is)
+  counts replies.Duplicate is = plain (now replies.Duplicate is)
+  counts replies.Deleted is = plain (now replies.Deleted is)
+  counts replies.More is = plain (now replies.More is)
+  counts (replies.Blocked (blockers.Lock h)) is = plain (now (replies.Blocked (blockers.Lock h)) is)
+  counts (replies.Blocked blockers.Tree) is = plain (now (replies.Blocked blockers.Tree) is)
+  counts replies.Die is = plain (now replies.Die is)
+  counts replies.Done is = plain (now replies.Done is)
+
+  pub step_counts : IsCounted (told_by reply) (length old.txns.rows) (length new.txns.rows)
+  step_counts = counts reply refl
+
+-- ---- a look
+
+-- leaves as many active
+pub looks_active : {D : Type 0} (d : Ghosts D) (why : Option below.Fault) (old new : Engine D d) → Looks d why old new → length new.txns.rows ≡ length old.txns.rows
+looks_active {D = D} d why old new looks = elim (cases_Bool old.failed) [
+  | inl failed ↦ ap (λ (e : Engine D d). length e.txns.rows) (looks.same failed)
+  | inr works ↦ ap (λ (x : Numbered). length x.rows) (looks.searched works).txns
+]

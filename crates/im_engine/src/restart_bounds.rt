@@ -1,0 +1,37 @@
+//! How much of the log an opening would read and redo, were the store to stop now.
+
+ghost use Rattle.std.specs.Prelude.{◌≡◌, ◌+◌, ◌-◌, ◌^◌, min, length, None};
+
+use crate::engine::Engine;
+use im_disk::Disk;
+use im_types::{DirtyPage, Lsn};
+
+impl<D: Disk> Engine<D> {
+    ghost use Rattle.im_gate.specs.Gate.{place_of};
+    ghost use Rattle.im_flush.specs.DirtyTable.{oldest};
+
+    /// The LSN below which each record of the log is durable: a stop that comes now leaves all of them, and an opening reads them. An engine
+    /// that has failed answers any number.
+    pub fn durable_end(&self) -> Lsn
+        ensures { result ≡ min (self.now.writer.log.base + place_of self.now.writer.log.gate) (2 ^ 64 - 1) }
+    {
+        self.writer.durable_end()
+    }
+
+    /// How many pages may lack changes in their file, or have a write that is not synced: at most 1,024. An opening redoes none but these,
+    /// where a Checkpoint has just been taken.
+    pub fn dirty_count(&self) -> usize
+        ensures { result ≡ length self.now.writer.table }
+    {
+        self.writer.dirty_count()
+    }
+
+    /// The page whose first change since its last write is the oldest, with the LSN of that change; none where each page is written. A
+    /// Checkpoint that comes now lets an opening redo from this LSN on, or from its own where there is none; once the page is written
+    /// (`Step::FlushPage`), from the next one's.
+    pub fn oldest_change(&self) -> Option<DirtyPage>
+        ensures { result ≡ oldest None self.now.writer.table }
+    {
+        self.writer.oldest_change()
+    }
+}
