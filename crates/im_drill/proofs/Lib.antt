@@ -10,6 +10,7 @@ pub mod RawTexts
 pub mod ReadLines
 pub mod ReadStoreLines
 pub mod Replied
+pub mod SetSpelled
 pub mod Spelled
 pub mod Standing
 pub mod Stands

@@ -8,8 +8,8 @@ use Rattle.im_disk.specs.declared.stop.Length.{Length}
 use Rattle.im_disk.specs.declared.stop.Length.TheVariants as lengths
 use Rattle.im_drill.specs.declared.line.Line.{Line}
 use Rattle.im_drill.specs.declared.line.Line.TheVariants as lines
-use Rattle.im_drill.specs.Lines.{Lacks, IsCall, IsLengthWord, IsFillWord, Spells}
-use Rattle.im_drill.specs.Scripts.{Kind, SetsLog, Begins, Puts, Counts, Stops, kind_of}
+use Rattle.im_drill.specs.Lines.{Lacks, IsCall, IsLengthWord, IsFillWord, file_word, Spells}
+use Rattle.im_drill.specs.Scripts.{Kind, Sets, Begins, Puts, Counts, Stops, kind_of}
 use Rattle.im_drill.proofs.Lines.{lacks_mid, cut_once}
 
 -- the kind of a good line, by its first bytes
@@ -18,14 +18,14 @@ text_kind text =
     if slice_index text 0 == 114 then Begins
     else if slice_index text 0 == 99 then Counts
     else if slice_index text 0 == 112 then Puts
-    else if slice_index text 1 == 101 then SetsLog
+    else if slice_index text 1 == 101 then Sets
     else Stops
 
 pub spelled_kind : (text : List ℕ) (said : Line) → Spells text said → kind_of said ≡ text_kind text
 spelled_kind text lines.Raw s = sym (ap text_kind s)
 spelled_kind text lines.Calls s = sym (ap text_kind s)
 spelled_kind text (lines.Put batch) s = sym (ap text_kind s.1)
-spelled_kind text (lines.SetLog bytes) s = sym (ap text_kind s.1)
+spelled_kind text (lines.Set file bytes) s = sym (ap text_kind s.1)
 spelled_kind text (lines.Stop stop) s = sym (ap text_kind s.3)
 
 -- a line is of one kind, however it is read
@@ -37,7 +37,7 @@ pub lone_bad : (word : List ℕ) (said : Line) → Spells word said → Lacks 32
 lone_bad word lines.Raw s l r c = r s
 lone_bad word lines.Calls s l r c = c s
 lone_bad word (lines.Put batch) s l r c = lacks_mid 32 (codes "put") s.0 (subst (λ (t : List ℕ). Lacks 32 t) s.1 l)
-lone_bad word (lines.SetLog bytes) s l r c = lacks_mid 32 (codes "set") (codes "log " ++ s.0) (subst (λ (t : List ℕ). Lacks 32 t) s.1 l)
+lone_bad word (lines.Set file bytes) s l r c = lacks_mid 32 (codes "set") (file_word file ++ 32 ∷ s.0) (subst (λ (t : List ℕ). Lacks 32 t) s.1 l)
 lone_bad word (lines.Stop stop) s l r c = lacks_mid 32 (codes "stop") (s.0 ++ 32 ∷ (s.1 ++ 32 ∷ s.2)) (subst (λ (t : List ℕ). Lacks 32 t) s.3 l)
 
 -- what stands behind `put `
@@ -47,27 +47,8 @@ put_said rest lines.Calls s = let e : Counts ≡ Puts = spelled_kind (codes "put
 put_said rest (lines.Put batch) s =
     let e : codes "put " ++ rest ≡ codes "put " ++ s.0 = s.1 in
     let same : rest ≡ s.0 = cc in (batch.records.items, ap decode_of same ∙ s.2, s.3, s.4)
-put_said rest (lines.SetLog bytes) s = let e : SetsLog ≡ Puts = spelled_kind (codes "put " ++ rest) (lines.SetLog bytes) s in absurd (cc)
+put_said rest (lines.Set file bytes) s = let e : Sets ≡ Puts = spelled_kind (codes "put " ++ rest) (lines.Set file bytes) s in absurd (cc)
 put_said rest (lines.Stop stop) s = let e : Stops ≡ Puts = spelled_kind (codes "put " ++ rest) (lines.Stop stop) s in absurd (cc)
-
--- what stands behind `set `
-pub set_said : (rest : List ℕ) (said : Line) → Spells (codes "set " ++ rest) said → (hex : List ℕ) × (bytes : List ℕ) × (rest ≡ codes "log" ++ 32 ∷ hex) × (hex ≢ []) × (decode_of hex ≡ Ok bytes)
-set_said rest lines.Raw s = let e : Begins ≡ SetsLog = spelled_kind (codes "set " ++ rest) lines.Raw s in absurd (cc)
-set_said rest lines.Calls s = let e : Counts ≡ SetsLog = spelled_kind (codes "set " ++ rest) lines.Calls s in absurd (cc)
-set_said rest (lines.Put batch) s = let e : Puts ≡ SetsLog = spelled_kind (codes "set " ++ rest) (lines.Put batch) s in absurd (cc)
-set_said rest (lines.SetLog bytes) s =
-    let e : codes "set " ++ rest ≡ codes "set " ++ (codes "log" ++ 32 ∷ s.0) = s.1 in
-    let same : rest ≡ codes "log" ++ 32 ∷ s.0 = cc in (s.0, bytes.items, same, s.2, s.3)
-set_said rest (lines.Stop stop) s = let e : Stops ≡ SetsLog = spelled_kind (codes "set " ++ rest) (lines.Stop stop) s in absurd (cc)
-
-pub set_word : (rest word more : List ℕ) (said : Line) → Spells (codes "set " ++ rest) said → rest ≡ word ++ 32 ∷ more → Lacks 32 word → word ≢ codes "log" → ⊥
-set_word rest word more said s cut l n = let w = set_said rest said s in n (cut_once 32 word (codes "log") more w.0 l (λ x. omega arith, (λ x. omega arith, (λ x. omega arith, tt))) (sym cut ∙ w.2)).0
-
-pub set_hex : (rest word more : List ℕ) (said : Line) → Spells (codes "set " ++ rest) said → rest ≡ word ++ 32 ∷ more → Lacks 32 word → more ≡ [] → ⊥
-set_hex rest word more said s cut l n =
-    let w = set_said rest said s in
-    let same = (cut_once 32 word (codes "log") more w.0 l (λ x. omega arith, (λ x. omega arith, (λ x. omega arith, tt))) (sym cut ∙ w.2)).1 in
-    w.3 (sym same ∙ n)
 
 pub digits_lack : (word : List ℕ) → AllDigits 10 word → Lacks 32 word
 digits_lack [] d = tt
@@ -98,7 +79,7 @@ pub stop_said : (rest : List ℕ) (said : Line) → Spells (codes "stop " ++ res
 stop_said rest lines.Raw s = let e : Begins ≡ Stops = spelled_kind (codes "stop " ++ rest) lines.Raw s in absurd (cc)
 stop_said rest lines.Calls s = let e : Counts ≡ Stops = spelled_kind (codes "stop " ++ rest) lines.Calls s in absurd (cc)
 stop_said rest (lines.Put batch) s = let e : Puts ≡ Stops = spelled_kind (codes "stop " ++ rest) (lines.Put batch) s in absurd (cc)
-stop_said rest (lines.SetLog bytes) s = let e : SetsLog ≡ Stops = spelled_kind (codes "stop " ++ rest) (lines.SetLog bytes) s in absurd (cc)
+stop_said rest (lines.Set file bytes) s = let e : Sets ≡ Stops = spelled_kind (codes "stop " ++ rest) (lines.Set file bytes) s in absurd (cc)
 stop_said rest (lines.Stop stop) s =
     let e : codes "stop " ++ rest ≡ codes "stop " ++ (s.0 ++ 32 ∷ (s.1 ++ 32 ∷ s.2)) = s.3 in
     let same : rest ≡ s.0 ++ 32 ∷ (s.1 ++ 32 ∷ s.2) = cc in
@@ -120,7 +101,7 @@ pub word_said : (word rest : List ℕ) (said : Line) → Spells (word ++ 32 ∷ 
 word_said word rest lines.Raw s l p t o = lacks_mid 32 word rest (subst (λ (x : List ℕ). Lacks 32 x) (sym s) (λ x. omega arith, (λ x. omega arith, (λ x. omega arith, tt))))
 word_said word rest lines.Calls s l p t o = lacks_mid 32 word rest (subst (λ (x : List ℕ). Lacks 32 x) (sym s) (λ x. omega arith, (λ x. omega arith, (λ x. omega arith, (λ x. omega arith, (λ x. omega arith, tt))))))
 word_said word rest (lines.Put batch) s l p t o = p (cut_once 32 word (codes "put") rest s.0 l (λ x. omega arith, (λ x. omega arith, (λ x. omega arith, tt))) s.1).0
-word_said word rest (lines.SetLog bytes) s l p t o = t (cut_once 32 word (codes "set") rest (codes "log " ++ s.0) l (λ x. omega arith, (λ x. omega arith, (λ x. omega arith, tt))) s.1).0
+word_said word rest (lines.Set file bytes) s l p t o = t (cut_once 32 word (codes "set") rest (file_word file ++ 32 ∷ s.0) l (λ x. omega arith, (λ x. omega arith, (λ x. omega arith, tt))) s.1).0
 word_said word rest (lines.Stop stop) s l p t o = o (cut_once 32 word (codes "stop") rest (s.0 ++ 32 ∷ (s.1 ++ 32 ∷ s.2)) l (λ x. omega arith, (λ x. omega arith, (λ x. omega arith, (λ x. omega arith, tt)))) s.3).0
 
 -- why the words behind `stop ` are bad

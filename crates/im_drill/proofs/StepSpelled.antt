@@ -3,7 +3,7 @@ use Rattle.std.proofs.Common.{◌≡◌, ◌≢◌, ℕ, List, [], ◌∷◌, �
 use Rattle.im_front.specs.declared.step.Step.{Step}
 use Rattle.im_front.specs.declared.step.Step.TheVariants as steps
 use Rattle.im_drill.specs.Lines.{Lacks, IsNumber, IsPageNumber}
-use Rattle.im_drill.specs.Scripts.{Kind, SetsLog, Begins, Puts, Counts, Steps, Stops}
+use Rattle.im_drill.specs.Scripts.{Kind, Sets, Begins, Puts, Counts, Steps, Stops}
 use Rattle.im_drill.specs.Steps.{IsKeyWord, IsNumbered, IsKeyed, IsKeyedWith, IsBehindKey, IsRanged, SpellsStep}
 use Rattle.im_drill.proofs.Lines.{lacks_mid, cut_once}
 use Rattle.im_drill.proofs.Spelled.{digits_lack}
@@ -13,7 +13,7 @@ use Rattle.im_drill.proofs.KeyWords.{key_lacks}
 abbrev pub store_text_kind : List ℕ → Kind
 store_text_kind text =
     if slice_index text 0 == 108 then Begins
-    else if slice_index text 0 == 115 then (if slice_index text 1 == 116 then Stops else if slice_index text 2 == 116 then SetsLog else Steps)
+    else if slice_index text 0 == 115 then (if slice_index text 1 == 116 then Stops else if slice_index text 2 == 116 then Sets else Steps)
     else if slice_index text 0 == 99 then (if slice_index text 1 == 97 then Counts else Steps)
     else if slice_index text 0 == 112 then (if slice_index text 1 == 97 then Counts else Puts)
     else if slice_index text 0 == 114 then (if slice_index text 1 == 97 then Puts else if slice_index text 1 == 101 then Counts else Steps)

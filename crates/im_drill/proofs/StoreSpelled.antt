@@ -9,7 +9,7 @@ use Rattle.im_drill.specs.declared.store_script_line.StoreScriptLine.TheVariants
 use Rattle.im_drill.specs.declared.store_life.StoreLine.TheVariants as within
 use Rattle.im_drill.specs.Lines.{Spells, Lacks, IsPageNumber}
 use Rattle.im_drill.specs.Steps.{SpellsStep}
-use Rattle.im_drill.specs.Scripts.{SetsLog, Begins, Puts, Counts, Steps, Stops}
+use Rattle.im_drill.specs.Scripts.{Sets, Begins, Puts, Counts, Steps, Stops}
 use Rattle.im_drill.specs.StoreScripts.{SpellsLife, SpellsOptions, SpellsStore, IsPlainLine, named_options, store_kind_of}
 use Rattle.im_drill.specs.declared.store_life.LifeOptions.{LifeOptions}
 use Rattle.im_drill.proofs.Lines.{cut_once, lacks_mid}
@@ -18,7 +18,7 @@ use Rattle.im_drill.proofs.StepSpelled.{store_text_kind, step_kind}
 
 store_kind : (text : List ℕ) (said : StoreScriptLine) → SpellsStore text said → store_kind_of said ≡ store_text_kind text
 store_kind text (lines.Life options) s = sym (ap store_text_kind s.1)
-store_kind text (lines.SetLog bytes) s = sym (ap store_text_kind s.1)
+store_kind text (lines.Set file bytes) s = sym (ap store_text_kind s.1)
 store_kind text (lines.Within within.Calls) s = sym (ap store_text_kind s)
 store_kind text (lines.Within (within.Page page)) s = sym (ap store_text_kind s.1)
 store_kind text (lines.Within within.Redo) s = sym (ap store_text_kind s)
@@ -32,7 +32,7 @@ one_store_kind text l m s o = store_kind text l s ∙ sym (store_kind text m o)
 -- no line of a life of a store puts a batch
 not_puts : (said : StoreScriptLine) → store_kind_of said ≢ Puts
 not_puts (lines.Life options) e = absurd (cc)
-not_puts (lines.SetLog bytes) e = absurd (cc)
+not_puts (lines.Set file bytes) e = absurd (cc)
 not_puts (lines.Within within.Calls) e = absurd (cc)
 not_puts (lines.Within (within.Page page)) e = absurd (cc)
 not_puts (lines.Within within.Redo) e = absurd (cc)
@@ -49,7 +49,7 @@ not_put text said batch p s = not_puts said (store_kind text said s ∙ ap store
 -- what is neither another line nor a step, is no plain line
 pub no_store_line : (text : List ℕ) (said : StoreScriptLine) → SpellsStore text said → IsPlainLine said → ((line : Line) → ¬ (Spells text line)) → ((step : Step) → ¬ (SpellsStep text step)) → ⊥
 no_store_line text (lines.Life options) s plain o t = plain
-no_store_line text (lines.SetLog bytes) s plain o t = o (raws.SetLog bytes) s
+no_store_line text (lines.Set file bytes) s plain o t = o (raws.Set file bytes) s
 no_store_line text (lines.Within within.Calls) s plain o t = o raws.Calls s
 no_store_line text (lines.Within (within.Page page)) s plain o t = plain
 no_store_line text (lines.Within within.Redo) s plain o t = plain
@@ -68,7 +68,7 @@ redo_lacks = (λ x. omega arith, (λ x. omega arith, (λ x. omega arith, (λ x. 
 -- a word alone is `life` or `redo`, or what a plain line is
 pub no_lone_line : (word : List ℕ) (said : StoreScriptLine) → SpellsStore word said → Lacks 32 word → word ≢ codes "life" → word ≢ codes "redo" → ((other : StoreScriptLine) → IsPlainLine other → ¬ (SpellsStore word other)) → ⊥
 no_lone_line word (lines.Life options) s l other redo plain = other (lone_life word options l s)
-no_lone_line word (lines.SetLog bytes) s l other redo plain = plain (lines.SetLog bytes) tt s
+no_lone_line word (lines.Set file bytes) s l other redo plain = plain (lines.Set file bytes) tt s
 no_lone_line word (lines.Within within.Calls) s l other redo plain = plain (lines.Within within.Calls) tt s
 no_lone_line word (lines.Within (within.Page page)) s l other redo plain = lacks_mid 32 (codes "page") s.0 (subst (λ (t : List ℕ). Lacks 32 t) s.1 l)
 no_lone_line word (lines.Within within.Redo) s l other redo plain = redo s
@@ -78,7 +78,7 @@ no_lone_line word (lines.Stop stop) s l other redo plain = plain (lines.Stop sto
 -- a line of more words begins with `life` or `page`, or is what a plain line is
 pub no_spaced_line : (text word rest : List ℕ) (said : StoreScriptLine) → SpellsStore text said → text ≡ word ++ 32 ∷ rest → Lacks 32 word → word ≢ codes "life" → word ≢ codes "page" → ((other : StoreScriptLine) → IsPlainLine other → ¬ (SpellsStore text other)) → ⊥
 no_spaced_line text word rest (lines.Life options) s cut l life page plain = life (spaced_life word rest options l (subst (λ (t : List ℕ). SpellsLife t options) cut s))
-no_spaced_line text word rest (lines.SetLog bytes) s cut l life page plain = plain (lines.SetLog bytes) tt s
+no_spaced_line text word rest (lines.Set file bytes) s cut l life page plain = plain (lines.Set file bytes) tt s
 no_spaced_line text word rest (lines.Within within.Calls) s cut l life page plain = plain (lines.Within within.Calls) tt s
 no_spaced_line text word rest (lines.Within (within.Page n)) s cut l life page plain = page (cut_once 32 word (codes "page") rest s.0 l page_lacks (sym cut ∙ s.1)).0
 no_spaced_line text word rest (lines.Within within.Redo) s cut l life page plain = lacks_mid 32 word rest (subst (λ (t : List ℕ). Lacks 32 t) (sym s ∙ cut) redo_lacks)
@@ -88,7 +88,7 @@ no_spaced_line text word rest (lines.Stop stop) s cut l life page plain = plain 
 -- what stands behind `life`: its options
 pub life_said : (rest : List ℕ) (said : StoreScriptLine) → SpellsStore (codes "life" ++ rest) said → (options : LifeOptions) × SpellsOptions (named_options options) rest
 life_said rest (lines.Life options) s = (options, are_options rest options s)
-life_said rest (lines.SetLog bytes) s = let e : SetsLog ≡ Begins = store_kind (codes "life" ++ rest) (lines.SetLog bytes) s in absurd (cc)
+life_said rest (lines.Set file bytes) s = let e : Sets ≡ Begins = store_kind (codes "life" ++ rest) (lines.Set file bytes) s in absurd (cc)
 life_said rest (lines.Within within.Calls) s = let e : Counts ≡ Begins = store_kind (codes "life" ++ rest) (lines.Within within.Calls) s in absurd (cc)
 life_said rest (lines.Within (within.Page page)) s = let e : Counts ≡ Begins = store_kind (codes "life" ++ rest) (lines.Within (within.Page page)) s in absurd (cc)
 life_said rest (lines.Within within.Redo) s = let e : Counts ≡ Begins = store_kind (codes "life" ++ rest) (lines.Within within.Redo) s in absurd (cc)
@@ -99,7 +99,7 @@ life_said rest (lines.Stop stop) s = let e : Stops ≡ Begins = store_kind (code
 pub page_said : (rest : List ℕ) (said : StoreScriptLine) → SpellsStore (codes "page " ++ rest) said → (n : ℕ) × IsPageNumber rest n
 page_said rest (lines.Within (within.Page page)) s = let e : codes "page " ++ rest ≡ codes "page " ++ s.0 = s.1 in let same : rest ≡ s.0 = cc in (page, subst (λ (t : List ℕ). IsPageNumber t page) (sym same) s.2)
 page_said rest (lines.Life options) s = let e : Begins ≡ Counts = store_kind (codes "page " ++ rest) (lines.Life options) s in absurd (cc)
-page_said rest (lines.SetLog bytes) s = let e : SetsLog ≡ Counts = store_kind (codes "page " ++ rest) (lines.SetLog bytes) s in absurd (cc)
+page_said rest (lines.Set file bytes) s = let e : Sets ≡ Counts = store_kind (codes "page " ++ rest) (lines.Set file bytes) s in absurd (cc)
 page_said rest (lines.Within within.Calls) s = let e = ap (λ (t : List ℕ). slice_index t 0) s in absurd (omega (arith, e))
 page_said rest (lines.Within within.Redo) s = let e = ap (λ (t : List ℕ). slice_index t 0) s in absurd (omega (arith, e))
 page_said rest (lines.Within (within.Step step)) s = let e : Steps ≡ Counts = store_kind (codes "page " ++ rest) (lines.Within (within.Step step)) s in absurd (cc)

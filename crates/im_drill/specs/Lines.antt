@@ -7,6 +7,8 @@ use Rattle.im_disk.specs.declared.stop.Fill.{Fill}
 use Rattle.im_disk.specs.declared.stop.Fill.TheVariants as fills
 use Rattle.im_disk.specs.declared.stop.Length.{Length}
 use Rattle.im_disk.specs.declared.stop.Length.TheVariants as lengths
+use Rattle.im_types.specs.declared.file_id.FileId.{FileId}
+use Rattle.im_types.specs.declared.file_id.FileId.TheVariants as files
 use Rattle.im_drill.specs.declared.line.Line.{Line}
 use Rattle.im_drill.specs.declared.line.Line.TheVariants as lines
 
@@ -41,12 +43,17 @@ abbrev pub IsFillWord : List ℕ → Fill → Type 0
 IsFillWord word fills.Written = word ≡ codes "written"
 IsFillWord word (fills.Bytes bytes) = (decode_of word ≡ Ok bytes.items) × (1 ≤ length bytes.items) × (length bytes.items ≤ 64)
 
+-- a file's name in a line that sets it
+abbrev pub file_word : FileId → List ℕ
+file_word files.Log = codes "log"
+file_word files.Pages = codes "pages"
+
 -- The bytes of a line that says this. Its words stand apart by single spaces; a batch has 1 to 16,384 bytes.
 abbrev pub Spells : List ℕ → Line → Type 0
 Spells text lines.Raw = text ≡ codes "raw"
 Spells text lines.Calls = text ≡ codes "calls"
 Spells text (lines.Put batch) = (hex : List ℕ) × (text ≡ codes "put " ++ hex) × (decode_of hex ≡ Ok batch.records.items) × (1 ≤ length batch.records.items) × (length batch.records.items ≤ 16384)
-Spells text (lines.SetLog bytes) = (hex : List ℕ) × (text ≡ codes "set log " ++ hex) × (hex ≢ []) × (decode_of hex ≡ Ok bytes.items)
+Spells text (lines.Set file bytes) = (hex : List ℕ) × (text ≡ codes "set " ++ (file_word file ++ 32 ∷ hex)) × (hex ≢ []) × (decode_of hex ≡ Ok bytes.items)
 Spells text (lines.Stop stop) =
     (call : List ℕ) × (size : List ℕ) × (fill : List ℕ) × (text ≡ codes "stop " ++ (call ++ 32 ∷ (size ++ 32 ∷ fill)))
     × IsCall call stop.call × IsLengthWord size stop.length × IsFillWord fill stop.fill

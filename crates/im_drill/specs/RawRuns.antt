@@ -88,11 +88,11 @@ module _ (d : Ghosts ModelDisk) where
     pub opening : IsRawOpening old result new
     pub found : IsRawLast last result
 
-  -- The lives of a script were run on a disk that begins with the script's log, and then one opening more.
+  -- The lives of a script were run on a disk that begins with the script's files, and then one opening more.
   pub record IsRawRun (script : Script) (told : Drilled) : Type 0 where
     pub first : ModelDisk
     pub fresh : IsFresh first
-    pub seen : d.seen first ≡ both script.log.items []
+    pub seen : d.seen first ≡ both script.log.items script.pages.items
     pub end : ModelDisk
     pub lives : AreRawLivesRun script.lives.items told.lives.items first end
     pub last : IsRawLastRun end told.last

@@ -1,6 +1,9 @@
 -- Which lines may stand where in a script, and what script they make.
 use Rattle.std.specs.Prelude.{◌≡◌, ℕ, ◌+◌, ◌==◌, if◌then◌else◌, List, [], ◌∷◌, ◌++◌, length, map, Option, Some, None}
 use Rattle.std.specs.Global.{Vec}
+use Rattle.im_types.specs.declared.file_id.FileId.{FileId}
+use Rattle.im_types.specs.declared.file_id.FileId.TheVariants.{Log, Pages}
+use Rattle.im_disk.specs.Disk.{Files, both}
 use Rattle.im_disk.specs.declared.stop.Stop.{Stop}
 use Rattle.im_drill.specs.declared.line.Line.{Line}
 use Rattle.im_drill.specs.declared.line.Line.TheVariants as lines
@@ -30,7 +33,7 @@ SaysBy spells ((b ∷ text) ∷ texts) (line ∷ said) = spells (b ∷ text) lin
 
 -- what kind of line it is, whatever it carries
 pub data Kind : Type 0 where
-  SetsLog : Kind
+  Sets : Kind
   Begins : Kind
   Puts : Kind
   Counts : Kind
@@ -39,7 +42,7 @@ pub data Kind : Type 0 where
 
 abbrev pub kind_of : Line → Kind
 kind_of lines.Raw = Begins
-kind_of (lines.SetLog bytes) = SetsLog
+kind_of (lines.Set file bytes) = Sets
 kind_of (lines.Put batch) = Puts
 kind_of lines.Calls = Counts
 kind_of (lines.Stop stop) = Stops
@@ -50,12 +53,12 @@ pub data Place : Type 0 where
   Within : Place
   Behind : Place
 
--- `set log` stands before the first life, `raw` or `life` anywhere, and `put`, `calls`, steps and `stop` within a life.
+-- `set` stands before the first life, `raw` or `life` anywhere, and `put`, `calls`, steps and `stop` within a life.
 abbrev pub MayFollow : Kind → Place → Type 0
 MayFollow Begins place = Unit {0}
-MayFollow SetsLog Before = Unit {0}
-MayFollow SetsLog Within = ⊥
-MayFollow SetsLog Behind = ⊥
+MayFollow Sets Before = Unit {0}
+MayFollow Sets Within = ⊥
+MayFollow Sets Behind = ⊥
 MayFollow Puts Before = ⊥
 MayFollow Puts Within = Unit {0}
 MayFollow Puts Behind = ⊥
@@ -73,7 +76,7 @@ MayFollow Stops Behind = ⊥
 abbrev pub place_behind : Kind → Place → Place
 place_behind Begins place = Within
 place_behind Stops place = Behind
-place_behind SetsLog place = place
+place_behind Sets place = place
 place_behind Puts place = place
 place_behind Counts place = place
 place_behind Steps place = place
@@ -101,17 +104,25 @@ abbrev pub lines_of_lives : List RawLife → List Line
 lines_of_lives [] = []
 lines_of_lives (life ∷ rest) = lines.Raw ∷ (map line_of life.lines.items ++ stop_lines life.stop) ++ lines_of_lives rest
 
--- the bytes that were set last, and none where none were
-abbrev pub last_set : List (Vec ℕ) → List ℕ
-last_set [] = []
-last_set (bytes ∷ []) = bytes.items
-last_set (bytes ∷ more ∷ rest) = last_set (more ∷ rest)
+-- a line that sets a file's bytes
+abbrev pub set_line : FileId × Vec ℕ → Line
+set_line set = lines.Set set.0 set.1
 
--- The script of these lines: its log file is what was set last, and its lives are those of the other lines, in order.
+-- the files with other bytes of one of them
+abbrev pub with_file : FileId → List ℕ → Files → Files
+with_file Log bytes files = both bytes (files Pages)
+with_file Pages bytes files = both (files Log) bytes
+
+-- the files behind the lines that set them, in order
+abbrev pub files_set : Files → List (FileId × Vec ℕ) → Files
+files_set files [] = files
+files_set files (set ∷ rest) = files_set (with_file set.0 set.1.items files) rest
+
+-- The script of these lines: its files are what was set last, empty where nothing was, and its lives are those of the other lines, in order.
 pub record IsScriptOf (script : Script) (said : List Line) : Type 0 where
-  pub sets : List (Vec ℕ)
-  pub is : said ≡ map lines.SetLog sets ++ lines_of_lives script.lives.items
-  pub log : script.log.items ≡ last_set sets
+  pub sets : List (FileId × Vec ℕ)
+  pub is : said ≡ map set_line sets ++ lines_of_lives script.lives.items
+  pub files : both script.log.items script.pages.items ≡ files_set (both [] []) sets
 
 -- lines of a text that are spelled as the grammar says and may stand in this order
 abbrev pub IsGoodBy : {L : Type 0} → (List ℕ → L → Type 0) → (L → Kind) → List (List ℕ) → Type 0

@@ -131,7 +131,7 @@ module _ (d : Ghosts ModelDisk) where
   pub record IsRun (script : StoreScript) (told : StoreDrilled) : Type 0 where
     pub first : ModelDisk
     pub fresh : IsFresh first
-    pub seen : d.seen first ≡ both script.log.items []
+    pub seen : d.seen first ≡ both script.log.items script.pages.items
     pub end : ModelDisk
     pub lives : AreLivesRun script.lives.items told.lives.items first end
     pub last : IsLastRun end told.last told.disk

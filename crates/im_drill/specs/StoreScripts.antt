@@ -1,6 +1,8 @@
 -- The lines of scripts of lives of a store, and what script they make.
 use Rattle.std.specs.Prelude.{◌≡◌, ◌≢◌, ◌⊎◌, ℕ, List, [], ◌∷◌, ◌++◌, map, codes, Option, Some, None}
 use Rattle.std.specs.Global.{Vec}
+use Rattle.im_types.specs.declared.file_id.FileId.{FileId}
+use Rattle.im_disk.specs.Disk.{both}
 use Rattle.im_disk.specs.declared.stop.Stop.{Stop}
 use Rattle.im_drill.specs.declared.line.Line.TheVariants as raws
 use Rattle.im_drill.specs.declared.store_script_line.StoreScriptLine.{StoreScriptLine}
@@ -11,7 +13,7 @@ use Rattle.im_drill.specs.declared.store_life.LifeOptions.{LifeOptions}
 use Rattle.im_drill.specs.declared.store_script.StoreScript.{StoreScript}
 use Rattle.im_drill.specs.Lines.{Spells, Lacks, IsNumber, IsPageNumber}
 use Rattle.im_drill.specs.Steps.{SpellsStep}
-use Rattle.im_drill.specs.Scripts.{Kind, SetsLog, Begins, Counts, Steps, Stops, Before, MayStand, SaysBy, IsFirstBadBy, last_set}
+use Rattle.im_drill.specs.Scripts.{Kind, Sets, Begins, Counts, Steps, Stops, Before, MayStand, SaysBy, IsFirstBadBy, files_set}
 
 -- An option of a life: nothing, where it is left out, or a space, its name, a space and its number.
 abbrev pub SpellsOption : List ℕ → List ℕ → Option ℕ → Type 0
@@ -44,7 +46,7 @@ SpellsLife text options = (words : List ℕ) × (text ≡ codes "life" ++ words)
 -- The bytes of a line that says this.
 abbrev pub SpellsStore : List ℕ → StoreScriptLine → Type 0
 SpellsStore text (lines.Life options) = SpellsLife text options
-SpellsStore text (lines.SetLog bytes) = Spells text (raws.SetLog bytes)
+SpellsStore text (lines.Set file bytes) = Spells text (raws.Set file bytes)
 SpellsStore text (lines.Within within.Calls) = Spells text raws.Calls
 SpellsStore text (lines.Within (within.Page page)) = (rest : List ℕ) × (text ≡ codes "page " ++ rest) × IsPageNumber rest page
 SpellsStore text (lines.Within within.Redo) = text ≡ codes "redo"
@@ -61,7 +63,7 @@ IsPlainLine _ = Unit {0}
 -- `life` begins a life as `raw` does, and a step stands where a put does.
 abbrev pub store_kind_of : StoreScriptLine → Kind
 store_kind_of (lines.Life options) = Begins
-store_kind_of (lines.SetLog bytes) = SetsLog
+store_kind_of (lines.Set file bytes) = Sets
 store_kind_of (lines.Within within.Calls) = Counts
 store_kind_of (lines.Within (within.Page page)) = Counts
 store_kind_of (lines.Within within.Redo) = Counts
@@ -77,11 +79,15 @@ abbrev pub lines_of_lives : List StoreLife → List StoreScriptLine
 lines_of_lives [] = []
 lines_of_lives (life ∷ rest) = lines.Life life.options ∷ (map lines.Within life.lines.items ++ stop_lines life.stop) ++ lines_of_lives rest
 
--- The script of these lines: its log file is what was set last, and its lives are those of the other lines, in order.
+-- a line that sets a file's bytes
+abbrev pub set_store_line : FileId × Vec ℕ → StoreScriptLine
+set_store_line set = lines.Set set.0 set.1
+
+-- The script of these lines: its files are what was set last, empty where nothing was, and its lives are those of the other lines, in order.
 pub record IsStoreScriptOf (script : StoreScript) (said : List StoreScriptLine) : Type 0 where
-  pub sets : List (Vec ℕ)
-  pub is : said ≡ map lines.SetLog sets ++ lines_of_lives script.lives.items
-  pub log : script.log.items ≡ last_set sets
+  pub sets : List (FileId × Vec ℕ)
+  pub is : said ≡ map set_store_line sets ++ lines_of_lives script.lives.items
+  pub files : both script.log.items script.pages.items ≡ files_set (both [] []) sets
 
 -- The script that the lines of a text make.
 abbrev pub IsStoreScript : List (List ℕ) → StoreScript → Type 0

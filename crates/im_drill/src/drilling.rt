@@ -27,13 +27,14 @@ use std::alloc::{AllocError, Global};
 pub fn drill(alloc: Global, script: &Script) -> Result<Drilled, AllocError>
     ensures run { IfOk result (λ told. IsRawRun ⟦<ModelDisk as Disk>⟧ script.now told) }
     ensures answered { IfOk result (λ told. EachAnswered script.now.lives.items told.lives.items) }
-    ensures kept { IfOk result (λ told. (before : List (List ℕ)) → StandsFor (both script.now.log.items []) before
+    ensures kept { IfOk result (λ told. (before : List (List ℕ)) → StandsFor (both script.now.log.items script.now.pages.items) before
         → (after : List (List ℕ)) × Lives script.now.lives.items told.lives.items before after
         × MatchResult told.last (λ found. map (λ batch. batch.items) found.items ≡ after) (λ fault. fault ≢ NotAStore)) }
-    ensures stores { IfOk result (λ told. (before : List (List ℕ)) → StandsFor (both script.now.log.items []) before → AreRawStores told.lives.items) }
+    ensures stores { IfOk result (λ told. (before : List (List ℕ)) → StandsFor (both script.now.log.items script.now.pages.items) before → AreRawStores told.lives.items) }
 {
     let log = Vec::from_slice(alloc, &script.log)?;
-    let mut disk = ModelDisk::new(log, Vec::new(alloc));
+    let pages = Vec::from_slice(alloc, &script.pages)?;
+    let mut disk = ModelDisk::new(log, pages);
     let mut lives = Vec::new(alloc);
     for life in &script.lives {
         let told = run_life(alloc, &mut disk, life)?;

@@ -7,6 +7,7 @@ ghost use Rattle.im_drill.specs.Lines.{Lacks, Spells};
 
 use crate::digits::bytes_of;
 use crate::pieces::first_piece;
+use crate::set_words::file_of;
 use crate::stop::{call_of, fill_of, length_of};
 use crate::{Batch, Line};
 use im_disk::Stop;
@@ -66,7 +67,7 @@ fn put_line(alloc: Global, rest: &[u8]) -> Result<Line, Fault>
     }
 }
 
-#[tactic(auto, using(crate::proofs::Spelled::set_said, crate::proofs::Spelled::set_word, crate::proofs::Spelled::set_hex))]
+#[tactic(auto, using(crate::proofs::SetSpelled::set_two, crate::proofs::SetSpelled::set_file, crate::proofs::SetSpelled::set_hex, crate::proofs::SetSpelled::set_bytes))]
 fn set_line(alloc: Global, rest: &[u8]) -> Result<Line, Fault>
     ensures says { IfOk result (λ said. Spells (codes "set " ++ rest.now) said) }
     ensures refused { result ≡ Err BadScript → (said : Line) → ¬ (Spells (codes "set " ++ rest.now) said) }
@@ -76,13 +77,14 @@ fn set_line(alloc: Global, rest: &[u8]) -> Result<Line, Fault>
     let Some(rest) = rest else {
         return Err(Fault::BadScript);
     };
-    if word != b"log".as_slice() {
+    let Some(file) = file_of(word) else {
         return Err(Fault::BadScript);
-    }
+    };
     if rest.is_empty() {
         return Err(Fault::BadScript);
     }
-    Ok(Line::SetLog(bytes_of(alloc, rest)?))
+    let bytes = bytes_of(alloc, rest)?;
+    Ok(Line::Set(file, bytes))
 }
 
 #[tactic(auto, using(crate::proofs::Spelled::stop_one, crate::proofs::Spelled::stop_call, crate::proofs::Spelled::stop_two, crate::proofs::Spelled::stop_length, crate::proofs::Spelled::stop_fill))]

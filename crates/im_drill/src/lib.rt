@@ -1,11 +1,11 @@
 //! Scripts of lives on the model disk: what a line spells, what the lives of a script answer, and what the last opening finds.
 //!
-//! A script sets the bytes of the log file and then has lives, one behind the other, each on what the stop of the one before
+//! A script sets the bytes of the files and then has lives, one behind the other, each on what the stop of the one before
 //! has left. A life opens, runs its lines, and ends by a stop within a device call or after the last line. Behind the last
 //! life there is one opening more. There are two sorts: lives over the gate alone, which put batches (`Script`, `drill`), and
 //! lives of a store, which make steps (`StoreScript`, `drill_store`); `drill_text` takes either, by the first `raw` or `life` line (`IsRaw`).
 //!
-//! `drill` promises, of a script whose log file stands for some batches at first (`StandsFor`): each life leaves the batches
+//! `drill` promises, of a script whose files stand for some batches at first (`StandsFor`): each life leaves the batches
 //! from before it and behind them a front of those that it asked to put, in order, with every one that was answered `put ok`
 //! (`Survives`, `Lives`), whatever the stop leaves of the places that were not synced; and the last opening finds what the
 //! last life left, or was refused for want of memory or by the disk. Each life has its answers and each line its reply, up to a
@@ -48,6 +48,7 @@ mod reading;
 mod reply_words;
 mod script;
 mod script_error;
+mod set_words;
 mod step_words;
 mod stop;
 mod store_answers;

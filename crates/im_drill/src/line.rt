@@ -2,14 +2,15 @@
 
 use crate::Batch;
 use im_disk::Stop;
+use im_types::FileId;
 
 /// A line of a script.
 #[derive(Debug, Drop)]
 pub enum Line {
     /// `raw`: a life over the gate alone.
     Raw,
-    /// `set log HEX`: the bytes of the log file before the first life.
-    SetLog(Vec<u8>),
+    /// `set log HEX` or `set pages HEX`: the bytes of that file before the first life.
+    Set(FileId, Vec<u8>),
     /// `put HEX`: puts one batch.
     Put(Batch),
     /// `calls`: the device calls of the life so far.

@@ -10,10 +10,10 @@ ghost use Rattle.im_drill.specs.Reading.{IsReading};
 use crate::grammar::parse_line;
 use crate::{Line, RawLife, RawLine, Script, ScriptError};
 use im_disk::Stop;
-use im_types::Fault;
+use im_types::{Fault, FileId};
 use std::alloc::Global;
 
-/// The log file and the lives that are ended, and the lines of the life that is not.
+/// The files and the lives that are ended, and the lines of the life that is not.
 #[derive(Drop)]
 pub(crate) struct Reading {
     script: Script,
@@ -28,6 +28,7 @@ impl Reading {
         Reading {
             script: Script {
                 log: Vec::new(alloc),
+                pages: Vec::new(alloc),
                 lives: Vec::new(alloc),
             },
             life: None,
@@ -48,7 +49,7 @@ impl Reading {
         ensures refused { result ≡ Err BadScript → (said : List Line) → IsReading self.old said → ¬ (MayFollow (kind_of line) (place_after Before (map kind_of said))) }
     {
         match line {
-            Line::SetLog(bytes) => self.set_log(bytes),
+            Line::Set(file, bytes) => self.set_file(file, bytes),
             Line::Raw => self.begin_life(alloc),
             Line::Put(batch) => self.add(RawLine::Put(batch)),
             Line::Calls => self.add(RawLine::Calls),
@@ -56,15 +57,23 @@ impl Reading {
         }
     }
 
-    fn set_log(&mut self, bytes: Vec<u8>) -> Result<(), Fault>
-        ensures read { OnOk result ((said : List Line) → IsReading self.old said → IsReading self.new (said ++ Line.SetLog bytes ∷ [])) }
-        ensures refused { result ≡ Err BadScript → (said : List Line) → IsReading self.old said → ¬ (MayFollow (kind_of (Line.SetLog bytes)) (place_after Before (map kind_of said))) }
+    fn set_file(&mut self, file: FileId, bytes: Vec<u8>) -> Result<(), Fault>
+        ensures read { OnOk result ((said : List Line) → IsReading self.old said → IsReading self.new (said ++ Line.Set file bytes ∷ [])) }
+        ensures refused { result ≡ Err BadScript → (said : List Line) → IsReading self.old said → ¬ (MayFollow (kind_of (Line.Set file bytes)) (place_after Before (map kind_of said))) }
     {
         if self.life.is_some() || !self.script.lives.is_empty() {
             return Err(Fault::BadScript);
         }
-        self.script.log = bytes;
-        Ok(())
+        match file {
+            FileId::Log => {
+                self.script.log = bytes;
+                Ok(())
+            }
+            FileId::Pages => {
+                self.script.pages = bytes;
+                Ok(())
+            }
+        }
     }
 
     fn begin_life(&mut self, alloc: Global) -> Result<(), Fault>

@@ -1,4 +1,4 @@
-//! A script: what the log file holds at first, and the lives.
+//! A script: what the files hold at first, and the lives.
 
 ghost use Rattle.std.specs.Prelude.{◌≡◌, ℕ, IfOk};
 ghost use Rattle.im_drill.specs.Scripts.{lines_of, IsScript, IsFirstBad};
@@ -14,6 +14,8 @@ use std::alloc::Global;
 pub struct Script {
     /// The bytes of the log file before the first life.
     pub log: Vec<u8>,
+    /// The bytes of the file of pages before the first life.
+    pub pages: Vec<u8>,
     /// The lives, in order.
     pub lives: Vec<RawLife>,
 }

@@ -32,13 +32,14 @@ use std::alloc::{AllocError, Global};
 pub fn drill_store(alloc: Global, script: &StoreScript) -> Result<StoreDrilled, AllocError>
     ensures run { IfOk result (λ told. IsRun ⟦<ModelDisk as Disk>⟧ script.now told) }
     ensures answered { IfOk result (λ told. EachStoreAnswered script.now.lives.items told.lives.items) }
-    ensures kept { IfOk result (λ told. (before : List Effect) → StandsFor before (both script.now.log.items [])
+    ensures kept { IfOk result (λ told. (before : List Effect) → StandsFor before (both script.now.log.items script.now.pages.items)
         → (after : List Effect) × Lives before (asked_in_each script.now.lives.items told.lives.items) after
         × MatchResult told.last (λ found. found.items ≡ entries (apply_all empty after)) (λ fault. fault ≢ NotAStore)) }
-    ensures stores { IfOk result (λ told. (before : List Effect) → StandsFor before (both script.now.log.items []) → AreStores told.lives.items) }
+    ensures stores { IfOk result (λ told. (before : List Effect) → StandsFor before (both script.now.log.items script.now.pages.items) → AreStores told.lives.items) }
 {
     let log = Vec::from_slice(alloc, &script.log)?;
-    let mut disk = ModelDisk::new(log, Vec::new(alloc));
+    let pages = Vec::from_slice(alloc, &script.pages)?;
+    let mut disk = ModelDisk::new(log, pages);
     let mut lives = Vec::new(alloc);
     for life in &script.lives {
         let (told, after) = run_store_life(alloc, disk, life)?;

@@ -124,7 +124,7 @@ fn plain_line(alloc: Global, line: &[u8]) -> Result<StoreScriptLine, Fault>
     ensures causes { IfErr result (λ e. (e ≡ Memory) ⊎ (e ≡ BadScript)) }
 {
     match parse_line(alloc, line) {
-        Ok(Line::SetLog(bytes)) => Ok(StoreScriptLine::SetLog(bytes)),
+        Ok(Line::Set(file, bytes)) => Ok(StoreScriptLine::Set(file, bytes)),
         Ok(Line::Calls) => Ok(StoreScriptLine::Within(StoreLine::Calls)),
         Ok(Line::Stop(stop)) => Ok(StoreScriptLine::Stop(stop)),
         Ok(Line::Raw) => Err(Fault::BadScript),

@@ -13,7 +13,7 @@ use crate::store_life::{LifeOptions, StoreLife, StoreLine};
 use crate::store_script::StoreScript;
 use crate::store_script_line::StoreScriptLine;
 use im_disk::Stop;
-use im_types::Fault;
+use im_types::{Fault, FileId};
 use std::alloc::Global;
 
 /// A life that is not ended.
@@ -23,7 +23,7 @@ pub(crate) struct OpenLife {
     lines: Vec<StoreLine>,
 }
 
-/// The log file and the lives that are ended, and the life that is not.
+/// The files and the lives that are ended, and the life that is not.
 #[derive(Drop)]
 pub(crate) struct StoreReading {
     script: StoreScript,
@@ -38,6 +38,7 @@ impl StoreReading {
         StoreReading {
             script: StoreScript {
                 log: Vec::new(alloc),
+                pages: Vec::new(alloc),
                 lives: Vec::new(alloc),
             },
             life: None,
@@ -58,22 +59,30 @@ impl StoreReading {
         ensures refused { result ≡ Err BadScript → (said : List StoreScriptLine) → IsStoreReading self.old said → ¬ (MayFollow (store_kind_of line) (place_after Before (map store_kind_of said))) }
     {
         match line {
-            StoreScriptLine::SetLog(bytes) => self.set_log(bytes),
+            StoreScriptLine::Set(file, bytes) => self.set_file(file, bytes),
             StoreScriptLine::Life(options) => self.begin_life(alloc, options),
             StoreScriptLine::Within(line) => self.add(line),
             StoreScriptLine::Stop(stop) => self.stop(stop),
         }
     }
 
-    fn set_log(&mut self, bytes: Vec<u8>) -> Result<(), Fault>
-        ensures read { OnOk result ((said : List StoreScriptLine) → IsStoreReading self.old said → IsStoreReading self.new (said ++ StoreScriptLine.SetLog bytes ∷ [])) }
-        ensures refused { result ≡ Err BadScript → (said : List StoreScriptLine) → IsStoreReading self.old said → ¬ (MayFollow (store_kind_of (StoreScriptLine.SetLog bytes)) (place_after Before (map store_kind_of said))) }
+    fn set_file(&mut self, file: FileId, bytes: Vec<u8>) -> Result<(), Fault>
+        ensures read { OnOk result ((said : List StoreScriptLine) → IsStoreReading self.old said → IsStoreReading self.new (said ++ StoreScriptLine.Set file bytes ∷ [])) }
+        ensures refused { result ≡ Err BadScript → (said : List StoreScriptLine) → IsStoreReading self.old said → ¬ (MayFollow (store_kind_of (StoreScriptLine.Set file bytes)) (place_after Before (map store_kind_of said))) }
     {
         if self.life.is_some() || !self.script.lives.is_empty() {
             return Err(Fault::BadScript);
         }
-        self.script.log = bytes;
-        Ok(())
+        match file {
+            FileId::Log => {
+                self.script.log = bytes;
+                Ok(())
+            }
+            FileId::Pages => {
+                self.script.pages = bytes;
+                Ok(())
+            }
+        }
     }
 
     fn begin_life(&mut self, alloc: Global, options: LifeOptions) -> Result<(), Fault>

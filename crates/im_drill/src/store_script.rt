@@ -1,4 +1,4 @@
-//! A script of lives of a store: what the log file holds at first, and the lives.
+//! A script of lives of a store: what the files hold at first, and the lives.
 
 ghost use Rattle.std.specs.Prelude.{◌≡◌, ℕ, IfOk};
 ghost use Rattle.im_drill.specs.Scripts.{lines_of};
@@ -16,6 +16,8 @@ use std::alloc::Global;
 pub struct StoreScript {
     /// The bytes of the log file before the first life.
     pub log: Vec<u8>,
+    /// The bytes of the file of pages before the first life.
+    pub pages: Vec<u8>,
     /// The lives, in order.
     pub lives: Vec<StoreLife>,
 }

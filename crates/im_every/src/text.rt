@@ -55,11 +55,15 @@ fn life_of(alloc: Global, text: &[u8]) -> Result<Option<StoreLife>, ScriptError>
         let _script = Script::parse(alloc, text)?;
         return Ok(None);
     }
-    let StoreScript { log, mut lives } = StoreScript::parse(alloc, text)?;
+    let StoreScript {
+        log,
+        pages,
+        mut lives,
+    } = StoreScript::parse(alloc, text)?;
     let Some(life) = lives.pop() else {
         return Ok(None);
     };
-    if !log.is_empty() || !lives.is_empty() || life.stop.is_some() {
+    if !log.is_empty() || !pages.is_empty() || !lives.is_empty() || life.stop.is_some() {
         return Ok(None);
     }
     Ok(Some(life))

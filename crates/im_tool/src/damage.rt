@@ -17,7 +17,11 @@ const SCRIPT: &str =
 fn whole_log(alloc: Global) -> Vec<u8> {
     match StoreScript::parse(alloc, SCRIPT.as_bytes()) {
         Ok(script) => {
-            let StoreScript { log, lives: _lives } = script;
+            let StoreScript {
+                log,
+                pages: _pages,
+                lives: _lives,
+            } = script;
             log
         }
         Err(_) => Vec::new(alloc),

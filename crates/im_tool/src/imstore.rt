@@ -14,9 +14,9 @@ use std::io::{BufReader, BufWriter, IsTerminal, Write};
 
 /// Opens the store in the folder that the command line names, or an empty one in memory where it names none, makes the steps
 /// that standard input asks for and prints their replies. The first word is the program's name. It answers the exit status: 0,
-/// 1 where the opening was refused, 2 where the command line was, 3 where a line was refused in a batch.
+/// 1 where the opening was refused, or what closes the store, 2 where the command line was, 3 where a line was refused in a batch.
 ///
-/// Why an opening was refused stands on standard error, in words. An error is of the program's own memory, input or output: its
+/// Why an opening or a close was refused stands on standard error, in words. An error is of the program's own memory, input or output: its
 /// status is 1.
 pub fn store_program(rt: &HostRuntime, words: &[String]) -> io::Result<u8>
     ensures { IfOk result (λ status. status ≤ 3) }
@@ -58,6 +58,7 @@ fn run_in_memory(rt: &HostRuntime, options: &Options) -> io::Result<u8>
         alloc,
         disk,
         options.config(),
+        options.redo_bound(),
         manner,
         &mut reader,
         &mut writer,
@@ -78,12 +79,15 @@ fn run_in_folder(rt: &HostRuntime, dir: &str, options: &Options) -> io::Result<u
                 alloc,
                 disk,
                 options.config(),
+                options.redo_bound(),
                 manner,
                 &mut reader,
                 &mut writer,
             )?;
-            if let StoreEnd::RefusedOpening(fault) = end {
-                tell(rt, dir, &fault);
+            match end {
+                StoreEnd::RefusedOpening(fault) => tell(rt, dir, &fault),
+                StoreEnd::RefusedClose(fault) => tell(rt, dir, &fault),
+                StoreEnd::Input | StoreEnd::RefusedLine => {}
             }
             Ok(status_at(end))
         }
@@ -101,6 +105,7 @@ fn status_at(end: StoreEnd) -> u8
     match end {
         StoreEnd::Input => 0,
         StoreEnd::RefusedOpening(_) => 1,
+        StoreEnd::RefusedClose(_) => 1,
         StoreEnd::RefusedLine => 3,
     }
 }

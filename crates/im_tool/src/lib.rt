@@ -3,12 +3,14 @@
 //! `drill_program` is all of `imdrill` but its `main`: it reads the words of the command line, finds the script, has it run by
 //! `im_drill`, and answers the exit status, 2 at most. `store_program` is all of `imstore`: it opens the folder that its words name, or an
 //! empty model disk, and hands the disk on to `store_text`, which opens the store of any disk, makes the steps that a
-//! reader's lines ask for, and has written and flushed all replies before it waits for a line. What goes to which stream is
-//! tested, by stored outputs word for word among other tests, and stands in no clause.
+//! reader's lines ask for, and has written and flushed all replies before it waits for a line. Checkpoints are taken behind the steps as a
+//! `RedoBound` wants them, and one behind the last line, so that the next opening has little to redo, or nothing. What goes to which
+//! stream is tested, by stored outputs word for word among other tests, and stands in no clause.
 //!
 //! It stands on `im_drill` for scripts, for the lines of steps and for the words of replies, on the engine, and on `clap` for command lines.
 #![tactic(auto)]
 
+mod checkpoints;
 #[cfg(test)]
 mod damage;
 mod imdrill;
@@ -25,6 +27,9 @@ mod options;
 mod progress;
 mod reason;
 mod recovered;
+mod redo_bound;
+#[cfg(test)]
+mod redo_kept;
 #[cfg(test)]
 mod restarts;
 mod store;
@@ -44,4 +49,5 @@ pub use imdrill::drill_program;
 pub use imstore::store_program;
 pub use line_input::LineInput;
 pub use options::{Options, Task};
+pub use redo_bound::RedoBound;
 pub use store::{Manner, StoreEnd, store_text};

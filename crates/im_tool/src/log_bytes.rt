@@ -7,7 +7,7 @@ use im_types::{Fault, PageNo, TxnId};
 use std::alloc::Global;
 
 /// The place of the first gate.
-const FIRST_GATE: usize = 31;
+const FIRST_GATE: usize = im_gate::FIRST_GATE as usize;
 
 /// The least number of a transaction.
 const LEAST_NUMBER: TxnId = 1;

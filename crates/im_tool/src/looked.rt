@@ -1,6 +1,6 @@
 use crate::look::{check_text, stat_text};
 use crate::recovered::{Copies, copies_of};
-use crate::{Manner, store_text};
+use crate::{Manner, RedoBound, store_text};
 use im_disk::FileDisk;
 use im_engine::Config;
 use std::alloc::Global;
@@ -39,9 +39,15 @@ fn left_by(rt: &HostRuntime, folder: &str) -> Result<Copies, Fail> {
     let mut reader = BufReader::new(alloc, lines.as_slice())?;
     let mut printed = Vec::new(alloc);
     let disk = FileDisk::open(rt, folder)?;
-    let config = Config::default();
-    let manner = Manner::default();
-    let _end = store_text(alloc, disk, config, manner, &mut reader, &mut printed)?;
+    let _end = store_text(
+        alloc,
+        disk,
+        Config::default(),
+        RedoBound::of_bytes(0),
+        Manner::default(),
+        &mut reader,
+        &mut printed,
+    )?;
     let mut disk = FileDisk::open_to_read(rt, folder)?;
     Ok(copies_of(alloc, &mut disk)?)
 }

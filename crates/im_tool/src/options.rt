@@ -1,5 +1,6 @@
 //! The command line of the program that keeps a store.
 
+use crate::redo_bound::RedoBound;
 use clap::builder::ValueParser;
 use clap::{Arg, ArgAction, ArgMatches, Command, Error};
 use im_engine::Config;
@@ -7,6 +8,14 @@ use std::alloc::Global;
 
 /// The frames of a store in a folder, where the words name no number.
 const FRAMES: usize = 1_024;
+
+/// The MiB of log that an opening of a store in a folder redoes at most, where the words name no number.
+const CHECKPOINT: u64 = 16;
+
+/// The most MiB that may be named.
+const MOST_CHECKPOINT: u64 = 1_048_576;
+
+const MIB: u64 = 1_048_576;
 
 /// What the program is asked for.
 #[derive(Clone, Copy, Debug, PartialEq, Eq)]
@@ -35,6 +44,8 @@ pub struct Options<'a> {
     pub frames: Option<u64>,
     /// The most pages.
     pub pages: Option<u64>,
+    /// The MiB of log that an opening redoes at most, 0 to 1,048,576; with 0 no Checkpoint is taken.
+    pub checkpoint: Option<u64>,
     /// Refusals are told in words, and keys are written and read so that they can be typed.
     pub has_words: bool,
     /// The program ends at the first line that is refused.
@@ -56,6 +67,17 @@ impl<'a> Options<'a> {
         }
         config
     }
+
+    /// How much log an opening may have to redo: 16 MiB for a folder, where the words say nothing else. A store in memory is never opened
+    /// again, and takes no Checkpoint then.
+    pub(crate) fn redo_bound(&self) -> RedoBound {
+        let mib = match self.checkpoint {
+            Some(mib) => mib,
+            None if self.dir.is_some() => CHECKPOINT,
+            None => 0,
+        };
+        RedoBound::of_bytes(mib.min(MOST_CHECKPOINT) * MIB)
+    }
 }
 
 /// Reads the words of the command line, of which the first is the program's name.
@@ -66,6 +88,7 @@ pub(crate) fn parse_options<'a>(alloc: Global, words: &'a [String]) -> Result<Op
         task: task_of(&matches),
         frames: matches.get_one::<u64>("frames"),
         pages: matches.get_one::<u64>("pages"),
+        checkpoint: matches.get_one::<u64>("checkpoint"),
         has_words: matches.get_flag("words"),
         is_batch: matches.get_flag("batch"),
     })
@@ -99,6 +122,12 @@ fn command<'a>(alloc: Global) -> Result<Command<'a>, Error> {
         .long("pages")
         .value_parser(ValueParser::unsigned(2, 4_294_967_295))
         .help("The most pages that the store may have [1000000]");
+    let checkpoint = Arg::new(alloc, "checkpoint")
+        .long("checkpoint")
+        .value_parser(ValueParser::unsigned(0, MOST_CHECKPOINT))
+        .help(
+            "MiB of log that an opening redoes at most, also after a kill, 0 to 1048576; smaller ones open sooner and write more, 0 takes no Checkpoint [16 with DIR, 0 without]",
+        );
     let command = Command::new(alloc, "imstore")
         .version("1")
         .about(
@@ -107,6 +136,7 @@ fn command<'a>(alloc: Global) -> Result<Command<'a>, Error> {
         .arg(dir)?
         .arg(frames)?
         .arg(pages)?
+        .arg(checkpoint)?
         .arg(flag(
             alloc,
             "words",
@@ -154,7 +184,10 @@ fn task_flag<'a>(alloc: Global, name: &'a str, help: &'a str) -> Result<Arg<'a>,
     }
     arg = arg.conflicts_with("batch")?;
     if name != "load" {
-        arg = arg.conflicts_with("frames")?.conflicts_with("pages")?;
+        arg = arg
+            .conflicts_with("frames")?
+            .conflicts_with("pages")?
+            .conflicts_with("checkpoint")?;
     }
     Ok(arg)
 }

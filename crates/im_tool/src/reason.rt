@@ -42,7 +42,7 @@ fn first_word(line: &[u8]) -> &[u8] {
 // How a line with this first word goes on, and where it stands.
 fn usage_of(word: &[u8]) -> &'static str {
     match word {
-        b"set" => "`set log HEX` stands in front of all lives",
+        b"set" => "`set log HEX` and `set pages HEX` stand in front of all lives",
         b"raw" => "`raw` stands alone, and not in a script with `life`",
         b"put" => "`put HEX` stands in a life that `raw` begins",
         b"life" =>

@@ -124,6 +124,7 @@ fn failures(alloc: Global, script: &[u8]) -> io::Result<Counts> {
     };
     let StoreScript {
         log: _log,
+        pages: _pages,
         mut lives,
     } = script;
     let Some(life) = lives.pop() else {

@@ -3,8 +3,10 @@
 ghost use Rattle.std.specs.Prelude.{◌≡◌, ◌≤◌, false, IfOk};
 ghost use Rattle.im_disk.specs.Runs.{IsSynced};
 
+use crate::checkpoints::Checkpoints;
 use crate::key_notation::write_key;
 use crate::line_input::{LineInput, without_newline};
+use crate::redo_bound::RedoBound;
 use crate::words_step::words_step;
 use im_disk::Disk;
 use im_drill::{entries_text, reply_text, report_text, step_line};
@@ -29,7 +31,7 @@ continue N               takes back the next of it
 entries                  all keys with their row ids
 force                    makes the log durable
 flush PAGE               writes a page to the file of pages
-checkpoint               makes the log durable
+checkpoint               makes the log durable, with a record that says where a restart begins to redo
 redo                     where the opening began to redo the log, and how many records it applied
 help                     this list
 KEY is text without spaces, \"text with spaces\", or x'6100'. Up to 64 transactions are active at a time.
@@ -56,6 +58,8 @@ pub enum StoreEnd {
     RefusedLine,
     /// The opening was refused.
     RefusedOpening(Fault),
+    /// At the end of the input, where a step that closes the store was refused. What was committed is kept.
+    RefusedClose(im_front::Fault),
 }
 
 /// Opens the store of a disk, makes the steps that the input's lines ask for, and writes each reply, one a line.
@@ -63,10 +67,15 @@ pub enum StoreEnd {
 /// Replies are flushed before a line is waited for, behind each `committed`, and at the end. The line `entries` writes how
 /// many entries there are, and each; `redo` what redo did in the opening. A bad line is answered `refused 16`, and the store goes on. Empty lines are passed over,
 /// and a carriage return in front of a newline is left out. An error is of the program's own memory, input or output.
+///
+/// Checkpoints are taken behind the opening and behind the steps, as the bound wants them. At the end of the input all changed
+/// pages are written and a last one is taken, so that the next opening has nothing to redo. Where such a step is refused, a line
+/// `checkpoint refused N` or `close refused N` says so.
 pub fn store_text<D: Disk + Drop, R: LineInput, W: Write>(
     alloc: Global,
     disk: D,
     config: Config,
+    bound: RedoBound,
     manner: Manner,
     reader: &mut R,
     writer: &mut W,
@@ -76,7 +85,7 @@ pub fn store_text<D: Disk + Drop, R: LineInput, W: Write>(
 {
     match Engine::open_or_create(alloc, disk, config) {
         Ok(mut engine) => {
-            let run = run_lines(alloc, &mut engine, manner, reader, writer);
+            let run = run_to_close(alloc, &mut engine, bound, manner, reader, writer);
             let _disk = engine.into_disk();
             let end = run?;
             writer.flush()?;
@@ -95,9 +104,38 @@ pub(crate) fn print_refused_opening<W: Write>(writer: &mut W, fault: Fault) -> i
     writer.flush()
 }
 
+// Makes the steps that the lines ask for, and closes the store behind them.
+fn run_to_close<D: Disk, R: LineInput, W: Write>(
+    alloc: Global,
+    engine: &mut Engine<D>,
+    bound: RedoBound,
+    manner: Manner,
+    reader: &mut R,
+    writer: &mut W,
+) -> io::Result<StoreEnd> {
+    let mut checkpoints = Checkpoints::of(engine, bound);
+    let is_unkept = keep(engine, &mut checkpoints, manner, writer)?;
+    if is_unkept && manner.is_batch {
+        return Ok(StoreEnd::RefusedLine);
+    }
+    let end = run_lines(alloc, engine, &mut checkpoints, manner, reader, writer)?;
+    if end != StoreEnd::Input {
+        return Ok(end);
+    }
+    match checkpoints.close(engine) {
+        Ok(()) => Ok(end),
+        Err(fault) => {
+            write!(writer, "close ")?;
+            print_refused(writer, manner, fault.number(), &fault)?;
+            Ok(StoreEnd::RefusedClose(fault))
+        }
+    }
+}
+
 fn run_lines<D: Disk, R: LineInput, W: Write>(
     alloc: Global,
     engine: &mut Engine<D>,
+    checkpoints: &mut Checkpoints,
     manner: Manner,
     reader: &mut R,
     writer: &mut W,
@@ -115,13 +153,30 @@ fn run_lines<D: Disk, R: LineInput, W: Write>(
         }
         let text = without_newline(&line);
         if !text.is_empty() {
-            let is_refused = run_line(alloc, engine, manner, text, writer)?;
-            if is_refused && manner.is_batch {
+            let is_refused = run_line(alloc, engine, checkpoints, manner, text, writer)?;
+            let is_unkept = keep(engine, checkpoints, manner, writer)?;
+            if (is_refused || is_unkept) && manner.is_batch {
                 return Ok(StoreEnd::RefusedLine);
             }
         }
     }
     Ok(StoreEnd::Input)
+}
+
+// Takes a Checkpoint where one is due, and answers whether that was refused.
+fn keep<D: Disk, W: Write>(
+    engine: &mut Engine<D>,
+    checkpoints: &mut Checkpoints,
+    manner: Manner,
+    writer: &mut W,
+) -> io::Result<bool> {
+    match checkpoints.keep(engine) {
+        Ok(()) => Ok(false),
+        Err(fault) => {
+            write!(writer, "checkpoint ")?;
+            print_refused(writer, manner, fault.number(), &fault)
+        }
+    }
 }
 
 fn print_prompt<W: Write>(manner: Manner, writer: &mut W) -> io::Result<()> {
@@ -143,6 +198,7 @@ fn end_prompt<W: Write>(manner: Manner, writer: &mut W) -> io::Result<()> {
 fn run_line<D: Disk, W: Write>(
     alloc: Global,
     engine: &mut Engine<D>,
+    checkpoints: &mut Checkpoints,
     manner: Manner,
     line: &[u8],
     writer: &mut W,
@@ -170,7 +226,7 @@ fn run_line<D: Disk, W: Write>(
         step_line(alloc, line)
     };
     match step {
-        Ok(step) => run_step(alloc, engine, manner, &step, writer),
+        Ok(step) => run_step(alloc, engine, checkpoints, manner, &step, writer),
         Err(Fault::BadScript) => print_refused(
             writer,
             manner,
@@ -184,11 +240,12 @@ fn run_line<D: Disk, W: Write>(
 fn run_step<D: Disk, W: Write>(
     alloc: Global,
     engine: &mut Engine<D>,
+    checkpoints: &mut Checkpoints,
     manner: Manner,
     step: &Step,
     writer: &mut W,
 ) -> io::Result<bool> {
-    let reply = engine.step(step);
+    let reply = checkpoints.step(engine, step);
     if let Reply::Refused(fault) = reply {
         return print_refused(writer, manner, fault.number(), &fault);
     }

@@ -97,7 +97,7 @@ fn dump<W: Write>(rt: &HostRuntime, dir: &str, writer: &mut W, copies: Copies) -
 }
 
 /// Loads the entries that standard input has into the store of a folder. It answers the exit status: 0, 1 where the opening was
-/// refused, 3 where a line was.
+/// refused, or what closes the store, 3 where a line was.
 pub(crate) fn load_program(rt: &HostRuntime, dir: &str, options: &Options) -> io::Result<u8>
     ensures { IfOk result (λ status. status ≤ 3) }
 {
@@ -117,10 +117,18 @@ pub(crate) fn load_program(rt: &HostRuntime, dir: &str, options: &Options) -> io
         writer: rt.stderr(),
         is_shown: rt.stderr().is_terminal(),
     };
-    let loaded = load_text(alloc, disk, options.config(), &mut reader, &mut progress)?;
+    let loaded = load_text(
+        alloc,
+        disk,
+        options.config(),
+        options.redo_bound(),
+        &mut reader,
+        &mut progress,
+    )?;
     let status = match loaded {
         Loaded::All(_) => 0,
         Loaded::RefusedOpening(fault) => return refused(rt, dir, &mut writer, fault),
+        Loaded::RefusedClose(_, _) => 1,
         _ => 3,
     };
     match loaded {
@@ -140,6 +148,11 @@ pub(crate) fn load_program(rt: &HostRuntime, dir: &str, options: &Options) -> io
             fault.number(),
             &fault,
         )?,
+        Loaded::RefusedClose(count, fault) => {
+            writeln!(writer, "loaded {count}")?;
+            writeln!(writer, "close refused {}", fault.number())?;
+            tell(rt, dir, &fault);
+        }
         Loaded::RefusedOpening(_) => {}
     }
     writer.flush()?;

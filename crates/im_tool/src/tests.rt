@@ -3,7 +3,7 @@ ghost use Rattle.im_disk.specs.Runs.{IsSynced};
 
 use crate::progress::Progress;
 use crate::transfer::{Loaded, load_text};
-use crate::{Manner, StoreEnd, drill_program, store_program, store_text};
+use crate::{Manner, RedoBound, StoreEnd, drill_program, store_program, store_text};
 use im_disk::{Disk, FileDisk, ModelDisk};
 use im_drill::drill_text;
 use im_engine::Config;
@@ -46,6 +46,7 @@ fn scripts_print_what_their_lives_answer(rt: HostRuntime) -> Result<(), Fail> {
             0,
         ),
         ("set log 01\nraw\n", "open ok 6\nfinal 0\n", 0),
+        ("set pages 01\nraw\n", "open refused 11\nfinal refused 11\n", 0),
         ("", "final 0\n", 0),
     ] {
         let (status, printed) = drilled(&rt, script)?;
@@ -65,7 +66,10 @@ fn lines_that_the_grammar_lacks_are_refused(rt: HostRuntime) -> Result<(), Fail>
         "set log ",
         "set log",
         "set log 0",
-        "set pages 00",
+        "set pages ",
+        "set pages",
+        "set pages 0",
+        "set page 00",
         "put 61",
         "calls",
         "stop end long written",
@@ -87,6 +91,7 @@ fn lines_that_the_grammar_lacks_are_refused(rt: HostRuntime) -> Result<(), Fail>
         "put 61 62",
         "calls ",
         "set log 00",
+        "set pages 00",
         "stop 01 long written",
         "stop +1 long written",
         "stop 18446744073709551616 long written",
@@ -172,6 +177,7 @@ fn lives_of_a_store_print_their_replies(rt: HostRuntime) -> Result<(), Fail> {
             "open ok 6\nredo 0 0\nstarted 1\ninserted\ncommitted\nredo 0 0\nopen ok 0\nredo 36 1\nopen ok 0\nstarted 2\ninserted\ndone\ndone\nopen ok 4\nredo 36 0\nfinal 1\n61 7\n",
         ),
         ("set log 00\nset log 01\n", "final 0\n"),
+        ("set pages 00\nset log 00\nset pages 01\n", "final refused 11\n"),
     ] {
         let (status, printed) = drilled(&rt, script)?;
         assert!(rt; status == 0, "{script}");
@@ -186,6 +192,7 @@ fn a_life_takes_no_other_line(rt: HostRuntime) -> Result<(), Fail> {
         "raw",
         "put 61",
         "set log 00",
+        "set pages 00",
         "life ",
         "life frames",
         "life frames 08",
@@ -277,8 +284,15 @@ fn answers<D: Disk + Drop>(
 {
     let mut reader = BufReader::new(alloc, lines.as_bytes())?;
     let mut printed = Vec::new(alloc);
-    let config = Config::default();
-    let end = store_text(alloc, disk, config, manner, &mut reader, &mut printed)?;
+    let end = store_text(
+        alloc,
+        disk,
+        Config::default(),
+        RedoBound::of_bytes(0),
+        manner,
+        &mut reader,
+        &mut printed,
+    )?;
     Ok((end, printed))
 }
 
@@ -399,8 +413,14 @@ fn loaded(alloc: Global, count: u32, is_shown: bool) -> io::Result<(Loaded, Vec<
         is_shown,
     };
     let disk = ModelDisk::new(Vec::new(alloc), Vec::new(alloc));
-    let config = Config::default();
-    let end = load_text(alloc, disk, config, &mut reader, &mut progress)?;
+    let end = load_text(
+        alloc,
+        disk,
+        Config::default(),
+        RedoBound::of_bytes(0),
+        &mut reader,
+        &mut progress,
+    )?;
     let Progress { writer, .. } = progress;
     Ok((end, writer))
 }

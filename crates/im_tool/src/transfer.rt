@@ -3,9 +3,11 @@
 ghost use Rattle.std.specs.Prelude.{◌≡◌, false};
 ghost use Rattle.im_disk.specs.Runs.{IsSynced};
 
+use crate::checkpoints::Checkpoints;
 use crate::key_notation::noted_key;
 use crate::line_input::{LineInput, without_newline};
 use crate::progress::Progress;
+use crate::redo_bound::RedoBound;
 use crate::store::print_keys;
 use im_disk::Disk;
 use im_engine::{Config, Engine};
@@ -36,6 +38,8 @@ pub(crate) enum Loaded {
     Duplicate(u64),
     /// The opening was refused.
     RefusedOpening(Fault),
+    /// All entries of the text are in the store, and what closes it was refused.
+    RefusedClose(u64, im_front::Fault),
 }
 
 /// Writes how many entries there are, and each: the key as it can be typed, and its row id.
@@ -58,11 +62,13 @@ pub(crate) fn dump_text<W: Write, P: Write>(
     Ok(())
 }
 
-/// Puts the entries of such a text into a store, commits them a thousand at a time, and tells of each commit.
+/// Puts the entries of such a text into a store, commits them a thousand at a time, and tells of each commit. Checkpoints are taken in
+/// between, as the bound wants them, and one behind the last entry, so that the next opening has nothing to redo.
 pub(crate) fn load_text<D: Disk + Drop, R: LineInput, P: Write>(
     alloc: Global,
     disk: D,
     config: Config,
+    bound: RedoBound,
     reader: &mut R,
     progress: &mut Progress<P>,
 ) -> io::Result<Loaded>
@@ -71,7 +77,7 @@ pub(crate) fn load_text<D: Disk + Drop, R: LineInput, P: Write>(
 {
     match Engine::open_or_create(alloc, disk, config) {
         Ok(mut engine) => {
-            let loaded = load_lines(alloc, &mut engine, reader, progress);
+            let loaded = load_to_close(alloc, &mut engine, bound, reader, progress);
             let _disk = engine.into_disk();
             progress.end();
             loaded
@@ -80,9 +86,32 @@ pub(crate) fn load_text<D: Disk + Drop, R: LineInput, P: Write>(
     }
 }
 
+// Loads the lines, and closes the store behind them.
+fn load_to_close<D: Disk, R: LineInput, P: Write>(
+    alloc: Global,
+    engine: &mut Engine<D>,
+    bound: RedoBound,
+    reader: &mut R,
+    progress: &mut Progress<P>,
+) -> io::Result<Loaded> {
+    let mut checkpoints = Checkpoints::of(engine, bound);
+    if let Err(fault) = checkpoints.keep(engine) {
+        return Ok(Loaded::Refused(1, fault));
+    }
+    let loaded = load_lines(alloc, engine, &mut checkpoints, reader, progress)?;
+    let Loaded::All(count) = loaded else {
+        return Ok(loaded);
+    };
+    match checkpoints.close(engine) {
+        Ok(()) => Ok(loaded),
+        Err(fault) => Ok(Loaded::RefusedClose(count, fault)),
+    }
+}
+
 fn load_lines<D: Disk, R: LineInput, P: Write>(
     alloc: Global,
     engine: &mut Engine<D>,
+    checkpoints: &mut Checkpoints,
     reader: &mut R,
     progress: &mut Progress<P>,
 ) -> io::Result<Loaded> {
@@ -112,6 +141,9 @@ fn load_lines<D: Disk, R: LineInput, P: Write>(
                 Reply::Committed => progress.show(place.saturating_add(1), count),
                 reply => return Ok(Loaded::Refused(at, fault_of(reply))),
             }
+        }
+        if let Err(fault) = checkpoints.keep(engine) {
+            return Ok(Loaded::Refused(at, fault));
         }
     }
     Ok(Loaded::All(count))

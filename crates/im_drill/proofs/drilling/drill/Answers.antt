@@ -22,7 +22,8 @@ loop-life-init c = record {
   answered = subst (λ (l : List LifeAnswers). EachAnswered [] l) (sym c.new-lives.ensures.items) tt;
   kept = λ before stands.
       let log = c.in_ok-log.ensures.items ∙ c.deref.ensures.value in
-      let seen = c.new-disk.ensures.seen ∙ ap (λ (l : List ℕ). both l c.new.result.items) log ∙ ap (λ (l : List ℕ). both c.args.script.now.log.items l) c.new.ensures.items in
+      let pages = c.in_ok-pages.ensures.items ∙ c.deref-2.ensures.value in
+      let seen = c.new-disk.ensures.seen ∙ ap (λ (l : List ℕ). both l c.in_ok-pages.pages.items) log ∙ ap (λ (l : List ℕ). both c.args.script.now.log.items l) pages in
       (before, subst (λ (s : Files). StandsFor s before) (sym seen) stands, subst (λ (l : List LifeAnswers). Lives [] l before before) (sym c.new-lives.ensures.items) refl);
 }
 
@@ -84,10 +85,11 @@ pub returns-clause-run : goal.returns-clause-run
 returns-clause-run c =
     let all : take c.loop-life.life-index c.args.script.now.lives.items ≡ c.args.script.now.lives.items = grind (arith, common_steps) in
     let log = c.in_ok-log.ensures.items ∙ c.deref.ensures.value in
+    let pages = c.in_ok-pages.ensures.items ∙ c.deref-2.ensures.value in
     record {
       first = c.new-disk.result;
       fresh = c.new-disk.ensures.fresh;
-      seen = c.new-disk.ensures.seen ∙ ap (λ (l : List ℕ). both l c.new.result.items) log ∙ ap (λ (l : List ℕ). both c.args.script.now.log.items l) c.new.ensures.items;
+      seen = c.new-disk.ensures.seen ∙ ap (λ (l : List ℕ). both l c.in_ok-pages.pages.items) log ∙ ap (λ (l : List ℕ). both c.args.script.now.log.items l) pages;
       end = c.loop-life.disk;
       lives = subst (λ (l : List RawLife). AreRawLivesRun ghosts l c.loop-life.lives.items c.new-disk.result c.loop-life.disk) all c.loop-life.invariant.run;
       last = c.last_batches-last.ensures.run;

@@ -1,4 +1,4 @@
-use Rattle.std.proofs.Common.{◌≡◌, List, ℕ, [], false, take}
+use Rattle.std.proofs.Common.{◌≡◌, List, ℕ, false, take}
 use Rattle.im_disk.specs.contracts.model_disk.ModelDiskDisk.TheImpl.{ghosts}
 use Rattle.im_disk.specs.Disk.{both}
 use Rattle.im_disk.specs.Runs.{IsSynced}
@@ -14,6 +14,6 @@ invariant-loop-life l = record {
   synced : IsSynced ghosts l.disk;
   run : AreRawLivesRun ghosts (take l.life-index l.script.lives.items) l.lives.items l.initial.disk l.disk;
   answered : EachAnswered (take l.life-index l.script.lives.items) l.lives.items;
-  stores : (before : List (List ℕ)) → StandsFor (both l.script.log.items []) before → AreRawStores l.lives.items;
-  kept : (before : List (List ℕ)) → StandsFor (both l.script.log.items []) before → (mid : List (List ℕ)) × StandsFor (ghosts.seen l.disk) mid × Lives (take l.life-index l.script.lives.items) l.lives.items before mid;
+  stores : (before : List (List ℕ)) → StandsFor (both l.script.log.items l.script.pages.items) before → AreRawStores l.lives.items;
+  kept : (before : List (List ℕ)) → StandsFor (both l.script.log.items l.script.pages.items) before → (mid : List (List ℕ)) × StandsFor (ghosts.seen l.disk) mid × Lives (take l.life-index l.script.lives.items) l.lives.items before mid;
 }

@@ -1,4 +1,4 @@
-use Rattle.std.proofs.Common.{◌≡◌, List, [], false, take}
+use Rattle.std.proofs.Common.{◌≡◌, List, false, take}
 use Rattle.im_types.specs.Changes.{Effect}
 use Rattle.im_types.specs.Lives.{Lives}
 use Rattle.im_disk.specs.contracts.model_disk.ModelDiskDisk.TheImpl.{ghosts}
@@ -16,7 +16,7 @@ invariant-loop-life l = record {
   synced : IsSynced ghosts l.disk;
   run : AreLivesRun ghosts (take l.life-index l.script.lives.items) l.lives.items l.initial.disk l.disk;
   answered : EachStoreAnswered (take l.life-index l.script.lives.items) l.lives.items;
-  kept : (before : List Effect) → StandsFor before (both l.script.log.items [])
+  kept : (before : List Effect) → StandsFor before (both l.script.log.items l.script.pages.items)
       → (mid : List Effect) × StandsFor mid (ghosts.seen l.disk) × Lives before (asked_in_each (take l.life-index l.script.lives.items) l.lives.items) mid;
-  stores : (before : List Effect) → StandsFor before (both l.script.log.items []) → AreStores l.lives.items;
+  stores : (before : List Effect) → StandsFor before (both l.script.log.items l.script.pages.items) → AreStores l.lives.items;
 }
