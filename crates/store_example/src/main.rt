@@ -1,16 +1,35 @@
-//! How a program keeps keys in a folder: it opens the store, makes a transaction, and lists what is there.
+//! How a program keeps keys in a folder: it opens the store, makes a transaction, and lists what is there; and, in `threads`, how threads share one.
 #![tactic(auto)]
+
+mod threads;
 
 use im_disk::FileDisk;
 use im_engine::{Config, Engine};
 use im_front::{Reply, Step};
 use std::fs;
+use std::marker::Brand;
+use std::sync::ledger::Blank;
+use threads::{open_shared, share, show};
 
 const DIR: &str = "store_example_files";
 
 fn main(rt: HostRuntime) -> anyhow::Result<()> {
+    alone(&rt)?;
+    let engine = open_shared(&rt)?;
+    let blank = Blank::new(1024);
+    let (stats, closed) = share::<Engine<FileDisk>, Brand, HostRuntime>(
+        &rt,
+        rt.alloc(),
+        engine,
+        blank,
+    )?;
+    show(&rt, stats, closed)
+}
+
+// One transaction, by steps of the engine.
+fn alone(rt: &HostRuntime) -> anyhow::Result<()> {
     let alloc = rt.alloc();
-    let disk = FileDisk::open(&rt, DIR)?;
+    let disk = FileDisk::open(rt, DIR)?;
     let mut engine = match Engine::open_or_create(alloc, disk, Config::default()) {
         Ok(engine) => engine,
         Err((fault, _disk)) => return Err(anyhow::Error::from(fault)),
@@ -26,7 +45,7 @@ fn main(rt: HostRuntime) -> anyhow::Result<()> {
         println!(rt; "{name} {rid}")?;
     }
     let _disk = engine.into_disk();
-    fs::remove_dir_all(&rt, DIR)?;
+    fs::remove_dir_all(rt, DIR)?;
     Ok(())
 }
 

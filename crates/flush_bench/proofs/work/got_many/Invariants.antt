@@ -1,5 +1,0 @@
-use Rattle.im_flush.specs.PageWriter.{IsReadyWriter}
-use Rattle.flush_bench.proofs.work.got_many.Given as goal
-
-abbrev pub invariant-loop : goal.invariant-loop
-invariant-loop g l = IsReadyWriter g.D.Disk l.writer l.disk

@@ -1,5 +1,0 @@
-use Rattle.im_gate.specs.Gate.{IsReady}
-use Rattle.gate_bench.proofs.put_many.Given as goal
-
-abbrev pub invariant-loop-put : goal.invariant-loop-put
-invariant-loop-put g l = IsReady g.D.Disk l.gate l.disk

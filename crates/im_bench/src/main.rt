@@ -1,0 +1,66 @@
+//! `im_bench [NAME] [WORDS]`: what the layers and the store do, in counts, and with `--time` in figures.
+//!
+//! Without words it does each bench in turn, each under a line with its name, and prints what came out, the same each run. With a
+//! name it does that one, with the words behind its name: `im_bench gate --time keys`. Each module says what its bench does, which
+//! words it takes, and what its figures were.
+#![tactic(auto)]
+
+mod figures;
+mod flush;
+mod front;
+mod gate;
+mod keys;
+mod lock;
+mod log;
+mod page;
+mod pool;
+mod record;
+mod store;
+mod tree;
+
+use anyhow::{Result, bail};
+use std::env;
+use std::sync::Wait;
+use std::thread::Threads;
+use std::time::Clock;
+
+/// The names, in the order of the layers.
+const NAMES: [&str; 10] = [
+    "gate", "record", "page", "log", "pool", "flush", "tree", "store", "lock", "front",
+];
+
+fn main(rt: HostRuntime) -> Result<()> {
+    let words: Vec<String> = env::args(&rt)?.collect(rt.alloc())?;
+    if words.len() > 1 {
+        return run(&rt, &rt, words[1].as_str(), &words[2..]);
+    }
+    for name in NAMES {
+        println!(rt; "== {name}")?;
+        run(&rt, &rt, name, &[])?;
+    }
+    Ok(())
+}
+
+// Does the bench of this name, with the words behind it. Threads are started, and waited for, by `threads` alone.
+fn run<R: Threads + Wait + Clock + Print + Sync>(
+    rt: &HostRuntime,
+    threads: &R,
+    name: &str,
+    words: &[String],
+) -> Result<()> {
+    match name {
+        "gate" => gate::run(rt, words),
+        "record" => record::run(rt, words),
+        "page" => page::run(rt, words),
+        "log" => log::run(rt, words),
+        "pool" => pool::run(rt, words),
+        "flush" => flush::run(rt, words),
+        "tree" => tree::run(rt, words),
+        "store" => store::run(rt, words),
+        "lock" => lock::run(rt, words),
+        "front" => front::run(threads, rt.alloc(), words),
+        _ => bail!(
+            "no bench {name}; there are gate, record, page, log, pool, flush, tree, store, lock, front"
+        ),
+    }
+}

@@ -1,0 +1,50 @@
+//! The calls of a pool: gets of held pages, and gets that read.
+//!
+//! Without words it does each work once and prints what came out, the same each run. With `--time` it prints the
+//! nanoseconds of each call. Beside the gets of held pages stand look-ups of a hash map over the same numbers.
+
+mod work;
+
+use crate::figures::{is_timed, show};
+use anyhow::Result;
+use im_disk::ModelDisk;
+use im_pool::Pool;
+use std::time::Instant;
+use work::{cached, file, filled, looked_up, missed};
+
+/// Gets and look-ups: what they add up to, or how long they take.
+pub fn run(rt: &HostRuntime, words: &[String]) -> Result<()> {
+    let timed = is_timed(words);
+    let rounds = if timed { 2_000_000 } else { 1_000 };
+    let start = Instant::now(rt)?;
+    let sum = held(rt, rounds)?;
+    let nanos = start.elapsed(rt)?.as_nanos();
+    show(rt, "get of a held page", sum, nanos, rounds, timed)?;
+    let start = Instant::now(rt)?;
+    let sum = looked_up(rt.alloc(), 1_000, rounds)?;
+    let nanos = start.elapsed(rt)?.as_nanos();
+    show(rt, "look-up in a hash map", sum, nanos, rounds, timed)?;
+    let rounds = rounds / 10;
+    let start = Instant::now(rt)?;
+    let sum = read(rt, rounds)?;
+    let nanos = start.elapsed(rt)?.as_nanos();
+    show(rt, "get that reads", sum, nanos, rounds, timed)?;
+    Ok(())
+}
+
+/// Gets of pages that are all held.
+fn held(rt: &HostRuntime, rounds: u64) -> Result<u64> {
+    let alloc = rt.alloc();
+    let mut disk = ModelDisk::new(Vec::new(alloc), file(alloc, 1_000)?);
+    let mut pool = Pool::new(alloc, 1_024)?;
+    filled(&mut pool, &mut disk, 1_000)?;
+    Ok(cached(&mut pool, &mut disk, 1_000, rounds)?)
+}
+
+/// Gets of pages in turn, of which eight are held at most.
+fn read(rt: &HostRuntime, rounds: u64) -> Result<u64> {
+    let alloc = rt.alloc();
+    let mut disk = ModelDisk::new(Vec::new(alloc), file(alloc, 1_000)?);
+    let mut pool = Pool::new(alloc, 8)?;
+    Ok(missed(&mut pool, &mut disk, 1_000, rounds)?)
+}

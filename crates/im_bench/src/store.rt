@@ -1,0 +1,199 @@
+//! A store that is filled, searched, emptied in part and opened again, with what each part costs: device calls by kind, and bytes of log.
+//!
+//! Without words it works on 2,000 keys in memory, in 8 frames and in 64, and prints counts, the same each run. With `--time` it
+//! prints nanoseconds beside them. `--keys N`, `--frames N` and `--in FOLDER` work on so many keys, in so many frames, in a folder in
+//! the place of memory, which has to be empty. Keys have eight bytes and come in scattered order.
+//!
+//! By the formats an insert takes 50 bytes of log with its share of a batch of 64, a Commit 33; each page of a split some 8,225, as it
+//! is before and after; a full copy of a page 4,129.
+//!
+//! # Figures
+//!
+//! Bytes of log a key, inserts in scattered order, 64 a commit, no Checkpoint: 100,000 keys leave 336 in 64 frames and 332 in 1,024;
+//! 1,000,000 keys leave 340 in 64 frames. Structure changes alone take some 280 of it, records and Commits 51: evictions add no
+//! full copy but the first of a page in no structure change. An opening behind it adds no byte to the log, and neither does the next.
+
+mod counted;
+mod memory;
+mod options;
+mod works;
+
+ghost use Rattle.std.specs.Prelude.{◌≡◌, false};
+ghost use Rattle.im_disk.specs.Runs.{IsSynced};
+
+use anyhow::Result;
+use counted::{Calls, Counted};
+use im_disk::{Disk, FileDisk};
+use im_engine::{Config, Engine};
+use memory::MemoryDisk;
+use options::{Options, options_of};
+use std::time::Instant;
+use works::{Part, Work, worked};
+
+/// The lives of a store, by what the words say.
+pub fn run(rt: &HostRuntime, words: &[String]) -> Result<()> {
+    let options = options_of(words);
+    if let Some(folder) = options.folder {
+        return in_folder(rt, &options, folder);
+    }
+    in_memory(rt, &options, options.frames[0])?;
+    if options.frames[0] != options.frames[1] {
+        in_memory(rt, &options, options.frames[1])?;
+    }
+    Ok(())
+}
+
+// All parts in memory.
+fn in_memory(rt: &HostRuntime, options: &Options<'_>, frames: usize) -> Result<()> {
+    println!(rt; "{} keys in {frames} frames", options.keys)?;
+    let disk = MemoryDisk::new(rt.alloc());
+    let disk = lived(rt, options, frames, disk, &PARTS)?;
+    let disk = lived(rt, options, frames, disk.at_rest(), &[])?;
+    lived(rt, options, frames, disk.at_rest(), &[])?;
+    Ok(())
+}
+
+// All parts in a folder.
+fn in_folder(rt: &HostRuntime, options: &Options<'_>, folder: &str) -> Result<()> {
+    let frames = options.frames[0];
+    println!(rt; "{} keys in {frames} frames", options.keys)?;
+    lived(rt, options, frames, FileDisk::open(rt, folder)?, &PARTS)?;
+    lived(rt, options, frames, FileDisk::open(rt, folder)?, &[])?;
+    lived(rt, options, frames, FileDisk::open(rt, folder)?, &[])?;
+    Ok(())
+}
+
+/// A part by its name: a work, on so many parts of 64 of the keys, from such a part on, so many in a transaction.
+struct Named {
+    name: &'static str,
+    work: Work,
+    from: u64,
+    parts: u64,
+    each: u64,
+}
+
+const PARTS: [Named; 7] = [
+    Named {
+        name: "insert, 64 a commit",
+        work: Work::Insert,
+        from: 0,
+        parts: 64,
+        each: 64,
+    },
+    Named {
+        name: "look up, present",
+        work: Work::Present,
+        from: 0,
+        parts: 64,
+        each: 1_000,
+    },
+    Named {
+        name: "look up, absent",
+        work: Work::Absent,
+        from: 0,
+        parts: 64,
+        each: 1_000,
+    },
+    Named {
+        name: "scan of 100 entries",
+        work: Work::Scan,
+        from: 0,
+        parts: 16,
+        each: 16,
+    },
+    Named {
+        name: "insert, one a commit",
+        work: Work::Insert,
+        from: 64,
+        parts: 4,
+        each: 1,
+    },
+    Named {
+        name: "delete, 64 a commit",
+        work: Work::Delete,
+        from: 0,
+        parts: 32,
+        each: 64,
+    },
+    Named {
+        name: "insert, 64 taken back",
+        work: Work::TakenBack,
+        from: 68,
+        parts: 8,
+        each: 64,
+    },
+];
+
+// A life: the store is opened, and parts are done in turn.
+fn lived<D: Disk + Drop>(
+    rt: &HostRuntime,
+    options: &Options<'_>,
+    frames: usize,
+    disk: D,
+    parts: &[Named],
+) -> Result<D>
+    requires working { D.failed disk ≡ false }
+    requires synced { IsSynced D.Disk disk }
+{
+    let config = Config {
+        frames,
+        max_pages: 1_000_000,
+    };
+    let start = Instant::now(rt)?;
+    let mut engine = match Engine::open_or_create(rt.alloc(), Counted::new(disk), config) {
+        Ok(engine) => engine,
+        Err((fault, _disk)) => return Err(fault.into()),
+    };
+    let nanos = start.elapsed(rt)?.as_nanos();
+    let mut before = engine.disk().calls();
+    show(rt, options, "opened", 1, 1, nanos)?;
+    show_calls(rt, before)?;
+    for part in parts {
+        let keys = options.keys.wrapping_mul(part.parts) / 64;
+        let span = Part {
+            work: part.work,
+            first: options.keys.wrapping_mul(part.from) / 64,
+            keys,
+            each: part.each,
+        };
+        let start = Instant::now(rt)?;
+        let right = worked(rt.alloc(), &mut engine, span)?;
+        let nanos = start.elapsed(rt)?.as_nanos();
+        let calls = engine.disk().calls();
+        show(rt, options, part.name, right, keys, nanos)?;
+        show_calls(rt, calls.since(before))?;
+        before = calls;
+    }
+    Ok(engine.into_disk().into_disk())
+}
+
+// One line: how many steps came out right, and how long each took.
+fn show(
+    rt: &HostRuntime,
+    options: &Options<'_>,
+    name: &str,
+    right: u64,
+    keys: u64,
+    nanos: u128,
+) -> Result<()> {
+    if options.timed {
+        let each = nanos / u128::from(keys.max(1));
+        println!(rt; "{name}: {right} of {keys}, {each} ns each")?;
+    } else {
+        println!(rt; "{name}: {right} of {keys}")?;
+    }
+    Ok(())
+}
+
+fn show_calls(rt: &HostRuntime, calls: Calls) -> Result<()> {
+    println!(rt;
+        "  log {} bytes {} writes {} syncs, pages {} writes {} syncs, reads {}",
+        calls.log_bytes,
+        calls.log_writes,
+        calls.log_syncs,
+        calls.page_writes,
+        calls.page_syncs,
+        calls.reads
+    )?;
+    Ok(())
+}

@@ -1,0 +1,186 @@
+//! How threads share one store in a folder: a front over the engine, two threads that insert keys of their own, and what is there when the
+//! store is opened again.
+
+ghost use Rattle.std.specs.Prelude.{◌≡◌, IfOk};
+ghost use Rattle.im_front.specs.Held.{IsResting};
+
+use im_disk::FileDisk;
+use im_engine::{Config, Engine};
+use im_front::{Closed, Fault, Front, Reply, Share, Stats, Step, Store};
+use im_types::TxnId;
+use std::alloc::Global;
+use std::fs;
+use std::sync::Wait;
+use std::sync::ledger::{Blank, Ledger};
+use std::thread::{Threads, join};
+
+const DIR: &str = "store_example_threads";
+
+/// How many keys each thread inserts.
+const KEYS: u8 = 25;
+
+/// What is left of a front that was closed: the counts and the trace, and what the store has when it is opened again.
+pub fn show(
+    rt: &HostRuntime,
+    stats: Stats,
+    closed: Closed<Engine<FileDisk>>,
+) -> anyhow::Result<()> {
+    let Closed {
+        engine,
+        trace,
+        sum,
+        ..
+    } = closed;
+    let all = sum == Some(trace.len() as u64);
+    println!(rt; "committed {}", stats.committed)?;
+    println!(rt; "every step is in the trace: {all}")?;
+    let (synced, disk) = engine.close();
+    synced?;
+    drop(disk);
+    let mut engine = open_shared(rt)?;
+    let entries = engine.entries(rt.alloc())?;
+    println!(rt; "entries when opened again: {}", entries.len())?;
+    let _disk = engine.into_disk();
+    fs::remove_dir_all(rt, DIR)?;
+    Ok(())
+}
+
+/// The store of the folder. No transaction is active in it.
+pub fn open_shared(rt: &HostRuntime) -> anyhow::Result<Engine<FileDisk>>
+    ensures { IfOk result (λ engine. IsResting ⟦<Engine<FileDisk> as Store>⟧ engine) }
+{
+    let disk = FileDisk::open(rt, DIR)?;
+    match Engine::open_or_create(rt.alloc(), disk, Config::default()) {
+        Ok(engine) => Ok(engine),
+        Err((fault, _disk)) => Err(anyhow::Error::from(fault)),
+    }
+}
+
+/// Two threads at work on one store, to the end of both; what the statistics say then, and what is left of the front.
+pub fn share<E: Store + Send, L: Ledger + Send + Sync, R: Threads + Wait + Sync>(
+    rt: &R,
+    alloc: Global,
+    engine: E,
+    blank: Blank,
+) -> Result<(Stats, Closed<E>), Fault>
+    requires resting { IsResting E.Store engine }
+    requires blank { (blank.name ≡ L.name) × (blank.parts ≡ L.parts) × (blank.parts ≡ 1024) }
+{
+    let front = match Front::<E, L>::new(alloc, engine, blank) {
+        Ok(front) => front,
+        Err(refused) => return Err(refused.0),
+    };
+    let first = front.share(rt)?;
+    let second = front.share(rt)?;
+    let shared = &front;
+    let (first, second) = join(
+        rt,
+        || work(rt, alloc, shared, first, b'a'),
+        || work(rt, alloc, shared, second, b'b'),
+    );
+    let mut first = first?;
+    let stats = front.stats(&mut first);
+    let mut shares = Vec::new(alloc);
+    let Ok(()) = shares.push(first) else {
+        return Err(Fault::Memory);
+    };
+    let Ok(()) = shares.push(second?) else {
+        return Err(Fault::Memory);
+    };
+    Ok((stats, front.close(shares)))
+}
+
+// What a thread does: it inserts its keys, each in a transaction of its own, and hands its share back.
+fn work<E: Store, L: Ledger, R: Wait>(
+    rt: &R,
+    alloc: Global,
+    front: &Front<E, L>,
+    share: Share<L>,
+    thread: u8,
+) -> Result<Share<L>, Fault> {
+    let mut mine = share;
+    for number in 0..KEYS {
+        insert(rt, alloc, front, &mut mine, thread, number)?;
+    }
+    Ok(mine)
+}
+
+// Inserts a key and commits. Where the transaction must die it is rolled back, and a new one tries again.
+fn insert<E: Store, L: Ledger, R: Wait>(
+    rt: &R,
+    alloc: Global,
+    front: &Front<E, L>,
+    mine: &mut Share<L>,
+    thread: u8,
+    number: u8,
+) -> Result<(), Fault> {
+    for _attempt in rt.forever() {
+        let t = begin(rt, front, mine)?;
+        let key = key_of(alloc, thread, number)?;
+        match front.call(rt, mine, Step::Insert(t, key, u64::from(number))) {
+            Reply::Inserted => return commit(rt, front, mine, t),
+            Reply::Die => roll_back(rt, front, mine, t)?,
+            other => return Err(fault_of(other)),
+        }
+    }
+    unreachable!()
+}
+
+// A transaction that begins.
+fn begin<E: Store, L: Ledger, R: Wait>(
+    rt: &R,
+    front: &Front<E, L>,
+    mine: &mut Share<L>,
+) -> Result<TxnId, Fault> {
+    match front.call(rt, mine, Step::Begin) {
+        Reply::Started(t) => Ok(t),
+        other => Err(fault_of(other)),
+    }
+}
+
+// Commits a transaction: what it did is durable then.
+fn commit<E: Store, L: Ledger, R: Wait>(
+    rt: &R,
+    front: &Front<E, L>,
+    mine: &mut Share<L>,
+    t: TxnId,
+) -> Result<(), Fault> {
+    match front.call(rt, mine, Step::Commit(t)) {
+        Reply::Committed => Ok(()),
+        other => Err(fault_of(other)),
+    }
+}
+
+// Rolls a transaction back, to its end.
+fn roll_back<E: Store, L: Ledger, R: Wait>(
+    rt: &R,
+    front: &Front<E, L>,
+    mine: &mut Share<L>,
+    t: TxnId,
+) -> Result<(), Fault> {
+    let mut reply = front.call(rt, mine, Step::Rollback(t));
+    for _step in rt.forever() {
+        match reply {
+            Reply::RolledBack => return Ok(()),
+            Reply::More => reply = front.call(rt, mine, Step::Continue(t)),
+            other => return Err(fault_of(other)),
+        }
+    }
+    unreachable!()
+}
+
+// Why a reply is not the one that was hoped for.
+fn fault_of(reply: Reply) -> Fault {
+    match reply {
+        Reply::Refused(fault) => fault,
+        _ => Fault::Failed,
+    }
+}
+
+// The key of a thread of this number.
+fn key_of(alloc: Global, thread: u8, number: u8) -> Result<Vec<u8>, Fault> {
+    match Vec::from_slice(alloc, &[thread, number]) {
+        Ok(key) => Ok(key),
+        Err(_) => Err(Fault::Memory),
+    }
+}

@@ -1,0 +1,261 @@
+//! One long run of a store: what no contract can say of it, as counts that are the same each run.
+//!
+//! A step may always be refused for want of memory, so a contract is met by a store that gives up at some size, and no clause counts
+//! device calls. This run shows both. It fills a store with ten thousand keys of 255 bytes, until the root has split at its fourth level,
+//! which changes a page or two on each level at once; opens it again, which redoes all these changes in eight frames; reads every key while no
+//! page is changed; lists all; has three transactions that never commit taken back by openings, two behind splits and one that deleted
+//! pages; and deletes all keys, through which leaves go whose pages above have no other child. Of each part it prints how many steps had the
+//! reply that they should have, and how many had another one; the device calls of each kind; what the pages are for; and how long the
+//! files are.
+//!
+//! Then it stops a life at each of its device calls in turn, one whose transaction never commits and stands behind splits on two levels and
+//! behind a page deletion, and in the same way the opening that takes this transaction back, and counts behind how many stops the next
+//! opening finds just what was committed.
+
+mod disk;
+mod keys;
+mod parts;
+mod stops;
+mod tally;
+
+ghost use Rattle.std.specs.Prelude.{◌≡◌, false};
+
+use crate::long::disk::{Calls, CountingDisk};
+use crate::long::parts::{
+    Kinds, Order, Span, Work, begun, committed, listed, pages_by_kind, worked,
+};
+use crate::long::stops::{Doubt, Life, founded, losing, stopped_at_each};
+use crate::long::tally::Tally;
+use anyhow::Result;
+use im_disk::{Disk, ModelDisk};
+use im_engine::{Config, Engine};
+use im_front::{Reply, Step};
+use im_types::FileId;
+
+/// How many keys the store has.
+const KEYS: u64 = 10_000;
+
+/// How many keys a transaction takes.
+const STEPS: u64 = 1_000;
+
+/// No page that the run takes has this number or a greater one.
+const PAGES: u32 = 2_048;
+
+/// Does it, and prints its counts.
+pub fn run(rt: &HostRuntime) -> Result<()> {
+    let disk = CountingDisk::new(rt.alloc());
+    let mut engine = opened(rt, disk, 1_024, "created")?;
+    each_transaction(rt, &mut engine, "filled", Work::Insert, Order::Rising)?;
+    show_pages(rt, &mut engine)?;
+    let engine = read(rt, engine)?;
+    let engine = left(rt, engine, "inserts of a loser, falling", FALLING)?;
+    let engine = left(rt, engine, "inserts of a loser, scattered", SCATTERED)?;
+    let engine = left(rt, engine, "deletes of a loser", DELETES)?;
+    emptied(rt, engine)?;
+    stopped(rt)
+}
+
+/// What a transaction does that never commits.
+#[derive(Clone, Copy)]
+struct Losing {
+    work: Work,
+    span: Span,
+}
+
+/// Keys above those that are there, in falling order. Their leaves split, so that most of them lie on other pages than their records
+/// name, and their undo leaves each such leaf empty.
+const FALLING: Losing = Losing {
+    work: Work::Insert,
+    span: Span {
+        first: 20_001,
+        keys: 400,
+        order: Order::Falling,
+    },
+};
+
+/// Keys above those that are there, in scattered order, whose leaves split as well.
+const SCATTERED: Losing = Losing {
+    work: Work::Insert,
+    span: Span {
+        first: 30_001,
+        keys: 600,
+        order: Order::Scattered,
+    },
+};
+
+/// Keys that are there, so many that pages go on each level.
+const DELETES: Losing = Losing {
+    work: Work::Delete,
+    span: Span {
+        first: 0,
+        keys: 1_500,
+        order: Order::Rising,
+    },
+};
+
+// Opens the store, and says what that took.
+fn opened(
+    rt: &HostRuntime,
+    disk: CountingDisk,
+    frames: usize,
+    name: &str,
+) -> Result<Engine<CountingDisk>>
+    requires { ⟦<CountingDisk as Disk>⟧.failed disk ≡ false }
+{
+    let config = Config {
+        frames,
+        max_pages: 1_000_000,
+    };
+    let engine = match Engine::open_or_create(rt.alloc(), disk, config) {
+        Ok(engine) => engine,
+        Err((fault, _disk)) => return Err(fault.into()),
+    };
+    println!(rt; "{name} in {frames} frames")?;
+    show_calls(rt, engine.disk().calls())?;
+    Ok(engine)
+}
+
+// Ends the engine and opens the store again.
+fn opened_again(
+    rt: &HostRuntime,
+    engine: Engine<CountingDisk>,
+    frames: usize,
+    name: &str,
+) -> Result<Engine<CountingDisk>> {
+    opened(rt, engine.into_disk().at_rest(), frames, name)
+}
+
+// Every key is read, and then all are listed, while no page is changed.
+fn read(rt: &HostRuntime, engine: Engine<CountingDisk>) -> Result<Engine<CountingDisk>> {
+    let mut engine = opened_again(rt, engine, 8, "opened again")?;
+    each_transaction(rt, &mut engine, "read", Work::Fetch, Order::Scattered)?;
+    show_entries(rt, &mut engine)?;
+    Ok(engine)
+}
+
+// A transaction does this, and the store ends before it commits; the next opening takes it back.
+fn left(
+    rt: &HostRuntime,
+    engine: Engine<CountingDisk>,
+    name: &str,
+    losing: Losing,
+) -> Result<Engine<CountingDisk>> {
+    let mut engine = engine;
+    let mut tally = Tally::default();
+    if let Some(transaction) = begun(&mut engine) {
+        worked(
+            rt.alloc(),
+            &mut engine,
+            transaction,
+            losing.work,
+            losing.span,
+            &mut tally,
+        )?;
+    }
+    let reply = engine.step(&Step::Force);
+    tally.add(&reply, matches!(&reply, Reply::Done));
+    println!(rt; "{name}")?;
+    show_tally(rt, tally)?;
+    show_calls(rt, engine.disk().calls())?;
+    let mut engine = opened_again(rt, engine, 64, "taken back")?;
+    show_entries(rt, &mut engine)?;
+    show_pages(rt, &mut engine)?;
+    Ok(engine)
+}
+
+// All keys go, in rising order, and the store is opened once more.
+fn emptied(rt: &HostRuntime, engine: Engine<CountingDisk>) -> Result<()> {
+    let mut engine = engine;
+    each_transaction(rt, &mut engine, "emptied", Work::Delete, Order::Rising)?;
+    show_entries(rt, &mut engine)?;
+    show_pages(rt, &mut engine)?;
+    let mut engine = opened_again(rt, engine, 64, "opened empty")?;
+    show_entries(rt, &mut engine)?;
+    show_pages(rt, &mut engine)
+}
+
+// Makes a work of all keys, by transactions that commit.
+fn each_transaction(
+    rt: &HostRuntime,
+    engine: &mut Engine<CountingDisk>,
+    name: &str,
+    work: Work,
+    order: Order,
+) -> Result<()> {
+    let mut tally = Tally::default();
+    for n in 0..KEYS / STEPS {
+        let span = Span {
+            first: n.wrapping_mul(STEPS * 2),
+            keys: STEPS,
+            order,
+        };
+        committed(rt.alloc(), engine, work, span, &mut tally)?;
+    }
+    println!(rt; "{name}")?;
+    show_tally(rt, tally)?;
+    show_calls(rt, engine.disk().calls())
+}
+
+// Stops of a life whose transaction never commits, and of the opening that takes it back.
+fn stopped(rt: &HostRuntime) -> Result<()> {
+    let alloc = rt.alloc();
+    let base = founded(alloc)?;
+    let (tally, kinds, lost) = losing(alloc, &base)?;
+    println!(rt; "a loser behind splits on two levels and a page deletion")?;
+    show_tally(rt, tally)?;
+    show_kinds(rt, kinds)?;
+    show_stops(rt, "its life", &base, Life::Losing)?;
+    show_stops(rt, "its opening", &lost, Life::TakingBack)
+}
+
+// ---- lines
+
+fn show_tally(rt: &HostRuntime, tally: Tally) -> Result<()> {
+    println!(rt;
+        "  steps: right {}, memory {}, used up {}, other {}",
+        tally.right, tally.memory, tally.used_up, tally.other
+    )?;
+    Ok(())
+}
+
+fn show_calls(rt: &HostRuntime, calls: Calls) -> Result<()> {
+    println!(rt;
+        "  calls: log {} writes {} syncs, pages {} writes {} syncs, reads {}",
+        calls.log_writes, calls.log_syncs, calls.page_writes, calls.page_syncs, calls.reads
+    )?;
+    Ok(())
+}
+
+fn show_entries(rt: &HostRuntime, engine: &mut Engine<CountingDisk>) -> Result<()> {
+    let (entries, right) = listed(rt.alloc(), engine)?;
+    println!(rt; "  entries: {entries}, right {right}")?;
+    Ok(())
+}
+
+fn show_pages(rt: &HostRuntime, engine: &mut Engine<CountingDisk>) -> Result<()> {
+    let kinds = pages_by_kind(engine, PAGES)?;
+    let pages = engine.disk().size(FileId::Pages) / 4_096;
+    let log = engine.disk().size(FileId::Log);
+    show_kinds(rt, kinds)?;
+    println!(rt; "  files: {pages} pages, log {log} bytes")?;
+    Ok(())
+}
+
+fn show_kinds(rt: &HostRuntime, kinds: Kinds) -> Result<()> {
+    println!(rt;
+        "  tree: leaves {}, inner {}, level {}, last page {}",
+        kinds.leaves, kinds.inner, kinds.level, kinds.last
+    )?;
+    Ok(())
+}
+
+fn show_stops(rt: &HostRuntime, name: &str, disk: &ModelDisk, life: Life) -> Result<()> {
+    for doubt in [Doubt::Written, Doubt::Byte(0), Doubt::Short(255)] {
+        let stops = stopped_at_each(rt.alloc(), disk, life, doubt)?;
+        println!(rt;
+            "  {name}, {doubt:?}: stops {}, right {}",
+            stops.calls, stops.right
+        )?;
+    }
+    Ok(())
+}
