@@ -46,7 +46,11 @@ fn scripts_print_what_their_lives_answer(rt: HostRuntime) -> Result<(), Fail> {
             0,
         ),
         ("set log 01\nraw\n", "open ok 6\nfinal 0\n", 0),
-        ("set pages 01\nraw\n", "open refused 11\nfinal refused 11\n", 0),
+        (
+            "set pages 01\nraw\n",
+            "open refused 11\nfinal refused 11\n",
+            0,
+        ),
         ("", "final 0\n", 0),
     ] {
         let (status, printed) = drilled(&rt, script)?;
@@ -177,7 +181,10 @@ fn lives_of_a_store_print_their_replies(rt: HostRuntime) -> Result<(), Fail> {
             "open ok 6\nredo 0 0\nstarted 1\ninserted\ncommitted\nredo 0 0\nopen ok 0\nredo 36 1\nopen ok 0\nstarted 2\ninserted\ndone\ndone\nopen ok 4\nredo 36 0\nfinal 1\n61 7\n",
         ),
         ("set log 00\nset log 01\n", "final 0\n"),
-        ("set pages 00\nset log 00\nset pages 01\n", "final refused 11\n"),
+        (
+            "set pages 00\nset log 00\nset pages 01\n",
+            "final refused 11\n",
+        ),
     ] {
         let (status, printed) = drilled(&rt, script)?;
         assert!(rt; status == 0, "{script}");
