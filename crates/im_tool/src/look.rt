@@ -165,6 +165,9 @@ fn tree_text<W: Write>(writer: &mut W, tree: &TreeSurvey) -> io::Result<()> {
         tree.leaves,
         fill(tree.leaf_bytes, tree.leaves)
     )?;
+    if tree.empty_leaves > 0 {
+        writeln!(writer, "empty leaves {}", tree.empty_leaves)?;
+    }
     writeln!(
         writer,
         "inner pages {} fill {}%",

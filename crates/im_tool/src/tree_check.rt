@@ -18,6 +18,7 @@ pub(crate) const ROOM: u64 = 4_064;
 pub(crate) struct TreeSurvey {
     pub(crate) height: u64,
     pub(crate) leaves: u64,
+    pub(crate) empty_leaves: u64,
     pub(crate) inner: u64,
     pub(crate) free: u64,
     pub(crate) entries: u64,
@@ -49,6 +50,7 @@ pub(crate) fn check_pages(alloc: Global, pages: &[u8]) -> Result<TreeSurvey, Fau
     let mut survey = TreeSurvey {
         height: 0,
         leaves: 0,
+        empty_leaves: 0,
         inner: 0,
         free: 0,
         entries: 0,
@@ -194,7 +196,8 @@ impl<'a> Walk<'a> {
         }
         self.keys(place, &page)?;
         if level == 0 {
-            self.leaf(number, &page)
+            self.leaf(&page);
+            Ok(())
         } else {
             self.children(place, &page, below)
         }
@@ -209,17 +212,17 @@ impl<'a> Walk<'a> {
         Ok(())
     }
 
-    fn leaf(&mut self, number: PageNo, page: &Page) -> Result<(), Fault> {
+    // One without entries is no damage: a stop between the record that empties a leaf and the deletion of its page leaves it in the tree.
+    fn leaf(&mut self, page: &Page) {
         self.survey.leaves = self.survey.leaves.saturating_add(1);
+        if page.len() == 0 {
+            self.survey.empty_leaves = self.survey.empty_leaves.saturating_add(1);
+        }
         self.survey.entries = self.survey.entries.saturating_add(page.len() as u64);
         for i in 0..page.len() {
             let size = (page.key(i).len() as u64).saturating_add(11);
             self.survey.leaf_bytes = self.survey.leaf_bytes.saturating_add(size);
         }
-        if page.len() == 0 && number != ROOT {
-            self.note(TreeDamage::EmptyLeaf(number))?;
-        }
-        Ok(())
     }
 
     fn children(

@@ -20,8 +20,6 @@ pub(crate) enum TreeDamage {
     Marked(PageNo),
     #[error("page {0}: a key is not between the separators above it, or the keys do not rise")]
     KeyOutOfPlace(PageNo),
-    #[error("page {0}: it is a leaf without entries, and not the root")]
-    EmptyLeaf(PageNo),
     #[error("page {0}: its neighbours are not those in the chain of leaves")]
     WrongNeighbours(PageNo),
     #[error("page {0}: it is on the free list, and is not free")]
