@@ -7,6 +7,7 @@ pub mod RemoveLemmas
 pub mod EntryLemmas
 pub mod ChildLemmas
 pub mod CoverLemmas
+pub mod WordLemmas
 pub mod SoundLemmas
 pub mod FormLemmas
 pub mod HeaderLemmas

@@ -1,8 +1,9 @@
 -- The test of a page's form, slot by slot.
-use Rattle.std.specs.Prelude.{◌≡◌, ◌≢◌, ◌⊎◌, ℕ, ◌+◌, ◌<◌, ◌≤◌, Bool, true, false, List, length, map, sum_by, slice_index, slice_index_or}
+use Rattle.std.specs.Prelude.{◌≡◌, ◌≢◌, ◌⊎◌, ℕ, ◌+◌, ◌-◌, ◌^◌, ◌<◌, ◌≤◌, Bool, true, false, List, length, map, sum_by, slice_index, slice_index_or, take}
+use Rattle.std.specs.Int.{w64, from_be_bytes}
 use Rattle.std.specs.List.{range_with_len}
 use Rattle.im_page.specs.Entry.{size}
-use Rattle.im_types.specs.Keys.{IsBelow}
+use Rattle.im_types.specs.Keys.{Key, IsBelow}
 use Rattle.im_page.specs.Form.{count_of, start_of, slot_at, cell_size, key_from, entry_from}
 
 abbrev pub is_taken : List Bool → ℕ → Bool
@@ -34,6 +35,14 @@ HasSlots bytes flags = (i : ℕ) → i < count_of bytes → is_taken flags (slot
 -- what the first n cells take
 abbrev pub total_of : Bool → List ℕ → ℕ → ℕ
 total_of leaf bytes n = sum_by (size leaf) (map (λ i. entry_from leaf bytes (slot_at bytes i)) (range_with_len 0 n))
+
+-- the first eight bytes of a key as a number, and where it has fewer the greatest number of 64 bits, which no first word is above
+abbrev pub IsTopOf : Key → ℕ → Type 0
+IsTopOf key n = (8 ≤ length key → n ≡ from_be_bytes w64 (take 8 key)) × (length key < 8 → n ≡ 2 ^ 64 - 1)
+
+-- the same, and where it has fewer 0, which is above none
+abbrev pub IsFootOf : Key → ℕ → Type 0
+IsFootOf key n = (8 ≤ length key → n ≡ from_be_bytes w64 (take 8 key)) × (length key < 8 → n ≡ 0)
 
 -- all slots are those of a packed page, and no byte is left over
 pub record SlotsSound (leaf : Bool) (bytes : List ℕ) : Type 0 where

@@ -1,10 +1,11 @@
 //! The test of a page's form.
 
-ghost use Rattle.std.specs.Prelude.{◌≡◌, ◌↔◌, IsTrue, ℕ, ◌+◌, ◌*◌, ◌<◌, ◌≤◌, false, true, length, slice_index, replicate};
+ghost use Rattle.std.specs.Prelude.{◌≡◌, ◌↔◌, IsTrue, ℕ, ◌+◌, ◌*◌, ◌<◌, ◌≤◌, false, true, length, slice_index, take, replicate};
+ghost use Rattle.std.specs.Int.{w64, from_be_bytes};
 ghost use Rattle.im_types.specs.Keys.{IsBelow};
 ghost use Rattle.im_page.specs.Form.{count_of, start_of, slot_at, key_from, cell_size, IsPacked};
 ghost use Rattle.im_page.specs.Page.{IsHeader, IsForm};
-ghost use Rattle.im_page.specs.Sound.{AreStarts, HasSlots, IsCell, SlotsSound};
+ghost use Rattle.im_page.specs.Sound.{AreStarts, HasSlots, IsCell, IsTopOf, IsFootOf, SlotsSound};
 
 use crate::cells::{cell_len, key_at};
 use crate::number::{get_u16, get_u32};
@@ -23,16 +24,48 @@ fn is_cell(leaf: bool, bytes: &[u8], at: usize) -> bool
     1 <= key && at + cell_len(leaf, key) <= 4096
 }
 
-/// Whether the key of one cell is below that of another.
-fn is_below(bytes: &[u8], a: usize, b: usize) -> bool
+/// The first eight bytes of a key as a number.
+fn word(key: &[u8]) -> u64
+    requires { 8 ≤ length key.now }
+    ensures { result ≡ from_be_bytes w64 (take 8 key.now) }
+{
+    u64::from_be_bytes([
+        key[0], key[1], key[2], key[3], key[4], key[5], key[6], key[7],
+    ])
+}
+
+/// A number that no key of less than eight bytes, and no other key below this one, has a first word above: the key's first eight bytes, or the
+/// greatest number.
+fn top_of(key: &[u8]) -> u64
+    ensures { IsTopOf key.now result }
+{
+    if key.len() < 8 {
+        return u64::MAX;
+    }
+    word(key)
+}
+
+/// The first eight bytes of a key as a number, 0 where it has fewer.
+fn foot_of(key: &[u8]) -> u64
+    ensures { IsFootOf key.now result }
+{
+    if key.len() < 8 {
+        return 0;
+    }
+    word(key)
+}
+
+/// Whether the key of one cell is below that of another. Where their first words differ, as of most keys, no other byte is read.
+fn is_below(bytes: &[u8], a: usize, top: u64, b: usize) -> bool
     requires a { a + 1 + slice_index bytes.now a ≤ length bytes.now }
     requires b { b + 1 + slice_index bytes.now b ≤ length bytes.now }
+    requires top { IsTopOf (key_from bytes.now a) top }
     ensures { IsTrue result ↔ IsBelow (key_from bytes.now a) (key_from bytes.now b) }
 {
-    match compare(key_at(bytes, a), key_at(bytes, b)) {
-        Ordering::Less => true,
-        _ => false,
+    if top < foot_of(key_at(bytes, b)) {
+        return true;
     }
+    matches!(compare(key_at(bytes, a), key_at(bytes, b)), Ordering::Less)
 }
 
 /// Sets the flag of each cell's first byte, one cell behind the other from where the cells begin, and answers whether they end with
@@ -70,15 +103,17 @@ fn are_slots_sound(leaf: bool, bytes: &[u8], flags: &mut [bool]) -> bool
     }
     let mut total = 0usize;
     let mut before = 0usize;
+    let mut top = 0u64;
     for i in 0..get_u16(bytes, 12) {
         let at = get_u16(bytes, 32 + 2 * i);
         if 4096 <= at || !flags[at] {
             return false;
         }
-        if 0 < i && !is_below(bytes, before, at) {
+        if 0 < i && !is_below(bytes, before, top, at) {
             return false;
         }
         total += cell_len(leaf, bytes[at] as usize);
+        top = top_of(key_at(bytes, at));
         before = at;
     }
     get_u16(bytes, 14) + total == 4096

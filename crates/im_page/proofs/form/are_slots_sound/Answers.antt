@@ -2,10 +2,13 @@ use Rattle.std.proofs.Common.{◌≡◌, ℕ, ◌+◌, ◌-◌, ◌<◌, List, t
 use Rattle.std.proofs.lemmas.Bool.{eqb-true, eq-eqb}
 use Rattle.im_types.specs.Keys.{IsBelow}
 use Rattle.im_page.specs.Form.{count_of, slot_at, key_from}
-use Rattle.im_page.specs.Sound.{is_taken, IsCell, AreSound, total_of}
+use Rattle.im_page.specs.Sound.{is_taken, IsCell, IsTopOf, AreSound, total_of}
 use Rattle.im_page.proofs.SoundLemmas.{sound_more, flagged_more, total_more}
 use Rattle.im_page.proofs.form.are_slots_sound.Goals.{else-i-gt0-via-then-i-gt0+else-not-is_below, else-i-gt0-via-else-i-gt0}
 use Rattle.im_page.proofs.form.are_slots_sound.Goals as goal
+
+pub is_below-requires-clause-top : goal.is_below-requires-clause-top
+is_below-requires-clause-top c = c.loop-i.invariant.top c.if-i-gt0.true
 
 pub loop-i-preserved : goal.loop-i-preserved
 loop-i-preserved c =
@@ -30,6 +33,7 @@ loop-i-preserved c =
       total = omega (arith, c.cell_len-total.ensures, total, c.loop-i.invariant.total);
       small = omega (arith, c.cell_len-total.ensures, c.loop-i.invariant.small, cell.high);
       before = λ some. is_at ∙ ap (slot_at bytes) (sym last);
+      top = λ some. subst (λ (key : List ℕ). IsTopOf key c.top_of-top.result) c.key_at.ensures.key c.top_of-top.ensures;
     }
 
 pub returns : goal.returns
