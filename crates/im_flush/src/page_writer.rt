@@ -141,6 +141,20 @@ impl PageWriter {
         Ok(())
     }
 
+    // Makes a frame free, where none is.
+    fn make_frame<D: Disk>(&mut self, disk: &mut D) -> Result<(), Fault>
+        requires ready { IsReadyWriter D.Disk self.old disk.old }
+        requires working { self.old.failed ≡ false }
+        ensures outcome { Flushes D.Disk self.old disk.old self.new disk.new (fault_of result) }
+        ensures free { OnOk result (length self.new.pool.held < self.new.pool.frames) }
+        ensures gets { OnOk result (self.new.pool.gets ≡ self.old.pool.gets) }
+    {
+        if !self.pool.is_full() {
+            return Ok(());
+        }
+        self.evict_oldest(disk)
+    }
+
     // Makes a frame free for a page that is not held, where none is.
     fn make_room<D: Disk>(&mut self, disk: &mut D, number: PageNo) -> Result<(), Fault>
         requires ready { IsReadyWriter D.Disk self.old disk.old }
@@ -153,10 +167,7 @@ impl PageWriter {
         if self.pool.holds(number) {
             return Ok(());
         }
-        if !self.pool.is_full() {
-            return Ok(());
-        }
-        self.evict_oldest(disk)
+        self.make_frame(disk)
     }
 
     // Where a page is held from now on, for which there is room.
@@ -205,7 +216,25 @@ impl PageWriter {
         if self.failed {
             return Err(Fault::Failed);
         }
-        self.make_room(disk, number)?;
+        if let Some(frame) = self.pool.get_held(number) {
+            return Ok(frame);
+        }
+        self.get_absent(disk, number)
+    }
+
+    // The same of a page that is not held.
+    fn get_absent<D: Disk>(&mut self, disk: &mut D, number: PageNo) -> Result<Frame, Fault>
+        requires ready { IsReadyWriter D.Disk self.old disk.old }
+        requires working { self.old.failed ≡ false }
+        requires absent { held_of self.old.pool number ≡ None }
+        ensures outcome { Outcome D.Disk (AreLoadedTo number) mild self.old disk.old self.new disk.new (fault_of result) }
+        ensures kept { (pages : AllPages) → HasPages D.Disk (AreLoadedTo number) pages self.old disk.old → IsSound result (λ _. page_at self.new.pool number ≡ pages number) }
+        ensures at { IfOk result (IsAt self.new.pool) }
+        ensures frame { IfOk result (λ frame. frame.number ≡ number) }
+        ensures gets { IfOk result (λ _. self.new.pool.gets ≡ self.old.pool.gets + 1) }
+        ensures no_page { result ≡ Err NotAStore → D.tells → file_page (D.seen disk.new Pages) number ≡ None }
+    {
+        self.make_frame(disk)?;
         self.hold(disk, number)
     }
 

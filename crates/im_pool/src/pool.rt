@@ -1,6 +1,6 @@
 //! The pool.
 
-ghost use Rattle.std.specs.Prelude.{◌≡◌, ◌≢◌, ◌↔◌, ◌⊎◌, ◌+◌, ◌<◌, ◌≤◌, ◌^◌, ◌∷◌, [], ℕ, true, false, length, nat_eq, take, Some, None, Ok, Err, OnOk, OnErr, IfOk, IfErr, IfSome, IsOk, IsTrue, IsSome, insert, remove, slice_get, option_map};
+ghost use Rattle.std.specs.Prelude.{◌≡◌, ◌≢◌, ◌↔◌, ◌⊎◌, ◌+◌, ◌<◌, ◌≤◌, ◌^◌, ◌∷◌, [], ℕ, List, true, false, length, nat_eq, take, Some, None, Ok, Err, OnOk, OnErr, IfOk, IfErr, IfSome, IsOk, IsTrue, IsSome, insert, remove, slice_get, option_map};
 ghost use Rattle.std.specs.Map.{keys_of, remove_entry};
 ghost use Rattle.lru.specs.LruCache.{last_entry};
 ghost use Rattle.im_types.specs.declared.fault.Fault.TheVariants.{Device, Memory, NotAStore};
@@ -179,6 +179,26 @@ impl Pool {
             return Ok(frame);
         }
         self.fetch(disk, p)
+    }
+
+    /// Where a held page is, as the most recently used from now on, by one look-up, which counts as one get. `None` where it is not
+    /// held; the pool then stays as it was.
+    pub fn get_held(&mut self, p: PageNo) -> Option<Frame>
+        ensures frame { IfSome result (λ f. f.number ≡ p) }
+        ensures at { IfSome result (IsAt self.new) }
+        ensures first { IfSome result (λ _. MovesFirst p self.old self.new) }
+        ensures page { IfSome result (λ _. (file : List ℕ) → page_seen self.old file p ≡ Some (page_at self.new p)) }
+        ensures count { IfSome result (λ _. self.new.gets ≡ self.old.gets + 1) }
+        ensures holds { IsSome result ↔ Holds self.old p }
+        ensures none { result ≡ None → self.new ≡ self.old }
+    {
+        match self.touch(p) {
+            Some(frame) => {
+                self.count();
+                Some(frame)
+            }
+            None => None,
+        }
     }
 
     // One get more.
