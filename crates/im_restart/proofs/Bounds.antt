@@ -1,5 +1,5 @@
 -- Undo goes on at ever smaller LSNs.
-use Rattle.std.proofs.Common.{◌≡◌, ◌≤◌, ◌<◌, ℕ, List, [], ◌∷◌, ◌++◌, length, Option, None, Some, refl, sym, ap, arith}
+use Rattle.std.proofs.Common.{◌≡◌, ◌≤◌, ◌<◌, ℕ, List, [], ◌∷◌, ◌++◌, length, Option, None, Some, refl, sym, ◌∙◌, ap, arith}
 use Rattle.std.specs.Prelude.{IfSome}
 use Rattle.std.specs.declared.cmp.Ordering.{Ordering}
 use Rattle.std.specs.declared.cmp.Ordering.TheVariants.{Less, Equal, Greater}
@@ -44,6 +44,17 @@ none_left (e ∷ es) none = absurd (none (omega arith))
 pub empty_list : {X : Type 0} (n : ℕ) (es : List X) → n ≡ length es → n ≡ 0 → es ≡ []
 empty_list n [] is none = refl
 empty_list n (e ∷ es) is none = absurd (omega (arith, is, none))
+
+-- what is empty has no last element, and no first
+nothing_ends : {X : Type 0} (es : List X) (e : X) → [] ≡ es ++ e ∷ [] → ⊥
+nothing_ends [] e is = cc is
+nothing_ends (x ∷ es) e is = cc is
+
+pub last_of_none : {X : Type 0} (all es : List X) (e : X) → all ≡ [] → all ≡ es ++ e ∷ [] → ⊥
+last_of_none all es e none is = nothing_ends es e (sym none ∙ is)
+
+pub first_of_none : {X : Type 0} (all es : List X) (e : X) → all ≡ [] → all ≡ e ∷ es → ⊥
+first_of_none all es e none is = let clash : [] ≡ e ∷ es = sym none ∙ is in cc clash
 
 -- so where the greatest was taken out
 pub above_rest : (o : Option (ℕ × Chain)) (es : List (ℕ × Chain)) → IfSome o (λ p. All (λ q. nat_cmp q p.0 ≡ Less) (keys_of es)) → IfSome o (λ p. above es ≤ p.0)

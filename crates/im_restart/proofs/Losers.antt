@@ -1,10 +1,11 @@
 -- The map of the losers' chains, step by step.
-use Rattle.std.proofs.Common.{◌≡◌, ◌≢◌, ◌≤◌, ◌<◌, ◌⊎◌, ℕ, [], ◌∷◌, Bool, true, false, Option, None, Some, inl, inr, refl, sym, ◌∙◌, ap, subst, arith}
+use Rattle.std.proofs.Common.{◌≡◌, ◌≢◌, ◌≤◌, ◌<◌, ◌⊎◌, ℕ, List, [], ◌∷◌, Bool, true, false, Option, None, Some, inl, inr, refl, sym, ◌∙◌, ap, subst, arith}
 use Rattle.std.specs.Prelude.{◌||◌, cond, is_some}
 use Rattle.std.specs.declared.cmp.Ordering.{Ordering}
 use Rattle.std.specs.declared.cmp.Ordering.TheVariants.{Less, Equal, Greater}
 use Rattle.std.specs.Ordering.{nat_cmp, is_eq}
 use Rattle.std.specs.BTreeMap.{BTreeMap, get, is_at}
+use Rattle.std.specs.Map.{lookup}
 use Rattle.std.proofs.lemmas.Bool.{cases_Bool, cases_eq, cond-true, cond-false, eq-eqb, ne_eqb}
 use Rattle.std.proofs.lemmas.Cmp.{ranked}
 use Rattle.std.proofs.lemmas.Map.Lookups.{exact_unsigned}
@@ -49,6 +50,18 @@ module _ {X : Type 0} (old new : BTreeMap ℕ X) (l : ℕ) (x : Option X) (put :
     | inl is ↦ absurd (other is.0)
     | inr apart ↦ put q ∙ cond-false (is_at (nat_cmp l) q) x (get nat_cmp old q) apart.1
   ]
+
+-- a map that has nothing at each key has no entry
+none_listed : {X : Type 0} (es : List (ℕ × X)) → ((t : ℕ) → lookup (is_at (nat_cmp t)) es ≡ None) → es ≡ []
+none_listed [] none = refl
+none_listed {X} (e ∷ es) none = elim (at_cases e.0 e.0) [
+  | inl is ↦ absurd (let clash : Some e.1 ≡ None = sym (cond-true (is_at (nat_cmp e.0) e.0) (Some e.1) (lookup (is_at (nat_cmp e.0)) es) is.1) ∙ none e.0 in cc clash)
+  | inr away ↦ absurd (away.0 refl)
+]
+
+-- where no transaction is a loser, the table is empty
+pub losers_none : (losers : LoserMap) (log : History) → AreLosers losers log → ((t : ℕ) → is_loser t log ≡ false) → losers.entries ≡ []
+losers_none losers log are ended = none_listed losers.entries (λ t. are t ∙ cond-false (is_loser t log) (Some (row_of t log)) None (ended t))
 
 some_one : {X : Type 0} (o : Option X) (x y : X) → o ≡ Some x → o ≡ Some y → x ≡ y
 some_one o x y first second = let e : Some x ≡ Some y = sym first ∙ second in cc e

@@ -8,7 +8,7 @@ use Rattle.im_types.specs.Records.{Logged}
 use Rattle.im_types.specs.Tree.{Tree}
 use Rattle.im_types.specs.Histories.{Base, History, IsFront}
 use Rattle.im_types.specs.Lawful.{IsLawful}
-use Rattle.im_types.proofs.Fronts.{fronts_lawful}
+use Rattle.im_types.proofs.Histories.{at_front}
 use Rattle.im_disk.specs.declared.disk.Disk.{Ghosts}
 use Rattle.im_disk.specs.Disk.{Files}
 use Rattle.im_disk.specs.Runs.{Reads}
@@ -27,7 +27,7 @@ use Rattle.im_log.proofs.Runs.{of_log}
 use Rattle.im_analysis.specs.Analysis.{Continues}
 use Rattle.im_analysis.specs.Orderly.{FitsBehind, IsOrderly, IsReadable}
 use Rattle.im_analysis.proofs.LeadingDown.{logs_are_taken}
-use Rattle.im_restart.specs.Restart.{IsFresh, SpellsLog}
+use Rattle.im_restart.specs.Restart.{AreTaken, IsFresh, SpellsLog}
 
 -- a log that was made has no record, and starts where the unmade one would
 made_blank : {D : Type 0} (d : Ghosts D) (disk : D) (gate : Gate) → d.tells → (d.tells → logged d gate disk ≡ Some []) → file_of gate ≡ Log → StartsAs gate (d.seen disk Log) → batches (first_gate (d.seen disk Log)) (d.seen disk Log) ≡ Some []
@@ -61,17 +61,22 @@ alike_if_ok (Err e) f p = tt
 pub same_entry : (read : Option Entry) (some other : Entry) → read ≡ Some some → read ≡ Some other → some ≡ other
 same_entry read some other first second = let e : Some some ≡ Some other = sym first ∙ second in cc e
 
--- a record of a lawful log may come where it comes
-pub continues : (b : Base) (tree : Tree) (all older : History) (r : Logged) → IsLawful b tree all → IsFront (r ∷ older) all → Continues r older × FitsBehind r older
-continues b tree all older r law front = logs_are_taken tree b older r (fronts_lawful b tree (r ∷ older) all front law)
+-- each record of a lawful log is taken
+pub lawful_taken : (b : Base) (tree : Tree) (log : History) → IsLawful b tree log → AreTaken log
+lawful_taken b tree [] law = tt
+lawful_taken b tree (r ∷ older) law = let this = logs_are_taken tree b older r law in (this.0, this.1, lawful_taken b tree older law.0)
 
--- the next record of a lawful log, as it was decoded
-pub next_read : {D : Type 0} (d : Ghosts D) (b : Base) (base : ℕ) (tree : Tree) (all older : History) (lsn : ℕ) (entry said : Entry) (new : Opening) (disk : D) → entry ≡ said → IsLawful b tree all → IsFront (logged_at lsn entry ∷ older) all
+-- a record of a log that is taken
+continues : (all older : History) (r : Logged) → AreTaken all → IsFront (r ∷ older) all → Continues r older × FitsBehind r older
+continues all older r taken front = let front_taken = at_front (λ (l : History). AreTaken l) (λ s rest is. is.2) (r ∷ older) all front taken in (front_taken.0, front_taken.1)
+
+-- the next record of a log that is taken, as it was decoded
+pub next_read : {D : Type 0} (d : Ghosts D) (base : ℕ) (all older : History) (lsn : ℕ) (entry said : Entry) (new : Opening) (disk : D) → entry ≡ said → AreTaken all → IsFront (logged_at lsn entry ∷ older) all
     → IsOpening d base all (logged_at lsn entry ∷ older) new disk
     → Continues (logged_at lsn said) older × FitsBehind (logged_at lsn said) older × IsOpening d base all (logged_at lsn said ∷ older) new disk
-next_read d b base tree all older lsn entry said new disk same law front opening =
+next_read d base all older lsn entry said new disk same taken front opening =
     let is = subst (λ (e : Entry). IsFront (logged_at lsn e ∷ older) all × IsOpening d base all (logged_at lsn e ∷ older) new disk) same (front, opening) in
-    let next = continues b tree all older (logged_at lsn said) law is.0 in
+    let next = continues all older (logged_at lsn said) taken is.0 in
     (next.0, next.1, is.1)
 
 pub holds_if_ok : {T : Type 0} {P : Type 0} (result : Result T Fault) → P → IfOk result (λ _. P)

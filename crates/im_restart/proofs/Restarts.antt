@@ -6,7 +6,7 @@ use Rattle.im_types.specs.declared.fault.Fault.TheVariants.{NotAStore}
 use Rattle.im_types.specs.declared.file_id.FileId.{FileId}
 use Rattle.im_types.specs.declared.file_id.FileId.TheVariants.{Log, Pages}
 use Rattle.im_types.specs.Pages.{Page}
-use Rattle.im_types.specs.Histories.{Base, History, end_of}
+use Rattle.im_types.specs.Histories.{Base, History, Rises, end_of}
 use Rattle.im_types.specs.Copies.{GrowsByImages}
 use Rattle.im_types.specs.RedoPoints.{Covers}
 use Rattle.im_types.specs.Lawful.{IsLawful}
@@ -30,7 +30,6 @@ use Rattle.im_flush.specs.PageWriter.{GoesOn, StandsAs, StepKept}
 use Rattle.im_flush.proofs.Growing.{grown_front}
 use Rattle.im_flush.proofs.Outcomes.{sound_done}
 use Rattle.im_flush.proofs.Restarting.{writer_opens}
-use Rattle.im_types.proofs.Fronts.{rises}
 use Rattle.im_analysis.specs.Numbers.{IsNextNumber}
 use Rattle.im_redo.specs.Redo.{LeavesRedoing, Redone}
 use Rattle.im_analysis.specs.Losers.{AreLosers, LoserMap}
@@ -38,7 +37,7 @@ use Rattle.im_analysis.specs.declared.rows.OpenRecord.{OpenRecord}
 use Rattle.im_analysis.specs.OpenChange.{IsOpenChange, oldest_first}
 use Rattle.im_analysis.proofs.Tables.{images_table}
 use Rattle.im_tree.specs.Theory.{page_tree}
-use Rattle.im_restart.specs.Restart.{HasStore, IsFresh, IsLeftUndoing, IsOpened, IsReport, IsSettled, MayRestart, RestartSound}
+use Rattle.im_restart.specs.Restart.{HasStore, IsFresh, IsLeftUndoing, IsOpened, IsReport, IsSettled, MayRedo, MayRestart, RestartSound}
 use Rattle.im_restart.specs.declared.restarted.Restarted.{Restarted}
 use Rattle.im_restart.specs.StructureChange.{ChangeGoes}
 use Rattle.im_restart.specs.Undoing.{AllUndone}
@@ -94,16 +93,19 @@ module _ {D : Type 0} (d : Ghosts D) (b : Base) (base : ℕ) (all : History) whe
           reads_on d old old mid (IsLeftUndoing b base all) (left_unmoved old only_now log pages may.has may.lawful) (reads told (λ fresh. not_both (d.seen old Log) made.made fresh.0))
 
   -- what the restart finds behind it
-  pub may_behind : (old mid : D) (file : LogFile) → MayRestart b base all (d.seen old) → ChangesOnly d Log old mid → IsLog d base all all file mid → MayRestart b base all (d.seen mid)
-  may_behind old mid file may changes log = record {
-    start = may.start;
-    has = record {
-      log = inr (record { made = log.made; starts = log.starts; spells = log.on_disk });
-      bare = λ unmade. absurd (not_both (d.seen mid Log) log.made unmade);
-      covers = subst (λ (bytes : List ℕ). Covers b all (file_page bytes)) (sym (changes.seen Pages (λ e. cc e))) may.has.covers;
-    };
-    lawful = may.lawful;
+  has_behind : (old mid : D) (file : LogFile) → HasStore b base all (d.seen old) → ChangesOnly d Log old mid → IsLog d base all all file mid → HasStore b base all (d.seen mid)
+  has_behind old mid file has changes log = record {
+    log = inr (record { made = log.made; starts = log.starts; spells = log.on_disk });
+    bare = λ unmade. absurd (not_both (d.seen mid Log) log.made unmade);
+    covers = subst (λ (bytes : List ℕ). Covers b all (file_page bytes)) (sym (changes.seen Pages (λ e. cc e))) has.covers;
   }
+
+  pub may_behind : (old mid : D) (file : LogFile) → MayRestart b base all (d.seen old) → ChangesOnly d Log old mid → IsLog d base all all file mid → MayRestart b base all (d.seen mid)
+  may_behind old mid file may changes log = record { start = may.start; has = has_behind old mid file may.has changes log; lawful = may.lawful }
+
+  pub redo_behind : (old mid : D) (file : LogFile) → MayRedo b base all (d.seen old) → ChangesOnly d Log old mid → IsLog d base all all file mid → MayRedo b base all (d.seen mid)
+  redo_behind old mid file may changes log =
+      record { start = may.start; has = has_behind old mid file may.has changes log; rises = may.rises; taken = may.taken; can = may.can; done = may.done }
 
   pub pages_synced : (old mid : D) → ChangesOnly d Log old mid → Only Pages (d.seen old) (d.may_leave old) → Only Pages (d.seen mid) (d.may_leave mid)
   pages_synced old mid changes pages c left =
@@ -163,10 +165,10 @@ module _ {D : Type 0} (d : Ghosts D) (b : Base) (base : ℕ) (all : History) whe
 
   -- ---- the writer
 
-  pub writer_starts : (file : LogFile) (w : PageWriter) (frames : ℕ) (disk : D) → MayRestart b base all (d.seen disk) → Only Pages (d.seen disk) (d.may_leave disk) → IsOpen d file disk → IsLog d base all all file disk → w.log ≡ file
+  pub writer_starts : (file : LogFile) (w : PageWriter) (frames : ℕ) (disk : D) → b.start ≤ base → Rises b all → Covers b all (file_page (d.seen disk Pages)) → Only Pages (d.seen disk) (d.may_leave disk) → IsOpen d file disk → IsLog d base all all file disk → w.log ≡ file
       → w.pool ≡ record { held = []; frames = frames; gets = 0 } → w.table ≡ [] → w.failed ≡ false → w.known_from ≡ None → StandsAs d b base (opened b all (file_page (d.seen disk Pages))) w disk
-  writer_starts file w frames disk may pages is_open log same pool table working unknown =
-      writer_opens d b base all w frames disk may.start (rises b page_tree all may.lawful) may.has.covers (subst (λ (f : LogFile). IsOpen d f disk) (sym same) is_open) (subst (λ (f : LogFile). IsLog d base all all f disk) (sym same) log) pages pool
+  writer_starts file w frames disk start up covers pages is_open log same pool table working unknown =
+      writer_opens d b base all w frames disk start up covers (subst (λ (f : LogFile). IsOpen d f disk) (sym same) is_open) (subst (λ (f : LogFile). IsLog d base all all f disk) (sym same) log) pages pool
       table working unknown
 
 -- the next number is not below the least, nor is that 0

@@ -1,8 +1,9 @@
 -- What a restart asks of the files, and what it keeps.
-use Rattle.std.specs.Prelude.{◌≡◌, ◌⊎◌, ◌+◌, ◌<◌, ◌≤◌, ◌^◌, ℕ, length, Option, Some, false, Result}
+use Rattle.std.specs.Prelude.{◌≡◌, ◌⊎◌, ◌+◌, ◌<◌, ◌≤◌, ◌^◌, ℕ, [], ◌∷◌, length, Option, Some, false, Result}
 use Rattle.im_types.specs.declared.fault.Fault.{Fault}
 use Rattle.im_types.specs.declared.file_id.FileId.TheVariants.{Log, Pages}
-use Rattle.im_types.specs.Histories.{Base, History, page_at}
+use Rattle.im_types.specs.Histories.{Base, History, Rises, page_at}
+use Rattle.im_types.specs.Structure.{open_smo}
 use Rattle.im_types.specs.Pages.{Page}
 use Rattle.im_types.specs.RedoPoints.{Covers, redo_point}
 use Rattle.im_types.specs.Lawful.{IsLawful}
@@ -17,10 +18,11 @@ use Rattle.im_flush.specs.declared.page_writer.PageWriter.{PageWriter}
 use Rattle.im_flush.specs.PageWriter.{StandsAs}
 use Rattle.im_flush.specs.Outcome.{IsSound}
 use Rattle.im_tree.specs.Theory.{page_tree}
+use Rattle.im_analysis.specs.Analysis.{Continues}
 use Rattle.im_analysis.specs.Losers.{is_loser}
 use Rattle.im_analysis.specs.Numbers.{IsNextNumber}
-use Rattle.im_analysis.specs.Orderly.{IsOrderly, IsReadable}
-use Rattle.im_redo.specs.Redo.{applied_in, first_lsn}
+use Rattle.im_analysis.specs.Orderly.{FitsBehind, IsOrderly, IsReadable}
+use Rattle.im_redo.specs.Redo.{AreApplicable, applied_in, first_lsn}
 use Rattle.im_restart.specs.declared.redo_report.RedoReport.{RedoReport}
 use Rattle.im_restart.specs.declared.restarted.Restarted.{Restarted}
 use Rattle.im_restart.specs.Undone.{GrowsByUndo}
@@ -40,6 +42,16 @@ IsFresh files = IsUnmade (files Log) × (length (files Pages) ≡ 0)
 abbrev pub SpellsLog : Files → Type 0
 SpellsLog files = IsFresh files ⊎ ((found : History) × HasLog (base_of (files Log)) found (files Log) × (IsReadable found → IsOrderly found))
 
+-- Analysis takes each record of the log: its LSN is above those before it, its page images are pages, nothing of its transaction has ended, it leads to earlier records alone, and it opens no structure change beside another's.
+abbrev pub AreTaken : History → Type 0
+AreTaken [] = Unit {0}
+AreTaken (r ∷ older) = Continues r older × FitsBehind r older × AreTaken older
+
+-- No transaction of the log is unfinished, and no structure change is open.
+pub record LeavesNoUndo (log : History) : Type 0 where
+  pub ended : (t : ℕ) → is_loser t log ≡ false
+  pub closed : open_smo log ≡ []
+
 -- Less than 32,778 bytes are left below LSN 2^62 behind the log's file: a full buffer, the longest record, and what stands round them.
 abbrev pub IsFullLog : Files → Type 0
 IsFullLog files = 2 ^ 62 < base_of (files Log) + (length (files Log) + 32778)
@@ -55,6 +67,15 @@ pub record MayRestart (b : Base) (base : ℕ) (all : History) (files : Files) : 
   pub start : b.start ≤ base
   pub has : HasStore b base all files
   pub lawful : IsLawful b page_tree all
+
+-- What redo alone brings back, whether the log is lawful or not: a log that covers the pages, each of whose records can be applied to its page as the records before it left that, and that leaves nothing to undo.
+pub record MayRedo (b : Base) (base : ℕ) (all : History) (files : Files) : Type 0 where
+  pub start : b.start ≤ base
+  pub has : HasStore b base all files
+  pub rises : Rises b all
+  pub taken : AreTaken all
+  pub can : AreApplicable b all
+  pub done : LeavesNoUndo all
 
 -- A stop left what a restart can start from again: the log, or it with records of undo more.
 pub record IsLeftUndoing (b : Base) (base : ℕ) (all : History) (files : Files) : Type 0 where

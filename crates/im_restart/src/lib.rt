@@ -34,6 +34,9 @@
 //!   is undone twice: a compensation takes its record off what is left, and a lawful log has no second one;
 //! - it is never refused as no store.
 //!
+//! `MayRedo` asks less of a log that leaves nothing to undo: analysis takes its records, it covers the pages, and each record can be
+//! applied to its page, whatever tree that makes. Such files too are never refused as no store (`redoes`).
+//!
 //! How an opening ends is one fact over any files, its clause `outcome` (`Opens`, over the fault that it was refused for, if it was):
 //! `Device` just where the disk has failed, `LogFull` only with a log that is full, else `Memory`, `NotAStore` or `Capacity`. The calls
 //! within it over the writer of pages end as redo does (`Recovers` of `im_redo`), and each says over such files, in one word

@@ -1,6 +1,6 @@
 //! A store is opened.
 
-ghost use Rattle.std.specs.Prelude.{◌≡◌, ◌≤◌, ◌⊎◌, ℕ, [], false, length, IfErr, IfOk};
+ghost use Rattle.std.specs.Prelude.{◌≡◌, ◌≢◌, ◌≤◌, ◌⊎◌, ℕ, [], false, length, Ok, IfErr, IfOk};
 ghost use Rattle.im_types.specs.declared.fault.Fault.TheVariants.{Device, Memory, NotAStore};
 ghost use Rattle.im_types.specs.declared.file_id.FileId.TheVariants.{Log, Pages};
 ghost use Rattle.im_types.specs.Histories.{Base, History};
@@ -17,14 +17,14 @@ ghost use Rattle.im_analysis.specs.Losers.{AreLosers};
 ghost use Rattle.im_analysis.specs.OpenChange.{IsOpenChange};
 ghost use Rattle.im_alloc.specs.Kept.{mild_to_take};
 ghost use Rattle.im_redo.specs.Recovery.{Recovers};
-ghost use Rattle.im_redo.specs.Redo.{lsns_from};
+ghost use Rattle.im_redo.specs.Redo.{AreApplicable, lsns_from};
 ghost use Rattle.im_flush.specs.Outcome.{fault_of};
 ghost use Rattle.im_flush.specs.PageWriter.{IsReadyWriter, StandsAs};
 ghost use Rattle.im_restart.specs.Opening.{Opens};
 ghost use Rattle.im_restart.specs.Reading.{IsFound};
 ghost use Rattle.im_restart.specs.StructureChange.{IsTakingBack};
 ghost use Rattle.im_restart.specs.Undoing.{UndoKept};
-ghost use Rattle.im_restart.specs.Restart.{IsFresh, SpellsLog, MayRestart, RestartKept, SettleKept};
+ghost use Rattle.im_restart.specs.Restart.{IsFresh, SpellsLog, LeavesNoUndo, MayRedo, MayRestart, RestartKept, SettleKept};
 
 use crate::found::Found;
 use crate::reading::open_log;
@@ -73,6 +73,7 @@ fn undo_found<D: Disk>(
     ensures outcome { Recovers D.Disk mild_to_take writer.old writer.new disk.new (fault_of result) }
     ensures kept { (b : Base) (base : ℕ) (all : History) (s : Writer) → StandsAs D.Disk b base s writer.old disk.old → IsTakingBack b all s
         → IsOpenChange analysed.old.open_change.items s.log → AreLosers analysed.old.losers s.log → UndoKept D.Disk b base all s disk.old writer.new disk.new result }
+    ensures none { analysed.old.open_change.items ≡ [] → analysed.old.losers.entries ≡ [] → (result ≡ Ok tt) × (writer.new ≡ writer.old) × (disk.new ≡ disk.old) }
     ensures next { analysed.new.next ≡ analysed.old.next }
 {
     undo_change(
@@ -101,6 +102,8 @@ fn settle<D: Disk>(
     ensures outcome { Recovers D.Disk mild_to_take writer.old writer.new disk.new (fault_of result) }
     ensures kept { (b : Base) (base : ℕ) (all : History) → StandsAs D.Disk b base (opened b all (file_page (D.seen disk.old Pages))) writer.old disk.old → MayRestart b base all (D.seen disk.old)
         → (least : ℕ) → IsAnalysis least all analysed.old → lsns.now ≡ lsns_from (redo_point all) all → SettleKept D.Disk b base all disk.old writer.new disk.new result }
+    ensures redoes { (b : Base) (base : ℕ) (all : History) → StandsAs D.Disk b base (opened b all (file_page (D.seen disk.old Pages))) writer.old disk.old → AreApplicable b all → LeavesNoUndo all
+        → (least : ℕ) → IsAnalysis least all analysed.old → lsns.now ≡ lsns_from (redo_point all) all → IfErr result (λ e. e ≢ NotAStore) }
     ensures next { analysed.new.next ≡ analysed.old.next }
 {
     let applied = redo(
@@ -132,6 +135,8 @@ fn restart<D: Disk>(
     ensures least { IfOk result (λ r. 1 ≤ r.next) }
     ensures kept { (b : Base) (base : ℕ) (all : History) → MayRestart b base all (D.seen disk.old) → Only Pages (D.seen disk.old) (D.may_leave disk.old) → IsFound D.Disk base all found disk.old
         → RestartKept D.Disk b base all disk.old disk.new result }
+    ensures redoes { (b : Base) (base : ℕ) (all : History) → MayRedo b base all (D.seen disk.old) → Only Pages (D.seen disk.old) (D.may_leave disk.old) → IsFound D.Disk base all found disk.old
+        → IfErr result (λ e. e ≢ NotAStore) }
 {
     let Found {
         log,
@@ -157,7 +162,8 @@ fn restart<D: Disk>(
 /// Refused `NotAStore` where the bytes are no store, or there are pages without a log; `Capacity` where the key of a delete is put back into
 /// a full leaf, and page numbers or levels are used up, so that the leaf can't be split; `LogFull` only where the log's file then ends less
 /// than 32,778 bytes below LSN 2^62; `Memory`; `Device`. Where the log's bytes are no log's, one of its records leads to a later one, or
-/// one opens a structure change beside another's, nothing is written.
+/// one opens a structure change beside another's, nothing is written. A log that leaves nothing to undo is refused `NotAStore` only where
+/// analysis does not take one of its records, it does not cover the pages, or a page does not take its record.
 pub fn open_or_create<D: Disk>(
     alloc: Global,
     disk: &mut D,
@@ -173,6 +179,7 @@ pub fn open_or_create<D: Disk>(
     ensures made { IfOk result (λ _. D.tells → IsFresh (D.seen disk.old) ⊎ IsMade (D.seen disk.old Log)) }
     ensures spelled { IfOk result (λ _. D.tells → SpellsLog (D.seen disk.old)) }
     ensures kept { (b : Base) (base : ℕ) (all : History) → D.tells → MayRestart b base all (D.seen disk.old) → RestartKept D.Disk b base all disk.old disk.new result }
+    ensures redoes { (b : Base) (base : ℕ) (all : History) → D.tells → MayRedo b base all (D.seen disk.old) → IfErr result (λ e. e ≢ NotAStore) }
     ensures unspelled { D.tells → ¬ (SpellsLog (D.seen disk.old)) → Reads D.Disk disk.old disk.new × IfErr result (λ e. (e ≡ Memory) ⊎ (e ≡ Device) ⊎ (e ≡ NotAStore)) }
 {
     let found = open_log(alloc, disk)?;

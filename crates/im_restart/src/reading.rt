@@ -4,8 +4,7 @@ ghost use Rattle.std.specs.Prelude.{◌≡◌, ◌≢◌, ◌+◌, ◌^◌, ◌�
 ghost use Rattle.im_types.specs.declared.fault.Fault.TheVariants.{Device, Memory, NotAStore};
 ghost use Rattle.im_types.specs.declared.file_id.FileId.TheVariants.{Log, Pages};
 ghost use Rattle.im_types.specs.Records.{Unreadable};
-ghost use Rattle.im_types.specs.Histories.{Base, History, changes_page};
-ghost use Rattle.im_types.specs.Lawful.{IsLawful};
+ghost use Rattle.im_types.specs.Histories.{History, changes_page};
 ghost use Rattle.im_disk.specs.Disk.{Only};
 ghost use Rattle.im_disk.specs.Runs.{ChangesOnly, Reads};
 ghost use Rattle.im_gate.specs.Gate.{first_of, place_of, has_failed, StartsAs, IsReading};
@@ -18,9 +17,8 @@ ghost use Rattle.im_log.specs.Kept.{HasLog, IsLogOf};
 ghost use Rattle.im_log.specs.LogFile.{IsOpen};
 ghost use Rattle.im_log.specs.Opening.{IsBegun, IsOpening, HasRead};
 ghost use Rattle.im_analysis.specs.Orderly.{IsOrderly, IsReadable};
-ghost use Rattle.im_tree.specs.Theory.{page_tree};
 ghost use Rattle.im_redo.specs.Redo.{lsns_from};
-ghost use Rattle.im_restart.specs.Restart.{IsFresh, SpellsLog};
+ghost use Rattle.im_restart.specs.Restart.{AreTaken, IsFresh, SpellsLog};
 ghost use Rattle.im_restart.specs.Reading.{GateKept, ReadKept, OpenKept};
 
 use crate::found::Found;
@@ -113,7 +111,7 @@ fn read_all<D: Disk>(
     ensures reads { Reads D.Disk disk.old disk.new }
     ensures ready { IfOk result (λ found. IsOpen D.Disk found.log disk.new) }
     ensures usable { IfOk result (λ found. found.log.failed ≡ false) }
-    ensures kept { (b : Base) (base : ℕ) (all : History) → IsOpening D.Disk base all [] opening disk.old → IsLawful b page_tree all → least ≡ least_number (D.seen disk.old Log) → 1 ≤ least
+    ensures kept { (base : ℕ) (all : History) → IsOpening D.Disk base all [] opening disk.old → AreTaken all → least ≡ least_number (D.seen disk.old Log) → 1 ≤ least
         → ReadKept D.Disk base all disk.new result }
     ensures spelled { IfOk result (λ _. (base : ℕ) → HasRead D.Disk base [] opening disk.old → (found : History) × HasLog base found (D.seen disk.old Log) × (IsReadable found → IsOrderly found)) }
     ensures causes { IfErr result (λ e. (e ≡ Memory) ⊎ (e ≡ Device) ⊎ (e ≡ NotAStore)) }
@@ -151,7 +149,7 @@ pub(crate) fn open_log<D: Disk>(alloc: Global, disk: &mut D) -> Result<Found, Fa
     requires durable { Only Log (D.seen disk.old) (D.may_leave disk.old) }
     ensures ready { IfOk result (λ found. IsOpen D.Disk found.log disk.new) }
     ensures usable { IfOk result (λ found. found.log.failed ≡ false) }
-    ensures kept { (b : Base) (base : ℕ) (all : History) → D.tells → IsLogOf base all (D.seen disk.old Log) → (IsUnmade (D.seen disk.old Log) → length (D.seen disk.old Pages) ≡ 0) → IsLawful b page_tree all
+    ensures kept { (base : ℕ) (all : History) → D.tells → IsLogOf base all (D.seen disk.old Log) → (IsUnmade (D.seen disk.old Log) → length (D.seen disk.old Pages) ≡ 0) → AreTaken all
         → OpenKept D.Disk base all disk.old disk.new result }
     ensures spelled { IfOk result (λ _. D.tells → SpellsLog (D.seen disk.old)) }
     ensures alike { IfOk result (λ _. D.tells → StartsAlike (D.seen disk.old Log) (D.seen disk.new Log)) }

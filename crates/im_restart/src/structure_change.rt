@@ -1,6 +1,6 @@
 //! The structure change that was open is taken back, its newest page first.
 
-ghost use Rattle.std.specs.Prelude.{◌≡◌, ◌≤◌, ◌∷◌, ℕ, true, false, length, Some, Ok, IfErr, OnOk};
+ghost use Rattle.std.specs.Prelude.{◌≡◌, ◌≤◌, [], ◌∷◌, ℕ, true, false, length, Some, Ok, IfErr, OnOk};
 ghost use Rattle.std.specs.Ordering.{nat_cmp};
 ghost use Rattle.std.specs.BTreeMap.{Updates};
 ghost use Rattle.im_types.specs.declared.fault.Fault.TheVariants.{Memory, NotAStore};
@@ -150,6 +150,7 @@ pub(crate) fn undo_change<D: Disk>(
     ensures room { length room.new ≡ length room.old }
     ensures kept { (b : Base) (base : ℕ) (all : History) (s : Writer) → StandsAs D.Disk b base s writer.old disk.old → IsTakingBack b all s → IsOpenChange open_change.old.items s.log
         → AreLosers losers.old s.log → ChangeKept D.Disk b base all s disk.old writer.new losers.new disk.new result }
+    ensures none { open_change.old.items ≡ [] → (result ≡ Ok tt) × (writer.new ≡ writer.old) × (losers.new ≡ losers.old) × (disk.new ≡ disk.old) }
 {
     while let Some(newest) = open_change.pop() {
         undo_page_at(disk, writer, losers, newest.lsn, room)?;

@@ -288,6 +288,7 @@ fn undo_all<D: Disk>(
     ensures outcome { Recovers D.Disk mild_to_take writer.old writer.new disk.new (fault_of result) }
     ensures kept { (b : Base) (base : ℕ) (all : History) (s : Writer) → StandsAs D.Disk b base s writer.old disk.old → IsUndoing b all s
         → AreChains nobody chains.old s.log → UndoKept D.Disk b base all s disk.old writer.new disk.new result }
+    ensures none { chains.old.entries ≡ [] → (result ≡ Ok tt) × (writer.new ≡ writer.old) × (disk.new ≡ disk.old) }
 {
     while let Some((lsn, chain)) = take_last(chains) {
         undo_at(alloc, disk, writer, chains, chain, lsn, room)?;
@@ -309,6 +310,7 @@ fn enter_all<D: Disk>(
     ensures outcome { Recovers D.Disk mild writer.old writer.new disk.new (fault_of result) }
     ensures kept { (b : Base) (base : ℕ) (all : History) (s : Writer) → StandsAs D.Disk b base s writer.old disk.old → IsUndoing b all s → AreLosers losers.old s.log
         → EnterKept D.Disk b base all s disk.old writer.new chains.new disk.new result }
+    ensures none { losers.old.entries ≡ [] → (result ≡ Ok tt) × (writer.new ≡ writer.old) × (chains.new.entries ≡ []) × (disk.new ≡ disk.old) }
 {
     while let Some((transaction, row)) = losers.pop_first() {
         let chain = Chain {
@@ -339,6 +341,7 @@ pub(crate) fn undo<D: Disk>(
     ensures outcome { Recovers D.Disk mild_to_take writer.old writer.new disk.new (fault_of result) }
     ensures kept { (b : Base) (base : ℕ) (all : History) (s : Writer) → StandsAs D.Disk b base s writer.old disk.old → IsUndoing b all s
         → AreLosers losers.old s.log → UndoKept D.Disk b base all s disk.old writer.new disk.new result }
+    ensures none { losers.old.entries ≡ [] → (result ≡ Ok tt) × (writer.new ≡ writer.old) × (disk.new ≡ disk.old) }
 {
     let mut chains = BTreeMap::new(alloc);
     enter_all(disk, writer, losers, &mut chains)?;

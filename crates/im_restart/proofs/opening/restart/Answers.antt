@@ -1,9 +1,12 @@
-use Rattle.std.proofs.Common.{◌≡◌, ◌≤◌, sym, ◌∙◌, subst}
+use Rattle.std.proofs.Common.{◌≡◌, ◌≢◌, ◌≤◌, sym, ◌∙◌, subst}
 use Rattle.im_types.specs.declared.fault.Fault.TheVariants.{Memory, NotAStore}
 use Rattle.im_types.specs.declared.file_id.FileId.TheVariants.{Log}
 use Rattle.im_gate.specs.Header.{least_number}
 use Rattle.im_analysis.specs.Numbers.{IsNextNumber}
+use Rattle.im_types.proofs.Fronts.{rises}
+use Rattle.im_flush.proofs.LoggedChanges.{err_on}
 use Rattle.im_flush.proofs.Outcomes.{sound_on}
+use Rattle.im_tree.specs.Theory.{page_tree}
 use Rattle.im_restart.proofs.Ends.{alive_log, opens_refused, opens_settled, opens_without}
 use Rattle.im_restart.proofs.Restarts.{left_unmoved, log_synced, next_least, writer_starts}
 use Rattle.im_restart.proofs.opening.restart.Goals as goal
@@ -30,7 +33,7 @@ pub returns-in_err-applied-clause-kept : goal.returns-in_err-applied-clause-kept
 returns-in_err-applied-clause-kept g c b base all may pages is =
     let d = g.D.Disk in
     let w = c.in_ok-writer in
-    let stands = writer_starts d b base all c.args.found.log w.writer c.args.frames c.args.disk.now may pages c.requires.ready is.log w.ensures.log w.ensures.pool w.ensures.table w.ensures.failed w.ensures.known in
+    let stands = writer_starts d b base all c.args.found.log w.writer c.args.frames c.args.disk.now may.start (rises b page_tree all may.lawful) may.has.covers pages c.requires.ready is.log w.ensures.log w.ensures.pool w.ensures.table w.ensures.failed w.ensures.known in
     let k = c.in_err-applied.ensures.kept b base all stands may (least_number (d.seen c.args.disk.now Log)) is.analysis (c.deref.ensures.value ∙ is.lsns) in
     record { sound = sound_on c.from_residual-in_err-applied.result _ _ c.from_residual-in_err-applied.ensures.1 k.sound; stops = k.stops }
 
@@ -38,13 +41,31 @@ pub returns-clause-kept : goal.returns-clause-kept
 returns-clause-kept g c b base all may pages is =
     let d = g.D.Disk in
     let w = c.in_ok-writer in
-    let stands = writer_starts d b base all c.args.found.log w.writer c.args.frames c.args.disk.now may pages c.requires.ready is.log w.ensures.log w.ensures.pool w.ensures.table w.ensures.failed w.ensures.known in
+    let stands = writer_starts d b base all c.args.found.log w.writer c.args.frames c.args.disk.now may.start (rises b page_tree all may.lawful) may.has.covers pages c.requires.ready is.log w.ensures.log w.ensures.pool w.ensures.table w.ensures.failed w.ensures.known in
     let k = c.in_ok-applied.ensures.kept b base all stands may (least_number (d.seen c.args.disk.now Log)) is.analysis (c.deref.ensures.value ∙ is.lsns) in
     let lowest = least_number (d.seen c.args.disk.now Log) in
     let least = next_least lowest c.args.found.analysed.next all is.numbers is.analysis.next in
     let same : c.first_number.result ≡ c.args.found.analysed.next = c.first_number.ensures.same (subst (λ n. 1 ≤ n) (sym c.in_ok-applied.ensures.next) least) ∙ c.in_ok-applied.ensures.next in
     let number : IsNextNumber lowest c.first_number.result all = subst (λ n. IsNextNumber lowest n all) (sym same) is.analysis.next in
     record { sound = record { restarted = k.sound.0; next = number; report = record { point = is.analysis.point; applied = k.sound.1 } }; stops = k.stops }
+
+pub returns-in_err-writer-clause-redoes : goal.returns-in_err-writer-clause-redoes
+returns-in_err-writer-clause-redoes g c b base all may pages is =
+    let cause : c.in_err-writer.field-0.0 ≡ Memory = c.in_err-writer.ensures.refused in
+    err_on c.from_residual.result c.in_err-writer.field-0.0 (λ e. e ≢ NotAStore) c.from_residual.ensures.1 (λ e. (let clash : Memory ≡ NotAStore = sym cause ∙ e in cc clash))
+
+pub returns-in_err-room-clause-redoes : goal.returns-in_err-room-clause-redoes
+returns-in_err-room-clause-redoes g c b base all may pages is =
+    let cause : c.in_err-room.field-0.0 ≡ Memory = c.in_err-room.ensures.causes in
+    err_on c.from_residual-in_err-room.result c.in_err-room.field-0.0 (λ e. e ≢ NotAStore) c.from_residual-in_err-room.ensures.1 (λ e. (let clash : Memory ≡ NotAStore = sym cause ∙ e in cc clash))
+
+pub returns-in_err-applied-clause-redoes : goal.returns-in_err-applied-clause-redoes
+returns-in_err-applied-clause-redoes g c b base all may pages is =
+    let d = g.D.Disk in
+    let w = c.in_ok-writer in
+    let stands = writer_starts d b base all c.args.found.log w.writer c.args.frames c.args.disk.now may.start may.rises may.has.covers pages c.requires.ready is.log w.ensures.log w.ensures.pool w.ensures.table w.ensures.failed w.ensures.known in
+    let other = c.in_err-applied.ensures.redoes b base all stands may.can may.done (least_number (d.seen c.args.disk.now Log)) is.analysis (c.deref.ensures.value ∙ is.lsns) in
+    err_on c.from_residual-in_err-applied.result c.in_err-applied.field-0.0 (λ e. e ≢ NotAStore) c.from_residual-in_err-applied.ensures.1 other
 
 pub returns-in_err-writer-clause-outcome : goal.returns-in_err-writer-clause-outcome
 returns-in_err-writer-clause-outcome g c = opens_refused g.D.Disk c.from_residual.result c.from_residual.ensures.1 (opens_without g.D.Disk c.in_err-writer.ensures.refused (alive_log g.D.Disk c.args.found.log c.args.disk.now c.requires.ready c.requires.usable))

@@ -1,15 +1,19 @@
-use Rattle.std.proofs.Common.{sym, ◌∙◌, ap, subst}
+use Rattle.std.proofs.Common.{◌≢◌, sym, ◌∙◌, ap, subst}
+use Rattle.im_types.specs.declared.fault.Fault.TheVariants.{NotAStore}
 use Rattle.im_types.specs.declared.file_id.FileId.TheVariants.{Pages}
 use Rattle.im_page.specs.PageFile.{file_page}
 use Rattle.im_analysis.specs.CopyLsns.{AreCopies}
+use Rattle.im_analysis.specs.OpenChange.{oldest_first}
 use Rattle.im_redo.specs.Redo.{lsns_from}
 use Rattle.im_redo.proofs.Applicable.{lawful_is_applicable}
+use Rattle.im_flush.proofs.LoggedChanges.{err_on}
 use Rattle.im_flush.proofs.Outcomes.{sound_on}
 use Rattle.im_redo.proofs.Recoveries.{logs_recover, never_none, recovers_more, recovers_then, recovery_refused}
 use Rattle.im_tree.specs.Theory.{page_tree}
 use Rattle.im_tree.proofs.TheoryLaws.{page_tree_laws}
 use Rattle.im_restart.proofs.Ends.{take_mild, take_none}
 use Rattle.im_restart.proofs.Leaves.{on_leaves}
+use Rattle.im_restart.proofs.Losers.{losers_none}
 use Rattle.im_restart.proofs.Restarts.{left_redoing, losers_then, open_then, settled_so, taking_begins}
 use Rattle.im_restart.proofs.Steps.{left_then}
 use Rattle.im_restart.proofs.opening.settle.Goals as goal
@@ -67,3 +71,18 @@ returns-clause-kept g c b base all stands may least is lsns =
     let undone = c.in_ok-undo_found.ensures.kept b base all done.now begun.stands begun.taking (open_then g.D.Disk b base all c.args.analysed.now.open_change.items done.now.log done.log is.open_change) (losers_then g.D.Disk b base all c.args.analysed.now.losers done.now.log done.log is.losers) in
     let whole = settled_so g.D.Disk b base all done.now c.redo.new.disk c.undo_found.new.writer c.undo_found.new.disk c.force.new.self c.force.new.disk _ undone.sound (c.in_ok-force.ensures.kept b base undone.sound.now undone.sound.goes.stands) tt in
     record { sound = (whole.sound, k.sound.1); stops = left_then g.D.Disk b base all c.args.disk.now c.redo.new.disk c.force.new.disk begun.stops whole.stops }
+
+pub returns-in_err-applied-clause-redoes : goal.returns-in_err-applied-clause-redoes
+returns-in_err-applied-clause-redoes g c b base all stands can done least is lsns =
+    let k = c.in_err-applied.ensures.kept b base all (file_page (g.D.Disk.seen c.args.disk.now Pages)) stands can is.point
+    (subst (λ n. AreCopies n c.args.analysed.now.copies all) (sym is.point) is.copies) (lsns ∙ ap (λ n. lsns_from n all) (sym is.point)) in
+    err_on c.from_residual.result c.in_err-applied.field-0.0 (λ e. e ≢ NotAStore) c.from_residual.ensures.1 k.sound
+
+pub returns-in_err-undo_found-clause-redoes : goal.returns-in_err-undo_found-clause-redoes
+returns-in_err-undo_found-clause-redoes g c b base all stands can done least is lsns =
+    let e = (c.in_err-undo_found.ensures.none (is.open_change ∙ ap oldest_first done.closed) (losers_none c.args.analysed.now.losers all is.losers done.ended)).0 in
+    absurd (cc e)
+
+pub returns-in_err-force-clause-redoes : goal.returns-in_err-force-clause-redoes
+returns-in_err-force-clause-redoes g c b base all stands can done least is lsns =
+    err_on c.from_residual-in_err-force.result c.in_err-force.field-0.0 (λ e. e ≢ NotAStore) c.from_residual-in_err-force.ensures.1 (never_none g.D.Disk c.in_err-force.field-0.0 (logs_recover g.D.Disk c.in_err-force.ensures.outcome))

@@ -1,5 +1,7 @@
+use Rattle.std.proofs.Common.{◌∙◌, ap}
 use Rattle.im_flush.proofs.Outcomes.{sound_on}
 use Rattle.im_redo.proofs.Recoveries.{recovers_more, recovery_refused}
+use Rattle.im_analysis.specs.Losers.{LoserMap}
 use Rattle.im_restart.proofs.Ends.{take_mild}
 use Rattle.im_restart.proofs.OpenChanges.{change_over}
 use Rattle.im_restart.proofs.Undos.{undo_behind}
@@ -19,3 +21,12 @@ returns-clause-kept g c b base all s stands is rows are =
     let k = c.in_ok-undo_change.ensures.kept b base all s stands is rows are in
     let over = change_over d b base all s c.args.disk.now k.sound.now c.undo_change.new.writer c.undo_change.new.disk k.sound.goes k.sound.going in
     undo_behind d b base all s c.args.disk.now k.sound.now c.undo_change.new.writer c.undo_change.new.disk c.undo.new.writer c.undo.new.disk c.undo.result over (c.undo.ensures.kept b base all k.sound.now over.stands over.undoing k.sound.are)
+
+pub returns-in_err-undo_change-clause-none : goal.returns-in_err-undo_change-clause-none
+returns-in_err-undo_change-clause-none g c rows losers = let e = (c.in_err-undo_change.ensures.none rows).0 in absurd (cc e)
+
+pub returns-clause-none : goal.returns-clause-none
+returns-clause-none g c rows losers =
+    let first = c.in_ok-undo_change.ensures.none rows in
+    let last = c.undo.ensures.none (ap (λ (m : LoserMap). m.entries) first.2 ∙ losers) in
+    (last.0, last.1 ∙ first.1, last.2 ∙ first.3)

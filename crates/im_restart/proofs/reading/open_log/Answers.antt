@@ -10,24 +10,24 @@ use Rattle.im_restart.proofs.Openings.{holds_if_ok, spelled_so}
 use Rattle.im_restart.proofs.reading.open_log.Goals as goal
 
 pub returns-in_err-gate-clause-kept : goal.returns-in_err-gate-clause-kept
-returns-in_err-gate-clause-kept g c b base all told is bare law =
+returns-in_err-gate-clause-kept g c base all told is bare taken =
     let k = c.in_err-gate.ensures.kept base all told is bare in
     let other : c.in_err-gate.field-0.0 ≢ NotAStore = k.cause in
     record { ok = search rules; stops = k.stops; cause = search (rules, other) }
 
 pub returns-in_err-opening-clause-kept : goal.returns-in_err-opening-clause-kept
-returns-in_err-opening-clause-kept g c b base all told is bare law =
+returns-in_err-opening-clause-kept g c base all told is bare taken =
     let k = c.in_ok-gate.ensures.kept base all told is bare in
     let cause : c.in_err-opening.field-0.0 ≡ Memory = c.in_err-opening.ensures.causes in
     let other : c.in_err-opening.field-0.0 ≢ NotAStore = λ e. (let clash : Memory ≡ NotAStore = sym cause ∙ e in cc clash) in
     record { ok = search rules; stops = k.stops; cause = search (rules, other) }
 
 pub returns-clause-kept : goal.returns-clause-kept
-returns-clause-kept g c b base all told is bare law =
+returns-clause-kept g c base all told is bare taken =
     let k = c.in_ok-gate.ensures.kept base all told is bare in
     let start = started g.D.Disk base all c.in_ok-gate.gate c.in_ok-opening.opening c.first_gate.new.disk c.in_ok-gate.ensures.of_log (c.in_ok-gate.ensures.starts told) c.in_ok-gate.ensures.place told k.ok c.in_ok-opening.ensures.opening in
     let number = c.least_number-least.ensures.number ∙ (c.in_ok-gate.ensures.starts told).least in
-    let r = c.read_all.ensures.kept b base all start law number c.least_number-least.ensures.least in
+    let r = c.read_all.ensures.kept base all start taken number c.least_number-least.ensures.least in
     record { ok = r.ok; stops = reads_on g.D.Disk c.args.disk.now c.first_gate.new.disk c.read_all.new.disk _ k.stops c.read_all.ensures.reads; cause = r.cause }
 
 pub returns-clause-store : goal.returns-clause-store

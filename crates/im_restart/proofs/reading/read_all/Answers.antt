@@ -11,7 +11,6 @@ use Rattle.im_log.proofs.Openings.{none_kept, some_kept}
 use Rattle.im_gate.specs.Header.{least_number}
 use Rattle.im_analysis.specs.Analysis.{IsAnalysed, IsAnalysis}
 use Rattle.im_redo.specs.Redo.{lsns_from}
-use Rattle.im_tree.specs.Theory.{page_tree}
 use Rattle.im_restart.proofs.Openings.{next_read, same_entry}
 use Rattle.im_restart.proofs.reading.read_all.Goals as goal
 
@@ -20,12 +19,12 @@ loop-lsns-preserved g c = record {
   begun = c.next.ensures.begun;
   reads = reads_then g.D.Disk c.args.disk.now c.loop-lsns.disk c.next.new.disk c.loop-lsns.invariant.reads c.next.ensures.reads;
   working = c.in_ok-next.ensures.failed;
-  kept = λ b base all start law low some. (
-      let h = c.loop-lsns.invariant.kept b base all start law low some in
+  kept = λ base all start taken low some. (
+      let h = c.loop-lsns.invariant.kept base all start taken low some in
       let n = some_kept g.D.Disk base all h.0 c.next.new.self c.next.new.disk c.in_ok-next.field-0 c.in-Some.lsn c.in-Some.is (c.in_ok-next.ensures.kept base all h.0 h.1) in
       let said = view c.in_ok-record-in-Some.record in
       let same : n.entry ≡ said = same_entry _ n.entry said n.is c.in_ok-record-in-Some.ensures.record in
-      let next = next_read g.D.Disk b base page_tree all h.0 c.in-Some.lsn n.entry said c.next.new.self c.next.new.disk same law n.front n.opening in
+      let next = next_read g.D.Disk base all h.0 c.in-Some.lsn n.entry said c.next.new.self c.next.new.disk same taken n.front n.opening in
       (logged_at c.in-Some.lsn said ∷ h.0, next.2, (c.in_ok-take-in-Some.ensures.kept c.args.least h.0 h.2 next.0 next.1.leads).ok, c.in_ok-note_change-in-Some.ensures.kept h.0 next.0.readable h.3)
       );
   back = λ base start.
@@ -38,34 +37,34 @@ loop-lsns-preserved g c = record {
 }
 
 pub returns-in_err-next-clause-kept : goal.returns-in_err-next-clause-kept
-returns-in_err-next-clause-kept g c b base all start law low some =
-    let h = c.loop-lsns.invariant.kept b base all start law low some in
+returns-in_err-next-clause-kept g c base all start taken low some =
+    let h = c.loop-lsns.invariant.kept base all start taken low some in
     let cause : c.in_err-next.field-0.0 ≡ Device = (c.in_err-next.ensures.kept base all h.0 h.1).cause in
     let other : c.in_err-next.field-0.0 ≢ NotAStore = λ e. (let clash : Device ≡ NotAStore = sym cause ∙ e in cc clash) in
     record { ok = search rules; cause = search (rules, other) }
 
 pub returns-in_err-record-in-Some-clause-kept : goal.returns-in_err-record-in-Some-clause-kept
-returns-in_err-record-in-Some-clause-kept g c b base all start law low some =
-    let h = c.loop-lsns.invariant.kept b base all start law low some in
+returns-in_err-record-in-Some-clause-kept g c base all start taken low some =
+    let h = c.loop-lsns.invariant.kept base all start taken low some in
     let n = some_kept g.D.Disk base all h.0 c.next.new.self c.next.new.disk c.in_ok-next.field-0 c.in-Some.lsn c.in-Some.is (c.in_ok-next.ensures.kept base all h.0 h.1) in
     let never : None ≡ Some n.entry = sym c.in_err-record-in-Some.ensures.record.1 ∙ n.is in
     let bottom : ⊥ = cc never in
     absurd bottom
 
 pub returns-in_err-take-in-Some-clause-kept : goal.returns-in_err-take-in-Some-clause-kept
-returns-in_err-take-in-Some-clause-kept g c b base all start law low some =
-    let h = c.loop-lsns.invariant.kept b base all start law low some in
+returns-in_err-take-in-Some-clause-kept g c base all start taken low some =
+    let h = c.loop-lsns.invariant.kept base all start taken low some in
     let n = some_kept g.D.Disk base all h.0 c.next.new.self c.next.new.disk c.in_ok-next.field-0 c.in-Some.lsn c.in-Some.is (c.in_ok-next.ensures.kept base all h.0 h.1) in
     let said = view c.in_ok-record-in-Some.record in
     let same : n.entry ≡ said = same_entry _ n.entry said n.is c.in_ok-record-in-Some.ensures.record in
-    let next = next_read g.D.Disk b base page_tree all h.0 c.in-Some.lsn n.entry said c.next.new.self c.next.new.disk same law n.front n.opening in
+    let next = next_read g.D.Disk base all h.0 c.in-Some.lsn n.entry said c.next.new.self c.next.new.disk same taken n.front n.opening in
     let k = c.in_err-take-in-Some.ensures.kept c.args.least h.0 h.2 next.0 next.1.leads in
     let other : c.in_err-take-in-Some.field-0.0 ≢ NotAStore = λ e. next.1.alone (k.refused.0 (ap Rattle.std.proofs.Common.Err e)) in
     record { ok = search rules; cause = search (rules, other) }
 
 pub returns-clause-kept : goal.returns-clause-kept
-returns-clause-kept g c b base all start law low some =
-    let h = c.loop-lsns.invariant.kept b base all start law low some in
+returns-clause-kept g c base all start taken low some =
+    let h = c.loop-lsns.invariant.kept base all start taken low some in
     let e = none_kept g.D.Disk base all h.0 c.next.new.self c.next.new.disk c.in_ok-next.field-0 c.in-None.is (c.in_ok-next.ensures.kept base all h.0 h.1) in
     let whole = subst (λ (l : History). IsAnalysed c.args.least l c.loop-lsns.analysis × (c.loop-lsns.lsns.items ≡ lsns_from 0 l)) e.all_read (h.2, h.3) in
     let analysis = c.finish-analysed.ensures c.args.least all whole.0 in

@@ -1,4 +1,4 @@
-use Rattle.std.proofs.Common.{ℕ, ◌≡◌, None, length}
+use Rattle.std.proofs.Common.{ℕ, ◌≡◌, [], None, length}
 use Rattle.im_types.specs.Histories.{Base, History}
 use Rattle.im_types.specs.Writer.{Writer}
 use Rattle.im_flush.specs.Outcome.{mild}
@@ -13,6 +13,7 @@ abbrev pub invariant-loop-newest : goal.invariant-loop-newest
 invariant-loop-newest g l = record {
   outcome : Recovers g.D.Disk mild l.fn.writer l.writer l.disk None;
   same_room : length l.room ≡ length l.fn.room;
+  none : l.fn.open_change.items ≡ [] → (l.open_change.items ≡ []) × (l.writer ≡ l.fn.writer) × (l.losers ≡ l.fn.losers) × (l.disk ≡ l.fn.disk);
   kept : (b : Base) (base : ℕ) (all : History) (s : Writer) → StandsAs g.D.Disk b base s l.fn.writer l.fn.disk → IsTakingBack b all s → IsOpenChange l.fn.open_change.items s.log → AreLosers l.fn.losers s.log
       → (now : Writer) × ChangeGoes g.D.Disk b base all s l.fn.disk now l.writer l.disk × IsOpenChange l.open_change.items now.log × AreLosers l.losers now.log;
 }

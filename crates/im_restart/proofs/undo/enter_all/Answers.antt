@@ -1,13 +1,16 @@
+use Rattle.std.proofs.Common.{refl, ◌∙◌, ap}
 use Rattle.im_flush.proofs.Outcomes.{sound_on}
 use Rattle.im_redo.proofs.Recoveries.{recovers_then, unmoved}
 use Rattle.im_tree.specs.Theory.{page_tree}
-use Rattle.im_restart.proofs.Bounds.{none_left}
+use Rattle.im_restart.specs.LoserChains.{ChainMap}
+use Rattle.im_restart.proofs.Bounds.{first_of_none, none_left}
 use Rattle.im_restart.proofs.Losers.{waiting, waiting_first, waiting_longer, waiting_none, waiting_taken}
 use Rattle.im_restart.proofs.Steps.{left_then, undo_start, undo_then}
 use Rattle.im_restart.proofs.undo.enter_all.Goals as goal
 
 pub loop-transaction-init : goal.loop-transaction-init
 loop-transaction-init g c = record {
+  none = λ is. (is, refl, refl, refl);
   outcome = unmoved g.D.Disk c.args.writer.now c.args.disk.now c.requires.working c.requires.ready;
   kept = λ b base all s stands is are. (
       let first = waiting_first c.args.losers.now c.args.chains.now s.log are c.requires.none in
@@ -17,6 +20,7 @@ loop-transaction-init g c = record {
 
 pub loop-transaction-preserved : goal.loop-transaction-preserved
 loop-transaction-preserved g c = record {
+  none = λ is. absurd (first_of_none c.loop-transaction.losers.entries c.pop_first.new.self.entries (c.in-Some.transaction, c.in-Some.row) (c.loop-transaction.invariant.none is).0 c.in-Some.ensures.removal);
   outcome = recovers_then g.D.Disk c.loop-transaction.invariant.outcome c.in_ok-go_on.ensures.outcome;
   kept = λ b base all s stands is are. (
       let h = c.loop-transaction.invariant.kept b base all s stands is are in
@@ -42,3 +46,10 @@ returns-clause-kept g c b base all s stands is are =
     let h = c.loop-transaction.invariant.kept b base all s stands is are in
     let none = none_left c.loop-transaction.losers.entries (λ some. (let clash = c.in_default.ensures.variant.1 some in absurd (cc clash))) in
     record { sound = record { now = h.0; goes = h.1; are = waiting_none c.loop-transaction.losers c.loop-transaction.chains h.0.log none h.2 }; stops = h.1.stops }
+
+pub returns-in_err-go_on-clause-none : goal.returns-in_err-go_on-clause-none
+returns-in_err-go_on-clause-none g c is =
+    absurd (first_of_none c.loop-transaction.losers.entries c.pop_first.new.self.entries (c.in-Some.transaction, c.in-Some.row) (c.loop-transaction.invariant.none is).0 c.in-Some.ensures.removal)
+
+pub returns-clause-none : goal.returns-clause-none
+returns-clause-none g c is = let h = c.loop-transaction.invariant.none is in (refl, h.1, ap (λ (m : ChainMap). m.entries) h.2 ∙ c.requires.none, h.3)

@@ -1,4 +1,4 @@
-use Rattle.std.proofs.Common.{ℕ, None, length}
+use Rattle.std.proofs.Common.{ℕ, ◌≡◌, [], None, length}
 use Rattle.im_types.specs.Histories.{Base, History}
 use Rattle.im_types.specs.Writer.{Writer}
 use Rattle.im_flush.specs.Outcome.{mild}
@@ -12,6 +12,7 @@ use Rattle.im_restart.proofs.undo.enter_all.Given as goal
 
 abbrev pub invariant-loop-transaction : goal.invariant-loop-transaction
 invariant-loop-transaction g l = record {
+  none : l.fn.losers.entries ≡ [] → (l.losers.entries ≡ []) × (l.writer ≡ l.fn.writer) × (l.chains ≡ l.fn.chains) × (l.disk ≡ l.fn.disk);
   outcome : Recovers g.D.Disk mild l.fn.writer l.writer l.disk None;
   kept : (b : Base) (base : ℕ) (all : History) (s : Writer) → StandsAs g.D.Disk b base s l.fn.writer l.fn.disk → IsUndoing b all s → AreLosers l.fn.losers s.log
       → (now : Writer) × UndoGoes g.D.Disk b base all s l.fn.disk now l.writer l.disk × AreChains (waiting l.losers) l.chains now.log × AreWaiting l.losers now.log;

@@ -1,3 +1,4 @@
+use Rattle.std.proofs.Common.{◌∙◌}
 use Rattle.im_flush.proofs.Outcomes.{sound_on}
 use Rattle.im_redo.proofs.Recoveries.{recovers_more, recovery_refused}
 use Rattle.im_restart.proofs.Ends.{take_mild}
@@ -17,3 +18,9 @@ returns-clause-kept g c b base all s stands is are =
     let k = c.in_ok-enter_all.ensures.kept b base all s stands is are in
     undo_behind g.D.Disk b base all s c.args.disk.now k.sound.now c.enter_all.new.writer c.enter_all.new.disk c.undo_all.new.writer c.undo_all.new.disk c.undo_all.result k.sound.goes
     (c.undo_all.ensures.kept b base all k.sound.now k.sound.goes.stands k.sound.goes.undoing k.sound.are)
+
+pub returns-in_err-enter_all-clause-none : goal.returns-in_err-enter_all-clause-none
+returns-in_err-enter_all-clause-none g c is = let e = (c.in_err-enter_all.ensures.none is).0 in absurd (cc e)
+
+pub returns-clause-none : goal.returns-clause-none
+returns-clause-none g c is = let first = c.in_ok-enter_all.ensures.none is in let last = c.undo_all.ensures.none first.2 in (last.0, last.1 ∙ first.1, last.2 ∙ first.3)

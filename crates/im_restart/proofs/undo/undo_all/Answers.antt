@@ -5,7 +5,7 @@ use Rattle.im_redo.proofs.Recoveries.{recovers_then, unmoved}
 use Rattle.im_tree.specs.Theory.{page_tree}
 use Rattle.im_tree.proofs.TheoryLaws.{page_tree_laws}
 use Rattle.im_restart.specs.LoserChains.{nobody}
-use Rattle.im_restart.proofs.Bounds.{falls, none_left}
+use Rattle.im_restart.proofs.Bounds.{falls, last_of_none, none_left}
 use Rattle.im_restart.proofs.Latest.{latest_here}
 use Rattle.im_restart.proofs.Losers.{chains_none, chains_taken}
 use Rattle.im_restart.proofs.Steps.{left_then, undo_start, undo_then}
@@ -14,6 +14,7 @@ use Rattle.im_restart.proofs.undo.undo_all.Goals as goal
 pub loop-lsn-init : goal.loop-lsn-init
 loop-lsn-init g c = record {
   room = c.requires.room;
+  none = λ is. (is, refl, refl);
   outcome = unmoved g.D.Disk c.args.writer.now c.args.disk.now c.requires.working c.requires.ready;
   kept = λ b base all s stands is are. (s, undo_start g.D.Disk b base all s c.args.writer.now c.args.disk.now (g.met.D.Disk.only_now c.args.disk.now) stands is, are);
 }
@@ -25,6 +26,7 @@ loop-lsn-smaller g c =
 pub loop-lsn-preserved : goal.loop-lsn-preserved
 loop-lsn-preserved g c = record {
   room = first_of (search rules, grind (arith, common_steps));
+  none = λ is. absurd (last_of_none c.loop-lsn.chains.entries c.take_last.new.chains.entries (c.in-Some.lsn, c.in-Some.chain) (c.loop-lsn.invariant.none is).0 c.in-Some.ensures.removal);
   outcome = recovers_then g.D.Disk c.loop-lsn.invariant.outcome c.in_ok-undo_at.ensures.outcome;
   kept = λ b base all s stands is are. (
       let h = c.loop-lsn.invariant.kept b base all s stands is are in
@@ -48,3 +50,9 @@ returns-clause-kept g c b base all s stands is are =
     let h = c.loop-lsn.invariant.kept b base all s stands is are in
     let none = none_left c.loop-lsn.chains.entries (λ some. (let clash = c.in_default.ensures.variant.1 some in absurd (cc clash))) in
     record { sound = record { now = h.0; goes = h.1; ended = chains_none c.loop-lsn.chains h.0.log h.2 none }; stops = h.1.stops }
+
+pub returns-in_err-undo_at-clause-none : goal.returns-in_err-undo_at-clause-none
+returns-in_err-undo_at-clause-none g c is = absurd (last_of_none c.loop-lsn.chains.entries c.take_last.new.chains.entries (c.in-Some.lsn, c.in-Some.chain) (c.loop-lsn.invariant.none is).0 c.in-Some.ensures.removal)
+
+pub returns-clause-none : goal.returns-clause-none
+returns-clause-none g c is = let h = c.loop-lsn.invariant.none is in (refl, h.1, h.2)

@@ -1,4 +1,4 @@
-use Rattle.std.proofs.Common.{ℕ, ◌≤◌, None, length}
+use Rattle.std.proofs.Common.{ℕ, ◌≡◌, ◌≤◌, [], None, length}
 use Rattle.im_types.specs.Histories.{Base, History}
 use Rattle.im_types.specs.Writer.{Writer}
 use Rattle.im_alloc.specs.Kept.{mild_to_take}
@@ -11,6 +11,7 @@ use Rattle.im_restart.proofs.undo.undo_all.Given as goal
 abbrev pub invariant-loop-lsn : goal.invariant-loop-lsn
 invariant-loop-lsn g l = record {
   room : 16384 ≤ length l.room;
+  none : l.fn.chains.entries ≡ [] → (l.chains.entries ≡ []) × (l.writer ≡ l.fn.writer) × (l.disk ≡ l.fn.disk);
   outcome : Recovers g.D.Disk mild_to_take l.fn.writer l.writer l.disk None;
   kept : (b : Base) (base : ℕ) (all : History) (s : Writer) → StandsAs g.D.Disk b base s l.fn.writer l.fn.disk → IsUndoing b all s → AreChains nobody l.fn.chains s.log
       → (now : Writer) × UndoGoes g.D.Disk b base all s l.fn.disk now l.writer l.disk × AreChains nobody l.chains now.log;
