@@ -1,5 +1,5 @@
 -- Rivals by the index of names are the holders in conflict, and what was kept is what is held.
-use Rattle.std.proofs.Common.{◌≡◌, ◌≢◌, ℕ, ◌<◌, ◌≤◌, Bool, true, false, not, ◌&&◌, ◌||◌, nat_eq, List, [], ◌∷◌, None, Some, refl, ap, sym, ◌∙◌, ◌⊎◌, inl, inr, arith}
+use Rattle.std.proofs.Common.{◌≡◌, ◌≢◌, ℕ, ◌<◌, ◌≤◌, Bool, true, false, not, ◌&&◌, ◌||◌, nat_eq, List, [], ◌∷◌, None, Some, refl, ap, sym, subst, ◌∙◌, ◌⊎◌, inl, inr, arith}
 use Rattle.std.proofs.lemmas.Bool.{eq-eqb, ne_eqb}
 use Rattle.im_lock.specs.Locks.{Name, Lock, Request, kept, kept_if, Holds, Asks, SameLocks, ConflictsWith, IsFree, WaitsFor, MustDie}
 use Rattle.im_lock.specs.Table.{Table, locks_of}
@@ -11,7 +11,7 @@ use Rattle.im_lock.specs.declared.request.Mode.{Mode}
 use Rattle.im_lock.specs.declared.request.Mode.TheVariants.{Shared, Exclusive}
 use Rattle.im_lock.specs.declared.request.Duration.{Duration}
 use Rattle.im_lock.specs.declared.request.Duration.TheVariants.{Instant, ToCommit}
-use Rattle.im_lock.proofs.Bools.{or_true, either, first_of_and, second_of_and, and_true, not_true}
+use Rattle.im_lock.proofs.Bools.{or_true, either, first_of_and, second_of_and, and_true, not_true, false_unless}
 use Rattle.im_lock.proofs.Names.{same_lock-name, same_lock-mode, same_lock-itself, same_mode-itself}
 use Rattle.im_lock.proofs.Holders.{is_holder-owner, is_holder-mode}
 
@@ -143,6 +143,12 @@ pub conflict-rival : (names : NameIndex) (table : Table) → IsInStep names tabl
 conflict-rival names table step t qs s p =
     asked-rival names t qs s p.name p.mode p.ask
     (rivals-to (holders_at names p.name) t p.mode p.theirs s (step.agrees s p.name p.theirs ∙ Holds-held (locks_of table s) p.name p.theirs p.held) p.other p.exclusive)
+
+-- nobody is against t, where nobody else holds a lock
+pub no_rivals : (names : NameIndex) (table : Table) → IsInStep names table → (t : ℕ) (qs : List Request) → ((s : ℕ) → s ≢ t → locks_of table s ≡ []) → IsLeast (is_rival_of names t qs) None
+no_rivals names table step t qs none s = false_unless (is_rival_of names t qs s) (λ h.
+    let p : ConflictsWith (locks_of table) t qs s = rival-conflict names table step t qs s h in
+    subst (λ (ls : List Lock). Holds ls p.name p.theirs) (none s p.other) p.held)
 
 -- ---- the three answers
 

@@ -4,17 +4,17 @@ use Rattle.std.proofs.lemmas.Bool.{eq-eqb, ne_eqb}
 use Rattle.std.proofs.lemmas.Grind.{common_steps}
 use Rattle.im_lock.specs.Locks.{Name, Lock, Request}
 use Rattle.im_lock.specs.Table.{row, requested}
-use Rattle.im_lock.specs.Index.{is_holder, same_name, same_mode, same_lock, is_held, IsOnce, Agrees, OthersHold, holds_by_name, holders_at, keeps, is_to_commit}
+use Rattle.im_lock.specs.Index.{is_holder, is_among, same_name, same_mode, same_lock, is_held, IsOnce, Agrees, OthersHold, holds_by_name, holders_at, keeps, is_to_commit}
 use Rattle.im_lock.specs.declared.request.Request.{Request as RequestInCode}
 use Rattle.im_lock.specs.declared.holder.Holder.{Holder}
 use Rattle.im_lock.specs.declared.name_index.NameIndex.{NameIndex}
 use Rattle.im_lock.specs.declared.request.Mode.{Mode}
 use Rattle.im_lock.specs.declared.request.Duration.{Duration}
 use Rattle.im_lock.specs.declared.request.Duration.TheVariants.{ToCommit}
-use Rattle.im_lock.proofs.Bools.{or_assoc, or_false, first_of_or, second_of_or, neither, or_and_not, and_not_false}
-use Rattle.im_lock.proofs.Holders.{holds-added, holds-removed}
+use Rattle.im_lock.proofs.Bools.{or_assoc, or_false, or_true, and_true, first_of_or, second_of_or, neither, or_and_not, and_not_false}
+use Rattle.im_lock.proofs.Holders.{is_among-append, holds-added, holds-removed}
 use Rattle.im_lock.proofs.Least.{row-step}
-use Rattle.im_lock.proofs.Names.{same_lock-name, same_lock-mode, same_lock-turned}
+use Rattle.im_lock.proofs.Names.{same_lock-name, same_lock-mode, same_lock-itself, same_lock-turned, same_mode-itself}
 
 pub is_held-append : (ls ks : List Lock) (n : Name) (m : Mode) → is_held (ls ++ ks) n m ≡ (is_held ls n m || is_held ks n m)
 is_held-append [] ks n m = refl
@@ -108,6 +108,20 @@ stays-removed old new t ls l name e here others agrees once =
 
 pub OthersHold-on : (a b c : NameIndex) (t : ℕ) → OthersHold a t b → OthersHold b t c → OthersHold a t c
 OthersHold-on a b c t p q s ne n m = q s ne n m ∙ p s ne n m
+
+-- the last lock of t stands in the index of names
+pub last_held : (ix : NameIndex) (t : ℕ) (ls : List Lock) (l : Lock) (name : Name) → name ≡ l.name → Agrees ix t (ls ++ l ∷ []) → holds_by_name ix t name l.mode ≡ true
+last_held ix t ls l name e agrees =
+    ap (λ n. holds_by_name ix t n l.mode) e
+    ∙ (agrees l.name l.mode ∙ (is_held-push ls l l.name l.mode ∙ or_true (is_held ls l.name l.mode) (same_lock l l.name l.mode) (same_lock-itself l)))
+
+-- and so does one that was added
+pub added_held : (old new : NameIndex) (t : ℕ) (name : Name) (mode : Mode) → holders_at new name ≡ holders_at old name ++ record { owner = t; mode = mode } ∷ [] → holds_by_name new t name mode ≡ true
+added_held old new t name mode here =
+    let h : Holder = record { owner = t; mode = mode } in
+    ap (λ hs. is_among hs t mode) here
+    ∙ (is_among-append (holders_at old name) (h ∷ []) t mode
+    ∙ or_true (is_among (holders_at old name) t mode) (is_holder h t mode || false) (or_false (is_holder h t mode) ∙ and_true (nat_eq t t) (same_mode mode mode) (eq-eqb t t refl) (same_mode-itself mode)))
 
 -- one lock that was added and taken out again
 pub stays-taken_back : (old added back : NameIndex) (t : ℕ) (ls : List Lock) (name : Name) (mode : Mode) → holders_at added name ≡ holders_at old name ++ record { owner = t; mode = mode } ∷ [] → ((n : Name) → same_name name n ≡ false → holders_at added n ≡ holders_at old n) → Agrees old t ls → IsOnce ls → holds_by_name old t name mode ≡ false → holders_at back name ≡ filter (λ h. not (is_holder h t mode)) (holders_at added name) → ((n : Name) → same_name name n ≡ false → holders_at back n ≡ holders_at added n) → Stays old t back ls

@@ -7,7 +7,7 @@ use Rattle.std.specs.HashMap.{HashMap, UpdatesBy, get}
 use Rattle.std.specs.Str.{bytes_eq}
 use Rattle.std.specs.Cmp.Lexicographic.{nat_list_eq_equiv, bytes_decides}
 use Rattle.im_types.specs.Keys.{Key}
-use Rattle.im_lock.specs.HeldKeys.{spelled, digest, among, listed_there, IsOneMore}
+use Rattle.im_lock.specs.HeldKeys.{spelled, digest, among, listed, listed_there, IsOneMore}
 use Rattle.im_lock.specs.Index.{holders_of, is_holder, is_among, without}
 use Rattle.im_lock.specs.declared.request.Mode.{Mode}
 use Rattle.im_lock.specs.declared.holder.Holder.{Holder}
@@ -79,6 +79,18 @@ without_kept k t m e es h = ap (λ b. cond (not b) (e ∷ without k t m es) (wit
 pub without_gone : (k : Key) (t : ℕ) (m : Mode) (e : HeldKey) (es : List HeldKey) → (bytes_eq k (spelled e.key) && is_holder e.holder t m) ≡ true → without k t m (e ∷ es) ≡ without k t m es
 without_gone k t m e es h = ap (λ b. cond (not b) (e ∷ without k t m es) (without k t m es)) h
 
+-- one key held, and the others
+pub held_first : (k : Key) (e : HeldKey) (es : List HeldKey) (t : ℕ) (m : Mode) → is_among (among k (e ∷ es)) t m ≡ ((bytes_eq k (spelled e.key) && is_holder e.holder t m) || is_among (among k es) t m)
+held_first k e es t m = go (bytes_eq k (spelled e.key))
+  where
+    go : (b : Bool) → is_among (cond b (e.holder ∷ among k es) (among k es)) t m ≡ ((b && is_holder e.holder t m) || is_among (among k es) t m)
+    go true = refl
+    go false = refl
+
+-- one that is alone and is the one
+pub without_only : (k : Key) (t : ℕ) (m : Mode) (e : HeldKey) → is_among (among k (e ∷ [])) t m ≡ true → without k t m (e ∷ []) ≡ []
+without_only k t m e h = without_gone k t m e [] (sym (held_first k e [] t m ∙ or_false _) ∙ h)
+
 -- the first of a list that is taken from it, and the others
 pub first_moved : (xs ys : List HeldKey) (e : HeldKey) → 0 < length xs → e ≡ slice_index_or xs 0 e → ys ≡ remove xs 0 → e ∷ ys ≡ xs
 first_moved [] ys e some is rest = absurd (omega arith)
@@ -122,19 +134,6 @@ holders_left m n k w h other left = go (nat_eq (digest k) (digest other)) refl
 pub holders_put : {S : Type 0} (m n : HashMap ℕ Bucket S) (k : Key) (w : Option Bucket) → UpdatesBy nat_eq (nat_eq (digest k)) m n w → holders_of n k ≡ among k (listed_there w)
 holders_put m n k w h = ap (λ o. among k (listed_there o)) h.1
 
--- the same, where the bucket was changed and then taken out
-pub holders_out : {S : Type 0} (m mid n : HashMap ℕ Bucket S) (k : Key) (w : Option Bucket) → UpdatesBy nat_eq (nat_eq (digest k)) m mid w → UpdatesBy nat_eq (nat_eq (digest k)) mid n None → (other : Key) → among other (listed_there (get nat_eq m (digest k))) ≡ [] → holders_of n other ≡ holders_of m other
-holders_out m mid n k w h g other none = go (nat_eq (digest k) (digest other)) refl
-  where
-    go : (b : Bool) → nat_eq (digest k) (digest other) ≡ b → holders_of n other ≡ holders_of m other
-    go true e =
-        let same : digest k ≡ digest other = grind (arith, nat_tests) in
-        ap (λ o. among other (listed_there o)) (g.0 (digest other) ∙ ap (λ b. cond b None (get nat_eq mid (digest other))) e)
-        ∙ (sym none ∙ ap (λ d. among other (listed_there (get nat_eq m d))) same)
-    go false e =
-        ap (λ o. among other (listed_there o))
-        ((g.0 (digest other) ∙ ap (λ b. cond b None (get nat_eq mid (digest other))) e) ∙ (h.0 (digest other) ∙ ap (λ b. cond b w (get nat_eq m (digest other))) e))
-
 -- ---- a bucket that one more may have come to
 
 pub added_others : {E : Type 0} (r : Result Bool E) (k : Key) (h : Holder) (old new : List HeldKey) → IfOk r (λ new_one. new_one ≡ true → IsOneMore k h old new) → IfOk r (λ new_one. new_one ≡ false → new ≡ old) → OnErr r (new ≡ old) → (other : Key) → bytes_eq k other ≡ false → among other new ≡ among other old
@@ -146,14 +145,54 @@ pub if_ok : {A E : Type 0} {P Q : A → Type 0} (r : Result A E) → ((a : A) �
 if_ok (Ok a) f h = f a h
 if_ok (Err e) f h = h
 
--- ---- tests over lists of keys held
+-- one holder more of a key, where there is a bucket at its digest
+pub added_here : {S E : Type 0} (m n : HashMap ℕ Bucket S) (k : Key) (d : ℕ) (old new : Bucket) (h : Holder) (r : Result Bool E) → d ≡ digest k → Some old ≡ get nat_eq m d → UpdatesBy nat_eq (nat_eq d) m n (Some new) → IfOk r (λ is_new. is_new ≡ true → IsOneMore k h (listed old) (listed new)) → IfOk r (λ is_new. is_new ≡ true → holders_of n k ≡ holders_of m k ++ h ∷ [])
+added_here m n k d old new h r is there updates more =
+    if_ok r (λ is_new one e.
+    holders_put m n k (Some new) (put_at m n k d (Some new) is updates)
+    ∙ (one_more_here k h (listed old) (listed new) (one e)
+    ∙ ap (λ o. among k (listed_there o) ++ h ∷ []) (there_at m k d old is there))) more
 
-pub held_first : (k : Key) (e : HeldKey) (es : List HeldKey) (t : ℕ) (m : Mode) → is_among (among k (e ∷ es)) t m ≡ ((bytes_eq k (spelled e.key) && is_holder e.holder t m) || is_among (among k es) t m)
-held_first k e es t m = go (bytes_eq k (spelled e.key))
-  where
-    go : (b : Bool) → is_among (cond b (e.holder ∷ among k es) (among k es)) t m ≡ ((b && is_holder e.holder t m) || is_among (among k es) t m)
-    go true = refl
-    go false = refl
+-- and of the other keys the same
+pub added_beside : {S E : Type 0} (m n : HashMap ℕ Bucket S) (k : Key) (d : ℕ) (old new : Bucket) (h : Holder) (r : Result Bool E) → d ≡ digest k → Some old ≡ get nat_eq m d → UpdatesBy nat_eq (nat_eq d) m n (Some new) → IfOk r (λ is_new. is_new ≡ true → IsOneMore k h (listed old) (listed new)) → IfOk r (λ is_new. is_new ≡ false → listed new ≡ listed old) → OnErr r (listed new ≡ listed old) → (other : Key) → bytes_eq k other ≡ false → holders_of n other ≡ holders_of m other
+added_beside m n k d old new h r is there updates more none err other ne =
+    holders_left m n k (Some new) (put_at m n k d (Some new) is updates) other
+    (added_others r k h (listed old) (listed new) more none err other ne
+    ∙ ap (λ o. among other (listed_there o)) (there_at m k d old is there))
+
+-- ---- a bucket from which a holder was taken
+
+-- who holds the key and others, where somebody is left
+pub taken_here : {S : Type 0} (m n : HashMap ℕ Bucket S) (k : Key) (d t : ℕ) (mode : Mode) (old new : Bucket) → d ≡ digest k → Some old ≡ get nat_eq m d → UpdatesBy nat_eq (nat_eq d) m n (Some new) → listed new ≡ without k t mode (listed old) → holders_of n k ≡ filter (λ h. not (is_holder h t mode)) (holders_of m k)
+taken_here m n k d t mode old new is there updates left =
+    holders_put m n k (Some new) (put_at m n k d (Some new) is updates)
+    ∙ (ap (among k) left
+    ∙ (without_here k t mode (listed old)
+    ∙ ap (λ o. filter (λ h. not (is_holder h t mode)) (among k (listed_there o))) (there_at m k d old is there)))
+
+pub taken_beside : {S : Type 0} (m n : HashMap ℕ Bucket S) (k : Key) (d t : ℕ) (mode : Mode) (old new : Bucket) → d ≡ digest k → Some old ≡ get nat_eq m d → UpdatesBy nat_eq (nat_eq d) m n (Some new) → listed new ≡ without k t mode (listed old) → (other : Key) → bytes_eq k other ≡ false → holders_of n other ≡ holders_of m other
+taken_beside m n k d t mode old new is there updates left other ne =
+    holders_left m n k (Some new) (put_at m n k d (Some new) is updates) other
+    (ap (among other) left
+    ∙ (without_others k t mode (listed old) other ne
+    ∙ ap (λ o. among other (listed_there o)) (there_at m k d old is there)))
+
+-- and where nobody is left, and the digest is taken out
+pub emptied_here : {S : Type 0} (m n : HashMap ℕ Bucket S) (k : Key) (d t : ℕ) (mode : Mode) (old : Bucket) → d ≡ digest k → Some old ≡ get nat_eq m d → UpdatesBy nat_eq (nat_eq d) m n None → without k t mode (listed old) ≡ [] → holders_of n k ≡ filter (λ h. not (is_holder h t mode)) (holders_of m k)
+emptied_here m n k d t mode old is there updates none =
+    holders_put m n k None (put_at m n k d None is updates)
+    ∙ (ap (among k) (sym none)
+    ∙ (without_here k t mode (listed old)
+    ∙ ap (λ o. filter (λ h. not (is_holder h t mode)) (among k (listed_there o))) (there_at m k d old is there)))
+
+pub emptied_beside : {S : Type 0} (m n : HashMap ℕ Bucket S) (k : Key) (d t : ℕ) (mode : Mode) (old : Bucket) → d ≡ digest k → Some old ≡ get nat_eq m d → UpdatesBy nat_eq (nat_eq d) m n None → without k t mode (listed old) ≡ [] → (other : Key) → bytes_eq k other ≡ false → holders_of n other ≡ holders_of m other
+emptied_beside m n k d t mode old is there updates none other ne =
+    holders_left m n k None (put_at m n k d None is updates) other
+    (ap (among other) (sym none)
+    ∙ (without_others k t mode (listed old) other ne
+    ∙ ap (λ o. among other (listed_there o)) (there_at m k d old is there)))
+
+-- ---- tests over lists of keys held
 
 -- a key held at some place
 pub held_at : (k : Key) (es : List HeldKey) (i : ℕ) (d : HeldKey) (t : ℕ) (m : Mode) → i < length es → (bytes_eq k (spelled ((get_or es i d).key)) && is_holder ((get_or es i d).holder) t m) ≡ true → is_among (among k es) t m ≡ true

@@ -1,6 +1,7 @@
 -- What a change at one owner leaves of the table.
-use Rattle.std.proofs.Common.{◌≡◌, ℕ, Bool, true, false, nat_eq, cond, map, List, [], ◌∷◌, Option, None, Some, is_some, Result, Ok, Err, OnOk, OnErr, Vec, refl, ap, sym, subst, ◌∙◌, inl, inr}
+use Rattle.std.proofs.Common.{◌≡◌, ◌≢◌, ◌≤◌, ℕ, Bool, true, false, nat_eq, cond, map, length, List, [], ◌∷◌, Option, None, Some, is_some, Result, Ok, Err, OnOk, OnErr, Vec, refl, ap, sym, subst, ◌∙◌, inl, inr, arith}
 use Rattle.std.proofs.lemmas.Bool.{ne_eqb}
+use Rattle.std.proofs.lemmas.Bool.Decides.{nat_tests}
 use Rattle.std.specs.HashMap.{HashMap, UpdatesBy, get}
 use Rattle.std.specs.Map.{lookup}
 use Rattle.im_lock.proofs.Bools.{cases_number}
@@ -70,6 +71,22 @@ no_value (Some a) h = cc
 -- t holds nothing, where the map has no list
 pub locks_of-none : {S Y : Type 0} (m : HashMap ℕ (Vec StoredLock Y) S) (t : ℕ) → is_some (get nat_eq m t) ≡ false → locks_of (owned m) t ≡ []
 locks_of-none m t h = locks_of-owned m t ∙ ap seen_there (no_value (get nat_eq m t) h)
+
+number_is : (a b : ℕ) → nat_eq a b ≡ true → a ≡ b
+number_is a b h = grind (arith, nat_tests)
+
+-- nobody but t holds a lock, where there is one list, which is t's
+pub own_list : {S Y : Type 0} (m : HashMap ℕ (Vec StoredLock Y) S) (t : ℕ) → length m.entries ≤ 1 → is_some (get nat_eq m t) ≡ true → (s : ℕ) → s ≢ t → locks_of (owned m) s ≡ []
+own_list m t one there s ne = go m.entries one there
+  where
+    first : {V : Type 0} (b : Bool) (v : V) → is_some (cond b (Some v) None) ≡ true → b ≡ true
+    first true v h = refl
+    first false v h = cc
+
+    go : {Y : Type 0} (es : List (ℕ × Vec StoredLock Y)) → length es ≤ 1 → is_some (lookup (nat_eq t) es) ≡ true → locks_of (map (λ e. (e.0, seen_all e.1)) es) s ≡ []
+    go [] h k = refl
+    go (e ∷ []) h k = ap (λ b. cond b (seen_all e.1) []) (ne_eqb s e.0 (λ q. ne (q ∙ sym (number_is t e.0 (first (nat_eq t e.0) e.1 k)))))
+    go (e ∷ d ∷ es) h k = absurd (omega (arith, h))
 
 -- ---- under a result
 

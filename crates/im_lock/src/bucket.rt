@@ -59,11 +59,15 @@ impl Bucket {
         Ok(())
     }
 
-    /// Takes an owner of a key in a mode out. Answers whether nobody is left; who was the last one is still there then.
+    /// Takes an owner of a key in a mode out, who is there. Answers whether nobody is left; who was the last one is still there then.
     pub fn take_out(&mut self, key: &[u8], owner: TxnId, mode: Mode) -> bool
+        requires { is_among (among key.now (listed self.old)) owner mode ≡ true }
         ensures left { result ≡ false → listed self.new ≡ without key.now owner mode (listed self.old) }
         ensures none { result ≡ true → without key.now owner mode (listed self.old) ≡ [] }
     {
+        if self.more.is_empty() {
+            return true;
+        }
         self.more.retain(|held| !held.is_held_by(key, owner, mode));
         if !self.first.is_held_by(key, owner, mode) {
             return false;

@@ -11,8 +11,9 @@
 //! twice: in the list of its owner, and in an index from names to holders. That both say the same, and each lock once,
 //! is the table's invariant (`IsInStep`). The index finds a key by a digest of its bytes, whose bucket lists the keys of
 //! that digest that are held: mostly one, in place, as are keys of up to 31 bytes, so that a lock on such a key that
-//! nobody else holds wants no memory but room in the two. So a request costs look-ups of its name, however many
-//! locks are held, and a release costs what its owner holds. `im_bench lock --time` measures it.
+//! nobody else holds wants no memory but room in the two. So a request costs two look-ups of its name, however many
+//! locks are held: one for those who are against it, which is left out where nobody else has a lock, and one to keep it;
+//! and a release costs one for each lock of its owner. `im_bench lock --time` measures it.
 //!
 //! **The rows.** `fetch_row`, `seek_row`, `scan_row`, `insert_row`, `delete_row` and `shared` give what each access asks,
 //! from what its search found; by their contracts these are the rows of the machine (`asked`).

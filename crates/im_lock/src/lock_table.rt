@@ -1,11 +1,12 @@
 //! The lock table.
 
-ghost use Rattle.std.specs.Prelude.{◌≡◌, IfOk, IfErr, OnErr, OnOk, [], nat_eq};
+ghost use Rattle.std.specs.Prelude.{◌≡◌, ◌≢◌, ℕ, IfOk, IfErr, OnErr, OnOk, [], nat_eq, true};
 ghost use Rattle.std.specs.HashMap.{ContainsKey};
 ghost use Rattle.im_types.specs.declared.fault.Fault.TheVariants.{Memory};
 ghost use Rattle.im_lock.specs.Locks.{IsFree};
 ghost use Rattle.im_lock.specs.Table.{row, locks_of, Decides, IsGrown, SameTable, IsReleased};
 ghost use Rattle.im_lock.specs.InStep.{owned, IsInStep};
+ghost use Rattle.im_lock.specs.Index.{is_rival_of, IsLeast};
 
 use crate::grants::{forget, grant};
 use crate::name_index::NameIndex;
@@ -56,7 +57,7 @@ impl LockTable {
         ensures decided { IfOk result (λ verdict. Decides self.old t (row requests.now) verdict self.new) }
         ensures refused { IfErr result (λ fault. (fault ≡ Memory) × IsFree (locks_of self.old) t (row requests.now) × SameTable self.old self.new) }
     {
-        if let Some(holder) = smallest_rival(&self.names, t, requests) {
+        if let Some(holder) = rival_of(&self.names, &self.owners, t, requests) {
             return Ok(if t < holder {
                 Verdict::Wait(holder)
             } else {
@@ -75,6 +76,36 @@ impl LockTable {
     {
         release(&mut self.names, &mut self.owners, t);
     }
+}
+
+// The smallest number of a holder in conflict with what `t` asks: none where nobody else holds a lock, and no name is looked up.
+fn rival_of(
+    names: &NameIndex,
+    owners: &HashMap<TxnId, Vec<StoredLock>>,
+    t: TxnId,
+    requests: &[Request<'_>],
+) -> Option<TxnId>
+    requires { IsInStep names.now (owned owners.now) }
+    ensures { IsLeast (is_rival_of names.now t (row requests.now)) result }
+{
+    if is_alone(owners, t) {
+        return None;
+    }
+    smallest_rival(names, t, requests)
+}
+
+// Whether nobody but `t` has a list of locks.
+fn is_alone(owners: &HashMap<TxnId, Vec<StoredLock>>, t: TxnId) -> bool
+    ensures { result ≡ true → (s : ℕ) → s ≢ t → locks_of (owned owners.now) s ≡ [] }
+{
+    let count = owners.len();
+    if 1 < count {
+        return false;
+    }
+    if count == 0 {
+        return true;
+    }
+    owners.contains_key(&t)
 }
 
 // Adds to the locks of `t` those requests that are kept, all or none.

@@ -16,6 +16,7 @@ use crate::rivals::smallest_among;
 use im_types::TxnId;
 use std::alloc::{AllocError, Global};
 use std::collections::HashMap;
+use std::collections::hash_map::Entry;
 use std::hash::{FoldHasher, Hasher};
 
 impl NameIndex {
@@ -49,8 +50,9 @@ impl NameIndex {
         }
     }
 
-    /// Takes a holder of a name out.
+    /// Takes a holder of a name out, who is there.
     pub fn remove(&mut self, name: Name<'_>, owner: TxnId, mode: Mode)
+        requires { holds_by_name self.old owner (named name) mode ≡ true }
         ensures here { holders_at self.new (named name.entry) ≡ filter (λ h. not (is_holder h owner mode)) (holders_at self.old (named name.entry)) }
         ensures others { (n : LockName) → same_name (named name.entry) n ≡ false → holders_at self.new n ≡ holders_at self.old n }
     {
@@ -123,25 +125,26 @@ fn add_at(
     ensures others { (k : List ℕ) → bytes_eq key.now k ≡ false → holders_of keys.new k ≡ holders_of keys.old k }
     ensures err { OnErr result ((k : List ℕ) → holders_of keys.new k ≡ holders_of keys.old k) }
 {
-    let digest = digest_of(key);
-    if let Some(bucket) = keys.get_mut(&digest) {
-        return add_in(bucket, key, holder);
+    match keys.entry(digest_of(key))? {
+        Entry::Occupied(place) => add_in(place.into_mut(), key, holder),
+        Entry::Vacant(place) => {
+            place.insert(Bucket::one(alloc, key, holder)?);
+            Ok(true)
+        }
     }
-    keys.insert(digest, Bucket::one(alloc, key, holder)?)?;
-    Ok(true)
 }
 
-// Takes a holder of a key out, and the digest where nobody is left.
+// Takes a holder of a key out, who is there, and the digest where nobody is left.
 fn remove_at(keys: &mut HashMap<u64, Bucket>, key: &[u8], owner: TxnId, mode: Mode)
+    requires { held_among (holders_of keys.old key.now) owner mode ≡ true }
     ensures here { holders_of keys.new key.now ≡ filter (λ h. not (is_holder h owner mode)) (holders_of keys.old key.now) }
     ensures others { (k : List ℕ) → bytes_eq key.now k ≡ false → holders_of keys.new k ≡ holders_of keys.old k }
 {
-    let digest = digest_of(key);
-    let Some(bucket) = keys.get_mut(&digest) else {
+    let Ok(Entry::Occupied(mut place)) = keys.entry(digest_of(key)) else {
         return;
     };
-    if bucket.take_out(key, owner, mode) {
-        keys.remove(&digest);
+    if place.get_mut().take_out(key, owner, mode) {
+        place.remove();
     }
 }
 

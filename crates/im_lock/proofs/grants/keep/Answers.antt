@@ -4,7 +4,7 @@ use Rattle.im_lock.specs.Locks.{Lock}
 use Rattle.im_lock.specs.Table.{named}
 use Rattle.im_lock.specs.Index.{seen, seen_all, stored, is_held}
 use Rattle.im_lock.proofs.Bools.{not_true}
-use Rattle.im_lock.proofs.Held.{Stays, stays-added, stays-taken_back, is_held-push, held-one}
+use Rattle.im_lock.proofs.Held.{Stays, stays-added, stays-taken_back, added_held, is_held-push, held-one}
 use Rattle.im_lock.proofs.grants.keep.Goals as goal
 use Rattle.im_lock.proofs.grants.keep.Goals.{After-push_reserved, After-remove}
 
@@ -30,6 +30,9 @@ returns-in-Ok-clause-others c = (stays c).others
 
 pub returns-in-Ok-clause-held : goal.returns-in-Ok-clause-held
 returns-in-Ok-clause-held c = λ n m. ap (λ (ls : List Lock). is_held ls n m) (all_seen c) ∙ (is_held-push (seen_all c.args.locks.now) (record { name = stored c.in-Ok.name; mode = c.args.request.now.mode }) n m ∙ held-one (is_held (seen_all c.args.locks.now) n m) (stored c.in-Ok.name) (named c.args.request.now.name) c.args.request.now.mode c.args.request.now.duration n m c.in-Ok.ensures c.in_default.is)
+
+pub remove-requires : goal.remove-requires
+remove-requires c = added_held c.args.names.now c.add.new.self c.args.t (named c.args.request.now.name) c.args.request.now.mode (c.in_ok-add.ensures.here c.if-not-branch.false)
 
 -- the holder was taken out again
 taken_back : (c : After-remove) → Stays c.args.names.now c.args.t c.remove.new.self (seen_all c.reserve.new.self)
