@@ -34,8 +34,7 @@ fn word(key: &[u8]) -> u64
     ])
 }
 
-/// A number that no key of less than eight bytes, and no other key below this one, has a first word above: the key's first eight bytes, or the
-/// greatest number.
+/// The first eight bytes of a key as a number, the greatest one where it has fewer: a key whose first word is above it is above the key.
 fn top_of(key: &[u8]) -> u64
     ensures { IsTopOf key.now result }
 {

@@ -49,17 +49,20 @@
 //! |---|---|---|---|---|---|---|
 //! | find a key, and its value | 27 | 67 | 0.40 | 36 | 87 | 0.41 |
 //! | find, remove, find, insert again | 415 | 379 | 1.10 | 552 | 446 | 1.24 |
-//! | read a full page in place | 635 | 1,076 | 0.59 | 786 | 1,131 | 0.69 |
+//! | read a full page in place | 951 | 2,724 | 0.35 | 1,176 | 2,307 | 0.51 |
 //! | split into two pages | 1,794 | 2,542 | 0.71 | 2,315 | 3,445 | 0.67 |
 //!
-//! The row of reads is of another machine than the others, with a load of eight to ten on its four cores. On that or a like one
-//! the other ratios were, in the same order, 0.22 and 0.22, 0.91 and 0.97, and between 1.1 and 1.6 for a split, which took
-//! 2,763 to 4,141 there with 150 entries from run to run, where C took 2,554.
+//! The row of reads is of another machine than the others, with a load of nine to ten on its four cores; where the test of the form
+//! read each key twice, it took 1,200 and 1,507 in the same minutes. On that or a like machine the other ratios were, in the same
+//! order, 0.22 and 0.22, 0.91 and 0.97, and between 1.1 and 1.6 for a split, which took 2,763 to 4,141 there with 150 entries from
+//! run to run, where C took 2,554.
 //!
 //! Slower than C are a removal and an insertion, as cells and slots move by a rotation, which keeps the shorter side in
 //! a buffer meanwhile and moves the rest at once, and as each slot is written again; and on the second machine a split,
 //! as each entry is put by an insertion of its own. Keys are compared eight bytes at a time. The test of a page's form goes once over
-//! the cells, from where they begin to the end, and once over the slots: each slot has to name the first byte of a cell.
+//! the cells, from where they begin to the end, and once over the slots: each slot has to name the first byte of a cell. There the first
+//! eight bytes of each key are read once, as a number that is kept for the next slot; where two such numbers differ, no other byte of
+//! the two keys is read.
 #![tactic(auto)]
 
 mod cells;

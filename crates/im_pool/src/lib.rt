@@ -11,6 +11,7 @@
 //!   file's page count on, and none where the bytes are no page.
 //! - `get` leaves that function as it is, and answers the frame at which the page is held. A page that is held costs a
 //!   look-up by hash and a move in the order of use; any other one length call, one read and one check.
+//! - `get_held` does the same of a page that is held, and of any other says that it is not, by one look-up either way.
 //! - `insert`, `remove`, `copy_in` and the setters change the one page of their frame, as the calls of `im_page` of the
 //!   same names do, and mark it.
 //! - `hold_copy` and `hold_initial` hold a page whatever the file has, without a call of the disk.
