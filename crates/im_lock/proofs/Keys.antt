@@ -3,7 +3,8 @@ use Rattle.std.proofs.Common.{◌≡◌, ℕ, ◌<◌, ◌+◌, suc, zero, Bool,
 use Rattle.std.proofs.lemmas.Bool.Decides.{nat_tests}
 use Rattle.std.proofs.lemmas.Bool.{eq-eqb}
 use Rattle.std.proofs.lemmas.List.{take_more}
-use Rattle.std.specs.HashMap.{HashMap, UpdatesBy, get}
+use Rattle.std.specs.HashMap.{HashMap, get}
+use Rattle.std.specs.Map.{lookup}
 use Rattle.std.specs.Str.{bytes_eq}
 use Rattle.std.specs.Cmp.Lexicographic.{nat_list_eq_equiv, bytes_decides}
 use Rattle.im_types.specs.Keys.{Key}
@@ -112,27 +113,8 @@ some_items v h = some_in v.items (λ none. let zero_long : vec_len v ≡ 0 = v.o
 
 -- ---- in the map
 
--- what is said at the digest that was computed is said at that of the key
-pub put_at : {S : Type 0} (m n : HashMap ℕ Bucket S) (k : Key) (d : ℕ) (w : Option Bucket) → d ≡ digest k → UpdatesBy nat_eq (nat_eq d) m n w → UpdatesBy nat_eq (nat_eq (digest k)) m n w
-put_at m n k d w is h = subst (λ x. UpdatesBy nat_eq (nat_eq x) m n w) is h
-
 pub there_at : {S : Type 0} (m : HashMap ℕ Bucket S) (k : Key) (d : ℕ) (b : Bucket) → d ≡ digest k → Some b ≡ get nat_eq m d → Some b ≡ get nat_eq m (digest k)
 there_at m k d b is h = h ∙ ap (λ x. get nat_eq m x) is
-
--- a change at the digest of one key leaves the holders of another, where the bucket there does
-pub holders_left : {S : Type 0} (m n : HashMap ℕ Bucket S) (k : Key) (w : Option Bucket) → UpdatesBy nat_eq (nat_eq (digest k)) m n w → (other : Key) → among other (listed_there w) ≡ among other (listed_there (get nat_eq m (digest k))) → holders_of n other ≡ holders_of m other
-holders_left m n k w h other left = go (nat_eq (digest k) (digest other)) refl
-  where
-    go : (b : Bool) → nat_eq (digest k) (digest other) ≡ b → holders_of n other ≡ holders_of m other
-    go true e =
-        let same : digest k ≡ digest other = grind (arith, nat_tests) in
-        ap (λ o. among other (listed_there o)) (h.0 (digest other) ∙ ap (λ b. cond b w (get nat_eq m (digest other))) e)
-        ∙ (left ∙ ap (λ d. among other (listed_there (get nat_eq m d))) same)
-    go false e = ap (λ o. among other (listed_there o)) (h.0 (digest other) ∙ ap (λ b. cond b w (get nat_eq m (digest other))) e)
-
--- the holders of the key itself are those that the bucket has
-pub holders_put : {S : Type 0} (m n : HashMap ℕ Bucket S) (k : Key) (w : Option Bucket) → UpdatesBy nat_eq (nat_eq (digest k)) m n w → holders_of n k ≡ among k (listed_there w)
-holders_put m n k w h = ap (λ o. among k (listed_there o)) h.1
 
 -- ---- a bucket that one more may have come to
 
@@ -145,52 +127,65 @@ pub if_ok : {A E : Type 0} {P Q : A → Type 0} (r : Result A E) → ((a : A) �
 if_ok (Ok a) f h = f a h
 if_ok (Err e) f h = h
 
+-- the entries of a map that has w at one digest, and at each other what m has
+abbrev pub Puts : {S : Type 0} → HashMap ℕ Bucket S → ℕ → Option Bucket → List (ℕ × Bucket) → Type 0
+Puts m d w es = (q : ℕ) → lookup (nat_eq q) es ≡ cond (nat_eq d q) w (get nat_eq m q)
+
+-- who holds the key, by the entries of the map
+abbrev pub holders_in : List (ℕ × Bucket) → Key → List Holder
+holders_in es k = among k (listed_there (lookup (nat_eq (digest k)) es))
+
+held_in : {S : Type 0} (m : HashMap ℕ Bucket S) (es : List (ℕ × Bucket)) (k : Key) (d : ℕ) (w : Option Bucket) → d ≡ digest k → Puts m d w es → holders_in es k ≡ among k (listed_there w)
+held_in m es k d w is puts = ap (λ o. among k (listed_there o)) (puts (digest k) ∙ ap (λ b. cond b w (get nat_eq m (digest k))) (eq-eqb d (digest k) is))
+
+left_in : {S : Type 0} (m : HashMap ℕ Bucket S) (es : List (ℕ × Bucket)) (k : Key) (d : ℕ) (old : Bucket) (w : Option Bucket) → d ≡ digest k → Some old ≡ get nat_eq m d → Puts m d w es → (other : Key) → among other (listed_there w) ≡ among other (listed old) → holders_in es other ≡ holders_of m other
+left_in m es k d old w is there puts other left = go (nat_eq d (digest other)) refl
+  where
+    go : (b : Bool) → nat_eq d (digest other) ≡ b → holders_in es other ≡ holders_of m other
+    go true e =
+        let same : d ≡ digest other = grind (arith, nat_tests) in
+        ap (λ o. among other (listed_there o)) (puts (digest other) ∙ ap (λ b. cond b w (get nat_eq m (digest other))) e)
+        ∙ (left ∙ ap (λ o. among other (listed_there o)) (there ∙ ap (λ x. get nat_eq m x) same))
+    go false e = ap (λ o. among other (listed_there o)) (puts (digest other) ∙ ap (λ b. cond b w (get nat_eq m (digest other))) e)
+
 -- one holder more of a key, where there is a bucket at its digest
-pub added_here : {S E : Type 0} (m n : HashMap ℕ Bucket S) (k : Key) (d : ℕ) (old new : Bucket) (h : Holder) (r : Result Bool E) → d ≡ digest k → Some old ≡ get nat_eq m d → UpdatesBy nat_eq (nat_eq d) m n (Some new) → IfOk r (λ is_new. is_new ≡ true → IsOneMore k h (listed old) (listed new)) → IfOk r (λ is_new. is_new ≡ true → holders_of n k ≡ holders_of m k ++ h ∷ [])
-added_here m n k d old new h r is there updates more =
+pub added_here : {S E : Type 0} (m : HashMap ℕ Bucket S) (es : List (ℕ × Bucket)) (k : Key) (d : ℕ) (old new : Bucket) (h : Holder) (r : Result Bool E) → d ≡ digest k → Some old ≡ get nat_eq m d → Puts m d (Some new) es → IfOk r (λ is_new. is_new ≡ true → IsOneMore k h (listed old) (listed new)) → IfOk r (λ is_new. is_new ≡ true → holders_in es k ≡ holders_of m k ++ h ∷ [])
+added_here m es k d old new h r is there puts more =
     if_ok r (λ is_new one e.
-    holders_put m n k (Some new) (put_at m n k d (Some new) is updates)
+    held_in m es k d (Some new) is puts
     ∙ (one_more_here k h (listed old) (listed new) (one e)
     ∙ ap (λ o. among k (listed_there o) ++ h ∷ []) (there_at m k d old is there))) more
 
 -- and of the other keys the same
-pub added_beside : {S E : Type 0} (m n : HashMap ℕ Bucket S) (k : Key) (d : ℕ) (old new : Bucket) (h : Holder) (r : Result Bool E) → d ≡ digest k → Some old ≡ get nat_eq m d → UpdatesBy nat_eq (nat_eq d) m n (Some new) → IfOk r (λ is_new. is_new ≡ true → IsOneMore k h (listed old) (listed new)) → IfOk r (λ is_new. is_new ≡ false → listed new ≡ listed old) → OnErr r (listed new ≡ listed old) → (other : Key) → bytes_eq k other ≡ false → holders_of n other ≡ holders_of m other
-added_beside m n k d old new h r is there updates more none err other ne =
-    holders_left m n k (Some new) (put_at m n k d (Some new) is updates) other
-    (added_others r k h (listed old) (listed new) more none err other ne
-    ∙ ap (λ o. among other (listed_there o)) (there_at m k d old is there))
+pub added_beside : {S E : Type 0} (m : HashMap ℕ Bucket S) (es : List (ℕ × Bucket)) (k : Key) (d : ℕ) (old new : Bucket) (h : Holder) (r : Result Bool E) → d ≡ digest k → Some old ≡ get nat_eq m d → Puts m d (Some new) es → IfOk r (λ is_new. is_new ≡ true → IsOneMore k h (listed old) (listed new)) → IfOk r (λ is_new. is_new ≡ false → listed new ≡ listed old) → OnErr r (listed new ≡ listed old) → (other : Key) → bytes_eq k other ≡ false → holders_in es other ≡ holders_of m other
+added_beside m es k d old new h r is there puts more none err other ne =
+    left_in m es k d old (Some new) is there puts other (added_others r k h (listed old) (listed new) more none err other ne)
 
 -- ---- a bucket from which a holder was taken
 
 -- who holds the key and others, where somebody is left
-pub taken_here : {S : Type 0} (m n : HashMap ℕ Bucket S) (k : Key) (d t : ℕ) (mode : Mode) (old new : Bucket) → d ≡ digest k → Some old ≡ get nat_eq m d → UpdatesBy nat_eq (nat_eq d) m n (Some new) → listed new ≡ without k t mode (listed old) → holders_of n k ≡ filter (λ h. not (is_holder h t mode)) (holders_of m k)
-taken_here m n k d t mode old new is there updates left =
-    holders_put m n k (Some new) (put_at m n k d (Some new) is updates)
+pub taken_here : {S : Type 0} (m : HashMap ℕ Bucket S) (es : List (ℕ × Bucket)) (k : Key) (d t : ℕ) (mode : Mode) (old new : Bucket) → d ≡ digest k → Some old ≡ get nat_eq m d → Puts m d (Some new) es → listed new ≡ without k t mode (listed old) → holders_in es k ≡ filter (λ h. not (is_holder h t mode)) (holders_of m k)
+taken_here m es k d t mode old new is there puts left =
+    held_in m es k d (Some new) is puts
     ∙ (ap (among k) left
     ∙ (without_here k t mode (listed old)
     ∙ ap (λ o. filter (λ h. not (is_holder h t mode)) (among k (listed_there o))) (there_at m k d old is there)))
 
-pub taken_beside : {S : Type 0} (m n : HashMap ℕ Bucket S) (k : Key) (d t : ℕ) (mode : Mode) (old new : Bucket) → d ≡ digest k → Some old ≡ get nat_eq m d → UpdatesBy nat_eq (nat_eq d) m n (Some new) → listed new ≡ without k t mode (listed old) → (other : Key) → bytes_eq k other ≡ false → holders_of n other ≡ holders_of m other
-taken_beside m n k d t mode old new is there updates left other ne =
-    holders_left m n k (Some new) (put_at m n k d (Some new) is updates) other
-    (ap (among other) left
-    ∙ (without_others k t mode (listed old) other ne
-    ∙ ap (λ o. among other (listed_there o)) (there_at m k d old is there)))
+pub taken_beside : {S : Type 0} (m : HashMap ℕ Bucket S) (es : List (ℕ × Bucket)) (k : Key) (d t : ℕ) (mode : Mode) (old new : Bucket) → d ≡ digest k → Some old ≡ get nat_eq m d → Puts m d (Some new) es → listed new ≡ without k t mode (listed old) → (other : Key) → bytes_eq k other ≡ false → holders_in es other ≡ holders_of m other
+taken_beside m es k d t mode old new is there puts left other ne =
+    left_in m es k d old (Some new) is there puts other (ap (among other) left ∙ without_others k t mode (listed old) other ne)
 
 -- and where nobody is left, and the digest is taken out
-pub emptied_here : {S : Type 0} (m n : HashMap ℕ Bucket S) (k : Key) (d t : ℕ) (mode : Mode) (old : Bucket) → d ≡ digest k → Some old ≡ get nat_eq m d → UpdatesBy nat_eq (nat_eq d) m n None → without k t mode (listed old) ≡ [] → holders_of n k ≡ filter (λ h. not (is_holder h t mode)) (holders_of m k)
-emptied_here m n k d t mode old is there updates none =
-    holders_put m n k None (put_at m n k d None is updates)
+pub emptied_here : {S : Type 0} (m : HashMap ℕ Bucket S) (es : List (ℕ × Bucket)) (k : Key) (d t : ℕ) (mode : Mode) (old : Bucket) → d ≡ digest k → Some old ≡ get nat_eq m d → Puts m d None es → without k t mode (listed old) ≡ [] → holders_in es k ≡ filter (λ h. not (is_holder h t mode)) (holders_of m k)
+emptied_here m es k d t mode old is there puts none =
+    held_in m es k d None is puts
     ∙ (ap (among k) (sym none)
     ∙ (without_here k t mode (listed old)
     ∙ ap (λ o. filter (λ h. not (is_holder h t mode)) (among k (listed_there o))) (there_at m k d old is there)))
 
-pub emptied_beside : {S : Type 0} (m n : HashMap ℕ Bucket S) (k : Key) (d t : ℕ) (mode : Mode) (old : Bucket) → d ≡ digest k → Some old ≡ get nat_eq m d → UpdatesBy nat_eq (nat_eq d) m n None → without k t mode (listed old) ≡ [] → (other : Key) → bytes_eq k other ≡ false → holders_of n other ≡ holders_of m other
-emptied_beside m n k d t mode old is there updates none other ne =
-    holders_left m n k None (put_at m n k d None is updates) other
-    (ap (among other) (sym none)
-    ∙ (without_others k t mode (listed old) other ne
-    ∙ ap (λ o. among other (listed_there o)) (there_at m k d old is there)))
+pub emptied_beside : {S : Type 0} (m : HashMap ℕ Bucket S) (es : List (ℕ × Bucket)) (k : Key) (d t : ℕ) (mode : Mode) (old : Bucket) → d ≡ digest k → Some old ≡ get nat_eq m d → Puts m d None es → without k t mode (listed old) ≡ [] → (other : Key) → bytes_eq k other ≡ false → holders_in es other ≡ holders_of m other
+emptied_beside m es k d t mode old is there puts none other ne =
+    left_in m es k d old None is there puts other (ap (among other) (sym none) ∙ without_others k t mode (listed old) other ne)
 
 -- ---- tests over lists of keys held
 
