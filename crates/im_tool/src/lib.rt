@@ -11,8 +11,6 @@
 #![tactic(auto)]
 
 mod checkpoints;
-#[cfg(test)]
-mod damage;
 mod imdrill;
 mod imstore;
 mod key_notation;
@@ -30,19 +28,13 @@ mod recovered;
 mod redo_bound;
 #[cfg(test)]
 mod redo_kept;
-#[cfg(test)]
-mod restarts;
 mod store;
-#[cfg(test)]
-mod stored;
 mod tasks;
 #[cfg(test)]
 mod tests;
 mod transfer;
 mod tree_check;
 mod tree_damage;
-#[cfg(test)]
-mod tree_rows;
 mod words_step;
 
 pub use imdrill::drill_program;

@@ -1,8 +1,10 @@
-use im_drill::drill_text;
+//! Scripts with what they print, word for word.
+
+use crate::drilled::prints;
 use std::test::Fail;
 
 // Scripts with what they print and their exit statuses, word for word.
-const STORED: [(&str, &str, &str, u8); 39] = [
+static STORED: [(&str, &str, &str, u8); 39] = [
     (
         "bad_line_is_named",
         "raw\nputt 61\n",
@@ -241,12 +243,11 @@ const STORED: [(&str, &str, &str, u8); 39] = [
 
 #[test]
 fn scripts_print_their_stored_outputs(rt: HostRuntime) -> Result<(), Fail> {
-    for (name, script, want, want_status) in STORED {
-        let mut printed = Vec::new(rt.alloc());
-        let mut reader = script.as_bytes();
-        let status = drill_text(rt.alloc(), &mut reader, &mut printed)?;
-        assert!(rt; status == want_status, "{name}");
-        assert!(rt; printed.as_slice() == want.as_bytes(), "{name}");
+    for (name, script, want, want_status) in &STORED {
+        assert!(rt;
+            prints(rt.alloc(), script.as_bytes(), want.as_bytes(), *want_status)?,
+            "{name}"
+        );
     }
     Ok(())
 }

@@ -1,3 +1,5 @@
+//! A log of one insert that was committed, cut and with bytes replaced.
+
 ghost use Rattle.std.specs.Prelude.{◌≡◌, false};
 ghost use Rattle.im_disk.specs.Runs.{IsSynced};
 
@@ -8,8 +10,6 @@ use im_front::{Reply, Step};
 use im_types::Fault;
 use std::alloc::{AllocError, Global};
 use std::test::Fail;
-
-// ---- a log of one insert that was committed, cut and with bytes replaced
 
 const SCRIPT: &str =
     "set log 014152494553494d3100001000000000000000000000000000000000000000010000004c0000002b01000000000000000100000000000000000000000000000000000000010161000000000000000700000021080000000000000001000000000000002400000000000000000000000000\nlife\n";
@@ -50,22 +50,46 @@ fn open(alloc: Global, disk: ModelDisk) -> Result<Engine<ModelDisk>, Fault>
     }
 }
 
+// A step of the one transaction, by the byte of its key.
+#[derive(Clone, Copy)]
+enum Ask {
+    Fetch(u8),
+    Insert(u8, u64),
+    Delete(u8),
+    FlushPage(u32),
+    Force,
+    Commit,
+}
+
+static STEPS: [Ask; 6] = [
+    Ask::Fetch(b'a'),
+    Ask::Insert(b'b', 8),
+    Ask::Delete(b'a'),
+    Ask::FlushPage(1),
+    Ask::Force,
+    Ask::Commit,
+];
+
 fn make_steps(alloc: Global, engine: &mut Engine<ModelDisk>) -> Result<(), AllocError> {
     let number = match engine.step(&Step::Begin) {
         Reply::Started(number) => number,
         _ => 1,
     };
-    make(engine, Step::Fetch(number, key(alloc, b'a')?));
-    make(engine, Step::Insert(number, key(alloc, b'b')?, 8));
-    make(engine, Step::Delete(number, key(alloc, b'a')?));
-    make(engine, Step::FlushPage(1));
-    make(engine, Step::Force);
-    make(engine, Step::Commit(number));
+    for ask in &STEPS {
+        let _reply = engine.step(&step_of(alloc, number, *ask)?);
+    }
     Ok(())
 }
 
-fn make(engine: &mut Engine<ModelDisk>, step: Step) {
-    let _reply = engine.step(&step);
+fn step_of(alloc: Global, number: u64, ask: Ask) -> Result<Step, AllocError> {
+    Ok(match ask {
+        Ask::Fetch(byte) => Step::Fetch(number, key(alloc, byte)?),
+        Ask::Insert(byte, rid) => Step::Insert(number, key(alloc, byte)?, rid),
+        Ask::Delete(byte) => Step::Delete(number, key(alloc, byte)?),
+        Ask::FlushPage(page) => Step::FlushPage(page),
+        Ask::Force => Step::Force,
+        Ask::Commit => Step::Commit(number),
+    })
 }
 
 fn key(alloc: Global, byte: u8) -> Result<Vec<u8>, AllocError> {
