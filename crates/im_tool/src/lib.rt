@@ -10,11 +10,15 @@
 //! It stands on `im_drill` for scripts, for the lines of steps and for the words of replies, on the engine, and on `clap` for command lines.
 #![tactic(auto)]
 
+#[cfg(test)]
+mod answered;
 mod checkpoints;
 mod imdrill;
 mod imstore;
 mod key_notation;
 mod line_input;
+#[cfg(test)]
+mod loaded;
 mod log_bytes;
 mod log_damage;
 mod log_text;
@@ -22,6 +26,8 @@ mod look;
 #[cfg(test)]
 mod looked;
 mod options;
+#[cfg(test)]
+mod programs;
 mod progress;
 mod reason;
 mod recovered;
@@ -30,8 +36,6 @@ mod redo_bound;
 mod redo_kept;
 mod store;
 mod tasks;
-#[cfg(test)]
-mod tests;
 mod transfer;
 mod tree_check;
 mod tree_damage;

@@ -1,0 +1,239 @@
+//! What a store answers to lines, on the model disk and in a folder.
+
+ghost use Rattle.std.specs.Prelude.{◌≡◌, false};
+ghost use Rattle.im_disk.specs.Runs.{IsSynced};
+
+use crate::{Manner, RedoBound, StoreEnd, store_text};
+use im_disk::{Disk, FileDisk, ModelDisk};
+use im_engine::Config;
+use im_types::Fault;
+use std::alloc::Global;
+use std::io::BufReader;
+use std::test::Fail;
+use std::{fs, io};
+
+// Lines on the model disk, and what is answered.
+struct Run {
+    name: &'static str,
+    log: &'static [u8],
+    // The device call that fails, from 1; with 0 none does.
+    fails: u64,
+    // How much an opening may have to redo, in bytes; with 0 any.
+    bound: u64,
+    manner: Manner,
+    lines: &'static str,
+    end: StoreEnd,
+    printed: &'static str,
+}
+
+const BY_NUMBERS: Manner = Manner {
+    has_words: false,
+    has_prompt: false,
+    is_batch: false,
+};
+
+const IN_WORDS: Manner = Manner {
+    has_words: true,
+    has_prompt: false,
+    is_batch: false,
+};
+
+const AS_BATCH: Manner = Manner {
+    has_words: false,
+    has_prompt: false,
+    is_batch: true,
+};
+
+static RUNS: [Run; 7] = [
+    Run {
+        name: "a store answers each line",
+        log: b"",
+        fails: 0,
+        bound: 0,
+        manner: BY_NUMBERS,
+        lines: "begin\r\n\ninsert 1 a 7\ninsert 1 a 8\nfetch 1 a\nfetch 1 b\ndelete 1 b\ncalls\nredo\ninsert 1 b 1\ndelete 1 b\ncommit 2\ncommit 1\nentries",
+        end: StoreEnd::Input,
+        printed: "started 1\ninserted\nduplicate\nfound 7\nabsent\nabsent\nrefused 16\nredo 0 0\ninserted\ndeleted\nrefused 1\ncommitted\ntotal 1\n61 7\n",
+    },
+    Run {
+        name: "a log of another file is no store",
+        log: b"\x01A",
+        fails: 0,
+        bound: 0,
+        manner: BY_NUMBERS,
+        lines: "entries",
+        end: StoreEnd::RefusedOpening(Fault::NotAStore),
+        printed: "open refused 11\n",
+    },
+    Run {
+        name: "a store answers in words",
+        log: b"",
+        fails: 0,
+        bound: 0,
+        manner: IN_WORDS,
+        lines: "begin\ninsert 1 x'6100ff' 1\ninsert 1 \"b c\" 2\ninsert 1 x'' 3\ninsert 1 x'6 3\ninsert 1 \"b+c\" 3\nfetch 1 x'622063'\ncommit 2\nseek 1 x'61'\nscan 1 x'61' \"b c\" 9\nnext 1 \"b c\"\nnext 1 c\nentries\n",
+        end: StoreEnd::Input,
+        printed: "started 1\ninserted\ninserted\nrefused 3: a key has 1 to 255 bytes\nrefused 16: a bad line\ninserted\nfound 2\nrefused 1: no active transaction of that number\nentry x'6100ff' 1\nentries x'6100ff' 1 \"b c\" 2\nentry \"b+c\" 3\nend\ntotal 3\nx'6100ff' 1\n\"b c\" 2\n\"b+c\" 3\n",
+    },
+    Run {
+        name: "a batch ends at a refused line",
+        log: b"",
+        fails: 0,
+        bound: 0,
+        manner: AS_BATCH,
+        lines: "begin\ncommit 2\ncommit 1\n",
+        end: StoreEnd::RefusedLine,
+        printed: "started 1\nrefused 1\n",
+    },
+    // A creation makes six device calls, and the commit four: the eleventh is the first of the close.
+    Run {
+        name: "a refused close is told",
+        log: b"",
+        fails: 11,
+        bound: 16_777_216,
+        manner: BY_NUMBERS,
+        lines: "begin\ninsert 1 a 7\ncommit 1\n",
+        end: StoreEnd::RefusedClose(im_front::Fault::Device),
+        printed: "started 1\ninserted\ncommitted\nclose refused 8\n",
+    },
+    Run {
+        name: "without a bound nothing is done there",
+        log: b"",
+        fails: 11,
+        bound: 0,
+        manner: BY_NUMBERS,
+        lines: "begin\ninsert 1 a 7\ncommit 1\n",
+        end: StoreEnd::Input,
+        printed: "started 1\ninserted\ncommitted\n",
+    },
+    Run {
+        name: "a Checkpoint in between is told behind the reply to the step that it follows, and what comes behind it is refused too",
+        log: b"",
+        fails: 11,
+        bound: 4_096,
+        manner: BY_NUMBERS,
+        lines: "begin\ncommit 1\nbegin\ninsert 2 a 7\ncommit 2\nbegin\n",
+        end: StoreEnd::Input,
+        printed: "started 1\ncommitted\nstarted 2\ninserted\ncheckpoint refused 8\nrefused 10\nrefused 10\n",
+    },
+];
+
+// What a store on a disk answers to these lines, and how the run ended.
+fn answers<D: Disk + Drop>(
+    alloc: Global,
+    disk: D,
+    bound: u64,
+    manner: Manner,
+    lines: &str,
+) -> io::Result<(StoreEnd, Vec<u8>)>
+    requires working { D.failed disk ≡ false }
+    requires synced { IsSynced D.Disk disk }
+{
+    let mut reader = BufReader::new(alloc, lines.as_bytes())?;
+    let mut printed = Vec::new(alloc);
+    let end = store_text(
+        alloc,
+        disk,
+        Config::default(),
+        RedoBound::of_bytes(bound),
+        manner,
+        &mut reader,
+        &mut printed,
+    )?;
+    Ok((end, printed))
+}
+
+// Whether a run ends and answers as it says.
+fn is_so(alloc: Global, run: &Run) -> io::Result<bool> {
+    let log = Vec::from_slice(alloc, run.log)?;
+    let mut disk = ModelDisk::new(log, Vec::new(alloc));
+    disk.fail_call(run.fails);
+    let (end, printed) = answers(alloc, disk, run.bound, run.manner, run.lines)?;
+    Ok(end == run.end && printed.as_slice() == run.printed.as_bytes())
+}
+
+#[test]
+fn a_store_answers_its_lines(rt: HostRuntime) -> Result<(), Fail> {
+    for run in &RUNS {
+        assert!(rt; is_so(rt.alloc(), run)?, "{}", run.name);
+    }
+    Ok(())
+}
+
+// What a store in a folder answers to these lines, and how the run ended.
+fn kept(
+    rt: &HostRuntime,
+    folder: &str,
+    bound: u64,
+    lines: &str,
+) -> Result<(StoreEnd, Vec<u8>), Fail> {
+    let disk = FileDisk::open(rt, folder)?;
+    Ok(answers(rt.alloc(), disk, bound, BY_NUMBERS, lines)?)
+}
+
+#[test]
+fn a_store_in_a_folder_keeps_its_keys(rt: HostRuntime) -> Result<(), Fail> {
+    let _ = fs::remove_dir_all(&rt, "im_tool_kept");
+    for (lines, want) in [
+        (
+            "begin\ninsert 1 a 7\ncommit 1\nbegin\ninsert 2 b 8\n",
+            "started 1\ninserted\ncommitted\nstarted 2\ninserted\n",
+        ),
+        ("entries\n", "total 1\n61 7\n"),
+    ] {
+        let (end, printed) = kept(&rt, "im_tool_kept", 0, lines)?;
+        assert!(rt; end == StoreEnd::Input, "{lines}");
+        assert!(rt; printed.as_slice() == want.as_bytes(), "{lines}");
+    }
+    fs::remove_dir_all(&rt, "im_tool_kept")?;
+    Ok(())
+}
+
+const THREE: &str = "begin\ninsert 1 a 7\ninsert 1 b 8\ninsert 1 c 9\ncommit 1\nredo\n";
+
+// Whether the store in the folder comes to the input's end, and what it answers to these lines begins and ends so.
+fn is_kept(
+    rt: &HostRuntime,
+    bound: u64,
+    lines: &str,
+    first: &str,
+    last: &str,
+) -> Result<bool, Fail> {
+    let (end, printed) = kept(rt, "im_tool_closed", bound, lines)?;
+    Ok(
+        end == StoreEnd::Input
+            && printed.starts_with(first.as_bytes())
+            && printed.ends_with(last.as_bytes()),
+    )
+}
+
+// Both files of the store in the folder.
+fn files(rt: &HostRuntime) -> io::Result<(Vec<u8>, Vec<u8>)> {
+    let log = fs::read(rt, "im_tool_closed/log")?;
+    let pages = fs::read(rt, "im_tool_closed/pages")?;
+    Ok((log, pages))
+}
+
+// Whether one more opening and close find the three entries, and leave the files as they are.
+fn is_left(rt: &HostRuntime, bound: u64) -> Result<bool, Fail> {
+    let left = files(rt)?;
+    let (end, printed) = kept(rt, "im_tool_closed", bound, "entries\n")?;
+    let has_three = printed.as_slice() == b"total 3\n61 7\n62 8\n63 9\n".as_slice();
+    Ok(end == StoreEnd::Input && has_three && files(rt)? == left)
+}
+
+// Three inserts are redone where nothing bounds that, and none behind a close.
+#[test]
+fn a_closed_store_has_nothing_to_redo(rt: HostRuntime) -> Result<(), Fail> {
+    for (bound, want) in [(0, "redo 36 3\n"), (16_777_216, " 0\n")] {
+        let _ = fs::remove_dir_all(&rt, "im_tool_closed");
+        assert!(rt;
+            is_kept(&rt, bound, THREE, "", "committed\nredo 0 0\n")?,
+            "{bound}"
+        );
+        assert!(rt; is_kept(&rt, bound, "redo\n", "redo ", want)?, "{bound}");
+        assert!(rt; is_left(&rt, bound)?, "{bound}");
+    }
+    fs::remove_dir_all(&rt, "im_tool_closed")?;
+    Ok(())
+}

@@ -1,0 +1,50 @@
+//! The exit statuses of the programs.
+
+use crate::{drill_program, store_program};
+use std::alloc::{AllocError, Global};
+use std::fs;
+use std::test::Fail;
+
+static DRILLS: [(&[&str], u8); 4] = [
+    (&["imdrill", "im_tool_no_such_script"], 1),
+    (&["imdrill", "."], 1),
+    (&["imdrill", "im_tool_script"], 0),
+    (&["imdrill", "im_tool_script", "two"], 2),
+];
+
+static STORES: [(&[&str], u8); 3] = [
+    (&["imstore", "im_tool_store"], 0),
+    (&["imstore", "im_tool_no_folder"], 1),
+    (&["imstore", "one", "two"], 2),
+];
+
+fn strings_of(alloc: Global, words: &[&str]) -> Result<Vec<String>, AllocError> {
+    let mut strings = Vec::new(alloc);
+    for word in words {
+        strings.push(String::from_str(alloc, word)?)?;
+    }
+    Ok(strings)
+}
+
+#[test]
+fn the_drill_program_answers_its_status(rt: HostRuntime) -> Result<(), Fail> {
+    fs::write(&rt, "im_tool_script", "raw\n")?;
+    for (words, status) in &DRILLS {
+        let strings = strings_of(rt.alloc(), words)?;
+        assert!(rt; drill_program(&rt, &strings)? == *status, "{status}");
+    }
+    fs::remove_file(&rt, "im_tool_script")?;
+    Ok(())
+}
+
+#[test]
+fn the_store_program_answers_its_status(rt: HostRuntime) -> Result<(), Fail> {
+    fs::write(&rt, "im_tool_no_folder", "")?;
+    for (words, status) in &STORES {
+        let strings = strings_of(rt.alloc(), words)?;
+        assert!(rt; store_program(&rt, &strings)? == *status, "{status}");
+    }
+    fs::remove_file(&rt, "im_tool_no_folder")?;
+    fs::remove_dir_all(&rt, "im_tool_store")?;
+    Ok(())
+}
