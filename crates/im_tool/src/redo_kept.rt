@@ -76,7 +76,7 @@ fn is_put(
         return Ok(false);
     };
     let mut key = vec![in alloc; b'z'; 255]?;
-    key[0] = (n * 37 % 90) as u8;
+    key[0] = (n % 90 * 37 % 90) as u8;
     let insert = made(engine, checkpoints, &Step::Insert(txn, key, n));
     let commit = made(engine, checkpoints, &Step::Commit(txn));
     Ok(matches!(&insert, (Reply::Inserted, true)) && matches!(&commit, (Reply::Committed, true)))
