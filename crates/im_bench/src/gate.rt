@@ -10,7 +10,7 @@ ghost use Rattle.im_gate.specs.Gate.{IsReading, IsReady};
 
 use crate::figures::{is_timed, nanos_since, per_second};
 use im_disk::{Disk, FileDisk, ModelDisk};
-use im_gate::{FIRST_GATE, Gate};
+use im_gate::Gate;
 use im_types::{Fault, FileId};
 use std::alloc::Global;
 use std::fs::{self, File, OpenOptions};
@@ -99,7 +99,7 @@ fn hand_rate(rt: &HostRuntime, dir: &str) -> anyhow::Result<u64> {
         .open(rt, path.as_str())?;
     let start = Instant::now(rt)?;
     for put in 0..MANY {
-        put_by_hand(&file, FIRST_GATE + put * 81)?;
+        put_by_hand(&file, 31 + put * 81)?;
     }
     let rate = per_second(MANY, nanos_since(rt, &start)?);
     fs::remove_dir_all(rt, dir)?;
