@@ -1,5 +1,4 @@
 pub mod Acked
-pub mod KeyWords
 pub mod LifeWords
 pub mod Lines
 pub mod OpenedLogs
@@ -14,7 +13,6 @@ pub mod SetSpelled
 pub mod Spelled
 pub mod Standing
 pub mod Stands
-pub mod StepSpelled
 pub mod StoreAsked
 pub mod StoreRunning
 pub mod StoreShown

@@ -1,12 +1,13 @@
 -- The options of a life, and what stands behind each.
 use Rattle.std.proofs.Common.{◌≡◌, ◌≢◌, ◌⊎◌, inl, inr, ℕ, List, [], ◌∷◌, ◌++◌, Option, None, Some, Bor, MatchOption, is_some, true, false, codes, refl, sym, ◌∙◌, ap, subst, append_assoc, arith}
 use Rattle.std.proofs.lemmas.List.{append-nil}
-use Rattle.im_drill.specs.Lines.{Lacks, IsNumber, behind_word}
+use Rattle.im_words.specs.Words.{Lacks, IsNumber}
+use Rattle.im_drill.specs.Lines.{behind_word}
 use Rattle.im_drill.specs.StoreScripts.{SpellsOption, SpellsOptions, SpellsLife, IsBehindOption, IsOption, named_options}
 use Rattle.im_drill.specs.declared.store_life.LifeOptions.{LifeOptions}
-use Rattle.im_drill.proofs.Lines.{lacks_mid, cut_once}
-use Rattle.im_drill.proofs.Spelled.{digits_lack}
-use Rattle.im_drill.proofs.KeyWords.{number_once}
+use Rattle.im_words.proofs.Texts.{lacks_mid, cut_once}
+use Rattle.im_words.proofs.Texts.{digits_lack}
+use Rattle.im_words.proofs.KeyWords.{number_once}
 
 pub life_lacks : Lacks 32 (codes "life")
 life_lacks = (λ x. omega arith, (λ x. omega arith, (λ x. omega arith, (λ x. omega arith, tt))))

@@ -2,9 +2,9 @@
 use Rattle.std.proofs.Common.{◌≡◌, ◌≢◌, inl, inr, ⊎_elim, ℕ, List, [], ◌∷◌, ◌++◌, slice_index, codes, Option, None, Some, Bor, refl, sym, ◌∙◌, ap, subst, arith, append_assoc}
 use Rattle.std.specs.Prelude.{MatchOption}
 use Rattle.std.proofs.lemmas.List.{append-nil}
-use Rattle.im_drill.specs.Lines.{Lacks}
+use Rattle.im_words.specs.Words.{Lacks}
 use Rattle.im_drill.specs.StoreScripts.{BeginsLife, NoLife, IsRaw}
-use Rattle.im_drill.proofs.Lines.{cut_once, lacks_mid}
+use Rattle.im_words.proofs.Texts.{cut_once, lacks_mid}
 
 -- none of the lines is this one
 abbrev NoLine : List ℕ → List (List ℕ) → Type 0

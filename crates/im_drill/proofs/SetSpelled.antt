@@ -5,9 +5,10 @@ use Rattle.im_types.specs.declared.file_id.FileId.{FileId}
 use Rattle.im_types.specs.declared.file_id.FileId.TheVariants as files
 use Rattle.im_drill.specs.declared.line.Line.{Line}
 use Rattle.im_drill.specs.declared.line.Line.TheVariants as lines
-use Rattle.im_drill.specs.Lines.{Lacks, file_word, Spells}
+use Rattle.im_words.specs.Words.{Lacks}
+use Rattle.im_drill.specs.Lines.{file_word, Spells}
 use Rattle.im_drill.specs.Scripts.{Sets, Begins, Puts, Counts, Stops}
-use Rattle.im_drill.proofs.Lines.{lacks_mid, cut_once}
+use Rattle.im_words.proofs.Texts.{lacks_mid, cut_once}
 use Rattle.im_drill.proofs.Spelled.{spelled_kind}
 
 -- What stands behind `set `: a file's name and digits.

@@ -8,9 +8,10 @@ use Rattle.im_disk.specs.declared.stop.Length.{Length}
 use Rattle.im_disk.specs.declared.stop.Length.TheVariants as lengths
 use Rattle.im_drill.specs.declared.line.Line.{Line}
 use Rattle.im_drill.specs.declared.line.Line.TheVariants as lines
-use Rattle.im_drill.specs.Lines.{Lacks, IsCall, IsLengthWord, IsFillWord, file_word, Spells}
+use Rattle.im_words.specs.Words.{Lacks}
+use Rattle.im_drill.specs.Lines.{IsCall, IsLengthWord, IsFillWord, file_word, Spells}
 use Rattle.im_drill.specs.Scripts.{Kind, Sets, Begins, Puts, Counts, Stops, kind_of}
-use Rattle.im_drill.proofs.Lines.{lacks_mid, cut_once}
+use Rattle.im_words.proofs.Texts.{lacks_mid, cut_once}
 
 -- the kind of a good line, by its first bytes
 abbrev pub text_kind : List ℕ → Kind
@@ -49,10 +50,6 @@ put_said rest (lines.Put batch) s =
     let same : rest ≡ s.0 = cc in (batch.records.items, ap decode_of same ∙ s.2, s.3, s.4)
 put_said rest (lines.Set file bytes) s = let e : Sets ≡ Puts = spelled_kind (codes "put " ++ rest) (lines.Set file bytes) s in absurd (cc)
 put_said rest (lines.Stop stop) s = let e : Stops ≡ Puts = spelled_kind (codes "put " ++ rest) (lines.Stop stop) s in absurd (cc)
-
-pub digits_lack : (word : List ℕ) → AllDigits 10 word → Lacks 32 word
-digits_lack [] d = tt
-digits_lack (c ∷ word) d = (λ (e : c ≡ 32). let none = subst (λ (x : ℕ). AllDigits 10 (x ∷ [])) e (d.0, tt) in absurd (omega (arith, none.0)), digits_lack word d.1)
 
 call_lacks : (word : List ℕ) (n : ℕ) → IsCall word n → Lacks 32 word
 call_lacks word n (inl e) = subst (λ (t : List ℕ). Lacks 32 t) (sym e.0) (λ x. omega arith, (λ x. omega arith, (λ x. omega arith, tt)))

@@ -1,20 +1,47 @@
 -- What lines of scripts of lives of a store spell, and what they do not.
 use Rattle.std.proofs.Common.{◌≡◌, ◌≢◌, ℕ, List, slice_index, ◌++◌, ◌∷◌, codes, sym, ◌∙◌, ap, subst, arith}
 use Rattle.im_front.specs.declared.step.Step.{Step}
+use Rattle.im_front.specs.declared.step.Step.TheVariants as steps
 use Rattle.im_drill.specs.declared.batch.Batch.{Batch}
 use Rattle.im_drill.specs.declared.line.Line.{Line}
 use Rattle.im_drill.specs.declared.line.Line.TheVariants as raws
 use Rattle.im_drill.specs.declared.store_script_line.StoreScriptLine.{StoreScriptLine}
 use Rattle.im_drill.specs.declared.store_script_line.StoreScriptLine.TheVariants as lines
 use Rattle.im_drill.specs.declared.store_life.StoreLine.TheVariants as within
-use Rattle.im_drill.specs.Lines.{Spells, Lacks, IsPageNumber}
-use Rattle.im_drill.specs.Steps.{SpellsStep}
-use Rattle.im_drill.specs.Scripts.{Sets, Begins, Puts, Counts, Steps, Stops}
+use Rattle.im_words.specs.Words.{Lacks, IsPageNumber}
+use Rattle.im_drill.specs.Lines.{Spells}
+use Rattle.im_words.specs.Steps.{SpellsStep}
+use Rattle.im_drill.specs.Scripts.{Kind, Sets, Begins, Puts, Counts, Steps, Stops}
 use Rattle.im_drill.specs.StoreScripts.{SpellsLife, SpellsOptions, SpellsStore, IsPlainLine, named_options, store_kind_of}
 use Rattle.im_drill.specs.declared.store_life.LifeOptions.{LifeOptions}
-use Rattle.im_drill.proofs.Lines.{cut_once, lacks_mid}
+use Rattle.im_words.proofs.Texts.{cut_once, lacks_mid}
 use Rattle.im_drill.proofs.LifeWords.{are_options, lone_life, spaced_life}
-use Rattle.im_drill.proofs.StepSpelled.{store_text_kind, step_kind}
+
+-- the kind of a good line of a script of lives of a store, by its first bytes, and another kind for `raw` and `put`
+abbrev pub store_text_kind : List ℕ → Kind
+store_text_kind text =
+    if slice_index text 0 == 108 then Begins
+    else if slice_index text 0 == 115 then (if slice_index text 1 == 116 then Stops else if slice_index text 2 == 116 then Sets else Steps)
+    else if slice_index text 0 == 99 then (if slice_index text 1 == 97 then Counts else Steps)
+    else if slice_index text 0 == 112 then (if slice_index text 1 == 97 then Counts else Puts)
+    else if slice_index text 0 == 114 then (if slice_index text 1 == 97 then Puts else if slice_index text 1 == 101 then Counts else Steps)
+    else Steps
+
+-- a line that asks for a step is of that kind
+pub step_kind : (text : List ℕ) (step : Step) → SpellsStep text step → Steps ≡ store_text_kind text
+step_kind text steps.Begin s = sym (ap store_text_kind s)
+step_kind text (steps.Fetch t key) s = sym (ap store_text_kind s.1)
+step_kind text (steps.Seek t key) s = sym (ap store_text_kind s.1)
+step_kind text (steps.Next t key) s = sym (ap store_text_kind s.1)
+step_kind text (steps.Scan t lo hi limit) s = sym (ap store_text_kind s.1)
+step_kind text (steps.Insert t key rid) s = sym (ap store_text_kind s.1)
+step_kind text (steps.Delete t key) s = sym (ap store_text_kind s.1)
+step_kind text (steps.Commit t) s = sym (ap store_text_kind s.1)
+step_kind text (steps.Rollback t) s = sym (ap store_text_kind s.1)
+step_kind text (steps.Continue t) s = sym (ap store_text_kind s.1)
+step_kind text (steps.FlushPage page) s = sym (ap store_text_kind s.1)
+step_kind text steps.Force s = sym (ap store_text_kind s)
+step_kind text steps.Checkpoint s = sym (ap store_text_kind s)
 
 store_kind : (text : List ℕ) (said : StoreScriptLine) → SpellsStore text said → store_kind_of said ≡ store_text_kind text
 store_kind text (lines.Life options) s = sym (ap store_text_kind s.1)

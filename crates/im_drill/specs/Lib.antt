@@ -8,7 +8,6 @@ pub mod Answered
 pub mod StoreLives
 pub mod Listing
 pub mod StoreRuns
-pub mod Steps
 pub mod StoreScripts
 pub mod StoreReading
 pub mod Stops

@@ -1,7 +1,6 @@
 -- How lines are spelled.
 use Rattle.std.specs.Prelude.{◌≡◌, ◌≢◌, ◌⊎◌, ℕ, ◌≤◌, ◌<◌, ◌^◌, List, [], ◌∷◌, ◌++◌, length, slice_index, codes, Option, None, Some, Ok}
 use Rattle.std.specs.Borrow.{Bor}
-use Rattle.std.specs.Str.Parse.{IsNumeral, digits_value}
 use Rattle.hex.specs.Hex.{decode_of}
 use Rattle.im_disk.specs.declared.stop.Fill.{Fill}
 use Rattle.im_disk.specs.declared.stop.Fill.TheVariants as fills
@@ -9,26 +8,14 @@ use Rattle.im_disk.specs.declared.stop.Length.{Length}
 use Rattle.im_disk.specs.declared.stop.Length.TheVariants as lengths
 use Rattle.im_types.specs.declared.file_id.FileId.{FileId}
 use Rattle.im_types.specs.declared.file_id.FileId.TheVariants as files
+use Rattle.im_words.specs.Words.{IsNumber}
 use Rattle.im_drill.specs.declared.line.Line.{Line}
 use Rattle.im_drill.specs.declared.line.Line.TheVariants as lines
-
--- None of these bytes is that byte.
-abbrev pub Lacks : ℕ → List ℕ → Type 0
-Lacks b [] = Unit {0}
-Lacks b (c ∷ rest) = (c ≢ b) × Lacks b rest
 
 -- what is left of a line behind a word: nothing, or a space and what stands behind it
 abbrev pub behind_word : Option (Bor (List ℕ)) → List ℕ
 behind_word None = []
 behind_word (Some rest) = 32 ∷ rest.now
-
--- decimal digits, without a zero in front of others, of a number of 64 bits
-abbrev pub IsNumber : List ℕ → ℕ → Type 0
-IsNumber word n = IsNumeral 10 word × (digits_value 10 word ≡ n) × (slice_index word 0 ≡ 48 → length word ≡ 1) × (n < 2 ^ 64)
-
--- a number of 32 bits
-abbrev pub IsPageNumber : List ℕ → ℕ → Type 0
-IsPageNumber word n = IsNumber word n × (n < 2 ^ 32)
 
 -- a device call's number, or `end`, which is no call's
 abbrev pub IsCall : List ℕ → ℕ → Type 0

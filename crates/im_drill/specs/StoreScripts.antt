@@ -11,8 +11,9 @@ use Rattle.im_drill.specs.declared.store_life.StoreLine.TheVariants as within
 use Rattle.im_drill.specs.declared.store_life.StoreLife.{StoreLife}
 use Rattle.im_drill.specs.declared.store_life.LifeOptions.{LifeOptions}
 use Rattle.im_drill.specs.declared.store_script.StoreScript.{StoreScript}
-use Rattle.im_drill.specs.Lines.{Spells, Lacks, IsNumber, IsPageNumber}
-use Rattle.im_drill.specs.Steps.{SpellsStep}
+use Rattle.im_words.specs.Words.{Lacks, IsNumber, IsPageNumber}
+use Rattle.im_drill.specs.Lines.{Spells}
+use Rattle.im_words.specs.Steps.{SpellsStep}
 use Rattle.im_drill.specs.Scripts.{Kind, Sets, Begins, Counts, Steps, Stops, Before, MayStand, SaysBy, IsFirstBadBy, files_set}
 
 -- An option of a life: nothing, where it is left out, or a space, its name, a space and its number.

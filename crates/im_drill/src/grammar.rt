@@ -3,15 +3,15 @@
 ghost use Rattle.std.specs.Prelude.{◌≡◌, ◌⊎◌, ◌++◌, codes, IfOk, IfErr};
 ghost use Rattle.im_types.specs.declared.fault.Fault.TheVariants.{BadScript, Memory};
 ghost use Rattle.im_drill.specs.declared.line.Line.{Line};
-ghost use Rattle.im_drill.specs.Lines.{Lacks, Spells};
+ghost use Rattle.im_words.specs.Words.{Lacks};
+ghost use Rattle.im_drill.specs.Lines.{Spells};
 
-use crate::digits::bytes_of;
-use crate::pieces::first_piece;
 use crate::set_words::file_of;
 use crate::stop::{call_of, fill_of, length_of};
 use crate::{Batch, Line};
 use im_disk::Stop;
 use im_types::Fault;
+use im_words::{bytes_of, first_piece};
 use std::alloc::Global;
 
 /// What the line says. It has no newline. Refused `BadScript` exactly where the grammar has no such line; `Memory`.

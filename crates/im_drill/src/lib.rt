@@ -17,11 +17,11 @@
 //! it succeeds, hands out exactly their entries. No opening says that there is no store (`AreStores`); each may be refused for
 //! want of memory, of room in the log or of page numbers, or by the disk.
 //!
-//! `parse_line`, `parse_store_line` and `step_line` decide the grammar: what they read is spelled as the grammar says (`Spells`,
-//! `SpellsStore`, `SpellsStep`), and no line spells what they refuse as bad. `Script::parse` and `StoreScript::parse` read exactly
+//! `parse_line` and `parse_store_line` decide the grammar, with the lines of steps as `im_words` reads them: what they read is spelled as the
+//! grammar says (`Spells`, `SpellsStore`), and no line spells what they refuse as bad. `Script::parse` and `StoreScript::parse` read exactly
 //! the scripts: a script is that of the text's lines (`IsScript`, `IsStoreScript`), each of which may stand where it stands (`MayStand`), and
 //! the number that is refused is that of the first line which is bad (`IsFirstBad`, `IsFirstBadOfStore`).
-//! `drill_text`, `reply_text` and `entries_text` print; their text is tested and stands in no clause.
+//! `drill_text` prints; its text is tested and stands in no clause.
 //!
 //! This crate stands on the gate's and the engine's contracts over any disk, on the model disk, and on `hex` for digits. Within a life
 //! over the gate it keeps one fact (`IsLiving`): what a stop may leave now survives the life so far, and as long as the gate works,
@@ -31,25 +31,18 @@
 
 mod answers;
 mod batch;
-mod digits;
 mod drilling;
-mod entry_lines;
 mod grammar;
-mod key_word;
 mod life_answers;
 mod line;
 mod lives;
-mod number;
 mod opening;
-mod pieces;
 mod raw_life;
 mod raw_line;
 mod reading;
-mod reply_words;
 mod script;
 mod script_error;
 mod set_words;
-mod step_words;
 mod stop;
 mod store_answers;
 mod store_drilling;
@@ -65,17 +58,14 @@ mod text;
 pub use answers::Drilled;
 pub use batch::Batch;
 pub use drilling::drill;
-pub use entry_lines::entries_text;
 pub use grammar::parse_line;
 pub use life_answers::{LifeAnswers, Opening, RawReply};
 pub use line::Line;
 pub use opening::open_batches;
 pub use raw_life::RawLife;
 pub use raw_line::RawLine;
-pub use reply_words::reply_text;
 pub use script::Script;
 pub use script_error::ScriptError;
-pub use step_words::step_line;
 pub use store_answers::{StoreAnswers, StoreDrilled, StoreReply};
 pub use store_drilling::drill_store;
 pub use store_grammar::parse_store_line;
@@ -83,5 +73,5 @@ pub use store_life::{LifeOptions, StoreLife, StoreLine};
 pub use store_lives::{config_of, open_store, run_store_life};
 pub use store_script::StoreScript;
 pub use store_script_line::StoreScriptLine;
-pub use store_text::{is_raw, report_text};
+pub use store_text::is_raw;
 pub use text::drill_text;

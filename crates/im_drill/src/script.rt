@@ -3,10 +3,10 @@
 ghost use Rattle.std.specs.Prelude.{◌≡◌, ℕ, IfOk};
 ghost use Rattle.im_drill.specs.Scripts.{lines_of, IsScript, IsFirstBad};
 
-use crate::pieces::first_piece;
 use crate::reading::Reading;
 use crate::{RawLife, ScriptError};
 use im_types::Fault;
+use im_words::first_piece;
 use std::alloc::Global;
 
 /// A script whose lines are all good.

@@ -7,10 +7,9 @@ ghost use Rattle.im_disk.specs.declared.stop.Length.{Length};
 ghost use Rattle.im_drill.specs.Stops.{IsSameStop, HasCome};
 ghost use Rattle.im_drill.specs.Lines.{IsCall, IsLengthWord, IsFillWord};
 
-use crate::digits::bytes_of;
-use crate::number::number_of;
 use im_disk::{Fill, Length, ModelDisk, Stop};
 use im_types::Fault;
+use im_words::{bytes_of, number_of};
 use std::alloc::{AllocError, Global};
 
 /// The device call: a number, or `end`, which is no call's.

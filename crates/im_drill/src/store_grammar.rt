@@ -4,15 +4,15 @@ ghost use Rattle.std.specs.Prelude.{◌≡◌, ◌≢◌, ◌⊎◌, ◌++◌, �
 ghost use Rattle.im_types.specs.declared.fault.Fault.TheVariants.{BadScript, Memory};
 ghost use Rattle.im_drill.specs.declared.store_script_line.StoreScriptLine.{StoreScriptLine};
 ghost use Rattle.im_drill.specs.StoreScripts.{SpellsStore, IsOption, IsBehindOption, IsPlainLine};
-ghost use Rattle.im_drill.specs.Lines.{Lacks, behind_word};
+ghost use Rattle.im_words.specs.Words.{Lacks};
+ghost use Rattle.im_drill.specs.Lines.{behind_word};
 
 use crate::Line;
 use crate::grammar::parse_line;
-use crate::pieces::first_piece;
-use crate::step_words::{count_of, page_of, step_line};
 use crate::store_life::{LifeOptions, StoreLine};
 use crate::store_script_line::StoreScriptLine;
 use im_types::Fault;
+use im_words::{count_of, first_piece, page_of, step_line};
 use std::alloc::Global;
 
 /// What the line of a script of lives of a store says. It has no newline. Refused `BadScript` exactly where the grammar has no

@@ -5,10 +5,10 @@ ghost use Rattle.im_drill.specs.Scripts.{lines_of};
 ghost use Rattle.im_drill.specs.StoreScripts.{IsStoreScript, IsFirstBadOfStore};
 
 use crate::ScriptError;
-use crate::pieces::first_piece;
 use crate::store_life::StoreLife;
 use crate::store_reading::StoreReading;
 use im_types::Fault;
+use im_words::first_piece;
 use std::alloc::Global;
 
 /// A script of lives of a store, whose lines are all good.

@@ -5,13 +5,10 @@ ghost use Rattle.im_drill.specs.Scripts.{lines_of};
 ghost use Rattle.im_drill.specs.StoreScripts.{BeginsLife, IsRaw};
 
 use crate::Opening;
-use crate::entry_lines::entries_text;
-use crate::pieces::first_piece;
-use crate::reply_words::reply_text;
 use crate::store_answers::{StoreAnswers, StoreDrilled, StoreReply};
 use im_engine::Header;
-use im_restart::RedoReport;
 use im_types::{PageKind, PageNo};
+use im_words::{entries_text, first_piece, reply_text, report_text};
 use std::alloc::Global;
 use std::io;
 use std::io::Write;
@@ -73,17 +70,12 @@ fn print_store_life<W: Write>(
             StoreReply::Page(page, header) => {
                 print_header(writer, *page, *header)?;
             }
-            StoreReply::Redo(report) => report_text(writer, *report)?,
+            StoreReply::Redo(report) => report_text(writer, report.point, report.applied)?,
             StoreReply::Refused(fault) => writeln!(writer, "refused {}", fault.number())?,
             StoreReply::Stopped => writeln!(writer, "stopped")?,
         }
     }
     Ok(())
-}
-
-/// Writes what redo did in an opening, as a line: where it began, and how many records it applied.
-pub fn report_text<W: Write>(writer: &mut W, report: RedoReport) -> io::Result<()> {
-    writeln!(writer, "redo {} {}", report.point, report.applied)
 }
 
 // Prints what a page is for.

@@ -7,7 +7,8 @@
 //! `RedoBound` wants them, and one behind the last line, so that the next opening has little to redo, or nothing. What goes to which
 //! stream is tested, by stored outputs word for word among other tests, and stands in no clause.
 //!
-//! It stands on `im_drill` for scripts, for the lines of steps and for the words of replies, on the engine, and on `clap` for command lines.
+//! It stands on `im_drill` for scripts, on `im_words` for the lines of steps and the words of replies, on the engine, and on `clap` for command
+//! lines.
 #![tactic(auto)]
 
 #[cfg(test)]

@@ -9,10 +9,10 @@ use crate::line_input::{LineInput, without_newline};
 use crate::redo_bound::RedoBound;
 use crate::words_step::words_step;
 use im_disk::Disk;
-use im_drill::{entries_text, reply_text, report_text, step_line};
 use im_engine::{Config, Engine};
 use im_front::{Reply, Step};
 use im_types::{Fault, Key, Rid};
+use im_words::{entries_text, reply_text, report_text, step_line};
 use std::alloc::{AllocError, Global};
 use std::fmt::Display;
 use std::io;
@@ -213,7 +213,8 @@ fn run_line<D: Disk, W: Write>(
         };
     }
     if line == b"redo".as_slice() {
-        report_text(writer, engine.redo_report())?;
+        let report = engine.redo_report();
+        report_text(writer, report.point, report.applied)?;
         return Ok(false);
     }
     if manner.has_words && line == b"help".as_slice() {

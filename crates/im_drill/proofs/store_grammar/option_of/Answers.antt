@@ -3,7 +3,7 @@ use Rattle.std.proofs.lemmas.Grind.{common_steps}
 use Rattle.im_drill.specs.Lines.{behind_word}
 use Rattle.im_drill.specs.StoreScripts.{IsOption, IsBehindOption}
 use Rattle.im_drill.proofs.LifeWords.{word_tail, other_once, no_number, option_is, number_one, number_bad}
-use Rattle.im_drill.proofs.StepSpelled.{whatever}
+use Rattle.im_words.proofs.StepSpelled.{whatever}
 use Rattle.im_drill.proofs.store_grammar.option_of.Goals as goal
 
 pub returns-then-not-is_word-clause-once : goal.returns-then-not-is_word-clause-once

@@ -1,0 +1,3 @@
+pub mod KeyWords
+pub mod StepSpelled
+pub mod Texts
