@@ -40,5 +40,5 @@ pub(crate) fn log_page<D: Disk>(
         before: &before,
         after: behind(after),
     };
-    writer.log_image(disk, &logged)
+    writer.log_smo(disk, &logged)
 }

@@ -40,7 +40,7 @@
 //!   gives it the record's LSN, and enters it. What the page does not take is refused before the append.
 //! - Room is made where the table is full: the least recently used page that was changed is flushed, and the file synced. What
 //!   stays in the table then is changed pages in frames, and of those there are at most 1,023: one entry is free (`room`).
-//! - `log_only` appends a record that changes no page, `log_image` one page of a structure change, which then is the record's
+//! - `log_only` appends a record that changes no page, `log_smo` one page of a structure change, which then is the record's
 //!   page; `force` forces the log, `sync_pages` syncs the file, `read_at` reads a record again.
 //! - A Checkpoint (`log_checkpoint`) syncs the file, appends one record with the next transaction number, the rows of active transactions
 //!   that it is handed and the rows of the dirty table, and forces the log. The redo point moves with it, so that no page counts as

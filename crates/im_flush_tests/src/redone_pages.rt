@@ -110,7 +110,7 @@ fn leave<D: Disk>(
         before: &before.bytes()[8..],
         after: &after.bytes()[8..],
     };
-    writer.log_image(disk, &record)
+    writer.log_smo(disk, &record)
 }
 
 #[test]
@@ -129,7 +129,7 @@ fn a_structure_change_leaves_its_page(rt: HostRuntime) -> Result<(), Fail> {
         (3, 5)
     );
     assert_eq!(rt;
-        writer.log_image(&mut disk, &insert(b"a")),
+        writer.log_smo(&mut disk, &insert(b"a")),
         Err(Fault::NotAStore)
     );
     Ok(())

@@ -56,7 +56,7 @@ fn take_back<D: Disk>(
                 page: *page,
                 after: before,
             };
-            writer.log_image(disk, &undo)
+            writer.log_smo(disk, &undo)
         }
         _ => Err(Fault::NotAStore),
     }

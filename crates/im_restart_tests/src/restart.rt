@@ -54,7 +54,7 @@ fn leave_change<D: Disk>(alloc: Global, disk: &mut D) -> Result<(), Fault>
         before: &before.bytes()[8..],
         after: &after.bytes()[8..],
     };
-    opened.writer.log_image(disk, &record)?;
+    opened.writer.log_smo(disk, &record)?;
     opened.writer.force(disk)
 }
 

@@ -90,7 +90,7 @@ impl PageWriter {
     ///
     /// Refused `NotAStore`, before the append, for a record of another kind, and where its images are no pages; `LogFull` as
     /// `log_put` is; otherwise as `get` is.
-    pub fn log_image<D: Disk>(&mut self, disk: &mut D, record: &Record) -> Result<Lsn, Fault>
+    pub fn log_smo<D: Disk>(&mut self, disk: &mut D, record: &Record) -> Result<Lsn, Fault>
         requires entry { IsEntry (view record.now) }
         requires ready { IsReadyWriter D.Disk self.old disk.old }
         ensures outcome { Logs D.Disk false mild self.old disk.old self.new disk.new (fault_of result) }

@@ -23,7 +23,7 @@ returns-in_err-frame-clause-kept g c b base s e is over =
     }
 
 pub returns-clause-outcome : goal.returns-clause-outcome
-returns-clause-outcome g c = logs_then g.D.Disk (search_of g.D.Disk c.in_ok-frame.ensures.outcome) c.log_image.ensures.outcome
+returns-clause-outcome g c = logs_then g.D.Disk (search_of g.D.Disk c.in_ok-frame.ensures.outcome) c.log_smo.ensures.outcome
 
 pub returns-clause-kept : goal.returns-clause-kept
 returns-clause-kept g c b base s e is over =
@@ -40,9 +40,9 @@ returns-clause-kept g c b base s e is over =
     let what : what_of (Smo c.args.transaction c.args.prev p before after) ≡ whats.Smo (s.pages p).page.body c.args.after.now.body =
     smo_is c.args.transaction c.args.prev p before after c.page.result.now c.args.after.now c.copy_behind.ensures.page c.behind.ensures.page
     ∙ ap (λ (g : Page). whats.Smo g.body c.args.after.now.body) same in
-    let kept = c.log_image.ensures.kept b base got.now e (stands_on g.D.Disk b base s old got.now w mid got.on) (got.on.goes.keeps.redo_end ∙ over) in
+    let kept = c.log_smo.ensures.kept b base got.now e (stands_on g.D.Disk b base s old got.now w mid got.on) (got.on.goes.keeps.redo_end ∙ over) in
     record {
-      sound = sound_own c.log_image.result _ _ kept.ok (kept.cause (smo_leaves _ (s.pages p).page.body c.args.after.now.body what))
-          (λ lsn done. page_logged g.D.Disk b base s got.now c.args.transaction c.args.prev p before after c.args.after.now.body lsn mid c.log_image.new.self c.log_image.new.disk got.on.goes.keeps what done);
-      stops = leaves_then g.D.Disk b base s old got.now w.log w.table w.pool mid got.on.goes c.log_image.new.disk kept.stops;
+      sound = sound_own c.log_smo.result _ _ kept.ok (kept.cause (smo_leaves _ (s.pages p).page.body c.args.after.now.body what))
+          (λ lsn done. page_logged g.D.Disk b base s got.now c.args.transaction c.args.prev p before after c.args.after.now.body lsn mid c.log_smo.new.self c.log_smo.new.disk got.on.goes.keeps what done);
+      stops = leaves_then g.D.Disk b base s old got.now w.log w.table w.pool mid got.on.goes c.log_smo.new.disk kept.stops;
     }

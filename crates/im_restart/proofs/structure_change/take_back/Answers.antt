@@ -13,7 +13,7 @@ use Rattle.im_restart.proofs.OpenChanges.{open_is_smo, taken_so}
 use Rattle.im_restart.proofs.structure_change.take_back.Goals as goal
 
 pub returns-in-Smo-clause-outcome : goal.returns-in-Smo-clause-outcome
-returns-in-Smo-clause-outcome g c = logs_recover g.D.Disk c.log_image.ensures.outcome
+returns-in-Smo-clause-outcome g c = logs_recover g.D.Disk c.log_smo.ensures.outcome
 
 pub returns-in_default-clause-outcome : goal.returns-in_default-clause-outcome
 returns-in_default-clause-outcome g c = no_store g.D.Disk c.args.writer.now c.args.disk.now refl c.requires.working c.requires.ready
@@ -23,12 +23,12 @@ returns-in-Smo-clause-kept g c b base all s lsn rest stands is =
     let a = c.in-Smo in
     let e : Entry = Smo a.transaction a.prev a.page a.before.now a.after.now in
     let same : view c.args.«record».now ≡ e = ap (λ (x : Record). view x) a.is in
-    let k = c.log_image.ensures.kept b base s is.redo_end stands is.over in
+    let k = c.log_smo.ensures.kept b base s is.redo_end stands is.over in
     subst
     (λ (x : Entry). open_smo s.log ≡ logged_at lsn x ∷ rest → c.args.last ≡ last_of (transaction_of x) s.log
-    → TakeBackKept g.D.Disk b base all s (transaction_of x) (prev_of x) rest c.args.disk.now c.log_image.new.self c.log_image.new.disk c.log_image.result)
+    → TakeBackKept g.D.Disk b base all s (transaction_of x) (prev_of x) rest c.args.disk.now c.log_smo.new.self c.log_smo.new.disk c.log_smo.result)
     (sym same)
-    (λ going behind. taken_so g.D.Disk b base all s is a.transaction c.args.last a.prev a.page a.before.now a.after.now lsn rest going behind c.args.disk.now c.log_image.new.self c.log_image.new.disk c.log_image.result k)
+    (λ going behind. taken_so g.D.Disk b base all s is a.transaction c.args.last a.prev a.page a.before.now a.after.now lsn rest going behind c.args.disk.now c.log_smo.new.self c.log_smo.new.disk c.log_smo.result k)
 
 pub returns-in_default-clause-kept : goal.returns-in_default-clause-kept
 returns-in_default-clause-kept g c b base all s lsn rest stands is going behind =

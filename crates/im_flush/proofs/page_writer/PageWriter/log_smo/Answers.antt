@@ -3,7 +3,7 @@ use Rattle.im_flush.proofs.LoggedChanges.{none_ok}
 use Rattle.im_flush.proofs.Outcomes.{idle_logs}
 use Rattle.im_flush.proofs.Structure.{no_after}
 use Rattle.im_flush.proofs.Writers.{goes_on_start}
-use Rattle.im_flush.proofs.page_writer.PageWriter.log_image.Goals as goal
+use Rattle.im_flush.proofs.page_writer.PageWriter.log_smo.Goals as goal
 
 pub returns-in_default-clause-kept : goal.returns-in_default-clause-kept
 returns-in_default-clause-kept g c b base s e is over =
