@@ -325,6 +325,13 @@ impl PageWriter {
         self.log.durable_end()
     }
 
+    /// Whether an earlier call broke it: every call is then refused `Failed`.
+    pub fn has_failed(&self) -> bool
+        ensures { result ≡ self.now.failed }
+    {
+        self.failed
+    }
+
     /// How many pages may lack changes in their file, or have a write that is not synced: at most 1,024.
     pub fn dirty_count(&self) -> usize
         ensures { result ≡ length self.now.table }

@@ -5,7 +5,7 @@ use Rattle.im_types.specs.Records.{Logged}
 use Rattle.im_types.specs.Histories.{Base, History, IsFront, IsRecordOf}
 use Rattle.im_types.specs.Copies.{GrowsByImages}
 use Rattle.im_types.specs.Writer.{Writer}
-use Rattle.im_types.specs.WriterSteps.{forced, opened}
+use Rattle.im_types.specs.WriterSteps.{opened}
 use Rattle.im_types.proofs.Histories.{front_of_front, front_self}
 use Rattle.im_record.specs.Entry.{Entry}
 use Rattle.im_record.specs.Reading.{entry_of}
@@ -40,8 +40,8 @@ read_is r bytes entry spells is = (let same : Some spells.entry ≡ Some entry =
 pub read_some : (r : Logged) (bytes : List ℕ) → SpellsRecord r bytes → entry_of bytes ≡ None → ⊥
 read_some r bytes spells none = let clash : Some spells.entry ≡ None = sym spells.is ∙ none in cc clash
 
--- before the first call, behind a force that found nothing to bring to the disk
-pub within_opened : {D : Type 0} (d : Ghosts D) (b : Base) (base : ℕ) (begun : History) (from : D) (file : ℕ → Option Page) (w : PageWriter) (disk : D) → GoesOn d b base (opened b begun file) from (forced (opened b begun file)) w disk
+-- before the first call
+pub within_opened : {D : Type 0} (d : Ghosts D) (b : Base) (base : ℕ) (begun : History) (from : D) (file : ℕ → Option Page) (w : PageWriter) (disk : D) → GoesOn d b base (opened b begun file) from (opened b begun file) w disk
     → IsWithinRedo d b base begun from (opened b begun file) w disk
 within_opened d b base begun from file w disk on = record {
   stands = record { working = on.working; writing = on.goes.writing; known = on.known };

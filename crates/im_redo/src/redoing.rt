@@ -41,8 +41,9 @@ pub fn redo<D: Disk>(
         → AreApplicable b begun → point ≡ redo_point begun → AreCopies point copies.now begun → lsns.now ≡ lsns_from point begun
         → RedoneKept D.Disk b base begun file disk.old writer.new disk.new result }
 {
-    // Nothing is buffered yet, so this makes no device call: a writer that has failed is refused here.
-    writer.force(disk)?;
+    if writer.has_failed() {
+        return Err(Fault::Failed);
+    }
     load_all(disk, writer, point, copies, room)?;
     redo_all(disk, writer, point, copies, lsns, room)
 }

@@ -1,47 +1,37 @@
-use Rattle.std.proofs.Common.{ap, ◌∙◌}
+use Rattle.std.proofs.Common.{ap, sym, ◌∙◌}
 use Rattle.im_types.specs.WriterSteps.{opened}
 use Rattle.im_analysis.specs.CopyLsns.{copy_lsn}
-use Rattle.im_flush.proofs.Growing.{grows_none}
+use Rattle.im_flush.specs.Outcome.{mild}
 use Rattle.im_flush.proofs.Outcomes.{sound_also, sound_on}
+use Rattle.im_flush.proofs.Writers.{goes_on_start}
 use Rattle.im_redo.specs.Redo.{lsns_from}
 use Rattle.im_redo.proofs.Applying.{applying_end, applying_start, counted_all}
 use Rattle.im_redo.proofs.Counting.{first_opened}
 use Rattle.im_redo.proofs.Loading.{waiting_opened}
-use Rattle.im_redo.proofs.Recoveries.{logs_recover, mildly, never_none, recovers_more, recovers_then, recovery_refused}
+use Rattle.im_redo.proofs.Recoveries.{recovers_then, recovery_refused, unmoved}
 use Rattle.im_redo.proofs.Within.{within_opened}
 use Rattle.im_redo.proofs.redoing.redo.Goals as goal
 
-pub returns-in_err-force-clause-outcome : goal.returns-in_err-force-clause-outcome
-returns-in_err-force-clause-outcome g c = recovery_refused g.D.Disk c.from_residual.result c.from_residual.ensures.1 (recovers_more g.D.Disk mildly (logs_recover g.D.Disk c.in_err-force.ensures.outcome))
-
-pub returns-in_err-force-clause-kept : goal.returns-in_err-force-clause-kept
-returns-in_err-force-clause-kept g c b base begun file is can at copies lsns =
-    let one = c.in_err-force.ensures.kept b base (opened b begun file) is in
-    record {
-      sound = sound_on c.from_residual.result _ _ c.from_residual.ensures.1 (never_none g.D.Disk c.in_err-force.field-0.0 (logs_recover g.D.Disk c.in_err-force.ensures.outcome));
-      stops = record { high = begun; grows = grows_none b begun; stops = one.stops };
-    }
-
 pub returns-in_err-load_all-clause-outcome : goal.returns-in_err-load_all-clause-outcome
 returns-in_err-load_all-clause-outcome g c =
-    recovery_refused g.D.Disk c.from_residual-in_err-load_all.result c.from_residual-in_err-load_all.ensures.1 (recovers_then g.D.Disk (logs_recover g.D.Disk c.in_ok-force.ensures.outcome) c.in_err-load_all.ensures.outcome)
+    recovery_refused g.D.Disk c.from_residual.result c.from_residual.ensures.1 (recovers_then g.D.Disk {m = mild} (unmoved g.D.Disk c.args.writer.now c.args.disk.now (sym c.has_failed.ensures ∙ c.if-has_failed.false) c.requires.ready) c.in_err-load_all.ensures.outcome)
 
 pub returns-in_err-load_all-clause-kept : goal.returns-in_err-load_all-clause-kept
 returns-in_err-load_all-clause-kept g c b base begun file is can at copies lsns =
     let d = g.D.Disk in
     let from = c.args.disk.now in
-    let within = within_opened d b base begun from file c.force.new.self c.force.new.disk (c.in_ok-force.ensures.kept b base (opened b begun file) is).ok in
+    let within = within_opened d b base begun from file c.args.writer.now from (goes_on_start d b base (opened b begun file) c.args.writer.now from (g.met.D.Disk.only_now from) is) in
     let one = c.in_err-load_all.ensures.kept b base begun file from (opened b begun file) within (waiting_opened b begun file c.args.copies.now (λ p. copies p ∙ ap (λ n. copy_lsn n begun p) at)) (first_opened b begun file) at in
-    record { sound = sound_on c.from_residual-in_err-load_all.result _ _ c.from_residual-in_err-load_all.ensures.1 one.sound; stops = one.stops }
+    record { sound = sound_on c.from_residual.result _ _ c.from_residual.ensures.1 one.sound; stops = one.stops }
 
 pub returns-clause-outcome : goal.returns-clause-outcome
-returns-clause-outcome g c = recovers_then g.D.Disk (logs_recover g.D.Disk c.in_ok-force.ensures.outcome) (recovers_then g.D.Disk c.in_ok-load_all.ensures.outcome c.redo_all.ensures.outcome)
+returns-clause-outcome g c = recovers_then g.D.Disk {m = mild} (unmoved g.D.Disk c.args.writer.now c.args.disk.now (sym c.has_failed.ensures ∙ c.if-has_failed.false) c.requires.ready) (recovers_then g.D.Disk c.in_ok-load_all.ensures.outcome c.redo_all.ensures.outcome)
 
 pub returns-clause-kept : goal.returns-clause-kept
 returns-clause-kept g c b base begun file is can at copies lsns =
     let d = g.D.Disk in
     let from = c.args.disk.now in
-    let within = within_opened d b base begun from file c.force.new.self c.force.new.disk (c.in_ok-force.ensures.kept b base (opened b begun file) is).ok in
+    let within = within_opened d b base begun from file c.args.writer.now from (goes_on_start d b base (opened b begun file) c.args.writer.now from (g.met.D.Disk.only_now from) is) in
     let loaded = c.in_ok-load_all.ensures.kept b base begun file from (opened b begun file) within (waiting_opened b begun file c.args.copies.now (λ p. copies p ∙ ap (λ n. copy_lsn n begun p) at)) (first_opened b begun file) at in
     let applying = applying_start d b base begun file from c.args.lsns.now c.load_all.new.writer c.load_all.new.disk loaded.sound (lsns ∙ ap (λ n. lsns_from n begun) at) in
     let done = c.redo_all.ensures.kept b base begun file from applying can at copies in
