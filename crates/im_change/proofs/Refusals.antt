@@ -75,7 +75,7 @@ module _ {D : Type 0} (d : Ghosts D) where
   -- the page of an image was not logged
   pub answered : (i : ℕ) (f answer : Fault) → (i ≡ 0 → answer ≡ f) → (1 ≤ i → f ≡ Memory → answer ≡ Failed) → (f ≢ Memory → answer ≡ f) → {v : PageWriter} {old : D} {w : PageWriter} {new : D} → v.failed ≡ false → Logs d false mild v old w new (Some f)
       → Logs d true mild v old w new (Some answer)
-  answered i f answer first late others {v} {old} {w} {new} works one = record { ready = one.ready; ends = answered_ends i answer v old w new works f first late others one.ends }
+  answered i f answer first late others {v} {old} {w} {new} works one = record { ready = one.ready; frames = one.frames; ends = answered_ends i answer v old w new works f first late others one.ends }
 
   behind_ends : (v : PageWriter) (old : D) (w : PageWriter) (mid : D) → Works d v w mid → (x : PageWriter) (new : D) (f : Fault) → (f ≡ Memory → (w ≡ v) × (mid ≡ old)) → LogEnds d true mild w mid x new (Some f) → LogEnds d true mild v old x new (Some f)
   behind_ends v old w mid one x new Memory same two =
@@ -89,7 +89,7 @@ module _ {D : Type 0} (d : Ghosts D) where
 
   -- a page that is not logged behind others: a want of memory came at the first one
   pub behind_pages : {v : PageWriter} {old : D} {w : PageWriter} {mid : D} {x : PageWriter} {new : D} (f : Fault) → (f ≡ Memory → (w ≡ v) × (mid ≡ old)) → Logs d true mild v old w mid None → Logs d true mild w mid x new (Some f) → Logs d true mild v old x new (Some f)
-  behind_pages {v} {old} {w} {mid} {x} {new} f same one two = record { ready = two.ready; ends = behind_ends v old w mid one.ends x new f same two.ends }
+  behind_pages {v} {old} {w} {mid} {x} {new} f same one two = record { ready = two.ready; frames = two.frames ∙ one.frames; ends = behind_ends v old w mid one.ends x new f same two.ends }
 
   closing_ends : (v : PageWriter) (old : D) (w : PageWriter) (mid : D) → Works d v w mid → (x : PageWriter) (new : D) (f : Fault) → LogEnds d false none_mild w mid x new (Some f) → LogEnds d true mild v old x new (Some f)
   closing_ends v old w mid one x new Failed two = absurd (let clash : false ≡ true = sym one.works ∙ two.0 in cc clash)
@@ -99,8 +99,8 @@ module _ {D : Type 0} (d : Ghosts D) where
 
   -- the record that closes the change, behind all pages
   pub closing : {v : PageWriter} {old : D} {w : PageWriter} {mid : D} {x : PageWriter} {new : D} (r : Result ℕ Fault) → Logs d true mild v old w mid None → Logs d false none_mild w mid x new (fault_of r) → Logs d true mild v old x new (fault_of r)
-  closing {v} {old} {w} {mid} {x} {new} (Ok lsn) one two = record { ready = two.ready; ends = record { began = one.ends.began; works = two.ends.works; alive = two.ends.alive } }
-  closing {v} {old} {w} {mid} {x} {new} (Err f) one two = record { ready = two.ready; ends = closing_ends v old w mid one.ends x new f two.ends }
+  closing {v} {old} {w} {mid} {x} {new} (Ok lsn) one two = record { ready = two.ready; frames = two.frames ∙ one.frames; ends = record { began = one.ends.began; works = two.ends.works; alive = two.ends.alive } }
+  closing {v} {old} {w} {mid} {x} {new} (Err f) one two = record { ready = two.ready; frames = two.frames ∙ one.frames; ends = closing_ends v old w mid one.ends x new f two.ends }
 
   -- which is no refusal for bytes that are no store's
   closing_bytes : (w : PageWriter) (mid : D) (x : PageWriter) (new : D) (f : Fault) → f ≡ NotAStore → LogEnds d false none_mild w mid x new (Some f) → ⊥

@@ -168,4 +168,4 @@ module _ {D : Type 0} (d : Ghosts D) where
 
   -- a call behind which the writer goes on for no refusal, behind one that logged its records
   pub logs_on : {late : Bool} {m : Fault → Bool} {v : PageWriter} {old : D} {w : PageWriter} {mid : D} {x : PageWriter} {new : D} {why : Option Fault} → Logs d late m v old w mid None → Logs d false none_mild w mid x new why → Logs d false none_mild v old x new why
-  logs_on {late} {m} {v} {old} {w} {mid} {x} {new} {why} one two = record { ready = two.ready; ends = on_ends late m v old w mid one.ends x new why two.ends }
+  logs_on {late} {m} {v} {old} {w} {mid} {x} {new} {why} one two = record { ready = two.ready; frames = two.frames ∙ one.frames; ends = on_ends late m v old w mid one.ends x new why two.ends }

@@ -65,8 +65,8 @@ module _ {D : Type 0} (d : Ghosts D) where
 
   -- such a call within a call of the writer, which is refused so
   pub imaging_broke : {A : Type 0} {asks : Writer → Type 0} {m : Fault → Bool} {v : PageWriter} {old : D} {w : PageWriter} {new : D} {log : LogFile} {f : Fault} (r : Result A Fault) → IsErrAnd r (λ e. e ≡ f) → Imaging d log w.log new (Some f) → v.failed ≡ false → w.failed ≡ true
-      → ((b : Base) (base : ℕ) (s : Writer) → StandsAs d b base s v old → asks s → LeavesGrown d b base s old new) → Outcome d asks m v old w new (fault_of r)
-  imaging_broke {A} {asks} {m} {v} {old} {w} {new} {log} {f} r is one began fails stops =
+      → ((b : Base) (base : ℕ) (s : Writer) → StandsAs d b base s v old → asks s → LeavesGrown d b base s old new) → w.pool.frames ≡ v.pool.frames → Outcome d asks m v old w new (fault_of r)
+  imaging_broke {A} {asks} {m} {v} {old} {w} {new} {log} {f} r is one began fails stops frames =
       handed_on d r is (record {
         ready = record {
           opened = λ works. absurd (let clash : true ≡ false = sym fails ∙ works in cc clash);
@@ -74,6 +74,7 @@ module _ {D : Type 0} (d : Ghosts D) where
           few = λ works. absurd (let clash : true ≡ false = sym fails ∙ works in cc clash);
           still = one.still;
         };
+        frames = frames;
         ends = broke_end asks m v old w new (record { began = began; broken = fails; stops = stops }) log f one.ends;
       })
 

@@ -109,7 +109,7 @@ module _ {D : Type 0} (d : Ghosts D) where
 
   -- such a call, where something is asked, and other calls are refused for more causes
   pub flush_asks : {asks : Writer → Type 0} {m : Fault → Bool} {v : PageWriter} {old : D} {w : PageWriter} {new : D} {why : Option Fault} → Flushes d v old w new why → Outcome d asks m v old w new why
-  flush_asks {asks} {m} {v} {old} {w} {new} {why} one = record { ready = one.ready; ends = flush_ends asks m v old w new why one.ends }
+  flush_asks {asks} {m} {v} {old} {w} {new} {why} one = record { ready = one.ready; frames = one.frames; ends = flush_ends asks m v old w new why one.ends }
 
   -- it is refused neither for bytes that are no store's nor for want of memory
   pub flush_sound : {v : PageWriter} {old : D} {w : PageWriter} {new : D} {f : Fault} → Flushes d v old w new (Some f) → f ≢ NotAStore
@@ -126,7 +126,7 @@ module _ {D : Type 0} (d : Ghosts D) where
   -- a refusal for bytes that are no store's, behind calls that were not refused
   pub own_bytes : {A : Type 0} {asks : Writer → Type 0} {v : PageWriter} {old : D} {w : PageWriter} {new : D} (X : Type 0) (r : Result A Fault) → IfErr r (λ e. (e ≡ NotAStore) × X) → Outcome d asks mild v old w new None → Outcome d asks mild v old w new (fault_of r)
   own_bytes {A} {asks} {v} {old} {w} {new} X (Ok a) is one = one
-  own_bytes {A} {asks} {v} {old} {w} {new} X (Err e) is one = subst (λ (x : Fault). Outcome d asks mild v old w new (Some x)) (sym is.0) (record { ready = one.ready; ends = (refl, one.ends) })
+  own_bytes {A} {asks} {v} {old} {w} {new} X (Err e) is one = subst (λ (x : Fault). Outcome d asks mild v old w new (Some x)) (sym is.0) (record { ready = one.ready; frames = one.frames; ends = (refl, one.ends) })
 
   -- a call of the log or of the disk that failed
   broken_end : (asks : Writer → Type 0) (m : Fault → Bool) (v : PageWriter) (old : D) (w : PageWriter) (new : D) → Breaks d asks v old w new → (e : Fault) → (e ≡ LogFull) ⊎ (e ≡ Device) → (e ≡ LogFull → HasNoRoom w.log) → (e ≡ LogFull → 2 ^ 62 < end_with w.log 4129)
@@ -138,9 +138,9 @@ module _ {D : Type 0} (d : Ghosts D) where
 
   pub broken_on : {A : Type 0} {asks : Writer → Type 0} {m : Fault → Bool} {v : PageWriter} {old : D} {w : PageWriter} {new : D} {f : Fault} (r : Result A Fault) → IsErrAnd r (λ e. e ≡ f) → IsReadyWriter d w new → v.failed ≡ false → w.failed ≡ true
       → ((b : Base) (base : ℕ) (s : Writer) → StandsAs d b base s v old → asks s → LeavesGrown d b base s old new) → (f ≡ LogFull) ⊎ (f ≡ Device) → (f ≡ LogFull → HasNoRoom w.log) → (f ≡ LogFull → 2 ^ 62 < end_with w.log 4129) → (f ≡ Device) ↔ (d.failed new ≡ true)
-      → Outcome d asks m v old w new (fault_of r)
-  broken_on {A} {asks} {m} {v} {old} {w} {new} {f} r is ready began fails stops causes no_room full lost =
-      handed_on r is (record { ready = ready; ends = broken_end asks m v old w new (record { began = began; broken = fails; stops = stops }) f causes no_room full lost })
+      → w.pool.frames ≡ v.pool.frames → Outcome d asks m v old w new (fault_of r)
+  broken_on {A} {asks} {m} {v} {old} {w} {new} {f} r is ready began fails stops causes no_room full lost frames =
+      handed_on r is (record { ready = ready; frames = frames; ends = broken_end asks m v old w new (record { began = began; broken = fails; stops = stops }) f causes no_room full lost })
 
   -- a read that was refused
   pub read_ends : {asks : Writer → Type 0} {v : PageWriter} {old : D} {w : PageWriter} {new : D} (e : Fault) → (e ≡ Memory) ⊎ (e ≡ NotAStore) ⊎ (e ≡ Device) → (e ≡ Device → Breaks d asks v old w new × (d.failed new ≡ true)) → ((e ≡ Memory) ⊎ (e ≡ NotAStore) → Stays d asks v old w new)
@@ -170,7 +170,7 @@ module _ {D : Type 0} (d : Ghosts D) where
   pub step_flushes : {A : Type 0} {v : PageWriter} {old : D} {w : PageWriter} {new : D} (r : Result A Fault) → Logs d false none_mild v old w new (fault_of r) → (r ≡ Err LogFull → ⊥) → EndsNoSooner v.log w.log
       → ((b : Base) (base : ℕ) (s : Writer) → StandsAs d b base s v old → OnOk r (Evicted d b base s old w new)) → ((b : Base) (base : ℕ) (s : Writer) → StandsAs d b base s v old → LeavesGrown d b base s old new) → Flushes d v old w new (fault_of r)
   step_flushes {A} {v} {old} {w} {new} r one room later goes stops =
-      record { ready = one.ready; ends = step_ends v old w new later stops (fault_of r) (full_of r room) (λ b base s is none. done_of r _ (goes b base s is) none) one.ends }
+      record { ready = one.ready; frames = one.frames; ends = step_ends v old w new later stops (fault_of r) (full_of r room) (λ b base s is none. done_of r _ (goes b base s is) none) one.ends }
 
   -- no call was made: the writer is as it was
   pub idle_any : ((disk : D) (c : Files) → d.left_since disk (d.moment disk) c → d.may_leave disk c) → {asks : Writer → Type 0} {m : Fault → Bool} (v : PageWriter) (old : D) → v.failed ≡ false → IsReadyWriter d v old → Outcome d asks m v old v old None
@@ -178,6 +178,7 @@ module _ {D : Type 0} (d : Ghosts D) where
       let opened = ready.opened works in
       record {
         ready = ready;
+        frames = refl;
         ends = record {
           began = works;
           works = works;
@@ -194,7 +195,7 @@ module _ {D : Type 0} (d : Ghosts D) where
 module _ {D : Type 0} (d : Ghosts D) (asks : Writer → Type 0) (still : (b : Base) (s t : Writer) → Keeps b s t → asks s → asks t) where
   -- a call behind another
   pub behind : {m n : Fault → Bool} {v : PageWriter} {old : D} {w : PageWriter} {mid : D} {x : PageWriter} {new : D} {why : Option Fault} → Outcome d asks m v old w mid None → Outcome d asks n w mid x new why → Outcome d asks n v old x new why
-  behind {m} {n} {v} {old} {w} {mid} {x} {new} {why} one two = record { ready = two.ready; ends = ends_behind d asks still v old w mid one.ends n x new why two.ends }
+  behind {m} {n} {v} {old} {w} {mid} {x} {new} {why} one two = record { ready = two.ready; frames = two.frames ∙ one.frames; ends = ends_behind d asks still v old w mid one.ends n x new why two.ends }
 
   -- the pages are there still
   pub has_still : {m : Fault → Bool} {pages : AllPages} {v : PageWriter} {old : D} {w : PageWriter} {mid : D} → HasPages d asks pages v old → Outcome d asks m v old w mid None → HasPages d asks pages w mid
@@ -224,7 +225,7 @@ module _ {D : Type 0} (d : Ghosts D) where
 
   -- a call that changes no page, as one of redo
   pub redo_of : {asks : Writer → Type 0} {n m : Fault → Bool} {v : PageWriter} {old : D} {w : PageWriter} {new : D} {why : Option Fault} → ((e : Fault) → n e ≡ true → m e ≡ true) → Outcome d asks n v old w new why → Redoes d m v w new why
-  redo_of {asks} {n} {m} {v} {old} {w} {new} {why} may one = record { ready = one.ready; ends = redo_ends asks n m may v old w new why one.ends }
+  redo_of {asks} {n} {m} {v} {old} {w} {new} {why} may one = record { ready = one.ready; frames = one.frames; ends = redo_ends asks n m may v old w new why one.ends }
 
   redo_behind : (m : Fault → Bool) (v w : PageWriter) (mid : D) → Works d v w mid → (x : PageWriter) (new : D) (why : Option Fault) → RedoEnds d m w x new why → RedoEnds d m v x new why
   redo_behind m v w mid one x new None two = record { began = one.began; works = two.works; alive = two.alive }
@@ -235,7 +236,7 @@ module _ {D : Type 0} (d : Ghosts D) where
 
   -- a call of redo behind another, or behind one that changed no page
   pub redo_then : {m : Fault → Bool} {v w : PageWriter} {mid : D} {x : PageWriter} {new : D} {why : Option Fault} → Redoes d m v w mid None → Redoes d m w x new why → Redoes d m v x new why
-  redo_then {m} {v} {w} {mid} {x} {new} {why} one two = record { ready = two.ready; ends = redo_behind m v w mid one.ends x new why two.ends }
+  redo_then {m} {v} {w} {mid} {x} {new} {why} one two = record { ready = two.ready; frames = two.frames ∙ one.frames; ends = redo_behind m v w mid one.ends x new why two.ends }
 
   pub redo_refused : {A : Type 0} {m : Fault → Bool} {v w : PageWriter} {new : D} {f : Fault} (r : Result A Fault) → IsErrAnd r (λ e. e ≡ f) → Redoes d m v w new (Some f) → Redoes d m v w new (fault_of r)
   redo_refused {A} {m} {v} {w} {new} {f} (Ok a) is one = absurd is
@@ -246,16 +247,16 @@ module _ {D : Type 0} (d : Ghosts D) where
   own_ends v w new one X e (inr is) = subst (λ (f : Fault). RedoEnds d mild v w new (Some f)) (sym is.0) (refl, one)
 
   -- what is answered or refused of its own
-  pub redo_own : {A : Type 0} {v w : PageWriter} {new : D} (X : Type 0) (r : Result A Fault) → IsReadyWriter d w new → v.failed ≡ false → w.failed ≡ false → d.failed new ≡ false → IfErr r (λ e. (e ≡ Memory) ⊎ ((e ≡ NotAStore) × X)) → Redoes d mild v w new (fault_of r)
-  redo_own {A} {v} {w} {new} X (Ok a) ready began works alive is = record { ready = ready; ends = record { began = began; works = works; alive = alive } }
-  redo_own {A} {v} {w} {new} X (Err e) ready began works alive is = record { ready = ready; ends = own_ends v w new (record { began = began; works = works; alive = alive }) X e is }
+  pub redo_own : {A : Type 0} {v w : PageWriter} {new : D} (X : Type 0) (r : Result A Fault) → IsReadyWriter d w new → v.failed ≡ false → w.failed ≡ false → d.failed new ≡ false → IfErr r (λ e. (e ≡ Memory) ⊎ ((e ≡ NotAStore) × X)) → w.pool.frames ≡ v.pool.frames → Redoes d mild v w new (fault_of r)
+  redo_own {A} {v} {w} {new} X (Ok a) ready began works alive is frames = record { ready = ready; frames = frames; ends = record { began = began; works = works; alive = alive } }
+  redo_own {A} {v} {w} {new} X (Err e) ready began works alive is frames = record { ready = ready; frames = frames; ends = own_ends v w new (record { began = began; works = works; alive = alive }) X e is }
 
 -- ---- searches
 
 module _ {D : Type 0} (d : Ghosts D) where
   -- how two calls end together, of which the first was not refused
   pub then : {m n : Fault → Bool} {v : PageWriter} {old : D} {w : PageWriter} {mid : D} {x : PageWriter} {new : D} {why : Option Fault} → Outcome d AreLoaded m v old w mid None → Outcome d AreLoaded n w mid x new why → Outcome d AreLoaded n v old x new why
-  then {m} {n} {v} {old} {w} {mid} {x} {new} {why} one two = record { ready = two.ready; ends = ends_behind d AreLoaded loaded_still v old w mid one.ends n x new why two.ends }
+  then {m} {n} {v} {old} {w} {mid} {x} {new} {why} one two = record { ready = two.ready; frames = two.frames ∙ one.frames; ends = ends_behind d AreLoaded loaded_still v old w mid one.ends n x new why two.ends }
 
   -- a refusal that is handed on
   pub refused : {A : Type 0} {m : Fault → Bool} {v : PageWriter} {old : D} {w : PageWriter} {new : D} {f : Fault} (r : Result A Fault) → IsErrAnd r (λ e. e ≡ f) → Outcome d AreLoaded m v old w new (Some f) → Outcome d AreLoaded m v old w new (fault_of r)
@@ -264,8 +265,8 @@ module _ {D : Type 0} (d : Ghosts D) where
 
   -- a refusal of its own behind a call: the writer goes on
   pub refuses : {m : Fault → Bool} {v : PageWriter} {old : D} {w : PageWriter} {new : D} (f : Fault) → mild f ≡ true → m f ≡ true → Outcome d AreLoaded m v old w new None → Outcome d AreLoaded m v old w new (Some f)
-  refuses {m} {v} {old} {w} {new} Memory mildly is one = record { ready = one.ready; ends = (is, one.ends) }
-  refuses {m} {v} {old} {w} {new} NotAStore mildly is one = record { ready = one.ready; ends = (is, one.ends) }
+  refuses {m} {v} {old} {w} {new} Memory mildly is one = record { ready = one.ready; frames = one.frames; ends = (is, one.ends) }
+  refuses {m} {v} {old} {w} {new} NotAStore mildly is one = record { ready = one.ready; frames = one.frames; ends = (is, one.ends) }
   refuses {m} {v} {old} {w} {new} e mildly is one = absurd (cc mildly)
 
   pub out_of_memory : {v : PageWriter} {old : D} {w : PageWriter} {new : D} {f : Fault} → f ≡ Memory → Reads d v old w new None → Reads d v old w new (Some f)
@@ -273,7 +274,7 @@ module _ {D : Type 0} (d : Ghosts D) where
 
   -- the get of a page, as a search
   pub search_of : {p : ℕ} {v : PageWriter} {old : D} {w : PageWriter} {new : D} {why : Option Fault} → Outcome d (AreLoadedTo p) mild v old w new why → Reads d v old w new why
-  search_of {p} {v} {old} {w} {new} {why} one = record { ready = one.ready; ends = ends_asking d AreLoaded (AreLoadedTo p) (λ s ready q le. ready q) mild v old w new why one.ends }
+  search_of {p} {v} {old} {w} {new} {why} one = record { ready = one.ready; frames = one.frames; ends = ends_asking d AreLoaded (AreLoadedTo p) (λ s ready q le. ready q) mild v old w new why one.ends }
 
 -- ---- calls behind which the writer goes on for more causes
 
@@ -287,7 +288,7 @@ module _ {D : Type 0} (d : Ghosts D) (m : Fault → Bool) where
 
   -- a search is such a call, and so is one behind which the writer goes on for fewer causes
   pub with_more : {n : Fault → Bool} → ((e : Fault) → n e ≡ true → m e ≡ true) → {v : PageWriter} {old : D} {w : PageWriter} {new : D} {why : Option Fault} → Outcome d AreLoaded n v old w new why → Outcome d AreLoaded m v old w new why
-  with_more {n} may {v} {old} {w} {new} {why} one = record { ready = one.ready; ends = more_ends n may v old w new why one.ends }
+  with_more {n} may {v} {old} {w} {new} {why} one = record { ready = one.ready; frames = one.frames; ends = more_ends n may v old w new why one.ends }
 
   own_end : m Failed ≡ false → m Device ≡ false → m LogFull ≡ false → (v : PageWriter) (old : D) (w : PageWriter) (new : D) (e : Fault) → m e ≡ true → Stays d AreLoaded v old w new → Ends d AreLoaded m v old w new (Some e)
   own_end failed device full v old w new Failed is one = absurd (let clash : false ≡ true = sym failed ∙ is in cc clash)
@@ -298,8 +299,8 @@ module _ {D : Type 0} (d : Ghosts D) (m : Fault → Bool) where
   -- what a call answers or refuses of its own, behind calls that were not refused
   pub ends_own : m Failed ≡ false → m Device ≡ false → m LogFull ≡ false → {A : Type 0} {n : Fault → Bool} {v : PageWriter} {old : D} {w : PageWriter} {new : D} (r : Result A Fault) → Outcome d AreLoaded n v old w new None → IfErr r (λ e. m e ≡ true)
       → Outcome d AreLoaded m v old w new (fault_of r)
-  ends_own failed device full {A} {n} {v} {old} {w} {new} (Ok a) one may = record { ready = one.ready; ends = one.ends }
-  ends_own failed device full {A} {n} {v} {old} {w} {new} (Err e) one may = record { ready = one.ready; ends = own_end failed device full v old w new e may one.ends }
+  ends_own failed device full {A} {n} {v} {old} {w} {new} (Ok a) one may = record { ready = one.ready; frames = one.frames; ends = one.ends }
+  ends_own failed device full {A} {n} {v} {old} {w} {new} (Err e) one may = record { ready = one.ready; frames = one.frames; ends = own_end failed device full v old w new e may one.ends }
 
 -- ---- pages behind calls that change none
 
@@ -389,11 +390,11 @@ module _ {D : Type 0} (d : Ghosts D) where
 
   -- a call that logs, refused late or not, behind one that changed no page
   pub logs_then : {n : Fault → Bool} {late : Bool} {m : Fault → Bool} {v : PageWriter} {old : D} {w : PageWriter} {mid : D} {x : PageWriter} {new : D} {why : Option Fault} → Outcome d AreLoaded n v old w mid None → Logs d late m w mid x new why → Logs d late m v old x new why
-  logs_then {n} {late} {m} {v} {old} {w} {mid} {x} {new} {why} one two = record { ready = two.ready; ends = logs_behind late m v old w mid one.ends x new why two.ends }
+  logs_then {n} {late} {m} {v} {old} {w} {mid} {x} {new} {why} one two = record { ready = two.ready; frames = two.frames ∙ one.frames; ends = logs_behind late m v old w mid one.ends x new why two.ends }
 
   -- a call that changed no page ends as one that logged nothing
   pub changed_none : {n m : Fault → Bool} → ((e : Fault) → n e ≡ true → m e ≡ true) → {v : PageWriter} {old : D} {w : PageWriter} {new : D} {why : Option Fault} → Outcome d AreLoaded n v old w new why → Logs d false m v old w new why
-  changed_none {n} {m} may {v} {old} {w} {new} {why} one = record { ready = one.ready; ends = logs_so n m may v old w new why one.ends }
+  changed_none {n} {m} may {v} {old} {w} {new} {why} one = record { ready = one.ready; frames = one.frames; ends = logs_so n m may v old w new why one.ends }
 
   pub read_logs : {v : PageWriter} {old : D} {w : PageWriter} {new : D} {why : Option Fault} → Reads d v old w new why → Logs d false mild v old w new why
   read_logs {v} {old} {w} {new} {why} one = changed_none (λ e is. is) one
@@ -414,7 +415,7 @@ module _ {D : Type 0} (d : Ghosts D) where
 
   -- one behind which the writer goes on for fewer causes
   pub logs_for_more : {late : Bool} {n m : Fault → Bool} → ((e : Fault) → n e ≡ true → m e ≡ true) → {v : PageWriter} {old : D} {w : PageWriter} {new : D} {why : Option Fault} → Logs d late n v old w new why → Logs d late m v old w new why
-  logs_for_more {late} {n} {m} may {v} {old} {w} {new} {why} one = record { ready = one.ready; ends = logs_more late n m may v old w new why one.ends }
+  logs_for_more {late} {n} {m} may {v} {old} {w} {new} {why} one = record { ready = one.ready; frames = one.frames; ends = logs_more late n m may v old w new why one.ends }
 
   -- ---- calls that are refused late
 
@@ -430,11 +431,11 @@ module _ {D : Type 0} (d : Ghosts D) where
 
   -- a call over a writer that works ends as one that may be refused late, and behind which it goes on for more causes
   pub logs_late : {late : Bool} {m n : Fault → Bool} {v : PageWriter} {old : D} {w : PageWriter} {new : D} {why : Option Fault} → ((e : Fault) → m e ≡ true → n e ≡ true) → v.failed ≡ false → Logs d late m v old w new why → Logs d true n v old w new why
-  logs_late {late} {m} {n} {v} {old} {w} {new} {why} may works one = record { ready = one.ready; ends = ends_late late m n may v old w new works why one.ends }
+  logs_late {late} {m} {n} {v} {old} {w} {new} {why} may works one = record { ready = one.ready; frames = one.frames; ends = ends_late late m n may v old w new works why one.ends }
 
   -- a call behind one that logged its records, neither refused
   pub logs_both : {late next : Bool} {l m n : Fault → Bool} {v : PageWriter} {old : D} {w : PageWriter} {mid : D} {x : PageWriter} {new : D} → Logs d late m v old w mid None → Logs d next n w mid x new None → {last : Bool} → Logs d last l v old x new None
-  logs_both {late} {next} {l} {m} {n} {v} {old} {w} {mid} {x} {new} one two {last} = record { ready = two.ready; ends = record { began = one.ends.began; works = two.ends.works; alive = two.ends.alive } }
+  logs_both {late} {next} {l} {m} {n} {v} {old} {w} {mid} {x} {new} one two {last} = record { ready = two.ready; frames = two.frames ∙ one.frames; ends = record { began = one.ends.began; works = two.ends.works; alive = two.ends.alive } }
 
   worked_behind : (late : Bool) (v w : PageWriter) (mid : D) → Works d v w mid → (x : PageWriter) (new : D) → MatchBool late (Works d w x new) ((w.failed ≡ true) × (x.failed ≡ true)) → Works d v x new
   worked_behind true v w mid one x new two = record { began = one.began; works = two.works; alive = two.alive }
@@ -458,7 +459,7 @@ module _ {D : Type 0} (d : Ghosts D) where
   -- a refusal behind a record of one's own: want of memory is answered `Failed`, any other as it came
   pub late_behind : {last late : Bool} {m n : Fault → Bool} {v : PageWriter} {old : D} {w : PageWriter} {mid : D} {x : PageWriter} {new : D} {f g : Fault} → Logs d last m v old w mid None → Logs d late mild w mid x new (Some f) → (f ≡ Memory → g ≡ Failed) → (f ≢ Memory → g ≡ f)
       → Logs d true n v old x new (Some g)
-  late_behind {last} {late} {m} {n} {v} {old} {w} {mid} {x} {new} {f} {g} one two memory other = record { ready = two.ready; ends = late_ends late n v old w mid one.ends x new f g memory other two.ends }
+  late_behind {last} {late} {m} {n} {v} {old} {w} {mid} {x} {new} {f} {g} one two memory other = record { ready = two.ready; frames = two.frames ∙ one.frames; ends = late_ends late n v old w mid one.ends x new f g memory other two.ends }
 
 -- ---- a call whose clauses say it one by one
 
@@ -540,6 +541,7 @@ idle d only_now v old works ready =
     let opened = ready.opened works in
     record {
       ready = ready;
+      frames = refl;
       ends = record {
         began = works;
         works = works;
@@ -577,11 +579,11 @@ module _ {D : Type 0} (d : Ghosts D) where
   append_ends late m v old w new works e broken (inr is) no_room lost = subst (λ (f : Fault). LogEnds d late m v old w new (Some f)) (sym is) (record { began = works; broken = broken }, lost.0 is)
 
   pub append_logs : {A : Type 0} {late : Bool} {m : Fault → Bool} {v : PageWriter} {old : D} {w : PageWriter} {new : D} (r : Result A Fault) → v.failed ≡ false → IsReadyWriter d w new → w.failed ≡ not (is_ok r) → IfErr r (λ e. (e ≡ LogFull) ⊎ (e ≡ Device)) → (r ≡ Err LogFull → HasNoRoom w.log)
-      → (r ≡ Err Device) ↔ (d.failed new ≡ true) → Logs d late m v old w new (fault_of r)
-  append_logs {A} {late} {m} {v} {old} {w} {new} (Ok a) works ready failed causes no_room lost =
-      record { ready = ready; ends = record { began = works; works = failed; alive = still_working (d.failed new) (λ is. let clash = lost.1 is in let never : ⊥ = cc clash in never) } }
-  append_logs {A} {late} {m} {v} {old} {w} {new} (Err e) works ready failed causes no_room lost =
-      record { ready = ready; ends = append_ends late m v old w new works e failed causes (λ is. no_room (ap Err is)) ((λ is. lost.0 (ap Err is)), (λ is. let same = lost.1 is in cc same)) }
+      → (r ≡ Err Device) ↔ (d.failed new ≡ true) → w.pool.frames ≡ v.pool.frames → Logs d late m v old w new (fault_of r)
+  append_logs {A} {late} {m} {v} {old} {w} {new} (Ok a) works ready failed causes no_room lost frames =
+      record { ready = ready; frames = frames; ends = record { began = works; works = failed; alive = still_working (d.failed new) (λ is. let clash = lost.1 is in let never : ⊥ = cc clash in never) } }
+  append_logs {A} {late} {m} {v} {old} {w} {new} (Err e) works ready failed causes no_room lost frames =
+      record { ready = ready; frames = frames; ends = append_ends late m v old w new works e failed causes (λ is. no_room (ap Err is)) ((λ is. lost.0 (ap Err is)), (λ is. let same = lost.1 is in cc same)) }
 
   -- a refusal without a call
   pub idle_logs : {A : Type 0} → ((disk : D) (c : Files) → d.left_since disk (d.moment disk) c → d.may_leave disk c) → (v : PageWriter) (old : D) → IsReadyWriter d v old → (r : Result A Fault) → IfErr r (λ e. (e ≡ Failed) ⊎ (e ≡ NotAStore)) → (r ≡ Err Failed) ↔ (v.failed ≡ true)
@@ -590,7 +592,7 @@ module _ {D : Type 0} (d : Ghosts D) where
   idle_logs {A} only_now v old ready (Err e) causes already never = by causes
     where
       by : (e ≡ Failed) ⊎ (e ≡ NotAStore) → Logs d false mild v old v old (Some e)
-      by (inl is) = subst (λ (f : Fault). Logs d false mild v old v old (Some f)) (sym is) (record { ready = ready; ends = (already.0 (ap Err is), already.0 (ap Err is)) })
+      by (inl is) = subst (λ (f : Fault). Logs d false mild v old v old (Some f)) (sym is) (record { ready = ready; frames = refl; ends = (already.0 (ap Err is), already.0 (ap Err is)) })
       by (inr is) =
           let works = still_working v.failed (λ failed. let same : e ≡ Failed = (let r_is = already.1 failed in cc r_is) in let clash : NotAStore ≡ Failed = sym is ∙ same in let never : ⊥ = cc clash in never) in
           read_logs d (own_logs is (idle d only_now v old works ready))
@@ -632,8 +634,9 @@ module _ {D : Type 0} (d : Ghosts D) (only_now : (disk : D) (c : Files) → d.le
 
   -- a record of a structure change, whose images may be no pages
   pub after_logs : {A : Type 0} {v : PageWriter} {old : D} {w : PageWriter} {new : D} (r : Result A Fault) → v.failed ≡ false → IsReadyWriter d w new → OnOk r (w.failed ≡ false) → IfErr r (λ e. (w.failed ≡ false) ↔ (e ≡ NotAStore)) → IfErr r (λ e. (e ≡ NotAStore) ⊎ (e ≡ LogFull) ⊎ (e ≡ Device))
-      → (r ≡ Err LogFull → HasNoRoom w.log) → (r ≡ Err Device) ↔ (d.failed new ≡ true) → (r ≡ Err NotAStore → (w.log ≡ v.log) × (w.table ≡ v.table) × (w.pool ≡ v.pool) × (w.known_from ≡ v.known_from) × (new ≡ old)) → Logs d false mild v old w new (fault_of r)
-  after_logs {A} {v} {old} {w} {new} (Ok a) began ready works fails causes no_room lost same =
-      record { ready = ready; ends = record { began = began; works = works; alive = still_working (d.failed new) (λ is. let clash = lost.1 is in let never : ⊥ = cc clash in never) } }
-  after_logs {A} {v} {old} {w} {new} (Err e) began ready works fails causes no_room lost same =
-      record { ready = ready; ends = after_ends v old w new began e fails causes (λ is. no_room (ap Err is)) ((λ is. lost.0 (ap Err is)), (λ is. let x = lost.1 is in cc x)) (λ is. same (ap Err is)) }
+      → (r ≡ Err LogFull → HasNoRoom w.log) → (r ≡ Err Device) ↔ (d.failed new ≡ true) → (r ≡ Err NotAStore → (w.log ≡ v.log) × (w.table ≡ v.table) × (w.pool ≡ v.pool) × (w.known_from ≡ v.known_from) × (new ≡ old))
+      → w.pool.frames ≡ v.pool.frames → Logs d false mild v old w new (fault_of r)
+  after_logs {A} {v} {old} {w} {new} (Ok a) began ready works fails causes no_room lost same frames =
+      record { ready = ready; frames = frames; ends = record { began = began; works = works; alive = still_working (d.failed new) (λ is. let clash = lost.1 is in let never : ⊥ = cc clash in never) } }
+  after_logs {A} {v} {old} {w} {new} (Err e) began ready works fails causes no_room lost same frames =
+      record { ready = ready; frames = frames; ends = after_ends v old w new began e fails causes (λ is. no_room (ap Err is)) ((λ is. lost.0 (ap Err is)), (λ is. let x = lost.1 is in cc x)) (λ is. same (ap Err is)) }

@@ -1,5 +1,5 @@
 -- How a writer of pages stands as restart goes on: at the opening, past records that change no page, and as redo ends.
-use Rattle.std.proofs.Common.{◌≡◌, ℕ, ◌<◌, ◌≤◌, false, List, [], ◌∷◌, ◌++◌, Option, None, refl, sym, subst}
+use Rattle.std.proofs.Common.{◌≡◌, ℕ, ◌<◌, ◌≤◌, false, List, [], ◌∷◌, ◌++◌, Option, None, refl, sym, ap, subst}
 use Rattle.im_types.specs.declared.file_id.FileId.TheVariants.{Pages}
 use Rattle.im_types.specs.Records.{Logged}
 use Rattle.im_types.specs.Histories.{Base, History, IsFront, Rises, changes_page, end_of}
@@ -23,6 +23,10 @@ use Rattle.im_flush.proofs.KnownCopies.{known_ended, knows_ended}
 use Rattle.im_flush.proofs.Goings.{pooled_same}
 use Rattle.im_flush.proofs.Openings.{page_file_as, stands_opened}
 use Rattle.im_flush.proofs.RedoneRecords.{applies_none, redone_none}
+
+-- how many frames a new writer has
+pub frames_opened : (w : PageWriter) (frames : ℕ) → w.pool ≡ record { held = []; frames = frames; gets = 0 } → w.pool.frames ≡ frames
+frames_opened w frames pool = ap (λ (x : PoolView). x.frames) pool
 
 -- a pool that holds nothing, where no page has an entry
 pooled_none : (frames gets : ℕ) (pages : ℕ → PageState) → ((p : ℕ) → (pages p).entry ≡ None) → IsPooled (record { held = []; frames = frames; gets = gets }) pages

@@ -92,9 +92,10 @@ module _ {D : Type 0} (d : Ghosts D) where
   Ends asks goes_on v old w new (Some LogFull) = Breaks asks v old w new × (d.failed new ≡ false) × HasNoRoom w.log × (2 ^ 62 < end_with w.log 4129)
   Ends asks goes_on v old w new (Some e) = (goes_on e ≡ true) × Stays asks v old w new
 
-  -- The outcome of such a call: the writer is ready for the next one, and this is how it ended.
+  -- The outcome of such a call: the writer is ready for the next one, its pool has as many frames, and this is how it ended.
   pub record Outcome (asks : Writer → Type 0) (goes_on : Fault → Bool) (v : PageWriter) (old : D) (w : PageWriter) (new : D) (why : Option Fault) : Type 0 where
     pub ready : IsReadyWriter d w new
+    pub frames : w.pool.frames ≡ v.pool.frames
     pub ends : Ends asks goes_on v old w new why
 
   -- The outcome of a search: it changes no page, asks that each page has its copy, and may be refused for want of memory, or for bytes that are no store's.
@@ -131,6 +132,7 @@ module _ {D : Type 0} (d : Ghosts D) where
   -- The outcome of such a call.
   pub record Logs (late : Bool) (goes_on : Fault → Bool) (v : PageWriter) (old : D) (w : PageWriter) (new : D) (why : Option Fault) : Type 0 where
     pub ready : IsReadyWriter d w new
+    pub frames : w.pool.frames ≡ v.pool.frames
     pub ends : LogEnds late goes_on v old w new why
 
   -- ---- calls of redo
@@ -146,4 +148,5 @@ module _ {D : Type 0} (d : Ghosts D) where
   -- The outcome of such a call.
   pub record Redoes (goes_on : Fault → Bool) (v w : PageWriter) (new : D) (why : Option Fault) : Type 0 where
     pub ready : IsReadyWriter d w new
+    pub frames : w.pool.frames ≡ v.pool.frames
     pub ends : RedoEnds goes_on v w new why

@@ -42,6 +42,7 @@ fn write_out<D: Disk>(
     ensures ready { (log : LogFile) → IsOpen D.Disk log disk.old → D.failed disk.new ≡ false → IsOpen D.Disk log disk.new }
     ensures stays { first ≡ last → is_some (entry_in table.old first) ≡ true → OnOk result (is_some (entry_in table.new first) ≡ true) }
     ensures held { OnOk result (SameHeld pool.old pool.new) }
+    ensures frames { pool.new.frames ≡ pool.old.frames }
     ensures answers { Answers (D.failed disk.new) result }
 {
     let entered = write_pages(disk, table, pool, spare, lsns, first, last)?;
@@ -74,6 +75,7 @@ fn flush_range<D: Disk>(
     ensures room { 1024 ≤ vec_capacity lsns.new }
     ensures stays { first ≡ last → is_some (entry_in table.old first) ≡ true → OnOk result (is_some (entry_in table.new first) ≡ true) }
     ensures held { OnOk result (SameHeld pool.old pool.new) }
+    ensures frames { pool.new.frames ≡ pool.old.frames }
 {
     log_images(disk, log, table, pool, spare, lsns, first, last)?;
     write_out(disk, table, pool, spare, lsns, first, last)?;
@@ -103,6 +105,7 @@ pub(crate) fn flush_page<D: Disk>(
     ensures room { 1024 ≤ vec_capacity lsns.new }
     ensures stays { D.tells → number ≤ page_count (D.seen disk.old Pages) → is_some (entry_in table.old number) ≡ true → OnOk result (is_some (entry_in table.new number) ≡ true) }
     ensures held { OnOk result (SameHeld pool.old pool.new) }
+    ensures frames { pool.new.frames ≡ pool.old.frames }
 {
     let count = count_pages(disk)?;
     if (number as u64) < count {

@@ -32,6 +32,7 @@ fn write_in_place<D: Disk>(
     requires place { D.tells → number ≤ page_count (D.seen disk.old Pages) }
     ensures written { OnOk result (D.tells → WritesPage number (pool_page pool.old number) (D.seen disk.old Pages) (D.seen disk.new Pages)) }
     ensures pool { OnOk result (Unmarks number pool.old pool.new) }
+    ensures frames { pool.new.frames ≡ pool.old.frames }
     ensures crash { Follows (InFile Pages (TearsPage number)) (D.may_leave disk.old) (D.may_leave disk.new) }
     ensures changes { ChangesOnly D.Disk Pages disk.old disk.new }
     ensures any_moment { LeavesOnly D.Disk disk.old disk.new (Stepped (InFile Pages (TearsPage number)) (D.may_leave disk.old)) }
@@ -62,6 +63,7 @@ fn write_one<D: Disk>(
     ensures table { table.new ≡ written_in number lsn table.old }
     ensures entered { IfOk result (λ entered. entered ≡ has_room number table.old) }
     ensures pool { OnOk result (Unmarks number pool.old pool.new) }
+    ensures frames { pool.new.frames ≡ pool.old.frames }
     ensures count { OnOk result (D.tells → number + 1 ≤ page_count (D.seen disk.new Pages)) }
     ensures changes { ChangesOnly D.Disk Pages disk.old disk.new }
     ensures answers { Answers (D.failed disk.new) result }
@@ -100,6 +102,7 @@ pub(crate) fn write_pages<D: Disk>(
         → WritesKept D.Disk b base s first last lsns.now disk.old log table.new pool.new disk.new result }
     ensures one { first ≡ last → IfOk result (λ entered. (table.new ≡ written_in first (lsn_for lsns.now 0) table.old) × (entered ≡ has_room first table.old)) }
     ensures held { OnOk result (SameHeld pool.old pool.new) }
+    ensures frames { pool.new.frames ≡ pool.old.frames }
     ensures changes { ChangesOnly D.Disk Pages disk.old disk.new }
     ensures answers { Answers (D.failed disk.new) result }
 {

@@ -108,7 +108,7 @@ late_so d m v old w new f g memory other one = by (want_of_memory f) refl
     by true is =
         let short : f ≡ Memory = is_memory f is in
         let moved : Logs d true m v old w new (Some Memory) = subst (λ (x : Fault). Logs d true m v old w new (Some x)) short one in
-        subst (λ (x : Fault). Logs d true m v old w new (Some x)) (sym (memory short)) (record { ready = moved.ready; ends = record { began = moved.ends.1.began; works = moved.ends.1.works; alive = moved.ends.1.alive } })
+        subst (λ (x : Fault). Logs d true m v old w new (Some x)) (sym (memory short)) (record { ready = moved.ready; frames = moved.frames; ends = record { began = moved.ends.1.began; works = moved.ends.1.works; alive = moved.ends.1.alive } })
     by false is = subst (λ (x : Fault). Logs d true m v old w new (Some x)) (sym (other (λ short. let clash : true ≡ false = ap want_of_memory (sym short) ∙ is in cc clash))) one
 
 pub log_late : {D : Type 0} (d : Ghosts D) {m : Fault → Bool} {v : PageWriter} {old : D} {w : PageWriter} {new : D} {f g : Fault} → Logs d true m v old w new (Some f) → (f ≡ Memory → g ≡ Failed) → (f ≢ Memory → g ≡ f) → Logs d true m v old w new (Some g)
@@ -116,7 +116,7 @@ log_late d {m} {v} {old} {w} {new} {f} {g} one memory other = late_so d m v old 
 
 -- page numbers are used up
 pub none_left : {D : Type 0} (d : Ghosts D) {m : Fault → Bool} {v : PageWriter} {old : D} {w : PageWriter} {new : D} → Ends d AreLoaded m v old w new None → Logs d true (mild_to_split None) v old w new (Some Capacity)
-none_left d {m} {v} {old} {w} {new} one = record { ready = one.ready; ends = (refl, one.ends) }
+none_left d {m} {v} {old} {w} {new} one = record { ready = one.ready; frames = one.frames; ends = (refl, one.ends) }
 
 pub late_sound : (f g : Fault) → (f ≡ Memory → g ≡ Failed) → (f ≢ Memory → g ≡ f) → f ≢ NotAStore → g ≢ NotAStore
 late_sound f g memory other sound is = by (want_of_memory f) refl

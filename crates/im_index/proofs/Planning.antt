@@ -86,7 +86,7 @@ pub unplanned : {D : Type 0} (d : Ghosts D) {m : Fault → Bool} {v : PageWriter
     → Ends d AreLoaded m v old w new (Some f) → Ends d AreLoaded m v old w new (fault_of r)
 unplanned d {m} {v} {old} {w} {new} f (Ok plan) used others one =
     let moved : Ends d AreLoaded m v old w new (Some Capacity) = subst (λ (x : Fault). Ends d AreLoaded m v old w new (Some x)) used.1 one in
-    record { ready = moved.ready; ends = moved.ends.1 }
+    record { ready = moved.ready; frames = moved.frames; ends = moved.ends.1 }
 unplanned d {m} {v} {old} {w} {new} f (Err y) used others one = subst (λ (x : Fault). Ends d AreLoaded m v old w new (Some x)) (sym others.0) one
 
 over_of : (pages : Pages) (key : Key) (max : ℕ) → (m : ℕ) × (Some max ≡ Some m) × IsOver pages key m → IsOver pages key max

@@ -20,7 +20,7 @@ module _ {D : Type 0} (d : Ghosts D) where
 
   -- how two calls end together, of which the first was not refused
   pub recovers_then : {may m : Fault → Bool} {v w x : PageWriter} {mid new : D} {why : Option Fault} → Recovers d m v w mid None → Recovers d may w x new why → Recovers d may v x new why
-  recovers_then {may} {m} {v} {w} {x} {mid} {new} {why} one two = record { ready = two.ready; ends = ends_behind may v w x mid new why one.ends two.ends }
+  recovers_then {may} {m} {v} {w} {x} {mid} {new} {why} one two = record { ready = two.ready; frames = two.frames ∙ one.frames; ends = ends_behind may v w x mid new why one.ends two.ends }
 
   -- a refusal that is handed on
   pub recovery_refused : {A : Type 0} {may : Fault → Bool} {v w : PageWriter} {new : D} {f : Fault} (r : Result A Fault) → IsErrAnd r (λ e. e ≡ f) → Recovers d may v w new (Some f) → Recovers d may v w new (fault_of r)
@@ -36,7 +36,7 @@ module _ {D : Type 0} (d : Ghosts D) where
 
   -- a call that may be refused for less
   pub recovers_more : {may more : Fault → Bool} {v w : PageWriter} {new : D} {why : Option Fault} → ((e : Fault) → may e ≡ true → more e ≡ true) → Recovers d may v w new why → Recovers d more v w new why
-  recovers_more {may} {more} {v} {w} {new} {why} to one = record { ready = one.ready; ends = more_ends may more to v w new why one.ends }
+  recovers_more {may} {more} {v} {w} {new} {why} to one = record { ready = one.ready; frames = one.frames; ends = more_ends may more to v w new why one.ends }
 
   own_end : (may : Fault → Bool) → may Failed ≡ false → may Device ≡ false → may LogFull ≡ false → (v w : PageWriter) (new : D) (e : Fault) → may e ≡ true → Works d v w new → RecoveryEnds d may v w new (Some e)
   own_end may failed device full v w new Failed is one = absurd (let clash : false ≡ true = sym failed ∙ is in cc clash)
@@ -46,14 +46,14 @@ module _ {D : Type 0} (d : Ghosts D) where
 
   -- what a call answers or refuses of its own, behind calls that were not refused
   pub recovery_own : {A : Type 0} {may m : Fault → Bool} {v w : PageWriter} {new : D} → may Failed ≡ false → may Device ≡ false → may LogFull ≡ false → (r : Result A Fault) → Recovers d m v w new None → IfErr r (λ e. may e ≡ true) → Recovers d may v w new (fault_of r)
-  recovery_own {A} {may} {m} {v} {w} {new} failed device full (Ok a) one of = record { ready = one.ready; ends = one.ends }
-  recovery_own {A} {may} {m} {v} {w} {new} failed device full (Err e) one of = record { ready = one.ready; ends = own_end may failed device full v w new e of one.ends }
+  recovery_own {A} {may} {m} {v} {w} {new} failed device full (Ok a) one of = record { ready = one.ready; frames = one.frames; ends = one.ends }
+  recovery_own {A} {may} {m} {v} {w} {new} failed device full (Err e) one of = record { ready = one.ready; frames = one.frames; ends = own_end may failed device full v w new e of one.ends }
 
   -- no call was made yet
   pub unmoved : {may : Fault → Bool} (v : PageWriter) (old : D) → v.failed ≡ false → IsReadyWriter d v old → Recovers d may v v old None
   unmoved {may} v old works ready =
       let opened = ready.opened works in
-      record { ready = ready; ends = record { began = works; works = works; alive = opened.ready.reading.working (opened.working (ready.works works)) } }
+      record { ready = ready; frames = refl; ends = record { began = works; works = works; alive = opened.ready.reading.working (opened.working (ready.works works)) } }
 
   logs_end : (may : Fault → Bool) (v w : PageWriter) (old new : D) (why : Option Fault) → LogEnds d false may v old w new why → RecoveryEnds d may v w new why
   logs_end may v w old new None one = one
@@ -65,7 +65,7 @@ module _ {D : Type 0} (d : Ghosts D) where
 
   -- a call that logs records of its own
   pub logs_recover : {may : Fault → Bool} {v w : PageWriter} {old new : D} {why : Option Fault} → Logs d false may v old w new why → Recovers d may v w new why
-  logs_recover {may} {v} {w} {old} {new} {why} one = record { ready = one.ready; ends = logs_end may v w old new why one.ends }
+  logs_recover {may} {v} {w} {old} {new} {why} one = record { ready = one.ready; frames = one.frames; ends = logs_end may v w old new why one.ends }
 
   redo_end : (may : Fault → Bool) (v w : PageWriter) (new : D) (why : Option Fault) → RedoEnds d may v w new why → RecoveryEnds d may v w new why
   redo_end may v w new None one = one
@@ -76,18 +76,19 @@ module _ {D : Type 0} (d : Ghosts D) where
 
   -- a page that is loaded, or a record redone
   pub redone : {may : Fault → Bool} {v w : PageWriter} {new : D} {why : Option Fault} → Redoes d may v w new why → Recovers d may v w new why
-  redone {may} {v} {w} {new} {why} one = record { ready = one.ready; ends = redo_end may v w new why one.ends }
+  redone {may} {v} {w} {new} {why} one = record { ready = one.ready; frames = one.frames; ends = redo_end may v w new why one.ends }
 
-module _ {D : Type 0} (d : Ghosts D) (v w : PageWriter) (new : D) (began : v.failed ≡ false) (ready : IsReadyWriter d w new) where
+module _ {D : Type 0} (d : Ghosts D) (v w : PageWriter) (new : D) (began : v.failed ≡ false) (ready : IsReadyWriter d w new) (frames : w.pool.frames ≡ v.pool.frames) where
   -- a call that was not refused
   pub moved : {may : Fault → Bool} → w.failed ≡ false → Recovers d may v w new None
-  moved {may} works = let opened = ready.opened works in record { ready = ready; ends = record { began = began; works = works; alive = opened.ready.reading.working (opened.working (ready.works works)) } }
+  moved {may} works = let opened = ready.opened works in record { ready = ready; frames = frames; ends = record { began = began; works = works; alive = opened.ready.reading.working (opened.working (ready.works works)) } }
 
   -- a read of a record, refused
   pub read_refused : {A : Type 0} (r : Result A Fault) (f : Fault) → r ≡ Err f → w.failed ≡ true → (f ≡ Failed) ⊎ (f ≡ NotAStore) ⊎ (f ≡ Device) → (r ≡ Err Failed) ↔ (v.failed ≡ true) → (v.failed ≡ false → (r ≡ Err Device) ↔ (d.failed new ≡ true))
       → Recovers d mild v w new (Some f)
   read_refused {A} r f is broken causes already device = record {
     ready = ready;
+    frames = frames;
     ends = by f causes (λ e. already.0 (is ∙ ap Err e)) ((λ e. (device began).0 (is ∙ ap Err e)), (λ lost. let same = sym is ∙ (device began).1 lost in cc same));
   }
     where

@@ -17,7 +17,8 @@ module _ {D : Type 0} (d : Ghosts D) where
   RecoveryEnds may v w new (Some LogFull) = Fails d v w × (d.failed new ≡ false) × HasNoRoom w.log
   RecoveryEnds may v w new (Some e) = (may e ≡ true) × (v.failed ≡ false) × (d.failed new ≡ false)
 
-  -- The outcome of such a call: the writer is ready for the next one, and this is how it ended. `may` says for what else it may be refused.
+  -- The outcome of such a call: the writer is ready for the next one, its pool has as many frames, and this is how it ended. `may` says for what else it may be refused.
   pub record Recovers (may : Fault → Bool) (v w : PageWriter) (new : D) (why : Option Fault) : Type 0 where
     pub ready : IsReadyWriter d w new
+    pub frames : w.pool.frames ≡ v.pool.frames
     pub ends : RecoveryEnds may v w new why

@@ -58,6 +58,7 @@ module _ {D : Type 0} (d : Ghosts D) where
   pub answered_late : {v w : PageWriter} {old new : D} (f answer : Fault) → Logs d true mild_to_take v old w new (Some f) → (f ≡ Failed → answer ≡ Memory) → (f ≢ Failed → answer ≡ f) → Recovers d mild_to_take v w new (Some answer)
   answered_late {v} {w} {old} {new} f answer one memory others = record {
     ready = one.ready;
+    frames = one.frames;
     ends = elim (failed_or f) [
       | inl is ↦ let works = works_late v w old new f is one.ends in subst (λ (x : Fault). RecoveryEnds d mild_to_take v w new (Some x)) (sym (memory is)) (refl, works.began, works.alive)
       | inr not ↦ subst (λ (x : Fault). RecoveryEnds d mild_to_take v w new (Some x)) (sym (others not)) (other_late v w old new f not one.ends)
@@ -68,11 +69,11 @@ module _ {D : Type 0} (d : Ghosts D) where
   done_late v w old new one = one
 
   pub done_well : {v w : PageWriter} {old new : D} → Logs d true mild_to_take v old w new None → Recovers d mild_to_take v w new None
-  done_well {v} {w} {old} {new} one = record { ready = one.ready; ends = done_late v w old new one.ends }
+  done_well {v} {w} {old} {new} one = record { ready = one.ready; frames = one.frames; ends = done_late v w old new one.ends }
 
   -- bytes that are no store's, refused before any call
   pub no_store : {may : Fault → Bool} (v : PageWriter) (old : D) → may NotAStore ≡ true → v.failed ≡ false → IsReadyWriter d v old → Recovers d may v v old (Some NotAStore)
-  no_store {may} v old is works ready = let begun = (unmoved d {may = may} v old works ready).ends in record { ready = ready; ends = (is, begun.began, begun.alive) }
+  no_store {may} v old is works ready = let begun = (unmoved d {may = may} v old works ready).ends in record { ready = ready; frames = refl; ends = (is, begun.began, begun.alive) }
 
 -- ---- an opening
 

@@ -132,6 +132,7 @@ fn restart<D: Disk>(
     requires usable { found.log.failed ≡ false }
     ensures outcome { Opens D.Disk disk.new (fault_of result) }
     ensures ready { IfOk result (λ r. IsReadyWriter D.Disk r.writer disk.new × (r.writer.failed ≡ false)) }
+    ensures pool { IfOk result (λ r. r.writer.pool.frames ≡ frames) }
     ensures least { IfOk result (λ r. 1 ≤ r.next) }
     ensures kept { (b : Base) (base : ℕ) (all : History) → MayRestart b base all (D.seen disk.old) → Only Pages (D.seen disk.old) (D.may_leave disk.old) → IsFound D.Disk base all found disk.old
         → RestartKept D.Disk b base all disk.old disk.new result }
@@ -175,6 +176,7 @@ pub fn open_or_create<D: Disk>(
     requires most { frames ≤ 1024 }
     ensures outcome { Opens D.Disk disk.new (fault_of result) }
     ensures ready { IfOk result (λ r. IsReadyWriter D.Disk r.writer disk.new × (r.writer.failed ≡ false)) }
+    ensures pool { IfOk result (λ r. r.writer.pool.frames ≡ frames) }
     ensures least { IfOk result (λ r. 1 ≤ r.next) }
     ensures made { IfOk result (λ _. D.tells → IsFresh (D.seen disk.old) ⊎ IsMade (D.seen disk.old Log)) }
     ensures spelled { IfOk result (λ _. D.tells → SpellsLog (D.seen disk.old)) }

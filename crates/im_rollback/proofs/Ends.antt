@@ -26,7 +26,7 @@ module _ {D : Type 0} (d : Ghosts D) where
 
   -- a call behind another, which may be refused for more causes
   pub turn_behind : {l m n : Fault → Bool} {v w : PageWriter} {mid : D} {x : PageWriter} {new : D} {why : Option Fault} → ((e : Fault) → m e ≡ true → n e ≡ true) → TurnOutcome d l v w mid None → TurnOutcome d m w x new why → TurnOutcome d n v x new why
-  turn_behind {l} {m} {n} {v} {w} {mid} {x} {new} {why} may one two = record { ready = two.ready; ends = ends_behind m n may v w mid one.ends x new why two.ends }
+  turn_behind {l} {m} {n} {v} {w} {mid} {x} {new} {why} may one two = record { ready = two.ready; frames = two.frames ∙ one.frames; ends = ends_behind m n may v w mid one.ends x new why two.ends }
 
   ends_more : (m n : Fault → Bool) → ((e : Fault) → m e ≡ true → n e ≡ true) → (v w : PageWriter) (new : D) (why : Option Fault) → TurnEnds d m v w new why → TurnEnds d n v w new why
   ends_more m n may v w new None one = one
@@ -37,7 +37,7 @@ module _ {D : Type 0} (d : Ghosts D) where
 
   -- a call that may be refused for more causes
   pub turn_more : {m n : Fault → Bool} {v w : PageWriter} {new : D} {why : Option Fault} → ((e : Fault) → m e ≡ true → n e ≡ true) → TurnOutcome d m v w new why → TurnOutcome d n v w new why
-  turn_more {m} {n} {v} {w} {new} {why} may one = record { ready = one.ready; ends = ends_more m n may v w new why one.ends }
+  turn_more {m} {n} {v} {w} {new} {why} may one = record { ready = one.ready; frames = one.frames; ends = ends_more m n may v w new why one.ends }
 
   -- a refusal that is handed on
   pub turn_refused_on : {A : Type 0} {m : Fault → Bool} {v w : PageWriter} {new : D} {f : Fault} (r : Result A Fault) → IsErrAnd r (λ e. e ≡ f) → TurnOutcome d m v w new (Some f) → TurnOutcome d m v w new (fault_of r)
@@ -46,7 +46,7 @@ module _ {D : Type 0} (d : Ghosts D) where
 
   -- bytes that are none of a record, behind other calls
   pub not_a_store : {m n : Fault → Bool} {v w : PageWriter} {new : D} → TurnOutcome d m v w new None → TurnOutcome d n v w new (Some NotAStore)
-  not_a_store {m} {n} {v} {w} {new} one = record { ready = one.ready; ends = (one.ends.began, one.ends.alive) }
+  not_a_store {m} {n} {v} {w} {new} one = record { ready = one.ready; frames = one.frames; ends = (one.ends.began, one.ends.alive) }
 
   pub no_record : {m n : Fault → Bool} {v w : PageWriter} {new : D} {f : Fault} → f ≡ NotAStore → TurnOutcome d m v w new None → TurnOutcome d n v w new (Some f)
   no_record {m} {n} {v} {w} {new} {f} is one = subst (λ (e : Fault). TurnOutcome d n v w new (Some e)) (sym is) (not_a_store one)
@@ -57,17 +57,19 @@ module _ {D : Type 0} (d : Ghosts D) where
   pub none_made : {m : Fault → Bool} (v : PageWriter) (disk : D) → IsReadyWriter d v disk → v.failed ≡ false → TurnOutcome d m v v disk None
   none_made v disk ready works =
       let opened = ready.opened works in
-      record { ready = ready; ends = record { began = works; works = works; alive = opened.ready.reading.working (opened.working (ready.works works)) } }
+      record { ready = ready; frames = refl; ends = record { began = works; works = works; alive = opened.ready.reading.working (opened.working (ready.works works)) } }
 
   -- a record is read
   pub read_ends : {A : Type 0} {v w : PageWriter} {new : D} (r : Result A Fault) → IsReadyWriter d w new → v.failed ≡ false → w.failed ≡ not (is_ok r) → IfErr r (λ e. (e ≡ Failed) ⊎ (e ≡ NotAStore) ⊎ (e ≡ Device))
-      → (r ≡ Err Failed) ↔ (v.failed ≡ true) → (r ≡ Err Device) ↔ (d.failed new ≡ true) → TurnOutcome d none_mild v w new (fault_of r)
-  read_ends {A} {v} {w} {new} (Ok a) ready works failed causes already device = record {
+      → (r ≡ Err Failed) ↔ (v.failed ≡ true) → (r ≡ Err Device) ↔ (d.failed new ≡ true) → w.pool.frames ≡ v.pool.frames → TurnOutcome d none_mild v w new (fault_of r)
+  read_ends {A} {v} {w} {new} (Ok a) ready works failed causes already device frames = record {
     ready = ready;
+    frames = frames;
     ends = record { began = works; works = failed; alive = still_working (d.failed new) (λ lost. let clash = device.1 lost in let never : ⊥ = cc clash in never) };
   }
-  read_ends {A} {v} {w} {new} (Err e) ready works failed causes already device = record {
+  read_ends {A} {v} {w} {new} (Err e) ready works failed causes already device frames = record {
     ready = ready;
+    frames = frames;
     ends = elim causes [
       | inl is ↦ absurd (let clash : false ≡ true = sym works ∙ already.0 (ap Err is) in let never : ⊥ = cc clash in never)
       | inr more ↦ elim more [
@@ -91,7 +93,7 @@ module _ {D : Type 0} (d : Ghosts D) where
 
   -- a change is taken back
   pub taken_turn : {v : PageWriter} {old : D} {w : PageWriter} {new : D} {why : Option Fault} → Logs d true mild_to_take v old w new why → TurnOutcome d may_turn v w new why
-  taken_turn {v} {old} {w} {new} {why} one = record { ready = one.ready; ends = taken_ends v old w new why one.ends }
+  taken_turn {v} {old} {w} {new} {why} one = record { ready = one.ready; frames = one.frames; ends = taken_ends v old w new why one.ends }
 
   end_ends : (v : PageWriter) (old : D) (w : PageWriter) (new : D) (why : Option Fault) → v.failed ≡ false → LogEnds d false none_mild v old w new why → TurnEnds d may_be_full v w new why
   end_ends v old w new None works one = one
@@ -103,7 +105,7 @@ module _ {D : Type 0} (d : Ghosts D) where
 
   -- an End is logged
   pub end_turn : {v : PageWriter} {old : D} {w : PageWriter} {new : D} {why : Option Fault} → v.failed ≡ false → Logs d false none_mild v old w new why → TurnOutcome d may_be_full v w new why
-  end_turn {v} {old} {w} {new} {why} works one = record { ready = one.ready; ends = end_ends v old w new why works one.ends }
+  end_turn {v} {old} {w} {new} {why} works one = record { ready = one.ready; frames = one.frames; ends = end_ends v old w new why works one.ends }
 
   -- an End is not refused as no store
   pub end_sound : {v : PageWriter} {old : D} {w : PageWriter} {new : D} {f : Fault} → Logs d false none_mild v old w new (Some f) → f ≢ NotAStore

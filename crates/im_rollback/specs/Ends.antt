@@ -35,4 +35,5 @@ module _ {D : Type 0} (d : Ghosts D) where
   -- The outcome of such a call.
   pub record TurnOutcome (may : Fault → Bool) (v w : PageWriter) (new : D) (why : Option Fault) : Type 0 where
     pub ready : IsReadyWriter d w new
+    pub frames : w.pool.frames ≡ v.pool.frames
     pub ends : TurnEnds may v w new why

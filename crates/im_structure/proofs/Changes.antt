@@ -69,15 +69,15 @@ module _ {D : Type 0} (d : Ghosts D) {v : PageWriter} {old : D} {w : PageWriter}
   -- ---- a leaf that stays for want of memory
 
   pub done_so : {m n : Fault → Bool} → Logs d true m v old w new None → Logs d true n v old w new None
-  done_so {m} {n} one = record { ready = one.ready; ends = one.ends }
+  done_so {m} {n} one = record { ready = one.ready; frames = one.frames; ends = one.ends }
 
   pub memory_done : {m n : Fault → Bool} (f : Fault) → f ≡ Memory → Logs d true m v old w new (Some f) → Logs d true n v old w new None
   memory_done {m} {n} f is one =
       let ends : LogEnds d true m v old w new (Some Memory) = subst (λ (x : Fault). LogEnds d true m v old w new (Some x)) is one.ends in
-      record { ready = one.ready; ends = record { began = ends.1.began; works = ends.1.works; alive = ends.1.alive } }
+      record { ready = one.ready; frames = one.frames; ends = record { began = ends.1.began; works = ends.1.works; alive = ends.1.alive } }
 
   pub other_so : (f : Fault) → f ≢ Memory → Logs d true mild v old w new (Some f) → Logs d true none_mild v old w new (Some f)
-  other_so f not one = record { ready = one.ready; ends = other_ends d v old w new f not one.ends }
+  other_so f not one = record { ready = one.ready; frames = one.frames; ends = other_ends d v old w new f not one.ends }
 
 -- ---- images
 

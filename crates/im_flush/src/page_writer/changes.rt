@@ -111,6 +111,7 @@ impl PageWriter {
         ensures full { result ≡ Err LogFull ↔ (2 ^ 62 < end_with self.old.log (size_of (view record.now))) }
         ensures left { result ≡ Err LogFull → 2 ^ 62 < end_with self.new.log (size_of (view record.now)) }
         ensures device { result ≡ Err Device ↔ (D.failed disk.new ≡ true) }
+        ensures frames { self.new.pool.frames ≡ self.old.pool.frames }
     {
         let known = self.is_known(frame);
         self.failed = true;
@@ -149,6 +150,7 @@ impl PageWriter {
         ensures full { result ≡ Err LogFull ↔ (2 ^ 62 < end_with self.old.log (size_of (view record.now))) }
         ensures left { result ≡ Err LogFull → 2 ^ 62 < end_with self.new.log (size_of (view record.now)) }
         ensures device { result ≡ Err Device ↔ (D.failed disk.new ≡ true) }
+        ensures frames { self.new.pool.frames ≡ self.old.pool.frames }
     {
         let known = self.is_known(frame);
         self.failed = true;

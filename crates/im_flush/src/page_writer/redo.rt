@@ -54,6 +54,7 @@ impl PageWriter {
         ensures causes { IfErr result (λ e. (e ≡ Failed) ⊎ (e ≡ NotAStore) ⊎ (e ≡ Device)) }
         ensures already { result ≡ Err Failed ↔ (self.old.failed ≡ true) }
         ensures device { self.old.failed ≡ false → result ≡ Err Device ↔ (D.failed disk.new ≡ true) }
+        ensures frames { self.new.pool.frames ≡ self.old.pool.frames }
     {
         if self.failed {
             return Err(Fault::Failed);

@@ -50,6 +50,7 @@ impl PageWriter {
         ensures full { result ≡ Err LogFull ↔ ((after_in (what_of (view record.now)) ≢ None) × (2 ^ 62 < end_with self.old.log (size_of (view record.now)))) }
         ensures left { result ≡ Err LogFull → 2 ^ 62 < end_with self.new.log (size_of (view record.now)) }
         ensures device { result ≡ Err Device ↔ (D.failed disk.new ≡ true) }
+        ensures frames { self.new.pool.frames ≡ self.old.pool.frames }
     {
         if !read_after(&mut self.spare, record) {
             return Err(Fault::NotAStore);

@@ -23,7 +23,7 @@ returns-in_err-load_one-clause-outcome g c = recovery_refused g.D.Disk c.from_re
 
 pub loop-lsn-init : goal.loop-lsn-init
 loop-lsn-init g c = record {
-  outcome = moved g.D.Disk c.args.writer.now c.args.writer.now c.args.disk.now c.requires.working c.requires.ready c.requires.working;
+  outcome = moved g.D.Disk c.args.writer.now c.args.writer.now c.args.disk.now c.requires.working c.requires.ready refl c.requires.working;
   room = refl;
   kept = λ b base begun file from s is waiting first at.
       let all = c.into_iter-lsn-iterator.ensures.into_iter_gives in

@@ -13,7 +13,7 @@ few_more count index true n is le = omega (arith, is, le)
 few_more count index false n is le = omega (arith, is, le)
 
 pub loop-lsn-init : goal.loop-lsn-init
-loop-lsn-init g c = record { outcome = moved g.D.Disk c.args.writer.now c.args.writer.now c.args.disk.now c.requires.working c.requires.ready c.requires.working; few = omega arith; room = refl; kept = λ b base begun file from is can at are. is }
+loop-lsn-init g c = record { outcome = moved g.D.Disk c.args.writer.now c.args.writer.now c.args.disk.now c.requires.working c.requires.ready refl c.requires.working; few = omega arith; room = refl; kept = λ b base begun file from is can at are. is }
 
 pub loop-lsn-preserved : goal.loop-lsn-preserved
 loop-lsn-preserved g c =

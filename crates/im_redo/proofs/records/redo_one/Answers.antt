@@ -18,7 +18,7 @@ pub returns-in_err-size-clause-outcome : goal.returns-in_err-size-clause-outcome
 returns-in_err-size-clause-outcome g c =
     let e = c.in_err-size.ensures in
     recovery_refused g.D.Disk c.from_residual.result c.from_residual.ensures.1
-    (read_refused g.D.Disk c.args.writer.now c.read_at.new.self c.read_at.new.disk c.requires.working e.ready _ c.in_err-size.field-0.0 refl e.failed e.causes e.already e.device)
+    (read_refused g.D.Disk c.args.writer.now c.read_at.new.self c.read_at.new.disk c.requires.working e.ready e.frames _ c.in_err-size.field-0.0 refl e.failed e.causes e.already e.device)
 
 pub returns-in_err-size-clause-kept : goal.returns-in_err-size-clause-kept
 returns-in_err-size-clause-kept g c b base begun file from left count so can at are =
@@ -36,7 +36,7 @@ pub returns-in_err-record-clause-outcome : goal.returns-in_err-record-clause-out
 returns-in_err-record-clause-outcome g c =
     let e = c.in_ok-size.ensures in
     let r = c.from_residual-in_err-record.result in
-    recovery_own g.D.Disk {m = mild} refl refl refl r (moved g.D.Disk c.args.writer.now c.read_at.new.self c.read_at.new.disk c.requires.working e.ready e.works)
+    recovery_own g.D.Disk {m = mild} refl refl refl r (moved g.D.Disk c.args.writer.now c.read_at.new.self c.read_at.new.disk c.requires.working e.ready e.frames e.works)
     (err_on r c.in_err-record.field-0.0 _ c.from_residual-in_err-record.ensures.1 (ap mild c.in_err-record.ensures.entry.0))
 
 pub returns-in_err-record-clause-kept : goal.returns-in_err-record-clause-kept
@@ -57,7 +57,7 @@ returns-in_err-applied-clause-outcome g c =
     let d = g.D.Disk in
     let e = c.in_ok-size.ensures in
     recovery_refused d c.from_residual-in_err-applied.result c.from_residual-in_err-applied.ensures.1
-    (recovers_then d {m = mild} (moved d c.args.writer.now c.read_at.new.self c.read_at.new.disk c.requires.working e.ready e.works)
+    (recovers_then d {m = mild} (moved d c.args.writer.now c.read_at.new.self c.read_at.new.disk c.requires.working e.ready e.frames e.works)
     (redone d c.in_err-applied.ensures.outcome))
 
 pub returns-in_err-applied-clause-kept : goal.returns-in_err-applied-clause-kept
@@ -85,7 +85,7 @@ pub returns-clause-outcome : goal.returns-clause-outcome
 returns-clause-outcome g c =
     let d = g.D.Disk in
     let e = c.in_ok-size.ensures in
-    recovers_then d {m = mild} (moved d c.args.writer.now c.read_at.new.self c.read_at.new.disk c.requires.working e.ready e.works)
+    recovers_then d {m = mild} (moved d c.args.writer.now c.read_at.new.self c.read_at.new.disk c.requires.working e.ready e.frames e.works)
     (redone d c.in_ok-applied.ensures.outcome)
 
 pub returns-clause-kept : goal.returns-clause-kept

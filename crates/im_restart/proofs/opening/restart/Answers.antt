@@ -6,6 +6,7 @@ use Rattle.im_analysis.specs.Numbers.{IsNextNumber}
 use Rattle.im_types.proofs.Fronts.{rises}
 use Rattle.im_flush.proofs.LoggedChanges.{err_on}
 use Rattle.im_flush.proofs.Outcomes.{sound_on}
+use Rattle.im_flush.proofs.Restarting.{frames_opened}
 use Rattle.im_tree.specs.Theory.{page_tree}
 use Rattle.im_restart.proofs.Ends.{alive_log, opens_refused, opens_settled, opens_without}
 use Rattle.im_restart.proofs.Restarts.{left_unmoved, log_synced, next_least, writer_starts}
@@ -80,3 +81,6 @@ returns-in_err-applied-clause-outcome g c =
 
 pub returns-clause-outcome : goal.returns-clause-outcome
 returns-clause-outcome g c = record { ends = c.in_ok-applied.ensures.outcome.ends.alive }
+
+pub returns-clause-pool : goal.returns-clause-pool
+returns-clause-pool g c = c.in_ok-applied.ensures.outcome.frames ∙ frames_opened c.in_ok-writer.writer c.args.frames c.in_ok-writer.ensures.pool

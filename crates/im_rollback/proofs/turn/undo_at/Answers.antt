@@ -14,14 +14,14 @@ use Rattle.im_rollback.proofs.Turning.{going_read, read_on, read_stops, take_don
 use Rattle.im_rollback.proofs.turn.undo_at.Goals as goal
 
 pub returns-in_err-size-clause-outcome : goal.returns-in_err-size-clause-outcome
-returns-in_err-size-clause-outcome g c = turn_refused_on g.D.Disk c.from_residual.result c.from_residual.ensures.1 (turn_more g.D.Disk (none_may may_turn) (read_ends g.D.Disk {A = ℕ} (Err c.in_err-size.field-0.0) c.in_err-size.ensures.ready c.requires.working c.in_err-size.ensures.failed c.in_err-size.ensures.causes c.in_err-size.ensures.already (c.in_err-size.ensures.device c.requires.working)))
+returns-in_err-size-clause-outcome g c = turn_refused_on g.D.Disk c.from_residual.result c.from_residual.ensures.1 (turn_more g.D.Disk (none_may may_turn) (read_ends g.D.Disk {A = ℕ} (Err c.in_err-size.field-0.0) c.in_err-size.ensures.ready c.requires.working c.in_err-size.ensures.failed c.in_err-size.ensures.causes c.in_err-size.ensures.already (c.in_err-size.ensures.device c.requires.working) c.in_err-size.ensures.frames))
 
 pub returns-in_err-size-clause-kept : goal.returns-in_err-size-clause-kept
 returns-in_err-size-clause-kept g c b base s e going at =
     let t = c.args.transaction in
     let f = c.in_err-size.field-0.0 in
     let found = c.in_err-size.ensures.found b base s at.found going.stands at.next.logged (sym at.here) in
-    let one = turn_refused_on g.D.Disk c.from_residual.result c.from_residual.ensures.1 (read_ends g.D.Disk {A = ℕ} {v = c.args.writer.now} (Err c.in_err-size.field-0.0) c.in_err-size.ensures.ready c.requires.working c.in_err-size.ensures.failed c.in_err-size.ensures.causes c.in_err-size.ensures.already (c.in_err-size.ensures.device c.requires.working)) in
+    let one = turn_refused_on g.D.Disk c.from_residual.result c.from_residual.ensures.1 (read_ends g.D.Disk {A = ℕ} {v = c.args.writer.now} (Err c.in_err-size.field-0.0) c.in_err-size.ensures.ready c.requires.working c.in_err-size.ensures.failed c.in_err-size.ensures.causes c.in_err-size.ensures.already (c.in_err-size.ensures.device c.requires.working) c.in_err-size.ensures.frames) in
     record {
       sound = sound_on c.from_residual.result _ _ c.from_residual.ensures.1 (device_not_store f found.cause);
       stops = read_stops g.D.Disk b base s e t c.args.last c.args.undo_next c.args.writer.now c.args.disk.now c.read_at.new.disk (g.met.D.Disk.only_now c.args.disk.now) going c.read_at.ensures.reads;
@@ -31,7 +31,7 @@ returns-in_err-size-clause-kept g c b base s e going at =
     }
 
 pub returns-in_err-record-clause-outcome : goal.returns-in_err-record-clause-outcome
-returns-in_err-record-clause-outcome g c = turn_refused_on g.D.Disk c.from_residual-in_err-record.result c.from_residual-in_err-record.ensures.1 (no_record g.D.Disk c.in_err-record.ensures.entry.0 (read_ends g.D.Disk {A = ℕ} (Ok c.in_ok-size.size) c.in_ok-size.ensures.ready c.requires.working c.in_ok-size.ensures.failed tt c.in_ok-size.ensures.already (c.in_ok-size.ensures.device c.requires.working)))
+returns-in_err-record-clause-outcome g c = turn_refused_on g.D.Disk c.from_residual-in_err-record.result c.from_residual-in_err-record.ensures.1 (no_record g.D.Disk c.in_err-record.ensures.entry.0 (read_ends g.D.Disk {A = ℕ} (Ok c.in_ok-size.size) c.in_ok-size.ensures.ready c.requires.working c.in_ok-size.ensures.failed tt c.in_ok-size.ensures.already (c.in_ok-size.ensures.device c.requires.working) c.in_ok-size.ensures.frames))
 
 pub returns-in_err-record-clause-kept : goal.returns-in_err-record-clause-kept
 returns-in_err-record-clause-kept g c b base s e going at =
@@ -39,7 +39,7 @@ returns-in_err-record-clause-kept g c b base s e going at =
     absurd (spelled_none at.found _ found.ok c.in_err-record.ensures.entry.1)
 
 pub returns-then-transaction-clause-outcome : goal.returns-then-transaction-clause-outcome
-returns-then-transaction-clause-outcome g c = not_a_store g.D.Disk (read_ends g.D.Disk {A = ℕ} (Ok c.in_ok-size.size) c.in_ok-size.ensures.ready c.requires.working c.in_ok-size.ensures.failed tt c.in_ok-size.ensures.already (c.in_ok-size.ensures.device c.requires.working))
+returns-then-transaction-clause-outcome g c = not_a_store g.D.Disk (read_ends g.D.Disk {A = ℕ} (Ok c.in_ok-size.size) c.in_ok-size.ensures.ready c.requires.working c.in_ok-size.ensures.failed tt c.in_ok-size.ensures.already (c.in_ok-size.ensures.device c.requires.working) c.in_ok-size.ensures.frames)
 
 pub returns-then-transaction-clause-kept : goal.returns-then-transaction-clause-kept
 returns-then-transaction-clause-kept g c b base s e going at =
@@ -49,7 +49,7 @@ returns-then-transaction-clause-kept g c b base s e going at =
     absurd (c.if-transaction.true (c.transaction.ensures ∙ ap (λ (x : Logged). x.txn) same ∙ at.next.owner))
 
 pub returns-then-not-is_key_record-clause-outcome : goal.returns-then-not-is_key_record-clause-outcome
-returns-then-not-is_key_record-clause-outcome g c = not_a_store g.D.Disk (read_ends g.D.Disk {A = ℕ} (Ok c.in_ok-size.size) c.in_ok-size.ensures.ready c.requires.working c.in_ok-size.ensures.failed tt c.in_ok-size.ensures.already (c.in_ok-size.ensures.device c.requires.working))
+returns-then-not-is_key_record-clause-outcome g c = not_a_store g.D.Disk (read_ends g.D.Disk {A = ℕ} (Ok c.in_ok-size.size) c.in_ok-size.ensures.ready c.requires.working c.in_ok-size.ensures.failed tt c.in_ok-size.ensures.already (c.in_ok-size.ensures.device c.requires.working) c.in_ok-size.ensures.frames)
 
 pub returns-then-not-is_key_record-clause-kept : goal.returns-then-not-is_key_record-clause-kept
 returns-then-not-is_key_record-clause-kept g c b base s e going at =
@@ -63,7 +63,7 @@ returns-then-not-is_key_record-clause-kept g c b base s e going at =
 pub returns-in_err-behind-clause-outcome : goal.returns-in_err-behind-clause-outcome
 returns-in_err-behind-clause-outcome g c =
     turn_refused_on g.D.Disk c.from_residual-in_err-behind.result c.from_residual-in_err-behind.ensures.1
-    (turn_behind g.D.Disk (λ f is. is) (read_ends g.D.Disk {A = ℕ} (Ok c.in_ok-size.size) c.in_ok-size.ensures.ready c.requires.working c.in_ok-size.ensures.failed tt c.in_ok-size.ensures.already (c.in_ok-size.ensures.device c.requires.working)) (taken_turn g.D.Disk c.in_err-behind.ensures.outcome))
+    (turn_behind g.D.Disk (λ f is. is) (read_ends g.D.Disk {A = ℕ} (Ok c.in_ok-size.size) c.in_ok-size.ensures.ready c.requires.working c.in_ok-size.ensures.failed tt c.in_ok-size.ensures.already (c.in_ok-size.ensures.device c.requires.working) c.in_ok-size.ensures.frames) (taken_turn g.D.Disk c.in_err-behind.ensures.outcome))
 
 pub returns-in_err-behind-clause-kept : goal.returns-in_err-behind-clause-kept
 returns-in_err-behind-clause-kept g c b base s e going at =
@@ -96,7 +96,7 @@ returns-in_err-behind-clause-kept g c b base s e going at =
 
 pub returns-clause-outcome : goal.returns-clause-outcome
 returns-clause-outcome g c =
-    turn_behind g.D.Disk (λ f is. is) (read_ends g.D.Disk {A = ℕ} (Ok c.in_ok-size.size) c.in_ok-size.ensures.ready c.requires.working c.in_ok-size.ensures.failed tt c.in_ok-size.ensures.already (c.in_ok-size.ensures.device c.requires.working)) (taken_turn g.D.Disk c.in_ok-behind.ensures.outcome)
+    turn_behind g.D.Disk (λ f is. is) (read_ends g.D.Disk {A = ℕ} (Ok c.in_ok-size.size) c.in_ok-size.ensures.ready c.requires.working c.in_ok-size.ensures.failed tt c.in_ok-size.ensures.already (c.in_ok-size.ensures.device c.requires.working) c.in_ok-size.ensures.frames) (taken_turn g.D.Disk c.in_ok-behind.ensures.outcome)
 
 pub returns-clause-kept : goal.returns-clause-kept
 returns-clause-kept g c b base s e going at =

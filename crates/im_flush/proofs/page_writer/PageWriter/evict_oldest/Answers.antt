@@ -19,6 +19,7 @@ returns-clause-outcome g c =
     let disk = c.flush_one.new.disk in
     record {
       ready = search rules;
+      frames = c.drop_page.ensures.evicts.frames ∙ c.in_ok-flush_one.ensures.outcome.frames;
       ends = record {
         began = one.began;
         works = c.drop_page.ensures.failed ∙ one.works;

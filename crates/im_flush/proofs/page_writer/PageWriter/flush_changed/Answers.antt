@@ -6,7 +6,7 @@ use Rattle.im_flush.proofs.page_writer.PageWriter.flush_changed.Goals as goal
 pub returns-in_err-flush_page-clause-outcome : goal.returns-in_err-flush_page-clause-outcome
 returns-in_err-flush_page-clause-outcome g c =
     let e = c.in_err-flush_page.ensures in
-    imaging_broke g.D.Disk {log = c.args.self.now.log} c.from_residual.result c.from_residual.ensures.1 e.outcome c.requires.working refl (λ b base s is asked. (e.kept b base s is.writing).stops)
+    imaging_broke g.D.Disk {log = c.args.self.now.log} c.from_residual.result c.from_residual.ensures.1 e.outcome c.requires.working refl (λ b base s is asked. (e.kept b base s is.writing).stops) e.frames
 
 pub returns-clause-kept : goal.returns-clause-kept
 returns-clause-kept g c b base s is =
@@ -22,6 +22,7 @@ returns-clause-outcome g c =
     let opened = one.still alive in
     record {
       ready = search (rules, works, opened);
+      frames = c.in_ok-flush_page.ensures.frames;
       ends = record {
         began = c.requires.working;
         works = refl;

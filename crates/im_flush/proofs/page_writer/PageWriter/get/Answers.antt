@@ -15,6 +15,7 @@ returns-in-Some-clause-outcome g c =
     let alive = opened.ready.reading.working (opened.working (c.requires.ready.works c.if-self.false)) in
     record {
       ready = search rules;
+      frames = e.first.frames;
       ends = record {
         began = c.if-self.false;
         works = c.if-self.false;

@@ -17,6 +17,7 @@ returns-in-Ok-clause-outcome g c =
     let alive = still_working (g.D.Disk.failed c.get.new.disk) (λ failed. let clash = e.device.1 failed in let never : ⊥ = cc clash in never) in
     record {
       ready = search rules;
+      frames = e.frames;
       ends = record {
         began = c.requires.working;
         works = c.requires.working;
@@ -47,6 +48,7 @@ returns-in-Err-clause-outcome g c =
     let e = c.in-Err.ensures in
     record {
       ready = search rules;
+      frames = e.frames;
       ends = read_ends g.D.Disk c.in-Err.fault (search rules)
           (λ is. (record { began = c.requires.working; broken = c.eq-self.ensures ∙ rw is refl; stops = λ b base s stands asked. leaves_read g.D.Disk b base s w.log w.table w.pool old c.get.new.disk (g.met.D.Disk.only_now old) stands.writing e.reads }, e.device.0 (ap Err is)))
           (λ why.

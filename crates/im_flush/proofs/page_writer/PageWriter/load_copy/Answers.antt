@@ -21,7 +21,7 @@ returns-in_err-make_rooms-clause-kept g c b base s copy is over at holds waits f
 pub returns-clause-outcome : goal.returns-clause-outcome
 returns-clause-outcome g c =
     let room = c.in_ok-make_rooms.ensures.outcome in
-    redo_own g.D.Disk _ c.put_copy.result (search rules) room.ends.began (c.put_copy.ensures.failed ∙ room.ends.works) room.ends.alive c.put_copy.ensures.refused
+    redo_own g.D.Disk _ c.put_copy.result (search rules) room.ends.began (c.put_copy.ensures.failed ∙ room.ends.works) room.ends.alive c.put_copy.ensures.refused (c.put_copy.ensures.frames ∙ room.frames)
 
 pub returns-clause-kept : goal.returns-clause-kept
 returns-clause-kept g c b base s copy is over at holds waits found low =

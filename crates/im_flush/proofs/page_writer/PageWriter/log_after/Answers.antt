@@ -18,7 +18,7 @@ pub returns-clause-outcome : goal.returns-clause-outcome
 returns-clause-outcome g c =
     let e = c.after_logged.ensures in
     logs_then g.D.Disk (search_of g.D.Disk c.in_ok-frame.ensures.outcome)
-    (after_logs g.D.Disk g.met.D.Disk.only_now c.after_logged.result c.in_ok-frame.ensures.outcome.ends.works e.ready e.works e.fails e.causes e.no_room e.device e.same)
+    (after_logs g.D.Disk g.met.D.Disk.only_now c.after_logged.result c.in_ok-frame.ensures.outcome.ends.works e.ready e.works e.fails e.causes e.no_room e.device e.same e.frames)
 
 pub returns-clause-kept : goal.returns-clause-kept
 returns-clause-kept g c b base s e is over =

@@ -38,7 +38,7 @@ returns-in_err-i-clause-kept g c b base s e is over =
 pub returns-clause-outcome : goal.returns-clause-outcome
 returns-clause-outcome g c =
     let e = c.take_logged.ensures in
-    logs_then g.D.Disk (search_of g.D.Disk c.in_ok-frame.ensures.outcome) (append_logs g.D.Disk c.take_logged.result c.in_ok-frame.ensures.outcome.ends.works e.ready e.failed e.causes e.no_room e.device)
+    logs_then g.D.Disk (search_of g.D.Disk c.in_ok-frame.ensures.outcome) (append_logs g.D.Disk c.take_logged.result c.in_ok-frame.ensures.outcome.ends.works e.ready e.failed e.causes e.no_room e.device e.frames)
 
 pub returns-clause-kept : goal.returns-clause-kept
 returns-clause-kept g c b base s e is over =

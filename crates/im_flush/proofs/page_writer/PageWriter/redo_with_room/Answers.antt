@@ -29,7 +29,7 @@ returns-in_err-make_entry_room-clause-kept g c b base s newer older is over at t
 pub returns-clause-outcome : goal.returns-clause-outcome
 returns-clause-outcome g c =
     let room = c.in_ok-make_entry_room.ensures.outcome in
-    redo_own g.D.Disk _ c.redo_held.result (search rules) room.ends.began (c.redo_held.ensures.failed ∙ room.ends.works) room.ends.alive c.redo_held.ensures.refused
+    redo_own g.D.Disk _ c.redo_held.result (search rules) room.ends.began (c.redo_held.ensures.failed ∙ room.ends.works) room.ends.alive c.redo_held.ensures.refused (c.redo_held.ensures.frames ∙ room.frames)
 
 pub returns-clause-kept : goal.returns-clause-kept
 returns-clause-kept g c b base s newer older is over at there from ready below has =
