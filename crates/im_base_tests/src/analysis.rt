@@ -24,6 +24,13 @@ fn change<'a>(transaction: u64, prev: u64, page: u32, body: &'a [u8]) -> Record<
     }
 }
 
+// What page 0 has behind its LSN where it says this page count and all else is zero.
+fn meta(count: u8) -> [u8; 4088] {
+    let mut body = BODY;
+    body[19] = count;
+    body
+}
+
 // The losers as (number, last LSN, next LSN to undo).
 fn losers(alloc: Global, found: &Analysed) -> Result<Vec<(u64, u64, u64)>, AllocError> {
     let mut rows = Vec::new(alloc);
@@ -144,20 +151,20 @@ fn a_checkpoint_leaves_older_copies_behind(rt: HostRuntime) -> Result<(), Fail> 
     analysis.take(
         36,
         &Record::Image {
-            page: 3,
+            page: 0,
             bytes: &PAGE,
         },
     )?;
     analysis.take(
         4165,
         &Record::Image {
-            page: 4,
+            page: 1,
             bytes: &PAGE,
         },
     )?;
     let dirty = [
         DirtyPage {
-            page: 4,
+            page: 1,
             rec_lsn: 4165,
         },
         DirtyPage {
@@ -168,7 +175,7 @@ fn a_checkpoint_leaves_older_copies_behind(rt: HostRuntime) -> Result<(), Fail> 
     analysis.take(8299, &Record::checkpoint(7, &[], &dirty))?;
     let found = analysis.finish();
     assert_eq!(rt; (found.next, found.redo_point), (7, 4165));
-    assert_eq!(rt; copies(alloc, &found)?, vec![in alloc; (4, 4165)]?);
+    assert_eq!(rt; copies(alloc, &found)?, vec![in alloc; (1, 4165)]?);
     Ok(())
 }
 
@@ -199,17 +206,17 @@ fn a_half_undone_loser(rt: HostRuntime) -> Result<(), Fail> {
 fn an_open_structure_change(rt: HostRuntime) -> Result<(), Fail> {
     let alloc = rt.alloc();
     let mut analysis = Analysis::new(alloc, 1);
-    analysis.take(36, &change(1, 0, 1, &BODY))?;
-    analysis.take(8261, &change(1, 36, 2, &BODY))?;
+    analysis.take(36, &change(1, 0, 0, &BODY))?;
+    analysis.take(8261, &change(1, 36, 1, &BODY))?;
     assert_eq!(rt;
-        analysis.take(20000, &change(2, 0, 3, &BODY)),
+        analysis.take(20000, &change(2, 0, 1, &BODY)),
         Err(Fault::NotAStore)
     );
     let undo = Record::UndoSmo {
         transaction: 1,
         prev: 8261,
         undo_next: 36,
-        page: 2,
+        page: 1,
         after: &BODY,
     };
     analysis.take(20000, &undo)?;
@@ -217,11 +224,51 @@ fn an_open_structure_change(rt: HostRuntime) -> Result<(), Fail> {
     assert_eq!(rt; losers(alloc, &found)?, vec![in alloc; (1, 20000, 36)]?);
     assert_eq!(rt;
         copies(alloc, &found)?,
-        vec![in alloc; (1, 36), (2, 20000)]?
+        vec![in alloc; (0, 36), (1, 20000)]?
     );
     assert_eq!(rt; found.open_change.len(), 1);
     for row in &found.open_change {
-        assert_eq!(rt; (row.transaction, row.lsn, row.page), (1, 36, 1));
+        assert_eq!(rt; (row.transaction, row.lsn, row.page), (1, 36, 0));
+    }
+    Ok(())
+}
+
+#[test]
+fn a_page_past_the_page_count_is_refused(rt: HostRuntime) -> Result<(), Fail> {
+    let alloc = rt.alloc();
+    let mut analysis = Analysis::new(alloc, 1);
+    assert_eq!(rt;
+        analysis.take(36, &change(1, 0, 2, &BODY)),
+        Err(Fault::NotAStore)
+    );
+    analysis.take(36, &change(1, 0, 0, &meta(3)))?;
+    analysis.take(8261, &change(1, 36, 2, &BODY))?;
+    for page in [3, 258, 2_147_483_650] {
+        assert_eq!(rt;
+            analysis.take(16486, &change(1, 8261, page, &BODY)),
+            Err(Fault::NotAStore)
+        );
+    }
+    Ok(())
+}
+
+// A split that took page 2 was taken back: page 0 says two pages again, and page 2 is written later.
+#[test]
+fn a_page_of_an_earlier_page_count_is_taken(rt: HostRuntime) -> Result<(), Fail> {
+    let alloc = rt.alloc();
+    let mut analysis = Analysis::new(alloc, 1);
+    analysis.take(36, &change(1, 0, 0, &meta(3)))?;
+    let undo = Record::UndoSmo {
+        transaction: 1,
+        prev: 36,
+        undo_next: 0,
+        page: 0,
+        after: &meta(2),
+    };
+    analysis.take(8261, &undo)?;
+    for (page, taken) in [(2, Ok(())), (3, Err(Fault::NotAStore))] {
+        let image = Record::Image { page, bytes: &PAGE };
+        assert_eq!(rt; analysis.take(12390, &image), taken);
     }
     Ok(())
 }
@@ -239,7 +286,7 @@ fn a_closed_structure_change(rt: HostRuntime) -> Result<(), Fail> {
             undo_next: 0,
         },
     )?;
-    analysis.take(8294, &change(2, 0, 3, &BODY))?;
+    analysis.take(8294, &change(2, 0, 0, &BODY))?;
     analysis.take(
         16519,
         &Record::End {

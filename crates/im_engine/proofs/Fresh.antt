@@ -72,7 +72,7 @@ lsn_low start p = elim (cases_eq p 0) [
 ]
 
 empty_log : (start : ℕ) → IsLawful (new_from start) page_tree []
-empty_log start = record { lsns = λ p. lsn_low start p; stands = record { good = first_good start; walk = sym (none_in_empty start) } }
+empty_log start = record { lsns = λ p. lsn_low start p; count = omega arith; stands = record { good = first_good start; walk = sym (none_in_empty start) } }
 
 -- files without a log and without pages hold it: past the end of the file a page is as a new store finds it
 first_is : (p : ℕ) → initial p ≡ first_pages p

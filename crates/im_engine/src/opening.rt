@@ -40,7 +40,7 @@ impl<D: Disk> Engine<D> {
     /// Refused `PoolSize`, with no device call, where the frames are not 8 to 1,024; `NotAStore` where the bytes are no store;
     /// `LogFull` only where the log's file then ends less than 32,778 bytes below LSN 2^62; `Capacity` where what is taken back needs
     /// a page and page numbers or levels are used up; `Memory`; `Device`. Where the log's bytes are no log's, one of its records leads to a
-    /// later one, or one opens a structure change beside another's, nothing is written. A log that leaves nothing to take back is refused
+    /// later one or names a page that no page count before it has, or one opens a structure change beside another's, nothing is written. A log that leaves nothing to take back is refused
     /// `NotAStore` only for one of these, for an image that is no page, for a record behind its transaction's end, where the file of pages
     /// lacks what stands below the redo point, or where a page does not take its record.
     pub fn open_or_create(alloc: Global, disk: D, config: Config) -> Result<Engine<D>, (Fault, D)>
