@@ -225,6 +225,7 @@ step_made_of d step reply old new none m = record {
   works = told_works d reply old new m.told;
   never = never_found d (asked_by step) reply old new m.kept m.told;
   max_pages = ap (λ (f : Fixed). f.max_pages) (told_fixed d reply old new m.told);
+  frames = m.frames;
   report = ap (λ (f : Fixed). f.redo) (told_fixed d reply old new m.told);
 }
 
@@ -303,5 +304,6 @@ module _ {D : Type 0} (d : Ghosts D) (step : Asked) (e : Engine D d) (only_now :
     works = told_works d (Refused fault) e e told_so;
     never = never_found d (asked_by step) (Refused fault) e e (λ before s v life. barred_kept d before s v (asked_by step) e life only_now (number_of fault) is) told_so;
     max_pages = refl;
+    frames = refl;
     report = refl;
   }

@@ -21,6 +21,7 @@ module _ {D : Type 0} (d : Ghosts D) where
     pub kept : (before : List Effect) → d.tells → (stands : StandsFor before (d.seen old)) → OpenKept d before old stands result
     pub opened : IfOk result (λ e. (e.failed ≡ false) × (e.txns.rows ≡ []) × (e.locks ≡ []) × (d.failed e.disk ≡ false))
     pub limit : IfOk result (λ e. e.max_pages ≡ config.max_pages)
+    pub pool : IfOk result (λ e. e.writer.pool.frames ≡ config.frames)
     pub spelled : IfOk result (λ _. d.tells → SpellsLog (d.seen old))
     pub frames : IsErrAnd result (λ x. x.0 ≡ PoolSize) ↔ ((config.frames < 8) ⊎ (1024 < config.frames))
     pub untouched : IfErr result (λ x. x.0 ≡ PoolSize → x.1 ≡ old)

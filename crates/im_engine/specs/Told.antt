@@ -237,6 +237,7 @@ module _ {D : Type 0} (d : Ghosts D) where
     pub told : IsTold d reply old new
     pub answered : IsAnswered d step reply old new
     pub suits : Suits step (told_by reply)
+    pub frames : new.writer.pool.frames ≡ old.writer.pool.frames
     pub wants : (b : Base) (before : List Effect) (s : Shown) (v : View) (r : IsRunning d b before s v old) → WantsOf (settled b r.now.log) v.walk old.max_pages step reply
     pub quiet : (CallsDevice d step old → ⊥) → new.disk ≡ old.disk
 
@@ -256,4 +257,5 @@ module _ {D : Type 0} (d : Ghosts D) where
     -- the bytes of a sound store are never found to be none
     pub never : (before : List Effect) (s : Shown) (v : View) → IsLife d before s v old → reply ≢ Refused NotAStore
     pub max_pages : new.max_pages ≡ old.max_pages
+    pub frames : new.writer.pool.frames ≡ old.writer.pool.frames
     pub report : new.report ≡ old.report

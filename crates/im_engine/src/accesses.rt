@@ -54,6 +54,7 @@ impl<D: Disk> Engine<D> {
         ensures told { IsTold D.Disk result self.old self.new }
         ensures answered { IsAnswered D.Disk (answers.Do t (answers.Fetch key.now)) result self.old self.new }
         ensures suits { Suits (answers.Do t (answers.Fetch key.now)) (told_by result) }
+        ensures frames { self.new.writer.pool.frames ≡ self.old.writer.pool.frames }
     {
         self.failed = true;
         match im_index::fetch(&mut self.writer, &mut self.disk, &mut self.locks, t, key) {
@@ -88,6 +89,7 @@ impl<D: Disk> Engine<D> {
         ensures told { IsTold D.Disk result self.old self.new }
         ensures answered { IsAnswered D.Disk (answers.Do t (seek_at inclusive key.now)) result self.old self.new }
         ensures suits { Suits (answers.Do t (seek_at inclusive key.now)) (told_by result) }
+        ensures frames { self.new.writer.pool.frames ≡ self.old.writer.pool.frames }
     {
         self.failed = true;
         match im_index::seek(
@@ -129,6 +131,7 @@ impl<D: Disk> Engine<D> {
         ensures told { IsTold D.Disk result self.old self.new }
         ensures answered { IsAnswered D.Disk (answers.Do t (answers.Scan lo.now hi.now limit)) result self.old self.new }
         ensures suits { Suits (answers.Do t (answers.Scan lo.now hi.now limit)) (told_by result) }
+        ensures frames { self.new.writer.pool.frames ≡ self.old.writer.pool.frames }
     {
         self.failed = true;
         match im_index::scan(

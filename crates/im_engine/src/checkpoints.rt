@@ -25,6 +25,7 @@ impl<D: Disk> Engine<D> {
         ensures told { IsTold D.Disk result self.old self.new }
         ensures answered { IsAnswered D.Disk answers.Checkpoint result self.old self.new }
         ensures suits { Suits answers.Checkpoint (told_by result) }
+        ensures frames { self.new.writer.pool.frames ≡ self.old.writer.pool.frames }
     {
         self.failed = true;
         match im_checkpoint::take(

@@ -30,6 +30,7 @@ impl<D: Disk> Engine<D> {
         ensures told { IsTold D.Disk result self.old self.new }
         ensures answered { IsAnswered D.Disk answers.Begin result self.old self.new }
         ensures suits { Suits answers.Begin (told_by result) }
+        ensures frames { self.new.writer.pool.frames ≡ self.old.writer.pool.frames }
         ensures quiet { self.new.disk ≡ self.old.disk }
     {
         match self.txns.begin() {
@@ -49,6 +50,7 @@ impl<D: Disk> Engine<D> {
         ensures told { IsTold D.Disk result self.old self.new }
         ensures answered { IsAnswered D.Disk (answers.Commit t) result self.old self.new }
         ensures suits { Suits (answers.Commit t) (told_by result) }
+        ensures frames { self.new.writer.pool.frames ≡ self.old.writer.pool.frames }
         ensures quiet { (CallsDevice D.Disk (answers.Commit t) self.old → ⊥) → self.new.disk ≡ self.old.disk }
     {
         let Some(row) = self.txns.find(t) else {
@@ -84,6 +86,7 @@ impl<D: Disk> Engine<D> {
         ensures told { IsTold D.Disk result self.old self.new }
         ensures answered { IsAnswered D.Disk (answers.Rollback t) result self.old self.new }
         ensures suits { Suits (answers.Rollback t) (told_by result) }
+        ensures frames { self.new.writer.pool.frames ≡ self.old.writer.pool.frames }
         ensures quiet { self.new.disk ≡ self.old.disk }
     {
         let Some(row) = self.txns.find(t) else {
@@ -105,6 +108,7 @@ impl<D: Disk> Engine<D> {
         ensures told { IsTold D.Disk result self.old self.new }
         ensures answered { IsAnswered D.Disk answers.Force result self.old self.new }
         ensures suits { Suits answers.Force (told_by result) }
+        ensures frames { self.new.writer.pool.frames ≡ self.old.writer.pool.frames }
         ensures quiet { (CallsDevice D.Disk answers.Force self.old → ⊥) → self.new.disk ≡ self.old.disk }
     {
         self.failed = true;
@@ -124,6 +128,7 @@ impl<D: Disk> Engine<D> {
         ensures told { IsTold D.Disk result self.old self.new }
         ensures answered { IsAnswered D.Disk (answers.FlushPage page) result self.old self.new }
         ensures suits { Suits (answers.FlushPage page) (told_by result) }
+        ensures frames { self.new.writer.pool.frames ≡ self.old.writer.pool.frames }
         ensures quiet { (CallsDevice D.Disk (answers.FlushPage page) self.old → ⊥) → self.new.disk ≡ self.old.disk }
     {
         self.failed = true;

@@ -34,6 +34,7 @@ impl<D: Disk> Engine<D> {
         ensures told { IsTold D.Disk result self.old self.new }
         ensures answered { IsAnswered D.Disk (answers.Do t (answers.Insert key.now rid)) result self.old self.new }
         ensures suits { Suits (answers.Do t (answers.Insert key.now rid)) (told_by result) }
+        ensures frames { self.new.writer.pool.frames ≡ self.old.writer.pool.frames }
         ensures wants { (b : Base) (before : List Effect) (s : Shown) (v : View) (r : IsRunning D.Disk b before s v self.old) → WantsOf (settled b r.now.log) v.walk self.old.max_pages (answers.Do t (answers.Insert key.now rid)) result }
     {
         let Some(row) = self.txns.find(t) else {

@@ -34,6 +34,7 @@ impl<D: Disk> Engine<D> {
         ensures turns { IfOk result (λ replies. AreSteps D.Disk steps.now replies.items self.old self.new) }
         ensures stops { IfOk result (λ replies. (before : List Effect) (s : Shown) (v : View) → IsLife D.Disk before s v self.old → LeavesOnly D.Disk self.old.disk self.new.disk (IsCutOff before s steps.now replies.items)) }
         ensures max_pages { self.new.max_pages ≡ self.old.max_pages }
+        ensures frames { self.new.writer.pool.frames ≡ self.old.writer.pool.frames }
         ensures none { OnErr result (self.new ≡ self.old) }
         ensures memory { IfErr result (λ e. e ≡ Memory) }
     {

@@ -51,6 +51,7 @@ impl<D: Disk> Engine<D> {
         ensures untouched { IfErr result (λ x. x.0 ≡ PoolSize → x.1 ≡ disk) }
         ensures opened { IfOk result (λ e. (e.failed ≡ false) × (e.txns.rows ≡ []) × (e.locks ≡ []) × (D.failed e.disk ≡ false)) }
         ensures limit { IfOk result (λ e. e.max_pages ≡ config.max_pages) }
+        ensures pool { IfOk result (λ e. e.writer.pool.frames ≡ config.frames) }
         ensures spelled { IfOk result (λ _. D.tells → SpellsLog (D.seen disk)) }
         ensures causes { IfErr result (λ x. (x.0 ≡ PoolSize) ⊎ (x.0 ≡ Memory) ⊎ (x.0 ≡ Device) ⊎ (x.0 ≡ NotAStore) ⊎ (x.0 ≡ LogFull) ⊎ (x.0 ≡ Capacity)) }
         ensures unspelled { D.tells → ¬ (SpellsLog (D.seen disk)) → Reads D.Disk disk (disk_of D.Disk result) × IfErr result (λ x. (x.0 ≡ PoolSize) ⊎ (x.0 ≡ Memory) ⊎ (x.0 ≡ Device) ⊎ (x.0 ≡ NotAStore)) }

@@ -16,6 +16,7 @@ loop-step-init g c = record {
   turns = search rules;
   stops = λ before s v life. started g.D.Disk c.args.self.now.disk (Allowed before s) (λ told left_now left. life.stops left_now (g.met.D.Disk.only_now c.args.self.now.disk left_now left));
   max_pages = refl;
+  frames = refl;
   kept = λ before s v life. record { next = v; run = refl; after = life };
 }
 
@@ -36,6 +37,7 @@ loop-step-preserved g c =
           cut_one_more g.D.Disk before s c.args.steps.now c.loop-step.replies.items c.push.new.self.items c.loop-step.step-index _ c.step-item.result c.step-reply.result _ _ _ was.count (omega (arith, c.loop-step-test.true)) pushed c.step-item.is
           (was.stops before s v life) (made.kept before _ on.next on.after).stops;
       max_pages = made.max_pages ∙ was.max_pages;
+      frames = made.frames ∙ was.frames;
       kept = λ before s v life.
           lives_more g.D.Disk before s v c.args.steps.now c.loop-step.replies.items c.push.new.self.items c.loop-step.step-index _ c.step-item.result c.step-reply.result _ _ was.count (omega (arith, c.loop-step-test.true)) pushed c.step-item.is
           (was.kept before s v life) made;

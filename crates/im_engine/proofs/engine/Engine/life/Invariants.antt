@@ -16,5 +16,6 @@ invariant-loop-step g l = record {
   turns : AreSteps g.D.Disk (take l.step-index l.steps) l.replies.items l.fn.self l.self;
   stops : (before : List Effect) (s : Shown) (v : View) → IsLife g.D.Disk before s v l.fn.self → LeavesOnly g.D.Disk l.fn.self.disk l.self.disk (IsCutOff before s (take l.step-index l.steps) l.replies.items);
   max_pages : l.self.max_pages ≡ l.fn.self.max_pages;
+  frames : l.self.writer.pool.frames ≡ l.fn.self.writer.pool.frames;
   kept : (before : List Effect) (s : Shown) (v : View) → IsLife g.D.Disk before s v l.fn.self → LivesOn g.D.Disk before s v (answered_by (take l.step-index l.steps) l.replies.items) l.self;
 }
