@@ -1,7 +1,6 @@
 //! The test of a page's form.
 
-ghost use Rattle.std.specs.Prelude.{◌≡◌, ◌↔◌, IsTrue, ℕ, ◌+◌, ◌*◌, ◌<◌, ◌≤◌, false, true, length, slice_index, take, replicate};
-ghost use Rattle.std.specs.Int.{w64, from_be_bytes};
+ghost use Rattle.std.specs.Prelude.{◌≡◌, ◌↔◌, IsTrue, ℕ, ◌+◌, ◌*◌, ◌<◌, ◌≤◌, false, true, length, slice_index, replicate};
 ghost use Rattle.im_types.specs.Keys.{IsBelow};
 ghost use Rattle.im_page.specs.Form.{count_of, start_of, slot_at, key_from, cell_size, IsPacked};
 ghost use Rattle.im_page.specs.Page.{IsHeader, IsForm};
@@ -9,6 +8,7 @@ ghost use Rattle.im_page.specs.Sound.{AreStarts, HasSlots, IsCell, IsTopOf, IsFo
 
 use crate::cells::{cell_len, key_at};
 use crate::number::{get_u16, get_u32};
+use byteorder::{BigEndian, ByteOrder};
 use im_types::compare;
 use std::cmp::Ordering;
 
@@ -24,16 +24,6 @@ fn is_cell(leaf: bool, bytes: &[u8], at: usize) -> bool
     1 <= key && at + cell_len(leaf, key) <= 4096
 }
 
-/// The first eight bytes of a key as a number.
-fn word(key: &[u8]) -> u64
-    requires { 8 ≤ length key.now }
-    ensures { result ≡ from_be_bytes w64 (take 8 key.now) }
-{
-    u64::from_be_bytes([
-        key[0], key[1], key[2], key[3], key[4], key[5], key[6], key[7],
-    ])
-}
-
 /// The first eight bytes of a key as a number, the greatest one where it has fewer: a key whose first word is above it is above the key.
 fn top_of(key: &[u8]) -> u64
     ensures { IsTopOf key.now result }
@@ -41,7 +31,7 @@ fn top_of(key: &[u8]) -> u64
     if key.len() < 8 {
         return u64::MAX;
     }
-    word(key)
+    BigEndian::read_u64(key)
 }
 
 /// The first eight bytes of a key as a number, 0 where it has fewer.
@@ -51,7 +41,7 @@ fn foot_of(key: &[u8]) -> u64
     if key.len() < 8 {
         return 0;
     }
-    word(key)
+    BigEndian::read_u64(key)
 }
 
 /// Whether the key of one cell is below that of another. Where their first words differ, as of most keys, no other byte is read.

@@ -3,26 +3,28 @@
 ghost use Rattle.std.specs.Prelude.{slice_index, ◌≡◌, ◌+◌, ◌^◌, ◌<◌, ◌≤◌, length};
 ghost use Rattle.im_page.specs.Number.{u16_at, u32_at, u64_at, SameOutside};
 
+use byteorder::{BigEndian, ByteOrder};
+
 pub fn get_u16(bytes: &[u8], at: usize) -> usize
     requires { at + 2 ≤ length bytes.now }
     ensures value { result ≡ u16_at bytes.now at }
     ensures fits { result < 2 ^ 16 }
 {
-    bytes[at] as usize * 256 + bytes[at + 1] as usize
+    BigEndian::read_u16(&bytes[at..]) as usize
 }
 
 pub fn get_u32(bytes: &[u8], at: usize) -> u32
     requires { at + 4 ≤ length bytes.now }
     ensures { result ≡ u32_at bytes.now at }
 {
-    (get_u16(bytes, at) * 65536 + get_u16(bytes, at + 2)) as u32
+    BigEndian::read_u32(&bytes[at..])
 }
 
 pub fn get_u64(bytes: &[u8], at: usize) -> u64
     requires { at + 8 ≤ length bytes.now }
     ensures { result ≡ u64_at bytes.now at }
 {
-    get_u32(bytes, at) as u64 * 4294967296 + get_u32(bytes, at + 4) as u64
+    BigEndian::read_u64(&bytes[at..])
 }
 
 pub fn put_u16(bytes: &mut [u8], at: usize, value: usize)
@@ -31,8 +33,7 @@ pub fn put_u16(bytes: &mut [u8], at: usize, value: usize)
     ensures value { u16_at bytes.new at ≡ value }
     ensures rest { SameOutside bytes.old bytes.new at (at + 2) }
 {
-    bytes[at] = (value / 256) as u8;
-    bytes[at + 1] = (value % 256) as u8;
+    BigEndian::write_u16(&mut bytes[at..at + 2], value as u16);
 }
 
 pub fn put_u32(bytes: &mut [u8], at: usize, value: u32)
@@ -40,8 +41,7 @@ pub fn put_u32(bytes: &mut [u8], at: usize, value: u32)
     ensures value { u32_at bytes.new at ≡ value }
     ensures rest { SameOutside bytes.old bytes.new at (at + 4) }
 {
-    put_u16(bytes, at, value as usize / 65536);
-    put_u16(bytes, at + 2, value as usize % 65536);
+    BigEndian::write_u32(&mut bytes[at..at + 4], value);
 }
 
 pub fn put_u64(bytes: &mut [u8], at: usize, value: u64)
@@ -49,8 +49,7 @@ pub fn put_u64(bytes: &mut [u8], at: usize, value: u64)
     ensures value { u64_at bytes.new at ≡ value }
     ensures rest { SameOutside bytes.old bytes.new at (at + 8) }
 {
-    put_u32(bytes, at, (value / 4294967296) as u32);
-    put_u32(bytes, at + 4, (value % 4294967296) as u32);
+    BigEndian::write_u64(&mut bytes[at..at + 8], value);
 }
 
 pub fn put_u8(bytes: &mut [u8], at: usize, value: u8)
