@@ -5,7 +5,8 @@ ghost use Rattle.im_record.specs.Entry.{active_in, active_rows};
 ghost use Rattle.im_record.specs.Reading.{rises};
 ghost use Rattle.im_record.specs.Spelling.{IsActive};
 
-use crate::fields::{is_above, number64};
+use crate::fields::is_above;
+use byteorder::{BigEndian, ByteOrder};
 use im_types::ActiveTransaction;
 
 /// The active transactions of a checkpoint: rows that are to be written, or the bytes that spell them, 24 a row.
@@ -24,9 +25,9 @@ fn row_of(bytes: &[u8; 24]) -> ActiveTransaction
     let (transaction, rest) = bytes.split_at(8);
     let (last, undo_next) = rest.split_at(8);
     ActiveTransaction {
-        transaction: number64(transaction),
-        last: number64(last),
-        undo_next: number64(undo_next),
+        transaction: BigEndian::read_u64(transaction),
+        last: BigEndian::read_u64(last),
+        undo_next: BigEndian::read_u64(undo_next),
     }
 }
 

@@ -5,7 +5,8 @@ ghost use Rattle.im_record.specs.Entry.{dirty_in, dirty_rows};
 ghost use Rattle.im_record.specs.Reading.{rises};
 ghost use Rattle.im_record.specs.Spelling.{IsDirty};
 
-use crate::fields::{is_above, number32, number64};
+use crate::fields::is_above;
+use byteorder::{BigEndian, ByteOrder};
 use im_types::DirtyPage;
 
 /// The dirty pages of a checkpoint: rows that are to be written, or the bytes that spell them, 12 a row.
@@ -23,8 +24,8 @@ fn row_of(bytes: &[u8; 12]) -> DirtyPage
 {
     let (page, rec_lsn) = bytes.split_at(4);
     DirtyPage {
-        page: number32(page),
-        rec_lsn: number64(rec_lsn),
+        page: BigEndian::read_u32(page),
+        rec_lsn: BigEndian::read_u64(rec_lsn),
     }
 }
 

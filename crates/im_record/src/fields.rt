@@ -1,7 +1,8 @@
 //! The fields of a record, from left to right.
 ghost use Rattle.std.specs.Prelude.{◌≡◌, length, IfSome};
-ghost use Rattle.std.specs.Int.{w16, w32, w64, from_be_bytes};
 ghost use Rattle.im_record.specs.Reading.{Reads, part_at, byte_at, word16_at, word32_at, word64_at, head_at, is_above, has_owner, has_plain_owner, has_none};
+
+use byteorder::{BigEndian, ByteOrder};
 
 /// What stands in front of every record's payload.
 #[derive(Clone, Copy)]
@@ -12,26 +13,6 @@ pub(crate) struct Head {
     pub(crate) prev: u64,
     pub(crate) undo_next: u64,
     pub(crate) page: u32,
-}
-
-// The number that four bytes spell.
-#[inline(always)]
-pub(crate) fn number32(bytes: &[u8]) -> u32
-    requires { length bytes.now ≡ 4 }
-    ensures { result ≡ from_be_bytes w32 bytes.now }
-{
-    u32::from_be_bytes([bytes[0], bytes[1], bytes[2], bytes[3]])
-}
-
-// The number that eight bytes spell.
-#[inline(always)]
-pub(crate) fn number64(bytes: &[u8]) -> u64
-    requires { length bytes.now ≡ 8 }
-    ensures { result ≡ from_be_bytes w64 bytes.now }
-{
-    u64::from_be_bytes([
-        bytes[0], bytes[1], bytes[2], bytes[3], bytes[4], bytes[5], bytes[6], bytes[7],
-    ])
 }
 
 // The number is above the one before, where there is one.
@@ -104,8 +85,7 @@ pub(crate) fn word16_of(bytes: &[u8]) -> Option<(u16, &[u8])>
         return None;
     }
     let (front, rest) = bytes.split_at(2);
-    let number = u16::from_be_bytes([front[0], front[1]]);
-    Some((number, rest))
+    Some((BigEndian::read_u16(front), rest))
 }
 
 #[inline(always)]
@@ -114,7 +94,7 @@ pub(crate) fn word32_of(bytes: &[u8]) -> Option<(u32, &[u8])>
     ensures { Reads (λ x. (x.0, x.1.now)) result (word32_at bytes.now) }
 {
     let (front, rest) = part_of(bytes, 4)?;
-    Some((number32(front), rest))
+    Some((BigEndian::read_u32(front), rest))
 }
 
 #[inline(always)]
@@ -123,7 +103,7 @@ pub(crate) fn word64_of(bytes: &[u8]) -> Option<(u64, &[u8])>
     ensures { Reads (λ x. (x.0, x.1.now)) result (word64_at bytes.now) }
 {
     let (front, rest) = part_of(bytes, 8)?;
-    Some((number64(front), rest))
+    Some((BigEndian::read_u64(front), rest))
 }
 
 #[inline(always)]

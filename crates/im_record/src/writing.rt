@@ -9,6 +9,7 @@ use crate::active_list::ActiveList;
 use crate::dirty_list::DirtyList;
 use crate::kind::Kind;
 use crate::record::Record;
+use byteorder::{BigEndian, ByteOrder};
 use im_types::{ActiveTransaction, DirtyPage};
 
 const FRONT: u32 = 33;
@@ -42,7 +43,8 @@ fn put16(out: &mut [u8], at: usize, number: u16) -> usize
     ensures end { result ≡ at + 2 }
     ensures front { take result out.new ≡ take at out.old ++ word16 number }
 {
-    put(out, at, &number.to_be_bytes())
+    BigEndian::write_u16(&mut out[at..at + 2], number);
+    at + 2
 }
 
 #[inline]
@@ -52,7 +54,8 @@ fn put32(out: &mut [u8], at: usize, number: u32) -> usize
     ensures end { result ≡ at + 4 }
     ensures front { take result out.new ≡ take at out.old ++ word32 number }
 {
-    put(out, at, &number.to_be_bytes())
+    BigEndian::write_u32(&mut out[at..at + 4], number);
+    at + 4
 }
 
 #[inline]
@@ -62,7 +65,8 @@ fn put64(out: &mut [u8], at: usize, number: u64) -> usize
     ensures end { result ≡ at + 8 }
     ensures front { take result out.new ≡ take at out.old ++ word64 number }
 {
-    put(out, at, &number.to_be_bytes())
+    BigEndian::write_u64(&mut out[at..at + 8], number);
+    at + 8
 }
 
 // The 33 bytes of every record, in front of so many others.
