@@ -2,6 +2,7 @@
 use Rattle.std.proofs.Common.{◌≡◌, ◌≢◌, ◌⊎◌, inl, inr, ℕ, ◌+◌, ◌-◌, ◌<◌, ◌≤◌, true, false, List, [], ◌∷◌, ◌++◌, length, take, drop, get_or, Some, None, refl, sym, ◌∙◌, ap, subst, arith, length-drop}
 use Rattle.std.proofs.lemmas.List.{take_at, drop_all, drop_more, get_or-take, get_or-drop, drop-drop}
 use Rattle.std.specs.Int.{w32, from_be_bytes}
+use Rattle.byteorder.specs.Endian.{big_number}
 use Rattle.im_types.specs.declared.file_id.FileId.{FileId}
 use Rattle.im_disk.specs.Disk.{Files}
 use Rattle.im_gate.specs.Batches.{batch_length, batch, is_whole, in_front, batches_from, Reaches}
@@ -16,9 +17,11 @@ module _ (file : List ℕ) (place : ℕ) where
   pub gate_is : (gate : List ℕ) → gate ≡ take 1 (drop place file) → get_or gate 0 0 ≡ get_or file place 0
   gate_is gate is = ap (λ (l : List ℕ). get_or l 0 0) is ∙ get_or-take 1 (drop place file) 0 0 (omega arith) ∙ get_or-drop place file 0 0 ∙ ap (λ (k : ℕ). get_or file k 0) (let same : place + 0 ≡ place = omega arith in same)
 
-  pub length_is : (bytes : List ℕ) → bytes ≡ take 4 (drop (place + 1) file) → batch_length (drop (place + 1) file) ≡ from_be_bytes w32 bytes
+  pub length_is : (bytes : List ℕ) → bytes ≡ take 4 (drop (place + 1) file) → batch_length (drop (place + 1) file) ≡ big_number 4 bytes
   unfolding batch_length
-  length_is bytes is = ap (λ (l : List ℕ). from_be_bytes w32 l) (sym is)
+  length_is bytes is =
+      let read : from_be_bytes w32 bytes ≡ big_number 4 bytes = omega arith in
+      ap (λ (l : List ℕ). from_be_bytes w32 l) (sym is) ∙ read
 
   pub missing : length file ≤ place → batches_from place file ≡ None
   missing past = from_drop place file ∙ ap (batches_from 0) (drop_all place file past)

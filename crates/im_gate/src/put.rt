@@ -5,6 +5,7 @@ ghost use Rattle.im_disk.specs.Disk.{Only, Answers};
 ghost use Rattle.im_disk.specs.Runs.{LeavesIn, ChangesOnly};
 ghost use Rattle.im_gate.specs.Batches.{batches, spelled, with_batch, IsBeforeOrWith, Reaches};
 
+use byteorder::{BigEndian, ByteOrder};
 use im_disk::{Disk, write_synced};
 use im_types::{Fault, FileId};
 
@@ -15,7 +16,7 @@ fn spell(room: &mut [u8], records: &[u8])
     ensures spelled { take (length records.now + 5) room.new ≡ spelled records.now }
 {
     let end = records.len() + 4;
-    room[..4].copy_from_slice(&(records.len() as u32).to_be_bytes());
+    BigEndian::write_u32(room, records.len() as u32);
     room[4..end].copy_from_slice(records);
     room[end] = 0;
 }

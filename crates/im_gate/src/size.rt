@@ -5,6 +5,7 @@ ghost use Rattle.im_types.specs.declared.fault.Fault.TheVariants.{Device, NotASt
 ghost use Rattle.im_disk.specs.Runs.{Reads};
 ghost use Rattle.im_gate.specs.Batches.{batch_length, is_whole, batches_from};
 
+use byteorder::{BigEndian, ByteOrder};
 use im_disk::Disk;
 use im_types::{Fault, FileId};
 
@@ -42,7 +43,7 @@ pub(crate) fn batch_size<D: Disk>(
     }
     let mut length = [0; 4];
     disk.read(file, place + 1, &mut length)?;
-    let size = u64::from(u32::from_be_bytes(length));
+    let size = u64::from(BigEndian::read_u32(&length));
     if size == 0 || size > BATCH || size + 4 >= behind {
         return Err(Fault::NotAStore);
     }

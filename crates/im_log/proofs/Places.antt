@@ -2,7 +2,8 @@
 use Rattle.std.proofs.Common.{◌≡◌, ◌⊎◌, inl, inr, ⊎_elim, ℕ, zero, suc, ◌+◌, ◌-◌, ◌<◌, ◌≤◌, true, false, Bool, List, [], ◌∷◌, ◌++◌, length, take, drop, Option, Some, None, refl, sym, ◌∙◌, ap, subst, arith, length-drop, take-append-drop}
 use Rattle.std.proofs.lemmas.Bool.{cases_eq}
 use Rattle.std.proofs.lemmas.List.{drop-append-le, drop-drop, drop-take}
-use Rattle.std.specs.Int.{w32, from_be_bytes}
+use Rattle.byteorder.specs.Endian.{big_number}
+use Rattle.byteorder.specs.Numbers.{big_from-take}
 use Rattle.im_types.specs.declared.file_id.FileId.TheVariants.{Log}
 use Rattle.im_types.specs.Records.{Logged}
 use Rattle.im_types.specs.Histories.{IsRecordOf}
@@ -207,10 +208,16 @@ module _ {D : Type 0} (d : Ghosts D) (base : ℕ) (all durable : List Logged) (l
         is = ap (λ (k : ℕ). logged_at k i.entry) i.lsn_is ∙ i.is;
       })
 
--- the length in the first four bytes
-pub size_is : (size : ℕ) (front bytes : List ℕ) → size ≡ from_be_bytes w32 front → front ≡ take 4 bytes → size ≡ record_size bytes
+-- the length in the first four bytes, as the kit reads it
+size_read : (bytes : List ℕ) → big_number 4 (take 4 bytes) ≡ record_size bytes
 unfolding record_size
-size_is size front bytes is front_is = is ∙ ap (λ (l : List ℕ). from_be_bytes w32 l) front_is
+size_read bytes = omega arith
+
+pub size_in_front : (bytes : List ℕ) → record_size bytes ≡ big_number 4 bytes
+size_in_front bytes = sym (size_read bytes) ∙ big_from-take 0 4 4 bytes (omega arith)
+
+pub size_is : (size : ℕ) (front bytes : List ℕ) → size ≡ big_number 4 front → front ≡ take 4 bytes → size ≡ record_size bytes
+size_is size front bytes is front_is = is ∙ ap (big_number 4) front_is ∙ size_read bytes
 
 -- the bytes from a place on to the end of a front
 pub slice_is : (items : List ℕ) (at end : ℕ) → at ≤ end → take (end - at) (drop at items) ≡ drop at (take end items)

@@ -4,10 +4,11 @@ ghost use Rattle.std.specs.Prelude.{◌≡◌, ◌≤◌, length, take, IfErr, I
 ghost use Rattle.im_types.specs.declared.fault.Fault.TheVariants.{NotAStore};
 ghost use Rattle.im_log.specs.Spelled.{record_size, first_record};
 
+use byteorder::{BigEndian, ByteOrder};
 use im_types::Fault;
 
 // The length of the record at the front of these bytes, in which all of it lies. Refused `NotAStore` where that is not so.
-#[tactic(auto, unfolding(crate::specs::Spelled::record_size, crate::specs::Spelled::first_record), using(std::proofs::lemmas::Bool::Decides::nat_tests))]
+#[tactic(auto, unfolding(crate::specs::Spelled::first_record), using(std::proofs::lemmas::Bool::Decides::nat_tests, crate::proofs::Places::size_in_front))]
 pub(crate) fn front_size(bytes: &[u8]) -> Result<usize, Fault>
     ensures size { IfOk result (λ size. (size ≡ record_size bytes.now) × (4 ≤ size) × (size ≤ length bytes.now)) }
     ensures refused { IfErr result (λ e. (e ≡ NotAStore) × (first_record bytes.now ≡ None)) }
@@ -15,9 +16,7 @@ pub(crate) fn front_size(bytes: &[u8]) -> Result<usize, Fault>
     if bytes.len() < 4 {
         return Err(Fault::NotAStore);
     }
-    let mut length = [0; 4];
-    length.copy_from_slice(&bytes[..4]);
-    let size = u32::from_be_bytes(length) as usize;
+    let size = BigEndian::read_u32(bytes) as usize;
     if size < 4 || size > bytes.len() {
         return Err(Fault::NotAStore);
     }

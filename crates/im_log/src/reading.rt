@@ -8,6 +8,7 @@ ghost use Rattle.im_log.specs.Reading.{FitsFront, IsFrontOf};
 ghost use Rattle.im_log.specs.Spelled.{first_record};
 
 use crate::front::front_size;
+use byteorder::{BigEndian, ByteOrder};
 use im_disk::Disk;
 use im_types::{Fault, FileId};
 
@@ -34,7 +35,7 @@ pub(crate) fn read_front<D: Disk>(disk: &mut D, place: u64, room: &mut [u8]) -> 
     }
     let mut length = [0; 4];
     disk.read(FileId::Log, place, &mut length)?;
-    let size = u64::from(u32::from_be_bytes(length));
+    let size = u64::from(BigEndian::read_u32(&length));
     if size < 4 || size > LONGEST || size > end - place {
         return Err(Fault::NotAStore);
     }

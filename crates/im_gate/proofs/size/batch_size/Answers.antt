@@ -22,7 +22,7 @@ returns-clause-whole g c told =
     let gate = gate_is file c.args.place c.read.new.buf (read_at c.args.file (g.D.Disk.seen c.args.disk.now) (g.D.Disk.seen c.len.new.self) c.in_ok-end.ensures.reads.seen c.args.place 1 c.read.new.buf (c.in_ok-read.ensures.read told)) in
     let seen = c.in_ok-read.ensures.reads.seen ∙ c.in_ok-end.ensures.reads.seen in
     let is : batch_length (drop (c.args.place + 1) file) ≡ c.from-size.result = length_is file c.args.place c.read-2.new.buf
-    (read_at c.args.file (g.D.Disk.seen c.args.disk.now) (g.D.Disk.seen c.read.new.self) seen (c.args.place + 1) 4 c.read-2.new.buf (c.in_ok-read-2.ensures.read told)) ∙ sym c.from_be_bytes.ensures ∙ sym c.from-size.ensures in
+    (read_at c.args.file (g.D.Disk.seen c.args.disk.now) (g.D.Disk.seen c.read.new.self) seen (c.args.place + 1) 4 c.read-2.new.buf (c.in_ok-read-2.ensures.read told)) ∙ sym c.read_u32.ensures ∙ sym c.from-size.ensures in
     (sym gate ∙ c.if-gate-ne1.false, fits file c.args.place within c.from-size.result is c.if-size-eq0.false c.if-size-gt-BATCH.false (omega (arith, end, c.if-size-behind.false)), is)
 
 pub returns-then-size-eq0-clause-refused : goal.returns-then-size-eq0-clause-refused
@@ -33,7 +33,7 @@ returns-then-size-eq0-clause-refused g c same told =
     let gate = gate_is file c.args.place c.read.new.buf (read_at c.args.file (g.D.Disk.seen c.args.disk.now) (g.D.Disk.seen c.len.new.self) c.in_ok-end.ensures.reads.seen c.args.place 1 c.read.new.buf (c.in_ok-read.ensures.read told)) in
     let seen = c.in_ok-read.ensures.reads.seen ∙ c.in_ok-end.ensures.reads.seen in
     let is : batch_length (drop (c.args.place + 1) file) ≡ c.from-size.result = length_is file c.args.place c.read-2.new.buf
-    (read_at c.args.file (g.D.Disk.seen c.args.disk.now) (g.D.Disk.seen c.read.new.self) seen (c.args.place + 1) 4 c.read-2.new.buf (c.in_ok-read-2.ensures.read told)) ∙ sym c.from_be_bytes.ensures ∙ sym c.from-size.ensures in
+    (read_at c.args.file (g.D.Disk.seen c.args.disk.now) (g.D.Disk.seen c.read.new.self) seen (c.args.place + 1) 4 c.read-2.new.buf (c.in_ok-read-2.ensures.read told)) ∙ sym c.read_u32.ensures ∙ sym c.from-size.ensures in
     broken file c.args.place within (sym gate ∙ c.if-gate-ne1.false) (out_of_range file c.args.place within c.from-size.result is
     (elim c.then-size-eq0.branch [
       | then-size-eq0-via-then-size-eq0 w ↦ inl w.if-size-eq0.true

@@ -9,7 +9,7 @@ use Rattle.im_log.proofs.reading.read_front.Goals.{then-size-lt4-via-then-size-l
 pub returns-then-size-lt4-clause-refused : goal.returns-then-size-lt4-clause-refused
 returns-then-size-lt4-clause-refused g c is told f =
     let rest = drop c.args.place (g.D.Disk.seen c.args.disk.now Log) in
-    let size = size_is c.from-size.result c.read.new.buf rest (c.from-size.ensures ∙ c.from_be_bytes.ensures) (c.in_ok-read.ensures.read told ∙ ap (λ (s : Files). take 4 (drop c.args.place (s Log))) c.len.ensures.reads.seen) in
+    let size = size_is c.from-size.result c.read.new.buf rest (c.from-size.ensures ∙ c.read_u32.ensures) (c.in_ok-read.ensures.read told ∙ ap (λ (s : Files). take 4 (drop c.args.place (s Log))) c.len.ensures.reads.seen) in
     let end = c.in_ok-end.ensures.len told in
     let long = length-drop c.args.place (g.D.Disk.seen c.args.disk.now Log) in
     elim c.then-size-lt4.branch [
@@ -26,7 +26,7 @@ returns-clause-read g c told =
     let cut : length (take n room) ≡ n = length-take-le n room (omega (arith, c.requires.room)) in
     let long : length c.read-2.new.buf ≡ n = c.read-2.auto.buf ∙ cut in
     record {
-      sized = size_is n c.read.new.buf rest (c.from-size.ensures ∙ c.from_be_bytes.ensures) (c.in_ok-read.ensures.read told ∙ ap (λ (s : Files). take 4 (drop c.args.place (s Log))) c.len.ensures.reads.seen);
+      sized = size_is n c.read.new.buf rest (c.from-size.ensures ∙ c.read_u32.ensures) (c.in_ok-read.ensures.read told ∙ ap (λ (s : Files). take 4 (drop c.args.place (s Log))) c.len.ensures.reads.seen);
       same =
           take_at c.read-2.new.buf (drop n room) n long
           ∙ c.in_ok-read-2.ensures.read told
