@@ -1,112 +1,30 @@
--- Where a key's way goes on behind a split among the images.
-use Rattle.std.proofs.Common.{◌≡◌, ℕ, zero, suc, ◌+◌, ◌<◌, ◌≤◌, true, false, List, [], ◌∷◌, length, take, drop, Some, refl, sym, ap, subst, ◌∙◌, ⊎_elim}
+-- Behind a split of a key's leaf among the images: its way leads to a leaf with room.
+use Rattle.std.proofs.Common.{◌≡◌, ℕ, zero, suc, ◌≤◌, true, List, ◌∷◌, take, drop, Some, refl, sym, ap, subst, ◌∙◌, ⊎_elim}
 use Rattle.im_types.specs.Keys.{Key, IsBelow}
 use Rattle.im_types.specs.Pages.{Entry, Body}
-use Rattle.im_types.specs.Tree.{with_body, with_entries}
+use Rattle.im_types.specs.Tree.{with_body}
 use Rattle.im_types.specs.declared.page_kind.PageKind.TheVariants.{Leaf}
 use Rattle.im_page.specs.Entry.{entry_at, Rises}
 use Rattle.im_page.specs.Child.{IsChild}
 use Rattle.im_page.specs.Split.{HasRoomForAny}
 use Rattle.im_tree.specs.Levels.{Pages, height}
-use Rattle.im_tree.specs.Good.{AtOrAbove, times, IsGoodTree}
+use Rattle.im_tree.specs.Good.{AtOrAbove, IsGoodTree}
 use Rattle.im_tree.specs.Search.{IsOnWay}
 use Rattle.im_tree.specs.Halves.{SplitsWell}
 use Rattle.im_tree.specs.KeySplits.{KeepsWay}
-use Rattle.im_tree.proofs.ChildStays.{child_in_left, child_in_right}
 use Rattle.im_tree.proofs.LeafSplitWay.{key_leaf_split}
-use Rattle.im_tree.proofs.InnerSplitWay.{key_inner_split}
-use Rattle.im_tree.proofs.RootSplitWay.{key_root_leaf_split, key_root_inner_split}
-use Rattle.im_smo.specs.Bodies.{leaf_body, inner_body, raised, with_separator}
+use Rattle.im_tree.proofs.RootSplitWay.{key_root_leaf_split}
+use Rattle.im_smo.specs.Bodies.{leaf_body, with_separator}
 use Rattle.im_smo.specs.Images.{Numbered, held}
-use Rattle.im_smo.specs.Changed.{SamePages, linked_prev, inner_split_pages, root_inner_split_pages}
-use Rattle.im_smo.specs.OnImages.{PartsLeaf, PartsInner, PartsRootLeaf, PartsRootInner, Becomes}
-use Rattle.im_smo.specs.OnWay.{IsHalf, GoesDown, HasRoomIn}
-use Rattle.im_smo.proofs.Updates.{at_other, not_first, not_later}
+use Rattle.im_smo.specs.Changed.{linked_prev}
+use Rattle.im_smo.specs.OnImages.{PartsLeaf, PartsRootLeaf, Becomes}
+use Rattle.im_smo.specs.OnWay.{IsHalf, HasRoomIn}
+use Rattle.im_smo.proofs.Updates.{at_other}
 use Rattle.im_smo.proofs.LeafSplitSteps.{leaf_apart, leaf_step}
 use Rattle.im_smo.proofs.Beside.{place_on_way, beside}
 use Rattle.im_tree.proofs.Way.{step_way}
-use Rattle.im_smo.proofs.InnerSplitSteps.{inner_step}
-use Rattle.im_smo.proofs.RootSplitSteps.{root_leaf_step, root_inner_step}
+use Rattle.im_smo.proofs.RootSplitSteps.{root_leaf_step}
 use Rattle.im_smo.proofs.Becoming.{leaf_then_link}
-
--- ---- an inner page
-
--- from what the two parts hold
-down_at : (old new : Pages) (spare : List ℕ) (h : ℕ) (key : Key) (b : Body) (p q n child m : ℕ) (split : List ℕ) → Rises b.entries → n < length b.entries
-    → (new p).leftmost ≡ b.leftmost → (new p).entries ≡ take n b.entries → (new q).leftmost ≡ (entry_at b.entries n).1 → (new q).entries ≡ drop (n + 1) b.entries
-    → SplitsWell false b.entries n → KeepsWay old new spare (suc h) key p q (entry_at b.entries n).0 → IsChild b key child → IsHalf (entry_at b.entries n).0 key p q m
-    → ((x : ℕ) → times x split ≡ 0 → new x ≡ old x) → GoesDown old new spare h key child split m
-down_at old new spare h key b p q n child m split rises within lp ep lq eq well keeps is half others =
-    ⊎_elim
-    (λ (x : (m ≡ p) × IsBelow key (entry_at b.entries n).0). subst (GoesDown old new spare h key child split) (sym x.0) (record {
-      good = keeps.good;
-      walks = keeps.walks;
-      way = keeps.low x.1;
-      goes = child_in_left b (new p) key n child rises within lp ep x.1 is;
-      room = subst (HasRoomForAny false) (sym ep) well.left_room;
-      others = others;
-    }))
-    (λ (x : (m ≡ q) × AtOrAbove (Some (entry_at b.entries n).0) key). subst (GoesDown old new spare h key child split) (sym x.0) (record {
-      good = keeps.good;
-      walks = keeps.walks;
-      way = keeps.high x.1;
-      goes = child_in_right b (new q) key n child rises within lq eq x.1 is;
-      room = subst (HasRoomForAny false) (sym eq) well.rest_room;
-      others = others;
-    }))
-    half
-
-inner_elsewhere : (pages new : Pages) (parent p q n : ℕ) → SamePages new (inner_split_pages pages parent p q n) → (x : ℕ) → times x (parent ∷ p ∷ q ∷ []) ≡ 0 → new x ≡ pages x
-inner_elsewhere pages new parent p q n is x t =
-    let above : Body = with_separator (pages parent) (entry_at (pages p).entries n).0 q in
-    let right : Body = inner_body (pages p).level (entry_at (pages p).entries n).1 (drop (n + 1) (pages p).entries) in
-    let left : Body = with_entries (pages p) (take n (pages p).entries) in
-    let t1 = not_later x parent (p ∷ q ∷ []) t in
-    is x
-    ∙ at_other (with_body (with_body pages parent above) q right) p left x (not_first x p (q ∷ []) t1)
-    ∙ at_other (with_body pages parent above) q right x (not_first x q [] (not_later x p (q ∷ []) t1))
-    ∙ at_other pages parent above x (not_first x parent (p ∷ q ∷ []) t)
-
-pub inner_goes_down : (a b : List Numbered) (page : Body) (parent p q n m : ℕ) (key : Key) (pages : Pages) (spare : List ℕ) (h child : ℕ) → PartsInner a b page parent p q n → Rises page.entries
-    → IsHalf (entry_at page.entries n).0 key p q m → IsGoodTree (held pages a) (q ∷ spare) → IsOnWay (held pages a) (suc (suc h)) key parent → IsChild (held pages a parent) key p
-    → held pages a p ≡ page → IsChild page key child → GoesDown (held pages a) (held pages b) spare h key child (parent ∷ p ∷ q ∷ []) m
-inner_goes_down a b page parent p q n m key pages spare h child parts rises half good way goes page_is is =
-    subst (λ (y : Body). PartsInner a b y parent p q n → Rises y.entries → IsHalf (entry_at y.entries n).0 key p q m → IsChild y key child
-    → GoesDown (held pages a) (held pages b) spare h key child (parent ∷ p ∷ q ∷ []) m) page_is
-    (λ parts0 rises0 half0 is0.
-    let new_is = parts0.pages pages refl in
-    let split = inner_step (held pages a) (held pages b) spare h key parent p q n good way goes (parts0.rises pages) rises0 parts0.at new_is in
-    let f = split.pages_split in
-    down_at (held pages a) (held pages b) spare h key (held pages a p) p q n child m (parent ∷ p ∷ q ∷ []) rises0 split.within f.left_leftmost f.left_entries f.right_leftmost f.right_entries parts0.at.well
-    (key_inner_split (held pages a) (held pages b) spare h key parent p q n split) is0 half0 (inner_elsewhere (held pages a) (held pages b) parent p q n new_is))
-    parts rises half is
-
-root_elsewhere : (pages new : Pages) (l r n : ℕ) → SamePages new (root_inner_split_pages pages l r n) → (x : ℕ) → times x (1 ∷ l ∷ r ∷ []) ≡ 0 → new x ≡ pages x
-root_elsewhere pages new l r n is x t =
-    let above : Body = raised (pages 1) l (entry_at (pages 1).entries n).0 r in
-    let right : Body = inner_body (pages 1).level (entry_at (pages 1).entries n).1 (drop (n + 1) (pages 1).entries) in
-    let left : Body = with_entries (pages 1) (take n (pages 1).entries) in
-    let t1 = not_later x 1 (l ∷ r ∷ []) t in
-    is x
-    ∙ at_other (with_body (with_body pages 1 above) r right) l left x (not_first x l (r ∷ []) t1)
-    ∙ at_other (with_body pages 1 above) r right x (not_first x r [] (not_later x l (r ∷ []) t1))
-    ∙ at_other pages 1 above x (not_first x 1 (l ∷ r ∷ []) t)
-
-pub root_goes_down : (a b : List Numbered) (page : Body) (l r n m : ℕ) (key : Key) (pages : Pages) (spare : List ℕ) (h child : ℕ) → PartsRootInner a b page l r n → Rises page.entries
-    → IsHalf (entry_at page.entries n).0 key l r m → IsGoodTree (held pages a) (l ∷ r ∷ spare) → height (held pages a) ≡ suc h
-    → held pages a 1 ≡ page → IsChild page key child → GoesDown (held pages a) (held pages b) spare h key child (1 ∷ l ∷ r ∷ []) m
-root_goes_down a b page l r n m key pages spare h child parts rises half good tall page_is is =
-    subst (λ (y : Body). PartsRootInner a b y l r n → Rises y.entries → IsHalf (entry_at y.entries n).0 key l r m → IsChild y key child
-    → GoesDown (held pages a) (held pages b) spare h key child (1 ∷ l ∷ r ∷ []) m) page_is
-    (λ parts0 rises0 half0 is0.
-    let new_is = parts0.pages pages refl in
-    let split = root_inner_step (held pages a) (held pages b) spare h l r n good tall parts0.at new_is in
-    let f = split.pages_split in
-    down_at (held pages a) (held pages b) spare h key (held pages a 1) l r n child m (1 ∷ l ∷ r ∷ []) rises0 split.within f.left_leftmost f.left_entries f.right_leftmost f.right_entries parts0.at.well
-    (key_root_inner_split (held pages a) (held pages b) spare h key l r n split) is0 half0 (root_elsewhere (held pages a) (held pages b) l r n new_is))
-    parts rises half is
-
--- ---- a leaf
 
 room_at : (old new : Pages) (spare : List ℕ) (key : Key) (es : List Entry) (p q n m : ℕ) → (new p).entries ≡ take n es → (new q).entries ≡ drop n es → SplitsWell true es n
     → KeepsWay old new spare zero key p q (entry_at es n).0 → IsHalf (entry_at es n).0 key p q m → HasRoomIn old new spare key m

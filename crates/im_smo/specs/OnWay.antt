@@ -1,24 +1,14 @@
--- Splits of the pages on a key's way, and where the way goes on.
-use Rattle.std.specs.Prelude.{◌≡◌, ◌⊎◌, ℕ, zero, suc, ◌≤◌, true, false, List, Some}
+-- A split of the leaf on a key's way, and allocations.
+use Rattle.std.specs.Prelude.{◌≡◌, ◌⊎◌, ℕ, zero, ◌≤◌, true, List, Some}
 use Rattle.im_types.specs.Keys.{Key, IsBelow}
-use Rattle.im_page.specs.Child.{IsChild}
 use Rattle.im_page.specs.Split.{HasRoomForAny}
 use Rattle.im_tree.specs.Levels.{Pages, walk}
-use Rattle.im_tree.specs.Good.{AtOrAbove, times, IsGoodTree}
+use Rattle.im_tree.specs.Good.{AtOrAbove, IsGoodTree}
 use Rattle.im_tree.specs.Search.{IsOnWay}
 
 -- the half in whose range a key lies: the left one, p, where the key is below the separator, else the right one, q
 abbrev pub IsHalf : Key → Key → (p q m : ℕ) → Type 0
 IsHalf s key p q m = ((m ≡ p) × IsBelow key s) ⊎ ((m ≡ q) × AtOrAbove (Some s) key)
-
--- Behind a split of inner level h + 1 the tree is good, with the same walk. The way goes on through page m, which has room for a separator of any size, to the child to which it went; and pages outside the split are as they were.
-pub record GoesDown (old new : Pages) (spare : List ℕ) (h : ℕ) (key : Key) (child : ℕ) (split : List ℕ) (m : ℕ) : Type 0 where
-  pub good : IsGoodTree new spare
-  pub walks : walk new ≡ walk old
-  pub way : IsOnWay new (suc h) key m
-  pub goes : IsChild (new m) key child
-  pub room : HasRoomForAny false (new m).entries
-  pub others : (x : ℕ) → times x split ≡ 0 → new x ≡ old x
 
 -- behind a split of a leaf the tree is good, with the same walk, and the key's leaf, m, has room for an entry of any size
 pub record HasRoomIn (old new : Pages) (spare : List ℕ) (key : Key) (m : ℕ) : Type 0 where

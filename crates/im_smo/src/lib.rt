@@ -28,12 +28,11 @@
 //! can be split where its parent has room for the separator, the leaves beside a leaf are leaves, and the first free
 //! page is free.
 //!
-//! A split over several levels goes from the top down. `split_inner_for` and `split_root_inner_for` answer the half through
-//! which a key's way goes on, which has room for a separator of any size (`GoesDown`); `split_leaf_for` and
-//! `split_root_leaf_for` answer the leaf of the key, which has room for an entry of any size (`HasRoomIn`). An allocation
-//! leaves all ways as they were (`KeepsTree`), so page numbers can be drawn before the first split.
+//! A split over several levels goes from the top down. `split_leaf_for` and `split_root_leaf_for` end it: they answer the
+//! leaf of the key, which has room for an entry of any size (`HasRoomIn`). An allocation leaves all ways as they were
+//! (`KeepsTree`), so page numbers can be drawn before the first split.
 //!
-//! Not here yet: plans over several levels, with the pages of a pool; the count of pages that they may take; records.
+//! Plans over several levels stand above it (`im_split`, `im_delete`), and so do their records (`im_change`).
 //!
 //! It stands on `im_page` for pages, on `im_tree` for the laws of the tree, and on `im_types`.
 #![tactic(auto)]

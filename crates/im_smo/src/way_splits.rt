@@ -1,9 +1,9 @@
-//! Splits of the pages on a key's way, one level after another from the top.
+//! A split of the leaf on a key's way.
 
-ghost use Rattle.std.specs.Prelude.{◌≡◌, ◌⊎◌, ◌<◌, ◌≤◌, ℕ, zero, suc, List, [], ◌∷◌, length, Err, IfOk, IfErr};
+ghost use Rattle.std.specs.Prelude.{◌≡◌, ◌⊎◌, ◌<◌, ◌≤◌, ℕ, zero, suc, List, ◌∷◌, length, Err, IfOk, IfErr};
 ghost use Rattle.im_types.specs.Keys.{Key};
-ghost use Rattle.im_types.specs.declared.fault.Fault.TheVariants.{Capacity, Memory, NotAStore};
-ghost use Rattle.im_types.specs.declared.page_kind.PageKind.TheVariants.{Leaf, Inner};
+ghost use Rattle.im_types.specs.declared.fault.Fault.TheVariants.{Memory, NotAStore};
+ghost use Rattle.im_types.specs.declared.page_kind.PageKind.TheVariants.{Leaf};
 ghost use Rattle.im_page.specs.Entry.{entry_at};
 ghost use Rattle.im_page.specs.Child.{IsChild};
 ghost use Rattle.im_tree.specs.Levels.{Pages, height};
@@ -11,7 +11,7 @@ ghost use Rattle.im_tree.specs.Good.{IsGoodTree};
 ghost use Rattle.im_tree.specs.Search.{IsOnWay};
 ghost use Rattle.im_smo.specs.Parts.{CanHalve, CanSplit};
 ghost use Rattle.im_smo.specs.Images.{Has, KeepsAll, held};
-ghost use Rattle.im_smo.specs.OnWay.{IsHalf, GoesDown, HasRoomIn};
+ghost use Rattle.im_smo.specs.OnWay.{IsHalf, HasRoomIn};
 
 use crate::images::Images;
 use im_page::Page;
@@ -32,55 +32,6 @@ fn half(page: &Page, n: usize, key: &[u8], p: PageNo, q: PageNo) -> PageNo
 }
 
 impl Images {
-    /// Splits inner page p on a key's way, which is `page`, under a parent with room that is among the images; q is a page
-    /// that was taken for it. It answers the half through which the way goes on.
-    ///
-    /// Refused as `split_inner` is. After a refusal the images are of no use.
-    pub fn split_inner_for(
-        &mut self,
-        alloc: Global,
-        key: &[u8],
-        page: &Page,
-        parent: PageNo,
-        p: PageNo,
-        q: PageNo,
-    ) -> Result<PageNo, Fault>
-        ensures kept { IfOk result (λ _. KeepsAll self.old self.new) }
-        ensures goes { IfOk result (λ m. (pages : Pages) (spare : List ℕ) (h child : ℕ) → IsGoodTree (held pages self.old) (q ∷ spare) → IsOnWay (held pages self.old) (suc (suc h)) key.now parent
-            → IsChild (held pages self.old parent) key.now p → held pages self.old p ≡ page.now.body → IsChild page.now.body key.now child
-            → GoesDown (held pages self.old) (held pages self.new) spare h key.now child (parent ∷ p ∷ q ∷ []) m) }
-        ensures sound { (pages : Pages) → Has self.old parent → CanSplit Inner page.now.body (held pages self.old parent) q → result ≡ Err NotAStore → ⊥ }
-        ensures causes { IfErr result (λ e. (e ≡ Memory) ⊎ (e ≡ NotAStore)) }
-    {
-        page.content();
-        let n = self.split_inner(alloc, page, parent, p, q)?;
-        Ok(half(page, n, key, p, q))
-    }
-
-    /// Splits the root, an inner page, which is `page`, into pages l and r, that were taken for it. It answers the half
-    /// through which a key's way goes on.
-    ///
-    /// Refused as `split_root_inner` is. After a refusal the images are of no use.
-    pub fn split_root_inner_for(
-        &mut self,
-        alloc: Global,
-        key: &[u8],
-        page: &Page,
-        l: PageNo,
-        r: PageNo,
-    ) -> Result<PageNo, Fault>
-        ensures kept { IfOk result (λ _. KeepsAll self.old self.new) }
-        ensures goes { IfOk result (λ m. (pages : Pages) (spare : List ℕ) (h child : ℕ) → IsGoodTree (held pages self.old) (l ∷ r ∷ spare) → height (held pages self.old) ≡ suc h
-            → held pages self.old 1 ≡ page.now.body → IsChild page.now.body key.now child
-            → GoesDown (held pages self.old) (held pages self.new) spare h key.now child (1 ∷ l ∷ r ∷ []) m) }
-        ensures sound { CanHalve Inner page.now.body → page.now.body.level < 255 → result ≡ Err NotAStore → ⊥ }
-        ensures causes { IfErr result (λ e. (e ≡ Memory) ⊎ ((e ≡ NotAStore) ⊎ ((e ≡ Capacity) × (page.now.body.level ≡ 255)))) }
-    {
-        page.content();
-        let n = self.split_root_inner(alloc, page, l, r)?;
-        Ok(half(page, n, key, l, r))
-    }
-
     /// Splits leaf p of a key, which is `page`, under a parent with room that is among the images, as is the leaf behind p,
     /// if there is one; q is a page that was taken for it. It answers the half that is the key's leaf now.
     ///
