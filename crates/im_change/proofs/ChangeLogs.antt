@@ -1,22 +1,24 @@
 -- A log through a structure change.
-use Rattle.std.proofs.Common.{◌≡◌, ◌≢◌, ℕ, zero, suc, ◌+◌, ◌<◌, ◌≤◌, List, [], ◌∷◌, ◌++◌, length, Option, Some, refl, sym, ap, subst, ◌∙◌, append_assoc, arith, ◌==◌}
+use Rattle.std.proofs.Common.{◌≡◌, ◌≢◌, ⊎_elim, ℕ, zero, suc, ◌+◌, ◌-◌, ◌<◌, ◌≤◌, List, [], ◌∷◌, ◌++◌, length, Option, Some, refl, sym, ap, subst, ◌∙◌, append_assoc, arith, ◌==◌}
 use Rattle.std.specs.Prelude.{◌||◌}
-use Rattle.std.proofs.lemmas.Bool.{cond-true, cond-false, eq-eqb, ne_eqb}
+use Rattle.std.proofs.lemmas.Bool.{cases_lt, cond-true, cond-false, eq-eqb, ne_eqb}
 use Rattle.im_types.specs.Pages.{Body}
 use Rattle.im_types.specs.Records.{What, Logged}
 use Rattle.im_types.specs.Histories.{Base, History, below, end_of, page_at}
 use Rattle.im_types.specs.Copies.{AreImages, GrowsByImages}
 use Rattle.im_types.specs.Lawful.{Follows, IsLawful, IsNewIn, resumes}
+use Rattle.im_types.specs.PageCounts.{greatest_count}
 use Rattle.im_types.specs.Structure.{open_smo}
 use Rattle.im_types.specs.Transactions.{is_end, is_finished, last_of, undo_next_of}
 use Rattle.im_types.proofs.Appends.{append_smo}
 use Rattle.im_types.proofs.Histories.{below_older, whole_below}
 use Rattle.im_types.proofs.Images.{images_last, images_open, images_undo_next, lawful_images}
+use Rattle.im_types.proofs.PageCounts.{count_front, count_low, count_more, count_said}
 use Rattle.im_tree.specs.Good.{AllOf}
 use Rattle.im_tree.specs.Theory.{page_tree}
 use Rattle.im_smo.specs.Images.{Numbered, IsAbove, IsRising, image_at}
 use Rattle.im_change.specs.Logged.{smo_at}
-use Rattle.im_change.specs.Changes.{IsOfChange, GrowsByChange, with_mark, marks, image_marks, IsOpenBelow, IsUnderWay}
+use Rattle.im_change.specs.Changes.{IsOfChange, GrowsByChange, with_mark, marks, image_marks, AreCounted, IsOpenBelow, IsUnderWay}
 
 -- ---- numbers that rise
 
@@ -38,6 +40,13 @@ rising_lt (x ∷ xs) zero zero up lt within = absurd (omega arith)
 rising_lt (x ∷ xs) zero (suc k) up lt within = above_lt x.0 xs k up (omega arith)
 rising_lt (x ∷ xs) (suc i) zero up lt within = absurd (omega arith)
 rising_lt (x ∷ xs) (suc i) (suc k) up lt within = rising_lt xs i k (tail_rises x xs up) (omega arith) (omega arith)
+
+-- none is past the last one
+last_most : (xs : List Numbered) (i : ℕ) → IsRising xs → i < length xs → (image_at xs i).0 ≤ (image_at xs (length xs - 1)).0
+last_most xs i up within = ⊎_elim
+    (λ (less : i < length xs - 1). let under = rising_lt xs i (length xs - 1) up less (omega (arith, within)) in omega (arith, under))
+    (λ (more : length xs - 1 ≤ i). let same : i ≡ length xs - 1 = omega (arith, more, within) in omega (arith, ap (λ (k : ℕ). (image_at xs k).0) same))
+    (cases_lt i (length xs - 1))
 
 -- ---- the records of the open structure change
 
@@ -118,6 +127,7 @@ module _ (b : Base) (t undo_next : ℕ) (xs : List Numbered) (older : History) (
         (open_wider t w.bound (end_of b log) (open_smo log) w.bound (end_of b (images.images ++ log)) (omega arith) (images_end b images.images log images.all) w.opened);
     above = w.above;
     resume = ap (resumes (images.images ++ log) t) going ∙ images_resume b t w.bound images.images log (open_smo log) some images.all w.opened ∙ w.resume;
+    counted = λ any. (let up = count_front log (images.images ++ log) (record { newer = images.images; is = refl }) in let old = w.counted any in omega (arith, up, old));
   })
     where
       going : open_smo (images.images ++ log) ≡ open_smo log
@@ -131,16 +141,16 @@ module _ (b : Base) (t undo_next : ℕ) (xs : List Numbered) (older : History) (
   resumes_smo r m log [] high is = ap (undo_next_of t) (below_older r.lsn r log (omega arith) ∙ whole_below b r.lsn log high)
   resumes_smo r m log (s ∷ rest) high is = resumes_newer r m log s rest high is
 
-  pub smo_under_way : (i prev lsn : ℕ) (was now : Body) (log : History) → IsRising xs → i < length xs → end_of b log < lsn → was ≡ (page_at b log (image_at xs i).0).body → IsUnderWay b t undo_next xs older i prev log
+  pub smo_under_way : (i prev lsn : ℕ) (was now : Body) (log : History) → IsRising xs → AreCounted xs → i < length xs → now ≡ (image_at xs i).1.body → end_of b log < lsn → was ≡ (page_at b log (image_at xs i).0).body → IsUnderWay b t undo_next xs older i prev log
       → IsUnderWay b t undo_next xs older (i + 1) lsn (smo_at lsn t prev (image_at xs i).0 was now ∷ log)
-  smo_under_way i prev lsn was now log up within high before w =
+  smo_under_way i prev lsn was now log up all within made high before w =
       let p = (image_at xs i).0 in
       let r = smo_at lsn t prev p was now in
       let low : w.bound ≤ p = w.above i (omega arith) within in
       let follows : Follows b page_tree r log = record {
         rises = high;
         chained = λ owned. record { number = one_of t some; prev = sym w.last; unfinished = w.unfinished };
-        may = record { no_undo_next = refl; new_in = new_in t w.bound (end_of b log) (open_smo log) p low w.opened; before = before };
+        may = record { no_undo_next = refl; new_in = new_in t w.bound (end_of b log) (open_smo log) p low w.opened; before = before; within = counted_here };
       } in
       record {
         lawful = append_smo b page_tree log r w.lawful follows was now refl;
@@ -153,6 +163,7 @@ module _ (b : Base) (t undo_next : ℕ) (xs : List Numbered) (older : History) (
         opened = ((refl, omega arith, omega arith), open_wider t w.bound (end_of b log) (open_smo log) (p + 1) lsn (omega (arith, low)) (omega (arith, high)) w.opened);
         above = λ k le lt. let less = rising_lt xs i k up (omega arith) lt in omega (arith, less);
         resume = resumes_smo r w.bound log (open_smo log) high w.opened ∙ w.resume;
+        counted = λ any. counted_now;
       }
     where
       one_of : (n : ℕ) → n ≢ 0 → 1 ≤ n
@@ -160,3 +171,21 @@ module _ (b : Base) (t undo_next : ℕ) (xs : List Numbered) (older : History) (
 
       one_more : (n : ℕ) → n + 1 ≡ suc n
       one_more n = omega arith
+
+      -- page 0 is the first of them; each other one is below the count that it says, which the log has said
+      counted_here : (image_at xs i).0 < greatest_count log
+      counted_here = ⊎_elim
+          (λ (some : 0 < i). let said = w.counted (omega (arith, some)) in omega (arith, said, last_most xs i up within, all.2))
+          (λ (none : i ≤ 0). let zero_is : i ≡ 0 = omega (arith, none) in omega (arith, ap (λ (k : ℕ). (image_at xs k).0) zero_is, all.1, count_low log))
+          (cases_lt 0 i)
+
+      counted_now : (image_at xs 0).1.body.leftmost ≤ greatest_count (smo_at lsn t prev (image_at xs i).0 was now ∷ log)
+      counted_now = ⊎_elim
+          (λ (some : 0 < i). let said = w.counted (omega (arith, some)) in omega (arith, said, count_more (smo_at lsn t prev (image_at xs i).0 was now) log))
+          (λ (none : i ≤ 0).
+          let zero_is : i ≡ 0 = omega (arith, none) in
+          let page : (image_at xs i).0 ≡ 0 = ap (λ (k : ℕ). (image_at xs k).0) zero_is ∙ all.1 in
+          let body : now.leftmost ≡ (image_at xs 0).1.body.leftmost = ap (λ (x : Body). x.leftmost) made ∙ ap (λ (k : ℕ). (image_at xs k).1.body.leftmost) zero_is in
+          let said : now.leftmost ≤ greatest_count (smo_at lsn t prev (image_at xs i).0 was now ∷ log) = count_said (smo_at lsn t prev (image_at xs i).0 was now) log page in
+          omega (arith, body, said))
+          (cases_lt 0 i)

@@ -37,7 +37,7 @@ use Rattle.im_smo.proofs.ImageLemmas.{body_or, applied_image}
 use Rattle.im_smo.proofs.Updates.{at_other}
 use Rattle.im_alloc.specs.Seen.{bodies, seen}
 use Rattle.im_change.specs.Logged.{smo_at, dummy_at, PageLogged}
-use Rattle.im_change.specs.Changes.{IsOfChange, GrowsByChange, HasRecordOf, with_mark, marks, image_marks, IsOpenBelow, LeftByChange, LeavesChange, MayChange, PagesLogged, Begun, Changed}
+use Rattle.im_change.specs.Changes.{IsOfChange, GrowsByChange, HasRecordOf, with_mark, marks, image_marks, AreCounted, IsOpenBelow, LeftByChange, LeavesChange, MayChange, PagesLogged, Begun, Changed}
 use Rattle.im_change.proofs.ChangeLogs.{grows_images, images_lawful, images_under_way, smo_under_way}
 use Rattle.im_change.proofs.Closing.{logged_bodies, closes}
 
@@ -156,6 +156,7 @@ module _ {D : Type 0} (d : Ghosts D) (b : Base) (base : ℕ) where
             opened = subst (λ (l : History). IsOpenBelow t 0 (end_of b s.log) l) (sym may.closed) tt;
             above = λ k le lt. omega arith;
             resume = ap (λ (l : History). resumes s.log t l) may.closed ∙ may.undo;
+            counted = λ any. absurd (omega (arith, any));
           };
           pages = λ p. refl;
           stops = left_grown s t s disk disk (front_self s.durable) may.lawful grows
@@ -165,15 +166,15 @@ module _ {D : Type 0} (d : Ghosts D) (b : Base) (base : ℕ) where
     pub pages_stops : (i prev : ℕ) (old : D) (w : PageWriter) (mid new : D) (so : PagesLogged d b base s e xs t undo_next i prev old w mid) → LeavesGrown d b base so.now mid new → LeavesChange d b base s t old new
     pages_stops i prev old w mid new so stops = stops_then s t old mid new so.stops (left_grown s t so.now mid new so.durable so.log.lawful so.log.grows stops)
 
-    pub pages_next : (i prev lsn : ℕ) (old : D) (w : PageWriter) (mid : D) (v : PageWriter) (new : D) → t ≢ 0 → IsRising xs → i < length xs → (so : PagesLogged d b base s e xs t undo_next i prev old w mid)
+    pub pages_next : (i prev lsn : ℕ) (old : D) (w : PageWriter) (mid : D) (v : PageWriter) (new : D) → t ≢ 0 → IsRising xs → AreCounted xs → i < length xs → (so : PagesLogged d b base s e xs t undo_next i prev old w mid)
         → PageLogged d b base so.now t prev (image_at xs i).0 (image_at xs i).1.body lsn v new → LeavesGrown d b base so.now mid new → PagesLogged d b base s e xs t undo_next (i + 1) lsn old v new
-    pages_next i prev lsn old w mid v new some up within so done stops = record {
+    pages_next i prev lsn old w mid v new some up all within so done stops = record {
       now = after;
       stands = done.stands;
       over = done.keeps.redo_end ∙ so.over;
       point = done.keeps.point ∙ so.point;
       durable = front_then s.durable now.durable done.durable so.durable (front_then now.durable done.before.durable done.durable done.keeps.durable done.grows);
-      log = smo_under_way b t undo_next xs s.log some i prev lsn (now.pages p).page.body x.1.body done.before.log up within done.high
+      log = smo_under_way b t undo_next xs s.log some i prev lsn (now.pages p).page.body x.1.body done.before.log up all within refl done.high
           (ap (λ (g : Page). g.body) (page_is now e w mid so.stands so.over p ∙ same_page))
           (images_under_way b t undo_next xs s.log some i prev now.log done.before.log done.keeps.log so.log);
       pages = λ q. seen_step now after x (drop (i + 1) xs) above step q ∙ ap (λ (l : List Numbered). seen (pages_of now) l q) (sym front) ∙ so.pages q;

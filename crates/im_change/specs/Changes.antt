@@ -1,10 +1,11 @@
 -- What a structure change asks, how it stands on its way, and what it keeps.
-use Rattle.std.specs.Prelude.{◌≡◌, ◌≤◌, ◌<◌, ◌⊎◌, ℕ, zero, suc, false, List, [], ◌∷◌, ◌++◌, length, drop, Option, Some, None, Result, IfErr}
+use Rattle.std.specs.Prelude.{◌≡◌, ◌≤◌, ◌<◌, ◌⊎◌, ◌-◌, ℕ, zero, suc, false, List, [], ◌∷◌, ◌++◌, length, drop, Option, Some, None, Result, IfErr}
 use Rattle.im_types.specs.declared.fault.Fault.{Fault}
 use Rattle.im_types.specs.declared.fault.Fault.TheVariants.{Failed}
 use Rattle.im_types.specs.Records.{What, InsertKey, DeleteKey, UndoInsert, UndoDelete, Smo, UndoSmo, DummyClr, Commit, End, Image, Checkpoint, Unreadable, Logged}
 use Rattle.im_types.specs.Histories.{Base, History, IsFront, end_of}
 use Rattle.im_types.specs.Lawful.{IsLawful, resumes}
+use Rattle.im_types.specs.PageCounts.{greatest_count}
 use Rattle.im_types.specs.Structure.{open_smo}
 use Rattle.im_types.specs.Transactions.{last_of, undo_next_of, to_undo, is_finished}
 use Rattle.im_types.specs.Writer.{Writer}
@@ -72,6 +73,10 @@ abbrev pub image_marks : ℕ → List Numbered → List (Option ℕ)
 image_marks zero images = []
 image_marks (suc i) images = Some (image_at images i).0 ∷ image_marks i images
 
+-- page 0 is the first of the images, and none is past the page count that it says there
+abbrev pub AreCounted : List Numbered → Type 0
+AreCounted images = (1 ≤ length images) × ((image_at images 0).0 ≡ 0) × ((image_at images (length images - 1)).0 < (image_at images 0).1.body.leftmost)
+
 -- the open structure change is transaction t's, its pages are below m, and its LSNs at most l
 abbrev pub IsOpenBelow : (t m l : ℕ) → History → Type 0
 IsOpenBelow t m l going = AllOf (λ (u : Logged). (u.txn ≡ t) × (u.page < m) × (u.lsn ≤ l)) going
@@ -88,6 +93,8 @@ pub record IsUnderWay (b : Base) (t undo_next : ℕ) (images : List Numbered) (o
   pub opened : IsOpenBelow t bound (end_of b log) (open_smo log)
   pub above : (k : ℕ) → i ≤ k → k < length images → bound ≤ (image_at images k).0
   pub resume : resumes log t (open_smo log) ≡ undo_next
+  -- the first of them is logged, and the log has said its page count
+  pub counted : 1 ≤ i → (image_at images 0).1.body.leftmost ≤ greatest_count log
 
 -- ---- a writer
 

@@ -1,6 +1,6 @@
 //! A structure change, logged page by page and closed.
 
-ghost use Rattle.std.specs.Prelude.{◌≡◌, ◌≢◌, ◌<◌, ◌≤◌, ℕ, true, false, Some, length, IfErr};
+ghost use Rattle.std.specs.Prelude.{◌≡◌, ◌≢◌, ◌<◌, ◌≤◌, ◌↔◌, ℕ, true, false, Some, length, IfErr, IsTrue};
 ghost use Rattle.im_types.specs.declared.fault.Fault.TheVariants.{Failed, Memory};
 ghost use Rattle.im_types.specs.Histories.{Base};
 ghost use Rattle.im_types.specs.Writer.{Writer};
@@ -8,7 +8,7 @@ ghost use Rattle.im_flush.specs.PageWriter.{IsReadyWriter, StandsAs};
 ghost use Rattle.im_flush.specs.Outcome.{fault_of, mild, Logs};
 ghost use Rattle.im_smo.specs.Images.{image_at};
 ghost use Rattle.im_change.specs.Logged.{ImageLogKept};
-ghost use Rattle.im_change.specs.Changes.{MayChange, PagesKept, ChangeKept};
+ghost use Rattle.im_change.specs.Changes.{AreCounted, MayChange, PagesKept, ChangeKept};
 
 use crate::late_fault::late;
 use crate::page_record::log_page;
@@ -17,6 +17,17 @@ use im_flush::PageWriter;
 use im_record::Record;
 use im_smo::Images;
 use im_types::{Fault, Lsn};
+
+// Whether page 0 is the first of them, and none is past the page count that it says there.
+fn are_counted(images: &Images) -> bool
+    ensures { IsTrue result ↔ AreCounted images.now }
+{
+    let len = images.len();
+    if len == 0 {
+        return false;
+    }
+    images.number(0) == 0 && images.number(len - 1) < images.page(0).leftmost()
+}
 
 // What a refusal at a page is answered as: for want of memory there is no way back behind the first record.
 fn refused_at(i: usize, fault: Fault) -> Fault
@@ -74,6 +85,7 @@ fn log_pages<D: Disk>(
     requires ready { IsReadyWriter D.Disk writer.old disk.old }
     requires working { writer.old.failed ≡ false }
     requires owner { 1 ≤ transaction }
+    requires counted { AreCounted images.now }
     ensures outcome { Logs D.Disk true mild writer.old disk.old writer.new disk.new (fault_of result) }
     ensures kept { (b : Base) (base : ℕ) (s : Writer) (e undo_next : ℕ) → MayChange D.Disk b base s e images.now transaction last undo_next writer.old disk.old
         → PagesKept D.Disk b base s e images.now transaction undo_next disk.old writer.new disk.new result }
@@ -91,7 +103,8 @@ fn log_pages<D: Disk>(
 /// and then the DummyClr that closes it, from which undo goes on at `undo_next`. It answers that record's LSN.
 ///
 /// Refused `Memory` with all as it was, and `Failed` where memory is wanted behind the first record; `LogFull`, `Device`, or
-/// `NotAStore` where a page's bytes are none. Behind a refusal other than `Memory` the structure change may be open in the log, so that
+/// `NotAStore` where a page's bytes are none. Images that are none of a plan are refused `Memory` too: each plan takes pages or gives some
+/// back, so that page 0 is among its images, and names no page past the page count that it says there. Behind a refusal other than `Memory` the structure change may be open in the log, so that
 /// the transaction can do nothing but be undone by a restart.
 pub fn run<D: Disk>(
     writer: &mut PageWriter,
@@ -108,6 +121,9 @@ pub fn run<D: Disk>(
     ensures kept { (b : Base) (base : ℕ) (s : Writer) (e : ℕ) → MayChange D.Disk b base s e images.now transaction last undo_next writer.old disk.old
         → ChangeKept D.Disk b base s e images.now transaction undo_next disk.old writer.new disk.new result }
 {
+    if !are_counted(images) {
+        return Err(Fault::Memory);
+    }
     let prev = log_pages(writer, disk, images, transaction, last)?;
     let closing = Record::DummyClr {
         transaction,

@@ -1,5 +1,5 @@
 -- A record that changes its page joins the log, after redo: the page is changed by it, and enters the dirty table.
-use Rattle.std.proofs.Common.{◌≡◌, inl, inr, ℕ, ◌∷◌, true, false, Bool, List, Option, None, Some, refl, sym, ◌∙◌, ap, subst}
+use Rattle.std.proofs.Common.{◌≡◌, inl, inr, ℕ, ◌∷◌, true, false, Bool, List, Option, None, Some, refl, sym, ◌∙◌, ap, subst, arith}
 use Rattle.std.specs.Prelude.{is_some}
 use Rattle.std.proofs.lemmas.Bool.{cases_eq}
 use Rattle.im_types.specs.declared.file_id.FileId.TheVariants.{Log, Pages}
@@ -7,6 +7,7 @@ use Rattle.im_types.specs.Pages.{Page}
 use Rattle.im_types.specs.Records.{Checkpoint, Commit, DeleteKey, DummyClr, End, Image, InsertKey, Smo, UndoDelete, UndoInsert, UndoSmo, Unreadable, What}
 use Rattle.im_types.specs.Histories.{Base, page_after}
 use Rattle.im_types.specs.Copies.{HasCopy, copy_in}
+use Rattle.im_types.specs.PageCounts.{names_page}
 use Rattle.im_types.specs.RedoPoints.{is_checkpoint, redo_point}
 use Rattle.im_types.specs.Writer.{DirtyEntry, PageState, Writer, WriterKept}
 use Rattle.im_types.specs.WriterSteps.{MayAppend, changed_entry, first_since, holds_copy, only, passed}
@@ -17,6 +18,7 @@ use Rattle.im_disk.specs.declared.disk.Disk.{Ghosts}
 use Rattle.im_disk.specs.Runs.{ChangesOnly}
 use Rattle.im_disk.proofs.Runs.{spared}
 use Rattle.im_record.specs.Entry.{Entry}
+use Rattle.im_page.specs.Header.{initial}
 use Rattle.im_log.specs.declared.log_file.LogFile.{LogFile}
 use Rattle.im_log.specs.LogFile.{IsOpen}
 use Rattle.im_log.specs.Spelled.{logged_at}
@@ -129,9 +131,27 @@ module _ {D : Type 0} (d : Ghosts D) (b : Base) (base : ℕ) (s : Writer) (log n
         based = w.based;
       }
 
+-- a record that gives its page an LSN as a change of a key does names that page
+pub like_names : (w v : What) → ((g : Page) → (page_after 1 v g).lsn ≡ 1) → ((l : ℕ) (g : Page) → page_after l w g ≡ page_after l v g) → names_page w ≡ true
+like_names w v gives like = by w (λ is. (let given : (initial 0).lsn ≡ 1 = ap (λ (g : Page). g.lsn) (sym is ∙ like 1 (initial 0)) ∙ gives (initial 0) in omega (arith, given)))
+  where
+    by : (x : What) → (page_after 1 x (initial 0) ≡ initial 0 → ⊥) → names_page x ≡ true
+    by (InsertKey k i) other = refl
+    by (DeleteKey k i) other = refl
+    by (UndoInsert k i) other = refl
+    by (UndoDelete k i) other = refl
+    by (Smo old new) other = refl
+    by (UndoSmo new) other = refl
+    by (Image c) other = refl
+    by DummyClr other = absurd (other refl)
+    by Commit other = absurd (other refl)
+    by End other = absurd (other refl)
+    by (Checkpoint n a dirty) other = absurd (other refl)
+    by Unreadable other = absurd (other refl)
+
 module _ {D : Type 0} (d : Ghosts D) (b : Base) (base : ℕ) (s : Writer) (e : ℕ) (log new_log : LogFile) (table new_table : List TableEntry) (pool new_pool : PoolView) (old new : D) (entry : Entry) (lsn : ℕ) (frame : Frame)
     (w : IsWriting d b base s log table pool old) (over : s.redo_end ≡ Some e) (copy_none : copy_in lsn (what_of entry) ≡ None) (point : is_checkpoint (what_of entry) ≡ false)
-    (done : Appended d base s.log s.durable entry lsn old new_log new) (here : (logged_at lsn entry).page ≡ frame.number) where
+    (names : names_page (what_of entry) ≡ true) (done : Appended d base s.log s.durable entry lsn old new_log new) (here : (logged_at lsn entry).page ≡ frame.number) where
   change_may : MayAppend b s (logged_at lsn entry)
   change_may = record {
     redo_end = e;
@@ -149,5 +169,5 @@ module _ {D : Type 0} (d : Ghosts D) (b : Base) (base : ℕ) (s : Writer) (e : �
       let r = logged_at lsn entry in
       let copy : known ≡ true → HasCopy (r ∷ s.log) r.page (redo_point (r ∷ s.log)) =
       λ t. let is = has t in subst (λ (n : ℕ). HasCopy (r ∷ s.log) n (redo_point (r ∷ s.log))) (sym here) (known_copy b s r w.stands.kept w.stands.copies change_may.last e over point frame.number is.0 from is_from is.1) in
-      step_by d b base s log new_log table new_table pool new_pool old new entry lsn frame w change_may done here known (changed_as_kept b s r known (holds_none lsn (what_of entry) copy_none) copy (changed_kept b s r w.stands.kept change_may))
+      step_by d b base s log new_log table new_table pool new_pool old new entry lsn frame w change_may done here known (changed_as_kept b s r known (holds_none lsn (what_of entry) copy_none) copy (changed_kept b s r w.stands.kept change_may names))
       opened changes held sets enters

@@ -98,6 +98,7 @@ module _ {D : Type 0} (d : Ghosts D) (b : Base) (base : ℕ) where
       record {
         ready = ready;
         begun = λ empty. absurd (let clash : None ≡ Some is.entry = sym (w.stands.kept.first empty p) ∙ is.is in cc clash);
+        named = (let low = ((w.stands.kept.pages p).entry is.entry is.is).named in omega (arith, low, high));
         past = λ none. ⊎_elim
             (λ (alone : first ≡ p).
             let here : q ≡ p = omega (arith, alone, low, high) in

@@ -124,7 +124,7 @@ module _ {D : Type 0} (d : Ghosts D) (b : Base) (base : ℕ) where
     copy_done lsn new_log new stops done =
         let high : end_of b s.log < lsn = done.stands.kept.rises.1 in
         let entry = image_entry b s p lsn w.stands.kept may.ready high done.durable in
-        let keeps = image_keeps b s p lsn w.stands.kept may.ready high done.durable done.grows in
+        let keeps = image_keeps b s p lsn w.stands.kept may.ready high may.named done.durable done.grows in
         record {
           durable = done.durable;
           grows = done.grows;

@@ -3,6 +3,7 @@ use Rattle.std.proofs.Common.{◌≡◌, ◌≢◌, ℕ, ◌+◌, ◌<◌, ◌�
 use Rattle.std.specs.Prelude.{Result, Ok, Err, IfOk, OnOk}
 use Rattle.im_types.specs.Histories.{Base, History, IsFront, end_of}
 use Rattle.im_types.specs.Copies.{IsImage, AreImages, GrowsByImages}
+use Rattle.im_types.specs.PageCounts.{named_to}
 use Rattle.im_types.specs.Writer.{PageState, Writer, WriterKept}
 use Rattle.im_types.proofs.Histories.{front_self}
 use Rattle.im_types.proofs.Redo.{reaches_exact}
@@ -86,8 +87,8 @@ module _ (b : Base) (s : Writer) (p l : ℕ) (kept : WriterKept b s) (ready : (s
   entry_imaged None q = refl
   entry_imaged (Some e) q = refl
 
-  pub image_keeps : (durable : History) → IsFront s.durable durable → Keeps b s (with_image l p durable s)
-  image_keeps durable grows = record {
+  pub image_keeps : p < named_to s.log → (durable : History) → IsFront s.durable durable → Keeps b s (with_image l p durable s)
+  image_keeps named durable grows = record {
     log = record {
       images = image_at l p (s.pages p).page ∷ [];
       is = refl;
@@ -97,6 +98,7 @@ module _ (b : Base) (s : Writer) (p l : ℕ) (kept : WriterKept b s) (ready : (s
           what = refl;
           no_owner = refl;
           exact = reaches_exact b s.log (s.pages p).upto p (s.pages p).page kept.rises ((kept.pages p).now ready);
+          named = named;
           rises = last;
         },
         tt,

@@ -11,6 +11,7 @@ use Rattle.im_types.specs.Writer.{Writer, WriterKept}
 use Rattle.im_types.specs.WriterSteps.{MayWrite, forced}
 use Rattle.im_types.proofs.Copies.{copy_grows, noted_here}
 use Rattle.im_types.proofs.Histories.{end_le}
+use Rattle.im_types.proofs.PageCounts.{named_in}
 use Rattle.im_types.proofs.RedoPoints.{point_low, point_same}
 use Rattle.im_types.proofs.WriterFronts.{whole}
 use Rattle.im_disk.specs.declared.disk.Disk.{Ghosts}
@@ -130,7 +131,7 @@ noted_new lsn lsns room =
 -- ---- the range
 
 pub image_still : (b : Base) (s t : Writer) (pool : PoolView) (p : ℕ) → Keeps b s t → MayCopy s pool p → MayCopy t pool p
-image_still b s t pool p keeps may = record { ready = (keeps.pages p).waits ∙ may.ready; begun = begun_still b s t keeps may.begun; past = λ none. (keeps.pages p).page ∙ may.past none }
+image_still b s t pool p keeps may = record { ready = (keeps.pages p).waits ∙ may.ready; begun = begun_still b s t keeps may.begun; named = named_in p s.log t.log (grown_front b s.log t.log keeps.log) may.named; past = λ none. (keeps.pages p).page ∙ may.past none }
 
 module _ {D : Type 0} (d : Ghosts D) (b : Base) (base : ℕ) (s : Writer) (first : ℕ) (old : D) where
   pub images_start : (log : LogFile) (table : List TableEntry) (pool : PoolView) → ((c : Files) → d.left_since old (d.moment old) c → d.may_leave old c) → IsWriting d b base s log table pool old

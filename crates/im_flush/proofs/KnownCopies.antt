@@ -205,6 +205,7 @@ told_page b log durable point redo_end p y e is has k =
             copied = λ known. has;
             written = old.written;
             older = old.older;
+            named = old.named;
           });
       still = k.still;
       waiting = λ waits. absurd (let clash : None ≡ Some e = sym (k.waiting waits).none ∙ is in cc clash);

@@ -9,6 +9,7 @@ use Rattle.im_types.specs.Pages.{Body, Page}
 use Rattle.im_types.specs.Records.{What, InsertKey, DeleteKey, UndoInsert, UndoDelete, Smo, UndoSmo, DummyClr, Commit, End, Image, Checkpoint, Unreadable}
 use Rattle.im_types.specs.Histories.{Base, page_after, page_at}
 use Rattle.im_types.specs.Copies.{copy_in}
+use Rattle.im_types.specs.PageCounts.{names_page}
 use Rattle.im_types.specs.RedoPoints.{is_checkpoint}
 use Rattle.im_types.specs.Writer.{Writer}
 use Rattle.im_types.specs.WriterSteps.{MayAppend, changed, changed_entry, holds_copy}
@@ -45,10 +46,11 @@ pub record LeavesBody (l : ℕ) (w : What) (body : Body) : Type 0 where
   pub copy : copy_in l w ≡ Some (record { lsn = l; body = body })
   pub point : is_checkpoint w ≡ false
   pub holds : holds_copy w ≡ true
+  pub names : names_page w ≡ true
 
 pub leaves_body : (l : ℕ) (w : What) (body : Body) → after_in w ≡ Some body → LeavesBody l w body
-leaves_body l (Smo old new) body is = (let same : new ≡ body = cc is in record { after = λ g. ap (λ (x : Body). record { lsn = l; body = x }) same; copy = ap (λ (x : Body). Some (record { lsn = l; body = x })) same; point = refl; holds = refl })
-leaves_body l (UndoSmo new) body is = (let same : new ≡ body = cc is in record { after = λ g. ap (λ (x : Body). record { lsn = l; body = x }) same; copy = ap (λ (x : Body). Some (record { lsn = l; body = x })) same; point = refl; holds = refl })
+leaves_body l (Smo old new) body is = (let same : new ≡ body = cc is in record { after = λ g. ap (λ (x : Body). record { lsn = l; body = x }) same; copy = ap (λ (x : Body). Some (record { lsn = l; body = x })) same; point = refl; holds = refl; names = refl })
+leaves_body l (UndoSmo new) body is = (let same : new ≡ body = cc is in record { after = λ g. ap (λ (x : Body). record { lsn = l; body = x }) same; copy = ap (λ (x : Body). Some (record { lsn = l; body = x })) same; point = refl; holds = refl; names = refl })
 leaves_body l (InsertKey k i) body is = absurd (cc is)
 leaves_body l (DeleteKey k i) body is = absurd (cc is)
 leaves_body l (UndoInsert k i) body is = absurd (cc is)
@@ -133,5 +135,5 @@ module _ {D : Type 0} (d : Ghosts D) (b : Base) (base : ℕ) (s : Writer) (e : �
       → ChangesEntry frame.number (changed_entry true lsn) table new_table → IsWriting d b base (record (changed (logged_at lsn entry) s) { durable = done.now_durable }) new_log new_table new_pool new
   left_by opened changes held sets enters =
       let set : Sets frame (page_after lsn (what_of entry) (s.pages frame.number).page) true pool new_pool = subst (λ (g : Page). Sets frame g true pool new_pool) (sym (leaves.after (s.pages frame.number).page)) sets in
-      step_by d b base s log new_log table new_table pool new_pool old new entry lsn frame w may done here (holds_copy (what_of entry)) (changed_kept b s (logged_at lsn entry) w.stands.kept may) opened changes held set
+      step_by d b base s log new_log table new_table pool new_pool old new entry lsn frame w may done here (holds_copy (what_of entry)) (changed_kept b s (logged_at lsn entry) w.stands.kept may leaves.names) opened changes held set
       (subst (λ (k : Bool). ChangesEntry frame.number (changed_entry k lsn) table new_table) (sym leaves.holds) enters)

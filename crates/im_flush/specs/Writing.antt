@@ -5,6 +5,7 @@ use Rattle.im_types.specs.declared.fault.Fault.{Fault}
 use Rattle.im_types.specs.Pages.{Page}
 use Rattle.im_types.specs.Histories.{Base, History, IsFront, end_of}
 use Rattle.im_types.specs.Copies.{GrowsByImages, HasCopy}
+use Rattle.im_types.specs.PageCounts.{named_to}
 use Rattle.im_types.specs.RedoPoints.{redo_point}
 use Rattle.im_types.specs.Writer.{PageState, Writer, IsWritten}
 use Rattle.im_types.specs.WriterSteps.{MayWrite, forced, written}
@@ -63,10 +64,11 @@ lsn_for lsns place = slice_index_or lsns (min place 1023) 0
 
 -- ---- the whole
 
--- what the Image of a page asks: that the page has its copy, that the log has begun, and that the page is the initial one where it is not held
+-- what the Image of a page asks: that the page has its copy, that the log has begun and names it or a page behind it, and that the page is the initial one where it is not held
 pub record MayCopy (s : Writer) (pool : PoolView) (p : ℕ) : Type 0 where
   pub ready : (s.pages p).waits ≡ false
   pub begun : s.log ≢ []
+  pub named : p < named_to s.log
   pub past : held_of pool p ≡ None → (s.pages p).page ≡ initial p
 
 -- what the write of a page asks

@@ -1,5 +1,5 @@
 -- The tree of pages meets the laws that the theory of logs asks for.
-use Rattle.std.proofs.Common.{◌≡◌, ℕ, List, [], ◌∷◌, ◌++◌, refl, sym, ap, ap₂, subst, ◌∙◌, arith, ◌==◌}
+use Rattle.std.proofs.Common.{◌≡◌, ℕ, List, [], ◌∷◌, ◌++◌, inr, refl, sym, ap, ap₂, subst, ◌∙◌, arith, ◌==◌}
 use Rattle.std.proofs.lemmas.Bool.{eq-eqb, eqb-true, cond-true, cond-false, false_from_ne_true}
 use Rattle.im_types.specs.Keys.{Key}
 use Rattle.im_types.specs.Pages.{Entry, Body}
@@ -14,6 +14,7 @@ use Rattle.im_tree.proofs.Descent.{times-here}
 use Rattle.im_tree.proofs.Order.{before_below, after_above, ordered_right}
 use Rattle.im_tree.proofs.LeafChange.{leaf_change}
 use Rattle.im_tree.proofs.LeafWalk.{entries_around, leaf_walk}
+use Rattle.im_tree.proofs.LookupLemmas.{way_known}
 use Rattle.im_tree.proofs.KeyLemmas.{put_behind, put_within, all_with, without-append, without_below, without_above, all_without}
 
 -- a leaf with other entries
@@ -117,4 +118,6 @@ page_tree_laws = record {
   put_walk = λ pages p k i good can. (key_put pages p k i good can.leaf).walks;
   drop_good = λ pages p k i good can. (key_dropped pages p k good can.leaf).good;
   drop_walk = λ pages p k i good can. (key_dropped pages p k good can.leaf).walks;
+  put_within = λ pages p k i good can. inr (way_known pages [] 0 k p good can.leaf).1;
+  drop_within = λ pages p k i good can. inr (way_known pages [] 0 k p good can.leaf).1;
 }

@@ -16,7 +16,7 @@ image_follows : (b : Base) (tree : Tree) (r : Logged) (older : History) → IsIm
 image_follows b tree r older image = record {
   rises = image.rises;
   chained = λ owned. absurd (let t : false ≡ true = sym (ap has_owner image.what) ∙ owned in cc t);
-  may = subst (λ (w : What). MayCome b tree r older w) (sym image.what) (record { no_owner = image.no_owner; exact = image.exact });
+  may = subst (λ (w : What). MayCome b tree r older w) (sym image.what) (record { no_owner = image.no_owner; exact = image.exact; named = image.named });
 }
 
 pub lawful_images : (b : Base) (tree : Tree) (images older : History) → AreImages b images older → IsLawful b tree older → IsLawful b tree (images ++ older)

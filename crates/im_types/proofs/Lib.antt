@@ -15,6 +15,7 @@ pub mod OpenSmo
 pub mod Chains
 pub mod UndoReads
 pub mod Compensated
+pub mod PageCounts
 pub mod Images
 pub mod Lives
 pub mod OneLeaf

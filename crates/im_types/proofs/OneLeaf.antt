@@ -5,7 +5,8 @@ use Rattle.im_types.specs.declared.page_kind.PageKind.TheVariants.{Leaf}
 use Rattle.im_types.specs.Histories.{Base}
 use Rattle.im_types.specs.Lawful.{IsLawful}
 use Rattle.im_types.specs.OneLeaf.{one_leaf}
+use Rattle.im_types.specs.PageCounts.{first_count}
 
--- an empty log is lawful over base pages with a leaf that has the base's map
-pub one_leaf_start : (b : Base) → ((p : ℕ) → (b.pages p).lsn ≤ b.start) → (b.pages 1).body.kind ≡ Leaf → (b.pages 1).body.entries ≡ entries b.map → IsLawful b one_leaf []
-one_leaf_start b lsns kind same = record { lsns = lsns; stands = record { good = kind; walk = same } }
+-- an empty log is lawful over base pages with a leaf that has the base's map, of which page 0 says no greater count
+pub one_leaf_start : (b : Base) → ((p : ℕ) → (b.pages p).lsn ≤ b.start) → (b.pages 0).body.leftmost ≤ first_count → (b.pages 1).body.kind ≡ Leaf → (b.pages 1).body.entries ≡ entries b.map → IsLawful b one_leaf []
+one_leaf_start b lsns count kind same = record { lsns = lsns; count = count; stands = record { good = kind; walk = same } }

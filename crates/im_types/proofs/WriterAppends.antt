@@ -4,6 +4,7 @@ use Rattle.std.specs.Prelude.{◌==◌, ◌||◌}
 use Rattle.std.proofs.lemmas.Bool.{cases_eq, cond-true, cond-false, eq-eqb, ne_eqb}
 use Rattle.im_types.specs.Copies.{HasCopy, Reaches, copy_in, noted}
 use Rattle.im_types.specs.Histories.{Base, History, end_of, page_after, page_at}
+use Rattle.im_types.specs.PageCounts.{named_to, names_page}
 use Rattle.im_types.specs.Pages.{Page}
 use Rattle.im_types.specs.Records.{Checkpoint, Commit, DeleteKey, DummyClr, End, Image, InsertKey, Logged, Smo, UndoDelete, UndoInsert, UndoSmo, Unreadable, What}
 use Rattle.im_types.specs.RedoPoints.{redo_point}
@@ -11,6 +12,7 @@ use Rattle.im_types.specs.Writer.{DirtyEntry, EntryKept, IsAfterRedo, IsLeft, Is
 use Rattle.im_types.specs.WriterSteps.{MayAppend, appended, changed, changed_entry, changed_page, first_since, holds_copy, only, passed}
 use Rattle.im_types.proofs.Copies.{copied_more, copy_grows, noted_here}
 use Rattle.im_types.proofs.Histories.{end_le, front_more}
+use Rattle.im_types.proofs.PageCounts.{named_here, named_then}
 use Rattle.im_types.proofs.Redo.{at_end, reached_end, reaches_before, reaches_less, reaches_more}
 use Rattle.im_types.proofs.WriterFronts.{left_split, whole}
 
@@ -66,6 +68,7 @@ module _ (b : Base) (s : Writer) (r : Logged) (k : WriterKept b s) (may : MayApp
         copied = λ known. copy_grows s.log (r ∷ s.log) p (redo_point (r ∷ s.log)) (record { newer = r ∷ []; is = refl }) (may.point.copied p e is known);
         written = old.written;
         older = λ unsynced t some. let t_high : t ≤ end_of b s.log = (old.own t some).high in up_to p t (s.pages p).reads (omega (arith, t_high, last)) (old.older unsynced t some);
+        named = named_then p r s.log old.named;
       }
 
   page_more : (p : ℕ) → page_at b (r ∷ s.log) p ≡ page_at b s.log p → PageKept b (r ∷ s.log) s.durable s.point s.redo_end p (passed r.lsn (s.pages p))
@@ -119,9 +122,9 @@ module _ (b : Base) (s : Writer) (r : Logged) (k : WriterKept b s) (may : MayApp
       by None is = cc is
       by (Some t) is = cc is
 
-  entry_new : (p : ℕ) (y : PageState) (one : Bool) → (one ≡ true → HasCopy (r ∷ s.log) p (redo_point (r ∷ s.log))) → (s.pages p).entry ≡ None → y.unsynced ≡ (s.pages p).unsynced → y.synced ≡ (s.pages p).synced
+  entry_new : (p : ℕ) (y : PageState) (one : Bool) → p < named_to (r ∷ s.log) → (one ≡ true → HasCopy (r ∷ s.log) p (redo_point (r ∷ s.log))) → (s.pages p).entry ≡ None → y.unsynced ≡ (s.pages p).unsynced → y.synced ≡ (s.pages p).synced
       → EntryKept b (r ∷ s.log) s.durable s.point s.redo_end p y (record { rec_lsn = r.lsn; since = Some r.lsn; copied = one })
-  entry_new p y one has none same_unsynced same_synced =
+  entry_new p y one named has none same_unsynced same_synced =
       let clean = (k.pages p).clean ((k.pages p).run may.redo_end may.over).0 none in
       let is_synced : y.unsynced ≡ false = same_unsynced ∙ clean.0 in
       record {
@@ -133,6 +136,7 @@ module _ (b : Base) (s : Writer) (r : Logged) (k : WriterKept b s) (may : MayApp
         copied = has;
         written = λ unsynced. absurd (let clash : true ≡ false = sym unsynced ∙ is_synced in cc clash);
         older = λ unsynced. absurd (let clash : true ≡ false = sym unsynced ∙ is_synced in cc clash);
+        named = named;
       }
 
   entry_again : (p : ℕ) (y : PageState) (e : DirtyEntry) (one : Bool) → (one ≡ true → HasCopy (r ∷ s.log) p (redo_point (r ∷ s.log))) → (s.pages p).entry ≡ Some e → y.unsynced ≡ (s.pages p).unsynced → y.synced ≡ (s.pages p).synced → y.reads ≡ (s.pages p).reads
@@ -148,6 +152,7 @@ module _ (b : Base) (s : Writer) (r : Logged) (k : WriterKept b s) (may : MayApp
         copied = has;
         written = λ unsynced none. absurd (cc none);
         older = λ unsynced u is_u. subst (λ (o : Option Page). ReachesInEach b s.durable (r ∷ s.log) p u o) (sym same_reads) (old.older (sym same_unsynced ∙ unsynced) u (some ∙ is_u));
+        named = old.named;
       }
   entry_again p y e one has is same_unsynced same_synced same_reads None none =
       let was = (k.pages p).entry e is in
@@ -164,10 +169,11 @@ module _ (b : Base) (s : Writer) (r : Logged) (k : WriterKept b s) (may : MayApp
             let j : r.lsn ≡ u = cc is_u in
             subst (λ (m : ℕ). ReachesInEach b s.durable (r ∷ s.log) p m y.reads) j
             (up_to_before p y.reads (same_reads ∙ was.written (sym same_unsynced ∙ unsynced) none) (subst (λ (o : Option DirtyEntry). IsWritten o) (sym is) none));
+        named = old.named;
       }
 
-  page_after_change : PageKept b (r ∷ s.log) s.durable s.point s.redo_end r.page (passed r.lsn (changed_page r (s.pages r.page)))
-  page_after_change =
+  page_after_change : names_page r.what ≡ true → PageKept b (r ∷ s.log) s.durable s.point s.redo_end r.page (passed r.lsn (changed_page r (s.pages r.page)))
+  page_after_change names =
       let p : ℕ = r.page in
       let old = k.pages r.page in
       let last : end_of b s.log < r.lsn = may.last in
@@ -193,7 +199,7 @@ module _ (b : Base) (s : Writer) (r : Logged) (k : WriterKept b s) (may : MayApp
 
       entry : (o : Option DirtyEntry) → (s.pages r.page).entry ≡ o → (e : DirtyEntry) → changed_entry (holds_copy r.what) r.lsn o ≡ e → EntryKept b (r ∷ s.log) s.durable s.point s.redo_end r.page (passed r.lsn (changed_page r (s.pages r.page))) e
       entry None is e same = subst (λ (x : DirtyEntry). EntryKept b (r ∷ s.log) s.durable s.point s.redo_end r.page (passed r.lsn (changed_page r (s.pages r.page))) x) same
-          (entry_new r.page (passed r.lsn (changed_page r (s.pages r.page))) (holds_copy r.what) own_copy is refl refl)
+          (entry_new r.page (passed r.lsn (changed_page r (s.pages r.page))) (holds_copy r.what) (named_here r s.log names) own_copy is refl refl)
       entry (Some old) is e same = subst (λ (x : DirtyEntry). EntryKept b (r ∷ s.log) s.durable s.point s.redo_end r.page (passed r.lsn (changed_page r (s.pages r.page))) x) same
           (entry_again r.page (passed r.lsn (changed_page r (s.pages r.page))) old (holds_copy r.what || old.copied) (either (holds_copy r.what) own_copy old is) is refl refl refl old.since refl)
 
@@ -220,10 +226,10 @@ module _ (b : Base) (s : Writer) (r : Logged) (k : WriterKept b s) (may : MayApp
   appended_kept same = joined (λ q. passed r.lsn (s.pages q)) (λ p. page_more p (same p))
 
   -- A record that changes its page.
-  pub changed_kept : WriterKept b (changed r s)
-  changed_kept = joined (λ q. passed r.lsn (only r.page (changed_page r) s.pages q)) (λ p. elim (cases_eq r.page p) [
+  pub changed_kept : names_page r.what ≡ true → WriterKept b (changed r s)
+  changed_kept names = joined (λ q. passed r.lsn (only r.page (changed_page r) s.pages q)) (λ p. elim (cases_eq r.page p) [
     | inl here ↦ subst (λ (x : PageState). PageKept b (r ∷ s.log) s.durable s.point s.redo_end p (passed r.lsn x)) (sym (cond-true (r.page == p) (changed_page r (s.pages p)) (s.pages p) (eq-eqb r.page p here)))
-        (subst (λ (x : ℕ). PageKept b (r ∷ s.log) s.durable s.point s.redo_end x (passed r.lsn (changed_page r (s.pages x)))) here page_after_change)
+        (subst (λ (x : ℕ). PageKept b (r ∷ s.log) s.durable s.point s.redo_end x (passed r.lsn (changed_page r (s.pages x)))) here (page_after_change names))
     | inr other ↦ subst (λ (x : PageState). PageKept b (r ∷ s.log) s.durable s.point s.redo_end p (passed r.lsn x)) (sym (cond-false (r.page == p) (changed_page r (s.pages p)) (s.pages p) (ne_eqb r.page p other)))
         (page_more p (cond-false (r.page == p) (page_after r.lsn r.what (page_at b s.log p)) (page_at b s.log p) (ne_eqb r.page p other)))
   ])

@@ -37,6 +37,7 @@ page_grown b log durable more point redo_end p x f k = record {
     copied = old.copied;
     written = old.written;
     older = λ unsynced t is. reaches_grown b log durable more p t x.reads f (old.older unsynced t is);
+    named = old.named;
   };
   still = k.still;
   waiting = λ waits. let old = k.waiting waits in record { none = old.none; synced = old.synced; lsn = old.lsn; copy = old.copy; found = old.found };

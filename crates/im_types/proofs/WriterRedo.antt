@@ -1,17 +1,19 @@
 -- Restart's steps: the opening, copies, records, Images of evictions, and the end of redo.
 use Rattle.std.proofs.Common.{◌≡◌, inl, inr, ◌⊎◌, ℕ, ◌+◌, ◌<◌, ◌≤◌, [], ◌∷◌, ◌++◌, Bool, true, false, refl, sym, ◌∙◌, ap, subst, arith, append_assoc, Option, None, Some}
 use Rattle.std.specs.Prelude.{if◌then◌else◌, ◌==◌, nat_le}
-use Rattle.std.proofs.lemmas.Bool.{cases_Bool, cond-true, cond-false}
+use Rattle.std.proofs.lemmas.Bool.{cases_Bool, cases_eq, cond-true, cond-false, eq-eqb, ne_eqb}
 use Rattle.im_types.specs.Copies.{HasCopy, Reaches, copy_in, noted, redo_one}
 use Rattle.im_types.specs.Histories.{Base, History, Rises, changes_page, end_of, page_after, page_at}
 use Rattle.im_types.specs.Pages.{Page}
-use Rattle.im_types.specs.Records.{Image, Logged, What}
+use Rattle.im_types.specs.PageCounts.{named_to, names_page}
+use Rattle.im_types.specs.Records.{Checkpoint, Commit, DeleteKey, DummyClr, End, Image, InsertKey, Logged, Smo, UndoDelete, UndoInsert, UndoSmo, Unreadable, What}
 use Rattle.im_types.specs.RedoPoints.{redo_point}
 use Rattle.im_types.specs.Writer.{DirtyEntry, EntryKept, IsAfterRedo, IsLeft, IsSince, IsWritten, PageKept, PageState, PointKept, ReachesInEach, Writer, WriterKept}
 use Rattle.im_types.specs.WriterSteps.{applies, at_point, ended, imaged, is_copied, loaded, loaded_page, passed, redone, redone_page}
 use Rattle.im_types.proofs.Appends.{plain}
 use Rattle.im_types.proofs.Copies.{copied_more, copy_from, copy_grows, noted_none, noted_within}
 use Rattle.im_types.proofs.Histories.{end_le, front_more, front_of_front, front_self, no_change, rises_in, start_low}
+use Rattle.im_types.proofs.PageCounts.{named_here, named_in, named_then, noted_named}
 use Rattle.im_types.proofs.Redo.{at_end, reaches_less, reaches_more, reaches_one}
 use Rattle.im_types.proofs.WriterFronts.{left_split, whole}
 use Rattle.im_types.proofs.WriterWrites.{only_kept}
@@ -55,6 +57,7 @@ module _ (b : Base) (s : Writer) (r : Logged) (k : WriterKept b s) (going : s.re
         copied = λ known. copy_grows s.log (r ∷ s.log) p (redo_point (r ∷ s.log)) (record { newer = r ∷ []; is = refl }) (subst (λ (m : ℕ). HasCopy s.log p m) (sym same) (old.copied known));
         written = old.written;
         older = λ unsynced t some. let t_high : t ≤ end_of b s.log = (old.own t some).high in up_to p t (s.pages p).reads (omega (arith, t_high, last)) (old.older unsynced t some);
+        named = named_then p r s.log old.named;
       }
 
   page_more : (p : ℕ) → PageKept b (r ∷ s.log) s.durable s.point s.redo_end p (s.pages p)
@@ -105,12 +108,12 @@ module _ (b : Base) (s : Writer) (r : Logged) (k : WriterKept b s) (going : s.re
 
 -- ---- a page enters with the redo point
 
-entry_at_point : (b : Base) (s : Writer) (p : ℕ) (x : PageState) (one : Bool) → WriterKept b s → s.redo_end ≡ None → (one ≡ true → HasCopy s.log p (redo_point s.log))
+entry_at_point : (b : Base) (s : Writer) (p : ℕ) (x : PageState) (one : Bool) → WriterKept b s → s.redo_end ≡ None → p < named_to s.log → (one ≡ true → HasCopy s.log p (redo_point s.log))
     → (x.unsynced ≡ false → HasCopy s.durable p s.point ⊎ ReachesInEach b s.durable s.log p s.point x.synced)
     → (x.unsynced ≡ true → HasCopy s.durable p s.point)
     → (x.unsynced ≡ true → ReachesInEach b s.durable s.log p s.point x.reads)
     → EntryKept b s.log s.durable s.point s.redo_end p x (at_point one s.point)
-entry_at_point b s p x one k going has untouched copy older =
+entry_at_point b s p x one k going named has untouched copy older =
     let high : s.point ≤ end_of b s.log = (let w = whole s.durable s.log k.front in let e : redo_point s.log ≡ s.point = point_in_redo b s k going s.log w in let h : redo_point s.log ≤ end_of b s.log = (k.points s.log w).high in omega (arith, e, h)) in
     record {
       low = λ h w. let e : redo_point h ≡ s.point = point_in_redo b s k going h w in omega (arith, e);
@@ -121,6 +124,7 @@ entry_at_point b s p x one k going has untouched copy older =
       copied = has;
       written = λ unsynced none. absurd (cc none);
       older = λ unsynced t some. let e : s.point ≡ t = cc some in subst (λ (y : ℕ). ReachesInEach b s.durable s.log p y x.reads) e (older unsynced);
+      named = named;
     }
 
 -- ---- a copy is loaded
@@ -132,6 +136,7 @@ module _ (b : Base) (s : Writer) (p l : ℕ) (c : Page) (k : WriterKept b s) (go
       let wait = old.waiting waits in
       let w = whole s.durable s.log k.front in
       let has : HasCopy s.durable p s.point = record { lsn = l; copy = c; is = old.found waits s.durable (record { from = front_self s.durable; upto = k.front }) ∙ found } in
+      let named : p < named_to s.log = noted_named s.point s.log p l c (old.found waits s.log w ∙ found) in
       let in_log : HasCopy s.log p (redo_point s.log) = subst (λ (m : ℕ). HasCopy s.log p m) (sym (point_in_redo b s k going s.log w)) (copy_grows s.durable s.log p s.point k.front has) in
       let high : s.point ≤ end_of b s.log = (let e : redo_point s.log ≡ s.point = point_in_redo b s k going s.log w in let h : redo_point s.log ≤ end_of b s.log = (k.points s.log w).high in omega (arith, e, h)) in
       record {
@@ -143,7 +148,7 @@ module _ (b : Base) (s : Writer) (p l : ℕ) (c : Page) (k : WriterKept b s) (go
         written = λ ready done. absurd (cc done);
         clean = λ ready none. absurd (cc none);
         entry = λ e is. (let same : at_point true s.point ≡ e = cc is in subst (λ (y : DirtyEntry). EntryKept b s.log s.durable s.point s.redo_end p (loaded_page s.point c (s.pages p)) y) same
-            (entry_at_point b s p (loaded_page s.point c (s.pages p)) true k going (λ known. in_log) (λ untouched. inl has) (λ unsynced. has) (λ unsynced. absurd (let clash : true ≡ false = sym unsynced ∙ wait.synced in cc clash))));
+            (entry_at_point b s p (loaded_page s.point c (s.pages p)) true k going named (λ known. in_log) (λ untouched. inl has) (λ unsynced. has) (λ unsynced. absurd (let clash : true ≡ false = sym unsynced ∙ wait.synced in cc clash))));
         still = old.still;
         waiting = λ still. absurd (cc still);
         found = λ still. absurd (cc still);
@@ -164,6 +169,25 @@ module _ (b : Base) (s : Writer) (p l : ℕ) (c : Page) (k : WriterKept b s) (go
   }
 
 -- ---- a record of redo
+
+-- a record that changes a page names it
+changed_names : (w : What) → changes_page w ≡ true → names_page w ≡ true
+changed_names (InsertKey k i) is = refl
+changed_names (DeleteKey k i) is = refl
+changed_names (UndoInsert k i) is = refl
+changed_names (UndoDelete k i) is = refl
+changed_names (Smo old new) is = refl
+changed_names (UndoSmo new) is = refl
+changed_names (Image c) is = refl
+changed_names DummyClr is = absurd (cc is)
+changed_names Commit is = absurd (cc is)
+changed_names End is = absurd (cc is)
+changed_names (Checkpoint n a d) is = absurd (cc is)
+changed_names Unreadable is = absurd (cc is)
+
+applied_kind : (u v : Bool) → (if u then false else v) ≡ true → v ≡ true
+applied_kind true v is = absurd (cc is)
+applied_kind false v is = is
 
 same_page : (t u v : Bool) (g new : Page) → (v ≡ false → new ≡ g) → (if t then (if u then false else v) else false) ≡ false → (if t then (if u then g else new) else g) ≡ g
 same_page true true v g new plain none = refl
@@ -195,16 +219,16 @@ module _ (b : Base) (s : Writer) (r : Logged) (newer f : History) (k : WriterKep
   up_to_page : (o : Option Page) → o ≡ Some (s.pages p).page → IsWritten (s.pages p).entry → ReachesInEach b s.durable s.log p s.point o
   up_to_page o is done = record { page = (s.pages p).page; is = is; all = λ h w. reaches_less b h (s.pages p).upto s.point p (s.pages p).page ((k.pages p).low ready) ((k.pages p).written ready done h w) }
 
-  enters : (y : PageState) → y.unsynced ≡ (s.pages p).unsynced → y.synced ≡ (s.pages p).synced → y.reads ≡ (s.pages p).reads → (o : Option DirtyEntry) → (s.pages p).entry ≡ o → EntryKept b s.log s.durable s.point s.redo_end p y (at_point (is_copied o) s.point)
-  enters y same_unsynced same_synced same_reads None none =
+  enters : p < named_to s.log → (y : PageState) → y.unsynced ≡ (s.pages p).unsynced → y.synced ≡ (s.pages p).synced → y.reads ≡ (s.pages p).reads → (o : Option DirtyEntry) → (s.pages p).entry ≡ o → EntryKept b s.log s.durable s.point s.redo_end p y (at_point (is_copied o) s.point)
+  enters named y same_unsynced same_synced same_reads None none =
       let (untouched, here) = (k.pages p).clean ready none in
       let y_synced : y.unsynced ≡ false = same_unsynced ∙ untouched in
-      entry_at_point b s p y false k going (λ known. absurd (cc known)) (λ d. inr (up_to_page y.synced (same_synced ∙ here) (rw none tt)))
+      entry_at_point b s p y false k going named (λ known. absurd (cc known)) (λ d. inr (up_to_page y.synced (same_synced ∙ here) (rw none tt)))
       (λ unsynced. absurd (let clash : true ≡ false = sym unsynced ∙ y_synced in cc clash)) (λ unsynced. absurd (let clash : true ≡ false = sym unsynced ∙ y_synced in cc clash))
-  enters y same_unsynced same_synced same_reads (Some e) some =
+  enters named y same_unsynced same_synced same_reads (Some e) some =
       let old = (k.pages p).entry e some in
       let low = point_le e some in
-      entry_at_point b s p y e.copied k going old.copied
+      entry_at_point b s p y e.copied k going named old.copied
       (λ d. elim (old.untouched (sym same_unsynced ∙ d)).has [
         | inl copy ↦ inl (copy_from s.durable p e.rec_lsn s.point low copy)
         | inr here ↦ inr (up_to_less e.rec_lsn y.synced low (subst (λ (o : Option Page). ReachesInEach b s.durable s.log p e.rec_lsn o) (sym same_synced) here))
@@ -224,7 +248,7 @@ module _ (b : Base) (s : Writer) (r : Logged) (newer f : History) (k : WriterKep
   page_redone : PageKept b s.log s.durable s.point s.redo_end p (redone_page s.point r p (s.pages p))
   page_redone = elim (cases_Bool (applies r p (s.pages p).page)) [
     | inl done ↦ subst (λ (o : Option DirtyEntry). PageKept b s.log s.durable s.point s.redo_end p (record (s.pages p) { page = redo_one r p (s.pages p).page; upto = r.lsn + 1; entry = o }))
-        (sym (cond-true (applies r p (s.pages p).page) (Some (at_point (is_copied (s.pages p).entry) s.point)) (s.pages p).entry done)) when_applied
+        (sym (cond-true (applies r p (s.pages p).page) (Some (at_point (is_copied (s.pages p).entry) s.point)) (s.pages p).entry done)) (when_applied done)
     | inr nil ↦ subst (λ (o : Option DirtyEntry). PageKept b s.log s.durable s.point s.redo_end p (record (s.pages p) { page = redo_one r p (s.pages p).page; upto = r.lsn + 1; entry = o }))
         (sym (cond-false (applies r p (s.pages p).page) (Some (at_point (is_copied (s.pages p).entry) s.point)) (s.pages p).entry nil)) (when_passed nil)
   ]
@@ -232,8 +256,19 @@ module _ (b : Base) (s : Writer) (r : Logged) (newer f : History) (k : WriterKep
       w : IsLeft s.durable s.log s.log
       w = whole s.durable s.log k.front
 
-      when_applied : PageKept b s.log s.durable s.point s.redo_end p (record (s.pages p) { page = redo_one r p (s.pages p).page; upto = r.lsn + 1; entry = Some (at_point (is_copied (s.pages p).entry) s.point) })
-      when_applied = record {
+      -- the record names the page that it is applied to
+      applied_named : applies r p (s.pages p).page ≡ true → p < named_to s.log
+      applied_named is = elim (cases_eq r.page p) [
+        | inr other ↦ absurd (let clash : false ≡ true = sym (cond-false (r.page == p) (if nat_le r.lsn (s.pages p).page.lsn then false else changes_page r.what) false (ne_eqb r.page p other)) ∙ is in cc clash)
+        | inl here ↦
+            let kind = applied_kind (nat_le r.lsn (s.pages p).page.lsn) (changes_page r.what) (sym (cond-true (r.page == p) (if nat_le r.lsn (s.pages p).page.lsn then false else changes_page r.what) false (eq-eqb r.page p here)) ∙ is) in
+            let front = front_of_front (r ∷ f) s.durable s.log (record { newer = newer; is = at }) k.front in
+            let low = named_in r.page (r ∷ f) s.log front (named_here r f (changed_names r.what kind)) in
+            omega (arith, low, here)
+      ]
+
+      when_applied : applies r p (s.pages p).page ≡ true → PageKept b s.log s.durable s.point s.redo_end p (record (s.pages p) { page = redo_one r p (s.pages p).page; upto = r.lsn + 1; entry = Some (at_point (is_copied (s.pages p).entry) s.point) })
+      when_applied done = record {
         low = λ x. omega (arith, after_point);
         high = (let i : r.lsn ≤ end_of b s.log = in_log in omega (arith, i));
         run = λ q some. absurd (let clash : None ≡ Some q = sym going ∙ some in cc clash);
@@ -241,7 +276,7 @@ module _ (b : Base) (s : Writer) (r : Logged) (newer f : History) (k : WriterKep
         written = λ x done. absurd (cc done);
         clean = λ x none. absurd (cc none);
         entry = λ e is. (let same : at_point (is_copied (s.pages p).entry) s.point ≡ e = cc is in subst (λ (y : DirtyEntry). EntryKept b s.log s.durable s.point s.redo_end p (record (s.pages p) { page = redo_one r p (s.pages p).page; upto = r.lsn + 1; entry = Some (at_point (is_copied (s.pages p).entry) s.point) }) y) same
-            (enters (record (s.pages p) { page = redo_one r p (s.pages p).page; upto = r.lsn + 1; entry = Some (at_point (is_copied (s.pages p).entry) s.point) }) refl refl refl (s.pages p).entry refl));
+            (enters (applied_named done) (record (s.pages p) { page = redo_one r p (s.pages p).page; upto = r.lsn + 1; entry = Some (at_point (is_copied (s.pages p).entry) s.point) }) refl refl refl (s.pages p).entry refl));
         still = (k.pages p).still;
         waiting = λ waits. absurd (let clash : true ≡ false = sym waits ∙ ready in cc clash);
         found = λ waits. absurd (let clash : true ≡ false = sym waits ∙ ready in cc clash);
@@ -266,6 +301,7 @@ module _ (b : Base) (s : Writer) (r : Logged) (newer f : History) (k : WriterKep
               copied = old.copied;
               written = λ unsynced none. old.written unsynced none ∙ ap (λ (g : Page). Some g) (sym same);
               older = old.older;
+              named = old.named;
             };
             still = (k.pages p).still;
             waiting = λ waits. absurd (let clash : true ≡ false = sym waits ∙ ready in cc clash);
@@ -323,6 +359,7 @@ module _ (b : Base) (s : Writer) (k : WriterKept b s) (going : s.redo_end ≡ No
           copied = was.copied;
           written = was.written;
           older = was.older;
+          named = was.named;
         };
         still = old.still;
         waiting = λ waits. absurd (let clash : true ≡ false = sym waits ∙ ready p in cc clash);

@@ -12,6 +12,7 @@ use Rattle.im_types.specs.Writer.{DirtyEntry, EntryKept, IsLeft, IsSince, IsWrit
 use Rattle.im_types.specs.WriterSteps.{MayWrite, forced, forgotten, forgotten_entry, forgotten_page, only, synced, synced_entry, synced_page, written, written_entry, written_page}
 use Rattle.im_types.proofs.Copies.{copy_grows, noted_here}
 use Rattle.im_types.proofs.Histories.{end_le, front_self}
+use Rattle.im_types.proofs.PageCounts.{named_in, noted_named}
 use Rattle.im_types.proofs.WriterFronts.{left_all, left_forced, whole}
 
 -- one page changed: what holds of each page
@@ -49,6 +50,7 @@ page_forced b log durable point redo_end p x front k = record {
     copied = old.copied;
     written = old.written;
     older = λ unsynced t is. up_to_forced b log durable p t x.reads front (old.older unsynced t is);
+    named = old.named;
   };
   still = k.still;
   waiting = λ waits. let old = k.waiting waits in record { none = old.none; synced = old.synced; lsn = old.lsn; copy = old.copy; found = old.found };
@@ -113,6 +115,7 @@ module _ (b : Base) (s : Writer) (p l : ℕ) (k : WriterKept b s) (may : MayWrit
         copied = λ known. subst (λ (d : History). HasCopy d p (redo_point s.log)) may.durable may.copy;
         written = λ unsynced nil. refl;
         older = λ unsynced t some. absurd (let clash : None ≡ Some t = sym none ∙ some in cc clash);
+        named = named_in p s.durable s.log k.front (noted_named (redo_point s.log) s.durable p may.copy.lsn may.copy.copy may.copy.is);
       })
 
   -- A page is written in place.
@@ -180,6 +183,7 @@ module _ (b : Base) (s : Writer) (p : ℕ) (x : PageState) (k : PageKept b s.log
             copied = was.copied;
             written = λ unsynced. absurd (cc unsynced);
             older = λ unsynced. absurd (cc unsynced);
+            named = was.named;
           })
 
   page_synced : PageKept b s.log s.durable s.point s.redo_end p (synced_page x)
@@ -249,6 +253,7 @@ page_forgotten b log durable point redo_end p x k = record {
         copied = λ known. absurd (cc known);
         written = kept.written;
         older = kept.older;
+        named = kept.named;
       });
   still = k.still;
   waiting = λ waits. let old = k.waiting waits in record { none = rw old.none refl; synced = old.synced; lsn = old.lsn; copy = old.copy; found = old.found };

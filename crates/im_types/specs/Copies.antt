@@ -3,6 +3,7 @@ use Rattle.std.specs.Prelude.{◌≡◌, ◌≤◌, ◌<◌, ℕ, List, [], ◌�
 use Rattle.im_types.specs.Pages.{Page}
 use Rattle.im_types.specs.Records.{What, Smo, UndoSmo, Image, Logged}
 use Rattle.im_types.specs.Histories.{History, Base, end_of, below, page_after, page_at, page_up_to}
+use Rattle.im_types.specs.PageCounts.{named_to}
 
 -- the full copy of its page that a record at an LSN holds
 abbrev pub copy_in : ℕ → What → Option Page
@@ -51,12 +52,13 @@ onto (r ∷ newer) older = onto newer (r ∷ older)
 
 -- ---- Images, as evictions append them
 
--- the record is an Image of a page as the page's own LSN says that it was
+-- the record is an Image of a page as the page's own LSN says that it was; it, or a page behind it, was named before
 pub record IsImage (b : Base) (r : Logged) (older : History) : Type 0 where
   pub copy : Page
   pub what : r.what ≡ Image copy
   pub no_owner : r.txn ≡ 0
   pub exact : copy ≡ page_up_to b older r.page copy.lsn
+  pub named : r.page < named_to older
   pub rises : end_of b older < r.lsn
 
 -- only Images joined the older log

@@ -7,6 +7,7 @@ use Rattle.im_types.specs.Pages.{Body, Page}
 use Rattle.im_types.specs.Records.{What, InsertKey, DeleteKey, UndoInsert, UndoDelete, Smo, UndoSmo, DummyClr, Commit, End, Image, Checkpoint, Unreadable, Logged}
 use Rattle.im_types.specs.Tree.{Tree}
 use Rattle.im_types.specs.Histories.{History, Base, end_of, below, page_at, page_up_to}
+use Rattle.im_types.specs.PageCounts.{first_count, greatest_count, named_to}
 use Rattle.im_types.specs.Structure.{open_smo, settled}
 use Rattle.im_types.specs.Transactions.{last_of, undo_next_of, to_undo, net, is_finished, is_rolling_back, contents}
 
@@ -81,11 +82,12 @@ pub record MayUndoDelete (b : Base) (tree : Tree) (r : Logged) (older : History)
   pub can_put : tree.CanPut (settled b older) r.page k i
   pub not_in : IsNotIn r.page (open_smo older)
 
--- one page of a structure change, the only one under way, with the page as it was
+-- one page of a structure change, the only one under way, with the page as it was; its number is below a page count that the log has said
 pub record MaySmo (b : Base) (r : Logged) (older : History) (old : Body) : Type 0 where
   pub no_undo_next : r.undo_next ≡ 0
   pub new_in : IsNewIn r.txn r.page (open_smo older)
   pub before : old ≡ (page_at b older r.page).body
+  pub within : r.page < greatest_count older
 
 -- the undo of the open structure change's newest page, back to what it was
 pub record MayUndoSmo (r : Logged) (older : History) (new : Body) : Type 0 where
@@ -113,10 +115,11 @@ pub record MayEnd (r : Logged) (older : History) : Type 0 where
   pub no_undo_next : r.undo_next ≡ 0
   pub nothing_left : to_undo r.txn older ≡ []
 
--- a full copy: the page as its own LSN says that it was, which may be older than its last record
+-- a full copy: the page as its own LSN says that it was, which may be older than its last record; it, or a page behind it, was named before
 pub record MayImage (b : Base) (r : Logged) (older : History) (copy : Page) : Type 0 where
   pub no_owner : r.txn ≡ 0
   pub exact : copy ≡ page_up_to b older r.page copy.lsn
+  pub named : r.page < named_to older
 
 -- by its kind
 abbrev pub MayCome : Base → Tree → Logged → History → What → Type 0
@@ -158,9 +161,10 @@ pub record HasTree (b : Base) (tree : Tree) (log : History) : Type 0 where
   pub good : tree.Good (settled b log)
   pub walk : tree.walk (settled b log) ≡ entries (contents b log)
 
--- where a log starts: no page has an LSN after the start, and they are a good tree with the base's map
+-- where a log starts: no page has an LSN after the start, page 0 says no more pages than a first log finds, and they are a good tree with the base's map
 pub record IsStart (b : Base) (tree : Tree) : Type 0 where
   pub lsns : (p : ℕ) → (b.pages p).lsn ≤ b.start
+  pub count : (b.pages 0).body.leftmost ≤ first_count
   pub stands : HasTree b tree []
 
 abbrev pub IsLawful : Base → Tree → History → Type 0

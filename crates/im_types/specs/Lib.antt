@@ -11,6 +11,7 @@ pub mod Lives
 pub mod Tree
 pub mod OneLeaf
 pub mod Histories
+pub mod PageCounts
 pub mod Structure
 pub mod Transactions
 pub mod Lawful

@@ -1,5 +1,5 @@
 -- The tree of one leaf, with its laws: the store whose keys all stand in page 1.
-use Rattle.std.proofs.Common.{◌≡◌, ℕ, ◌∙◌, ap}
+use Rattle.std.proofs.Common.{◌≡◌, inl, ℕ, ◌∙◌, ap, arith}
 use Rattle.std.specs.Prelude.{◌==◌}
 use Rattle.std.proofs.lemmas.Bool.{eq-eqb, cond-true}
 use Rattle.im_types.specs.declared.page_kind.PageKind.TheVariants.{Leaf}
@@ -24,4 +24,6 @@ one_leaf_laws = record {
   put_walk = λ pages p k i good can. ap (λ (b : Body). b.entries) (here pages p _ can) ∙ ap (λ (q : ℕ). with_key k i (pages q).entries) can;
   drop_good = λ pages p k i good can. ap (λ (b : Body). b.kind) (here pages p _ can) ∙ ap (λ (q : ℕ). (pages q).kind) can ∙ good;
   drop_walk = λ pages p k i good can. ap (λ (b : Body). b.entries) (here pages p _ can) ∙ ap (λ (q : ℕ). without_key k (pages q).entries) can;
+  put_within = λ pages p k i good can. inl (omega (arith, can));
+  drop_within = λ pages p k i good can. inl (omega (arith, can));
 }

@@ -6,6 +6,7 @@ use Rattle.im_types.specs.declared.tables.ActiveTransaction.{ActiveTransaction}
 use Rattle.im_types.specs.declared.tables.DirtyPage.{DirtyPage}
 use Rattle.im_types.specs.Histories.{Base, History, IsFront, Rises, end_of, page_at, page_up_to}
 use Rattle.im_types.specs.Copies.{Reaches, AreImages, copy_in, onto}
+use Rattle.im_types.specs.PageCounts.{names_page}
 use Rattle.im_types.specs.RedoPoints.{CoversFrom, Covers, least, is_checkpoint, redo_point}
 use Rattle.im_types.specs.Writer.{Writer, IsLeft, LeavesPages, WriterKept, HasFullCopy}
 use Rattle.im_types.specs.WriterSteps.{MayWrite, MayAppend, Lists, is_copied, forced, forgotten, written, synced, imaged, appended, changed, loaded, redone, ended, opened}
@@ -46,7 +47,7 @@ pub record PageWritesAreCovered : Type 0 where
   pub writes : (b : Base) (s : Writer) (p l : ℕ) → WriterKept b s → MayWrite b s p l → WriterKept b (written p l s)
   pub syncs : (b : Base) (s : Writer) → WriterKept b s → WriterKept b (synced s)
   pub appends : (b : Base) (s : Writer) (r : Logged) → WriterKept b s → MayAppend b s r → ((p : ℕ) → page_at b (r ∷ s.log) p ≡ page_at b s.log p) → WriterKept b (appended r s)
-  pub changes : (b : Base) (s : Writer) (r : Logged) → WriterKept b s → MayAppend b s r → WriterKept b (changed r s)
+  pub changes : (b : Base) (s : Writer) (r : Logged) → WriterKept b s → MayAppend b s r → names_page r.what ≡ true → WriterKept b (changed r s)
   -- the copies that are known are forgotten
   pub forgets : (b : Base) (s : Writer) → WriterKept b s → WriterKept b (forgotten s)
   -- a Checkpoint, taken after a sync, with the entries of the dirty table, none of which counts a copy as known

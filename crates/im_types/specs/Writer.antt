@@ -4,6 +4,7 @@ use Rattle.std.specs.Prelude.{◌≡◌, ◌≤◌, ◌<◌, ◌+◌, ◌⊎◌,
 use Rattle.im_types.specs.Pages.{Page}
 use Rattle.im_types.specs.Histories.{History, Base, IsFront, Rises, end_of}
 use Rattle.im_types.specs.Copies.{Reaches, HasCopy, noted}
+use Rattle.im_types.specs.PageCounts.{named_to}
 use Rattle.im_types.specs.RedoPoints.{redo_point}
 
 -- ---- the state
@@ -95,6 +96,8 @@ pub record EntryKept (b : Base) (log durable : History) (point : ℕ) (redo_end 
   -- what was written: the page as it is, or as it was before the first change since
   pub written : x.unsynced ≡ true → e.since ≡ None → x.reads ≡ Some x.page
   pub older : x.unsynced ≡ true → (l : ℕ) → e.since ≡ Some l → ReachesInEach b durable log p l x.reads
+  -- it, or a page behind it, is named by a record of the log
+  pub named : p < named_to log
 
 -- a page that waits for its copy: it has no entry, and is not written
 pub record WaitKept (x : PageState) : Type 0 where

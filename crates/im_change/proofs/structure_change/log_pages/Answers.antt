@@ -54,7 +54,7 @@ loop-i-preserved g c = record {
       let k = c.in_ok-prev.ensures.kept b base so.now e so.stands so.over in
       let some : t ≢ 0 = λ none. omega (arith, none, c.requires.owner) in
       let within : l.i < length images = omega (arith, c.loop-i-test.true, l.invariant.count) in
-      pages_next g.D.Disk b base s e images t undo_next l.i l.prev c.in_ok-prev.prev c.args.disk.now l.writer l.disk c.log_at.new.writer c.log_at.new.disk some c.len-len.ensures.rises within so k.sound k.stops;
+      pages_next g.D.Disk b base s e images t undo_next l.i l.prev c.in_ok-prev.prev c.args.disk.now l.writer l.disk c.log_at.new.writer c.log_at.new.disk some c.len-len.ensures.rises c.requires.counted within so k.sound k.stops;
 }
 
 pub returns-clause-outcome : goal.returns-clause-outcome

@@ -1,13 +1,28 @@
 use Rattle.std.proofs.Common.{◌≡◌, ◌≢◌, length, refl, arith}
 use Rattle.im_types.specs.declared.fault.Fault.TheVariants.{Failed}
+use Rattle.im_flush.specs.Outcome.{mild}
 use Rattle.im_flush.proofs.Goings.{leaves_of}
 use Rattle.im_flush.proofs.LoggedChanges.{err_on}
-use Rattle.im_flush.proofs.Outcomes.{sound_on}
+use Rattle.im_flush.proofs.Outcomes.{idle, sound_on}
 use Rattle.im_alloc.proofs.Results.{if_ok}
 use Rattle.im_change.specs.Changes.{Begun}
-use Rattle.im_change.proofs.Runs.{change_done, pages_stops}
+use Rattle.im_change.proofs.Runs.{change_done, pages_begin, pages_stops}
 use Rattle.im_change.proofs.Refusals.{closing, closing_failed, closing_sound}
 use Rattle.im_change.proofs.structure_change.run.Goals as goal
+
+pub returns-then-not-are_counted-clause-outcome : goal.returns-then-not-are_counted-clause-outcome
+returns-then-not-are_counted-clause-outcome g c =
+    let still = idle g.D.Disk g.met.D.Disk.only_now {m = mild} c.args.writer.now c.args.disk.now c.requires.working c.requires.ready in
+    record { ready = still.ready; ends = (refl, still.ends) }
+
+pub returns-then-not-are_counted-clause-kept : goal.returns-then-not-are_counted-clause-kept
+returns-then-not-are_counted-clause-kept g c b base s e may =
+    let so = pages_begin g.D.Disk b base s e c.args.images.now c.args.transaction c.args.undo_next c.args.last c.args.writer.now c.args.disk.now (g.met.D.Disk.only_now c.args.disk.now) may in
+    record {
+      sound = λ is. (let never : ⊥ = cc is in never);
+      stops = so.stops;
+      begun = λ is. absurd (let never : ⊥ = cc is in never);
+    }
 
 pub returns-in_err-prev-clause-kept : goal.returns-in_err-prev-clause-kept
 returns-in_err-prev-clause-kept g c b base s e may =

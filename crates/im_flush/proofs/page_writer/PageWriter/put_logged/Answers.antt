@@ -5,11 +5,12 @@ use Rattle.im_types.specs.Histories.{page_after}
 use Rattle.im_record.specs.Entry.{view}
 use Rattle.im_page.specs.Header.{initial}
 use Rattle.im_log.specs.Spelled.{logged_at}
+use Rattle.im_log.specs.Whats.{what_of}
 use Rattle.im_pool.specs.Pool.{held_of, Sets}
 use Rattle.im_flush.specs.KnownCopies.{changed_as, IsAtOrAfter, IsKnownFrom}
 use Rattle.im_flush.proofs.KnownCopies.{known_first}
 use Rattle.im_flush.proofs.Standing.{log_stops}
-use Rattle.im_flush.proofs.Changing.{changed_by}
+use Rattle.im_flush.proofs.Changing.{changed_by, like_names}
 use Rattle.im_flush.proofs.LoggedChanges.{at_held, at_shows}
 use Rattle.im_flush.proofs.page_writer.PageWriter.put_logged.Goals as goal
 
@@ -40,7 +41,7 @@ returns-clause-kept g c b base s e is over =
           known = subst (λ (o : Option ℕ). IsKnownFrom (record (changed_as c.is_known-known.result (logged_at lsn (view c.args.record.now)) s) { durable = k.ok.now_durable }) o) (sym c.first_of-self.ensures)
               (known_first b (logged_at lsn (view c.args.record.now)) s (record (changed_as c.is_known-known.result (logged_at lsn (view c.args.record.now)) s) { durable = k.ok.now_durable }) e w.known_from is.writing.stands.kept over refl refl c.requires.what.point (k.ok.rises b is.writing.based) is.known);
           writing = changed_by g.D.Disk b base s e w.log c.append.new.self w.table c.enter.new.self w.pool c.put_key.new.pool c.args.disk.now c.append.new.disk (view c.args.record.now) lsn frame is.writing over (c.requires.what.copy lsn)
-              c.requires.what.point k.ok c.requires.page c.is_known-known.result w.known_from is.known has_copy c.append.ensures.ready c.append.ensures.changes (at_held (held_of w.pool frame.number) frame.place c.requires.at) sets c.enter.ensures.entry;
+              c.requires.what.point (like_names (what_of (view c.args.record.now)) (InsertKey c.args.key.now c.args.rid) (λ g. refl) c.requires.what.after) k.ok c.requires.page c.is_known-known.result w.known_from is.known has_copy c.append.ensures.ready c.append.ensures.changes (at_held (held_of w.pool frame.number) frame.place c.requires.at) sets c.enter.ensures.entry;
         };
         high = k.ok.rises b is.writing.based;
       };
