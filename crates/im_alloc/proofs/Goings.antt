@@ -1,5 +1,5 @@
 -- Pages of a structure change behind calls that change none.
-use Rattle.std.proofs.Common.{◌≡◌, ◌⊎◌, inl, inr, Bool, None, true, ap, List, ℕ, refl}
+use Rattle.std.proofs.Common.{◌≡◌, ◌⊎◌, inl, inr, Bool, None, Some, true, ap, List, ℕ, refl, subst, sym}
 use Rattle.std.specs.Prelude.{Result, Ok, Err, IfErr}
 use Rattle.im_types.specs.declared.fault.Fault.{Fault}
 use Rattle.im_types.specs.declared.fault.Fault.TheVariants.{Capacity, Memory, NotAStore}
@@ -20,6 +20,10 @@ pub take_mildly : (e : Fault) → mild e ≡ true → mild_to_take e ≡ true
 take_mildly Memory is = refl
 take_mildly NotAStore is = refl
 take_mildly e is = absurd (cc is)
+
+-- an allocation that is refused for bytes that are no store's behind calls that succeeded
+pub no_store : {D : Type 0} (d : Ghosts D) {m : Fault → Bool} {v : PageWriter} {old : D} {w : PageWriter} {mid : D} (e : Fault) → e ≡ NotAStore → Outcome d AreLoaded m v old w mid None → Outcome d AreLoaded mild_to_take v old w mid (Some e)
+no_store d {m} {v} {old} {w} {mid} e is one = subst (λ (x : Fault). Outcome d AreLoaded mild_to_take v old w mid (Some x)) (sym is) (record { ready = one.ready; ends = (refl, one.ends) })
 
 pub mildly_taken : {A : Type 0} (r : Result A Fault) → IfErr r (λ e. (e ≡ Memory) ⊎ (e ≡ NotAStore) ⊎ (e ≡ Capacity)) → IfErr r (λ e. mild_to_take e ≡ true)
 mildly_taken (Ok a) causes = tt

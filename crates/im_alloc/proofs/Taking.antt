@@ -1,17 +1,19 @@
 -- A page taken, and a page given back.
-use Rattle.std.proofs.Common.{◌≡◌, ◌≢◌, ℕ, ◌+◌, ◌-◌, ◌<◌, ◌≤◌, List, [], ◌∷◌, inl, inr, sym, ap, subst, ◌∙◌, arith, ◌==◌, if◌then◌else◌}
+use Rattle.std.proofs.Common.{◌≡◌, ◌≢◌, ℕ, zero, suc, ◌+◌, ◌-◌, ◌<◌, ◌≤◌, nat_lt, List, [], ◌∷◌, ◌++◌, inl, inr, sym, ap, subst, ◌∙◌, arith, ◌==◌, if◌then◌else◌}
 use Rattle.std.proofs.lemmas.Bool.{cases_eq, cond-true, cond-false, eq-eqb, ne_eqb}
+use Rattle.std.proofs.lemmas.Bool.Decides.{nat_tests}
 use Rattle.im_types.specs.Pages.{Body, Page}
 use Rattle.im_types.specs.Tree.{with_body}
 use Rattle.im_flush.specs.Outcome.{AllPages}
 use Rattle.im_types.specs.declared.page_kind.PageKind.TheVariants.{Free, Meta}
 use Rattle.im_page.specs.Header.{empty_body}
-use Rattle.im_tree.specs.Levels.{Pages, walk}
-use Rattle.im_tree.specs.Good.{IsGoodTree, times}
+use Rattle.im_tree.specs.Levels.{Pages, height, pages_under, the_root, walk}
+use Rattle.im_tree.specs.Good.{IsGoodTree, free_from, times}
 use Rattle.im_tree.proofs.Counting.{pages_counted}
 use Rattle.im_tree.proofs.Descent.{times-here}
 use Rattle.im_tree.proofs.FreeList.{take_free, take_count, give_free}
 use Rattle.im_tree.proofs.InnerSplit.{good_once}
+use Rattle.im_tree.proofs.Keeps.{times-append}
 use Rattle.im_smo.specs.Bodies.{says, meta_without_first, meta_with_count, meta_with_first}
 use Rattle.im_smo.specs.Images.{Numbered, IsRising, without_image}
 use Rattle.im_smo.specs.Changed.{SamePages, free_taken_pages, count_taken_pages, free_given_pages}
@@ -48,6 +50,24 @@ next_other pages spare good e = elim (cases_eq (pages 0).prev 0) [
 pub next_is_free : (pages : Pages) (spare : List ℕ) → IsGoodTree pages spare → 1 ≤ (pages 0).prev → (pages (next_page (pages 0))).kind ≡ Free
 next_is_free pages spare good some =
     ap (λ (x : ℕ). (pages x).kind) (next_free (pages 0) (λ none. omega (arith, none, some))) ∙ first_is_free pages spare good some
+
+-- and below the page count
+pub first_known : (pages : Pages) (spare : List ℕ) → IsGoodTree pages spare → 1 ≤ (pages 0).prev → (pages 0).next < (pages 0).leftmost
+first_known pages spare good some =
+    let tree = pages_under pages (height pages) the_root in
+    let free = free_from pages (pages 0).prev (pages 0).next in
+    let all = good.cover (pages 0).next in
+    let one = times-append (pages 0).next (tree ++ free) spare in
+    let two = times-append (pages 0).next tree free in
+    let there = listed (pages 0).prev (pages 0).next some in
+    is_below (pages 0).next (pages 0).leftmost (omega (arith, all, one, two, there))
+  where
+    listed : (n p : ℕ) → 1 ≤ n → 1 ≤ times p (free_from pages n p)
+    listed zero p some = absurd (omega (arith, some))
+    listed (suc n) p some = omega (arith, times-here p (free_from pages n (pages p).next))
+
+    is_below : (y n : ℕ) → 1 ≤ (if nat_lt y n then 1 else 0) → y < n
+    is_below y n h = grind (arith, nat_tests, h)
 
 -- a page that says what it said
 same_with : (pages : Pages) (q : ℕ) (b : Body) → b ≡ pages q → SamePages (with_body pages q b) pages

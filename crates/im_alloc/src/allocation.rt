@@ -1,6 +1,6 @@
 //! Pages taken and given back.
 
-ghost use Rattle.std.specs.Prelude.{◌≡◌, ◌≢◌, ◌⊎◌, ◌∷◌, ◌+◌, ◌^◌, ◌≤◌, ◌<◌, ℕ, List, false, IfErr, IfOk, OnOk};
+ghost use Rattle.std.specs.Prelude.{◌≡◌, ◌≢◌, ◌⊎◌, ◌∷◌, ◌+◌, ◌^◌, ◌≤◌, ◌<◌, ◌↔◌, ℕ, List, false, IfErr, IfOk, IsOk, OnOk};
 ghost use Rattle.im_types.specs.declared.fault.Fault.TheVariants.{Capacity, Memory, NotAStore};
 ghost use Rattle.im_types.specs.declared.page_kind.PageKind.TheVariants.{Free, Meta};
 ghost use Rattle.im_page.specs.Header.{empty_body};
@@ -20,13 +20,21 @@ use im_types::{Fault, PageNo};
 use std::alloc::Global;
 
 // The page that is taken next, by page 0: the first free one, and where there is none, the one past the page count.
-fn next_number(meta: &Page) -> PageNo
-    ensures { result ≡ next_page meta.now.body }
+//
+// Refused `NotAStore` where page 0 names a first free page that the page count does not have.
+fn next_number(meta: &Page) -> Result<PageNo, Fault>
+    ensures number { IfOk result (λ n. n ≡ next_page meta.now.body) }
+    ensures refused { IfErr result (λ e. e ≡ NotAStore) }
+    ensures known { IsOk result ↔ (1 ≤ meta.now.body.prev → meta.now.body.next < meta.now.body.leftmost) }
 {
     if meta.prev() == 0 {
-        return meta.leftmost();
+        return Ok(meta.leftmost());
     }
-    meta.next()
+    let first = meta.next();
+    if first >= meta.leftmost() {
+        return Err(Fault::NotAStore);
+    }
+    Ok(first)
 }
 
 // Takes it, in page 0.
@@ -80,7 +88,7 @@ fn settle_taken(
 /// the page count. Its page and page 0, which says that it is taken, are among the images behind it.
 ///
 /// Refused `Capacity` where no page is free and the page count is 2^32 - 1; `NotAStore` where page 0 is no meta page, or the
-/// first free page is not free; otherwise as `image` is. Behind a refusal the images may lack pages: the structure change is
+/// first free page is not free or not below the page count; otherwise as `image` is. Behind a refusal the images may lack pages: the structure change is
 /// given up.
 pub fn allocate<D: Disk>(
     alloc: Global,
@@ -97,7 +105,7 @@ pub fn allocate<D: Disk>(
 {
     let _rises = images.len();
     let meta = image(alloc, images, writer, disk, 0)?;
-    let number = next_number(&meta);
+    let number = next_number(&meta)?;
     let page = image(alloc, images, writer, disk, number)?;
     settle_taken(images, meta, number, page)
 }

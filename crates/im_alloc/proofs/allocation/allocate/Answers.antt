@@ -1,14 +1,16 @@
-use Rattle.std.proofs.Common.{◌≡◌, ◌+◌, ◌^◌, ℕ, List, refl, sym, ap, subst, ◌∙◌}
-use Rattle.im_types.specs.declared.fault.Fault.TheVariants.{Capacity}
+use Rattle.std.proofs.Common.{◌≡◌, ◌+◌, ◌^◌, ◌<◌, ◌≤◌, ℕ, List, refl, sym, ap, subst, ◌∙◌}
+use Rattle.im_types.specs.declared.fault.Fault.TheVariants.{Capacity, NotAStore}
 use Rattle.im_types.specs.Pages.{Body, Page}
+use Rattle.im_flush.proofs.LoggedChanges.{err_on}
 use Rattle.im_flush.proofs.Outcomes.{ends_own, never_refused, pages_still, refused, sound_on, sound_own, then, with_more}
 use Rattle.im_smo.specs.Bodies.{says}
 use Rattle.im_smo.specs.Images.{Numbered, put_image, without_image}
 use Rattle.im_alloc.specs.Kept.{mild_to_take}
-use Rattle.im_alloc.specs.Seen.{page_in, next_page, meta_behind}
+use Rattle.im_alloc.specs.Seen.{page_in, next_page, meta_behind, seen}
 use Rattle.im_alloc.proofs.Results.{if_err, ok_and}
-use Rattle.im_alloc.proofs.Taking.{meta_kind, meta_says, taken_kind, takes}
-use Rattle.im_alloc.proofs.Goings.{mildly_taken, take_mildly}
+use Rattle.im_alloc.proofs.Seeing.{page_says}
+use Rattle.im_alloc.proofs.Taking.{first_known, meta_kind, meta_says, taken_kind, takes}
+use Rattle.im_alloc.proofs.Goings.{mildly_taken, no_store, take_mildly}
 use Rattle.im_alloc.proofs.allocation.allocate.Goals as goal
 
 pub returns-in_err-meta-clause-outcome : goal.returns-in_err-meta-clause-outcome
@@ -19,6 +21,26 @@ returns-in_err-meta-clause-kept g c pages spare tree = sound_on c.from_residual.
 
 pub returns-in_err-meta-clause-used_up : goal.returns-in_err-meta-clause-used_up
 returns-in_err-meta-clause-used_up g c pages spare tree = never_refused g.D.Disk Capacity refl (λ is. let never : ⊥ = cc is in never) (λ is. let never : ⊥ = cc is in never) (λ is. let never : ⊥ = cc is in never) c.from_residual.result _ c.from_residual.ensures.1 c.in_err-meta.ensures.outcome
+
+pub returns-in_err-number-clause-outcome : goal.returns-in_err-number-clause-outcome
+returns-in_err-number-clause-outcome g c =
+    refused g.D.Disk c.from_residual-in_err-number.result c.from_residual-in_err-number.ensures.1 (no_store g.D.Disk c.in_err-number.field-0.0 c.in_err-number.ensures.refused c.in_ok-meta.ensures.outcome)
+
+pub returns-in_err-number-clause-kept : goal.returns-in_err-number-clause-kept
+returns-in_err-number-clause-kept g c pages spare tree =
+    let meta : Page = c.in_ok-meta.meta.value in
+    let says : meta.body ≡ seen pages c.args.images.now 0 = ap (λ (p : Page). p.body) (c.in_ok-meta.ensures.kept pages tree.has) ∙ page_says pages c.args.images.now 0 in
+    let known : 1 ≤ meta.body.prev → meta.body.next < meta.body.leftmost =
+    subst (λ (b : Body). 1 ≤ b.prev → b.next < b.leftmost) (sym says) (first_known (seen pages c.args.images.now) spare tree.good) in
+    let clash = c.in_err-number.ensures.known.1 (subst (λ (p : Page). 1 ≤ p.body.prev → p.body.next < p.body.leftmost) (sym c.deref.ensures) known) in
+    let never : ⊥ = cc clash in
+    absurd never
+
+pub returns-in_err-number-clause-used_up : goal.returns-in_err-number-clause-used_up
+returns-in_err-number-clause-used_up g c pages spare tree =
+    err_on c.from_residual-in_err-number.result c.in_err-number.field-0.0
+    (λ e. e ≡ Capacity → ((seen pages c.args.images.now 0).prev ≡ 0) × ((seen pages c.args.images.now 0).leftmost + 1 ≡ 2 ^ 32)) c.from_residual-in_err-number.ensures.1
+    (λ is. absurd (let clash : NotAStore ≡ Capacity = sym c.in_err-number.ensures.refused ∙ is in let never : ⊥ = cc clash in never))
 
 pub returns-in_err-page-clause-outcome : goal.returns-in_err-page-clause-outcome
 returns-in_err-page-clause-outcome g c =
@@ -38,13 +60,13 @@ returns-clause-outcome g c =
 pub returns-clause-kept : goal.returns-clause-kept
 returns-clause-kept g c pages spare tree =
     let images = c.args.images.now in
-    let n = c.next_number-number.result in
+    let n = c.in_ok-number.number in
     let meta : Page = c.in_ok-meta.meta.value in
     let page : Page = c.in_ok-page.page.value in
     let one = c.in_ok-meta.ensures.kept pages tree.has in
     let two = c.in_ok-page.ensures.kept pages (pages_still g.D.Disk tree.has c.in_ok-meta.ensures.outcome) in
     let up = c.len-rises.ensures.rises in
-    let number : n ≡ next_page meta.body = c.next_number-number.ensures ∙ ap (λ (p : Page). next_page p.body) c.deref.ensures in
+    let number : n ≡ next_page meta.body = c.in_ok-number.ensures.number ∙ ap (λ (p : Page). next_page p.body) c.deref.ensures in
     let less : c.image.new.images ≡ without_image 0 images = c.in_ok-meta.ensures.images in
     let is : page ≡ page_in pages (without_image 0 images) n = two ∙ ap (λ (l : List Numbered). page_in pages l n) less in
     let left : c.image-2.new.images ≡ without_image n (without_image 0 images) = c.in_ok-page.ensures.images ∙ ap (λ (l : List Numbered). without_image n l) less in
@@ -57,13 +79,13 @@ returns-clause-kept g c pages spare tree =
 pub returns-clause-used_up : goal.returns-clause-used_up
 returns-clause-used_up g c pages spare tree =
     let images = c.args.images.now in
-    let n = c.next_number-number.result in
+    let n = c.in_ok-number.number in
     let meta : Page = c.in_ok-meta.meta.value in
     let page : Page = c.in_ok-page.page.value in
     let one = c.in_ok-meta.ensures.kept pages tree.has in
     let two = c.in_ok-page.ensures.kept pages (pages_still g.D.Disk tree.has c.in_ok-meta.ensures.outcome) in
     let up = c.len-rises.ensures.rises in
-    let number : n ≡ next_page meta.body = c.next_number-number.ensures ∙ ap (λ (p : Page). next_page p.body) c.deref.ensures in
+    let number : n ≡ next_page meta.body = c.in_ok-number.ensures.number ∙ ap (λ (p : Page). next_page p.body) c.deref.ensures in
     let is : page ≡ page_in pages (without_image 0 images) n = two ∙ ap (λ (l : List Numbered). page_in pages l n) c.in_ok-meta.ensures.images in
     if_err c.settle_taken.result _ _ c.settle_taken.ensures.used_up
     (λ e up_to same. subst (λ (m : Body). (m.prev ≡ 0) × (m.leftmost + 1 ≡ 2 ^ 32)) (meta_says pages images spare up tree.good n meta page one number is) (up_to same))
