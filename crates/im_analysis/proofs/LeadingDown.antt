@@ -3,11 +3,12 @@ use Rattle.std.proofs.Common.{◌≡◌, ◌⊎◌, ◌<◌, ◌≤◌, ℕ, [],
 use Rattle.std.specs.Prelude.{◌==◌}
 use Rattle.std.proofs.lemmas.Bool.{cases_eq, cond-true, cond-false, eq-eqb, ne_eqb}
 use Rattle.im_types.specs.Records.{What, InsertKey, DeleteKey, UndoInsert, UndoDelete, Smo, UndoSmo, DummyClr, Commit, End, Image, Checkpoint, Unreadable, Logged}
-use Rattle.im_types.specs.Tree.{Tree}
+use Rattle.im_types.specs.Tree.{Tree, TreeLaws}
 use Rattle.im_types.specs.Histories.{Base, History, Rises, end_of}
 use Rattle.im_types.specs.Transactions.{last_of}
 use Rattle.im_types.specs.Lawful.{IsLawful, MayCome, has_owner}
 use Rattle.im_types.proofs.Fronts.{rises}
+use Rattle.im_types.proofs.PageCounts.{record_within}
 use Rattle.im_analysis.specs.Orderly.{IsEarlier, LeadsDown}
 use Rattle.im_analysis.specs.Undo.{LawfulLogsAreTaken}
 use Rattle.im_analysis.proofs.LawfulLogs.{taken_when_lawful}
@@ -66,7 +67,7 @@ module _ (b : Base) (tree : Tree) (r : Logged) (older : History) (law : IsLawful
   lawful_leads_down = by_kind r.what refl law.1.may
 
 -- so analysis takes it
-pub logs_are_taken : (tree : Tree) → LawfulLogsAreTaken tree
-logs_are_taken tree b older r law =
+pub logs_are_taken : (tree : Tree) → TreeLaws tree → LawfulLogsAreTaken tree
+logs_are_taken tree laws b older r law =
     let taken = taken_when_lawful tree b older r law in
-    (taken.0, record { leads = lawful_leads_down b tree r older law; alone = taken.1 })
+    (taken.0, record { leads = lawful_leads_down b tree r older law; alone = taken.1; counted = record_within b tree laws r older law })

@@ -9,3 +9,4 @@ pub mod LawfulLogs
 pub mod Readings
 pub mod Tables
 pub mod LeadingDown
+pub mod Counting

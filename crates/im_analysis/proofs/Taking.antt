@@ -6,8 +6,8 @@ use Rattle.im_types.specs.declared.fault.Fault.TheVariants.{Memory, NotAStore}
 use Rattle.im_types.specs.Records.{Logged}
 use Rattle.im_types.specs.Histories.{History}
 use Rattle.im_analysis.specs.declared.analysis.Analysis.{Analysis}
-use Rattle.im_analysis.specs.OpenChange.{IsOpenChange, OpensAnother}
-use Rattle.im_analysis.specs.Orderly.{FitKept, LeadsDown}
+use Rattle.im_analysis.specs.OpenChange.{OpensAnother}
+use Rattle.im_analysis.specs.Orderly.{FitKept, Knows, LeadsDown, NamesCounted}
 use Rattle.im_analysis.specs.Analysis.{IsAnalysed, TakeKept}
 
 module _ (low : ℕ) (older : History) (r : Logged) (opens : Bool) (tells : IsTrue opens ↔ OpensAnother r older) (new : Analysis) where
@@ -33,6 +33,9 @@ module _ (older : History) (r : Logged) (new : Analysis) where
   pub unfit_up : (down : Bool) → IsTrue down ↔ LeadsDown r → down ≡ false → FitKept older r new (Err NotAStore)
   unfit_up down tells up = record { ok = tt; refused = λ e fits. (let clash : true ≡ false = sym (tells.1 fits.leads) ∙ up in cc clash) }
 
+  pub unfit_past : (counted : Bool) → IsTrue counted ↔ NamesCounted r older → counted ≡ false → FitKept older r new (Err NotAStore)
+  unfit_past counted tells past = record { ok = tt; refused = λ e fits. (let clash : true ≡ false = sym (tells.1 fits.counted) ∙ past in cc clash) }
+
   pub unfit_beside : (opens : Bool) → IsTrue opens ↔ OpensAnother r older → opens ≡ true → FitKept older r new (Err NotAStore)
   unfit_beside opens tells wide = record { ok = tt; refused = λ e fits. fits.alone (tells.0 wide) }
 
@@ -40,8 +43,9 @@ module _ (older : History) (r : Logged) (new : Analysis) where
   fit_failed (Ok u) err memory = absurd (cc err)
   fit_failed (Err e) err memory = record { ok = tt; refused = λ is fits. (let same : e ≡ NotAStore = cc is in let clash : Memory ≡ NotAStore = sym memory ∙ same in cc clash) }
 
-  pub fit_taken : (down opens : Bool) → IsTrue down ↔ LeadsDown r → IsTrue opens ↔ OpensAnother r older → down ≡ true → opens ≡ false → IsOpenChange new.open_change.items (r ∷ older) → FitKept older r new (Ok tt)
-  fit_taken down opens leads tells falls shut is = record {
-    ok = (record { leads = leads.0 falls; alone = λ another. (let clash : true ≡ false = sym (tells.1 another) ∙ shut in cc clash) }, is);
+  pub fit_taken : (down counted opens : Bool) → IsTrue down ↔ LeadsDown r → IsTrue counted ↔ NamesCounted r older → IsTrue opens ↔ OpensAnother r older → down ≡ true → counted ≡ true → opens ≡ false → Knows (r ∷ older) new
+      → FitKept older r new (Ok tt)
+  fit_taken down counted opens leads names tells falls within shut is = record {
+    ok = (record { leads = leads.0 falls; counted = names.0 within; alone = λ another. (let clash : true ≡ false = sym (tells.1 another) ∙ shut in cc clash) }, is);
     refused = λ e. absurd (cc e);
   }

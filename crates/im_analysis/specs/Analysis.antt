@@ -12,6 +12,7 @@ use Rattle.im_analysis.specs.Losers.{AreLosers}
 use Rattle.im_analysis.specs.Numbers.{IsNextNumber, point_of}
 use Rattle.im_analysis.specs.CopyLsns.{AreCopies, IsAbove, LsnsRise}
 use Rattle.im_analysis.specs.OpenChange.{IsOpenChange, OpensAnother}
+use Rattle.im_analysis.specs.Orderly.{Knows}
 
 -- The record may stand behind these: its LSN is above theirs, its page images are pages, and its transaction is not finished.
 pub record Continues (r : Logged) (older : History) : Type 0 where
@@ -26,7 +27,7 @@ pub record IsAnalysed (lowest : ℕ) (log : History) (a : Analysis) : Type 0 whe
   pub point : a.point ≡ point_of log
   pub losers : AreLosers a.losers log
   pub copies : AreCopies 0 a.copies log
-  pub open_change : IsOpenChange a.open_change.items log
+  pub known : Knows log a
 
 -- The record is taken, or refused where it opens a structure change beside another's.
 pub record TakeKept (lowest : ℕ) (older : History) (r : Logged) (new : Analysis) (result : Result Unit Fault) : Type 0 where
@@ -40,6 +41,7 @@ pub record IsUnchanged (old new : Analysis) : Type 0 where
   pub losers : new.losers.entries ≡ old.losers.entries
   pub copies : new.copies.entries ≡ old.copies.entries
   pub open_change : new.open_change.items ≡ old.open_change.items
+  pub count : new.count ≡ old.count
 
 -- What a restart has to know of the log, whose transaction numbers begin at the lowest.
 pub record IsAnalysis (lowest : ℕ) (log : History) (a : Analysed) : Type 0 where

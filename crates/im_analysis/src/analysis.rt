@@ -4,6 +4,7 @@ use crate::chains::leads_down;
 use crate::notes::{note, since};
 use crate::numbers::{next_after, point_after};
 use crate::open_change::{make_room, note_open, opens_another};
+use crate::page_counts::{count_after, names_counted};
 use crate::rows::{Loser, OpenRecord};
 use im_record::Record;
 use im_types::{Fault, Lsn, PageNo, TxnId};
@@ -18,6 +19,8 @@ pub struct Analysis {
     losers: BTreeMap<TxnId, Loser>,
     copies: BTreeMap<PageNo, Lsn>,
     open_change: Vec<OpenRecord>,
+    // the greatest page count that a record of page 0 said
+    count: PageNo,
 }
 
 /// What a restart has to know of its log.
@@ -46,8 +49,7 @@ impl Analysis {
     ghost use Rattle.im_log.specs.Whats.{what_of};
     ghost use Rattle.im_analysis.specs.Numbers.{IsNextNumber};
     ghost use Rattle.im_analysis.specs.Analysis.{Continues, IsAnalysed, TakeKept, IsUnchanged, IsAnalysis};
-    ghost use Rattle.im_analysis.specs.OpenChange.{IsOpenChange};
-    ghost use Rattle.im_analysis.specs.Orderly.{FitKept, LeadsDown};
+    ghost use Rattle.im_analysis.specs.Orderly.{FitKept, Knows, LeadsDown, NamesCounted};
 
     /// Before the first record of a log whose transaction numbers begin at this one.
     pub fn new(alloc: Global, least: TxnId) -> Self
@@ -59,6 +61,7 @@ impl Analysis {
             losers: BTreeMap::new(alloc),
             copies: BTreeMap::new(alloc),
             open_change: Vec::new(alloc),
+            count: 2,
         }
     }
 
@@ -82,17 +85,20 @@ impl Analysis {
 
     /// Takes the next record of the log.
     ///
-    /// Refused `NotAStore` where a structure change opens while another transaction's is open, or the record names its own LSN or a later
-    /// one as its transaction's, and `Memory`; then nothing is changed.
+    /// Refused `NotAStore` where a structure change opens while another transaction's is open, the record names its own LSN or a later
+    /// one as its transaction's, or a page at or above each page count that was said before it, and `Memory`; then nothing is changed.
     pub fn take(&mut self, lsn: Lsn, record: &Record) -> Result<(), Fault>
         ensures kept { (least : ℕ) (older : History) → IsAnalysed least older self.old → Continues (logged_at lsn (view record.now)) older → LeadsDown (logged_at lsn (view record.now))
-            → TakeKept least older (logged_at lsn (view record.now)) self.new result }
-        ensures fits { (older : History) → IsOpenChange self.old.open_change.items older → what_of (view record.now) ≢ Unreadable
+            → NamesCounted (logged_at lsn (view record.now)) older → TakeKept least older (logged_at lsn (view record.now)) self.new result }
+        ensures fits { (older : History) → Knows older self.old → what_of (view record.now) ≢ Unreadable
             → FitKept older (logged_at lsn (view record.now)) self.new result }
         ensures same { OnErr result (IsUnchanged self.old self.new) }
         ensures causes { IfErr result (λ e. (e ≡ Memory) ⊎ (e ≡ NotAStore)) }
     {
         if !leads_down(lsn, record) {
+            return Err(Fault::NotAStore);
+        }
+        if !names_counted(self.count, record) {
             return Err(Fault::NotAStore);
         }
         if opens_another(&self.open_change, record) {
@@ -103,6 +109,7 @@ impl Analysis {
         note_open(&mut self.open_change, lsn, record);
         self.next = next_after(self.next, record);
         self.point = Some(point_after(self.point, lsn, record));
+        self.count = count_after(self.count, record);
         Ok(())
     }
 

@@ -6,9 +6,9 @@
 //!
 //! The contract: each of these is exactly what the definitions over logs say of the records that were taken
 //! (`IsAnalysed`, `IsAnalysis`), as long as each record may stand there (`Continues`), as it may in every lawful
-//! log. `take` is refused `NotAStore` just where a structure change opens while another transaction's is open, or a
-//! record names its own LSN or a later one as its transaction's (`FitsBehind`), also in a log that is not lawful, and
-//! `Memory`; then it changes nothing.
+//! log. `take` is refused `NotAStore` just where a structure change opens while another transaction's is open, a
+//! record names its own LSN or a later one as its transaction's, or a page at or above the greatest page count that the
+//! records before it said (`FitsBehind`), also in a log that is not lawful, and `Memory`; then it changes nothing.
 //!
 //! `laws` has what undo lives by, for every tree of pages: what the losers' chains lead to, which records may come
 //! next and what they leave, and that the tree holds the committed map alone once no loser is left.
@@ -22,6 +22,7 @@ pub mod laws;
 mod notes;
 mod numbers;
 mod open_change;
+mod page_counts;
 mod rows;
 
 pub use analysis::{Analysed, Analysis};

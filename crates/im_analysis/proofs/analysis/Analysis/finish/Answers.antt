@@ -10,5 +10,5 @@ returns c least log is =
       point = at;
       losers = is.losers;
       copies = subst (λ n. AreCopies n c.since.result log) at (c.since.ensures log is.rises is.copies);
-      open_change = is.open_change;
+      open_change = is.known.open_change;
     }
