@@ -19,7 +19,7 @@ raised n s = record s { pages = λ q. record (s.pages q) { upto = n } }
 module _ (b : Base) (s : Writer) (n : ℕ) (k : WriterKept b s) (going : s.redo_end ≡ None) (low : s.point ≤ n) (high : n ≤ end_of b s.log + 1)
     (reach : (p : ℕ) (h : History) (g : Page) → IsLeft s.durable s.log h → (s.pages p).waits ≡ false → Reaches b h (s.pages p).upto p g → Reaches b h n p g) where
   entry_same : (p : ℕ) (e : DirtyEntry) → EntryKept b s.log s.durable s.point s.redo_end p (s.pages p) e → EntryKept b s.log s.durable s.point s.redo_end p (record (s.pages p) { upto = n }) e
-  entry_same p e was = record { low = was.low; high = was.high; own = was.own; untouched = was.untouched; copy = was.copy; copied = was.copied; written = was.written; older = was.older }
+  entry_same p e was = record { low = was.low; high = was.high; own = was.own; untouched = was.untouched; copy = was.copy; copied = was.copied; written = was.written; older = was.older; named = was.named }
 
   page_raised : (p : ℕ) → PageKept b s.log s.durable s.point s.redo_end p (record (s.pages p) { upto = n })
   page_raised p = let old = k.pages p in record {
