@@ -23,7 +23,7 @@ take_mildly e is = absurd (cc is)
 
 -- an allocation that is refused for bytes that are no store's behind calls that succeeded
 pub no_store : {D : Type 0} (d : Ghosts D) {m : Fault → Bool} {v : PageWriter} {old : D} {w : PageWriter} {mid : D} (e : Fault) → e ≡ NotAStore → Outcome d AreLoaded m v old w mid None → Outcome d AreLoaded mild_to_take v old w mid (Some e)
-no_store d {m} {v} {old} {w} {mid} e is one = subst (λ (x : Fault). Outcome d AreLoaded mild_to_take v old w mid (Some x)) (sym is) (record { ready = one.ready; ends = (refl, one.ends) })
+no_store d {m} {v} {old} {w} {mid} e is one = subst (λ (x : Fault). Outcome d AreLoaded mild_to_take v old w mid (Some x)) (sym is) (record { ready = one.ready; frames = one.frames; ends = (refl, one.ends) })
 
 pub mildly_taken : {A : Type 0} (r : Result A Fault) → IfErr r (λ e. (e ≡ Memory) ⊎ (e ≡ NotAStore) ⊎ (e ≡ Capacity)) → IfErr r (λ e. mild_to_take e ≡ true)
 mildly_taken (Ok a) causes = tt

@@ -220,7 +220,7 @@ fn copied(alloc: Global, bytes: &[u8]) -> Result<[u64; 5], Fault> {
     if pool.is_full() || pool.holds(9) {
         return Err(Fault::PoolSize);
     }
-    let blank = pool.hold_initial(9)?;
+    let blank = pool.hold_initial(9);
     let kind = pool.page(blank).kind() as u64;
     let refused = pool.copy_in(blank, &[1, 2, 3]) == Err(Fault::NotAStore);
     pool.copy_in(blank, bytes)?;
@@ -281,10 +281,41 @@ fn as_inner(pool: &mut Pool, frame: Frame) -> [u64; 4]
     ]
 }
 
+// So many pages come in, one after the other: how many are held, and whether the last, the eighth last and the ninth last are.
+fn passed(alloc: Global, pages: u32) -> Result<(usize, [bool; 3]), Fault>
+    requires { 9 ≤ pages }
+{
+    let mut pool = Pool::new(alloc, 8)?;
+    for p in 0..pages {
+        if pool.is_full() {
+            if let Some(oldest) = pool.oldest() {
+                if pool.holds(oldest.number) {
+                    pool.evict(oldest.number);
+                }
+            }
+        }
+        if !pool.holds(p) && !pool.is_full() {
+            pool.hold_initial(p);
+        }
+    }
+    let held = [
+        pool.holds(pages - 1),
+        pool.holds(pages - 8),
+        pool.holds(pages - 9),
+    ];
+    Ok((pool.len(), held))
+}
+
+#[test]
+fn many_more_pages_than_frames(rt: HostRuntime) -> Result<(), Fail> {
+    assert_eq!(rt; passed(rt.alloc(), 5000)?, (8, [true, true, false]));
+    Ok(())
+}
+
 // Each setter once, on a page that was free.
 fn shaped(alloc: Global) -> Result<([u64; 5], [u64; 4]), Fault> {
     let mut pool = Pool::new(alloc, 8)?;
-    let frame = pool.hold_initial(4)?;
+    let frame = pool.hold_initial(4);
     let leaf = as_leaf(&mut pool, frame);
     let inner = as_inner(&mut pool, frame);
     Ok((leaf, inner))

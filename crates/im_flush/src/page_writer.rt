@@ -246,8 +246,8 @@ impl PageWriter {
         self.pool.page(frame)
     }
 
-    /// A writer over a log, with room for so many pages, 8 to 1,024. All memory is taken here, but for some 40 bytes a page that comes
-    /// to be held. Refused `Memory`.
+    /// A writer over a log, with room for so many pages, 8 to 1,024. All memory that it and its pool take is taken here. Refused
+    /// `Memory`.
     pub fn new(alloc: Global, log: LogFile, frames: usize) -> Result<Self, Fault>
         requires least { 8 ≤ frames }
         requires most { frames ≤ 1024 }

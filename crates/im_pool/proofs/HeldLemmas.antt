@@ -1,22 +1,15 @@
 -- Pages by number and by frame: look-ups, and what a change of one frame or of one entry does to them.
-use Rattle.std.proofs.Common.{◌≡◌, ◌≢◌, ◌⊎◌, inl, inr, ⊎_elim, ℕ, zero, suc, ◌+◌, ◌-◌, ◌<◌, ◌≤◌, Bool, true, false, cond, ◌==◌, List, [], ◌∷◌, ◌++◌, map, length, take, drop, nat_eq, slice_index, slice_set, Option, Some, None, IsSome, slice_get, option_map, refl, sym, ap, subst, ◌∙◌, arith}
-use Rattle.std.proofs.lemmas.Bool.{cases_lt, cases_eq}
+use Rattle.std.proofs.Common.{◌≡◌, ◌≢◌, ⊎_elim, ℕ, zero, suc, ◌+◌, ◌-◌, ◌<◌, ◌≤◌, Bool, true, false, cond, ◌==◌, List, [], ◌∷◌, map, length, nat_eq, slice_index, slice_set, Option, Some, None, IsSome, slice_get, option_map, refl, sym, ap, subst, ◌∙◌, arith}
+use Rattle.std.proofs.lemmas.Bool.{cases_lt}
 use Rattle.std.proofs.lemmas.Bool.Decides.{nat_tests}
-use Rattle.std.proofs.lemmas.List.{get_or-set_same, get_or-set_other, length-set, length-map, length_push, length-take-le, take_more, take_all}
-use Rattle.std.specs.Option.{option_map_or}
+use Rattle.std.proofs.lemmas.List.{get_or-set_other}
 use Rattle.std.specs.Map.{keys_of, values_of, lookup, lookup_entry, remove_entry}
-use Rattle.lru.specs.LruCache.{promoted}
-use Rattle.im_types.specs.Pages.{Page}
-use Rattle.im_page.specs.Header.{initial}
-use Rattle.im_page.specs.PageFile.{file_page}
-use Rattle.im_pool.specs.Frames.{Stored, no_page, stored_at}
+use Rattle.im_pool.specs.Frames.{Stored, no_page}
 use Rattle.im_pool.specs.Places.{PlacesView, times, frame_count, AreApart}
-use Rattle.im_pool.specs.Inside.{held_at, held_in, IsWhole}
-use Rattle.im_pool.specs.Pool.{Held, PoolView, held_of, frame_of, Holds, IsAt, page_at, is_changed, page_seen, Sets, Takes, MovesFirst, Evicts}
-use Rattle.im_pool.specs.declared.frame.Frame.{Frame}
-use Rattle.im_pool.proofs.PlaceLemmas.{length_remove_entry, length_promoted, times_push}
+use Rattle.im_pool.specs.Inside.{held_at, held_in}
+use Rattle.im_pool.specs.Pool.{Held}
 
-same : (p q : ℕ) → nat_eq p q ≡ true → p ≡ q
+pub same : (p q : ℕ) → nat_eq p q ≡ true → p ≡ q
 same p q t = grind (arith, nat_tests)
 
 pub differ : (p q : ℕ) → p ≢ q → nat_eq p q ≡ false

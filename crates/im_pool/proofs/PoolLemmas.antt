@@ -1,22 +1,21 @@
 -- What each change inside a pool is to those who see its list of pages.
-use Rattle.std.proofs.Common.{◌≡◌, ◌≢◌, ◌⊎◌, inl, inr, ⊎_elim, ℕ, zero, suc, ◌+◌, ◌-◌, ◌<◌, ◌≤◌, Bool, true, false, cond, ◌==◌, List, [], ◌∷◌, ◌++◌, map, length, take, nat_eq, slice_index, slice_set, Option, Some, None, IsSome, Result, Ok, Err, OnErr, option_map, refl, sym, ap, subst, ◌∙◌, arith}
-use Rattle.std.proofs.lemmas.Bool.{cases_lt, cases_eq}
+use Rattle.std.proofs.Common.{◌≡◌, ◌≢◌, ⊎_elim, ℕ, ◌+◌, ◌-◌, ◌<◌, Bool, true, false, cond, ◌==◌, List, [], ◌∷◌, ◌++◌, length, take, nat_eq, slice_index, slice_set, Option, Some, None, IsSome, Result, Ok, Err, OnErr, option_map, refl, sym, ap, subst, ◌∙◌, arith}
+use Rattle.std.proofs.lemmas.Bool.{cases_eq}
 use Rattle.std.proofs.lemmas.Bool.Decides.{nat_tests}
-use Rattle.std.proofs.lemmas.List.{get_or-set_same, length-set, length-map, length_push, length-take-le, take_more, take_all}
+use Rattle.std.proofs.lemmas.List.{get_or-set_same, length-set, length_push, length-take-le, take_more, take_all}
 use Rattle.std.specs.Option.{option_map_or}
-use Rattle.std.specs.List.{slice_get}
 use Rattle.std.specs.Map.{keys_of, values_of, lookup, lookup_entry, remove_entry}
 use Rattle.lru.specs.LruCache.{promoted, last_entry}
 use Rattle.im_types.specs.Pages.{Page}
 use Rattle.im_page.specs.Header.{initial}
 use Rattle.im_page.specs.PageFile.{file_page}
 use Rattle.im_pool.specs.Frames.{Stored, no_page, stored_at}
-use Rattle.im_pool.specs.Places.{PlacesView, times, frame_count, AreApart}
+use Rattle.im_pool.specs.Places.{PlacesView, times, frame_count}
 use Rattle.im_pool.specs.Inside.{held_at, held_in, IsWhole}
-use Rattle.im_pool.specs.Pool.{Held, PoolView, held_of, frame_of, Holds, IsAt, page_at, is_changed, page_seen, Sets, Takes, MovesFirst, Evicts}
+use Rattle.im_pool.specs.Pool.{Held, PoolView, held_of, Holds, IsAt, page_at, is_changed, page_seen, Sets, Takes, MovesFirst, Evicts}
 use Rattle.im_pool.specs.declared.frame.Frame.{Frame}
 use Rattle.im_pool.proofs.PlaceLemmas.{length_remove_entry, length_promoted, lookup_entry_none, times_push}
-use Rattle.im_pool.proofs.HeldLemmas.{entry_found, itself, differ, lookup_others, lookup_nowhere, nowhere_from_none, times_removed, times_at, place_within, places_differ, free_within, free_not_taken, keys_held, length_held, some_at, none_at, last_none, last_found, lookup_held, remove_held, held_same, held_at_other}
+use Rattle.im_pool.proofs.HeldLemmas.{entry_found, itself, differ, lookup_others, lookup_nowhere, nowhere_from_none, times_removed, place_within, places_differ, free_within, free_not_taken, keys_held, length_held, some_at, none_at, last_none, last_found, lookup_held, remove_held, held_same, held_at_other}
 
 -- the pool that has these inside
 abbrev pub seen_as : List Stored → List (ℕ × ℕ) → ℕ → PoolView

@@ -1,6 +1,8 @@
 -- The walk from the least recently used page on, to the first that was changed.
-use Rattle.std.proofs.Common.{◌≡◌, ℕ, zero, suc, ◌<◌, Bool, true, false, cond, List, [], ◌∷◌, ◌++◌, length, slice_get, Option, Some, None, option_map, refl, sym, ap, subst, ◌∙◌, arith}
+use Rattle.std.proofs.Common.{◌≡◌, ℕ, zero, suc, ◌-◌, Bool, true, false, cond, List, [], ◌∷◌, ◌++◌, length, slice_get, Option, Some, None, option_map, refl, ap, ◌∙◌, arith}
+use Rattle.std.proofs.lemmas.List.{length_push}
 use Rattle.std.specs.Option.{option_map_or}
+use Rattle.lru.specs.LruCache.{last_entry}
 use Rattle.im_pool.specs.Frames.{Stored, stored_at}
 use Rattle.im_pool.specs.Inside.{held_at, held_in, last_marked}
 use Rattle.im_pool.specs.Pool.{Held, last_changed}
@@ -27,6 +29,9 @@ in_front (d ∷ es) e x (suc i) s = in_front es e x i s
 pub at_end : (es : List (ℕ × ℕ)) (e : ℕ × ℕ) → slice_get (es ++ e ∷ []) (length es) ≡ Some e
 at_end [] e = refl
 at_end (d ∷ es) e = at_end es e
+
+pub last_push : (es : List (ℕ × ℕ)) (e : ℕ × ℕ) → last_entry (es ++ e ∷ []) ≡ Some e
+last_push es e = let k : length (es ++ e ∷ []) - 1 ≡ length es = omega (arith, length_push es e) in ap (slice_get (es ++ e ∷ [])) k ∙ at_end es e
 
 -- the same walk over what contracts see
 shown : (fs : List Stored) (o : Option (ℕ × ℕ)) (e : ℕ × ℕ) (b : Bool)

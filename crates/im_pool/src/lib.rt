@@ -10,8 +10,8 @@
 //!   page, else the page in the bytes of the file (`file_page`, in the specs of `im_page`): the initial page from the
 //!   file's page count on, and none where the bytes are no page.
 //! - `get` leaves that function as it is, and answers the frame at which the page is held. A page that is held costs a
-//!   look-up by hash and a move in the order of use; any other one length call, one read and one check.
-//! - `get_held` does the same of a page that is held, and of any other says that it is not, by one look-up either way.
+//!   look-up of its number, and one of its frame, which moves in the order of use; any other one length call, one read and one check.
+//! - `get_held` does the same of a page that is held, and of any other says that it is not, by one look-up.
 //! - `insert`, `remove`, `copy_in` and the setters change the one page of their frame, as the calls of `im_page` of the
 //!   same names do, and mark it.
 //! - `hold_copy` and `hold_initial` hold a page whatever the file has, without a call of the disk.
@@ -24,8 +24,7 @@
 //!
 //! # Memory
 //!
-//! `new` takes the memory of all frames. After it only the entry of a page that comes to be held is taken, some 40 bytes;
-//! nothing is taken for a page that is held, for a change, a write or an eviction.
+//! `new` takes the memory of all frames, and of what finds them. No other call takes any, so that no other call is refused `Memory`.
 //!
 //! # Speed
 //!
@@ -39,13 +38,15 @@
 //! stands in contracts alone.
 //!
 //! The crate stands on `im_page`, on `im_disk` and on `lru`. A place is an index of the vector of frames; the invariant
-//! says that each place stands once among those of the held pages and the free ones.
+//! says that each place stands once among those of the held pages and the free ones. All places are in the order of use from the
+//! start (`places`), and a map with room for twice as many numbers finds the place of a page (`numbers`).
 #![tactic(auto)]
 
 mod files;
 mod frame;
 mod frames;
 mod gets;
+mod numbers;
 mod places;
 mod pool;
 

@@ -50,8 +50,7 @@ impl Model for Pool {
 }
 
 impl Pool {
-    /// A pool of so many frames, 8 to 1,024, that holds nothing. All memory is taken here, but for some 40 bytes a page that
-    /// comes to be held. Refused `Memory`.
+    /// A pool of so many frames, 8 to 1,024, that holds nothing. All memory is taken here: no other call takes any. Refused `Memory`.
     pub fn new(alloc: Global, frames: usize) -> Result<Self, Fault>
         requires least { 8 ≤ frames }
         requires most { frames ≤ 1024 }
@@ -154,8 +153,8 @@ impl Pool {
 
     /// Where a page is held from now on, as the most recently used: as it was where it was held, else as the file has it,
     /// by one read; past the last whole page of the file it is the initial one, by a length call. Each call counts as one
-    /// get. A page that is held takes neither memory nor a call of the disk. Refused `Device`, `Memory` or, exactly where
-    /// the bytes of a page that is not held are none, `NotAStore`; the pool then holds what it held.
+    /// get. A page that is held takes no call of the disk. Refused `Device` or, exactly where the bytes of a page that is not held
+    /// are none, `NotAStore`; the pool then holds what it held.
     pub fn get<D: Disk>(&mut self, disk: &mut D, p: PageNo) -> Result<Frame, Fault>
         requires working { D.failed disk.old ≡ false }
         requires room { Holds self.old p ⊎ (length self.old.held < self.old.frames) }
@@ -170,7 +169,7 @@ impl Pool {
         ensures page { OnOk result (D.tells → page_seen self.old (D.seen disk.old Pages) p ≡ Some (page_at self.new p)) }
         ensures seen { D.tells → (q : ℕ) → page_seen self.new (D.seen disk.new Pages) q ≡ page_seen self.old (D.seen disk.old Pages) q }
         ensures refused { D.tells → D.failed disk.new ≡ false → (result ≡ Err NotAStore ↔ (page_seen self.old (D.seen disk.old Pages) p ≡ None)) }
-        ensures causes { IfErr result (λ e. (e ≡ Device) ⊎ ((e ≡ NotAStore) ⊎ (e ≡ Memory))) }
+        ensures causes { IfErr result (λ e. (e ≡ Device) ⊎ (e ≡ NotAStore)) }
         ensures device { result ≡ Err Device ↔ (D.failed disk.new ≡ true) }
         ensures reads { Reads D.Disk disk.old disk.new }
     {
@@ -232,36 +231,32 @@ impl Pool {
         ensures count { self.new.gets ≡ self.old.gets }
         ensures page { OnOk result (D.tells → file_page (D.seen disk.old Pages) p ≡ Some (page_at self.new p)) }
         ensures none { result ≡ Err NotAStore → D.tells → file_page (D.seen disk.old Pages) p ≡ None }
-        ensures memory { result ≡ Err Memory → D.tells → IsSome (file_page (D.seen disk.old Pages) p) }
-        ensures causes { IfErr result (λ e. (e ≡ Device) ⊎ ((e ≡ NotAStore) ⊎ (e ≡ Memory))) }
+        ensures causes { IfErr result (λ e. (e ≡ Device) ⊎ (e ≡ NotAStore)) }
         ensures device { result ≡ Err Device ↔ (D.failed disk.new ≡ true) }
         ensures reads { Reads D.Disk disk.old disk.new }
     {
         let place = self.places.next();
         self.frames.read(place, disk, p, &mut self.room)?;
-        self.places.take(p)?;
+        self.places.take(p);
         Ok(Frame { number: p, place })
     }
 
-    /// Holds the page of a number as it is before anything was put, whatever the file has. It counts as changed. Refused
-    /// `Memory`; the pool then stays as it was.
-    pub fn hold_initial(&mut self, p: PageNo) -> Result<Frame, Fault>
+    /// Holds the page of a number as it is before anything was put, whatever the file has. It counts as changed.
+    pub fn hold_initial(&mut self, p: PageNo) -> Frame
         requires absent { held_of self.old p ≡ None }
         requires room { length self.old.held < self.old.frames }
-        ensures frame { IfOk result (λ f. f.number ≡ p) }
-        ensures taken { IfOk result (λ f. Takes f (initial p) true self.old self.new) }
+        ensures frame { result.number ≡ p }
+        ensures taken { Takes result (initial p) true self.old self.new }
         ensures count { self.new.gets ≡ self.old.gets }
-        ensures err { OnErr result (self.new ≡ self.old) }
-        ensures refused { IfErr result (λ e. e ≡ Memory) }
     {
         let place = self.places.next();
-        self.places.take(p)?;
+        self.places.take(p);
         self.frames.reset(place, p);
-        Ok(Frame { number: p, place })
+        Frame { number: p, place }
     }
 
-    /// Holds a full copy as the page of a number, whatever the file has. It counts as changed. Refused `Memory` or,
-    /// exactly where the bytes are no page, `NotAStore`; the pool then stays as it was.
+    /// Holds a full copy as the page of a number, whatever the file has. It counts as changed. Refused `NotAStore` exactly where the
+    /// bytes are no page; the pool then stays as it was.
     pub fn hold_copy(&mut self, p: PageNo, bytes: &[u8]) -> Result<Frame, Fault>
         requires absent { held_of self.old p ≡ None }
         requires room { length self.old.held < self.old.frames }
@@ -271,11 +266,11 @@ impl Pool {
         ensures count { self.new.gets ≡ self.old.gets }
         ensures err { OnErr result (self.new ≡ self.old) }
         ensures none { result ≡ Err NotAStore ↔ (page_of bytes.now ≡ None) }
-        ensures refused { IfErr result (λ e. (e ≡ NotAStore) ⊎ (e ≡ Memory)) }
+        ensures refused { IfErr result (λ e. e ≡ NotAStore) }
     {
         let place = self.places.next();
         self.frames.load(place, bytes)?;
-        self.places.take(p)?;
+        self.places.take(p);
         Ok(Frame { number: p, place })
     }
 
@@ -420,9 +415,11 @@ fn last_changed(places: &Places, frames: &Frames) -> Option<(PageNo, u32)>
     requires { (i : ℕ) (e : ℕ × ℕ) → slice_get places.now.taken i ≡ Some e → e.1 < length frames.now }
     ensures { result ≡ last_marked frames.now places.now.taken }
 {
-    for (number, place) in places.iter().rev() {
-        if frames.is_changed(*place) {
-            return Some((*number, *place));
+    for (place, number) in places.iter().rev() {
+        if let Some(p) = *number {
+            if frames.is_changed(*place) {
+                return Some((p, *place));
+            }
         }
     }
     None

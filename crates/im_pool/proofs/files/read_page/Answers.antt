@@ -1,10 +1,8 @@
-use Rattle.std.proofs.Common.{◌≡◌, ◌∙◌, sym, ap, take, drop, ℕ, ◌*◌, length, Option, Some, None, OnOk, OnErr, arith}
+use Rattle.std.proofs.Common.{◌≡◌, ◌∙◌, sym, ap, take, drop, ◌*◌, length, Some, None}
 use Rattle.std.proofs.lemmas.Result.{on_ok_weaker, IfErr-at_err}
 use Rattle.im_types.specs.declared.file_id.FileId.TheVariants.{Pages}
 use Rattle.im_disk.specs.Disk.{Files}
 use Rattle.im_page.specs.Page.{page_of}
-use Rattle.im_types.specs.Pages.{Page}
-use Rattle.im_page.specs.PageFile.{file_page}
 use Rattle.im_pool.proofs.PageFileLemmas.{read_past, read_within}
 use Rattle.im_pool.proofs.files.read_page.Goals as goal
 

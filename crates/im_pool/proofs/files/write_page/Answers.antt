@@ -1,10 +1,9 @@
-use Rattle.std.proofs.Common.{◌≡◌, ◌*◌, ◌/◌, ◌≤◌, ℕ, length, Some, OnOk, arith}
+use Rattle.std.proofs.Common.{◌*◌, length, arith}
 use Rattle.std.proofs.lemmas.Result.{on_ok_weaker}
 use Rattle.im_types.specs.declared.file_id.FileId.TheVariants.{Pages}
-use Rattle.im_disk.specs.Disk.{Files, Holds, InFile, Stepped, Torn, Follows}
+use Rattle.im_disk.specs.Disk.{Holds, InFile, Stepped, Torn}
 use Rattle.im_disk.proofs.Runs.{weakened}
-use Rattle.im_pool.specs.Writes.{WritesPage, TearsPage}
-use Rattle.im_page.specs.PageFile.{page_count}
+use Rattle.im_pool.specs.Writes.{TearsPage}
 use Rattle.im_pool.proofs.PageFileLemmas.{writes_page, stepped, follows}
 use Rattle.im_pool.proofs.files.write_page.Goals as goal
 

@@ -1,6 +1,6 @@
-use Rattle.std.proofs.Common.{◌≡◌, ℕ, Bool, true, sym, subst}
+use Rattle.std.proofs.Common.{true, sym, subst}
 use Rattle.im_types.specs.Pages.{Page}
-use Rattle.im_types.specs.declared.page_kind.PageKind.TheVariants.{Free, Leaf, Inner}
+use Rattle.im_types.specs.declared.page_kind.PageKind.TheVariants.{Free}
 use Rattle.im_page.specs.Header.{empty_body}
 use Rattle.im_pool.specs.Frames.{stored_at}
 use Rattle.im_pool.specs.Pool.{Changes}

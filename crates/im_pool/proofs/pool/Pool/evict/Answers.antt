@@ -1,5 +1,4 @@
-use Rattle.std.proofs.Common.{◌≡◌, ℕ, List, Some, IsSome, nat_eq, refl, sym, subst, rules}
-use Rattle.std.specs.Map.{lookup}
+use Rattle.std.proofs.Common.{ℕ, List, refl, sym, subst}
 use Rattle.im_pool.specs.Pool.{Evicts}
 use Rattle.im_pool.proofs.PoolLemmas.{seen_as, held_place, evicts, whole_given_back}
 use Rattle.im_pool.proofs.pool.Pool.evict.Goals as goal

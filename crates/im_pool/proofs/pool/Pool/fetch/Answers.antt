@@ -1,21 +1,11 @@
-use Rattle.std.proofs.Common.{◌≡◌, ◌≢◌, ◌↔◌, ◌⊎◌, inl, inr, ⊎_elim, ℕ, ◌+◌, ◌-◌, ◌<◌, List, ◌∷◌, Bool, true, false, length, take, nat_eq, slice_index, slice_set, Option, Some, None, IsSome, Ok, Err, OnOk, OnErr, IfOk, option_map, refl, sym, ap, subst, ◌∙◌, arith, rules}
-use Rattle.std.proofs.lemmas.Result.{on_ok_weaker, IfErr-at_err}
+use Rattle.std.proofs.Common.{ℕ, List, ◌∷◌, false, length, sym, ap, subst, ◌∙◌, arith}
 use Rattle.std.proofs.lemmas.List.{length-set}
 use Rattle.std.proofs.lemmas.Grind.{common_steps}
-use Rattle.std.specs.Map.{lookup}
-use Rattle.im_types.specs.Pages.{Page}
-use Rattle.im_types.specs.declared.fault.Fault.TheVariants.{Device, Memory, NotAStore}
-use Rattle.im_types.specs.declared.file_id.FileId.TheVariants.{Pages}
-use Rattle.im_page.specs.Page.{page_of}
-use Rattle.im_page.specs.Header.{initial}
-use Rattle.im_page.specs.PageFile.{page_count, file_page}
-use Rattle.im_pool.specs.Writes.{WritesPage}
-use Rattle.im_pool.specs.Frames.{Stored, stored_at, Puts}
+use Rattle.im_pool.specs.Frames.{Stored, stored_at}
 use Rattle.im_pool.specs.Places.{PlacesView}
-use Rattle.im_pool.specs.Inside.{held_at, IsWhole}
 use Rattle.im_pool.specs.declared.frame.Frame.{Frame}
-use Rattle.im_pool.specs.Pool.{Held, PoolView, held_of, Holds, IsAt, page_at, page_seen, Sets, Changes, Takes, MovesFirst}
-use Rattle.im_pool.proofs.PoolLemmas.{seen_as, not_taken, free_left, next_within, same_but_frames, takes, takes_shown, sets_shown, whole_taken, whole_promoted, moves_first, whole_len, within, page_there, page_now, sets, held_is, not_held, found, found_at, is_at, promoted_none, seen_written, the_places, at_any_err}
+use Rattle.im_pool.specs.Pool.{Takes}
+use Rattle.im_pool.proofs.PoolLemmas.{seen_as, not_taken, free_left, next_within, same_but_frames, takes, takes_shown, whole_taken, at_any_err}
 use Rattle.im_pool.proofs.pool.Pool.fetch.Goals as goal
 
 pub read-requires-clause-place : goal.read-requires-clause-place
@@ -28,14 +18,9 @@ pub returns-in_err-read-clause-err : goal.returns-in_err-read-clause-err
 returns-in_err-read-clause-err g c = at_any_err c.from_residual.result
     (same_but_frames c.self.inside.frames c.self.inside.places c.self.inside.room.items c.self.inside.gets.count c.args.self.now c.self.invariant c.self.view_is c.args.p c.next-place.result c.next-place.ensures (not_taken c.self.inside.frames c.self.inside.places c.self.inside.room.items c.self.inside.gets.count c.args.self.now c.self.invariant c.self.view_is c.args.p c.requires.absent) (free_left c.self.inside.frames c.self.inside.places c.self.inside.room.items c.self.inside.gets.count c.args.self.now c.self.invariant c.self.view_is c.requires.room) (record { page = (stored_at c.read.new.self c.next-place.result).page; changed = false }) c.read.new.self c.read.ensures.others c.self.inside.gets.count)
 
-pub returns-in_err-take-clause-err : goal.returns-in_err-take-clause-err
-returns-in_err-take-clause-err g c = at_any_err c.from_residual-in_err-take.result
-    (ap (λ (v : PlacesView). seen_as c.read.new.self v.taken c.self.inside.gets.count) c.in_err-take.ensures.err
-    ∙ same_but_frames c.self.inside.frames c.self.inside.places c.self.inside.room.items c.self.inside.gets.count c.args.self.now c.self.invariant c.self.view_is c.args.p c.next-place.result c.next-place.ensures (not_taken c.self.inside.frames c.self.inside.places c.self.inside.room.items c.self.inside.gets.count c.args.self.now c.self.invariant c.self.view_is c.args.p c.requires.absent) (free_left c.self.inside.frames c.self.inside.places c.self.inside.room.items c.self.inside.gets.count c.args.self.now c.self.invariant c.self.view_is c.requires.room) (record { page = (stored_at c.read.new.self c.next-place.result).page; changed = false }) c.read.new.self c.read.ensures.others c.self.inside.gets.count)
-
 pub invariant_of-self-2 : goal.invariant_of-self-2
 invariant_of-self-2 g c =
-    let w = whole_taken c.self.inside.frames c.self.inside.places c.self.inside.room.items c.self.inside.gets.count c.args.self.now c.self.invariant c.self.view_is c.args.p c.next-place.result c.next-place.ensures (not_taken c.self.inside.frames c.self.inside.places c.self.inside.room.items c.self.inside.gets.count c.args.self.now c.self.invariant c.self.view_is c.args.p c.requires.absent) (free_left c.self.inside.frames c.self.inside.places c.self.inside.room.items c.self.inside.gets.count c.args.self.now c.self.invariant c.self.view_is c.requires.room) c.take.new.self (ap (λ (v : PlacesView). v.taken) c.in_ok-take.ensures.taken ∙ ap (λ (k : ℕ). (c.args.p, k) ∷ c.self.inside.places.taken) (sym c.next-place.ensures)) (ap (λ (v : PlacesView). v.free) c.in_ok-take.ensures.taken) in
+    let w = whole_taken c.self.inside.frames c.self.inside.places c.self.inside.room.items c.self.inside.gets.count c.args.self.now c.self.invariant c.self.view_is c.args.p c.next-place.result c.next-place.ensures (not_taken c.self.inside.frames c.self.inside.places c.self.inside.room.items c.self.inside.gets.count c.args.self.now c.self.invariant c.self.view_is c.args.p c.requires.absent) (free_left c.self.inside.frames c.self.inside.places c.self.inside.room.items c.self.inside.gets.count c.args.self.now c.self.invariant c.self.view_is c.requires.room) c.take.new.self (ap (λ (v : PlacesView). v.taken) c.take.ensures ∙ ap (λ (k : ℕ). (c.args.p, k) ∷ c.self.inside.places.taken) (sym c.next-place.ensures)) (ap (λ (v : PlacesView). v.free) c.take.ensures) in
     let len = ap length c.read.ensures.others in
     record { apart = w.apart; all = w.all ∙ sym (len ∙ length-set c.self.inside.frames c.next-place.result (record { page = (stored_at c.read.new.self c.next-place.result).page; changed = false })); sized = grind (arith, common_steps) }
 
@@ -43,6 +28,6 @@ pub returns-clause-read : goal.returns-clause-read
 returns-clause-read g c =
     let w : Stored = (record { page = (stored_at c.read.new.self c.next-place.result).page; changed = false }) in
     let frame : Frame = record { number = c.args.p; place = c.next-place.result } in
-    let t = subst (λ (es : List (ℕ × ℕ)). Takes frame w.page w.changed c.args.self.now (seen_as c.read.new.self es c.self.inside.gets.count)) (sym (ap (λ (v : PlacesView). v.taken) c.in_ok-take.ensures.taken ∙ ap (λ (k : ℕ). (c.args.p, k) ∷ c.self.inside.places.taken) (sym c.next-place.ensures)))
+    let t = subst (λ (es : List (ℕ × ℕ)). Takes frame w.page w.changed c.args.self.now (seen_as c.read.new.self es c.self.inside.gets.count)) (sym (ap (λ (v : PlacesView). v.taken) c.take.ensures ∙ ap (λ (k : ℕ). (c.args.p, k) ∷ c.self.inside.places.taken) (sym c.next-place.ensures)))
     (takes c.self.inside.frames c.self.inside.places c.self.inside.room.items c.self.inside.gets.count c.args.self.now c.self.invariant c.self.view_is c.args.p c.next-place.result c.next-place.ensures (not_taken c.self.inside.frames c.self.inside.places c.self.inside.room.items c.self.inside.gets.count c.args.self.now c.self.invariant c.self.view_is c.args.p c.requires.absent) (free_left c.self.inside.frames c.self.inside.places c.self.inside.room.items c.self.inside.gets.count c.args.self.now c.self.invariant c.self.view_is c.requires.room) w c.read.new.self c.read.ensures.others c.self.inside.gets.count) in
     takes_shown frame w.page false c.args.self.now (seen_as c.read.new.self c.take.new.self.taken c.self.inside.gets.count) t

@@ -1,5 +1,5 @@
-use Rattle.std.proofs.Common.{◌≡◌, ℕ, Some, None, option_map, sym, ap, ◌∙◌}
-use Rattle.im_pool.specs.Pool.{Held, held_of, frame_of}
+use Rattle.std.proofs.Common.{option_map, sym, ap}
+use Rattle.im_pool.specs.Pool.{Held, frame_of}
 use Rattle.im_pool.proofs.PoolLemmas.{found, is_at, not_held}
 use Rattle.im_pool.proofs.pool.Pool.find.Goals as goal
 

@@ -1,4 +1,4 @@
-use Rattle.std.proofs.Common.{◌≡◌, ◌↔◌, ◌+◌, ◌≤◌, ◌<◌, ◌^◌, ℕ, true, sym, ap, subst, OnOk, IsOk, insert}
+use Rattle.std.proofs.Common.{◌≡◌, ◌↔◌, ◌+◌, ◌≤◌, ◌<◌, ◌^◌, true, sym, subst, IsOk, insert}
 use Rattle.std.proofs.lemmas.Result.{on_ok_weaker}
 use Rattle.im_types.specs.Pages.{Page}
 use Rattle.im_types.specs.declared.page_kind.PageKind.TheVariants.{Inner}

@@ -1,6 +1,6 @@
-use Rattle.std.proofs.Common.{◌≡◌, ℕ, List, Some, None, option_map, sym, ap, ◌∙◌}
+use Rattle.std.proofs.Common.{ℕ, List, option_map, sym, ap}
 use Rattle.lru.specs.LruCache.{last_entry}
-use Rattle.im_pool.specs.Pool.{Held, held_of, frame_of}
+use Rattle.im_pool.specs.Pool.{Held, frame_of}
 use Rattle.im_pool.proofs.PoolLemmas.{last_is_at, none_held}
 use Rattle.im_pool.proofs.pool.Pool.oldest.Goals as goal
 

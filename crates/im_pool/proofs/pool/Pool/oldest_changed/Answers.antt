@@ -1,6 +1,6 @@
-use Rattle.std.proofs.Common.{◌≡◌, ◌<◌, ℕ, List, Option, Some, None, option_map, refl, sym, ap, subst, ◌∙◌, arith, rules}
-use Rattle.im_pool.specs.Inside.{held_at, held_in, last_marked}
-use Rattle.im_pool.specs.Pool.{Held, PoolView, frame_of, last_changed}
+use Rattle.std.proofs.Common.{ℕ, Option, option_map, sym, ap, ◌∙◌, arith}
+use Rattle.im_pool.specs.Inside.{held_at}
+use Rattle.im_pool.specs.Pool.{PoolView, frame_of, last_changed}
 use Rattle.im_pool.proofs.HeldLemmas.{found_there, place_within}
 use Rattle.im_pool.proofs.WalkLemmas.{last_held, marked_stands}
 use Rattle.im_pool.proofs.PoolLemmas.{is_at}

@@ -1,4 +1,4 @@
-use Rattle.std.proofs.Common.{◌≡◌, ℕ, Bool, ◌<◌, length, true, sym, subst, remove}
+use Rattle.std.proofs.Common.{◌<◌, length, true, sym, subst, remove}
 use Rattle.im_types.specs.Pages.{Page}
 use Rattle.im_page.specs.Page.{HoldsEntries, with_entries}
 use Rattle.im_pool.specs.Frames.{stored_at}

@@ -1,6 +1,6 @@
-use Rattle.std.proofs.Common.{◌≡◌, ℕ, Bool, true, sym, subst}
+use Rattle.std.proofs.Common.{true, sym, subst}
 use Rattle.im_types.specs.Pages.{Page}
-use Rattle.im_page.specs.Header.{HasPrev, HasNext, HasLeftmost}
+use Rattle.im_page.specs.Header.{HasPrev}
 use Rattle.im_pool.specs.Frames.{stored_at}
 use Rattle.im_pool.specs.Pool.{Changes}
 use Rattle.im_pool.proofs.PoolLemmas.{seen_as, within, page_there, sets}

@@ -1,21 +1,11 @@
-use Rattle.std.proofs.Common.{◌≡◌, ◌≢◌, ◌↔◌, ◌⊎◌, inl, inr, ⊎_elim, ℕ, ◌+◌, ◌-◌, ◌<◌, List, ◌∷◌, Bool, true, false, length, take, nat_eq, slice_index, slice_set, Option, Some, None, IsSome, Ok, Err, OnOk, OnErr, IfOk, option_map, refl, sym, ap, subst, ◌∙◌, arith, rules}
-use Rattle.std.proofs.lemmas.Result.{on_ok_weaker, IfErr-at_err}
-use Rattle.std.proofs.lemmas.List.{length-set}
-use Rattle.std.proofs.lemmas.Grind.{common_steps}
-use Rattle.std.specs.Map.{lookup}
+use Rattle.std.proofs.Common.{false, refl, sym, subst, ◌∙◌}
 use Rattle.im_types.specs.Pages.{Page}
-use Rattle.im_types.specs.declared.fault.Fault.TheVariants.{Device, Memory, NotAStore}
 use Rattle.im_types.specs.declared.file_id.FileId.TheVariants.{Pages}
-use Rattle.im_page.specs.Page.{page_of}
-use Rattle.im_page.specs.Header.{initial}
-use Rattle.im_page.specs.PageFile.{page_count, file_page}
 use Rattle.im_pool.specs.Writes.{WritesPage}
-use Rattle.im_pool.specs.Frames.{Stored, stored_at, Puts}
-use Rattle.im_pool.specs.Places.{PlacesView}
-use Rattle.im_pool.specs.Inside.{held_at, IsWhole}
-use Rattle.im_pool.specs.declared.frame.Frame.{Frame}
-use Rattle.im_pool.specs.Pool.{Held, PoolView, held_of, Holds, IsAt, page_at, page_seen, Sets, Changes, Takes, MovesFirst}
-use Rattle.im_pool.proofs.PoolLemmas.{seen_as, not_taken, free_left, next_within, same_but_frames, takes, takes_shown, sets_shown, whole_taken, whole_promoted, moves_first, whole_len, within, page_there, page_now, sets, held_is, not_held, found, found_at, is_at, promoted_none, seen_written, the_places, at_any_err}
+use Rattle.im_pool.specs.Frames.{stored_at}
+use Rattle.im_pool.specs.Inside.{held_at}
+use Rattle.im_pool.specs.Pool.{Sets}
+use Rattle.im_pool.proofs.PoolLemmas.{seen_as, within, page_there, sets, found, found_at, seen_written}
 use Rattle.im_pool.proofs.pool.Pool.write_back.Goals as goal
 
 pub page-requires : goal.page-requires
