@@ -184,6 +184,7 @@ impl PageWriter {
         ensures quiet { Holds self.old.pool number → disk.new ≡ disk.old }
         ensures log { self.new.log ≡ self.old.log }
         ensures table { self.new.table ≡ self.old.table }
+        ensures memory { result ≢ Err Memory }
         ensures no_page { result ≡ Err NotAStore → D.tells → file_page (D.seen disk.new Pages) number ≡ None }
     {
         match self.pool.get(disk, number) {
@@ -200,7 +201,7 @@ impl PageWriter {
     /// is counted, and none for the page that goes.
     ///
     /// Refused `Failed` after a call that failed; otherwise only for a page that is not held: `LogFull`, where an Image would end above
-    /// LSN 2^62, `Device`, `Memory`, or `NotAStore` where the page's bytes are none. Behind the last two the writer goes on.
+    /// LSN 2^62, `Device`, or `NotAStore` where the page's bytes are none. Behind the last one the writer goes on. No memory is taken.
     pub fn get<D: Disk>(&mut self, disk: &mut D, number: PageNo) -> Result<Frame, Fault>
         requires ready { IsReadyWriter D.Disk self.old disk.old }
         ensures outcome { Outcome D.Disk (AreLoadedTo number) mild self.old disk.old self.new disk.new (fault_of result) }
@@ -210,7 +211,7 @@ impl PageWriter {
         ensures gets { IfOk result (λ _. self.new.pool.gets ≡ self.old.pool.gets + 1) }
         ensures held { self.old.failed ≡ false → Holds self.old.pool number → IsOk result × MovesFirst number self.old.pool self.new.pool }
         ensures quiet { self.old.failed ≡ false → Holds self.old.pool number → (disk.new ≡ disk.old) × (self.new.log ≡ self.old.log) × (self.new.table ≡ self.old.table) }
-        ensures memory { result ≡ Err Memory → held_of self.old.pool number ≡ None }
+        ensures memory { result ≢ Err Memory }
         ensures no_page { result ≡ Err NotAStore → D.tells → file_page (D.seen disk.new Pages) number ≡ None }
     {
         if self.failed {
@@ -232,6 +233,7 @@ impl PageWriter {
         ensures at { IfOk result (IsAt self.new.pool) }
         ensures frame { IfOk result (λ frame. frame.number ≡ number) }
         ensures gets { IfOk result (λ _. self.new.pool.gets ≡ self.old.pool.gets + 1) }
+        ensures memory { result ≢ Err Memory }
         ensures no_page { result ≡ Err NotAStore → D.tells → file_page (D.seen disk.new Pages) number ≡ None }
     {
         self.make_frame(disk)?;

@@ -63,7 +63,7 @@ impl PageWriter {
         ensures at { IfOk result (IsAt self.new.pool) }
         ensures frame { IfOk result (λ f. f.number ≡ number) }
         ensures room { OnOk result (entry_in self.new.table number ≡ None → length self.new.table < 1024) }
-        ensures memory { result ≡ Err Memory → held_of self.old.pool number ≡ None }
+        ensures memory { result ≢ Err Memory }
     {
         self.get(disk, number)?;
         self.make_entry_room(disk)?;
@@ -183,7 +183,7 @@ impl PageWriter {
         ensures outcome { Logs D.Disk false mild self.old disk.old self.new disk.new (fault_of result) }
         ensures kept { (b : Base) (base : ℕ) (s : Writer) (e : ℕ) → StandsAs D.Disk b base s self.old disk.old → s.redo_end ≡ Some e
             → ChangeKept D.Disk b base s (view record.now) disk.old self.new disk.new result }
-        ensures memory { result ≡ Err Memory → held_of self.old.pool number ≡ None }
+        ensures memory { result ≢ Err Memory }
         ensures full { result ≡ Err LogFull → (2 ^ 62 < end_with self.new.log (size_of (view record.now))) ⊎ (2 ^ 62 < end_with self.new.log 4129) }
         ensures fits { OnOk result (end_with self.old.log (size_of (view record.now)) ≤ 2 ^ 62) }
     {
@@ -211,7 +211,7 @@ impl PageWriter {
         ensures outcome { Logs D.Disk false mild self.old disk.old self.new disk.new (fault_of result) }
         ensures kept { (b : Base) (base : ℕ) (s : Writer) (e : ℕ) → StandsAs D.Disk b base s self.old disk.old → s.redo_end ≡ Some e
             → ChangeKept D.Disk b base s (view record.now) disk.old self.new disk.new result }
-        ensures memory { result ≡ Err Memory → held_of self.old.pool number ≡ None }
+        ensures memory { result ≢ Err Memory }
         ensures full { result ≡ Err LogFull → (2 ^ 62 < end_with self.new.log (size_of (view record.now))) ⊎ (2 ^ 62 < end_with self.new.log 4129) }
         ensures fits { OnOk result (end_with self.old.log (size_of (view record.now)) ≤ 2 ^ 62) }
     {
@@ -244,7 +244,7 @@ impl PageWriter {
         ensures outcome { Logs D.Disk false mild self.old disk.old self.new disk.new (fault_of result) }
         ensures kept { (b : Base) (base : ℕ) (s : Writer) (e : ℕ) → StandsAs D.Disk b base s self.old disk.old → s.redo_end ≡ Some e
             → ChangeKept D.Disk b base s (view record.now) disk.old self.new disk.new result }
-        ensures memory { result ≡ Err Memory → held_of self.old.pool (page_of (view record.now)) ≡ None }
+        ensures memory { result ≢ Err Memory }
         ensures full { result ≡ Err LogFull → (2 ^ 62 < end_with self.new.log (size_of (view record.now))) ⊎ (2 ^ 62 < end_with self.new.log 4129) }
         ensures fits { OnOk result (end_with self.old.log (size_of (view record.now)) ≤ 2 ^ 62) }
     {

@@ -78,7 +78,7 @@ impl PageWriter {
             → LeftKept D.Disk b base s (view record.now) disk.old self.new disk.new result }
         ensures full { result ≡ Err LogFull → (2 ^ 62 < end_with self.new.log (size_of (view record.now))) ⊎ (2 ^ 62 < end_with self.new.log 4129) }
         ensures fits { OnOk result (end_with self.old.log (size_of (view record.now)) ≤ 2 ^ 62) }
-        ensures memory { result ≡ Err Memory → held_of self.old.pool number ≡ None }
+        ensures memory { result ≢ Err Memory }
         ensures images { OnOk result (after_in (what_of (view record.now)) ≢ None) }
     {
         let frame = self.hold_with_room(disk, number)?;
@@ -99,7 +99,7 @@ impl PageWriter {
             → LeftKept D.Disk b base s (view record.now) disk.old self.new disk.new result }
         ensures full { result ≡ Err LogFull → (2 ^ 62 < end_with self.new.log (size_of (view record.now))) ⊎ (2 ^ 62 < end_with self.new.log 4129) }
         ensures fits { OnOk result (end_with self.old.log (size_of (view record.now)) ≤ 2 ^ 62) }
-        ensures memory { result ≡ Err Memory → held_of self.old.pool (page_of (view record.now)) ≡ None }
+        ensures memory { result ≢ Err Memory }
         ensures images { OnOk result (after_in (what_of (view record.now)) ≢ None) }
     {
         match record {
