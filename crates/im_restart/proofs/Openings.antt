@@ -5,7 +5,7 @@ use Rattle.im_types.specs.declared.fault.Fault.{Fault}
 use Rattle.im_types.specs.declared.file_id.FileId.{FileId}
 use Rattle.im_types.specs.declared.file_id.FileId.TheVariants.{Log}
 use Rattle.im_types.specs.Records.{Logged}
-use Rattle.im_types.specs.Tree.{Tree}
+use Rattle.im_types.specs.Tree.{Tree, TreeLaws}
 use Rattle.im_types.specs.Histories.{Base, History, IsFront}
 use Rattle.im_types.specs.Lawful.{IsLawful}
 use Rattle.im_types.proofs.Histories.{at_front}
@@ -62,9 +62,9 @@ pub same_entry : (read : Option Entry) (some other : Entry) → read ≡ Some so
 same_entry read some other first second = let e : Some some ≡ Some other = sym first ∙ second in cc e
 
 -- each record of a lawful log is taken
-pub lawful_taken : (b : Base) (tree : Tree) (log : History) → IsLawful b tree log → AreTaken log
-lawful_taken b tree [] law = tt
-lawful_taken b tree (r ∷ older) law = let this = logs_are_taken tree b older r law in (this.0, this.1, lawful_taken b tree older law.0)
+pub lawful_taken : (b : Base) (tree : Tree) → TreeLaws tree → (log : History) → IsLawful b tree log → AreTaken log
+lawful_taken b tree laws [] law = tt
+lawful_taken b tree laws (r ∷ older) law = let this = logs_are_taken tree laws b older r law in (this.0, this.1, lawful_taken b tree laws older law.0)
 
 -- a record of a log that is taken
 continues : (all older : History) (r : Logged) → AreTaken all → IsFront (r ∷ older) all → Continues r older × FitsBehind r older

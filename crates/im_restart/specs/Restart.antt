@@ -38,11 +38,11 @@ abbrev pub IsFresh : Files → Type 0
 IsFresh files = IsUnmade (files Log) × (length (files Pages) ≡ 0)
 
 -- No store was made yet, or the log's bytes spell a list of records to the last: a damaged log spells none. Where each page image in it
--- is a page, no record leads up, and none opens a structure change beside another's.
+-- is a page, no record leads up, none opens a structure change beside another's, and none names a page that no page count said before it has.
 abbrev pub SpellsLog : Files → Type 0
 SpellsLog files = IsFresh files ⊎ ((found : History) × HasLog (base_of (files Log)) found (files Log) × (IsReadable found → IsOrderly found))
 
--- Analysis takes each record of the log: its LSN is above those before it, its page images are pages, nothing of its transaction has ended, it leads to earlier records alone, and it opens no structure change beside another's.
+-- Analysis takes each record of the log: its LSN is above those before it, its page images are pages, nothing of its transaction has ended, it leads to earlier records alone, it opens no structure change beside another's, and a page that it names is below a page count that was said before it.
 abbrev pub AreTaken : History → Type 0
 AreTaken [] = Unit {0}
 AreTaken (r ∷ older) = Continues r older × FitsBehind r older × AreTaken older

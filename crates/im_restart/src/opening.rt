@@ -161,9 +161,10 @@ fn restart<D: Disk>(
 ///
 /// Refused `NotAStore` where the bytes are no store, or there are pages without a log; `Capacity` where the key of a delete is put back into
 /// a full leaf, and page numbers or levels are used up, so that the leaf can't be split; `LogFull` only where the log's file then ends less
-/// than 32,778 bytes below LSN 2^62; `Memory`; `Device`. Where the log's bytes are no log's, one of its records leads to a later one, or
-/// one opens a structure change beside another's, nothing is written. A log that leaves nothing to undo is refused `NotAStore` only where
-/// analysis does not take one of its records, it does not cover the pages, or a page does not take its record.
+/// than 32,778 bytes below LSN 2^62; `Memory`; `Device`. Where the log's bytes are no log's, one of its records leads to a later one
+/// or names a page that no page count before it has, or one opens a structure change beside another's, nothing is written. A log that
+/// leaves nothing to undo is refused `NotAStore` only where analysis does not take one of its records, it does not cover the pages, or a
+/// page does not take its record.
 pub fn open_or_create<D: Disk>(
     alloc: Global,
     disk: &mut D,

@@ -141,8 +141,8 @@ fn read_all<D: Disk>(
 
 /// Opens a store's log, or makes one where there is none yet, and reads its records once.
 ///
-/// Refused `NotAStore` where the bytes are no log, a structure change opens beside another's, a record leads to a later one, or there are
-/// pages without a log;
+/// Refused `NotAStore` where the bytes are no log, a structure change opens beside another's, a record leads to a later one or names a page
+/// that no page count before it has, or there are pages without a log;
 /// `Memory`; `Device`.
 pub(crate) fn open_log<D: Disk>(alloc: Global, disk: &mut D) -> Result<Found, Fault>
     requires working { D.failed disk.old ≡ false }

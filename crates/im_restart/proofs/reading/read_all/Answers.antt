@@ -25,7 +25,7 @@ loop-lsns-preserved g c = record {
       let said = view c.in_ok-record-in-Some.record in
       let same : n.entry ≡ said = same_entry _ n.entry said n.is c.in_ok-record-in-Some.ensures.record in
       let next = next_read g.D.Disk base all h.0 c.in-Some.lsn n.entry said c.next.new.self c.next.new.disk same taken n.front n.opening in
-      (logged_at c.in-Some.lsn said ∷ h.0, next.2, (c.in_ok-take-in-Some.ensures.kept c.args.least h.0 h.2 next.0 next.1.leads).ok, c.in_ok-note_change-in-Some.ensures.kept h.0 next.0.readable h.3)
+      (logged_at c.in-Some.lsn said ∷ h.0, next.2, (c.in_ok-take-in-Some.ensures.kept c.args.least h.0 h.2 next.0 next.1.leads next.1.counted).ok, c.in_ok-note_change-in-Some.ensures.kept h.0 next.0.readable h.3)
       );
   back = λ base start.
       let h = c.loop-lsns.invariant.back base start in
@@ -58,7 +58,7 @@ returns-in_err-take-in-Some-clause-kept g c base all start taken low some =
     let said = view c.in_ok-record-in-Some.record in
     let same : n.entry ≡ said = same_entry _ n.entry said n.is c.in_ok-record-in-Some.ensures.record in
     let next = next_read g.D.Disk base all h.0 c.in-Some.lsn n.entry said c.next.new.self c.next.new.disk same taken n.front n.opening in
-    let k = c.in_err-take-in-Some.ensures.kept c.args.least h.0 h.2 next.0 next.1.leads in
+    let k = c.in_err-take-in-Some.ensures.kept c.args.least h.0 h.2 next.0 next.1.leads next.1.counted in
     let other : c.in_err-take-in-Some.field-0.0 ≢ NotAStore = λ e. next.1.alone (k.refused.0 (ap Rattle.std.proofs.Common.Err e)) in
     record { ok = search rules; cause = search (rules, other) }
 

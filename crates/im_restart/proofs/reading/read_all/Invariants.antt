@@ -5,8 +5,7 @@ use Rattle.im_disk.specs.Runs.{Reads}
 use Rattle.im_log.specs.Opening.{IsBegun, IsOpening, HasRead, position_of}
 use Rattle.im_gate.specs.Header.{least_number}
 use Rattle.im_analysis.specs.Analysis.{IsAnalysed}
-use Rattle.im_analysis.specs.OpenChange.{IsOpenChange}
-use Rattle.im_analysis.specs.Orderly.{IsOrderly, IsReadable}
+use Rattle.im_analysis.specs.Orderly.{IsOrderly, IsReadable, Knows}
 use Rattle.im_redo.specs.Redo.{lsns_from}
 use Rattle.im_restart.specs.Restart.{AreTaken}
 use Rattle.im_restart.proofs.reading.read_all.Given as goal
@@ -19,7 +18,7 @@ invariant-loop-lsns g l = record {
   kept : (base : ℕ) (all : History) → IsOpening g.D.Disk base all [] l.fn.opening l.fn.disk → AreTaken all → l.fn.least ≡ least_number (g.D.Disk.seen l.fn.disk Log) → 1 ≤ l.fn.least
       → (older : History) × IsOpening g.D.Disk base all older l.opening l.disk × IsAnalysed l.fn.least older l.analysis × (l.lsns.items ≡ lsns_from 0 older);
   back : (base : ℕ) → HasRead g.D.Disk base [] l.fn.opening l.fn.disk
-      → (older : History) × HasRead g.D.Disk base older l.opening l.disk × (IsReadable older → IsOrderly older × IsOpenChange l.analysis.open_change.items older);
+      → (older : History) × HasRead g.D.Disk base older l.opening l.disk × (IsReadable older → IsOrderly older × Knows older l.analysis);
 }
 
 abbrev pub decreases-loop-lsns : goal.decreases-loop-lsns
