@@ -47,7 +47,7 @@ pub fn run(rt: &HostRuntime, each: bool) -> Result<()> {
     for part in parts {
         show(rt, &files, part)?;
     }
-    show_page_numbers(rt, &files, if each { 1 } else { 11 })
+    show_page_numbers(rt, &files, if each { 1 } else { 3 })
 }
 
 fn bytes_of(name: &'static str, file: FileId, end: usize, stride: usize) -> Part {
