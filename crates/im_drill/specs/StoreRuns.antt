@@ -89,6 +89,7 @@ module _ (d : Ghosts ModelDisk) where
     pub of : IsConfigOf options config
     pub kept : (before : List Effect) (stands : StandsFor before (d.seen old)) → OpenKept d before old stands result
     pub opened : IfOk result (λ e. (e.failed ≡ false) × (e.txns.rows ≡ []) × (e.locks ≡ []) × (e.max_pages ≡ config.max_pages))
+    pub pool : IfOk result (λ e. e.writer.pool.frames ≡ config.frames)
     pub frames : IsErrAnd result (λ x. x.0 ≡ PoolSize) ↔ ((config.frames < 8) ⊎ (1024 < config.frames))
     pub device : IsErrAnd result (λ x. x.0 ≡ Device) ↔ (d.failed (disk_of d result) ≡ true)
     pub causes : IfErr result (λ x. (x.0 ≡ PoolSize) ⊎ (x.0 ≡ Memory) ⊎ (x.0 ≡ Device) ⊎ (x.0 ≡ NotAStore) ⊎ (x.0 ≡ LogFull) ⊎ (x.0 ≡ Capacity))

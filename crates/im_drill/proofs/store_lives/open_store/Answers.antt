@@ -10,6 +10,7 @@ returns c =
       of = c.config_of.ensures;
       kept = λ before stands. e.kept before tt c.requires.synced stands;
       opened = opened_as ghosts c.config_of.result.max_pages c.open_or_create.result e.opened e.limit;
+      pool = e.pool;
       frames = e.frames;
       device = e.device;
       causes = e.causes;
