@@ -13,7 +13,7 @@ use Rattle.im_change.proofs.structure_change.run.Goals as goal
 pub returns-then-not-are_counted-clause-outcome : goal.returns-then-not-are_counted-clause-outcome
 returns-then-not-are_counted-clause-outcome g c =
     let still = idle g.D.Disk g.met.D.Disk.only_now {m = mild} c.args.writer.now c.args.disk.now c.requires.working c.requires.ready in
-    record { ready = still.ready; ends = (refl, still.ends) }
+    record { ready = still.ready; frames = still.frames; ends = (refl, still.ends) }
 
 pub returns-then-not-are_counted-clause-kept : goal.returns-then-not-are_counted-clause-kept
 returns-then-not-are_counted-clause-kept g c b base s e may =
