@@ -50,6 +50,9 @@ returns-in_err-found-clause-unspelled g c told none =
 pub returns-clause-unspelled : goal.returns-clause-unspelled
 returns-clause-unspelled g c told none = absurd (none (c.in_ok-found.ensures.spelled told))
 
+pub returns-clause-made : goal.returns-clause-made
+returns-clause-made g c = holds_if_ok c.restart.result c.in_ok-found.ensures.store
+
 pub returns-clause-spelled : goal.returns-clause-spelled
 returns-clause-spelled g c = holds_if_ok c.restart.result c.in_ok-found.ensures.spelled
 
