@@ -11,7 +11,7 @@ use Rattle.im_drill.specs.declared.line.Line.TheVariants as lines
 use Rattle.im_words.specs.Words.{Lacks}
 use Rattle.im_drill.specs.Lines.{IsCall, IsLengthWord, IsFillWord, file_word, Spells}
 use Rattle.im_drill.specs.Scripts.{Kind, Sets, Begins, Puts, Counts, Stops, kind_of}
-use Rattle.im_words.proofs.Texts.{lacks_mid, cut_once}
+use Rattle.im_words.proofs.Texts.{lacks_mid, cut_once, digits_lack}
 
 -- the kind of a good line, by its first bytes
 abbrev pub text_kind : List ℕ → Kind

@@ -1,5 +1,5 @@
 -- What lines of scripts of lives of a store spell, and what they do not.
-use Rattle.std.proofs.Common.{◌≡◌, ◌≢◌, ℕ, List, slice_index, ◌++◌, ◌∷◌, codes, sym, ◌∙◌, ap, subst, arith}
+use Rattle.std.proofs.Common.{◌≡◌, ◌≢◌, ℕ, List, slice_index, ◌++◌, ◌∷◌, if◌then◌else◌, ◌==◌, codes, sym, ◌∙◌, ap, subst, arith}
 use Rattle.im_front.specs.declared.step.Step.{Step}
 use Rattle.im_front.specs.declared.step.Step.TheVariants as steps
 use Rattle.im_drill.specs.declared.batch.Batch.{Batch}
