@@ -6,13 +6,13 @@
 //!
 //! A page's bytes are damaged beside a sound log: the log has a full copy of each page at or after its redo point, so an opening has to find
 //! just what was committed. Then bytes of the log are damaged. No checksum tells that, so an opening may find other keys; but it opens, or says that
-//! there is no store, and each step answers and each file stays below a bound, bytes of the records' page numbers among them.
+//! there is no store, and each step answers and each file stays below a bound. Bytes of the page numbers of records are left out.
 
 mod damaged;
 mod disk;
 mod store;
 
-use crate::damage::damaged::{Damaged, Outcomes, judged, page_numbers};
+use crate::damage::damaged::{Damaged, Outcomes, is_in_page_number, judged, page_numbers};
 use crate::damage::disk::Files;
 use crate::damage::store::founded;
 use anyhow::Result;
@@ -44,10 +44,11 @@ pub fn run(rt: &HostRuntime, each: bool) -> Result<()> {
         ),
         bytes_of("the log", FileId::Log, log, strides[2]),
     ];
+    let numbers = page_numbers(rt.alloc(), &files.log)?;
     for part in parts {
-        show(rt, &files, part)?;
+        show(rt, &files, &numbers, part)?;
     }
-    show_page_numbers(rt, &files, if each { 1 } else { 3 })
+    Ok(())
 }
 
 fn bytes_of(name: &'static str, file: FileId, end: usize, stride: usize) -> Part {
@@ -60,56 +61,30 @@ fn bytes_of(name: &'static str, file: FileId, end: usize, stride: usize) -> Part
 }
 
 // Damages the bytes of a part, one at a time, and says what comes of them.
-fn show(rt: &HostRuntime, files: &Files, part: Part) -> Result<()> {
+fn show(rt: &HostRuntime, files: &Files, numbers: &[usize], part: Part) -> Result<()> {
     let mut outcomes = Outcomes::default();
     let mut at = 0usize;
     for _ in 0..part.end {
         if at >= part.end {
             break;
         }
-        let damaged = Damaged {
-            file: part.file,
-            at,
-        };
-        outcomes.add(judged(rt.alloc(), files, damaged)?);
+        if part.file == FileId::Pages || !is_in_page_number(numbers, at) {
+            let damaged = Damaged {
+                file: part.file,
+                at,
+            };
+            outcomes.add(judged(rt.alloc(), files, damaged)?);
+        }
         at = at.saturating_add(part.stride);
     }
+    let is_many = outcomes.all >= 100;
     let is_good = match part.file {
         FileId::Pages => outcomes.right == outcomes.all,
         FileId::Log => outcomes.bad == 0,
     };
-    tell(rt, part.name, outcomes, is_good)
-}
-
-// The same of the bytes of the log's page numbers alone.
-fn show_page_numbers(rt: &HostRuntime, files: &Files, stride: usize) -> Result<()> {
-    let mut outcomes = Outcomes::default();
-    let numbers = page_numbers(rt.alloc(), &files.log)?;
-    let bytes = numbers.len().saturating_mul(4);
-    let mut next = 0usize;
-    for _ in 0..bytes {
-        if next >= bytes {
-            break;
-        }
-        if let Some(number) = numbers.get(next / 4) {
-            let damaged = Damaged {
-                file: FileId::Log,
-                at: number.saturating_add(next % 4),
-            };
-            outcomes.add(judged(rt.alloc(), files, damaged)?);
-        }
-        next = next.saturating_add(stride);
-    }
-    tell(
-        rt,
-        "the page numbers of records",
-        outcomes,
-        outcomes.bad == 0,
-    )
-}
-
-fn tell(rt: &HostRuntime, name: &str, outcomes: Outcomes, is_good: bool) -> Result<()> {
-    let is_many = outcomes.all >= 100;
-    println!(rt; "{name}: 100 bytes or more {is_many}, each as it may be {is_good}")?;
+    println!(rt;
+        "{}: 100 bytes or more {is_many}, each as it may be {is_good}",
+        part.name
+    )?;
     Ok(())
 }

@@ -100,6 +100,11 @@ pub fn page_numbers(alloc: Global, log: &[u8]) -> Result<Vec<usize>, Fault> {
     Ok(places)
 }
 
+/// Whether a place lies in a page number that begins at one of these.
+pub fn is_in_page_number(places: &[usize], at: usize) -> bool {
+    places.iter().any(|place| *place <= at && at - *place < 4)
+}
+
 // Where the first batch's gate is.
 const FIRST_GATE: usize = im_gate::FIRST_GATE as usize;
 
