@@ -7,8 +7,8 @@ mod work;
 
 use crate::figures::is_timed;
 use anyhow::Result;
-use im_disk::ModelDisk;
-use im_types::Fault;
+use im_base_disk::ModelDisk;
+use im_base_types::Fault;
 use std::time::Instant;
 use work::{Work, worked};
 

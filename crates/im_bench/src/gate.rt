@@ -5,13 +5,13 @@
 //! files stand in that directory, by default in one that is made here, and are taken away at the end.
 
 ghost use Rattle.std.specs.Prelude.{◌≡◌, ◌<◌, ◌^◌, false, OnOk};
-ghost use Rattle.im_disk.specs.Runs.{IsSynced};
-ghost use Rattle.im_gate.specs.Gate.{IsReading, IsReady};
+ghost use Rattle.im_base_disk.specs.Runs.{IsSynced};
+ghost use Rattle.im_log_gate.specs.Gate.{IsReading, IsReady};
 
 use crate::figures::{is_timed, nanos_since, per_second};
-use im_disk::{Disk, FileDisk, ModelDisk};
-use im_gate::Gate;
-use im_types::{Fault, FileId};
+use im_base_disk::{Disk, FileDisk, ModelDisk};
+use im_base_types::{Fault, FileId};
+use im_log_gate::Gate;
 use std::alloc::Global;
 use std::fs::{self, File, OpenOptions};
 use std::io;

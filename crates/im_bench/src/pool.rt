@@ -7,8 +7,8 @@ mod work;
 
 use crate::figures::{is_timed, show};
 use anyhow::Result;
-use im_disk::ModelDisk;
-use im_pool::Pool;
+use im_base_disk::ModelDisk;
+use im_page_pool::Pool;
 use std::time::Instant;
 use work::{cached, file, filled, looked_up, missed};
 

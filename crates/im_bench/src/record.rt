@@ -3,7 +3,7 @@
 
 use crate::figures::is_timed;
 use anyhow::Result;
-use im_record::{Record, decode_front};
+use im_log_record::{Record, decode_front};
 use std::time::Instant;
 
 // Records in a batch, of 50 bytes each.

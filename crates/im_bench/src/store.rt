@@ -19,11 +19,11 @@ mod options;
 mod works;
 
 ghost use Rattle.std.specs.Prelude.{◌≡◌, false};
-ghost use Rattle.im_disk.specs.Runs.{IsSynced};
+ghost use Rattle.im_base_disk.specs.Runs.{IsSynced};
 
 use anyhow::Result;
 use counted::{Calls, Counted};
-use im_disk::{Disk, FileDisk};
+use im_base_disk::{Disk, FileDisk};
 use im_engine::{Config, Engine};
 use memory::MemoryDisk;
 use options::{Options, options_of};

@@ -31,9 +31,9 @@ mod store;
 
 use crate::figures::is_timed;
 use anyhow::Result;
-use im_disk::{Disk, ModelDisk};
+use im_base_disk::{Disk, ModelDisk};
+use im_base_types::Fault;
 use im_engine::{Config, Engine};
-use im_types::Fault;
 use lookups::{disk_of, found, opened};
 use pages::{keys_in, tree};
 use std::time::Instant;

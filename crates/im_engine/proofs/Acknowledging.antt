@@ -2,9 +2,9 @@
 use Rattle.std.proofs.Common.{◌≡◌, ◌⊎◌, inl, inr, ⊎_elim, ℕ, Bool, true, false, true≢false, List, [], ◌∷◌, ◌++◌, Contains, None, refl, sym, ◌∙◌, ap, subst, arith}
 use Rattle.std.specs.Prelude.{if◌then◌else◌, ◌||◌, ◌==◌}
 use Rattle.std.proofs.lemmas.List.Elements.{Contains-append_left, Contains-append_right, Contains-append_cases, Contains-push_cases}
-use Rattle.im_types.specs.Answers.{Insert, Delete, Step, Begin, Do, Commit, Rollback, Continue, FlushPage, Force, Checkpoint, Reply, Started, Inserted, Deleted, Committed, RolledBack, More, Die, Done, Refused}
-use Rattle.im_types.specs.Lives.{Asked, Shown, NoneAcked, all_acked, answered, asks, breaks, cut_off, effect_asked, refused, shows}
-use Rattle.im_types.specs.Refusals.{memory, unfinished}
+use Rattle.im_base_types.specs.Answers.{Insert, Delete, Step, Begin, Do, Commit, Rollback, Continue, FlushPage, Force, Checkpoint, Reply, Started, Inserted, Deleted, Committed, RolledBack, More, Die, Done, Refused}
+use Rattle.im_base_types.specs.Lives.{Asked, Shown, NoneAcked, all_acked, answered, asks, breaks, cut_off, effect_asked, refused, shows}
+use Rattle.im_base_types.specs.Refusals.{memory, unfinished}
 
 -- each that is acknowledged in the one list stands in the other
 abbrev pub StayAcked : List Asked → List Asked → Type 0

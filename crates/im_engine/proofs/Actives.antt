@@ -1,17 +1,17 @@
 -- The table of an engine, also of one that has failed, has as many transactions as the machine.
 use Rattle.std.proofs.Common.{◌≡◌, ◌≢◌, ℕ, Bool, true, false, List, Option, Some, None, length, ◌⊎◌, refl, sym, ap, subst, ◌∙◌, inl, inr}
 use Rattle.std.proofs.lemmas.Bool.{cases_Bool}
-use Rattle.im_types.specs.Changes.{Effect}
-use Rattle.im_types.specs.Answers as answers
-use Rattle.im_types.specs.Answers.{Step, Refused}
-use Rattle.im_types.specs.Lives.{Shown}
-use Rattle.im_disk.specs.declared.disk.Disk.{Ghosts}
-use Rattle.im_types.specs.declared.fault.Fault as below
-use Rattle.im_types.specs.declared.fault.Fault.TheVariants.{Failed}
-use Rattle.im_lock.specs.Locks.{Lock}
-use Rattle.im_lock.specs.View.{View, broken}
+use Rattle.im_base_types.specs.Changes.{Effect}
+use Rattle.im_base_types.specs.Answers as answers
+use Rattle.im_base_types.specs.Answers.{Step, Refused}
+use Rattle.im_base_types.specs.Lives.{Shown}
+use Rattle.im_base_disk.specs.declared.disk.Disk.{Ghosts}
+use Rattle.im_base_types.specs.declared.fault.Fault as below
+use Rattle.im_base_types.specs.declared.fault.Fault.TheVariants.{Failed}
+use Rattle.im_engine_lock.specs.Locks.{Lock}
+use Rattle.im_engine_lock.specs.View.{View, broken}
 use Rattle.im_front.specs.Store as front
-use Rattle.im_lock.specs.Machine.{barred, Answers, Goes, Moves, begins, does, waits, dies, commits, drops, turns, undoes, ends, flushes, forces, checkpoints, lacks, breaks}
+use Rattle.im_engine_lock.specs.Machine.{barred, Answers, Goes, Moves, begins, does, waits, dies, commits, drops, turns, undoes, ends, flushes, forces, checkpoints, lacks, breaks}
 use Rattle.im_front.specs.declared.step.Step as steps
 use Rattle.im_front.specs.declared.fault.Fault.{Fault}
 use Rattle.im_front.specs.declared.fault.Fault.TheVariants as faults

@@ -3,19 +3,19 @@ use Rattle.std.proofs.Common.{◌≡◌, ℕ, map, Bool, true, false, cond, List
 use Rattle.std.specs.Prelude.{◌&&◌, ◌==◌, if◌then◌else◌, Option, None, Some}
 use Rattle.std.specs.FinMap.{empty}
 use Rattle.std.proofs.lemmas.Bool.{eq-eqb}
-use Rattle.im_types.specs.Maps.{IndexMap}
-use Rattle.im_types.specs.Changes.{Effect, apply, apply_all}
-use Rattle.im_types.proofs.Changes.{apply_all_append, apply_seen}
-use Rattle.im_types.specs.Answers.{Access, Step, Begin, Do, Commit, Rollback, Continue, FlushPage, Force, Checkpoint, Reply, Refused, Going, answer, is_answer, map_after, map_after_all, replay}
-use Rattle.im_types.specs.Lives.{Asked, Shown, effects}
-use Rattle.im_lock.specs.Locks.{Lock}
-use Rattle.im_lock.specs.View.{View, did, did_txn}
-use Rattle.im_lock.specs.Machine.{Moves, Answers, Goes, begins, does, waits, dies, commits, drops, turns, undoes, ends, flushes, forces, checkpoints, lacks, breaks, barred, Run, start}
-use Rattle.im_lock.specs.Isolation.{access_of, finished, IsReplay}
-use Rattle.im_lock.proofs.Callers.{Run-push}
-use Rattle.im_lock.proofs.Theorem.{going_replay, after_story}
-use Rattle.im_steps.specs.Acknowledged.{AllAcked, acked_effects}
-use Rattle.im_steps.specs.Lived.{IsLived}
+use Rattle.im_base_types.specs.Maps.{IndexMap}
+use Rattle.im_base_types.specs.Changes.{Effect, apply, apply_all}
+use Rattle.im_base_types.proofs.Changes.{apply_all_append, apply_seen}
+use Rattle.im_base_types.specs.Answers.{Access, Step, Begin, Do, Commit, Rollback, Continue, FlushPage, Force, Checkpoint, Reply, Refused, Going, answer, is_answer, map_after, map_after_all, replay}
+use Rattle.im_base_types.specs.Lives.{Asked, Shown, effects}
+use Rattle.im_engine_lock.specs.Locks.{Lock}
+use Rattle.im_engine_lock.specs.View.{View, did, did_txn}
+use Rattle.im_engine_lock.specs.Machine.{Moves, Answers, Goes, begins, does, waits, dies, commits, drops, turns, undoes, ends, flushes, forces, checkpoints, lacks, breaks, barred, Run, start}
+use Rattle.im_engine_lock.specs.Isolation.{access_of, finished, IsReplay}
+use Rattle.im_engine_lock.proofs.Callers.{Run-push}
+use Rattle.im_engine_lock.proofs.Theorem.{going_replay, after_story}
+use Rattle.im_theory_steps.specs.Acknowledged.{AllAcked, acked_effects}
+use Rattle.im_theory_steps.specs.Lived.{IsLived}
 use Rattle.im_engine.specs.Told.{AnswersAlone}
 
 same_number : (t : ℕ) → (t == t) ≡ true

@@ -2,24 +2,24 @@
 use Rattle.std.proofs.Common.{◌≡◌, ◌⊎◌, inl, inr, ℕ, List, Bool, true, false, Option, Some, None, length, refl, sym, ap, subst, ◌∙◌}
 use Rattle.std.specs.Prelude.{◌||◌, ◌==◌, if◌then◌else◌}
 use Rattle.std.specs.FinMap.{empty}
-use Rattle.im_types.specs.Answers.{Step, Begin, Do, Commit, Rollback, Continue, FlushPage, Force, Checkpoint, Reply, Refused, Mark}
-use Rattle.im_types.specs.Changes.{Effect, apply_all}
-use Rattle.im_types.specs.Histories.{Base}
-use Rattle.im_types.specs.Refusals.{memory, unfinished, failed as has_failed}
-use Rattle.im_types.specs.Lives.{Asked, Shown, asks, breaks, shows}
-use Rattle.im_disk.specs.declared.disk.Disk.{Ghosts}
-use Rattle.im_disk.specs.Disk.{Files}
-use Rattle.im_disk.specs.Runs.{LeavesOnly}
-use Rattle.im_disk.proofs.Runs.{started}
-use Rattle.im_flush.proofs.Writers.{goes_on_start}
-use Rattle.im_lock.specs.View.{View}
-use Rattle.im_lock.specs.Machine.{barred, first_check, mark_for}
-use Rattle.im_steps.specs.Checks.{marks_in}
-use Rattle.im_steps.specs.Durable.{AreCommitted}
-use Rattle.im_steps.proofs.Acknowledged.{going_free}
-use Rattle.im_steps.proofs.Asking.{refusals_ask_nothing}
-use Rattle.im_steps.proofs.Lived.{rows_tell, lives_go_on}
-use Rattle.im_steps.proofs.Steps.{barred_served}
+use Rattle.im_base_types.specs.Answers.{Step, Begin, Do, Commit, Rollback, Continue, FlushPage, Force, Checkpoint, Reply, Refused, Mark}
+use Rattle.im_base_types.specs.Changes.{Effect, apply_all}
+use Rattle.im_theory_log.specs.Histories.{Base}
+use Rattle.im_base_types.specs.Refusals.{memory, unfinished, failed as has_failed}
+use Rattle.im_base_types.specs.Lives.{Asked, Shown, asks, breaks, shows}
+use Rattle.im_base_disk.specs.declared.disk.Disk.{Ghosts}
+use Rattle.im_base_disk.specs.Disk.{Files}
+use Rattle.im_base_disk.specs.Runs.{LeavesOnly}
+use Rattle.im_base_disk.proofs.Runs.{started}
+use Rattle.im_page_writer.proofs.Writers.{goes_on_start}
+use Rattle.im_engine_lock.specs.View.{View}
+use Rattle.im_engine_lock.specs.Machine.{barred, first_check, mark_for}
+use Rattle.im_theory_steps.specs.Checks.{marks_in}
+use Rattle.im_theory_steps.specs.Durable.{AreCommitted}
+use Rattle.im_theory_steps.proofs.Acknowledged.{going_free}
+use Rattle.im_theory_steps.proofs.Asking.{refusals_ask_nothing}
+use Rattle.im_theory_steps.proofs.Lived.{rows_tell, lives_go_on}
+use Rattle.im_theory_steps.proofs.Steps.{barred_served}
 use Rattle.im_engine.specs.declared.engine.Engine.{Engine}
 use Rattle.im_engine.specs.Stands.{Allowed}
 use Rattle.im_engine.specs.Running.{IsRunning, IsLife}

@@ -1,10 +1,10 @@
 -- Both files synced, one after the other.
 use Rattle.std.proofs.Common.{◌≡◌, sym, ap, ◌∙◌}
-use Rattle.im_types.specs.declared.file_id.FileId.TheVariants.{Log, Pages}
-use Rattle.im_disk.specs.declared.disk.Disk.{Ghosts}
-use Rattle.im_disk.specs.Disk.{Files, Only, Elapses}
-use Rattle.im_disk.specs.Runs.{IsSynced, LeavesOnly}
-use Rattle.im_disk.proofs.Runs.{started, goes_on}
+use Rattle.im_base_types.specs.declared.file_id.FileId.TheVariants.{Log, Pages}
+use Rattle.im_base_disk.specs.declared.disk.Disk.{Ghosts}
+use Rattle.im_base_disk.specs.Disk.{Files, Only, Elapses}
+use Rattle.im_base_disk.specs.Runs.{IsSynced, LeavesOnly}
+use Rattle.im_base_disk.proofs.Runs.{started, goes_on}
 
 module _ {D : Type 0} (d : Ghosts D) where
   pub both_synced : (old mid new : D) → Only Log (d.seen old) (d.may_leave mid) → Only Pages (d.seen mid) (d.may_leave new) → ((c : Files) → d.may_leave new c → d.may_leave mid c) → d.seen mid ≡ d.seen old → d.seen new ≡ d.seen mid → IsSynced d new

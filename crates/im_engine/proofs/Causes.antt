@@ -1,21 +1,21 @@
 -- Why a step is refused, from how the calls within it ended.
 use Rattle.std.proofs.Common.{◌≡◌, ◌≢◌, ◌⊎◌, inl, inr, ⊎_elim, ℕ, ◌^◌, ◌<◌, ◌≤◌, Bool, true, false, length, Option, None, Some, refl, sym, ap, subst, ◌∙◌, arith}
 use Rattle.std.specs.Prelude.{◌↔◌, find}
-use Rattle.im_types.specs.Answers as answers
-use Rattle.im_types.specs.declared.fault.Fault.{Fault}
-use Rattle.im_types.specs.declared.fault.Fault.TheVariants.{PagesFull, Capacity, LogFull, Device, Memory, Failed, NotAStore}
-use Rattle.im_types.specs.Keys.{Key}
-use Rattle.im_disk.specs.declared.disk.Disk.{Ghosts}
-use Rattle.im_record.specs.Spelling.{size_of}
+use Rattle.im_base_types.specs.Answers as answers
+use Rattle.im_base_types.specs.declared.fault.Fault.{Fault}
+use Rattle.im_base_types.specs.declared.fault.Fault.TheVariants.{PagesFull, Capacity, LogFull, Device, Memory, Failed, NotAStore}
+use Rattle.im_base_types.specs.Keys.{Key}
+use Rattle.im_base_disk.specs.declared.disk.Disk.{Ghosts}
+use Rattle.im_log_record.specs.Spelling.{size_of}
 use Rattle.im_log.specs.declared.log_file.LogFile.{LogFile}
 use Rattle.im_log.specs.LogFile.{end_with}
-use Rattle.im_flush.specs.declared.page_writer.PageWriter.{PageWriter}
-use Rattle.im_flush.specs.Outcome.{AreLoaded, AsksNothing, Ends, LogEnds, mild, none_mild}
-use Rattle.im_index.specs.Outcomes.{seek_at}
-use Rattle.im_txn.specs.declared.transaction.Transaction.{Transaction}
-use Rattle.im_txn.specs.Rows.{is_of}
-use Rattle.im_lock.specs.Machine.{first_check, mark_for}
-use Rattle.im_steps.specs.Checks.{checked_by, marks_in}
+use Rattle.im_page_writer.specs.declared.page_writer.PageWriter.{PageWriter}
+use Rattle.im_page_writer.specs.Outcome.{AreLoaded, AsksNothing, Ends, LogEnds, mild, none_mild}
+use Rattle.im_engine_index.specs.Outcomes.{seek_at}
+use Rattle.im_engine_txn.specs.declared.transaction.Transaction.{Transaction}
+use Rattle.im_engine_txn.specs.Rows.{is_of}
+use Rattle.im_engine_lock.specs.Machine.{first_check, mark_for}
+use Rattle.im_theory_steps.specs.Checks.{checked_by, marks_in}
 use Rattle.im_front.specs.declared.fault.Fault.{Fault as Refusal}
 use Rattle.im_front.specs.declared.fault.Fault.TheVariants as above
 use Rattle.im_front.specs.declared.reply.Reply.{Reply}

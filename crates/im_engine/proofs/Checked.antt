@@ -1,14 +1,14 @@
 -- What the checks of a step by the table leave of it.
 use Rattle.std.proofs.Common.{◌≡◌, ◌⊎◌, inl, inr, ℕ, Bool, true, false, not, List, length, Option, None, Some, refl, sym, ap, subst, ◌∙◌}
 use Rattle.std.specs.Prelude.{find}
-use Rattle.im_types.specs.Refusals.{key_length}
-use Rattle.im_types.specs.Answers.{Access, Step, Do, Commit, Rollback, Reply, Refused, FlushPage, Force, Begin, Continue, Checkpoint}
-use Rattle.im_txn.specs.declared.transaction.Mark.{Mark}
-use Rattle.im_txn.specs.declared.transaction.Mark.TheVariants.{Going, MustRollBack, RollingBack, Committing}
-use Rattle.im_txn.specs.declared.transaction.Transaction.{Transaction}
-use Rattle.im_txn.specs.Rows.{is_of}
-use Rattle.im_lock.specs.Machine.{keys_fit, barred_to, barred_to_rollback, or_else, fault_if}
-use Rattle.im_steps.specs.Checks.{mark_at, checked_by}
+use Rattle.im_base_types.specs.Refusals.{key_length}
+use Rattle.im_base_types.specs.Answers.{Access, Step, Do, Commit, Rollback, Reply, Refused, FlushPage, Force, Begin, Continue, Checkpoint}
+use Rattle.im_engine_txn.specs.declared.transaction.Mark.{Mark}
+use Rattle.im_engine_txn.specs.declared.transaction.Mark.TheVariants.{Going, MustRollBack, RollingBack, Committing}
+use Rattle.im_engine_txn.specs.declared.transaction.Transaction.{Transaction}
+use Rattle.im_engine_txn.specs.Rows.{is_of}
+use Rattle.im_engine_lock.specs.Machine.{keys_fit, barred_to, barred_to_rollback, or_else, fault_if}
+use Rattle.im_theory_steps.specs.Checks.{mark_at, checked_by}
 
 -- the row of a step's transaction
 pub record IsGoing (rows : List Transaction) (t : ℕ) : Type 0 where

@@ -1,13 +1,13 @@
 -- Changes in a store's log are taken back at most once.
 use Rattle.std.specs.Prelude.{List}
-use Rattle.im_types.specs.Changes.{Effect}
-use Rattle.im_types.specs.Lives.{Shown, nothing_shown, shows}
-use Rattle.im_types.proofs.LogLaws.{at_most_once}
+use Rattle.im_base_types.specs.Changes.{Effect}
+use Rattle.im_base_types.specs.Lives.{Shown, nothing_shown, shows}
+use Rattle.im_theory_log.proofs.LogLaws.{at_most_once}
 use Rattle.std.specs.Prelude.{None}
-use Rattle.im_disk.specs.declared.disk.Disk.{Ghosts}
-use Rattle.im_disk.specs.Disk.{Files}
-use Rattle.im_disk.proofs.Runs.{weakened}
-use Rattle.im_tree.specs.Theory.{page_tree}
+use Rattle.im_base_disk.specs.declared.disk.Disk.{Ghosts}
+use Rattle.im_base_disk.specs.Disk.{Files}
+use Rattle.im_base_disk.proofs.Runs.{weakened}
+use Rattle.im_theory_tree.specs.Theory.{page_tree}
 use Rattle.im_engine.specs.Stands.{Allowed}
 use Rattle.im_engine.specs.Kept.{disk_of}
 use Rattle.im_engine.specs.Counted.{FilesAreCounted, AreCountedFiles, LivesAreCounted, StepsAreCounted, OpeningsAreCounted}

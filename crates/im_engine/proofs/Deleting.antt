@@ -2,37 +2,37 @@
 use Rattle.std.proofs.Common.{◌≡◌, ◌≢◌, ℕ, ◌≤◌, List, true, false, cond, is_some, Option, Some, None, Result, Ok, Err, map, refl, sym, ap, subst, ◌∙◌}
 use Rattle.std.specs.Prelude.{find}
 use Rattle.std.specs.FinMap.{get}
-use Rattle.im_types.specs.Answers as answers
-use Rattle.im_types.specs.Answers.{Delete, Do, Refused, dropped}
-use Rattle.im_types.specs.Changes.{Effect}
-use Rattle.im_types.specs.Histories.{Base}
-use Rattle.im_types.specs.Keys.{Key}
-use Rattle.im_types.specs.Lives.{Shown}
-use Rattle.im_types.specs.Maps.{IndexMap}
-use Rattle.im_types.specs.Transactions.{contents}
-use Rattle.im_types.specs.Writer.{Writer}
-use Rattle.im_types.specs.declared.fault.Fault.{Fault}
-use Rattle.im_types.specs.declared.fault.Fault.TheVariants.{Failed, Memory}
-use Rattle.im_disk.specs.declared.disk.Disk.{Ghosts}
-use Rattle.im_disk.specs.Disk.{Files}
-use Rattle.im_flush.specs.declared.page_writer.PageWriter.{PageWriter}
-use Rattle.im_flush.specs.Outcome.{LogEnds, mild}
-use Rattle.im_txn.specs.declared.transaction.Mark.TheVariants.{Going, MustRollBack}
-use Rattle.im_txn.specs.declared.transaction.Transaction.{Transaction}
-use Rattle.im_txn.specs.Rows.{is_of, changed, with_mark, with_record}
-use Rattle.im_txn.proofs.LookUps.{look_ups_follow}
-use Rattle.im_lock.specs.Table.{SameTable, Table}
-use Rattle.im_lock.specs.View.{View}
-use Rattle.im_lock.specs.Machine.{keys_fit}
+use Rattle.im_base_types.specs.Answers as answers
+use Rattle.im_base_types.specs.Answers.{Delete, Do, Refused, dropped}
+use Rattle.im_base_types.specs.Changes.{Effect}
+use Rattle.im_theory_log.specs.Histories.{Base}
+use Rattle.im_base_types.specs.Keys.{Key}
+use Rattle.im_base_types.specs.Lives.{Shown}
+use Rattle.im_base_types.specs.Maps.{IndexMap}
+use Rattle.im_theory_log.specs.Transactions.{contents}
+use Rattle.im_theory_log.specs.Writer.{Writer}
+use Rattle.im_base_types.specs.declared.fault.Fault.{Fault}
+use Rattle.im_base_types.specs.declared.fault.Fault.TheVariants.{Failed, Memory}
+use Rattle.im_base_disk.specs.declared.disk.Disk.{Ghosts}
+use Rattle.im_base_disk.specs.Disk.{Files}
+use Rattle.im_page_writer.specs.declared.page_writer.PageWriter.{PageWriter}
+use Rattle.im_page_writer.specs.Outcome.{LogEnds, mild}
+use Rattle.im_engine_txn.specs.declared.transaction.Mark.TheVariants.{Going, MustRollBack}
+use Rattle.im_engine_txn.specs.declared.transaction.Transaction.{Transaction}
+use Rattle.im_engine_txn.specs.Rows.{is_of, changed, with_mark, with_record}
+use Rattle.im_engine_txn.proofs.LookUps.{look_ups_follow}
+use Rattle.im_engine_lock.specs.Table.{SameTable, Table}
+use Rattle.im_engine_lock.specs.View.{View}
+use Rattle.im_engine_lock.specs.Machine.{keys_fit}
 use Rattle.im_front.specs.declared.fault.Fault.{Fault as Refusal}
 use Rattle.im_front.specs.declared.fault.Fault.TheVariants as above
 use Rattle.im_front.specs.declared.reply.Reply.TheVariants as replies
 use Rattle.im_front.specs.Calls.{number_of}
-use Rattle.im_steps.specs.Checks.{checked_by}
-use Rattle.im_index.specs.declared.noted.Taken.{Taken}
-use Rattle.im_index.specs.declared.outcome.Outcome.{Outcome}
-use Rattle.im_index.specs.declared.outcome.Outcome.TheVariants.{Granted, Wait, Die}
-use Rattle.im_index.specs.Edits.{MayEdit, DeleteKept}
+use Rattle.im_theory_steps.specs.Checks.{checked_by}
+use Rattle.im_engine_index.specs.declared.noted.Taken.{Taken}
+use Rattle.im_engine_index.specs.declared.outcome.Outcome.{Outcome}
+use Rattle.im_engine_index.specs.declared.outcome.Outcome.TheVariants.{Granted, Wait, Die}
+use Rattle.im_engine_index.specs.Edits.{MayEdit, DeleteKept}
 use Rattle.im_engine.specs.declared.engine.Engine.{Engine}
 use Rattle.im_engine.specs.Faults.{told_as, ends_engine}
 use Rattle.im_engine.specs.Running.{IsRunning, IsLife}

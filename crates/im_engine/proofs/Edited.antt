@@ -2,70 +2,70 @@
 use Rattle.std.proofs.Common.{◌≡◌, ◌≢◌, inl, inr, ℕ, ◌≤◌, ◌<◌, ◌^◌, List, [], ◌∷◌, ◌++◌, Bool, true, false, cond, is_some, Option, Some, None, map, refl, sym, ap, subst, ◌∙◌, append_assoc, arith}
 use Rattle.std.specs.Prelude.{find, if◌then◌else◌, ◌==◌}
 use Rattle.std.specs.FinMap.{get}
-use Rattle.im_types.specs.Answers as answers
-use Rattle.im_types.specs.Answers.{Access, Blocked, Commit, Delete, Die, Do, Refused, Reply, answer, changes}
-use Rattle.im_types.specs.Refusals.{memory}
-use Rattle.im_types.specs.declared.fault.Fault.{Fault}
-use Rattle.im_types.specs.declared.fault.Fault.TheVariants.{Device, Failed, LogFull, Memory, NotAStore}
-use Rattle.im_types.specs.Changes.{Change, Effect, key_of}
-use Rattle.im_types.specs.Histories.{Base, History, IsFront, end_of}
-use Rattle.im_types.specs.Keys.{Key}
-use Rattle.im_types.specs.Lawful.{IsLawful}
-use Rattle.im_types.specs.Lawful as lawful
-use Rattle.im_types.specs.Maps.{IndexMap}
-use Rattle.im_types.specs.Records.{What, InsertKey, DeleteKey, UndoInsert, UndoDelete, Smo, UndoSmo, DummyClr, Commit as CommitRecord, End, Image, Checkpoint, Unreadable, Logged}
-use Rattle.im_types.specs.Structure.{open_smo}
-use Rattle.im_types.specs.Transactions.{committed, contents, is_finished, is_rolling_back, last_of, undo_next_of}
-use Rattle.im_types.specs.Writer.{Writer}
-use Rattle.im_types.specs.Lives.{Asked, Shown, shows}
-use Rattle.im_types.specs.Copies as copies
-use Rattle.im_types.proofs.Fronts.{lawful_front}
-use Rattle.im_disk.specs.declared.disk.Disk.{Ghosts}
-use Rattle.im_disk.specs.Disk.{Files}
-use Rattle.im_disk.specs.Runs.{LeavesOnly}
-use Rattle.im_disk.proofs.Runs.{weakened}
-use Rattle.im_flush.specs.declared.page_writer.PageWriter.{PageWriter}
-use Rattle.im_flush.specs.Outcome.{LogEnds, mild}
-use Rattle.im_flush.specs.PageWriter.{Evicted}
-use Rattle.im_tree.specs.Good.{AllOf}
-use Rattle.im_tree.specs.Theory.{page_tree}
-use Rattle.im_tree.proofs.TheoryLaws.{page_tree_laws}
-use Rattle.im_change.specs.Changes.{IsOfChange, GrowsByChange}
-use Rattle.im_structure.specs.Structure.{IsUnfinished}
-use Rattle.im_txn.specs.declared.transaction.Mark.TheVariants.{Going, MustRollBack}
-use Rattle.im_txn.specs.declared.transaction.Transaction.{Transaction}
-use Rattle.im_txn.specs.Rows.{is_of, changed, with_mark, with_record}
-use Rattle.im_txn.proofs.LookUps.{look_ups_follow}
-use Rattle.im_lock.specs.Locks.{Lock, Request, Holds}
-use Rattle.im_lock.specs.Locks as locks
-use Rattle.im_lock.specs.Rows.{asked}
-use Rattle.im_lock.specs.Serving.{Matches}
-use Rattle.im_lock.specs.Table.{Table, Decides, SameTable, locks_of}
-use Rattle.im_lock.specs.declared.verdict.Verdict.{Verdict}
-use Rattle.im_lock.specs.declared.verdict.Verdict.TheVariants.{Granted, Wait, Die as MustDie}
-use Rattle.im_lock.specs.View.{View, did, locks_in, marked}
-use Rattle.im_lock.specs.Machine.{Wants, barred, keys_fit}
+use Rattle.im_base_types.specs.Answers as answers
+use Rattle.im_base_types.specs.Answers.{Access, Blocked, Commit, Delete, Die, Do, Refused, Reply, answer, changes}
+use Rattle.im_base_types.specs.Refusals.{memory}
+use Rattle.im_base_types.specs.declared.fault.Fault.{Fault}
+use Rattle.im_base_types.specs.declared.fault.Fault.TheVariants.{Device, Failed, LogFull, Memory, NotAStore}
+use Rattle.im_base_types.specs.Changes.{Change, Effect, key_of}
+use Rattle.im_theory_log.specs.Histories.{Base, History, IsFront, end_of}
+use Rattle.im_base_types.specs.Keys.{Key}
+use Rattle.im_theory_log.specs.Lawful.{IsLawful}
+use Rattle.im_theory_log.specs.Lawful as lawful
+use Rattle.im_base_types.specs.Maps.{IndexMap}
+use Rattle.im_base_types.specs.Records.{What, InsertKey, DeleteKey, UndoInsert, UndoDelete, Smo, UndoSmo, DummyClr, Commit as CommitRecord, End, Image, Checkpoint, Unreadable, Logged}
+use Rattle.im_theory_log.specs.Structure.{open_smo}
+use Rattle.im_theory_log.specs.Transactions.{committed, contents, is_finished, is_rolling_back, last_of, undo_next_of}
+use Rattle.im_theory_log.specs.Writer.{Writer}
+use Rattle.im_base_types.specs.Lives.{Asked, Shown, shows}
+use Rattle.im_theory_log.specs.Copies as copies
+use Rattle.im_theory_log.proofs.Fronts.{lawful_front}
+use Rattle.im_base_disk.specs.declared.disk.Disk.{Ghosts}
+use Rattle.im_base_disk.specs.Disk.{Files}
+use Rattle.im_base_disk.specs.Runs.{LeavesOnly}
+use Rattle.im_base_disk.proofs.Runs.{weakened}
+use Rattle.im_page_writer.specs.declared.page_writer.PageWriter.{PageWriter}
+use Rattle.im_page_writer.specs.Outcome.{LogEnds, mild}
+use Rattle.im_page_writer.specs.PageWriter.{Evicted}
+use Rattle.im_theory_tree.specs.Good.{AllOf}
+use Rattle.im_theory_tree.specs.Theory.{page_tree}
+use Rattle.im_theory_tree.proofs.TheoryLaws.{page_tree_laws}
+use Rattle.im_smo_log.specs.Changes.{IsOfChange, GrowsByChange}
+use Rattle.im_smo_actions.specs.Structure.{IsUnfinished}
+use Rattle.im_engine_txn.specs.declared.transaction.Mark.TheVariants.{Going, MustRollBack}
+use Rattle.im_engine_txn.specs.declared.transaction.Transaction.{Transaction}
+use Rattle.im_engine_txn.specs.Rows.{is_of, changed, with_mark, with_record}
+use Rattle.im_engine_txn.proofs.LookUps.{look_ups_follow}
+use Rattle.im_engine_lock.specs.Locks.{Lock, Request, Holds}
+use Rattle.im_engine_lock.specs.Locks as locks
+use Rattle.im_engine_lock.specs.Rows.{asked}
+use Rattle.im_engine_lock.specs.Serving.{Matches}
+use Rattle.im_engine_lock.specs.Table.{Table, Decides, SameTable, locks_of}
+use Rattle.im_engine_lock.specs.declared.verdict.Verdict.{Verdict}
+use Rattle.im_engine_lock.specs.declared.verdict.Verdict.TheVariants.{Granted, Wait, Die as MustDie}
+use Rattle.im_engine_lock.specs.View.{View, did, locks_in, marked}
+use Rattle.im_engine_lock.specs.Machine.{Wants, barred, keys_fit}
 use Rattle.im_front.specs.declared.fault.Fault.{Fault as Refusal}
 use Rattle.im_front.specs.declared.fault.Fault.TheVariants as above
 use Rattle.im_front.specs.Calls.{number_of}
-use Rattle.im_steps.specs.Checks.{checked_by}
-use Rattle.im_steps.specs.Growth.{AreBelow, AreStructural, AreWithin, GrowsByStructure, GrowsWithin, IsStructural, IsOfAll, Stays, is_structural}
-use Rattle.im_steps.specs.Serving.{IsAt, IsServing, IsServed, mark_of}
-use Rattle.im_steps.specs.Steps.{IsOnTheWay, key_record}
-use Rattle.im_steps.specs.Durable.{AreCommitted}
-use Rattle.im_steps.proofs.Asking.{asks_nothing, dies_ask_nothing, waits_ask_nothing}
-use Rattle.im_steps.proofs.Durable.{commits_stand}
-use Rattle.im_steps.proofs.Growth.{copies_are_images, images_change_nothing, numbers_stay_new, within_leaves_others}
-use Rattle.im_steps.proofs.Lived.{rows_tell}
-use Rattle.im_steps.proofs.Logging.{deletes_served}
-use Rattle.im_steps.proofs.Promises.{granted_keys_free}
-use Rattle.im_steps.proofs.Steps.{dies_served, reads_served, structure_keeps, waits_served, ways_lead_on}
-use Rattle.im_index.specs.KeyLogs.{LeftByEdit, LeavesEdit}
-use Rattle.im_index.specs.Edits.{MayEdit, Deleted}
-use Rattle.im_index.specs.declared.noted.Taken.{Taken}
-use Rattle.im_index.proofs.KeyLogs.{grows_within}
-use Rattle.im_index.proofs.Deletes.{within_then}
-use Rattle.im_structure.proofs.Growth.{images_as_change}
+use Rattle.im_theory_steps.specs.Checks.{checked_by}
+use Rattle.im_theory_steps.specs.Growth.{AreBelow, AreStructural, AreWithin, GrowsByStructure, GrowsWithin, IsStructural, IsOfAll, Stays, is_structural}
+use Rattle.im_theory_steps.specs.Serving.{IsAt, IsServing, IsServed, mark_of}
+use Rattle.im_theory_steps.specs.Steps.{IsOnTheWay, key_record}
+use Rattle.im_theory_steps.specs.Durable.{AreCommitted}
+use Rattle.im_theory_steps.proofs.Asking.{asks_nothing, dies_ask_nothing, waits_ask_nothing}
+use Rattle.im_theory_steps.proofs.Durable.{commits_stand}
+use Rattle.im_theory_steps.proofs.Growth.{copies_are_images, images_change_nothing, numbers_stay_new, within_leaves_others}
+use Rattle.im_theory_steps.proofs.Lived.{rows_tell}
+use Rattle.im_theory_steps.proofs.Logging.{deletes_served}
+use Rattle.im_theory_steps.proofs.Promises.{granted_keys_free}
+use Rattle.im_theory_steps.proofs.Steps.{dies_served, reads_served, structure_keeps, waits_served, ways_lead_on}
+use Rattle.im_engine_index.specs.KeyLogs.{LeftByEdit, LeavesEdit}
+use Rattle.im_engine_index.specs.Edits.{MayEdit, Deleted}
+use Rattle.im_engine_index.specs.declared.noted.Taken.{Taken}
+use Rattle.im_engine_index.proofs.KeyLogs.{grows_within}
+use Rattle.im_engine_index.proofs.Deletes.{within_then}
+use Rattle.im_smo_actions.proofs.Growth.{images_as_change}
 use Rattle.im_engine.specs.declared.engine.Engine.{Engine}
 use Rattle.im_engine.specs.Numbered.{Numbered}
 use Rattle.im_engine.specs.Stands.{Allowed}

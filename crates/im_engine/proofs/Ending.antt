@@ -4,62 +4,62 @@ use Rattle.std.specs.Prelude.{find, map, nat_lt, not}
 use Rattle.std.proofs.lemmas.Bool.{ltb-true}
 use Rattle.im_front.specs.Calls.{number_of}
 use Rattle.im_front.specs.declared.fault.Fault.{Fault as Refusal}
-use Rattle.im_flush.specs.Outcome.{LogEnds, Ends, Flushes, AsksNothing, none_mild}
-use Rattle.im_flush.proofs.Outcomes.{flush_asks}
-use Rattle.im_types.specs.Pages.{Page}
+use Rattle.im_page_writer.specs.Outcome.{LogEnds, Ends, Flushes, AsksNothing, none_mild}
+use Rattle.im_page_writer.proofs.Outcomes.{flush_asks}
+use Rattle.im_base_types.specs.Pages.{Page}
 use Rattle.im_engine.specs.Faults.{told_as}
 use Rattle.im_engine.proofs.Refused.{breaks_with}
 use Rattle.std.specs.FinMap.{empty}
-use Rattle.im_types.specs.Answers as answers
-use Rattle.im_types.specs.Answers.{Begin, Started, Commit, Committed, Rollback, RolledBack, More, Force, FlushPage, Done, Refused}
-use Rattle.im_types.specs.Changes.{Effect, apply_all, seen, seen_effect}
-use Rattle.im_types.specs.Histories.{Base, History, Rises, end_of}
-use Rattle.im_types.specs.Lawful.{IsLawful, Follows, IsOutside}
-use Rattle.im_types.specs.Structure.{open_smo}
-use Rattle.im_types.proofs.LogLaws.{logs_stay_lawful}
-use Rattle.im_types.specs.Transactions.{committed, last_of, to_undo, net, changes_of, is_finished, is_rolling_back}
-use Rattle.im_types.specs.Refusals.{memory, unfinished, too_many}
-use Rattle.im_types.specs.declared.fault.Fault.{Fault}
-use Rattle.im_types.specs.declared.fault.Fault.TheVariants.{Failed, LogFull, Device, NotAStore}
-use Rattle.im_types.specs.Writer.{Writer}
-use Rattle.im_types.specs.WriterSteps.{appended, forced}
-use Rattle.im_types.specs.Lives.{Asked, Shown, Survives, StandsForMore, all_acked, effects, effect_asked, shows}
-use Rattle.im_types.proofs.Fronts.{rises as rises_of}
-use Rattle.im_disk.specs.declared.disk.Disk.{Ghosts}
-use Rattle.im_disk.specs.Disk.{Files}
-use Rattle.im_disk.specs.Runs.{LeavesOnly}
-use Rattle.im_disk.proofs.Runs.{weakened, then_on}
-use Rattle.im_record.specs.Entry as entries
+use Rattle.im_base_types.specs.Answers as answers
+use Rattle.im_base_types.specs.Answers.{Begin, Started, Commit, Committed, Rollback, RolledBack, More, Force, FlushPage, Done, Refused}
+use Rattle.im_base_types.specs.Changes.{Effect, apply_all, seen, seen_effect}
+use Rattle.im_theory_log.specs.Histories.{Base, History, Rises, end_of}
+use Rattle.im_theory_log.specs.Lawful.{IsLawful, Follows, IsOutside}
+use Rattle.im_theory_log.specs.Structure.{open_smo}
+use Rattle.im_theory_log.proofs.LogLaws.{logs_stay_lawful}
+use Rattle.im_theory_log.specs.Transactions.{committed, last_of, to_undo, net, changes_of, is_finished, is_rolling_back}
+use Rattle.im_base_types.specs.Refusals.{memory, unfinished, too_many}
+use Rattle.im_base_types.specs.declared.fault.Fault.{Fault}
+use Rattle.im_base_types.specs.declared.fault.Fault.TheVariants.{Failed, LogFull, Device, NotAStore}
+use Rattle.im_theory_log.specs.Writer.{Writer}
+use Rattle.im_theory_log.specs.WriterSteps.{appended, forced}
+use Rattle.im_base_types.specs.Lives.{Asked, Shown, Survives, StandsForMore, all_acked, effects, effect_asked, shows}
+use Rattle.im_theory_log.proofs.Fronts.{rises as rises_of}
+use Rattle.im_base_disk.specs.declared.disk.Disk.{Ghosts}
+use Rattle.im_base_disk.specs.Disk.{Files}
+use Rattle.im_base_disk.specs.Runs.{LeavesOnly}
+use Rattle.im_base_disk.proofs.Runs.{weakened, then_on}
+use Rattle.im_log_record.specs.Entry as entries
 use Rattle.im_log.specs.Spelled.{logged_at}
 use Rattle.im_log.proofs.Above.{left_now}
-use Rattle.im_flush.specs.Stands.{IsCovered, LeavesCovered}
-use Rattle.im_flush.specs.declared.page_writer.PageWriter.{PageWriter}
-use Rattle.im_flush.specs.PageWriter.{StandsAs, GoesOn, FlushedOne, LoggedOnly}
-use Rattle.im_flush.proofs.Writers.{goes_on_start}
-use Rattle.im_tree.specs.Theory.{page_tree}
-use Rattle.im_tree.proofs.TheoryLaws.{page_tree_laws}
-use Rattle.im_txn.specs.Rows.{begun as row_begun, is_of, changed, with_mark}
-use Rattle.im_txn.specs.LookUps.{without}
-use Rattle.im_txn.specs.declared.transaction.Mark.TheVariants.{Going, MustRollBack, RollingBack}
-use Rattle.im_txn.specs.declared.transaction.Transaction.{Transaction}
-use Rattle.im_lock.specs.Table.{Table, IsReleased, locks_of}
-use Rattle.im_lock.specs.View.{View, begun, marked, committed_by, dropped_by}
-use Rattle.im_lock.specs.Machine.{Breaks, barred, fault_if}
-use Rattle.im_steps.specs.Checks.{checked_by}
-use Rattle.im_steps.specs.Durable.{AreCommitted}
-use Rattle.im_steps.specs.Growth.{AreBelow, Stays, IsOfAll}
-use Rattle.im_steps.specs.Serving.{IsServing, IsServed}
-use Rattle.im_steps.proofs.Asking.{empty_asked, effects_acked}
-use Rattle.im_steps.proofs.Growth.{copies_are_images, images_change_nothing, numbers_stay_new, same_here}
-use Rattle.im_steps.proofs.Durable.{commits_stand, others_ask_nothing}
-use Rattle.im_steps.proofs.Lived.{rows_tell}
-use Rattle.im_steps.specs.Serving.{mark_of}
-use Rattle.im_steps.specs.Steps.{commit_record}
-use Rattle.im_steps.proofs.Growth.{unlogged}
-use Rattle.im_steps.proofs.Records.{commit_commits}
-use Rattle.im_steps.proofs.Durable.{cut_commits_stand}
-use Rattle.im_steps.proofs.Logging.{logged_commits_served}
-use Rattle.im_steps.proofs.Steps.{at, unlogged_commits_served, begins_served, drops_served, turns_served, flushes_served, forces_served, barred_served}
+use Rattle.im_page_writer.specs.Stands.{IsCovered, LeavesCovered}
+use Rattle.im_page_writer.specs.declared.page_writer.PageWriter.{PageWriter}
+use Rattle.im_page_writer.specs.PageWriter.{StandsAs, GoesOn, FlushedOne, LoggedOnly}
+use Rattle.im_page_writer.proofs.Writers.{goes_on_start}
+use Rattle.im_theory_tree.specs.Theory.{page_tree}
+use Rattle.im_theory_tree.proofs.TheoryLaws.{page_tree_laws}
+use Rattle.im_engine_txn.specs.Rows.{begun as row_begun, is_of, changed, with_mark}
+use Rattle.im_engine_txn.specs.LookUps.{without}
+use Rattle.im_engine_txn.specs.declared.transaction.Mark.TheVariants.{Going, MustRollBack, RollingBack}
+use Rattle.im_engine_txn.specs.declared.transaction.Transaction.{Transaction}
+use Rattle.im_engine_lock.specs.Table.{Table, IsReleased, locks_of}
+use Rattle.im_engine_lock.specs.View.{View, begun, marked, committed_by, dropped_by}
+use Rattle.im_engine_lock.specs.Machine.{Breaks, barred, fault_if}
+use Rattle.im_theory_steps.specs.Checks.{checked_by}
+use Rattle.im_theory_steps.specs.Durable.{AreCommitted}
+use Rattle.im_theory_steps.specs.Growth.{AreBelow, Stays, IsOfAll}
+use Rattle.im_theory_steps.specs.Serving.{IsServing, IsServed}
+use Rattle.im_theory_steps.proofs.Asking.{empty_asked, effects_acked}
+use Rattle.im_theory_steps.proofs.Growth.{copies_are_images, images_change_nothing, numbers_stay_new, same_here}
+use Rattle.im_theory_steps.proofs.Durable.{commits_stand, others_ask_nothing}
+use Rattle.im_theory_steps.proofs.Lived.{rows_tell}
+use Rattle.im_theory_steps.specs.Serving.{mark_of}
+use Rattle.im_theory_steps.specs.Steps.{commit_record}
+use Rattle.im_theory_steps.proofs.Growth.{unlogged}
+use Rattle.im_theory_steps.proofs.Records.{commit_commits}
+use Rattle.im_theory_steps.proofs.Durable.{cut_commits_stand}
+use Rattle.im_theory_steps.proofs.Logging.{logged_commits_served}
+use Rattle.im_theory_steps.proofs.Steps.{at, unlogged_commits_served, begins_served, drops_served, turns_served, flushes_served, forces_served, barred_served}
 use Rattle.im_engine.specs.declared.engine.Engine.{Engine}
 use Rattle.im_engine.specs.Numbered.{Numbered}
 use Rattle.im_engine.specs.Stands.{StandsFor, Allowed}

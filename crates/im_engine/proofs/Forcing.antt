@@ -1,34 +1,34 @@
 -- A Checkpoint: its record joins the log behind a sync of the file of pages, and every record is durable.
 use Rattle.std.proofs.Common.{◌≡◌, inl, inr, ℕ, ◌≤◌, ◌<◌, ◌^◌, List, ◌∷◌, true, false, Option, Some, None, refl, sym, ap, subst, ◌∙◌}
 use Rattle.std.specs.Prelude.{◌⊎◌}
-use Rattle.im_types.specs.Answers.{Checkpoint, Done, Refused}
-use Rattle.im_types.specs.Changes.{Effect}
-use Rattle.im_types.specs.Histories.{Base, History, end_of}
-use Rattle.im_types.specs.Lawful.{IsLawful}
-use Rattle.im_types.specs.Records.{Logged}
-use Rattle.im_types.specs.Transactions.{committed}
-use Rattle.im_types.specs.declared.fault.Fault.{Fault}
-use Rattle.im_types.specs.declared.tables.DirtyPage.{DirtyPage}
-use Rattle.im_types.specs.Writer.{DirtyEntry, PageState}
-use Rattle.im_types.specs.WriterSteps.{IsIn, Lists, appended, forced, forgotten, forgotten_entry, forgotten_page, passed, synced}
-use Rattle.im_types.specs.Lives.{Shown}
-use Rattle.im_disk.specs.declared.disk.Disk.{Ghosts}
-use Rattle.im_disk.specs.Disk.{Files}
-use Rattle.im_disk.specs.Runs.{LeavesOnly}
-use Rattle.im_disk.proofs.Runs.{weakened}
-use Rattle.im_flush.specs.Checkpoints.{checkpoint_at, Checkpointed, HasCheckpoint, LeavesCheckpointed}
-use Rattle.im_flush.specs.Stands.{IsCovered}
-use Rattle.im_tree.specs.Theory.{page_tree}
-use Rattle.im_checkpoint.specs.Rows.{listed}
+use Rattle.im_base_types.specs.Answers.{Checkpoint, Done, Refused}
+use Rattle.im_base_types.specs.Changes.{Effect}
+use Rattle.im_theory_log.specs.Histories.{Base, History, end_of}
+use Rattle.im_theory_log.specs.Lawful.{IsLawful}
+use Rattle.im_base_types.specs.Records.{Logged}
+use Rattle.im_theory_log.specs.Transactions.{committed}
+use Rattle.im_base_types.specs.declared.fault.Fault.{Fault}
+use Rattle.im_base_types.specs.declared.tables.DirtyPage.{DirtyPage}
+use Rattle.im_theory_log.specs.Writer.{DirtyEntry, PageState}
+use Rattle.im_theory_log.specs.WriterSteps.{IsIn, Lists, appended, forced, forgotten, forgotten_entry, forgotten_page, passed, synced}
+use Rattle.im_base_types.specs.Lives.{Shown}
+use Rattle.im_base_disk.specs.declared.disk.Disk.{Ghosts}
+use Rattle.im_base_disk.specs.Disk.{Files}
+use Rattle.im_base_disk.specs.Runs.{LeavesOnly}
+use Rattle.im_base_disk.proofs.Runs.{weakened}
+use Rattle.im_page_writer.specs.Checkpoints.{checkpoint_at, Checkpointed, HasCheckpoint, LeavesCheckpointed}
+use Rattle.im_page_writer.specs.Stands.{IsCovered}
+use Rattle.im_theory_tree.specs.Theory.{page_tree}
+use Rattle.im_engine_checkpoint.specs.Rows.{listed}
 use Rattle.im_front.specs.Calls.{number_of}
 use Rattle.im_front.specs.declared.fault.Fault.{Fault as Refusal}
-use Rattle.im_lock.specs.View.{View}
-use Rattle.im_steps.specs.Growth.{AreBelow, IsCheckpointed}
-use Rattle.im_steps.specs.Serving.{IsServing}
-use Rattle.im_steps.proofs.Growth.{checkpoints_change_nothing}
-use Rattle.im_steps.proofs.Durable.{commits_stand}
-use Rattle.im_steps.proofs.Lived.{rows_tell}
-use Rattle.im_steps.proofs.Logging.{logged_checkpoints_served}
+use Rattle.im_engine_lock.specs.View.{View}
+use Rattle.im_theory_steps.specs.Growth.{AreBelow, IsCheckpointed}
+use Rattle.im_theory_steps.specs.Serving.{IsServing}
+use Rattle.im_theory_steps.proofs.Growth.{checkpoints_change_nothing}
+use Rattle.im_theory_steps.proofs.Durable.{commits_stand}
+use Rattle.im_theory_steps.proofs.Lived.{rows_tell}
+use Rattle.im_theory_steps.proofs.Logging.{logged_checkpoints_served}
 use Rattle.im_engine.specs.declared.engine.Engine.{Engine}
 use Rattle.im_engine.specs.Faults.{told_as}
 use Rattle.im_engine.specs.Numbered.{Numbered}

@@ -4,22 +4,22 @@ use Rattle.std.specs.Prelude.{◌==◌}
 use Rattle.std.specs.FinMap.{empty, entries, len-empty, len-entries}
 use Rattle.std.proofs.lemmas.Bool.{cases_eq, ne_eqb}
 use Rattle.std.proofs.lemmas.Bool.Decides.{nat_tests}
-use Rattle.im_types.specs.Keys.{key_order}
-use Rattle.im_types.specs.Pages.{Entry, Body, Page}
-use Rattle.im_types.specs.declared.page_kind.PageKind.TheVariants.{Free, Meta, Leaf}
-use Rattle.im_types.specs.declared.file_id.FileId.TheVariants.{Log, Pages}
-use Rattle.im_types.specs.Histories.{Base}
-use Rattle.im_types.specs.LogLaws.{bodies}
-use Rattle.im_types.specs.Lawful.{IsLawful}
-use Rattle.im_types.proofs.RedoPoints.{covers_base}
-use Rattle.im_disk.specs.Disk.{Files}
-use Rattle.im_gate.specs.Header.{base_of}
+use Rattle.im_base_types.specs.Keys.{key_order}
+use Rattle.im_base_types.specs.Pages.{Entry, Body, Page}
+use Rattle.im_base_types.specs.declared.page_kind.PageKind.TheVariants.{Free, Meta, Leaf}
+use Rattle.im_base_types.specs.declared.file_id.FileId.TheVariants.{Log, Pages}
+use Rattle.im_theory_log.specs.Histories.{Base}
+use Rattle.im_theory_log.specs.LogLaws.{bodies}
+use Rattle.im_theory_log.specs.Lawful.{IsLawful}
+use Rattle.im_theory_log.proofs.RedoPoints.{covers_base}
+use Rattle.im_base_disk.specs.Disk.{Files}
+use Rattle.im_log_gate.specs.Header.{base_of}
 use Rattle.im_page.specs.Header.{initial}
 use Rattle.im_page.specs.PageFile.{file_page}
 use Rattle.im_page.proofs.PageFileLemmas.{page_past}
 use Rattle.im_restart.specs.Restart.{IsFresh, HasStore}
-use Rattle.im_tree.specs.Good.{times, IsGoodTree}
-use Rattle.im_tree.specs.Theory.{page_tree}
+use Rattle.im_theory_tree.specs.Good.{times, IsGoodTree}
+use Rattle.im_theory_tree.specs.Theory.{page_tree}
 use Rattle.im_engine.specs.Stands.{StandsFor}
 
 -- ---- what a new store finds

@@ -2,64 +2,64 @@
 use Rattle.std.proofs.Common.{◌≡◌, ◌≢◌, ◌⊎◌, inl, inr, ℕ, ◌≤◌, List, [], ◌∷◌, ◌++◌, true, false, cond, is_some, Option, Some, None, Result, Ok, Err, map, refl, sym, ap, subst, ◌∙◌}
 use Rattle.std.specs.Prelude.{find}
 use Rattle.std.specs.FinMap.{get}
-use Rattle.im_types.specs.Answers as answers
-use Rattle.im_types.specs.Answers.{Insert, Do, Refused, Reply, answer, changes}
-use Rattle.im_types.specs.Changes.{Change, Effect, Put}
-use Rattle.im_types.specs.Histories.{Base, History}
-use Rattle.im_types.specs.Keys.{Key}
-use Rattle.im_types.specs.Lawful.{IsLawful}
-use Rattle.im_types.specs.Lawful as lawful
-use Rattle.im_types.specs.Lives.{Shown, shows}
-use Rattle.im_types.specs.Maps.{IndexMap}
-use Rattle.im_types.specs.Records.{InsertKey, Logged}
-use Rattle.im_types.specs.Refusals.{memory, pages_full}
-use Rattle.im_types.specs.Structure.{open_smo, settled}
-use Rattle.im_types.specs.Transactions.{contents, last_of}
-use Rattle.im_types.specs.Writer.{Writer}
-use Rattle.im_types.specs.declared.fault.Fault.{Fault}
-use Rattle.im_types.specs.declared.fault.Fault.TheVariants.{Capacity, Device, Failed, LogFull, Memory, NotAStore, PagesFull}
-use Rattle.im_disk.specs.declared.disk.Disk.{Ghosts}
-use Rattle.im_disk.specs.Disk.{Files}
-use Rattle.im_disk.specs.Runs.{LeavesOnly}
+use Rattle.im_base_types.specs.Answers as answers
+use Rattle.im_base_types.specs.Answers.{Insert, Do, Refused, Reply, answer, changes}
+use Rattle.im_base_types.specs.Changes.{Change, Effect, Put}
+use Rattle.im_theory_log.specs.Histories.{Base, History}
+use Rattle.im_base_types.specs.Keys.{Key}
+use Rattle.im_theory_log.specs.Lawful.{IsLawful}
+use Rattle.im_theory_log.specs.Lawful as lawful
+use Rattle.im_base_types.specs.Lives.{Shown, shows}
+use Rattle.im_base_types.specs.Maps.{IndexMap}
+use Rattle.im_base_types.specs.Records.{InsertKey, Logged}
+use Rattle.im_base_types.specs.Refusals.{memory, pages_full}
+use Rattle.im_theory_log.specs.Structure.{open_smo, settled}
+use Rattle.im_theory_log.specs.Transactions.{contents, last_of}
+use Rattle.im_theory_log.specs.Writer.{Writer}
+use Rattle.im_base_types.specs.declared.fault.Fault.{Fault}
+use Rattle.im_base_types.specs.declared.fault.Fault.TheVariants.{Capacity, Device, Failed, LogFull, Memory, NotAStore, PagesFull}
+use Rattle.im_base_disk.specs.declared.disk.Disk.{Ghosts}
+use Rattle.im_base_disk.specs.Disk.{Files}
+use Rattle.im_base_disk.specs.Runs.{LeavesOnly}
 use Rattle.im_log.specs.declared.log_file.LogFile.{LogFile}
-use Rattle.im_flush.specs.declared.page_writer.PageWriter.{PageWriter}
-use Rattle.im_flush.specs.Outcome.{LogEnds, pages_of}
-use Rattle.im_flush.specs.PageWriter.{Evicted}
-use Rattle.im_tree.specs.Levels.{Pages}
-use Rattle.im_tree.specs.Theory.{page_tree}
-use Rattle.im_tree.proofs.TheoryLaws.{page_tree_laws}
-use Rattle.im_search.specs.Levels.{bodies_of}
-use Rattle.im_split.specs.Kept.{mild_to_split}
-use Rattle.im_split.specs.Plan.{IsOver, IsWithin}
-use Rattle.im_split.specs.Tops.{LacksRoomFor}
-use Rattle.im_structure.specs.Structure.{IsUsedUp}
-use Rattle.im_txn.specs.declared.transaction.Mark.TheVariants.{Going, MustRollBack}
-use Rattle.im_txn.specs.declared.transaction.Transaction.{Transaction}
-use Rattle.im_txn.specs.Rows.{is_of, changed, with_mark, with_record}
-use Rattle.im_txn.proofs.LookUps.{look_ups_follow}
-use Rattle.im_lock.specs.Rows.{asked}
-use Rattle.im_lock.specs.Table.{Table, Decides, SameTable, locks_of}
-use Rattle.im_lock.specs.declared.verdict.Verdict.TheVariants.{Granted as GrantedAll}
-use Rattle.im_lock.specs.View.{View, did}
-use Rattle.im_lock.specs.Machine.{Breaks, barred, keys_fit}
+use Rattle.im_page_writer.specs.declared.page_writer.PageWriter.{PageWriter}
+use Rattle.im_page_writer.specs.Outcome.{LogEnds, pages_of}
+use Rattle.im_page_writer.specs.PageWriter.{Evicted}
+use Rattle.im_theory_tree.specs.Levels.{Pages}
+use Rattle.im_theory_tree.specs.Theory.{page_tree}
+use Rattle.im_theory_tree.proofs.TheoryLaws.{page_tree_laws}
+use Rattle.im_tree_search.specs.Levels.{bodies_of}
+use Rattle.im_smo_split.specs.Kept.{mild_to_split}
+use Rattle.im_smo_split.specs.Plan.{IsOver, IsWithin}
+use Rattle.im_smo_split.specs.Tops.{LacksRoomFor}
+use Rattle.im_smo_actions.specs.Structure.{IsUsedUp}
+use Rattle.im_engine_txn.specs.declared.transaction.Mark.TheVariants.{Going, MustRollBack}
+use Rattle.im_engine_txn.specs.declared.transaction.Transaction.{Transaction}
+use Rattle.im_engine_txn.specs.Rows.{is_of, changed, with_mark, with_record}
+use Rattle.im_engine_txn.proofs.LookUps.{look_ups_follow}
+use Rattle.im_engine_lock.specs.Rows.{asked}
+use Rattle.im_engine_lock.specs.Table.{Table, Decides, SameTable, locks_of}
+use Rattle.im_engine_lock.specs.declared.verdict.Verdict.TheVariants.{Granted as GrantedAll}
+use Rattle.im_engine_lock.specs.View.{View, did}
+use Rattle.im_engine_lock.specs.Machine.{Breaks, barred, keys_fit}
 use Rattle.im_front.specs.declared.fault.Fault.{Fault as Refusal}
 use Rattle.im_front.specs.declared.fault.Fault.TheVariants as above
 use Rattle.im_front.specs.declared.reply.Reply as said
 use Rattle.im_front.specs.declared.reply.Reply.TheVariants as replies
 use Rattle.im_front.specs.Calls.{number_of}
-use Rattle.im_steps.specs.Checks.{checked_by}
-use Rattle.im_steps.specs.Growth.{GrowsWithin}
-use Rattle.im_steps.specs.Serving.{IsServed}
-use Rattle.im_steps.specs.Steps.{IsOnTheWay, key_record}
-use Rattle.im_steps.proofs.Lived.{rows_tell}
-use Rattle.im_steps.proofs.Logging.{inserts_served}
-use Rattle.im_steps.proofs.Steps.{lacks_served, ways_lead_on}
-use Rattle.im_index.specs.declared.noted.Noted.{Noted}
-use Rattle.im_index.specs.declared.outcome.Outcome.{Outcome}
-use Rattle.im_index.specs.declared.outcome.Outcome.TheVariants.{Granted, Wait, Die}
-use Rattle.im_index.specs.Edits.{MayEdit, Inserted, InsertKept}
-use Rattle.im_index.specs.KeyLogs.{LeavesEdit}
-use Rattle.im_index.proofs.KeyLogs.{grows_within}
+use Rattle.im_theory_steps.specs.Checks.{checked_by}
+use Rattle.im_theory_steps.specs.Growth.{GrowsWithin}
+use Rattle.im_theory_steps.specs.Serving.{IsServed}
+use Rattle.im_theory_steps.specs.Steps.{IsOnTheWay, key_record}
+use Rattle.im_theory_steps.proofs.Lived.{rows_tell}
+use Rattle.im_theory_steps.proofs.Logging.{inserts_served}
+use Rattle.im_theory_steps.proofs.Steps.{lacks_served, ways_lead_on}
+use Rattle.im_engine_index.specs.declared.noted.Noted.{Noted}
+use Rattle.im_engine_index.specs.declared.outcome.Outcome.{Outcome}
+use Rattle.im_engine_index.specs.declared.outcome.Outcome.TheVariants.{Granted, Wait, Die}
+use Rattle.im_engine_index.specs.Edits.{MayEdit, Inserted, InsertKept}
+use Rattle.im_engine_index.specs.KeyLogs.{LeavesEdit}
+use Rattle.im_engine_index.proofs.KeyLogs.{grows_within}
 use Rattle.im_engine.specs.declared.engine.Engine.{Engine}
 use Rattle.im_engine.specs.Faults.{told_as, ends_engine}
 use Rattle.im_engine.specs.Running.{IsRunning, IsLife}

@@ -1,11 +1,11 @@
 -- Lives one after another.
 use Rattle.std.proofs.Common.{inl, inr, ℕ, zero, suc, List, [], ◌∷◌, take, None, Some, Result, Ok, Err, IfOk, IfErr, OnErr, refl, sym, subst}
-use Rattle.im_types.specs.Changes.{Effect}
-use Rattle.im_types.specs.Lives.{Asked, Shown, StandsForMore, nothing_shown, shows, shown_by}
+use Rattle.im_base_types.specs.Changes.{Effect}
+use Rattle.im_base_types.specs.Lives.{Asked, Shown, StandsForMore, nothing_shown, shows, shown_by}
 use Rattle.im_front.specs.Calls.{asked_by, told_by}
 use Rattle.im_front.specs.declared.reply.Reply.{Reply}
 use Rattle.im_front.specs.declared.step.Step.{Step}
-use Rattle.im_disk.specs.Disk.{Files}
+use Rattle.im_base_disk.specs.Disk.{Files}
 use Rattle.im_engine.specs.Stands.{StandsFor, Allowed}
 use Rattle.im_engine.specs.Turns.{answered_by, IsCutOff, IsCutOffBehind}
 use Rattle.im_engine.specs.Lived.{Life, AreLives, AreKept, IsAskedBehind}

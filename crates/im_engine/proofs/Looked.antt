@@ -2,31 +2,31 @@
 use Rattle.std.proofs.Common.{◌≡◌, ◌≢◌, inl, inr, ℕ, ◌≤◌, ◌^◌, List, [], ◌++◌, Bool, true, false, Option, None, Some, Result, Ok, Err, IfErr, OnOk, refl, sym, ap, subst, ◌∙◌}
 use Rattle.std.proofs.lemmas.Bool.{cases_Bool}
 use Rattle.std.specs.FinMap.{empty, entries}
-use Rattle.im_types.specs.Maps.{IndexMap}
-use Rattle.im_types.specs.Pages.{Entry}
-use Rattle.im_types.specs.Changes.{Effect, apply_all}
-use Rattle.im_types.specs.Histories.{Base}
-use Rattle.im_types.specs.Lives.{Shown, breaks, effects}
-use Rattle.im_types.specs.Faults.{number_of}
-use Rattle.im_types.specs.declared.fault.Fault.{Fault}
-use Rattle.im_types.specs.declared.fault.Fault.TheVariants.{Failed, LogFull, Device, Memory, NotAStore}
-use Rattle.im_disk.specs.declared.disk.Disk.{Ghosts}
-use Rattle.im_disk.specs.Disk.{Files}
-use Rattle.im_disk.specs.Runs.{LeavesOnly}
-use Rattle.im_disk.proofs.Runs.{started}
+use Rattle.im_base_types.specs.Maps.{IndexMap}
+use Rattle.im_base_types.specs.Pages.{Entry}
+use Rattle.im_base_types.specs.Changes.{Effect, apply_all}
+use Rattle.im_theory_log.specs.Histories.{Base}
+use Rattle.im_base_types.specs.Lives.{Shown, breaks, effects}
+use Rattle.im_base_types.specs.Faults.{number_of}
+use Rattle.im_base_types.specs.declared.fault.Fault.{Fault}
+use Rattle.im_base_types.specs.declared.fault.Fault.TheVariants.{Failed, LogFull, Device, Memory, NotAStore}
+use Rattle.im_base_disk.specs.declared.disk.Disk.{Ghosts}
+use Rattle.im_base_disk.specs.Disk.{Files}
+use Rattle.im_base_disk.specs.Runs.{LeavesOnly}
+use Rattle.im_base_disk.proofs.Runs.{started}
 use Rattle.im_log.proofs.Above.{left_now}
-use Rattle.im_flush.specs.PageWriter.{Evicted}
-use Rattle.im_flush.specs.Outcome.{fault_of, AreLoaded, Ends, mild}
-use Rattle.im_tree.specs.Theory.{page_tree}
-use Rattle.im_lock.specs.Locks.{Lock}
-use Rattle.im_lock.specs.Table.{Table, locks_of}
-use Rattle.im_lock.specs.View.{View, locks_in, broken}
-use Rattle.im_steps.specs.Growth.{AreBelow}
-use Rattle.im_steps.specs.Serving.{IsServing}
-use Rattle.im_steps.proofs.Growth.{copies_are_images, images_change_nothing}
-use Rattle.im_steps.proofs.Steps.{images_keep}
-use Rattle.im_steps.proofs.Durable.{commits_stand, quiet_lives_settle}
-use Rattle.im_steps.proofs.Lived.{lives_go_on}
+use Rattle.im_page_writer.specs.PageWriter.{Evicted}
+use Rattle.im_page_writer.specs.Outcome.{fault_of, AreLoaded, Ends, mild}
+use Rattle.im_theory_tree.specs.Theory.{page_tree}
+use Rattle.im_engine_lock.specs.Locks.{Lock}
+use Rattle.im_engine_lock.specs.Table.{Table, locks_of}
+use Rattle.im_engine_lock.specs.View.{View, locks_in, broken}
+use Rattle.im_theory_steps.specs.Growth.{AreBelow}
+use Rattle.im_theory_steps.specs.Serving.{IsServing}
+use Rattle.im_theory_steps.proofs.Growth.{copies_are_images, images_change_nothing}
+use Rattle.im_theory_steps.proofs.Steps.{images_keep}
+use Rattle.im_theory_steps.proofs.Durable.{commits_stand, quiet_lives_settle}
+use Rattle.im_theory_steps.proofs.Lived.{lives_go_on}
 use Rattle.im_engine.specs.declared.engine.Engine.{Engine}
 use Rattle.im_engine.specs.Faults.{told_as, ends_engine}
 use Rattle.im_engine.specs.Told.{ReadCause}

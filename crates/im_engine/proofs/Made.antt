@@ -2,36 +2,36 @@
 use Rattle.std.proofs.Common.{◌≡◌, ◌≢◌, ℕ, ◌≤◌, ◌^◌, List, [], true, false, None, Some, refl, sym, ap, subst, ◌∙◌}
 use Rattle.std.specs.Prelude.{find}
 use Rattle.std.specs.FinMap.{empty}
-use Rattle.im_types.specs.Answers as answers
-use Rattle.im_types.specs.Answers.{Access, Step, Do, Commit, Reply, Refused, answer, changes}
-use Rattle.im_types.specs.Changes.{Effect, apply_all}
-use Rattle.im_types.specs.Histories.{Base, History}
-use Rattle.im_types.specs.Writer.{Writer}
-use Rattle.im_types.specs.Lives.{Asked, Shown, shows}
-use Rattle.im_types.proofs.Histories.{front_of_front}
-use Rattle.im_disk.specs.declared.disk.Disk.{Ghosts}
-use Rattle.im_disk.specs.Disk.{Files}
-use Rattle.im_disk.specs.Runs.{LeavesOnly}
-use Rattle.im_disk.proofs.Runs.{weakened}
-use Rattle.im_flush.specs.PageWriter.{StandsAs, GoesOn, Evicted}
-use Rattle.im_tree.specs.Theory.{page_tree}
-use Rattle.im_txn.specs.declared.transaction.Mark.TheVariants.{Going}
-use Rattle.im_txn.specs.declared.transaction.Transaction.{Transaction}
-use Rattle.im_txn.specs.Rows.{is_of}
-use Rattle.im_lock.specs.Locks.{Lock}
-use Rattle.im_lock.specs.Rows.{asked}
-use Rattle.im_lock.specs.Table.{Table, Decides, locks_of}
-use Rattle.im_lock.specs.declared.verdict.Verdict.TheVariants.{Granted}
-use Rattle.im_lock.specs.View.{View, did, broken}
-use Rattle.im_lock.specs.Machine.{Moves, Breaks, barred, keys_fit}
-use Rattle.im_steps.specs.Growth.{AreBelow, Stays, IsOfAll}
-use Rattle.im_steps.specs.Serving.{IsServing, IsServed}
-use Rattle.im_steps.specs.Durable.{AreCommitted}
-use Rattle.im_steps.proofs.Growth.{copies_are_images, images_change_nothing}
-use Rattle.im_steps.proofs.Steps.{reads_served}
-use Rattle.im_steps.proofs.Asking.{asks_nothing}
-use Rattle.im_steps.proofs.Durable.{commits_stand, others_ask_nothing}
-use Rattle.im_steps.proofs.Lived.{lives_go_on}
+use Rattle.im_base_types.specs.Answers as answers
+use Rattle.im_base_types.specs.Answers.{Access, Step, Do, Commit, Reply, Refused, answer, changes}
+use Rattle.im_base_types.specs.Changes.{Effect, apply_all}
+use Rattle.im_theory_log.specs.Histories.{Base, History}
+use Rattle.im_theory_log.specs.Writer.{Writer}
+use Rattle.im_base_types.specs.Lives.{Asked, Shown, shows}
+use Rattle.im_theory_log.proofs.Histories.{front_of_front}
+use Rattle.im_base_disk.specs.declared.disk.Disk.{Ghosts}
+use Rattle.im_base_disk.specs.Disk.{Files}
+use Rattle.im_base_disk.specs.Runs.{LeavesOnly}
+use Rattle.im_base_disk.proofs.Runs.{weakened}
+use Rattle.im_page_writer.specs.PageWriter.{StandsAs, GoesOn, Evicted}
+use Rattle.im_theory_tree.specs.Theory.{page_tree}
+use Rattle.im_engine_txn.specs.declared.transaction.Mark.TheVariants.{Going}
+use Rattle.im_engine_txn.specs.declared.transaction.Transaction.{Transaction}
+use Rattle.im_engine_txn.specs.Rows.{is_of}
+use Rattle.im_engine_lock.specs.Locks.{Lock}
+use Rattle.im_engine_lock.specs.Rows.{asked}
+use Rattle.im_engine_lock.specs.Table.{Table, Decides, locks_of}
+use Rattle.im_engine_lock.specs.declared.verdict.Verdict.TheVariants.{Granted}
+use Rattle.im_engine_lock.specs.View.{View, did, broken}
+use Rattle.im_engine_lock.specs.Machine.{Moves, Breaks, barred, keys_fit}
+use Rattle.im_theory_steps.specs.Growth.{AreBelow, Stays, IsOfAll}
+use Rattle.im_theory_steps.specs.Serving.{IsServing, IsServed}
+use Rattle.im_theory_steps.specs.Durable.{AreCommitted}
+use Rattle.im_theory_steps.proofs.Growth.{copies_are_images, images_change_nothing}
+use Rattle.im_theory_steps.proofs.Steps.{reads_served}
+use Rattle.im_theory_steps.proofs.Asking.{asks_nothing}
+use Rattle.im_theory_steps.proofs.Durable.{commits_stand, others_ask_nothing}
+use Rattle.im_theory_steps.proofs.Lived.{lives_go_on}
 use Rattle.im_engine.specs.declared.engine.Engine.{Engine}
 use Rattle.im_engine.specs.Stands.{Allowed}
 use Rattle.im_engine.specs.Numbered.{Numbered}

@@ -1,11 +1,11 @@
 -- One life, from its opening on.
 use Rattle.std.proofs.Common.{ℕ, zero, suc, ◌≤◌, List, [], length, take, Ok, refl, arith}
-use Rattle.im_types.specs.Lives.{nothing_shown}
+use Rattle.im_base_types.specs.Lives.{nothing_shown}
 use Rattle.im_front.specs.declared.step.Step.{Step}
 use Rattle.im_front.specs.declared.reply.Reply.{Reply}
-use Rattle.im_disk.specs.declared.disk.Disk.{Ghosts}
-use Rattle.im_disk.specs.Disk.{Files}
-use Rattle.im_disk.proofs.Runs.{weakened, then_on}
+use Rattle.im_base_disk.specs.declared.disk.Disk.{Ghosts}
+use Rattle.im_base_disk.specs.Disk.{Files}
+use Rattle.im_base_disk.proofs.Runs.{weakened, then_on}
 use Rattle.im_engine.specs.declared.config.Config.{Config}
 use Rattle.im_engine.specs.declared.engine.Engine.{Engine}
 use Rattle.im_engine.specs.Opening.{IsOpening}

@@ -1,31 +1,31 @@
 -- An opening.
 use Rattle.std.proofs.Common.{◌≡◌, ℕ, ◌≤◌, ◌^◌, List, [], ◌++◌, false, refl, sym, ap, subst, ◌∙◌, arith}
 use Rattle.std.specs.FinMap.{empty}
-use Rattle.im_types.specs.declared.file_id.FileId.TheVariants.{Log}
-use Rattle.im_types.specs.Changes.{Effect, apply_all, seen}
-use Rattle.im_types.specs.Histories.{Base, History}
-use Rattle.im_types.specs.Transactions.{committed}
-use Rattle.im_types.specs.Lives.{Shown, nothing_shown}
-use Rattle.im_types.proofs.Lives.{survives_none}
-use Rattle.im_disk.specs.declared.disk.Disk.{Ghosts}
-use Rattle.im_disk.specs.Disk.{Files}
-use Rattle.im_disk.specs.Runs.{LeavesOnly, IsSynced}
-use Rattle.im_disk.proofs.Runs.{started, weakened}
+use Rattle.im_base_types.specs.declared.file_id.FileId.TheVariants.{Log}
+use Rattle.im_base_types.specs.Changes.{Effect, apply_all, seen}
+use Rattle.im_theory_log.specs.Histories.{Base, History}
+use Rattle.im_theory_log.specs.Transactions.{committed}
+use Rattle.im_base_types.specs.Lives.{Shown, nothing_shown}
+use Rattle.im_theory_log.proofs.Lives.{survives_none}
+use Rattle.im_base_disk.specs.declared.disk.Disk.{Ghosts}
+use Rattle.im_base_disk.specs.Disk.{Files}
+use Rattle.im_base_disk.specs.Runs.{LeavesOnly, IsSynced}
+use Rattle.im_base_disk.proofs.Runs.{started, weakened}
 use Rattle.im_restart.specs.Restart.{MayRestart, IsLeftUndoing, IsRestarted}
 use Rattle.im_restart.specs.declared.restarted.Restarted.{Restarted}
-use Rattle.im_flush.specs.declared.page_writer.PageWriter.{PageWriter}
-use Rattle.im_flush.specs.PageWriter.{StandsAs}
-use Rattle.im_gate.specs.Header.{least_number}
-use Rattle.im_analysis.specs.Numbers.{IsNextNumber}
-use Rattle.im_tree.specs.Theory.{page_tree}
-use Rattle.im_txn.specs.declared.transaction.Transaction.{Transaction}
-use Rattle.im_lock.specs.View.{View}
-use Rattle.im_lock.specs.Machine.{start}
-use Rattle.im_lock.specs.Table.{Table}
-use Rattle.im_steps.specs.Growth.{AreBelow}
-use Rattle.im_steps.specs.Serving.{IsServing}
-use Rattle.im_steps.proofs.Durable.{commits_stand}
-use Rattle.im_steps.proofs.Steps.{opened_serves, quiet_logs}
+use Rattle.im_page_writer.specs.declared.page_writer.PageWriter.{PageWriter}
+use Rattle.im_page_writer.specs.PageWriter.{StandsAs}
+use Rattle.im_log_gate.specs.Header.{least_number}
+use Rattle.im_restart_analysis.specs.Numbers.{IsNextNumber}
+use Rattle.im_theory_tree.specs.Theory.{page_tree}
+use Rattle.im_engine_txn.specs.declared.transaction.Transaction.{Transaction}
+use Rattle.im_engine_lock.specs.View.{View}
+use Rattle.im_engine_lock.specs.Machine.{start}
+use Rattle.im_engine_lock.specs.Table.{Table}
+use Rattle.im_theory_steps.specs.Growth.{AreBelow}
+use Rattle.im_theory_steps.specs.Serving.{IsServing}
+use Rattle.im_theory_steps.proofs.Durable.{commits_stand}
+use Rattle.im_theory_steps.proofs.Steps.{opened_serves, quiet_logs}
 use Rattle.im_engine.specs.declared.engine.Engine.{Engine}
 use Rattle.im_engine.specs.Stands.{StandsFor, Allowed}
 use Rattle.im_engine.specs.Running.{IsRunning, IsLife}

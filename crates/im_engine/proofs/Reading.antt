@@ -1,36 +1,36 @@
 -- Accesses that change nothing.
 use Rattle.std.proofs.Common.{◌≡◌, ◌≢◌, inl, inr, ℕ, ◌≤◌, List, [], Bool, true, false, Option, Some, None, refl, sym, ap, subst, ◌∙◌}
 use Rattle.std.specs.Prelude.{map}
-use Rattle.im_types.specs.Answers as answers
-use Rattle.im_types.specs.Answers.{Access, Do, Commit, Reply, Refused, Blocked, Die, answer, changes}
-use Rattle.im_types.specs.Changes.{Effect}
-use Rattle.im_types.specs.Histories.{Base}
-use Rattle.im_types.specs.Refusals.{memory}
-use Rattle.im_types.specs.declared.fault.Fault.{Fault}
-use Rattle.im_types.specs.declared.fault.Fault.TheVariants.{NotAStore}
-use Rattle.im_types.specs.Lives.{Shown, shows}
-use Rattle.im_disk.specs.declared.disk.Disk.{Ghosts}
-use Rattle.im_disk.specs.Disk.{Files}
-use Rattle.im_flush.specs.Outcome.{Reads}
+use Rattle.im_base_types.specs.Answers as answers
+use Rattle.im_base_types.specs.Answers.{Access, Do, Commit, Reply, Refused, Blocked, Die, answer, changes}
+use Rattle.im_base_types.specs.Changes.{Effect}
+use Rattle.im_theory_log.specs.Histories.{Base}
+use Rattle.im_base_types.specs.Refusals.{memory}
+use Rattle.im_base_types.specs.declared.fault.Fault.{Fault}
+use Rattle.im_base_types.specs.declared.fault.Fault.TheVariants.{NotAStore}
+use Rattle.im_base_types.specs.Lives.{Shown, shows}
+use Rattle.im_base_disk.specs.declared.disk.Disk.{Ghosts}
+use Rattle.im_base_disk.specs.Disk.{Files}
+use Rattle.im_page_writer.specs.Outcome.{Reads}
 use Rattle.im_front.specs.Calls.{number_of}
 use Rattle.im_front.specs.declared.fault.Fault.{Fault as Refusal}
-use Rattle.im_index.specs.declared.outcome.Outcome.{Outcome}
-use Rattle.im_index.specs.declared.outcome.Outcome.TheVariants.{Granted as OutcomeGranted, Wait as OutcomeWait, Die as OutcomeDie}
-use Rattle.im_index.specs.Outcomes.{seek_at}
-use Rattle.im_index.specs.Reads.{IsRead}
-use Rattle.im_types.specs.Keys.{Key}
-use Rattle.im_types.specs.Maps.{IndexMap}
-use Rattle.im_txn.specs.Rows.{changed, with_mark}
-use Rattle.im_txn.specs.declared.transaction.Mark.TheVariants.{MustRollBack}
-use Rattle.im_lock.specs.Rows.{asked}
-use Rattle.im_lock.specs.Table.{SameTable, Decides, locks_of}
-use Rattle.im_lock.specs.declared.verdict.Verdict.TheVariants.{Granted, Wait, Die as MustDie}
-use Rattle.im_lock.specs.View.{View, did, marked}
-use Rattle.im_lock.specs.Machine.{Wants, barred}
-use Rattle.im_steps.specs.Checks.{checked_by}
-use Rattle.im_steps.proofs.Asking.{asks_nothing, waits_ask_nothing, dies_ask_nothing}
-use Rattle.im_steps.proofs.Lived.{rows_tell}
-use Rattle.im_steps.proofs.Steps.{reads_served, waits_served, dies_served}
+use Rattle.im_engine_index.specs.declared.outcome.Outcome.{Outcome}
+use Rattle.im_engine_index.specs.declared.outcome.Outcome.TheVariants.{Granted as OutcomeGranted, Wait as OutcomeWait, Die as OutcomeDie}
+use Rattle.im_engine_index.specs.Outcomes.{seek_at}
+use Rattle.im_engine_index.specs.Reads.{IsRead}
+use Rattle.im_base_types.specs.Keys.{Key}
+use Rattle.im_base_types.specs.Maps.{IndexMap}
+use Rattle.im_engine_txn.specs.Rows.{changed, with_mark}
+use Rattle.im_engine_txn.specs.declared.transaction.Mark.TheVariants.{MustRollBack}
+use Rattle.im_engine_lock.specs.Rows.{asked}
+use Rattle.im_engine_lock.specs.Table.{SameTable, Decides, locks_of}
+use Rattle.im_engine_lock.specs.declared.verdict.Verdict.TheVariants.{Granted, Wait, Die as MustDie}
+use Rattle.im_engine_lock.specs.View.{View, did, marked}
+use Rattle.im_engine_lock.specs.Machine.{Wants, barred}
+use Rattle.im_theory_steps.specs.Checks.{checked_by}
+use Rattle.im_theory_steps.proofs.Asking.{asks_nothing, waits_ask_nothing, dies_ask_nothing}
+use Rattle.im_theory_steps.proofs.Lived.{rows_tell}
+use Rattle.im_theory_steps.proofs.Steps.{reads_served, waits_served, dies_served}
 use Rattle.im_engine.specs.declared.engine.Engine.{Engine}
 use Rattle.im_engine.specs.Faults.{told_as, ends_engine}
 use Rattle.im_engine.specs.Numbered.{Numbered}

@@ -1,27 +1,27 @@
 -- Steps that calls of the writer refuse.
 use Rattle.std.proofs.Common.{◌≡◌, ◌≢◌, ◌⊎◌, inl, inr, ℕ, ◌≤◌, List, Bool, true, false, not, Option, Some, None, refl, sym, ap, subst, ◌∙◌}
-use Rattle.im_types.specs.Answers.{Step, Begin, Do, Commit, Rollback, Continue, FlushPage, Force, Checkpoint, Reply, Refused}
-use Rattle.im_types.specs.Changes.{Effect}
-use Rattle.im_types.specs.Histories.{Base, History}
-use Rattle.im_types.specs.Refusals.{memory}
-use Rattle.im_types.specs.declared.fault.Fault.{Fault}
-use Rattle.im_types.specs.declared.fault.Fault.TheVariants.{Failed, LogFull, Device, Memory, NotAStore}
-use Rattle.im_types.specs.Lives.{Shown, shows}
-use Rattle.im_disk.specs.declared.disk.Disk.{Ghosts}
-use Rattle.im_disk.specs.Disk.{Files}
-use Rattle.im_disk.specs.Runs.{LeavesOnly}
+use Rattle.im_base_types.specs.Answers.{Step, Begin, Do, Commit, Rollback, Continue, FlushPage, Force, Checkpoint, Reply, Refused}
+use Rattle.im_base_types.specs.Changes.{Effect}
+use Rattle.im_theory_log.specs.Histories.{Base, History}
+use Rattle.im_base_types.specs.Refusals.{memory}
+use Rattle.im_base_types.specs.declared.fault.Fault.{Fault}
+use Rattle.im_base_types.specs.declared.fault.Fault.TheVariants.{Failed, LogFull, Device, Memory, NotAStore}
+use Rattle.im_base_types.specs.Lives.{Shown, shows}
+use Rattle.im_base_disk.specs.declared.disk.Disk.{Ghosts}
+use Rattle.im_base_disk.specs.Disk.{Files}
+use Rattle.im_base_disk.specs.Runs.{LeavesOnly}
 use Rattle.im_log.proofs.Above.{left_now}
-use Rattle.im_flush.specs.declared.page_writer.PageWriter.{PageWriter}
-use Rattle.im_flush.specs.PageWriter.{Evicted}
-use Rattle.im_flush.specs.Outcome.{Reads, AreLoaded, mild, Ends, none_mild, LogEnds}
+use Rattle.im_page_writer.specs.declared.page_writer.PageWriter.{PageWriter}
+use Rattle.im_page_writer.specs.PageWriter.{Evicted}
+use Rattle.im_page_writer.specs.Outcome.{Reads, AreLoaded, mild, Ends, none_mild, LogEnds}
 use Rattle.im_front.specs.Calls.{number_of}
-use Rattle.im_lock.specs.Table.{Table, SameTable, locks_of}
-use Rattle.im_lock.specs.View.{View}
-use Rattle.im_lock.specs.Machine.{Breaks, Wants, barred}
-use Rattle.im_steps.specs.Serving.{IsServing}
-use Rattle.im_steps.proofs.Asking.{refusals_ask_nothing}
-use Rattle.im_steps.proofs.Durable.{others_ask_nothing}
-use Rattle.im_steps.proofs.Steps.{lacks_served}
+use Rattle.im_engine_lock.specs.Table.{Table, SameTable, locks_of}
+use Rattle.im_engine_lock.specs.View.{View}
+use Rattle.im_engine_lock.specs.Machine.{Breaks, Wants, barred}
+use Rattle.im_theory_steps.specs.Serving.{IsServing}
+use Rattle.im_theory_steps.proofs.Asking.{refusals_ask_nothing}
+use Rattle.im_theory_steps.proofs.Durable.{others_ask_nothing}
+use Rattle.im_theory_steps.proofs.Steps.{lacks_served}
 use Rattle.im_engine.specs.declared.engine.Engine.{Engine}
 use Rattle.im_engine.specs.Faults.{told_as, ends_engine}
 use Rattle.im_engine.specs.Stands.{Allowed}

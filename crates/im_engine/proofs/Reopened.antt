@@ -2,18 +2,18 @@
 use Rattle.std.proofs.Common.{◌≡◌, ℕ, ◌<◌, ◌≤◌, ◌-◌, ◌^◌, [], ◌∷◌, ◌++◌, Bool, true, false, inl, inr, refl, sym, ap, subst, ◌∙◌, arith}
 use Rattle.std.specs.Prelude.{not, ◌==◌, ◌&&◌, ◌||◌, nat_le, min}
 use Rattle.std.proofs.lemmas.Bool.{cases_Bool, cases_eq, and_parts, ne_eqb, eq-eqb, cond-true, cond-false}
-use Rattle.im_types.specs.Records.{What, InsertKey, DeleteKey, UndoInsert, UndoDelete, Smo, UndoSmo, DummyClr, Commit, End, Image, Checkpoint, Unreadable, Logged}
-use Rattle.im_types.specs.Histories.{Base, History, IsRecordOf}
-use Rattle.im_types.specs.Structure.{open_after, open_smo}
-use Rattle.im_types.specs.Transactions.{net, last_of, is_finished, to_undo, committed, committed_after}
-use Rattle.im_types.specs.Lawful.{IsLawful}
-use Rattle.im_types.proofs.LogLaws.{nothing_left, none_open}
-use Rattle.im_analysis.specs.Losers.{has_record, is_loser}
-use Rattle.im_analysis.specs.Numbers.{IsNextNumber}
-use Rattle.im_analysis.proofs.Losers.{all_done, loser_from}
+use Rattle.im_base_types.specs.Records.{What, InsertKey, DeleteKey, UndoInsert, UndoDelete, Smo, UndoSmo, DummyClr, Commit, End, Image, Checkpoint, Unreadable, Logged}
+use Rattle.im_theory_log.specs.Histories.{Base, History, IsRecordOf}
+use Rattle.im_theory_log.specs.Structure.{open_after, open_smo}
+use Rattle.im_theory_log.specs.Transactions.{net, last_of, is_finished, to_undo, committed, committed_after}
+use Rattle.im_theory_log.specs.Lawful.{IsLawful}
+use Rattle.im_theory_log.proofs.LogLaws.{nothing_left, none_open}
+use Rattle.im_restart_analysis.specs.Losers.{has_record, is_loser}
+use Rattle.im_restart_analysis.specs.Numbers.{IsNextNumber}
+use Rattle.im_restart_analysis.proofs.Losers.{all_done, loser_from}
 use Rattle.im_restart.specs.Undone.{IsUndo, AreUndo, GrowsByUndo}
-use Rattle.im_tree.specs.Theory.{page_tree}
-use Rattle.im_steps.specs.Growth.{AreBelow, IsOver}
+use Rattle.im_theory_tree.specs.Theory.{page_tree}
+use Rattle.im_theory_steps.specs.Growth.{AreBelow, IsOver}
 
 -- ---- numbers
 

@@ -1,13 +1,13 @@
 -- What a step is answered over any disk: never a full trace, and what its reply begins and ends is what the table then has.
 use Rattle.std.proofs.Common.{◌≡◌, ◌⊎◌, inl, inr, ℕ, ◌≤◌, ◌+◌, ◌-◌, Bool, true, false, List, [], ◌∷◌, length, Option, None, Some, refl, sym, ap, subst, ◌∙◌, true≢false, arith}
 use Rattle.std.proofs.lemmas.Bool.{cases_Bool}
-use Rattle.im_types.specs.Answers as answers
-use Rattle.im_types.specs.declared.fault.Fault as below
-use Rattle.im_disk.specs.declared.disk.Disk.{Ghosts}
+use Rattle.im_base_types.specs.Answers as answers
+use Rattle.im_base_types.specs.declared.fault.Fault as below
+use Rattle.im_base_disk.specs.declared.disk.Disk.{Ghosts}
 use Rattle.im_log.specs.declared.log_file.LogFile.{LogFile}
-use Rattle.im_lock.specs.Machine.{first_check, mark_for}
-use Rattle.im_steps.specs.Checks.{marks_in}
-use Rattle.im_txn.specs.declared.transaction.Transaction.{Transaction}
+use Rattle.im_engine_lock.specs.Machine.{first_check, mark_for}
+use Rattle.im_theory_steps.specs.Checks.{marks_in}
+use Rattle.im_engine_txn.specs.declared.transaction.Transaction.{Transaction}
 use Rattle.im_front.specs.declared.step.Step.{Step}
 use Rattle.im_front.specs.declared.fault.Fault.{Fault}
 use Rattle.im_front.specs.declared.fault.Fault.TheVariants as faults

@@ -2,42 +2,42 @@
 use Rattle.std.proofs.Common.{◌≡◌, ℕ, ◌≤◌, ◌^◌, List, [], false, Option, refl, sym, ap, subst, ◌∙◌}
 use Rattle.std.proofs.Math.Path.{fun_ext}
 use Rattle.std.specs.FinMap.{entries}
-use Rattle.im_types.specs.declared.fault.Fault.{Fault}
-use Rattle.im_types.specs.Maps.{IndexMap}
-use Rattle.im_types.specs.Pages.{Page}
-use Rattle.im_types.specs.Structure.{settled, taken_back}
-use Rattle.im_types.proofs.Redo.{reached_end}
-use Rattle.im_types.proofs.Fronts.{has_tree}
-use Rattle.im_flush.specs.Outcome.{AreLoaded, Reads, Stays, pages_of}
-use Rattle.im_flush.proofs.Outcomes.{leaves_of_end, pages_here}
-use Rattle.im_tree.specs.Levels.{Pages, walk}
-use Rattle.im_tree.specs.Good.{IsGoodTree}
-use Rattle.im_search.specs.Found.{HasTree}
-use Rattle.im_search.specs.Levels.{bodies_of}
-use Rattle.im_types.specs.Changes.{Effect}
-use Rattle.im_types.specs.Histories.{Base, History, page_at}
-use Rattle.im_types.specs.Lawful.{IsLawful}
-use Rattle.im_types.specs.Transactions.{committed}
-use Rattle.im_types.specs.Writer.{Writer, WriterKept}
-use Rattle.im_types.specs.Lives.{Asked, Shown, StandsForMore, shows}
-use Rattle.im_disk.specs.declared.disk.Disk.{Ghosts}
-use Rattle.im_disk.specs.Disk.{Files}
-use Rattle.im_disk.specs.Runs.{LeavesOnly}
-use Rattle.im_disk.proofs.Runs.{started, weakened}
-use Rattle.im_flush.specs.Stands.{IsCovered, LeavesCovered}
-use Rattle.im_flush.specs.Writing.{LeavesGrown}
-use Rattle.im_flush.specs.declared.page_writer.PageWriter.{PageWriter}
-use Rattle.im_flush.specs.PageWriter.{StandsAs, GoesOn, Evicted}
-use Rattle.im_flush.proofs.Standing.{stop_now}
-use Rattle.im_tree.specs.Theory.{page_tree}
-use Rattle.im_txn.specs.declared.transaction.Transaction.{Transaction}
-use Rattle.im_lock.specs.Table.{Table}
-use Rattle.im_lock.specs.View.{View}
-use Rattle.im_steps.specs.Growth.{AreBelow}
-use Rattle.im_steps.specs.Serving.{IsServing}
-use Rattle.im_steps.specs.Durable.{AreCommitted}
-use Rattle.im_steps.proofs.Growth.{copies_are_images, images_change_nothing}
-use Rattle.im_steps.proofs.Durable.{commits_stand}
+use Rattle.im_base_types.specs.declared.fault.Fault.{Fault}
+use Rattle.im_base_types.specs.Maps.{IndexMap}
+use Rattle.im_base_types.specs.Pages.{Page}
+use Rattle.im_theory_log.specs.Structure.{settled, taken_back}
+use Rattle.im_theory_log.proofs.Redo.{reached_end}
+use Rattle.im_theory_log.proofs.Fronts.{has_tree}
+use Rattle.im_page_writer.specs.Outcome.{AreLoaded, Reads, Stays, pages_of}
+use Rattle.im_page_writer.proofs.Outcomes.{leaves_of_end, pages_here}
+use Rattle.im_theory_tree.specs.Levels.{Pages, walk}
+use Rattle.im_theory_tree.specs.Good.{IsGoodTree}
+use Rattle.im_tree_search.specs.Found.{HasTree}
+use Rattle.im_tree_search.specs.Levels.{bodies_of}
+use Rattle.im_base_types.specs.Changes.{Effect}
+use Rattle.im_theory_log.specs.Histories.{Base, History, page_at}
+use Rattle.im_theory_log.specs.Lawful.{IsLawful}
+use Rattle.im_theory_log.specs.Transactions.{committed}
+use Rattle.im_theory_log.specs.Writer.{Writer, WriterKept}
+use Rattle.im_base_types.specs.Lives.{Asked, Shown, StandsForMore, shows}
+use Rattle.im_base_disk.specs.declared.disk.Disk.{Ghosts}
+use Rattle.im_base_disk.specs.Disk.{Files}
+use Rattle.im_base_disk.specs.Runs.{LeavesOnly}
+use Rattle.im_base_disk.proofs.Runs.{started, weakened}
+use Rattle.im_page_writer.specs.Stands.{IsCovered, LeavesCovered}
+use Rattle.im_page_writer.specs.Writing.{LeavesGrown}
+use Rattle.im_page_writer.specs.declared.page_writer.PageWriter.{PageWriter}
+use Rattle.im_page_writer.specs.PageWriter.{StandsAs, GoesOn, Evicted}
+use Rattle.im_page_writer.proofs.Standing.{stop_now}
+use Rattle.im_theory_tree.specs.Theory.{page_tree}
+use Rattle.im_engine_txn.specs.declared.transaction.Transaction.{Transaction}
+use Rattle.im_engine_lock.specs.Table.{Table}
+use Rattle.im_engine_lock.specs.View.{View}
+use Rattle.im_theory_steps.specs.Growth.{AreBelow}
+use Rattle.im_theory_steps.specs.Serving.{IsServing}
+use Rattle.im_theory_steps.specs.Durable.{AreCommitted}
+use Rattle.im_theory_steps.proofs.Growth.{copies_are_images, images_change_nothing}
+use Rattle.im_theory_steps.proofs.Durable.{commits_stand}
 use Rattle.im_engine.specs.declared.engine.Engine.{Engine}
 use Rattle.im_engine.specs.Stands.{StandsFor, Allowed}
 use Rattle.im_engine.specs.Running.{IsRunning}

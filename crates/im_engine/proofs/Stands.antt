@@ -1,19 +1,19 @@
 -- What the files that a stop leaves stand for.
 use Rattle.std.proofs.Common.{◌≡◌, inl, inr, ℕ, ◌≤◌, List, ◌++◌, arith}
 use Rattle.std.specs.FinMap.{empty}
-use Rattle.im_types.specs.declared.file_id.FileId.TheVariants.{Log}
-use Rattle.im_types.specs.Changes.{Effect, apply_all}
-use Rattle.im_types.specs.Histories.{Base, History}
-use Rattle.im_types.specs.Lawful.{IsLawful}
-use Rattle.im_types.specs.Lives.{Shown}
-use Rattle.im_disk.specs.Disk.{Files}
-use Rattle.im_gate.specs.Header.{IsMade, IsUnmade}
-use Rattle.im_gate.proofs.Starts.{gate_behind}
-use Rattle.im_flush.specs.Stands.{IsCovered}
-use Rattle.im_tree.specs.Theory.{page_tree}
+use Rattle.im_base_types.specs.declared.file_id.FileId.TheVariants.{Log}
+use Rattle.im_base_types.specs.Changes.{Effect, apply_all}
+use Rattle.im_theory_log.specs.Histories.{Base, History}
+use Rattle.im_theory_log.specs.Lawful.{IsLawful}
+use Rattle.im_base_types.specs.Lives.{Shown}
+use Rattle.im_base_disk.specs.Disk.{Files}
+use Rattle.im_log_gate.specs.Header.{IsMade, IsUnmade}
+use Rattle.im_log_gate.proofs.Starts.{gate_behind}
+use Rattle.im_page_writer.specs.Stands.{IsCovered}
+use Rattle.im_theory_tree.specs.Theory.{page_tree}
 use Rattle.im_restart.specs.Restart.{HasStore}
-use Rattle.im_steps.specs.Durable.{AreCommitted}
-use Rattle.im_steps.proofs.Durable.{stops_allow}
+use Rattle.im_theory_steps.specs.Durable.{AreCommitted}
+use Rattle.im_theory_steps.proofs.Durable.{stops_allow}
 use Rattle.im_engine.specs.Stands.{Allowed}
 
 made_not : (bytes : List ℕ) → IsMade bytes → IsUnmade bytes → ⊥

@@ -1,21 +1,21 @@
 -- A step behind its checks, and one that a check refuses.
 use Rattle.std.proofs.Common.{◌≡◌, ◌≢◌, ◌⊎◌, inl, inr, ℕ, Bool, true, false, List, length, Option, None, Some, refl, sym, ap, subst, ◌∙◌}
 use Rattle.std.specs.Prelude.{◌||◌, ◌==◌, if◌then◌else◌, ◌↔◌}
-use Rattle.im_types.specs.Answers as answers
-use Rattle.im_types.specs.Answers.{Step, Begin, Do, Commit, Rollback, Continue, FlushPage, Force, Checkpoint, Access, Mark, Idle, Going, MustRollBack, RollingBack, Committing}
-use Rattle.im_types.specs.Changes.{Effect}
-use Rattle.im_types.specs.Histories.{Base}
-use Rattle.im_types.specs.Keys.{Key}
-use Rattle.im_types.specs.Lives.{Shown, breaks}
-use Rattle.im_types.specs.Maps.{IndexMap}
-use Rattle.im_types.specs.Refusals.{failed as has_failed, not_a_store}
-use Rattle.im_disk.specs.declared.disk.Disk.{Ghosts}
-use Rattle.im_disk.specs.Disk.{Files}
-use Rattle.im_tree.specs.Levels.{Pages}
-use Rattle.im_lock.specs.View.{View}
-use Rattle.im_lock.specs.Machine.{Moves, Answers, Goes, begins, does, waits, dies, commits, drops, turns, undoes, ends, flushes, forces, checkpoints, lacks, breaks as breaks_it, Breaks, Wants, barred, barred_to, barred_to_rollback, barred_to_continue, first_check, mark_for, or_else, fault_if, keys_fit}
-use Rattle.im_lock.proofs.Runs.{reply_answers}
-use Rattle.im_steps.specs.Checks.{marks_in}
+use Rattle.im_base_types.specs.Answers as answers
+use Rattle.im_base_types.specs.Answers.{Step, Begin, Do, Commit, Rollback, Continue, FlushPage, Force, Checkpoint, Access, Mark, Idle, Going, MustRollBack, RollingBack, Committing}
+use Rattle.im_base_types.specs.Changes.{Effect}
+use Rattle.im_theory_log.specs.Histories.{Base}
+use Rattle.im_base_types.specs.Keys.{Key}
+use Rattle.im_base_types.specs.Lives.{Shown, breaks}
+use Rattle.im_base_types.specs.Maps.{IndexMap}
+use Rattle.im_base_types.specs.Refusals.{failed as has_failed, not_a_store}
+use Rattle.im_base_disk.specs.declared.disk.Disk.{Ghosts}
+use Rattle.im_base_disk.specs.Disk.{Files}
+use Rattle.im_theory_tree.specs.Levels.{Pages}
+use Rattle.im_engine_lock.specs.View.{View}
+use Rattle.im_engine_lock.specs.Machine.{Moves, Answers, Goes, begins, does, waits, dies, commits, drops, turns, undoes, ends, flushes, forces, checkpoints, lacks, breaks as breaks_it, Breaks, Wants, barred, barred_to, barred_to_rollback, barred_to_continue, first_check, mark_for, or_else, fault_if, keys_fit}
+use Rattle.im_engine_lock.proofs.Runs.{reply_answers}
+use Rattle.im_theory_steps.specs.Checks.{marks_in}
 use Rattle.im_front.specs.declared.fault.Fault.{Fault}
 use Rattle.im_front.specs.declared.fault.Fault.TheVariants as faults
 use Rattle.im_front.specs.declared.reply.Reply.{Reply}

@@ -1,13 +1,13 @@
 -- What a reply alone says of the engine, from how the calls within the step ended.
 use Rattle.std.proofs.Common.{◌≡◌, ◌≢◌, ℕ, ◌+◌, Bool, true, false, List, [], ◌∷◌, ◌++◌, length, length-append, Option, None, Some, refl, sym, ap, subst, ◌∙◌, arith}
 use Rattle.std.specs.Prelude.{◌||◌, ◌-◌}
-use Rattle.im_types.specs.declared.fault.Fault.{Fault}
-use Rattle.im_types.specs.declared.fault.Fault.TheVariants.{PagesFull, Capacity, LogFull, Device, Memory, Failed, NotAStore}
-use Rattle.im_types.specs.Lives.{breaks}
-use Rattle.im_disk.specs.declared.disk.Disk.{Ghosts}
-use Rattle.im_flush.specs.declared.page_writer.PageWriter.{PageWriter}
-use Rattle.im_flush.specs.Outcome.{AreLoaded, AsksNothing, Ends, LogEnds, mild, none_mild}
-use Rattle.im_txn.specs.Rows.{begun}
+use Rattle.im_base_types.specs.declared.fault.Fault.{Fault}
+use Rattle.im_base_types.specs.declared.fault.Fault.TheVariants.{PagesFull, Capacity, LogFull, Device, Memory, Failed, NotAStore}
+use Rattle.im_base_types.specs.Lives.{breaks}
+use Rattle.im_base_disk.specs.declared.disk.Disk.{Ghosts}
+use Rattle.im_page_writer.specs.declared.page_writer.PageWriter.{PageWriter}
+use Rattle.im_page_writer.specs.Outcome.{AreLoaded, AsksNothing, Ends, LogEnds, mild, none_mild}
+use Rattle.im_engine_txn.specs.Rows.{begun}
 use Rattle.im_front.specs.declared.fault.Fault.{Fault as Refusal}
 use Rattle.im_front.specs.declared.fault.Fault.TheVariants as above
 use Rattle.im_front.specs.declared.reply.Reply.{Reply}

@@ -2,21 +2,21 @@
 use Rattle.std.proofs.Common.{◌≡◌, ◌⊎◌, inl, inr, ◌+◌, ◌<◌, ℕ, Bool, true, false, Option, None, Some, List, [], ◌∷◌, ◌++◌, length, take, get_or, refl, sym, ap, subst, ◌∙◌, append-nil, arith}
 use Rattle.std.specs.Prelude.{if◌then◌else◌}
 use Rattle.std.proofs.lemmas.List.{take_more, length-take-le}
-use Rattle.im_types.specs.Answers as answers
-use Rattle.im_types.specs.Answers.{Mark, Idle, Going, MustRollBack, RollingBack, Committing}
-use Rattle.im_types.specs.Changes.{Effect}
-use Rattle.im_types.specs.Lives.{Asked, Shown, StandsForMore, asks, effect_asked, shows, shown_by}
-use Rattle.im_lock.specs.View.{View}
-use Rattle.im_lock.specs.Machine.{Run, Moves}
-use Rattle.im_lock.proofs.Callers.{Run-push}
-use Rattle.im_steps.proofs.Durable.{commits_stand}
+use Rattle.im_base_types.specs.Answers as answers
+use Rattle.im_base_types.specs.Answers.{Mark, Idle, Going, MustRollBack, RollingBack, Committing}
+use Rattle.im_base_types.specs.Changes.{Effect}
+use Rattle.im_base_types.specs.Lives.{Asked, Shown, StandsForMore, asks, effect_asked, shows, shown_by}
+use Rattle.im_engine_lock.specs.View.{View}
+use Rattle.im_engine_lock.specs.Machine.{Run, Moves}
+use Rattle.im_engine_lock.proofs.Callers.{Run-push}
+use Rattle.im_theory_steps.proofs.Durable.{commits_stand}
 use Rattle.im_front.specs.Calls.{asked_by, told_by}
 use Rattle.im_front.specs.declared.step.Step.{Step}
 use Rattle.im_front.specs.declared.reply.Reply.{Reply}
-use Rattle.im_disk.specs.declared.disk.Disk.{Ghosts}
-use Rattle.im_disk.specs.Disk.{Files}
-use Rattle.im_disk.specs.Runs.{LeavesOnly}
-use Rattle.im_disk.proofs.Runs.{weakened, then_on}
+use Rattle.im_base_disk.specs.declared.disk.Disk.{Ghosts}
+use Rattle.im_base_disk.specs.Disk.{Files}
+use Rattle.im_base_disk.specs.Runs.{LeavesOnly}
+use Rattle.im_base_disk.proofs.Runs.{weakened, then_on}
 use Rattle.im_engine.specs.declared.engine.Engine.{Engine}
 use Rattle.im_engine.specs.Stands.{StandsFor, Allowed}
 use Rattle.im_engine.specs.Running.{IsLife}

@@ -1,70 +1,70 @@
 -- Changes that are taken back, one at a time.
 use Rattle.std.proofs.Common.{◌≡◌, ◌≢◌, inl, inr, ℕ, ◌+◌, ◌≤◌, ◌<◌, ◌^◌, List, [], ◌∷◌, Bool, true, false, Option, Some, None, Result, Ok, Err, length, map, refl, sym, ap, subst, ◌∙◌, arith}
 use Rattle.std.specs.Prelude.{find}
-use Rattle.im_types.specs.Maps.{IndexMap}
-use Rattle.im_types.specs.Changes.{Change, Put, Drop, Effect, undone}
-use Rattle.im_types.specs.Records.{What, InsertKey, DeleteKey, UndoInsert, UndoDelete, Smo, UndoSmo, DummyClr, Commit, End, Image, Checkpoint, Unreadable, Logged}
-use Rattle.im_types.specs.Answers.{Continue, More, RolledBack, Refused}
-use Rattle.im_types.specs.declared.fault.Fault.{Fault}
-use Rattle.im_types.specs.declared.fault.Fault.TheVariants.{Capacity, Failed, LogFull, Device, Memory, NotAStore, PagesFull}
-use Rattle.im_types.specs.Histories.{Base, History, IsFront}
-use Rattle.im_types.specs.LogLaws as logs
-use Rattle.im_types.specs.Structure.{settled}
+use Rattle.im_base_types.specs.Maps.{IndexMap}
+use Rattle.im_base_types.specs.Changes.{Change, Put, Drop, Effect, undone}
+use Rattle.im_base_types.specs.Records.{What, InsertKey, DeleteKey, UndoInsert, UndoDelete, Smo, UndoSmo, DummyClr, Commit, End, Image, Checkpoint, Unreadable, Logged}
+use Rattle.im_base_types.specs.Answers.{Continue, More, RolledBack, Refused}
+use Rattle.im_base_types.specs.declared.fault.Fault.{Fault}
+use Rattle.im_base_types.specs.declared.fault.Fault.TheVariants.{Capacity, Failed, LogFull, Device, Memory, NotAStore, PagesFull}
+use Rattle.im_theory_log.specs.Histories.{Base, History, IsFront}
+use Rattle.im_theory_log.specs.LogLaws as logs
+use Rattle.im_theory_log.specs.Structure.{settled}
 use Rattle.std.specs.FinMap.{get}
-use Rattle.im_types.specs.Transactions.{change_of, committed, contents, contents_after, net, is_end, is_finished, is_key, last_of, undo_next_of, to_undo}
-use Rattle.im_types.specs.Lives.{Shown, shows}
-use Rattle.im_types.specs.Writer.{Writer}
-use Rattle.im_disk.specs.declared.disk.Disk.{Ghosts}
-use Rattle.im_disk.specs.Disk.{Files}
-use Rattle.im_disk.specs.Runs.{LeavesOnly}
-use Rattle.im_disk.proofs.Runs.{weakened}
-use Rattle.im_record.specs.Entry as entries
-use Rattle.im_record.specs.Entry.{prev_of}
+use Rattle.im_theory_log.specs.Transactions.{change_of, committed, contents, contents_after, net, is_end, is_finished, is_key, last_of, undo_next_of, to_undo}
+use Rattle.im_base_types.specs.Lives.{Shown, shows}
+use Rattle.im_theory_log.specs.Writer.{Writer}
+use Rattle.im_base_disk.specs.declared.disk.Disk.{Ghosts}
+use Rattle.im_base_disk.specs.Disk.{Files}
+use Rattle.im_base_disk.specs.Runs.{LeavesOnly}
+use Rattle.im_base_disk.proofs.Runs.{weakened}
+use Rattle.im_log_record.specs.Entry as entries
+use Rattle.im_log_record.specs.Entry.{prev_of}
 use Rattle.im_log.specs.Whats.{what_of}
 use Rattle.im_log.specs.Spelled.{logged_at}
 use Rattle.im_log.specs.declared.log_file.LogFile.{LogFile}
 use Rattle.im_log.proofs.Above.{front_then}
-use Rattle.im_flush.specs.declared.page_writer.PageWriter.{PageWriter}
-use Rattle.im_flush.specs.PageWriter.{StandsAs, Evicted}
-use Rattle.im_tree.specs.Good.{AllOf}
-use Rattle.im_tree.specs.Theory.{page_tree}
-use Rattle.im_tree.specs.Levels.{Pages}
-use Rattle.im_search.specs.Levels.{bodies}
-use Rattle.im_split.specs.Tops.{LacksRoomFor}
-use Rattle.im_structure.specs.Structure.{IsUsedUp}
-use Rattle.im_analysis.specs.Undo.{IsUndoable}
-use Rattle.im_analysis.specs.Losers.{row_of}
-use Rattle.im_analysis.specs.declared.rows.Loser.{Loser}
-use Rattle.im_undo.specs.Records.{IsOfUndo, GrowsByUndo, inverse_of}
-use Rattle.im_undo.specs.Undoing.{IsGoing, LeavesUndo, LeftByUndo, ShowsChange, UsesUp}
-use Rattle.im_undo.proofs.Shown.{get_is, shows_change}
-use Rattle.im_rollback.specs.Ends.{TurnEnds, may_turn}
-use Rattle.im_rollback.specs.declared.undone.Undone.{Undone}
-use Rattle.im_rollback.specs.declared.undone.Undone.TheVariants as turns
-use Rattle.im_rollback.specs.Turns.{Took, HasMore, HasEndedNow, LacksWayBack, Turned}
-use Rattle.im_txn.specs.Rows.{is_of, changed, with_record}
-use Rattle.im_txn.specs.LookUps.{without}
-use Rattle.im_txn.specs.declared.transaction.Mark.{Mark}
-use Rattle.im_txn.specs.declared.transaction.Mark.TheVariants as marks
-use Rattle.im_txn.specs.declared.transaction.Transaction.{Transaction}
+use Rattle.im_page_writer.specs.declared.page_writer.PageWriter.{PageWriter}
+use Rattle.im_page_writer.specs.PageWriter.{StandsAs, Evicted}
+use Rattle.im_theory_tree.specs.Good.{AllOf}
+use Rattle.im_theory_tree.specs.Theory.{page_tree}
+use Rattle.im_theory_tree.specs.Levels.{Pages}
+use Rattle.im_tree_search.specs.Levels.{bodies}
+use Rattle.im_smo_split.specs.Tops.{LacksRoomFor}
+use Rattle.im_smo_actions.specs.Structure.{IsUsedUp}
+use Rattle.im_restart_analysis.specs.Undo.{IsUndoable}
+use Rattle.im_restart_analysis.specs.Losers.{row_of}
+use Rattle.im_restart_analysis.specs.declared.rows.Loser.{Loser}
+use Rattle.im_restart_undo.specs.Records.{IsOfUndo, GrowsByUndo, inverse_of}
+use Rattle.im_restart_undo.specs.Undoing.{IsGoing, LeavesUndo, LeftByUndo, ShowsChange, UsesUp}
+use Rattle.im_restart_undo.proofs.Shown.{get_is, shows_change}
+use Rattle.im_engine_rollback.specs.Ends.{TurnEnds, may_turn}
+use Rattle.im_engine_rollback.specs.declared.undone.Undone.{Undone}
+use Rattle.im_engine_rollback.specs.declared.undone.Undone.TheVariants as turns
+use Rattle.im_engine_rollback.specs.Turns.{Took, HasMore, HasEndedNow, LacksWayBack, Turned}
+use Rattle.im_engine_txn.specs.Rows.{is_of, changed, with_record}
+use Rattle.im_engine_txn.specs.LookUps.{without}
+use Rattle.im_engine_txn.specs.declared.transaction.Mark.{Mark}
+use Rattle.im_engine_txn.specs.declared.transaction.Mark.TheVariants as marks
+use Rattle.im_engine_txn.specs.declared.transaction.Transaction.{Transaction}
 use Rattle.im_front.specs.declared.fault.Fault.{Fault as Refusal}
 use Rattle.im_front.specs.declared.fault.Fault.TheVariants as above
 use Rattle.im_front.specs.declared.reply.Reply.{Reply}
 use Rattle.im_front.specs.declared.reply.Reply.TheVariants as replies
 use Rattle.im_front.specs.Calls.{number_of}
-use Rattle.im_lock.specs.Table.{Table, IsReleased, locks_of}
-use Rattle.im_lock.specs.View.{View, undid_more, undid_last}
-use Rattle.im_lock.specs.Machine.{barred, barred_to_continue}
-use Rattle.im_steps.specs.Checks.{checked_by, mark_at}
-use Rattle.im_steps.specs.Growth.{AreBelow, AreWithin, GrowsWithin, IsWithin}
-use Rattle.im_steps.specs.Undone.{UndoesNewest}
-use Rattle.im_steps.specs.Serving.{IsRow, IsServing, mark_of}
-use Rattle.im_steps.specs.Durable.{AreCommitted}
-use Rattle.im_steps.proofs.Growth.{numbers_stay_new, within_leaves_others}
-use Rattle.im_steps.proofs.Durable.{commits_stand}
-use Rattle.im_steps.proofs.Lived.{rows_tell}
-use Rattle.im_steps.proofs.Steps.{at}
-use Rattle.im_steps.proofs.Undone.{ends_leave_nothing, last_undone_served, rolling_has_more, undo_takes_back, undone_served}
+use Rattle.im_engine_lock.specs.Table.{Table, IsReleased, locks_of}
+use Rattle.im_engine_lock.specs.View.{View, undid_more, undid_last}
+use Rattle.im_engine_lock.specs.Machine.{barred, barred_to_continue}
+use Rattle.im_theory_steps.specs.Checks.{checked_by, mark_at}
+use Rattle.im_theory_steps.specs.Growth.{AreBelow, AreWithin, GrowsWithin, IsWithin}
+use Rattle.im_theory_steps.specs.Undone.{UndoesNewest}
+use Rattle.im_theory_steps.specs.Serving.{IsRow, IsServing, mark_of}
+use Rattle.im_theory_steps.specs.Durable.{AreCommitted}
+use Rattle.im_theory_steps.proofs.Growth.{numbers_stay_new, within_leaves_others}
+use Rattle.im_theory_steps.proofs.Durable.{commits_stand}
+use Rattle.im_theory_steps.proofs.Lived.{rows_tell}
+use Rattle.im_theory_steps.proofs.Steps.{at}
+use Rattle.im_theory_steps.proofs.Undone.{ends_leave_nothing, last_undone_served, rolling_has_more, undo_takes_back, undone_served}
 use Rattle.im_engine.specs.declared.engine.Engine.{Engine}
 use Rattle.im_engine.specs.Faults.{told_as, ends_engine}
 use Rattle.im_engine.specs.Numbered.{Numbered}

@@ -1,16 +1,16 @@
 -- How often each change in a store's log is taken back.
 use Rattle.std.specs.Prelude.{◌≡◌, true, List, Result}
-use Rattle.im_types.specs.declared.fault.Fault.{Fault}
-use Rattle.im_types.specs.Answers.{Step, Reply}
-use Rattle.im_types.specs.Changes.{Effect}
-use Rattle.im_types.specs.Histories.{History, IsRecordOf}
-use Rattle.im_types.specs.Lives.{Shown}
-use Rattle.im_types.specs.Records.{Logged}
-use Rattle.im_types.specs.Transactions.{is_key, IsCounted}
-use Rattle.im_disk.specs.declared.disk.Disk.{Ghosts}
-use Rattle.im_disk.specs.Disk.{Files}
-use Rattle.im_disk.specs.Runs.{LeavesOnly}
-use Rattle.im_lock.specs.View.{View}
+use Rattle.im_base_types.specs.declared.fault.Fault.{Fault}
+use Rattle.im_base_types.specs.Answers.{Step, Reply}
+use Rattle.im_base_types.specs.Changes.{Effect}
+use Rattle.im_theory_log.specs.Histories.{History, IsRecordOf}
+use Rattle.im_base_types.specs.Lives.{Shown}
+use Rattle.im_base_types.specs.Records.{Logged}
+use Rattle.im_theory_log.specs.Transactions.{is_key, IsCounted}
+use Rattle.im_base_disk.specs.declared.disk.Disk.{Ghosts}
+use Rattle.im_base_disk.specs.Disk.{Files}
+use Rattle.im_base_disk.specs.Runs.{LeavesOnly}
+use Rattle.im_engine_lock.specs.View.{View}
 use Rattle.im_engine.specs.declared.engine.Engine.{Engine}
 use Rattle.im_engine.specs.Stands.{StandsFor}
 use Rattle.im_engine.specs.Running.{IsLife}

@@ -1,7 +1,7 @@
 -- How a store answers a refusal of the calls below.
 use Rattle.std.specs.Prelude.{Bool, true, false}
-use Rattle.im_types.specs.declared.fault.Fault.{Fault}
-use Rattle.im_types.specs.declared.fault.Fault.TheVariants as below
+use Rattle.im_base_types.specs.declared.fault.Fault.{Fault}
+use Rattle.im_base_types.specs.declared.fault.Fault.TheVariants as below
 use Rattle.im_front.specs.declared.fault.Fault.{Fault as Refusal}
 use Rattle.im_front.specs.declared.fault.Fault.TheVariants as above
 

@@ -1,26 +1,26 @@
 -- What the calls of an engine keep.
 use Rattle.std.specs.Prelude.{◌≡◌, ◌≢◌, ◌⊎◌, ◌++◌, ◌∷◌, ℕ, List, Option, Some, None, Result, Ok, Err, IfOk, IfErr, true, false}
 use Rattle.std.specs.FinMap.{empty, entries}
-use Rattle.im_types.specs.Answers.{Step, Reply, FlushPage, Force, Checkpoint, Done}
-use Rattle.im_types.specs.declared.file_id.FileId.TheVariants.{Log, Pages}
-use Rattle.im_types.specs.declared.fault.Fault.{Fault}
-use Rattle.im_types.specs.declared.tables.DirtyPage.{DirtyPage}
-use Rattle.im_types.specs.declared.fault.Fault.TheVariants.{NotAStore}
-use Rattle.im_types.specs.Pages.{Entry}
-use Rattle.im_types.specs.Changes.{Effect, apply_all}
-use Rattle.im_types.specs.Histories.{Base, History, page_at}
-use Rattle.im_types.specs.WriterSteps.{Lists}
-use Rattle.im_types.specs.Lives.{Shown, effects, nothing_shown, shows}
-use Rattle.im_disk.specs.declared.disk.Disk.{Ghosts}
-use Rattle.im_disk.specs.Runs.{LeavesOnly}
-use Rattle.im_gate.specs.Header.{least_number}
-use Rattle.im_analysis.specs.Numbers.{IsNextNumber}
+use Rattle.im_base_types.specs.Answers.{Step, Reply, FlushPage, Force, Checkpoint, Done}
+use Rattle.im_base_types.specs.declared.file_id.FileId.TheVariants.{Log, Pages}
+use Rattle.im_base_types.specs.declared.fault.Fault.{Fault}
+use Rattle.im_base_types.specs.declared.tables.DirtyPage.{DirtyPage}
+use Rattle.im_base_types.specs.declared.fault.Fault.TheVariants.{NotAStore}
+use Rattle.im_base_types.specs.Pages.{Entry}
+use Rattle.im_base_types.specs.Changes.{Effect, apply_all}
+use Rattle.im_theory_log.specs.Histories.{Base, History, page_at}
+use Rattle.im_theory_log.specs.WriterSteps.{Lists}
+use Rattle.im_base_types.specs.Lives.{Shown, effects, nothing_shown, shows}
+use Rattle.im_base_disk.specs.declared.disk.Disk.{Ghosts}
+use Rattle.im_base_disk.specs.Runs.{LeavesOnly}
+use Rattle.im_log_gate.specs.Header.{least_number}
+use Rattle.im_restart_analysis.specs.Numbers.{IsNextNumber}
 use Rattle.im_page.specs.PageFile.{file_page}
-use Rattle.im_flush.specs.Checkpoints.{checkpoint_at}
-use Rattle.im_checkpoint.specs.Rows.{listed}
-use Rattle.im_lock.specs.Locks.{Lock}
-use Rattle.im_lock.specs.View.{View, broken}
-use Rattle.im_lock.specs.Machine.{Moves, start}
+use Rattle.im_page_writer.specs.Checkpoints.{checkpoint_at}
+use Rattle.im_engine_checkpoint.specs.Rows.{listed}
+use Rattle.im_engine_lock.specs.Locks.{Lock}
+use Rattle.im_engine_lock.specs.View.{View, broken}
+use Rattle.im_engine_lock.specs.Machine.{Moves, start}
 use Rattle.im_front.specs.declared.fault.Fault.{Fault as Refusal}
 use Rattle.im_front.specs.Calls.{number_of}
 use Rattle.im_restart.specs.Restart.{IsReport}

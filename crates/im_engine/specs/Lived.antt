@@ -1,14 +1,14 @@
 -- Lives of a store, each an opening with steps of many transactions, which may stop at any moment.
 use Rattle.std.specs.Prelude.{◌≡◌, ◌⊎◌, ◌≤◌, ℕ, zero, suc, true, false, List, [], ◌∷◌, length, take, Contains, None, Some, Result, Ok, Err}
-use Rattle.im_types.specs.Changes.{Effect}
-use Rattle.im_types.specs.Lives.{Asked, Shown, Survives, nothing_shown, shows, shown_by}
-use Rattle.im_types.specs.declared.fault.Fault.{Fault}
-use Rattle.im_types.specs.declared.fault.Fault.TheVariants.{Memory}
+use Rattle.im_base_types.specs.Changes.{Effect}
+use Rattle.im_base_types.specs.Lives.{Asked, Shown, Survives, nothing_shown, shows, shown_by}
+use Rattle.im_base_types.specs.declared.fault.Fault.{Fault}
+use Rattle.im_base_types.specs.declared.fault.Fault.TheVariants.{Memory}
 use Rattle.im_front.specs.Calls.{asked_by, told_by}
 use Rattle.im_front.specs.declared.reply.Reply.{Reply}
 use Rattle.im_front.specs.declared.step.Step.{Step}
-use Rattle.im_disk.specs.declared.disk.Disk.{Ghosts}
-use Rattle.im_disk.specs.Disk.{Files}
+use Rattle.im_base_disk.specs.declared.disk.Disk.{Ghosts}
+use Rattle.im_base_disk.specs.Disk.{Files}
 use Rattle.im_engine.specs.declared.config.Config.{Config}
 use Rattle.im_engine.specs.declared.engine.Engine.{Engine}
 use Rattle.im_engine.specs.Opening.{IsOpening}

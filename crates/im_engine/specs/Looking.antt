@@ -1,10 +1,10 @@
 -- How calls end that only look.
 use Rattle.std.specs.Prelude.{◌≡◌, ◌↔◌, Bool, true, false, Option, Some, None, length}
-use Rattle.im_types.specs.Pages.{Page}
-use Rattle.im_types.specs.declared.fault.Fault.{Fault}
-use Rattle.im_types.specs.declared.fault.Fault.TheVariants.{Failed}
-use Rattle.im_disk.specs.declared.disk.Disk.{Ghosts}
-use Rattle.im_flush.specs.Outcome.{Reads}
+use Rattle.im_base_types.specs.Pages.{Page}
+use Rattle.im_base_types.specs.declared.fault.Fault.{Fault}
+use Rattle.im_base_types.specs.declared.fault.Fault.TheVariants.{Failed}
+use Rattle.im_base_disk.specs.declared.disk.Disk.{Ghosts}
+use Rattle.im_page_writer.specs.Outcome.{Reads}
 use Rattle.im_engine.specs.declared.header.Header.{Header}
 use Rattle.im_engine.specs.declared.engine.Engine.{Engine}
 use Rattle.im_engine.specs.Faults.{ends_engine}

@@ -1,12 +1,12 @@
 -- How a store is opened.
 use Rattle.std.specs.Prelude.{◌≡◌, ◌≢◌, ◌⊎◌, ◌↔◌, ◌<◌, ℕ, true, false, List, [], Result, IfOk, IfErr}
 use Rattle.std.specs.Result.{IsErrAnd}
-use Rattle.im_types.specs.declared.fault.Fault.{Fault}
-use Rattle.im_types.specs.declared.fault.Fault.TheVariants.{Memory, Device, LogFull, NotAStore, PoolSize, Capacity}
-use Rattle.im_types.specs.Changes.{Effect}
-use Rattle.im_types.specs.Histories.{Base, History}
-use Rattle.im_disk.specs.declared.disk.Disk.{Ghosts}
-use Rattle.im_disk.specs.Runs.{Reads}
+use Rattle.im_base_types.specs.declared.fault.Fault.{Fault}
+use Rattle.im_base_types.specs.declared.fault.Fault.TheVariants.{Memory, Device, LogFull, NotAStore, PoolSize, Capacity}
+use Rattle.im_base_types.specs.Changes.{Effect}
+use Rattle.im_theory_log.specs.Histories.{Base, History}
+use Rattle.im_base_disk.specs.declared.disk.Disk.{Ghosts}
+use Rattle.im_base_disk.specs.Runs.{Reads}
 use Rattle.im_restart.specs.Restart.{IsFullLog, MayRedo, SpellsLog}
 use Rattle.im_engine.specs.declared.config.Config.{Config}
 use Rattle.im_engine.specs.declared.engine.Engine.{Engine}

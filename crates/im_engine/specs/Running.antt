@@ -1,21 +1,21 @@
 -- An engine of many transactions between two steps.
 use Rattle.std.specs.Prelude.{◌≡◌, ◌≤◌, ◌^◌, ℕ, List, [], false, Some}
 use Rattle.std.specs.FinMap.{empty}
-use Rattle.im_types.specs.Changes.{Effect, apply_all}
-use Rattle.im_types.specs.Histories.{Base}
-use Rattle.im_types.specs.Lawful.{IsLawful}
-use Rattle.im_types.specs.Structure.{open_smo}
-use Rattle.im_types.specs.Writer.{Writer}
-use Rattle.im_types.specs.Lives.{Shown}
-use Rattle.im_disk.specs.declared.disk.Disk.{Ghosts}
-use Rattle.im_disk.specs.Disk.{Files}
-use Rattle.im_flush.specs.PageWriter.{StandsAs}
-use Rattle.im_tree.specs.Theory.{page_tree}
-use Rattle.im_lock.specs.View.{View}
-use Rattle.im_steps.specs.Growth.{AreBelow}
-use Rattle.im_steps.specs.Serving.{IsServing}
-use Rattle.im_steps.specs.Durable.{AreCommitted}
-use Rattle.im_steps.specs.Lived.{IsLived}
+use Rattle.im_base_types.specs.Changes.{Effect, apply_all}
+use Rattle.im_theory_log.specs.Histories.{Base}
+use Rattle.im_theory_log.specs.Lawful.{IsLawful}
+use Rattle.im_theory_log.specs.Structure.{open_smo}
+use Rattle.im_theory_log.specs.Writer.{Writer}
+use Rattle.im_base_types.specs.Lives.{Shown}
+use Rattle.im_base_disk.specs.declared.disk.Disk.{Ghosts}
+use Rattle.im_base_disk.specs.Disk.{Files}
+use Rattle.im_page_writer.specs.PageWriter.{StandsAs}
+use Rattle.im_theory_tree.specs.Theory.{page_tree}
+use Rattle.im_engine_lock.specs.View.{View}
+use Rattle.im_theory_steps.specs.Growth.{AreBelow}
+use Rattle.im_theory_steps.specs.Serving.{IsServing}
+use Rattle.im_theory_steps.specs.Durable.{AreCommitted}
+use Rattle.im_theory_steps.specs.Lived.{IsLived}
 use Rattle.im_engine.specs.declared.engine.Engine.{Engine}
 use Rattle.im_engine.specs.Stands.{Allowed}
 

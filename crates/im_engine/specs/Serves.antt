@@ -2,14 +2,14 @@
 use Rattle.std.specs.Prelude.{◌≡◌, ℕ, false, List, ◌++◌, [], length, Some}
 use Rattle.std.proofs.Common.{sym, ◌∙◌}
 use Rattle.std.specs.FinMap.{empty}
-use Rattle.im_types.specs.Changes.{Effect, apply_all}
-use Rattle.im_types.specs.Lives.{Shown, Survives, effects, nothing_shown}
-use Rattle.im_types.specs.declared.fault.Fault as below
-use Rattle.im_disk.specs.declared.disk.Disk.{Ghosts}
-use Rattle.im_disk.specs.Disk.{Files}
-use Rattle.im_lock.specs.View.{View}
-use Rattle.im_lock.specs.Machine.{start}
-use Rattle.im_steps.proofs.Durable.{quiet_lives_settle}
+use Rattle.im_base_types.specs.Changes.{Effect, apply_all}
+use Rattle.im_base_types.specs.Lives.{Shown, Survives, effects, nothing_shown}
+use Rattle.im_base_types.specs.declared.fault.Fault as below
+use Rattle.im_base_disk.specs.declared.disk.Disk.{Ghosts}
+use Rattle.im_base_disk.specs.Disk.{Files}
+use Rattle.im_engine_lock.specs.View.{View}
+use Rattle.im_engine_lock.specs.Machine.{start}
+use Rattle.im_theory_steps.proofs.Durable.{quiet_lives_settle}
 use Rattle.im_front.specs.declared.fault.Fault.{Fault}
 use Rattle.im_engine.specs.declared.engine.Engine.{Engine}
 use Rattle.im_engine.specs.Faults.{told_as}

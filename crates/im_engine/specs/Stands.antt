@@ -1,13 +1,13 @@
 -- What the files of a store stand for.
 use Rattle.std.specs.Prelude.{◌≡◌, ◌≤◌, ℕ, List, ◌++◌}
 use Rattle.std.specs.FinMap.{empty}
-use Rattle.im_types.specs.Changes.{Effect, seen, apply_all}
-use Rattle.im_types.specs.Histories.{Base, History}
-use Rattle.im_types.specs.Lawful.{IsLawful}
-use Rattle.im_types.specs.Transactions.{committed}
-use Rattle.im_types.specs.Lives.{Shown, StandsForMore}
-use Rattle.im_disk.specs.Disk.{Files}
-use Rattle.im_tree.specs.Theory.{page_tree}
+use Rattle.im_base_types.specs.Changes.{Effect, seen, apply_all}
+use Rattle.im_theory_log.specs.Histories.{Base, History}
+use Rattle.im_theory_log.specs.Lawful.{IsLawful}
+use Rattle.im_theory_log.specs.Transactions.{committed}
+use Rattle.im_base_types.specs.Lives.{Shown, StandsForMore}
+use Rattle.im_base_disk.specs.Disk.{Files}
+use Rattle.im_theory_tree.specs.Theory.{page_tree}
 use Rattle.im_restart.specs.Restart.{HasStore}
 
 -- The files stand for these effects, in the order of their Commits: those that made the map that the log begins with, and then those of the log, which

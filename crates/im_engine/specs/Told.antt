@@ -1,31 +1,31 @@
 -- What a reply alone says of an engine, and why a step is refused.
 use Rattle.std.specs.Prelude.{◌≡◌, ◌≢◌, ◌⊎◌, ◌↔◌, ◌||◌, ◌+◌, ◌-◌, ◌++◌, ◌∷◌, [], ◌≤◌, ◌<◌, ◌^◌, ℕ, Bool, true, false, List, Option, None, Some, find, length}
 use Rattle.std.specs.FinMap.{empty, get}
-use Rattle.im_types.specs.Answers as answers
-use Rattle.im_types.specs.Changes.{Effect, apply_all}
-use Rattle.im_types.specs.Histories.{Base}
-use Rattle.im_types.specs.Keys.{Key}
-use Rattle.im_types.specs.Lives.{Shown, breaks, effects}
-use Rattle.im_types.specs.Maps.{IndexMap}
-use Rattle.im_types.specs.Structure.{settled}
-use Rattle.im_disk.specs.declared.disk.Disk.{Ghosts}
-use Rattle.im_record.specs.Entry as entries
-use Rattle.im_record.specs.Entry.{Entry}
-use Rattle.im_record.specs.Spelling.{size_of}
+use Rattle.im_base_types.specs.Answers as answers
+use Rattle.im_base_types.specs.Changes.{Effect, apply_all}
+use Rattle.im_theory_log.specs.Histories.{Base}
+use Rattle.im_base_types.specs.Keys.{Key}
+use Rattle.im_base_types.specs.Lives.{Shown, breaks, effects}
+use Rattle.im_base_types.specs.Maps.{IndexMap}
+use Rattle.im_theory_log.specs.Structure.{settled}
+use Rattle.im_base_disk.specs.declared.disk.Disk.{Ghosts}
+use Rattle.im_log_record.specs.Entry as entries
+use Rattle.im_log_record.specs.Entry.{Entry}
+use Rattle.im_log_record.specs.Spelling.{size_of}
 use Rattle.im_log.specs.declared.log_file.LogFile.{LogFile}
 use Rattle.im_log.specs.LogFile.{HasNoRoom, end_with}
-use Rattle.im_pool.specs.Pool.{is_changed}
-use Rattle.im_flush.specs.DirtyTable.{dirty_pages, synced_entries}
-use Rattle.im_checkpoint.specs.Rows.{listed}
-use Rattle.im_tree.specs.Levels.{Pages}
-use Rattle.im_split.specs.Plan.{IsWithin, IsOver}
-use Rattle.im_split.specs.Tops.{LacksRoomFor}
-use Rattle.im_structure.specs.Structure.{IsUsedUp}
-use Rattle.im_txn.specs.declared.transaction.Transaction.{Transaction}
-use Rattle.im_txn.specs.Rows.{is_of}
-use Rattle.im_lock.specs.View.{View}
-use Rattle.im_lock.specs.Machine.{first_check, mark_for}
-use Rattle.im_steps.specs.Checks.{marks_in}
+use Rattle.im_page_pool.specs.Pool.{is_changed}
+use Rattle.im_page_writer.specs.DirtyTable.{dirty_pages, synced_entries}
+use Rattle.im_engine_checkpoint.specs.Rows.{listed}
+use Rattle.im_theory_tree.specs.Levels.{Pages}
+use Rattle.im_smo_split.specs.Plan.{IsWithin, IsOver}
+use Rattle.im_smo_split.specs.Tops.{LacksRoomFor}
+use Rattle.im_smo_actions.specs.Structure.{IsUsedUp}
+use Rattle.im_engine_txn.specs.declared.transaction.Transaction.{Transaction}
+use Rattle.im_engine_txn.specs.Rows.{is_of}
+use Rattle.im_engine_lock.specs.View.{View}
+use Rattle.im_engine_lock.specs.Machine.{first_check, mark_for}
+use Rattle.im_theory_steps.specs.Checks.{marks_in}
 use Rattle.im_restart.specs.declared.redo_report.RedoReport.{RedoReport}
 use Rattle.im_front.specs.declared.fault.Fault.{Fault}
 use Rattle.im_front.specs.declared.fault.Fault.TheVariants.{NoTransaction, MustRollBack, KeyLength, RollingBack, PagesFull, Capacity, LogFull, Device, Memory, Failed, NotAStore, TooMany}

@@ -1,13 +1,13 @@
 -- Steps in turn.
 use Rattle.std.specs.Prelude.{◌≡◌, ◌≢◌, ◌⊎◌, ℕ, zero, suc, List, [], ◌∷◌, None, Some}
-use Rattle.im_types.specs.Answers as answers
-use Rattle.im_types.specs.Maps.{IndexMap}
-use Rattle.im_types.specs.Changes.{Effect}
-use Rattle.im_types.specs.Lives.{Shown, shows, shown_by}
-use Rattle.im_disk.specs.declared.disk.Disk.{Ghosts}
-use Rattle.im_disk.specs.Disk.{Files}
-use Rattle.im_lock.specs.View.{View}
-use Rattle.im_lock.specs.Machine.{Run, start}
+use Rattle.im_base_types.specs.Answers as answers
+use Rattle.im_base_types.specs.Maps.{IndexMap}
+use Rattle.im_base_types.specs.Changes.{Effect}
+use Rattle.im_base_types.specs.Lives.{Shown, shows, shown_by}
+use Rattle.im_base_disk.specs.declared.disk.Disk.{Ghosts}
+use Rattle.im_base_disk.specs.Disk.{Files}
+use Rattle.im_engine_lock.specs.View.{View}
+use Rattle.im_engine_lock.specs.Machine.{Run, start}
 use Rattle.im_front.specs.declared.step.Step.{Step}
 use Rattle.im_front.specs.declared.fault.Fault.TheVariants.{Device}
 use Rattle.im_front.specs.declared.reply.Reply.{Reply}

@@ -4,43 +4,46 @@ ghost use Rattle.std.specs.Prelude.{◌≡◌, None, false, List};
 ghost use Rattle.im_engine.specs.Faults.{told_as, ends_engine};
 
 use crate::engine::Engine;
-use im_disk::Disk;
+use im_base_disk::Disk;
+use im_base_types::TxnId;
+use im_engine_index::Outcome;
+use im_engine_txn::Mark;
 use im_front::{Blocker, Fault, Reply};
-use im_index::Outcome;
-use im_txn::Mark;
-use im_types::TxnId;
 
 // A refusal of the calls below, as a store answers it.
-pub(crate) fn told(fault: im_types::Fault) -> Fault
+pub(crate) fn told(fault: im_base_types::Fault) -> Fault
     ensures { result ≡ told_as fault }
 {
     match fault {
-        im_types::Fault::PagesFull => Fault::PagesFull,
-        im_types::Fault::Capacity => Fault::Capacity,
-        im_types::Fault::LogFull => Fault::LogFull,
-        im_types::Fault::Device => Fault::Device,
-        im_types::Fault::Memory => Fault::Memory,
-        im_types::Fault::NotAStore => Fault::NotAStore,
+        im_base_types::Fault::PagesFull => Fault::PagesFull,
+        im_base_types::Fault::Capacity => Fault::Capacity,
+        im_base_types::Fault::LogFull => Fault::LogFull,
+        im_base_types::Fault::Device => Fault::Device,
+        im_base_types::Fault::Memory => Fault::Memory,
+        im_base_types::Fault::NotAStore => Fault::NotAStore,
         _ => Fault::Failed,
     }
 }
 
 // Whether the engine has failed behind it.
-pub(crate) fn breaks(fault: im_types::Fault) -> bool
+pub(crate) fn breaks(fault: im_base_types::Fault) -> bool
     ensures { result ≡ ends_engine fault }
 {
-    !matches!(fault, im_types::Fault::PagesFull | im_types::Fault::Memory)
+    !matches!(
+        fault,
+        im_base_types::Fault::PagesFull | im_base_types::Fault::Memory
+    )
 }
 
 impl<D: Disk> Engine<D> {
-    ghost use Rattle.im_types.specs.Changes.{Effect};
-    ghost use Rattle.im_types.specs.Lives.{Shown};
-    ghost use Rattle.im_types.specs.Answers as answers;
-    ghost use Rattle.im_lock.specs.View.{View};
-    ghost use Rattle.im_index.specs.Outcomes.{seek_at};
+    ghost use Rattle.im_base_types.specs.Changes.{Effect};
+    ghost use Rattle.im_base_types.specs.Lives.{Shown};
+    ghost use Rattle.im_base_types.specs.Answers as answers;
+    ghost use Rattle.im_engine_lock.specs.View.{View};
+    ghost use Rattle.im_engine_index.specs.Outcomes.{seek_at};
     ghost use Rattle.im_front.specs.Calls.{told_by};
     ghost use Rattle.im_front.specs.Replies.{Suits};
-    ghost use Rattle.im_steps.specs.Checks.{checked_by};
+    ghost use Rattle.im_theory_steps.specs.Checks.{checked_by};
     ghost use Rattle.im_engine.specs.Running.{IsLife};
     ghost use Rattle.im_engine.specs.Kept.{StepKept};
     ghost use Rattle.im_engine.specs.Told.{IsTold, IsAnswered};
@@ -57,7 +60,7 @@ impl<D: Disk> Engine<D> {
         ensures frames { self.new.writer.pool.frames ≡ self.old.writer.pool.frames }
     {
         self.failed = true;
-        match im_index::fetch(&mut self.writer, &mut self.disk, &mut self.locks, t, key) {
+        match im_engine_index::fetch(&mut self.writer, &mut self.disk, &mut self.locks, t, key) {
             Ok(Outcome::Granted(found)) => {
                 self.failed = false;
                 match found {
@@ -92,7 +95,7 @@ impl<D: Disk> Engine<D> {
         ensures frames { self.new.writer.pool.frames ≡ self.old.writer.pool.frames }
     {
         self.failed = true;
-        match im_index::seek(
+        match im_engine_index::seek(
             &mut self.writer,
             &mut self.disk,
             &mut self.locks,
@@ -134,7 +137,7 @@ impl<D: Disk> Engine<D> {
         ensures frames { self.new.writer.pool.frames ≡ self.old.writer.pool.frames }
     {
         self.failed = true;
-        match im_index::scan(
+        match im_engine_index::scan(
             self.alloc,
             &mut self.writer,
             &mut self.disk,

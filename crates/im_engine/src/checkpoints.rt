@@ -4,14 +4,14 @@ ghost use Rattle.std.specs.Prelude.{◌≡◌, false, List};
 
 use crate::accesses::told;
 use crate::engine::Engine;
-use im_disk::Disk;
+use im_base_disk::Disk;
 use im_front::Reply;
 
 impl<D: Disk> Engine<D> {
-    ghost use Rattle.im_types.specs.Changes.{Effect};
-    ghost use Rattle.im_types.specs.Lives.{Shown};
-    ghost use Rattle.im_types.specs.Answers as answers;
-    ghost use Rattle.im_lock.specs.View.{View};
+    ghost use Rattle.im_base_types.specs.Changes.{Effect};
+    ghost use Rattle.im_base_types.specs.Lives.{Shown};
+    ghost use Rattle.im_base_types.specs.Answers as answers;
+    ghost use Rattle.im_engine_lock.specs.View.{View};
     ghost use Rattle.im_front.specs.Calls.{told_by};
     ghost use Rattle.im_front.specs.Replies.{Suits};
     ghost use Rattle.im_engine.specs.Running.{IsLife};
@@ -28,7 +28,7 @@ impl<D: Disk> Engine<D> {
         ensures frames { self.new.writer.pool.frames ≡ self.old.writer.pool.frames }
     {
         self.failed = true;
-        match im_checkpoint::take(
+        match im_engine_checkpoint::take(
             &mut self.writer,
             &mut self.disk,
             self.txns.table(),

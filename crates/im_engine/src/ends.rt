@@ -4,20 +4,20 @@ ghost use Rattle.std.specs.Prelude.{◌≡◌, None, false, List};
 
 use crate::accesses::told;
 use crate::engine::Engine;
-use im_disk::Disk;
+use im_base_disk::Disk;
+use im_base_types::{PageNo, TxnId};
+use im_engine_txn::Mark;
 use im_front::{Fault, Reply};
-use im_record::Record;
-use im_txn::Mark;
-use im_types::{PageNo, TxnId};
+use im_log_record::Record;
 
 impl<D: Disk> Engine<D> {
-    ghost use Rattle.im_types.specs.Changes.{Effect};
-    ghost use Rattle.im_types.specs.Lives.{Shown};
-    ghost use Rattle.im_types.specs.Answers as answers;
-    ghost use Rattle.im_lock.specs.View.{View};
+    ghost use Rattle.im_base_types.specs.Changes.{Effect};
+    ghost use Rattle.im_base_types.specs.Lives.{Shown};
+    ghost use Rattle.im_base_types.specs.Answers as answers;
+    ghost use Rattle.im_engine_lock.specs.View.{View};
     ghost use Rattle.im_front.specs.Calls.{told_by};
     ghost use Rattle.im_front.specs.Replies.{Suits};
-    ghost use Rattle.im_steps.specs.Checks.{checked_by};
+    ghost use Rattle.im_theory_steps.specs.Checks.{checked_by};
     ghost use Rattle.im_engine.specs.Running.{IsLife};
     ghost use Rattle.im_engine.specs.Kept.{StepKept};
     ghost use Rattle.im_engine.specs.Told.{IsTold, IsAnswered, CallsDevice};

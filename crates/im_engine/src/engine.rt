@@ -2,18 +2,18 @@
 
 ghost use Rattle.std.specs.Prelude.{◌≡◌, ◌≤◌, length, false, None, Some, Option, List, IfOk, IfErr};
 ghost use Rattle.std.specs.FinMap.{entries as entries_of};
-ghost use Rattle.im_types.specs.Changes.{Effect};
-ghost use Rattle.im_types.specs.Lives.{Shown};
-ghost use Rattle.im_flush.specs.PageWriter.{IsReadyWriter};
+ghost use Rattle.im_base_types.specs.Changes.{Effect};
+ghost use Rattle.im_base_types.specs.Lives.{Shown};
+ghost use Rattle.im_page_writer.specs.PageWriter.{IsReadyWriter};
 
 use crate::engine::checks::{has_length, to_access, to_commit, to_continue, to_rollback};
 use crate::transactions::Transactions;
-use im_disk::Disk;
-use im_flush::PageWriter;
+use im_base_disk::Disk;
+use im_base_types::PageNo;
+use im_engine_lock::LockTable;
 use im_front::{Fault, Reply, Step};
-use im_lock::LockTable;
+use im_page_writer::PageWriter;
 use im_restart::RedoReport;
-use im_types::PageNo;
 use std::alloc::Global;
 
 mod checks;
@@ -39,9 +39,9 @@ pub struct Engine<D: Disk> {
 }
 
 impl<D: Disk> Engine<D> {
-    ghost use Rattle.im_lock.specs.Machine.{first_check, mark_for};
+    ghost use Rattle.im_engine_lock.specs.Machine.{first_check, mark_for};
     ghost use Rattle.im_front.specs.Calls.{asked_by};
-    ghost use Rattle.im_steps.specs.Checks.{marks_in};
+    ghost use Rattle.im_theory_steps.specs.Checks.{marks_in};
     ghost use Rattle.im_engine.specs.Kept.{numbered};
     ghost use Rattle.im_engine.specs.Told.{IsStep};
 

@@ -5,22 +5,22 @@ ghost use Rattle.im_engine.specs.Faults.{told_as, ends_engine};
 
 use crate::accesses::{breaks, told};
 use crate::engine::Engine;
-use im_disk::Disk;
+use im_base_disk::Disk;
+use im_base_types::{Rid, TxnId};
+use im_engine_index::Outcome;
+use im_engine_txn::Mark;
 use im_front::{Blocker, Fault, Reply};
-use im_index::Outcome;
-use im_txn::Mark;
-use im_types::{Rid, TxnId};
 
 impl<D: Disk> Engine<D> {
-    ghost use Rattle.im_types.specs.Changes.{Effect};
-    ghost use Rattle.im_types.specs.Histories.{Base};
-    ghost use Rattle.im_types.specs.Lives.{Shown};
-    ghost use Rattle.im_types.specs.Structure.{settled};
-    ghost use Rattle.im_types.specs.Answers as answers;
-    ghost use Rattle.im_lock.specs.View.{View};
+    ghost use Rattle.im_base_types.specs.Changes.{Effect};
+    ghost use Rattle.im_theory_log.specs.Histories.{Base};
+    ghost use Rattle.im_base_types.specs.Lives.{Shown};
+    ghost use Rattle.im_theory_log.specs.Structure.{settled};
+    ghost use Rattle.im_base_types.specs.Answers as answers;
+    ghost use Rattle.im_engine_lock.specs.View.{View};
     ghost use Rattle.im_front.specs.Calls.{told_by};
     ghost use Rattle.im_front.specs.Replies.{Suits};
-    ghost use Rattle.im_steps.specs.Checks.{checked_by};
+    ghost use Rattle.im_theory_steps.specs.Checks.{checked_by};
     ghost use Rattle.im_engine.specs.Running.{IsRunning, IsLife};
     ghost use Rattle.im_engine.specs.Kept.{StepKept};
     ghost use Rattle.im_engine.specs.Told.{IsTold, IsAnswered, WantsOf};
@@ -41,7 +41,7 @@ impl<D: Disk> Engine<D> {
             return Reply::Refused(Fault::NoTransaction);
         };
         self.failed = true;
-        match im_index::insert(
+        match im_engine_index::insert(
             self.alloc,
             &mut self.writer,
             &mut self.disk,

@@ -1,13 +1,13 @@
 //! What holds of whatever a stop leaves, and of lists of lives.
 
 ghost use Rattle.std.specs.Prelude.{List, []};
-ghost use Rattle.im_types.specs.Changes.{Effect};
-ghost use Rattle.im_disk.specs.Disk.{Files, both};
+ghost use Rattle.im_base_types.specs.Changes.{Effect};
+ghost use Rattle.im_base_disk.specs.Disk.{Files, both};
 ghost use Rattle.im_engine.specs.Stands.{StandsFor};
 ghost use Rattle.im_engine.specs.Counted.{FilesAreCounted, LivesAreCounted, OpeningsAreCounted, StepsAreCounted};
 ghost use Rattle.im_engine.specs.Lived.{Life, AreLives, AreKept};
 
-use im_disk::Disk;
+use im_base_disk::Disk;
 
 /// In the log of whatever files are a store's, each insert and each delete is compensated at most once, not at all where its transaction
 /// has a Commit, and once where it has an End. So it is in what a stop leaves, between two steps, within one, or within an opening: no

@@ -2,27 +2,27 @@
 
 ghost use Rattle.std.specs.Prelude.{◌≡◌, ◌≢◌, false, length, List, IfOk, IfErr};
 ghost use Rattle.std.specs.FinMap.{empty};
-ghost use Rattle.im_types.specs.Changes.{Effect, apply_all};
-ghost use Rattle.im_types.specs.declared.fault.Fault.TheVariants.{NotAStore};
-ghost use Rattle.im_disk.specs.Runs.{IsSynced};
+ghost use Rattle.im_base_types.specs.Changes.{Effect, apply_all};
+ghost use Rattle.im_base_types.specs.declared.fault.Fault.TheVariants.{NotAStore};
+ghost use Rattle.im_base_disk.specs.Runs.{IsSynced};
 ghost use Rattle.im_engine.specs.Stands.{StandsFor};
 ghost use Rattle.im_engine.specs.Turns.{answered_by, IsRunFrom};
 ghost use Rattle.im_engine.specs.Lived.{IsLived, IsUnlived};
 
 use crate::config::Config;
 use crate::engine::Engine;
-use im_disk::Disk;
+use im_base_disk::Disk;
+use im_base_types::Fault;
 use im_front::{Reply, Step};
-use im_types::Fault;
 use std::alloc::Global;
 
 impl<D: Disk> Engine<D> {
     ghost use Rattle.std.specs.Prelude.{OnErr};
-    ghost use Rattle.im_types.specs.Changes.{Effect};
-    ghost use Rattle.im_types.specs.Lives.{Shown};
-    ghost use Rattle.im_types.specs.declared.fault.Fault.TheVariants.{Memory};
-    ghost use Rattle.im_disk.specs.Runs.{LeavesOnly};
-    ghost use Rattle.im_lock.specs.View.{View};
+    ghost use Rattle.im_base_types.specs.Changes.{Effect};
+    ghost use Rattle.im_base_types.specs.Lives.{Shown};
+    ghost use Rattle.im_base_types.specs.declared.fault.Fault.TheVariants.{Memory};
+    ghost use Rattle.im_base_disk.specs.Runs.{LeavesOnly};
+    ghost use Rattle.im_engine_lock.specs.View.{View};
     ghost use Rattle.im_engine.specs.Running.{IsLife};
     ghost use Rattle.im_engine.specs.Turns.{answered_by, LivesOn, AreSteps, IsCutOff};
 
@@ -55,7 +55,7 @@ impl<D: Disk> Engine<D> {
 /// and where it falls no later than the reply to the m-th step, nothing is there of what was asked only behind that (`within`). That is
 /// what a list of lives is made of (`every_list_of_lives`). The steps with their replies are a run of the machine of transactions from the
 /// map of the effects that the files stood for: each transaction is as good as alone at its place in the order of Commits
-/// (`im_lock::isolation`).
+/// (`im_engine_lock::isolation`).
 ///
 /// Refused as an opening is, and for its causes, with no step made, and `Memory` where there is no room for the replies: then the files
 /// stand for what they stood for.

@@ -5,21 +5,21 @@ ghost use Rattle.std.specs.Prelude.{◌≡◌, ◌≢◌, List, IfOk, IfErr};
 use crate::accesses::breaks;
 use crate::engine::Engine;
 use crate::header::Header;
-use im_disk::Disk;
-use im_pool::Frame;
-use im_types::{Fault, Key, PageNo, Rid};
+use im_base_disk::Disk;
+use im_base_types::{Fault, Key, PageNo, Rid};
+use im_page_pool::Frame;
 use std::alloc::Global;
 
 impl<D: Disk> Engine<D> {
     ghost use Rattle.std.specs.Prelude.{false};
-    ghost use Rattle.im_types.specs.Changes.{Effect};
-    ghost use Rattle.im_types.specs.Histories.{Base};
-    ghost use Rattle.im_types.specs.Histories as histories;
-    ghost use Rattle.im_types.specs.Lives.{Shown};
-    ghost use Rattle.im_types.specs.declared.fault.Fault.TheVariants.{NotAStore};
-    ghost use Rattle.im_pool.specs.Pool.{page_at, IsAt};
-    ghost use Rattle.im_flush.specs.Outcome.{fault_of};
-    ghost use Rattle.im_lock.specs.View.{View};
+    ghost use Rattle.im_base_types.specs.Changes.{Effect};
+    ghost use Rattle.im_theory_log.specs.Histories.{Base};
+    ghost use Rattle.im_theory_log.specs.Histories as histories;
+    ghost use Rattle.im_base_types.specs.Lives.{Shown};
+    ghost use Rattle.im_base_types.specs.declared.fault.Fault.TheVariants.{NotAStore};
+    ghost use Rattle.im_page_pool.specs.Pool.{page_at, IsAt};
+    ghost use Rattle.im_page_writer.specs.Outcome.{fault_of};
+    ghost use Rattle.im_engine_lock.specs.View.{View};
     ghost use Rattle.im_engine.specs.Running.{IsRunning, IsLife};
     ghost use Rattle.im_engine.specs.Kept.{LookKept, EntriesKept};
     ghost use Rattle.im_engine.specs.Looking.{Looks, header_of};
@@ -36,7 +36,7 @@ impl<D: Disk> Engine<D> {
             return Err(Fault::Failed);
         }
         self.failed = true;
-        match im_search::entries(alloc, &mut self.writer, &mut self.disk) {
+        match im_tree_search::entries(alloc, &mut self.writer, &mut self.disk) {
             Ok(list) => {
                 self.failed = false;
                 Ok(list)

@@ -2,15 +2,15 @@
 
 ghost use Rattle.std.specs.Prelude.{◌≡◌, ◌≢◌, ◌<◌, ◌⊎◌, ◌↔◌, ℕ, [], false, true, length, List, IfOk, IfErr};
 ghost use Rattle.std.specs.Result.{IsErrAnd};
-ghost use Rattle.im_types.specs.declared.fault.Fault.TheVariants.{Memory};
+ghost use Rattle.im_base_types.specs.declared.fault.Fault.TheVariants.{Memory};
 
 use crate::config::Config;
 use crate::engine::Engine;
 use crate::syncing::sync_files;
 use crate::transactions::Transactions;
-use im_disk::Disk;
-use im_lock::LockTable;
-use im_types::Fault;
+use im_base_disk::Disk;
+use im_base_types::Fault;
+use im_engine_lock::LockTable;
 use std::alloc::Global;
 
 const ROOM: usize = 16_384;
@@ -24,12 +24,12 @@ fn make_room(alloc: Global) -> Result<Vec<u8>, Fault>
 }
 
 impl<D: Disk> Engine<D> {
-    ghost use Rattle.im_types.specs.Changes.{Effect};
-    ghost use Rattle.im_types.specs.Histories.{Base, History};
+    ghost use Rattle.im_base_types.specs.Changes.{Effect};
+    ghost use Rattle.im_theory_log.specs.Histories.{Base, History};
     ghost use Rattle.std.specs.Prelude.{OnOk};
-    ghost use Rattle.im_types.specs.declared.fault.Fault.TheVariants.{LogFull, Capacity, Device, Failed, Memory, NotAStore, PoolSize};
-    ghost use Rattle.im_disk.specs.Disk.{Files};
-    ghost use Rattle.im_disk.specs.Runs.{IsSynced, LeavesOnly, Reads};
+    ghost use Rattle.im_base_types.specs.declared.fault.Fault.TheVariants.{LogFull, Capacity, Device, Failed, Memory, NotAStore, PoolSize};
+    ghost use Rattle.im_base_disk.specs.Disk.{Files};
+    ghost use Rattle.im_base_disk.specs.Runs.{IsSynced, LeavesOnly, Reads};
     ghost use Rattle.im_restart.specs.Restart.{IsFullLog, MayRedo, SpellsLog};
     ghost use Rattle.im_engine.specs.Stands.{StandsFor};
     ghost use Rattle.im_engine.specs.Kept.{OpenKept, disk_of};

@@ -3,12 +3,12 @@
 ghost use Rattle.std.specs.Prelude.{◌≡◌, ◌+◌, ◌-◌, ◌^◌, min, length, None};
 
 use crate::engine::Engine;
-use im_disk::Disk;
-use im_types::{DirtyPage, Lsn};
+use im_base_disk::Disk;
+use im_base_types::{DirtyPage, Lsn};
 
 impl<D: Disk> Engine<D> {
-    ghost use Rattle.im_gate.specs.Gate.{place_of};
-    ghost use Rattle.im_flush.specs.DirtyTable.{oldest};
+    ghost use Rattle.im_log_gate.specs.Gate.{place_of};
+    ghost use Rattle.im_page_writer.specs.DirtyTable.{oldest};
 
     /// The LSN below which each record of the log is durable: a stop that comes now leaves all of them, and an opening reads them. An engine
     /// that has failed answers any number.

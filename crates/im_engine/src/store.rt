@@ -3,9 +3,9 @@
 
 use crate::accesses::told;
 use crate::engine::Engine;
-use im_disk::Disk;
+use im_base_disk::Disk;
+use im_base_types::{Key, Rid};
 use im_front::{Fault, Reply, Step, Store};
-use im_types::{Key, Rid};
 use std::alloc::Global;
 
 impl<D: Disk + Drop> Store for Engine<D> {

@@ -1,11 +1,11 @@
 //! A disk that was handed back is brought to where its store can be opened again.
 
 ghost use Rattle.std.specs.Prelude.{◌≡◌, false, OnOk};
-ghost use Rattle.im_disk.specs.Disk.{Files, Answers};
-ghost use Rattle.im_disk.specs.Runs.{IsSynced, LeavesOnly};
+ghost use Rattle.im_base_disk.specs.Disk.{Files, Answers};
+ghost use Rattle.im_base_disk.specs.Runs.{IsSynced, LeavesOnly};
 
-use im_disk::Disk;
-use im_types::{Fault, FileId};
+use im_base_disk::Disk;
+use im_base_types::{Fault, FileId};
 
 /// Brings both files of a disk to the disk itself, so that its store may be opened again: what an engine or a life hands back (`into_disk`,
 /// `live`), or an opening that was refused, need not be. Nothing that reads is changed, and a stop leaves nothing that it might not have

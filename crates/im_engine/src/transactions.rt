@@ -1,11 +1,11 @@
 //! Active transactions, and the number that is given next.
 
 ghost use Rattle.std.specs.Prelude.{◌≡◌, ◌<◌, ◌≤◌, ◌^◌, ◌+◌, ◌++◌, [], ◌∷◌, not, filter, find, length, map, nat_lt, true, IfSome, IfNone, Some};
-ghost use Rattle.im_txn.specs.Rows.{begun, changed, is_of, with_mark, with_record};
-ghost use Rattle.im_txn.specs.declared.transaction.Transaction.{Transaction as Row};
+ghost use Rattle.im_engine_txn.specs.Rows.{begun, changed, is_of, with_mark, with_record};
+ghost use Rattle.im_engine_txn.specs.declared.transaction.Transaction.{Transaction as Row};
 
-use im_txn::{Mark, Table, Transaction, numbers_stay_below};
-use im_types::{Lsn, TxnId};
+use im_base_types::{Lsn, TxnId};
+use im_engine_txn::{Mark, Table, Transaction, numbers_stay_below};
 use std::marker::Model;
 
 /// The greatest number of a transaction.
@@ -20,7 +20,7 @@ pub struct Transactions {
 
 impl Model for Transactions {
     ghost use Rattle.im_engine.specs.Numbered.{Numbered};
-    ghost use Rattle.im_txn.specs.Rows.{AreAbove, AreBelow};
+    ghost use Rattle.im_engine_txn.specs.Rows.{AreAbove, AreBelow};
     ghost use Rattle.std.specs.Prelude.{length, ◌≤◌};
 
     ghost Value = { Numbered };

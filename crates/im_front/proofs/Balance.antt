@@ -3,12 +3,12 @@ use Rattle.std.proofs.Common.{◌≡◌, ◌≢◌, ℕ, zero, suc, ◌+◌, ◌
 use Rattle.std.proofs.lemmas.Bool.{cases_lt, eq-eqb, ne_eqb}
 use Rattle.std.specs.Prelude.{cond, is_some}
 use Rattle.std.specs.FinMap.{get}
-use Rattle.im_types.specs.Keys.{Key}
-use Rattle.im_types.specs.Maps.{IndexMap, From, Above, first}
-use Rattle.im_types.specs.Answers.{Access, Fetch, Seek, Next, Scan, Insert, Delete, Step, Reply, Started, Committed, RolledBack, More, Blocked, Die, Done, Refused, Absent, Inserted, Duplicate, Deleted, Mark, Idle, Going, MustRollBack, RollingBack, Committing, found, entry, answer}
-use Rattle.im_lock.specs.Locks.{Lock}
-use Rattle.im_lock.specs.View.{Txn, View, idle, set_txn, begun, did, did_txn, marked, committed_by, dropped_by, undid_more, undid_last, broken, MayRollBack}
-use Rattle.im_lock.specs.Machine.{barred, Answers, Goes, Moves, begins, does, waits, dies, commits, drops, turns, undoes, ends, flushes, forces, checkpoints, lacks, breaks, start}
+use Rattle.im_base_types.specs.Keys.{Key}
+use Rattle.im_base_types.specs.Maps.{IndexMap, From, Above, first}
+use Rattle.im_base_types.specs.Answers.{Access, Fetch, Seek, Next, Scan, Insert, Delete, Step, Reply, Started, Committed, RolledBack, More, Blocked, Die, Done, Refused, Absent, Inserted, Duplicate, Deleted, Mark, Idle, Going, MustRollBack, RollingBack, Committing, found, entry, answer}
+use Rattle.im_engine_lock.specs.Locks.{Lock}
+use Rattle.im_engine_lock.specs.View.{Txn, View, idle, set_txn, begun, did, did_txn, marked, committed_by, dropped_by, undid_more, undid_last, broken, MayRollBack}
+use Rattle.im_engine_lock.specs.Machine.{barred, Answers, Goes, Moves, begins, does, waits, dies, commits, drops, turns, undoes, ends, flushes, forces, checkpoints, lacks, breaks, start}
 use Rattle.im_front.specs.Replies.{started_in, committed_in, rolled_back_in, IsCounted}
 use Rattle.im_front.specs.Events.{Event, Made, Broke, Runs}
 

@@ -2,13 +2,13 @@
 use Rattle.std.proofs.Common.{◌≡◌, ℕ, zero, suc, ◌≤◌, Bool, true, false, true≢false, List, [], ◌∷◌, length, take, Option, Some, None, refl, ap, sym, subst, ◌∙◌, inl, inr, arith}
 use Rattle.std.specs.Prelude.{◌==◌, cond, is_some}
 use Rattle.std.specs.FinMap.{get}
-use Rattle.im_types.specs.Pages as pages
-use Rattle.im_types.specs.Maps.{IndexMap, From, Above, first}
-use Rattle.im_types.specs.Refusals.{failed as has_failed}
-use Rattle.im_types.specs.Answers.{Access, Fetch, Seek, Next, Scan, Insert, Delete, Step, Begin, Do, Commit, Rollback, Continue, FlushPage, Force, Checkpoint, Reply, Started, Found, Absent, Entry, End, Entries, Inserted, Duplicate, Deleted, Committed, RolledBack, More, Blocked, BlockedTree, Die, Done, Refused, Mark, Idle, Going, MustRollBack, RollingBack, Committing, found, entry, answer, limit_of}
-use Rattle.im_types.specs.Lives.{Shown, shows, accessed}
-use Rattle.im_lock.specs.View.{View}
-use Rattle.im_lock.specs.Machine.{barred, barred_to, barred_to_rollback, barred_to_continue, or_else, fault_if, Answers, Goes, Moves, Wants, Breaks, begins, does, waits, dies, commits, drops, turns, undoes, ends, flushes, forces, checkpoints, lacks, breaks}
+use Rattle.im_base_types.specs.Pages as pages
+use Rattle.im_base_types.specs.Maps.{IndexMap, From, Above, first}
+use Rattle.im_base_types.specs.Refusals.{failed as has_failed}
+use Rattle.im_base_types.specs.Answers.{Access, Fetch, Seek, Next, Scan, Insert, Delete, Step, Begin, Do, Commit, Rollback, Continue, FlushPage, Force, Checkpoint, Reply, Started, Found, Absent, Entry, End, Entries, Inserted, Duplicate, Deleted, Committed, RolledBack, More, Blocked, BlockedTree, Die, Done, Refused, Mark, Idle, Going, MustRollBack, RollingBack, Committing, found, entry, answer, limit_of}
+use Rattle.im_base_types.specs.Lives.{Shown, shows, accessed}
+use Rattle.im_engine_lock.specs.View.{View}
+use Rattle.im_engine_lock.specs.Machine.{barred, barred_to, barred_to_rollback, barred_to_continue, or_else, fault_if, Answers, Goes, Moves, Wants, Breaks, begins, does, waits, dies, commits, drops, turns, undoes, ends, flushes, forces, checkpoints, lacks, breaks}
 use Rattle.im_front.specs.Calls.{most_entries, entries_in, most_key, has_entry, is_blocked}
 use Rattle.im_front.specs.Replies.{is_full, is_search, Suits, IsReply, IsCounted}
 

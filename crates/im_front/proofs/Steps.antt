@@ -2,16 +2,16 @@
 use Rattle.std.proofs.Common.{◌≡◌, ℕ, ◌+◌, ◌≤◌, ◌^◌, true, false, true≢false, List, [], ◌∷◌, ◌++◌, length, slice_index, Some, refl, ap, sym, subst, ◌∙◌, inl, inr, arith, length-append}
 use Rattle.std.specs.FinMap.{empty, entries}
 use Rattle.std.proofs.lemmas.List.Elements.{All-nil, All-push}
-use Rattle.im_types.specs.Pages.{Entry}
-use Rattle.im_types.specs.Answers as answers
-use Rattle.im_types.specs.Answers.{Step, Reply}
-use Rattle.im_types.specs.Changes.{Effect, apply_all}
-use Rattle.im_types.specs.Maps.{IndexMap}
-use Rattle.im_types.specs.Lives.{Shown, shows, effects, nothing_shown, shown_by}
-use Rattle.im_lock.specs.Locks.{Lock}
-use Rattle.im_lock.specs.View.{Txn, View, broken}
-use Rattle.im_lock.specs.Machine.{Moves, Run, start}
-use Rattle.im_lock.specs.Isolation.{Isolates}
+use Rattle.im_base_types.specs.Pages.{Entry}
+use Rattle.im_base_types.specs.Answers as answers
+use Rattle.im_base_types.specs.Answers.{Step, Reply}
+use Rattle.im_base_types.specs.Changes.{Effect, apply_all}
+use Rattle.im_base_types.specs.Maps.{IndexMap}
+use Rattle.im_base_types.specs.Lives.{Shown, shows, effects, nothing_shown, shown_by}
+use Rattle.im_engine_lock.specs.Locks.{Lock}
+use Rattle.im_engine_lock.specs.View.{Txn, View, broken}
+use Rattle.im_engine_lock.specs.Machine.{Moves, Run, start}
+use Rattle.im_engine_lock.specs.Isolation.{Isolates}
 use Rattle.im_front.specs.declared.recorded.Recorded.{Recorded}
 use Rattle.im_front.specs.Calls.{asked_by, said_by, trace_of, is_blocked}
 use Rattle.im_front.specs.Events.{Event, Made, Broke, made_in, Runs, shown_in}

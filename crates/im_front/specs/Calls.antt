@@ -1,9 +1,9 @@
 -- The steps and replies of the code, as the definitions know them.
 use Rattle.std.specs.Prelude.{ℕ, Bool, true, false, List, [], ◌∷◌, map}
-use Rattle.im_types.specs.Pages.{Entry}
-use Rattle.im_types.specs.Answers as answers
-use Rattle.im_types.specs.Answers.{limit_of}
-use Rattle.im_types.specs.Lives.{breaks}
+use Rattle.im_base_types.specs.Pages.{Entry}
+use Rattle.im_base_types.specs.Answers as answers
+use Rattle.im_base_types.specs.Answers.{limit_of}
+use Rattle.im_base_types.specs.Lives.{breaks}
 use Rattle.im_front.specs.declared.fault.Fault.{Fault}
 use Rattle.im_front.specs.declared.fault.Fault.TheVariants as faults
 use Rattle.im_front.specs.declared.step.Step.{Step}

@@ -2,13 +2,13 @@
 use Rattle.std.specs.Prelude.{◌≡◌, ℕ, ◌+◌, ◌<◌, ◌≤◌, ◌^◌, true, false, List, [], ◌∷◌, ◌++◌, length, ◌⊎◌}
 use Rattle.std.specs.List.{All}
 use Rattle.std.specs.FinMap.{empty, entries}
-use Rattle.im_types.specs.Pages.{Entry}
-use Rattle.im_types.specs.Answers.{Step, Reply}
-use Rattle.im_types.specs.Changes.{Effect, apply_all}
-use Rattle.im_types.specs.Lives.{Shown, Survives, effects, nothing_shown, shown_by}
-use Rattle.im_lock.specs.View.{View}
-use Rattle.im_lock.specs.Machine.{Run, start}
-use Rattle.im_stats.specs.Counts.{started, committed, rolled_back}
+use Rattle.im_base_types.specs.Pages.{Entry}
+use Rattle.im_base_types.specs.Answers.{Step, Reply}
+use Rattle.im_base_types.specs.Changes.{Effect, apply_all}
+use Rattle.im_base_types.specs.Lives.{Shown, Survives, effects, nothing_shown, shown_by}
+use Rattle.im_engine_lock.specs.View.{View}
+use Rattle.im_engine_lock.specs.Machine.{Run, start}
+use Rattle.im_front_stats.specs.Counts.{started, committed, rolled_back}
 use Rattle.im_front.specs.declared.fault.Fault.{Fault}
 use Rattle.im_front.specs.declared.fault.Fault.TheVariants.{Failed, Busy, TraceFull}
 use Rattle.im_front.specs.declared.recorded.Recorded.{Recorded}

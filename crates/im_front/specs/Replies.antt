@@ -1,7 +1,7 @@
 -- What each step may be answered, whatever is known of a store's disk.
 use Rattle.std.specs.Prelude.{◌≡◌, ℕ, ◌+◌, ◌≤◌, ◌==◌, Bool, true, false, length}
-use Rattle.im_types.specs.Answers.{Fetch, Seek, Next, Scan, Insert, Delete, Step, Begin, Do, Commit, Rollback, Continue, FlushPage, Force, Checkpoint, Reply, Started, Found, Absent, Entry, End, Entries, Inserted, Duplicate, Deleted, Committed, RolledBack, More, Blocked, BlockedTree, Die, Done, Refused}
-use Rattle.im_types.specs.Refusals.{memory}
+use Rattle.im_base_types.specs.Answers.{Fetch, Seek, Next, Scan, Insert, Delete, Step, Begin, Do, Commit, Rollback, Continue, FlushPage, Force, Checkpoint, Reply, Started, Found, Absent, Entry, End, Entries, Inserted, Duplicate, Deleted, Committed, RolledBack, More, Blocked, BlockedTree, Die, Done, Refused}
+use Rattle.im_base_types.specs.Refusals.{memory}
 use Rattle.im_front.specs.Calls.{most_entries, most_key}
 
 -- ---- steps, by what they ask

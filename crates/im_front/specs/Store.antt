@@ -1,12 +1,12 @@
 -- What the calls of a store keep. `life` says that a store goes on from these effects, has shown this since, and is this view of the machine.
 use Rattle.std.specs.Prelude.{ℕ, true, List, Some, ◌⊎◌}
 use Rattle.std.specs.FinMap.{empty}
-use Rattle.im_types.specs.Answers.{Step, Reply}
-use Rattle.im_types.specs.Changes.{Effect, apply_all}
-use Rattle.im_types.specs.Lives.{Shown, shows, nothing_shown}
-use Rattle.im_lock.specs.Locks.{Lock}
-use Rattle.im_lock.specs.View.{View, broken}
-use Rattle.im_lock.specs.Machine.{Moves, start}
+use Rattle.im_base_types.specs.Answers.{Step, Reply}
+use Rattle.im_base_types.specs.Changes.{Effect, apply_all}
+use Rattle.im_base_types.specs.Lives.{Shown, shows, nothing_shown}
+use Rattle.im_engine_lock.specs.Locks.{Lock}
+use Rattle.im_engine_lock.specs.View.{View, broken}
+use Rattle.im_engine_lock.specs.Machine.{Moves, start}
 
 module _ {E : Type 0} (life : List Effect → Shown → View → E → Type 0) where
   -- A step: the machine may give this reply, and the life goes on with what the reply shows.

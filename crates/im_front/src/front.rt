@@ -2,10 +2,10 @@
 
 ghost use Rattle.std.specs.Prelude.{◌≡◌, ◌≤◌, ◌+◌, ◌⊎◌, List, true, false, length, IfOk, IfErr, IfSome};
 ghost use Rattle.std.specs.List.{sum_by, All};
-ghost use Rattle.im_types.specs.Changes.{Effect};
-ghost use Rattle.im_types.specs.Lives.{Shown};
-ghost use Rattle.im_lock.specs.View.{View};
-ghost use Rattle.im_stats.specs.Counts.{NoLess};
+ghost use Rattle.im_base_types.specs.Changes.{Effect};
+ghost use Rattle.im_base_types.specs.Lives.{Shown};
+ghost use Rattle.im_engine_lock.specs.View.{View};
+ghost use Rattle.im_front_stats.specs.Counts.{NoLess};
 ghost use Rattle.im_front.specs.declared.fault.Fault.TheVariants.{Memory};
 ghost use Rattle.im_front.specs.Calls.{told_by, trace_of, is_blocked, counts_of};
 ghost use Rattle.im_front.specs.Replies.{is_full, lacks_memory, IsReply};

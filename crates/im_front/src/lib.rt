@@ -3,13 +3,13 @@
 //! **What lies under the lock** (`Held`): an engine, the entries from which the trace begins, the steps with their replies, and
 //! three counts. What holds each time that the lock is free is the invariant of the type, and `holds_always` says what follows.
 //! Over any engine (`IsTallied`) each reply of the trace suits its step, the counts are those of the trace, and what was started
-//! has ended or is active. Over an engine that tells what it holds (`Stands`) the trace is a run of the machine of `im_lock`, from
+//! has ended or is active. Over an engine that tells what it holds (`Stands`) the trace is a run of the machine of `im_engine_lock`, from
 //! the map of the base entries to a view of the engine: a stop then leaves the base entries with a front of what the trace asked,
 //! each acknowledged commit in it. `Held::step` adds to the trace exactly the step and the reply that it answers.
 //!
 //! **What each caller holds** (`Share`): a part of a ledger that counts the steps which it made, and the counts that it read
 //! last. The shares' sum is the number of all steps, where every share comes back to `close`. `Front::stats` reads the counts
-//! through the share's pass of the cell of `im_stats`: with no lock, whole, and no count ever falls.
+//! through the share's pass of the cell of `im_front_stats`: with no lock, whole, and no count ever falls.
 //!
 //! **The lock** (`Front`): `call` takes it, makes the step, and while the reply is `Blocked` waits until a transaction has
 //! ended, and makes it again. Nothing is claimed of who comes first, nor that a waiting call returns.

@@ -4,7 +4,7 @@ ghost use Rattle.std.specs.Prelude.{◌≡◌};
 ghost use Rattle.im_front.specs.Calls.{told_by, is_blocked, may_unblock};
 
 use crate::fault::Fault;
-use im_types::{Key, Rid, TxnId};
+use im_base_types::{Key, Rid, TxnId};
 
 /// Who or what stands in the way of a step.
 #[derive(Clone, Copy, Debug, PartialEq, Eq)]

@@ -3,11 +3,11 @@
 ghost use Rattle.std.specs.Prelude.{◌≡◌, ◌+◌, ◌≤◌, length};
 ghost use Rattle.std.specs.Arc.{arc_value};
 ghost use Rattle.crossbeam_utils.specs.Seq.{cell_view};
-ghost use Rattle.im_stats.specs.Counts.{reader, IsSound, NoLess};
+ghost use Rattle.im_front_stats.specs.Counts.{reader, IsSound, NoLess};
 ghost use Rattle.im_front.specs.Calls.{counts_of};
 
 use crate::stats::Stats;
-use im_stats::{Pass, StatsCell};
+use im_front_stats::{Pass, StatsCell};
 use std::alloc::Global;
 use std::sync::ledger::Ledger;
 use std::sync::{Arc, ledger};

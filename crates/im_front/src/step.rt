@@ -3,7 +3,7 @@
 ghost use Rattle.std.specs.Prelude.{◌≡◌, IfOk};
 ghost use Rattle.im_front.specs.Calls.{asked_by, may_end, most_entries, most_key};
 
-use im_types::{PageNo, Rid, TxnId};
+use im_base_types::{PageNo, Rid, TxnId};
 use std::alloc::{AllocError, Global};
 
 /// A step, made by one call. A key or a bound is handed in as bytes; where it has 0 bytes or more than 255 the step

@@ -2,10 +2,10 @@
 
 ghost use Rattle.std.specs.Prelude.{◌≡◌, ℕ, List, false, ◌++◌, IfOk, IfErr};
 ghost use Rattle.std.specs.FinMap.{empty, entries as entries_of};
-ghost use Rattle.im_types.specs.Changes.{Effect, apply_all};
-ghost use Rattle.im_types.specs.Lives.{Shown, Survives, effects, nothing_shown};
-ghost use Rattle.im_lock.specs.View.{View};
-ghost use Rattle.im_lock.specs.Machine.{start};
+ghost use Rattle.im_base_types.specs.Changes.{Effect, apply_all};
+ghost use Rattle.im_base_types.specs.Lives.{Shown, Survives, effects, nothing_shown};
+ghost use Rattle.im_engine_lock.specs.View.{View};
+ghost use Rattle.im_engine_lock.specs.Machine.{start};
 ghost use Rattle.im_front.specs.declared.fault.Fault as faults;
 ghost use Rattle.im_front.specs.Calls.{asked_by, told_by};
 ghost use Rattle.im_front.specs.Replies.{IsReply, IsCounted};
@@ -14,7 +14,7 @@ ghost use Rattle.im_front.specs.Store.{IsAlive, StepKept, LookKept};
 use crate::fault::Fault;
 use crate::reply::Reply;
 use crate::step::Step;
-use im_types::{Key, Rid};
+use im_base_types::{Key, Rid};
 use std::alloc::Global;
 
 /// A store of many transactions over one map, whose steps are those of the machine, and which a stop leaves with what it

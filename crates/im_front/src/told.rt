@@ -6,7 +6,7 @@ ghost use Rattle.im_front.specs.Calls.{asked_by, told_by, said_by, has_entry, en
 use crate::fault::Fault;
 use crate::reply::{Blocker, Reply};
 use crate::step::Step;
-use im_types::{Key, Rid, TxnId};
+use im_base_types::{Key, Rid, TxnId};
 use std::alloc::Global;
 
 /// A reply as the trace keeps it: it says what the `Reply` said. The key of an entry lies on the heap, so that a step of the trace

@@ -1,17 +1,17 @@
 -- What the layers above compose.
 use Rattle.std.proofs.Common.{false, ◌≡◌, inl, inr, ℕ, ◌≤◌, List, [], ◌∷◌, ◌++◌, Ok, Some, refl, sym, ◌∙◌, ap, subst, append_assoc}
-use Rattle.im_types.specs.declared.file_id.FileId.{FileId}
-use Rattle.im_types.specs.declared.file_id.FileId.TheVariants.{Log, Pages}
-use Rattle.im_types.specs.Records.{Logged}
-use Rattle.im_types.specs.Histories.{IsFront}
-use Rattle.im_disk.specs.declared.disk.Disk.{Ghosts}
-use Rattle.im_disk.specs.Disk.{Files, InFile, Stepped, Only}
-use Rattle.im_disk.specs.Runs.{LeavesIn, LeavesOnly, ChangesOnly, Spares}
-use Rattle.im_disk.proofs.Runs.{in_weakened, in_then, weakened, then_on, changes_then}
-use Rattle.im_gate.specs.Gate.{StartsAs}
-use Rattle.im_gate.specs.Header.{base_of, IsMade}
-use Rattle.im_gate.proofs.Frames.{ready_spared}
-use Rattle.im_record.specs.Entry.{Entry}
+use Rattle.im_base_types.specs.declared.file_id.FileId.{FileId}
+use Rattle.im_base_types.specs.declared.file_id.FileId.TheVariants.{Log, Pages}
+use Rattle.im_base_types.specs.Records.{Logged}
+use Rattle.im_theory_log.specs.Histories.{IsFront}
+use Rattle.im_base_disk.specs.declared.disk.Disk.{Ghosts}
+use Rattle.im_base_disk.specs.Disk.{Files, InFile, Stepped, Only}
+use Rattle.im_base_disk.specs.Runs.{LeavesIn, LeavesOnly, ChangesOnly, Spares}
+use Rattle.im_base_disk.proofs.Runs.{in_weakened, in_then, weakened, then_on, changes_then}
+use Rattle.im_log_gate.specs.Gate.{StartsAs}
+use Rattle.im_log_gate.specs.Header.{base_of, IsMade}
+use Rattle.im_log_gate.proofs.Frames.{ready_spared}
+use Rattle.im_log_record.specs.Entry.{Entry}
 use Rattle.im_log.specs.declared.log_file.LogFile.{LogFile}
 use Rattle.im_log.specs.Spelled.{logged_at, log_of}
 use Rattle.im_log.specs.LogFile.{IsOpen, IsLog}

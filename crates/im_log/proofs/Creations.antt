@@ -1,16 +1,16 @@
 -- Openings that make a log, and stops within them.
 use Rattle.std.proofs.Common.{◌≡◌, ◌≢◌, inl, inr, ⊎_elim, ℕ, ◌≤◌, List, [], length, slice_index, Some, Result, Ok, Err, IfOk, IfErr, refl, sym, ◌∙◌, subst, arith}
-use Rattle.im_types.specs.declared.fault.Fault.{Fault}
-use Rattle.im_types.specs.declared.fault.Fault.TheVariants.{NotAStore}
-use Rattle.im_types.specs.declared.file_id.FileId.TheVariants.{Log, Pages}
-use Rattle.im_types.specs.Records.{Logged}
-use Rattle.im_disk.specs.declared.disk.Disk.{Ghosts}
-use Rattle.im_disk.specs.Disk.{Files, Only, Stepped, InFile}
-use Rattle.im_disk.specs.Runs.{LeavesIn, Reads}
-use Rattle.im_disk.proofs.Runs.{in_started, in_then, reads_on, changes_reads}
-use Rattle.im_gate.specs.Batches.{batches}
-use Rattle.im_gate.specs.Header.{base_of, first_gate, IsMade, IsUnmade, IsBlank}
-use Rattle.im_gate.proofs.Starts.{blank_starts, gate_behind, starts_low}
+use Rattle.im_base_types.specs.declared.fault.Fault.{Fault}
+use Rattle.im_base_types.specs.declared.fault.Fault.TheVariants.{NotAStore}
+use Rattle.im_base_types.specs.declared.file_id.FileId.TheVariants.{Log, Pages}
+use Rattle.im_base_types.specs.Records.{Logged}
+use Rattle.im_base_disk.specs.declared.disk.Disk.{Ghosts}
+use Rattle.im_base_disk.specs.Disk.{Files, Only, Stepped, InFile}
+use Rattle.im_base_disk.specs.Runs.{LeavesIn, Reads}
+use Rattle.im_base_disk.proofs.Runs.{in_started, in_then, reads_on, changes_reads}
+use Rattle.im_log_gate.specs.Batches.{batches}
+use Rattle.im_log_gate.specs.Header.{base_of, first_gate, IsMade, IsUnmade, IsBlank}
+use Rattle.im_log_gate.proofs.Starts.{blank_starts, gate_behind, starts_low}
 use Rattle.im_log.specs.declared.log_file.LogFile.{LogFile}
 use Rattle.im_log.specs.Kept.{HasLog, IsLogOf, IsStore}
 use Rattle.im_log.specs.LogFile.{IsLog}

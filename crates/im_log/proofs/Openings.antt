@@ -1,16 +1,16 @@
 -- How an opening goes on from record to record.
 use Rattle.std.proofs.Common.{◌≡◌, ℕ, ◌+◌, ◌-◌, ◌<◌, ◌≤◌, ◌^◌, false, List, [], ◌∷◌, length, take, drop, Option, Some, None, MatchOption, Ok, refl, sym, ◌∙◌, ap, subst, arith, length-drop}
 use Rattle.std.proofs.lemmas.List.{length-take-le, take-take, drop-take, drop-drop}
-use Rattle.im_types.specs.declared.file_id.FileId.{FileId}
-use Rattle.im_types.specs.declared.file_id.FileId.TheVariants.{Log}
-use Rattle.im_types.specs.Records.{Logged}
-use Rattle.im_disk.specs.declared.disk.Disk.{Ghosts}
-use Rattle.im_disk.specs.Disk.{Files}
-use Rattle.im_gate.specs.declared.gate.Gate.{Gate}
-use Rattle.im_gate.specs.Batches.{batches, batches_from, in_front, size_of}
-use Rattle.im_gate.specs.Gate.{base_at, first_of, place_of, has_failed, unread, StartsAs, IsReading, IsReady}
-use Rattle.im_gate.specs.Header.{base_of, first_gate, IsMade}
-use Rattle.im_record.specs.Reading.{entry_of}
+use Rattle.im_base_types.specs.declared.file_id.FileId.{FileId}
+use Rattle.im_base_types.specs.declared.file_id.FileId.TheVariants.{Log}
+use Rattle.im_base_types.specs.Records.{Logged}
+use Rattle.im_base_disk.specs.declared.disk.Disk.{Ghosts}
+use Rattle.im_base_disk.specs.Disk.{Files}
+use Rattle.im_log_gate.specs.declared.gate.Gate.{Gate}
+use Rattle.im_log_gate.specs.Batches.{batches, batches_from, in_front, size_of}
+use Rattle.im_log_gate.specs.Gate.{base_at, first_of, place_of, has_failed, unread, StartsAs, IsReading, IsReady}
+use Rattle.im_log_gate.specs.Header.{base_of, first_gate, IsMade}
+use Rattle.im_log_record.specs.Reading.{entry_of}
 use Rattle.im_log.specs.declared.opening.Opening.{Opening}
 use Rattle.im_log.specs.Spelled.{logged_at, record_size, first_record, records_from, batches_records, spelled_by, log_of}
 use Rattle.im_log.specs.Opening.{rest_of, position_of, IsBegun, IsOpening, Next, NextKept, Ended, Stepped, RefusedBatch}

@@ -1,8 +1,8 @@
 -- The first of the records that bytes spell, and the others.
 use Rattle.std.proofs.Common.{◌≡◌, ℕ, zero, suc, ◌+◌, ◌-◌, ◌≤◌, List, [], ◌∷◌, ◌++◌, length, drop, Option, Some, None, refl, sym, ◌∙◌, ap, arith, append_assoc}
-use Rattle.im_types.specs.Records.{Logged}
-use Rattle.im_types.specs.Histories.{IsFront}
-use Rattle.im_record.specs.Entry.{Entry}
+use Rattle.im_base_types.specs.Records.{Logged}
+use Rattle.im_theory_log.specs.Histories.{IsFront}
+use Rattle.im_log_record.specs.Entry.{Entry}
 use Rattle.im_log.specs.Spelled.{logged_at, record_size, first_record, records_from, batches_records}
 use Rattle.im_log.proofs.Spells.{First, first, step, none, batch_step, batch_none}
 

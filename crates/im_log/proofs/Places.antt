@@ -4,16 +4,16 @@ use Rattle.std.proofs.lemmas.Bool.{cases_eq}
 use Rattle.std.proofs.lemmas.List.{drop-append-le, drop-drop, drop-take}
 use Rattle.byteorder.specs.Endian.{big_number}
 use Rattle.byteorder.specs.Numbers.{big_from-take}
-use Rattle.im_types.specs.declared.file_id.FileId.TheVariants.{Log}
-use Rattle.im_types.specs.Records.{Logged}
-use Rattle.im_types.specs.Histories.{IsRecordOf}
-use Rattle.im_disk.specs.declared.disk.Disk.{Ghosts}
-use Rattle.im_gate.specs.Batches.{batches_from, batch, batch_length, is_whole, size_of}
-use Rattle.im_gate.specs.Gate.{place_of}
-use Rattle.im_gate.specs.Header.{first_gate}
-use Rattle.im_gate.proofs.BatchLemmas.{Sizes, sizes, from_drop, opened, refused, shut, batch_long}
-use Rattle.im_record.specs.Entry.{Entry}
-use Rattle.im_record.specs.Reading.{entry_of}
+use Rattle.im_base_types.specs.declared.file_id.FileId.TheVariants.{Log}
+use Rattle.im_base_types.specs.Records.{Logged}
+use Rattle.im_theory_log.specs.Histories.{IsRecordOf}
+use Rattle.im_base_disk.specs.declared.disk.Disk.{Ghosts}
+use Rattle.im_log_gate.specs.Batches.{batches_from, batch, batch_length, is_whole, size_of}
+use Rattle.im_log_gate.specs.Gate.{place_of}
+use Rattle.im_log_gate.specs.Header.{first_gate}
+use Rattle.im_log_gate.proofs.BatchLemmas.{Sizes, sizes, from_drop, opened, refused, shut, batch_long}
+use Rattle.im_log_record.specs.Entry.{Entry}
+use Rattle.im_log_record.specs.Reading.{entry_of}
 use Rattle.im_log.specs.declared.log_file.LogFile.{LogFile}
 use Rattle.im_log.specs.Spelled.{logged_at, record_size, first_record, records_from, batches_records}
 use Rattle.im_log.specs.LogFile.{buffered, batch_lsn, IsOpen, IsLog}

@@ -1,22 +1,22 @@
 -- What a force and an append keep.
 use Rattle.std.proofs.Common.{◌≡◌, inl, inr, ⊎_elim, ℕ, zero, suc, ◌+◌, ◌<◌, ◌≤◌, false, List, [], ◌∷◌, ◌++◌, length, take, drop, get_or, Some, None, refl, sym, ◌∙◌, ap, subst, arith, append-nil}
 use Rattle.std.proofs.lemmas.List.{length-take-le, get_or-take, drop-take}
-use Rattle.im_types.specs.declared.file_id.FileId.{FileId}
-use Rattle.im_types.specs.declared.file_id.FileId.TheVariants.{Log}
-use Rattle.im_types.specs.Records.{Logged}
-use Rattle.im_types.specs.Histories.{Base, IsFront, end_of}
-use Rattle.im_disk.specs.declared.disk.Disk.{Ghosts}
-use Rattle.im_disk.specs.Disk.{Files, Only}
-use Rattle.im_disk.specs.Runs.{LeavesIn}
-use Rattle.im_disk.proofs.Runs.{in_started, in_weakened}
-use Rattle.im_gate.specs.Batches.{batches, batches_from, with_batch, IsBeforeOrWith, size_of}
-use Rattle.im_gate.specs.Header.{base_of, first_gate, StartsAlike, IsMade}
-use Rattle.im_gate.specs.Gate.{file_of, first_of, place_of, has_failed, logged, InOneFile, StartsAs, IsReady}
-use Rattle.im_gate.specs.declared.gate.Gate.{Gate}
-use Rattle.im_gate.proofs.Frames.{ready_place}
-use Rattle.im_gate.proofs.Starts.{front_starts, front_made}
-use Rattle.im_record.specs.Entry.{Entry}
-use Rattle.im_record.specs.Reading.{entry_of}
+use Rattle.im_base_types.specs.declared.file_id.FileId.{FileId}
+use Rattle.im_base_types.specs.declared.file_id.FileId.TheVariants.{Log}
+use Rattle.im_base_types.specs.Records.{Logged}
+use Rattle.im_theory_log.specs.Histories.{Base, IsFront, end_of}
+use Rattle.im_base_disk.specs.declared.disk.Disk.{Ghosts}
+use Rattle.im_base_disk.specs.Disk.{Files, Only}
+use Rattle.im_base_disk.specs.Runs.{LeavesIn}
+use Rattle.im_base_disk.proofs.Runs.{in_started, in_weakened}
+use Rattle.im_log_gate.specs.Batches.{batches, batches_from, with_batch, IsBeforeOrWith, size_of}
+use Rattle.im_log_gate.specs.Header.{base_of, first_gate, StartsAlike, IsMade}
+use Rattle.im_log_gate.specs.Gate.{file_of, first_of, place_of, has_failed, logged, InOneFile, StartsAs, IsReady}
+use Rattle.im_log_gate.specs.declared.gate.Gate.{Gate}
+use Rattle.im_log_gate.proofs.Frames.{ready_place}
+use Rattle.im_log_gate.proofs.Starts.{front_starts, front_made}
+use Rattle.im_log_record.specs.Entry.{Entry}
+use Rattle.im_log_record.specs.Reading.{entry_of}
 use Rattle.im_log.specs.declared.log_file.LogFile.{LogFile}
 use Rattle.im_log.specs.Gates.{IsOfLog}
 use Rattle.im_log.specs.Spelled.{logged_at, records_from, spelled_by, log_of, last_lsn}

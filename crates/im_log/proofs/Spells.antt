@@ -3,13 +3,13 @@ use Rattle.std.proofs.Common.{◌≡◌, ◌^◌, ℕ, zero, suc, ◌+◌, ◌-�
 use Rattle.std.proofs.lemmas.Bool.Decides.{nat_tests}
 use Rattle.std.proofs.lemmas.List.{take_all, take-append-le}
 use Rattle.std.specs.Int.{w32, from_be_bytes}
-use Rattle.im_gate.specs.Batches.{batches, size_of, with_batch}
-use Rattle.im_gate.specs.Header.{first_gate}
-use Rattle.im_gate.proofs.BatchLemmas.{size_of-push}
-use Rattle.im_gate.proofs.Starts.{gate_behind}
-use Rattle.im_types.specs.Records.{Logged}
-use Rattle.im_record.specs.Entry.{Entry}
-use Rattle.im_record.specs.Reading.{entry_of}
+use Rattle.im_log_gate.specs.Batches.{batches, size_of, with_batch}
+use Rattle.im_log_gate.specs.Header.{first_gate}
+use Rattle.im_log_gate.proofs.BatchLemmas.{size_of-push}
+use Rattle.im_log_gate.proofs.Starts.{gate_behind}
+use Rattle.im_base_types.specs.Records.{Logged}
+use Rattle.im_log_record.specs.Entry.{Entry}
+use Rattle.im_log_record.specs.Reading.{entry_of}
 use Rattle.im_log.specs.Spelled.{logged_at, record_size, first_record, records_from, batches_records, spelled_by, log_of, last_lsn}
 
 pub record First (bytes : List ℕ) (entry : Entry) : Type 0 where

@@ -1,16 +1,16 @@
 -- What each call keeps of a log.
 use Rattle.std.specs.Prelude.{◌≡◌, ◌⊎◌, ℕ, ◌<◌, ◌≤◌, List, [], ◌∷◌, ◌++◌, length, Some, Result, IfOk, IfErr, OnOk, ◌≢◌}
-use Rattle.im_types.specs.declared.fault.Fault.{Fault}
-use Rattle.im_types.specs.declared.fault.Fault.TheVariants.{NotAStore}
-use Rattle.im_types.specs.declared.file_id.FileId.TheVariants.{Log, Pages}
-use Rattle.im_types.specs.Records.{Logged}
-use Rattle.im_types.specs.Histories.{Base, IsFront, end_of}
-use Rattle.im_disk.specs.declared.disk.Disk.{Ghosts}
-use Rattle.im_disk.specs.Disk.{Files}
-use Rattle.im_disk.specs.Runs.{LeavesIn, ChangesOnly}
-use Rattle.im_gate.specs.Batches.{batches}
-use Rattle.im_gate.specs.Header.{base_of, first_gate, IsMade, IsUnmade}
-use Rattle.im_record.specs.Entry.{Entry}
+use Rattle.im_base_types.specs.declared.fault.Fault.{Fault}
+use Rattle.im_base_types.specs.declared.fault.Fault.TheVariants.{NotAStore}
+use Rattle.im_base_types.specs.declared.file_id.FileId.TheVariants.{Log, Pages}
+use Rattle.im_base_types.specs.Records.{Logged}
+use Rattle.im_theory_log.specs.Histories.{Base, IsFront, end_of}
+use Rattle.im_base_disk.specs.declared.disk.Disk.{Ghosts}
+use Rattle.im_base_disk.specs.Disk.{Files}
+use Rattle.im_base_disk.specs.Runs.{LeavesIn, ChangesOnly}
+use Rattle.im_log_gate.specs.Batches.{batches}
+use Rattle.im_log_gate.specs.Header.{base_of, first_gate, IsMade, IsUnmade}
+use Rattle.im_log_record.specs.Entry.{Entry}
 use Rattle.im_log.specs.declared.log_file.LogFile.{LogFile}
 use Rattle.im_log.specs.Spelled.{logged_at, log_of}
 use Rattle.im_log.specs.LogFile.{IsLog}

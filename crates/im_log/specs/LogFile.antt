@@ -1,11 +1,11 @@
 -- What a log file knows of its disk.
 use Rattle.std.specs.Prelude.{◌≡◌, ℕ, ◌+◌, ◌^◌, ◌<◌, ◌≤◌, nat_le, if◌then◌else◌, false, List, take, Some}
-use Rattle.im_types.specs.declared.file_id.FileId.TheVariants.{Log}
-use Rattle.im_types.specs.Records.{Logged}
-use Rattle.im_types.specs.Histories.{IsFront}
-use Rattle.im_disk.specs.declared.disk.Disk.{Ghosts}
-use Rattle.im_gate.specs.Gate.{IsReady, StartsAs, place_of, has_failed}
-use Rattle.im_gate.specs.Header.{base_of, IsMade}
+use Rattle.im_base_types.specs.declared.file_id.FileId.TheVariants.{Log}
+use Rattle.im_base_types.specs.Records.{Logged}
+use Rattle.im_theory_log.specs.Histories.{IsFront}
+use Rattle.im_base_disk.specs.declared.disk.Disk.{Ghosts}
+use Rattle.im_log_gate.specs.Gate.{IsReady, StartsAs, place_of, has_failed}
+use Rattle.im_log_gate.specs.Header.{base_of, IsMade}
 use Rattle.im_log.specs.declared.log_file.LogFile.{LogFile}
 use Rattle.im_log.specs.Spelled.{records_from, log_of, last_lsn}
 

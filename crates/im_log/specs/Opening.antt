@@ -1,16 +1,16 @@
 -- A log that is being opened.
 use Rattle.std.specs.Prelude.{◌≡◌, ℕ, ◌+◌, ◌-◌, ◌^◌, ◌≤◌, ◌<◌, false, List, ◌∷◌, length, take, drop, Option, Some, Result, IfOk, IfErr, MatchOption}
-use Rattle.im_types.specs.declared.fault.Fault.{Fault}
-use Rattle.im_types.specs.declared.fault.Fault.TheVariants.{Device}
-use Rattle.im_types.specs.declared.file_id.FileId.TheVariants.{Log}
-use Rattle.im_types.specs.Records.{Logged}
-use Rattle.im_types.specs.Histories.{IsFront}
-use Rattle.im_disk.specs.declared.disk.Disk.{Ghosts}
-use Rattle.im_gate.specs.Batches.{size_of}
-use Rattle.im_gate.specs.Gate.{IsReading, StartsAs, has_failed, place_of, unread}
-use Rattle.im_gate.specs.Header.{base_of, IsMade}
-use Rattle.im_record.specs.Entry.{Entry}
-use Rattle.im_record.specs.Reading.{entry_of}
+use Rattle.im_base_types.specs.declared.fault.Fault.{Fault}
+use Rattle.im_base_types.specs.declared.fault.Fault.TheVariants.{Device}
+use Rattle.im_base_types.specs.declared.file_id.FileId.TheVariants.{Log}
+use Rattle.im_base_types.specs.Records.{Logged}
+use Rattle.im_theory_log.specs.Histories.{IsFront}
+use Rattle.im_base_disk.specs.declared.disk.Disk.{Ghosts}
+use Rattle.im_log_gate.specs.Batches.{size_of}
+use Rattle.im_log_gate.specs.Gate.{IsReading, StartsAs, has_failed, place_of, unread}
+use Rattle.im_log_gate.specs.Header.{base_of, IsMade}
+use Rattle.im_log_record.specs.Entry.{Entry}
+use Rattle.im_log_record.specs.Reading.{entry_of}
 use Rattle.im_log.specs.declared.opening.Opening.{Opening}
 use Rattle.im_log.specs.Spelled.{logged_at, record_size, records_from, batches_records, log_of}
 

@@ -1,10 +1,10 @@
 -- What reading one record of a log gives.
 use Rattle.std.specs.Prelude.{◌≡◌, ℕ, ◌≤◌, List, length, take, Some, Result, IfOk, IfErr}
-use Rattle.im_types.specs.declared.fault.Fault.{Fault}
-use Rattle.im_types.specs.declared.fault.Fault.TheVariants.{Device}
-use Rattle.im_types.specs.Records.{Logged}
-use Rattle.im_record.specs.Entry.{Entry}
-use Rattle.im_record.specs.Reading.{entry_of}
+use Rattle.im_base_types.specs.declared.fault.Fault.{Fault}
+use Rattle.im_base_types.specs.declared.fault.Fault.TheVariants.{Device}
+use Rattle.im_base_types.specs.Records.{Logged}
+use Rattle.im_log_record.specs.Entry.{Entry}
+use Rattle.im_log_record.specs.Reading.{entry_of}
 use Rattle.im_log.specs.Spelled.{logged_at, record_size}
 
 -- The length at the front of these bytes is that of a record of at most 16,384 bytes, and all of it is there.

@@ -1,10 +1,10 @@
 -- A scan of the durable records of a log, from an LSN on.
 use Rattle.std.specs.Prelude.{◌≡◌, ◌≢◌, ℕ, ◌<◌, ◌≤◌, List, [], ◌++◌, Option, Result, IfOk, IfErr, MatchOption}
-use Rattle.im_types.specs.declared.fault.Fault.{Fault}
-use Rattle.im_types.specs.declared.fault.Fault.TheVariants.{Device, NotAStore}
-use Rattle.im_types.specs.Records.{Logged}
-use Rattle.im_types.specs.Histories.{IsRecordOf}
-use Rattle.im_disk.specs.declared.disk.Disk.{Ghosts}
+use Rattle.im_base_types.specs.declared.fault.Fault.{Fault}
+use Rattle.im_base_types.specs.declared.fault.Fault.TheVariants.{Device, NotAStore}
+use Rattle.im_base_types.specs.Records.{Logged}
+use Rattle.im_theory_log.specs.Histories.{IsRecordOf}
+use Rattle.im_base_disk.specs.declared.disk.Disk.{Ghosts}
 use Rattle.im_log.specs.declared.opening.Opening.{Opening}
 use Rattle.im_log.specs.declared.scan.Scan.{Scan}
 use Rattle.im_log.specs.Opening.{IsBegun, IsOpening, Next, Ended}

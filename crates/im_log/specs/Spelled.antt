@@ -1,11 +1,11 @@
 -- The records that the bytes of a log file spell.
 use Rattle.std.specs.Prelude.{ℕ, zero, suc, ◌+◌, ◌-◌, ◌^◌, nat_le, ◌&&◌, if◌then◌else◌, List, [], ◌∷◌, length, take, Option, Some, None}
 use Rattle.std.specs.Int.{w32, from_be_bytes}
-use Rattle.im_types.specs.Records.{Logged}
-use Rattle.im_gate.specs.Batches.{batches, size_of}
-use Rattle.im_gate.specs.Header.{first_gate}
-use Rattle.im_record.specs.Entry.{Entry, transaction_of, prev_of, undo_next_of, page_of}
-use Rattle.im_record.specs.Reading.{entry_of}
+use Rattle.im_base_types.specs.Records.{Logged}
+use Rattle.im_log_gate.specs.Batches.{batches, size_of}
+use Rattle.im_log_gate.specs.Header.{first_gate}
+use Rattle.im_log_record.specs.Entry.{Entry, transaction_of, prev_of, undo_next_of, page_of}
+use Rattle.im_log_record.specs.Reading.{entry_of}
 use Rattle.im_log.specs.Whats.{what_of}
 
 -- The record at an LSN.

@@ -1,19 +1,19 @@
 //! A log is made where there is none yet.
 
 ghost use Rattle.std.specs.Prelude.{◌≡◌, ◌⊎◌, ◌↔◌, true, false, length, IfErr, IfOk, List, ℕ};
-ghost use Rattle.im_types.specs.declared.fault.Fault.TheVariants.{Device, Memory, NotAStore};
-ghost use Rattle.im_types.specs.declared.file_id.FileId.TheVariants.{Log, Pages};
-ghost use Rattle.im_types.specs.Records.{Logged};
-ghost use Rattle.im_disk.specs.Disk.{Only};
-ghost use Rattle.im_disk.specs.Runs.{ChangesOnly};
-ghost use Rattle.im_gate.specs.Header.{base_of, IsUnmade};
+ghost use Rattle.im_base_types.specs.declared.fault.Fault.TheVariants.{Device, Memory, NotAStore};
+ghost use Rattle.im_base_types.specs.declared.file_id.FileId.TheVariants.{Log, Pages};
+ghost use Rattle.im_base_types.specs.Records.{Logged};
+ghost use Rattle.im_base_disk.specs.Disk.{Only};
+ghost use Rattle.im_base_disk.specs.Runs.{ChangesOnly};
+ghost use Rattle.im_log_gate.specs.Header.{base_of, IsUnmade};
 ghost use Rattle.im_log.specs.LogFile.{IsOpen, IsLog};
 ghost use Rattle.im_log.specs.Kept.{IsLogOf, IsStore, OpenKept};
 
 use crate::{LogFile, open_log};
-use im_disk::Disk;
-use im_gate::Gate;
-use im_types::{Fault, FileId};
+use im_base_disk::Disk;
+use im_base_types::{Fault, FileId};
+use im_log_gate::Gate;
 use std::alloc::Global;
 
 /// Opens the log of a store, or makes it where no store was made yet: the log is unmade, and the file of pages is empty. Its

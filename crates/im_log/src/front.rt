@@ -1,11 +1,11 @@
 //! The record at the front of bytes.
 
 ghost use Rattle.std.specs.Prelude.{◌≡◌, ◌≤◌, length, take, IfErr, IfOk, None};
-ghost use Rattle.im_types.specs.declared.fault.Fault.TheVariants.{NotAStore};
+ghost use Rattle.im_base_types.specs.declared.fault.Fault.TheVariants.{NotAStore};
 ghost use Rattle.im_log.specs.Spelled.{record_size, first_record};
 
 use byteorder::{BigEndian, ByteOrder};
-use im_types::Fault;
+use im_base_types::Fault;
 
 // The length of the record at the front of these bytes, in which all of it lies. Refused `NotAStore` where that is not so.
 #[tactic(auto, unfolding(crate::specs::Spelled::first_record), using(std::proofs::lemmas::Bool::Decides::nat_tests, crate::proofs::Places::size_in_front))]

@@ -1,15 +1,15 @@
 //! The log file with its buffer. A record's LSN is the base and its place in the file.
 
 ghost use Rattle.std.specs.Prelude.{◌≡◌, ◌≢◌, ◌+◌, ◌*◌, ◌^◌, ◌<◌, ◌≤◌, ◌↔◌, ◌⊎◌, ◌++◌, false, true, not, is_ok, length, take, min, ◌-◌, IfErr, IfOk, OnOk, List, ℕ, Some};
-ghost use Rattle.im_gate.specs.Gate.{base_at};
+ghost use Rattle.im_log_gate.specs.Gate.{base_at};
 ghost use Rattle.im_log.specs.Gates.{IsOfLog};
 
 use crate::reading::{copy_front, read_front};
 use crate::{Opening, Scan};
-use im_disk::Disk;
-use im_gate::Gate;
-use im_record::{Record, spellings};
-use im_types::{Fault, FileId, Lsn};
+use im_base_disk::Disk;
+use im_base_types::{Fault, FileId, Lsn};
+use im_log_gate::Gate;
+use im_log_record::{Record, spellings};
 use std::alloc::Global;
 
 /// No record ends above this LSN.
@@ -37,14 +37,14 @@ pub struct LogFile {
 }
 
 impl LogFile {
-    ghost use Rattle.im_disk.specs.Runs.{LeavesIn, ChangesOnly, Reads};
-    ghost use Rattle.im_types.specs.declared.fault.Fault.TheVariants.{Device, Failed, LogFull, Memory, NotAStore};
-    ghost use Rattle.im_types.specs.declared.file_id.FileId.TheVariants.{Log};
-    ghost use Rattle.im_types.specs.Records.{Logged};
-    ghost use Rattle.im_types.specs.Histories.{IsRecordOf};
-    ghost use Rattle.im_gate.specs.Gate.{place_of};
-    ghost use Rattle.im_record.specs.Entry.{view};
-    ghost use Rattle.im_record.specs.Spelling.{IsEntry, size_of, spelling};
+    ghost use Rattle.im_base_disk.specs.Runs.{LeavesIn, ChangesOnly, Reads};
+    ghost use Rattle.im_base_types.specs.declared.fault.Fault.TheVariants.{Device, Failed, LogFull, Memory, NotAStore};
+    ghost use Rattle.im_base_types.specs.declared.file_id.FileId.TheVariants.{Log};
+    ghost use Rattle.im_base_types.specs.Records.{Logged};
+    ghost use Rattle.im_theory_log.specs.Histories.{IsRecordOf};
+    ghost use Rattle.im_log_gate.specs.Gate.{place_of};
+    ghost use Rattle.im_log_record.specs.Entry.{view};
+    ghost use Rattle.im_log_record.specs.Spelling.{IsEntry, size_of, spelling};
     ghost use Rattle.im_log.specs.LogFile.{buffered, batch_lsn, next_lsn, end_with, HasNoRoom, IsOpen, IsLog};
     ghost use Rattle.im_log.specs.Kept.{AppendKept, ForceKept};
     ghost use Rattle.im_log.specs.Reading.{FoundKept};

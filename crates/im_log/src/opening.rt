@@ -2,22 +2,22 @@
 
 ghost use Rattle.std.specs.Prelude.{◌≡◌, ◌+◌, ◌-◌, ◌^◌, ◌<◌, ◌≤◌, ◌⊎◌, ◌↔◌, true, false, not, is_ok, length, IfErr, IfOk, OnOk, List, ℕ, Some};
 ghost use Rattle.im_log.specs.Gates.{IsOfLog};
-ghost use Rattle.im_types.specs.declared.fault.Fault.TheVariants.{Device, Memory, NotAStore};
-ghost use Rattle.im_types.specs.declared.file_id.FileId.TheVariants.{Log};
-ghost use Rattle.im_types.specs.Records.{Logged};
-ghost use Rattle.im_disk.specs.Runs.{Reads};
-ghost use Rattle.im_gate.specs.Gate.{base_at, first_of, place_of, has_failed, StartsAs, IsReading};
-ghost use Rattle.im_gate.specs.Header.{base_of, IsMade};
+ghost use Rattle.im_base_types.specs.declared.fault.Fault.TheVariants.{Device, Memory, NotAStore};
+ghost use Rattle.im_base_types.specs.declared.file_id.FileId.TheVariants.{Log};
+ghost use Rattle.im_base_types.specs.Records.{Logged};
+ghost use Rattle.im_base_disk.specs.Runs.{Reads};
+ghost use Rattle.im_log_gate.specs.Gate.{base_at, first_of, place_of, has_failed, StartsAs, IsReading};
+ghost use Rattle.im_log_gate.specs.Header.{base_of, IsMade};
 ghost use Rattle.im_log.specs.LogFile.{IsOpen, IsLog};
 ghost use Rattle.im_log.specs.Kept.{HasLog, ReadKept};
 
 use crate::LogFile;
 use crate::front::front_size;
 use crate::log_file::{BUFFER, LSNS};
-use im_disk::Disk;
-use im_gate::Gate;
-use im_record::{Record, decode};
-use im_types::{Fault, Lsn};
+use im_base_disk::Disk;
+use im_base_types::{Fault, Lsn};
+use im_log_gate::Gate;
+use im_log_record::{Record, decode};
 use std::alloc::Global;
 
 /// A log that is being opened: its records are read in turn.
@@ -57,13 +57,13 @@ fn make_room(alloc: Global) -> Result<Vec<u8>, Fault>
 
 impl Opening {
     ghost use Rattle.std.specs.Prelude.{MatchOption, None, [], ◌∷◌};
-    ghost use Rattle.im_types.specs.declared.fault.Fault.TheVariants.{Device, Failed, Memory, NotAStore};
-    ghost use Rattle.im_types.specs.Records.{Logged};
-    ghost use Rattle.im_disk.specs.Runs.{Reads};
-    ghost use Rattle.im_gate.specs.Gate.{place_of, has_failed, unread, IsReading, IsReady, InOneFile};
-    ghost use Rattle.im_gate.specs.Batches.{in_front};
-    ghost use Rattle.im_record.specs.Entry.{view};
-    ghost use Rattle.im_record.specs.Reading.{entry_of, Gives};
+    ghost use Rattle.im_base_types.specs.declared.fault.Fault.TheVariants.{Device, Failed, Memory, NotAStore};
+    ghost use Rattle.im_base_types.specs.Records.{Logged};
+    ghost use Rattle.im_base_disk.specs.Runs.{Reads};
+    ghost use Rattle.im_log_gate.specs.Gate.{place_of, has_failed, unread, IsReading, IsReady, InOneFile};
+    ghost use Rattle.im_log_gate.specs.Batches.{in_front};
+    ghost use Rattle.im_log_record.specs.Entry.{view};
+    ghost use Rattle.im_log_record.specs.Reading.{entry_of, Gives};
     ghost use Rattle.im_log.specs.LogFile.{IsOpen, IsLog};
     ghost use Rattle.im_log.specs.Spelled.{first_record};
     ghost use Rattle.im_log.specs.Opening.{current_of, rest_of, position_of, IsBegun, IsOpening, NextKept, HasRead, ReadOn, StaysAt, Stepped, RefusedBatch, Ended};

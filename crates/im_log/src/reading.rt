@@ -1,16 +1,16 @@
 //! A record of the file or of the buffer is brought to the front of a room.
 
 ghost use Rattle.std.specs.Prelude.{◌≡◌, ◌⊎◌, ◌↔◌, ◌≤◌, true, false, length, take, drop, IfErr, IfOk, None};
-ghost use Rattle.im_types.specs.declared.fault.Fault.TheVariants.{Device, NotAStore};
-ghost use Rattle.im_types.specs.declared.file_id.FileId.TheVariants.{Log};
-ghost use Rattle.im_disk.specs.Runs.{Reads};
+ghost use Rattle.im_base_types.specs.declared.fault.Fault.TheVariants.{Device, NotAStore};
+ghost use Rattle.im_base_types.specs.declared.file_id.FileId.TheVariants.{Log};
+ghost use Rattle.im_base_disk.specs.Runs.{Reads};
 ghost use Rattle.im_log.specs.Reading.{FitsFront, IsFrontOf};
 ghost use Rattle.im_log.specs.Spelled.{first_record};
 
 use crate::front::front_size;
 use byteorder::{BigEndian, ByteOrder};
-use im_disk::Disk;
-use im_types::{Fault, FileId};
+use im_base_disk::Disk;
+use im_base_types::{Fault, FileId};
 
 const LONGEST: u64 = 16_384;
 

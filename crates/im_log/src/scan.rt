@@ -3,9 +3,9 @@
 ghost use Rattle.std.specs.Prelude.{◌≡◌, ◌≤◌, ◌⊎◌, ◌↔◌, true, false, not, is_ok, IfErr, IfOk, MatchOption, List, ℕ};
 
 use crate::Opening;
-use im_disk::Disk;
-use im_record::Record;
-use im_types::{Fault, Lsn};
+use im_base_disk::Disk;
+use im_base_types::{Fault, Lsn};
+use im_log_record::Record;
 
 /// A cursor over the durable records of a log, the oldest first, from an LSN on. It reads batch by batch into a room of its own.
 #[derive(Drop)]
@@ -17,11 +17,11 @@ pub struct Scan {
 }
 
 impl Scan {
-    ghost use Rattle.im_types.specs.declared.fault.Fault.TheVariants.{Device, Failed, NotAStore};
-    ghost use Rattle.im_types.specs.Records.{Logged};
-    ghost use Rattle.im_disk.specs.Runs.{Reads};
-    ghost use Rattle.im_record.specs.Entry.{view};
-    ghost use Rattle.im_record.specs.Reading.{entry_of, Gives};
+    ghost use Rattle.im_base_types.specs.declared.fault.Fault.TheVariants.{Device, Failed, NotAStore};
+    ghost use Rattle.im_base_types.specs.Records.{Logged};
+    ghost use Rattle.im_base_disk.specs.Runs.{Reads};
+    ghost use Rattle.im_log_record.specs.Entry.{view};
+    ghost use Rattle.im_log_record.specs.Reading.{entry_of, Gives};
     ghost use Rattle.im_log.specs.Opening.{current_of};
     ghost use Rattle.im_log.specs.Scan.{place_of_scan, bound_of, IsScanning, IsScan, ScanKept};
 

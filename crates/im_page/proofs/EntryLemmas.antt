@@ -5,7 +5,7 @@ use Rattle.std.proofs.lemmas.List.Sums.{sum_by-cons}
 use Rattle.im_page.specs.Page.{is_leaf_kind, kind_of, is_leaf, said_by}
 use Rattle.std.proofs.lemmas.List.FromFn.{length-map-range_with_len, get_or-map-range_with_len}
 use Rattle.im_page.specs.Entry.{no_entry, entry_at, Parts, IsPlace, taken, size, width}
-use Rattle.im_types.specs.Pages.{Entry}
+use Rattle.im_base_types.specs.Pages.{Entry}
 use Rattle.im_page.specs.Form.{count_of, start_of, slot_at, key_from, entry_from, entries_of, IsPacked}
 use Rattle.im_page.specs.Found as found
 

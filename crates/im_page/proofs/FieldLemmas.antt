@@ -1,9 +1,9 @@
 -- One field of a header written: the form and the other fields stay.
 use Rattle.std.proofs.Common.{◌≡◌, ⊎_elim, ◌⊎◌, ℕ, ◌+◌, ◌*◌, ◌<◌, ◌≤◌, Bool, true, false, List, length, slice_index, sum_by, ◌==◌, refl, sym, ap, ap₂, subst, ◌∙◌, inl, inr, if◌then◌else◌, arith}
 use Rattle.std.proofs.lemmas.Bool.{cases_lt}
-use Rattle.im_types.specs.declared.page_kind.PageKind.{PageKind}
-use Rattle.im_types.specs.declared.page_kind.PageKind.TheVariants.{Free, Meta, Leaf, Inner}
-use Rattle.im_types.specs.Pages.{Entry}
+use Rattle.im_base_types.specs.declared.page_kind.PageKind.{PageKind}
+use Rattle.im_base_types.specs.declared.page_kind.PageKind.TheVariants.{Free, Meta, Leaf, Inner}
+use Rattle.im_base_types.specs.Pages.{Entry}
 use Rattle.im_page.specs.Number.{u32_at, u64_at, SameOutside}
 use Rattle.im_page.specs.Entry.{no_entry, size}
 use Rattle.im_page.specs.Form.{count_of, start_of, slot_at, key_from, cell_size, entry_from, entries_of, IsPacked}

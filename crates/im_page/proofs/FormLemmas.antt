@@ -5,9 +5,9 @@ use Rattle.std.proofs.lemmas.Bool.{cases_lt, le-leb}
 use Rattle.std.proofs.lemmas.Bool.Decides.{Decides-and, Decides-or, Decides-eqb, Decides-like, Decides-below_and, nat_tests}
 use Rattle.std.specs.declared.cmp.Ordering.{Ordering}
 use Rattle.std.specs.declared.cmp.Ordering.TheVariants.{Less, Equal, Greater}
-use Rattle.im_types.specs.Keys.{key_order, IsBelow}
-use Rattle.im_types.specs.declared.page_kind.PageKind.{PageKind}
-use Rattle.im_types.specs.declared.page_kind.PageKind.TheVariants.{Free, Meta, Leaf, Inner}
+use Rattle.im_base_types.specs.Keys.{key_order, IsBelow}
+use Rattle.im_base_types.specs.declared.page_kind.PageKind.{PageKind}
+use Rattle.im_base_types.specs.declared.page_kind.PageKind.TheVariants.{Free, Meta, Leaf, Inner}
 use Rattle.im_page.specs.Number.{u32_at}
 use Rattle.im_page.specs.Entry.{size}
 use Rattle.im_page.specs.Form.{count_of, start_of, slot_at, cell_size, key_from, entries_of, IsPacked}

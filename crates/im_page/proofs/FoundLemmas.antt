@@ -1,7 +1,7 @@
 -- A step of the binary search over the slots.
 use Rattle.std.proofs.Common.{◌≡◌, ℕ, ◌+◌, ◌<◌, ◌≤◌, List, ap, ◌∙◌, ⊎_elim, arith}
 use Rattle.std.proofs.lemmas.Bool.{cases_lt}
-use Rattle.im_types.specs.Keys.{IsBelow}
+use Rattle.im_base_types.specs.Keys.{IsBelow}
 use Rattle.im_page.specs.Form.{count_of, slot_at, key_from, KeysRise}
 use Rattle.im_page.specs.Found.{Parts}
 use Rattle.im_page.proofs.Order.{below_trans}

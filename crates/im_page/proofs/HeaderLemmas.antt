@@ -1,8 +1,8 @@
 -- A header that is written, and what stays below it.
 use Rattle.std.proofs.Common.{◌≡◌, ℕ, ◌+◌, ◌*◌, ◌<◌, ◌≤◌, Bool, true, List, [], length, map, slice_index, sum_by, ◌==◌, refl, ap, ap₂, ◌∙◌, arith}
 use Rattle.std.specs.List.{range_with_len}
-use Rattle.im_types.specs.declared.page_kind.PageKind.{PageKind}
-use Rattle.im_types.specs.Pages.{Page}
+use Rattle.im_base_types.specs.declared.page_kind.PageKind.{PageKind}
+use Rattle.im_base_types.specs.Pages.{Page}
 use Rattle.im_page.specs.Number.{u64_at}
 use Rattle.im_page.specs.Entry.{size}
 use Rattle.im_page.specs.Form.{count_of, start_of, slot_at, entry_from, entries_of, IsPacked}

@@ -4,7 +4,7 @@ use Rattle.std.proofs.lemmas.Bool.{cases_lt}
 use Rattle.std.proofs.lemmas.List.Sums.{sum_by-insert}
 use Rattle.im_page.specs.Number.{SameOutside}
 use Rattle.im_page.specs.Entry.{no_entry, width, size}
-use Rattle.im_types.specs.Pages.{Entry}
+use Rattle.im_base_types.specs.Pages.{Entry}
 use Rattle.im_page.specs.Form.{count_of, start_of, slot_at, cell_size, key_from, entry_from, entries_of, KeysRise, AreApart, IsPacked}
 use Rattle.im_page.specs.Found.{Parts}
 use Rattle.im_page.specs.Edit.{AddsSlot}

@@ -5,7 +5,7 @@ use Rattle.std.specs.Cmp.Lexicographic.{slice_cmp}
 use Rattle.std.specs.FinMap.{slice_cmp-IsAntisymmetric, nat_cmp-IsAntisymmetric}
 use Rattle.std.proofs.lemmas.Cmp.{nat_list_cmp_total, tied_itself}
 use Rattle.std.specs.declared.cmp.Ordering.TheVariants.{Less, Equal, Greater}
-use Rattle.im_types.specs.Keys.{IsBelow}
+use Rattle.im_base_types.specs.Keys.{IsBelow}
 
 pub below_trans : (a b c : List ℕ) → IsBelow a b → IsBelow b c → IsBelow a c
 below_trans a b c ab bc = record { less = nat_list_cmp_total.trans a b c ab.less bc.less }

@@ -4,7 +4,7 @@ use Rattle.std.proofs.lemmas.Bool.{cases_lt, lt-ltb, le-ltb}
 use Rattle.std.proofs.lemmas.List.Sums.{sum_by-remove}
 use Rattle.std.proofs.lemmas.List.Edits.{length-between}
 use Rattle.im_page.specs.Entry.{no_entry, entry_at, width, size}
-use Rattle.im_types.specs.Pages.{Entry}
+use Rattle.im_base_types.specs.Pages.{Entry}
 use Rattle.im_page.specs.Form.{count_of, start_of, slot_at, cell_size, key_from, entry_from, entries_of, KeysRise, AreApart, IsPacked}
 use Rattle.im_page.specs.Edit.{moved_up, MovesCells, DropsSlot}
 use Rattle.im_page.proofs.CellLemmas.{SameBytes, same_entry, same_at}

@@ -4,7 +4,7 @@ use Rattle.std.proofs.lemmas.Bool.{cases_eq, cases_lt, cases_order, true≢false
 use Rattle.std.proofs.lemmas.List.{get_or-set_other, get_or-set_same, length-set}
 use Rattle.std.proofs.lemmas.List.FromFn.{sum_by-map-range_with_len_more}
 use Rattle.im_page.specs.Entry.{size}
-use Rattle.im_types.specs.Keys.{IsBelow}
+use Rattle.im_base_types.specs.Keys.{IsBelow}
 use Rattle.im_page.specs.Form.{count_of, start_of, slot_at, cell_size, key_from, entry_from, entries_of, IsPacked}
 use Rattle.im_page.specs.Sound.{is_taken, AreSound, AreStarts, AreStartsTo, HasSlots, IsCell, MarksOne, SlotsSound, total_of}
 use Rattle.im_page.proofs.Order.{below_irrefl, below_trans}

@@ -4,7 +4,7 @@ use Rattle.std.proofs.lemmas.Bool.{cases_lt}
 use Rattle.std.proofs.lemmas.List.{take_more, get_or-take, get_or-drop}
 use Rattle.std.proofs.lemmas.List.Sums.{sum_by-take-drop, sum_by_more, sum_by_more_le}
 use Rattle.std.proofs.lemmas.List.Edits.{insert-append_right}
-use Rattle.im_types.specs.Pages.{Entry}
+use Rattle.im_base_types.specs.Pages.{Entry}
 use Rattle.im_page.specs.Entry.{no_entry, entry_at, width, size, taken, Rises}
 use Rattle.im_page.specs.Form.{count_of, start_of, slot_at, cell_size, key_from, entries_of, IsPacked}
 use Rattle.im_page.specs.Found.{Parts}

@@ -9,7 +9,7 @@ use Rattle.std.specs.Cmp.Lexicographic.{slice_cmp}
 use Rattle.std.specs.Cmp.{ranks, nat_cmp_is}
 use Rattle.std.proofs.lemmas.Bool.{cases_lt}
 use Rattle.std.proofs.lemmas.List.{take-append-drop, length-take, length-take-le, get_or-drop, get_or-take, get_or_past}
-use Rattle.im_types.specs.Keys.{Key, IsBelow}
+use Rattle.im_base_types.specs.Keys.{Key, IsBelow}
 use Rattle.im_page.specs.Form.{key_from}
 use Rattle.im_page.specs.Sound.{IsTopOf, IsFootOf}
 

@@ -1,7 +1,7 @@
 -- The child of an inner page that holds a key.
 use Rattle.std.specs.Prelude.{◌⊎◌, ◌+◌, ◌<◌, ◌≡◌, ℕ, List, [], ◌∷◌, length, drop}
-use Rattle.im_types.specs.Keys.{Key, IsBelow}
-use Rattle.im_types.specs.Pages.{Entry, Body}
+use Rattle.im_base_types.specs.Keys.{Key, IsBelow}
+use Rattle.im_base_types.specs.Pages.{Entry, Body}
 use Rattle.im_page.specs.Entry.{entry_at}
 
 -- the first of these separators, if there is one, is above the key

@@ -1,6 +1,6 @@
 -- What every page's contents are, whatever bytes they came from.
 use Rattle.std.specs.Prelude.{ℕ, ◌<◌, ◌≤◌, length}
-use Rattle.im_types.specs.Pages.{Page}
+use Rattle.im_base_types.specs.Pages.{Page}
 use Rattle.im_page.specs.Entry.{entry_at, Rises, taken}
 use Rattle.im_page.specs.Header.{FitsKind}
 use Rattle.im_page.specs.Page.{is_leaf_kind}

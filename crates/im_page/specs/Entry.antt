@@ -1,7 +1,7 @@
 -- The entries of a page, as its callers see them.
 use Rattle.std.specs.Prelude.{Result, Ok, Err, ◌≡◌, ℕ, ◌+◌, ◌<◌, ◌≤◌, Bool, List, [], length, sum_by, slice_index_or, if◌then◌else◌}
-use Rattle.im_types.specs.Keys.{Key, IsBelow}
-use Rattle.im_types.specs.Pages.{Entry}
+use Rattle.im_base_types.specs.Keys.{Key, IsBelow}
+use Rattle.im_base_types.specs.Pages.{Entry}
 
 abbrev pub no_entry : Entry
 no_entry = ([], 0)

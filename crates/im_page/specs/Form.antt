@@ -3,8 +3,8 @@ use Rattle.std.specs.Prelude.{◌≡◌, ◌≢◌, ◌⊎◌, ℕ, ◌+◌, ◌
 use Rattle.std.specs.List.{range_with_len}
 use Rattle.im_page.specs.Number.{u16_at, u32_at, u64_at}
 use Rattle.im_page.specs.Entry.{width, size}
-use Rattle.im_types.specs.Keys.{IsBelow}
-use Rattle.im_types.specs.Pages.{Entry}
+use Rattle.im_base_types.specs.Keys.{IsBelow}
+use Rattle.im_base_types.specs.Pages.{Entry}
 
 abbrev pub count_of : List ℕ → ℕ
 count_of bytes = u16_at bytes 12

@@ -1,8 +1,8 @@
 -- The fields of a page's header that its kind names, and pages with no entry.
 use Rattle.std.specs.Prelude.{◌≡◌, ◌⊎◌, ℕ, ◌≤◌, Bool, false, [], ◌==◌, nat_le, ◌&&◌, if◌then◌else◌}
-use Rattle.im_types.specs.declared.page_kind.PageKind.{PageKind}
-use Rattle.im_types.specs.declared.page_kind.PageKind.TheVariants.{Free, Meta, Leaf, Inner}
-use Rattle.im_types.specs.Pages.{Body, Page}
+use Rattle.im_base_types.specs.declared.page_kind.PageKind.{PageKind}
+use Rattle.im_base_types.specs.declared.page_kind.PageKind.TheVariants.{Free, Meta, Leaf, Inner}
+use Rattle.im_base_types.specs.Pages.{Body, Page}
 
 -- the fields that the kind does not name are 0. Only an inner page has a level, of 1 or more
 abbrev pub FitsKind : PageKind → ℕ → ℕ → ℕ → ℕ → ℕ → Type 0

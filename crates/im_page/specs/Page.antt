@@ -1,8 +1,8 @@
 -- The form of a page's bytes, and the page that bytes are.
 use Rattle.std.specs.Prelude.{◌≡◌, ◌⊎◌, ℕ, ◌≤◌, Bool, true, false, List, Option, Some, None, slice_index, ◌==◌, nat_le, ◌&&◌, if◌then◌else◌}
-use Rattle.im_types.specs.declared.page_kind.PageKind.{PageKind}
-use Rattle.im_types.specs.declared.page_kind.PageKind.TheVariants.{Free, Meta, Leaf, Inner}
-use Rattle.im_types.specs.Pages.{Entry, Page}
+use Rattle.im_base_types.specs.declared.page_kind.PageKind.{PageKind}
+use Rattle.im_base_types.specs.declared.page_kind.PageKind.TheVariants.{Free, Meta, Leaf, Inner}
+use Rattle.im_base_types.specs.Pages.{Entry, Page}
 use Rattle.im_page.specs.Number.{u32_at, u64_at}
 use Rattle.im_page.specs.Form.{count_of, entries_of, IsPacked}
 use Rattle.im_page.specs.Tests.{is_packed}

@@ -1,6 +1,6 @@
 -- The pages that the bytes of a file of pages are: page p stands at byte p * 4,096.
 use Rattle.std.specs.Prelude.{ℕ, ◌*◌, ◌/◌, nat_lt, if◌then◌else◌, List, length, take, drop, Option, Some}
-use Rattle.im_types.specs.Pages.{Page}
+use Rattle.im_base_types.specs.Pages.{Page}
 use Rattle.im_page.specs.Header.{initial}
 use Rattle.im_page.specs.Page.{page_of}
 

@@ -3,7 +3,7 @@ use Rattle.std.specs.Prelude.{◌≡◌, ◌≢◌, ◌⊎◌, ℕ, ◌+◌, ◌
 use Rattle.std.specs.Int.{w64, from_be_bytes}
 use Rattle.std.specs.List.{range_with_len}
 use Rattle.im_page.specs.Entry.{size}
-use Rattle.im_types.specs.Keys.{Key, IsBelow}
+use Rattle.im_base_types.specs.Keys.{Key, IsBelow}
 use Rattle.im_page.specs.Form.{count_of, start_of, slot_at, cell_size, key_from, entry_from}
 
 abbrev pub is_taken : List Bool → ℕ → Bool

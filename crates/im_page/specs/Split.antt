@@ -1,6 +1,6 @@
 -- Where a page that has no room is split.
 use Rattle.std.specs.Prelude.{ℕ, ◌+◌, ◌<◌, ◌≤◌, Bool, List, length, take}
-use Rattle.im_types.specs.Pages.{Entry}
+use Rattle.im_base_types.specs.Pages.{Entry}
 use Rattle.im_page.specs.Entry.{taken, size, width}
 
 -- the first n entries are the longest front whose cells and slots take at most 2,032 bytes

@@ -2,7 +2,7 @@
 use Rattle.std.specs.Prelude.{ℕ, zero, suc, ◌+◌, ◌*◌, Bool, true, false, List, length, sum_by, slice_index, ◌==◌, nat_le, ◌&&◌, ◌||◌}
 use Rattle.std.specs.declared.cmp.Ordering.{Ordering}
 use Rattle.std.specs.declared.cmp.Ordering.TheVariants.{Less, Equal, Greater}
-use Rattle.im_types.specs.Keys.{key_order}
+use Rattle.im_base_types.specs.Keys.{key_order}
 use Rattle.im_page.specs.Entry.{size}
 use Rattle.im_page.specs.Form.{count_of, start_of, slot_at, cell_size, key_from, entries_of}
 

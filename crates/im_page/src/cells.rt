@@ -6,7 +6,7 @@ ghost use Rattle.im_page.specs.Form.{count_of, start_of, slot_at, key_from, entr
 ghost use Rattle.im_page.specs.Found.{IsPlace};
 
 use crate::number::{get_u16, get_u32, get_u64};
-use im_types::compare;
+use im_base_types::compare;
 use std::cmp::Ordering;
 
 /// The key of the cell that begins at `at`.

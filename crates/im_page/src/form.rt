@@ -1,7 +1,7 @@
 //! The test of a page's form.
 
 ghost use Rattle.std.specs.Prelude.{◌≡◌, ◌↔◌, IsTrue, ℕ, ◌+◌, ◌*◌, ◌<◌, ◌≤◌, false, true, length, slice_index, replicate};
-ghost use Rattle.im_types.specs.Keys.{IsBelow};
+ghost use Rattle.im_base_types.specs.Keys.{IsBelow};
 ghost use Rattle.im_page.specs.Form.{count_of, start_of, slot_at, key_from, cell_size, IsPacked};
 ghost use Rattle.im_page.specs.Page.{IsHeader, IsForm};
 ghost use Rattle.im_page.specs.Sound.{AreStarts, HasSlots, IsCell, IsTopOf, IsFootOf, SlotsSound};
@@ -9,7 +9,7 @@ ghost use Rattle.im_page.specs.Sound.{AreStarts, HasSlots, IsCell, IsTopOf, IsFo
 use crate::cells::{cell_len, key_at};
 use crate::number::{get_u16, get_u32};
 use byteorder::{BigEndian, ByteOrder};
-use im_types::compare;
+use im_base_types::compare;
 use std::cmp::Ordering;
 
 /// Whether a cell with a key begins at `at`.

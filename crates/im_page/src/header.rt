@@ -8,7 +8,7 @@ ghost use Rattle.im_page.specs.Edit.{IsErased, HasHeader};
 
 use crate::number::{put_u8, put_u16, put_u32, put_u64};
 use crate::removal::clear;
-use im_types::PageKind;
+use im_base_types::PageKind;
 
 /// The number of a kind.
 fn code(kind: PageKind) -> u8

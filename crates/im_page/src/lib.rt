@@ -1,6 +1,6 @@
 //! Pages: a header and a sorted list in 4,096 bytes, searched and changed in place.
 //!
-//! A `Page` is 4,096 bytes; contracts see it as an LSN and a body (`im_types`: kind, level, mark, `prev`, `next`,
+//! A `Page` is 4,096 bytes; contracts see it as an LSN and a body (`im_base_types`: kind, level, mark, `prev`, `next`,
 //! `leftmost` and the entries, each a key and a value, in rising key order). No call takes memory, and none copies a
 //! page but `load`, `read` and `initial`.
 //!

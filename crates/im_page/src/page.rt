@@ -1,8 +1,8 @@
 //! A page of 4,096 bytes.
 
 ghost use Rattle.std.specs.Prelude.{◌≡◌, IsTrue, ℕ, ◌+◌, ◌≤◌, ◌<◌, length, take, drop, slice_range, insert, remove, [], OnOk, OnErr, IsOk, IfOk, IfErr, ◌↔◌, ◌^◌, Some, None};
-ghost use Rattle.im_types.specs.declared.page_kind.PageKind.TheVariants.{Free, Leaf, Inner};
-ghost use Rattle.im_types.specs.declared.fault.Fault.TheVariants.{NotAStore};
+ghost use Rattle.im_base_types.specs.declared.page_kind.PageKind.TheVariants.{Free, Leaf, Inner};
+ghost use Rattle.im_base_types.specs.declared.fault.Fault.TheVariants.{NotAStore};
 ghost use Rattle.im_page.specs.Entry.{entry_at, Parts, IsPlace, taken, size, width};
 ghost use Rattle.im_page.specs.Page.{HoldsEntries, is_leaf_kind, page_of, with_entries};
 ghost use Rattle.im_page.specs.Header.{HasPrev, HasNext, HasLeftmost, empty_body, initial};
@@ -17,7 +17,7 @@ use crate::insertion::insert_cell;
 use crate::number::{get_u16, get_u32, get_u64, put_u8, put_u32, put_u64};
 use crate::removal::remove_cell;
 use crate::split::{copy_cells, split_point};
-use im_types::{Fault, PageKind, PageNo};
+use im_base_types::{Fault, PageKind, PageNo};
 use std::marker::Model;
 use thiserror::Error;
 
@@ -33,7 +33,7 @@ pub struct Page {
 }
 
 impl Model for Page {
-    ghost use Rattle.im_types.specs.Pages.{Page};
+    ghost use Rattle.im_base_types.specs.Pages.{Page};
     ghost use Rattle.im_page.specs.Page.{said_by, IsForm};
 
     ghost Value = { Page };

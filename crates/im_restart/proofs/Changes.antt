@@ -5,9 +5,9 @@ use Rattle.std.specs.List.{filter}
 use Rattle.std.proofs.lemmas.List.{append-nil}
 use Rattle.std.proofs.lemmas.Bool.{le-leb}
 use Rattle.std.proofs.lemmas.List.Elements.{filter-append}
-use Rattle.im_types.specs.Records.{Logged}
-use Rattle.im_types.specs.Histories.{History, changes_page}
-use Rattle.im_redo.specs.Redo.{lsns_from}
+use Rattle.im_base_types.specs.Records.{Logged}
+use Rattle.im_theory_log.specs.Histories.{History, changes_page}
+use Rattle.im_restart_redo.specs.Redo.{lsns_from}
 
 -- the LSNs with one more, where it counts
 abbrev joined : Bool → List ℕ → ℕ → List ℕ

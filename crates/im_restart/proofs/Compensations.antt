@@ -2,38 +2,38 @@
 use Rattle.std.proofs.Common.{◌≡◌, ◌≢◌, ℕ, [], ◌∷◌, ◌++◌, Bool, true, false, Result, Err, inl, inr, refl, sym, ◌∙◌, ap, subst}
 use Rattle.std.specs.Prelude.{◌&&◌, not, nat_le, if◌then◌else◌}
 use Rattle.std.proofs.lemmas.Bool.{and_parts, cases_eq}
-use Rattle.im_types.specs.declared.file_id.FileId.TheVariants.{Log}
-use Rattle.im_types.specs.declared.fault.Fault.{Fault}
-use Rattle.im_types.specs.declared.fault.Fault.TheVariants.{Failed, Memory, NotAStore}
-use Rattle.im_types.specs.Pages.{Page}
-use Rattle.im_types.specs.Records.{What, InsertKey, DeleteKey, UndoInsert, UndoDelete, Smo, UndoSmo, DummyClr, Commit, End, Image, Checkpoint, Unreadable, Logged}
-use Rattle.im_types.specs.Histories.{Base, History, page_after, page_at}
-use Rattle.im_types.specs.Copies.{GrowsByImages}
-use Rattle.im_types.specs.Transactions.{is_end, is_finished, last_of}
-use Rattle.im_types.specs.Writer.{PageState, Writer}
-use Rattle.im_flush.specs.KnownCopies.{changed_page_as}
-use Rattle.im_types.proofs.Fronts.{fronts_lawful}
-use Rattle.im_types.proofs.Images.{images_pages}
-use Rattle.im_disk.specs.declared.disk.Disk.{Ghosts}
-use Rattle.im_disk.specs.Runs.{LeavesOnly}
-use Rattle.im_disk.proofs.Runs.{weakened}
-use Rattle.im_record.specs.Entry.{Entry, prev_of}
+use Rattle.im_base_types.specs.declared.file_id.FileId.TheVariants.{Log}
+use Rattle.im_base_types.specs.declared.fault.Fault.{Fault}
+use Rattle.im_base_types.specs.declared.fault.Fault.TheVariants.{Failed, Memory, NotAStore}
+use Rattle.im_base_types.specs.Pages.{Page}
+use Rattle.im_base_types.specs.Records.{What, InsertKey, DeleteKey, UndoInsert, UndoDelete, Smo, UndoSmo, DummyClr, Commit, End, Image, Checkpoint, Unreadable, Logged}
+use Rattle.im_theory_log.specs.Histories.{Base, History, page_after, page_at}
+use Rattle.im_theory_log.specs.Copies.{GrowsByImages}
+use Rattle.im_theory_log.specs.Transactions.{is_end, is_finished, last_of}
+use Rattle.im_theory_log.specs.Writer.{PageState, Writer}
+use Rattle.im_page_writer.specs.KnownCopies.{changed_page_as}
+use Rattle.im_theory_log.proofs.Fronts.{fronts_lawful}
+use Rattle.im_theory_log.proofs.Images.{images_pages}
+use Rattle.im_base_disk.specs.declared.disk.Disk.{Ghosts}
+use Rattle.im_base_disk.specs.Runs.{LeavesOnly}
+use Rattle.im_base_disk.proofs.Runs.{weakened}
+use Rattle.im_log_record.specs.Entry.{Entry, prev_of}
 use Rattle.im_log.proofs.Above.{front_then}
 use Rattle.im_log.specs.Spelled.{logged_at}
 use Rattle.im_log.proofs.Creations.{not_both}
-use Rattle.im_flush.specs.declared.page_writer.PageWriter.{PageWriter}
-use Rattle.im_flush.specs.PageWriter.{StandsAs}
-use Rattle.im_flush.proofs.Outcomes.{sound_also}
-use Rattle.im_tree.specs.Good.{AllOf}
-use Rattle.im_tree.specs.Theory.{page_tree}
-use Rattle.im_analysis.specs.Losers.{has_record, is_loser}
-use Rattle.im_analysis.proofs.Losers.{loser_number, loser_unfinished, same_loser, still_loser}
-use Rattle.im_undo.specs.Records as undone
-use Rattle.im_undo.specs.Records.{IsOfUndo}
-use Rattle.im_undo.specs.Undoing as undoing
-use Rattle.im_undo.specs.Undoing.{IsGoing, LeavesUndo, LeftByUndo, TakenBack}
-use Rattle.im_undo.proofs.Growth as growth
-use Rattle.im_undo.proofs.Growth.{going_page}
+use Rattle.im_page_writer.specs.declared.page_writer.PageWriter.{PageWriter}
+use Rattle.im_page_writer.specs.PageWriter.{StandsAs}
+use Rattle.im_page_writer.proofs.Outcomes.{sound_also}
+use Rattle.im_theory_tree.specs.Good.{AllOf}
+use Rattle.im_theory_tree.specs.Theory.{page_tree}
+use Rattle.im_restart_analysis.specs.Losers.{has_record, is_loser}
+use Rattle.im_restart_analysis.proofs.Losers.{loser_number, loser_unfinished, same_loser, still_loser}
+use Rattle.im_restart_undo.specs.Records as undone
+use Rattle.im_restart_undo.specs.Records.{IsOfUndo}
+use Rattle.im_restart_undo.specs.Undoing as undoing
+use Rattle.im_restart_undo.specs.Undoing.{IsGoing, LeavesUndo, LeftByUndo, TakenBack}
+use Rattle.im_restart_undo.proofs.Growth as growth
+use Rattle.im_restart_undo.proofs.Growth.{going_page}
 use Rattle.im_restart.specs.declared.chains.Chain.{Chain}
 use Rattle.im_restart.specs.Undone.{AreUndo, GrowsByUndo, IsUndo}
 use Rattle.im_restart.specs.Restart.{IsLeftUndoing}

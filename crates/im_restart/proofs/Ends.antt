@@ -1,18 +1,18 @@
 -- How the calls of a restart end, and an opening.
 use Rattle.std.proofs.Common.{◌≡◌, ◌≢◌, ◌⊎◌, inl, inr, Bool, false, true, Some, None, refl, sym, ◌∙◌, ap, subst}
 use Rattle.std.specs.Prelude.{◌↔◌, Result, Ok, Err, IsErrAnd, IfErr}
-use Rattle.im_types.specs.declared.fault.Fault.{Fault}
-use Rattle.im_types.specs.declared.fault.Fault.TheVariants.{Capacity, Device, Failed, LogFull, Memory, NotAStore}
-use Rattle.im_disk.specs.declared.disk.Disk.{Ghosts}
+use Rattle.im_base_types.specs.declared.fault.Fault.{Fault}
+use Rattle.im_base_types.specs.declared.fault.Fault.TheVariants.{Capacity, Device, Failed, LogFull, Memory, NotAStore}
+use Rattle.im_base_disk.specs.declared.disk.Disk.{Ghosts}
 use Rattle.im_log.specs.declared.log_file.LogFile.{LogFile}
 use Rattle.im_log.specs.LogFile.{IsOpen}
-use Rattle.im_flush.specs.declared.page_writer.PageWriter.{PageWriter}
-use Rattle.im_flush.specs.PageWriter.{IsReadyWriter}
-use Rattle.im_flush.specs.Outcome.{Logs, LogEnds, Works, mild, none_mild, fault_of}
-use Rattle.im_flush.proofs.Writers.{still_working}
-use Rattle.im_alloc.specs.Kept.{mild_to_take}
-use Rattle.im_redo.specs.Recovery.{RecoveryEnds, Recovers}
-use Rattle.im_redo.proofs.Recoveries.{unmoved}
+use Rattle.im_page_writer.specs.declared.page_writer.PageWriter.{PageWriter}
+use Rattle.im_page_writer.specs.PageWriter.{IsReadyWriter}
+use Rattle.im_page_writer.specs.Outcome.{Logs, LogEnds, Works, mild, none_mild, fault_of}
+use Rattle.im_page_writer.proofs.Writers.{still_working}
+use Rattle.im_smo_alloc.specs.Kept.{mild_to_take}
+use Rattle.im_restart_redo.specs.Recovery.{RecoveryEnds, Recovers}
+use Rattle.im_restart_redo.proofs.Recoveries.{unmoved}
 use Rattle.im_restart.specs.Restart.{IsFullLog}
 use Rattle.im_restart.specs.Opening.{OpeningEnds, Opens}
 use Rattle.im_restart.proofs.FullLog.{full_log}

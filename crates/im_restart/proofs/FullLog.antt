@@ -1,15 +1,15 @@
 -- A log without room, over the length of its file.
 use Rattle.std.proofs.Common.{◌≡◌, ℕ, ◌+◌, ◌<◌, ◌≤◌, Bool, true, false, length, refl, ◌∙◌, subst, arith}
 use Rattle.std.specs.Prelude.{nat_le, if◌then◌else◌}
-use Rattle.im_types.specs.declared.file_id.FileId.{FileId}
-use Rattle.im_types.specs.declared.file_id.FileId.TheVariants.{Log}
-use Rattle.im_disk.specs.declared.disk.Disk.{Ghosts}
-use Rattle.im_gate.specs.Gate.{place_of}
-use Rattle.im_gate.specs.Header.{base_of}
+use Rattle.im_base_types.specs.declared.file_id.FileId.{FileId}
+use Rattle.im_base_types.specs.declared.file_id.FileId.TheVariants.{Log}
+use Rattle.im_base_disk.specs.declared.disk.Disk.{Ghosts}
+use Rattle.im_log_gate.specs.Gate.{place_of}
+use Rattle.im_log_gate.specs.Header.{base_of}
 use Rattle.im_log.specs.declared.log_file.LogFile.{LogFile}
 use Rattle.im_log.specs.LogFile.{HasNoRoom, end_with, next_lsn}
-use Rattle.im_flush.specs.declared.page_writer.PageWriter.{PageWriter}
-use Rattle.im_flush.specs.PageWriter.{IsReadyWriter}
+use Rattle.im_page_writer.specs.declared.page_writer.PageWriter.{PageWriter}
+use Rattle.im_page_writer.specs.PageWriter.{IsReadyWriter}
 use Rattle.im_restart.specs.Restart.{IsFullLog}
 
 by_test : (test : Bool) (near far : ℕ) → near ≤ far → (if test then near else far) ≤ far

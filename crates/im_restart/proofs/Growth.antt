@@ -1,11 +1,11 @@
 -- Logs that grow by Images and by records of undo.
 use Rattle.std.proofs.Common.{◌≡◌, List, [], ◌∷◌, ◌++◌, refl, sym, ◌∙◌, ap, subst, append_assoc}
 use Rattle.std.proofs.lemmas.List.{append_cancel_right}
-use Rattle.im_types.specs.Changes.{Effect}
-use Rattle.im_types.specs.Records.{What, InsertKey, DeleteKey, UndoInsert, UndoDelete, Smo, UndoSmo, DummyClr, Commit, End, Image, Checkpoint, Unreadable, Logged}
-use Rattle.im_types.specs.Transactions.{committed, committed_after, net}
-use Rattle.im_types.specs.Histories.{Base, History, IsFront}
-use Rattle.im_types.specs.Copies.{AreImages, GrowsByImages}
+use Rattle.im_base_types.specs.Changes.{Effect}
+use Rattle.im_base_types.specs.Records.{What, InsertKey, DeleteKey, UndoInsert, UndoDelete, Smo, UndoSmo, DummyClr, Commit, End, Image, Checkpoint, Unreadable, Logged}
+use Rattle.im_theory_log.specs.Transactions.{committed, committed_after, net}
+use Rattle.im_theory_log.specs.Histories.{Base, History, IsFront}
+use Rattle.im_theory_log.specs.Copies.{AreImages, GrowsByImages}
 use Rattle.im_restart.specs.Undone.{AreUndo, GrowsByUndo, IsUndo}
 
 pub grows_none : (log : History) → GrowsByUndo log log

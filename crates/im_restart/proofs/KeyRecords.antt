@@ -1,11 +1,11 @@
 -- Records by their kinds.
 use Rattle.std.proofs.Common.{◌≡◌, ℕ, Bor, List, Option, None, Some, true}
-use Rattle.im_types.specs.Transactions.{is_smo}
+use Rattle.im_theory_log.specs.Transactions.{is_smo}
 use Rattle.im_page.specs.Page.{page_of}
-use Rattle.im_types.specs.Pages.{Page}
-use Rattle.im_record.specs.declared.record.Record.{Record}
-use Rattle.im_record.specs.declared.record.Record.TheVariants as records
-use Rattle.im_record.specs.Entry.{view}
+use Rattle.im_base_types.specs.Pages.{Page}
+use Rattle.im_log_record.specs.declared.record.Record.{Record}
+use Rattle.im_log_record.specs.declared.record.Record.TheVariants as records
+use Rattle.im_log_record.specs.Entry.{view}
 use Rattle.im_log.specs.Whats.{image_of, page_behind, undo_smo_of, what_of}
 
 undo_smo_no_smo : (x : Option Page) → is_smo (undo_smo_of x) ≡ true → ⊥

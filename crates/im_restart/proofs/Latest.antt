@@ -5,13 +5,13 @@ use Rattle.std.specs.Ordering.{nat_cmp}
 use Rattle.std.specs.BTreeMap.{is_at}
 use Rattle.std.specs.Map.{lookup}
 use Rattle.std.proofs.lemmas.Bool.{cases_eq, cond-true, cond-false, eq-eqb, ne_eqb}
-use Rattle.im_types.specs.Records.{What, InsertKey, DeleteKey, UndoInsert, UndoDelete, Smo, UndoSmo, DummyClr, Commit, End, Image, Checkpoint, Unreadable, Logged}
-use Rattle.im_types.specs.Tree.{Tree, TreeLaws}
-use Rattle.im_types.specs.Histories.{Base, History}
-use Rattle.im_types.specs.Transactions.{reads_on, to_undo, undo_reads}
-use Rattle.im_types.specs.Lawful.{IsLawful}
-use Rattle.im_analysis.specs.Undo.{ComesTo, IsUndoable, leads_on}
-use Rattle.im_analysis.proofs.Undoing.{undo_goes_on}
+use Rattle.im_base_types.specs.Records.{What, InsertKey, DeleteKey, UndoInsert, UndoDelete, Smo, UndoSmo, DummyClr, Commit, End, Image, Checkpoint, Unreadable, Logged}
+use Rattle.im_theory_log.specs.Tree.{Tree, TreeLaws}
+use Rattle.im_theory_log.specs.Histories.{Base, History}
+use Rattle.im_theory_log.specs.Transactions.{reads_on, to_undo, undo_reads}
+use Rattle.im_theory_log.specs.Lawful.{IsLawful}
+use Rattle.im_restart_analysis.specs.Undo.{ComesTo, IsUndoable, leads_on}
+use Rattle.im_restart_analysis.proofs.Undoing.{undo_goes_on}
 use Rattle.im_restart.specs.declared.chains.Chain.{Chain}
 use Rattle.im_restart.specs.UndoOrder.{IsLatest}
 use Rattle.im_restart.specs.LoserChains.{AreChains, ChainMap, GoesOnAt, above, and_also, nobody}

@@ -1,12 +1,12 @@
 -- The tree of pages puts keys into leaves and drops them from leaves.
 use Rattle.std.proofs.Common.{◌≡◌, true, None, Some, ap, subst, ◌∙◌, sym, arith}
 use Rattle.std.specs.FinMap.Entries.{find}
-use Rattle.im_types.specs.Keys.{key_order}
-use Rattle.im_types.specs.Pages.{Body}
+use Rattle.im_base_types.specs.Keys.{key_order}
+use Rattle.im_base_types.specs.Pages.{Body}
 use Rattle.im_page.specs.Split.{HasRoom}
-use Rattle.im_redo.specs.Redo.{IsOnLeaves}
-use Rattle.im_tree.specs.Theory.{page_tree}
-use Rattle.im_tree.proofs.LookupLemmas.{way_leaf}
+use Rattle.im_restart_redo.specs.Redo.{IsOnLeaves}
+use Rattle.im_theory_tree.specs.Theory.{page_tree}
+use Rattle.im_theory_tree.proofs.LookupLemmas.{way_leaf}
 
 -- a key is put into its leaf or dropped from it where that leaf takes it
 pub on_leaves : IsOnLeaves page_tree

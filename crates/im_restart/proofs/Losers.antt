@@ -9,17 +9,17 @@ use Rattle.std.specs.Map.{lookup}
 use Rattle.std.proofs.lemmas.Bool.{cases_Bool, cases_eq, cond-true, cond-false, eq-eqb, ne_eqb}
 use Rattle.std.proofs.lemmas.Cmp.{ranked}
 use Rattle.std.proofs.lemmas.Map.Lookups.{exact_unsigned}
-use Rattle.im_types.specs.Records.{Logged}
-use Rattle.im_types.specs.Tree.{Tree}
-use Rattle.im_types.specs.Histories.{Base, History, IsFront, IsRecordOf, Rises, end_of}
-use Rattle.im_types.specs.Transactions.{last_of, undo_next_of}
-use Rattle.im_types.specs.Lawful.{IsLawful}
-use Rattle.im_analysis.specs.declared.rows.Loser.{Loser}
-use Rattle.im_analysis.specs.Losers.{AreLosers, LoserMap, is_loser, row_of}
-use Rattle.im_analysis.specs.Undo.{HasRecordAt}
-use Rattle.im_analysis.proofs.LawfulLogs.{low}
-use Rattle.im_analysis.proofs.Readings.{goes_on_at}
-use Rattle.im_analysis.proofs.Tables.{listed}
+use Rattle.im_base_types.specs.Records.{Logged}
+use Rattle.im_theory_log.specs.Tree.{Tree}
+use Rattle.im_theory_log.specs.Histories.{Base, History, IsFront, IsRecordOf, Rises, end_of}
+use Rattle.im_theory_log.specs.Transactions.{last_of, undo_next_of}
+use Rattle.im_theory_log.specs.Lawful.{IsLawful}
+use Rattle.im_restart_analysis.specs.declared.rows.Loser.{Loser}
+use Rattle.im_restart_analysis.specs.Losers.{AreLosers, LoserMap, is_loser, row_of}
+use Rattle.im_restart_analysis.specs.Undo.{HasRecordAt}
+use Rattle.im_restart_analysis.proofs.LawfulLogs.{low}
+use Rattle.im_restart_analysis.proofs.Readings.{goes_on_at}
+use Rattle.im_restart_analysis.proofs.Tables.{listed}
 use Rattle.im_restart.specs.declared.chains.Chain.{Chain}
 use Rattle.im_restart.specs.LoserChains.{AreChains, AreWaiting, ChainMap, GoesOnAt, HasChain, SparesOthers, and_also, chain_of, nobody}
 use Rattle.im_restart.proofs.Others.{goes_longer}
@@ -245,7 +245,7 @@ waiting_taken b tree losers new chains log t row law are wait is gone =
         last = ap (λ (r : Loser). r.last) mine.1;
         undo = ap (λ (r : Loser). r.undo_next) mine.1;
         at = subst (λ (n : ℕ). n ≢ 0 → HasRecordAt t n log) (sym (ap (λ (r : Loser). r.undo_next) mine.1)) (goes_on_at b tree log t law);
-        same = ap (λ (r : Loser). Rattle.im_types.specs.Transactions.undo_reads r.undo_next log) mine.1;
+        same = ap (λ (r : Loser). Rattle.im_theory_log.specs.Transactions.undo_reads r.undo_next log) mine.1;
       },
       λ u other at. wait u other (was u other at),
     )

@@ -4,49 +4,49 @@ use Rattle.std.specs.Prelude.{◌==◌, IfErr, OnOk}
 use Rattle.std.specs.Ordering.{nat_cmp}
 use Rattle.std.specs.BTreeMap.{Updates}
 use Rattle.std.proofs.lemmas.Bool.{cases_Bool}
-use Rattle.im_types.specs.declared.fault.Fault.{Fault}
-use Rattle.im_types.specs.declared.fault.Fault.TheVariants.{Memory, NotAStore}
-use Rattle.im_types.specs.Pages.{Body, Page}
-use Rattle.im_types.specs.Records.{What, Unreadable, Logged}
-use Rattle.im_types.specs.Records as whats
-use Rattle.im_types.specs.Tree.{Tree}
-use Rattle.im_types.specs.Histories.{Base, History, IsRecordOf, page_at}
-use Rattle.im_types.specs.Copies.{GrowsByImages}
-use Rattle.im_types.specs.Structure.{open_smo}
-use Rattle.im_types.specs.Transactions.{is_compensation, is_finished, last_of, to_undo}
-use Rattle.im_types.specs.Lawful.{IsLawful, has_owner}
-use Rattle.im_types.specs.Writer.{Writer}
-use Rattle.im_types.proofs.Compensated.{in_log}
-use Rattle.im_types.proofs.Images.{images_open, lawful_images}
-use Rattle.im_types.proofs.LogLaws.{finished_none, on_top}
-use Rattle.im_types.proofs.OpenSmo.{IsOpenSmo, is_open_smo}
-use Rattle.im_disk.specs.declared.disk.Disk.{Ghosts}
-use Rattle.im_disk.specs.Disk.{Files}
-use Rattle.im_disk.specs.Runs.{LeavesOnly, Reads}
-use Rattle.im_disk.proofs.Runs.{reads_on}
-use Rattle.im_record.specs.Entry.{Smo, UndoSmo}
+use Rattle.im_base_types.specs.declared.fault.Fault.{Fault}
+use Rattle.im_base_types.specs.declared.fault.Fault.TheVariants.{Memory, NotAStore}
+use Rattle.im_base_types.specs.Pages.{Body, Page}
+use Rattle.im_base_types.specs.Records.{What, Unreadable, Logged}
+use Rattle.im_base_types.specs.Records as whats
+use Rattle.im_theory_log.specs.Tree.{Tree}
+use Rattle.im_theory_log.specs.Histories.{Base, History, IsRecordOf, page_at}
+use Rattle.im_theory_log.specs.Copies.{GrowsByImages}
+use Rattle.im_theory_log.specs.Structure.{open_smo}
+use Rattle.im_theory_log.specs.Transactions.{is_compensation, is_finished, last_of, to_undo}
+use Rattle.im_theory_log.specs.Lawful.{IsLawful, has_owner}
+use Rattle.im_theory_log.specs.Writer.{Writer}
+use Rattle.im_theory_log.proofs.Compensated.{in_log}
+use Rattle.im_theory_log.proofs.Images.{images_open, lawful_images}
+use Rattle.im_theory_log.proofs.LogLaws.{finished_none, on_top}
+use Rattle.im_theory_log.proofs.OpenSmo.{IsOpenSmo, is_open_smo}
+use Rattle.im_base_disk.specs.declared.disk.Disk.{Ghosts}
+use Rattle.im_base_disk.specs.Disk.{Files}
+use Rattle.im_base_disk.specs.Runs.{LeavesOnly, Reads}
+use Rattle.im_base_disk.proofs.Runs.{reads_on}
+use Rattle.im_log_record.specs.Entry.{Smo, UndoSmo}
 use Rattle.im_log.specs.Spelled.{logged_at}
 use Rattle.im_log.specs.Whats.{page_behind, smo_of, undo_smo_of, what_of}
 use Rattle.im_log.proofs.Above.{front_none, front_one, front_then}
-use Rattle.im_flush.specs.declared.page_writer.PageWriter.{PageWriter}
-use Rattle.im_flush.specs.PageCopy.{after_in}
-use Rattle.im_flush.specs.PageWriter.{StandsAs}
-use Rattle.im_flush.specs.LoggedChange.{ChangedFrom}
-use Rattle.im_flush.specs.StructureChange.{LeftKept}
-use Rattle.im_flush.specs.Writing.{LeavesGrown}
-use Rattle.im_flush.proofs.Goings.{goes_start}
-use Rattle.im_flush.proofs.Growing.{grown_front}
-use Rattle.im_flush.proofs.Outcomes.{sound_also, sound_done, sound_own}
-use Rattle.im_analysis.specs.declared.rows.Loser.{Loser}
-use Rattle.im_analysis.specs.declared.rows.OpenRecord.{OpenRecord}
-use Rattle.im_analysis.specs.Losers.{AreLosers, LoserMap, is_loser}
-use Rattle.im_analysis.specs.OpenChange.{oldest_first, open_row}
-use Rattle.im_analysis.specs.Undo.{TakesOff, UndoesPage}
-use Rattle.im_analysis.proofs.Losers.{has_its_record, loser_from, numbered}
-use Rattle.im_analysis.proofs.Tables.{images_table, row_changed}
-use Rattle.im_analysis.proofs.Undoing.{undo_goes_on}
-use Rattle.im_tree.specs.Theory.{page_tree}
-use Rattle.im_tree.proofs.TheoryLaws.{page_tree_laws}
+use Rattle.im_page_writer.specs.declared.page_writer.PageWriter.{PageWriter}
+use Rattle.im_page_writer.specs.PageCopy.{after_in}
+use Rattle.im_page_writer.specs.PageWriter.{StandsAs}
+use Rattle.im_page_writer.specs.LoggedChange.{ChangedFrom}
+use Rattle.im_page_writer.specs.StructureChange.{LeftKept}
+use Rattle.im_page_writer.specs.Writing.{LeavesGrown}
+use Rattle.im_page_writer.proofs.Goings.{goes_start}
+use Rattle.im_page_writer.proofs.Growing.{grown_front}
+use Rattle.im_page_writer.proofs.Outcomes.{sound_also, sound_done, sound_own}
+use Rattle.im_restart_analysis.specs.declared.rows.Loser.{Loser}
+use Rattle.im_restart_analysis.specs.declared.rows.OpenRecord.{OpenRecord}
+use Rattle.im_restart_analysis.specs.Losers.{AreLosers, LoserMap, is_loser}
+use Rattle.im_restart_analysis.specs.OpenChange.{oldest_first, open_row}
+use Rattle.im_restart_analysis.specs.Undo.{TakesOff, UndoesPage}
+use Rattle.im_restart_analysis.proofs.Losers.{has_its_record, loser_from, numbered}
+use Rattle.im_restart_analysis.proofs.Tables.{images_table, row_changed}
+use Rattle.im_restart_analysis.proofs.Undoing.{undo_goes_on}
+use Rattle.im_theory_tree.specs.Theory.{page_tree}
+use Rattle.im_theory_tree.proofs.TheoryLaws.{page_tree_laws}
 use Rattle.im_restart.specs.Undone.{IsUndo}
 use Rattle.im_restart.specs.Restart.{IsLeftUndoing}
 use Rattle.im_restart.specs.StructureChange.{ChangeGoes, IsTakingBack, PageKept, PageUndone, TakeBackKept, TakenBack}

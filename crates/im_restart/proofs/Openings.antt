@@ -1,32 +1,32 @@
 -- The log at an opening: its first gate, and its records in turn.
 use Rattle.std.proofs.Common.{◌≡◌, ◌⊎◌, inl, inr, ℕ, List, [], ◌∷◌, Some, Option, Result, Ok, Err, sym, ◌∙◌, ap, subst}
 use Rattle.std.specs.Prelude.{IfOk, OnOk}
-use Rattle.im_types.specs.declared.fault.Fault.{Fault}
-use Rattle.im_types.specs.declared.file_id.FileId.{FileId}
-use Rattle.im_types.specs.declared.file_id.FileId.TheVariants.{Log}
-use Rattle.im_types.specs.Records.{Logged}
-use Rattle.im_types.specs.Tree.{Tree, TreeLaws}
-use Rattle.im_types.specs.Histories.{Base, History, IsFront}
-use Rattle.im_types.specs.Lawful.{IsLawful}
-use Rattle.im_types.proofs.Histories.{at_front}
-use Rattle.im_disk.specs.declared.disk.Disk.{Ghosts}
-use Rattle.im_disk.specs.Disk.{Files}
-use Rattle.im_disk.specs.Runs.{Reads}
-use Rattle.im_gate.specs.declared.gate.Gate.{Gate}
-use Rattle.im_gate.specs.Batches.{batches}
-use Rattle.im_gate.specs.Gate.{file_of, first_of, place_of, logged, StartsAs}
-use Rattle.im_gate.specs.Header.{base_of, first_gate, least_number, StartsAlike, IsMade, IsUnmade}
-use Rattle.im_gate.proofs.Starts.{blank_starts}
-use Rattle.im_record.specs.Entry.{Entry}
+use Rattle.im_base_types.specs.declared.fault.Fault.{Fault}
+use Rattle.im_base_types.specs.declared.file_id.FileId.{FileId}
+use Rattle.im_base_types.specs.declared.file_id.FileId.TheVariants.{Log}
+use Rattle.im_base_types.specs.Records.{Logged}
+use Rattle.im_theory_log.specs.Tree.{Tree, TreeLaws}
+use Rattle.im_theory_log.specs.Histories.{Base, History, IsFront}
+use Rattle.im_theory_log.specs.Lawful.{IsLawful}
+use Rattle.im_theory_log.proofs.Histories.{at_front}
+use Rattle.im_base_disk.specs.declared.disk.Disk.{Ghosts}
+use Rattle.im_base_disk.specs.Disk.{Files}
+use Rattle.im_base_disk.specs.Runs.{Reads}
+use Rattle.im_log_gate.specs.declared.gate.Gate.{Gate}
+use Rattle.im_log_gate.specs.Batches.{batches}
+use Rattle.im_log_gate.specs.Gate.{file_of, first_of, place_of, logged, StartsAs}
+use Rattle.im_log_gate.specs.Header.{base_of, first_gate, least_number, StartsAlike, IsMade, IsUnmade}
+use Rattle.im_log_gate.proofs.Starts.{blank_starts}
+use Rattle.im_log_record.specs.Entry.{Entry}
 use Rattle.im_log.specs.Spelled.{logged_at}
 use Rattle.im_log.specs.declared.opening.Opening.{Opening}
 use Rattle.im_log.specs.Opening.{HasRead, IsOpening}
 use Rattle.im_log.specs.Kept.{HasLog}
 use Rattle.im_log.proofs.Creations.{blank_has, not_both}
 use Rattle.im_log.proofs.Runs.{of_log}
-use Rattle.im_analysis.specs.Analysis.{Continues}
-use Rattle.im_analysis.specs.Orderly.{FitsBehind, IsOrderly, IsReadable}
-use Rattle.im_analysis.proofs.LeadingDown.{logs_are_taken}
+use Rattle.im_restart_analysis.specs.Analysis.{Continues}
+use Rattle.im_restart_analysis.specs.Orderly.{FitsBehind, IsOrderly, IsReadable}
+use Rattle.im_restart_analysis.proofs.LeadingDown.{logs_are_taken}
 use Rattle.im_restart.specs.Restart.{AreTaken, IsFresh, SpellsLog}
 
 -- a log that was made has no record, and starts where the unmade one would

@@ -3,20 +3,20 @@ use Rattle.std.proofs.Common.{◌≡◌, ◌≢◌, ◌≤◌, ◌⊎◌, ℕ, [
 use Rattle.std.specs.Prelude.{◌==◌}
 use Rattle.std.proofs.lemmas.List.{append_cancel_right}
 use Rattle.std.proofs.lemmas.Bool.{cases_eq, cond-true, cond-false, eq-eqb, ne_eqb}
-use Rattle.im_types.specs.Records.{What, InsertKey, DeleteKey, UndoInsert, UndoDelete, Smo, UndoSmo, DummyClr, Commit, End, Image, Checkpoint, Unreadable, Logged}
-use Rattle.im_types.specs.Tree.{Tree}
-use Rattle.im_types.specs.Histories.{Base, History, IsFront}
-use Rattle.im_types.specs.Copies.{AreImages, GrowsByImages}
-use Rattle.im_types.specs.Transactions.{is_compensation, is_key, is_smo, stack_after, to_undo, without_smo}
-use Rattle.im_types.specs.Lawful.{IsLawful, MayCome}
-use Rattle.im_tree.specs.Good.{AllOf}
-use Rattle.im_tree.specs.Theory.{page_tree}
-use Rattle.im_analysis.specs.Losers.{is_loser}
-use Rattle.im_analysis.specs.Undo.{IsNext}
-use Rattle.im_analysis.proofs.Losers.{loser_number}
-use Rattle.im_undo.specs.Records as undone
-use Rattle.im_undo.specs.Records.{IsOfUndo, compensations, with_compensation}
-use Rattle.im_undo.proofs.Keeping.{undo_others}
+use Rattle.im_base_types.specs.Records.{What, InsertKey, DeleteKey, UndoInsert, UndoDelete, Smo, UndoSmo, DummyClr, Commit, End, Image, Checkpoint, Unreadable, Logged}
+use Rattle.im_theory_log.specs.Tree.{Tree}
+use Rattle.im_theory_log.specs.Histories.{Base, History, IsFront}
+use Rattle.im_theory_log.specs.Copies.{AreImages, GrowsByImages}
+use Rattle.im_theory_log.specs.Transactions.{is_compensation, is_key, is_smo, stack_after, to_undo, without_smo}
+use Rattle.im_theory_log.specs.Lawful.{IsLawful, MayCome}
+use Rattle.im_theory_tree.specs.Good.{AllOf}
+use Rattle.im_theory_tree.specs.Theory.{page_tree}
+use Rattle.im_restart_analysis.specs.Losers.{is_loser}
+use Rattle.im_restart_analysis.specs.Undo.{IsNext}
+use Rattle.im_restart_analysis.proofs.Losers.{loser_number}
+use Rattle.im_restart_undo.specs.Records as undone
+use Rattle.im_restart_undo.specs.Records.{IsOfUndo, compensations, with_compensation}
+use Rattle.im_restart_undo.proofs.Keeping.{undo_others}
 use Rattle.im_restart.specs.UndoOrder.{AreInOrder, GoesFirst, IsInOrder, IsLatest, IsNearlyInOrder, TakesBackLatest}
 use Rattle.im_restart.proofs.Others.{spares_key}
 

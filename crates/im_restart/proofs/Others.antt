@@ -2,22 +2,22 @@
 use Rattle.std.proofs.Common.{◌≡◌, ◌≢◌, ◌≤◌, ◌<◌, ℕ, zero, suc, [], ◌∷◌, ◌++◌, true, inl, inr, refl, sym, ◌∙◌, ap, subst, arith}
 use Rattle.std.specs.Prelude.{◌==◌}
 use Rattle.std.proofs.lemmas.Bool.{cases_eq, ne_eqb, cond-false}
-use Rattle.im_types.specs.Records.{What, InsertKey, DeleteKey, UndoInsert, UndoDelete, Smo, UndoSmo, DummyClr, Commit, End, Image, Checkpoint, Unreadable, Logged}
-use Rattle.im_types.specs.Tree.{Tree}
-use Rattle.im_types.specs.Histories.{Base, History, IsFront, IsRecordOf, Rises, end_of}
-use Rattle.im_types.specs.Copies.{AreImages, GrowsByImages}
-use Rattle.im_types.specs.Transactions.{committed, committed_after, last_of, net, reads_on, undo_next_of, undo_reads}
-use Rattle.im_types.specs.Lawful.{IsLawful}
-use Rattle.im_analysis.specs.declared.rows.Loser.{Loser}
-use Rattle.im_analysis.specs.Losers.{is_loser, row_of}
-use Rattle.im_analysis.specs.Undo.{HasRecordAt, LeavesOthers}
-use Rattle.im_analysis.proofs.Losers.{leaves_others, loser_number, same_loser}
-use Rattle.im_analysis.proofs.LawfulLogs.{low}
-use Rattle.im_analysis.proofs.Readings.{goes_on_at}
-use Rattle.im_tree.specs.Good.{AllOf}
-use Rattle.im_undo.specs.Records as undone
-use Rattle.im_undo.specs.Records.{IsOfUndo}
-use Rattle.im_undo.proofs.Keeping.{undo_others}
+use Rattle.im_base_types.specs.Records.{What, InsertKey, DeleteKey, UndoInsert, UndoDelete, Smo, UndoSmo, DummyClr, Commit, End, Image, Checkpoint, Unreadable, Logged}
+use Rattle.im_theory_log.specs.Tree.{Tree}
+use Rattle.im_theory_log.specs.Histories.{Base, History, IsFront, IsRecordOf, Rises, end_of}
+use Rattle.im_theory_log.specs.Copies.{AreImages, GrowsByImages}
+use Rattle.im_theory_log.specs.Transactions.{committed, committed_after, last_of, net, reads_on, undo_next_of, undo_reads}
+use Rattle.im_theory_log.specs.Lawful.{IsLawful}
+use Rattle.im_restart_analysis.specs.declared.rows.Loser.{Loser}
+use Rattle.im_restart_analysis.specs.Losers.{is_loser, row_of}
+use Rattle.im_restart_analysis.specs.Undo.{HasRecordAt, LeavesOthers}
+use Rattle.im_restart_analysis.proofs.Losers.{leaves_others, loser_number, same_loser}
+use Rattle.im_restart_analysis.proofs.LawfulLogs.{low}
+use Rattle.im_restart_analysis.proofs.Readings.{goes_on_at}
+use Rattle.im_theory_tree.specs.Good.{AllOf}
+use Rattle.im_restart_undo.specs.Records as undone
+use Rattle.im_restart_undo.specs.Records.{IsOfUndo}
+use Rattle.im_restart_undo.proofs.Keeping.{undo_others}
 use Rattle.im_restart.specs.declared.chains.Chain.{Chain}
 use Rattle.im_restart.specs.LoserChains.{GoesOnAt, SparesOthers}
 

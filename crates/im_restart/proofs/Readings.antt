@@ -2,23 +2,23 @@
 use Rattle.std.proofs.Common.{◌≡◌, ◌≢◌, ◌≤◌, ◌<◌, ◌⊎◌, ℕ, List, [], ◌∷◌, Bool, true, false, Option, None, Some, inl, inr, refl, sym, ◌∙◌, ap, subst, arith}
 use Rattle.std.specs.Prelude.{◌==◌, ◌||◌}
 use Rattle.std.proofs.lemmas.Bool.{cases_eq, cond-true, cond-false, eq-eqb, ne_eqb, or_right}
-use Rattle.im_types.specs.Records.{What, InsertKey, DeleteKey, UndoInsert, UndoDelete, Smo, UndoSmo, DummyClr, Commit, End, Image, Checkpoint, Unreadable, Logged}
-use Rattle.im_types.specs.Tree.{Tree, TreeLaws}
-use Rattle.im_types.specs.Histories.{Base, History, IsRecordOf}
-use Rattle.im_types.specs.Transactions.{is_end, is_finished, is_key, reads_on, undo_next_of, undo_reads}
-use Rattle.im_types.specs.Lawful.{IsLawful, MayCome}
-use Rattle.im_record.specs.Entry.{Entry, prev_of, transaction_of}
-use Rattle.im_record.specs.Entry.{undo_next_of as named_next}
+use Rattle.im_base_types.specs.Records.{What, InsertKey, DeleteKey, UndoInsert, UndoDelete, Smo, UndoSmo, DummyClr, Commit, End, Image, Checkpoint, Unreadable, Logged}
+use Rattle.im_theory_log.specs.Tree.{Tree, TreeLaws}
+use Rattle.im_theory_log.specs.Histories.{Base, History, IsRecordOf}
+use Rattle.im_theory_log.specs.Transactions.{is_end, is_finished, is_key, reads_on, undo_next_of, undo_reads}
+use Rattle.im_theory_log.specs.Lawful.{IsLawful, MayCome}
+use Rattle.im_log_record.specs.Entry.{Entry, prev_of, transaction_of}
+use Rattle.im_log_record.specs.Entry.{undo_next_of as named_next}
 use Rattle.im_log.specs.Spelled.{logged_at}
 use Rattle.im_log.specs.Whats.{what_of}
 use Rattle.im_log.specs.Reading.{SpellsRecord}
-use Rattle.im_record.specs.Reading.{entry_of}
-use Rattle.im_analysis.specs.declared.rows.Loser.{Loser}
-use Rattle.im_analysis.specs.Losers.{is_loser, row_of}
-use Rattle.im_analysis.specs.Undo.{ComesTo, HasRecordAt, IsNext, IsUndoable, leads_on}
-use Rattle.im_analysis.proofs.Losers.{loser_number, loser_unfinished}
-use Rattle.im_analysis.proofs.Readings.{goes_on_at}
-use Rattle.im_analysis.proofs.Undoing.{undo_goes_on}
+use Rattle.im_log_record.specs.Reading.{entry_of}
+use Rattle.im_restart_analysis.specs.declared.rows.Loser.{Loser}
+use Rattle.im_restart_analysis.specs.Losers.{is_loser, row_of}
+use Rattle.im_restart_analysis.specs.Undo.{ComesTo, HasRecordAt, IsNext, IsUndoable, leads_on}
+use Rattle.im_restart_analysis.proofs.Losers.{loser_number, loser_unfinished}
+use Rattle.im_restart_analysis.proofs.Readings.{goes_on_at}
+use Rattle.im_restart_analysis.proofs.Undoing.{undo_goes_on}
 use Rattle.im_restart.specs.declared.chains.Chain.{Chain}
 use Rattle.im_restart.specs.UndoOrder.{IsLatest}
 use Rattle.im_restart.specs.LoserChains.{GoesOnAt, IsToUndo, LeadsNowhere, MayLeadOn, chain_of}

@@ -1,42 +1,42 @@
 -- A restart: what redo, undo and the last force leave, put together.
 use Rattle.std.proofs.Common.{◌≡◌, ◌≢◌, ◌≤◌, ◌-◌, ◌^◌, ℕ, min, inl, inr, [], List, false, length, Option, Result, refl, sym, ◌∙◌, ap, subst, arith, None}
 use Rattle.std.specs.Prelude.{IfErr}
-use Rattle.im_types.specs.declared.fault.Fault.{Fault}
-use Rattle.im_types.specs.declared.fault.Fault.TheVariants.{NotAStore}
-use Rattle.im_types.specs.declared.file_id.FileId.{FileId}
-use Rattle.im_types.specs.declared.file_id.FileId.TheVariants.{Log, Pages}
-use Rattle.im_types.specs.Pages.{Page}
-use Rattle.im_types.specs.Histories.{Base, History, Rises, end_of}
-use Rattle.im_types.specs.Copies.{GrowsByImages}
-use Rattle.im_types.specs.RedoPoints.{Covers}
-use Rattle.im_types.specs.Lawful.{IsLawful}
-use Rattle.im_types.specs.Writer.{Writer}
-use Rattle.im_types.specs.WriterSteps.{forced, opened}
-use Rattle.im_types.proofs.Images.{images_open, lawful_images}
-use Rattle.im_types.specs.Structure.{open_smo}
-use Rattle.im_disk.specs.declared.disk.Disk.{Ghosts}
-use Rattle.im_disk.specs.Disk.{Files, Only}
-use Rattle.im_disk.specs.Runs.{ChangesOnly, LeavesIn, LeavesOnly, Reads}
-use Rattle.im_disk.proofs.Runs.{reads_on, started, weakened}
-use Rattle.im_gate.specs.Header.{IsUnmade, least_number}
+use Rattle.im_base_types.specs.declared.fault.Fault.{Fault}
+use Rattle.im_base_types.specs.declared.fault.Fault.TheVariants.{NotAStore}
+use Rattle.im_base_types.specs.declared.file_id.FileId.{FileId}
+use Rattle.im_base_types.specs.declared.file_id.FileId.TheVariants.{Log, Pages}
+use Rattle.im_base_types.specs.Pages.{Page}
+use Rattle.im_theory_log.specs.Histories.{Base, History, Rises, end_of}
+use Rattle.im_theory_log.specs.Copies.{GrowsByImages}
+use Rattle.im_theory_log.specs.RedoPoints.{Covers}
+use Rattle.im_theory_log.specs.Lawful.{IsLawful}
+use Rattle.im_theory_log.specs.Writer.{Writer}
+use Rattle.im_theory_log.specs.WriterSteps.{forced, opened}
+use Rattle.im_theory_log.proofs.Images.{images_open, lawful_images}
+use Rattle.im_theory_log.specs.Structure.{open_smo}
+use Rattle.im_base_disk.specs.declared.disk.Disk.{Ghosts}
+use Rattle.im_base_disk.specs.Disk.{Files, Only}
+use Rattle.im_base_disk.specs.Runs.{ChangesOnly, LeavesIn, LeavesOnly, Reads}
+use Rattle.im_base_disk.proofs.Runs.{reads_on, started, weakened}
+use Rattle.im_log_gate.specs.Header.{IsUnmade, least_number}
 use Rattle.im_page.specs.PageFile.{file_page}
 use Rattle.im_log.specs.Kept.{IsLogOf}
 use Rattle.im_log.specs.LogFile.{IsOpen, IsLog}
 use Rattle.im_log.proofs.Above.{front_none}
 use Rattle.im_log.proofs.Creations.{not_both}
 use Rattle.im_log.specs.declared.log_file.LogFile.{LogFile}
-use Rattle.im_flush.specs.declared.page_writer.PageWriter.{PageWriter}
-use Rattle.im_flush.specs.PageWriter.{GoesOn, StandsAs, StepKept}
-use Rattle.im_flush.proofs.Growing.{grown_front}
-use Rattle.im_flush.proofs.Outcomes.{sound_done}
-use Rattle.im_flush.proofs.Restarting.{writer_opens}
-use Rattle.im_analysis.specs.Numbers.{IsNextNumber}
-use Rattle.im_redo.specs.Redo.{LeavesRedoing, Redone}
-use Rattle.im_analysis.specs.Losers.{AreLosers, LoserMap}
-use Rattle.im_analysis.specs.declared.rows.OpenRecord.{OpenRecord}
-use Rattle.im_analysis.specs.OpenChange.{IsOpenChange, oldest_first}
-use Rattle.im_analysis.proofs.Tables.{images_table}
-use Rattle.im_tree.specs.Theory.{page_tree}
+use Rattle.im_page_writer.specs.declared.page_writer.PageWriter.{PageWriter}
+use Rattle.im_page_writer.specs.PageWriter.{GoesOn, StandsAs, StepKept}
+use Rattle.im_page_writer.proofs.Growing.{grown_front}
+use Rattle.im_page_writer.proofs.Outcomes.{sound_done}
+use Rattle.im_page_writer.proofs.Restarting.{writer_opens}
+use Rattle.im_restart_analysis.specs.Numbers.{IsNextNumber}
+use Rattle.im_restart_redo.specs.Redo.{LeavesRedoing, Redone}
+use Rattle.im_restart_analysis.specs.Losers.{AreLosers, LoserMap}
+use Rattle.im_restart_analysis.specs.declared.rows.OpenRecord.{OpenRecord}
+use Rattle.im_restart_analysis.specs.OpenChange.{IsOpenChange, oldest_first}
+use Rattle.im_restart_analysis.proofs.Tables.{images_table}
+use Rattle.im_theory_tree.specs.Theory.{page_tree}
 use Rattle.im_restart.specs.Restart.{HasStore, IsFresh, IsLeftUndoing, IsOpened, IsReport, IsSettled, MayRedo, MayRestart, RestartSound}
 use Rattle.im_restart.specs.declared.restarted.Restarted.{Restarted}
 use Rattle.im_restart.specs.StructureChange.{ChangeGoes}

@@ -2,33 +2,33 @@
 use Rattle.std.proofs.Common.{◌≡◌, ◌<◌, ℕ, [], ◌∷◌, Option, None, inl, inr, refl, sym, ◌∙◌, subst, arith}
 use Rattle.std.specs.Prelude.{◌==◌}
 use Rattle.std.proofs.lemmas.Bool.{cond-false, ne_eqb}
-use Rattle.im_types.specs.declared.file_id.FileId.TheVariants.{Log}
-use Rattle.im_types.specs.Records.{Logged}
-use Rattle.im_types.specs.Tree.{Tree, TreeLaws}
-use Rattle.im_types.specs.Histories.{Base, History, IsFront, Rises, end_of}
-use Rattle.im_types.specs.Transactions.{reads_on, to_undo, undo_reads}
-use Rattle.im_types.specs.Lawful.{IsLawful}
-use Rattle.im_types.specs.Writer.{Writer}
-use Rattle.im_types.proofs.Fronts.{fronts_lawful, rises}
-use Rattle.im_types.proofs.Histories.{page_same}
-use Rattle.im_types.proofs.Images.{lawful_images}
-use Rattle.im_disk.specs.declared.disk.Disk.{Ghosts}
-use Rattle.im_disk.specs.Disk.{Files}
-use Rattle.im_disk.specs.Runs.{LeavesOnly}
-use Rattle.im_disk.proofs.Runs.{then_on, weakened}
-use Rattle.im_record.specs.Entry.{End}
+use Rattle.im_base_types.specs.declared.file_id.FileId.TheVariants.{Log}
+use Rattle.im_base_types.specs.Records.{Logged}
+use Rattle.im_theory_log.specs.Tree.{Tree, TreeLaws}
+use Rattle.im_theory_log.specs.Histories.{Base, History, IsFront, Rises, end_of}
+use Rattle.im_theory_log.specs.Transactions.{reads_on, to_undo, undo_reads}
+use Rattle.im_theory_log.specs.Lawful.{IsLawful}
+use Rattle.im_theory_log.specs.Writer.{Writer}
+use Rattle.im_theory_log.proofs.Fronts.{fronts_lawful, rises}
+use Rattle.im_theory_log.proofs.Histories.{page_same}
+use Rattle.im_theory_log.proofs.Images.{lawful_images}
+use Rattle.im_base_disk.specs.declared.disk.Disk.{Ghosts}
+use Rattle.im_base_disk.specs.Disk.{Files}
+use Rattle.im_base_disk.specs.Runs.{LeavesOnly}
+use Rattle.im_base_disk.proofs.Runs.{then_on, weakened}
+use Rattle.im_log_record.specs.Entry.{End}
 use Rattle.im_log.specs.Spelled.{logged_at}
 use Rattle.im_log.proofs.Above.{front_none, front_one, front_then}
 use Rattle.im_log.proofs.Creations.{not_both}
-use Rattle.im_flush.specs.declared.page_writer.PageWriter.{PageWriter}
-use Rattle.im_flush.specs.Stands.{IsCovered, LeavesCovered}
-use Rattle.im_flush.specs.Writing.{LeavesGrown}
-use Rattle.im_flush.specs.PageWriter.{LoggedOnly, StandsAs}
-use Rattle.im_flush.proofs.Goings.{goes_start}
-use Rattle.im_analysis.specs.Undo.{ComesTo, Ends, IsUndoable}
-use Rattle.im_analysis.proofs.Undoing.{undo_goes_on}
-use Rattle.im_tree.specs.Theory.{page_tree}
-use Rattle.im_tree.proofs.TheoryLaws.{page_tree_laws}
+use Rattle.im_page_writer.specs.declared.page_writer.PageWriter.{PageWriter}
+use Rattle.im_page_writer.specs.Stands.{IsCovered, LeavesCovered}
+use Rattle.im_page_writer.specs.Writing.{LeavesGrown}
+use Rattle.im_page_writer.specs.PageWriter.{LoggedOnly, StandsAs}
+use Rattle.im_page_writer.proofs.Goings.{goes_start}
+use Rattle.im_restart_analysis.specs.Undo.{ComesTo, Ends, IsUndoable}
+use Rattle.im_restart_analysis.proofs.Undoing.{undo_goes_on}
+use Rattle.im_theory_tree.specs.Theory.{page_tree}
+use Rattle.im_theory_tree.proofs.TheoryLaws.{page_tree_laws}
 use Rattle.im_restart.specs.declared.chains.Chain.{Chain}
 use Rattle.im_restart.specs.Undone.{GrowsByUndo}
 use Rattle.im_restart.specs.UndoOrder.{IsInOrder}

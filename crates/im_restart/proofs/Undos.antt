@@ -1,18 +1,18 @@
 -- Steps of undo, put together.
 use Rattle.std.proofs.Common.{ℕ, Bool, Result}
-use Rattle.im_types.specs.declared.fault.Fault.{Fault}
-use Rattle.im_types.specs.Histories.{Base, History}
-use Rattle.im_types.specs.Writer.{Writer}
-use Rattle.im_types.proofs.Fronts.{rises}
-use Rattle.im_disk.specs.declared.disk.Disk.{Ghosts}
-use Rattle.im_disk.specs.Disk.{Files}
-use Rattle.im_disk.specs.Runs.{LeavesOnly, Reads}
-use Rattle.im_disk.proofs.Runs.{reads_on}
+use Rattle.im_base_types.specs.declared.fault.Fault.{Fault}
+use Rattle.im_theory_log.specs.Histories.{Base, History}
+use Rattle.im_theory_log.specs.Writer.{Writer}
+use Rattle.im_theory_log.proofs.Fronts.{rises}
+use Rattle.im_base_disk.specs.declared.disk.Disk.{Ghosts}
+use Rattle.im_base_disk.specs.Disk.{Files}
+use Rattle.im_base_disk.specs.Runs.{LeavesOnly, Reads}
+use Rattle.im_base_disk.proofs.Runs.{reads_on}
 use Rattle.im_log.proofs.Above.{front_none}
-use Rattle.im_flush.specs.declared.page_writer.PageWriter.{PageWriter}
-use Rattle.im_flush.specs.PageWriter.{StandsAs}
-use Rattle.im_flush.proofs.Outcomes.{sound_also}
-use Rattle.im_tree.specs.Theory.{page_tree}
+use Rattle.im_page_writer.specs.declared.page_writer.PageWriter.{PageWriter}
+use Rattle.im_page_writer.specs.PageWriter.{StandsAs}
+use Rattle.im_page_writer.proofs.Outcomes.{sound_also}
+use Rattle.im_theory_tree.specs.Theory.{page_tree}
 use Rattle.im_restart.specs.Restart.{IsLeftUndoing}
 use Rattle.im_restart.specs.LoserChains.{AreChains, ChainMap, PutKept, SparesOthers, and_also}
 use Rattle.im_restart.specs.Undoing.{AllUndone, Ended, EndKept, IsUndoing, Stepped, StepKept, UndoGoes, UndoKept}

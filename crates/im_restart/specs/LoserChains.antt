@@ -2,18 +2,18 @@
 use Rattle.std.specs.Prelude.{◌≡◌, ◌≢◌, ◌≤◌, ◌+◌, ◌⊎◌, ℕ, max, List, [], ◌∷◌, Bool, true, false, ◌==◌, ◌||◌, Some, Result}
 use Rattle.std.specs.Ordering.{nat_cmp}
 use Rattle.std.specs.BTreeMap.{BTreeMap, get}
-use Rattle.im_types.specs.declared.fault.Fault.{Fault}
-use Rattle.im_types.specs.Records.{What, Unreadable}
-use Rattle.im_types.specs.Histories.{History}
-use Rattle.im_types.specs.Transactions.{last_of, undo_next_of, undo_reads, is_key}
-use Rattle.im_record.specs.Entry.{Entry, prev_of}
-use Rattle.im_record.specs.Entry.{undo_next_of as named_next}
+use Rattle.im_base_types.specs.declared.fault.Fault.{Fault}
+use Rattle.im_base_types.specs.Records.{What, Unreadable}
+use Rattle.im_theory_log.specs.Histories.{History}
+use Rattle.im_theory_log.specs.Transactions.{last_of, undo_next_of, undo_reads, is_key}
+use Rattle.im_log_record.specs.Entry.{Entry, prev_of}
+use Rattle.im_log_record.specs.Entry.{undo_next_of as named_next}
 use Rattle.im_log.specs.Whats.{what_of}
 use Rattle.im_log.specs.Spelled.{logged_at}
-use Rattle.im_flush.specs.Outcome.{IsSound}
-use Rattle.im_analysis.specs.declared.rows.Loser.{Loser}
-use Rattle.im_analysis.specs.Losers.{LoserMap, is_loser, row_of}
-use Rattle.im_analysis.specs.Undo.{HasRecordAt, IsNext, leads_on}
+use Rattle.im_page_writer.specs.Outcome.{IsSound}
+use Rattle.im_restart_analysis.specs.declared.rows.Loser.{Loser}
+use Rattle.im_restart_analysis.specs.Losers.{LoserMap, is_loser, row_of}
+use Rattle.im_restart_analysis.specs.Undo.{HasRecordAt, IsNext, leads_on}
 use Rattle.im_restart.specs.declared.chains.Chain.{Chain}
 use Rattle.im_restart.specs.UndoOrder.{IsLatest}
 

@@ -1,9 +1,9 @@
 -- How an opening of a store may end.
 use Rattle.std.specs.Prelude.{◌≡◌, true, false, Option, None, Some}
-use Rattle.im_types.specs.declared.fault.Fault.{Fault}
-use Rattle.im_types.specs.declared.fault.Fault.TheVariants.{Device, LogFull}
-use Rattle.im_disk.specs.declared.disk.Disk.{Ghosts}
-use Rattle.im_alloc.specs.Kept.{mild_to_take}
+use Rattle.im_base_types.specs.declared.fault.Fault.{Fault}
+use Rattle.im_base_types.specs.declared.fault.Fault.TheVariants.{Device, LogFull}
+use Rattle.im_base_disk.specs.declared.disk.Disk.{Ghosts}
+use Rattle.im_smo_alloc.specs.Kept.{mild_to_take}
 use Rattle.im_restart.specs.Restart.{IsFullLog}
 
 module _ {D : Type 0} (d : Ghosts D) where

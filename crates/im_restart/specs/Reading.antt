@@ -1,18 +1,18 @@
 -- What reading the log keeps.
 use Rattle.std.specs.Prelude.{◌≡◌, ◌≢◌, ◌≤◌, ℕ, Result, IfErr, IfOk}
-use Rattle.im_types.specs.declared.fault.Fault.{Fault}
-use Rattle.im_types.specs.declared.fault.Fault.TheVariants.{NotAStore}
-use Rattle.im_types.specs.declared.file_id.FileId.TheVariants.{Log}
-use Rattle.im_types.specs.Histories.{History}
-use Rattle.im_types.specs.RedoPoints.{redo_point}
-use Rattle.im_disk.specs.declared.disk.Disk.{Ghosts}
-use Rattle.im_disk.specs.Runs.{LeavesIn}
-use Rattle.im_gate.specs.declared.gate.Gate.{Gate}
-use Rattle.im_gate.specs.Header.{least_number}
+use Rattle.im_base_types.specs.declared.fault.Fault.{Fault}
+use Rattle.im_base_types.specs.declared.fault.Fault.TheVariants.{NotAStore}
+use Rattle.im_base_types.specs.declared.file_id.FileId.TheVariants.{Log}
+use Rattle.im_theory_log.specs.Histories.{History}
+use Rattle.im_theory_log.specs.RedoPoints.{redo_point}
+use Rattle.im_base_disk.specs.declared.disk.Disk.{Ghosts}
+use Rattle.im_base_disk.specs.Runs.{LeavesIn}
+use Rattle.im_log_gate.specs.declared.gate.Gate.{Gate}
+use Rattle.im_log_gate.specs.Header.{least_number}
 use Rattle.im_log.specs.Kept.{HasLog, IsLogOf}
 use Rattle.im_log.specs.LogFile.{IsLog}
-use Rattle.im_analysis.specs.Analysis.{IsAnalysis}
-use Rattle.im_redo.specs.Redo.{lsns_from}
+use Rattle.im_restart_analysis.specs.Analysis.{IsAnalysis}
+use Rattle.im_restart_redo.specs.Redo.{lsns_from}
 use Rattle.im_restart.specs.declared.found.Found.{Found}
 
 module _ {D : Type 0} (d : Ghosts D) (base : ℕ) (all : History) where

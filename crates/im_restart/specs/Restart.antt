@@ -1,28 +1,28 @@
 -- What a restart asks of the files, and what it keeps.
 use Rattle.std.specs.Prelude.{◌≡◌, ◌⊎◌, ◌+◌, ◌<◌, ◌≤◌, ◌^◌, ℕ, [], ◌∷◌, length, Option, Some, false, Result}
-use Rattle.im_types.specs.declared.fault.Fault.{Fault}
-use Rattle.im_types.specs.declared.file_id.FileId.TheVariants.{Log, Pages}
-use Rattle.im_types.specs.Histories.{Base, History, Rises, page_at}
-use Rattle.im_types.specs.Structure.{open_smo}
-use Rattle.im_types.specs.Pages.{Page}
-use Rattle.im_types.specs.RedoPoints.{Covers, redo_point}
-use Rattle.im_types.specs.Lawful.{IsLawful}
-use Rattle.im_types.specs.Writer.{Writer}
-use Rattle.im_disk.specs.declared.disk.Disk.{Ghosts}
-use Rattle.im_disk.specs.Disk.{Files}
-use Rattle.im_disk.specs.Runs.{LeavesOnly}
-use Rattle.im_gate.specs.Header.{base_of, least_number, IsUnmade}
+use Rattle.im_base_types.specs.declared.fault.Fault.{Fault}
+use Rattle.im_base_types.specs.declared.file_id.FileId.TheVariants.{Log, Pages}
+use Rattle.im_theory_log.specs.Histories.{Base, History, Rises, page_at}
+use Rattle.im_theory_log.specs.Structure.{open_smo}
+use Rattle.im_base_types.specs.Pages.{Page}
+use Rattle.im_theory_log.specs.RedoPoints.{Covers, redo_point}
+use Rattle.im_theory_log.specs.Lawful.{IsLawful}
+use Rattle.im_theory_log.specs.Writer.{Writer}
+use Rattle.im_base_disk.specs.declared.disk.Disk.{Ghosts}
+use Rattle.im_base_disk.specs.Disk.{Files}
+use Rattle.im_base_disk.specs.Runs.{LeavesOnly}
+use Rattle.im_log_gate.specs.Header.{base_of, least_number, IsUnmade}
 use Rattle.im_log.specs.Kept.{HasLog, IsLogOf}
 use Rattle.im_page.specs.PageFile.{file_page}
-use Rattle.im_flush.specs.declared.page_writer.PageWriter.{PageWriter}
-use Rattle.im_flush.specs.PageWriter.{StandsAs}
-use Rattle.im_flush.specs.Outcome.{IsSound}
-use Rattle.im_tree.specs.Theory.{page_tree}
-use Rattle.im_analysis.specs.Analysis.{Continues}
-use Rattle.im_analysis.specs.Losers.{is_loser}
-use Rattle.im_analysis.specs.Numbers.{IsNextNumber}
-use Rattle.im_analysis.specs.Orderly.{FitsBehind, IsOrderly, IsReadable}
-use Rattle.im_redo.specs.Redo.{AreApplicable, applied_in, first_lsn}
+use Rattle.im_page_writer.specs.declared.page_writer.PageWriter.{PageWriter}
+use Rattle.im_page_writer.specs.PageWriter.{StandsAs}
+use Rattle.im_page_writer.specs.Outcome.{IsSound}
+use Rattle.im_theory_tree.specs.Theory.{page_tree}
+use Rattle.im_restart_analysis.specs.Analysis.{Continues}
+use Rattle.im_restart_analysis.specs.Losers.{is_loser}
+use Rattle.im_restart_analysis.specs.Numbers.{IsNextNumber}
+use Rattle.im_restart_analysis.specs.Orderly.{FitsBehind, IsOrderly, IsReadable}
+use Rattle.im_restart_redo.specs.Redo.{AreApplicable, applied_in, first_lsn}
 use Rattle.im_restart.specs.declared.redo_report.RedoReport.{RedoReport}
 use Rattle.im_restart.specs.declared.restarted.Restarted.{Restarted}
 use Rattle.im_restart.specs.Undone.{GrowsByUndo}

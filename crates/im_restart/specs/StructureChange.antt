@@ -2,18 +2,18 @@
 use Rattle.std.specs.Prelude.{◌≡◌, ℕ, [], ◌∷◌, Some, Result}
 use Rattle.std.specs.Ordering.{nat_cmp}
 use Rattle.std.specs.BTreeMap.{Updates}
-use Rattle.im_types.specs.declared.fault.Fault.{Fault}
-use Rattle.im_types.specs.Records.{Logged}
-use Rattle.im_types.specs.Histories.{Base, History, IsFront, page_at}
-use Rattle.im_types.specs.Structure.{open_smo}
-use Rattle.im_types.specs.Lawful.{IsLawful}
-use Rattle.im_types.specs.Writer.{Writer}
-use Rattle.im_disk.specs.declared.disk.Disk.{Ghosts}
-use Rattle.im_disk.specs.Runs.{LeavesOnly}
-use Rattle.im_flush.specs.declared.page_writer.PageWriter.{PageWriter}
-use Rattle.im_flush.specs.PageWriter.{StandsAs}
-use Rattle.im_tree.specs.Theory.{page_tree}
-use Rattle.im_analysis.specs.Losers.{AreLosers, LoserMap}
+use Rattle.im_base_types.specs.declared.fault.Fault.{Fault}
+use Rattle.im_base_types.specs.Records.{Logged}
+use Rattle.im_theory_log.specs.Histories.{Base, History, IsFront, page_at}
+use Rattle.im_theory_log.specs.Structure.{open_smo}
+use Rattle.im_theory_log.specs.Lawful.{IsLawful}
+use Rattle.im_theory_log.specs.Writer.{Writer}
+use Rattle.im_base_disk.specs.declared.disk.Disk.{Ghosts}
+use Rattle.im_base_disk.specs.Runs.{LeavesOnly}
+use Rattle.im_page_writer.specs.declared.page_writer.PageWriter.{PageWriter}
+use Rattle.im_page_writer.specs.PageWriter.{StandsAs}
+use Rattle.im_theory_tree.specs.Theory.{page_tree}
+use Rattle.im_restart_analysis.specs.Losers.{AreLosers, LoserMap}
 use Rattle.im_restart.specs.Undone.{GrowsByUndo}
 use Rattle.im_restart.specs.UndoOrder.{IsInOrder}
 use Rattle.im_restart.specs.Restart.{IsLeftUndoing, RestartSound}

@@ -1,10 +1,10 @@
 -- In which order the records of losers are taken back: the latest of all first.
 use Rattle.std.specs.Prelude.{◌≡◌, ◌≤◌, ◌⊎◌, ℕ, [], ◌∷◌, ◌++◌, true}
-use Rattle.im_types.specs.Records.{Logged}
-use Rattle.im_types.specs.Histories.{History}
-use Rattle.im_types.specs.Transactions.{to_undo, is_compensation}
-use Rattle.im_analysis.specs.Losers.{is_loser}
-use Rattle.im_undo.specs.Records.{GrowsByUndo}
+use Rattle.im_base_types.specs.Records.{Logged}
+use Rattle.im_theory_log.specs.Histories.{History}
+use Rattle.im_theory_log.specs.Transactions.{to_undo, is_compensation}
+use Rattle.im_restart_analysis.specs.Losers.{is_loser}
+use Rattle.im_restart_undo.specs.Records.{GrowsByUndo}
 
 -- No loser has a record with a greater LSN left to undo next.
 abbrev pub IsLatest : ℕ → History → Type 0

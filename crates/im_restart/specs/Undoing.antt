@@ -1,15 +1,15 @@
 -- Undo as it goes on: what is known between two calls.
 use Rattle.std.specs.Prelude.{◌≡◌, ℕ, Bool, true, false, Some, Result}
-use Rattle.im_types.specs.declared.fault.Fault.{Fault}
-use Rattle.im_types.specs.Histories.{Base, History, IsFront, page_at}
-use Rattle.im_types.specs.Writer.{Writer}
-use Rattle.im_disk.specs.declared.disk.Disk.{Ghosts}
-use Rattle.im_disk.specs.Runs.{LeavesOnly}
-use Rattle.im_flush.specs.declared.page_writer.PageWriter.{PageWriter}
-use Rattle.im_flush.specs.PageWriter.{StandsAs}
-use Rattle.im_tree.specs.Theory.{page_tree}
-use Rattle.im_analysis.specs.Losers.{is_loser, row_of}
-use Rattle.im_analysis.specs.Undo.{IsUndoable}
+use Rattle.im_base_types.specs.declared.fault.Fault.{Fault}
+use Rattle.im_theory_log.specs.Histories.{Base, History, IsFront, page_at}
+use Rattle.im_theory_log.specs.Writer.{Writer}
+use Rattle.im_base_disk.specs.declared.disk.Disk.{Ghosts}
+use Rattle.im_base_disk.specs.Runs.{LeavesOnly}
+use Rattle.im_page_writer.specs.declared.page_writer.PageWriter.{PageWriter}
+use Rattle.im_page_writer.specs.PageWriter.{StandsAs}
+use Rattle.im_theory_tree.specs.Theory.{page_tree}
+use Rattle.im_restart_analysis.specs.Losers.{is_loser, row_of}
+use Rattle.im_restart_analysis.specs.Undo.{IsUndoable}
 use Rattle.im_restart.specs.Undone.{GrowsByUndo}
 use Rattle.im_restart.specs.UndoOrder.{IsInOrder}
 use Rattle.im_restart.specs.Restart.{IsLeftUndoing, RestartSound}

@@ -1,11 +1,11 @@
 -- Records that a restart adds to a log: Images, the records that undo and end what was unfinished, and the structure changes of losers on the way.
 use Rattle.std.specs.Prelude.{◌≡◌, [], ◌∷◌, ◌++◌, true}
-use Rattle.im_types.specs.Pages.{Body}
-use Rattle.im_types.specs.Records.{What, InsertKey, DeleteKey, UndoInsert, UndoDelete, Smo, UndoSmo, DummyClr, Commit, End, Image, Checkpoint, Unreadable, Logged}
-use Rattle.im_types.specs.Histories.{History}
-use Rattle.im_types.specs.Structure.{open_smo}
-use Rattle.im_types.specs.Transactions.{to_undo}
-use Rattle.im_analysis.specs.Losers.{is_loser}
+use Rattle.im_base_types.specs.Pages.{Body}
+use Rattle.im_base_types.specs.Records.{What, InsertKey, DeleteKey, UndoInsert, UndoDelete, Smo, UndoSmo, DummyClr, Commit, End, Image, Checkpoint, Unreadable, Logged}
+use Rattle.im_theory_log.specs.Histories.{History}
+use Rattle.im_theory_log.specs.Structure.{open_smo}
+use Rattle.im_theory_log.specs.Transactions.{to_undo}
+use Rattle.im_restart_analysis.specs.Losers.{is_loser}
 
 -- the record takes back the newest page of the open structure change
 pub record TakesBackPage (r : Logged) (older : History) (new : Body) : Type 0 where

@@ -1,6 +1,6 @@
 //! Where the undo of each loser goes on.
 
-use im_types::{Lsn, TxnId};
+use im_base_types::{Lsn, TxnId};
 
 /// A transaction that is being undone.
 #[derive(Clone, Copy, Debug, PartialEq, Eq)]

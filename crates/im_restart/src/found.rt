@@ -1,8 +1,8 @@
 //! What a restart finds in the log.
 
-use im_analysis::Analysed;
+use im_base_types::Lsn;
 use im_log::LogFile;
-use im_types::Lsn;
+use im_restart_analysis::Analysed;
 
 /// The log behind its last record, and what its records say.
 #[derive(Drop)]

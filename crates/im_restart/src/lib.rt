@@ -5,12 +5,12 @@
 //! 1. **Analysis** (`reading`): the log is opened, or made where there is none yet and no page, and each record read once. That
 //!    gives the number of the next transaction, the redo point, the losers, the last full copies of pages, the structure change
 //!    that is open, and the LSNs of the records that change a page.
-//! 2. **Redo**, by `im_redo`: the pages are brought to what all of the log made of them. How many records that took is told with the
+//! 2. **Redo**, by `im_restart_redo`: the pages are brought to what all of the log made of them. How many records that took is told with the
 //!    redo point (`RedoReport`).
 //! 3. **Undo of the open structure change** (`structure_change`): its pages are put back, the newest first, each by an UndoSmo with
 //!    the page before.
 //! 4. **Undo of the losers** (`undo`), all together, the record with the greatest LSN first. Each loser's chain stands in a map at
-//!    the LSN where its undo goes on, and the greatest is taken out again and again: a key record is taken back by `im_undo`, wherever
+//!    the LSN where its undo goes on, and the greatest is taken out again and again: a key record is taken back by `im_restart_undo`, wherever
 //!    splits have moved its key, by a compensation that leads to the record before it, beside structure changes where a leaf is full
 //!    or left empty; a compensation or the end of a structure change leads on to its next one to undo. Where nothing is left the
 //!    loser's End is appended before others go on.
@@ -39,7 +39,7 @@
 //!
 //! How an opening ends is one fact over any files, its clause `outcome` (`Opens`, over the fault that it was refused for, if it was):
 //! `Device` just where the disk has failed, `LogFull` only with a log that is full, else `Memory`, `NotAStore` or `Capacity`. The calls
-//! within it over the writer of pages end as redo does (`Recovers` of `im_redo`), and each says over such files, in one word
+//! within it over the writer of pages end as redo does (`Recovers` of `im_restart_redo`), and each says over such files, in one word
 //! (`RestartSound`), what it answers and that a stop leaves such files again.
 //!
 //! It stands on the undo of one record, analysis, redo, the writer of pages, the log and its gates.

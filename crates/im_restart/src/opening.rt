@@ -1,25 +1,25 @@
 //! A store is opened.
 
 ghost use Rattle.std.specs.Prelude.{◌≡◌, ◌≢◌, ◌≤◌, ◌⊎◌, ℕ, [], false, length, Ok, IfErr, IfOk};
-ghost use Rattle.im_types.specs.declared.fault.Fault.TheVariants.{Device, Memory, NotAStore};
-ghost use Rattle.im_types.specs.declared.file_id.FileId.TheVariants.{Log, Pages};
-ghost use Rattle.im_types.specs.Histories.{Base, History};
-ghost use Rattle.im_types.specs.RedoPoints.{redo_point};
-ghost use Rattle.im_types.specs.Writer.{Writer};
-ghost use Rattle.im_types.specs.WriterSteps.{opened};
-ghost use Rattle.im_disk.specs.Disk.{Only};
-ghost use Rattle.im_disk.specs.Runs.{IsSynced, Reads};
-ghost use Rattle.im_gate.specs.Header.{IsMade};
+ghost use Rattle.im_base_types.specs.declared.fault.Fault.TheVariants.{Device, Memory, NotAStore};
+ghost use Rattle.im_base_types.specs.declared.file_id.FileId.TheVariants.{Log, Pages};
+ghost use Rattle.im_theory_log.specs.Histories.{Base, History};
+ghost use Rattle.im_theory_log.specs.RedoPoints.{redo_point};
+ghost use Rattle.im_theory_log.specs.Writer.{Writer};
+ghost use Rattle.im_theory_log.specs.WriterSteps.{opened};
+ghost use Rattle.im_base_disk.specs.Disk.{Only};
+ghost use Rattle.im_base_disk.specs.Runs.{IsSynced, Reads};
+ghost use Rattle.im_log_gate.specs.Header.{IsMade};
 ghost use Rattle.im_page.specs.PageFile.{file_page};
 ghost use Rattle.im_log.specs.LogFile.{IsOpen};
-ghost use Rattle.im_analysis.specs.Analysis.{IsAnalysis};
-ghost use Rattle.im_analysis.specs.Losers.{AreLosers};
-ghost use Rattle.im_analysis.specs.OpenChange.{IsOpenChange};
-ghost use Rattle.im_alloc.specs.Kept.{mild_to_take};
-ghost use Rattle.im_redo.specs.Recovery.{Recovers};
-ghost use Rattle.im_redo.specs.Redo.{AreApplicable, lsns_from};
-ghost use Rattle.im_flush.specs.Outcome.{fault_of};
-ghost use Rattle.im_flush.specs.PageWriter.{IsReadyWriter, StandsAs};
+ghost use Rattle.im_restart_analysis.specs.Analysis.{IsAnalysis};
+ghost use Rattle.im_restart_analysis.specs.Losers.{AreLosers};
+ghost use Rattle.im_restart_analysis.specs.OpenChange.{IsOpenChange};
+ghost use Rattle.im_smo_alloc.specs.Kept.{mild_to_take};
+ghost use Rattle.im_restart_redo.specs.Recovery.{Recovers};
+ghost use Rattle.im_restart_redo.specs.Redo.{AreApplicable, lsns_from};
+ghost use Rattle.im_page_writer.specs.Outcome.{fault_of};
+ghost use Rattle.im_page_writer.specs.PageWriter.{IsReadyWriter, StandsAs};
 ghost use Rattle.im_restart.specs.Opening.{Opens};
 ghost use Rattle.im_restart.specs.Reading.{IsFound};
 ghost use Rattle.im_restart.specs.StructureChange.{IsTakingBack};
@@ -32,11 +32,11 @@ use crate::redo_report::RedoReport;
 use crate::restarted::Restarted;
 use crate::structure_change::undo_change;
 use crate::undo::undo;
-use im_analysis::Analysed;
-use im_disk::Disk;
-use im_flush::PageWriter;
-use im_redo::redo;
-use im_types::{Fault, Lsn, TxnId};
+use im_base_disk::Disk;
+use im_base_types::{Fault, Lsn, TxnId};
+use im_page_writer::PageWriter;
+use im_restart_analysis::Analysed;
+use im_restart_redo::redo;
 use std::alloc::Global;
 use std::cmp::max;
 
@@ -59,7 +59,7 @@ fn first_number(next: TxnId) -> TxnId
 }
 
 // Undoes what was found unfinished: the structure change that was open first, and then the losers.
-#[tactic(auto, using(im_redo::proofs::Recoveries::recovers_then, im_redo::proofs::Recoveries::recovery_refused))]
+#[tactic(auto, using(im_restart_redo::proofs::Recoveries::recovers_then, im_restart_redo::proofs::Recoveries::recovery_refused))]
 fn undo_found<D: Disk>(
     alloc: Global,
     disk: &mut D,

@@ -1,33 +1,33 @@
 //! The log is opened, and each of its records read once.
 
 ghost use Rattle.std.specs.Prelude.{◌≡◌, ◌≢◌, ◌+◌, ◌^◌, ◌≤◌, ◌⊎◌, ◌↔◌, ◌∷◌, ℕ, [], false, true, length, List, IfErr, IfOk, OnOk};
-ghost use Rattle.im_types.specs.declared.fault.Fault.TheVariants.{Device, Memory, NotAStore};
-ghost use Rattle.im_types.specs.declared.file_id.FileId.TheVariants.{Log, Pages};
-ghost use Rattle.im_types.specs.Records.{Unreadable};
-ghost use Rattle.im_types.specs.Histories.{History, changes_page};
-ghost use Rattle.im_disk.specs.Disk.{Only};
-ghost use Rattle.im_disk.specs.Runs.{ChangesOnly, Reads};
-ghost use Rattle.im_gate.specs.Gate.{first_of, place_of, has_failed, StartsAs, IsReading};
-ghost use Rattle.im_gate.specs.Header.{least_number, StartsAlike, IsMade, IsUnmade};
-ghost use Rattle.im_record.specs.Entry.{view};
+ghost use Rattle.im_base_types.specs.declared.fault.Fault.TheVariants.{Device, Memory, NotAStore};
+ghost use Rattle.im_base_types.specs.declared.file_id.FileId.TheVariants.{Log, Pages};
+ghost use Rattle.im_base_types.specs.Records.{Unreadable};
+ghost use Rattle.im_theory_log.specs.Histories.{History, changes_page};
+ghost use Rattle.im_base_disk.specs.Disk.{Only};
+ghost use Rattle.im_base_disk.specs.Runs.{ChangesOnly, Reads};
+ghost use Rattle.im_log_gate.specs.Gate.{first_of, place_of, has_failed, StartsAs, IsReading};
+ghost use Rattle.im_log_gate.specs.Header.{least_number, StartsAlike, IsMade, IsUnmade};
+ghost use Rattle.im_log_record.specs.Entry.{view};
 ghost use Rattle.im_log.specs.Gates.{IsOfLog};
 ghost use Rattle.im_log.specs.Whats.{what_of};
 ghost use Rattle.im_log.specs.Spelled.{logged_at};
 ghost use Rattle.im_log.specs.Kept.{HasLog, IsLogOf};
 ghost use Rattle.im_log.specs.LogFile.{IsOpen};
 ghost use Rattle.im_log.specs.Opening.{IsBegun, IsOpening, HasRead};
-ghost use Rattle.im_analysis.specs.Orderly.{IsOrderly, IsReadable};
-ghost use Rattle.im_redo.specs.Redo.{lsns_from};
+ghost use Rattle.im_restart_analysis.specs.Orderly.{IsOrderly, IsReadable};
+ghost use Rattle.im_restart_redo.specs.Redo.{lsns_from};
 ghost use Rattle.im_restart.specs.Restart.{AreTaken, IsFresh, SpellsLog};
 ghost use Rattle.im_restart.specs.Reading.{GateKept, ReadKept, OpenKept};
 
 use crate::found::Found;
-use im_analysis::Analysis;
-use im_disk::Disk;
-use im_gate::Gate;
+use im_base_disk::Disk;
+use im_base_types::{Fault, FileId, Lsn, TxnId};
 use im_log::Opening;
-use im_record::Record;
-use im_types::{Fault, FileId, Lsn, TxnId};
+use im_log_gate::Gate;
+use im_log_record::Record;
+use im_restart_analysis::Analysis;
 use std::alloc::Global;
 
 // The first gate of the log, which is made where there is none yet and the file of pages is empty.

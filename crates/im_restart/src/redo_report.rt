@@ -1,6 +1,6 @@
 //! What redo did in an opening.
 
-use im_types::Lsn;
+use im_base_types::Lsn;
 
 /// Where redo began, and how much of the log it applied.
 #[derive(Clone, Copy, Debug, PartialEq, Eq)]

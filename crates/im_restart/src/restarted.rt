@@ -1,8 +1,8 @@
 //! A store's log and pages behind an opening.
 
 use crate::redo_report::RedoReport;
-use im_flush::PageWriter;
-use im_types::TxnId;
+use im_base_types::TxnId;
+use im_page_writer::PageWriter;
 
 /// The log and the pages of a store, open behind its last record, the number of the next transaction, and what redo did.
 #[derive(Drop)]

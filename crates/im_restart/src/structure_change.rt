@@ -3,26 +3,26 @@
 ghost use Rattle.std.specs.Prelude.{◌≡◌, ◌≤◌, [], ◌∷◌, ℕ, true, false, length, Some, Ok, IfErr, OnOk};
 ghost use Rattle.std.specs.Ordering.{nat_cmp};
 ghost use Rattle.std.specs.BTreeMap.{Updates};
-ghost use Rattle.im_types.specs.declared.fault.Fault.TheVariants.{Memory, NotAStore};
-ghost use Rattle.im_types.specs.Histories.{Base, History};
-ghost use Rattle.im_types.specs.Structure.{open_smo};
-ghost use Rattle.im_types.specs.Transactions.{last_of};
-ghost use Rattle.im_types.specs.Writer.{Writer};
-ghost use Rattle.im_record.specs.Entry.{view, prev_of, transaction_of};
-ghost use Rattle.im_record.specs.Spelling.{IsEntry};
+ghost use Rattle.im_base_types.specs.declared.fault.Fault.TheVariants.{Memory, NotAStore};
+ghost use Rattle.im_theory_log.specs.Histories.{Base, History};
+ghost use Rattle.im_theory_log.specs.Structure.{open_smo};
+ghost use Rattle.im_theory_log.specs.Transactions.{last_of};
+ghost use Rattle.im_theory_log.specs.Writer.{Writer};
+ghost use Rattle.im_log_record.specs.Entry.{view, prev_of, transaction_of};
+ghost use Rattle.im_log_record.specs.Spelling.{IsEntry};
 ghost use Rattle.im_log.specs.Spelled.{logged_at};
-ghost use Rattle.im_analysis.specs.Losers.{AreLosers, is_loser};
-ghost use Rattle.im_analysis.specs.OpenChange.{IsOpenChange};
-ghost use Rattle.im_flush.specs.Outcome.{fault_of, mild};
-ghost use Rattle.im_flush.specs.PageWriter.{IsReadyWriter, StandsAs};
-ghost use Rattle.im_redo.specs.Recovery.{Recovers};
+ghost use Rattle.im_restart_analysis.specs.Losers.{AreLosers, is_loser};
+ghost use Rattle.im_restart_analysis.specs.OpenChange.{IsOpenChange};
+ghost use Rattle.im_page_writer.specs.Outcome.{fault_of, mild};
+ghost use Rattle.im_page_writer.specs.PageWriter.{IsReadyWriter, StandsAs};
+ghost use Rattle.im_restart_redo.specs.Recovery.{Recovers};
 ghost use Rattle.im_restart.specs.StructureChange.{ChangeKept, IsNewestAt, IsTakingBack, PageKept, TakeBackKept};
 
-use im_analysis::{Loser, OpenRecord};
-use im_disk::Disk;
-use im_flush::PageWriter;
-use im_record::{Record, decode};
-use im_types::{Fault, Lsn, TxnId};
+use im_base_disk::Disk;
+use im_base_types::{Fault, Lsn, TxnId};
+use im_log_record::{Record, decode};
+use im_page_writer::PageWriter;
+use im_restart_analysis::{Loser, OpenRecord};
 use std::collections::BTreeMap;
 
 // Logs the undo of one page of a structure change behind its transaction's last record, and makes the page what it was. It answers
@@ -89,7 +89,7 @@ fn note_row(
 }
 
 // Takes back one page, whose record this is.
-#[tactic(auto, using(im_redo::proofs::Recoveries::recovers_then, im_redo::proofs::Recoveries::recovery_refused))]
+#[tactic(auto, using(im_restart_redo::proofs::Recoveries::recovers_then, im_restart_redo::proofs::Recoveries::recovery_refused))]
 fn undo_page<D: Disk>(
     disk: &mut D,
     writer: &mut PageWriter,
@@ -135,7 +135,7 @@ fn undo_page_at<D: Disk>(
 
 /// Takes back the structure change that was open, whose records these are, the newest page first, and leaves its transaction's row in
 /// the table of the losers as that leaves it.
-#[tactic(auto, using(im_redo::proofs::Recoveries::recovers_then, im_redo::proofs::Recoveries::recovery_refused))]
+#[tactic(auto, using(im_restart_redo::proofs::Recoveries::recovers_then, im_restart_redo::proofs::Recoveries::recovery_refused))]
 pub(crate) fn undo_change<D: Disk>(
     disk: &mut D,
     writer: &mut PageWriter,

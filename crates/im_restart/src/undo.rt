@@ -3,30 +3,30 @@
 ghost use Rattle.std.specs.Prelude.{◌≡◌, [], ◌∷◌, ◌++◌, ◌≢◌, ◌≤◌, ◌<◌, ◌⊎◌, ◌↔◌, ℕ, Bool, true, false, length, Option, None, Some, Ok, Err, IfErr, IfOk, IfSome, IsSome, OnOk};
 ghost use Rattle.std.specs.Ordering.{nat_cmp};
 ghost use Rattle.std.specs.BTreeMap.{Updates, btree_map_len, get};
-ghost use Rattle.im_types.specs.declared.fault.Fault.TheVariants.{Failed, LogFull, Memory, NotAStore};
-ghost use Rattle.im_types.specs.Histories.{Base, History, IsRecordOf, Rises};
-ghost use Rattle.im_types.specs.Transactions.{is_key};
-ghost use Rattle.im_types.specs.Writer.{Writer};
-ghost use Rattle.im_record.specs.Entry.{view, prev_of, transaction_of, undo_next_of};
-ghost use Rattle.im_record.specs.Spelling.{IsEntry};
+ghost use Rattle.im_base_types.specs.declared.fault.Fault.TheVariants.{Failed, LogFull, Memory, NotAStore};
+ghost use Rattle.im_theory_log.specs.Histories.{Base, History, IsRecordOf, Rises};
+ghost use Rattle.im_theory_log.specs.Transactions.{is_key};
+ghost use Rattle.im_theory_log.specs.Writer.{Writer};
+ghost use Rattle.im_log_record.specs.Entry.{view, prev_of, transaction_of, undo_next_of};
+ghost use Rattle.im_log_record.specs.Spelling.{IsEntry};
 ghost use Rattle.im_log.specs.Whats.{what_of};
 ghost use Rattle.im_log.specs.Spelled.{logged_at};
-ghost use Rattle.im_analysis.specs.Losers.{AreLosers};
-ghost use Rattle.im_alloc.specs.Kept.{mild_to_take};
-ghost use Rattle.im_flush.specs.Outcome.{fault_of, mild};
-ghost use Rattle.im_flush.specs.PageWriter.{IsReadyWriter, StandsAs};
-ghost use Rattle.im_redo.specs.Recovery.{Recovers};
+ghost use Rattle.im_restart_analysis.specs.Losers.{AreLosers};
+ghost use Rattle.im_smo_alloc.specs.Kept.{mild_to_take};
+ghost use Rattle.im_page_writer.specs.Outcome.{fault_of, mild};
+ghost use Rattle.im_page_writer.specs.PageWriter.{IsReadyWriter, StandsAs};
+ghost use Rattle.im_restart_redo.specs.Recovery.{Recovers};
 ghost use Rattle.im_restart.specs.UndoOrder.{IsLatest};
 ghost use Rattle.im_restart.specs.LoserChains.{AreChains, GoesOnAt, IsToUndo, LeadsNowhere, MayLeadOn, PutKept, above, and_also, nobody};
 ghost use Rattle.im_restart.specs.Undoing.{CompensateKept, EndKept, IsUndoing, EnterKept, StepKept, UndoKept};
 
 use crate::chains::Chain;
-use im_analysis::Loser;
-use im_disk::Disk;
-use im_flush::PageWriter;
-use im_record::{Record, decode};
-use im_types::{Fault, Lsn, TxnId};
-use im_undo::undo_one;
+use im_base_disk::Disk;
+use im_base_types::{Fault, Lsn, TxnId};
+use im_log_record::{Record, decode};
+use im_page_writer::PageWriter;
+use im_restart_analysis::Loser;
+use im_restart_undo::undo_one;
 use std::alloc::Global;
 use std::collections::BTreeMap;
 
@@ -173,7 +173,7 @@ fn is_key(record: &Record) -> bool
 }
 
 // Takes back a key record, and goes on behind it.
-#[tactic(auto, using(im_redo::proofs::Recoveries::recovers_then, im_redo::proofs::Recoveries::recovery_refused))]
+#[tactic(auto, using(im_restart_redo::proofs::Recoveries::recovers_then, im_restart_redo::proofs::Recoveries::recovery_refused))]
 fn undo_key<D: Disk>(
     alloc: Global,
     disk: &mut D,
@@ -274,7 +274,7 @@ fn take_last(chains: &mut BTreeMap<Lsn, Chain>) -> Option<(Lsn, Chain)>
 }
 
 // Undoes and ends the transactions of these chains, the record with the greatest LSN first.
-#[tactic(auto, using(im_redo::proofs::Recoveries::recovers_then, im_redo::proofs::Recoveries::recovery_refused))]
+#[tactic(auto, using(im_restart_redo::proofs::Recoveries::recovers_then, im_restart_redo::proofs::Recoveries::recovery_refused))]
 fn undo_all<D: Disk>(
     alloc: Global,
     disk: &mut D,
@@ -297,7 +297,7 @@ fn undo_all<D: Disk>(
 }
 
 // Puts each loser at the LSN where its undo goes on; those of which nothing is left end.
-#[tactic(auto, using(im_redo::proofs::Recoveries::recovers_then, im_redo::proofs::Recoveries::recovery_refused))]
+#[tactic(auto, using(im_restart_redo::proofs::Recoveries::recovers_then, im_restart_redo::proofs::Recoveries::recovery_refused))]
 fn enter_all<D: Disk>(
     disk: &mut D,
     writer: &mut PageWriter,
@@ -327,7 +327,7 @@ fn enter_all<D: Disk>(
 ///
 /// Refused `NotAStore` where a chain of records leads to no earlier record of its transaction that can be undone, or the tree does not
 /// take a compensation; `Capacity` where page numbers or levels are used up by splits on the way; `Memory`, `LogFull`, `Device`.
-#[tactic(auto, using(im_redo::proofs::Recoveries::recovers_then, im_redo::proofs::Recoveries::recovery_refused))]
+#[tactic(auto, using(im_restart_redo::proofs::Recoveries::recovers_then, im_restart_redo::proofs::Recoveries::recovery_refused))]
 pub(crate) fn undo<D: Disk>(
     alloc: Global,
     disk: &mut D,

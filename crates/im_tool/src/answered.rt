@@ -1,12 +1,12 @@
 //! What a store answers to lines, on the model disk and in a folder.
 
 ghost use Rattle.std.specs.Prelude.{◌≡◌, false};
-ghost use Rattle.im_disk.specs.Runs.{IsSynced};
+ghost use Rattle.im_base_disk.specs.Runs.{IsSynced};
 
 use crate::{Manner, RedoBound, StoreEnd, store_text};
-use im_disk::{Disk, FileDisk, ModelDisk};
+use im_base_disk::{Disk, FileDisk, ModelDisk};
+use im_base_types::Fault;
 use im_engine::Config;
-use im_types::Fault;
 use std::alloc::Global;
 use std::io::BufReader;
 use std::test::Fail;

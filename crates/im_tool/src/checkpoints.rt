@@ -1,10 +1,10 @@
 //! Checkpoints of an open store, which are taken so that its next opening has little to redo.
 
 use crate::redo_bound::{RedoBound, is_closed};
-use im_disk::Disk;
+use im_base_disk::Disk;
+use im_base_types::Lsn;
 use im_engine::Engine;
 use im_front::{Fault, Reply, Step};
-use im_types::Lsn;
 
 /// How many pages may lack changes in their file at once.
 const MOST_PAGES: usize = 1_024;

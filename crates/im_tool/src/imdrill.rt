@@ -4,8 +4,8 @@ ghost use Rattle.std.specs.Prelude.{◌≤◌, IfOk};
 
 use crate::reason::{reason_of, refused_line};
 use clap::{Arg, ArgAction, ArgMatches, Command, Error};
-use im_drill::drill_text;
-use im_every::every_text;
+use im_tool_drill::drill_text;
+use im_tool_every::every_text;
 use std::alloc::{AllocError, Global};
 use std::io::{BufWriter, ErrorKind, IsTerminal, Read, Write};
 use std::{fs, io};

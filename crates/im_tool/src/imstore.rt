@@ -6,7 +6,7 @@ use crate::imdrill::status_of;
 use crate::options::{Options, Task, parse_options};
 use crate::store::{Manner, StoreEnd, print_refused_opening, store_text};
 use crate::tasks::{load_program, look_program};
-use im_disk::{FileDisk, ModelDisk, OpenError};
+use im_base_disk::{FileDisk, ModelDisk, OpenError};
 use std::alloc::AllocError;
 use std::fmt::Display;
 use std::io;

@@ -1,6 +1,6 @@
 //! Keys as users type them: text, text in quotation marks, or hexadecimal digits.
 
-use im_types::Fault;
+use im_base_types::Fault;
 use std::alloc::Global;
 use std::io;
 use std::io::Write;

@@ -1,13 +1,13 @@
 //! The programs of the store, as functions of their words and of the runtime.
 //!
 //! `drill_program` is all of `imdrill` but its `main`: it reads the words of the command line, finds the script, has it run by
-//! `im_drill`, and answers the exit status, 2 at most. `store_program` is all of `imstore`: it opens the folder that its words name, or an
+//! `im_tool_drill`, and answers the exit status, 2 at most. `store_program` is all of `imstore`: it opens the folder that its words name, or an
 //! empty model disk, and hands the disk on to `store_text`, which opens the store of any disk, makes the steps that a
 //! reader's lines ask for, and has written and flushed all replies before it waits for a line. Checkpoints are taken behind the steps as a
 //! `RedoBound` wants them, and one behind the last line, so that the next opening has little to redo, or nothing. What goes to which
 //! stream is tested, by stored outputs word for word among other tests, and stands in no clause.
 //!
-//! It stands on `im_drill` for scripts, on `im_words` for the lines of steps and the words of replies, on the engine, and on `clap` for command
+//! It stands on `im_tool_drill` for scripts, on `im_tool_words` for the lines of steps and the words of replies, on the engine, and on `clap` for command
 //! lines.
 #![tactic(auto)]
 

@@ -3,7 +3,7 @@
 use crate::RedoBound;
 use crate::progress::Progress;
 use crate::transfer::{Loaded, load_text};
-use im_disk::ModelDisk;
+use im_base_disk::ModelDisk;
 use im_engine::Config;
 use std::alloc::Global;
 use std::io;

@@ -1,13 +1,13 @@
 //! The bytes of a log, as its batches and records.
 
 use crate::log_damage::LogDamage;
-use im_analysis::{Analysed, Analysis};
-use im_record::{Record, decode_front};
-use im_types::{Fault, PageNo, TxnId};
+use im_base_types::{Fault, PageNo, TxnId};
+use im_log_record::{Record, decode_front};
+use im_restart_analysis::{Analysed, Analysis};
 use std::alloc::Global;
 
 /// The place of the first gate.
-const FIRST_GATE: usize = im_gate::FIRST_GATE as usize;
+const FIRST_GATE: usize = im_log_gate::FIRST_GATE as usize;
 
 /// The least number of a transaction.
 const LEAST_NUMBER: TxnId = 1;

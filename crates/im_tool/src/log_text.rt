@@ -3,7 +3,7 @@
 use crate::key_notation::write_key;
 use crate::log_bytes::{first_gate, is_made, next_gate, open_batch};
 use crate::log_damage::LogDamage;
-use im_record::{Kind, Record, decode_front};
+use im_log_record::{Kind, Record, decode_front};
 use std::alloc::Global;
 use std::io;
 use std::io::Write;

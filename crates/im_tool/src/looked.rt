@@ -4,7 +4,7 @@ use crate::log_bytes::{first_gate, next_gate, open_batch};
 use crate::look::{check_text, stat_text};
 use crate::recovered::{Copies, copies_of};
 use crate::{Manner, RedoBound, store_text};
-use im_disk::FileDisk;
+use im_base_disk::FileDisk;
 use im_engine::Config;
 use std::alloc::Global;
 use std::io::{BufReader, Write};

@@ -2,10 +2,10 @@
 
 ghost use Rattle.std.specs.Prelude.{◌≡◌, false, OnOk};
 
-use im_disk::{Disk, ModelDisk, read_vec};
+use im_base_disk::{Disk, ModelDisk, read_vec};
+use im_base_types::{Fault, FileId, Key, PageNo, Rid};
 use im_engine::{Config, Engine};
 use im_front::{Reply, Step};
-use im_types::{Fault, FileId, Key, PageNo, Rid};
 use std::alloc::Global;
 
 /// The bytes of both files.

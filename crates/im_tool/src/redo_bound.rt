@@ -3,7 +3,7 @@
 ghost use Rattle.std.specs.Prelude.{◌≡◌, ◌≤◌, ◌<◌, ◌*◌, ◌^◌, ◌↔◌, IsTrue};
 ghost use Rattle.im_tool.specs.RedoBound.{redo_length};
 
-use im_types::Lsn;
+use im_base_types::Lsn;
 
 /// What a write of a page may add to the log: its full copy, a record of 4,129 bytes, in a batch of its own.
 const COPY: u128 = 4_134;

@@ -3,7 +3,7 @@
 use crate::RedoBound;
 use crate::checkpoints::Checkpoints;
 use crate::redo_bound::is_closed;
-use im_disk::ModelDisk;
+use im_base_disk::ModelDisk;
 use im_engine::{Config, Engine};
 use im_front::{Reply, Step};
 use std::alloc::Global;
@@ -89,7 +89,7 @@ fn what_is_redone_stays_within_the_bound(rt: HostRuntime) -> Result<(), Fail> {
     let most = 131_072;
     let disk = ModelDisk::new(Vec::new(alloc), Vec::new(alloc));
     let Ok(mut engine) = Engine::open_or_create(alloc, disk, Config::default()) else {
-        return Err(Fail::from(im_types::Fault::Memory));
+        return Err(Fail::from(im_base_types::Fault::Memory));
     };
     let mut checkpoints = Checkpoints::of(&engine, RedoBound::of_bytes(most));
     for n in 0..90u64 {

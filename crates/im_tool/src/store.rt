@@ -1,18 +1,18 @@
 //! A store over a stream of lines.
 
 ghost use Rattle.std.specs.Prelude.{◌≡◌, ◌≤◌, false, IfOk};
-ghost use Rattle.im_disk.specs.Runs.{IsSynced};
+ghost use Rattle.im_base_disk.specs.Runs.{IsSynced};
 
 use crate::checkpoints::Checkpoints;
 use crate::key_notation::write_key;
 use crate::line_input::{LineInput, without_newline};
 use crate::redo_bound::RedoBound;
 use crate::words_step::words_step;
-use im_disk::Disk;
+use im_base_disk::Disk;
+use im_base_types::{Fault, Key, Rid};
 use im_engine::{Config, Engine};
 use im_front::{Reply, Step};
-use im_types::{Fault, Key, Rid};
-use im_words::{entries_text, reply_text, report_text, step_line};
+use im_tool_words::{entries_text, reply_text, report_text, step_line};
 use std::alloc::{AllocError, Global};
 use std::fmt::Display;
 use std::io;

@@ -1,7 +1,7 @@
 //! Entries as text, out of a store and into one.
 
 ghost use Rattle.std.specs.Prelude.{◌≡◌, false};
-ghost use Rattle.im_disk.specs.Runs.{IsSynced};
+ghost use Rattle.im_base_disk.specs.Runs.{IsSynced};
 
 use crate::checkpoints::Checkpoints;
 use crate::key_notation::noted_key;
@@ -9,10 +9,10 @@ use crate::line_input::{LineInput, without_newline};
 use crate::progress::Progress;
 use crate::redo_bound::RedoBound;
 use crate::store::print_keys;
-use im_disk::Disk;
+use im_base_disk::Disk;
+use im_base_types::{Fault, Key, Rid, TxnId};
 use im_engine::{Config, Engine};
 use im_front::{Reply, Step};
-use im_types::{Fault, Key, Rid, TxnId};
 use std::alloc::Global;
 use std::io;
 use std::io::Write;

@@ -1,8 +1,8 @@
 //! The tree and the free list of a store, page by page.
 
 use crate::tree_damage::TreeDamage;
+use im_base_types::{Fault, Key, PageKind, PageNo, compare};
 use im_page::Page;
-use im_types::{Fault, Key, PageKind, PageNo, compare};
 use std::alloc::Global;
 use std::cmp::Ordering;
 

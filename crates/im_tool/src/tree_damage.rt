@@ -1,6 +1,6 @@
 //! What is broken in the pages of a store.
 
-use im_types::PageNo;
+use im_base_types::PageNo;
 use thiserror::Error;
 
 /// A rule of the tree or of the free list that does not hold, and the page where it does not.

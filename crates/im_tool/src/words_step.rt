@@ -3,9 +3,9 @@
 ghost use Rattle.std.specs.Prelude.{◌≤◌, length, IfSome};
 
 use crate::key_notation::noted_key;
+use im_base_types::Fault;
 use im_front::Step;
-use im_types::Fault;
-use im_words::step_line;
+use im_tool_words::step_line;
 use std::alloc::Global;
 
 /// The step that a line asks for: a line of the grammar of steps, or one of them with `x'6100'` or `"a b"` for a key.

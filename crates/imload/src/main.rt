@@ -9,7 +9,7 @@ mod tests;
 use crate::progress::Progress;
 use clap::error::ErrorKind;
 use im_front::LoadArgs;
-use im_load::{load_args, load_text};
+use im_front_load::{load_args, load_text};
 use std::alloc::AllocError;
 use std::process::ExitCode;
 use std::time::Instant;

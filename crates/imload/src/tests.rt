@@ -3,8 +3,8 @@
 ghost use Rattle.std.specs.Prelude.{◌≡◌};
 
 use im_front::{Closed, Fault, Front, LoadArgs, Reply, Share, Stats, Step, Store, Turn};
-use im_load::load_text;
-use im_memory::MemoryStore;
+use im_front_load::load_text;
+use im_front_memory::MemoryStore;
 use std::alloc::Global;
 use std::marker::Brand;
 use std::sync::Wait;

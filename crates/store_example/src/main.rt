@@ -3,7 +3,7 @@
 
 mod threads;
 
-use im_disk::FileDisk;
+use im_base_disk::FileDisk;
 use im_engine::{Config, Engine};
 use im_front::{Reply, Step};
 use std::fs;

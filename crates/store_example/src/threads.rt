@@ -4,10 +4,10 @@
 ghost use Rattle.std.specs.Prelude.{◌≡◌, IfOk};
 ghost use Rattle.im_front.specs.Held.{IsResting};
 
-use im_disk::FileDisk;
+use im_base_disk::FileDisk;
+use im_base_types::TxnId;
 use im_engine::{Config, Engine};
 use im_front::{Closed, Fault, Front, Reply, Share, Stats, Step, Store};
-use im_types::TxnId;
 use std::alloc::Global;
 use std::fs;
 use std::sync::Wait;

@@ -16,7 +16,7 @@ use crate::damage::damaged::{Damaged, Outcomes, is_in_page_number, judged, page_
 use crate::damage::disk::Files;
 use crate::damage::store::founded;
 use anyhow::Result;
-use im_types::FileId;
+use im_base_types::FileId;
 
 /// Which bytes of a file are damaged in turn.
 #[derive(Clone, Copy)]

@@ -27,10 +27,10 @@ use crate::long::parts::{
 use crate::long::stops::{Doubt, Life, founded, losing, stopped_at_each};
 use crate::long::tally::Tally;
 use anyhow::Result;
-use im_disk::{Disk, ModelDisk};
+use im_base_disk::{Disk, ModelDisk};
+use im_base_types::FileId;
 use im_engine::{Config, Engine};
 use im_front::{Reply, Step};
-use im_types::FileId;
 
 /// How many keys the store has.
 const KEYS: u64 = 10_000;

@@ -1,14 +1,14 @@
 //! The works that are timed.
 
 ghost use Rattle.std.specs.Prelude.{◌≡◌, ◌≤◌, false, IfOk, OnOk};
-ghost use Rattle.im_disk.specs.Runs.{IsSynced};
-ghost use Rattle.im_flush.specs.PageWriter.{IsReadyWriter};
+ghost use Rattle.im_base_disk.specs.Runs.{IsSynced};
+ghost use Rattle.im_page_writer.specs.PageWriter.{IsReadyWriter};
 
-use im_disk::Disk;
-use im_flush::PageWriter;
+use im_base_disk::Disk;
+use im_base_types::Fault;
 use im_log::open_or_create;
-use im_record::Record;
-use im_types::Fault;
+use im_log_record::Record;
+use im_page_writer::PageWriter;
 use std::alloc::Global;
 
 /// What is done again and again.

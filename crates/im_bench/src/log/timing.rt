@@ -1,14 +1,14 @@
 //! How long the works take.
 
 ghost use Rattle.std.specs.Prelude.{◌≡◌, false, OnOk};
-ghost use Rattle.im_disk.specs.Runs.{IsSynced};
+ghost use Rattle.im_base_disk.specs.Runs.{IsSynced};
 ghost use Rattle.im_log.specs.LogFile.{IsOpen};
 
 use crate::log::work::{
     BATCH, append_many, copy_by_hand, force_many, put_by_hand, read_many, scan_all,
 };
 use anyhow::Result;
-use im_disk::{Disk, ModelDisk};
+use im_base_disk::{Disk, ModelDisk};
 use im_log::{LogFile, open_or_create};
 use std::time::Instant;
 

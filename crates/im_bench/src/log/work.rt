@@ -1,14 +1,14 @@
 //! The works that are timed.
 
 ghost use Rattle.std.specs.Prelude.{◌≡◌, ◌≤◌, false, length, OnOk};
-ghost use Rattle.im_disk.specs.Runs.{IsSynced};
+ghost use Rattle.im_base_disk.specs.Runs.{IsSynced};
 ghost use Rattle.im_log.specs.LogFile.{IsOpen};
 
-use im_disk::Disk;
-use im_gate::FIRST_GATE;
+use im_base_disk::Disk;
+use im_base_types::{Fault, FileId, Lsn};
 use im_log::{LogFile, open_or_create};
-use im_record::Record;
-use im_types::{Fault, FileId, Lsn};
+use im_log_gate::FIRST_GATE;
+use im_log_record::Record;
 use std::alloc::Global;
 
 /// The bytes of one record.

@@ -2,7 +2,7 @@
 
 ghost use Rattle.im_page.specs.Page.{HoldsEntries};
 ghost use Rattle.std.specs.Prelude.{◌≡◌};
-ghost use Rattle.im_types.specs.declared.page_kind.PageKind.TheVariants.{Leaf};
+ghost use Rattle.im_base_types.specs.declared.page_kind.PageKind.TheVariants.{Leaf};
 
 use crate::page::numbers::Numbers;
 use im_page::Page;

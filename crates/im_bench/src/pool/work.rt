@@ -2,10 +2,10 @@
 
 ghost use Rattle.std.specs.Prelude.{◌≡◌, false, IfOk};
 
-use im_disk::Disk;
+use im_base_disk::Disk;
+use im_base_types::Fault;
 use im_page::Page;
-use im_pool::Pool;
-use im_types::Fault;
+use im_page_pool::Pool;
 use std::alloc::Global;
 use std::collections::HashMap;
 

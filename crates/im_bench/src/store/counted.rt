@@ -2,8 +2,8 @@
 
 ghost use Rattle.std.specs.Prelude.{◌≡◌, false};
 
-use im_disk::Disk;
-use im_types::{Fault, FileId};
+use im_base_disk::Disk;
+use im_base_types::{Fault, FileId};
 
 /// How often a disk was called, each kind by itself, and how many bytes of log were written.
 #[derive(Clone, Copy, Debug, Default, PartialEq, Eq)]

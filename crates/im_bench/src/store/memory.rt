@@ -2,8 +2,8 @@
 
 ghost use Rattle.std.specs.Prelude.{◌≡◌, [], false};
 
-use im_disk::Disk;
-use im_types::{Fault, FileId};
+use im_base_disk::Disk;
+use im_base_types::{Fault, FileId};
 use std::alloc::{AllocError, Global};
 
 /// Two files in memory, whose calls never fail but for want of memory. Nothing is told of their bytes.

@@ -1,15 +1,15 @@
 //! Look-ups of keys in a tree.
 
 ghost use Rattle.std.specs.Prelude.{◌≡◌, false, IfOk, OnOk};
-ghost use Rattle.im_disk.specs.Runs.{IsSynced};
-ghost use Rattle.im_flush.specs.PageWriter.{IsReadyWriter};
+ghost use Rattle.im_base_disk.specs.Runs.{IsSynced};
+ghost use Rattle.im_page_writer.specs.PageWriter.{IsReadyWriter};
 
 use crate::keys::{key_of, scattered};
-use im_disk::{Disk, ModelDisk, read_vec};
-use im_flush::PageWriter;
+use im_base_disk::{Disk, ModelDisk, read_vec};
+use im_base_types::{Fault, FileId};
 use im_log::open_or_create;
-use im_search::locate;
-use im_types::{Fault, FileId};
+use im_page_writer::PageWriter;
+use im_tree_search::locate;
 use std::alloc::Global;
 
 /// A disk with a new log, and these pages.

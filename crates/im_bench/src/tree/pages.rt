@@ -4,8 +4,8 @@ ghost use Rattle.std.specs.Prelude.{◌≡◌, ◌≤◌};
 ghost use Rattle.im_page.specs.Page.{HoldsEntries};
 
 use crate::keys::key_of;
+use im_base_types::{Fault, PageNo};
 use im_page::Page;
-use im_types::{Fault, PageNo};
 use std::alloc::Global;
 
 /// How many entries each leaf has: seven tenths of what it has room for.

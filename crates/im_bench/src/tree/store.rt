@@ -1,10 +1,10 @@
 //! Keys put into a store, looked up and dropped, by steps of its engine.
 
 use crate::keys::{key_of, scattered};
-use im_disk::Disk;
+use im_base_disk::Disk;
+use im_base_types::{Fault, TxnId};
 use im_engine::Engine;
 use im_front::{Reply, Step};
-use im_types::{Fault, TxnId};
 use std::alloc::Global;
 
 /// What is done with each key.

@@ -1,13 +1,13 @@
 //! What a row of the table lets its transaction do.
 
 ghost use Rattle.std.specs.Prelude.{◌≡◌, not, ◌&&◌};
-ghost use Rattle.im_types.specs.Refusals.{key_length};
-ghost use Rattle.im_lock.specs.Machine.{barred_to, barred_to_rollback, barred_to_continue, fits, or_else, fault_if};
-ghost use Rattle.im_steps.specs.Checks.{mark_at};
+ghost use Rattle.im_base_types.specs.Refusals.{key_length};
+ghost use Rattle.im_engine_lock.specs.Machine.{barred_to, barred_to_rollback, barred_to_continue, fits, or_else, fault_if};
+ghost use Rattle.im_theory_steps.specs.Checks.{mark_at};
 ghost use Rattle.im_engine.specs.Kept.{numbered};
 
+use im_engine_txn::{Mark, Transaction};
 use im_front::Fault;
-use im_txn::{Mark, Transaction};
 
 // What it refuses to an access, where its keys have their length or not.
 pub(crate) fn to_access(row: Option<Transaction>, fit: bool) -> Option<Fault>

@@ -2,8 +2,8 @@
 
 use crate::damage::disk::{BoundedDisk, Files};
 use crate::damage::store::{PAGES, are_committed, key_of, make, open};
+use im_base_types::{Fault, FileId};
 use im_front::Step;
-use im_types::{Fault, FileId};
 use std::alloc::Global;
 
 /// Which byte is damaged.
@@ -106,7 +106,7 @@ pub fn is_in_page_number(places: &[usize], at: usize) -> bool {
 }
 
 // Where the first batch's gate is.
-const FIRST_GATE: usize = im_gate::FIRST_GATE as usize;
+const FIRST_GATE: usize = im_log_gate::FIRST_GATE as usize;
 
 // Where a record has its page number.
 const PAGE_FIELD: usize = 29;

@@ -1,13 +1,13 @@
 //! The store whose files are damaged.
 
 ghost use Rattle.std.specs.Prelude.{◌≡◌, false};
-ghost use Rattle.im_disk.specs.Runs.{IsSynced};
+ghost use Rattle.im_base_disk.specs.Runs.{IsSynced};
 
 use crate::damage::disk::{BoundedDisk, Files};
-use im_disk::Disk;
+use im_base_disk::Disk;
+use im_base_types::{Fault, Key, Rid};
 use im_engine::{Config, Engine};
 use im_front::Step;
-use im_types::{Fault, Key, Rid};
 use std::alloc::Global;
 
 /// How many keys a first transaction inserts, and commits.

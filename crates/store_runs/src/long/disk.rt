@@ -2,8 +2,8 @@
 
 ghost use Rattle.std.specs.Prelude.{◌≡◌, [], false};
 
-use im_disk::Disk;
-use im_types::{Fault, FileId};
+use im_base_disk::Disk;
+use im_base_types::{Fault, FileId};
 use std::alloc::{AllocError, Global};
 
 /// How often a disk was called, each kind by itself.

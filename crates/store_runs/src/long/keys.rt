@@ -1,6 +1,6 @@
 //! Keys of 255 bytes, the longest that there are, and an order that leaps about among them.
 
-use im_types::Fault;
+use im_base_types::Fault;
 use std::alloc::Global;
 
 /// The key of a number below 100,000: its five digits, and then `z` up to 255 bytes. Keys rise as the numbers do.

@@ -2,10 +2,10 @@
 
 use crate::long::keys::{key_of, scattered};
 use crate::long::tally::Tally;
-use im_disk::Disk;
+use im_base_disk::Disk;
+use im_base_types::{Fault, PageKind, Rid, TxnId};
 use im_engine::Engine;
 use im_front::{Reply, Step};
-use im_types::{Fault, PageKind, Rid, TxnId};
 use std::alloc::Global;
 
 /// What is done with a key.

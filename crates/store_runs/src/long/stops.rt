@@ -5,16 +5,16 @@
 //! turn, and so is the opening that takes it back; behind each stop the next opening has to find just what was committed.
 
 ghost use Rattle.std.specs.Prelude.{◌≡◌, false, IfOk};
-ghost use Rattle.im_disk.specs.Runs.{IsSynced};
+ghost use Rattle.im_base_disk.specs.Runs.{IsSynced};
 
 use crate::long::parts::{
     Kinds, Order, Span, Work, begun, committed, listed, pages_by_kind, worked,
 };
 use crate::long::tally::Tally;
-use im_disk::{Disk, Fill, Length, ModelDisk, Stop};
+use im_base_disk::{Disk, Fill, Length, ModelDisk, Stop};
+use im_base_types::Fault;
 use im_engine::{Config, Engine};
 use im_front::Step;
-use im_types::Fault;
 use std::alloc::Global;
 
 /// The keys that are committed, in rising order: a tree of two levels, whose root is full.

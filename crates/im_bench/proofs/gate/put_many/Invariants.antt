@@ -1,4 +1,4 @@
-use Rattle.im_gate.specs.Gate.{IsReady}
+use Rattle.im_log_gate.specs.Gate.{IsReady}
 use Rattle.im_bench.proofs.gate.put_many.Given as goal
 
 abbrev pub invariant-loop-put : goal.invariant-loop-put

@@ -1,5 +1,5 @@
 use Rattle.std.specs.Prelude.{◌≡◌, length}
-use Rattle.im_gate.specs.Gate.{IsReading}
+use Rattle.im_log_gate.specs.Gate.{IsReading}
 use Rattle.im_bench.proofs.gate.read_to_end.Given as goal
 
 abbrev pub invariant-loop-count : goal.invariant-loop-count

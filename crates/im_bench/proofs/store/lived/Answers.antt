@@ -1,5 +1,5 @@
 use Rattle.std.proofs.Common.{sym, subst}
-use Rattle.im_disk.specs.Runs.{IsSynced}
+use Rattle.im_base_disk.specs.Runs.{IsSynced}
 use Rattle.im_bench.proofs.store.lived.Goals as goal
 
 pub open_or_create-requires-clause-synced : goal.open_or_create-requires-clause-synced

@@ -1,5 +1,5 @@
 use Rattle.std.proofs.Common.{[], inl, refl, arith}
-use Rattle.im_disk.specs.Disk.{both}
+use Rattle.im_base_disk.specs.Disk.{both}
 use Rattle.im_engine.proofs.Fresh.{fresh_stands}
 use Rattle.im_engine.proofs.LivedLives.{lives_in_turn}
 use Rattle.im_engine.proofs.laws.every_list_of_lives.Goals as goal

@@ -1,5 +1,5 @@
 use Rattle.std.proofs.Common.{Ok, Err, refl, sym, subst, ap, ◌∙◌}
-use Rattle.im_types.specs.Lives.{nothing_shown}
+use Rattle.im_base_types.specs.Lives.{nothing_shown}
 use Rattle.im_engine.specs.declared.engine.Engine.{Engine}
 use Rattle.im_engine.specs.Lived.{IsLived}
 use Rattle.im_engine.specs.Opening.{IsOpening}

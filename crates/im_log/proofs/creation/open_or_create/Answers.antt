@@ -1,13 +1,13 @@
 use Rattle.std.proofs.Common.{◌≡◌, ℕ, List, [], Option, IfSome, Ok, Some, inr, sym, ◌∙◌, ap, subst, rules}
-use Rattle.im_types.specs.declared.file_id.FileId.{FileId}
-use Rattle.im_types.specs.declared.file_id.FileId.TheVariants.{Log}
-use Rattle.im_types.specs.Records.{Logged}
-use Rattle.im_disk.specs.Disk.{Files, Stepped, InFile}
-use Rattle.im_disk.proofs.Runs.{reads_on}
-use Rattle.im_gate.specs.declared.gate.Gate.{Gate}
-use Rattle.im_gate.specs.Batches.{batches}
-use Rattle.im_gate.specs.Header.{base_of, first_gate, IsMade}
-use Rattle.im_gate.proofs.Starts.{blank_starts}
+use Rattle.im_base_types.specs.declared.file_id.FileId.{FileId}
+use Rattle.im_base_types.specs.declared.file_id.FileId.TheVariants.{Log}
+use Rattle.im_base_types.specs.Records.{Logged}
+use Rattle.im_base_disk.specs.Disk.{Files, Stepped, InFile}
+use Rattle.im_base_disk.proofs.Runs.{reads_on}
+use Rattle.im_log_gate.specs.declared.gate.Gate.{Gate}
+use Rattle.im_log_gate.specs.Batches.{batches}
+use Rattle.im_log_gate.specs.Header.{base_of, first_gate, IsMade}
+use Rattle.im_log_gate.proofs.Starts.{blank_starts}
 use Rattle.im_log.specs.Kept.{HasLog, IsLogOf}
 use Rattle.im_log.proofs.Creations.{made_has, unmade_none, unmade_starts, blank_has, reads_stops, creation_stops, store_opened, store_made, not_refused_so}
 use Rattle.im_log.proofs.Runs.{of_log}

@@ -1,10 +1,10 @@
 use Rattle.std.proofs.Common.{◌≡◌, [], ◌∷◌, Some, None, refl, sym, ◌∙◌, rules}
-use Rattle.im_disk.proofs.Runs.{reads_none, reads_then}
-use Rattle.im_types.specs.declared.file_id.FileId.TheVariants.{Log}
-use Rattle.im_gate.specs.Header.{base_of}
+use Rattle.im_base_disk.proofs.Runs.{reads_none, reads_then}
+use Rattle.im_base_types.specs.declared.file_id.FileId.TheVariants.{Log}
+use Rattle.im_log_gate.specs.Header.{base_of}
 use Rattle.im_log.specs.Spelled.{logged_at}
 use Rattle.im_log.proofs.Openings.{started, begun_start, none_kept, some_kept}
-use Rattle.im_record.specs.Entry.{view}
+use Rattle.im_log_record.specs.Entry.{view}
 use Rattle.im_log.proofs.Backward.{read_none, none_read, some_read, has_read}
 use Rattle.im_log.proofs.opening.open_log.Goals as goal
 

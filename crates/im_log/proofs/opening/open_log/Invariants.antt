@@ -1,9 +1,9 @@
 use Rattle.std.proofs.Common.{◌≡◌, ◌-◌, ◌^◌, ℕ, false, List}
-use Rattle.im_types.specs.declared.file_id.FileId.TheVariants.{Log}
-use Rattle.im_types.specs.Records.{Logged}
-use Rattle.im_disk.specs.Runs.{Reads}
-use Rattle.im_gate.specs.Gate.{base_at}
-use Rattle.im_gate.specs.Header.{base_of, IsMade}
+use Rattle.im_base_types.specs.declared.file_id.FileId.TheVariants.{Log}
+use Rattle.im_base_types.specs.Records.{Logged}
+use Rattle.im_base_disk.specs.Runs.{Reads}
+use Rattle.im_log_gate.specs.Gate.{base_at}
+use Rattle.im_log_gate.specs.Header.{base_of, IsMade}
 use Rattle.im_log.specs.Kept.{HasLog}
 use Rattle.im_log.specs.Opening.{IsBegun, IsOpening, HasRead, position_of}
 use Rattle.im_log.proofs.opening.open_log.Given as goal

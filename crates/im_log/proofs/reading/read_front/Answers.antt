@@ -1,7 +1,7 @@
 use Rattle.std.proofs.Common.{◌≡◌, ℕ, ◌∙◌, ap, arith, length, take, drop, length-drop}
 use Rattle.std.proofs.lemmas.List.{length-take-le, take_at}
-use Rattle.im_types.specs.declared.file_id.FileId.TheVariants.{Log}
-use Rattle.im_disk.specs.Disk.{Files}
+use Rattle.im_base_types.specs.declared.file_id.FileId.TheVariants.{Log}
+use Rattle.im_base_disk.specs.Disk.{Files}
 use Rattle.im_log.proofs.Places.{size_is}
 use Rattle.im_log.proofs.reading.read_front.Goals as goal
 use Rattle.im_log.proofs.reading.read_front.Goals.{then-size-lt4-via-then-size-lt4, then-size-lt4-via-else-size-lt4+then-size-gt-LONGEST, then-size-lt4-via-else-size-lt4+else-size-gt-LONGEST+then-size-end}

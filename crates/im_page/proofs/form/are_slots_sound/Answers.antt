@@ -1,6 +1,6 @@
 use Rattle.std.proofs.Common.{◌≡◌, ℕ, ◌+◌, ◌-◌, ◌<◌, List, true, arith, refl, ap, subst, sym, ◌∙◌}
 use Rattle.std.proofs.lemmas.Bool.{eqb-true, eq-eqb}
-use Rattle.im_types.specs.Keys.{IsBelow}
+use Rattle.im_base_types.specs.Keys.{IsBelow}
 use Rattle.im_page.specs.Form.{count_of, slot_at, key_from}
 use Rattle.im_page.specs.Sound.{is_taken, IsCell, IsTopOf, AreSound, total_of}
 use Rattle.im_page.proofs.SoundLemmas.{sound_more, flagged_more, total_more}

@@ -1,5 +1,5 @@
 use Rattle.std.proofs.Common.{◌≡◌, ℕ, ◌-◌, ◌<◌, List, length, slice_range, insert, sym, ap, ◌∙◌, arith}
-use Rattle.im_types.specs.Pages.{Entry}
+use Rattle.im_base_types.specs.Pages.{Entry}
 use Rattle.im_page.specs.Entry.{entry_at}
 use Rattle.im_page.specs.Form.{slot_at, entry_from, entries_of}
 use Rattle.im_page.proofs.EntryLemmas.{length-entries_of, entry_at-entries_of}

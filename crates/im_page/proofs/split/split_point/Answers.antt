@@ -1,5 +1,5 @@
 use Rattle.std.proofs.Common.{◌≡◌, List, take, ap, sym, ◌∙◌, arith}
-use Rattle.im_types.specs.Pages.{Entry}
+use Rattle.im_base_types.specs.Pages.{Entry}
 use Rattle.im_page.specs.Entry.{taken}
 use Rattle.im_page.specs.Form.{cell_size, entries_of}
 use Rattle.im_page.proofs.EntryLemmas.{length-entries_of}

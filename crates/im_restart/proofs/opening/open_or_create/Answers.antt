@@ -1,10 +1,10 @@
 use Rattle.std.proofs.Common.{rules, ◌≢◌, refl, inl}
-use Rattle.im_types.specs.declared.fault.Fault.TheVariants.{NotAStore}
-use Rattle.im_types.specs.declared.file_id.FileId.TheVariants.{Log, Pages}
-use Rattle.im_flush.proofs.LoggedChanges.{err_on}
-use Rattle.im_flush.proofs.Outcomes.{sound_also, sound_on}
-use Rattle.im_tree.specs.Theory.{page_tree}
-use Rattle.im_tree.proofs.TheoryLaws.{page_tree_laws}
+use Rattle.im_base_types.specs.declared.fault.Fault.TheVariants.{NotAStore}
+use Rattle.im_base_types.specs.declared.file_id.FileId.TheVariants.{Log, Pages}
+use Rattle.im_page_writer.proofs.LoggedChanges.{err_on}
+use Rattle.im_page_writer.proofs.Outcomes.{sound_also, sound_on}
+use Rattle.im_theory_tree.specs.Theory.{page_tree}
+use Rattle.im_theory_tree.proofs.TheoryLaws.{page_tree_laws}
 use Rattle.im_restart.proofs.Ends.{opens_read, opens_refused}
 use Rattle.im_restart.proofs.Openings.{holds_if_ok, lawful_taken}
 use Rattle.im_restart.proofs.Restarts.{left_opening, may_behind, opened_behind, pages_synced, redo_behind}

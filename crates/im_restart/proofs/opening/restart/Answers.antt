@@ -1,13 +1,13 @@
 use Rattle.std.proofs.Common.{◌≡◌, ◌≢◌, ◌≤◌, sym, ◌∙◌, subst}
-use Rattle.im_types.specs.declared.fault.Fault.TheVariants.{Memory, NotAStore}
-use Rattle.im_types.specs.declared.file_id.FileId.TheVariants.{Log}
-use Rattle.im_gate.specs.Header.{least_number}
-use Rattle.im_analysis.specs.Numbers.{IsNextNumber}
-use Rattle.im_types.proofs.Fronts.{rises}
-use Rattle.im_flush.proofs.LoggedChanges.{err_on}
-use Rattle.im_flush.proofs.Outcomes.{sound_on}
-use Rattle.im_flush.proofs.Restarting.{frames_opened}
-use Rattle.im_tree.specs.Theory.{page_tree}
+use Rattle.im_base_types.specs.declared.fault.Fault.TheVariants.{Memory, NotAStore}
+use Rattle.im_base_types.specs.declared.file_id.FileId.TheVariants.{Log}
+use Rattle.im_log_gate.specs.Header.{least_number}
+use Rattle.im_restart_analysis.specs.Numbers.{IsNextNumber}
+use Rattle.im_theory_log.proofs.Fronts.{rises}
+use Rattle.im_page_writer.proofs.LoggedChanges.{err_on}
+use Rattle.im_page_writer.proofs.Outcomes.{sound_on}
+use Rattle.im_page_writer.proofs.Restarting.{frames_opened}
+use Rattle.im_theory_tree.specs.Theory.{page_tree}
 use Rattle.im_restart.proofs.Ends.{alive_log, opens_refused, opens_settled, opens_without}
 use Rattle.im_restart.proofs.Restarts.{left_unmoved, log_synced, next_least, writer_starts}
 use Rattle.im_restart.proofs.opening.restart.Goals as goal

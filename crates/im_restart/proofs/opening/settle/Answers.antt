@@ -1,16 +1,16 @@
 use Rattle.std.proofs.Common.{◌≢◌, sym, ◌∙◌, ap, subst}
-use Rattle.im_types.specs.declared.fault.Fault.TheVariants.{NotAStore}
-use Rattle.im_types.specs.declared.file_id.FileId.TheVariants.{Pages}
+use Rattle.im_base_types.specs.declared.fault.Fault.TheVariants.{NotAStore}
+use Rattle.im_base_types.specs.declared.file_id.FileId.TheVariants.{Pages}
 use Rattle.im_page.specs.PageFile.{file_page}
-use Rattle.im_analysis.specs.CopyLsns.{AreCopies}
-use Rattle.im_analysis.specs.OpenChange.{oldest_first}
-use Rattle.im_redo.specs.Redo.{lsns_from}
-use Rattle.im_redo.proofs.Applicable.{lawful_is_applicable}
-use Rattle.im_flush.proofs.LoggedChanges.{err_on}
-use Rattle.im_flush.proofs.Outcomes.{sound_on}
-use Rattle.im_redo.proofs.Recoveries.{logs_recover, never_none, recovers_more, recovers_then, recovery_refused}
-use Rattle.im_tree.specs.Theory.{page_tree}
-use Rattle.im_tree.proofs.TheoryLaws.{page_tree_laws}
+use Rattle.im_restart_analysis.specs.CopyLsns.{AreCopies}
+use Rattle.im_restart_analysis.specs.OpenChange.{oldest_first}
+use Rattle.im_restart_redo.specs.Redo.{lsns_from}
+use Rattle.im_restart_redo.proofs.Applicable.{lawful_is_applicable}
+use Rattle.im_page_writer.proofs.LoggedChanges.{err_on}
+use Rattle.im_page_writer.proofs.Outcomes.{sound_on}
+use Rattle.im_restart_redo.proofs.Recoveries.{logs_recover, never_none, recovers_more, recovers_then, recovery_refused}
+use Rattle.im_theory_tree.specs.Theory.{page_tree}
+use Rattle.im_theory_tree.proofs.TheoryLaws.{page_tree_laws}
 use Rattle.im_restart.proofs.Ends.{take_mild, take_none}
 use Rattle.im_restart.proofs.Leaves.{on_leaves}
 use Rattle.im_restart.proofs.Losers.{losers_none}

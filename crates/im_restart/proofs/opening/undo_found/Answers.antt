@@ -1,7 +1,7 @@
 use Rattle.std.proofs.Common.{◌∙◌, ap}
-use Rattle.im_flush.proofs.Outcomes.{sound_on}
-use Rattle.im_redo.proofs.Recoveries.{recovers_more, recovery_refused}
-use Rattle.im_analysis.specs.Losers.{LoserMap}
+use Rattle.im_page_writer.proofs.Outcomes.{sound_on}
+use Rattle.im_restart_redo.proofs.Recoveries.{recovers_more, recovery_refused}
+use Rattle.im_restart_analysis.specs.Losers.{LoserMap}
 use Rattle.im_restart.proofs.Ends.{take_mild}
 use Rattle.im_restart.proofs.OpenChanges.{change_over}
 use Rattle.im_restart.proofs.Undos.{undo_behind}

@@ -1,8 +1,8 @@
 use Rattle.std.proofs.Common.{rules, Ok, Option, IfSome, ap, sym, subst}
-use Rattle.im_types.specs.declared.file_id.FileId.TheVariants.{Log}
-use Rattle.im_disk.specs.Disk.{Files}
-use Rattle.im_gate.specs.declared.gate.Gate.{Gate}
-use Rattle.im_gate.specs.Gate.{StartsAs}
+use Rattle.im_base_types.specs.declared.file_id.FileId.TheVariants.{Log}
+use Rattle.im_base_disk.specs.Disk.{Files}
+use Rattle.im_log_gate.specs.declared.gate.Gate.{Gate}
+use Rattle.im_log_gate.specs.Gate.{StartsAs}
 use Rattle.im_log.proofs.Creations.{unmade_none, unmade_starts, reads_stops, creation_stops}
 use Rattle.im_restart.proofs.Openings.{created, created_alike, same_alike}
 use Rattle.im_restart.proofs.reading.first_gate.Goals as goal

@@ -1,9 +1,9 @@
 use Rattle.std.proofs.Common.{rules, ◌≡◌, ◌≢◌, refl, sym, ◌∙◌, subst}
-use Rattle.im_types.specs.declared.fault.Fault.TheVariants.{Memory, NotAStore}
-use Rattle.im_types.specs.declared.file_id.FileId.TheVariants.{Log}
-use Rattle.im_disk.specs.Disk.{Files}
-use Rattle.im_gate.specs.Header.{base_of, StartsAlike}
-use Rattle.im_disk.proofs.Runs.{reads_on, reads_then}
+use Rattle.im_base_types.specs.declared.fault.Fault.TheVariants.{Memory, NotAStore}
+use Rattle.im_base_types.specs.declared.file_id.FileId.TheVariants.{Log}
+use Rattle.im_base_disk.specs.Disk.{Files}
+use Rattle.im_log_gate.specs.Header.{base_of, StartsAlike}
+use Rattle.im_base_disk.proofs.Runs.{reads_on, reads_then}
 use Rattle.im_log.proofs.Backward.{read_none}
 use Rattle.im_log.proofs.Openings.{begun_start, started}
 use Rattle.im_restart.proofs.Openings.{holds_if_ok, spelled_so}

@@ -1,16 +1,16 @@
 use Rattle.std.proofs.Common.{rules, ◌≡◌, ◌≢◌, ◌≤◌, ℕ, ◌∷◌, List, None, Some, sym, ap, ◌∙◌, subst}
-use Rattle.im_types.specs.declared.fault.Fault.TheVariants.{Device, NotAStore}
-use Rattle.im_types.specs.declared.file_id.FileId.TheVariants.{Log}
-use Rattle.im_types.specs.Histories.{History}
-use Rattle.im_disk.specs.Disk.{Files}
-use Rattle.im_disk.proofs.Runs.{reads_then}
-use Rattle.im_record.specs.Entry.{view}
+use Rattle.im_base_types.specs.declared.fault.Fault.TheVariants.{Device, NotAStore}
+use Rattle.im_base_types.specs.declared.file_id.FileId.TheVariants.{Log}
+use Rattle.im_theory_log.specs.Histories.{History}
+use Rattle.im_base_disk.specs.Disk.{Files}
+use Rattle.im_base_disk.proofs.Runs.{reads_then}
+use Rattle.im_log_record.specs.Entry.{view}
 use Rattle.im_log.specs.Spelled.{logged_at}
 use Rattle.im_log.proofs.Backward.{has_read, none_read, some_read}
 use Rattle.im_log.proofs.Openings.{none_kept, some_kept}
-use Rattle.im_gate.specs.Header.{least_number}
-use Rattle.im_analysis.specs.Analysis.{IsAnalysed, IsAnalysis}
-use Rattle.im_redo.specs.Redo.{lsns_from}
+use Rattle.im_log_gate.specs.Header.{least_number}
+use Rattle.im_restart_analysis.specs.Analysis.{IsAnalysed, IsAnalysis}
+use Rattle.im_restart_redo.specs.Redo.{lsns_from}
 use Rattle.im_restart.proofs.Openings.{next_read, same_entry}
 use Rattle.im_restart.proofs.reading.read_all.Goals as goal
 

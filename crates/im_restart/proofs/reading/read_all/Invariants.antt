@@ -1,12 +1,12 @@
 use Rattle.std.proofs.Common.{◌≡◌, ◌-◌, ◌≤◌, ◌^◌, ℕ, false, []}
-use Rattle.im_types.specs.declared.file_id.FileId.TheVariants.{Log}
-use Rattle.im_types.specs.Histories.{History}
-use Rattle.im_disk.specs.Runs.{Reads}
+use Rattle.im_base_types.specs.declared.file_id.FileId.TheVariants.{Log}
+use Rattle.im_theory_log.specs.Histories.{History}
+use Rattle.im_base_disk.specs.Runs.{Reads}
 use Rattle.im_log.specs.Opening.{IsBegun, IsOpening, HasRead, position_of}
-use Rattle.im_gate.specs.Header.{least_number}
-use Rattle.im_analysis.specs.Analysis.{IsAnalysed}
-use Rattle.im_analysis.specs.Orderly.{IsOrderly, IsReadable, Knows}
-use Rattle.im_redo.specs.Redo.{lsns_from}
+use Rattle.im_log_gate.specs.Header.{least_number}
+use Rattle.im_restart_analysis.specs.Analysis.{IsAnalysed}
+use Rattle.im_restart_analysis.specs.Orderly.{IsOrderly, IsReadable, Knows}
+use Rattle.im_restart_redo.specs.Redo.{lsns_from}
 use Rattle.im_restart.specs.Restart.{AreTaken}
 use Rattle.im_restart.proofs.reading.read_all.Given as goal
 

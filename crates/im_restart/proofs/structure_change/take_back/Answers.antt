@@ -1,12 +1,12 @@
 use Rattle.std.proofs.Common.{◌≡◌, ◌∷◌, refl, sym, ap, subst}
-use Rattle.im_types.specs.Structure.{open_smo}
-use Rattle.im_types.specs.Transactions.{is_smo, last_of}
-use Rattle.im_record.specs.Entry.{Entry, Smo, view, prev_of, transaction_of}
-use Rattle.im_record.specs.declared.record.Record.{Record}
+use Rattle.im_theory_log.specs.Structure.{open_smo}
+use Rattle.im_theory_log.specs.Transactions.{is_smo, last_of}
+use Rattle.im_log_record.specs.Entry.{Entry, Smo, view, prev_of, transaction_of}
+use Rattle.im_log_record.specs.declared.record.Record.{Record}
 use Rattle.im_log.specs.Spelled.{logged_at}
-use Rattle.im_tree.specs.Theory.{page_tree}
+use Rattle.im_theory_tree.specs.Theory.{page_tree}
 use Rattle.im_restart.specs.StructureChange.{TakeBackKept}
-use Rattle.im_redo.proofs.Recoveries.{logs_recover}
+use Rattle.im_restart_redo.proofs.Recoveries.{logs_recover}
 use Rattle.im_restart.proofs.Ends.{no_store}
 use Rattle.im_restart.proofs.KeyRecords.{no_smo}
 use Rattle.im_restart.proofs.OpenChanges.{open_is_smo, taken_so}

@@ -1,8 +1,8 @@
 use Rattle.std.proofs.Common.{rules, refl, sym, ◌∙◌, ap}
-use Rattle.im_flush.proofs.Outcomes.{sound_on}
-use Rattle.im_redo.proofs.Recoveries.{recovers_then, unmoved}
-use Rattle.im_types.specs.Structure.{open_smo}
-use Rattle.im_analysis.specs.OpenChange.{oldest_first}
+use Rattle.im_page_writer.proofs.Outcomes.{sound_on}
+use Rattle.im_restart_redo.proofs.Recoveries.{recovers_then, unmoved}
+use Rattle.im_theory_log.specs.Structure.{open_smo}
+use Rattle.im_restart_analysis.specs.OpenChange.{oldest_first}
 use Rattle.im_restart.proofs.Bounds.{empty_list, last_of_none}
 use Rattle.im_restart.proofs.OpenChanges.{change_start, change_then, last_is, none_open}
 use Rattle.im_restart.proofs.Steps.{left_then}

@@ -1,11 +1,11 @@
 use Rattle.std.proofs.Common.{ℕ, ◌≡◌, [], None, length}
-use Rattle.im_types.specs.Histories.{Base, History}
-use Rattle.im_types.specs.Writer.{Writer}
-use Rattle.im_flush.specs.Outcome.{mild}
-use Rattle.im_flush.specs.PageWriter.{StandsAs}
-use Rattle.im_redo.specs.Recovery.{Recovers}
-use Rattle.im_analysis.specs.Losers.{AreLosers}
-use Rattle.im_analysis.specs.OpenChange.{IsOpenChange}
+use Rattle.im_theory_log.specs.Histories.{Base, History}
+use Rattle.im_theory_log.specs.Writer.{Writer}
+use Rattle.im_page_writer.specs.Outcome.{mild}
+use Rattle.im_page_writer.specs.PageWriter.{StandsAs}
+use Rattle.im_restart_redo.specs.Recovery.{Recovers}
+use Rattle.im_restart_analysis.specs.Losers.{AreLosers}
+use Rattle.im_restart_analysis.specs.OpenChange.{IsOpenChange}
 use Rattle.im_restart.specs.StructureChange.{ChangeGoes, IsTakingBack}
 use Rattle.im_restart.proofs.structure_change.undo_change.Given as goal
 

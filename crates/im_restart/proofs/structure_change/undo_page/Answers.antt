@@ -1,14 +1,14 @@
 use Rattle.std.proofs.Common.{◌≡◌, true, refl, sym, ap, subst, ◌∙◌}
-use Rattle.im_flush.specs.Outcome.{mild}
-use Rattle.im_flush.proofs.LoggedChanges.{err_on}
-use Rattle.im_flush.proofs.Outcomes.{sound_on}
-use Rattle.im_redo.proofs.Recoveries.{recovery_own, unmoved}
+use Rattle.im_page_writer.specs.Outcome.{mild}
+use Rattle.im_page_writer.proofs.LoggedChanges.{err_on}
+use Rattle.im_page_writer.proofs.Outcomes.{sound_on}
+use Rattle.im_restart_redo.proofs.Recoveries.{recovery_own, unmoved}
 use Rattle.im_restart.proofs.Ends.{memory_mild}
-use Rattle.im_types.specs.Transactions.{last_of}
-use Rattle.im_record.specs.Entry.{view, prev_of, transaction_of}
+use Rattle.im_theory_log.specs.Transactions.{last_of}
+use Rattle.im_log_record.specs.Entry.{view, prev_of, transaction_of}
 use Rattle.im_log.specs.Spelled.{logged_at}
-use Rattle.im_analysis.specs.Losers.{is_loser}
-use Rattle.im_tree.specs.Theory.{page_tree}
+use Rattle.im_restart_analysis.specs.Losers.{is_loser}
+use Rattle.im_theory_tree.specs.Theory.{page_tree}
 use Rattle.im_restart.proofs.OpenChanges.{open_loser, page_noted}
 use Rattle.im_restart.proofs.structure_change.undo_page.Goals as goal
 

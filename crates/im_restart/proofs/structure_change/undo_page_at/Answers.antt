@@ -1,14 +1,14 @@
 use Rattle.std.proofs.Common.{◌≡◌, ◌∷◌, refl, sym, ◌∙◌, ap}
-use Rattle.im_types.specs.declared.fault.Fault.TheVariants.{Device, NotAStore}
-use Rattle.im_record.specs.Entry.{view}
-use Rattle.im_flush.specs.Outcome.{mild}
-use Rattle.im_flush.proofs.LoggedChanges.{err_on}
-use Rattle.im_flush.proofs.Outcomes.{sound_on}
-use Rattle.im_redo.proofs.Recoveries.{moved, read_refused, recovers_then, recovery_own, recovery_refused}
-use Rattle.im_tree.specs.Theory.{page_tree}
+use Rattle.im_base_types.specs.declared.fault.Fault.TheVariants.{Device, NotAStore}
+use Rattle.im_log_record.specs.Entry.{view}
+use Rattle.im_page_writer.specs.Outcome.{mild}
+use Rattle.im_page_writer.proofs.LoggedChanges.{err_on}
+use Rattle.im_page_writer.proofs.Outcomes.{sound_on}
+use Rattle.im_restart_redo.proofs.Recoveries.{moved, read_refused, recovers_then, recovery_own, recovery_refused}
+use Rattle.im_theory_tree.specs.Theory.{page_tree}
 use Rattle.im_restart.proofs.OpenChanges.{change_read, change_start, open_record, page_then}
 use Rattle.im_restart.proofs.Readings.{spelled_is, spelled_none}
-use Rattle.im_disk.proofs.Runs.{reads_on}
+use Rattle.im_base_disk.proofs.Runs.{reads_on}
 use Rattle.im_restart.proofs.structure_change.undo_page_at.Goals as goal
 
 pub returns-in_err-size-clause-outcome : goal.returns-in_err-size-clause-outcome

@@ -1,6 +1,6 @@
 use Rattle.std.proofs.Common.{◌≡◌, ◌≤◌, arith, Ok, refl}
-use Rattle.im_analysis.proofs.Losers.{loser_number}
-use Rattle.im_record.specs.Entry.{view, transaction_of}
+use Rattle.im_restart_analysis.proofs.Losers.{loser_number}
+use Rattle.im_log_record.specs.Entry.{view, transaction_of}
 use Rattle.im_restart.proofs.Ends.{answered_late, done_well, no_store}
 use Rattle.im_restart.proofs.Compensations.{compensated_so, refused_so}
 use Rattle.im_restart.proofs.undo.compensate.Goals as goal

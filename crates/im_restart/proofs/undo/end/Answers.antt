@@ -1,6 +1,6 @@
 use Rattle.std.proofs.Common.{refl}
-use Rattle.im_flush.proofs.Outcomes.{sound_on}
-use Rattle.im_redo.proofs.Recoveries.{logs_recover, mildly, never_none, recovers_more, recovery_refused}
+use Rattle.im_page_writer.proofs.Outcomes.{sound_on}
+use Rattle.im_restart_redo.proofs.Recoveries.{logs_recover, mildly, never_none, recovers_more, recovery_refused}
 use Rattle.im_restart.proofs.Ends.{no_store}
 use Rattle.im_restart.proofs.Steps.{ended_so, left_here}
 use Rattle.im_restart.proofs.undo.end.Goals as goal

@@ -1,7 +1,7 @@
 use Rattle.std.proofs.Common.{refl, ◌∙◌, ap}
-use Rattle.im_flush.proofs.Outcomes.{sound_on}
-use Rattle.im_redo.proofs.Recoveries.{recovers_then, unmoved}
-use Rattle.im_tree.specs.Theory.{page_tree}
+use Rattle.im_page_writer.proofs.Outcomes.{sound_on}
+use Rattle.im_restart_redo.proofs.Recoveries.{recovers_then, unmoved}
+use Rattle.im_theory_tree.specs.Theory.{page_tree}
 use Rattle.im_restart.specs.LoserChains.{ChainMap}
 use Rattle.im_restart.proofs.Bounds.{first_of_none, none_left}
 use Rattle.im_restart.proofs.Losers.{waiting, waiting_first, waiting_longer, waiting_none, waiting_taken}

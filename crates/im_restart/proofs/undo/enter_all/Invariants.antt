@@ -1,10 +1,10 @@
 use Rattle.std.proofs.Common.{ℕ, ◌≡◌, [], None, length}
-use Rattle.im_types.specs.Histories.{Base, History}
-use Rattle.im_types.specs.Writer.{Writer}
-use Rattle.im_flush.specs.Outcome.{mild}
-use Rattle.im_flush.specs.PageWriter.{StandsAs}
-use Rattle.im_redo.specs.Recovery.{Recovers}
-use Rattle.im_analysis.specs.Losers.{AreLosers}
+use Rattle.im_theory_log.specs.Histories.{Base, History}
+use Rattle.im_theory_log.specs.Writer.{Writer}
+use Rattle.im_page_writer.specs.Outcome.{mild}
+use Rattle.im_page_writer.specs.PageWriter.{StandsAs}
+use Rattle.im_restart_redo.specs.Recovery.{Recovers}
+use Rattle.im_restart_analysis.specs.Losers.{AreLosers}
 use Rattle.im_restart.specs.LoserChains.{AreChains, AreWaiting}
 use Rattle.im_restart.specs.Undoing.{IsUndoing, UndoGoes}
 use Rattle.im_restart.proofs.Losers.{waiting}

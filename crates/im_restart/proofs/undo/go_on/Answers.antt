@@ -1,9 +1,9 @@
 use Rattle.std.proofs.Common.{refl, subst}
-use Rattle.im_flush.specs.Outcome.{mild}
-use Rattle.im_redo.proofs.Recoveries.{recovery_own, unmoved}
+use Rattle.im_page_writer.specs.Outcome.{mild}
+use Rattle.im_restart_redo.proofs.Recoveries.{recovery_own, unmoved}
 use Rattle.im_restart.proofs.Ends.{either_mild}
-use Rattle.im_types.proofs.Fronts.{rises}
-use Rattle.im_tree.specs.Theory.{page_tree}
+use Rattle.im_theory_log.proofs.Fronts.{rises}
+use Rattle.im_theory_tree.specs.Theory.{page_tree}
 use Rattle.im_restart.specs.LoserChains.{GoesOnAt}
 use Rattle.im_restart.proofs.Undos.{step_end, step_put}
 use Rattle.im_restart.proofs.undo.go_on.Goals as goal

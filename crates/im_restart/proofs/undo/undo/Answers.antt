@@ -1,6 +1,6 @@
 use Rattle.std.proofs.Common.{◌∙◌}
-use Rattle.im_flush.proofs.Outcomes.{sound_on}
-use Rattle.im_redo.proofs.Recoveries.{recovers_more, recovery_refused}
+use Rattle.im_page_writer.proofs.Outcomes.{sound_on}
+use Rattle.im_restart_redo.proofs.Recoveries.{recovers_more, recovery_refused}
 use Rattle.im_restart.proofs.Ends.{take_mild}
 use Rattle.im_restart.proofs.Undos.{undo_behind}
 use Rattle.im_restart.proofs.undo.undo.Goals as goal

@@ -1,9 +1,9 @@
 use Rattle.std.proofs.Common.{rules, refl, arith}
 use Rattle.std.proofs.lemmas.Grind.{common_steps}
-use Rattle.im_flush.proofs.Outcomes.{sound_on}
-use Rattle.im_redo.proofs.Recoveries.{recovers_then, unmoved}
-use Rattle.im_tree.specs.Theory.{page_tree}
-use Rattle.im_tree.proofs.TheoryLaws.{page_tree_laws}
+use Rattle.im_page_writer.proofs.Outcomes.{sound_on}
+use Rattle.im_restart_redo.proofs.Recoveries.{recovers_then, unmoved}
+use Rattle.im_theory_tree.specs.Theory.{page_tree}
+use Rattle.im_theory_tree.proofs.TheoryLaws.{page_tree_laws}
 use Rattle.im_restart.specs.LoserChains.{nobody}
 use Rattle.im_restart.proofs.Bounds.{falls, last_of_none, none_left}
 use Rattle.im_restart.proofs.Latest.{latest_here}

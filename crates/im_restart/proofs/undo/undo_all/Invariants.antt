@@ -1,9 +1,9 @@
 use Rattle.std.proofs.Common.{ℕ, ◌≡◌, ◌≤◌, [], None, length}
-use Rattle.im_types.specs.Histories.{Base, History}
-use Rattle.im_types.specs.Writer.{Writer}
-use Rattle.im_alloc.specs.Kept.{mild_to_take}
-use Rattle.im_flush.specs.PageWriter.{StandsAs}
-use Rattle.im_redo.specs.Recovery.{Recovers}
+use Rattle.im_theory_log.specs.Histories.{Base, History}
+use Rattle.im_theory_log.specs.Writer.{Writer}
+use Rattle.im_smo_alloc.specs.Kept.{mild_to_take}
+use Rattle.im_page_writer.specs.PageWriter.{StandsAs}
+use Rattle.im_restart_redo.specs.Recovery.{Recovers}
 use Rattle.im_restart.specs.LoserChains.{AreChains, above, nobody}
 use Rattle.im_restart.specs.Undoing.{IsUndoing, UndoGoes}
 use Rattle.im_restart.proofs.undo.undo_all.Given as goal

@@ -1,9 +1,9 @@
 use Rattle.std.proofs.Common.{sym, subst}
-use Rattle.im_flush.proofs.Outcomes.{sound_on}
-use Rattle.im_redo.proofs.Recoveries.{recovers_more, recovers_then}
+use Rattle.im_page_writer.proofs.Outcomes.{sound_on}
+use Rattle.im_restart_redo.proofs.Recoveries.{recovers_more, recovers_then}
 use Rattle.im_restart.proofs.Ends.{take_mild}
-use Rattle.im_record.specs.Entry.{view, prev_of}
-use Rattle.im_tree.specs.Theory.{page_tree}
+use Rattle.im_log_record.specs.Entry.{view, prev_of}
+use Rattle.im_theory_tree.specs.Theory.{page_tree}
 use Rattle.im_restart.specs.LoserChains.{GoesOnAt, chain_of}
 use Rattle.im_restart.proofs.Readings.{goes_behind}
 use Rattle.im_restart.proofs.Undos.{chains_then, step_then}

@@ -1,14 +1,14 @@
 use Rattle.std.proofs.Common.{ap, refl, sym, ◌∙◌, subst}
-use Rattle.im_alloc.specs.Kept.{mild_to_take}
-use Rattle.im_flush.specs.Outcome.{mild}
-use Rattle.im_flush.proofs.LoggedChanges.{err_on}
-use Rattle.im_redo.proofs.Recoveries.{recovers_more, recovery_own, unmoved}
+use Rattle.im_smo_alloc.specs.Kept.{mild_to_take}
+use Rattle.im_page_writer.specs.Outcome.{mild}
+use Rattle.im_page_writer.proofs.LoggedChanges.{err_on}
+use Rattle.im_restart_redo.proofs.Recoveries.{recovers_more, recovery_own, unmoved}
 use Rattle.im_restart.proofs.Ends.{no_store, take_mild}
-use Rattle.im_tree.specs.Theory.{page_tree}
-use Rattle.im_tree.proofs.TheoryLaws.{page_tree_laws}
+use Rattle.im_theory_tree.specs.Theory.{page_tree}
+use Rattle.im_theory_tree.proofs.TheoryLaws.{page_tree_laws}
 use Rattle.im_restart.specs.LoserChains.{GoesOnAt}
 use Rattle.im_restart.proofs.Readings.{leads_so, leads_somewhere, to_undo_here}
-use Rattle.im_record.specs.Entry.{view}
+use Rattle.im_log_record.specs.Entry.{view}
 use Rattle.im_restart.proofs.undo.undo_record.Goals as goal
 
 pub returns-then-transaction-chain-clause-outcome : goal.returns-then-transaction-chain-clause-outcome

@@ -1,4 +1,4 @@
-use Rattle.im_flush.specs.PageWriter.{IsReadyWriter}
+use Rattle.im_page_writer.specs.PageWriter.{IsReadyWriter}
 use Rattle.im_bench.proofs.flush.work.flushed_many.Given as goal
 
 abbrev pub invariant-loop-round : goal.invariant-loop-round

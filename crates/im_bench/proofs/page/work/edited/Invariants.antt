@@ -1,5 +1,5 @@
 use Rattle.std.proofs.Common.{◌≡◌}
-use Rattle.im_types.specs.declared.page_kind.PageKind.TheVariants.{Leaf}
+use Rattle.im_base_types.specs.declared.page_kind.PageKind.TheVariants.{Leaf}
 use Rattle.im_bench.proofs.page.work.edited.Given as goal
 
 abbrev pub invariant-loop-n : goal.invariant-loop-n

@@ -1,6 +1,6 @@
 use Rattle.std.proofs.Common.{ℕ, ◌≤◌, ◌^◌, length, refl, ap, subst}
 use Rattle.im_engine.proofs.Ending.{begin_few, began, numbers_end}
-use Rattle.im_types.specs.declared.fault.Fault.TheVariants.{Capacity}
+use Rattle.im_base_types.specs.declared.fault.Fault.TheVariants.{Capacity}
 use Rattle.im_front.specs.declared.fault.Fault.TheVariants as above
 use Rattle.im_front.specs.declared.reply.Reply.TheVariants as replies
 use Rattle.im_engine.specs.Numbered.{Numbered}

@@ -1,14 +1,14 @@
 use Rattle.std.proofs.Common.{ℕ, ◌<◌, ◌≤◌, ◌^◌, List, Ok, Err, refl, subst}
-use Rattle.im_types.specs.Answers as answers
-use Rattle.im_types.specs.Histories.{Base}
-use Rattle.im_record.specs.Entry.{Checkpoint}
-use Rattle.im_record.specs.Spelling.{size_of}
+use Rattle.im_base_types.specs.Answers as answers
+use Rattle.im_theory_log.specs.Histories.{Base}
+use Rattle.im_log_record.specs.Entry.{Checkpoint}
+use Rattle.im_log_record.specs.Spelling.{size_of}
 use Rattle.im_log.specs.LogFile.{end_with}
-use Rattle.im_flush.specs.Checkpoints.{CheckpointKept}
-use Rattle.im_flush.specs.DirtyTable.{dirty_pages, synced_entries}
-use Rattle.im_flush.specs.Outcome.{none_mild}
-use Rattle.im_txn.specs.declared.transaction.Transaction.{Transaction}
-use Rattle.im_checkpoint.specs.Rows.{listed}
+use Rattle.im_page_writer.specs.Checkpoints.{CheckpointKept}
+use Rattle.im_page_writer.specs.DirtyTable.{dirty_pages, synced_entries}
+use Rattle.im_page_writer.specs.Outcome.{none_mild}
+use Rattle.im_engine_txn.specs.declared.transaction.Transaction.{Transaction}
+use Rattle.im_engine_checkpoint.specs.Rows.{listed}
 use Rattle.im_front.specs.declared.reply.Reply.TheVariants as replies
 use Rattle.im_engine.proofs.Ending.{of_log}
 use Rattle.im_engine.proofs.Forcing.{checkpointed, checkpoint_refused}

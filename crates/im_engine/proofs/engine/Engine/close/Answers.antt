@@ -1,6 +1,6 @@
 use Rattle.std.proofs.Common.{subst, sym}
-use Rattle.im_disk.specs.Runs.{LeavesOnly}
-use Rattle.im_disk.proofs.Runs.{started}
+use Rattle.im_base_disk.specs.Runs.{LeavesOnly}
+use Rattle.im_base_disk.proofs.Runs.{started}
 use Rattle.im_engine.proofs.engine.Engine.close.Goals as goal
 
 -- no call of the disk was made

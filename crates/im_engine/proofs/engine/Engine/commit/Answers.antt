@@ -1,13 +1,13 @@
 use Rattle.std.proofs.Common.{Err, refl, sym, ap, ◌∙◌, ◌+◌, length, arith}
-use Rattle.im_types.specs.WriterSteps.{appended}
-use Rattle.im_record.specs.Entry.{Commit}
+use Rattle.im_theory_log.specs.WriterSteps.{appended}
+use Rattle.im_log_record.specs.Entry.{Commit}
 use Rattle.im_log.specs.Spelled.{logged_at}
 use Rattle.im_engine.specs.Numbered.{Numbered}
 use Rattle.im_engine.proofs.Checked.{commit_mark}
 use Rattle.im_engine.proofs.Running.{covered_stops}
 use Rattle.im_engine.proofs.Ending.{of_log, cut_leaves, ended, commit_stops, committed_on, commit_refused}
-use Rattle.im_types.specs.declared.fault.Fault.TheVariants.{LogFull}
-use Rattle.im_flush.specs.Outcome.{none_mild}
+use Rattle.im_base_types.specs.declared.fault.Fault.TheVariants.{LogFull}
+use Rattle.im_page_writer.specs.Outcome.{none_mild}
 use Rattle.im_front.specs.declared.reply.Reply.TheVariants as replies
 use Rattle.im_engine.proofs.Telling.{alive_now, not_true, told_committed, told_refused, log_lost, log_ends}
 use Rattle.im_engine.proofs.Causes.{append_cause, force_cause, commit_empty, commit_made, commit_append, commit_lost, logged}

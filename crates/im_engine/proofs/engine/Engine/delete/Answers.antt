@@ -1,5 +1,5 @@
 use Rattle.std.proofs.Common.{ℕ, ◌≤◌, refl, sym, subst}
-use Rattle.im_txn.proofs.LookUps.{look_ups_follow}
+use Rattle.im_engine_txn.proofs.LookUps.{look_ups_follow}
 use Rattle.im_engine.proofs.Deleting.{delete_absent, delete_dies, delete_made, delete_refused, delete_waits, delete_wants}
 use Rattle.im_engine.proofs.engine.Engine.delete.Goals as goal
 

@@ -1,5 +1,5 @@
 use Rattle.std.proofs.Common.{refl, None, Some, ◌∙◌}
-use Rattle.im_flush.specs.Outcome.{pages_of}
+use Rattle.im_page_writer.specs.Outcome.{pages_of}
 use Rattle.im_engine.proofs.Running.{has_good_tree, walk_is}
 use Rattle.im_engine.proofs.Looked.{looks_of, look_kept, look_refused, look_barred, entries_kept}
 use Rattle.im_engine.proofs.engine.Engine.entries.Goals as goal

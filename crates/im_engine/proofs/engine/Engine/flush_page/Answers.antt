@@ -1,7 +1,7 @@
 use Rattle.std.proofs.Common.{refl}
 use Rattle.im_engine.proofs.Ending.{flushed, flush_refused}
-use Rattle.im_types.specs.Answers as answers
-use Rattle.im_pool.specs.Pool.{is_changed}
+use Rattle.im_base_types.specs.Answers as answers
+use Rattle.im_page_pool.specs.Pool.{is_changed}
 use Rattle.im_front.specs.declared.reply.Reply.TheVariants as replies
 use Rattle.im_engine.proofs.Telling.{told_answered, told_refused, flush_lost, flush_ends, still_false}
 use Rattle.im_engine.specs.Told.{FlushCause}

@@ -1,6 +1,6 @@
 use Rattle.std.proofs.Common.{refl, ◌∙◌, Err, arith}
 use Rattle.im_engine.proofs.Ending.{of_log, log_forced, force_refused}
-use Rattle.im_types.specs.Answers as answers
+use Rattle.im_base_types.specs.Answers as answers
 use Rattle.im_front.specs.declared.reply.Reply.TheVariants as replies
 use Rattle.im_engine.proofs.Telling.{not_true, told_answered, told_refused, ends_as}
 use Rattle.im_engine.proofs.Causes.{behind, force_made, force_lost, force_cause}

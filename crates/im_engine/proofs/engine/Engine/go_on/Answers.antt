@@ -1,6 +1,6 @@
 use Rattle.std.proofs.Common.{refl, sym, ap, ◌∙◌, ◌+◌, length}
 use Rattle.std.proofs.lemmas.List.{length-map}
-use Rattle.im_txn.specs.Rows.{changed, with_record}
+use Rattle.im_engine_txn.specs.Rows.{changed, with_record}
 use Rattle.im_front.specs.declared.reply.Reply.TheVariants as replies
 use Rattle.im_engine.specs.Numbered.{Numbered}
 use Rattle.im_front.specs.declared.fault.Fault.TheVariants as faults

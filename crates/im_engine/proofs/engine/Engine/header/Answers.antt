@@ -1,7 +1,7 @@
 use Rattle.std.proofs.Common.{refl, sym, ap, None, Some, ℕ, ◌∙◌}
-use Rattle.im_pool.specs.Pool.{page_at}
-use Rattle.im_flush.specs.Outcome.{pages_of}
-use Rattle.im_flush.proofs.Outcomes.{search_of, pages_to}
+use Rattle.im_page_pool.specs.Pool.{page_at}
+use Rattle.im_page_writer.specs.Outcome.{pages_of}
+use Rattle.im_page_writer.proofs.Outcomes.{search_of, pages_to}
 use Rattle.im_engine.specs.Looking.{header_of}
 use Rattle.im_engine.proofs.Running.{has_good_tree, page_is}
 use Rattle.im_engine.proofs.Looked.{looks_of, look_kept, look_refused, look_barred}

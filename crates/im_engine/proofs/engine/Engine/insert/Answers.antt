@@ -1,11 +1,11 @@
 use Rattle.std.proofs.Common.{ℕ, ◌≤◌, refl, sym, subst, ap, ◌∙◌, length, Some}
 use Rattle.std.proofs.lemmas.List.{length-map}
-use Rattle.im_types.specs.Answers as answers
-use Rattle.im_types.specs.Structure.{settled}
-use Rattle.im_split.specs.Kept.{mild_to_split}
-use Rattle.im_txn.proofs.LookUps.{look_ups_follow}
-use Rattle.im_txn.specs.Rows.{changed, with_mark, with_record}
-use Rattle.im_txn.specs.declared.transaction.Mark.TheVariants.{MustRollBack}
+use Rattle.im_base_types.specs.Answers as answers
+use Rattle.im_theory_log.specs.Structure.{settled}
+use Rattle.im_smo_split.specs.Kept.{mild_to_split}
+use Rattle.im_engine_txn.proofs.LookUps.{look_ups_follow}
+use Rattle.im_engine_txn.specs.Rows.{changed, with_mark, with_record}
+use Rattle.im_engine_txn.specs.declared.transaction.Mark.TheVariants.{MustRollBack}
 use Rattle.im_front.specs.declared.reply.Blocker.TheVariants.{Lock}
 use Rattle.im_front.specs.declared.reply.Reply.TheVariants as replies
 use Rattle.im_engine.specs.Numbered.{Numbered}

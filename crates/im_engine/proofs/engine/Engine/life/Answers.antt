@@ -1,7 +1,7 @@
 use Rattle.std.proofs.Common.{rules, ◌≡◌, List, take, arith, subst, sym, refl, ◌∙◌}
 use Rattle.std.proofs.lemmas.List.{take_all}
-use Rattle.im_disk.specs.Runs.{LeavesOnly}
-use Rattle.im_disk.proofs.Runs.{started}
+use Rattle.im_base_disk.specs.Runs.{LeavesOnly}
+use Rattle.im_base_disk.proofs.Runs.{started}
 use Rattle.im_engine.specs.Stands.{Allowed}
 use Rattle.im_front.specs.declared.step.Step.{Step}
 use Rattle.im_engine.specs.Turns.{answered_by, LivesOn, IsCutOff}

@@ -1,7 +1,7 @@
 use Rattle.std.proofs.Common.{ℕ, refl, sym, subst, ◌∙◌}
-use Rattle.im_types.specs.declared.file_id.FileId.TheVariants.{Log}
-use Rattle.im_gate.specs.Header.{least_number}
-use Rattle.im_analysis.specs.Numbers.{IsNextNumber}
+use Rattle.im_base_types.specs.declared.file_id.FileId.TheVariants.{Log}
+use Rattle.im_log_gate.specs.Header.{least_number}
+use Rattle.im_restart_analysis.specs.Numbers.{IsNextNumber}
 use Rattle.im_engine.proofs.Openings.{may_restart, none_opened, opening_stops, engine_opened}
 use Rattle.im_engine.proofs.engine.Engine.open_or_create.Goals as goal
 

@@ -4,8 +4,8 @@ use Rattle.im_engine.proofs.Checked.{back_mark}
 use Rattle.im_engine.proofs.Ending.{dropped, turned}
 use Rattle.std.proofs.lemmas.List.{length-map}
 use Rattle.im_front.specs.declared.reply.Reply.TheVariants as replies
-use Rattle.im_txn.specs.Rows.{changed, with_mark}
-use Rattle.im_txn.specs.declared.transaction.Mark.TheVariants.{RollingBack}
+use Rattle.im_engine_txn.specs.Rows.{changed, with_mark}
+use Rattle.im_engine_txn.specs.declared.transaction.Mark.TheVariants.{RollingBack}
 use Rattle.im_engine.proofs.Telling.{alive_now, not_true, told_answered, told_rolled_back}
 use Rattle.im_engine.proofs.Causes.{rollback_made}
 use Rattle.im_engine.proofs.engine.Engine.roll_back.Goals as goal

@@ -1,16 +1,16 @@
 use Rattle.std.proofs.Common.{◌≤◌, ℕ, List, Vec, Global, refl, ap, subst, ◌∙◌, length}
-use Rattle.im_types.specs.Answers as answers
-use Rattle.im_types.specs.Answers.{limit_of}
-use Rattle.im_flush.specs.Outcome.{pages_of}
+use Rattle.im_base_types.specs.Answers as answers
+use Rattle.im_base_types.specs.Answers.{limit_of}
+use Rattle.im_page_writer.specs.Outcome.{pages_of}
 use Rattle.im_engine.proofs.Running.{has_good_tree, walk_is}
-use Rattle.im_index.specs.Outcomes.{entries_found, IfGranted}
-use Rattle.im_index.specs.declared.outcome.Outcome.{Outcome}
+use Rattle.im_engine_index.specs.Outcomes.{entries_found, IfGranted}
+use Rattle.im_engine_index.specs.declared.outcome.Outcome.{Outcome}
 use Rattle.im_engine.proofs.Reading.{granted, waits, dies, refused}
 use Rattle.std.proofs.lemmas.List.{length-map}
 use Rattle.im_front.specs.declared.reply.Blocker.TheVariants.{Lock}
 use Rattle.im_front.specs.declared.reply.Reply.TheVariants as replies
-use Rattle.im_txn.specs.Rows.{changed, with_mark}
-use Rattle.im_txn.specs.declared.transaction.Mark.TheVariants.{MustRollBack}
+use Rattle.im_engine_txn.specs.Rows.{changed, with_mark}
+use Rattle.im_engine_txn.specs.declared.transaction.Mark.TheVariants.{MustRollBack}
 use Rattle.im_engine.specs.Numbered.{Numbered}
 use Rattle.im_engine.proofs.Telling.{told_answered, told_refused, read_lost}
 use Rattle.im_engine.proofs.Causes.{read_answered, read_cause, read_refused}

@@ -1,5 +1,5 @@
 use Rattle.std.proofs.Common.{ℕ, List, subst}
-use Rattle.im_types.specs.Answers as answers
+use Rattle.im_base_types.specs.Answers as answers
 use Rattle.im_engine.specs.Told.{IsMade}
 use Rattle.im_engine.proofs.Stepping.{step_as, step_barred}
 use Rattle.im_engine.proofs.engine.Engine.step.Goals as goal

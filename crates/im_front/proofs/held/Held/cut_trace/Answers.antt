@@ -1,7 +1,7 @@
 use Rattle.std.proofs.Common.{◌≡◌, ◌+◌, [], length, ℕ, List, false, sym, ap, ◌∙◌, subst, arith}
 use Rattle.std.specs.FinMap.{empty, entries}
-use Rattle.im_types.specs.Changes.{apply_all}
-use Rattle.im_types.specs.Lives.{nothing_shown}
+use Rattle.im_base_types.specs.Changes.{apply_all}
+use Rattle.im_base_types.specs.Lives.{nothing_shown}
 use Rattle.im_front.specs.declared.recorded.Recorded.{Recorded}
 use Rattle.im_front.specs.Calls.{trace_of}
 use Rattle.im_front.specs.Events.{shown_in}

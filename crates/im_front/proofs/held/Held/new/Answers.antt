@@ -1,8 +1,8 @@
 use Rattle.std.proofs.Common.{rules, [], ◌∷◌, ◌∙◌, ℕ, List, refl, sym, subst}
-use Rattle.im_types.specs.Lives.{nothing_shown}
-use Rattle.im_types.specs.Changes.{apply_all}
+use Rattle.im_base_types.specs.Lives.{nothing_shown}
+use Rattle.im_base_types.specs.Changes.{apply_all}
 use Rattle.std.specs.FinMap.{empty}
-use Rattle.im_lock.specs.Machine.{start}
+use Rattle.im_engine_lock.specs.Machine.{start}
 use Rattle.im_front.specs.declared.recorded.Recorded.{Recorded}
 use Rattle.im_front.specs.Calls.{trace_of}
 use Rattle.im_front.specs.Held.{IsTallied, Stands}

@@ -1,6 +1,6 @@
 use Rattle.std.proofs.Common.{rules, ◌≡◌, length, true, false, true≢false, List, [], ◌∷◌, ◌++◌, sym, ap, ◌∙◌, subst, arith, inl, length-append}
-use Rattle.im_types.specs.Lives.{nothing_shown}
-use Rattle.im_types.specs.Answers.{Step, Reply}
+use Rattle.im_base_types.specs.Lives.{nothing_shown}
+use Rattle.im_base_types.specs.Answers.{Step, Reply}
 use Rattle.im_front.specs.declared.recorded.Recorded.{Recorded}
 use Rattle.im_front.specs.Calls.{asked_by, told_by, trace_of, is_blocked}
 use Rattle.im_front.specs.Events.{shown_in}

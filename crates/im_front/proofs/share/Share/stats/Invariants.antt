@@ -1,5 +1,5 @@
 use Rattle.std.proofs.Common.{◌≡◌}
-use Rattle.im_stats.specs.Counts.{NoLess}
+use Rattle.im_front_stats.specs.Counts.{NoLess}
 use Rattle.im_front.proofs.share.Share.stats.Given as goal
 
 abbrev pub invariant-loop-i : goal.invariant-loop-i

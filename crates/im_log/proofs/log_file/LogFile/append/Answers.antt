@@ -1,8 +1,8 @@
 use Rattle.std.proofs.Common.{List, ℕ, [], ap, refl, sym, ◌∙◌, take, rules, arith, append-nil}
 use Rattle.std.specs.Int.{w32, from_be_bytes}
-use Rattle.im_types.specs.declared.file_id.FileId.TheVariants.{Log}
-use Rattle.im_record.specs.Entry.{view}
-use Rattle.im_record.specs.Spelling.{spelling}
+use Rattle.im_base_types.specs.declared.file_id.FileId.TheVariants.{Log}
+use Rattle.im_log_record.specs.Entry.{view}
+use Rattle.im_log_record.specs.Spelling.{spelling}
 use Rattle.im_log.proofs.Spells.{whole}
 use Rattle.im_log.proofs.Runs.{unmoved, appended, no_more}
 use Rattle.im_log.proofs.log_file.LogFile.append.Goals as goal

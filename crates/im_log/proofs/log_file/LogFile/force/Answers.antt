@@ -1,5 +1,5 @@
 use Rattle.std.proofs.Common.{List, ℕ, ◌≤◌, take, ap, refl, rules, arith}
-use Rattle.im_types.specs.declared.file_id.FileId.TheVariants.{Log}
+use Rattle.im_base_types.specs.declared.file_id.FileId.TheVariants.{Log}
 use Rattle.im_log.specs.Kept.{SpellsEither}
 use Rattle.im_log.proofs.Runs.{force_stops, forced, seen_now, either_made, alike_now, starts_kept, all_durable, no_more, unmoved}
 use Rattle.im_log.proofs.log_file.LogFile.force.Goals as goal

@@ -1,5 +1,5 @@
 use Rattle.std.proofs.Common.{◌≡◌, ℕ, List, ◌-◌, Some, None, take, drop, ap, sym, ◌∙◌, rules, arith, subst}
-use Rattle.im_types.specs.declared.file_id.FileId.TheVariants.{Log}
+use Rattle.im_base_types.specs.declared.file_id.FileId.TheVariants.{Log}
 use Rattle.im_log.specs.LogFile.{buffered}
 use Rattle.im_log.specs.Spelled.{first_record}
 use Rattle.im_log.specs.Reading.{IsFrontOf}

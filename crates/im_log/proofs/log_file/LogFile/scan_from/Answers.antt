@@ -1,9 +1,9 @@
 use Rattle.std.proofs.Common.{◌≡◌, [], IfSome, Option, sym, subst, rules}
-use Rattle.im_types.specs.declared.file_id.FileId.{FileId}
-use Rattle.im_types.specs.declared.file_id.FileId.TheVariants.{Log}
-use Rattle.im_disk.specs.Disk.{Files}
-use Rattle.im_gate.specs.declared.gate.Gate.{Gate}
-use Rattle.im_gate.specs.Gate.{file_of, first_of, place_of, StartsAs}
+use Rattle.im_base_types.specs.declared.file_id.FileId.{FileId}
+use Rattle.im_base_types.specs.declared.file_id.FileId.TheVariants.{Log}
+use Rattle.im_base_disk.specs.Disk.{Files}
+use Rattle.im_log_gate.specs.declared.gate.Gate.{Gate}
+use Rattle.im_log_gate.specs.Gate.{file_of, first_of, place_of, StartsAs}
 use Rattle.im_log.specs.declared.opening.Opening.{Opening}
 use Rattle.im_log.specs.Kept.{HasLog}
 use Rattle.im_log.specs.Opening.{IsOpening}

@@ -1,5 +1,5 @@
 use Rattle.std.proofs.Common.{◌∷◌, ◌++◌, rules, arith}
-use Rattle.im_disk.proofs.Runs.{reads_then}
+use Rattle.im_base_disk.proofs.Runs.{reads_then}
 use Rattle.im_log.specs.Spelled.{logged_at}
 use Rattle.im_log.proofs.Openings.{none_kept, some_kept}
 use Rattle.im_log.proofs.Places.{one_more_below}

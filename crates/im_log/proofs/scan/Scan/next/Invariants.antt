@@ -1,6 +1,6 @@
 use Rattle.std.proofs.Common.{◌≡◌, ℕ, ◌-◌, ◌^◌, List, ◌++◌}
-use Rattle.im_types.specs.Records.{Logged}
-use Rattle.im_disk.specs.Runs.{Reads}
+use Rattle.im_base_types.specs.Records.{Logged}
+use Rattle.im_base_disk.specs.Runs.{Reads}
 use Rattle.im_log.specs.Opening.{IsBegun, IsOpening, position_of}
 use Rattle.im_log.specs.Scan.{AllBelow}
 use Rattle.im_log.proofs.scan.Scan.next.Given as goal

@@ -1,6 +1,6 @@
 use Rattle.std.proofs.Common.{ap, sym, ◌∙◌}
 use Rattle.im_page.specs.Page.{is_leaf}
-use Rattle.im_types.specs.Pages.{Entry}
+use Rattle.im_base_types.specs.Pages.{Entry}
 use Rattle.im_page.proofs.EntryLemmas.{length-entries_of, entry_at-entries_of}
 use Rattle.im_page.proofs.page.Page.value.Goals as goal
 

@@ -1,7 +1,0 @@
-use Rattle.std.proofs.Common.{◌≡◌, drop}
-use Rattle.im_types.specs.RedoPoints.{least}
-use Rattle.im_record.specs.Entry.{dirty_rows}
-use Rattle.im_analysis.proofs.numbers.least.Given as goal
-
-abbrev pub invariant-loop-i : goal.invariant-loop-i
-invariant-loop-i l = least l.lowest (drop l.i (dirty_rows l.dirty)) ≡ least l.fn.lsn (dirty_rows l.dirty)

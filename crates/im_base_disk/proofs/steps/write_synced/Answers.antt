@@ -1,0 +1,25 @@
+use Rattle.std.proofs.Common.{length}
+use Rattle.im_base_disk.specs.Disk.{InFile, Torn, Stepped}
+use Rattle.im_base_disk.proofs.Runs.{written, goes_on, nothing_torn}
+use Rattle.im_base_disk.proofs.steps.write_synced.Goals as goal
+
+pub returns-in_err-write_at-clause-any_moment : goal.returns-in_err-write_at-clause-any_moment
+returns-in_err-write_at-clause-any_moment g c =
+    written g.D.Disk c.args.disk.now c.write_at.new.self (InFile c.args.file (Torn c.args.at (length c.args.bytes.now))) (nothing_torn c.args.file c.args.at (length c.args.bytes.now))
+    (g.met.D.Disk.only_now c.args.disk.now) c.write_at.ensures.crash c.write_at.ensures.time
+
+pub returns-in_err-sync-clause-any_moment : goal.returns-in_err-sync-clause-any_moment
+returns-in_err-sync-clause-any_moment g c =
+    let step = InFile c.args.file (Torn c.args.at (length c.args.bytes.now)) in
+    let first = written g.D.Disk c.args.disk.now c.write_at.new.self step (nothing_torn c.args.file c.args.at (length c.args.bytes.now))
+    (g.met.D.Disk.only_now c.args.disk.now) c.write_at.ensures.crash c.write_at.ensures.time in
+    goes_on g.D.Disk c.args.disk.now c.write_at.new.self c.sync.new.self (Stepped step (g.D.Disk.may_leave c.args.disk.now)) _ first c.sync.ensures.time
+    (λ told f now. c.write_at.ensures.crash f (c.sync.ensures.crash f now))
+
+pub returns-clause-any_moment : goal.returns-clause-any_moment
+returns-clause-any_moment g c =
+    let step = InFile c.args.file (Torn c.args.at (length c.args.bytes.now)) in
+    let first = written g.D.Disk c.args.disk.now c.write_at.new.self step (nothing_torn c.args.file c.args.at (length c.args.bytes.now))
+    (g.met.D.Disk.only_now c.args.disk.now) c.write_at.ensures.crash c.write_at.ensures.time in
+    goes_on g.D.Disk c.args.disk.now c.write_at.new.self c.sync.new.self (Stepped step (g.D.Disk.may_leave c.args.disk.now)) _ first c.sync.ensures.time
+    (λ told f now. c.write_at.ensures.crash f (c.sync.ensures.crash f now))

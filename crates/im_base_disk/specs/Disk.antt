@@ -1,0 +1,63 @@
+-- What the calls of a disk do to its files, and what a stop may do between two syncs.
+use Rattle.std.specs.Prelude.{◌≡◌, ◌≢◌, ◌⊎◌, ℕ, ◌+◌, ◌≤◌, max, Bool, not, is_ok, List, ◌++◌, length, take, drop, Result, IfErr}
+use Rattle.im_base_types.specs.declared.fault.Fault.{Fault}
+use Rattle.im_base_types.specs.declared.fault.Fault.TheVariants.{Device}
+use Rattle.im_base_types.specs.declared.file_id.FileId.{FileId}
+use Rattle.im_base_types.specs.declared.file_id.FileId.TheVariants.{Log, Pages}
+
+-- the bytes of each file
+abbrev pub Files : Type 0
+Files = FileId → List ℕ
+
+-- these bytes of the one file and these of the other
+abbrev pub both : List ℕ → List ℕ → Files
+both log pages Log = log
+both log pages Pages = pages
+
+-- new is old with these bytes at this place
+abbrev pub Holds : ℕ → List ℕ → List ℕ → List ℕ → Type 0
+Holds at bytes old new = new ≡ take at old ++ bytes ++ drop (at + length bytes) old
+
+-- after a write of n bytes that a stop cuts short: any bytes in the range and past the old end, the same elsewhere
+pub record Torn (at n : ℕ) (old new : List ℕ) : Type 0 where
+  pub before : take at new ≡ take at old
+  pub after : drop (at + n) new ≡ drop (at + n) old
+  pub no_shorter : length old ≤ length new
+  pub no_longer : length new ≤ max (length old) (at + n)
+
+-- one file takes a step, and each other is as before
+pub record InFile (file : FileId) (step : List ℕ → List ℕ → Type 0) (old new : Files) : Type 0 where
+  pub changed : step (old file) (new file)
+  pub others : (other : FileId) → other ≢ file → new other ≡ old other
+
+-- one of these outcomes after a step
+abbrev pub Stepped : (Files → Files → Type 0) → (Files → Type 0) → Files → Type 0
+Stepped step outcomes c = (d : Files) × outcomes d × step d c
+
+-- each new outcome of a stop is an old outcome after a step
+abbrev pub Follows : (Files → Files → Type 0) → (Files → Type 0) → (Files → Type 0) → Type 0
+Follows step old new = (c : Files) → new c → Stepped step old c
+
+-- a stop leaves these bytes of the file and nothing else
+abbrev pub Only : FileId → Files → (Files → Type 0) → Type 0
+Only file bytes outcomes = (c : Files) → outcomes c → c file ≡ bytes file
+
+-- Time goes on: a stop since t might have left what it might have left before, or what it may leave now.
+pub record Elapses (before now : ℕ) (past since : ℕ → Files → Type 0) (may_leave : Files → Type 0) : Type 0 where
+  pub later : before ≤ now
+  pub nothing_else : (t : ℕ) (c : Files) → t ≤ before → since t c → past t c ⊎ may_leave c
+  pub keeps : (t : ℕ) (c : Files) → t ≤ before → past t c → since t c
+
+-- A call that only reads: a stop may leave the same as before, and might have left the same.
+pub record OnlyReads {D : Type 0} (seen_in : D → Files) (may_leave : D → Files → Type 0) (moment : D → ℕ) (left_since : D → ℕ → Files → Type 0) (old new : D) : Type 0 where
+  pub seen : seen_in new ≡ seen_in old
+  pub outcomes : (c : Files) → may_leave new c → may_leave old c
+  pub no_fewer : (c : Files) → may_leave old c → may_leave new c
+  pub later : moment old ≤ moment new
+  pub since : (t : ℕ) (c : Files) → t ≤ moment old → left_since new t c → left_since old t c
+  pub keeps : (t : ℕ) (c : Files) → t ≤ moment old → left_since old t c → left_since new t c
+
+-- the one refusal is `Device`, and the disk notes it
+pub record Answers {T : Type 0} (failed : Bool) (result : Result T Fault) : Type 0 where
+  pub device : IfErr result (λ e. e ≡ Device)
+  pub noted : failed ≡ not (is_ok result)

@@ -1,0 +1,5 @@
+pub mod Words
+pub mod Maps
+pub mod Changes
+pub mod Nets
+mod WorkedLives

@@ -1,0 +1,11 @@
+pub mod Faults
+pub mod Keys
+pub mod Pages
+pub mod Records
+pub mod Refusals
+pub mod Maps
+pub mod Changes
+pub mod Nets
+pub mod Answers
+pub mod Lives
+pub mod Steps

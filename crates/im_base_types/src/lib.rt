@@ -1,0 +1,40 @@
+//! The words that every layer speaks: keys, numbers, files, kinds of pages, steps, replies, faults.
+//!
+//! A key is 1 to 255 bytes, and keys are ordered by their unsigned bytes, a front before what it begins
+//! (`IsBelow`). Contracts see a `Key` as the list of its bytes. `compare` is that order over slices, eight
+//! bytes at a time.
+//!
+//! The definitions in `specs/` are the vocabulary of all contracts above: keys, maps and what transactions
+//! change in them, pages as a header and a sorted list, records of the log as data, steps and replies, lives.
+//! What follows from a log is in `im_theory_log`. This crate stands on no other of the store.
+#![tactic(auto)]
+
+mod fault;
+mod file_id;
+mod key;
+mod order;
+mod page_kind;
+mod reply;
+mod step;
+mod tables;
+
+pub use fault::Fault;
+pub use file_id::FileId;
+pub use key::Key;
+pub use order::compare;
+pub use page_kind::PageKind;
+pub use reply::Reply;
+pub use step::Step;
+pub use tables::{ActiveTransaction, DirtyPage};
+
+/// The number that an index keeps with a key, to name a record of the store's own.
+pub type Rid = u64;
+
+/// A transaction's number, from 1 on.
+pub type TxnId = u64;
+
+/// A record's place in the log: the base of the log plus the position of its first byte. 0 means none.
+pub type Lsn = u64;
+
+/// A page's number: page p stands at byte p * 4,096 of the file of pages.
+pub type PageNo = u32;

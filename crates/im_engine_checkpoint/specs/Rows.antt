@@ -1,0 +1,25 @@
+-- The rows of the table of transactions that a Checkpoint lists.
+use Rattle.std.specs.Prelude.{◌==◌, ◌&&◌, Bool, false, true, not, List, map, filter}
+use Rattle.im_base_types.specs.declared.tables.ActiveTransaction.{ActiveTransaction}
+use Rattle.im_engine_txn.specs.declared.transaction.Mark.{Mark}
+use Rattle.im_engine_txn.specs.declared.transaction.Mark.TheVariants.{Committing, Going, MustRollBack, RollingBack}
+use Rattle.im_engine_txn.specs.declared.transaction.Transaction.{Transaction}
+
+-- its Commit is logged, and waits for a force
+abbrev pub is_committing : Mark → Bool
+is_committing Committing = true
+is_committing Going = false
+is_committing MustRollBack = false
+is_committing RollingBack = false
+
+-- A transaction is listed that has logged a record, unless its Commit is logged too: restart has nothing to take back of that one.
+abbrev pub is_listed : Transaction → Bool
+is_listed row = not (is_committing row.mark) && not (row.last == 0)
+
+-- its number, its last LSN and its next LSN to undo
+abbrev pub as_listed : Transaction → ActiveTransaction
+as_listed row = record { transaction = row.number; last = row.last; undo_next = row.undo_next }
+
+-- the rows that are listed, in the table's order
+abbrev pub listed : List Transaction → List ActiveTransaction
+listed rows = map as_listed (filter is_listed rows)

@@ -1,0 +1,40 @@
+use Rattle.std.proofs.Common.{◌≡◌, None, Some, sym, ◌∙◌, ap}
+use Rattle.std.specs.FinMap.{get}
+use Rattle.im_base_types.specs.Answers.{Fetch, found}
+use Rattle.im_page_writer.proofs.Outcomes.{out_of_memory, refused, sound_on, then}
+use Rattle.im_theory_tree.specs.Levels.{walk}
+use Rattle.im_tree_search.specs.Levels.{bodies_of}
+use Rattle.im_tree_search.proofs.Pages.{tree_still}
+use Rattle.im_engine_lock.specs.Locks.{PastAll}
+use Rattle.im_engine_lock.specs.Rows.{asked}
+use Rattle.im_engine_lock.specs.Table.{row}
+use Rattle.im_engine_index.proofs.Names.{finds_there, found_is, option_none}
+use Rattle.im_engine_index.proofs.Calls.{decided_as, memory_not, says_as}
+use Rattle.im_engine_index.proofs.reads.fetch.Goals as goal
+
+pub returns-in_err-rid-clause-kept : goal.returns-in_err-rid-clause-kept
+returns-in_err-rid-clause-kept g c pages m tree is = sound_on c.from_residual.result _ _ c.from_residual.ensures.1 (c.in_err-rid.ensures.kept pages tree)
+
+pub returns-in_err-verdict-clause-outcome : goal.returns-in_err-verdict-clause-outcome
+returns-in_err-verdict-clause-outcome g c = refused g.D.Disk c.from_residual-in_err-verdict.result c.from_residual-in_err-verdict.ensures.1 (out_of_memory g.D.Disk c.in_err-verdict.ensures.refused.0 c.in_ok-rid.ensures.outcome)
+
+pub returns-in_err-verdict-clause-kept : goal.returns-in_err-verdict-clause-kept
+returns-in_err-verdict-clause-kept g c pages m tree is = sound_on c.from_residual-in_err-verdict.result _ _ c.from_residual-in_err-verdict.ensures.1 (memory_not _ c.in_err-verdict.ensures.refused.0)
+
+pub returns-in-Some-clause-kept : goal.returns-in-Some-clause-kept
+returns-in-Some-clause-kept g c pages m tree is =
+    let key = c.args.key.now in
+    let there : get m key ≡ Some c.in-Some.rid = found_is m (walk (bodies_of pages)) key c.in_ok-rid.field-0 is (c.in_ok-rid.ensures.kept pages tree).answer ∙ c.in-Some.is in
+    let asks = ap row c.as_slice.ensures ∙ c.fetch_row-row.ensures m (finds_there m key c.in-Some.rid PastAll there) in
+    record {
+      decides = decided_as c.args.locks.now c.try_all.new.self c.args.transaction _ (asked (Fetch key) m) c.in_ok-verdict.verdict c.outcome_of.result c.in_ok-verdict.ensures.decided asks c.outcome_of.ensures.verdict;
+      says = says_as found c.outcome_of.result (Some c.in-Some.rid) (found _) c.outcome_of.ensures.value (ap found (sym there));
+    }
+
+pub returns-clause-kept : goal.returns-clause-kept
+returns-clause-kept g c pages m tree is =
+    let none : get m c.args.key.now ≡ None = found_is m (walk (bodies_of pages)) c.args.key.now c.in_ok-rid.field-0 is (c.in_ok-rid.ensures.kept pages tree).answer ∙ option_none c.in_ok-rid.field-0 c.in_default.not-Some in
+    c.fetch_absent.ensures.kept pages m (tree_still g.D.Disk tree c.in_ok-rid.ensures.outcome) is none
+
+pub returns-clause-outcome : goal.returns-clause-outcome
+returns-clause-outcome g c = then g.D.Disk c.in_ok-rid.ensures.outcome c.fetch_absent.ensures.outcome

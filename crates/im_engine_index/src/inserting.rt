@@ -1,0 +1,360 @@
+//! Inserts.
+
+ghost use Rattle.std.specs.Prelude.{◌≡◌, ◌≢◌, ◌≤◌, ◌⊎◌, ℕ, [], None, Some, length, false, true, IfOk, IfErr, OnErr};
+ghost use Rattle.std.specs.FinMap.{entries, get};
+ghost use Rattle.std.specs.FinMap.Entries.{find};
+ghost use Rattle.im_base_types.specs.declared.fault.Fault.TheVariants.{Memory, PagesFull, Capacity, Failed};
+ghost use Rattle.im_base_types.specs.Keys.{key_order};
+ghost use Rattle.im_base_types.specs.Answers.{Insert};
+ghost use Rattle.im_theory_log.specs.Histories.{Base};
+ghost use Rattle.im_base_types.specs.Maps.{IndexMap};
+ghost use Rattle.im_theory_log.specs.Writer.{Writer};
+ghost use Rattle.im_page_pool.specs.Pool.{page_at, IsAt};
+ghost use Rattle.im_page_writer.specs.PageWriter.{IsReadyWriter};
+ghost use Rattle.im_page_writer.specs.Outcome.{fault_of, mild, AllPages, AreLoaded, HasPages, IsSound, Logs, Outcome as Ends, Reads, Stays};
+ghost use Rattle.im_page.specs.Split.{HasRoom};
+ghost use Rattle.im_theory_tree.specs.Good.{IsGoodTree};
+ghost use Rattle.im_theory_tree.specs.Levels.{walk};
+ghost use Rattle.im_theory_tree.specs.Search.{IsOnWay};
+ghost use Rattle.im_tree_search.specs.Levels.{HasLevel, bodies, bodies_of};
+ghost use Rattle.im_tree_search.specs.Found.{HasTree};
+ghost use Rattle.im_smo_split.specs.Kept.{mild_to_split};
+ghost use Rattle.im_smo_split.specs.Plan.{FitsInLeaf};
+ghost use Rattle.im_smo_split.specs.Tops.{LacksRoomFor};
+ghost use Rattle.im_engine_lock.specs.Table.{SameTable};
+ghost use Rattle.im_engine_index.specs.declared.plan.Plan.TheVariants.{Fits, Split, UsedUp};
+ghost use Rattle.im_engine_index.specs.Asks.{IsPlace};
+ghost use Rattle.im_engine_index.specs.Edits.{MayEdit, InsertKept};
+ghost use Rattle.im_engine_index.specs.InsertPlans.{IsInsertPlan, PlanKept, IsPrepared, PreparedKept, prepared_with, ComesTo, MayInsert, PutKept};
+
+use crate::changes::{ask_insert_at, is_there, value_in};
+use crate::logging::log_insert;
+use crate::noted::Noted;
+use crate::outcome::Outcome;
+use crate::place::Place;
+use crate::plan::{Plan, Prepared};
+use im_base_disk::Disk;
+use im_base_types::{Fault, Lsn, PageNo, Rid, TxnId};
+use im_engine_lock::LockTable;
+use im_engine_txn::Transaction;
+use im_page_writer::PageWriter;
+use im_smo_actions::has_room;
+use im_smo_log::{late, run};
+use im_smo_pages::Images;
+use im_smo_split::plan_split;
+use im_tree_search::{leaf_for, tree_page};
+use std::alloc::Global;
+
+// ---- in front of the grant
+
+// What the refusal of a plan is answered as: a want of page numbers or levels is told behind the locks.
+fn not_planned(fault: Fault) -> Result<Plan, Fault>
+    ensures used_up { IfOk result (λ plan. (plan ≡ UsedUp) × (fault ≡ Capacity)) }
+    ensures others { IfErr result (λ e. (e ≡ fault) × (e ≢ Capacity)) }
+{
+    match fault {
+        Fault::Capacity => Ok(Plan::UsedUp),
+        _ => Err(fault),
+    }
+}
+
+// Whether a key goes into its leaf as that is: the key is there, or the leaf has room for it.
+fn goes_in(writer: &PageWriter, place: Place, key: &[u8]) -> bool
+    requires at { IsAt writer.now.pool place.leaf }
+    requires leaf { HasLevel 0 (page_at writer.now.pool place.leaf.number).body }
+    requires short { length key.now ≤ 255 }
+    ensures goes { result ≡ true → (place.rid ≢ None) ⊎ HasRoom true (page_at writer.now.pool place.leaf.number).body.entries (key.now, 0) }
+    ensures not { result ≡ false → (place.rid ≡ None) × ¬ (HasRoom true (page_at writer.now.pool place.leaf.number).body.entries (key.now, 0)) }
+{
+    if is_there(&place.rid) {
+        return true;
+    }
+    has_room(writer, place.leaf, key)
+}
+
+// The pages of the split that an absent key's leaf wants, which lacks room for the key.
+fn plan_pages<D: Disk>(
+    alloc: Global,
+    writer: &mut PageWriter,
+    disk: &mut D,
+    key: &[u8],
+    max: PageNo,
+) -> Result<Plan, Fault>
+    requires ready { IsReadyWriter D.Disk writer.old disk.old }
+    requires working { writer.old.failed ≡ false }
+    requires short { length key.now ≤ 255 }
+    ensures outcome { Ends D.Disk AreLoaded (mild_to_split (Some max)) writer.old disk.old writer.new disk.new (fault_of result) }
+    ensures kept { (pages : AllPages) → HasPages D.Disk AreLoaded pages writer.old disk.old → IsGoodTree (bodies_of pages) [] → find key_order key.now (walk (bodies_of pages)) ≡ None
+        → LacksRoomFor (bodies_of pages) key.now → PlanKept pages key.now max result }
+    ensures never { IfErr result (λ e. e ≢ Capacity) }
+{
+    match plan_split(alloc, writer, disk, key, Some(max)) {
+        Ok(images) => Ok(Plan::Split(images)),
+        Err(fault) => not_planned(fault),
+    }
+}
+
+// The place that was granted, with a plan beside it.
+fn with_plan(plan: Plan, outcome: Outcome<Place>) -> Outcome<Prepared>
+    ensures { result ≡ prepared_with plan outcome }
+{
+    match outcome {
+        Outcome::Granted(place) => Outcome::Granted(Prepared { place, plan }),
+        Outcome::Wait(holder) => Outcome::Wait(holder),
+        Outcome::Die => Outcome::Die,
+    }
+}
+
+// Asks the locks of an insert that is planned, whose key goes into this leaf, which is held.
+fn ask_planned<D: Disk>(
+    writer: &mut PageWriter,
+    disk: &mut D,
+    locks: &mut LockTable,
+    transaction: TxnId,
+    key: &[u8],
+    place: Place,
+    plan: Plan,
+) -> Result<Outcome<Prepared>, Fault>
+    requires ready { IsReadyWriter D.Disk writer.old disk.old }
+    requires working { writer.old.failed ≡ false }
+    requires at { IsAt writer.old.pool place.leaf }
+    requires leaf { HasLevel 0 (page_at writer.old.pool place.leaf.number).body }
+    ensures outcome { Reads D.Disk writer.old disk.old writer.new disk.new (fault_of result) }
+    ensures kept { (pages : AllPages) (m : IndexMap) (rid max : ℕ) → HasTree D.Disk pages writer.old disk.old → walk (bodies_of pages) ≡ entries m → IsPlace pages key.now m writer.old.pool place
+        → IsInsertPlan pages key.now max plan → IsSound result (IsPrepared pages transaction key.now rid max m locks.old locks.new writer.new.pool) }
+    ensures table { OnErr result (SameTable locks.old locks.new) }
+{
+    let outcome = ask_insert_at(writer, disk, locks, transaction, key, place)?;
+    Ok(with_plan(plan, outcome))
+}
+
+// Plans the split of an absent key's leaf, which lacks room for the key, and then asks the key's locks. Behind a refusal nobody holds
+// another lock than before.
+fn prepare_split<D: Disk>(
+    alloc: Global,
+    writer: &mut PageWriter,
+    disk: &mut D,
+    locks: &mut LockTable,
+    transaction: TxnId,
+    key: &[u8],
+    page: PageNo,
+    max: PageNo,
+) -> Result<Outcome<Prepared>, Fault>
+    requires ready { IsReadyWriter D.Disk writer.old disk.old }
+    requires working { writer.old.failed ≡ false }
+    requires short { length key.now ≤ 255 }
+    ensures outcome { Ends D.Disk AreLoaded (mild_to_split (Some max)) writer.old disk.old writer.new disk.new (fault_of result) }
+    ensures kept { (pages : AllPages) (m : IndexMap) (rid : ℕ) → HasPages D.Disk AreLoaded pages writer.old disk.old → IsGoodTree (bodies_of pages) [] → walk (bodies_of pages) ≡ entries m
+        → get m key.now ≡ None → IsOnWay (bodies_of pages) 0 key.now page → ¬ (HasRoom true (pages page).body.entries (key.now, 0))
+        → PreparedKept pages transaction key.now rid max m locks.old locks.new writer.new.pool result }
+    ensures never { IfErr result (λ e. e ≢ Capacity) }
+    ensures table { OnErr result (SameTable locks.old locks.new) }
+{
+    let plan = plan_pages(alloc, writer, disk, key, max)?;
+    let leaf = tree_page(writer, disk, page, 0)?;
+    let place = Place { leaf, rid: None };
+    ask_planned(writer, disk, locks, transaction, key, place, plan)
+}
+
+// Searches the leaf of a key, plans the split that it wants, and then asks the key's locks. Behind a refusal nobody holds another lock than
+// before.
+fn prepare<D: Disk>(
+    alloc: Global,
+    writer: &mut PageWriter,
+    disk: &mut D,
+    locks: &mut LockTable,
+    transaction: TxnId,
+    key: &[u8],
+    max: PageNo,
+) -> Result<Outcome<Prepared>, Fault>
+    requires ready { IsReadyWriter D.Disk writer.old disk.old }
+    requires working { writer.old.failed ≡ false }
+    requires short { length key.now ≤ 255 }
+    ensures outcome { Ends D.Disk AreLoaded (mild_to_split (Some max)) writer.old disk.old writer.new disk.new (fault_of result) }
+    ensures kept { (pages : AllPages) (m : IndexMap) (rid : ℕ) → HasPages D.Disk AreLoaded pages writer.old disk.old → IsGoodTree (bodies_of pages) [] → walk (bodies_of pages) ≡ entries m
+        → PreparedKept pages transaction key.now rid max m locks.old locks.new writer.new.pool result }
+    ensures never { IfErr result (λ e. e ≢ Capacity) }
+    ensures table { OnErr result (SameTable locks.old locks.new) }
+{
+    let leaf = leaf_for(writer, disk, key)?;
+    let rid = value_in(writer.page(leaf), key);
+    let place = Place { leaf, rid };
+    if goes_in(writer, place, key) {
+        return ask_planned(writer, disk, locks, transaction, key, place, Plan::Fits);
+    }
+    prepare_split(
+        alloc,
+        writer,
+        disk,
+        locks,
+        transaction,
+        key,
+        leaf.number,
+        max,
+    )
+}
+
+// ---- behind it
+
+// Logs the record of a key that comes into its leaf, behind the transaction's record at `last`.
+fn put<D: Disk>(
+    writer: &mut PageWriter,
+    disk: &mut D,
+    transaction: TxnId,
+    last: Lsn,
+    page: PageNo,
+    key: &[u8],
+    rid: Rid,
+) -> Result<Noted, Fault>
+    requires ready { IsReadyWriter D.Disk writer.old disk.old }
+    requires owner { 1 ≤ transaction }
+    requires keyed { 1 ≤ length key.now }
+    requires short { length key.now ≤ 255 }
+    ensures outcome { Logs D.Disk false mild writer.old disk.old writer.new disk.new (fault_of result) }
+    ensures kept { (b : Base) (base : ℕ) (s : Writer) (e undo_next max : ℕ) (to : ComesTo D.Disk b base s e transaction last undo_next key.now max writer.old disk.old)
+        → IsOnWay (bodies to.made.now) 0 key.now page → HasRoom true (bodies to.made.now page).entries (key.now, 0)
+        → PutKept D.Disk b base s e transaction key.now rid max to.since writer.new disk.new result }
+{
+    let lsn = log_insert(writer, disk, transaction, last, page, key, rid)?;
+    Ok(Noted {
+        last: lsn,
+        undo_next: lsn,
+    })
+}
+
+// Logs it on the key's leaf, which is searched: a structure change has made room in it.
+fn put_where_room_is<D: Disk>(
+    writer: &mut PageWriter,
+    disk: &mut D,
+    transaction: TxnId,
+    last: Lsn,
+    key: &[u8],
+    rid: Rid,
+) -> Result<Noted, Fault>
+    requires ready { IsReadyWriter D.Disk writer.old disk.old }
+    requires owner { 1 ≤ transaction }
+    requires keyed { 1 ≤ length key.now }
+    requires short { length key.now ≤ 255 }
+    ensures outcome { Logs D.Disk false mild writer.old disk.old writer.new disk.new (fault_of result) }
+    ensures kept { (b : Base) (base : ℕ) (s : Writer) (e undo_next max : ℕ) (to : ComesTo D.Disk b base s e transaction last undo_next key.now max writer.old disk.old)
+        → FitsInLeaf (bodies to.made.now) key.now
+        → PutKept D.Disk b base s e transaction key.now rid max to.since writer.new disk.new result }
+{
+    let leaf = leaf_for(writer, disk, key)?;
+    if !has_room(writer, leaf, key) {
+        return Err(Fault::NotAStore);
+    }
+    put(writer, disk, transaction, last, leaf.number, key, rid)
+}
+
+// Writes the pages of a plan, and then the key into its leaf. Behind the first of these a want of memory is `Failed`.
+fn split_and_put<D: Disk>(
+    writer: &mut PageWriter,
+    disk: &mut D,
+    transaction: &Transaction,
+    images: &Images,
+    key: &[u8],
+    rid: Rid,
+) -> Result<Noted, Fault>
+    requires ready { IsReadyWriter D.Disk writer.old disk.old }
+    requires working { writer.old.failed ≡ false }
+    requires owner { 1 ≤ transaction.now.number }
+    requires keyed { 1 ≤ length key.now }
+    requires short { length key.now ≤ 255 }
+    ensures outcome { Logs D.Disk true mild writer.old disk.old writer.new disk.new (fault_of result) }
+    ensures kept { (b : Base) (base : ℕ) (s : Writer) (e max page : ℕ) (may : MayInsert D.Disk b base s e transaction.now.number transaction.now.last transaction.now.undo_next key.now max (Split images.now) page writer.old disk.old)
+        → PutKept D.Disk b base s e transaction.now.number key.now rid max may.since writer.new disk.new result }
+{
+    let last = run(
+        writer,
+        disk,
+        images,
+        transaction.number,
+        transaction.last,
+        transaction.undo_next,
+    )?;
+    match put_where_room_is(writer, disk, transaction.number, last, key, rid) {
+        Ok(noted) => Ok(noted),
+        Err(fault) => Err(late(fault)),
+    }
+}
+
+// Logs what was prepared for a key that is not there, which goes into this leaf where it fits.
+fn log_prepared<D: Disk>(
+    writer: &mut PageWriter,
+    disk: &mut D,
+    transaction: &Transaction,
+    page: PageNo,
+    plan: Plan,
+    key: &[u8],
+    rid: Rid,
+) -> Result<Noted, Fault>
+    requires ready { IsReadyWriter D.Disk writer.old disk.old }
+    requires working { writer.old.failed ≡ false }
+    requires owner { 1 ≤ transaction.now.number }
+    requires keyed { 1 ≤ length key.now }
+    requires short { length key.now ≤ 255 }
+    ensures outcome { Logs D.Disk true (mild_to_split None) writer.old disk.old writer.new disk.new (fault_of result) }
+    ensures kept { (b : Base) (base : ℕ) (s : Writer) (e max : ℕ) (may : MayInsert D.Disk b base s e transaction.now.number transaction.now.last transaction.now.undo_next key.now max plan page writer.old disk.old)
+        → PutKept D.Disk b base s e transaction.now.number key.now rid max may.since writer.new disk.new result }
+    ensures used_up { IfErr result (λ e. e ≡ Capacity → plan ≡ UsedUp) }
+    ensures none { IfErr result (λ e. (e ≡ Memory) ⊎ (e ≡ Failed) → plan ≡ Fits → Stays D.Disk AreLoaded writer.old disk.old writer.new disk.new) }
+{
+    match plan {
+        Plan::Fits => put(
+            writer,
+            disk,
+            transaction.number,
+            transaction.last,
+            page,
+            key,
+            rid,
+        ),
+        Plan::Split(images) => split_and_put(writer, disk, transaction, &images, key, rid),
+        Plan::UsedUp => Err(Fault::Capacity),
+    }
+}
+
+/// Puts a key with its row id, where it is not there yet, for a transaction that is going. Its locks are those that `ask_insert` asks.
+/// The leaf is split first where it lacks room, within a limit of pages. It answers what the transaction's row notes, and `None` where the
+/// key is there.
+///
+/// The pages of a split are planned before a lock is asked. So `PagesFull` comes, and a want of memory for the plan, before the locks,
+/// `Capacity` behind them, and a want of memory behind the grant is `Failed`. Behind `Memory`, `PagesFull`, `Wait` and `Die` nobody holds
+/// another lock than before.
+///
+/// The leaf is searched once. Where it has room and holds the next key, that is one get for each level, and the change is one more.
+pub fn insert<D: Disk>(
+    alloc: Global,
+    writer: &mut PageWriter,
+    disk: &mut D,
+    locks: &mut LockTable,
+    transaction: &Transaction,
+    key: &[u8],
+    rid: Rid,
+    max: PageNo,
+) -> Result<Outcome<Option<Noted>>, Fault>
+    requires ready { IsReadyWriter D.Disk writer.old disk.old }
+    requires working { writer.old.failed ≡ false }
+    requires owner { 1 ≤ transaction.now.number }
+    requires keyed { 1 ≤ length key.now }
+    requires short { length key.now ≤ 255 }
+    ensures outcome { Logs D.Disk true (mild_to_split (Some max)) writer.old disk.old writer.new disk.new (fault_of result) }
+    ensures kept { (b : Base) (base : ℕ) (s : Writer) (e : ℕ) → MayEdit D.Disk b base s e transaction.now.number transaction.now.last transaction.now.undo_next (Insert key.now rid) locks.old writer.old disk.old
+        → InsertKept D.Disk b base s e transaction.now.number key.now rid max locks.old locks.new disk.old writer.new disk.new result }
+    ensures table { IfErr result (λ e. (e ≡ Memory) ⊎ (e ≡ PagesFull) → SameTable locks.old locks.new) }
+{
+    let prepared = match prepare(alloc, writer, disk, locks, transaction.number, key, max)? {
+        Outcome::Granted(prepared) => prepared,
+        Outcome::Wait(holder) => return Ok(Outcome::Wait(holder)),
+        Outcome::Die => return Ok(Outcome::Die),
+    };
+    let Prepared { place, plan } = prepared;
+    if is_there(&place.rid) {
+        return Ok(Outcome::Granted(None));
+    }
+    match log_prepared(writer, disk, transaction, place.leaf.number, plan, key, rid) {
+        Ok(noted) => Ok(Outcome::Granted(Some(noted))),
+        Err(fault) => Err(late(fault)),
+    }
+}

@@ -1,0 +1,19 @@
+//! What a transaction's row notes of a change.
+
+use im_base_types::Lsn;
+
+/// Where the records of a transaction end behind a change, and where its undo goes on.
+#[derive(Clone, Copy, Debug, PartialEq, Eq)]
+pub struct Noted {
+    pub last: Lsn,
+    pub undo_next: Lsn,
+}
+
+/// The same of a delete.
+#[derive(Clone, Copy, Debug, PartialEq, Eq)]
+pub struct Taken {
+    pub last: Lsn,
+    pub undo_next: Lsn,
+    /// Whether the key's leaf, left empty, stays in the tree for want of memory.
+    pub leaf_kept: bool,
+}

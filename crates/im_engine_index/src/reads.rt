@@ -1,0 +1,134 @@
+//! One entry: that of a key, or the next.
+
+ghost use Rattle.std.specs.Prelude.{◌≡◌, ◌<◌, length, None, IfOk, IfErr, OnErr};
+ghost use Rattle.std.specs.FinMap.{entries, get};
+ghost use Rattle.im_base_types.specs.Maps.{IndexMap, first_in};
+ghost use Rattle.im_base_types.specs.Answers.{Fetch, found, entry as entry_found};
+ghost use Rattle.im_page_writer.specs.PageWriter.{IsReadyWriter};
+ghost use Rattle.im_page_writer.specs.Outcome.{fault_of, AllPages, IsSound, Reads};
+ghost use Rattle.im_theory_tree.specs.Levels.{walk};
+ghost use Rattle.im_tree_search.specs.Levels.{bodies_of, start_at};
+ghost use Rattle.im_tree_search.specs.Found.{HasTree};
+ghost use Rattle.im_engine_lock.specs.Table.{SameTable};
+ghost use Rattle.im_engine_lock.specs.Table.{named};
+ghost use Rattle.im_engine_lock.specs.Rows.{name_of};
+ghost use Rattle.im_page.specs.Entry.{entry_at};
+ghost use Rattle.im_engine_index.specs.Outcomes.{seek_at};
+ghost use Rattle.im_engine_index.specs.Reads.{IsRead};
+
+use crate::asking::{name_in, outcome_of};
+use crate::outcome::Outcome;
+use im_base_disk::Disk;
+use im_base_types::{Fault, Key, Rid, TxnId};
+use im_engine_lock::{LockTable, Name, fetch_row, seek_row};
+use im_page::Page;
+use im_page_writer::PageWriter;
+use im_tree_search::{leaf_and_next, locate, next_entry};
+
+// Asks the name behind a key that is not there.
+fn fetch_absent<D: Disk>(
+    writer: &mut PageWriter,
+    disk: &mut D,
+    locks: &mut LockTable,
+    transaction: TxnId,
+    key: &[u8],
+) -> Result<Outcome<Option<Rid>>, Fault>
+    requires ready { IsReadyWriter D.Disk writer.old disk.old }
+    ensures outcome { Reads D.Disk writer.old disk.old writer.new disk.new (fault_of result) }
+    ensures kept { (pages : AllPages) (m : IndexMap) → HasTree D.Disk pages writer.old disk.old → walk (bodies_of pages) ≡ entries m → get m key.now ≡ None
+        → IsSound result (IsRead found transaction (Fetch key.now) m locks.old locks.new) }
+    ensures table { OnErr result (SameTable locks.old locks.new) }
+{
+    let (leaf, next) = leaf_and_next(writer, disk, key)?;
+    let row = fetch_row(key, false, name_in(writer.page(leaf), &next));
+    let verdict = locks.try_all(transaction, row.as_slice())?;
+    Ok(outcome_of(verdict, None))
+}
+
+/// The row id of a key, `None` where the index doesn't have it. The key's lock is asked where it is there, else that of the next
+/// name, which is looked for only then.
+///
+/// Refused as `im_tree_search::next_entry` is, and `Memory` where the lock table wants it. Behind a refusal, `Wait` and `Die` nobody holds
+/// another lock than before.
+pub fn fetch<D: Disk>(
+    writer: &mut PageWriter,
+    disk: &mut D,
+    locks: &mut LockTable,
+    transaction: TxnId,
+    key: &[u8],
+) -> Result<Outcome<Option<Rid>>, Fault>
+    requires ready { IsReadyWriter D.Disk writer.old disk.old }
+    ensures outcome { Reads D.Disk writer.old disk.old writer.new disk.new (fault_of result) }
+    ensures kept { (pages : AllPages) (m : IndexMap) → HasTree D.Disk pages writer.old disk.old → walk (bodies_of pages) ≡ entries m
+        → IsSound result (IsRead found transaction (Fetch key.now) m locks.old locks.new) }
+    ensures table { OnErr result (SameTable locks.old locks.new) }
+{
+    if let Some(rid) = locate(writer, disk, key)? {
+        let row = fetch_row(key, true, Name::End);
+        let verdict = locks.try_all(transaction, row.as_slice())?;
+        return Ok(outcome_of(verdict, Some(rid)));
+    }
+    fetch_absent(writer, disk, locks, transaction, key)
+}
+
+// An entry of a page, copied.
+fn entry_of(page: &Page, at: usize) -> Result<(Key, Rid), Fault>
+    requires { at < length page.now.body.entries }
+    ensures entry { IfOk result (λ entry. entry ≡ entry_at page.now.body.entries at) }
+    ensures always { IfErr result (λ e. ⊥) }
+{
+    Ok((Key::new(page.key(at))?, page.value(at)))
+}
+
+// The name of what was found.
+fn name_found(found: &Option<(Key, Rid)>) -> Name<'_>
+    ensures { named result ≡ name_of found.now }
+{
+    match found {
+        Some((key, _)) => Name::Key(key.bytes()),
+        None => Name::End,
+    }
+}
+
+// The first entry at or above a key, or above it, copied.
+fn found_by<D: Disk>(
+    writer: &mut PageWriter,
+    disk: &mut D,
+    key: &[u8],
+    inclusive: bool,
+) -> Result<Option<(Key, Rid)>, Fault>
+    requires ready { IsReadyWriter D.Disk writer.old disk.old }
+    ensures outcome { Reads D.Disk writer.old disk.old writer.new disk.new (fault_of result) }
+    ensures kept { (pages : AllPages) → HasTree D.Disk pages writer.old disk.old → IsSound result (λ found. found ≡ first_in (start_at inclusive key.now) (walk (bodies_of pages))) }
+{
+    let Some(place) = next_entry(writer, disk, key, inclusive)? else {
+        return Ok(None);
+    };
+    let entry = entry_of(writer.page(place.frame), place.at)?;
+    Ok(Some(entry))
+}
+
+/// The first entry at or above a key (`inclusive`), or the first above it, copied; `None` where the index has none. The lock of its
+/// key is asked, else that of the name past the last key.
+///
+/// Refused as `im_tree_search::next_entry` is, and `Memory` where the lock table wants it. Behind a refusal, `Wait` and `Die` nobody holds
+/// another lock than before.
+pub fn seek<D: Disk>(
+    writer: &mut PageWriter,
+    disk: &mut D,
+    locks: &mut LockTable,
+    transaction: TxnId,
+    key: &[u8],
+    inclusive: bool,
+) -> Result<Outcome<Option<(Key, Rid)>>, Fault>
+    requires ready { IsReadyWriter D.Disk writer.old disk.old }
+    ensures outcome { Reads D.Disk writer.old disk.old writer.new disk.new (fault_of result) }
+    ensures kept { (pages : AllPages) (m : IndexMap) → HasTree D.Disk pages writer.old disk.old → walk (bodies_of pages) ≡ entries m
+        → IsSound result (IsRead entry_found transaction (seek_at inclusive key.now) m locks.old locks.new) }
+    ensures table { OnErr result (SameTable locks.old locks.new) }
+{
+    let found = found_by(writer, disk, key, inclusive)?;
+    let row = seek_row(name_found(&found));
+    let verdict = locks.try_all(transaction, row.as_slice())?;
+    Ok(outcome_of(verdict, found))
+}

@@ -1,0 +1,100 @@
+//! The entries of a range.
+
+ghost use Rattle.std.specs.Prelude.{◌≡◌, ◌≤◌, ℕ, length, IfOk, IfErr, IfSome, OnErr};
+ghost use Rattle.std.specs.FinMap.{entries};
+ghost use Rattle.im_base_types.specs.declared.fault.Fault.TheVariants.{Memory};
+ghost use Rattle.im_base_types.specs.Keys.{Key as KeyBytes};
+ghost use Rattle.im_base_types.specs.Pages.{Entry};
+ghost use Rattle.im_base_types.specs.Maps.{IndexMap};
+ghost use Rattle.im_base_types.specs.Answers.{Scan, limit_of};
+ghost use Rattle.im_page_writer.specs.PageWriter.{IsReadyWriter};
+ghost use Rattle.im_page_writer.specs.Outcome.{fault_of, AllPages, IsSound, Reads};
+ghost use Rattle.im_theory_tree.specs.Levels.{walk};
+ghost use Rattle.im_tree_search.specs.Levels.{bodies_of};
+ghost use Rattle.im_tree_search.specs.Found.{HasTree};
+ghost use Rattle.im_tree_search.specs.NextKeys.{IsFar};
+ghost use Rattle.im_engine_lock.specs.Locks.{IsFree};
+ghost use Rattle.im_engine_lock.specs.Rows.{asked};
+ghost use Rattle.im_engine_lock.specs.Found.{IsScanOf, named_if};
+ghost use Rattle.im_engine_lock.specs.Table.{Decides, SameTable, locks_of};
+ghost use Rattle.im_engine_index.specs.Outcomes.{name_behind, entries_found, IfGranted};
+ghost use Rattle.im_engine_index.specs.Reads.{IsRead};
+
+use crate::asking::outcome_of;
+use crate::outcome::Outcome;
+use im_base_disk::Disk;
+use im_base_types::{Fault, Key, Rid, TxnId};
+use im_engine_lock::{LockTable, Name, Verdict, scan_row};
+use im_page_writer::PageWriter;
+use im_tree_search::{NextKey, entries_between};
+use std::alloc::Global;
+
+// A limit, brought into 1 to 256.
+fn bounded(limit: usize) -> usize
+    ensures { result ≡ limit_of limit }
+{
+    if limit == 0 {
+        return 1;
+    }
+    if 256 < limit {
+        return 256;
+    }
+    limit
+}
+
+// The name behind a range, where something is said of it.
+fn name_of_end(behind: &Option<NextKey>) -> Option<Name<'_>>
+    requires { IfSome behind.now IsFar }
+    ensures { named_if result ≡ name_behind behind.now }
+{
+    match behind {
+        None => None,
+        Some(NextKey::There(key)) => Some(Name::Key(key.bytes())),
+        Some(_) => Some(Name::End),
+    }
+}
+
+// Asks the locks of the entries of a range, and of the name behind it.
+fn ask_range(
+    alloc: Global,
+    locks: &mut LockTable,
+    transaction: TxnId,
+    list: &[(Key, Rid)],
+    behind: &Option<NextKey>,
+) -> Result<Verdict, Fault>
+    requires { IfSome behind.now IsFar }
+    ensures decided { IfOk result (λ verdict. (m : IndexMap) (lo hi : KeyBytes) (n : ℕ) → IsScanOf m lo hi n list.now (name_behind behind.now) → Decides locks.old transaction (asked (Scan lo hi n) m) verdict locks.new) }
+    ensures memory { IfErr result (λ e. e ≡ Memory) }
+    ensures table { OnErr result (SameTable locks.old locks.new) }
+{
+    let requests = scan_row(alloc, list, name_of_end(behind))?;
+    locks.try_all(transaction, requests.as_slice())
+}
+
+/// Copies of the entries from `lo` to `hi`, in rising key order, the first `limit` of them, which is brought into 1 to 256, and never
+/// more (`most`). The lock of each entry is asked and, where they are fewer than the limit, that of the first key above `hi`, else of
+/// the name past the last key; where `hi` is below `lo` there is no entry, and no lock is asked.
+///
+/// Refused as `im_tree_search::entries_between` is, and `Memory` where it is wanted for the locks. Behind a refusal, `Wait` and `Die` nobody
+/// holds another lock than before.
+pub fn scan<D: Disk>(
+    alloc: Global,
+    writer: &mut PageWriter,
+    disk: &mut D,
+    locks: &mut LockTable,
+    transaction: TxnId,
+    lo: &[u8],
+    hi: &[u8],
+    limit: usize,
+) -> Result<Outcome<Vec<(Key, Rid)>>, Fault>
+    requires ready { IsReadyWriter D.Disk writer.old disk.old }
+    ensures outcome { Reads D.Disk writer.old disk.old writer.new disk.new (fault_of result) }
+    ensures kept { (pages : AllPages) (m : IndexMap) → HasTree D.Disk pages writer.old disk.old → walk (bodies_of pages) ≡ entries m
+        → IsSound result (IsRead entries_found transaction (Scan lo.now hi.now limit) m locks.old locks.new) }
+    ensures most { IfOk result (λ outcome. IfGranted outcome (λ list. length list.items ≤ limit_of limit)) }
+    ensures table { OnErr result (SameTable locks.old locks.new) }
+{
+    let (list, behind) = entries_between(alloc, writer, disk, lo, hi, bounded(limit))?;
+    let verdict = ask_range(alloc, locks, transaction, list.as_slice(), &behind)?;
+    Ok(outcome_of(verdict, list))
+}

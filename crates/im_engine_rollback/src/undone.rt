@@ -1,0 +1,12 @@
+//! What a turn of a rollback came to.
+
+use im_base_types::Lsn;
+
+/// What is left of a transaction behind one change that was taken back.
+#[derive(Clone, Copy, Debug, PartialEq, Eq)]
+pub enum Undone {
+    /// Other changes: its records end at `last`, and its undo goes on at `undo_next`.
+    More { last: Lsn, undo_next: Lsn },
+    /// Nothing: its End is logged.
+    Ended,
+}

@@ -1,0 +1,28 @@
+//! A row of the table.
+
+use im_base_types::{Lsn, TxnId};
+
+/// What a transaction may do next.
+#[derive(Clone, Copy, Debug, Default, PartialEq, Eq)]
+pub enum Mark {
+    /// It takes every step.
+    #[default]
+    Going,
+    /// It was told to die: only a rollback is taken.
+    MustRollBack,
+    /// It rolls back: only a step of that is taken.
+    RollingBack,
+    /// Its Commit is logged and waits for a force: no step is taken.
+    Committing,
+}
+
+/// An active transaction.
+#[derive(Clone, Copy, Debug, Default, PartialEq, Eq)]
+pub struct Transaction {
+    pub number: TxnId,
+    /// The LSN of its last record, 0 for none.
+    pub last: Lsn,
+    /// The LSN of its next record to undo, 0 for none.
+    pub undo_next: Lsn,
+    pub mark: Mark,
+}

@@ -1,7 +1,0 @@
-use Rattle.im_flush.proofs.ImageSteps.{image_appended}
-use Rattle.im_flush.proofs.images.append_image.Goals as goal
-
-pub returns-clause-kept : goal.returns-clause-kept
-returns-clause-kept g c b base s table starts st may =
-    image_appended g.D.Disk b base s c.args.log.now table c.args.disk.now st c.args.page c.args.bytes.now c.append.new.self c.append.new.disk c.append.result starts may
-    (c.append.ensures.kept base s.log s.durable st.log_is) c.append.ensures.ready c.append.ensures.changes

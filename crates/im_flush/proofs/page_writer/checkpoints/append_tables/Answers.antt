@@ -1,8 +1,0 @@
-use Rattle.std.proofs.Common.{subst}
-use Rattle.im_record.specs.Entry.{Entry}
-use Rattle.im_log.specs.Kept.{AppendKept}
-use Rattle.im_flush.proofs.page_writer.checkpoints.append_tables.Goals as goal
-
-pub returns-clause-kept : goal.returns-clause-kept
-returns-clause-kept g c base all durable is =
-    subst (λ (e : Entry). AppendKept g.D.Disk base all durable e c.args.disk.now c.append.new.self c.append.new.disk c.append.result) c.checkpoint-record.ensures.view (c.append.ensures.kept base all durable is)

@@ -1,5 +1,0 @@
-use Rattle.im_flush.specs.PageWriter.{IsReadyWriter}
-use Rattle.im_flush_tests.proofs.page_writer.change_each.Given as goal
-
-abbrev pub invariant-loop-page : goal.invariant-loop-page
-invariant-loop-page g l = record { ready : IsReadyWriter g.D.Disk l.writer l.disk }

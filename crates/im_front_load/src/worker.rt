@@ -1,0 +1,93 @@
+//! A worker.
+
+ghost use Rattle.std.specs.Prelude.{◌≡◌, ◌≤◌, ◌+◌, ◌*◌, ◌++◌, IfOk, OnOk};
+ghost use Rattle.std.specs.Int.{w32, to_be_bytes};
+
+use crate::stepping::made;
+use im_base_types::{Rid, TxnId};
+use im_front::{Fault, Front, Reply, Share, Step, Store};
+use std::alloc::{AllocError, Global};
+use std::sync::Wait;
+use std::sync::ledger::Ledger;
+
+/// Makes so many transactions, each of three steps or more: number i inserts the key of the worker and i, with row id i, and commits,
+/// or rolls back where it must die. It stops where a step is refused.
+pub(crate) fn work<E: Store, L: Ledger, R: Wait>(
+    rt: &R,
+    alloc: Global,
+    front: &Front<E, L>,
+    mine: &mut Share<L>,
+    worker: u32,
+    txns: u32,
+) -> Result<(), Fault>
+    ensures { OnOk result (mine.old.made.amount + 3 * txns ≤ mine.new.made.amount) }
+{
+    for i in 0..txns {
+        let Ok(key) = key_of(alloc, worker, i) else {
+            return Err(Fault::Memory);
+        };
+        one_insert(rt, front, mine, key, Rid::from(i))?;
+    }
+    Ok(())
+}
+
+// One transaction, which inserts a key.
+fn one_insert<E: Store, L: Ledger, R: Wait>(
+    rt: &R,
+    front: &Front<E, L>,
+    mine: &mut Share<L>,
+    key: Vec<u8>,
+    rid: Rid,
+) -> Result<(), Fault>
+    ensures { OnOk result (mine.old.made.amount + 3 ≤ mine.new.made.amount) }
+{
+    let Reply::Started(t) = made(rt, front, mine, Step::Begin)? else {
+        return Err(Fault::Failed);
+    };
+    match made(rt, front, mine, Step::Insert(t, key, rid))? {
+        Reply::Die => roll_back(rt, front, mine, t),
+        _ => commit(rt, front, mine, t),
+    }
+}
+
+// Commits a transaction.
+fn commit<E: Store, L: Ledger, R: Wait>(
+    rt: &R,
+    front: &Front<E, L>,
+    mine: &mut Share<L>,
+    t: TxnId,
+) -> Result<(), Fault>
+    ensures { OnOk result (mine.old.made.amount + 1 ≤ mine.new.made.amount) }
+{
+    made(rt, front, mine, Step::Commit(t))?;
+    Ok(())
+}
+
+// Rolls a transaction back, to its end.
+fn roll_back<E: Store, L: Ledger, R: Wait>(
+    rt: &R,
+    front: &Front<E, L>,
+    mine: &mut Share<L>,
+    t: TxnId,
+) -> Result<(), Fault>
+    ensures { OnOk result (mine.old.made.amount + 1 ≤ mine.new.made.amount) }
+{
+    let mut reply = made(rt, front, mine, Step::Rollback(t))?;
+    for _round in rt.forever() {
+        if !matches!(reply, Reply::More) {
+            return Ok(());
+        }
+        reply = made(rt, front, mine, Step::Continue(t))?;
+    }
+    unreachable!()
+}
+
+/// The key of a worker's transaction: both numbers, four bytes each, the greatest byte first. Refused where there is no memory.
+pub fn key_of(alloc: Global, worker: u32, number: u32) -> Result<Vec<u8>, AllocError>
+    ensures { IfOk result (λ key. key.items ≡ to_be_bytes w32 worker ++ to_be_bytes w32 number) }
+{
+    let mut key = Vec::with_capacity(alloc, 8)?;
+    key.extend_from_slice(&worker.to_be_bytes())?;
+    key.extend_from_slice(&number.to_be_bytes())?;
+    Ok(key)
+}

@@ -1,0 +1,278 @@
+-- How transactions of the store begin and end.
+use Rattle.std.proofs.Common.{◌≡◌, ◌≢◌, ◌≤◌, ◌^◌, ◌+◌, ◌-◌, inl, inr, ℕ, List, ◌++◌, [], ◌∷◌, length, length-append, map, refl, sym, ◌∙◌, ap, subst, true, false, Bool, Option, None, Some, append_assoc, arith}
+use Rattle.std.specs.Prelude.{find}
+use Rattle.std.specs.FinMap.{entries, entries-insert}
+use Rattle.std.specs.Cmp.Lexicographic.{nat_list_cmp_total}
+use Rattle.im_base_types.proofs.Maps.{entries_drop}
+use Rattle.im_base_types.specs.Maps.{with_key, without_key}
+use Rattle.im_base_types.specs.Changes.{Change, Put, Drop, Effect, seen_effect, undone}
+use Rattle.im_base_types.specs.Answers.{Mark, Idle, Going, MustRollBack, RollingBack, Committing, Begin, Started, Commit, Committed, Rollback, RolledBack, Continue, More, FlushPage, Force, Checkpoint, Done, Refused}
+use Rattle.im_base_types.specs.Lives.{Shown, effects, effect_asked}
+use Rattle.im_base_types.specs.Refusals.{failed as has_failed, capacity}
+use Rattle.im_engine_txn.specs.declared.transaction.Mark as code
+use Rattle.im_engine_txn.specs.declared.transaction.Mark.TheVariants as marks
+use Rattle.im_engine_txn.specs.declared.transaction.Transaction.{Transaction}
+use Rattle.im_engine_txn.specs.Rows.{begun as row_begun, is_of, changed, with_mark}
+use Rattle.im_engine_txn.specs.LookUps.{without}
+use Rattle.im_engine_txn.proofs.LookUps.{look_ups_follow}
+use Rattle.im_engine_lock.specs.Table.{Table, locks_of, IsReleased}
+use Rattle.im_engine_lock.specs.View.{View, Txn, idle, set_txn, begun, marked, committed_by, dropped_by, undid_more, undid_last, broken, locks_in, MayRollBack}
+use Rattle.im_engine_lock.specs.Machine.{begins, commits, drops, turns, undoes, ends, flushes, forces, checkpoints, breaks, barred_to, barred_to_rollback, barred_to_continue, or_else, fault_if}
+use Rattle.im_engine_lock.proofs.Serving.{table-serves}
+use Rattle.im_engine_lock.proofs.Invariant.{by_txn}
+use Rattle.im_theory_steps.specs.Serving.{mark_of}
+use Rattle.im_theory_steps.proofs.Rows.{length_map, one_fewer}
+use Rattle.im_theory_steps.proofs.Asking.{effects_append, effects_acked}
+use Rattle.im_front_memory.specs.Changed.{noted}
+use Rattle.im_front_memory.specs.Listed.{taken_back}
+use Rattle.im_front_memory.specs.Laws.{busy_is}
+use Rattle.im_front_memory.specs.Stored.{State, mark_at, marks_of, checked, IsStored, Kept}
+use Rattle.im_front_memory.proofs.Moving.{moved, barred_is, moves_by, shown_is}
+use Rattle.im_front_memory.proofs.Rolling.{rolling_is}
+
+-- what checks that pass say
+no_fail : (f : Bool) (o : Option ℕ) → or_else (fault_if f has_failed) o ≡ None → (f ≡ false) × (o ≡ None)
+no_fail true o e = absurd cc
+no_fail false o e = (refl, e)
+
+commit_passed : (m : Mark) → barred_to m ≡ None → m ≡ Going
+commit_passed Idle e = absurd cc
+commit_passed Going e = refl
+commit_passed MustRollBack e = absurd cc
+commit_passed RollingBack e = absurd cc
+commit_passed Committing e = absurd cc
+
+rollback_passed : (m : Mark) → barred_to_rollback m ≡ None → MayRollBack m
+rollback_passed Idle e = absurd cc
+rollback_passed Going e = inl refl
+rollback_passed MustRollBack e = inr refl
+rollback_passed RollingBack e = absurd cc
+rollback_passed Committing e = absurd cc
+
+continue_passed : (m : Mark) → barred_to_continue m ≡ None → m ≡ RollingBack
+continue_passed Idle e = absurd cc
+continue_passed Going e = absurd cc
+continue_passed MustRollBack e = absurd cc
+continue_passed RollingBack e = refl
+continue_passed Committing e = absurd cc
+
+-- a row of a transaction that is active is found
+row_there : (o : Option Transaction) → (mark_at o ≡ Idle → ⊥) → (row : Transaction) × (o ≡ Some row)
+row_there None busy = absurd (busy refl)
+row_there (Some row) busy = (row, refl)
+
+no_row : (o : Option Transaction) → mark_at o ≡ Idle → o ≡ None
+no_row None e = refl
+no_row (Some row) e = absurd (never row.mark e)
+  where
+    never : (m : code.Mark) → mark_of m ≡ Idle → ⊥
+    never marks.Going e = cc
+    never marks.MustRollBack e = cc
+    never marks.RollingBack e = cc
+    never marks.Committing e = cc
+
+busy_mark : (m : Mark) → MayRollBack m → m ≡ Idle → ⊥
+busy_mark m (inl e) i = let q : Going ≡ Idle = sym e ∙ i in cc
+busy_mark m (inr e) i = let q : MustRollBack ≡ Idle = sym e ∙ i in cc
+
+rolling_mark : (m : Mark) → m ≡ RollingBack → m ≡ Idle → ⊥
+rolling_mark m e i = let q : RollingBack ≡ Idle = sym e ∙ i in cc
+
+module _ (before : List Effect) (s : Shown) (v : View) (st : State) (h : IsStored before s v st) where
+  -- ---- a transaction begins
+
+  module _ (passes : checked st Begin ≡ None) where
+    works_at_begin : v.failed ≡ false
+    works_at_begin = h.failing ∙ (no_fail st.failed _ passes).0
+
+    fresh : v.txns v.next ≡ idle
+    fresh = (busy_is before s v h.reached).rest works_at_begin v.next ((busy_is before s v h.reached).fresh v.next (omega arith))
+
+    none_there : find (is_of v.next) st.rows ≡ None
+    none_there = no_row (find (is_of v.next) st.rows) (sym (h.marks v.next) ∙ ap (λ (x : Txn). x.mark) fresh)
+
+    pub begun_kept : (n : ℕ) (new : State) → n ≡ st.next → n ≤ 2 ^ 62 → new.rows ≡ st.rows ++ row_begun n ∷ [] → new.next ≡ n + 1 → new.list ≡ st.list → new.table ≡ st.table → ((u : ℕ) → new.net u ≡ st.net u) → new.failed ≡ st.failed
+        → new.journal ≡ st.journal → Kept before s v Begin (Started n) new
+    begun_kept n new number small rows next list table net failed journal =
+        let here : n ≡ v.next = number ∙ sym h.numbers in
+        let x = record idle { mark = Going } in
+        let found : (u : ℕ) → find (is_of u) new.rows ≡ find (is_of u) (st.rows ++ row_begun v.next ∷ []) = λ u. ap (find (is_of u)) (rows ∙ ap (λ (k : ℕ). st.rows ++ row_begun k ∷ []) here) in
+        subst (λ (k : ℕ). Kept before s v Begin (Started k) new) (sym here)
+        (moved before s v st h Begin (Started v.next) (begun v) new
+        (moves_by v (begun v) Begin (Started v.next) (barred_is before s v st h Begin ∙ passes) (begins refl (subst (λ (k : ℕ). k ≤ 2 ^ 62) here small) refl refl))
+        (h.walk ∙ sym list)
+        (by_txn (λ u y. y.mark ≡ marks_of new u) v.txns v.next x
+        (sym (ap mark_at (found v.next ∙ look_ups_follow.begun_own v.next st.rows none_there)))
+        (λ u ne. h.marks u ∙ sym (ap mark_at (found u ∙ look_ups_follow.begun_other u v.next st.rows ne))))
+        (by_txn (λ u y. y.net ≡ new.net u) v.txns v.next x
+        (sym (ap (λ (y : Txn). y.net) fresh) ∙ h.nets v.next ∙ sym (net v.next))
+        (λ u ne. h.nets u ∙ sym (net u)))
+        (by_txn (λ u y. y.locks ≡ locks_of new.table u) v.txns v.next x
+        (sym (ap (λ (y : Txn). y.locks) fresh) ∙ h.locks v.next ∙ ap (λ (k : Table). locks_of k v.next) (sym table))
+        (λ u ne. h.locks u ∙ ap (λ (k : Table). locks_of k u) (sym table)))
+        (let long = ap length rows ∙ length-append st.rows (row_begun n ∷ []) in let a = h.active in omega arith)
+        (let k = h.numbers in omega arith)
+        (h.failing ∙ sym failed)
+        (journal ∙ h.kept))
+
+    -- numbers are used up
+    pub spent_kept : (new : State) → new.failed ≡ true → new.rows ≡ st.rows → new.next ≡ st.next → new.list ≡ st.list → new.table ≡ st.table → ((u : ℕ) → new.net u ≡ st.net u) → new.journal ≡ st.journal → Kept before s v Begin (Refused capacity) new
+    spent_kept new failed rows next list table net journal =
+        moved before s v st h Begin (Refused capacity) (broken v (locks_in v)) new
+        (moves_by v (broken v (locks_in v)) Begin (Refused capacity) (barred_is before s v st h Begin ∙ passes) (breaks capacity (locks_in v) (inl refl) refl refl))
+        (h.walk ∙ sym list)
+        (λ u. h.marks u ∙ ap (λ (l : List Transaction). mark_at (find (is_of u) l)) (sym rows))
+        (λ u. h.nets u ∙ sym (net u))
+        (λ u. h.locks u ∙ ap (λ (k : Table). locks_of k u) (sym table))
+        (h.active ∙ ap length (sym rows))
+        (h.numbers ∙ sym next)
+        (sym failed)
+        (journal ∙ h.kept)
+
+  -- ---- a transaction ends
+
+  module _ (t : ℕ) (busy : marks_of st t ≡ Idle → ⊥) (new : State) (rows : new.rows ≡ without t st.rows) (once : (row : Transaction) → find (is_of t) st.rows ≡ Some row → length st.rows ≡ length new.rows + 1)
+      (released : IsReleased st.table t new.table) (gone : new.net t ≡ []) (others : (u : ℕ) → u ≢ t → new.net u ≡ st.net u) where
+    ended_marks : (u : ℕ) → (set_txn v.txns t idle u).mark ≡ marks_of new u
+    ended_marks =
+        by_txn (λ u y. y.mark ≡ marks_of new u) v.txns t idle
+        (sym (ap mark_at (ap (find (is_of t)) rows ∙ look_ups_follow.ended_own t st.rows)))
+        (λ u ne. h.marks u ∙ sym (ap mark_at (ap (find (is_of u)) rows ∙ look_ups_follow.ended_other u t st.rows ne)))
+
+    ended_nets : (u : ℕ) → (set_txn v.txns t idle u).net ≡ new.net u
+    ended_nets = by_txn (λ u y. y.net ≡ new.net u) v.txns t idle (sym gone) (λ u ne. h.nets u ∙ sym (others u ne))
+
+    ended_active : v.active - 1 ≡ length new.rows
+    ended_active = let found = row_there (find (is_of t) st.rows) busy in one_fewer v.active (length st.rows) (length new.rows) h.active (once found.0 found.1)
+
+  asked_noted : (t : ℕ) (m : Mark) (e net : Effect) → m ≡ Going → e ≡ seen_effect net → effects (effect_asked t true m e) ≡ noted net
+  asked_noted t m e net going is = ap (λ (x : Mark × Effect). effects (effect_asked t true x.0 x.1)) (λ i. (going i, is i)) ∙ by net
+    where
+      by : (net : Effect) → effects (effect_asked t true Going (seen_effect net)) ≡ noted net
+      by [] = refl
+      by (c ∷ cs) = refl
+
+  pub committed_kept : (t : ℕ) → checked st (Commit t) ≡ None → (new : State) → new.rows ≡ without t st.rows → ((row : Transaction) → find (is_of t) st.rows ≡ Some row → length st.rows ≡ length new.rows + 1)
+      → IsReleased st.table t new.table → new.net t ≡ [] → ((u : ℕ) → u ≢ t → new.net u ≡ st.net u) → new.list ≡ st.list → new.next ≡ st.next → new.failed ≡ st.failed → new.journal ≡ st.journal ++ noted (st.net t) → Kept before s v (Commit t) Committed new
+  committed_kept t passes new rows once released gone others list next failed journal =
+      let is : marks_of st t ≡ Going = commit_passed (marks_of st t) (no_fail st.failed _ passes).1 in
+      let going : (v.txns t).mark ≡ Going = h.marks t ∙ is in
+      let busy : marks_of st t ≡ Idle → ⊥ = busy_mark (marks_of st t) (inl is) in
+      let shown = shown_is before s v st h in
+      let more : effects (effect_asked t true (s.running t).mark (s.running t).effect) ≡ noted (st.net t) =
+      asked_noted t (s.running t).mark (s.running t).effect (st.net t) (shown.marks t ∙ going) (shown.effects t (inl going) ∙ ap seen_effect (h.nets t)) in
+      moved before s v st h (Commit t) Committed (committed_by v t) new
+      (moves_by v (committed_by v t) (Commit t) Committed (barred_is before s v st h (Commit t) ∙ passes) (commits t refl going refl refl))
+      (h.walk ∙ sym list)
+      (ended_marks t busy new rows once released gone others)
+      (ended_nets t busy new rows once released gone others)
+      (table-serves.committed v st.table new.table h.locks t released)
+      (ended_active t busy new rows once released gone others)
+      (h.numbers ∙ sym next)
+      (h.failing ∙ sym failed)
+      (journal ∙ ap (λ (l : List Effect). l ++ noted (st.net t)) h.kept ∙ append_assoc before (effects s.asked) (noted (st.net t))
+      ∙ ap (λ (l : List Effect). before ++ l) (ap (λ (l : List Effect). effects s.asked ++ l) (sym more) ∙ sym (effects_append s.asked (effect_asked t true (s.running t).mark (s.running t).effect))))
+
+  pub dropped_kept : (t : ℕ) → checked st (Rollback t) ≡ None → st.net t ≡ [] → (new : State) → new.rows ≡ without t st.rows → ((row : Transaction) → find (is_of t) st.rows ≡ Some row → length st.rows ≡ length new.rows + 1)
+      → IsReleased st.table t new.table → ((u : ℕ) → new.net u ≡ st.net u) → new.list ≡ st.list → new.next ≡ st.next → new.failed ≡ st.failed → new.journal ≡ st.journal → Kept before s v (Rollback t) RolledBack new
+  dropped_kept t passes clean new rows once released net list next failed journal =
+      let may = rollback_passed (marks_of st t) (no_fail st.failed _ passes).1 in
+      let busy : marks_of st t ≡ Idle → ⊥ = busy_mark (marks_of st t) may in
+      moved before s v st h (Rollback t) RolledBack (dropped_by v t) new
+      (moves_by v (dropped_by v t) (Rollback t) RolledBack (barred_is before s v st h (Rollback t) ∙ passes) (drops t refl (subst MayRollBack (sym (h.marks t)) may) (h.nets t ∙ clean) refl refl))
+      (h.walk ∙ sym list)
+      (ended_marks t busy new rows once released (net t ∙ clean) (λ u ne. net u))
+      (ended_nets t busy new rows once released (net t ∙ clean) (λ u ne. net u))
+      (table-serves.dropped v st.table new.table h.locks t released)
+      (ended_active t busy new rows once released (net t ∙ clean) (λ u ne. net u))
+      (h.numbers ∙ sym next)
+      (h.failing ∙ sym failed)
+      (journal ∙ h.kept)
+
+  some_net : (e : Effect) → (e ≡ [] → ⊥) → (c : Change) × (cs : Effect) × (e ≡ c ∷ cs)
+  some_net [] some = absurd (some refl)
+  some_net (c ∷ cs) some = (c, cs, refl)
+
+  pub turned_back_kept : (t : ℕ) → checked st (Rollback t) ≡ None → (st.net t ≡ [] → ⊥) → (new : State) → new.rows ≡ map (changed t (with_mark marks.RollingBack)) st.rows → new.table ≡ st.table → ((u : ℕ) → new.net u ≡ st.net u)
+      → new.list ≡ st.list → new.next ≡ st.next → new.failed ≡ st.failed → new.journal ≡ st.journal → Kept before s v (Rollback t) More new
+  turned_back_kept t passes some new rows table net list next failed journal =
+      let may = rollback_passed (marks_of st t) (no_fail st.failed _ passes).1 in
+      let found = row_there (find (is_of t) st.rows) (busy_mark (marks_of st t) may) in
+      let f = with_mark marks.RollingBack in
+      let x = record (v.txns t) { mark = RollingBack } in
+      let left = some_net (st.net t) some in
+      moved before s v st h (Rollback t) More (marked v t RollingBack) new
+      (moves_by v (marked v t RollingBack) (Rollback t) More (barred_is before s v st h (Rollback t) ∙ passes) (turns t left.0 left.1 refl (subst MayRollBack (sym (h.marks t)) may) (h.nets t ∙ left.2) refl refl))
+      (h.walk ∙ sym list)
+      (by_txn (λ u y. y.mark ≡ marks_of new u) v.txns t x
+      (sym (ap mark_at (ap (find (is_of t)) rows ∙ look_ups_follow.changed_own t f (λ r. refl) st.rows found.0 found.1)))
+      (λ u ne. h.marks u ∙ sym (ap mark_at (ap (find (is_of u)) rows ∙ look_ups_follow.changed_other u t f (λ r. refl) st.rows ne))))
+      (by_txn (λ u y. y.net ≡ new.net u) v.txns t x (h.nets t ∙ sym (net t)) (λ u ne. h.nets u ∙ sym (net u)))
+      (by_txn (λ u y. y.locks ≡ locks_of new.table u) v.txns t x (h.locks t ∙ ap (λ (k : Table). locks_of k t) (sym table)) (λ u ne. h.locks u ∙ ap (λ (k : Table). locks_of k u) (sym table)))
+      (h.active ∙ sym (length_map (changed t f) st.rows) ∙ ap length (sym rows))
+      (h.numbers ∙ sym next)
+      (h.failing ∙ sym failed)
+      (journal ∙ h.kept)
+
+  -- ---- a change is taken back
+
+  undone_list : (c : Change) → entries (undone v.walk c) ≡ taken_back c st.list
+  undone_list (Put k r) = entries_drop v.walk k ∙ ap (without_key k) h.walk
+  undone_list (Drop k r) = entries-insert nat_list_cmp_total v.walk k r ∙ ap (with_key k r) h.walk
+
+  module _ (t : ℕ) (passes : checked st (Continue t) ≡ None) where
+    is_rolling : marks_of st t ≡ RollingBack
+    is_rolling = continue_passed (marks_of st t) (no_fail st.failed _ passes).1
+
+    rolling : (v.txns t).mark ≡ RollingBack
+    rolling = h.marks t ∙ is_rolling
+
+    -- it has a change to take back
+    pub newest : (c : Change) × (cs : Effect) × (st.net t ≡ c ∷ cs)
+    newest = some_net (st.net t) (λ none. rolling_is before s v h.reached t rolling (h.nets t ∙ none))
+
+    pub undone_kept : (c : Change) (cs : Effect) → st.net t ≡ c ∷ cs → (cs ≡ [] → ⊥) → (new : State) → new.net t ≡ cs → ((u : ℕ) → u ≢ t → new.net u ≡ st.net u) → new.list ≡ taken_back c st.list → new.rows ≡ st.rows → new.table ≡ st.table
+        → new.next ≡ st.next → new.failed ≡ st.failed → new.journal ≡ st.journal → Kept before s v (Continue t) More new
+    undone_kept c cs net some new own others list rows table next failed journal =
+        let left = some_net cs some in
+        let x = record (v.txns t) { net = left.0 ∷ left.1 } in
+        moved before s v st h (Continue t) More (undid_more v t c (left.0 ∷ left.1)) new
+        (moves_by v (undid_more v t c (left.0 ∷ left.1)) (Continue t) More (barred_is before s v st h (Continue t) ∙ passes) (undoes t c left.0 left.1 refl rolling (h.nets t ∙ net ∙ ap (λ (e : Effect). c ∷ e) left.2) refl refl))
+        (undone_list c ∙ sym list)
+        (by_txn (λ u y. y.mark ≡ marks_of new u) v.txns t x (h.marks t ∙ ap (λ (l : List Transaction). mark_at (find (is_of t) l)) (sym rows)) (λ u ne. h.marks u ∙ ap (λ (l : List Transaction). mark_at (find (is_of u) l)) (sym rows)))
+        (by_txn (λ u y. y.net ≡ new.net u) v.txns t x (sym left.2 ∙ sym own) (λ u ne. h.nets u ∙ sym (others u ne)))
+        (by_txn (λ u y. y.locks ≡ locks_of new.table u) v.txns t x (h.locks t ∙ ap (λ (k : Table). locks_of k t) (sym table)) (λ u ne. h.locks u ∙ ap (λ (k : Table). locks_of k u) (sym table)))
+        (h.active ∙ ap length (sym rows))
+        (h.numbers ∙ sym next)
+        (h.failing ∙ sym failed)
+        (journal ∙ h.kept)
+
+    pub undone_last_kept : (c : Change) (cs : Effect) → st.net t ≡ c ∷ cs → cs ≡ [] → (new : State) → new.net t ≡ cs → ((u : ℕ) → u ≢ t → new.net u ≡ st.net u) → new.list ≡ taken_back c st.list → new.rows ≡ without t st.rows
+        → ((row : Transaction) → find (is_of t) st.rows ≡ Some row → length st.rows ≡ length new.rows + 1) → IsReleased st.table t new.table → new.next ≡ st.next → new.failed ≡ st.failed → new.journal ≡ st.journal → Kept before s v (Continue t) RolledBack new
+    undone_last_kept c cs net none new own others list rows once released next failed journal =
+        let busy : marks_of st t ≡ Idle → ⊥ = rolling_mark (marks_of st t) is_rolling in
+        moved before s v st h (Continue t) RolledBack (undid_last v t c) new
+        (moves_by v (undid_last v t c) (Continue t) RolledBack (barred_is before s v st h (Continue t) ∙ passes) (ends t c refl rolling (h.nets t ∙ net ∙ ap (λ (e : Effect). c ∷ e) none) refl refl))
+        (undone_list c ∙ sym list)
+        (ended_marks t busy new rows once released (own ∙ none) others)
+        (ended_nets t busy new rows once released (own ∙ none) others)
+        (table-serves.undone v st.table new.table h.locks t c released)
+        (ended_active t busy new rows once released (own ∙ none) others)
+        (h.numbers ∙ sym next)
+        (h.failing ∙ sym failed)
+        (journal ∙ h.kept)
+
+  -- ---- what is done at once
+
+  pub flushed_kept : (p : ℕ) → checked st (FlushPage p) ≡ None → Kept before s v (FlushPage p) Done st
+  flushed_kept p passes =
+      moved before s v st h (FlushPage p) Done v st (moves_by v v (FlushPage p) Done (barred_is before s v st h (FlushPage p) ∙ passes) (flushes p refl refl refl)) h.walk h.marks h.nets h.locks h.active h.numbers h.failing h.kept
+
+  pub forced_kept : checked st Force ≡ None → Kept before s v Force Done st
+  forced_kept passes =
+      moved before s v st h Force Done v st (moves_by v v Force Done (barred_is before s v st h Force ∙ passes) (forces refl refl refl)) h.walk h.marks h.nets h.locks h.active h.numbers h.failing
+      (h.kept ∙ ap (λ (l : List Effect). before ++ l) (sym (effects_acked s.asked)))
+
+  pub checkpointed_kept : checked st Checkpoint ≡ None → Kept before s v Checkpoint Done st
+  checkpointed_kept passes =
+      moved before s v st h Checkpoint Done v st (moves_by v v Checkpoint Done (barred_is before s v st h Checkpoint ∙ passes) (checkpoints refl refl refl)) h.walk h.marks h.nets h.locks h.active h.numbers h.failing h.kept

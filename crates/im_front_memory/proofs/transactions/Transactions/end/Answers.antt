@@ -1,0 +1,18 @@
+use Rattle.std.proofs.Common.{length, ap, sym, subst, arith, not, Bool, true, false, refl, ◌≡◌}
+use Rattle.std.proofs.lemmas.List.Filters.{length-filter_both}
+use Rattle.im_engine_txn.specs.Rows.{AreBelow, is_of}
+use Rattle.im_front_memory.proofs.transactions.Transactions.end.Goals as goal
+
+pub invariant_of-self : goal.invariant_of-self
+invariant_of-self c =
+    let left = c.end.ensures.left in
+    let both = length-filter_both (λ row. not (is_of c.args.number row)) (is_of c.args.number) (λ row. twice (is_of c.args.number row)) c.self.inside.table in
+    let long = ap length left in
+    let few = c.self.invariant.1 in (
+      subst (AreBelow c.self.inside.next) (sym left) (c.numbers_stay_below.ensures.ends c.self.inside.next c.args.number c.self.inside.table c.self.invariant.0),
+      omega (arith, both, long, few),
+    )
+  where
+    twice : (b : Bool) → b ≡ not (not b)
+    twice true = refl
+    twice false = refl

@@ -1,0 +1,96 @@
+//! A store in memory is a store.
+
+ghost use Rattle.std.specs.Prelude.{◌≡◌};
+ghost use Rattle.im_front.specs.Calls.{asked_by, told_by};
+ghost use Rattle.im_front.specs.Held.{IsResting};
+ghost use Rattle.im_front_memory.specs.Stored.{Serves, state_of};
+
+use crate::memory_store::MemoryStore;
+use crate::sorted;
+use crate::transactions::Transactions;
+use im_base_types::{Key, Rid};
+use im_engine_lock::LockTable;
+use im_front::{Fault, Reply, Step, Store};
+use std::alloc::Global;
+use std::collections::HashMap;
+
+impl MemoryStore {
+    /// A store without entries.
+    pub fn new(alloc: Global) -> MemoryStore
+        ensures { IsResting ⟦<MemoryStore as Store>⟧ result }
+    {
+        MemoryStore {
+            alloc,
+            entries: Vec::new(alloc),
+            txns: Transactions::new(),
+            locks: LockTable::new(alloc),
+            nets: HashMap::new(alloc),
+            journal: Vec::new(alloc),
+            failed: false,
+        }
+    }
+
+    // Makes a step.
+    fn make(&mut self, step: &Step) -> Reply
+        ensures { Serves (state_of self.old) (asked_by step.now) (told_by result) (state_of self.new) }
+    {
+        if let Some(fault) = self.refusal(step) {
+            return Reply::Refused(fault);
+        }
+        match step {
+            Step::Begin => self.begin(),
+            Step::Fetch(t, key) => self.fetch(*t, key),
+            Step::Seek(t, key) => self.seek(*t, key),
+            Step::Next(t, key) => self.next(*t, key),
+            Step::Scan(t, lo, hi, limit) => self.scan(*t, lo, hi, *limit),
+            Step::Insert(t, key, rid) => self.insert(*t, key, *rid),
+            Step::Delete(t, key) => self.delete(*t, key),
+            Step::Commit(t) => self.commit(*t),
+            Step::Rollback(t) => self.roll_back(*t),
+            Step::Continue(t) => self.go_on(*t),
+            Step::FlushPage(_) => Reply::Done,
+            Step::Force => Reply::Done,
+            Step::Checkpoint => Reply::Done,
+        }
+    }
+}
+
+impl Store for MemoryStore {
+    ghost use Rattle.std.specs.Prelude.{◌≡◌, length};
+    ghost use Rattle.im_front.specs.declared.fault.Fault.TheVariants.{Memory};
+    ghost use Rattle.im_front_memory.specs.Stored.{IsStored, state_of};
+    ghost use Rattle.im_front_memory.specs.Laws.{stops_whole, settled};
+
+    ghost tells = { Unit {0} };
+
+    ghost life = { λ before s v e. IsStored before s v (state_of e) };
+
+    ghost leaves = { λ e P. P ((state_of e).journal) };
+
+    ghost actives = { λ e. length (state_of e).rows };
+
+    ghost refuses = { λ old new fault. (new ≡ old) × (fault ≡ Memory) };
+
+    fn step(&mut self, step: &Step) -> Reply {
+        self.make(step)
+    }
+
+    fn entries(&mut self, alloc: Global) -> Result<Vec<(Key, Rid)>, Fault> {
+        match sorted::copied(alloc, &self.entries) {
+            Ok(list) => Ok(list),
+            Err(_) => Err(Fault::Memory),
+        }
+    }
+
+    fn active(&self) -> usize {
+        self.txns.len()
+    }
+
+    fn failed(&self) -> bool {
+        self.failed
+    }
+
+    ghost stops = { λ before s v e h. stops_whole before s v (state_of e) h };
+
+    ghost settles = { λ before s v e h works none. settled before s v (state_of e) h works none };
+}

@@ -1,4 +1,0 @@
-use Rattle.im_load.proofs.loading.add_flusher.Goals as goal
-
-pub returns : goal.returns
-returns g c = λ txns. c.in_ok-add.ensures txns c.args.args.now.flush

@@ -1,0 +1,75 @@
+-- What a stop leaves while a log file is made.
+use Rattle.std.proofs.Common.{◌≡◌, ◌≢◌, inl, inr, ℕ, ◌<◌, ◌≤◌, List, [], ◌∷◌, ◌++◌, length, take, drop, get_or, slice_index, Option, Some, None, refl, sym, ◌∙◌, ap, subst, arith, length-append}
+use Rattle.std.proofs.lemmas.Bool.{cases_eq}
+use Rattle.std.proofs.lemmas.List.{get_or-take, drop_at, length-take-le}
+use Rattle.im_log_gate.proofs.BatchLemmas.{from_drop}
+use Rattle.im_log_gate.proofs.Places.{reaches_by}
+use Rattle.im_base_disk.specs.Disk.{Holds, Torn}
+use Rattle.im_log_gate.specs.Batches.{in_front, batches_from, batches, Reaches}
+use Rattle.im_log_gate.specs.Header.{header, first_gate, IsUnmade, IsMade, IsBlank}
+
+-- a file of at most one byte, while its first byte is written
+pub torn_short : (file c : List ℕ) → length file ≤ 1 → Torn 0 1 file c → IsUnmade c
+torn_short file c short torn = inl (omega (arith, torn.no_longer, short))
+
+pub written_short : (file new : List ℕ) → length file ≤ 1 → Holds 0 (0 ∷ []) file new → new ≡ 0 ∷ []
+written_short [] new short holds = holds
+written_short (a ∷ []) new short holds = holds
+written_short (a ∷ b ∷ file) new short holds = absurd (omega (arith, short))
+
+-- a file with this byte 0, the header and a closed gate
+abbrev pub made_with : ℕ → List ℕ → List ℕ
+made_with first junk = first ∷ header ++ 0 ∷ junk
+
+in_front-nil : (bs : Option (List (List ℕ))) → bs ≡ in_front [] bs
+in_front-nil None = refl
+in_front-nil (Some bs) = refl
+
+pub no_batches : (first : ℕ) (junk : List ℕ) → batches (first_gate (made_with first junk)) (made_with first junk) ≡ Some []
+unfolding first_gate
+no_batches first junk = refl
+
+pub is_made : (junk : List ℕ) → IsMade (made_with 1 junk)
+unfolding first_gate
+is_made junk = record { within = omega (arith, length-append header (0 ∷ junk)); made = refl; named = refl }
+
+pub reaches_first : (junk : List ℕ) → Reaches (first_gate (made_with 1 junk)) (made_with 1 junk) (first_gate (made_with 1 junk))
+unfolding first_gate
+reaches_first junk = record { within = omega (arith, length-append header (0 ∷ junk)); placed = refl; front = λ rest. in_front-nil (batches_from 0 rest) }
+
+pub gate_closed : (junk : List ℕ) → slice_index (made_with 1 junk) (first_gate (made_with 1 junk)) ≢ 1
+unfolding first_gate
+gate_closed junk one = let clash : 0 ≡ 1 = one in omega (arith, clash)
+
+blank : (first : ℕ) (junk : List ℕ) → IsBlank (made_with first junk)
+blank first junk = elim (cases_eq first 1) [
+  | inl one ↦ subst (λ (f : ℕ). IsBlank (made_with f junk)) (sym one) (inr (is_made junk, no_batches 1 junk))
+  | inr other ↦ inl (inr other)
+]
+
+-- behind a closed byte 0
+module _ (file : List ℕ) (begun : 1 ≤ length file) (closed : get_or file 0 0 ≢ 1) where
+  pub torn_closed : (n : ℕ) (c : List ℕ) → Torn 1 n file c → IsUnmade c
+  torn_closed n c torn = inr (λ one. closed (sym (get_or-take 1 file 0 0 (omega arith)) ∙ ap (λ (l : List ℕ). get_or l 0 0) (sym torn.before) ∙ get_or-take 1 c 0 0 (omega arith) ∙ one))
+
+  abbrev pub behind_header : List ℕ
+  behind_header = drop 32 file
+
+  pub written_closed : (new : List ℕ) → Holds 1 (header ++ 0 ∷ []) file new → new ≡ made_with (get_or file 0 0) behind_header
+  written_closed new holds = holds ∙ ap (λ (l : List ℕ). l ++ (header ++ 0 ∷ []) ++ behind_header) (take_one file begun)
+    where
+      take_one : (l : List ℕ) → 1 ≤ length l → take 1 l ≡ get_or l 0 0 ∷ []
+      take_one [] le = absurd (omega (arith, le))
+      take_one (a ∷ l) le = refl
+
+  pub torn_opening : (first : ℕ) (junk c : List ℕ) → Torn 0 1 (made_with first junk) c → IsBlank c
+  torn_opening first junk [] torn = absurd (omega (arith, torn.no_shorter))
+  torn_opening first junk (a ∷ c) torn = subst (λ (l : List ℕ). IsBlank (a ∷ l)) (sym torn.after) (blank a junk)
+
+pub written_opening : (first : ℕ) (junk new : List ℕ) → Holds 0 (1 ∷ []) (made_with first junk) new → new ≡ made_with 1 junk
+written_opening first junk new holds = holds
+
+-- the first gate of a file that has one
+pub first_reaches : (first : ℕ) (file : List ℕ) → first < length file → Reaches first file first
+first_reaches first file within =
+    reaches_by first file first [] within (omega arith) (λ rest. from_drop first (take first file ++ rest) ∙ ap (batches_from 0) (drop_at (take first file) rest first (length-take-le first file (omega (arith, within)))) ∙ in_front-nil (batches_from 0 rest))

@@ -1,0 +1,51 @@
+use Rattle.std.proofs.Common.{arith, ◌+◌, length, take}
+use Rattle.im_log_gate.proofs.Puts.{first_put, second_put, put_adds, put_moves, put_closed}
+use Rattle.im_log_gate.proofs.Fronts.{first_front, second_front}
+use Rattle.im_log_gate.proofs.put.put_behind.Goals as goal
+
+pub returns-in_err-write_synced-clause-any_moment : goal.returns-in_err-write_synced-clause-any_moment
+returns-in_err-write_synced-clause-any_moment g c first reaches =
+    first_put g.D.Disk c.args.file first c.args.disk.now c.write_synced.new.disk c.args.place c.args.records.now (take (length c.args.records.now + 5) c.spell.new.room) c.spell.ensures.spelled c.requires.some c.requires.most
+    reaches c.requires.closed c.requires.durable c.write_synced.ensures.any_moment
+
+pub returns-in_err-write_synced-2-clause-any_moment : goal.returns-in_err-write_synced-2-clause-any_moment
+returns-in_err-write_synced-2-clause-any_moment g c first reaches =
+    second_put g.D.Disk c.args.file first c.args.disk.now c.write_synced.new.disk c.args.place c.args.records.now (take (length c.args.records.now + 5) c.spell.new.room) c.spell.ensures.spelled c.requires.some c.requires.most
+    reaches c.requires.closed c.requires.durable c.write_synced-2.new.disk c.in_ok-write_synced.ensures.written c.in_ok-write_synced.ensures.changes c.in_ok-write_synced.ensures.durable
+    (first_put g.D.Disk c.args.file first c.args.disk.now c.write_synced.new.disk c.args.place c.args.records.now (take (length c.args.records.now + 5) c.spell.new.room) c.spell.ensures.spelled c.requires.some c.requires.most
+    reaches c.requires.closed c.requires.durable c.write_synced.ensures.any_moment) c.write_synced-2.ensures.any_moment
+
+pub returns-clause-any_moment : goal.returns-clause-any_moment
+returns-clause-any_moment g c first reaches =
+    second_put g.D.Disk c.args.file first c.args.disk.now c.write_synced.new.disk c.args.place c.args.records.now (take (length c.args.records.now + 5) c.spell.new.room) c.spell.ensures.spelled c.requires.some c.requires.most
+    reaches c.requires.closed c.requires.durable c.write_synced-2.new.disk c.in_ok-write_synced.ensures.written c.in_ok-write_synced.ensures.changes c.in_ok-write_synced.ensures.durable
+    (first_put g.D.Disk c.args.file first c.args.disk.now c.write_synced.new.disk c.args.place c.args.records.now (take (length c.args.records.now + 5) c.spell.new.room) c.spell.ensures.spelled c.requires.some c.requires.most
+    reaches c.requires.closed c.requires.durable c.write_synced.ensures.any_moment) c.write_synced-2.ensures.any_moment
+
+pub returns-clause-put : goal.returns-clause-put
+returns-clause-put g c first reaches =
+    put_adds g.D.Disk c.args.file first c.args.disk.now c.write_synced.new.disk c.args.place c.args.records.now (take (length c.args.records.now + 5) c.spell.new.room) c.spell.ensures.spelled c.requires.some c.requires.most
+    reaches c.requires.closed c.requires.durable c.write_synced-2.new.disk c.in_ok-write_synced.ensures.written c.in_ok-write_synced-2.ensures.written
+
+pub returns-clause-reaches : goal.returns-clause-reaches
+returns-clause-reaches g c first reaches =
+    put_moves g.D.Disk c.args.file first c.args.disk.now c.write_synced.new.disk c.args.place c.args.records.now (take (length c.args.records.now + 5) c.spell.new.room) c.spell.ensures.spelled c.requires.some c.requires.most
+    reaches c.requires.closed c.requires.durable c.write_synced-2.new.disk c.in_ok-write_synced.ensures.written c.in_ok-write_synced-2.ensures.written
+
+pub returns-clause-closed : goal.returns-clause-closed
+returns-clause-closed g c first reaches =
+    put_closed g.D.Disk c.args.file first c.args.disk.now c.write_synced.new.disk c.args.place c.args.records.now (take (length c.args.records.now + 5) c.spell.new.room) c.spell.ensures.spelled c.requires.some c.requires.most
+    reaches c.requires.closed c.requires.durable c.write_synced-2.new.disk c.in_ok-write_synced.ensures.written c.in_ok-write_synced-2.ensures.written
+
+pub returns-in_err-write_synced-clause-front : goal.returns-in_err-write_synced-clause-front
+returns-in_err-write_synced-clause-front g c n le = first_front g.D.Disk c.args.file c.args.disk.now c.write_synced.new.disk c.args.place (length (take (length c.args.records.now + 5) c.spell.new.room)) n le c.requires.durable c.write_synced.ensures.any_moment
+
+pub returns-in_err-write_synced-2-clause-front : goal.returns-in_err-write_synced-2-clause-front
+returns-in_err-write_synced-2-clause-front g c n le =
+    second_front g.D.Disk c.args.file c.args.disk.now c.write_synced.new.disk c.args.place (length (take (length c.args.records.now + 5) c.spell.new.room)) n le c.requires.durable c.write_synced-2.new.disk (take (length c.args.records.now + 5) c.spell.new.room) (λ told. let w = c.requires.within told in omega arith) c.in_ok-write_synced.ensures.written c.in_ok-write_synced.ensures.changes c.in_ok-write_synced.ensures.durable
+    (first_front g.D.Disk c.args.file c.args.disk.now c.write_synced.new.disk c.args.place (length (take (length c.args.records.now + 5) c.spell.new.room)) n le c.requires.durable c.write_synced.ensures.any_moment) c.write_synced-2.ensures.any_moment
+
+pub returns-clause-front : goal.returns-clause-front
+returns-clause-front g c n le =
+    second_front g.D.Disk c.args.file c.args.disk.now c.write_synced.new.disk c.args.place (length (take (length c.args.records.now + 5) c.spell.new.room)) n le c.requires.durable c.write_synced-2.new.disk (take (length c.args.records.now + 5) c.spell.new.room) (λ told. let w = c.requires.within told in omega arith) c.in_ok-write_synced.ensures.written c.in_ok-write_synced.ensures.changes c.in_ok-write_synced.ensures.durable
+    (first_front g.D.Disk c.args.file c.args.disk.now c.write_synced.new.disk c.args.place (length (take (length c.args.records.now + 5) c.spell.new.room)) n le c.requires.durable c.write_synced.ensures.any_moment) c.write_synced-2.ensures.any_moment

@@ -1,0 +1,294 @@
+//! The gate of a log file: opening and making the file, reading its batches, and putting one more.
+
+ghost use Rattle.std.specs.Prelude.{◌≡◌, ◌+◌, ◌*◌, ◌^◌, ◌<◌, ◌≤◌, ◌↔◌, ◌⊎◌, ◌++◌, ℕ, List, false, true, not, is_ok, length, take, IfErr, IfOk, IfSome, OnOk, MatchOption, [], ◌∷◌};
+
+use crate::creation::{close_made, make};
+use crate::opening::{has_header, is_made};
+use crate::put::put_behind;
+use crate::size::batch_size;
+use im_base_disk::{Disk, read_vec};
+use im_base_types::{Fault, FileId, TxnId};
+use std::alloc::Global;
+
+// No record ends past this place.
+const PLACES: u64 = 1 << 62;
+
+// The most that stands behind a gate and is written with a batch: a length, 16,384 bytes of records and the next gate.
+const ROOM: usize = 16_389;
+
+/// Where a log file has its first gate, in bytes from its start: behind the header.
+pub const FIRST_GATE: u64 = 31;
+
+// Where the log of a file of this format starts: the LSN of its first byte, and the least number of a transaction.
+const BASE: u64 = 0;
+
+const LEAST_NUMBER: TxnId = 1;
+
+/// A gate of a log file, with the room from which every batch is written. It carries its file and what that file says of where its
+/// log starts: the place of its first gate, the LSN of its first byte, and the least number of a transaction. It has failed once a call failed otherwise than for want of memory, and refuses every call from then on.
+#[derive(Drop)]
+pub struct Gate {
+    file: FileId,
+    first: u64,
+    base: u64,
+    least: TxnId,
+    place: u64,
+    room: Vec<u8>,
+    failed: bool,
+    ghost sized: { length room.items ≡ 16389 },
+    ghost low: { base + first ≤ 2 ^ 62 },
+    ghost numbered: { 1 ≤ least },
+}
+
+// The room from which every batch is written.
+fn make_room(alloc: Global) -> Result<Vec<u8>, Fault>
+    ensures size { IfOk result (λ room. length room.items ≡ 16389) }
+    ensures causes { IfErr result (λ e. e ≡ Fault.Memory) }
+{
+    vec![in alloc; 0; ROOM].map_err(|_| Fault::Memory)
+}
+
+impl Gate {
+    ghost use Rattle.im_base_disk.specs.Runs.{LeavesIn, ChangesOnly, Reads};
+    ghost use Rattle.im_base_disk.specs.Disk.{Only};
+    ghost use Rattle.im_base_types.specs.declared.file_id.FileId.TheVariants.{Pages};
+    ghost use Rattle.im_base_types.specs.declared.fault.Fault.TheVariants.{Device, Failed, LogFull, Memory, NotAStore};
+    ghost use Rattle.im_log_gate.specs.Batches.{with_batch, in_front, IsBeforeOrWith};
+    ghost use Rattle.im_log_gate.specs.Header.{IsUnmade, IsMade, IsBlank};
+    ghost use Rattle.im_log_gate.specs.Gate.{file_of, first_of, base_at, least_at, place_of, has_failed, InOneFile, StartsAs, logged, unread, IsReading, IsReady};
+
+    // The first gate of a made file, with this room.
+    #[tactic(auto, unfolding(crate::specs::Header::first_gate, crate::specs::Header::base_of, crate::specs::Header::least_number))]
+    fn at_start(file: FileId, room: Vec<u8>) -> Gate
+        requires size { length room.items ≡ 16389 }
+        ensures starts { (bytes : List ℕ) → IsMade bytes → StartsAs result bytes }
+        ensures gate { (file_of result ≡ file) × (place_of result ≡ first_of result) × (has_failed result ≡ false) }
+    {
+        Gate {
+            file,
+            first: FIRST_GATE,
+            base: BASE,
+            least: LEAST_NUMBER,
+            place: FIRST_GATE,
+            room,
+            failed: false,
+        }
+    }
+
+    /// Makes a log without batches of a file that is none yet, and answers its closed gate: by six device calls, or four where
+    /// the file has two bytes or more. It takes the room from which every batch is written, before the first call.
+    ///
+    /// Refused `Memory`, with no device call made, or `Device`.
+    pub fn create<D: Disk>(alloc: Global, disk: &mut D, file: FileId) -> Result<Gate, Fault>
+        requires working { D.failed disk.old ≡ false }
+        requires unmade { D.tells → IsUnmade (D.seen disk.old file) }
+        requires durable { Only file (D.seen disk.old) (D.may_leave disk.old) }
+        ensures ready { IfOk result (λ gate. IsReady D.Disk gate disk.new) }
+        ensures usable { IfOk result (λ gate. has_failed gate ≡ false) }
+        ensures first { IfOk result (λ gate. (file_of gate ≡ file) × (place_of gate ≡ first_of gate)) }
+        ensures starts { IfOk result (λ gate. D.tells → StartsAs gate (D.seen disk.new file)) }
+        ensures made { OnOk result (D.tells → IsMade (D.seen disk.new file)) }
+        ensures empty { IfOk result (λ gate. D.tells → logged D.Disk gate disk.new ≡ Some []) }
+        ensures any_moment { LeavesIn D.Disk file disk.old disk.new IsBlank }
+        ensures changes { ChangesOnly D.Disk file disk.old disk.new }
+        ensures causes { IfErr result (λ e. (e ≡ Memory) ⊎ (e ≡ Device)) }
+        ensures memory { result ≡ Err Memory → disk.new ≡ disk.old }
+        ensures device { result ≡ Err Device ↔ (D.failed disk.new ≡ true) }
+    {
+        let room = make_room(alloc)?;
+        close_made(disk, file)?;
+        make(disk, file)?;
+        Ok(Gate::at_start(file, room))
+    }
+
+    /// Opens a made log at its first gate, or answers none where no store was made yet: the log is unmade, and the file of
+    /// pages is empty. It writes nothing, and takes the room from which every batch is written.
+    ///
+    /// Refused `NotAStore` where a made log has another header or no first gate, or an unmade one stands beside pages; `Memory`;
+    /// `Device`.
+    pub fn open<D: Disk>(alloc: Global, disk: &mut D, file: FileId) -> Result<Option<Gate>, Fault>
+        requires working { D.failed disk.old ≡ false }
+        requires durable { Only file (D.seen disk.old) (D.may_leave disk.old) }
+        ensures reads { Reads D.Disk disk.old disk.new }
+        ensures reading { IfOk result (λ opened. IfSome opened (λ gate. IsReading D.Disk gate disk.new)) }
+        ensures usable { IfOk result (λ opened. IfSome opened (λ gate. has_failed gate ≡ false)) }
+        ensures first { IfOk result (λ opened. IfSome opened (λ gate. (file_of gate ≡ file) × (place_of gate ≡ first_of gate))) }
+        ensures starts { IfOk result (λ opened. IfSome opened (λ gate. D.tells → StartsAs gate (D.seen disk.old file))) }
+        ensures all { IfOk result (λ opened. IfSome opened (λ gate. unread D.Disk gate disk.new ≡ logged D.Disk gate disk.new)) }
+        ensures made { IfOk result (λ opened. IfSome opened (λ _. D.tells → IsMade (D.seen disk.old file))) }
+        ensures unmade { result ≡ Ok None → D.tells → IsUnmade (D.seen disk.old file) × (length (D.seen disk.old Pages) ≡ 0) }
+        ensures refused { result ≡ Err NotAStore → D.tells → ¬ (IsMade (D.seen disk.old file))
+            × ¬ (IsUnmade (D.seen disk.old file) × (length (D.seen disk.old Pages) ≡ 0)) }
+        ensures causes { IfErr result (λ e. (e ≡ Memory) ⊎ (e ≡ Device) ⊎ (e ≡ NotAStore)) }
+        ensures device { result ≡ Err Device ↔ (D.failed disk.new ≡ true) }
+    {
+        let room = make_room(alloc)?;
+        if !is_made(disk, file)? {
+            return if disk.len(FileId::Pages)? == 0 {
+                Ok(None)
+            } else {
+                Err(Fault::NotAStore)
+            };
+        }
+        if !has_header(disk, file)? {
+            return Err(Fault::NotAStore);
+        }
+        Ok(Some(Gate::at_start(file, room)))
+    }
+
+    /// Where the gate stands in its file, in bytes.
+    pub fn place(&self) -> u64
+        ensures { result ≡ place_of self.now }
+    {
+        self.place
+    }
+
+    /// The LSN of its file's first byte. A gate stands at LSN 2^62 at most when its file begins.
+    pub fn base(&self) -> u64
+        ensures base { result ≡ base_at self.now }
+        ensures low { result + first_of self.now ≤ 2 ^ 62 }
+    {
+        self.base
+    }
+
+    /// The least number that a transaction of its log may have, from 1 on.
+    pub fn least_number(&self) -> TxnId
+        ensures number { result ≡ least_at self.now }
+        ensures least { 1 ≤ result }
+    {
+        self.least
+    }
+
+    /// The next batch, or none at the closed gate, which ends the log.
+    ///
+    /// Refused `NotAStore` where the gate is open and its batch is not whole; `Device`; `Memory`, which leaves the gate where it was.
+    /// After any other refusal every later call answers `Failed` until the file is opened again.
+    pub fn read_batch<D: Disk>(
+        &mut self,
+        alloc: Global,
+        disk: &mut D,
+    ) -> Result<Option<Vec<u8>>, Fault>
+        requires reading { IsReading D.Disk self.old disk.old }
+        ensures reading { IsReading D.Disk self.new disk.new }
+        ensures same { InOneFile self.old self.new }
+        ensures reads { Reads D.Disk disk.old disk.new }
+        ensures next { IfOk result (λ next. D.tells → MatchOption next (unread D.Disk self.old disk.old ≡ Some [])
+            (λ records. unread D.Disk self.old disk.old ≡ in_front (records.items ∷ []) (unread D.Disk self.new disk.new))) }
+        ensures end { result ≡ Ok None → IsReady D.Disk self.new disk.new }
+        ensures usable { OnOk result (has_failed self.new ≡ false) }
+        ensures refused { result ≡ Err NotAStore → D.tells → unread D.Disk self.old disk.old ≡ None }
+        ensures causes { IfErr result (λ e. (e ≡ Failed) ⊎ (e ≡ NotAStore) ⊎ (e ≡ Device) ⊎ (e ≡ Memory)) }
+        ensures already { result ≡ Err Failed ↔ (has_failed self.old ≡ true) }
+        ensures memory { result ≡ Err Memory → self.new ≡ self.old }
+        ensures device { has_failed self.old ≡ false → result ≡ Err Device ↔ (D.failed disk.new ≡ true) }
+    {
+        if self.failed {
+            return Err(Fault::Failed);
+        }
+        let size = match batch_size(disk, self.file, self.place) {
+            Ok(Some(size)) => size,
+            Ok(None) => return Ok(None),
+            Err(fault) => {
+                self.failed = true;
+                return Err(fault);
+            }
+        };
+        let records = match read_vec(alloc, disk, self.file, self.place + 5, size as usize) {
+            Ok(records) => records,
+            Err(Fault::Memory) => return Err(Fault::Memory),
+            Err(fault) => {
+                self.failed = true;
+                return Err(fault);
+            }
+        };
+        self.place += size + 5;
+        Ok(Some(records))
+    }
+
+    /// Reads the next batch to the front of `buffer`, which has 16,384 bytes or more, and answers how many bytes it has, or
+    /// none at the closed gate, which ends the log. It takes no memory.
+    ///
+    /// Refused `NotAStore` where the gate is open and its batch is not whole; `Device`. After a refusal every later call answers
+    /// `Failed` until the file is opened again, and what the buffer holds is not said.
+    pub fn read_into<D: Disk>(
+        &mut self,
+        disk: &mut D,
+        buffer: &mut [u8],
+    ) -> Result<Option<usize>, Fault>
+        requires room { 16384 ≤ length buffer.old }
+        requires reading { IsReading D.Disk self.old disk.old }
+        ensures reading { IsReading D.Disk self.new disk.new }
+        ensures same { InOneFile self.old self.new }
+        ensures reads { Reads D.Disk disk.old disk.new }
+        ensures next { IfOk result (λ next. D.tells → MatchOption next (unread D.Disk self.old disk.old ≡ Some [])
+            (λ size. unread D.Disk self.old disk.old ≡ in_front (take size buffer.new ∷ []) (unread D.Disk self.new disk.new))) }
+        ensures size { IfOk result (λ next. IfSome next (λ size. (1 ≤ size) × (size ≤ 16384))) }
+        ensures place { IfOk result (λ next. MatchOption next (place_of self.new ≡ place_of self.old) (λ size. place_of self.new ≡ place_of self.old + (size + 5))) }
+        ensures buffer { length buffer.new ≡ length buffer.old }
+        ensures end { result ≡ Ok None → IsReady D.Disk self.new disk.new }
+        ensures usable { OnOk result (has_failed self.new ≡ false) }
+        ensures refused { result ≡ Err NotAStore → D.tells → unread D.Disk self.old disk.old ≡ None }
+        ensures causes { IfErr result (λ e. (e ≡ Failed) ⊎ (e ≡ NotAStore) ⊎ (e ≡ Device)) }
+        ensures already { result ≡ Err Failed ↔ (has_failed self.old ≡ true) }
+        ensures device { has_failed self.old ≡ false → result ≡ Err Device ↔ (D.failed disk.new ≡ true) }
+    {
+        if self.failed {
+            return Err(Fault::Failed);
+        }
+        let size = match batch_size(disk, self.file, self.place) {
+            Ok(Some(size)) => size,
+            Ok(None) => return Ok(None),
+            Err(fault) => {
+                self.failed = true;
+                return Err(fault);
+            }
+        };
+        let records = &mut buffer[..size as usize];
+        match disk.read(self.file, self.place + 5, records) {
+            Ok(()) => (),
+            Err(fault) => {
+                self.failed = true;
+                return Err(fault);
+            }
+        }
+        self.place += size + 5;
+        Ok(Some(size as usize))
+    }
+
+    /// Puts a batch of 1 to 16,384 bytes behind the closed gate and opens it, by four device calls. It takes no memory.
+    ///
+    /// Refused `LogFull`, with no device call made, where the records would end past place 2^62; `Device`. After a refusal every
+    /// later call answers `Failed` until the file is opened again.
+    pub fn put_batch<D: Disk>(&mut self, disk: &mut D, records: &[u8]) -> Result<(), Fault>
+        requires length { (1 ≤ length records.now) × (length records.now ≤ 16384) }
+        requires ready { IsReady D.Disk self.old disk.old }
+        ensures ready { IsReady D.Disk self.new disk.new }
+        ensures same { InOneFile self.old self.new }
+        ensures put { OnOk result (D.tells → logged D.Disk self.new disk.new ≡ with_batch records.now (logged D.Disk self.old disk.old)) }
+        ensures any_moment { has_failed self.old ≡ false
+            → LeavesIn D.Disk (file_of self.old) disk.old disk.new (IsBeforeOrWith (first_of self.old) records.now (logged D.Disk self.old disk.old)) }
+        ensures front { has_failed self.old ≡ false
+            → LeavesIn D.Disk (file_of self.old) disk.old disk.new (λ c. take (first_of self.old) c ≡ take (first_of self.old) (D.seen disk.old (file_of self.old))) }
+        ensures untouched { result ≡ Err Failed → disk.new ≡ disk.old }
+        ensures changes { ChangesOnly D.Disk (file_of self.old) disk.old disk.new }
+        ensures place { OnOk result (place_of self.new ≡ place_of self.old + (length records.now + 5)) }
+        ensures failed { has_failed self.new ≡ not (is_ok result) }
+        ensures causes { IfErr result (λ e. (e ≡ Failed) ⊎ (e ≡ LogFull) ⊎ (e ≡ Device)) }
+        ensures already { result ≡ Err Failed ↔ (has_failed self.old ≡ true) }
+        ensures full { result ≡ Err LogFull ↔ ((has_failed self.old ≡ false) × (2 ^ 62 < place_of self.old + 5 + length records.now)) }
+        ensures device { has_failed self.old ≡ false → result ≡ Err Device ↔ (D.failed disk.new ≡ true) }
+    {
+        if self.failed {
+            return Err(Fault::Failed);
+        }
+        self.failed = true;
+        let size = records.len() as u64 + 5;
+        if self.place > PLACES || size > PLACES - self.place {
+            return Err(Fault::LogFull);
+        }
+        put_behind(disk, self.file, self.place, &mut self.room, records)?;
+        self.place += size;
+        self.failed = false;
+        Ok(())
+    }
+}

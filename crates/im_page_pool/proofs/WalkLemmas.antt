@@ -1,0 +1,59 @@
+-- The walk from the least recently used page on, to the first that was changed.
+use Rattle.std.proofs.Common.{◌≡◌, ℕ, zero, suc, ◌-◌, Bool, true, false, cond, List, [], ◌∷◌, ◌++◌, length, slice_get, Option, Some, None, option_map, refl, ap, ◌∙◌, arith}
+use Rattle.std.proofs.lemmas.List.{length_push}
+use Rattle.std.specs.Option.{option_map_or}
+use Rattle.lru.specs.LruCache.{last_entry}
+use Rattle.im_page_pool.specs.Frames.{Stored, stored_at}
+use Rattle.im_page_pool.specs.Inside.{held_at, held_in, last_marked}
+use Rattle.im_page_pool.specs.Pool.{Held, last_changed}
+
+abbrev or_else : Option (ℕ × ℕ) → Option (ℕ × ℕ) → Option (ℕ × ℕ)
+or_else o p = option_map_or (λ f. Some f) o p
+
+-- one entry more at the end
+pub last_marked_push : (fs : List Stored) (es : List (ℕ × ℕ)) (e : ℕ × ℕ) → last_marked fs (es ++ e ∷ []) ≡ cond (stored_at fs e.1).changed (Some e) (last_marked fs es)
+last_marked_push fs [] e = refl
+last_marked_push fs (d ∷ es) e =
+    ap (λ (o : Option (ℕ × ℕ)). or_else o (cond (stored_at fs d.1).changed (Some d) None)) (last_marked_push fs es e)
+    ∙ (elim (stored_at fs e.1).changed as (λ y. or_else (cond y (Some e) (last_marked fs es)) (cond (stored_at fs d.1).changed (Some d) None) ≡ cond y (Some e) (last_marked fs (d ∷ es))) [
+      | true ↦ refl
+      | false ↦ refl
+    ])
+
+-- an entry that stands in a front stands in the list
+pub in_front : (es : List (ℕ × ℕ)) (e x : ℕ × ℕ) (i : ℕ) → slice_get es i ≡ Some x → slice_get (es ++ e ∷ []) i ≡ Some x
+in_front [] e x i s = absurd cc
+in_front (d ∷ es) e x zero s = s
+in_front (d ∷ es) e x (suc i) s = in_front es e x i s
+
+pub at_end : (es : List (ℕ × ℕ)) (e : ℕ × ℕ) → slice_get (es ++ e ∷ []) (length es) ≡ Some e
+at_end [] e = refl
+at_end (d ∷ es) e = at_end es e
+
+pub last_push : (es : List (ℕ × ℕ)) (e : ℕ × ℕ) → last_entry (es ++ e ∷ []) ≡ Some e
+last_push es e = let k : length (es ++ e ∷ []) - 1 ≡ length es = omega (arith, length_push es e) in ap (slice_get (es ++ e ∷ [])) k ∙ at_end es e
+
+-- the same walk over what contracts see
+shown : (fs : List Stored) (o : Option (ℕ × ℕ)) (e : ℕ × ℕ) (b : Bool)
+    → option_map_or (λ (f : ℕ × Held). Some f) (option_map (λ (x : ℕ × ℕ). (x.0, held_at fs x.1)) o) (cond b (Some (e.0, held_at fs e.1)) None)
+    ≡ option_map (λ (x : ℕ × ℕ). (x.0, held_at fs x.1)) (or_else o (cond b (Some e) None))
+shown fs None e true = refl
+shown fs None e false = refl
+shown fs (Some f) e b = refl
+
+pub last_held : (fs : List Stored) (es : List (ℕ × ℕ)) → last_changed (held_in fs es) ≡ option_map (λ (x : ℕ × ℕ). (x.0, held_at fs x.1)) (last_marked fs es)
+last_held fs [] = refl
+last_held fs (e ∷ es) =
+    ap (λ (o : Option (ℕ × Held)). option_map_or (λ (f : ℕ × Held). Some f) o (cond (stored_at fs e.1).changed (Some (e.0, held_at fs e.1)) None)) (last_held fs es)
+    ∙ shown fs (last_marked fs es) e (stored_at fs e.1).changed
+
+-- the entry found is one of the list
+pub marked_stands : (fs : List Stored) (es : List (ℕ × ℕ)) (x : ℕ × ℕ) → last_marked fs es ≡ Some x → (i : ℕ) × (slice_get es i ≡ Some x)
+marked_stands fs [] x s = absurd cc
+marked_stands fs (e ∷ es) x s = (elim (last_marked fs es) as (λ o. last_marked fs es ≡ o → or_else o (cond (stored_at fs e.1).changed (Some e) None) ≡ Some x → (i : ℕ) × (slice_get (e ∷ es) i ≡ Some x)) [
+  | None ↦ λ t. elim (stored_at fs e.1).changed as (λ y. cond y (Some e) None ≡ Some x → (i : ℕ) × (slice_get (e ∷ es) i ≡ Some x)) [
+    | true ↦ λ k. (0, k)
+    | false ↦ λ k. absurd cc
+  ]
+  | Some f ↦ λ t k. let h = marked_stands fs es x (t ∙ k) in (suc h.0, h.1)
+]) refl s

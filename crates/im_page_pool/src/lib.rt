@@ -1,0 +1,56 @@
+//! A bounded pool of pages: each held page stands in a frame, and any other is read when it is wanted.
+//!
+//! # The contract
+//!
+//! Contracts see a pool as the list of its held pages, the most recently used first, each with the place of its frame,
+//! the page and a mark that says whether it was changed since it was read or written; with the number of frames and a
+//! count of gets. Numbers differ, and at most as many pages are held as there are frames.
+//!
+//! - `page_seen` (in `specs/Pool.antt`) is what the pool is about: a function from page number to page. It is the held
+//!   page, else the page in the bytes of the file (`file_page`, in the specs of `im_page`): the initial page from the
+//!   file's page count on, and none where the bytes are no page.
+//! - `get` leaves that function as it is, and answers the frame at which the page is held. A page that is held costs a
+//!   look-up of its number, and one of its frame, which moves in the order of use; any other one length call, one read and one check.
+//! - `get_held` does the same of a page that is held, and of any other says that it is not, by one look-up.
+//! - `insert`, `remove`, `copy_in` and the setters change the one page of their frame, as the calls of `im_page` of the
+//!   same names do, and mark it.
+//! - `hold_copy` and `hold_initial` hold a page whatever the file has, without a call of the disk.
+//! - `write_back` writes one page at its place and takes the mark off; `write_page` does so for a page outside. A stop
+//!   within leaves any bytes where that page stands, and each other page as it was.
+//! - `evict` gives the frame of one page back.
+//!
+//! The caller makes room: `get` and its kin ask for a free frame, or for a page that is held. `oldest` and
+//! `oldest_changed` say which page to evict or to write.
+//!
+//! # Memory
+//!
+//! `new` takes the memory of all frames, and of what finds them. No other call takes any, so that no other call is refused `Memory`.
+//!
+//! # Speed
+//!
+//! By `im_bench pool --time`, with 1,000 pages: a get of a held page takes 12 to 22 ns, beside 4 to 6 for a look-up alone in a hash
+//! map of the same numbers; no page is copied and nothing allocated. A get that reads takes 1.3 to 1.6 µs from a disk in
+//! memory: one copy of 4 KiB, and the check of the page's form, which is most of it.
+//!
+//! # What is counted
+//!
+//! Each call of `get` adds one to the pool's `gets`, whether it succeeds or not. That number has no bytes (`Gets`): it
+//! stands in contracts alone.
+//!
+//! The crate stands on `im_page`, on `im_base_disk` and on `lru`. A place is an index of the vector of frames; the invariant
+//! says that each place stands once among those of the held pages and the free ones. All places are in the order of use from the
+//! start (`places`), and a map with room for twice as many numbers finds the place of a page (`numbers`).
+#![tactic(auto)]
+
+mod files;
+mod frame;
+mod frames;
+mod gets;
+mod numbers;
+mod places;
+mod pool;
+
+pub use files::write_page;
+pub use frame::Frame;
+pub use gets::Gets;
+pub use pool::Pool;

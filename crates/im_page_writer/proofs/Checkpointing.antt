@@ -1,0 +1,171 @@
+-- A Checkpoint: copies are forgotten, its record joins the log, and the three calls in a row.
+use Rattle.std.proofs.Common.{◌≡◌, inl, inr, ℕ, ◌<◌, Bool, false, true, List, [], ◌∷◌, Option, None, Some, refl, sym, ◌∙◌, ap, subst}
+use Rattle.std.specs.Prelude.{◌⊎◌, Result, Ok, Err, IfOk, OnOk}
+use Rattle.im_base_types.specs.declared.fault.Fault.{Fault}
+use Rattle.im_base_types.specs.declared.fault.Fault.TheVariants.{Device, Failed, LogFull, NotAStore}
+use Rattle.im_base_types.specs.declared.file_id.FileId.TheVariants.{Log, Pages}
+use Rattle.im_base_types.specs.declared.tables.ActiveTransaction.{ActiveTransaction}
+use Rattle.im_base_types.specs.declared.tables.DirtyPage.{DirtyPage}
+use Rattle.im_theory_log.specs.Histories.{Base, History, IsFront, end_of}
+use Rattle.im_theory_log.specs.Writer.{DirtyEntry, IsWritten, PageState, Writer}
+use Rattle.im_theory_log.specs.WriterSteps.{IsIn, IsDirty, Lists, appended, forced, forgotten, forgotten_entry, forgotten_page, is_copied, passed, synced}
+use Rattle.im_theory_log.proofs.Histories.{front_self}
+use Rattle.im_theory_log.proofs.WriterCheckpoints.{checkpoint_kept}
+use Rattle.im_theory_log.proofs.WriterGrowth.{grown_kept}
+use Rattle.im_theory_log.proofs.WriterWrites.{forgotten_kept}
+use Rattle.im_base_disk.specs.declared.disk.Disk.{Ghosts}
+use Rattle.im_base_disk.specs.Runs.{ChangesOnly}
+use Rattle.im_base_disk.proofs.Runs.{spared}
+use Rattle.im_log_record.specs.Entry.{Checkpoint}
+use Rattle.im_log.specs.declared.log_file.LogFile.{LogFile}
+use Rattle.im_log.specs.LogFile.{IsOpen}
+use Rattle.im_log.specs.Kept.{Appended}
+use Rattle.im_page_pool.specs.Pool.{Held, PoolView, held_of}
+use Rattle.im_page_writer.specs.declared.page_writer.PageWriter.{PageWriter}
+use Rattle.im_page_writer.specs.declared.table_entry.TableEntry.{TableEntry}
+use Rattle.im_page_writer.specs.DirtyTable.{entry_in}
+use Rattle.im_page_writer.specs.KnownCopies.{KnowsCopies}
+use Rattle.im_page_writer.specs.Stands.{HasEntries, is_changed, LeavesCovered}
+use Rattle.im_page_writer.specs.Writing.{IsPooled, IsShown, IsWriting}
+use Rattle.im_page_writer.specs.PageWriter.{GoesOn, StandsAs, StepKept}
+use Rattle.im_page_writer.specs.Checkpoints.{checkpoint_at, CheckpointKept, Checkpointed, LeavesCheckpointed, TablesKept, TablesLogged}
+use Rattle.im_page_writer.specs.Outcome.{none_mild, LogEnds, Logs}
+use Rattle.im_page_writer.proofs.Goings.{covered_last, covered_then, pooled_same}
+use Rattle.im_page_writer.proofs.KnownCopies.{knows_grown, knows_joined}
+use Rattle.im_page_writer.proofs.Outcomes.{stands_on}
+use Rattle.im_page_writer.proofs.PageFiles.{page_file_spared}
+
+-- ---- copies are forgotten
+
+changed_forgotten : (o : Option DirtyEntry) → is_changed o ≡ is_changed (forgotten_entry o)
+changed_forgotten None = refl
+changed_forgotten (Some e) = refl
+
+written_forgotten : (o : Option DirtyEntry) → IsWritten o → IsWritten (forgotten_entry o)
+written_forgotten None is = tt
+written_forgotten (Some e) is = is
+
+shown_forgotten : (o : Option Held) (x : PageState) → IsShown o x → IsShown o (forgotten_page x)
+shown_forgotten None x is = written_forgotten x.entry is
+shown_forgotten (Some h) x is = (is.0, is.1 ∙ changed_forgotten x.entry)
+
+pooled_forgotten : (pool : PoolView) (pages : ℕ → PageState) → IsPooled pool pages → IsPooled pool (λ q. forgotten_page (pages q))
+pooled_forgotten pool pages is = record { shows = λ p. shown_forgotten (held_of pool p) (pages p) (is.shows p); ready = is.ready }
+
+none_before : (o : Option DirtyEntry) → forgotten_entry o ≡ None → o ≡ None
+none_before None is = refl
+none_before (Some e) is = absurd (cc is)
+
+knows_forgotten : (s : Writer) → KnowsCopies s → KnowsCopies (forgotten s)
+knows_forgotten s k = record { copies = λ e over p none late later h w. k.copies e over p (none_before (s.pages p).entry none) late later h w }
+
+none_copied : (o : Option DirtyEntry) → is_copied (forgotten_entry o) ≡ false
+none_copied None = refl
+none_copied (Some e) = refl
+
+-- the list is the same
+lists_forgotten : (pages : ℕ → PageState) (rows : List DirtyPage) → Lists pages rows → Lists (λ q. forgotten_page (pages q)) rows
+lists_forgotten pages rows lists = record {
+  all = λ p e is. of p (pages p).entry refl e is;
+  each = λ x within. let has = lists.each x within in record { entry = record has.entry { copied = false }; is = ap forgotten_entry has.is; rec_lsn = has.rec_lsn };
+}
+  where
+    of : (p : ℕ) (o : Option DirtyEntry) → (pages p).entry ≡ o → (e : DirtyEntry) → forgotten_entry (pages p).entry ≡ Some e → IsIn (record { page = p; rec_lsn = e.rec_lsn }) rows
+    of p None none e is = absurd (let clash : None ≡ Some e = sym (ap forgotten_entry none) ∙ is in cc clash)
+    of p (Some x) some e is =
+        let same : Some (record x { copied = false }) ≡ Some e = sym (ap forgotten_entry some) ∙ is in
+        let entry : record x { copied = false } ≡ e = cc same in
+        let lsn : x.rec_lsn ≡ e.rec_lsn = ap (λ (y : DirtyEntry). y.rec_lsn) entry in
+        subst (λ (l : ℕ). IsIn (record { page = p; rec_lsn = l }) rows) lsn (lists.all p x some)
+
+module _ {D : Type 0} (d : Ghosts D) (b : Base) (base : ℕ) (s : Writer) (log : LogFile) (table new : List TableEntry) (pool : PoolView) (disk : D) (w : IsWriting d b base s log table pool disk)
+    (is : (p : ℕ) → entry_in new p ≡ forgotten_entry (entry_in table p)) where
+  entries : HasEntries new (forgotten s).pages
+  entries p = is p ∙ ap forgotten_entry (w.entries p)
+
+  -- it is a step of the writer
+  pub forgets : IsWriting d b base (forgotten s) log new pool disk
+  forgets = record {
+    stands = record {
+      kept = forgotten_kept b s w.stands.kept;
+      ready = w.stands.ready;
+      log_is = w.stands.log_is;
+      file = record { reads = w.stands.file.reads; leaves = w.stands.file.leaves };
+      tied = λ p. inl (entries p);
+      copies = knows_forgotten s w.stands.copies;
+    };
+    entries = entries;
+    pooled = pooled_forgotten pool s.pages w.pooled;
+    based = w.based;
+  }
+
+-- ---- the record
+
+module _ {D : Type 0} (d : Ghosts D) (b : Base) (base : ℕ) (s : Writer) (e next : ℕ) (active : List ActiveTransaction) (dirty : List DirtyPage) (lsn : ℕ) (log new_log : LogFile) (table : List TableEntry) (pool : PoolView) (old new : D)
+    (w : IsWriting d b base (forgotten s) log table pool old) (over : s.redo_end ≡ Some e) (done : Appended d base s.log s.durable (Checkpoint next active dirty) lsn old new_log new) (lists : Lists s.pages dirty)
+    (synced : (p : ℕ) → (s.pages p).unsynced ≡ false) where
+  -- It is a step of the writer.
+  pub tables_logged : IsOpen d new_log new → ChangesOnly d Log old new → IsWriting d b base (record (appended (checkpoint_at lsn next active dirty) (forgotten s)) { durable = done.now_durable }) new_log table pool new
+  tables_logged opened changes =
+      let r = checkpoint_at lsn next active dirty in
+      let t = forgotten s in
+      let high : end_of b s.log < lsn = done.rises b w.based in
+      let file = page_file_spared d t.pages old new (spared d Log Pages old new (λ same. cc) changes) w.stands.file in
+      record {
+        stands = record {
+          kept = grown_kept b (appended r t) done.now_durable done.grows done.log.front
+              (checkpoint_kept b t r e next active dirty w.stands.kept over high refl (lists_forgotten s.pages dirty lists) synced (λ p. none_copied (s.pages p).entry));
+          ready = opened;
+          log_is = done.log;
+          file = record { reads = file.reads; leaves = file.leaves };
+          tied = w.stands.tied;
+          copies = knows_grown (appended r t) done.now_durable done.grows (knows_joined b t r w.stands.kept w.stands.copies high (λ q. passed lsn (t.pages q)) (λ q none. (none, refl)));
+        };
+        entries = w.entries;
+        pooled = pooled_same pool t.pages (λ q. passed lsn (t.pages q)) (λ q. refl) (λ q. refl) (λ q. refl) w.pooled;
+        based = w.based;
+      }
+
+-- ---- calls in a row
+
+module _ {D : Type 0} (d : Ghosts D) (b : Base) (base : ℕ) (s : Writer) (next : ℕ) (active : List ActiveTransaction) (dirty : List DirtyPage) (old : D) where
+  -- the sync was refused
+  pub sync_left : (new : D) → LeavesCovered d b base s.durable s.log old new → LeavesCheckpointed d b base s next active dirty old new
+  sync_left new stops = record { high = s.log; is = inl refl; stops = stops }
+
+  module _ (w : PageWriter) (mid : D) (one : GoesOn d b base s old (synced s) w mid) where
+    -- the record was refused
+    pub record_left : (new : D) → LeavesCovered d b base s.durable s.log mid new → LeavesCheckpointed d b base s next active dirty old new
+    record_left new stops = sync_left new (covered_last d b base s old (synced s) w.log w.table w.pool mid one.goes new stops)
+
+    -- the force came to its end, or was refused
+    module _ (lsn : ℕ) (x : PageWriter) (behind : D) (two : TablesLogged d b base (synced s) next active dirty lsn x behind) (so_far : LeavesCovered d b base s.durable s.log mid behind) where
+      -- how it stands before the force
+      abbrev pub listed : Writer
+      listed = record (appended (checkpoint_at lsn next active dirty) (forgotten (synced s))) { durable = two.durable }
+
+      pub force_left : (new : D) → LeavesCovered d b base two.durable (checkpoint_at lsn next active dirty ∷ s.log) behind new → LeavesCheckpointed d b base s next active dirty old new
+      force_left new stops = record {
+        high = checkpoint_at lsn next active dirty ∷ s.log;
+        is = inr (record { lsn = lsn; high = two.high; is = refl });
+        stops = covered_then d b base s.durable s.log two.durable (checkpoint_at lsn next active dirty ∷ s.log) old behind new
+            (covered_last d b base s old (synced s) w.log w.table w.pool mid one.goes behind so_far) stops two.grows (record { newer = checkpoint_at lsn next active dirty ∷ []; is = refl });
+      }
+
+      pub checkpointed : (y : PageWriter) (new : D) → GoesOn d b base listed behind (forced listed) y new → Checkpointed d b base s next active dirty lsn y new
+      checkpointed y new three = record { lists = two.lists; high = two.high; stands = stands_on d b base listed behind (forced listed) y new three }
+
+-- ---- how such calls end
+
+module _ {D : Type 0} (d : Ghosts D) where
+  on_ends : (late : Bool) (m : Fault → Bool) (v : PageWriter) (old : D) (w : PageWriter) (mid : D) → LogEnds d late m v old w mid None → (x : PageWriter) (new : D) (why : Option Fault) → LogEnds d false none_mild w mid x new why → LogEnds d false none_mild v old x new why
+  on_ends late m v old w mid one x new None two = record { began = one.began; works = two.works; alive = two.alive }
+  on_ends late m v old w mid one x new (Some Failed) two = absurd (let clash : false ≡ true = sym one.works ∙ two.0 in cc clash)
+  on_ends late m v old w mid one x new (Some NotAStore) two = absurd (let clash : false ≡ true = two.0 in cc clash)
+  on_ends late m v old w mid one x new (Some Device) two = (record { began = one.began; broken = two.0.broken }, two.1)
+  on_ends late m v old w mid one x new (Some LogFull) two = (record { began = one.began; broken = two.0.broken }, two.1, two.2)
+  on_ends late m v old w mid one x new (Some e) two = absurd (let clash : false ≡ true = two.0 in cc clash)
+
+  -- a call behind which the writer goes on for no refusal, behind one that logged its records
+  pub logs_on : {late : Bool} {m : Fault → Bool} {v : PageWriter} {old : D} {w : PageWriter} {mid : D} {x : PageWriter} {new : D} {why : Option Fault} → Logs d late m v old w mid None → Logs d false none_mild w mid x new why → Logs d false none_mild v old x new why
+  logs_on {late} {m} {v} {old} {w} {mid} {x} {new} {why} one two = record { ready = two.ready; frames = two.frames ∙ one.frames; ends = on_ends late m v old w mid one.ends x new why two.ends }

@@ -1,0 +1,48 @@
+-- A held leaf through the calls that change it by a record.
+use Rattle.std.proofs.Common.{◌≡◌, ℕ, ◌<◌, true, false, Bool, List, length, insert, remove, Option, sym, ◌∙◌, ap, subst}
+use Rattle.std.specs.Prelude.{option_map}
+use Rattle.std.specs.Option.{option_map_or}
+use Rattle.im_base_types.specs.Keys.{Key}
+use Rattle.im_base_types.specs.Pages.{Entry, Page}
+use Rattle.im_base_types.specs.Records.{InsertKey, DeleteKey}
+use Rattle.im_theory_log.specs.Histories.{page_after}
+use Rattle.im_page.specs.Entry.{Parts, Rises, entry_at}
+use Rattle.im_page.specs.Page as pages
+use Rattle.im_page.specs.Header.{initial}
+use Rattle.im_page_pool.specs.declared.frame.Frame.{Frame}
+use Rattle.im_page_pool.specs.Pool.{Held, PoolView, IsAt, page_at, Sets}
+use Rattle.im_page_writer.proofs.KeyLists.{put_at, without_at}
+
+-- the page that was set
+pub set_page : (frame : Frame) (page : Page) (mark : Bool) (old new : PoolView) → Sets frame page mark old new → page_at new frame.number ≡ page
+set_page frame page mark old new sets = ap (λ (o : Option Held). option_map_or (λ h. h.page) o (initial 0)) sets.here
+
+pub set_at : (frame : Frame) (page : Page) (mark : Bool) (old new : PoolView) → Sets frame page mark old new → IsAt new frame
+set_at frame page mark old new sets = ap (λ (o : Option Held). option_map (λ h. h.place) o) sets.here
+
+pub set_then : (frame : Frame) (one two : Page) (old mid new : PoolView) → Sets frame one true old mid → Sets frame two true mid new → Sets frame two true old new
+set_then frame one two old mid new first next = record {
+  here = next.here;
+  others = λ q ne. next.others q ne ∙ first.others q ne;
+  order = next.order ∙ first.order;
+  frames = next.frames ∙ first.frames;
+  gets = next.gets ∙ first.gets;
+}
+
+-- an entry put at its place, without the mark and with the LSN: the page that the record makes
+pub put_is : (p : Page) (lsn : ℕ) (k : Key) (v i : ℕ) → Parts p.body.entries k i i → record { lsn = lsn; body = record p.body { marked = false; entries = insert p.body.entries i (k, v) } } ≡ page_after lsn (InsertKey k v) p
+put_is p lsn k v i place = ap (λ (es : List Entry). record { lsn = lsn; body = record p.body { marked = false; entries = es } }) (sym (put_at p.body.entries k v i place))
+
+pub take_is : (p : Page) (lsn : ℕ) (k : Key) (v i : ℕ) → Rises p.body.entries → i < length p.body.entries → (entry_at p.body.entries i).0 ≡ k
+    → record { lsn = lsn; body = record p.body { marked = false; entries = remove p.body.entries i } } ≡ page_after lsn (DeleteKey k v) p
+take_is p lsn k v i rises lt is = ap (λ (es : List Entry). record { lsn = lsn; body = record p.body { marked = false; entries = es } }) (sym (without_at p.body.entries k i rises lt is))
+
+-- three sets in a row: other entries, no mark, an LSN
+pub three_sets : (frame : Frame) (lsn : ℕ) (es : List Entry) (want : Page) (old one two new : PoolView) → Sets frame (pages.with_entries (page_at old frame.number) es) true old one
+    → Sets frame (record (page_at one frame.number) { body = record (page_at one frame.number).body { marked = false } }) true one two → Sets frame (record (page_at two frame.number) { lsn = lsn }) true two new
+    → record { lsn = lsn; body = record (page_at old frame.number).body { marked = false; entries = es } } ≡ want → Sets frame want true old new
+three_sets frame lsn es want old one two new first second third is =
+    let a : page_at one frame.number ≡ pages.with_entries (page_at old frame.number) es = set_page frame _ true old one first in
+    let b = set_page frame _ true one two second ∙ ap (λ (p : Page). record p { body = record p.body { marked = false } }) a in
+    let c = ap (λ (p : Page). record p { lsn = lsn }) b ∙ is in
+    subst (λ (p : Page). Sets frame p true old new) c (set_then frame _ _ old two new (set_then frame _ _ old one two first second) third)

@@ -1,0 +1,41 @@
+use Rattle.std.proofs.Common.{◌≡◌, ℕ, List, Option, length, subst, sym, ◌∙◌, arith, rules}
+use Rattle.im_log.specs.declared.log_file.LogFile.{LogFile}
+use Rattle.im_page_writer.specs.declared.table_entry.TableEntry.{TableEntry}
+use Rattle.im_page_writer.specs.KnownCopies.{IsKnownFrom}
+use Rattle.im_page_writer.specs.LogEnds.{EndsNoSooner}
+use Rattle.im_page_writer.specs.Writing.{Goes}
+use Rattle.im_page_writer.proofs.Writers.{goes_evicted}
+use Rattle.im_page_writer.proofs.page_writer.PageWriter.evict_oldest.Goals as goal
+
+pub returns-in_default-clause-outcome : goal.returns-in_default-clause-outcome
+returns-in_default-clause-outcome g c = let none : length c.args.self.now.pool.held ≡ 0 = search rules in absurd (omega (arith, none, c.requires.some))
+
+pub returns-clause-outcome : goal.returns-clause-outcome
+returns-clause-outcome g c =
+    let one = c.in_ok-flush_one.ensures.outcome.ends in
+    let mid = c.flush_one.new.self in
+    let new = c.drop_page.new.self in
+    let old = c.args.disk.now in
+    let disk = c.flush_one.new.disk in
+    record {
+      ready = search rules;
+      frames = c.drop_page.ensures.evicts.frames ∙ c.in_ok-flush_one.ensures.outcome.frames;
+      ends = record {
+        began = one.began;
+        works = c.drop_page.ensures.failed ∙ one.works;
+        alive = one.alive;
+        later = subst (λ (log : LogFile). EndsNoSooner c.args.self.now.log log) (sym c.drop_page.ensures.log) one.later;
+        goes = λ b base s is asked.
+            let f = c.in_ok-flush_one.ensures.kept b base s is in
+            let gone = goes_evicted g.D.Disk b base s old f.now mid.log mid.table mid.pool new.pool disk c.in-Some.frame.number f.on.goes f.written c.drop_page.ensures.evicts in
+            record {
+              now = f.now;
+              on = record {
+                working = c.drop_page.ensures.failed ∙ f.on.working;
+                known = subst (λ (from : Option ℕ). IsKnownFrom f.now from) (sym c.drop_page.ensures.known) f.on.known;
+                goes = subst (λ (log : LogFile). Goes g.D.Disk b base s old f.now log new.table new.pool disk) (sym c.drop_page.ensures.log)
+                    (subst (λ (table : List TableEntry). Goes g.D.Disk b base s old f.now mid.log table new.pool disk) (sym c.drop_page.ensures.table) gone);
+              };
+            };
+      };
+    }

@@ -1,0 +1,33 @@
+use Rattle.std.proofs.Common.{refl, rules}
+use Rattle.im_theory_log.specs.WriterSteps.{appended}
+use Rattle.im_log_record.specs.Entry.{view}
+use Rattle.im_log.specs.Spelled.{logged_at}
+use Rattle.im_page_writer.proofs.KnownCopies.{known_more}
+use Rattle.im_page_writer.proofs.Standing.{log_stops}
+use Rattle.im_page_writer.proofs.Logging.{logged_high, logged_only}
+use Rattle.im_page_writer.proofs.page_writer.PageWriter.log_only.Goals as goal
+
+pub returns-in_err-lsn-clause-kept : goal.returns-in_err-lsn-clause-kept
+returns-in_err-lsn-clause-kept g c b base s e is over plain =
+    let w = c.args.self.now in
+    let k = c.in_err-lsn.ensures.kept base s.log s.durable is.writing.stands.log_is in
+    record { ok = search rules; stops = log_stops g.D.Disk b base s w.log w.table c.args.disk.now is.writing.stands c.append.new.disk k.stops }
+
+pub returns-clause-kept : goal.returns-clause-kept
+returns-clause-kept g c b base s e is over plain =
+    let w = c.args.self.now in
+    let k = c.in_ok-lsn.ensures.kept base s.log s.durable is.writing.stands.log_is in
+    let entry = view c.args.record.now in
+    record {
+      ok = record {
+        durable = k.ok.now_durable;
+        grows = k.ok.grows;
+        stands = record {
+          working = refl;
+          known = known_more (logged_at c.in_ok-lsn.lsn entry) s (record (appended (logged_at c.in_ok-lsn.lsn entry) s) { durable = k.ok.now_durable }) w.known_from refl refl plain.point is.known;
+          writing = logged_only g.D.Disk b base s e w.log c.append.new.self w.table w.pool c.args.disk.now c.append.new.disk entry c.in_ok-lsn.lsn is.writing over plain k.ok c.append.ensures.ready c.append.ensures.changes;
+        };
+        high = logged_high g.D.Disk b base s e w.log c.append.new.self w.table w.pool c.args.disk.now c.append.new.disk entry c.in_ok-lsn.lsn is.writing over plain k.ok;
+      };
+      stops = log_stops g.D.Disk b base s w.log w.table c.args.disk.now is.writing.stands c.append.new.disk k.stops;
+    }

@@ -1,0 +1,25 @@
+use Rattle.std.proofs.Common.{refl, rules}
+use Rattle.im_theory_log.specs.WriterSteps.{synced}
+use Rattle.im_page_writer.proofs.KnownCopies.{known_same}
+use Rattle.im_page_writer.proofs.Placing.{pooled_synced, synced_keeps}
+use Rattle.im_page_writer.proofs.page_writer.PageWriter.sync_pages.Goals as goal
+
+pub returns-in_err-sync_pages-clause-kept : goal.returns-in_err-sync_pages-clause-kept
+returns-in_err-sync_pages-clause-kept g c b base s is = record { ok = search rules; stops = (c.in_err-sync_pages.ensures.kept b base s c.args.self.now.log is.writing.stands).stops }
+
+pub returns-clause-kept : goal.returns-clause-kept
+returns-clause-kept g c b base s is =
+    let w = c.args.self.now in
+    let k = c.in_ok-sync_pages.ensures.kept b base s w.log is.writing.stands in
+    record {
+      ok = record {
+        working = refl;
+        known = known_same s (synced s) w.known_from refl refl is.known;
+        goes = record {
+          writing = record { stands = k.ok.stands; entries = k.ok.entries; pooled = pooled_synced w.pool s.pages is.writing.pooled; based = is.writing.based };
+          stops = k.stops;
+          keeps = synced_keeps b s;
+        };
+      };
+      stops = k.stops;
+    }

@@ -1,0 +1,141 @@
+-- What a writer of pages knows of its disk, and what each of its calls keeps.
+use Rattle.std.specs.Prelude.{◌≡◌, ◌≢◌, ◌<◌, ◌≤◌, ◌⊎◌, ℕ, false, Option, None, Some, length, Result, IfErr, IfOk, OnOk}
+use Rattle.im_base_types.specs.declared.fault.Fault.{Fault}
+use Rattle.im_base_types.specs.declared.fault.Fault.TheVariants.{Memory, NotAStore}
+use Rattle.im_base_types.specs.Pages.{Page}
+use Rattle.im_base_types.specs.Records.{What}
+use Rattle.im_theory_log.specs.Histories.{Base, History, IsFront, end_of, page_after}
+use Rattle.im_theory_log.specs.Copies.{copy_in}
+use Rattle.im_theory_log.specs.RedoPoints.{is_checkpoint}
+use Rattle.im_theory_log.specs.WriterSteps.{appended}
+use Rattle.im_log_record.specs.Entry.{Entry}
+use Rattle.im_log.specs.Spelled.{logged_at}
+use Rattle.im_theory_log.specs.Writer.{PageState, Writer, IsWritten}
+use Rattle.im_base_disk.specs.declared.disk.Disk.{Ghosts}
+use Rattle.im_log.specs.LogFile.{IsOpen}
+use Rattle.im_page_pool.specs.declared.frame.Frame.{Frame}
+use Rattle.im_page_pool.specs.Pool.{Held, PoolView, last_changed, page_at}
+use Rattle.im_page_writer.specs.declared.page_writer.PageWriter.{PageWriter}
+use Rattle.im_page_writer.specs.KnownCopies.{IsKnownFrom}
+use Rattle.im_page_writer.specs.Stands.{LeavesCovered}
+use Rattle.im_page_writer.specs.Writing.{Goes, IsWriting, LeavesGrown}
+
+-- A record of this kind changes no page, has no full copy, and does not move the redo point.
+pub record IsPlain (w : What) : Type 0 where
+  pub page : (l : ℕ) (g : Page) → page_after l w g ≡ g
+  pub copy : (l : ℕ) → copy_in l w ≡ None
+  pub point : is_checkpoint w ≡ false
+
+-- of the least recently used page that was changed nothing is left to be written; where there is none, of no page
+abbrev pub IsOldestWritten : Option (ℕ × Held) → (ℕ → PageState) → Type 0
+IsOldestWritten None pages = (p : ℕ) → IsWritten (pages p).entry
+IsOldestWritten (Some e) pages = IsWritten (pages e.0).entry
+
+module _ {D : Type 0} (d : Ghosts D) where
+  -- On any bytes: the log is open, and works, and the pool has at most as many frames as the dirty table has entries. After a failure it says
+  -- only that the log's last gate stands in its file, unless the disk has failed.
+  pub record IsReadyWriter (w : PageWriter) (disk : D) : Type 0 where
+    pub opened : w.failed ≡ false → IsOpen d w.log disk
+    pub works : w.failed ≡ false → w.log.failed ≡ false
+    pub few : w.failed ≡ false → w.pool.frames ≤ 1024
+    pub still : d.failed disk ≡ false → IsOpen d w.log disk
+
+  module _ (b : Base) (base : ℕ) where
+    -- No call has failed, and it stands as this writer.
+    pub record StandsAs (s : Writer) (w : PageWriter) (disk : D) : Type 0 where
+      pub working : w.failed ≡ false
+      pub writing : IsWriting d b base s w.log w.table w.pool disk
+      pub known : IsKnownFrom s w.known_from
+
+    -- Calls in a row since old: each page is as it was, and the log has Images more.
+    pub record GoesOn (s : Writer) (old : D) (t : Writer) (w : PageWriter) (disk : D) : Type 0 where
+      pub working : w.failed ≡ false
+      pub goes : Goes d b base s old t w.log w.table w.pool disk
+      pub known : IsKnownFrom t w.known_from
+
+    -- Nothing of the page is left to be written: the file has it as it is.
+    pub record FlushedOne (s : Writer) (p : ℕ) (old : D) (w : PageWriter) (disk : D) : Type 0 where
+      pub now : Writer
+      pub on : GoesOn s old now w disk
+      pub written : IsWritten (now.pages p).entry
+      pub in_file : (now.pages p).waits ≡ false → (now.pages p).reads ≡ Some (now.pages p).page
+
+    -- what the flush of a page keeps
+    pub record FlushOneKept (s : Writer) (p : ℕ) (old : D) (w : PageWriter) (disk : D) (result : Result Unit Fault) : Type 0 where
+      pub ok : OnOk result (FlushedOne s p old w disk)
+      pub stops : LeavesGrown d b base s old disk
+
+    -- Each page is as it was, and the log has Images more.
+    pub record Evicted (s : Writer) (old : D) (w : PageWriter) (disk : D) : Type 0 where
+      pub now : Writer
+      pub on : GoesOn s old now w disk
+
+    -- behind a refusal for want of memory, or for bytes that are no store's, it goes on
+    abbrev pub StaysOn : {A : Type 0} → Writer → D → PageWriter → D → Result A Fault → Type 0
+    StaysOn s old w disk result = IfErr result (λ e. (e ≡ Memory) ⊎ (e ≡ NotAStore) → Evicted s old w disk)
+
+    -- what an eviction keeps
+    pub record EvictKept (s : Writer) (old : D) (w : PageWriter) (disk : D) (result : Result Unit Fault) : Type 0 where
+      pub ok : OnOk result (Evicted s old w disk)
+      pub stops : LeavesGrown d b base s old disk
+      pub again : StaysOn s old w disk result
+
+    -- The page is held, and is the writer's.
+    pub record Got (s : Writer) (p : ℕ) (old : D) (w : PageWriter) (disk : D) : Type 0 where
+      pub now : Writer
+      pub on : GoesOn s old now w disk
+      pub page : page_at w.pool p ≡ (s.pages p).page
+
+    -- what a get keeps
+    pub record GetKept (s : Writer) (p : ℕ) (old : D) (w : PageWriter) (disk : D) (result : Result Frame Fault) : Type 0 where
+      pub ok : OnOk result (Got s p old w disk)
+      pub stops : LeavesGrown d b base s old disk
+      pub cause : IfErr result (λ e. e ≢ NotAStore)
+      pub again : StaysOn s old w disk result
+
+    -- ---- one step
+
+    -- what a call keeps that takes one step of the writer
+    pub record StepKept (s t : Writer) (old : D) (w : PageWriter) (disk : D) (result : Result Unit Fault) : Type 0 where
+      pub ok : OnOk result (GoesOn s old t w disk)
+      pub stops : LeavesCovered d b base s.durable s.log old disk
+
+    -- ---- room in the dirty table
+
+    -- The least recently used page that was changed is written, if there is one.
+    pub record FlushedOldest (s : Writer) (old : D) (pool : PoolView) (w : PageWriter) (disk : D) : Type 0 where
+      pub now : Writer
+      pub on : GoesOn s old now w disk
+      pub oldest : IsOldestWritten (last_changed pool.held) now.pages
+
+    -- what its flush keeps
+    pub record OldestKept (s : Writer) (old : D) (pool : PoolView) (w : PageWriter) (disk : D) (result : Result Unit Fault) : Type 0 where
+      pub ok : OnOk result (FlushedOldest s old pool w disk)
+      pub stops : LeavesGrown d b base s old disk
+
+    -- The table has room. Where it was full, no page was written since the last sync, and nothing is left to be written of the page that was the least recently used of those changed.
+    pub record HasRoom (s : Writer) (old : D) (v w : PageWriter) (disk : D) : Type 0 where
+      pub now : Writer
+      pub on : GoesOn s old now w disk
+      pub room : length w.table < 1024
+      pub synced : length v.table ≡ 1024 → (p : ℕ) → (now.pages p).unsynced ≡ false
+      pub oldest : length v.table ≡ 1024 → IsOldestWritten (last_changed v.pool.held) now.pages
+
+    -- what room in the table keeps
+    pub record RoomKept (s : Writer) (old : D) (v w : PageWriter) (disk : D) (result : Result Unit Fault) : Type 0 where
+      pub ok : OnOk result (HasRoom s old v w disk)
+      pub stops : LeavesGrown d b base s old disk
+
+    -- ---- a record that changes no page
+
+    -- It joined the log, of which more may be durable than before.
+    pub record LoggedOnly (s : Writer) (entry : Entry) (lsn : ℕ) (w : PageWriter) (disk : D) : Type 0 where
+      pub durable : History
+      pub grows : IsFront s.durable durable
+      pub stands : StandsAs (record (appended (logged_at lsn entry) s) { durable = durable }) w disk
+      pub high : end_of b s.log < lsn
+
+    -- what its append keeps
+    pub record LogKept (s : Writer) (entry : Entry) (old : D) (w : PageWriter) (disk : D) (result : Result ℕ Fault) : Type 0 where
+      pub ok : IfOk result (λ lsn. LoggedOnly s entry lsn w disk)
+      pub stops : LeavesCovered d b base s.durable s.log old disk

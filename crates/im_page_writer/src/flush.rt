@@ -1,0 +1,115 @@
+//! A flush: the full copies of a range of pages, a force of the log, and the writes.
+ghost use Rattle.std.specs.Prelude.{◌≡◌, ◌≢◌, ◌≤◌, ◌<◌, ◌+◌, ◌-◌, ◌^◌, ◌⊎◌, ◌↔◌, ℕ, List, false, true, length, vec_capacity, is_some, IfErr, OnOk};
+ghost use Rattle.im_base_types.specs.declared.fault.Fault.TheVariants.{Device, LogFull};
+ghost use Rattle.im_base_types.specs.declared.file_id.FileId.TheVariants.{Pages};
+ghost use Rattle.im_theory_log.specs.Histories.{Base};
+ghost use Rattle.im_theory_log.specs.Writer.{Writer};
+ghost use Rattle.im_base_disk.specs.Disk.{Answers};
+ghost use Rattle.im_log.specs.declared.log_file.LogFile.{LogFile};
+ghost use Rattle.im_log.specs.LogFile.{HasNoRoom, end_with, IsOpen};
+ghost use Rattle.im_page.specs.PageFile.{page_count};
+ghost use Rattle.im_page_pool.specs.Pool.{held_of, is_changed};
+ghost use Rattle.im_page_writer.specs.DirtyTable.{entry_in};
+ghost use Rattle.im_page_writer.specs.Imaging.{Imaging};
+ghost use Rattle.im_page_writer.specs.Outcome.{fault_of};
+ghost use Rattle.im_page_writer.specs.Writing.{lsn_for, SameHeld, IsWriting, MayCopy, MayWriteHere, WriteOutKept, FlushKept};
+
+use crate::image_range::log_images;
+use crate::page_range::write_pages;
+use crate::{DirtyTable, count_pages, sync_pages};
+use im_base_disk::Disk;
+use im_base_types::{Fault, Lsn, PageNo};
+use im_log::LogFile;
+use im_page::Page;
+use im_page_pool::Pool;
+
+// Writes pages whose full copies are durable; where the table has no room for the entry of one, the file is synced behind them.
+fn write_out<D: Disk>(
+    disk: &mut D,
+    table: &mut DirtyTable,
+    pool: &mut Pool,
+    spare: &mut Page,
+    lsns: &[Lsn],
+    first: PageNo,
+    last: PageNo,
+) -> Result<(), Fault>
+    requires working { D.failed disk.old ≡ false }
+    requires place { D.tells → first ≤ page_count (D.seen disk.old Pages) }
+    requires order { first ≤ last }
+    ensures kept { (b : Base) (base : ℕ) (s : Writer) (log : LogFile) → IsWriting D.Disk b base s log table.old pool.old disk.old → s.durable ≡ s.log
+        → ((q : ℕ) → first ≤ q → q ≤ last → MayWriteHere b s table.old pool.old q (lsn_for lsns.now (q - first)))
+        → WriteOutKept D.Disk b base s first last disk.old log table.new pool.new disk.new result }
+    ensures ready { (log : LogFile) → IsOpen D.Disk log disk.old → D.failed disk.new ≡ false → IsOpen D.Disk log disk.new }
+    ensures stays { first ≡ last → is_some (entry_in table.old first) ≡ true → OnOk result (is_some (entry_in table.new first) ≡ true) }
+    ensures held { OnOk result (SameHeld pool.old pool.new) }
+    ensures frames { pool.new.frames ≡ pool.old.frames }
+    ensures answers { Answers (D.failed disk.new) result }
+{
+    let entered = write_pages(disk, table, pool, spare, lsns, first, last)?;
+    if entered {
+        return Ok(());
+    }
+    sync_pages(disk, table)
+}
+
+// Flushes a range of pages: the Images of those of which the log is known to have no full copy, in rising page number, a force, and the
+// pages in rising number.
+fn flush_range<D: Disk>(
+    disk: &mut D,
+    log: &mut LogFile,
+    table: &mut DirtyTable,
+    pool: &mut Pool,
+    spare: &mut Page,
+    lsns: &mut Vec<Lsn>,
+    first: PageNo,
+    last: PageNo,
+) -> Result<(), Fault>
+    requires ready { IsOpen D.Disk log.old disk.old }
+    requires working { log.old.failed ≡ false }
+    requires room { 1024 ≤ vec_capacity lsns.old }
+    requires place { D.tells → first ≤ page_count (D.seen disk.old Pages) }
+    requires order { first ≤ last }
+    ensures kept { (b : Base) (base : ℕ) (s : Writer) → IsWriting D.Disk b base s log.old table.old pool.old disk.old
+        → ((q : ℕ) → first ≤ q → q ≤ last → MayCopy s pool.old q) → FlushKept D.Disk b base s first last disk.old log.new table.new pool.new disk.new result }
+    ensures outcome { Imaging D.Disk log.old log.new disk.new (fault_of result) }
+    ensures room { 1024 ≤ vec_capacity lsns.new }
+    ensures stays { first ≡ last → is_some (entry_in table.old first) ≡ true → OnOk result (is_some (entry_in table.new first) ≡ true) }
+    ensures held { OnOk result (SameHeld pool.old pool.new) }
+    ensures frames { pool.new.frames ≡ pool.old.frames }
+{
+    log_images(disk, log, table, pool, spare, lsns, first, last)?;
+    write_out(disk, table, pool, spare, lsns, first, last)?;
+    Ok(())
+}
+
+/// Flushes a page that was changed since it was read or written: it alone, where the file has it, and past the file's end every page
+/// from the page count up to it.
+///
+/// Refused `LogFull` or `Device`.
+pub(crate) fn flush_page<D: Disk>(
+    disk: &mut D,
+    log: &mut LogFile,
+    table: &mut DirtyTable,
+    pool: &mut Pool,
+    spare: &mut Page,
+    lsns: &mut Vec<Lsn>,
+    number: PageNo,
+) -> Result<(), Fault>
+    requires ready { IsOpen D.Disk log.old disk.old }
+    requires working { log.old.failed ≡ false }
+    requires room { 1024 ≤ vec_capacity lsns.old }
+    requires changed { is_changed pool.old number ≡ true }
+    ensures kept { (b : Base) (base : ℕ) (s : Writer) → IsWriting D.Disk b base s log.old table.old pool.old disk.old
+        → FlushKept D.Disk b base s number number disk.old log.new table.new pool.new disk.new result }
+    ensures outcome { Imaging D.Disk log.old log.new disk.new (fault_of result) }
+    ensures room { 1024 ≤ vec_capacity lsns.new }
+    ensures stays { D.tells → number ≤ page_count (D.seen disk.old Pages) → is_some (entry_in table.old number) ≡ true → OnOk result (is_some (entry_in table.new number) ≡ true) }
+    ensures held { OnOk result (SameHeld pool.old pool.new) }
+    ensures frames { pool.new.frames ≡ pool.old.frames }
+{
+    let count = count_pages(disk)?;
+    if (number as u64) < count {
+        return flush_range(disk, log, table, pool, spare, lsns, number, number);
+    }
+    flush_range(disk, log, table, pool, spare, lsns, count as u32, number)
+}

@@ -1,0 +1,96 @@
+//! Page writes: which pages may lack changes in their file, and the calls that write pages in place and sync them.
+//!
+//! A page is changed in memory and written in place later, at any time. That a stop tears the write never matters: before it the
+//! log durably has the page's records and a full copy of it, at or after the redo point of every log that a stop can leave. Redo
+//! loads a page's last copy from the redo point on, never the file's bytes in its place, and applies what follows: so one copy serves
+//! for as long as the redo point stays, however often the page is changed, written and synced.
+//!
+//! # The dirty table
+//!
+//! `DirtyTable` has each page that may lack changes in the file of pages: with its `rec_lsn`, the LSN from which on it may lack
+//! them, with `since`, the LSN of its first change after its last write, and with `copied`, whether the log is known to have a full
+//! copy of it at or after its redo point: behind a write, behind a record of a structure change, where redo has loaded a noted
+//! copy, and for a page that comes in by a change once more. Such a page had an entry in this life before, was written, and left by a
+//! sync: its write found a copy, and the redo point has not moved since. Its own LSN says so, which is at or after that of the first
+//! record of this life, behind its last Checkpoint, that changed a leaf (`KnowsCopies`, `IsKnownFrom`): no copy is remembered beside
+//! the table.
+//! There are at most 1,024 entries, in rising page order. Room for them is made once: no call after `new` takes memory, and none is
+//! refused. Each call says what it makes of the list (`table`), and of each page's entry (`entry`). `copy_rows` gives the list that a
+//! Checkpoint has (`lists`).
+//!
+//! # The file of pages
+//!
+//! Page p stands at byte p * 4,096. From the page count on, the length divided by 4,096 and rounded down, each page is as it was
+//! before anything was put (`file_page`, in im_page's specs). `write_page` enters the page into the table and writes it, one
+//! device call; `sync_pages` syncs the file, one device call, and then the table. A write goes to a page that the file has or by
+//! which it grows. So a stop leaves each other page as it would have been left before, however long it leaves the file.
+//!
+//! # The writer of pages
+//!
+//! `PageWriter` has the log, a pool of 8 to 1,024 frames over the file of pages, and the dirty table. It owns no disk.
+//!
+//! - A flush (`flush_one`) writes a page that was changed: it alone, where the file has it, and past the file's end every page
+//!   from the page count up to it, so that no range of the file is left without a page. First the Images of those pages join the
+//!   log of which no full copy is known, in rising page number; then the log is forced, four device calls, and none where nothing
+//!   is buffered; then each page is entered and written, one device call each, in rising number. Where the table has no room for the entry of a page that is written along, the file is synced
+//!   behind them.
+//! - A page that is got (`get`) stays in its frame. Where no frame is free, the least recently used page is flushed, if it was
+//!   changed, and its frame given up.
+//! - A change (`log_change`) gets the page, makes room for its entry (`make_entry_room`), appends the record, changes the page,
+//!   gives it the record's LSN, and enters it. What the page does not take is refused before the append.
+//! - Room is made where the table is full: the least recently used page that was changed is flushed, and the file synced. What
+//!   stays in the table then is changed pages in frames, and of those there are at most 1,023: one entry is free (`room`).
+//! - `log_only` appends a record that changes no page, `log_smo` one page of a structure change, which then is the record's
+//!   page; `force` forces the log, `sync_pages` syncs the file, `read_at` reads a record again.
+//! - A Checkpoint (`log_checkpoint`) syncs the file, appends one record with the next transaction number, the rows of active transactions
+//!   that it is handed and the rows of the dirty table, and forces the log. The redo point moves with it, so that no page counts as
+//!   having a full copy at or after it: the next write of each adds its Image.
+//! - In redo, `load_copy` takes a page from the full copy that a record holds, in place of what the file has there, and
+//!   `redo_change` applies a record to its page, if the page's LSN is below the record's. Both make frame and entry free as at
+//!   any time, so that redo needs no more frames than a store that runs. A page so loaded or changed counts as changed from the
+//!   redo point on.
+//!
+//! A refusal for want of memory, or since a page does not take a record, leaves the writer working. Each other one fails it, and
+//! from then on each call answers `Failed` and calls no disk (`fails`, `already`).
+//!
+//! # Speed
+//!
+//! By `im_bench flush --time`, over a disk in memory: a get of the page that was got last takes 6 ns; a logged change of a leaf,
+//! record, search, entry and all, 54 to 64 ns, the forces among them; a change with a flush and a sync 2.0 to 2.1 µs, in which
+//! six device calls are made: four of the force, one write and one sync.
+//!
+//! # What is kept
+//!
+//! What a writer keeps (`Writer`, in im_base_types' specs) is the log with its durable front, and for each page what the pool shows,
+//! its entry, what the file has as of its last sync and what a read gives. `Stands` says that what a writer keeps is kept, and
+//! that a log file, a table and a disk are as it says; `StandsAs` says the same of a `PageWriter`, with its pool. Each call has a
+//! clause `kept`: where the writer stands, and may do the step, it stands as the step leaves it, and a stop at any moment within
+//! leaves what redo can start from, a front of the log between the durable one and the whole that covers the file of pages
+//! (`LeavesCovered`). A call that flushes on its way leaves each page as it was, and the log with Images more (`Keeps`). What a
+//! stop leaves holds behind a refusal too, and behind one that leaves the writer working it stands as before (`again`).
+//!
+//! `written_pages_have_copies` is the law of full copies: a page that was written since the last sync has an entry in the table,
+//! and the durable log a full copy of it at or after the redo point of every log that a stop can leave. So redo never reads bytes that a stop may have torn.
+//!
+//! It stands on the log, on pages, on the pool and on the disk.
+#![tactic(auto)]
+
+mod dirty_table;
+mod flush;
+mod image_range;
+mod images;
+mod laws;
+mod leaf_change;
+mod page_copy;
+mod page_file;
+mod page_range;
+mod page_writer;
+mod redone_page;
+mod table_entry;
+
+pub use dirty_table::{DirtyTable, MOST};
+pub use images::append_image;
+pub use laws::written_pages_have_copies;
+pub use page_file::{count_pages, sync_pages, write_page};
+pub use page_writer::PageWriter;
+pub use table_entry::TableEntry;

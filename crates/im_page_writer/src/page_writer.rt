@@ -1,0 +1,410 @@
+//! The writer of pages.
+ghost use Rattle.std.specs.Prelude.{◌≡◌, ◌≢◌, ◌≤◌, ◌<◌, ◌+◌, ◌-◌, ◌^◌, min, ◌⊎◌, ◌↔◌, ℕ, List, [], None, Some, Ok, Err, false, true, not, is_ok, is_some, length, vec_capacity, IsOk, IfErr, IfOk, OnOk};
+ghost use Rattle.im_base_types.specs.declared.fault.Fault.TheVariants.{Device, Failed, LogFull, Memory, NotAStore};
+ghost use Rattle.im_base_types.specs.declared.file_id.FileId.TheVariants.{Pages};
+ghost use Rattle.im_theory_log.specs.Histories.{Base};
+ghost use Rattle.im_theory_log.specs.Writer.{Writer};
+ghost use Rattle.im_log.specs.LogFile.{end_with, HasNoRoom, IsOpen};
+
+use crate::flush::flush_page;
+use crate::{DirtyTable, MOST, sync_pages};
+use im_base_disk::Disk;
+use im_base_types::{DirtyPage, Fault, Lsn, PageNo};
+use im_log::LogFile;
+use im_log_record::Record;
+use im_page::Page;
+use im_page_pool::{Frame, Pool};
+use std::alloc::Global;
+
+mod changes;
+mod checkpoints;
+mod redo;
+mod structure;
+
+/// The pages of a store in a bounded pool over its file, with the log that goes before every write. It owns no disk.
+#[derive(Drop)]
+pub struct PageWriter {
+    log: LogFile,
+    pool: Pool,
+    table: DirtyTable,
+    /// An LSN for each page of a flush: that of its Image, or its rec_lsn where no Image is wanted.
+    lsns: Vec<Lsn>,
+    /// The rows of the dirty table, as a Checkpoint has them.
+    rows: Vec<DirtyPage>,
+    /// A page past the file's end that is written along.
+    spare: Box<Page>,
+    /// The LSN of the first record of this life, behind its last Checkpoint, that changed a leaf. A page without an entry that has this
+    /// LSN or a later one was changed since, and written since: the log has a full copy of it at or after its redo point.
+    known_from: Option<Lsn>,
+    failed: bool,
+    ghost noted: { 1024 ≤ vec_capacity lsns },
+    ghost listed: { 1024 ≤ vec_capacity rows },
+}
+
+impl PageWriter {
+    ghost use Rattle.im_page.specs.PageFile.{file_page, page_count};
+    ghost use Rattle.im_page_pool.specs.Pool.{held_of, is_changed, page_at, Evicts, Holds, IsAt, MovesFirst};
+    ghost use Rattle.im_theory_log.specs.WriterSteps.{forced, synced};
+    ghost use Rattle.im_page_writer.specs.DirtyTable.{entry_in, oldest, synced_entries};
+    ghost use Rattle.im_log_record.specs.Entry.{view};
+    ghost use Rattle.im_log_record.specs.Spelling.{IsEntry, size_of};
+    ghost use Rattle.im_log.specs.Whats.{what_of};
+    ghost use Rattle.im_log_gate.specs.Gate.{place_of};
+    ghost use Rattle.im_page_writer.specs.LogEnds.{EndsNoSooner};
+    ghost use Rattle.im_page_writer.specs.Writing.{SameHeld};
+    ghost use Rattle.im_page_writer.specs.Outcome.{fault_of, mild, none_mild, AllPages, AreLoadedTo, Flushes, HasPages, IsSound, Logs, Outcome};
+    ghost use Rattle.im_page_writer.specs.PageWriter.{IsReadyWriter, StandsAs, FlushedOne, StepKept, FlushedOldest, HasRoom, IsPlain, LogKept};
+
+    /// Writes a page in place, if it was changed since it was read or written: it alone, where the file has it, and past the file's
+    /// end every page from the page count up to it, unchanged ones too. First the Images of those pages join the log of which it is
+    /// not known to have a full copy at or after its redo point, in rising page number, then the log is forced, then the pages are
+    /// written in rising number. A page without a change takes no call. The file is not synced for a page that has its entry in the
+    /// dirty table, which stays.
+    ///
+    /// Refused `LogFull`, where an Image would end above LSN 2^62, `Device`, or `Failed` after a call that failed so; every later call is
+    /// then refused `Failed`.
+    pub fn flush_one<D: Disk>(&mut self, disk: &mut D, number: PageNo) -> Result<(), Fault>
+        requires ready { IsReadyWriter D.Disk self.old disk.old }
+        ensures outcome { Flushes D.Disk self.old disk.old self.new disk.new (fault_of result) }
+        ensures kept { (b : Base) (base : ℕ) (s : Writer) → StandsAs D.Disk b base s self.old disk.old → OnOk result (FlushedOne D.Disk b base s number disk.old self.new disk.new) }
+        ensures unchanged { self.old.failed ≡ false → is_changed self.old.pool number ≡ false → (result ≡ Ok tt) × (self.new ≡ self.old) × (disk.new ≡ disk.old) }
+        ensures stays { D.tells → number ≤ page_count (D.seen disk.old Pages) → is_some (entry_in self.old.table number) ≡ true → OnOk result (is_some (entry_in self.new.table number) ≡ true) }
+        ensures held { OnOk result (SameHeld self.old.pool self.new.pool) }
+    {
+        if self.failed {
+            return Err(Fault::Failed);
+        }
+        match self.pool.find(number) {
+            None => Ok(()),
+            Some(frame) => {
+                if self.pool.is_changed(frame) {
+                    self.flush_changed(disk, number)
+                } else {
+                    Ok(())
+                }
+            }
+        }
+    }
+
+    // The same of a page that was changed.
+    fn flush_changed<D: Disk>(&mut self, disk: &mut D, number: PageNo) -> Result<(), Fault>
+        requires ready { IsReadyWriter D.Disk self.old disk.old }
+        requires working { self.old.failed ≡ false }
+        requires changed { is_changed self.old.pool number ≡ true }
+        ensures outcome { Flushes D.Disk self.old disk.old self.new disk.new (fault_of result) }
+        ensures kept { (b : Base) (base : ℕ) (s : Writer) → StandsAs D.Disk b base s self.old disk.old → OnOk result (FlushedOne D.Disk b base s number disk.old self.new disk.new) }
+        ensures stays { D.tells → number ≤ page_count (D.seen disk.old Pages) → is_some (entry_in self.old.table number) ≡ true → OnOk result (is_some (entry_in self.new.table number) ≡ true) }
+        ensures held { OnOk result (SameHeld self.old.pool self.new.pool) }
+    {
+        self.failed = true;
+        flush_page(
+            disk,
+            &mut self.log,
+            &mut self.table,
+            &mut self.pool,
+            &mut self.spare,
+            &mut self.lsns,
+            number,
+        )?;
+        self.failed = false;
+        Ok(())
+    }
+
+    // A page is held no more.
+    fn drop_page(&mut self, number: PageNo)
+        requires held { Holds self.old.pool number }
+        ensures evicts { Evicts number self.old.pool self.new.pool }
+        ensures free { length self.new.pool.held < self.new.pool.frames }
+        ensures log { self.new.log ≡ self.old.log }
+        ensures table { self.new.table ≡ self.old.table }
+        ensures known { self.new.known_from ≡ self.old.known_from }
+        ensures failed { self.new.failed ≡ self.old.failed }
+    {
+        let _held = self.pool.len();
+        self.pool.evict(number);
+    }
+
+    // Makes a frame free: the least recently used page is written, if it was changed, and held no more.
+    fn evict_oldest<D: Disk>(&mut self, disk: &mut D) -> Result<(), Fault>
+        requires ready { IsReadyWriter D.Disk self.old disk.old }
+        requires working { self.old.failed ≡ false }
+        requires some { 1 ≤ length self.old.pool.held }
+        ensures outcome { Flushes D.Disk self.old disk.old self.new disk.new (fault_of result) }
+        ensures free { OnOk result (length self.new.pool.held < self.new.pool.frames) }
+        ensures gets { OnOk result (self.new.pool.gets ≡ self.old.pool.gets) }
+    {
+        let Some(frame) = self.pool.oldest() else {
+            return Err(Fault::Memory);
+        };
+        self.flush_one(disk, frame.number)?;
+        self.drop_page(frame.number);
+        Ok(())
+    }
+
+    // Makes a frame free, where none is.
+    fn make_frame<D: Disk>(&mut self, disk: &mut D) -> Result<(), Fault>
+        requires ready { IsReadyWriter D.Disk self.old disk.old }
+        requires working { self.old.failed ≡ false }
+        ensures outcome { Flushes D.Disk self.old disk.old self.new disk.new (fault_of result) }
+        ensures free { OnOk result (length self.new.pool.held < self.new.pool.frames) }
+        ensures gets { OnOk result (self.new.pool.gets ≡ self.old.pool.gets) }
+    {
+        if !self.pool.is_full() {
+            return Ok(());
+        }
+        self.evict_oldest(disk)
+    }
+
+    // Makes a frame free for a page that is not held, where none is.
+    fn make_room<D: Disk>(&mut self, disk: &mut D, number: PageNo) -> Result<(), Fault>
+        requires ready { IsReadyWriter D.Disk self.old disk.old }
+        requires working { self.old.failed ≡ false }
+        ensures outcome { Flushes D.Disk self.old disk.old self.new disk.new (fault_of result) }
+        ensures room { OnOk result (Holds self.new.pool number ⊎ (length self.new.pool.held < self.new.pool.frames)) }
+        ensures gets { OnOk result (self.new.pool.gets ≡ self.old.pool.gets) }
+        ensures held { Holds self.old.pool number → (result ≡ Ok tt) × (self.new ≡ self.old) × (disk.new ≡ disk.old) }
+    {
+        if self.pool.holds(number) {
+            return Ok(());
+        }
+        self.make_frame(disk)
+    }
+
+    // Where a page is held from now on, for which there is room.
+    fn hold<D: Disk>(&mut self, disk: &mut D, number: PageNo) -> Result<Frame, Fault>
+        requires ready { IsReadyWriter D.Disk self.old disk.old }
+        requires working { self.old.failed ≡ false }
+        requires room { Holds self.old.pool number ⊎ (length self.old.pool.held < self.old.pool.frames) }
+        ensures outcome { Outcome D.Disk (AreLoadedTo number) mild self.old disk.old self.new disk.new (fault_of result) }
+        ensures kept { (pages : AllPages) → HasPages D.Disk (AreLoadedTo number) pages self.old disk.old → IsSound result (λ _. page_at self.new.pool number ≡ pages number) }
+        ensures at { IfOk result (IsAt self.new.pool) }
+        ensures frame { IfOk result (λ frame. frame.number ≡ number) }
+        ensures gets { IfOk result (λ _. self.new.pool.gets ≡ self.old.pool.gets + 1) }
+        ensures held { Holds self.old.pool number → IsOk result × MovesFirst number self.old.pool self.new.pool }
+        ensures quiet { Holds self.old.pool number → disk.new ≡ disk.old }
+        ensures log { self.new.log ≡ self.old.log }
+        ensures table { self.new.table ≡ self.old.table }
+        ensures memory { result ≢ Err Memory }
+        ensures no_page { result ≡ Err NotAStore → D.tells → file_page (D.seen disk.new Pages) number ≡ None }
+    {
+        match self.pool.get(disk, number) {
+            Ok(frame) => Ok(frame),
+            Err(fault) => {
+                self.failed = fault == Fault::Device;
+                Err(fault)
+            }
+        }
+    }
+
+    /// Where a page is held from now on, as the most recently used. A page that is held takes no call of the disk; for one that is
+    /// not, where no frame is free, the least recently used page goes first, as `flush_one` writes it where it was changed. One get
+    /// is counted, and none for the page that goes.
+    ///
+    /// Refused `Failed` after a call that failed; otherwise only for a page that is not held: `LogFull`, where an Image would end above
+    /// LSN 2^62, `Device`, or `NotAStore` where the page's bytes are none. Behind the last one the writer goes on. No memory is taken.
+    pub fn get<D: Disk>(&mut self, disk: &mut D, number: PageNo) -> Result<Frame, Fault>
+        requires ready { IsReadyWriter D.Disk self.old disk.old }
+        ensures outcome { Outcome D.Disk (AreLoadedTo number) mild self.old disk.old self.new disk.new (fault_of result) }
+        ensures kept { (pages : AllPages) → HasPages D.Disk (AreLoadedTo number) pages self.old disk.old → IsSound result (λ _. page_at self.new.pool number ≡ pages number) }
+        ensures at { IfOk result (IsAt self.new.pool) }
+        ensures frame { IfOk result (λ frame. frame.number ≡ number) }
+        ensures gets { IfOk result (λ _. self.new.pool.gets ≡ self.old.pool.gets + 1) }
+        ensures held { self.old.failed ≡ false → Holds self.old.pool number → IsOk result × MovesFirst number self.old.pool self.new.pool }
+        ensures quiet { self.old.failed ≡ false → Holds self.old.pool number → (disk.new ≡ disk.old) × (self.new.log ≡ self.old.log) × (self.new.table ≡ self.old.table) }
+        ensures memory { result ≢ Err Memory }
+        ensures no_page { result ≡ Err NotAStore → D.tells → file_page (D.seen disk.new Pages) number ≡ None }
+    {
+        if self.failed {
+            return Err(Fault::Failed);
+        }
+        if let Some(frame) = self.pool.get_held(number) {
+            return Ok(frame);
+        }
+        self.get_absent(disk, number)
+    }
+
+    // The same of a page that is not held.
+    fn get_absent<D: Disk>(&mut self, disk: &mut D, number: PageNo) -> Result<Frame, Fault>
+        requires ready { IsReadyWriter D.Disk self.old disk.old }
+        requires working { self.old.failed ≡ false }
+        requires absent { held_of self.old.pool number ≡ None }
+        ensures outcome { Outcome D.Disk (AreLoadedTo number) mild self.old disk.old self.new disk.new (fault_of result) }
+        ensures kept { (pages : AllPages) → HasPages D.Disk (AreLoadedTo number) pages self.old disk.old → IsSound result (λ _. page_at self.new.pool number ≡ pages number) }
+        ensures at { IfOk result (IsAt self.new.pool) }
+        ensures frame { IfOk result (λ frame. frame.number ≡ number) }
+        ensures gets { IfOk result (λ _. self.new.pool.gets ≡ self.old.pool.gets + 1) }
+        ensures memory { result ≢ Err Memory }
+        ensures no_page { result ≡ Err NotAStore → D.tells → file_page (D.seen disk.new Pages) number ≡ None }
+    {
+        self.make_frame(disk)?;
+        self.hold(disk, number)
+    }
+
+    /// A held page, lent.
+    pub fn page(&self, frame: Frame) -> &Page
+        requires { IsAt self.now.pool frame }
+        ensures page { result.now ≡ page_at self.now.pool frame.number }
+    {
+        self.pool.page(frame)
+    }
+
+    /// A writer over a log, with room for so many pages, 8 to 1,024. All memory that it and its pool take is taken here. Refused
+    /// `Memory`.
+    pub fn new(alloc: Global, log: LogFile, frames: usize) -> Result<Self, Fault>
+        requires least { 8 ≤ frames }
+        requires most { frames ≤ 1024 }
+        requires usable { log.failed ≡ false }
+        ensures log { IfOk result (λ w. w.log ≡ log) }
+        ensures pool { IfOk result (λ w. w.pool ≡ record { held = []; frames = frames; gets = 0 }) }
+        ensures table { IfOk result (λ w. w.table ≡ []) }
+        ensures failed { IfOk result (λ w. w.failed ≡ false) }
+        ensures known { IfOk result (λ w. w.known_from ≡ None) }
+        ensures refused { IfErr result (λ e. e ≡ Memory) }
+    {
+        let pool = Pool::new(alloc, frames)?;
+        let table = DirtyTable::new(alloc).map_err(|_| Fault::Memory)?;
+        let lsns = Vec::with_capacity(alloc, 1_024).map_err(|_| Fault::Memory)?;
+        let rows = Vec::with_capacity(alloc, MOST).map_err(|_| Fault::Memory)?;
+        let spare = Box::new(alloc, Page::initial(0)).map_err(|_| Fault::Memory)?;
+        Ok(PageWriter {
+            log,
+            pool,
+            table,
+            lsns,
+            rows,
+            spare,
+            known_from: None,
+            failed: false,
+        })
+    }
+
+    /// Brings the log to the disk, by four device calls; none where nothing is buffered.
+    ///
+    /// Refused `Device`, or `Failed` after a call that failed.
+    pub fn force<D: Disk>(&mut self, disk: &mut D) -> Result<(), Fault>
+        requires ready { IsReadyWriter D.Disk self.old disk.old }
+        ensures outcome { Logs D.Disk false none_mild self.old disk.old self.new disk.new (fault_of result) }
+        ensures room { result ≢ Err LogFull }
+        ensures kept { (b : Base) (base : ℕ) (s : Writer) → StandsAs D.Disk b base s self.old disk.old → StepKept D.Disk b base s (forced s) disk.old self.new disk.new result }
+        ensures none { self.old.failed ≡ false → self.old.log.used ≡ 0 → (result ≡ Ok tt) × (self.new.log ≡ self.old.log) × (disk.new ≡ disk.old) }
+        ensures pool { self.new.pool ≡ self.old.pool }
+        ensures table { self.new.table ≡ self.old.table }
+    {
+        if self.failed {
+            return Err(Fault::Failed);
+        }
+        self.failed = true;
+        self.log.force(disk)?;
+        self.failed = false;
+        Ok(())
+    }
+
+    /// Syncs the file of pages, one device call: pages that have not changed since their last write leave the dirty table.
+    ///
+    /// Refused `Device`, or `Failed` after a call that failed.
+    pub fn sync_pages<D: Disk>(&mut self, disk: &mut D) -> Result<(), Fault>
+        requires ready { IsReadyWriter D.Disk self.old disk.old }
+        ensures outcome { Logs D.Disk false none_mild self.old disk.old self.new disk.new (fault_of result) }
+        ensures room { result ≢ Err LogFull }
+        ensures kept { (b : Base) (base : ℕ) (s : Writer) → StandsAs D.Disk b base s self.old disk.old → StepKept D.Disk b base s (synced s) disk.old self.new disk.new result }
+        ensures table { OnOk result (self.new.table ≡ synced_entries self.old.table) }
+        ensures log { self.new.log ≡ self.old.log }
+        ensures pool { self.new.pool ≡ self.old.pool }
+    {
+        if self.failed {
+            return Err(Fault::Failed);
+        }
+        self.failed = true;
+        sync_pages(disk, &mut self.table)?;
+        self.failed = false;
+        Ok(())
+    }
+
+    /// The LSN below which each record of the log is durable. A writer that failed answers any number.
+    pub fn durable_end(&self) -> Lsn
+        ensures { result ≡ min (self.now.log.base + place_of self.now.log.gate) (2 ^ 64 - 1) }
+    {
+        self.log.durable_end()
+    }
+
+    /// Whether an earlier call broke it: every call is then refused `Failed`.
+    pub fn has_failed(&self) -> bool
+        ensures { result ≡ self.now.failed }
+    {
+        self.failed
+    }
+
+    /// How many pages may lack changes in their file, or have a write that is not synced: at most 1,024.
+    pub fn dirty_count(&self) -> usize
+        ensures { result ≡ length self.now.table }
+    {
+        self.table.len()
+    }
+
+    /// The page whose first change since its last write is the oldest, with the LSN of that change; none where each page is written. A
+    /// Checkpoint that comes now has its redo point no earlier.
+    pub fn oldest_change(&self) -> Option<DirtyPage>
+        ensures { result ≡ oldest None self.now.table }
+    {
+        self.table.oldest_change()
+    }
+
+    // Flushes the least recently used page that was changed, if there is one.
+    fn flush_oldest<D: Disk>(&mut self, disk: &mut D) -> Result<(), Fault>
+        requires ready { IsReadyWriter D.Disk self.old disk.old }
+        requires working { self.old.failed ≡ false }
+        ensures outcome { Flushes D.Disk self.old disk.old self.new disk.new (fault_of result) }
+        ensures kept { (b : Base) (base : ℕ) (s : Writer) → StandsAs D.Disk b base s self.old disk.old → OnOk result (FlushedOldest D.Disk b base s disk.old self.old.pool self.new disk.new) }
+        ensures held { OnOk result (SameHeld self.old.pool self.new.pool) }
+    {
+        match self.pool.oldest_changed() {
+            None => Ok(()),
+            Some(frame) => self.flush_one(disk, frame.number),
+        }
+    }
+
+    /// Makes room in the dirty table, where it is full: the least recently used page that was changed is flushed, if there is one, and
+    /// the file of pages synced. Behind it one more page can come in. It comes after a page has its frame, and before the append of
+    /// the record that changes the page.
+    ///
+    /// Refused `LogFull`, where an Image would end above LSN 2^62, `Device`, or `Failed` after a call that failed.
+    pub fn make_entry_room<D: Disk>(&mut self, disk: &mut D) -> Result<(), Fault>
+        requires ready { IsReadyWriter D.Disk self.old disk.old }
+        ensures outcome { Flushes D.Disk self.old disk.old self.new disk.new (fault_of result) }
+        ensures kept { (b : Base) (base : ℕ) (s : Writer) → StandsAs D.Disk b base s self.old disk.old → OnOk result (HasRoom D.Disk b base s disk.old self.old self.new disk.new) }
+        ensures held { OnOk result (SameHeld self.old.pool self.new.pool) }
+        ensures unchanged { self.old.failed ≡ false → length self.old.table < 1024 → (result ≡ Ok tt) × (self.new ≡ self.old) × (disk.new ≡ disk.old) }
+    {
+        if self.failed {
+            return Err(Fault::Failed);
+        }
+        if !self.table.is_full() {
+            return Ok(());
+        }
+        self.flush_oldest(disk)?;
+        self.table.pages_rise();
+        let _held = self.pool.len();
+        self.sync_pages(disk)
+    }
+
+    /// Adds a record that changes no page to the log, as a Commit or an End, and answers its LSN. The log is forced first where the
+    /// record does not fit into its buffer.
+    ///
+    /// Refused `LogFull`, exactly where the record would end above LSN 2^62, `Device`, or `Failed` after a call that failed.
+    pub fn log_only<D: Disk>(&mut self, disk: &mut D, record: &Record) -> Result<Lsn, Fault>
+        requires entry { IsEntry (view record.now) }
+        requires ready { IsReadyWriter D.Disk self.old disk.old }
+        ensures outcome { Logs D.Disk false none_mild self.old disk.old self.new disk.new (fault_of result) }
+        ensures kept { (b : Base) (base : ℕ) (s : Writer) (e : ℕ) → StandsAs D.Disk b base s self.old disk.old → s.redo_end ≡ Some e → IsPlain (what_of (view record.now))
+            → LogKept D.Disk b base s (view record.now) disk.old self.new disk.new result }
+        ensures full { result ≡ Err LogFull ↔ ((self.old.failed ≡ false) × (2 ^ 62 < end_with self.old.log (size_of (view record.now)))) }
+    {
+        if self.failed {
+            return Err(Fault::Failed);
+        }
+        self.failed = true;
+        let lsn = self.log.append(disk, record)?;
+        self.failed = false;
+        Ok(lsn)
+    }
+}

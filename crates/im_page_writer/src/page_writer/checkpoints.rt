@@ -1,0 +1,115 @@
+//! Checkpoints: the rows of both tables in a record of the log, behind a sync of the file of pages.
+ghost use Rattle.std.specs.Prelude.{◌≡◌, ◌≤◌, ◌<◌, ◌^◌, ◌⊎◌, ◌↔◌, ◌+◌, ◌*◌, ℕ, List, None, Some, Ok, Err, false, true, not, is_ok, length, IfErr, OnOk};
+ghost use Rattle.im_base_types.specs.declared.fault.Fault.TheVariants.{Device, Failed, LogFull};
+ghost use Rattle.im_base_types.specs.declared.file_id.FileId.TheVariants.{Log};
+ghost use Rattle.im_theory_log.specs.Histories.{Base};
+ghost use Rattle.im_base_types.specs.Records.{Logged};
+ghost use Rattle.im_theory_log.specs.Writer.{Writer};
+ghost use Rattle.im_base_disk.specs.Runs.{ChangesOnly};
+ghost use Rattle.im_log_record.specs.Entry.{Checkpoint};
+ghost use Rattle.im_log_record.specs.Spelling.{Rise, size_of};
+ghost use Rattle.im_log.specs.LogFile.{HasNoRoom, end_with, IsOpen, IsLog};
+ghost use Rattle.im_log.specs.Kept.{AppendKept};
+
+use crate::PageWriter;
+use im_base_disk::Disk;
+use im_base_types::{ActiveTransaction, DirtyPage, Fault, Lsn, TxnId};
+use im_log::LogFile;
+use im_log_record::Record;
+
+impl PageWriter {
+    ghost use Rattle.im_theory_log.specs.Writer.{PageState};
+    ghost use Rattle.im_page_writer.specs.DirtyTable.{dirty_pages, forgotten_entries, synced_entries};
+    ghost use Rattle.im_page_writer.specs.Outcome.{fault_of, none_mild, Logs};
+    ghost use Rattle.im_page_writer.specs.PageWriter.{IsReadyWriter, StandsAs};
+    ghost use Rattle.im_page_writer.specs.Checkpoints.{TablesKept, CheckpointKept};
+
+    // Adds the record of a Checkpoint with the rows of the dirty table, of which no copy counts as known then.
+    fn log_tables<D: Disk>(
+        &mut self,
+        disk: &mut D,
+        next: TxnId,
+        active: &[ActiveTransaction],
+    ) -> Result<Lsn, Fault>
+        requires few { length active.now ≤ 64 }
+        requires rise { Rise (λ a. a.transaction) None active.now }
+        requires ready { IsReadyWriter D.Disk self.old disk.old }
+        requires working { self.old.failed ≡ false }
+        ensures ready { IsReadyWriter D.Disk self.new disk.new }
+        ensures kept { (b : Base) (base : ℕ) (s : Writer) (e : ℕ) → StandsAs D.Disk b base s self.old disk.old → s.redo_end ≡ Some e → ((p : ℕ) → (s.pages p).unsynced ≡ false)
+            → TablesKept D.Disk b base s next active.now (dirty_pages self.old.table) disk.old self.new disk.new result }
+        ensures failed { self.new.failed ≡ not (is_ok result) }
+        ensures causes { IfErr result (λ e. (e ≡ LogFull) ⊎ (e ≡ Device)) }
+        ensures no_room { result ≡ Err LogFull → HasNoRoom self.new.log }
+        ensures full { result ≡ Err LogFull ↔ (2 ^ 62 < end_with self.old.log (size_of (Checkpoint next active.now (dirty_pages self.old.table)))) }
+        ensures device { result ≡ Err Device ↔ (D.failed disk.new ≡ true) }
+        ensures table { OnOk result (self.new.table ≡ forgotten_entries self.old.table) }
+        ensures pool { self.new.pool ≡ self.old.pool }
+    {
+        self.table.copy_rows(&mut self.rows);
+        self.table.forget();
+        self.failed = true;
+        let lsn = append_tables(disk, &mut self.log, next, active, self.rows.as_slice())?;
+        self.known_from = None;
+        self.failed = false;
+        Ok(lsn)
+    }
+
+    /// Takes a Checkpoint, and answers its LSN: the file of pages is synced, then the record joins the log, with the next transaction
+    /// number, these rows of active transactions and the rows of the dirty table as the sync has left it, and then the log is forced, as
+    /// it is first where the record does not fit into its buffer. That is one sync and one force or two; no page is read, copied or
+    /// written, and no memory is taken. The redo point of the log is then the least of the Checkpoint's LSN and the rec_lsns of its rows,
+    /// and no page counts as having a full copy at or after it: the next write of each adds its Image.
+    ///
+    /// Refused `LogFull`, behind the sync, exactly where the record would end above LSN 2^62, `Device`, or `Failed` after a call that failed.
+    pub fn log_checkpoint<D: Disk>(
+        &mut self,
+        disk: &mut D,
+        next: TxnId,
+        active: &[ActiveTransaction],
+    ) -> Result<Lsn, Fault>
+        requires few { length active.now ≤ 64 }
+        requires rise { Rise (λ a. a.transaction) None active.now }
+        requires ready { IsReadyWriter D.Disk self.old disk.old }
+        ensures outcome { Logs D.Disk false none_mild self.old disk.old self.new disk.new (fault_of result) }
+        ensures kept { (b : Base) (base : ℕ) (s : Writer) (e : ℕ) → StandsAs D.Disk b base s self.old disk.old → s.redo_end ≡ Some e
+            → CheckpointKept D.Disk b base s next active.now (dirty_pages (synced_entries self.old.table)) disk.old self.new disk.new result }
+        ensures full { result ≡ Err LogFull → 2 ^ 62 < end_with self.old.log (size_of (Checkpoint next active.now (dirty_pages (synced_entries self.old.table)))) }
+        ensures fits { OnOk result (end_with self.old.log (size_of (Checkpoint next active.now (dirty_pages (synced_entries self.old.table)))) ≤ 2 ^ 62) }
+        ensures table { OnOk result (self.new.table ≡ forgotten_entries (synced_entries self.old.table)) }
+        ensures pool { self.new.pool ≡ self.old.pool }
+    {
+        self.sync_pages(disk)?;
+        let lsn = self.log_tables(disk, next, active)?;
+        self.force(disk)?;
+        Ok(lsn)
+    }
+}
+
+// Adds the record of a Checkpoint to the log.
+fn append_tables<'a, D: Disk>(
+    disk: &mut D,
+    log: &mut LogFile,
+    next: TxnId,
+    active: &'a [ActiveTransaction],
+    dirty: &'a [DirtyPage],
+) -> Result<Lsn, Fault>
+    requires active_most { length active.now ≤ 64 }
+    requires active_rise { Rise (λ a. a.transaction) None active.now }
+    requires dirty_most { length dirty.now ≤ 1024 }
+    requires dirty_rise { Rise (λ r. r.page) None dirty.now }
+    requires ready { IsOpen D.Disk log.old disk.old }
+    ensures ready { IsOpen D.Disk log.new disk.new }
+    ensures kept { (base : ℕ) (all durable : List Logged) → IsLog D.Disk base all durable log.old disk.old
+        → AppendKept D.Disk base all durable (Checkpoint next active.now dirty.now) disk.old log.new disk.new result }
+    ensures changes { ChangesOnly D.Disk Log disk.old disk.new }
+    ensures failed { log.new.failed ≡ not (is_ok result) }
+    ensures causes { IfErr result (λ e. (e ≡ Failed) ⊎ (e ≡ LogFull) ⊎ (e ≡ Device)) }
+    ensures already { result ≡ Err Failed ↔ (log.old.failed ≡ true) }
+    ensures full { result ≡ Err LogFull ↔ ((log.old.failed ≡ false) × (2 ^ 62 < end_with log.old (size_of (Checkpoint next active.now dirty.now)))) }
+    ensures no_room { result ≡ Err LogFull → HasNoRoom log.new }
+    ensures device { log.old.failed ≡ false → result ≡ Err Device ↔ (D.failed disk.new ≡ true) }
+{
+    let record = Record::checkpoint(next, active, dirty);
+    log.append(disk, &record)
+}

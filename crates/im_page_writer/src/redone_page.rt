@@ -1,0 +1,97 @@
+//! A held page, changed by a record of redo.
+ghost use Rattle.std.specs.Prelude.{◌≡◌, None, true, false, IfErr, IfOk, OnErr};
+ghost use Rattle.im_base_types.specs.declared.fault.Fault.TheVariants.{NotAStore};
+ghost use Rattle.im_base_types.specs.Records.{InsertKey, DeleteKey};
+ghost use Rattle.im_theory_log.specs.Histories.{page_after};
+ghost use Rattle.im_log_record.specs.Entry.{view};
+ghost use Rattle.im_log_record.specs.Spelling.{IsEntry};
+ghost use Rattle.im_log.specs.Whats.{what_of};
+ghost use Rattle.im_page_pool.specs.Pool.{IsAt, Sets, page_at};
+ghost use Rattle.im_page_writer.specs.LeafChange.{CanPutKey, CanTakeKey};
+ghost use Rattle.im_page_writer.specs.PageCopy.{after_in};
+ghost use Rattle.im_page_writer.specs.Redoing.{TakesRecord, AppliedTo};
+
+use crate::leaf_change::{place_for, place_of, put_key, take_key};
+use crate::page_copy::read_after;
+use im_base_types::{Fault, Lsn};
+use im_log_record::Record;
+use im_page::Page;
+use im_page_pool::{Frame, Pool};
+
+// A key is put into a leaf. Refused `NotAStore` where it does not take it.
+fn redo_put(pool: &mut Pool, frame: Frame, lsn: Lsn, key: &[u8], rid: u64) -> Result<bool, Fault>
+    requires at { IsAt pool.old frame }
+    ensures ok { IfOk result (λ done. AppliedTo lsn (InsertKey key.now rid) frame pool.old done pool.new) }
+    ensures err { OnErr result (pool.new ≡ pool.old) }
+    ensures refused { IfErr result (λ e. (e ≡ NotAStore) × ¬ (CanPutKey (page_at pool.old frame.number) key.now)) }
+{
+    let i = place_for(pool.page(frame), key)?;
+    put_key(pool, frame, i, key, rid, lsn);
+    Ok(true)
+}
+
+// A key is taken out of a leaf. Refused `NotAStore` where it does not have it.
+fn redo_take(pool: &mut Pool, frame: Frame, lsn: Lsn, key: &[u8], rid: u64) -> Result<bool, Fault>
+    requires at { IsAt pool.old frame }
+    ensures ok { IfOk result (λ done. AppliedTo lsn (DeleteKey key.now rid) frame pool.old done pool.new) }
+    ensures err { OnErr result (pool.new ≡ pool.old) }
+    ensures refused { IfErr result (λ e. (e ≡ NotAStore) × ¬ (CanTakeKey (page_at pool.old frame.number) key.now)) }
+{
+    let i = place_of(pool.page(frame), key)?;
+    take_key(pool, frame, i, key, rid, lsn);
+    Ok(true)
+}
+
+/// Makes a held page this one, with an LSN.
+pub(crate) fn set_page(pool: &mut Pool, frame: Frame, lsn: Lsn, page: &Page)
+    requires { IsAt pool.old frame }
+    ensures { Sets frame (record { lsn = lsn; body = page.now.body }) true pool.old pool.new }
+{
+    match pool.copy_in(frame, page.bytes()) {
+        Ok(()) => pool.set_lsn(frame, lsn),
+        Err(_) => {}
+    }
+}
+
+// A held page becomes the one after a structure change, or its undo, if the record is one, with images that are pages.
+fn redo_after(pool: &mut Pool, spare: &mut Page, frame: Frame, lsn: Lsn, record: &Record) -> bool
+    requires entry { IsEntry (view record.now) }
+    requires at { IsAt pool.old frame }
+    ensures none { result ≡ false → after_in (what_of (view record.now)) ≡ None }
+    ensures applied { result ≡ true → AppliedTo lsn (what_of (view record.now)) frame pool.old true pool.new }
+    ensures same { result ≡ false → pool.new ≡ pool.old }
+{
+    if !read_after(spare, record) {
+        return false;
+    }
+    set_page(pool, frame, lsn, spare);
+    true
+}
+
+/// Changes a held page by a record at an LSN, and answers whether its kind changes a page; otherwise nothing changes. `spare` is any
+/// page then.
+///
+/// Refused `NotAStore`, exactly where the page does not take the record.
+pub(crate) fn redo_record(
+    pool: &mut Pool,
+    spare: &mut Page,
+    frame: Frame,
+    lsn: Lsn,
+    record: &Record,
+) -> Result<bool, Fault>
+    requires entry { IsEntry (view record.now) }
+    requires at { IsAt pool.old frame }
+    ensures ok { IfOk result (λ done. AppliedTo lsn (what_of (view record.now)) frame pool.old done pool.new) }
+    ensures err { OnErr result (pool.new ≡ pool.old) }
+    ensures refused { IfErr result (λ e. (e ≡ NotAStore) × ¬ (TakesRecord (what_of (view record.now)) (page_at pool.old frame.number))) }
+{
+    match record {
+        Record::InsertKey { key, rid, .. } => redo_put(pool, frame, lsn, key, *rid),
+        Record::UndoDelete { key, rid, .. } => redo_put(pool, frame, lsn, key, *rid),
+        Record::DeleteKey { key, rid, .. } => redo_take(pool, frame, lsn, key, *rid),
+        Record::UndoInsert { key, rid, .. } => redo_take(pool, frame, lsn, key, *rid),
+        Record::Smo { .. } => Ok(redo_after(pool, spare, frame, lsn, record)),
+        Record::UndoSmo { .. } => Ok(redo_after(pool, spare, frame, lsn, record)),
+        _ => Ok(false),
+    }
+}

@@ -1,0 +1,48 @@
+-- What the records of a log have to be for analysis to take them all: chains lead down, one structure change is open at a time, and the pages
+-- that they name are below a page count that the log has said.
+use Rattle.std.specs.Prelude.{◌≡◌, ◌≢◌, ◌≤◌, ◌<◌, ◌⊎◌, ℕ, true, [], ◌∷◌, Result, Err, OnOk}
+use Rattle.im_base_types.specs.declared.fault.Fault.{Fault}
+use Rattle.im_base_types.specs.declared.fault.Fault.TheVariants.{NotAStore}
+use Rattle.im_base_types.specs.Records.{Logged, Unreadable}
+use Rattle.im_theory_log.specs.Histories.{History}
+use Rattle.im_theory_log.specs.PageCounts.{greatest_count, names_page}
+use Rattle.im_restart_analysis.specs.declared.analysis.Analysis.{Analysis}
+use Rattle.im_restart_analysis.specs.OpenChange.{IsOpenChange, OpensAnother}
+
+-- the LSN that a record names is none, or an earlier one
+abbrev pub IsEarlier : ℕ → ℕ → Type 0
+IsEarlier named lsn = (named ≡ 0) ⊎ (named < lsn)
+
+-- A transaction's record leads to earlier ones alone.
+abbrev pub LeadsDown : Logged → Type 0
+LeadsDown r = 1 ≤ r.txn → IsEarlier r.prev r.lsn × IsEarlier r.undo_next r.lsn
+
+-- A record that names a page names one below a page count that was said before it.
+abbrev pub NamesCounted : Logged → History → Type 0
+NamesCounted r older = names_page r.what ≡ true → r.page < greatest_count older
+
+-- The record leads down, opens no structure change beside another transaction's, and names no page that no page count has.
+pub record FitsBehind (r : Logged) (older : History) : Type 0 where
+  pub leads : LeadsDown r
+  pub alone : OpensAnother r older → ⊥
+  pub counted : NamesCounted r older
+
+-- So does each record.
+abbrev pub IsOrderly : History → Type 0
+IsOrderly [] = Unit {0}
+IsOrderly (r ∷ older) = FitsBehind r older × IsOrderly older
+
+-- The bytes of each page image are a page's.
+abbrev pub IsReadable : History → Type 0
+IsReadable [] = Unit {0}
+IsReadable (r ∷ older) = (r.what ≢ Unreadable) × IsReadable older
+
+-- What is known behind records of any log: the structure change that is open, and the greatest page count.
+pub record Knows (log : History) (a : Analysis) : Type 0 where
+  pub open_change : IsOpenChange a.open_change.items log
+  pub count : a.count ≡ greatest_count log
+
+-- On any records: one is taken only where it fits, with what is known behind it, and refused as no store only where it does not fit.
+pub record FitKept (older : History) (r : Logged) (new : Analysis) (result : Result Unit Fault) : Type 0 where
+  pub ok : OnOk result (FitsBehind r older × Knows (r ∷ older) new)
+  pub refused : result ≡ Err NotAStore → FitsBehind r older → ⊥

@@ -1,0 +1,29 @@
+//! Analysis: what a restart has to know of the log before redo and undo, from one pass over its records.
+//!
+//! `Analysis::take` is handed each record with its LSN, the oldest first, and reads no page and no disk. Behind the
+//! last one `Analysis::finish` hands out the next transaction number, the redo point, the losers, for each page the
+//! last full copy at or after the redo point, and the records of the structure change that is open.
+//!
+//! The contract: each of these is exactly what the definitions over logs say of the records that were taken
+//! (`IsAnalysed`, `IsAnalysis`), as long as each record may stand there (`Continues`), as it may in every lawful
+//! log. `take` is refused `NotAStore` just where a structure change opens while another transaction's is open, a
+//! record names its own LSN or a later one as its transaction's, or a page at or above the greatest page count that the
+//! records before it said (`FitsBehind`), also in a log that is not lawful, and `Memory`; then it changes nothing.
+//!
+//! `laws` has what undo lives by, for every tree of pages: what the losers' chains lead to, which records may come
+//! next and what they leave, and that the tree holds the committed map alone once no loser is left.
+//!
+//! It stands on `im_log_record` for records and on the definitions of `im_log` and `im_base_types`.
+#![tactic(auto)]
+
+mod analysis;
+mod chains;
+pub mod laws;
+mod notes;
+mod numbers;
+mod open_change;
+mod page_counts;
+mod rows;
+
+pub use analysis::{Analysed, Analysis};
+pub use rows::{Loser, OpenRecord};

@@ -1,0 +1,49 @@
+use Rattle.std.proofs.Common.{rules, ℕ, List, ◌∷◌, ◌+◌, ◌≡◌, ◌≤◌, drop, length, get_or, Bool, true, false, arith, sym, subst, refl}
+use Rattle.std.specs.Prelude.{if◌then◌else◌}
+use Rattle.std.proofs.Math.ListN.{drop_of_length-le}
+use Rattle.std.proofs.lemmas.List.{drop_more}
+use Rattle.im_restart_redo.specs.Applying.{IsApplying}
+use Rattle.im_page_writer.proofs.Outcomes.{sound_on}
+use Rattle.im_restart_redo.proofs.Recoveries.{moved, recovers_then, recovery_refused}
+use Rattle.im_restart_redo.proofs.Within.{leaves_now}
+use Rattle.im_restart_redo.proofs.records.redo_all.Goals as goal
+
+few_more : (count index : ℕ) (done : Bool) (n : ℕ) → n ≡ count + (if done then 1 else 0) → count ≤ index → n ≤ index + 1
+few_more count index true n is le = omega (arith, is, le)
+few_more count index false n is le = omega (arith, is, le)
+
+pub loop-lsn-init : goal.loop-lsn-init
+loop-lsn-init g c = record { outcome = moved g.D.Disk c.args.writer.now c.args.writer.now c.args.disk.now c.requires.working c.requires.ready refl c.requires.working; few = omega arith; room = refl; kept = λ b base begun file from is can at are. is }
+
+pub loop-lsn-preserved : goal.loop-lsn-preserved
+loop-lsn-preserved g c =
+    let l = c.loop-lsn in
+    record {
+      outcome = recovers_then g.D.Disk l.invariant.outcome c.in_ok-applied.ensures.outcome;
+      few = few_more l.count l.lsn-index c.in_ok-applied.applied c.counted-count.result c.counted-count.ensures l.invariant.few;
+      room = (search rules);
+      kept = λ b base begun file from is can at are.
+          let rest = drop (l.lsn-index + 1) c.args.lsns.now in
+          let more : drop l.lsn-index c.args.lsns.now ≡ get_or c.args.lsns.now l.lsn-index 0 ∷ rest = drop_more c.args.lsns.now l.lsn-index 0 c.loop-lsn-test.true in
+          let so = subst (λ (left : List ℕ). IsApplying g.D.Disk b base begun file left l.count from l.writer l.disk) more (l.invariant.kept b base begun file from is can at are) in
+          subst (λ (n : ℕ). IsApplying g.D.Disk b base begun file rest n from c.redo_one.new.writer c.redo_one.new.disk) (sym c.counted-count.ensures) (c.in_ok-applied.ensures.kept b base begun file from rest l.count so can at are).sound;
+    }
+
+pub returns-in_err-applied-clause-outcome : goal.returns-in_err-applied-clause-outcome
+returns-in_err-applied-clause-outcome g c = recovery_refused g.D.Disk c.from_residual.result c.from_residual.ensures.1 (recovers_then g.D.Disk c.loop-lsn.invariant.outcome c.in_err-applied.ensures.outcome)
+
+pub returns-in_err-applied-clause-kept : goal.returns-in_err-applied-clause-kept
+returns-in_err-applied-clause-kept g c b base begun file from is can at are =
+    let l = c.loop-lsn in
+    let rest = drop (l.lsn-index + 1) c.args.lsns.now in
+    let more : drop l.lsn-index c.args.lsns.now ≡ get_or c.args.lsns.now l.lsn-index 0 ∷ rest = drop_more c.args.lsns.now l.lsn-index 0 c.loop-lsn-test.true in
+    let so = subst (λ (left : List ℕ). IsApplying g.D.Disk b base begun file left l.count from l.writer l.disk) more (l.invariant.kept b base begun file from is can at are) in
+    let one = c.in_err-applied.ensures.kept b base begun file from rest l.count so can at are in
+    record { sound = sound_on c.from_residual.result _ _ c.from_residual.ensures.1 one.sound; stops = one.stops }
+
+pub returns-clause-kept : goal.returns-clause-kept
+returns-clause-kept g c b base begun file from is can at are =
+    let l = c.loop-lsn in
+    let past : length c.args.lsns.now ≤ l.lsn-index = omega (arith, c.loop-lsn-test.false) in
+    let so = subst (λ (left : List ℕ). IsApplying g.D.Disk b base begun file left l.count from l.writer l.disk) (drop_of_length-le c.args.lsns.now past) (l.invariant.kept b base begun file from is can at are) in
+    record { sound = so; stops = leaves_now g.D.Disk b base begun from so.passed.now l.writer l.disk so.passed.within }

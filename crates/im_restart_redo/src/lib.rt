@@ -1,0 +1,43 @@
+//! Redo: the pages are brought to what the whole durable log made of them.
+//!
+//! Analysis (`im_restart_analysis`) says from which LSN on records may be lacking in the file of pages, the redo point, and where the last
+//! full copy of each page stands at or after it. `redo` is handed both, the LSNs of the records from the redo point on that change
+//! a page, and a writer of pages (`im_page_writer`) over the log that was just opened:
+//!
+//! 1. Each page with a noted copy is loaded from that copy, in rising page number, and never from the file, whose bytes a stop may
+//!    have torn. It counts as changed from the redo point on. All copies are loaded before the first record is applied: no write
+//!    of another page may come before a page that waits for its copy.
+//! 2. The records are applied in the order of the log, each to its page, where that page's LSN is less than the record's. That is
+//!    also so for a record that stands before the page's copy in the log: a copy may be older than the records around it, and its
+//!    own LSN says which of them it has.
+//!
+//! No record is kept in memory: each is read again at its LSN, into room that the caller lends. A page that is evicted on the way is
+//! written as in any flush, behind its Image, so Images may join the log while redo goes on.
+//!
+//! # What is kept
+//!
+//! `kept`: where the writer stands as an opening finds it (`opened`), and each record of the log can be applied to its page as the
+//! records before it left that (`AreApplicable`), then behind an Ok each page is what the whole log made of it, Images alone joined
+//! the log (`Redone`), and redo is over for the writer. A stop at any moment leaves the log with Images more, and a file of pages from
+//! which redo can start again (`LeavesRedoing`); and no such store is refused as none. On any other bytes `redo` is total: it is
+//! refused `NotAStore` where a page does not take its record, or no record stands at an LSN.
+//!
+//! How `redo` ends is one fact, its clause `outcome` (`Recovers`, over the fault that it was refused for, if it was): behind an Ok the
+//! writer works; `Failed`, it had failed before; `Device`, the disk has failed, and `LogFull`, the log has no room, and behind both the
+//! writer works no more; else `Memory` or `NotAStore`. Behind a refusal the store is to be opened again, so nothing is said of where the
+//! writer goes on then.
+//!
+//! `lawful_is_applicable`, in proofs/Applicable, gives `AreApplicable` of each lawful log over a tree whose words speak of leaves
+//! (`IsOnLeaves`).
+//!
+//! Between its calls redo has gone past a front of the log (`HasPassed`): no page waits, and each has had all records of that front.
+//! Records that change no page, and those below the redo point, are gone past in the proof alone.
+//!
+//! It stands on the writer of pages, on the codec of records, and on the definitions of analysis.
+#![tactic(auto)]
+
+mod copies;
+mod records;
+mod redoing;
+
+pub use redoing::redo;

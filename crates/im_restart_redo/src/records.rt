@@ -1,0 +1,85 @@
+//! Records, applied to their pages from the redo point on.
+
+ghost use Rattle.std.specs.Prelude.{is_some, ◌≡◌, ◌≤◌, ◌<◌, ◌+◌, ◌-◌, ◌^◌, ◌∷◌, ℕ, List, [], true, false, if◌then◌else◌, length, Option};
+ghost use Rattle.std.specs.Ordering.{nat_cmp};
+ghost use Rattle.std.specs.BTreeMap.{get};
+ghost use Rattle.im_base_types.specs.Pages.{Page};
+ghost use Rattle.im_theory_log.specs.Histories.{Base, History};
+ghost use Rattle.im_theory_log.specs.RedoPoints.{redo_point};
+ghost use Rattle.im_restart_analysis.specs.CopyLsns.{AreCopies};
+ghost use Rattle.im_page_writer.specs.Outcome.{fault_of, mild};
+ghost use Rattle.im_page_writer.specs.PageWriter.{IsReadyWriter};
+ghost use Rattle.im_restart_redo.specs.Redo.{AreApplicable};
+ghost use Rattle.im_restart_redo.specs.Recovery.{Recovers};
+ghost use Rattle.im_restart_redo.specs.Applying.{IsApplying, AppliedKept, ApplyingKept};
+
+use im_base_disk::Disk;
+use im_base_types::{Fault, Lsn, PageNo};
+use im_log_record::decode;
+use im_page_writer::PageWriter;
+use std::collections::BTreeMap;
+
+// Whether a copy of a page is noted.
+fn has_copy(copies: &BTreeMap<PageNo, Lsn>, page: PageNo) -> bool
+    ensures { result ≡ true → is_some (get nat_cmp copies.now page) ≡ true }
+{
+    copies.get(&page).is_some()
+}
+
+// Applies the record at an LSN to its page, unless the page has it, and says whether it did. A page that has a noted
+// copy needs no other.
+fn redo_one<D: Disk>(
+    disk: &mut D,
+    writer: &mut PageWriter,
+    point: Lsn,
+    copies: &BTreeMap<PageNo, Lsn>,
+    lsn: Lsn,
+    room: &mut [u8],
+) -> Result<bool, Fault>
+    requires room { 16384 ≤ length room.old }
+    requires ready { IsReadyWriter D.Disk writer.old disk.old }
+    requires working { writer.old.failed ≡ false }
+    ensures outcome { Recovers D.Disk mild writer.old writer.new disk.new (fault_of result) }
+    ensures room { length room.new ≡ length room.old }
+    ensures kept { (b : Base) (base : ℕ) (begun : History) (file : ℕ → Option Page) (from : D) (left : List ℕ) (count : ℕ) → IsApplying D.Disk b base begun file (lsn ∷ left) count from writer.old disk.old
+        → AreApplicable b begun → point ≡ redo_point begun → AreCopies point copies.now begun → AppliedKept D.Disk b base begun file left count from writer.new disk.new result }
+{
+    let size = writer.read_at(disk, lsn, room)?;
+    let record = decode(&room[..size])?;
+    let copied = has_copy(copies, record.page());
+    let applied = writer.redo_change(disk, point, lsn, &record, copied)?;
+    Ok(applied)
+}
+
+// One more, where a record was applied.
+fn counted(count: u64, applied: bool) -> u64
+    requires room { count < 2 ^ 64 - 1 }
+    ensures { result ≡ count + (if applied then 1 else 0) }
+{
+    if applied { count + 1 } else { count }
+}
+
+/// Applies the records at these LSNs in turn, and answers how many pages took theirs.
+pub(crate) fn redo_all<D: Disk>(
+    disk: &mut D,
+    writer: &mut PageWriter,
+    point: Lsn,
+    copies: &BTreeMap<PageNo, Lsn>,
+    lsns: &[Lsn],
+    room: &mut [u8],
+) -> Result<u64, Fault>
+    requires room { 16384 ≤ length room.old }
+    requires ready { IsReadyWriter D.Disk writer.old disk.old }
+    requires working { writer.old.failed ≡ false }
+    ensures outcome { Recovers D.Disk mild writer.old writer.new disk.new (fault_of result) }
+    ensures room { length room.new ≡ length room.old }
+    ensures kept { (b : Base) (base : ℕ) (begun : History) (file : ℕ → Option Page) (from : D) → IsApplying D.Disk b base begun file lsns.now 0 from writer.old disk.old
+        → AreApplicable b begun → point ≡ redo_point begun → AreCopies point copies.now begun → ApplyingKept D.Disk b base begun file from writer.new disk.new result }
+{
+    let mut count = 0;
+    for lsn in lsns {
+        let applied = redo_one(disk, writer, point, copies, *lsn, room)?;
+        count = counted(count, applied);
+    }
+    Ok(count)
+}

@@ -1,7 +1,0 @@
-use Rattle.std.proofs.Common.{rules}
-use Rattle.im_types.specs.Maps.{is_below}
-use Rattle.im_search.proofs.range.lies_below.Goals as goal
-
-pub returns : goal.returns
-unfolding is_below
-returns c = search rules

@@ -1,0 +1,91 @@
+-- How a transaction stands between two structure changes, and what those keep that a key asks for.
+use Rattle.std.specs.Prelude.{◌≡◌, ◌⊎◌, ◌-◌, ◌^◌, ℕ, false, [], Option, Some, None, Result, IfErr}
+use Rattle.im_base_types.specs.declared.fault.Fault.{Fault}
+use Rattle.im_base_types.specs.declared.fault.Fault.TheVariants.{Capacity, Failed, PagesFull}
+use Rattle.im_base_types.specs.declared.page_kind.PageKind.TheVariants.{Free}
+use Rattle.im_base_types.specs.Keys.{Key}
+use Rattle.im_theory_log.specs.Histories.{Base, IsFront}
+use Rattle.im_theory_log.specs.Copies.{GrowsByImages}
+use Rattle.im_theory_log.specs.Lawful.{IsLawful}
+use Rattle.im_theory_log.specs.Structure.{open_smo}
+use Rattle.im_theory_log.specs.Transactions.{last_of, undo_next_of, is_finished}
+use Rattle.im_theory_log.specs.Writer.{Writer}
+use Rattle.im_base_disk.specs.declared.disk.Disk.{Ghosts}
+use Rattle.im_page_writer.specs.declared.page_writer.PageWriter.{PageWriter}
+use Rattle.im_page_writer.specs.Outcome.{IsSound}
+use Rattle.im_page_writer.specs.PageWriter.{StandsAs, Evicted}
+use Rattle.im_theory_tree.specs.Levels.{Pages, height, walk}
+use Rattle.im_theory_tree.specs.Theory.{page_tree}
+use Rattle.im_tree_search.specs.Levels.{bodies}
+use Rattle.im_smo_log.specs.Changes.{GrowsByChange, HasRecordOf, LeavesChange, Begun}
+use Rattle.im_smo_split.specs.Tops.{LacksRoomFor}
+use Rattle.im_smo_split.specs.Plan.{FitsInLeaf, IsOver, IsWithin}
+use Rattle.im_smo_actions.specs.DropPlan.{IsSpare, IsKept}
+
+-- page numbers would be used up by the pages that the split of the key's leaf takes, or levels are
+abbrev pub IsUsedUp : Pages → Key → Type 0
+IsUsedUp pages key = IsOver pages key (2 ^ 32 - 1) ⊎ (height pages ≡ 255)
+
+module _ {D : Type 0} (d : Ghosts D) (b : Base) (base : ℕ) where
+  -- Redo is over, the log lawful, and no structure change open; the transaction is not finished, its records end at this LSN, and its undo goes on at this one.
+  pub record IsUnfinished (s : Writer) (e t last undo_next : ℕ) (w : PageWriter) (disk : D) : Type 0 where
+    pub stands : StandsAs d b base s w disk
+    pub over : s.redo_end ≡ Some e
+    pub lawful : IsLawful b page_tree s.log
+    pub closed : open_smo s.log ≡ []
+    pub newest : last_of t s.log ≡ last
+    pub undo : undo_next_of t s.log ≡ undo_next
+    pub unfinished : is_finished t s.log ≡ false
+
+  -- A structure change of the transaction joined the log and Images, or Images alone: its undo goes on where it did, and the tree has the same entries.
+  pub record Restructured (s : Writer) (e t last undo_next : ℕ) (w : PageWriter) (disk : D) : Type 0 where
+    pub now : Writer
+    pub stands : IsUnfinished now e t last undo_next w disk
+    pub point : now.point ≡ s.point
+    pub durable : IsFront s.durable now.durable
+    pub grows : GrowsByChange t s.log now.log
+    pub same : walk (bodies now) ≡ walk (bodies s)
+
+  -- ---- a split
+
+  -- The leaf of the key has room; a structure was changed just where it lacked that, and then within the limit.
+  pub record HasMadeRoom (s : Writer) (e t last undo_next : ℕ) (key : Key) (max : Option ℕ) (w : PageWriter) (disk : D) : Type 0 where
+    pub made : Restructured s e t last undo_next w disk
+    pub fits : FitsInLeaf (bodies made.now) key
+    pub some : LacksRoomFor (bodies s) key → HasRecordOf t made.grows.more
+    pub only : HasRecordOf t made.grows.more → LacksRoomFor (bodies s) key
+    pub within : (m : ℕ) → max ≡ Some m → LacksRoomFor (bodies s) key → IsWithin (bodies s) key m
+
+  -- What the split of a key's leaf keeps. Pages or page numbers are wanted only where that leaf lacks room, and those that the split takes are too many; `Failed` comes behind a record.
+  pub record SplitKept (s : Writer) (e t undo_next : ℕ) (key : Key) (max : Option ℕ) (old : D) (w : PageWriter) (disk : D) (result : Result ℕ Fault) : Type 0 where
+    pub sound : IsSound result (λ last. HasMadeRoom s e t last undo_next key max w disk)
+    pub stops : LeavesChange d b base s t old disk
+    pub full : IfErr result (λ e. e ≡ PagesFull → (m : ℕ) × (max ≡ Some m) × IsOver (bodies s) key m)
+    pub used_up : IfErr result (λ e. e ≡ Capacity → IsUsedUp (bodies s) key)
+    pub lacks : IfErr result (λ e. (e ≡ Capacity) ⊎ (e ≡ PagesFull) → LacksRoomFor (bodies s) key)
+    pub begun : IfErr result (λ e. e ≡ Failed → Begun d b base s t w disk)
+
+  -- ---- an empty leaf
+
+  -- The key's leaf was spare, and its page is free behind a structure change; or it was not, and Images alone joined.
+  pub record Dropped (s : Writer) (e t last undo_next : ℕ) (key : Key) (w : PageWriter) (disk : D) : Type 0 where
+    pub made : Restructured s e t last undo_next w disk
+    pub gone : (spare : IsSpare (bodies s) key) → (bodies made.now spare.page).kind ≡ Free
+    pub either : (IsKept (bodies s) key × GrowsByImages b s.log made.now.log) ⊎ (IsSpare (bodies s) key × HasRecordOf t made.grows.more)
+
+  -- what the deletion of a key's leaf keeps; `Failed` comes behind a record
+  pub record SpareKept (s : Writer) (e t undo_next : ℕ) (key : Key) (old : D) (w : PageWriter) (disk : D) (result : Result ℕ Fault) : Type 0 where
+    pub sound : IsSound result (λ last. Dropped s e t last undo_next key w disk)
+    pub stops : LeavesChange d b base s t old disk
+    pub begun : IfErr result (λ e. e ≡ Failed → Begun d b base s t w disk)
+
+  -- it is out of the tree, or stayed for want of memory, with all as it was
+  abbrev pub IsDropped : Writer → ℕ → ℕ → ℕ → Key → D → PageWriter → D → Option ℕ → Type 0
+  IsDropped s e t undo_next key old w disk None = Evicted d b base s old w disk
+  IsDropped s e t undo_next key old w disk (Some last) = Dropped s e t last undo_next key w disk
+
+  -- What that keeps where it may stay for want of memory. `Failed` comes behind a record.
+  pub record DropKept (s : Writer) (e t undo_next : ℕ) (key : Key) (old : D) (w : PageWriter) (disk : D) (result : Result (Option ℕ) Fault) : Type 0 where
+    pub sound : IsSound result (IsDropped s e t undo_next key old w disk)
+    pub stops : LeavesChange d b base s t old disk
+    pub begun : IfErr result (λ e. e ≡ Failed → Begun d b base s t w disk)

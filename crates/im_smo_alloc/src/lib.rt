@@ -1,0 +1,15 @@
+//! The pages that a structure change takes, changes and gives back, in front of any record.
+//!
+//! The images of a structure change (`im_smo_pages::Images`) stand in the place of the writer's pages: `image` takes the page
+//! of a number to change it, from the images or as a copy of the pool's; `allocate` and `free` take a page off the free
+//! list or the page count, and give one back. None of them logs or changes a page of the pool, so that a refusal leaves
+//! the store as it was.
+#![tactic(auto)]
+
+mod allocation;
+mod laws;
+mod page_image;
+
+pub use allocation::{allocate, free};
+pub use laws::images_are_seen;
+pub use page_image::image;

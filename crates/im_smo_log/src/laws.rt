@@ -1,0 +1,16 @@
+//! What a structure change leaves as it was.
+
+ghost use Rattle.std.specs.Prelude.{◌≡◌, ◌≢◌, ℕ};
+ghost use Rattle.im_theory_log.specs.Histories.{Base, History};
+ghost use Rattle.im_theory_log.specs.Transactions.{committed, contents, net};
+ghost use Rattle.im_smo_log.specs.Changes.{GrowsByChange, IsSameOf};
+
+/// The records of a structure change, and Images among them, leave the committed effects, the tree's map and each net as
+/// they were, and of each other transaction all that undo asks. So a stop in its middle loses and adds nothing of what
+/// was committed.
+pub fn changes_keep()
+    ensures committed { (t : ℕ) (older longer : History) → GrowsByChange t older longer → committed longer ≡ committed older }
+    ensures map { (b : Base) (t : ℕ) (older longer : History) → GrowsByChange t older longer → contents b longer ≡ contents b older }
+    ensures nets { (t u : ℕ) (older longer : History) → GrowsByChange t older longer → net u longer ≡ net u older }
+    ensures others { (t u : ℕ) (older longer : History) → u ≢ 0 → u ≢ t → GrowsByChange t older longer → IsSameOf u older longer }
+{}

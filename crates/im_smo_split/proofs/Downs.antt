@@ -1,0 +1,31 @@
+-- One split after another, down to the leaf.
+use Rattle.std.proofs.Common.{ℕ, ◌≤◌, List, length, ◌∙◌}
+use Rattle.im_base_types.specs.Keys.{Key}
+use Rattle.im_base_disk.specs.declared.disk.Disk.{Ghosts}
+use Rattle.im_page_writer.specs.declared.page_writer.PageWriter.{PageWriter}
+use Rattle.im_page_writer.specs.Outcome.{AllPages, AreLoaded, HasPages}
+use Rattle.im_smo_pages.specs.Images.{Numbered}
+use Rattle.im_smo_alloc.specs.Seen.{seen}
+use Rattle.im_smo_alloc.specs.Kept.{HasImages}
+use Rattle.im_smo_split.specs.Pages.{newest_first}
+use Rattle.im_smo_split.specs.Steps.{Turned}
+use Rattle.im_smo_split.specs.Ends.{Ended}
+use Rattle.im_smo_split.specs.declared.turns.Turn.{Turn}
+use Rattle.im_smo_split.proofs.Ends.{IsEnd}
+
+module _ (s : AllPages) (key : Key) (images : List Numbered) where
+  -- the split of the leaf among the images
+  pub ended : (new : List Numbered) → IsEnd (seen s images) (seen s new) key × (1 ≤ length new) → Ended s key images new
+  ended new end = record { good = end.0.good; same = end.0.same; room = end.0.room; some = end.1 }
+
+  module _ (turn : Turn) (mid : List Numbered) (numbers : List ℕ) (one : Turned s key images turn mid numbers) where
+    pub has_turned : {D : Type 0} (d : Ghosts D) {w : PageWriter} {disk : D} → HasPages d AreLoaded s w disk → HasImages d s mid (newest_first numbers) w disk
+    has_turned {D} d {w} {disk} has = record { has = has; good = one.turn_is.good }
+
+    -- the next turn
+    pub turned_then : (next : Turn) (new : List Numbered) (left : List ℕ) → Turned s key mid next new left → Turned s key images next new left
+    turned_then next new left two = record { turn_is = two.turn_is; parent = two.parent; same = two.same ∙ one.same }
+
+    -- the end
+    pub end_then : (new : List Numbered) → Ended s key mid new → Ended s key images new
+    end_then new two = record { good = two.good; same = two.same ∙ one.same; room = two.room; some = two.some }

@@ -1,0 +1,153 @@
+-- The key's leaf split, the last step: what is seen behind it.
+use Rattle.std.proofs.Common.{◌≡◌, ℕ, zero, suc, ◌≤◌, ◌<◌, true, List, [], ◌∷◌, ◌++◌, length, refl, sym, ap, subst, ◌∙◌, arith, length-append}
+use Rattle.im_base_types.specs.Keys.{Key}
+use Rattle.im_base_types.specs.Pages.{Body, Page}
+use Rattle.im_page_writer.specs.Outcome.{AllPages}
+use Rattle.im_base_types.specs.declared.page_kind.PageKind.{PageKind}
+use Rattle.im_base_types.specs.declared.page_kind.PageKind.TheVariants.{Leaf}
+use Rattle.im_page.specs.Entry.{entry_at, taken, Rises}
+use Rattle.im_page.specs.Child.{IsChild}
+use Rattle.im_page.specs.Page.{is_leaf_kind}
+use Rattle.im_theory_tree.specs.Levels.{Pages, walk}
+use Rattle.im_theory_tree.specs.Good.{IsGoodTree}
+use Rattle.im_theory_tree.specs.Search.{IsOnWay}
+use Rattle.im_theory_tree.specs.Halves.{FitsPage}
+use Rattle.im_theory_tree.specs.KeySplits.{HasRoomOnWay}
+use Rattle.im_theory_tree.proofs.StepLemmas.{relisted}
+use Rattle.im_theory_tree.proofs.Way.{step_way, way_begins}
+use Rattle.im_theory_tree.proofs.LookupLemmas.{way_leaf}
+use Rattle.im_smo_pages.specs.Images.{Numbered, IsRising, without_image, held, Has}
+use Rattle.im_smo_pages.specs.OnWay.{HasRoomIn}
+use Rattle.im_smo_pages.specs.Parts.{CanHalve, CanSplit}
+use Rattle.im_smo_pages.proofs.LeafSplitSteps.{leaf_apart}
+use Rattle.im_smo_alloc.specs.Seen.{seen, page_in}
+use Rattle.im_smo_split.specs.Pages.{newest_first}
+use Rattle.im_smo_split.specs.Ends.{HalvesLeaf, HalvesRootLeaf}
+use Rattle.im_smo_split.specs.Turns.{IsTurn, IsRootTurn}
+use Rattle.im_smo_split.proofs.TakenOut.{out_has, beneath, out_same, out_at, in_same}
+use Rattle.im_smo_split.proofs.Takings.{newest_is}
+use Rattle.im_smo_split.proofs.Turning.{leaf_can, root_leaf_can}
+
+some_long : (xs : List Numbered) (n : ℕ) → Has xs n → 1 ≤ length xs
+some_long [] n has = absurd (cc has)
+some_long (x ∷ xs) n has = omega arith
+
+-- ---- the numbers that are left
+
+none_of : (ns : List ℕ) → length ns ≡ 0 → ns ≡ []
+none_of [] is = refl
+none_of (n ∷ ns) is = absurd (omega (arith, is))
+
+pub last_one : (ns new : List ℕ) (q : ℕ) → ns ≡ new ++ q ∷ [] → length ns ≡ 1 → newest_first ns ≡ q ∷ []
+last_one ns new q is one =
+    let none : new ≡ [] = none_of new (omega (arith, one, ap length is, length-append new (q ∷ []))) in
+    ap newest_first is ∙ newest_is new q ∙ ap (λ (l : List ℕ). q ∷ newest_first l) none
+
+pub last_two : (ns mid new : List ℕ) (l r : ℕ) → ns ≡ mid ++ r ∷ [] → mid ≡ new ++ l ∷ [] → length ns ≡ 2 → newest_first ns ≡ r ∷ l ∷ []
+last_two ns mid new l r is more two =
+    ap newest_first is ∙ newest_is mid r ∙ ap (λ (m : List ℕ). r ∷ m) (last_one mid new l more (omega (arith, two, ap length is, length-append mid (r ∷ []))))
+
+-- ---- a leaf
+
+-- what is seen behind the leaf's split
+pub record IsEnd (old new : Pages) (key : Key) : Type 0 where
+  pub good : IsGoodTree new []
+  pub same : walk new ≡ walk old
+  pub room : HasRoomOnWay new zero key
+
+end_of : (old new : Pages) (key : Key) (m : ℕ) → HasRoomIn old new [] key m → IsEnd old new key
+end_of old new key m is = record { good = is.good; same = is.walks; room = record { page = m; way = is.way; room = is.room } }
+
+pub fits_leaf : (b : Body) → b.kind ≡ Leaf → ((i : ℕ) → i < length b.entries → length (entry_at b.entries i).0 ≤ 255) → taken (is_leaf_kind b.kind) b.entries ≤ 4064 → FitsPage true b.entries
+fits_leaf b leaf short fits = record { short = short; fits = subst (λ (k : PageKind). taken (is_leaf_kind k) b.entries ≤ 4064) leaf fits }
+
+-- what the parting of a leaf asks, where this body was taken out
+pub record IsPartable (out : List Numbered) (pages : Pages) (key : Key) (parent p q : ℕ) (b : Body) : Type 0 where
+  pub good : IsGoodTree (held pages out) (q ∷ [])
+  pub way : IsOnWay (held pages out) (suc zero) key parent
+  pub child : IsChild (held pages out parent) key p
+  pub page : held pages out p ≡ b
+  pub above : Has out parent
+  pub next : 1 ≤ b.next → Has out b.next
+  pub leaf : b.kind ≡ Leaf
+  pub can : Rises b.entries → FitsPage true b.entries → CanSplit Leaf b (held pages out parent) q
+
+module _ (s : AllPages) (key : Key) (old : Pages) (xs : List Numbered) (up : IsRising xs) (p parent q : ℕ) (g : Page) (same : seen s xs ≡ old) (page : g ≡ page_in s xs p)
+    (turn : IsTurn old (q ∷ []) key zero parent p) where
+  was : held (beneath s xs p g up page) (without_image p xs) ≡ old
+  was = out_same s xs p g up page ∙ same
+
+  turn_out : IsTurn (held (beneath s xs p g up page) (without_image p xs)) (q ∷ []) key zero parent p
+  turn_out = subst (λ (pages : Pages). IsTurn pages (q ∷ []) key zero parent p) (sym was) turn
+
+  pub leaf_ended : (out new : List Numbered) → out ≡ without_image p xs → HalvesLeaf out new g.body key parent p q → IsEnd old (seen s new) key × (1 ≤ length new)
+  leaf_ended out new out_is parts =
+      let halves : HalvesLeaf (without_image p xs) new g.body key parent p q = subst (λ (l : List Numbered). HalvesLeaf l new g.body key parent p q) out_is parts in
+      let is = halves.goes (beneath s xs p g up page) [] turn_out.good turn_out.way turn_out.child (out_at s xs p g up page) in (
+        subst (λ (pages : Pages). IsEnd pages (seen s new) key) was
+            (subst (λ (pages : Pages). IsEnd (held (beneath s xs p g up page) (without_image p xs)) pages key) (in_same s xs p g up page new halves.there)
+            (end_of (held (beneath s xs p g up page) (without_image p xs)) (held (beneath s xs p g up page) new) key halves.half is)),
+        some_long new p halves.there,
+      )
+
+  body_was : g.body ≡ old p
+  body_was = sym (out_at s xs p g up page) ∙ ap (λ (pages : Pages). pages p) was
+
+  next_out : ((n : ℕ) → n ≡ (old p).next → 1 ≤ n → Has xs n) → 1 ≤ g.body.next → Has (without_image p xs) g.body.next
+  next_out has some =
+      let is : g.body.next ≡ (old p).next = ap (λ (c : Body). c.next) body_was in
+      let more : 1 ≤ (old p).next = subst (λ (n : ℕ). 1 ≤ n) is some in
+      subst (λ (n : ℕ). Has (without_image p xs) n) (sym is)
+      (out_has p (old p).next xs up (λ e. (leaf_apart old [] key parent p q turn.good turn.way turn.child).next_left more (sym e)) (has (old p).next refl more))
+
+  can_part : Rises g.body.entries → FitsPage true g.body.entries → CanSplit Leaf g.body (held (beneath s xs p g up page) (without_image p xs) parent) q
+  can_part rises fits =
+      let out = held (beneath s xs p g up page) (without_image p xs) in
+      let is : out p ≡ g.body = out_at s xs p g up page in
+      subst (λ (c : Body). CanSplit Leaf c (out parent) q) is
+      (leaf_can out (q ∷ []) key parent p q turn_out (subst (λ (c : Body). Rises c.entries) (sym is) rises) (subst (λ (c : Body). FitsPage true c.entries) (sym is) fits))
+
+  pub leaf_partable : (out : List Numbered) → out ≡ without_image p xs → Has xs parent → (1 ≤ (old p).next → Has xs (old p).next) → IsPartable out (beneath s xs p g up page) key parent p q g.body
+  leaf_partable out out_is above next =
+      subst (λ (l : List Numbered). IsPartable l (beneath s xs p g up page) key parent p q g.body) (sym out_is)
+      (record {
+        good = turn_out.good;
+        way = turn_out.way;
+        child = turn_out.child;
+        page = out_at s xs p g up page;
+        above = out_has p parent xs up (λ e. (leaf_apart old [] key parent p q turn.good turn.way turn.child).parent_left (sym e)) above;
+        next = next_out (λ n is some. subst (λ (m : ℕ). Has xs m) (sym is) (next (subst (λ (m : ℕ). 1 ≤ m) is some)));
+        leaf = ap (λ (c : Body). c.kind) body_was ∙ (way_leaf old key p (step_way old zero key parent p turn.way turn.child)).0;
+        can = can_part;
+      })
+
+-- ---- the root
+
+module _ (s : AllPages) (key : Key) (xs : List Numbered) (up : IsRising xs) (l r : ℕ) (g : Page) (page : g ≡ page_in s xs 1) (turn : IsRootTurn (seen s xs) (r ∷ l ∷ []) key zero) where
+  root_was : held (beneath s xs 1 g up page) (without_image 1 xs) ≡ seen s xs
+  root_was = out_same s xs 1 g up page
+
+  root_out : IsRootTurn (held (beneath s xs 1 g up page) (without_image 1 xs)) (r ∷ l ∷ []) key zero
+  root_out = subst (λ (pages : Pages). IsRootTurn pages (r ∷ l ∷ []) key zero) (sym root_was) turn
+
+  pub root_ended : (out new : List Numbered) → out ≡ without_image 1 xs → HalvesRootLeaf out new g.body key l r → IsEnd (seen s xs) (seen s new) key × (1 ≤ length new)
+  root_ended out new out_is parts =
+      let halves : HalvesRootLeaf (without_image 1 xs) new g.body key l r = subst (λ (m : List Numbered). HalvesRootLeaf m new g.body key l r) out_is parts in
+      let now = held (beneath s xs 1 g up page) (without_image 1 xs) in
+      let is = halves.goes (beneath s xs 1 g up page) [] (relisted now (r ∷ l ∷ []) (l ∷ r ∷ []) (λ x. omega arith) root_out.good) root_out.tall (out_at s xs 1 g up page) in (
+        subst (λ (pages : Pages). IsEnd pages (seen s new) key) root_was
+            (subst (λ (pages : Pages). IsEnd now pages key) (in_same s xs 1 g up page new halves.there) (end_of now (held (beneath s xs 1 g up page) new) key halves.half is)),
+        some_long new 1 halves.there,
+      )
+
+  pub root_leaf : g.body.kind ≡ Leaf
+  root_leaf =
+      sym (ap (λ (c : Body). c.kind) (out_at s xs 1 g up page))
+      ∙ (way_leaf (held (beneath s xs 1 g up page) (without_image 1 xs)) key 1
+      (subst (λ (h : ℕ). IsOnWay (held (beneath s xs 1 g up page) (without_image 1 xs)) h key 1) root_out.tall (way_begins (held (beneath s xs 1 g up page) (without_image 1 xs)) (r ∷ l ∷ []) key root_out.good))).0
+
+  pub can_part_root : FitsPage true g.body.entries → CanHalve Leaf g.body
+  can_part_root fits =
+      let now = held (beneath s xs 1 g up page) (without_image 1 xs) in
+      let is : now 1 ≡ g.body = out_at s xs 1 g up page in
+      subst (CanHalve Leaf) is (root_leaf_can now (r ∷ l ∷ []) key root_out (subst (λ (c : Body). FitsPage true c.entries) (sym is) fits))

@@ -1,0 +1,16 @@
+use Rattle.std.proofs.Common.{None, []}
+use Rattle.im_page_writer.specs.Outcome.{AllPages, AreLoaded, HasPages, Reads}
+use Rattle.im_theory_tree.specs.Good.{IsGoodTree}
+use Rattle.im_smo_alloc.specs.Seen.{bodies}
+use Rattle.im_smo_split.specs.Tops.{IsCounted, IsPlaced}
+use Rattle.im_smo_split.proofs.top.find_top.Given as goal
+
+abbrev pub invariant-loop-place : goal.invariant-loop-place
+invariant-loop-place g l = record {
+  outcome : Reads g.D.Disk l.fn.writer l.fn.disk l.writer l.disk None;
+  counted : IsCounted l.place.level l.place.top;
+  kept : (store : AllPages) → HasPages g.D.Disk AreLoaded store l.fn.writer l.fn.disk → IsGoodTree (bodies store) [] → IsPlaced (bodies store) l.key l.place.level l.place.number l.place.top;
+}
+
+abbrev pub decreases-loop-place : goal.decreases-loop-place
+decreases-loop-place g l = l.place.level

@@ -1,0 +1,51 @@
+-- What a plan of a split answers, and when it is refused.
+use Rattle.std.specs.Prelude.{◌≡◌, ◌⊎◌, ◌+◌, ◌-◌, ◌^◌, ◌<◌, ◌≤◌, ℕ, zero, true, List, [], length, Option, Some}
+use Rattle.im_base_types.specs.declared.fault.Fault.{Fault}
+use Rattle.im_base_types.specs.declared.fault.Fault.TheVariants.{Capacity, PagesFull}
+use Rattle.im_base_types.specs.Keys.{Key}
+use Rattle.im_page_writer.specs.Outcome.{AllPages}
+use Rattle.im_page.specs.Split.{HasRoom}
+use Rattle.im_theory_tree.specs.Levels.{Pages, height, walk}
+use Rattle.im_theory_tree.specs.Good.{IsGoodTree}
+use Rattle.im_theory_tree.specs.Search.{IsOnWay}
+use Rattle.im_theory_tree.specs.KeySplits.{HasRoomOnWay}
+use Rattle.im_smo_pages.specs.Images.{Numbered}
+use Rattle.im_smo_alloc.specs.Seen.{bodies, seen}
+use Rattle.im_smo_split.specs.Paths.{OnPath, IsPath, new_pages}
+use Rattle.im_smo_split.specs.Tops.{HasRoomFor, LacksRoomFor}
+use Rattle.im_smo_split.specs.Turns.{SplitsDown}
+
+-- the pages that a key's entry needs, beside those that there are and are not free, are at most so many
+pub record IsWithin (pages : Pages) (key : Key) (max : ℕ) : Type 0 where
+  pub path : List OnPath
+  pub is_path : IsPath pages key 0 path
+  pub few : (pages 0).leftmost + new_pages pages key path ≤ max + (pages 0).prev
+
+-- or they are more
+pub record IsOver (pages : Pages) (key : Key) (max : ℕ) : Type 0 where
+  pub path : List OnPath
+  pub is_path : IsPath pages key 0 path
+  pub many : max + (pages 0).prev < (pages 0).leftmost + new_pages pages key path
+
+-- the key's entry has room in each leaf that is the key's
+abbrev pub FitsInLeaf : Pages → Key → Type 0
+FitsInLeaf pages key = (p : ℕ) → IsOnWay pages zero key p → HasRoom true (pages p).entries (key, 0)
+
+-- The images, put in the place of the pages, are a good tree with the same walk and no page spare, in which the key's leaf has room for its entry. There are none only where it had that room already, and some where it had not.
+pub record Planned (store : AllPages) (key : Key) (max : Option ℕ) (images : List Numbered) : Type 0 where
+  pub good : IsGoodTree (seen store images) []
+  pub same : walk (seen store images) ≡ walk (bodies store)
+  pub room : HasRoomFor (seen store images) key
+  pub fits : FitsInLeaf (seen store images) key
+  pub any : (images ≡ []) ⊎ HasRoomOnWay (seen store images) zero key
+  pub none : images ≡ [] → HasRoomFor (bodies store) key
+  pub some : (p : ℕ) → IsOnWay (bodies store) zero key p → (HasRoom true (bodies store p).entries (key, 0) → ⊥) → 1 ≤ length images
+  pub lacks : 1 ≤ length images → LacksRoomFor (bodies store) key
+  pub within : (m : ℕ) → max ≡ Some m → (images ≡ []) ⊎ IsWithin (bodies store) key m
+
+-- Pages or page numbers are wanted only where the key's leaf lacks room for its entry, and those that the split takes are too many; or where the root is of the last level and has to be split.
+pub record WantsPages (pages : Pages) (key : Key) (max : Option ℕ) (e : Fault) : Type 0 where
+  pub full : e ≡ PagesFull → (m : ℕ) × (max ≡ Some m) × IsOver pages key m
+  pub used_up : e ≡ Capacity → IsOver pages key (2 ^ 32 - 1) ⊎ (height pages ≡ 255)
+  pub whole_way : e ≡ Capacity → IsOver pages key (2 ^ 32 - 1) ⊎ SplitsDown pages key 255 1
+  pub lacks : (e ≡ Capacity) ⊎ (e ≡ PagesFull) → LacksRoomFor pages key

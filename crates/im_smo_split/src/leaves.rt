@@ -1,0 +1,152 @@
+//! The split of a key's leaf, the last one.
+
+ghost use Rattle.std.specs.Prelude.{◌≡◌, ◌≤◌, ◌⊎◌, ℕ, zero, suc, List, ◌∷◌, true, false, Ok, Err, IfErr, OnOk, length};
+ghost use Rattle.im_base_types.specs.declared.fault.Fault.TheVariants.{Memory, NotAStore};
+ghost use Rattle.im_base_types.specs.declared.page_kind.PageKind.TheVariants.{Leaf};
+ghost use Rattle.im_page.specs.Entry.{Rises};
+ghost use Rattle.im_page.specs.Child.{IsChild};
+ghost use Rattle.im_page_writer.specs.PageWriter.{IsReadyWriter};
+ghost use Rattle.im_page_writer.specs.Outcome.{fault_of, AllPages, AreLoaded, HasPages, IsSound, Reads};
+ghost use Rattle.im_theory_tree.specs.Levels.{Pages};
+ghost use Rattle.im_theory_tree.specs.Good.{IsGoodTree};
+ghost use Rattle.im_theory_tree.specs.Search.{IsOnWay};
+ghost use Rattle.im_theory_tree.specs.Halves.{FitsPage};
+ghost use Rattle.im_smo_pages.specs.Images.{Has, held};
+ghost use Rattle.im_smo_pages.specs.Parts.{CanHalve, CanSplit};
+ghost use Rattle.im_smo_alloc.specs.Seen.{seen};
+ghost use Rattle.im_smo_alloc.specs.Kept.{HasImages};
+ghost use Rattle.im_smo_split.specs.Pages.{newest_first};
+ghost use Rattle.im_smo_split.specs.Ends.{HalvesLeaf, HalvesRootLeaf, BroughtBoth, Ended};
+ghost use Rattle.im_smo_split.specs.Turns.{IsTurn, IsRootTurn};
+
+use crate::turns::{Turn, bring};
+use im_base_disk::Disk;
+use im_base_types::{Fault, PageNo};
+use im_page::Page;
+use im_page_writer::PageWriter;
+use im_smo_alloc::image;
+use im_smo_pages::Images;
+use std::alloc::Global;
+
+// The leaf behind a leaf that is among the images; 0 where there is none.
+fn next_in(images: &Images, number: PageNo) -> PageNo
+    ensures { (pages : Pages) → Has images.now number → result ≡ (held pages images.now number).next }
+{
+    match images.get(number) {
+        Some(page) => page.next(),
+        None => 0,
+    }
+}
+
+// A leaf joins the images, and so does the leaf behind it, if there is one. Refused as `bring` is.
+#[tactic(auto, using(im_page_writer::proofs::Outcomes::then, im_page_writer::proofs::Outcomes::refused))]
+fn bring_both<D: Disk>(
+    alloc: Global,
+    images: &mut Images,
+    writer: &mut PageWriter,
+    disk: &mut D,
+    number: PageNo,
+) -> Result<(), Fault>
+    requires ready { IsReadyWriter D.Disk writer.old disk.old }
+    requires working { writer.old.failed ≡ false }
+    ensures outcome { Reads D.Disk writer.old disk.old writer.new disk.new (fault_of result) }
+    ensures kept { (store : AllPages) → HasPages D.Disk AreLoaded store writer.old disk.old → IsSound result (λ _. BroughtBoth store images.old number images.new) }
+{
+    bring(alloc, images, writer, disk, number)?;
+    let next = next_in(images, number);
+    if next == 0 {
+        return Ok(());
+    }
+    bring(alloc, images, writer, disk, next)
+}
+
+// Splits the leaf whose turn it is among the images, where the leaf behind it is too.
+fn part_leaf(
+    alloc: Global,
+    images: &mut Images,
+    page: &Page,
+    turn: Turn,
+    q: PageNo,
+    key: &[u8],
+) -> Result<(), Fault>
+    ensures halves { OnOk result (HalvesLeaf images.old images.new page.now.body key.now turn.parent turn.page q) }
+    ensures causes { IfErr result (λ e. (e ≡ Memory) ⊎ (e ≡ NotAStore)) }
+    ensures sound { (pages : Pages) (spare : List ℕ) → IsGoodTree (held pages images.old) (q ∷ spare) → IsOnWay (held pages images.old) (suc zero) key.now turn.parent
+        → IsChild (held pages images.old turn.parent) key.now turn.page → held pages images.old turn.page ≡ page.now.body → Has images.old turn.parent
+        → (1 ≤ page.now.body.next → Has images.old page.now.body.next)
+        → page.now.body.kind ≡ Leaf → (Rises page.now.body.entries → FitsPage true page.now.body.entries → CanSplit Leaf page.now.body (held pages images.old turn.parent) q) → result ≡ Err NotAStore → ⊥ }
+{
+    page.content();
+    images.split_leaf_for(alloc, key, page, turn.parent, turn.page, q)?;
+    Ok(())
+}
+
+// Splits the root, a leaf, among the images.
+fn part_root_leaf(
+    alloc: Global,
+    images: &mut Images,
+    page: &Page,
+    left: PageNo,
+    right: PageNo,
+    key: &[u8],
+) -> Result<(), Fault>
+    ensures halves { OnOk result (HalvesRootLeaf images.old images.new page.now.body key.now left right) }
+    ensures causes { IfErr result (λ e. (e ≡ Memory) ⊎ (e ≡ NotAStore)) }
+    ensures sound { page.now.body.kind ≡ Leaf → (FitsPage true page.now.body.entries → CanHalve Leaf page.now.body) → result ≡ Err NotAStore → ⊥ }
+{
+    page.content();
+    images.split_root_leaf_for(alloc, key, page, left, right)?;
+    Ok(())
+}
+
+/// Splits the leaf whose turn it is, and the leaf behind it learns of the new one; the page that was taken first is no longer spare.
+/// Refused `NotAStore` where the page is no leaf or can not be split, or the page behind it is no leaf; otherwise as `image` is, and
+/// `Memory`. Behind a refusal the images are of no use.
+#[tactic(auto, using(im_page_writer::proofs::Outcomes::then, im_page_writer::proofs::Outcomes::refused))]
+pub(crate) fn split_leaf_turn<D: Disk>(
+    alloc: Global,
+    images: &mut Images,
+    numbers: &mut Vec<PageNo>,
+    writer: &mut PageWriter,
+    disk: &mut D,
+    key: &[u8],
+    turn: Turn,
+) -> Result<(), Fault>
+    requires ready { IsReadyWriter D.Disk writer.old disk.old }
+    requires working { writer.old.failed ≡ false }
+    requires counted { length numbers.old.items ≡ 1 }
+    ensures outcome { Reads D.Disk writer.old disk.old writer.new disk.new (fault_of result) }
+    ensures kept { (store : AllPages) → HasImages D.Disk store images.old (newest_first numbers.old.items) writer.old disk.old
+        → IsTurn (seen store images.old) (newest_first numbers.old.items) key.now zero turn.parent turn.page → Has images.old turn.parent
+        → IsSound result (λ _. Ended store key.now images.old images.new) }
+{
+    let q = numbers.take_last();
+    bring_both(alloc, images, writer, disk, turn.page)?;
+    images.rise();
+    let page = image(alloc, images, writer, disk, turn.page)?;
+    part_leaf(alloc, images, &page, turn, q, key)
+}
+
+/// Splits the root, a leaf, into the two pages that were taken. Refused as `split_leaf_turn` is.
+pub(crate) fn split_root_leaf<D: Disk>(
+    alloc: Global,
+    images: &mut Images,
+    numbers: &mut Vec<PageNo>,
+    writer: &mut PageWriter,
+    disk: &mut D,
+    key: &[u8],
+) -> Result<(), Fault>
+    requires ready { IsReadyWriter D.Disk writer.old disk.old }
+    requires working { writer.old.failed ≡ false }
+    requires counted { length numbers.old.items ≡ 2 }
+    ensures outcome { Reads D.Disk writer.old disk.old writer.new disk.new (fault_of result) }
+    ensures kept { (store : AllPages) → HasImages D.Disk store images.old (newest_first numbers.old.items) writer.old disk.old
+        → IsRootTurn (seen store images.old) (newest_first numbers.old.items) key.now zero
+        → IsSound result (λ _. Ended store key.now images.old images.new) }
+{
+    let right = numbers.take_last();
+    let left = numbers.take_last();
+    images.rise();
+    let page = image(alloc, images, writer, disk, 1)?;
+    part_root_leaf(alloc, images, &page, left, right, key)
+}

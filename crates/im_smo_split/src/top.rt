@@ -1,0 +1,125 @@
+//! The highest page that a split splits.
+
+ghost use Rattle.std.specs.Prelude.{◌≡◌, ◌≤◌, ◌+◌, ◌-◌, [], true, false, Ok, IfOk, IfSome, length};
+ghost use Rattle.im_page_writer.specs.PageWriter.{IsReadyWriter};
+ghost use Rattle.im_page_writer.specs.Outcome.{fault_of, AllPages, AreLoaded, HasPages, IsSound, Reads};
+ghost use Rattle.im_theory_tree.specs.Good.{IsGoodTree};
+ghost use Rattle.im_smo_alloc.specs.Seen.{bodies};
+ghost use Rattle.im_smo_split.specs.Tops.{IsCounted, IsPlaced, IsFound};
+
+use crate::reading::{has_room, up_of};
+use im_base_disk::Disk;
+use im_base_types::{Fault, PageNo};
+use im_page_writer::PageWriter;
+use im_tree_search::{child_of, level_of};
+
+/// The highest page that splits, where a page on a key's way does, with its level and its parent; and how many pages have to be
+/// taken. The root has no parent.
+#[derive(Clone, Copy)]
+pub(crate) struct Top {
+    pub(crate) level: u8,
+    pub(crate) page: PageNo,
+    pub(crate) parent: PageNo,
+    pub(crate) root: bool,
+    pub(crate) pages: u32,
+}
+
+// A page on a key's way.
+#[derive(Clone, Copy)]
+pub(crate) struct Place {
+    pub(crate) level: u8,
+    pub(crate) number: PageNo,
+    pub(crate) top: Top,
+}
+
+// From a page above the leaves to its child on a key's way.
+#[tactic(auto, using(im_page_writer::proofs::Outcomes::then, im_page_writer::proofs::Outcomes::refused))]
+fn step_down<D: Disk>(
+    writer: &mut PageWriter,
+    disk: &mut D,
+    place: Place,
+    key: &[u8],
+) -> Result<Place, Fault>
+    requires ready { IsReadyWriter D.Disk writer.old disk.old }
+    requires working { writer.old.failed ≡ false }
+    requires inner { 1 ≤ place.level }
+    requires counted { IsCounted place.level place.top }
+    ensures outcome { Reads D.Disk writer.old disk.old writer.new disk.new (fault_of result) }
+    ensures kept { (store : AllPages) → HasPages D.Disk AreLoaded store writer.old disk.old → IsGoodTree (bodies store) [] → IsPlaced (bodies store) key.now place.level place.number place.top
+        → IsSound result (λ next. IsPlaced (bodies store) key.now next.level next.number next.top) }
+    ensures counted { IfOk result (λ next. IsCounted next.level next.top) }
+    ensures level { IfOk result (λ next. next.level + 1 ≡ place.level) }
+{
+    let level = place.level - 1;
+    let child = child_of(writer, disk, place.number, place.level, key)?;
+    let bytes = up_of(writer, disk, child.number, level)?;
+    let fits = has_room(writer, disk, place.number, place.level, bytes)?;
+    Ok(next_place(place, child.number, fits))
+}
+
+// The child's place, whose separator fits into its parent or not.
+fn next_place(place: Place, child: PageNo, fits: bool) -> Place
+    requires inner { 1 ≤ place.level }
+    requires counted { IsCounted place.level place.top }
+    ensures level { result.level + 1 ≡ place.level }
+    ensures number { result.number ≡ child }
+    ensures counted { IsCounted result.level result.top }
+    ensures fits { fits ≡ true → result.top ≡ record { level = result.level; page = child; parent = place.number; root = false; pages = 1 } }
+    ensures splits { fits ≡ false → result.top ≡ record place.top { pages = place.top.pages + 1 } }
+{
+    let level = place.level - 1;
+    let mut top = place.top;
+    if fits {
+        top = Top {
+            level,
+            page: child,
+            parent: place.number,
+            root: false,
+            pages: 1,
+        };
+    } else {
+        top.pages += 1;
+    }
+    Place {
+        level,
+        number: child,
+        top,
+    }
+}
+
+/// The highest page that splits before a key's entry goes into its leaf; none where the leaf has room for it.
+///
+/// Refused `NotAStore` where a page on the way is none of its level; otherwise as `PageWriter::get` is.
+#[tactic(auto, using(im_page_writer::proofs::Outcomes::then, im_page_writer::proofs::Outcomes::refused))]
+pub(crate) fn find_top<D: Disk>(
+    writer: &mut PageWriter,
+    disk: &mut D,
+    key: &[u8],
+) -> Result<Option<Top>, Fault>
+    requires ready { IsReadyWriter D.Disk writer.old disk.old }
+    requires working { writer.old.failed ≡ false }
+    requires short { length key.now ≤ 255 }
+    ensures outcome { Reads D.Disk writer.old disk.old writer.new disk.new (fault_of result) }
+    ensures kept { (store : AllPages) → HasPages D.Disk AreLoaded store writer.old disk.old → IsGoodTree (bodies store) [] → IsSound result (IsFound (bodies store) key.now) }
+    ensures counted { IfOk result (λ found. IfSome found (IsCounted 0)) }
+{
+    let level = level_of(writer, disk, 1)?;
+    let mut place = Place {
+        level,
+        number: 1,
+        top: Top {
+            level,
+            page: 1,
+            parent: 0,
+            root: true,
+            pages: 2,
+        },
+    };
+    while 0 < place.level {
+        place = step_down(writer, disk, place, key)?;
+    }
+    if has_room(writer, disk, place.number, 0, key.len())? {
+        return Ok(None);
+    }
+    Ok(Some(place.top))
+}

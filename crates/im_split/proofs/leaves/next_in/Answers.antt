@@ -1,7 +1,0 @@
-use Rattle.std.proofs.Common.{sym, ap, ◌∙◌}
-use Rattle.im_types.specs.Pages.{Body}
-use Rattle.im_smo.proofs.Holding.{held_there}
-use Rattle.im_split.proofs.leaves.next_in.Goals as goal
-
-pub returns-in-Some : goal.returns-in-Some
-returns-in-Some c pages has = c.next.ensures ∙ sym (ap (λ (b : Body). b.next) (held_there pages c.args.images.now c.args.number c.in-Some.page.now c.in-Some.ensures.page))

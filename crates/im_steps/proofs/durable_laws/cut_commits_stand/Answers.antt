@@ -1,5 +1,0 @@
-use Rattle.im_steps.proofs.Durable.{cut_commits_stand}
-use Rattle.im_steps.proofs.durable_laws.cut_commits_stand.Goals as goal
-
-pub returns : goal.returns
-returns c = cut_commits_stand

@@ -1,5 +1,0 @@
-use Rattle.im_steps.proofs.Durable.{others_ask_nothing}
-use Rattle.im_steps.proofs.durable_laws.others_ask_nothing.Goals as goal
-
-pub returns : goal.returns
-returns c = others_ask_nothing

@@ -1,5 +1,0 @@
-use Rattle.im_steps.proofs.Durable.{quiet_lives_settle}
-use Rattle.im_steps.proofs.durable_laws.quiet_lives_settle.Goals as goal
-
-pub returns : goal.returns
-returns c = quiet_lives_settle

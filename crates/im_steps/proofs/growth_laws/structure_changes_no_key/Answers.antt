@@ -1,5 +1,0 @@
-use Rattle.im_steps.proofs.Growth.{structure_changes_no_key}
-use Rattle.im_steps.proofs.growth_laws.structure_changes_no_key.Goals as goal
-
-pub returns : goal.returns
-returns c = structure_changes_no_key

@@ -1,0 +1,149 @@
+//! A log of one insert that was committed, cut and with bytes replaced.
+
+ghost use Rattle.std.specs.Prelude.{◌≡◌, false};
+ghost use Rattle.im_base_disk.specs.Runs.{IsSynced};
+
+use im_base_disk::{Disk, ModelDisk};
+use im_base_types::Fault;
+use im_engine::{Config, Engine};
+use im_front::{Reply, Step};
+use im_tool_drill::StoreScript;
+use std::alloc::{AllocError, Global};
+use std::test::Fail;
+
+const SCRIPT: &str =
+    "set log 014152494553494d3100001000000000000000000000000000000000000000010000004c0000002b01000000000000000100000000000000000000000000000000000000010161000000000000000700000021080000000000000001000000000000002400000000000000000000000000\nlife\n";
+
+fn whole_log(alloc: Global) -> Vec<u8> {
+    match StoreScript::parse(alloc, SCRIPT.as_bytes()) {
+        Ok(script) => {
+            let StoreScript {
+                log,
+                pages: _pages,
+                lives: _lives,
+            } = script;
+            log
+        }
+        Err(_) => Vec::new(alloc),
+    }
+}
+
+// What an opening of these files answers: 0, or the refusal's number. Where it succeeds, steps of each kind are made.
+fn answer_of(alloc: Global, log: Vec<u8>, pages: Vec<u8>) -> Result<u8, AllocError> {
+    match open(alloc, ModelDisk::new(log, pages)) {
+        Ok(mut engine) => {
+            make_steps(alloc, &mut engine)?;
+            let _disk = engine.into_disk();
+            Ok(0)
+        }
+        Err(fault) => Ok(fault.number()),
+    }
+}
+
+fn open(alloc: Global, disk: ModelDisk) -> Result<Engine<ModelDisk>, Fault>
+    requires working { ⟦<ModelDisk as Disk>⟧.failed disk ≡ false }
+    requires synced { IsSynced ⟦<ModelDisk as Disk>⟧ disk }
+{
+    match Engine::open_or_create(alloc, disk, Config::default()) {
+        Ok(engine) => Ok(engine),
+        Err((fault, _disk)) => Err(fault),
+    }
+}
+
+// A step of the one transaction, by the byte of its key.
+#[derive(Clone, Copy)]
+enum Ask {
+    Fetch(u8),
+    Insert(u8, u64),
+    Delete(u8),
+    FlushPage(u32),
+    Force,
+    Commit,
+}
+
+static STEPS: [Ask; 6] = [
+    Ask::Fetch(b'a'),
+    Ask::Insert(b'b', 8),
+    Ask::Delete(b'a'),
+    Ask::FlushPage(1),
+    Ask::Force,
+    Ask::Commit,
+];
+
+fn make_steps(alloc: Global, engine: &mut Engine<ModelDisk>) -> Result<(), AllocError> {
+    let number = match engine.step(&Step::Begin) {
+        Reply::Started(number) => number,
+        _ => 1,
+    };
+    for ask in &STEPS {
+        let _reply = engine.step(&step_of(alloc, number, *ask)?);
+    }
+    Ok(())
+}
+
+fn step_of(alloc: Global, number: u64, ask: Ask) -> Result<Step, AllocError> {
+    Ok(match ask {
+        Ask::Fetch(byte) => Step::Fetch(number, key(alloc, byte)?),
+        Ask::Insert(byte, rid) => Step::Insert(number, key(alloc, byte)?, rid),
+        Ask::Delete(byte) => Step::Delete(number, key(alloc, byte)?),
+        Ask::FlushPage(page) => Step::FlushPage(page),
+        Ask::Force => Step::Force,
+        Ask::Commit => Step::Commit(number),
+    })
+}
+
+fn key(alloc: Global, byte: u8) -> Result<Vec<u8>, AllocError> {
+    let mut key = Vec::new(alloc);
+    key.push(byte)?;
+    Ok(key)
+}
+
+// A file of pages of so many bytes, each 0xFF.
+fn ones(alloc: Global, len: usize) -> Result<Vec<u8>, AllocError> {
+    vec![in alloc; 0xFF; len]
+}
+
+// A log of no bytes or one was never made. One that is cut elsewhere is none.
+#[test]
+fn a_log_that_is_cut_is_no_store(rt: HostRuntime) -> Result<(), Fail> {
+    let alloc = rt.alloc();
+    let log = whole_log(alloc);
+    assert!(rt; log.len() == 113, "{}", log.len());
+    for size in 0..log.len() {
+        let cut = Vec::from_slice(alloc, &log[..size])?;
+        let answer = answer_of(alloc, cut, Vec::new(alloc))?;
+        let want = if size < 2 { 0 } else { 11 };
+        assert!(rt; answer == want, "{size}: {answer}");
+    }
+    Ok(())
+}
+
+// A byte of the log is replaced, beside a file of pages that is none: the store opens, or is none, and each step answers.
+#[test]
+fn a_replaced_byte_is_refused_or_read(rt: HostRuntime) -> Result<(), Fail> {
+    let alloc = rt.alloc();
+    for len in [0, 4096, 8192] {
+        for byte in [0x00, 0x01, 0xFF] {
+            let others = others_with(alloc, byte, len)?;
+            assert!(rt; others == 0, "{byte} {len}: {others}");
+        }
+    }
+    Ok(())
+}
+
+// With each byte replaced in turn by this one: how many openings answer anything but that the store opens or is none.
+fn others_with(alloc: Global, byte: u8, len: usize) -> Result<usize, AllocError> {
+    let log = whole_log(alloc);
+    let mut others = 0usize;
+    for at in 0..log.len() {
+        let mut damaged = Vec::from_slice(alloc, &log)?;
+        if at < damaged.len() {
+            damaged[at] = byte;
+        }
+        let answer = answer_of(alloc, damaged, ones(alloc, len)?)?;
+        if answer != 0 && answer != 11 {
+            others = others.wrapping_add(1);
+        }
+    }
+    Ok(others)
+}

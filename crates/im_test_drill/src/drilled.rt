@@ -1,0 +1,19 @@
+//! A script, and what it prints.
+
+use im_tool_drill::drill_text;
+use std::alloc::Global;
+use std::io;
+
+/// What a script prints, and its exit status.
+pub fn drilled(alloc: Global, script: &[u8]) -> io::Result<(u8, Vec<u8>)> {
+    let mut printed = Vec::new(alloc);
+    let mut reader = script;
+    let status = drill_text(alloc, &mut reader, &mut printed)?;
+    Ok((status, printed))
+}
+
+/// Whether a script prints this and no more, with this exit status.
+pub fn prints(alloc: Global, script: &[u8], want: &[u8], want_status: u8) -> io::Result<bool> {
+    let (status, printed) = drilled(alloc, script)?;
+    Ok(status == want_status && printed.as_slice() == want)
+}

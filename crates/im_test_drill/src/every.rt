@@ -1,0 +1,142 @@
+//! Openings behind a loser, each stopped within each of its device calls, scripts whose life is stopped everywhere, and lives in
+//! which each device call fails once, and each read.
+
+use crate::texts::Part::{Each, Text};
+use crate::texts::{Part, text_of};
+use im_tool_drill::StoreScript;
+use im_tool_every::{Counts, every_failure, every_restart, every_text};
+use std::alloc::{AllocError, Global};
+use std::io;
+use std::test::Fail;
+
+static LOSERS: [(&str, &[Part]); 2] = [
+    // The committed keys stand in sixteen leaves under a full root; the loser splits a leaf and the root above it.
+    (
+        "a_loser_behind_splits_of_two_levels_is_taken_back",
+        &[
+            Text("life frames 8\nbegin\n"),
+            Each(100, 225, "insert 1 HDU+z*252 N\n"),
+            Text("commit 1\nbegin\n"),
+            Each(225, 245, "insert 2 HDU+z*252 N\n"),
+            Text("force\n"),
+        ],
+    ),
+    // The loser empties the leaves of a tree but one, and they go out of it.
+    (
+        "a_loser_behind_page_deletions_is_taken_back",
+        &[
+            Text("life frames 8\nbegin\n"),
+            Each(100, 140, "insert 1 HDU+z*252 N\n"),
+            Text("commit 1\nbegin\n"),
+            Each(100, 135, "delete 2 HDU+z*252\n"),
+            Text("force\n"),
+        ],
+    ),
+];
+
+// What comes of every stop of the opening behind the one life of a script.
+fn restarts(alloc: Global, script: &[u8]) -> Result<Counts, AllocError> {
+    let mut counts = Counts::default();
+    let Ok(script) = StoreScript::parse(alloc, script) else {
+        return Ok(counts);
+    };
+    for life in &script.lives {
+        every_restart(alloc, life, &mut counts)?;
+    }
+    Ok(counts)
+}
+
+#[test]
+fn losers_are_taken_back(rt: HostRuntime) -> Result<(), Fail> {
+    for (name, parts) in &LOSERS {
+        let counts = restarts(rt.alloc(), &text_of(rt.alloc(), parts)?)?;
+        assert!(rt; counts.restarts >= 60, "{name}: {}", counts.restarts);
+        assert!(rt; counts.bad == 0, "{name}: {}", counts.bad);
+    }
+    Ok(())
+}
+
+static EVERY: [(&str, &str, &str, u8); 4] = [
+    (
+        "every_stop_counted",
+        "life\nbegin\ninsert 1 a 7\ncommit 1\ncalls\n",
+        "stops 60 restarts 984 bad 0\n",
+        0,
+    ),
+    (
+        "every_stop_wants_one_life",
+        "life\nlife\n",
+        "script not single\n",
+        1,
+    ),
+    (
+        "every_stop_wants_no_stop",
+        "life\nstop 1 long 00\n",
+        "script not single\n",
+        1,
+    ),
+    (
+        "bad_line_is_named",
+        "life\nbegin 1\n",
+        "refused 16 line 2\n",
+        1,
+    ),
+];
+
+#[test]
+fn every_stop_prints_its_counts(rt: HostRuntime) -> Result<(), Fail> {
+    for (name, script, want, want_status) in &EVERY {
+        let mut printed = Vec::new(rt.alloc());
+        let mut reader = script.as_bytes();
+        let status = every_text(rt.alloc(), &mut reader, &mut printed, &mut io::sink())?;
+        assert!(rt;
+            status == *want_status && printed.as_slice() == want.as_bytes(),
+            "{name}"
+        );
+    }
+    Ok(())
+}
+
+static FAILURES: [(&str, &[Part]); 2] = [
+    (
+        "a_failure_within_one_insert_is_told",
+        &[Text("life\nbegin\ninsert 1 a 7\ncommit 1\nbegin\ndelete 2 a\nflush 1\nforce\n")],
+    ),
+    // The root splits, and a leaf goes out of the tree.
+    (
+        "a_failure_within_structure_changes_is_told",
+        &[
+            Text("life\nbegin\n"),
+            Each(100, 116, "insert 1 HDU+z*252 N\n"),
+            Text("commit 1\nbegin\n"),
+            Each(100, 107, "delete 2 HDU+z*252\n"),
+            Text("commit 2\n"),
+        ],
+    ),
+];
+
+// What comes of each failure within the one life of a script.
+fn failures(alloc: Global, script: &[u8]) -> Result<Counts, AllocError> {
+    let Ok(script) = StoreScript::parse(alloc, script) else {
+        return Ok(Counts::default());
+    };
+    let StoreScript {
+        log: _log,
+        pages: _pages,
+        mut lives,
+    } = script;
+    match lives.pop() {
+        Some(life) => every_failure(alloc, life),
+        None => Ok(Counts::default()),
+    }
+}
+
+#[test]
+fn failures_are_told(rt: HostRuntime) -> Result<(), Fail> {
+    for (name, parts) in &FAILURES {
+        let counts = failures(rt.alloc(), &text_of(rt.alloc(), parts)?)?;
+        assert!(rt; counts.stops >= 96, "{name}: {}", counts.stops);
+        assert!(rt; counts.bad == 0, "{name}: {}", counts.bad);
+    }
+    Ok(())
+}

@@ -1,0 +1,386 @@
+//! Searches over a tree of a root and three leaves, of which the second is empty, and over a chain that leads round in a ring.
+ghost use Rattle.std.specs.Prelude.{◌≡◌};
+ghost use Rattle.im_page_writer.specs.PageWriter.{IsReadyWriter};
+
+use crate::pages::{add_leaf, add_root, three_leaves};
+use crate::shared::{disk_of, open};
+use im_base_disk::{Disk, ModelDisk};
+use im_base_types::{Fault, Key, PageNo, Rid};
+use im_page_writer::PageWriter;
+use im_tree_search::{
+    NextKey, entries, entries_between, leaf_and_next, leaf_for, locate, next_entry,
+};
+use std::alloc::Global;
+use std::test::Fail;
+
+// What a search is asked.
+#[derive(Clone, Copy)]
+enum Ask {
+    // The row id of a key.
+    Locate(&'static [u8]),
+    // The leaf of a key.
+    Leaf(&'static [u8]),
+    // The next entry at or above a key, or above it.
+    Next(&'static [u8], bool),
+    // The leaf of a key, and the key behind it.
+    Beside(&'static [u8]),
+    // Whether the entries of a range, up to a limit, are those of these keys of one byte.
+    Range(&'static [u8], &'static [u8], usize, &'static [u8]),
+    // Whether all entries are those of these keys of one byte.
+    All(&'static [u8]),
+}
+
+// What a search answers.
+#[derive(Clone, Copy, Debug, PartialEq, Eq)]
+enum Told {
+    Row(Rid),
+    Absent,
+    // The number of a leaf.
+    Leaf(PageNo),
+    // The first byte of a key, and its row id.
+    Entry(u8, Rid),
+    // The number of a leaf, and the first byte of the next key.
+    Beside(PageNo, u8),
+    // The number of a leaf with no next key.
+    Last(PageNo),
+    // Whether a range is as it was said, and what stands behind it: 0 where nothing is said of it, 1 at the end, else the first byte of the
+    // next key.
+    Range(bool, u8),
+    // Whether the entries are those that were said.
+    All(bool),
+    Refused(Fault),
+}
+
+// The row id of a key.
+fn located<D: Disk>(writer: &mut PageWriter, disk: &mut D, key: &[u8]) -> Told
+    requires ready { IsReadyWriter D.Disk writer.old disk.old }
+    ensures ready { IsReadyWriter D.Disk writer.new disk.new }
+{
+    match locate(writer, disk, key) {
+        Ok(Some(rid)) => Told::Row(rid),
+        Ok(None) => Told::Absent,
+        Err(fault) => Told::Refused(fault),
+    }
+}
+
+// The leaf of a key.
+fn leaf_of<D: Disk>(writer: &mut PageWriter, disk: &mut D, key: &[u8]) -> Told
+    requires ready { IsReadyWriter D.Disk writer.old disk.old }
+    ensures ready { IsReadyWriter D.Disk writer.new disk.new }
+{
+    match leaf_for(writer, disk, key) {
+        Ok(frame) => Told::Leaf(frame.number),
+        Err(fault) => Told::Refused(fault),
+    }
+}
+
+// The next entry.
+fn next<D: Disk>(writer: &mut PageWriter, disk: &mut D, key: &[u8], inclusive: bool) -> Told
+    requires ready { IsReadyWriter D.Disk writer.old disk.old }
+    ensures ready { IsReadyWriter D.Disk writer.new disk.new }
+{
+    match next_entry(writer, disk, key, inclusive) {
+        Ok(None) => Told::Absent,
+        Ok(Some(place)) => {
+            let leaf = writer.page(place.frame);
+            Told::Entry(leaf.key(place.at)[0], leaf.value(place.at))
+        }
+        Err(fault) => Told::Refused(fault),
+    }
+}
+
+// The leaf of a key, and the key behind it.
+fn beside<D: Disk>(writer: &mut PageWriter, disk: &mut D, key: &[u8]) -> Told
+    requires ready { IsReadyWriter D.Disk writer.old disk.old }
+    ensures ready { IsReadyWriter D.Disk writer.new disk.new }
+{
+    let (frame, next) = match leaf_and_next(writer, disk, key) {
+        Ok(found) => found,
+        Err(fault) => return Told::Refused(fault),
+    };
+    match next {
+        NextKey::Here(at) => Told::Beside(frame.number, writer.page(frame).key(at)[0]),
+        NextKey::There(key) => Told::Beside(frame.number, key.bytes()[0]),
+        NextKey::End => Told::Last(frame.number),
+    }
+}
+
+// Whether these are the entries of these keys of one byte, which is the row id too.
+fn has_entries(list: &Vec<(Key, Rid)>, keys: &[u8]) -> bool {
+    if list.len() != keys.len() {
+        return false;
+    }
+    for i in 0..keys.len() {
+        let (key, rid) = &list[i];
+        if key.bytes() != [keys[i]].as_slice() || *rid != keys[i] as u64 {
+            return false;
+        }
+    }
+    true
+}
+
+// The entries of a range.
+fn range<D: Disk>(
+    alloc: Global,
+    writer: &mut PageWriter,
+    disk: &mut D,
+    bounds: (&[u8], &[u8]),
+    limit: usize,
+    keys: &[u8],
+) -> Told
+    requires ready { IsReadyWriter D.Disk writer.old disk.old }
+    ensures ready { IsReadyWriter D.Disk writer.new disk.new }
+{
+    let (list, next) = match entries_between(alloc, writer, disk, bounds.0, bounds.1, limit) {
+        Ok(found) => found,
+        Err(fault) => return Told::Refused(fault),
+    };
+    let behind = match next {
+        None => 0,
+        Some(NextKey::There(key)) => key.bytes()[0],
+        Some(_) => 1,
+    };
+    Told::Range(has_entries(&list, keys), behind)
+}
+
+// All entries.
+fn all<D: Disk>(alloc: Global, writer: &mut PageWriter, disk: &mut D, keys: &[u8]) -> Told
+    requires ready { IsReadyWriter D.Disk writer.old disk.old }
+    ensures ready { IsReadyWriter D.Disk writer.new disk.new }
+{
+    match entries(alloc, writer, disk) {
+        Ok(list) => Told::All(has_entries(&list, keys)),
+        Err(fault) => Told::Refused(fault),
+    }
+}
+
+// What one search answers.
+fn answer<D: Disk>(alloc: Global, writer: &mut PageWriter, disk: &mut D, ask: &Ask) -> Told
+    requires ready { IsReadyWriter D.Disk writer.old disk.old }
+    ensures ready { IsReadyWriter D.Disk writer.new disk.new }
+{
+    match ask {
+        Ask::Locate(key) => located(writer, disk, key),
+        Ask::Leaf(key) => leaf_of(writer, disk, key),
+        Ask::Next(key, inclusive) => next(writer, disk, key, *inclusive),
+        Ask::Beside(key) => beside(writer, disk, key),
+        Ask::Range(lo, hi, limit, keys) => range(alloc, writer, disk, (lo, hi), *limit, keys),
+        Ask::All(keys) => all(alloc, writer, disk, keys),
+    }
+}
+
+// What searches answer, one after another.
+fn answers<D: Disk>(
+    alloc: Global,
+    writer: &mut PageWriter,
+    disk: &mut D,
+    asks: &[Ask],
+) -> Result<Vec<Told>, Fail>
+    requires ready { IsReadyWriter D.Disk writer.old disk.old }
+{
+    let mut list = Vec::new(alloc);
+    for ask in asks {
+        list.push(answer(alloc, writer, disk, ask))?;
+    }
+    Ok(list)
+}
+
+// What searches over these pages answer.
+fn over(alloc: Global, pages: Vec<u8>, asks: &[Ask]) -> Result<Vec<Told>, Fail> {
+    let mut disk = disk_of(alloc, pages)?;
+    let mut writer = open(alloc, &mut disk)?;
+    answers(alloc, &mut writer, &mut disk, asks)
+}
+
+#[test]
+fn keys_are_found_in_their_leaves(rt: HostRuntime) -> Result<(), Fail> {
+    let alloc = rt.alloc();
+    let asks = [
+        Ask::Locate(b"a"),
+        Ask::Locate(b"m"),
+        Ask::Locate(b"c"),
+        Ask::Locate(b"mm"),
+        Ask::Leaf(b"lz"),
+    ];
+    assert_eq!(rt;
+        over(alloc, three_leaves(alloc)?, &asks)?.as_slice(),
+        [
+            Told::Row(97),
+            Told::Row(109),
+            Told::Absent,
+            Told::Absent,
+            Told::Leaf(3)
+        ]
+        .as_slice()
+    );
+    Ok(())
+}
+
+#[test]
+fn the_next_entry_stands_past_an_empty_leaf(rt: HostRuntime) -> Result<(), Fail> {
+    let alloc = rt.alloc();
+    let asks = [
+        Ask::Next(b"a", true),
+        Ask::Next(b"a", false),
+        Ask::Next(b"b", false),
+        Ask::Next(b"d", true),
+        Ask::Next(b"x", true),
+        Ask::Next(b"x", false),
+    ];
+    assert_eq!(rt;
+        over(alloc, three_leaves(alloc)?, &asks)?.as_slice(),
+        [
+            Told::Entry(97, 97),
+            Told::Entry(98, 98),
+            Told::Entry(109, 109),
+            Told::Entry(109, 109),
+            Told::Entry(120, 120),
+            Told::Absent,
+        ]
+        .as_slice()
+    );
+    Ok(())
+}
+
+#[test]
+fn the_next_key_stands_in_the_leaf(rt: HostRuntime) -> Result<(), Fail> {
+    let alloc = rt.alloc();
+    let asks = [Ask::Beside(b"a"), Ask::Beside(b"x")];
+    assert_eq!(rt;
+        over(alloc, three_leaves(alloc)?, &asks)?.as_slice(),
+        [Told::Beside(2, 98), Told::Last(4)].as_slice()
+    );
+    Ok(())
+}
+
+#[test]
+fn the_next_key_stands_in_a_later_leaf(rt: HostRuntime) -> Result<(), Fail> {
+    let alloc = rt.alloc();
+    let asks = [Ask::Beside(b"b"), Ask::Beside(b"d")];
+    assert_eq!(rt;
+        over(alloc, three_leaves(alloc)?, &asks)?.as_slice(),
+        [Told::Beside(2, 109), Told::Beside(3, 109)].as_slice()
+    );
+    Ok(())
+}
+
+#[test]
+fn a_range_goes_over_leaves(rt: HostRuntime) -> Result<(), Fail> {
+    let alloc = rt.alloc();
+    let asks = [
+        Ask::Range(b"b", b"m", 9, b"bm"),
+        Ask::Range(b"aa", b"c", 9, b"b"),
+        Ask::Range(b"m", b"z", 9, b"mx"),
+    ];
+    assert_eq!(rt;
+        over(alloc, three_leaves(alloc)?, &asks)?.as_slice(),
+        [
+            Told::Range(true, 120),
+            Told::Range(true, 109),
+            Told::Range(true, 1)
+        ]
+        .as_slice()
+    );
+    Ok(())
+}
+
+#[test]
+fn a_range_ends_at_its_limit(rt: HostRuntime) -> Result<(), Fail> {
+    let alloc = rt.alloc();
+    let asks = [
+        Ask::Range(b"a", b"z", 3, b"abm"),
+        Ask::Range(b"a", b"z", 0, b""),
+        Ask::Range(b"m", b"b", 9, b""),
+    ];
+    assert_eq!(rt;
+        over(alloc, three_leaves(alloc)?, &asks)?.as_slice(),
+        [
+            Told::Range(true, 0),
+            Told::Range(true, 0),
+            Told::Range(true, 0)
+        ]
+        .as_slice()
+    );
+    Ok(())
+}
+
+#[test]
+fn all_entries_are_listed(rt: HostRuntime) -> Result<(), Fail> {
+    let alloc = rt.alloc();
+    assert_eq!(rt;
+        over(alloc, three_leaves(alloc)?, &[Ask::All(b"abmx")])?.as_slice(),
+        [Told::All(true)].as_slice()
+    );
+    Ok(())
+}
+
+// A tree whose last leaf leads back to the second.
+fn ring(alloc: Global) -> Result<Vec<u8>, Fail> {
+    let mut pages = Vec::new(alloc);
+    add_root(&mut pages, 5)?;
+    add_leaf(&mut pages, b"ab", 0, 3)?;
+    add_leaf(&mut pages, b"", 2, 4)?;
+    add_leaf(&mut pages, b"mx", 3, 3)?;
+    Ok(pages)
+}
+
+#[test]
+fn a_ring_of_leaves_is_no_store(rt: HostRuntime) -> Result<(), Fail> {
+    let alloc = rt.alloc();
+    let asks = [
+        Ask::Next(b"x", true),
+        Ask::Next(b"y", true),
+        Ask::All(b"abmx"),
+        Ask::Locate(b"a"),
+    ];
+    assert_eq!(rt;
+        over(alloc, ring(alloc)?, &asks)?.as_slice(),
+        [
+            Told::Entry(120, 120),
+            Told::Refused(Fault::NotAStore),
+            Told::Refused(Fault::NotAStore),
+            Told::Row(97),
+        ]
+        .as_slice()
+    );
+    Ok(())
+}
+
+// A root over three leaves, of which the file has the first alone.
+fn first_leaf(alloc: Global) -> Result<Vec<u8>, Fail> {
+    let mut pages = Vec::new(alloc);
+    add_root(&mut pages, 3)?;
+    add_leaf(&mut pages, b"ab", 0, 0)?;
+    Ok(pages)
+}
+
+#[test]
+fn a_child_of_another_level_is_no_store(rt: HostRuntime) -> Result<(), Fail> {
+    let alloc = rt.alloc();
+    let asks = [Ask::Locate(b"b"), Ask::Locate(b"c")];
+    assert_eq!(rt;
+        over(alloc, first_leaf(alloc)?, &asks)?.as_slice(),
+        [Told::Row(98), Told::Refused(Fault::NotAStore)].as_slice()
+    );
+    Ok(())
+}
+
+#[test]
+fn a_new_store_has_no_entry(rt: HostRuntime) -> Result<(), Fail> {
+    let alloc = rt.alloc();
+    let mut disk = ModelDisk::new(Vec::new(alloc), Vec::new(alloc));
+    let mut writer = open(alloc, &mut disk)?;
+    let opened = disk.calls();
+    let asks = [
+        Ask::Leaf(b"k"),
+        Ask::Locate(b"k"),
+        Ask::Next(b"k", true),
+        Ask::All(b""),
+    ];
+    assert_eq!(rt;
+        answers(alloc, &mut writer, &mut disk, &asks)?.as_slice(),
+        [Told::Leaf(1), Told::Absent, Told::Absent, Told::All(true)].as_slice()
+    );
+    assert_eq!(rt; disk.calls(), opened);
+    Ok(())
+}

@@ -1,0 +1,16 @@
+pub mod Tree
+pub mod OneLeaf
+pub mod Histories
+pub mod PageCounts
+pub mod Structure
+pub mod Transactions
+pub mod Lawful
+pub mod Copies
+pub mod RedoPoints
+pub mod Stores
+pub mod Writer
+pub mod WriterSteps
+pub mod Variants
+pub mod LifeLaws
+pub mod LogLaws
+pub mod PageLaws

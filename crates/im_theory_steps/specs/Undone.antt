@@ -1,0 +1,58 @@
+-- Changes of a transaction that are taken back while others go on.
+use Rattle.std.specs.Prelude.{◌≡◌, ◌≢◌, ◌+◌, ℕ, false, List, [], ◌∷◌, Some, length, find, map}
+use Rattle.im_base_types.specs.Changes.{Change, Effect, undone}
+use Rattle.im_base_types.specs.Records.{End, Logged}
+use Rattle.im_theory_log.specs.Histories.{History, Base}
+use Rattle.im_theory_log.specs.Transactions.{change_of, contents, net, last_of, undo_next_of, to_undo, is_finished}
+use Rattle.im_base_types.specs.Answers.{Continue, More, RolledBack}
+use Rattle.im_base_types.specs.Lives.{Shown}
+use Rattle.im_engine_txn.specs.declared.transaction.Mark.TheVariants.{RollingBack}
+use Rattle.im_engine_txn.specs.declared.transaction.Transaction.{Transaction}
+use Rattle.im_engine_txn.specs.Rows.{is_of, changed, with_record}
+use Rattle.im_engine_txn.specs.LookUps.{without}
+use Rattle.im_engine_lock.specs.Table.{Table, IsReleased}
+use Rattle.im_engine_lock.specs.View.{View, undid_more, undid_last}
+use Rattle.im_theory_steps.specs.Growth.{TakesBack, IsOfOthers, IsOver, GrowsWithin}
+use Rattle.im_theory_steps.specs.Serving.{IsServing, IsServed}
+
+-- The log has grown within t, by whatever took back one change: of what t had left to undo the newest record is left no more, it made this change, and the tree's map lacks that one alone.
+pub record UndoesNewest (b : Base) (t : ℕ) (c : Change) (older longer : History) : Type 0 where
+  pub grows : GrowsWithin t older longer
+  pub newest : Logged
+  pub made : change_of newest.what ≡ c ∷ []
+  pub stack : to_undo t older ≡ newest ∷ to_undo t longer
+  pub walk : contents b longer ≡ undone (contents b older) c
+
+-- So the committed effects and the other transactions are as they were, and t's net lacks that change.
+abbrev pub UndoTakesBack : Type 0
+UndoTakesBack = (b : Base) (t : ℕ) (c : Change) (older longer : History) → UndoesNewest b t c older longer → TakesBack b t c older longer × IsOfOthers t older longer
+
+-- The transaction ended there: its last change is taken back, and nothing is left to undo.
+pub record IsEndedBack (b : Base) (t : ℕ) (c : Change) (older longer : History) : Type 0 where
+  pub back : TakesBack b t c older longer
+  pub others : IsOfOthers t older longer
+  pub none : net t longer ≡ []
+  pub over : IsOver t longer
+  pub stack : to_undo t longer ≡ []
+
+-- The End behind the last change leaves that.
+abbrev pub EndsLeaveNothing : Type 0
+EndsLeaveNothing = (b : Base) (t : ℕ) (c : Change) (older between : History) (last : Logged) → UndoesNewest b t c older between → net t between ≡ [] → last.txn ≡ t → last.what ≡ End → IsEndedBack b t c older (last ∷ between)
+
+-- A transaction that rolls back has something left to undo.
+abbrev pub RollingBackHasMore : Type 0
+RollingBackHasMore = (b : Base) (earlier before : List Effect) (s : Shown) (v : View) (log : History) (rows : List Transaction) (next : ℕ) (held : Table) (t : ℕ) (row : Transaction)
+    → IsServing b earlier before s v log rows next held → find (is_of t) rows ≡ Some row → row.mark ≡ RollingBack → to_undo t log ≢ []
+
+-- A change was taken back, with others left: the row notes where the transaction's records now end, and where its undo goes on.
+abbrev pub UndoneChangesAreServed : Type 0
+UndoneChangesAreServed = (b : Base) (earlier before : List Effect) (s : Shown) (v : View) (older longer : History) (rows : List Transaction) (next : ℕ) (held : Table) (t : ℕ) (row : Transaction) (c : Change)
+    → IsServing b earlier before s v older rows next held → find (is_of t) rows ≡ Some row → row.mark ≡ RollingBack → UndoesNewest b t c older longer → net t longer ≢ [] → is_finished t longer ≡ false
+    → IsServed b earlier before s v (Continue t) More (undid_more v t c (net t longer)) longer (map (changed t (with_record (last_of t longer) (undo_next_of t longer))) rows) next held
+
+-- The last change was taken back, and the End came behind it: row and locks go.
+abbrev pub LastUndoneChangesAreServed : Type 0
+LastUndoneChangesAreServed = (b : Base) (earlier before : List Effect) (s : Shown) (v : View) (older between : History) (rows : List Transaction) (next : ℕ) (old new : Table) (t : ℕ) (row : Transaction) (c : Change) (last : Logged)
+    → IsServing b earlier before s v older rows next old → find (is_of t) rows ≡ Some row → row.mark ≡ RollingBack → UndoesNewest b t c older between → net t between ≡ [] → last.txn ≡ t → last.what ≡ End
+    → IsReleased old t new → length rows ≡ length (without t rows) + 1
+    → IsServed b earlier before s v (Continue t) RolledBack (undid_last v t c) (last ∷ between) (without t rows) next new

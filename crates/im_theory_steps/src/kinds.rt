@@ -1,0 +1,135 @@
+//! Each kind of step keeps what holds between steps. These functions do nothing: their contracts are the laws.
+
+ghost use Rattle.im_theory_steps.specs.Steps.{NewStoresServe, OpenedStoresServe, QuietLogsHoldCommitted, ImagesKeepServing, StructureKeepsServing, WaysLeadOn, LoggedCommitsAreServed, BeginsAreServed, ChangesAreServed, InsertsAreServed, DeletesAreServed, ReadsAreServed, WaitsAreServed, DiesAreServed, CommitsAreServed, UnloggedCommitsAreServed, DropsAreServed, TurnsAreServed, UndoIsServed, EndsAreServed, FlushesAreServed, ForcesAreServed, CheckpointsAreServed, LoggedCheckpointsAreServed, BarredStepsAreServed, LacksAreServed};
+
+use im_theory_log::laws::logs::PageTree;
+
+/// A new store serves.
+pub fn new_stores_serve()
+    ensures { NewStoresServe }
+{}
+
+/// So does one that was opened, with no transaction going on.
+pub fn opened_stores_serve()
+    ensures { OpenedStoresServe }
+{}
+
+/// A lawful log in which nothing is left to undo has a tree that holds what is committed.
+pub fn quiet_logs_hold_committed<T: PageTree>()
+    ensures { QuietLogsHoldCommitted T.tree }
+{}
+
+/// Images join the log within a step.
+pub fn images_keep_serving()
+    ensures { ImagesKeepServing }
+{}
+
+/// So do records of a structure change of a transaction that has a record.
+pub fn structure_keeps_serving()
+    ensures { StructureKeepsServing }
+{}
+
+/// How the log grows on the way to a change.
+pub fn ways_lead_on()
+    ensures { WaysLeadOn }
+{}
+
+/// A transaction begins.
+pub fn begins_are_served()
+    ensures { BeginsAreServed }
+{}
+
+/// A change that was granted and logged.
+pub fn changes_are_served()
+    ensures { ChangesAreServed }
+{}
+
+/// An insert that was granted its locks leaves a lawful log, also behind a structure change of its own.
+pub fn inserts_are_served<T: PageTree>()
+    ensures { InsertsAreServed T.tree }
+{}
+
+/// So does a delete.
+pub fn deletes_are_served<T: PageTree>()
+    ensures { DeletesAreServed T.tree }
+{}
+
+/// An access that changes nothing.
+pub fn reads_are_served()
+    ensures { ReadsAreServed }
+{}
+
+/// An access that has to wait.
+pub fn waits_are_served()
+    ensures { WaitsAreServed }
+{}
+
+/// An access that must die.
+pub fn dies_are_served()
+    ensures { DiesAreServed }
+{}
+
+/// A Commit that was logged: the effect comes behind the others.
+pub fn commits_are_served()
+    ensures { CommitsAreServed }
+{}
+
+/// The record of a Commit leaves a lawful log.
+pub fn logged_commits_are_served<T: PageTree>()
+    ensures { LoggedCommitsAreServed T.tree }
+{}
+
+/// A Commit of a transaction without a record.
+pub fn unlogged_commits_are_served()
+    ensures { UnloggedCommitsAreServed }
+{}
+
+/// A Rollback of a transaction without a record.
+pub fn drops_are_served()
+    ensures { DropsAreServed }
+{}
+
+/// A Rollback of one that has a record.
+pub fn turns_are_served()
+    ensures { TurnsAreServed }
+{}
+
+/// A change that was taken back, with more to take back.
+pub fn undo_is_served()
+    ensures { UndoIsServed }
+{}
+
+/// The last change that was taken back, and the End.
+pub fn ends_are_served()
+    ensures { EndsAreServed }
+{}
+
+/// A page that was written.
+pub fn flushes_are_served()
+    ensures { FlushesAreServed }
+{}
+
+/// A force of the log.
+pub fn forces_are_served()
+    ensures { ForcesAreServed }
+{}
+
+/// A Checkpoint.
+pub fn checkpoints_are_served()
+    ensures { CheckpointsAreServed }
+{}
+
+/// The record of a Checkpoint leaves a lawful log.
+pub fn logged_checkpoints_are_served<T: PageTree>()
+    ensures { LoggedCheckpointsAreServed T.tree }
+{}
+
+/// A step that a check refuses.
+pub fn barred_steps_are_served()
+    ensures { BarredStepsAreServed }
+{}
+
+/// A step for which pages or memory are wanting.
+pub fn lacks_are_served()
+    ensures { LacksAreServed }
+{}

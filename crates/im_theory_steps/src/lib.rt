@@ -1,0 +1,57 @@
+//! Each step of a store of several transactions is a step of the machine of `im_engine_lock` and a growth of the log.
+//!
+//! The log knows what is committed, what the tree holds and each transaction's net; the machine of `im_engine_lock` knows marks, locks and
+//! replies; users are shown steps and replies alone. `IsServing` says what holds between two steps of an engine that works: the log
+//! is what the machine sees (`IsSeen`), steps and replies have shown the machine (`IsShownBy`), it came here by a run
+//! (`IsReached`), the committed effects are those before this life and the ones asked since, and the table of transactions and the
+//! lock table are the machine's. For each kind of step there is one law: from what the log grew by and what the lock table decided
+//! it gives the step of the machine, and all of `IsServing` behind it (`IsServed`). So whoever writes the engine proves of each step
+//! how the log grew, and takes the rest from here.
+//!
+//! A step whose change needs a structure change first logs that before its key record: a transaction whose first change this is then
+//! has records but no net, so what holds between steps holds again only behind the key record (`IsOnTheWay`).
+//!
+//! A change that is taken back is said of the log's growth alone (`UndoesNewest`): whatever records did it, the other transactions and what
+//! is committed are as they were (`undo_takes_back`), and an End behind the last one leaves nothing of the transaction
+//! (`ends_leave_nothing`).
+//!
+//! What a stop leaves is said of the log's Commits alone (`AreCommitted`, `stops_allow`); and a life goes on behind a step that breaks
+//! the engine, whose log then says nothing but what a stop leaves (`IsLived`).
+//!
+//! Two laws carry the rest: whoever is granted the locks of a change finds its key in no other net, so that the log stays lawful
+//! (`granted_keys_are_free`); and what a run commits is what its replies show as acknowledged (`runs_commit_what_they_show`).
+//!
+//! There are no pages here, no disk and no code but `may_roll_back`; growth by structure changes and undo is promised by the crates
+//! that log them, in the words of `specs/Growth`.
+#![tactic(auto)]
+
+mod durable_laws;
+mod growth_laws;
+mod kinds;
+mod lived_laws;
+mod marks;
+mod shown_laws;
+mod undone_laws;
+
+pub use durable_laws::{
+    commits_stand, cut_commits_stand, others_ask_nothing, quiet_lives_settle, stops_allow,
+};
+pub use growth_laws::{
+    copies_are_images, granted_keys_are_free, growth_within_leaves_others, images_change_nothing,
+    log_and_view_go_together, numbers_stay_new, structure_changes_no_key,
+};
+pub use kinds::{
+    barred_steps_are_served, begins_are_served, changes_are_served, checkpoints_are_served,
+    commits_are_served, deletes_are_served, dies_are_served, drops_are_served, ends_are_served,
+    flushes_are_served, forces_are_served, images_keep_serving, inserts_are_served,
+    lacks_are_served, logged_commits_are_served, new_stores_serve, opened_stores_serve,
+    quiet_logs_hold_committed, reads_are_served, structure_keeps_serving, turns_are_served,
+    undo_is_served, unlogged_commits_are_served, waits_are_served, ways_lead_on,
+};
+pub use lived_laws::{lives_go_on, rows_tell_checks};
+pub use marks::may_roll_back;
+pub use shown_laws::{moves_are_shown, moves_reach, runs_commit_what_they_show};
+pub use undone_laws::{
+    ends_leave_nothing, last_undone_changes_are_served, rolling_back_has_more, undo_takes_back,
+    undone_changes_are_served,
+};

@@ -1,0 +1,20 @@
+use Rattle.im_base_disk.specs.contracts.model_disk.ModelDiskDisk.TheImpl.{ghosts}
+use Rattle.im_tool_drill.proofs.StoreRunning.{opened_as}
+use Rattle.im_tool_drill.proofs.store_lives.open_store.Goals as goal
+
+pub returns : goal.returns
+returns c =
+    let e = c.open_or_create.ensures in
+    record {
+      config = c.config_of.result;
+      of = c.config_of.ensures;
+      kept = λ before stands. e.kept before tt c.requires.synced stands;
+      opened = opened_as ghosts c.config_of.result.max_pages c.open_or_create.result e.opened e.limit;
+      pool = e.pool;
+      frames = e.frames;
+      device = e.device;
+      causes = e.causes;
+      spelled = e.spelled;
+      unspelled = e.unspelled;
+      full = e.full;
+    }

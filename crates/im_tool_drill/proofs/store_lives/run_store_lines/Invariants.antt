@@ -1,0 +1,17 @@
+use Rattle.std.proofs.Common.{◌≡◌, List, length, take}
+use Rattle.im_base_types.specs.Changes.{Effect}
+use Rattle.im_base_types.specs.Lives.{nothing_shown}
+use Rattle.im_base_disk.specs.contracts.model_disk.ModelDiskDisk.TheImpl.{ghosts}
+use Rattle.im_tool_drill.specs.Answered.{RepliedBy}
+use Rattle.im_tool_drill.specs.StoreLives.{GoesOn, shown_in, IsStoreReply}
+use Rattle.im_tool_drill.specs.StoreRuns.{AreLinesRun}
+use Rattle.im_tool_drill.proofs.store_lives.run_store_lines.Given as goal
+
+-- each line so far was answered, and the life goes on
+abbrev pub invariant-loop-line : goal.invariant-loop-line
+invariant-loop-line l = record {
+  replied : RepliedBy IsStoreReply (take l.line-index l.lines) l.replies.items;
+  count : length l.replies.items ≡ l.line-index;
+  run : AreLinesRun ghosts l.stop l.lines l.replies.items l.fn.engine l.engine;
+  life : (before : List Effect) → GoesOn ghosts before nothing_shown l.fn.engine → GoesOn ghosts before (shown_in nothing_shown (take l.line-index l.lines) l.replies.items) l.engine;
+}

@@ -1,0 +1,247 @@
+//! Lives of a store, on the model disk.
+
+ghost use Rattle.std.specs.Prelude.{◌≡◌, ◌≢◌, ◌⊎◌, ◌↔◌, true, false, List, IfOk, OnOk, MatchResult};
+ghost use Rattle.std.specs.FinMap.{empty, entries};
+ghost use Rattle.im_base_types.specs.declared.fault.Fault.TheVariants.{NotAStore};
+ghost use Rattle.im_base_types.specs.Changes.{Effect, apply_all};
+ghost use Rattle.im_base_types.specs.Lives.{Shown, nothing_shown, StandsForMore};
+ghost use Rattle.im_base_disk.specs.Disk.{Files};
+ghost use Rattle.im_base_disk.specs.Runs.{IsSynced, Reads};
+ghost use Rattle.im_engine.specs.Stands.{StandsFor, Allowed};
+ghost use Rattle.im_tool_drill.specs.declared.store_answers.StoreReply.TheVariants.{Stopped};
+ghost use Rattle.im_tool_drill.specs.Answered.{AnsweredBy};
+ghost use Rattle.im_tool_drill.specs.Stops.{IsArmedAll, IsCallArmed, IsReadArmed};
+ghost use Rattle.im_tool_drill.specs.StoreLives.{asked_in, shown_in, in_32_bits, GoesOn, IsConfigOf, LineKept, IsStoreReply, StoreAnswered};
+ghost use Rattle.im_tool_drill.specs.StoreRuns.{IsOpening, IsLifeRun, AreLinesRun, IsLineRun, IsStepRun, IsLookRun, IsLastRun};
+
+use crate::Opening;
+use crate::lives::{arm, refused_opening};
+use crate::stop::has_come;
+use crate::store_answers::{StoreAnswers, StoreReply};
+use crate::store_life::{LifeOptions, StoreLife, StoreLine};
+use im_base_disk::{Disk, ModelDisk, Stop};
+use im_base_types::{Fault, Key, PageNo, Rid};
+use im_engine::{Config, Engine};
+use im_front::Step;
+use std::alloc::{AllocError, Global};
+
+/// Runs one life on the disk, and gives the disk back as it was when the stop came or the lines ended.
+///
+/// The stop is armed, and the device call and the read that fail, an engine is opened on the disk, and it makes the lines: the answers are its own. Where the files stood for some
+/// effects, whatever a stop then leaves stands for these effects and a front of those whose Commit the life asked, with all that were
+/// acknowledged; and the opening does not say that the files are no store. Each line has its reply, unless the stop came before or the
+/// opening did not succeed.
+pub fn run_store_life(
+    alloc: Global,
+    disk: ModelDisk,
+    life: &StoreLife,
+) -> Result<(StoreAnswers, ModelDisk), AllocError>
+    requires working { ⟦<ModelDisk as Disk>⟧.failed disk ≡ false }
+    requires synced { IsSynced ⟦<ModelDisk as Disk>⟧ disk }
+    ensures run { IfOk result (λ run. IsLifeRun ⟦<ModelDisk as Disk>⟧ life.now run.0 disk run.1) }
+    ensures answered { IfOk result (λ run. StoreAnswered run.0.opening life.now.lines.items run.0.replies.items) }
+    ensures opened { IfOk result (λ run. (before : List Effect) → StandsFor before (⟦<ModelDisk as Disk>⟧.seen disk) → run.0.opening ≢ Opening.Refused NotAStore) }
+    ensures kept { IfOk result (λ run. (before : List Effect) → StandsFor before (⟦<ModelDisk as Disk>⟧.seen disk)
+        → (c : Files) → ⟦<ModelDisk as Disk>⟧.may_leave run.1 c → StandsForMore StandsFor before (asked_in life.now run.0) c) }
+{
+    let mut disk = disk;
+    arm_life(alloc, &mut disk, life)?;
+    match open_store(alloc, disk, life.options) {
+        Ok(mut engine) => {
+            let opening = Opening::Open(engine.disk().calls());
+            let replies = run_store_lines(alloc, &mut engine, &life.lines, &life.stop);
+            let disk = engine.into_disk();
+            let replies = replies?;
+            Ok((StoreAnswers { opening, replies }, disk))
+        }
+        Err((fault, disk)) => {
+            let opening = refused_opening(&disk, &life.stop, fault);
+            let replies = Vec::new(alloc);
+            Ok((StoreAnswers { opening, replies }, disk))
+        }
+    }
+}
+
+/// Opens the store of a disk by these options.
+pub fn open_store(
+    alloc: Global,
+    disk: ModelDisk,
+    options: LifeOptions,
+) -> Result<Engine<ModelDisk>, (Fault, ModelDisk)>
+    requires working { ⟦<ModelDisk as Disk>⟧.failed disk ≡ false }
+    requires synced { IsSynced ⟦<ModelDisk as Disk>⟧ disk }
+    ensures { IsOpening ⟦<ModelDisk as Disk>⟧ options disk result }
+{
+    Engine::open_or_create(alloc, disk, config_of(options))
+}
+
+// Sets the life's stop, and the device call and the read that fail in it.
+fn arm_life(alloc: Global, disk: &mut ModelDisk, life: &StoreLife) -> Result<(), AllocError>
+    ensures armed { OnOk result (IsArmedAll life.now.stop life.now.options.failing_call life.now.options.failing_read disk.old disk.new) }
+    ensures reads { Reads ⟦<ModelDisk as Disk>⟧ disk.old disk.new }
+    ensures synced { IsSynced ⟦<ModelDisk as Disk>⟧ disk.old → IsSynced ⟦<ModelDisk as Disk>⟧ disk.new }
+    ensures failed { ⟦<ModelDisk as Disk>⟧.failed disk.new ≡ ⟦<ModelDisk as Disk>⟧.failed disk.old }
+{
+    arm(alloc, disk, &life.stop)?;
+    arm_call(disk, life.options.failing_call);
+    arm_read(disk, life.options.failing_read);
+    Ok(())
+}
+
+fn arm_call(disk: &mut ModelDisk, call: Option<u64>)
+    ensures armed { IsCallArmed call disk.old disk.new }
+    ensures reads { Reads ⟦<ModelDisk as Disk>⟧ disk.old disk.new }
+    ensures synced { IsSynced ⟦<ModelDisk as Disk>⟧ disk.old → IsSynced ⟦<ModelDisk as Disk>⟧ disk.new }
+    ensures failed { ⟦<ModelDisk as Disk>⟧.failed disk.new ≡ ⟦<ModelDisk as Disk>⟧.failed disk.old }
+{
+    match call {
+        Some(call) => disk.fail_call(call),
+        None => {}
+    }
+}
+
+fn arm_read(disk: &mut ModelDisk, read: Option<u64>)
+    ensures armed { IsReadArmed read disk.old disk.new }
+    ensures reads { Reads ⟦<ModelDisk as Disk>⟧ disk.old disk.new }
+    ensures synced { IsSynced ⟦<ModelDisk as Disk>⟧ disk.old → IsSynced ⟦<ModelDisk as Disk>⟧ disk.new }
+    ensures failed { ⟦<ModelDisk as Disk>⟧.failed disk.new ≡ ⟦<ModelDisk as Disk>⟧.failed disk.old }
+{
+    match read {
+        Some(read) => disk.fail_read(read),
+        None => {}
+    }
+}
+
+/// How an engine is opened by these options: 64 frames and 1,000,000 pages where they are left out.
+pub fn config_of(options: LifeOptions) -> Config
+    ensures { IsConfigOf options result }
+{
+    let config = Config::default();
+    let frames = match options.frames {
+        None => config.frames,
+        Some(frames) => frames as usize,
+    };
+    let most = match options.max_pages {
+        None => u64::from(config.max_pages),
+        Some(most) => most,
+    };
+    let max_pages = in_32_bits(most);
+    Config { frames, max_pages }
+}
+
+// The number, or the greatest of 32 bits.
+fn in_32_bits(number: u64) -> u32
+    ensures { result ≡ in_32_bits number }
+{
+    if number <= u32::MAX as u64 {
+        number as u32
+    } else {
+        u32::MAX
+    }
+}
+
+fn run_store_lines(
+    alloc: Global,
+    engine: &mut Engine<ModelDisk>,
+    lines: &[StoreLine],
+    stop: &Option<Stop>,
+) -> Result<Vec<StoreReply>, AllocError>
+    ensures run { IfOk result (λ told. AreLinesRun ⟦<ModelDisk as Disk>⟧ stop.now lines.now told.items engine.old engine.new) }
+    ensures answered { IfOk result (λ told. AnsweredBy IsStoreReply Stopped lines.now told.items) }
+    ensures kept { IfOk result (λ told. (before : List Effect) → GoesOn ⟦<ModelDisk as Disk>⟧ before nothing_shown engine.old
+        → (c : Files) → ⟦<ModelDisk as Disk>⟧.may_leave engine.new.disk c → Allowed before (shown_in nothing_shown lines.now told.items) c) }
+{
+    let mut replies = Vec::new(alloc);
+    for line in lines {
+        let reply = run_store_line(engine, line, stop);
+        let stopped = is_stopped(&reply);
+        replies.push(reply)?;
+        if stopped {
+            return Ok(replies);
+        }
+    }
+    Ok(replies)
+}
+
+fn run_store_line(
+    engine: &mut Engine<ModelDisk>,
+    line: &StoreLine,
+    stop: &Option<Stop>,
+) -> StoreReply
+    ensures run { IsLineRun ⟦<ModelDisk as Disk>⟧ stop.now line.now result engine.old engine.new }
+    ensures fits { (result ≡ Stopped) ⊎ IsStoreReply line.now result }
+    ensures kept { (before : List Effect) (s : Shown) → GoesOn ⟦<ModelDisk as Disk>⟧ before s engine.old
+        → LineKept ⟦<ModelDisk as Disk>⟧ before s line.now result engine.new }
+{
+    match line {
+        StoreLine::Calls => StoreReply::Calls(engine.disk().calls()),
+        StoreLine::Step(step) => run_step(engine, step, stop),
+        StoreLine::Page(page) => look_at(engine, *page, stop),
+        StoreLine::Redo => StoreReply::Redo(engine.redo_report()),
+    }
+}
+
+fn run_step(engine: &mut Engine<ModelDisk>, step: &Step, stop: &Option<Stop>) -> StoreReply
+    ensures run { IsStepRun ⟦<ModelDisk as Disk>⟧ stop.now step.now result engine.old engine.new }
+    ensures fits { (result ≡ Stopped) ⊎ IsStoreReply (StoreLine.Step step.now) result }
+    ensures kept { (before : List Effect) (s : Shown) → GoesOn ⟦<ModelDisk as Disk>⟧ before s engine.old
+        → LineKept ⟦<ModelDisk as Disk>⟧ before s (StoreLine.Step step.now) result engine.new }
+{
+    let reply = engine.step(step);
+    if has_come(stop, engine.disk()) {
+        StoreReply::Stopped
+    } else {
+        StoreReply::Step(reply)
+    }
+}
+
+// What a page is for.
+fn look_at(engine: &mut Engine<ModelDisk>, page: PageNo, stop: &Option<Stop>) -> StoreReply
+    ensures run { IsLookRun ⟦<ModelDisk as Disk>⟧ stop.now page result engine.old engine.new }
+    ensures fits { (result ≡ Stopped) ⊎ IsStoreReply (StoreLine.Page page) result }
+    ensures kept { (before : List Effect) (s : Shown) → GoesOn ⟦<ModelDisk as Disk>⟧ before s engine.old
+        → LineKept ⟦<ModelDisk as Disk>⟧ before s (StoreLine.Page page) result engine.new }
+{
+    let header = engine.header(page);
+    if has_come(stop, engine.disk()) {
+        return StoreReply::Stopped;
+    }
+    match header {
+        Ok(header) => StoreReply::Page(page, header),
+        Err(fault) => StoreReply::Refused(fault),
+    }
+}
+
+// The stop fell into the line.
+fn is_stopped(reply: &StoreReply) -> bool
+    ensures { result ≡ true ↔ reply.now ≡ Stopped }
+{
+    matches!(reply, StoreReply::Stopped)
+}
+
+/// The entries that an opening finds, and the disk behind it.
+pub(crate) fn last_entries(
+    alloc: Global,
+    disk: ModelDisk,
+) -> (Result<Vec<(Key, Rid)>, Fault>, ModelDisk)
+    requires working { ⟦<ModelDisk as Disk>⟧.failed disk ≡ false }
+    requires synced { IsSynced ⟦<ModelDisk as Disk>⟧ disk }
+    ensures run { IsLastRun ⟦<ModelDisk as Disk>⟧ disk result.0 result.1 }
+    ensures found { (after : List Effect) → StandsFor after (⟦<ModelDisk as Disk>⟧.seen disk)
+        → MatchResult result.0 (λ found. found.items ≡ entries (apply_all empty after)) (λ fault. fault ≢ NotAStore) }
+{
+    let options = LifeOptions {
+        frames: None,
+        max_pages: None,
+        failing_call: None,
+        failing_read: None,
+    };
+    match open_store(alloc, disk, options) {
+        Ok(mut engine) => {
+            let entries = engine.entries(alloc);
+            let disk = engine.into_disk();
+            (entries, disk)
+        }
+        Err((fault, disk)) => (Err(fault), disk),
+    }
+}

@@ -1,0 +1,103 @@
+//! Scripts of lives of a store as text, and their answers as text.
+
+ghost use Rattle.std.specs.Prelude.{◌≡◌, ◌↔◌, true};
+ghost use Rattle.im_tool_drill.specs.Scripts.{lines_of};
+ghost use Rattle.im_tool_drill.specs.StoreScripts.{BeginsLife, IsRaw};
+
+use crate::Opening;
+use crate::store_answers::{StoreAnswers, StoreDrilled, StoreReply};
+use im_base_types::{PageKind, PageNo};
+use im_engine::Header;
+use im_tool_words::{entries_text, first_piece, reply_text, report_text};
+use std::alloc::Global;
+use std::io;
+use std::io::Write;
+
+/// A `raw` line stands in the script, and no `life` line in front of it.
+pub fn is_raw(text: &[u8]) -> bool
+    ensures { result ≡ true ↔ IsRaw (lines_of text.now) }
+{
+    let mut left = Some(text);
+    while let Some(rest) = left {
+        let (line, more) = first_piece(rest, b'\n');
+        left = more;
+        if line == b"raw".as_slice() {
+            return true;
+        }
+        if begins_life(line) {
+            return false;
+        }
+    }
+    false
+}
+
+// The line is `life`, or begins with that word.
+#[tactic(auto, using(crate::proofs::RawTexts::life_or_not))]
+fn begins_life(line: &[u8]) -> bool
+    ensures { result ≡ true ↔ BeginsLife line.now }
+{
+    let (word, _) = first_piece(line, b' ');
+    word == b"life".as_slice()
+}
+
+pub(crate) fn print_store<W: Write>(
+    alloc: Global,
+    writer: &mut W,
+    drilled: &StoreDrilled,
+) -> io::Result<()> {
+    for life in &drilled.lives {
+        print_store_life(alloc, writer, life)?;
+    }
+    match &drilled.last {
+        Ok(entries) => entries_text(alloc, writer, "final", entries),
+        Err(fault) => writeln!(writer, "final refused {}", fault.number()),
+    }
+}
+
+fn print_store_life<W: Write>(
+    alloc: Global,
+    writer: &mut W,
+    life: &StoreAnswers,
+) -> io::Result<()> {
+    print_opening(writer, life.opening)?;
+    for reply in &life.replies {
+        match reply {
+            StoreReply::Step(reply) => {
+                reply_text(alloc, writer, reply)?;
+                writeln!(writer)?;
+            }
+            StoreReply::Calls(calls) => writeln!(writer, "calls {calls}")?,
+            StoreReply::Page(page, header) => {
+                print_header(writer, *page, *header)?;
+            }
+            StoreReply::Redo(report) => report_text(writer, report.point, report.applied)?,
+            StoreReply::Refused(fault) => writeln!(writer, "refused {}", fault.number())?,
+            StoreReply::Stopped => writeln!(writer, "stopped")?,
+        }
+    }
+    Ok(())
+}
+
+// Prints what a page is for.
+fn print_header<W: Write>(writer: &mut W, page: PageNo, header: Header) -> io::Result<()> {
+    let kind = match header.kind {
+        PageKind::Free => "free",
+        PageKind::Meta => "meta",
+        PageKind::Leaf => "leaf",
+        PageKind::Inner => "inner",
+    };
+    writeln!(
+        writer,
+        "page {page} {kind} {} {}",
+        header.level, header.count
+    )
+}
+
+/// Prints what an opening answers.
+pub(crate) fn print_opening<W: Write>(writer: &mut W, opening: Opening) -> io::Result<()> {
+    match opening {
+        Opening::Open(calls) => writeln!(writer, "open ok {calls}"),
+        Opening::Refused(fault) => writeln!(writer, "open refused {}", fault.number()),
+        Opening::Stopped => writeln!(writer, "open stopped"),
+    }
+}

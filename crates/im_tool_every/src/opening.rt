@@ -1,0 +1,126 @@
+//! An opening that is judged, and one that is stopped.
+
+ghost use Rattle.std.specs.Prelude.{◌≡◌, ◌↔◌, true, false, IfOk};
+ghost use Rattle.im_base_types.specs.declared.file_id.FileId.{FileId};
+ghost use Rattle.im_base_disk.specs.Left.{IsLeftBy};
+ghost use Rattle.im_base_disk.specs.Model.{IsFresh, file_of, model_stop};
+ghost use Rattle.im_base_disk.specs.Runs.{IsSynced};
+ghost use Rattle.im_tool_every.specs.Opened.{IsGood, IsJudged, IsJudgedBy, IsPassedOver, IsStopped};
+
+use crate::change::AskedEffect;
+use crate::judge::is_allowed;
+use im_base_disk::{Disk, ModelDisk, Stop};
+use im_base_types::{Fault, Key, Rid};
+use im_engine::Engine;
+use im_tool_drill::{LifeOptions, open_store};
+use std::alloc::{AllocError, Global};
+
+/// How many device calls an opening made, and whether it is good.
+#[derive(Clone, Copy, Debug, PartialEq, Eq)]
+pub(crate) struct Judged {
+    pub(crate) calls: u64,
+    pub(crate) good: bool,
+}
+
+/// Opens to the end, and judges what is there by what was asked. It gives the disk back as it is then.
+pub(crate) fn judge_opening(
+    alloc: Global,
+    disk: ModelDisk,
+    options: LifeOptions,
+    asked: &[AskedEffect],
+) -> Result<(Judged, ModelDisk), AllocError>
+    requires working { ⟦<ModelDisk as Disk>⟧.failed disk ≡ false }
+    requires synced { IsSynced ⟦<ModelDisk as Disk>⟧ disk }
+    ensures { IfOk result (λ told. IsJudged ⟦<ModelDisk as Disk>⟧ options asked.now disk told.1 told.0) }
+{
+    match open_store(alloc, disk, options) {
+        Ok(mut engine) => {
+            let calls = engine.disk().calls();
+            let good = judge_entries(alloc, &mut engine, asked)?;
+            let disk = engine.into_disk();
+            Ok((Judged { calls, good }, disk))
+        }
+        Err((fault, disk)) => {
+            let calls = disk.calls();
+            let good = is_passed_over(fault);
+            Ok((Judged { calls, good }, disk))
+        }
+    }
+}
+
+// Judges the entries that an engine hands out.
+fn judge_entries(
+    alloc: Global,
+    engine: &mut Engine<ModelDisk>,
+    asked: &[AskedEffect],
+) -> Result<bool, AllocError>
+    ensures { IfOk result (λ good. IsJudgedBy ⟦<ModelDisk as Disk>⟧ asked.now engine.old engine.new good) }
+{
+    let found = engine.entries(alloc);
+    let good = is_good(alloc, asked, found)?;
+    Ok(good)
+}
+
+fn is_good(
+    alloc: Global,
+    asked: &[AskedEffect],
+    found: Result<Vec<(Key, Rid)>, Fault>,
+) -> Result<bool, AllocError>
+    ensures { IfOk result (λ good. good ≡ true ↔ IsGood asked.now found) }
+{
+    match found {
+        Ok(found) => {
+            let good = is_allowed(alloc, asked, &found)?;
+            Ok(good)
+        }
+        Err(fault) => Ok(is_passed_over(fault)),
+    }
+}
+
+/// Opens with a stop armed, and gives the disk that the stop leaves.
+pub(crate) fn stop_opening(
+    alloc: Global,
+    disk: ModelDisk,
+    options: LifeOptions,
+    stop: Stop,
+) -> Result<ModelDisk, AllocError>
+    requires working { ⟦<ModelDisk as Disk>⟧.failed disk ≡ false }
+    requires synced { IsSynced ⟦<ModelDisk as Disk>⟧ disk }
+    ensures working { IfOk result (λ next. ⟦<ModelDisk as Disk>⟧.failed next ≡ false) }
+    ensures synced { IfOk result (λ next. IsSynced ⟦<ModelDisk as Disk>⟧ next) }
+    ensures stopped { IfOk result (λ next. IsStopped ⟦<ModelDisk as Disk>⟧ options stop disk next) }
+{
+    let mut disk = disk;
+    disk.arm(stop);
+    match open_store(alloc, disk, options) {
+        Ok(engine) => {
+            let disk = engine.into_disk();
+            let next = left_by(alloc, &disk)?;
+            Ok(next)
+        }
+        Err((_fault, disk)) => {
+            let left = left_by(alloc, &disk)?;
+            Ok(left)
+        }
+    }
+}
+
+/// The disk that a stop leaves.
+pub(crate) fn left_by(alloc: Global, disk: &ModelDisk) -> Result<ModelDisk, AllocError>
+    ensures bytes { IfOk result (λ next. (file : FileId) → IsLeftBy (model_stop disk.now) (file_of disk.now file) (⟦<ModelDisk as Disk>⟧.seen next file)) }
+    ensures fresh { IfOk result (λ next. IsFresh next) }
+    ensures working { IfOk result (λ next. ⟦<ModelDisk as Disk>⟧.failed next ≡ false) }
+    ensures synced { IfOk result (λ next. IsSynced ⟦<ModelDisk as Disk>⟧ next) }
+{
+    match disk.after_stop(alloc) {
+        Ok(left) => Ok(left),
+        Err(_) => Err(AllocError),
+    }
+}
+
+// Whether such a refusal says nothing against a store: the device failed, or the frames are too few or too many.
+fn is_passed_over(fault: Fault) -> bool
+    ensures { result ≡ true ↔ IsPassedOver fault }
+{
+    fault == Fault::Device || fault == Fault::PoolSize
+}

@@ -1,5 +1,0 @@
-use Rattle.im_tree.proofs.LeafChange.{leaf_change}
-use Rattle.im_tree.proofs.changes.leaf_change_keeps.Goals as goal
-
-pub returns : goal.returns
-returns c = leaf_change

@@ -1,5 +1,0 @@
-use Rattle.im_tree.proofs.MarkLemmas.{marks_keep}
-use Rattle.im_tree.proofs.changes.marks_do_not_matter.Goals as goal
-
-pub returns : goal.returns
-returns c = marks_keep

@@ -1,5 +1,0 @@
-use Rattle.im_tree.proofs.HalvesLemmas.{splits_well}
-use Rattle.im_tree.proofs.halves.full_pages_split_well.Goals as goal
-
-pub returns : goal.returns
-returns c = splits_well

@@ -1,5 +1,0 @@
-use Rattle.im_tree.proofs.Ascent.{walk_rises}
-use Rattle.im_tree.proofs.lookups.walk_rises.Goals as goal
-
-pub returns : goal.returns
-returns c = walk_rises

@@ -1,5 +1,0 @@
-use Rattle.im_tree.proofs.WayStays.{way_stays}
-use Rattle.im_tree.proofs.search.ways_stay.Goals as goal
-
-pub returns : goal.returns
-returns c = way_stays

@@ -1,5 +1,0 @@
-use Rattle.im_tree.proofs.InnerSplit.{root_split}
-use Rattle.im_tree.proofs.splits.root_split_keeps.Goals as goal
-
-pub returns : goal.returns
-returns c = root_split

@@ -1,5 +1,0 @@
-use Rattle.im_tree.proofs.StepLemmas.{run_keeps}
-use Rattle.im_tree.proofs.steps.runs_keep.Goals as goal
-
-pub returns : goal.returns
-returns c = run_keeps

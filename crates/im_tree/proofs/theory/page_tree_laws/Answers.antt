@@ -1,5 +1,0 @@
-use Rattle.im_tree.proofs.TheoryLaws.{page_tree_laws}
-use Rattle.im_tree.proofs.theory.page_tree_laws.Goals as goal
-
-pub returns : goal.returns
-returns c = page_tree_laws

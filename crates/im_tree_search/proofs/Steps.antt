@@ -1,0 +1,35 @@
+-- The levels of pages on the way to a key, and one step down.
+use Rattle.std.proofs.Common.{◌≡◌, ◌≤◌, ◌-◌, ℕ, Bool, if◌then◌else◌, zero, suc, sym, ◌∙◌, ap, subst, arith}
+use Rattle.std.specs.Prelude.{Result, Ok, Err, IfOk}
+use Rattle.std.proofs.Math.Dec.{eqb-suc-zero}
+use Rattle.im_base_types.specs.declared.fault.Fault.{Fault}
+use Rattle.im_base_types.specs.Keys.{Key}
+use Rattle.im_base_types.specs.declared.page_kind.PageKind.TheVariants.{Leaf, Inner}
+use Rattle.im_page.specs.Child.{IsChild}
+use Rattle.im_page_pool.specs.declared.frame.Frame.{Frame}
+use Rattle.im_page_pool.specs.Pool.{PoolView, page_at}
+use Rattle.im_page_writer.specs.Outcome.{AllPages, IsSound}
+use Rattle.im_theory_tree.specs.Levels.{Pages}
+use Rattle.im_theory_tree.specs.Search.{IsOnWay}
+use Rattle.im_theory_tree.proofs.LookupLemmas.{way_leaf, way_inner}
+use Rattle.im_theory_tree.proofs.Way.{step_way}
+use Rattle.im_tree_search.specs.Levels.{HasLevel, bodies_of, kind_at}
+use Rattle.im_tree_search.specs.Found.{IsReached}
+
+inner_kind : (k : ℕ) → kind_at (suc k) ≡ Inner
+inner_kind k = ap (λ (b : Bool). if b then Leaf else Inner) (eqb-suc-zero k)
+
+pub way_level : (pages : Pages) (h : ℕ) (key : Key) (p : ℕ) → IsOnWay pages h key p → HasLevel h (pages p)
+way_level pages zero key p way = let leaf = way_leaf pages key p way in record { kind = leaf.0; level = leaf.1 }
+way_level pages (suc k) key p way = let inner = way_inner pages k key p way in record { kind = inner.0 ∙ sym (inner_kind k); level = inner.1 }
+
+-- a step down, at the level that the code counts
+pub step_level : (pages : Pages) (h : ℕ) (key : Key) (p child : ℕ) → 1 ≤ h → IsOnWay pages h key p → IsChild (pages p) key child → IsOnWay pages (h - 1) key child
+step_level pages zero key p child some way is = absurd (omega (arith, some))
+step_level pages (suc k) key p child some way is = let e : suc k - 1 ≡ k = omega arith in subst (λ (m : ℕ). IsOnWay pages m key child) (sym e) (step_way pages k key p child way is)
+
+-- a page on the way is got
+pub reached_got : (r : Result Frame Fault) (pages : AllPages) (key : Key) (h p : ℕ) (pool : PoolView) → IsSound r (λ _. page_at pool p ≡ pages p) → IfOk r (λ frame. frame.number ≡ p) → IsOnWay (bodies_of pages) h key p
+    → IsSound r (λ frame. IsReached pages key h frame.number pool)
+reached_got (Ok frame) pages key h p pool shown is way = subst (λ (n : ℕ). IsReached pages key h n pool) (sym is) (record { shown = shown; way = way })
+reached_got (Err e) pages key h p pool sound is way = sound

@@ -1,0 +1,17 @@
+use Rattle.std.proofs.Common.{None}
+use Rattle.im_page_pool.specs.Pool.{IsAt, page_at}
+use Rattle.im_page_writer.specs.Outcome.{AllPages, Reads}
+use Rattle.im_tree_search.specs.Levels.{HasLevel}
+use Rattle.im_tree_search.specs.Found.{HasTree, Descends}
+use Rattle.im_tree_search.proofs.descent.leaf_for.Given as goal
+
+abbrev pub invariant-loop-level : goal.invariant-loop-level
+invariant-loop-level g l = record {
+  outcome : Reads g.D.Disk l.fn.writer l.fn.disk l.writer l.disk None;
+  at : IsAt l.writer.pool l.frame;
+  page : HasLevel l.level (page_at l.writer.pool l.frame.number).body;
+  kept : (pages : AllPages) → HasTree g.D.Disk pages l.fn.writer l.fn.disk → Descends pages l.key l.level l.frame.number l.fn.writer.pool.gets l.writer.pool;
+}
+
+abbrev pub decreases-loop-level : goal.decreases-loop-level
+decreases-loop-level g l = l.level

@@ -1,0 +1,19 @@
+use Rattle.std.proofs.Common.{ℕ, ap, sym, ◌∙◌, subst, false}
+use Rattle.std.specs.Bool.{IsTrue}
+use Rattle.im_base_types.specs.Pages.{Page}
+use Rattle.im_page_pool.specs.Pool.{page_at}
+use Rattle.im_tree_search.specs.Levels.{HasLevel}
+use Rattle.im_page_writer.proofs.Outcomes.{pages_to, sound_on}
+use Rattle.im_tree_search.proofs.levels.tree_page.Goals as goal
+
+pub returns-in_err-frame-clause-kept : goal.returns-in_err-frame-clause-kept
+returns-in_err-frame-clause-kept g c pages has level = sound_on c.from_residual.result _ _ c.from_residual.ensures.1 (c.in_err-frame.ensures.kept pages (pages_to g.D.Disk c.args.number has))
+
+pub returns-then-not-has_level-clause-kept : goal.returns-then-not-has_level-clause-kept
+returns-then-not-has_level-clause-kept g c pages has level =
+    let same = c.page.ensures.page ∙ ap (λ (n : ℕ). page_at c.get.new.self.pool n) c.in_ok-frame.ensures.frame ∙ c.in_ok-frame.ensures.kept pages (pages_to g.D.Disk c.args.number has) in
+    let no : IsTrue false = c.if-not-has_level.ensures.1 (subst (λ (x : Page). HasLevel c.args.level x.body) (sym same) level) in
+    absurd (cc no)
+
+pub returns-clause-kept : goal.returns-clause-kept
+returns-clause-kept g c pages has level = c.in_ok-frame.ensures.kept pages (pages_to g.D.Disk c.args.number has)

@@ -1,0 +1,16 @@
+use Rattle.std.proofs.Common.{◌∙◌}
+use Rattle.im_page_writer.proofs.Outcomes.{sound_also, sound_on, then}
+use Rattle.im_tree_search.proofs.Pages.{tree_still}
+use Rattle.im_tree_search.proofs.next_key.leaf_and_next.Goals as goal
+
+pub returns-in_err-leaf-clause-kept : goal.returns-in_err-leaf-clause-kept
+returns-in_err-leaf-clause-kept g c pages tree = sound_on c.from_residual.result _ _ c.from_residual.ensures.1 (c.in_err-leaf.ensures.kept pages tree)
+
+pub returns-clause-outcome : goal.returns-clause-outcome
+returns-clause-outcome g c = then g.D.Disk c.in_ok-leaf.ensures.outcome c.next_in_leaf.ensures.outcome
+
+pub returns-clause-kept : goal.returns-clause-kept
+returns-clause-kept g c pages tree =
+    let r = c.in_ok-leaf.ensures.kept pages tree in
+    sound_also c.next_in_leaf.result _ _ (c.next_in_leaf.ensures.kept pages (tree_still g.D.Disk tree c.in_ok-leaf.ensures.outcome) r.reached)
+    (λ x is. record { leaf = is.leaf; name = is.name; gets = λ here. is.gets here ∙ r.gets })

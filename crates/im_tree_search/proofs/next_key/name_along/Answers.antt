@@ -1,0 +1,36 @@
+use Rattle.std.proofs.Common.{◌<◌, Option, length, sym, ◌∙◌, ap, subst}
+use Rattle.std.specs.Prelude.{IfSome}
+use Rattle.im_base_types.specs.Maps.{Above, first_in}
+use Rattle.im_base_types.specs.Pages.{Page}
+use Rattle.im_page_writer.proofs.Outcomes.{sound_on}
+use Rattle.im_theory_tree.specs.Levels.{walk}
+use Rattle.im_tree_search.specs.declared.entry_place.EntryPlace.{EntryPlace}
+use Rattle.im_tree_search.specs.declared.next_key.NextKey.{NextKey}
+use Rattle.im_tree_search.specs.Levels.{bodies_of}
+use Rattle.im_tree_search.specs.Found.{IsFirstOf}
+use Rattle.im_tree_search.specs.NextKeys.{far_name, IsFar}
+use Rattle.im_tree_search.proofs.NextNames.{named_none, named_some}
+use Rattle.im_tree_search.proofs.next_key.name_along.Goals as goal
+
+pub page-requires : goal.page-requires
+page-requires g c = (subst (λ (o : Option EntryPlace). IfSome o (IsFirstOf (Above c.args.key.now) c.first_along.new.writer.pool)) c.in-Some.is c.in_ok-place.ensures.first).held
+
+pub copied-requires : goal.copied-requires
+copied-requires g c =
+    let first = subst (λ (o : Option EntryPlace). IfSome o (IsFirstOf (Above c.args.key.now) c.first_along.new.writer.pool)) c.in-Some.is c.in_ok-place.ensures.first in
+    subst (λ (x : Page). c.in-Some.place.at < length x.body.entries) (sym c.page.ensures.page) first.within
+
+pub returns-in_err-place-clause-kept : goal.returns-in_err-place-clause-kept
+returns-in_err-place-clause-kept g c pages tree ahead = sound_on c.from_residual.result _ _ c.from_residual.ensures.1 (c.in_err-place.ensures.kept pages tree ahead)
+
+pub returns-in_default-clause-kept : goal.returns-in_default-clause-kept
+returns-in_default-clause-kept g c pages tree ahead =
+    named_none c.first_along.new.writer.pool c.in_ok-place.field-0 (first_in (Above c.args.key.now) (walk (bodies_of pages))) c.in_default.not-Some (c.in_ok-place.ensures.kept pages tree ahead)
+
+pub returns-clause-kept : goal.returns-clause-kept
+returns-clause-kept g c pages tree ahead =
+    ap far_name c.copied.ensures
+    ∙ named_some c.first_along.new.writer.pool c.in_ok-place.field-0 c.in-Some.place (first_in (Above c.args.key.now) (walk (bodies_of pages))) c.page.result.now c.in-Some.is (c.in_ok-place.ensures.kept pages tree ahead) c.page.ensures.page
+
+pub returns-clause-far : goal.returns-clause-far
+returns-clause-far g c = subst (λ (n : NextKey). IsFar n) (sym c.copied.ensures) tt

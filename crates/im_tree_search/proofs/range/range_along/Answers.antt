@@ -1,0 +1,101 @@
+use Rattle.std.proofs.Common.{◌≤◌, ℕ, suc, sym, subst, arith}
+use Rattle.im_page_pool.specs.Pool.{page_at}
+use Rattle.im_page_writer.proofs.Outcomes.{out_of_memory, refused, sound_on, then}
+use Rattle.im_tree_search.specs.Levels.{bodies_of}
+use Rattle.im_tree_search.specs.Ranges.{IsAlong}
+use Rattle.im_tree_search.proofs.Pages.{got_says, tree_still}
+use Rattle.im_tree_search.proofs.Walks.{memory_not}
+use Rattle.im_tree_search.proofs.Ranges.{along_ends, along_level, along_on, along_stops, along_within, part_none, part_some}
+use Rattle.im_tree_search.proofs.range.range_along.Goals as goal
+
+pub returns-in_err-left-clause-kept : goal.returns-in_err-left-clause-kept
+returns-in_err-left-clause-kept g c pages n tree along some = sound_on c.from_residual.result _ _ c.from_residual.ensures.1 (c.in_err-left.ensures.kept pages tree)
+
+pub loop-number-init : goal.loop-number-init
+loop-number-init g c =
+    let e = c.in_ok-left.ensures in
+    record {
+      outcome = e.outcome;
+      room = c.requires.room;
+      kept = λ pages n tree along some. record { n = n; along = along; some = some; count = omega (arith, e.kept pages tree); gone = omega (arith, e.gets) };
+    }
+
+pub returns-then-left-eq0-clause-kept : goal.returns-then-left-eq0-clause-kept
+returns-then-left-eq0-clause-kept g c pages n tree along some =
+    let l = c.loop-number in
+    let so = l.invariant.kept pages n tree along some in
+    absurd (along_within (bodies_of pages) tree.spare c.args.lo.now c.args.hi.now l.list.items l.left so.n l.number tree.good so.along (omega (arith, c.loop-number-test.true)) so.count c.if-left-eq0.true)
+
+pub returns-in_err-frame-clause-kept : goal.returns-in_err-frame-clause-kept
+returns-in_err-frame-clause-kept g c pages n tree along some =
+    let l = c.loop-number in
+    let so = l.invariant.kept pages n tree along some in
+    let level = along_level (bodies_of pages) tree.spare c.args.lo.now c.args.hi.now l.list.items so.n l.number tree.good so.along (omega (arith, c.loop-number-test.true)) in
+    sound_on c.from_residual-in_err-frame.result _ _ c.from_residual-in_err-frame.ensures.1 (c.in_err-frame.ensures.kept pages (tree_still g.D.Disk tree l.invariant.outcome).has level)
+
+pub returns-in_err-behind-clause-outcome : goal.returns-in_err-behind-clause-outcome
+returns-in_err-behind-clause-outcome g c =
+    refused g.D.Disk c.from_residual-in_err-behind.result c.from_residual-in_err-behind.ensures.1 (out_of_memory g.D.Disk c.in_err-behind.ensures.memory (then g.D.Disk c.loop-number.invariant.outcome c.in_ok-frame.ensures.outcome))
+
+pub returns-in_err-behind-clause-kept : goal.returns-in_err-behind-clause-kept
+returns-in_err-behind-clause-kept g c pages n tree along some = sound_on c.from_residual-in_err-behind.result _ _ c.from_residual-in_err-behind.ensures.1 (memory_not c.in_err-behind.field-0.0 c.in_err-behind.ensures.memory)
+
+pub returns-in-Some-clause-outcome : goal.returns-in-Some-clause-outcome
+returns-in-Some-clause-outcome g c = then g.D.Disk c.loop-number.invariant.outcome c.in_ok-frame.ensures.outcome
+
+pub returns-in-Some-clause-kept : goal.returns-in-Some-clause-kept
+returns-in-Some-clause-kept g c pages n tree along some =
+    let l = c.loop-number in
+    let pool = c.tree_page.new.writer.pool in
+    let frame = c.in_ok-frame.frame in
+    let lo = c.args.lo.now in
+    let hi = c.args.hi.now in
+    let list = c.add_part.new.list.items in
+    let lent = c.page-leaf.result.now in
+    let here : 1 ≤ l.number = omega (arith, c.loop-number-test.true) in
+    let so = l.invariant.kept pages n tree along some in
+    let level = along_level (bodies_of pages) tree.spare lo hi l.list.items so.n l.number tree.good so.along here in
+    let says = got_says pages l.number pool frame (c.in_ok-frame.ensures.kept pages (tree_still g.D.Disk tree l.invariant.outcome).has level) c.in_ok-frame.ensures.frame in
+    let part = part_some lo hi c.args.limit lent.body.entries l.list.items list c.in_ok-behind.field-0 c.in-Some.behind c.in-Some.is c.in_ok-behind.ensures.part in
+    record {
+      range = along_stops (bodies_of pages) tree.spare lo hi c.args.limit l.list.items list so.n l.number tree.good c.requires.order so.along here lent (page_at pool frame.number) c.page-leaf.ensures.page says c.in-Some.behind part;
+      gets = record { m = so.n; passes = so.along.passes; some = so.some; count = omega (arith, so.gone, c.in_ok-frame.ensures.gets) };
+    }
+
+pub loop-number-preserved : goal.loop-number-preserved
+loop-number-preserved g c =
+    let l = c.loop-number in
+    let pool = c.tree_page.new.writer.pool in
+    let frame = c.in_ok-frame.frame in
+    let e = c.in_ok-frame.ensures in
+    let lo = c.args.lo.now in
+    let hi = c.args.hi.now in
+    let list = c.add_part.new.list.items in
+    let lent = c.page-leaf.result.now in
+    let here : 1 ≤ l.number = omega (arith, c.loop-number-test.true) in
+    let part = part_none lo hi c.args.limit lent.body.entries l.list.items list c.in_ok-behind.field-0 c.in_default.not-Some c.in_ok-behind.ensures.part in
+    record {
+      outcome = then g.D.Disk l.invariant.outcome e.outcome;
+      room = part.1;
+      kept = λ pages n tree along some.
+          let so = l.invariant.kept pages n tree along some in
+          let level = along_level (bodies_of pages) tree.spare lo hi l.list.items so.n l.number tree.good so.along here in
+          let says = got_says pages l.number pool frame (e.kept pages (tree_still g.D.Disk tree l.invariant.outcome).has level) e.frame in
+          let past = along_on (bodies_of pages) tree.spare lo hi c.args.limit l.list.items list so.n l.number tree.good so.along here lent (page_at pool frame.number) c.page-leaf.ensures.page says part in
+          record {
+            n = suc so.n;
+            along = subst (λ (q : ℕ). IsAlong (bodies_of pages) lo hi list (suc so.n) q) (sym c.next-number.ensures) past;
+            some = omega arith;
+            count = omega (arith, so.count, c.if-left-eq0.false);
+            gone = omega (arith, so.gone, e.gets);
+          };
+    }
+
+pub returns-clause-kept : goal.returns-clause-kept
+returns-clause-kept g c pages n tree along some =
+    let l = c.loop-number in
+    let so = l.invariant.kept pages n tree along some in
+    record {
+      range = along_ends (bodies_of pages) tree.spare c.args.lo.now c.args.hi.now c.args.limit l.list.items so.n l.number tree.good c.requires.order so.along (omega (arith, c.loop-number-test.false)) l.invariant.room;
+      gets = record { m = so.n; passes = so.along.passes; some = so.some; count = omega (arith, so.gone) };
+    }

@@ -1,0 +1,93 @@
+//! The way from the root to the leaf of a key.
+
+ghost use Rattle.std.specs.Prelude.{◌≡◌, ◌≤◌, ◌+◌, ◌-◌, ℕ, IfOk, OnOk};
+ghost use Rattle.im_base_types.specs.Keys.{Key};
+ghost use Rattle.im_base_types.specs.declared.page_kind.PageKind.TheVariants.{Inner};
+ghost use Rattle.im_page.specs.Child.{IsChild};
+ghost use Rattle.im_page_pool.specs.Pool.{page_at, IsAt};
+ghost use Rattle.im_page_writer.specs.PageWriter.{IsReadyWriter};
+ghost use Rattle.im_page_writer.specs.Outcome.{fault_of, AllPages, IsSound, Reads};
+ghost use Rattle.im_theory_tree.specs.Levels.{height};
+ghost use Rattle.im_theory_tree.specs.Search.{IsOnWay};
+ghost use Rattle.im_tree_search.specs.Levels.{HasLevel, bodies_of};
+ghost use Rattle.im_tree_search.specs.Found.{HasTree, IsReached, IsLeafFor};
+
+use crate::levels::{has_level, tree_page};
+use im_base_disk::Disk;
+use im_base_types::{Fault, PageNo};
+use im_page::Page;
+use im_page_pool::Frame;
+use im_page_writer::PageWriter;
+
+// The child of an inner page in whose range a key lies.
+fn child_of(page: &Page, key: &[u8]) -> PageNo
+    requires { page.now.body.kind ≡ Inner }
+    ensures { IsChild page.now.body key.now result }
+{
+    page.child(key) as u32
+}
+
+// From a page above the leaves to its child in whose range the key lies.
+fn step_down<D: Disk>(
+    writer: &mut PageWriter,
+    disk: &mut D,
+    frame: Frame,
+    level: u8,
+    key: &[u8],
+) -> Result<Frame, Fault>
+    requires ready { IsReadyWriter D.Disk writer.old disk.old }
+    requires at { IsAt writer.old.pool frame }
+    requires page { HasLevel level (page_at writer.old.pool frame.number).body }
+    requires inner { 1 ≤ level }
+    ensures outcome { Reads D.Disk writer.old disk.old writer.new disk.new (fault_of result) }
+    ensures kept { (pages : AllPages) → HasTree D.Disk pages writer.old disk.old → IsOnWay (bodies_of pages) level key.now frame.number
+        → IsSound result (λ child. IsReached pages key.now (level - 1) child.number writer.new.pool) }
+    ensures at { IfOk result (IsAt writer.new.pool) }
+    ensures page { IfOk result (λ child. HasLevel (level - 1) (page_at writer.new.pool child.number).body) }
+    ensures gets { OnOk result (writer.new.pool.gets ≡ writer.old.pool.gets + 1) }
+{
+    let child = child_of(writer.page(frame), key);
+    tree_page(writer, disk, child, level - 1)
+}
+
+// Page 1, where it is a page of the tree, of whatever level.
+fn root<D: Disk>(writer: &mut PageWriter, disk: &mut D) -> Result<Frame, Fault>
+    requires ready { IsReadyWriter D.Disk writer.old disk.old }
+    ensures outcome { Reads D.Disk writer.old disk.old writer.new disk.new (fault_of result) }
+    ensures kept { (pages : AllPages) (key : Key) → HasTree D.Disk pages writer.old disk.old
+        → IsSound result (λ frame. IsReached pages key (height (bodies_of pages)) frame.number writer.new.pool) }
+    ensures at { IfOk result (IsAt writer.new.pool) }
+    ensures page { IfOk result (λ frame. HasLevel (page_at writer.new.pool frame.number).body.level (page_at writer.new.pool frame.number).body) }
+    ensures root { IfOk result (λ frame. frame.number ≡ 1) }
+    ensures gets { OnOk result (writer.new.pool.gets ≡ writer.old.pool.gets + 1) }
+{
+    let frame = writer.get(disk, 1)?;
+    let page = writer.page(frame);
+    if !has_level(page, page.level()) {
+        return Err(Fault::NotAStore);
+    }
+    Ok(frame)
+}
+
+/// Where the leaf of a key is held from now on: the one in whose range the key lies, by one get for each level, from page 1 down.
+///
+/// Levels are read from the pages and have to fall by one, so that the search ends on any bytes. Refused `NotAStore` where they
+/// don't, or where a page above level 0 is no inner page, or that of level 0 no leaf; otherwise as `PageWriter::get` is. Behind
+/// `NotAStore` and `Memory` the writer goes on.
+#[tactic(auto, using(im_page_writer::proofs::Outcomes::then, im_page_writer::proofs::Outcomes::refused))]
+pub fn leaf_for<D: Disk>(writer: &mut PageWriter, disk: &mut D, key: &[u8]) -> Result<Frame, Fault>
+    requires ready { IsReadyWriter D.Disk writer.old disk.old }
+    ensures outcome { Reads D.Disk writer.old disk.old writer.new disk.new (fault_of result) }
+    ensures kept { (pages : AllPages) → HasTree D.Disk pages writer.old disk.old
+        → IsSound result (λ frame. IsLeafFor pages key.now frame.number writer.old.pool.gets writer.new.pool) }
+    ensures at { IfOk result (IsAt writer.new.pool) }
+    ensures leaf { IfOk result (λ frame. HasLevel 0 (page_at writer.new.pool frame.number).body) }
+{
+    let mut frame = root(writer, disk)?;
+    let mut level = writer.page(frame).level();
+    while 0 < level {
+        frame = step_down(writer, disk, frame, level, key)?;
+        level -= 1;
+    }
+    Ok(frame)
+}

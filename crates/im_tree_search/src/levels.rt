@@ -1,0 +1,49 @@
+//! A page of the tree, from its number and its level.
+
+ghost use Rattle.std.specs.Prelude.{◌≡◌, ◌↔◌, ◌+◌, ℕ, IfOk, OnOk, IsTrue};
+ghost use Rattle.im_page_pool.specs.Pool.{page_at, IsAt};
+ghost use Rattle.im_page_writer.specs.PageWriter.{IsReadyWriter};
+ghost use Rattle.im_page_writer.specs.Outcome.{fault_of, AllPages, AreLoaded, HasPages, IsSound, Reads};
+ghost use Rattle.im_tree_search.specs.Levels.{HasLevel};
+
+use im_base_disk::Disk;
+use im_base_types::{Fault, PageKind, PageNo};
+use im_page::Page;
+use im_page_pool::Frame;
+use im_page_writer::PageWriter;
+
+/// Whether it is a page of the tree, of this level: a leaf at level 0, an inner page above.
+pub fn has_level(page: &Page, level: u8) -> bool
+    ensures { IsTrue result ↔ HasLevel level page.now.body }
+{
+    if page.level() != level {
+        return false;
+    }
+    if level == 0 {
+        return page.kind() == PageKind::Leaf;
+    }
+    page.kind() == PageKind::Inner
+}
+
+/// Gets a page that is of this level. Refused `NotAStore` where it is not, otherwise as `PageWriter::get` is.
+pub fn tree_page<D: Disk>(
+    writer: &mut PageWriter,
+    disk: &mut D,
+    number: PageNo,
+    level: u8,
+) -> Result<Frame, Fault>
+    requires ready { IsReadyWriter D.Disk writer.old disk.old }
+    ensures outcome { Reads D.Disk writer.old disk.old writer.new disk.new (fault_of result) }
+    ensures kept { (pages : AllPages) → HasPages D.Disk AreLoaded pages writer.old disk.old → HasLevel level (pages number).body
+        → IsSound result (λ _. page_at writer.new.pool number ≡ pages number) }
+    ensures at { IfOk result (IsAt writer.new.pool) }
+    ensures frame { IfOk result (λ frame. frame.number ≡ number) }
+    ensures page { OnOk result (HasLevel level (page_at writer.new.pool number).body) }
+    ensures gets { OnOk result (writer.new.pool.gets ≡ writer.old.pool.gets + 1) }
+{
+    let frame = writer.get(disk, number)?;
+    if !has_level(writer.page(frame), level) {
+        return Err(Fault::NotAStore);
+    }
+    Ok(frame)
+}

@@ -1,0 +1,50 @@
+//! Search: the leaf of a key, the row id of a key, the next entry, and all entries, over a writer of pages.
+//!
+//! - `leaf_for` goes from page 1 down to the leaf in whose range a key lies, by one get for each level.
+//! - `locate` answers the row id of a key.
+//! - `next_entry` answers where the first entry at or above a key stands, or the first above it: it goes down to the key's
+//!   leaf, and from there along the leaf chain past leaves that have no such entry.
+//! - `leaf_and_next` answers the leaf of a key, and the key behind it; `next_in_leaf` answers that key beside a leaf that the caller holds.
+//! - `entries` answers copies of all entries, along the leaf chain.
+//! - `entries_between` answers copies of the entries of a range, at most so many, and the key behind them.
+//! - `level_of` answers the level of a page of the tree, `child_of` the child of an inner page on a key's way, and where it
+//!   stands there; `child_in` answers it of a page that the caller has.
+//! - `tree_page` gets a page that is to be of a level, and `has_level` tests whether a page is.
+//!
+//! The contract: where the pages are a good tree, all with their copies loaded (`HasTree`), the answers are those of the
+//! walk, the entries of the leaves from left to right; the number of gets is the root's level plus one; and no search is
+//! refused `NotAStore`. A get may take another page's frame, and write that page first. So each page is as it was behind a
+//! search, the log has Images more at most (`GoesOn`), and a stop within leaves what redo can start from.
+//!
+//! On any bytes each search ends: levels are read from the pages and have to fall by one, a page of another kind than its
+//! level asks for is refused, and a chain of leaves that goes on longer than there are pages is a ring.
+//!
+//! But for `entries` and `entries_between`, no key and no page is copied. A leaf is answered as its frame, an entry as its leaf's frame and its
+//! place there: both are right as long as the leaf is held.
+//!
+//! It stands on `im_page_writer` for pages and their gets, on `im_page` for what a page has of a key, and on `im_theory_tree` for the
+//! laws of the way down and of the leaf chain. For callers `proofs/Pages` has `tree_still`: the tree is there still behind
+//! calls that change no page.
+#![tactic(auto)]
+
+mod child_place;
+mod descent;
+mod entry_place;
+mod leaf_chain;
+mod levels;
+mod listing;
+mod lookup;
+mod next_key;
+mod range;
+mod reading;
+
+pub use child_place::{Child, ChildPlace};
+pub use descent::leaf_for;
+pub use entry_place::EntryPlace;
+pub use leaf_chain::next_entry;
+pub use levels::{has_level, tree_page};
+pub use listing::entries;
+pub use lookup::locate;
+pub use next_key::{NextKey, leaf_and_next, next_in_leaf};
+pub use range::entries_between;
+pub use reading::{child_in, child_of, level_of};

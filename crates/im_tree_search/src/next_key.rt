@@ -1,0 +1,115 @@
+//! The leaf of a key, and the key behind it.
+
+ghost use Rattle.std.specs.Prelude.{◌≡◌, ◌<◌, ℕ, false, IfOk, length};
+ghost use Rattle.im_base_types.specs.Maps.{Above};
+ghost use Rattle.im_page.specs.Entry.{entry_at};
+ghost use Rattle.im_page_pool.specs.Pool.{page_at, IsAt};
+ghost use Rattle.im_page_writer.specs.PageWriter.{IsReadyWriter};
+ghost use Rattle.im_page_writer.specs.Outcome.{fault_of, AllPages, IsSound, Reads};
+ghost use Rattle.im_theory_tree.specs.Lookups.{IsAhead};
+ghost use Rattle.im_tree_search.specs.Levels.{HasLevel, bodies_of};
+ghost use Rattle.im_tree_search.specs.Found.{HasTree, IsReached, entries_of};
+ghost use Rattle.im_tree_search.specs.NextKeys.{far_name, name_above, IsFar, IsWithin, IsNextInLeaf, IsLeafAndNext};
+ghost use Rattle.im_tree_search.specs.declared.next_key.NextKey.TheVariants.{There};
+
+use crate::descent::leaf_for;
+use crate::leaf_chain::{first_along, first_past};
+use crate::levels::tree_page;
+use im_base_disk::Disk;
+use im_base_types::{Fault, Key, PageNo};
+use im_page::Page;
+use im_page_pool::Frame;
+use im_page_writer::PageWriter;
+
+/// The next key above a key: the one at a place of the key's own leaf, one from a later leaf, copied, or none.
+#[derive(Drop)]
+pub enum NextKey {
+    Here(usize),
+    There(Key),
+    End,
+}
+
+// The key of an entry, copied.
+pub(crate) fn copied(page: &Page, i: usize) -> NextKey
+    requires { i < length page.now.body.entries }
+    ensures { result ≡ There (entry_at page.now.body.entries i).0 }
+{
+    match Key::new(page.key(i)) {
+        Ok(key) => NextKey::There(key),
+        Err(_) => NextKey::End,
+    }
+}
+
+// The first key above a key along the leaf chain, from a leaf behind that of the key on, copied.
+fn name_along<D: Disk>(
+    writer: &mut PageWriter,
+    disk: &mut D,
+    from: PageNo,
+    key: &[u8],
+) -> Result<NextKey, Fault>
+    requires ready { IsReadyWriter D.Disk writer.old disk.old }
+    ensures outcome { Reads D.Disk writer.old disk.old writer.new disk.new (fault_of result) }
+    ensures kept { (pages : AllPages) → HasTree D.Disk pages writer.old disk.old → IsAhead (bodies_of pages) (Above key.now) 0 from
+        → IsSound result (λ next. far_name next ≡ name_above key.now (bodies_of pages)) }
+    ensures far { IfOk result IsFar }
+{
+    let Some(place) = first_along(writer, disk, from, key, false)? else {
+        return Ok(NextKey::End);
+    };
+    Ok(copied(writer.page(place.frame), place.at))
+}
+
+/// The next key above a key, beside the key's leaf, which is held: the leaf's own entries are looked at first, by no get; where none is
+/// above the key, the search goes along the leaf chain, and then gets the leaf again. Answered is where the leaf is held from now on.
+///
+/// Refused as `next_entry` is.
+#[tactic(auto, using(im_page_writer::proofs::Outcomes::then, im_page_writer::proofs::Outcomes::refused))]
+pub fn next_in_leaf<D: Disk>(
+    writer: &mut PageWriter,
+    disk: &mut D,
+    leaf: Frame,
+    key: &[u8],
+) -> Result<(Frame, NextKey), Fault>
+    requires ready { IsReadyWriter D.Disk writer.old disk.old }
+    requires working { writer.old.failed ≡ false }
+    requires at { IsAt writer.old.pool leaf }
+    requires page { HasLevel 0 (page_at writer.old.pool leaf.number).body }
+    ensures outcome { Reads D.Disk writer.old disk.old writer.new disk.new (fault_of result) }
+    ensures kept { (pages : AllPages) → HasTree D.Disk pages writer.old disk.old → IsReached pages key.now 0 leaf.number writer.old.pool
+        → IsSound result (λ x. IsNextInLeaf pages key.now x.0.number x.1 writer.old.pool.gets writer.new.pool) }
+    ensures at { IfOk result (λ x. IsAt writer.new.pool x.0) }
+    ensures number { IfOk result (λ x. x.0.number ≡ leaf.number) }
+    ensures leaf { IfOk result (λ x. HasLevel 0 (page_at writer.new.pool x.0.number).body) }
+    ensures within { IfOk result (λ x. IsWithin (entries_of writer.new.pool x.0.number) x.1) }
+{
+    let page = writer.page(leaf);
+    if let Some(at) = first_past(page, key, false) {
+        return Ok((leaf, NextKey::Here(at)));
+    }
+    let next = page.next();
+    let name = name_along(writer, disk, next, key)?;
+    let frame = tree_page(writer, disk, leaf.number, 0)?;
+    Ok((frame, name))
+}
+
+/// Where the leaf of a key is held from now on, and the next key above it. The leaf's own entries are looked at first, by one get for
+/// each level; where none is above the key, the search goes along the leaf chain, and then gets the leaf again, so that it is held.
+///
+/// Refused as `next_entry` is.
+#[tactic(auto, using(im_page_writer::proofs::Outcomes::then, im_page_writer::proofs::Outcomes::refused))]
+pub fn leaf_and_next<D: Disk>(
+    writer: &mut PageWriter,
+    disk: &mut D,
+    key: &[u8],
+) -> Result<(Frame, NextKey), Fault>
+    requires ready { IsReadyWriter D.Disk writer.old disk.old }
+    ensures outcome { Reads D.Disk writer.old disk.old writer.new disk.new (fault_of result) }
+    ensures kept { (pages : AllPages) → HasTree D.Disk pages writer.old disk.old
+        → IsSound result (λ x. IsLeafAndNext pages key.now x.0.number x.1 writer.old.pool.gets writer.new.pool) }
+    ensures at { IfOk result (λ x. IsAt writer.new.pool x.0) }
+    ensures leaf { IfOk result (λ x. HasLevel 0 (page_at writer.new.pool x.0.number).body) }
+    ensures within { IfOk result (λ x. IsWithin (entries_of writer.new.pool x.0.number) x.1) }
+{
+    let leaf = leaf_for(writer, disk, key)?;
+    next_in_leaf(writer, disk, leaf, key)
+}
