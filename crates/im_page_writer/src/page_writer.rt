@@ -41,6 +41,37 @@ pub struct PageWriter {
     ghost listed: { 1024 ≤ vec_capacity rows },
 }
 
+// The dirty table, with no entry.
+fn table_room(alloc: Global) -> Result<DirtyTable, Fault>
+    ensures empty { IfOk result (λ table. table ≡ []) }
+    ensures refused { IfErr result (λ e. e ≡ Memory) }
+{
+    DirtyTable::new(alloc).map_err(|_| Fault::Memory)
+}
+
+// Room for an LSN of each page of a flush.
+fn lsn_room(alloc: Global) -> Result<Vec<Lsn>, Fault>
+    ensures room { IfOk result (λ lsns. 1024 ≤ vec_capacity lsns) }
+    ensures refused { IfErr result (λ e. e ≡ Memory) }
+{
+    Vec::with_capacity(alloc, 1_024).map_err(|_| Fault::Memory)
+}
+
+// Room for the rows of the dirty table.
+fn row_room(alloc: Global) -> Result<Vec<DirtyPage>, Fault>
+    ensures room { IfOk result (λ rows. 1024 ≤ vec_capacity rows) }
+    ensures refused { IfErr result (λ e. e ≡ Memory) }
+{
+    Vec::with_capacity(alloc, MOST).map_err(|_| Fault::Memory)
+}
+
+// A page as it is before anything was put.
+fn spare_page(alloc: Global) -> Result<Box<Page>, Fault>
+    ensures refused { IfErr result (λ e. e ≡ Memory) }
+{
+    Box::new(alloc, Page::initial(0)).map_err(|_| Fault::Memory)
+}
+
 impl PageWriter {
     ghost use Rattle.im_page.specs.PageFile.{file_page, page_count};
     ghost use Rattle.im_page_pool.specs.Pool.{held_of, is_changed, page_at, Evicts, Holds, IsAt, MovesFirst};
@@ -262,10 +293,10 @@ impl PageWriter {
         ensures refused { IfErr result (λ e. e ≡ Memory) }
     {
         let pool = Pool::new(alloc, frames)?;
-        let table = DirtyTable::new(alloc).map_err(|_| Fault::Memory)?;
-        let lsns = Vec::with_capacity(alloc, 1_024).map_err(|_| Fault::Memory)?;
-        let rows = Vec::with_capacity(alloc, MOST).map_err(|_| Fault::Memory)?;
-        let spare = Box::new(alloc, Page::initial(0)).map_err(|_| Fault::Memory)?;
+        let table = table_room(alloc)?;
+        let lsns = lsn_room(alloc)?;
+        let rows = row_room(alloc)?;
+        let spare = spare_page(alloc)?;
         Ok(PageWriter {
             log,
             pool,
