@@ -1,3 +1,4 @@
+pub mod Costs
 pub mod Moments
 pub mod Patch
 pub mod Fills

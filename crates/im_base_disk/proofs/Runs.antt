@@ -37,7 +37,7 @@ module _ {D : Type 0} (d : Ghosts D) where
   }
 
   pub reads_none : (old : D) → Reads d old old
-  reads_none old = record { seen = refl; outcomes = λ c left. left; no_fewer = λ c left. left; later = omega arith; since = λ t c le left. left; keeps = λ t c le left. left }
+  reads_none old = record { seen = refl; outcomes = λ c left. left; no_fewer = λ c left. left; later = omega arith; since = λ t c le left. left; keeps = λ t c le left. left; writes = refl; syncs = refl }
 
   pub reads_then : (old mid new : D) → Reads d old mid → Reads d mid new → Reads d old new
   reads_then old mid new first second = record {
@@ -47,6 +47,8 @@ module _ {D : Type 0} (d : Ghosts D) where
     later = omega (arith, first.later, second.later);
     since = λ t c le left. first.since t c le (second.since t c (omega (arith, le, first.later)) left);
     keeps = λ t c le left. second.keeps t c (omega (arith, le, first.later)) (first.keeps t c le left);
+    writes = second.writes ∙ first.writes;
+    syncs = second.syncs ∙ first.syncs;
   }
 
   -- reads after a run, and reads alone

@@ -48,14 +48,21 @@ pub record Elapses (before now : ℕ) (past since : ℕ → Files → Type 0) (m
   pub nothing_else : (t : ℕ) (c : Files) → t ≤ before → since t c → past t c ⊎ may_leave c
   pub keeps : (t : ℕ) (c : Files) → t ≤ before → past t c → since t c
 
--- A call that only reads: a stop may leave the same as before, and might have left the same.
-pub record OnlyReads {D : Type 0} (seen_in : D → Files) (may_leave : D → Files → Type 0) (moment : D → ℕ) (left_since : D → ℕ → Files → Type 0) (old new : D) : Type 0 where
+-- So many writes and so many syncs were called for: each counts whether it succeeds or fails.
+pub record Calls {D : Type 0} (writes_of syncs_of : D → ℕ) (w s : ℕ) (old new : D) : Type 0 where
+  pub writes : writes_of new ≡ writes_of old + w
+  pub syncs : syncs_of new ≡ syncs_of old + s
+
+-- A call that only reads: a stop may leave the same as before, and might have left the same; no write and no sync is called for.
+pub record OnlyReads {D : Type 0} (seen_in : D → Files) (may_leave : D → Files → Type 0) (moment : D → ℕ) (left_since : D → ℕ → Files → Type 0) (writes_of syncs_of : D → ℕ) (old new : D) : Type 0 where
   pub seen : seen_in new ≡ seen_in old
   pub outcomes : (c : Files) → may_leave new c → may_leave old c
   pub no_fewer : (c : Files) → may_leave old c → may_leave new c
   pub later : moment old ≤ moment new
   pub since : (t : ℕ) (c : Files) → t ≤ moment old → left_since new t c → left_since old t c
   pub keeps : (t : ℕ) (c : Files) → t ≤ moment old → left_since old t c → left_since new t c
+  pub writes : writes_of new ≡ writes_of old
+  pub syncs : syncs_of new ≡ syncs_of old
 
 -- the one refusal is `Device`, and the disk notes it
 pub record Answers {T : Type 0} (failed : Bool) (result : Result T Fault) : Type 0 where

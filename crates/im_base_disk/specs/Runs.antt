@@ -1,8 +1,8 @@
 -- What a run of calls, of whatever layer, leaves of the files.
-use Rattle.std.specs.Prelude.{◌≡◌, ◌≢◌, ◌⊎◌, ℕ, ◌≤◌, List}
+use Rattle.std.specs.Prelude.{◌≡◌, ◌≢◌, ◌⊎◌, ℕ, ◌+◌, ◌*◌, ◌≤◌, List}
 use Rattle.im_base_types.specs.declared.file_id.FileId.{FileId}
 use Rattle.im_base_disk.specs.declared.disk.Disk.{Ghosts}
-use Rattle.im_base_disk.specs.Disk.{Files, Only, InFile, Stepped, OnlyReads}
+use Rattle.im_base_disk.specs.Disk.{Files, Only, InFile, Stepped, OnlyReads, Calls}
 
 -- All of each file is on the disk.
 abbrev pub IsSynced : {D : Type 0} → Ghosts D → D → Type 0
@@ -31,4 +31,19 @@ pub record Spares {D : Type 0} (d : Ghosts D) (file : FileId) (old new : D) : Ty
 
 -- A run that only reads.
 abbrev pub Reads : {D : Type 0} → Ghosts D → D → D → Type 0
-Reads d old new = OnlyReads d.seen d.may_leave d.moment d.left_since old new
+Reads d old new = OnlyReads d.seen d.may_leave d.moment d.left_since d.writes d.syncs old new
+
+-- A run makes exactly so many writes and so many syncs.
+abbrev pub Costs : {D : Type 0} → Ghosts D → ℕ → ℕ → D → D → Type 0
+Costs d w s old new = Calls d.writes d.syncs w s old new
+
+-- A run makes at most so many writes and so many syncs.
+pub record CostsAtMost {D : Type 0} (d : Ghosts D) (w s : ℕ) (old new : D) : Type 0 where
+  pub writes : d.writes new ≤ d.writes old + w
+  pub syncs : d.syncs new ≤ d.syncs old + s
+
+-- A run makes at most so many forces of a log, of two writes and two syncs each, and no other write or sync.
+pub record Forces {D : Type 0} (d : Ghosts D) (n : ℕ) (old new : D) : Type 0 where
+  pub times : ℕ
+  pub few : times ≤ n
+  pub costs : Costs d (2 * times) (2 * times) old new

@@ -1,6 +1,6 @@
 ghost use Rattle.std.specs.Prelude.{◌≡◌, ◌≢◌, ◌+◌, ◌≤◌, List, ℕ, Bool, false, length, take, drop, IfOk, OnOk};
 ghost use Rattle.im_base_types.specs.declared.file_id.FileId.{FileId};
-ghost use Rattle.im_base_disk.specs.Disk.{Files, Only, Follows, InFile, Holds, Torn, Elapses, OnlyReads, Answers};
+ghost use Rattle.im_base_disk.specs.Disk.{Files, Only, Follows, InFile, Holds, Torn, Elapses, OnlyReads, Answers, Calls};
 
 use im_base_types::{Fault, FileId};
 
@@ -26,11 +26,17 @@ pub trait Disk {
     /// Its last call failed.
     ghost failed: { Self → Bool };
 
+    /// How often it was called to write, in all: a call counts whether it succeeds or fails.
+    ghost writes: { Self → ℕ };
+
+    /// How often it was called to sync, in all.
+    ghost syncs: { Self → ℕ };
+
     /// The length of a file in bytes.
     fn len(&mut self, file: FileId) -> Result<u64, Fault>
         requires { failed self.old ≡ false }
         ensures len { IfOk result (λ n. tells → n ≡ length (seen self.old file)) }
-        ensures reads { OnlyReads seen may_leave moment left_since self.old self.new }
+        ensures reads { OnlyReads seen may_leave moment left_since writes syncs self.old self.new }
         ensures answers { Answers (failed self.new) result };
 
     /// Reads the bytes from the place on until the buffer is full. The caller keeps within the length.
@@ -38,7 +44,7 @@ pub trait Disk {
         requires working { failed self.old ≡ false }
         requires within { tells → at + length buf.old ≤ length (seen self.old file) }
         ensures read { OnOk result (tells → buf.new ≡ take (length buf.old) (drop at (seen self.old file))) }
-        ensures reads { OnlyReads seen may_leave moment left_since self.old self.new }
+        ensures reads { OnlyReads seen may_leave moment left_since writes syncs self.old self.new }
         ensures answers { Answers (failed self.new) result };
 
     /// Writes over what is there and past the end, from a place that is at most the length. Until a sync of that
@@ -50,6 +56,7 @@ pub trait Disk {
         ensures others { (other : FileId) → other ≢ file → seen self.new other ≡ seen self.old other }
         ensures crash { Follows (InFile file (Torn at (length bytes.now))) (may_leave self.old) (may_leave self.new) }
         ensures time { Elapses (moment self.old) (moment self.new) (left_since self.old) (left_since self.new) (may_leave self.new) }
+        ensures costs { Calls writes syncs 1 0 self.old self.new }
         ensures answers { Answers (failed self.new) result };
 
     /// Brings a file to the disk: after it a stop leaves of that file what a read gives.
@@ -59,6 +66,7 @@ pub trait Disk {
         ensures seen { seen self.new ≡ seen self.old }
         ensures crash { (c : Files) → may_leave self.new c → may_leave self.old c }
         ensures time { Elapses (moment self.old) (moment self.new) (left_since self.old) (left_since self.new) (may_leave self.new) }
+        ensures costs { Calls writes syncs 0 1 self.old self.new }
         ensures answers { Answers (failed self.new) result };
 
     /// This moment is one of those since an earlier one.

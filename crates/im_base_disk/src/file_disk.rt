@@ -3,7 +3,7 @@ ghost use Rattle.std.specs.Prelude.{◌≡◌, ◌↔◌, [], true, false, IfOk}
 ghost use Rattle.im_base_disk.specs.RealFiles.{IsApart, HasOwnDescriptors, MayBeLog};
 
 use crate::folders::{make_folders, sync_folders};
-use crate::{Disk, OpenError};
+use crate::{Count, Disk, OpenError};
 use im_base_types::{Fault, FileId};
 use std::fs::{self, File, OpenOptions, TryLockError};
 use std::io;
@@ -25,6 +25,8 @@ pub struct FileDisk {
     log: File,
     pages: File,
     has_failed: bool,
+    writes: Count,
+    syncs: Count,
 }
 
 impl FileDisk {
@@ -61,6 +63,8 @@ impl FileDisk {
             log,
             pages,
             has_failed: false,
+            writes: Count::new(),
+            syncs: Count::new(),
         })
     }
 
@@ -87,6 +91,8 @@ impl FileDisk {
             log,
             pages,
             has_failed: false,
+            writes: Count::new(),
+            syncs: Count::new(),
         })
     }
 
@@ -193,6 +199,10 @@ impl Disk for FileDisk {
 
     ghost failed = { λ d. d.has_failed };
 
+    ghost writes = { λ d. d.writes.count };
+
+    ghost syncs = { λ d. d.syncs.count };
+
     ghost counts_now = { λ _ _ _ _ none. none };
 
     ghost only_now = { λ _ _ none. none };
@@ -212,12 +222,14 @@ impl Disk for FileDisk {
     }
 
     fn write_at(&mut self, file: FileId, at: u64, bytes: &[u8]) -> Result<(), Fault> {
+        self.writes = self.writes.with_one_more();
         let outcome = self.file(file).write_all_at(bytes, at);
         self.has_failed = outcome.is_err();
         outcome.map_err(|_| Fault::Device)
     }
 
     fn sync(&mut self, file: FileId) -> Result<(), Fault> {
+        self.syncs = self.syncs.with_one_more();
         let outcome = self.file(file).sync_data();
         self.has_failed = outcome.is_err();
         outcome.map_err(|_| Fault::Device)

@@ -9,7 +9,7 @@ ghost use Rattle.im_base_disk.specs.Past.{MayLeave, HadBeen, none_since, reads_m
 use crate::either::{sync_either, write_either};
 use crate::left::left;
 use crate::plan::Plan;
-use crate::{Disk, Fill, History, Length, ModelFile, Stop};
+use crate::{Count, Disk, Fill, History, Length, ModelFile, Stop};
 use im_base_types::{Fault, FileId};
 use std::alloc::Global;
 
@@ -23,6 +23,8 @@ pub struct ModelDisk {
     past: History,
     plan: Plan,
     has_failed: bool,
+    writes: Count,
+    syncs: Count,
     ghost calls_left: { has_failed ≡ false → plan.calls ≤ 2 ^ 62 },
     ghost reads_left: { has_failed ≡ false → plan.reads ≤ 2 ^ 62 },
 }
@@ -46,6 +48,8 @@ impl ModelDisk {
             past: History::new(),
             plan: Plan::new(),
             has_failed: false,
+            writes: Count::new(),
+            syncs: Count::new(),
         }
     }
 
@@ -148,7 +152,7 @@ impl Disk for ModelDisk {
     ghost use Rattle.im_base_disk.specs.Model.{CountsCall, CountsRead, file_of, armed_of, model_calls, model_reads};
     ghost use Rattle.im_base_disk.specs.Plan.{call_fails_at, read_fails_at};
     ghost use Rattle.im_base_disk.specs.Written.{WriteEnds, IsSyncedFrom};
-    ghost use Rattle.im_base_disk.specs.Runs.{Reads};
+    ghost use Rattle.im_base_disk.specs.Runs.{Costs, Reads};
 
     ghost tells = { Unit {0} };
 
@@ -161,6 +165,10 @@ impl Disk for ModelDisk {
     ghost left_since = { λ d t c. MayLeave d.log d.pages c ⊎ HadBeen (drop t d.past.moments) c };
 
     ghost failed = { λ d. d.has_failed };
+
+    ghost writes = { λ d. d.writes.count };
+
+    ghost syncs = { λ d. d.syncs.count };
 
     ghost counts_now = { λ d t c le now. inl now };
 
@@ -212,11 +220,13 @@ impl Disk for ModelDisk {
         ensures crash { Follows (InFile file (Torn at (length bytes.now))) (⟦<ModelDisk as Disk>⟧.may_leave self.old) (⟦<ModelDisk as Disk>⟧.may_leave self.new) }
         ensures time { Elapses (⟦<ModelDisk as Disk>⟧.moment self.old) (⟦<ModelDisk as Disk>⟧.moment self.new) (⟦<ModelDisk as Disk>⟧.left_since self.old) (⟦<ModelDisk as Disk>⟧.left_since self.new) (⟦<ModelDisk as Disk>⟧.may_leave self.new) }
         ensures answers { Answers (⟦<ModelDisk as Disk>⟧.failed self.new) result }
+        ensures costs { Costs ⟦<ModelDisk as Disk>⟧ 1 0 self.old self.new }
         ensures ends { WriteEnds (call_fails_at (armed_of self.old) (model_calls self.new)) (⟦<ModelDisk as Disk>⟧.failed self.new) at bytes.now (file_of self.old file) (file_of self.new file) }
         ensures spares { (other : FileId) → other ≢ file → file_of self.new other ≡ file_of self.old other }
         ensures counts { CountsCall self.old self.new }
     {
         self.past = self.past.with(&self.log, &self.pages);
+        self.writes = self.writes.with_one_more();
         let outcome = write_either(&mut self.log, &mut self.pages, file, at as usize, bytes);
         let fails = self.plan.call_fails();
         self.has_failed = fails || outcome.is_err();
@@ -235,12 +245,14 @@ impl Disk for ModelDisk {
         ensures time { Elapses (⟦<ModelDisk as Disk>⟧.moment self.old) (⟦<ModelDisk as Disk>⟧.moment self.new) (⟦<ModelDisk as Disk>⟧.left_since self.old) (⟦<ModelDisk as Disk>⟧.left_since self.new) (⟦<ModelDisk as Disk>⟧.may_leave self.new) }
         ensures answers { Answers (⟦<ModelDisk as Disk>⟧.failed self.new) result }
         ensures fails { ⟦<ModelDisk as Disk>⟧.failed self.new ≡ call_fails_at (armed_of self.old) (model_calls self.new) }
+        ensures costs { Costs ⟦<ModelDisk as Disk>⟧ 0 1 self.old self.new }
         ensures synced { OnOk result (IsSyncedFrom (file_of self.old file) (file_of self.new file)) }
         ensures unsynced { OnErr result (file_of self.new file ≡ file_of self.old file) }
         ensures spares { (other : FileId) → other ≢ file → file_of self.new other ≡ file_of self.old other }
         ensures counts { CountsCall self.old self.new }
     {
         self.past = self.past.with(&self.log, &self.pages);
+        self.syncs = self.syncs.with_one_more();
         self.has_failed = self.plan.call_fails();
         if self.has_failed {
             return Err(Fault::Device);

@@ -1,7 +1,7 @@
 //! The steps of which the protocols above are made. No other function of the store calls a disk to write.
 ghost use Rattle.std.specs.Prelude.{◌≡◌, ◌+◌, ◌^◌, ◌≤◌, ◌<◌, ◌⊎◌, ◌↔◌, true, false, length, take, drop, IfOk, IfErr, OnOk};
 ghost use Rattle.im_base_disk.specs.Disk.{Files, Only, Stepped, Follows, InFile, Holds, Torn, Answers};
-ghost use Rattle.im_base_disk.specs.Runs.{LeavesOnly, ChangesOnly, Reads};
+ghost use Rattle.im_base_disk.specs.Runs.{LeavesOnly, ChangesOnly, Reads, Costs, CostsAtMost};
 ghost use Rattle.im_base_types.specs.declared.fault.Fault.TheVariants.{Device, Memory};
 
 use crate::Disk;
@@ -17,6 +17,8 @@ pub fn write_synced<D: Disk>(disk: &mut D, file: FileId, at: u64, bytes: &[u8]) 
     ensures crash { Follows (InFile file (Torn at (length bytes.now))) (D.may_leave disk.old) (D.may_leave disk.new) }
     ensures changes { ChangesOnly D.Disk file disk.old disk.new }
     ensures any_moment { LeavesOnly D.Disk disk.old disk.new (Stepped (InFile file (Torn at (length bytes.now))) (D.may_leave disk.old)) }
+    ensures costs { OnOk result (Costs D.Disk 1 1 disk.old disk.new) }
+    ensures few { CostsAtMost D.Disk 1 1 disk.old disk.new }
     ensures answers { Answers (D.failed disk.new) result }
 {
     disk.write_at(file, at, bytes)?;
@@ -32,6 +34,7 @@ pub fn write<D: Disk>(disk: &mut D, file: FileId, at: u64, bytes: &[u8]) -> Resu
     ensures crash { Follows (InFile file (Torn at (length bytes.now))) (D.may_leave disk.old) (D.may_leave disk.new) }
     ensures changes { ChangesOnly D.Disk file disk.old disk.new }
     ensures any_moment { LeavesOnly D.Disk disk.old disk.new (Stepped (InFile file (Torn at (length bytes.now))) (D.may_leave disk.old)) }
+    ensures costs { Costs D.Disk 1 0 disk.old disk.new }
     ensures answers { Answers (D.failed disk.new) result }
 {
     disk.write_at(file, at, bytes)
@@ -44,6 +47,7 @@ pub fn sync<D: Disk>(disk: &mut D, file: FileId) -> Result<(), Fault>
     ensures seen { D.seen disk.new ≡ D.seen disk.old }
     ensures outcomes { (c : Files) → D.may_leave disk.new c → D.may_leave disk.old c }
     ensures any_moment { LeavesOnly D.Disk disk.old disk.new (D.may_leave disk.old) }
+    ensures costs { Costs D.Disk 0 1 disk.old disk.new }
     ensures answers { Answers (D.failed disk.new) result }
 {
     disk.sync(file)

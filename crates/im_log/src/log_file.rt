@@ -37,7 +37,7 @@ pub struct LogFile {
 }
 
 impl LogFile {
-    ghost use Rattle.im_base_disk.specs.Runs.{LeavesIn, ChangesOnly, Reads};
+    ghost use Rattle.im_base_disk.specs.Runs.{LeavesIn, ChangesOnly, Reads, Costs, CostsAtMost, Forces};
     ghost use Rattle.im_base_types.specs.declared.fault.Fault.TheVariants.{Device, Failed, LogFull, Memory, NotAStore};
     ghost use Rattle.im_base_types.specs.declared.file_id.FileId.TheVariants.{Log};
     ghost use Rattle.im_base_types.specs.Records.{Logged};
@@ -114,7 +114,7 @@ impl LogFile {
         lsn
     }
 
-    /// Makes the buffered records durable, by four device calls; none where nothing is buffered.
+    /// Makes the buffered records durable, by two writes and two syncs; none where nothing is buffered.
     ///
     /// Refused `Device`. After a refusal every later call answers `Failed`.
     pub fn force<D: Disk>(&mut self, disk: &mut D) -> Result<(), Fault>
@@ -123,6 +123,8 @@ impl LogFile {
         ensures kept { (base : ℕ) (all durable : List Logged) → IsLog D.Disk base all durable self.old disk.old
             → ForceKept D.Disk base all durable disk.old self.new disk.new result }
         ensures changes { ChangesOnly D.Disk Log disk.old disk.new }
+        ensures costs { OnOk result (1 ≤ self.old.used → Costs D.Disk 2 2 disk.old disk.new) }
+        ensures few { CostsAtMost D.Disk 2 2 disk.old disk.new }
         ensures none { self.old.used ≡ 0 → disk.new ≡ disk.old }
         ensures same { self.old.failed ≡ false → self.old.used ≡ 0 → (result ≡ Ok tt) × (self.new ≡ self.old) }
         ensures base { self.new.base ≡ self.old.base }
@@ -147,7 +149,7 @@ impl LogFile {
     }
 
     /// Adds a record, and answers its LSN, which is above all before. It takes no memory; where the record does not fit into
-    /// the buffer, that is forced first.
+    /// the buffer, that is forced first, once.
     ///
     /// Refused `LogFull`, before any device call, where the record would end above LSN 2^62; `Device`. After a refusal every
     /// later call answers `Failed`.
@@ -159,6 +161,8 @@ impl LogFile {
             → AppendKept D.Disk base all durable (view record.now) disk.old self.new disk.new result }
         ensures changes { ChangesOnly D.Disk Log disk.old disk.new }
         ensures fits { self.old.used + size_of (view record.now) ≤ 16384 → disk.new ≡ disk.old }
+        ensures forces { OnOk result (Forces D.Disk 1 disk.old disk.new) }
+        ensures few { CostsAtMost D.Disk 2 2 disk.old disk.new }
         ensures used { IfOk result (λ lsn. self.old.used + size_of (view record.now) ≤ 16384 → self.new.used ≡ self.old.used + size_of (view record.now)) }
         ensures base { self.new.base ≡ self.old.base }
         ensures failed { self.new.failed ≡ not (is_ok result) }

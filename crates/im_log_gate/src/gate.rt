@@ -49,7 +49,7 @@ fn make_room(alloc: Global) -> Result<Vec<u8>, Fault>
 }
 
 impl Gate {
-    ghost use Rattle.im_base_disk.specs.Runs.{LeavesIn, ChangesOnly, Reads};
+    ghost use Rattle.im_base_disk.specs.Runs.{LeavesIn, ChangesOnly, Reads, Costs, CostsAtMost};
     ghost use Rattle.im_base_disk.specs.Disk.{Only};
     ghost use Rattle.im_base_types.specs.declared.file_id.FileId.TheVariants.{Pages};
     ghost use Rattle.im_base_types.specs.declared.fault.Fault.TheVariants.{Device, Failed, LogFull, Memory, NotAStore};
@@ -255,7 +255,7 @@ impl Gate {
         Ok(Some(size as usize))
     }
 
-    /// Puts a batch of 1 to 16,384 bytes behind the closed gate and opens it, by four device calls. It takes no memory.
+    /// Puts a batch of 1 to 16,384 bytes behind the closed gate and opens it, by two writes and two syncs. It takes no memory.
     ///
     /// Refused `LogFull`, with no device call made, where the records would end past place 2^62; `Device`. After a refusal every
     /// later call answers `Failed` until the file is opened again.
@@ -271,6 +271,8 @@ impl Gate {
             → LeavesIn D.Disk (file_of self.old) disk.old disk.new (λ c. take (first_of self.old) c ≡ take (first_of self.old) (D.seen disk.old (file_of self.old))) }
         ensures untouched { result ≡ Err Failed → disk.new ≡ disk.old }
         ensures changes { ChangesOnly D.Disk (file_of self.old) disk.old disk.new }
+        ensures costs { OnOk result (Costs D.Disk 2 2 disk.old disk.new) }
+        ensures few { CostsAtMost D.Disk 2 2 disk.old disk.new }
         ensures place { OnOk result (place_of self.new ≡ place_of self.old + (length records.now + 5)) }
         ensures failed { has_failed self.new ≡ not (is_ok result) }
         ensures causes { IfErr result (λ e. (e ≡ Failed) ⊎ (e ≡ LogFull) ⊎ (e ≡ Device)) }

@@ -2,7 +2,7 @@
 
 ghost use Rattle.std.specs.Prelude.{◌≡◌, ◌≢◌, ℕ, ◌+◌, ◌*◌, ◌^◌, ◌<◌, ◌≤◌, ◌++◌, false, length, take, slice_index, OnOk};
 ghost use Rattle.im_base_disk.specs.Disk.{Only, Answers};
-ghost use Rattle.im_base_disk.specs.Runs.{LeavesIn, ChangesOnly};
+ghost use Rattle.im_base_disk.specs.Runs.{LeavesIn, ChangesOnly, Costs, CostsAtMost};
 ghost use Rattle.im_log_gate.specs.Batches.{batches, spelled, with_batch, IsBeforeOrWith, Reaches};
 
 use byteorder::{BigEndian, ByteOrder};
@@ -48,6 +48,8 @@ pub(crate) fn put_behind<D: Disk>(
         → LeavesIn D.Disk file disk.old disk.new (IsBeforeOrWith first records.now (batches first (D.seen disk.old file))) }
     ensures front { (n : ℕ) → (D.tells → n ≤ place) → LeavesIn D.Disk file disk.old disk.new (λ c. take n c ≡ take n (D.seen disk.old file)) }
     ensures changes { ChangesOnly D.Disk file disk.old disk.new }
+    ensures costs { OnOk result (Costs D.Disk 2 2 disk.old disk.new) }
+    ensures few { CostsAtMost D.Disk 2 2 disk.old disk.new }
     ensures answers { Answers (D.failed disk.new) result }
 {
     spell(room, records);

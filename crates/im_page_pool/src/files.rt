@@ -4,7 +4,7 @@ ghost use Rattle.std.specs.Prelude.{◌≡◌, ◌↔◌, ◌⊎◌, ◌≤◌, 
 ghost use Rattle.im_base_types.specs.declared.fault.Fault.TheVariants.{Device, NotAStore};
 ghost use Rattle.im_base_types.specs.declared.file_id.FileId.TheVariants.{Pages};
 ghost use Rattle.im_base_disk.specs.Disk.{Stepped, Follows, InFile, Answers};
-ghost use Rattle.im_base_disk.specs.Runs.{LeavesOnly, ChangesOnly, Reads};
+ghost use Rattle.im_base_disk.specs.Runs.{LeavesOnly, ChangesOnly, Reads, Costs};
 ghost use Rattle.im_page.specs.PageFile.{page_count, file_page};
 ghost use Rattle.im_page_pool.specs.Writes.{WritesPage, TearsPage};
 
@@ -47,6 +47,7 @@ pub fn write_page<D: Disk>(disk: &mut D, p: PageNo, page: &Page) -> Result<(), F
     ensures crash { Follows (InFile Pages (TearsPage p)) (D.may_leave disk.old) (D.may_leave disk.new) }
     ensures changes { ChangesOnly D.Disk Pages disk.old disk.new }
     ensures any_moment { LeavesOnly D.Disk disk.old disk.new (Stepped (InFile Pages (TearsPage p)) (D.may_leave disk.old)) }
+    ensures costs { Costs D.Disk 1 0 disk.old disk.new }
     ensures answers { Answers (D.failed disk.new) result }
 {
     write(disk, FileId::Pages, p as u64 * 4096, page.bytes())

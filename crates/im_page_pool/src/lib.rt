@@ -34,7 +34,7 @@
 //!
 //! # What is counted
 //!
-//! Each call of `get` adds one to the pool's `gets`, whether it succeeds or not. That number has no bytes (`Gets`): it
+//! Each call of `get` adds one to the pool's `gets`, whether it succeeds or not. That number has no bytes (`Count` of `im_base_disk`): it
 //! stands in contracts alone.
 //!
 //! The crate stands on `im_page`, on `im_base_disk` and on `lru`. A place is an index of the vector of frames; the invariant
@@ -45,12 +45,10 @@
 mod files;
 mod frame;
 mod frames;
-mod gets;
 mod numbers;
 mod places;
 mod pool;
 
 pub use files::write_page;
 pub use frame::Frame;
-pub use gets::Gets;
 pub use pool::Pool;

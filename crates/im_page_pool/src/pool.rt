@@ -7,7 +7,7 @@ ghost use Rattle.im_base_types.specs.declared.fault.Fault.TheVariants.{Device, M
 ghost use Rattle.im_base_types.specs.declared.file_id.FileId.TheVariants.{Pages};
 ghost use Rattle.im_base_types.specs.declared.page_kind.PageKind.TheVariants.{Free, Leaf, Inner};
 ghost use Rattle.im_base_disk.specs.Disk.{Stepped, Follows, InFile, Answers};
-ghost use Rattle.im_base_disk.specs.Runs.{LeavesOnly, ChangesOnly, Reads};
+ghost use Rattle.im_base_disk.specs.Runs.{LeavesOnly, ChangesOnly, Reads, Costs};
 ghost use Rattle.im_page.specs.Entry.{Parts, taken, size};
 ghost use Rattle.im_page.specs.Page.{HoldsEntries, is_leaf_kind, page_of, with_entries};
 ghost use Rattle.im_page.specs.Header.{initial, empty_body, HasPrev, HasNext, HasLeftmost};
@@ -19,9 +19,8 @@ ghost use Rattle.im_page_pool.specs.Inside.{last_marked};
 use crate::files::write_page;
 use crate::frame::Frame;
 use crate::frames::Frames;
-use crate::gets::Gets;
 use crate::places::Places;
-use im_base_disk::Disk;
+use im_base_disk::{Count, Disk};
 use im_base_types::{Fault, PageNo};
 use im_page::{Full, Page};
 use std::alloc::Global;
@@ -34,7 +33,7 @@ pub struct Pool {
     frames: Frames,
     /// What a read of the file fills: 4,096 bytes.
     room: Vec<u8>,
-    gets: Gets,
+    gets: Count,
 }
 
 impl Model for Pool {
@@ -64,7 +63,7 @@ impl Pool {
             places,
             frames: slots,
             room,
-            gets: Gets::new(),
+            gets: Count::new(),
         })
     }
 
@@ -301,6 +300,7 @@ impl Pool {
         ensures crash { Follows (InFile Pages (TearsPage frame.number)) (D.may_leave disk.old) (D.may_leave disk.new) }
         ensures changes { ChangesOnly D.Disk Pages disk.old disk.new }
         ensures any_moment { LeavesOnly D.Disk disk.old disk.new (Stepped (InFile Pages (TearsPage frame.number)) (D.may_leave disk.old)) }
+        ensures costs { Costs D.Disk 1 0 disk.old disk.new }
         ensures answers { Answers (D.failed disk.new) result }
     {
         write_page(disk, frame.number, self.frames.page(frame.place))?;

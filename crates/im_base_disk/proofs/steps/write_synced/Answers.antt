@@ -1,6 +1,7 @@
-use Rattle.std.proofs.Common.{length}
+use Rattle.std.proofs.Common.{length, arith}
 use Rattle.im_base_disk.specs.Disk.{InFile, Torn, Stepped}
 use Rattle.im_base_disk.proofs.Runs.{written, goes_on, nothing_torn}
+use Rattle.im_base_disk.proofs.Costs.{costs_then, most_of}
 use Rattle.im_base_disk.proofs.steps.write_synced.Goals as goal
 
 pub returns-in_err-write_at-clause-any_moment : goal.returns-in_err-write_at-clause-any_moment
@@ -23,3 +24,15 @@ returns-clause-any_moment g c =
     (g.met.D.Disk.only_now c.args.disk.now) c.write_at.ensures.crash c.write_at.ensures.time in
     goes_on g.D.Disk c.args.disk.now c.write_at.new.self c.sync.new.self (Stepped step (g.D.Disk.may_leave c.args.disk.now)) _ first c.sync.ensures.time
     (λ told f now. c.write_at.ensures.crash f (c.sync.ensures.crash f now))
+
+pub returns-clause-costs : goal.returns-clause-costs
+returns-clause-costs g c = costs_then g.D.Disk 1 0 0 1 c.args.disk.now c.write_at.new.self c.sync.new.self c.write_at.ensures.costs c.sync.ensures.costs
+
+pub returns-clause-few : goal.returns-clause-few
+returns-clause-few g c = most_of g.D.Disk 1 1 1 1 c.args.disk.now c.sync.new.self (omega arith) (omega arith) (costs_then g.D.Disk 1 0 0 1 c.args.disk.now c.write_at.new.self c.sync.new.self c.write_at.ensures.costs c.sync.ensures.costs)
+
+pub returns-in_err-sync-clause-few : goal.returns-in_err-sync-clause-few
+returns-in_err-sync-clause-few g c = most_of g.D.Disk 1 1 1 1 c.args.disk.now c.sync.new.self (omega arith) (omega arith) (costs_then g.D.Disk 1 0 0 1 c.args.disk.now c.write_at.new.self c.sync.new.self c.write_at.ensures.costs c.sync.ensures.costs)
+
+pub returns-in_err-write_at-clause-few : goal.returns-in_err-write_at-clause-few
+returns-in_err-write_at-clause-few g c = most_of g.D.Disk 1 0 1 1 c.args.disk.now c.write_at.new.self (omega arith) (omega arith) c.write_at.ensures.costs

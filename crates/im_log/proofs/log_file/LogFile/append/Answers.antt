@@ -5,6 +5,7 @@ use Rattle.im_log_record.specs.Entry.{view}
 use Rattle.im_log_record.specs.Spelling.{spelling}
 use Rattle.im_log.proofs.Spells.{whole}
 use Rattle.im_log.proofs.Runs.{unmoved, appended, no_more}
+use Rattle.im_base_disk.proofs.Costs.{forces_by, forces_none, most_none}
 use Rattle.im_log.proofs.log_file.LogFile.append.Goals as goal
 
 pub returns-then-is_full-clause-kept : goal.returns-then-is_full-clause-kept
@@ -47,3 +48,18 @@ returns-clause-kept g c base all durable h =
           put.lsn put.buffered (omega (arith, put.used, size)) put.base put.gate put.failed;
       stops = forced.stops;
     }
+
+pub returns-then-self-size-le-BUFFER-clause-forces : goal.returns-then-self-size-le-BUFFER-clause-forces
+returns-then-self-size-le-BUFFER-clause-forces g c = forces_none g.D.Disk 1 c.args.disk.now
+
+pub returns-clause-forces : goal.returns-clause-forces
+returns-clause-forces g c = forces_by g.D.Disk c.args.self.now.used c.args.disk.now c.force.new.disk c.in_ok-force.ensures.costs c.force.ensures.none
+
+pub returns-then-self-clause-few : goal.returns-then-self-clause-few
+returns-then-self-clause-few g c = most_none g.D.Disk 2 2 c.args.disk.now
+
+pub returns-then-is_full-clause-few : goal.returns-then-is_full-clause-few
+returns-then-is_full-clause-few g c = most_none g.D.Disk 2 2 c.args.disk.now
+
+pub returns-then-self-size-le-BUFFER-clause-few : goal.returns-then-self-size-le-BUFFER-clause-few
+returns-then-self-size-le-BUFFER-clause-few g c = most_none g.D.Disk 2 2 c.args.disk.now

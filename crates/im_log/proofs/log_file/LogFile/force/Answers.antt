@@ -2,6 +2,7 @@ use Rattle.std.proofs.Common.{List, ℕ, ◌≤◌, take, ap, refl, rules, arith
 use Rattle.im_base_types.specs.declared.file_id.FileId.TheVariants.{Log}
 use Rattle.im_log.specs.Kept.{SpellsEither}
 use Rattle.im_log.proofs.Runs.{force_stops, forced, seen_now, either_made, alike_now, starts_kept, all_durable, no_more, unmoved}
+use Rattle.im_base_disk.proofs.Costs.{most_none}
 use Rattle.im_log.proofs.log_file.LogFile.force.Goals as goal
 
 pub returns-in_err-put_batch-clause-kept : goal.returns-in_err-put_batch-clause-kept
@@ -66,3 +67,9 @@ returns-clause-ready g c =
       placed = search (rules, at, room);
       room = search rules;
     }
+
+pub returns-then-self-clause-few : goal.returns-then-self-clause-few
+returns-then-self-clause-few g c = most_none g.D.Disk 2 2 c.args.disk.now
+
+pub returns-then-self-eq0-clause-few : goal.returns-then-self-eq0-clause-few
+returns-then-self-eq0-clause-few g c = most_none g.D.Disk 2 2 c.args.disk.now

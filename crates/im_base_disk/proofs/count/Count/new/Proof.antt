@@ -21,11 +21,11 @@ use denote.Triple.Entry.{on_entry, alive}
 use denote.Triple.Spec.{Meets, triple_of}
 use denote.Triple.Table.{entered}
 use denote.Triple.Walked.{says, Stays, walk_of, Walks, ends_at, walked, walk_Meets}
-use Rattle.im_page_pool.specs.contracts.gets.Gets as gets
-use Rattle.im_page_pool.specs.contracts.gets.Gets.new as f
-use Rattle.im_page_pool.specs.contracts.gets.Gets.new.Key.{name as key}
-use Rattle.im_page_pool.proofs.gets.Gets.new.Statement as stated
-use Rattle.im_page_pool.proofs.gets.Gets.new.Code as code
+use Rattle.im_base_disk.specs.contracts.count.Count as counts
+use Rattle.im_base_disk.specs.contracts.count.Count.new as f
+use Rattle.im_base_disk.specs.contracts.count.Count.new.Key.{name as key}
+use Rattle.im_base_disk.proofs.count.Count.new.Statement as stated
+use Rattle.im_base_disk.proofs.count.Count.new.Code as code
 
 abbrev stayed : Stays (f.ended).signature.params (f.ended).kept
 stayed = tt
@@ -42,7 +42,7 @@ module _ {M : Type 1} {𝓤 : Ura M} (𝓛 : Logic 𝓤) (mem : Memory → SProp
       alloc_all ! (λ l. pass_all ! refl tt $ sets ! (agg ! (no_more !)) refl (tt, tt) $
       returns ! (look_at ! 0 refl) $ free_all ! refl $
       suffices ! _ (ends_at 𝓛 f.ended stayed (f.clauses 𝓛 mem run) bound (vstruct vnil) (record { count = 0 }) tt tt) $
-      says ! refl $ pure_i ! (gets.the_row.own_val (record { count = 0 }) (vstruct vnil ∷ [])) ((λ vss. (tt, tt)), tt) ((tt, (refl, tt)), tt) $
+      says ! refl $ pure_i ! (counts.the_row.own_val (record { count = 0 }) (vstruct vnil ∷ [])) ((λ vss. (tt, tt)), tt) ((tt, (refl, tt)), tt) $
       move ! (1 ∷ 2 ∷ 0 ∷ []) $ done !)
 
   walks : Walks 𝓛 f.ended stayed (WpFn 𝓤 H C Λ code.function) (f.clauses 𝓛 mem run)

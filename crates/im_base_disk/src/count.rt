@@ -4,31 +4,31 @@ ghost use Rattle.std.specs.Borrow.{ftrue};
 
 use std::marker::Model;
 
-/// How many pages were got. Clauses read it as `count`. It has no bytes, and its methods do nothing at run time.
+/// How often something was done. Clauses read it as `count`. It has no bytes, and its methods do nothing at run time.
 #[derive(Drop)]
-pub struct Gets {
+pub struct Count {
     pub ghost count: { ℕ },
 }
 
-impl Model for Gets {
+impl Model for Count {
     ghost also_owns = { λ _. ftrue };
 }
 
 // It owns nothing.
-unsafe impl Send for Gets {}
+unsafe impl Send for Count {}
 
-impl Gets {
+impl Count {
     /// None.
-    pub(crate) fn new() -> Gets
+    pub fn new() -> Count
         ensures { result.count ≡ 0 }
     {
-        Gets {}
+        Count {}
     }
 
     /// One more.
-    pub(crate) fn with_one_more(&self) -> Gets
+    pub fn with_one_more(&self) -> Count
         ensures { result.count ≡ self.now.count + 1 }
     {
-        Gets {}
+        Count {}
     }
 }
