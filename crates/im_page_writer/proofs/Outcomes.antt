@@ -19,10 +19,10 @@ use Rattle.im_page_writer.specs.KnownCopies.{IsKnownFrom}
 use Rattle.im_page_writer.specs.LogEnds.{EndsNoSooner}
 use Rattle.im_page_writer.specs.Writing.{Goes, LeavesGrown}
 use Rattle.im_page_writer.specs.PageWriter.{IsReadyWriter, StandsAs, GoesOn, Evicted}
-use Rattle.im_page_writer.specs.Outcome.{fault_of, mild, none_mild, AllPages, pages_of, AsksNothing, AreLoaded, AreLoadedTo, HasPages, IsSound, Stays, Breaks, Ends, Outcome, Reads, Flushes, Works, LogEnds, Logs, RedoEnds, Redoes}
+use Rattle.im_page_writer.specs.Outcome.{fault_of, mild, no_page, none_mild, AllPages, pages_of, AsksNothing, AreLoaded, AreLoadedTo, HasPages, IsSound, Stays, Breaks, Ends, Outcome, Reads, Lists, Flushes, Works, LogEnds, Logs, RedoEnds, Redoes}
 use Rattle.im_page_writer.proofs.Goings.{leaves_then, leaves_so_far}
 use Rattle.im_page_writer.proofs.LogEnds.{ends_then}
-use Rattle.im_page_writer.proofs.LoggedChanges.{at_shows, device_not, failed_not, full_not}
+use Rattle.im_page_writer.proofs.LoggedChanges.{at_shows}
 use Rattle.im_page_writer.proofs.Writers.{goes_on_start, goes_on_then, still_working}
 
 broken_of : (failed : Bool) → (failed ≡ false → ⊥) → failed ≡ true
@@ -99,6 +99,11 @@ none_still b s t keeps asked = tt
 pub none_mildly : (m : Fault → Bool) (e : Fault) → none_mild e ≡ true → m e ≡ true
 none_mildly m e is = absurd (let clash : false ≡ true = is in cc clash)
 
+-- one for bytes that are no store's, of a call that goes on behind these
+pub no_page_for : (m : Fault → Bool) → m NotAStore ≡ true → (e : Fault) → no_page e ≡ true → m e ≡ true
+no_page_for m may NotAStore is = may
+no_page_for m may e is = absurd (let clash : false ≡ true = is in cc clash)
+
 module _ {D : Type 0} (d : Ghosts D) where
   flush_ends : (asks : Writer → Type 0) (m : Fault → Bool) (v : PageWriter) (old : D) (w : PageWriter) (new : D) (why : Option Fault) → Ends d AsksNothing none_mild v old w new why → Ends d asks m v old w new why
   flush_ends asks m v old w new None one = stays_asking d asks AsksNothing (λ s asked. tt) v old w new one
@@ -124,9 +129,9 @@ module _ {D : Type 0} (d : Ghosts D) where
   handed_on {A} {asks} {m} {v} {old} {w} {new} {f} (Err e) is one = subst (λ (x : Fault). Outcome d asks m v old w new (Some x)) (sym is) one
 
   -- a refusal for bytes that are no store's, behind calls that were not refused
-  pub own_bytes : {A : Type 0} {asks : Writer → Type 0} {v : PageWriter} {old : D} {w : PageWriter} {new : D} (X : Type 0) (r : Result A Fault) → IfErr r (λ e. (e ≡ NotAStore) × X) → Outcome d asks mild v old w new None → Outcome d asks mild v old w new (fault_of r)
+  pub own_bytes : {A : Type 0} {asks : Writer → Type 0} {v : PageWriter} {old : D} {w : PageWriter} {new : D} (X : Type 0) (r : Result A Fault) → IfErr r (λ e. (e ≡ NotAStore) × X) → Outcome d asks no_page v old w new None → Outcome d asks no_page v old w new (fault_of r)
   own_bytes {A} {asks} {v} {old} {w} {new} X (Ok a) is one = one
-  own_bytes {A} {asks} {v} {old} {w} {new} X (Err e) is one = subst (λ (x : Fault). Outcome d asks mild v old w new (Some x)) (sym is.0) (record { ready = one.ready; frames = one.frames; ends = (refl, one.ends) })
+  own_bytes {A} {asks} {v} {old} {w} {new} X (Err e) is one = subst (λ (x : Fault). Outcome d asks no_page v old w new (Some x)) (sym is.0) (record { ready = one.ready; frames = one.frames; ends = (refl, one.ends) })
 
   -- a call of the log or of the disk that failed
   broken_end : (asks : Writer → Type 0) (m : Fault → Bool) (v : PageWriter) (old : D) (w : PageWriter) (new : D) → Breaks d asks v old w new → (e : Fault) → (e ≡ LogFull) ⊎ (e ≡ Device) → (e ≡ LogFull → HasNoRoom w.log) → (e ≡ LogFull → 2 ^ 62 < end_with w.log 4129)
@@ -143,11 +148,9 @@ module _ {D : Type 0} (d : Ghosts D) where
       handed_on r is (record { ready = ready; frames = frames; ends = broken_end asks m v old w new (record { began = began; broken = fails; stops = stops }) f causes no_room full lost })
 
   -- a read that was refused
-  pub read_ends : {asks : Writer → Type 0} {v : PageWriter} {old : D} {w : PageWriter} {new : D} (e : Fault) → (e ≡ Memory) ⊎ (e ≡ NotAStore) ⊎ (e ≡ Device) → (e ≡ Device → Breaks d asks v old w new × (d.failed new ≡ true)) → ((e ≡ Memory) ⊎ (e ≡ NotAStore) → Stays d asks v old w new)
-      → Ends d asks mild v old w new (Some e)
-  read_ends {asks} {v} {old} {w} {new} e (inl is) breaks stays = subst (λ (f : Fault). Ends d asks mild v old w new (Some f)) (sym is) (refl, stays (inl is))
-  read_ends {asks} {v} {old} {w} {new} e (inr (inl is)) breaks stays = subst (λ (f : Fault). Ends d asks mild v old w new (Some f)) (sym is) (refl, stays (inr is))
-  read_ends {asks} {v} {old} {w} {new} e (inr (inr is)) breaks stays = subst (λ (f : Fault). Ends d asks mild v old w new (Some f)) (sym is) (breaks is)
+  pub read_ends : {asks : Writer → Type 0} {v : PageWriter} {old : D} {w : PageWriter} {new : D} (e : Fault) → (e ≡ NotAStore) ⊎ (e ≡ Device) → (e ≡ Device → Breaks d asks v old w new × (d.failed new ≡ true)) → (e ≡ NotAStore → Stays d asks v old w new) → Ends d asks no_page v old w new (Some e)
+  read_ends {asks} {v} {old} {w} {new} e (inl is) breaks stays = subst (λ (f : Fault). Ends d asks no_page v old w new (Some f)) (sym is) (refl, stays is)
+  read_ends {asks} {v} {old} {w} {new} e (inr is) breaks stays = subst (λ (f : Fault). Ends d asks no_page v old w new (Some f)) (sym is) (breaks is)
 
   -- a step of the writer that changes no page, as a call that writes some
   step_ends : (v : PageWriter) (old : D) (w : PageWriter) (new : D) → EndsNoSooner v.log w.log → ((b : Base) (base : ℕ) (s : Writer) → StandsAs d b base s v old → LeavesGrown d b base s old new) → (why : Option Fault) → (why ≡ Some LogFull → ⊥)
@@ -264,17 +267,17 @@ module _ {D : Type 0} (d : Ghosts D) where
   refused {A} {m} {v} {old} {w} {new} {f} (Err e) is one = subst (λ (x : Fault). Outcome d AreLoaded m v old w new (Some x)) (sym is) one
 
   -- a refusal of its own behind a call: the writer goes on
-  pub refuses : {m : Fault → Bool} {v : PageWriter} {old : D} {w : PageWriter} {new : D} (f : Fault) → mild f ≡ true → m f ≡ true → Outcome d AreLoaded m v old w new None → Outcome d AreLoaded m v old w new (Some f)
-  refuses {m} {v} {old} {w} {new} Memory mildly is one = record { ready = one.ready; frames = one.frames; ends = (is, one.ends) }
-  refuses {m} {v} {old} {w} {new} NotAStore mildly is one = record { ready = one.ready; frames = one.frames; ends = (is, one.ends) }
-  refuses {m} {v} {old} {w} {new} e mildly is one = absurd (cc mildly)
+  pub refuses : {n m : Fault → Bool} {v : PageWriter} {old : D} {w : PageWriter} {new : D} (f : Fault) → mild f ≡ true → m f ≡ true → Outcome d AreLoaded n v old w new None → Outcome d AreLoaded m v old w new (Some f)
+  refuses {n} {m} {v} {old} {w} {new} Memory mildly is one = record { ready = one.ready; frames = one.frames; ends = (is, one.ends) }
+  refuses {n} {m} {v} {old} {w} {new} NotAStore mildly is one = record { ready = one.ready; frames = one.frames; ends = (is, one.ends) }
+  refuses {n} {m} {v} {old} {w} {new} e mildly is one = absurd (cc mildly)
 
-  pub out_of_memory : {v : PageWriter} {old : D} {w : PageWriter} {new : D} {f : Fault} → f ≡ Memory → Reads d v old w new None → Reads d v old w new (Some f)
-  out_of_memory {v} {old} {w} {new} {f} is one = subst (λ (x : Fault). Reads d v old w new (Some x)) (sym is) (refuses Memory refl refl one)
+  pub out_of_memory : {n : Fault → Bool} {v : PageWriter} {old : D} {w : PageWriter} {new : D} {f : Fault} → f ≡ Memory → Outcome d AreLoaded n v old w new None → Lists d v old w new (Some f)
+  out_of_memory {n} {v} {old} {w} {new} {f} is one = subst (λ (x : Fault). Lists d v old w new (Some x)) (sym is) (refuses Memory refl refl one)
 
   -- the get of a page, as a search
-  pub search_of : {p : ℕ} {v : PageWriter} {old : D} {w : PageWriter} {new : D} {why : Option Fault} → Outcome d (AreLoadedTo p) mild v old w new why → Reads d v old w new why
-  search_of {p} {v} {old} {w} {new} {why} one = record { ready = one.ready; frames = one.frames; ends = ends_asking d AreLoaded (AreLoadedTo p) (λ s ready q le. ready q) mild v old w new why one.ends }
+  pub search_of : {p : ℕ} {v : PageWriter} {old : D} {w : PageWriter} {new : D} {why : Option Fault} → Outcome d (AreLoadedTo p) no_page v old w new why → Reads d v old w new why
+  search_of {p} {v} {old} {w} {new} {why} one = record { ready = one.ready; frames = one.frames; ends = ends_asking d AreLoaded (AreLoadedTo p) (λ s ready q le. ready q) no_page v old w new why one.ends }
 
 -- ---- calls behind which the writer goes on for more causes
 
@@ -289,6 +292,10 @@ module _ {D : Type 0} (d : Ghosts D) (m : Fault → Bool) where
   -- a search is such a call, and so is one behind which the writer goes on for fewer causes
   pub with_more : {n : Fault → Bool} → ((e : Fault) → n e ≡ true → m e ≡ true) → {v : PageWriter} {old : D} {w : PageWriter} {new : D} {why : Option Fault} → Outcome d AreLoaded n v old w new why → Outcome d AreLoaded m v old w new why
   with_more {n} may {v} {old} {w} {new} {why} one = record { ready = one.ready; frames = one.frames; ends = more_ends n may v old w new why one.ends }
+
+  -- and so is a search that makes nothing grow, where something may
+  pub read_more : m NotAStore ≡ true → {v : PageWriter} {old : D} {w : PageWriter} {new : D} {why : Option Fault} → Reads d v old w new why → Outcome d AreLoaded m v old w new why
+  read_more may one = with_more (no_page_for m may) one
 
   own_end : m Failed ≡ false → m Device ≡ false → m LogFull ≡ false → (v : PageWriter) (old : D) (w : PageWriter) (new : D) (e : Fault) → m e ≡ true → Stays d AreLoaded v old w new → Ends d AreLoaded m v old w new (Some e)
   own_end failed device full v old w new Failed is one = absurd (let clash : false ≡ true = sym failed ∙ is in cc clash)
@@ -396,8 +403,8 @@ module _ {D : Type 0} (d : Ghosts D) where
   pub changed_none : {n m : Fault → Bool} → ((e : Fault) → n e ≡ true → m e ≡ true) → {v : PageWriter} {old : D} {w : PageWriter} {new : D} {why : Option Fault} → Outcome d AreLoaded n v old w new why → Logs d false m v old w new why
   changed_none {n} {m} may {v} {old} {w} {new} {why} one = record { ready = one.ready; frames = one.frames; ends = logs_so n m may v old w new why one.ends }
 
-  pub read_logs : {v : PageWriter} {old : D} {w : PageWriter} {new : D} {why : Option Fault} → Reads d v old w new why → Logs d false mild v old w new why
-  read_logs {v} {old} {w} {new} {why} one = changed_none (λ e is. is) one
+  pub read_logs : {m : Fault → Bool} → m NotAStore ≡ true → {v : PageWriter} {old : D} {w : PageWriter} {new : D} {why : Option Fault} → Reads d v old w new why → Logs d false m v old w new why
+  read_logs {m} may {v} {old} {w} {new} {why} one = changed_none (no_page_for m may) one
 
   -- a refusal that is handed on
   pub log_refused : {A : Type 0} {late : Bool} {m : Fault → Bool} {v : PageWriter} {old : D} {w : PageWriter} {new : D} {f : Fault} (r : Result A Fault) → IsErrAnd r (λ e. e ≡ f) → Logs d late m v old w new (Some f) → Logs d late m v old w new (fault_of r)
@@ -461,75 +468,7 @@ module _ {D : Type 0} (d : Ghosts D) where
       → Logs d true n v old x new (Some g)
   late_behind {last} {late} {m} {n} {v} {old} {w} {mid} {x} {new} {f} {g} one two memory other = record { ready = two.ready; frames = two.frames ∙ one.frames; ends = late_ends late n v old w mid one.ends x new f g memory other two.ends }
 
--- ---- a call whose clauses say it one by one
-
--- what is said of each end, where it holds
-module _ (v_failed w_failed d_failed : Bool) (no_room : Type 0) (Row : Option Fault → Type 0)
-    (none : v_failed ≡ false → w_failed ≡ false → d_failed ≡ false → Row None)
-    (failed : v_failed ≡ true → w_failed ≡ true → Row (Some Failed))
-    (device : v_failed ≡ false → w_failed ≡ true → d_failed ≡ true → Row (Some Device))
-    (full : v_failed ≡ false → w_failed ≡ true → d_failed ≡ false → no_room → Row (Some LogFull))
-    (memory : v_failed ≡ false → w_failed ≡ false → d_failed ≡ false → Row (Some Memory))
-    (bytes : v_failed ≡ false → w_failed ≡ false → d_failed ≡ false → Row (Some NotAStore)) where
-  by_fault : (e : Fault) → (w_failed ≡ false) ↔ ((e ≡ Memory) ⊎ (e ≡ NotAStore)) → (e ≡ Failed) ⊎ (e ≡ LogFull) ⊎ (e ≡ Memory) ⊎ (e ≡ NotAStore) ⊎ (e ≡ Device) → (e ≡ LogFull → no_room) → (e ≡ Failed) ↔ (v_failed ≡ true)
-      → (v_failed ≡ false → (e ≡ Device) ↔ (d_failed ≡ true)) → Row (Some e)
-  by_fault e fails causes why already lost = elim causes [
-    | inl is ↦ subst (λ (f : Fault). Row (Some f)) (sym is) (failed (already.0 is) (broken_of w_failed (λ works. failed_not e is (fails.0 works))))
-    | inr more ↦ elim more [
-      | inl is ↦
-          let not : e ≡ Failed → ⊥ = λ other. let clash : LogFull ≡ Failed = sym is ∙ other in cc clash in
-          subst (λ (f : Fault). Row (Some f)) (sym is) (full (began not) (broken_of w_failed (λ works. full_not e is (fails.0 works))) (alive not (λ other. let clash : LogFull ≡ Device = sym is ∙ other in cc clash)) (why is))
-      | inr rest ↦ elim rest [
-        | inl is ↦
-            let not : e ≡ Failed → ⊥ = λ other. let clash : Memory ≡ Failed = sym is ∙ other in cc clash in
-            subst (λ (f : Fault). Row (Some f)) (sym is) (memory (began not) (fails.1 (inl is)) (alive not (λ other. let clash : Memory ≡ Device = sym is ∙ other in cc clash)))
-        | inr last ↦ elim last [
-          | inl is ↦
-              let not : e ≡ Failed → ⊥ = λ other. let clash : NotAStore ≡ Failed = sym is ∙ other in cc clash in
-              subst (λ (f : Fault). Row (Some f)) (sym is) (bytes (began not) (fails.1 (inr is)) (alive not (λ other. let clash : NotAStore ≡ Device = sym is ∙ other in cc clash)))
-          | inr is ↦
-              let not : e ≡ Failed → ⊥ = λ other. let clash : Device ≡ Failed = sym is ∙ other in cc clash in
-              subst (λ (f : Fault). Row (Some f)) (sym is) (device (began not) (broken_of w_failed (λ works. device_not e is (fails.0 works))) ((lost (began not)).0 is))
-        ]
-      ]
-    ]
-  ]
-    where
-      began : (e ≡ Failed → ⊥) → v_failed ≡ false
-      began other = still_working v_failed (λ is. other (already.1 is))
-
-      alive : (e ≡ Failed → ⊥) → (e ≡ Device → ⊥) → d_failed ≡ false
-      alive not other = still_working d_failed (λ is. other ((lost (began not)).1 is))
-
-  pub row_of : {A : Type 0} (r : Result A Fault) → OnOk r (w_failed ≡ false) → IfErr r (λ e. (w_failed ≡ false) ↔ ((e ≡ Memory) ⊎ (e ≡ NotAStore))) → IfErr r (λ e. (e ≡ Failed) ⊎ (e ≡ LogFull) ⊎ (e ≡ Memory) ⊎ (e ≡ NotAStore) ⊎ (e ≡ Device))
-      → (r ≡ Err LogFull → no_room) → (r ≡ Err Failed) ↔ (v_failed ≡ true) → (v_failed ≡ false → (r ≡ Err Device) ↔ (d_failed ≡ true)) → Row (fault_of r)
-  row_of {A} (Ok a) works fails causes why already lost =
-      let began = still_working v_failed (λ is. let clash = already.1 is in let never : ⊥ = cc clash in never) in
-      none began works (still_working d_failed (λ is. let clash = (lost began).1 is in let never : ⊥ = cc clash in never))
-  row_of {A} (Err e) works fails causes why already lost =
-      by_fault e fails causes (λ is. why (ap Err is)) ((λ is. already.0 (ap Err is)), (λ is. let same = already.1 is in cc same))
-      (λ began. ((λ is. (lost began).0 (ap Err is)), (λ is. let same = (lost began).1 is in cc same)))
-
-module _ {D : Type 0} (d : Ghosts D) (asks : Writer → Type 0) (v : PageWriter) (old : D) (w : PageWriter) (new : D) (stays : v.failed ≡ false → w.failed ≡ false → d.failed new ≡ false → Stays d asks v old w new) where
-  -- a call that changes no page
-  pub ends_of : {A : Type 0} → ((b : Base) (base : ℕ) (s : Writer) → StandsAs d b base s v old → asks s → LeavesGrown d b base s old new) → (r : Result A Fault) → OnOk r (w.failed ≡ false)
-      → IfErr r (λ e. (w.failed ≡ false) ↔ ((e ≡ Memory) ⊎ (e ≡ NotAStore))) → IfErr r (λ e. (e ≡ Failed) ⊎ (e ≡ LogFull) ⊎ (e ≡ Memory) ⊎ (e ≡ NotAStore) ⊎ (e ≡ Device)) → (r ≡ Err LogFull → HasNoRoom w.log)
-      → (r ≡ Err LogFull → 2 ^ 62 < end_with w.log 4129) → (r ≡ Err Failed) ↔ (v.failed ≡ true) → (v.failed ≡ false → (r ≡ Err Device) ↔ (d.failed new ≡ true)) → Ends d asks mild v old w new (fault_of r)
-  ends_of {A} stops r works fails causes no_room full already lost =
-      let breaks : v.failed ≡ false → w.failed ≡ true → Breaks d asks v old w new = λ began broken. record { began = began; broken = broken; stops = stops } in
-      row_of v.failed w.failed (d.failed new) (HasNoRoom w.log × (2 ^ 62 < end_with w.log 4129)) (λ (why : Option Fault). Ends d asks mild v old w new why) stays (λ began broken. (began, broken))
-      (λ began broken is. (breaks began broken, is)) (λ began broken is why. (breaks began broken, is, why.0, why.1)) (λ began works is. (refl, stays began works is)) (λ began works is. (refl, stays began works is))
-      r works fails causes (λ is. (no_room is, full is)) already lost
-
--- what the two parts of a get say of it together
-pub got_of : {A : Type 0} (r : Result A Fault) (P Q : Type 0) → OnOk r P → IfErr r (λ e. e ≢ NotAStore) → (P → Q) → IsSound r (λ a. Q)
-got_of (Ok a) P Q is sound to = to is
-got_of (Err e) P Q is sound to = sound
-
--- what holds wherever the writer goes on
-pub goes_of : {A : Type 0} (r : Result A Fault) (failed : Bool) (P Q : Type 0) → OnOk r P → IfErr r (λ e. (e ≡ Memory) ⊎ (e ≡ NotAStore) → Q) → IfErr r (λ e. (failed ≡ false) ↔ ((e ≡ Memory) ⊎ (e ≡ NotAStore))) → (P → Q) → failed ≡ false → Q
-goes_of (Ok a) failed P Q ok again fails to works = to ok
-goes_of (Err e) failed P Q ok again fails to works = again (fails.0 works)
+-- ---- for callers
 
 -- where the pages are a writer's
 pub pages_here : {D : Type 0} (d : Ghosts D) (b : Base) (base : ℕ) (s : Writer) (w : PageWriter) (disk : D) → StandsAs d b base s w disk → AreLoaded s → HasPages d AreLoaded (pages_of s) w disk
@@ -587,15 +526,15 @@ module _ {D : Type 0} (d : Ghosts D) where
 
   -- a refusal without a call
   pub idle_logs : {A : Type 0} → ((disk : D) (c : Files) → d.left_since disk (d.moment disk) c → d.may_leave disk c) → (v : PageWriter) (old : D) → IsReadyWriter d v old → (r : Result A Fault) → IfErr r (λ e. (e ≡ Failed) ⊎ (e ≡ NotAStore)) → (r ≡ Err Failed) ↔ (v.failed ≡ true)
-      → is_ok r ≡ false → Logs d false mild v old v old (fault_of r)
+      → is_ok r ≡ false → Logs d false no_page v old v old (fault_of r)
   idle_logs {A} only_now v old ready (Ok a) causes already never = absurd (cc never)
   idle_logs {A} only_now v old ready (Err e) causes already never = by causes
     where
-      by : (e ≡ Failed) ⊎ (e ≡ NotAStore) → Logs d false mild v old v old (Some e)
-      by (inl is) = subst (λ (f : Fault). Logs d false mild v old v old (Some f)) (sym is) (record { ready = ready; frames = refl; ends = (already.0 (ap Err is), already.0 (ap Err is)) })
+      by : (e ≡ Failed) ⊎ (e ≡ NotAStore) → Logs d false no_page v old v old (Some e)
+      by (inl is) = subst (λ (f : Fault). Logs d false no_page v old v old (Some f)) (sym is) (record { ready = ready; frames = refl; ends = (already.0 (ap Err is), already.0 (ap Err is)) })
       by (inr is) =
           let works = still_working v.failed (λ failed. let same : e ≡ Failed = (let r_is = already.1 failed in cc r_is) in let clash : NotAStore ≡ Failed = sym is ∙ same in let never : ⊥ = cc clash in never) in
-          read_logs d (own_logs is (idle d only_now v old works ready))
+          read_logs d refl (own_logs is (idle d only_now v old works ready))
 
 module _ {D : Type 0} (d : Ghosts D) (only_now : (disk : D) (c : Files) → d.left_since disk (d.moment disk) c → d.may_leave disk c) where
   -- where nothing that pages are read from has changed, the writer goes on
@@ -620,22 +559,22 @@ module _ {D : Type 0} (d : Ghosts D) (only_now : (disk : D) (c : Files) → d.le
   }
 
   after_ends : (v : PageWriter) (old : D) (w : PageWriter) (new : D) → v.failed ≡ false → (e : Fault) → (w.failed ≡ false) ↔ (e ≡ NotAStore) → (e ≡ NotAStore) ⊎ (e ≡ LogFull) ⊎ (e ≡ Device) → (e ≡ LogFull → HasNoRoom w.log) → (e ≡ Device) ↔ (d.failed new ≡ true)
-      → (e ≡ NotAStore → (w.log ≡ v.log) × (w.table ≡ v.table) × (w.pool ≡ v.pool) × (w.known_from ≡ v.known_from) × (new ≡ old)) → LogEnds d false mild v old w new (Some e)
+      → (e ≡ NotAStore → (w.log ≡ v.log) × (w.table ≡ v.table) × (w.pool ≡ v.pool) × (w.known_from ≡ v.known_from) × (new ≡ old)) → LogEnds d false no_page v old w new (Some e)
   after_ends v old w new began e fails (inl is) no_room lost same =
       let so = same is in
-      subst (λ (f : Fault). LogEnds d false mild v old w new (Some f)) (sym is)
+      subst (λ (f : Fault). LogEnds d false no_page v old w new (Some f)) (sym is)
       (refl, stays_here v old w new began (fails.1 is) (still_working (d.failed new) (λ failed. let clash : NotAStore ≡ Device = sym is ∙ lost.1 failed in let never : ⊥ = cc clash in never)) so.0 so.1 so.2 so.3 so.4)
   after_ends v old w new began e fails (inr failed) no_room lost same =
       let broken : w.failed ≡ true = broken_of w.failed (λ works. let is = fails.0 works in elim failed [
         | inl full ↦ let clash : LogFull ≡ NotAStore = sym full ∙ is in cc clash
         | inr device ↦ let clash : Device ≡ NotAStore = sym device ∙ is in cc clash
       ]) in
-      append_ends d false mild v old w new began e broken failed no_room lost
+      append_ends d false no_page v old w new began e broken failed no_room lost
 
   -- a record of a structure change, whose images may be no pages
   pub after_logs : {A : Type 0} {v : PageWriter} {old : D} {w : PageWriter} {new : D} (r : Result A Fault) → v.failed ≡ false → IsReadyWriter d w new → OnOk r (w.failed ≡ false) → IfErr r (λ e. (w.failed ≡ false) ↔ (e ≡ NotAStore)) → IfErr r (λ e. (e ≡ NotAStore) ⊎ (e ≡ LogFull) ⊎ (e ≡ Device))
       → (r ≡ Err LogFull → HasNoRoom w.log) → (r ≡ Err Device) ↔ (d.failed new ≡ true) → (r ≡ Err NotAStore → (w.log ≡ v.log) × (w.table ≡ v.table) × (w.pool ≡ v.pool) × (w.known_from ≡ v.known_from) × (new ≡ old))
-      → w.pool.frames ≡ v.pool.frames → Logs d false mild v old w new (fault_of r)
+      → w.pool.frames ≡ v.pool.frames → Logs d false no_page v old w new (fault_of r)
   after_logs {A} {v} {old} {w} {new} (Ok a) began ready works fails causes no_room lost same frames =
       record { ready = ready; frames = frames; ends = record { began = began; works = works; alive = still_working (d.failed new) (λ is. let clash = lost.1 is in let never : ⊥ = cc clash in never) } }
   after_logs {A} {v} {old} {w} {new} (Err e) began ready works fails causes no_room lost same frames =

@@ -92,14 +92,6 @@ pub refused_not : {A : Type 0} (r : Result A Fault) → (r ≡ Err NotAStore →
 refused_not (Ok a) never = tt
 refused_not (Err e) never = λ same. never (ap (λ (f : Fault). Err f) same)
 
--- one that takes no memory
-pub not_memory : {A : Type 0} (r : Result A Fault) (P : Type 0) → IfErr r (λ e. (e ≡ NotAStore) ⊎ (e ≡ LogFull) ⊎ (e ≡ Device)) → IfErr r (λ e. e ≡ NotAStore → P) → IfErr r (λ e. (e ≡ Memory) ⊎ (e ≡ NotAStore) → P)
-not_memory (Ok a) P causes has = tt
-not_memory (Err e) P causes has = λ why. elim causes [
-  | inl none ↦ has none
-  | inr failed ↦ absurd (cause_of e (inr failed) why)
-]
-
 module _ {D : Type 0} (d : Ghosts D) (b : Base) (base : ℕ) where
   -- a call behind others that left the writer as it was
   pub stays_then : (s : Writer) (old : D) (t : Writer) (v : PageWriter) (mid : D) → GoesOn d b base s old t v mid → (w : PageWriter) (disk : D) → LeavesCovered d b base t.durable t.log mid disk → StandsAs d b base t w disk

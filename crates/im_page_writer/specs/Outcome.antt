@@ -31,7 +31,12 @@ pages_of s = λ p. (s.pages p).page
 
 -- ---- refusals behind which the writer goes on
 
--- for want of memory, or for bytes that are no store's
+-- for bytes that are no store's alone: of a call that makes nothing grow
+abbrev pub no_page : Fault → Bool
+no_page NotAStore = true
+no_page e = false
+
+-- for want of memory too: of a call that makes something grow
 abbrev pub mild : Fault → Bool
 mild Memory = true
 mild NotAStore = true
@@ -98,9 +103,13 @@ module _ {D : Type 0} (d : Ghosts D) where
     pub frames : w.pool.frames ≡ v.pool.frames
     pub ends : Ends asks goes_on v old w new why
 
-  -- The outcome of a search: it changes no page, asks that each page has its copy, and may be refused for want of memory, or for bytes that are no store's.
+  -- The outcome of a search: it changes no page, asks that each page has its copy, and makes nothing grow. Behind a refusal for bytes that are no store's the writer goes on; it is never refused for want of memory.
   abbrev pub Reads : PageWriter → D → PageWriter → D → Option Fault → Type 0
-  Reads v old w new why = Outcome AreLoaded mild v old w new why
+  Reads v old w new why = Outcome AreLoaded no_page v old w new why
+
+  -- The outcome of a search that makes a list of what it finds, which grows: it may be refused for want of memory too.
+  abbrev pub Lists : PageWriter → D → PageWriter → D → Option Fault → Type 0
+  Lists v old w new why = Outcome AreLoaded mild v old w new why
 
   -- The outcome of a call that writes pages, or none: it changes no page, asks nothing of them, and has no refusal behind which the writer goes on.
   abbrev pub Flushes : PageWriter → D → PageWriter → D → Option Fault → Type 0

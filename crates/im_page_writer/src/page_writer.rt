@@ -83,7 +83,7 @@ impl PageWriter {
     ghost use Rattle.im_log_gate.specs.Gate.{place_of};
     ghost use Rattle.im_page_writer.specs.LogEnds.{EndsNoSooner};
     ghost use Rattle.im_page_writer.specs.Writing.{SameHeld};
-    ghost use Rattle.im_page_writer.specs.Outcome.{fault_of, mild, none_mild, AllPages, AreLoadedTo, Flushes, HasPages, IsSound, Logs, Outcome};
+    ghost use Rattle.im_page_writer.specs.Outcome.{fault_of, no_page, none_mild, AllPages, AreLoadedTo, Flushes, HasPages, IsSound, Logs, Outcome};
     ghost use Rattle.im_page_writer.specs.PageWriter.{IsReadyWriter, StandsAs, FlushedOne, StepKept, FlushedOldest, HasRoom, IsPlain, LogKept};
 
     /// Writes a page in place, if it was changed since it was read or written: it alone, where the file has it, and past the file's
@@ -206,7 +206,7 @@ impl PageWriter {
         requires ready { IsReadyWriter D.Disk self.old disk.old }
         requires working { self.old.failed ≡ false }
         requires room { Holds self.old.pool number ⊎ (length self.old.pool.held < self.old.pool.frames) }
-        ensures outcome { Outcome D.Disk (AreLoadedTo number) mild self.old disk.old self.new disk.new (fault_of result) }
+        ensures outcome { Outcome D.Disk (AreLoadedTo number) no_page self.old disk.old self.new disk.new (fault_of result) }
         ensures kept { (pages : AllPages) → HasPages D.Disk (AreLoadedTo number) pages self.old disk.old → IsSound result (λ _. page_at self.new.pool number ≡ pages number) }
         ensures at { IfOk result (IsAt self.new.pool) }
         ensures frame { IfOk result (λ frame. frame.number ≡ number) }
@@ -215,7 +215,6 @@ impl PageWriter {
         ensures quiet { Holds self.old.pool number → disk.new ≡ disk.old }
         ensures log { self.new.log ≡ self.old.log }
         ensures table { self.new.table ≡ self.old.table }
-        ensures memory { result ≢ Err Memory }
         ensures no_page { result ≡ Err NotAStore → D.tells → file_page (D.seen disk.new Pages) number ≡ None }
     {
         match self.pool.get(disk, number) {
@@ -235,14 +234,13 @@ impl PageWriter {
     /// LSN 2^62, `Device`, or `NotAStore` where the page's bytes are none. Behind the last one the writer goes on. No memory is taken.
     pub fn get<D: Disk>(&mut self, disk: &mut D, number: PageNo) -> Result<Frame, Fault>
         requires ready { IsReadyWriter D.Disk self.old disk.old }
-        ensures outcome { Outcome D.Disk (AreLoadedTo number) mild self.old disk.old self.new disk.new (fault_of result) }
+        ensures outcome { Outcome D.Disk (AreLoadedTo number) no_page self.old disk.old self.new disk.new (fault_of result) }
         ensures kept { (pages : AllPages) → HasPages D.Disk (AreLoadedTo number) pages self.old disk.old → IsSound result (λ _. page_at self.new.pool number ≡ pages number) }
         ensures at { IfOk result (IsAt self.new.pool) }
         ensures frame { IfOk result (λ frame. frame.number ≡ number) }
         ensures gets { IfOk result (λ _. self.new.pool.gets ≡ self.old.pool.gets + 1) }
         ensures held { self.old.failed ≡ false → Holds self.old.pool number → IsOk result × MovesFirst number self.old.pool self.new.pool }
         ensures quiet { self.old.failed ≡ false → Holds self.old.pool number → (disk.new ≡ disk.old) × (self.new.log ≡ self.old.log) × (self.new.table ≡ self.old.table) }
-        ensures memory { result ≢ Err Memory }
         ensures no_page { result ≡ Err NotAStore → D.tells → file_page (D.seen disk.new Pages) number ≡ None }
     {
         if self.failed {
@@ -259,12 +257,11 @@ impl PageWriter {
         requires ready { IsReadyWriter D.Disk self.old disk.old }
         requires working { self.old.failed ≡ false }
         requires absent { held_of self.old.pool number ≡ None }
-        ensures outcome { Outcome D.Disk (AreLoadedTo number) mild self.old disk.old self.new disk.new (fault_of result) }
+        ensures outcome { Outcome D.Disk (AreLoadedTo number) no_page self.old disk.old self.new disk.new (fault_of result) }
         ensures kept { (pages : AllPages) → HasPages D.Disk (AreLoadedTo number) pages self.old disk.old → IsSound result (λ _. page_at self.new.pool number ≡ pages number) }
         ensures at { IfOk result (IsAt self.new.pool) }
         ensures frame { IfOk result (λ frame. frame.number ≡ number) }
         ensures gets { IfOk result (λ _. self.new.pool.gets ≡ self.old.pool.gets + 1) }
-        ensures memory { result ≢ Err Memory }
         ensures no_page { result ≡ Err NotAStore → D.tells → file_page (D.seen disk.new Pages) number ≡ None }
     {
         self.make_frame(disk)?;

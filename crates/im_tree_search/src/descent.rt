@@ -73,7 +73,7 @@ fn root<D: Disk>(writer: &mut PageWriter, disk: &mut D) -> Result<Frame, Fault>
 ///
 /// Levels are read from the pages and have to fall by one, so that the search ends on any bytes. Refused `NotAStore` where they
 /// don't, or where a page above level 0 is no inner page, or that of level 0 no leaf; otherwise as `PageWriter::get` is. Behind
-/// `NotAStore` and `Memory` the writer goes on.
+/// `NotAStore` the writer goes on.
 #[tactic(auto, using(im_page_writer::proofs::Outcomes::then, im_page_writer::proofs::Outcomes::refused))]
 pub fn leaf_for<D: Disk>(writer: &mut PageWriter, disk: &mut D, key: &[u8]) -> Result<Frame, Fault>
     requires ready { IsReadyWriter D.Disk writer.old disk.old }

@@ -99,8 +99,8 @@ pub(crate) fn first_along<D: Disk>(
 ///
 /// The search goes down to the key's leaf, and from there along the leaf chain past leaves that have no such entry; it gets page 0
 /// only then, for the page count. Refused `NotAStore` as `leaf_for` is, where a page of the chain is no leaf or page 0 no meta page,
-/// and where the chain has as many leaves as there are pages; otherwise as `PageWriter::get` is. Behind `NotAStore` and `Memory` the
-/// writer goes on.
+/// and where the chain has as many leaves as there are pages; otherwise as `PageWriter::get` is. Behind `NotAStore` the writer goes
+/// on.
 #[tactic(auto, using(im_page_writer::proofs::Outcomes::then, im_page_writer::proofs::Outcomes::refused))]
 pub fn next_entry<D: Disk>(
     writer: &mut PageWriter,

@@ -19,7 +19,7 @@
 //! On any bytes each search ends: levels are read from the pages and have to fall by one, a page of another kind than its
 //! level asks for is refused, and a chain of leaves that goes on longer than there are pages is a ring.
 //!
-//! But for `entries` and `entries_between`, no key and no page is copied. A leaf is answered as its frame, an entry as its leaf's frame and its
+//! But for `entries` and `entries_between`, no key and no page is copied, nothing grows, and no search is refused for want of memory. A leaf is answered as its frame, an entry as its leaf's frame and its
 //! place there: both are right as long as the leaf is held.
 //!
 //! It stands on `im_page_writer` for pages and their gets, on `im_page` for what a page has of a key, and on `im_theory_tree` for the

@@ -5,7 +5,7 @@ ghost use Rattle.im_base_types.specs.declared.fault.Fault.TheVariants.{Memory};
 ghost use Rattle.im_base_types.specs.Maps.{is_below};
 ghost use Rattle.im_page.specs.Entry.{entry_at};
 ghost use Rattle.im_page_writer.specs.PageWriter.{IsReadyWriter};
-ghost use Rattle.im_page_writer.specs.Outcome.{fault_of, AllPages, IsSound, Reads};
+ghost use Rattle.im_page_writer.specs.Outcome.{fault_of, AllPages, IsSound, Lists};
 ghost use Rattle.im_tree_search.specs.Levels.{bodies_of};
 ghost use Rattle.im_tree_search.specs.Found.{HasTree};
 ghost use Rattle.im_tree_search.specs.NextKeys.{IsFar};
@@ -88,7 +88,7 @@ fn range_along<D: Disk>(
     requires ready { IsReadyWriter D.Disk writer.old disk.old }
     requires room { length list.old.items < limit }
     requires order { is_below hi.now lo.now ≡ false }
-    ensures outcome { Reads D.Disk writer.old disk.old writer.new disk.new (fault_of result) }
+    ensures outcome { Lists D.Disk writer.old disk.old writer.new disk.new (fault_of result) }
     ensures kept { (pages : AllPages) (n : ℕ) → HasTree D.Disk pages writer.old disk.old → IsAlong (bodies_of pages) lo.now hi.now list.old.items n from → 1 ≤ n
         → IsSound result (λ behind. RangesAlong (bodies_of pages) lo.now hi.now limit n list.new.items behind writer.old.pool.gets writer.new.pool.gets) }
     ensures far { IfOk result (λ behind. IfSome behind IsFar) }
@@ -127,7 +127,7 @@ pub fn entries_between<D: Disk>(
     limit: usize,
 ) -> Result<(Vec<(Key, Rid)>, Option<NextKey>), Fault>
     requires ready { IsReadyWriter D.Disk writer.old disk.old }
-    ensures outcome { Reads D.Disk writer.old disk.old writer.new disk.new (fault_of result) }
+    ensures outcome { Lists D.Disk writer.old disk.old writer.new disk.new (fault_of result) }
     ensures kept { (pages : AllPages) → HasTree D.Disk pages writer.old disk.old
         → IsSound result (λ x. Ranged (bodies_of pages) lo.now hi.now limit x.0.items x.1 writer.old.pool.gets writer.new.pool.gets) }
     ensures far { IfOk result (λ x. IfSome x.1 IsFar) }

@@ -24,7 +24,7 @@ impl PageWriter {
     ghost use Rattle.im_page_writer.specs.PageWriter.{IsReadyWriter, StandsAs};
     ghost use Rattle.im_page_writer.specs.LeafChange.{HasPlaceFor, HasKey};
     ghost use Rattle.im_page_writer.specs.LogEnds.{EndsNoSooner};
-    ghost use Rattle.im_page_writer.specs.Outcome.{fault_of, mild, AreLoadedTo, Logs, Outcome};
+    ghost use Rattle.im_page_writer.specs.Outcome.{fault_of, no_page, AreLoadedTo, Logs, Outcome};
     ghost use Rattle.im_page_writer.specs.LoggedChange.{IsLike, HeldKept, LoggedKept, ChangeKept};
 
     // Whether the dirty table can't take the page's entry.
@@ -58,12 +58,11 @@ impl PageWriter {
         number: PageNo,
     ) -> Result<Frame, Fault>
         requires ready { IsReadyWriter D.Disk self.old disk.old }
-        ensures outcome { Outcome D.Disk (AreLoadedTo number) mild self.old disk.old self.new disk.new (fault_of result) }
+        ensures outcome { Outcome D.Disk (AreLoadedTo number) no_page self.old disk.old self.new disk.new (fault_of result) }
         ensures sound { (b : Base) (base : ℕ) (s : Writer) → StandsAs D.Disk b base s self.old disk.old → AreLoadedTo number s → IfErr result (λ e. e ≢ NotAStore) }
         ensures at { IfOk result (IsAt self.new.pool) }
         ensures frame { IfOk result (λ f. f.number ≡ number) }
         ensures room { OnOk result (entry_in self.new.table number ≡ None → length self.new.table < 1024) }
-        ensures memory { result ≢ Err Memory }
     {
         self.get(disk, number)?;
         self.make_entry_room(disk)?;
@@ -180,10 +179,9 @@ impl PageWriter {
         requires what { IsLike (what_of (view record.now)) (InsertKey key.now rid) }
         requires page { page_of (view record.now) ≡ number }
         requires ready { IsReadyWriter D.Disk self.old disk.old }
-        ensures outcome { Logs D.Disk false mild self.old disk.old self.new disk.new (fault_of result) }
+        ensures outcome { Logs D.Disk false no_page self.old disk.old self.new disk.new (fault_of result) }
         ensures kept { (b : Base) (base : ℕ) (s : Writer) (e : ℕ) → StandsAs D.Disk b base s self.old disk.old → s.redo_end ≡ Some e
             → ChangeKept D.Disk b base s (view record.now) disk.old self.new disk.new result }
-        ensures memory { result ≢ Err Memory }
         ensures full { result ≡ Err LogFull → (2 ^ 62 < end_with self.new.log (size_of (view record.now))) ⊎ (2 ^ 62 < end_with self.new.log 4129) }
         ensures fits { OnOk result (end_with self.old.log (size_of (view record.now)) ≤ 2 ^ 62) }
     {
@@ -208,10 +206,9 @@ impl PageWriter {
         requires what { IsLike (what_of (view record.now)) (DeleteKey key.now rid) }
         requires page { page_of (view record.now) ≡ number }
         requires ready { IsReadyWriter D.Disk self.old disk.old }
-        ensures outcome { Logs D.Disk false mild self.old disk.old self.new disk.new (fault_of result) }
+        ensures outcome { Logs D.Disk false no_page self.old disk.old self.new disk.new (fault_of result) }
         ensures kept { (b : Base) (base : ℕ) (s : Writer) (e : ℕ) → StandsAs D.Disk b base s self.old disk.old → s.redo_end ≡ Some e
             → ChangeKept D.Disk b base s (view record.now) disk.old self.new disk.new result }
-        ensures memory { result ≢ Err Memory }
         ensures full { result ≡ Err LogFull → (2 ^ 62 < end_with self.new.log (size_of (view record.now))) ⊎ (2 ^ 62 < end_with self.new.log 4129) }
         ensures fits { OnOk result (end_with self.old.log (size_of (view record.now)) ≤ 2 ^ 62) }
     {
@@ -241,10 +238,9 @@ impl PageWriter {
     pub fn log_change<D: Disk>(&mut self, disk: &mut D, record: &Record) -> Result<Lsn, Fault>
         requires entry { IsEntry (view record.now) }
         requires ready { IsReadyWriter D.Disk self.old disk.old }
-        ensures outcome { Logs D.Disk false mild self.old disk.old self.new disk.new (fault_of result) }
+        ensures outcome { Logs D.Disk false no_page self.old disk.old self.new disk.new (fault_of result) }
         ensures kept { (b : Base) (base : ℕ) (s : Writer) (e : ℕ) → StandsAs D.Disk b base s self.old disk.old → s.redo_end ≡ Some e
             → ChangeKept D.Disk b base s (view record.now) disk.old self.new disk.new result }
-        ensures memory { result ≢ Err Memory }
         ensures full { result ≡ Err LogFull → (2 ^ 62 < end_with self.new.log (size_of (view record.now))) ⊎ (2 ^ 62 < end_with self.new.log 4129) }
         ensures fits { OnOk result (end_with self.old.log (size_of (view record.now)) ≤ 2 ^ 62) }
     {

@@ -20,7 +20,7 @@ impl PageWriter {
     ghost use Rattle.im_page_pool.specs.Pool.{held_of, IsAt};
     ghost use Rattle.im_page_writer.specs.DirtyTable.{entry_in};
     ghost use Rattle.im_page_writer.specs.PageCopy.{after_in};
-    ghost use Rattle.im_page_writer.specs.Outcome.{fault_of, mild, Logs};
+    ghost use Rattle.im_page_writer.specs.Outcome.{fault_of, no_page, Logs};
     ghost use Rattle.im_page_writer.specs.PageWriter.{IsReadyWriter, StandsAs};
     ghost use Rattle.im_page_writer.specs.StructureChange.{LeftHere, LeftKept};
 
@@ -73,12 +73,11 @@ impl PageWriter {
         requires entry { IsEntry (view record.now) }
         requires page { page_of (view record.now) ≡ number }
         requires ready { IsReadyWriter D.Disk self.old disk.old }
-        ensures outcome { Logs D.Disk false mild self.old disk.old self.new disk.new (fault_of result) }
+        ensures outcome { Logs D.Disk false no_page self.old disk.old self.new disk.new (fault_of result) }
         ensures kept { (b : Base) (base : ℕ) (s : Writer) (e : ℕ) → StandsAs D.Disk b base s self.old disk.old → s.redo_end ≡ Some e
             → LeftKept D.Disk b base s (view record.now) disk.old self.new disk.new result }
         ensures full { result ≡ Err LogFull → (2 ^ 62 < end_with self.new.log (size_of (view record.now))) ⊎ (2 ^ 62 < end_with self.new.log 4129) }
         ensures fits { OnOk result (end_with self.old.log (size_of (view record.now)) ≤ 2 ^ 62) }
-        ensures memory { result ≢ Err Memory }
         ensures images { OnOk result (after_in (what_of (view record.now)) ≢ None) }
     {
         let frame = self.hold_with_room(disk, number)?;
@@ -94,12 +93,11 @@ impl PageWriter {
     pub fn log_smo<D: Disk>(&mut self, disk: &mut D, record: &Record) -> Result<Lsn, Fault>
         requires entry { IsEntry (view record.now) }
         requires ready { IsReadyWriter D.Disk self.old disk.old }
-        ensures outcome { Logs D.Disk false mild self.old disk.old self.new disk.new (fault_of result) }
+        ensures outcome { Logs D.Disk false no_page self.old disk.old self.new disk.new (fault_of result) }
         ensures kept { (b : Base) (base : ℕ) (s : Writer) (e : ℕ) → StandsAs D.Disk b base s self.old disk.old → s.redo_end ≡ Some e
             → LeftKept D.Disk b base s (view record.now) disk.old self.new disk.new result }
         ensures full { result ≡ Err LogFull → (2 ^ 62 < end_with self.new.log (size_of (view record.now))) ⊎ (2 ^ 62 < end_with self.new.log 4129) }
         ensures fits { OnOk result (end_with self.old.log (size_of (view record.now)) ≤ 2 ^ 62) }
-        ensures memory { result ≢ Err Memory }
         ensures images { OnOk result (after_in (what_of (view record.now)) ≢ None) }
     {
         match record {

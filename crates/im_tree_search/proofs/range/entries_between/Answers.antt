@@ -1,9 +1,9 @@
-use Rattle.std.proofs.Common.{◌≡◌, false, ◌+◌, [], ℕ, List, sym, ap, subst, arith, rules}
+use Rattle.std.proofs.Common.{◌≡◌, false, ◌+◌, [], ℕ, List, sym, ap, subst, arith, rules, refl}
 use Rattle.std.specs.Prelude.{None, Some}
 use Rattle.im_base_types.specs.Maps.{is_below}
 use Rattle.im_base_types.specs.Pages.{Entry, Page}
 use Rattle.im_page_pool.specs.Pool.{page_at}
-use Rattle.im_page_writer.proofs.Outcomes.{out_of_memory, refused, sound_on, then}
+use Rattle.im_page_writer.proofs.Outcomes.{out_of_memory, refused, sound_on, then, read_more}
 use Rattle.im_theory_tree.specs.Levels.{Pages, height, walk}
 use Rattle.im_theory_tree.proofs.LookupLemmas.{way_known}
 use Rattle.im_tree_search.specs.Levels.{bodies_of}
@@ -11,7 +11,11 @@ use Rattle.im_tree_search.specs.Ranges.{IsAlong, IsPart, IsRange, PassesOn, Gets
 use Rattle.im_tree_search.proofs.Pages.{tree_still}
 use Rattle.im_tree_search.proofs.Walks.{memory_not}
 use Rattle.im_tree_search.proofs.Ranges.{along_begins, along_on, along_stops, empty_range, part_none, part_some, passes_none, range_of_none}
+use Rattle.im_page_writer.specs.Outcome.{mild}
 use Rattle.im_tree_search.proofs.range.entries_between.Goals as goal
+
+pub returns-in_err-frame-clause-outcome : goal.returns-in_err-frame-clause-outcome
+returns-in_err-frame-clause-outcome g c = refused g.D.Disk c.from_residual.result c.from_residual.ensures.1 (read_more g.D.Disk mild refl c.in_err-frame.ensures.outcome)
 
 pub returns-in_err-frame-clause-kept : goal.returns-in_err-frame-clause-kept
 returns-in_err-frame-clause-kept g c pages tree = sound_on c.from_residual.result _ _ c.from_residual.ensures.1 (c.in_err-frame.ensures.kept pages tree)
@@ -22,6 +26,9 @@ returns-in_err-list-clause-outcome g c = refused g.D.Disk c.from_residual-in_err
 pub returns-in_err-list-clause-kept : goal.returns-in_err-list-clause-kept
 returns-in_err-list-clause-kept g c pages tree = sound_on c.from_residual-in_err-list.result _ _ c.from_residual-in_err-list.ensures.1 (memory_not c.in_err-list.field-0.0 c.in_err-list.ensures.memory)
 
+pub returns-then-limit-eq0-clause-outcome : goal.returns-then-limit-eq0-clause-outcome
+returns-then-limit-eq0-clause-outcome g c = read_more g.D.Disk mild refl c.in_ok-frame.ensures.outcome
+
 pub returns-then-limit-eq0-clause-kept : goal.returns-then-limit-eq0-clause-kept
 returns-then-limit-eq0-clause-kept g c pages tree =
     let r = c.in_ok-frame.ensures.kept pages tree in
@@ -31,6 +38,9 @@ returns-then-limit-eq0-clause-kept g c pages tree =
       range = subst (λ (es : List Entry). IsRange (walk (bodies_of pages)) lo hi c.args.limit es None) (sym c.in_ok-list.ensures.none) (range_of_none (walk (bodies_of pages)) lo hi c.args.limit c.if-limit-eq0.true);
       gets = record { n = 0; passes = passes_none (bodies_of pages) lo hi c.in_ok-frame.frame.number r.reached.way; one = λ _. r.gets; more = omega (arith, r.gets) };
     }
+
+pub returns-then-lies_below-clause-outcome : goal.returns-then-lies_below-clause-outcome
+returns-then-lies_below-clause-outcome g c = read_more g.D.Disk mild refl c.in_ok-frame.ensures.outcome
 
 pub returns-then-lies_below-clause-kept : goal.returns-then-lies_below-clause-kept
 returns-then-lies_below-clause-kept g c pages tree =
@@ -47,6 +57,9 @@ returns-in_err-behind-clause-outcome g c = refused g.D.Disk c.from_residual-in_e
 
 pub returns-in_err-behind-clause-kept : goal.returns-in_err-behind-clause-kept
 returns-in_err-behind-clause-kept g c pages tree = sound_on c.from_residual-in_err-behind.result _ _ c.from_residual-in_err-behind.ensures.1 (memory_not c.in_err-behind.field-0.0 c.in_err-behind.ensures.memory)
+
+pub returns-in-Some-clause-outcome : goal.returns-in-Some-clause-outcome
+returns-in-Some-clause-outcome g c = read_more g.D.Disk mild refl c.in_ok-frame.ensures.outcome
 
 pub returns-in-Some-clause-kept : goal.returns-in-Some-clause-kept
 returns-in-Some-clause-kept g c pages tree =
@@ -65,6 +78,9 @@ returns-in-Some-clause-kept g c pages tree =
           (ap (λ (x : Page). x.body) r.reached.shown) c.in-Some.behind from_none;
       gets = record { n = 0; passes = passes_none (bodies_of pages) lo hi p r.reached.way; one = λ _. r.gets; more = omega (arith, r.gets) };
     }
+
+pub returns-in_err-behind-2-clause-outcome : goal.returns-in_err-behind-2-clause-outcome
+returns-in_err-behind-2-clause-outcome g c = refused g.D.Disk c.from_residual-in_err-behind-2.result c.from_residual-in_err-behind-2.ensures.1 (then g.D.Disk c.in_ok-frame.ensures.outcome c.in_err-behind-2.ensures.outcome)
 
 pub returns-in_err-behind-2-clause-kept : goal.returns-in_err-behind-2-clause-kept
 returns-in_err-behind-2-clause-kept g c pages tree =

@@ -1,12 +1,17 @@
-use Rattle.std.proofs.Common.{◌≤◌, ℕ, suc, sym, subst, arith}
+use Rattle.std.proofs.Common.{◌≤◌, ℕ, suc, sym, subst, arith, refl}
 use Rattle.im_page_pool.specs.Pool.{page_at}
-use Rattle.im_page_writer.proofs.Outcomes.{out_of_memory, refused, sound_on, then}
+use Rattle.im_page_writer.proofs.Outcomes.{out_of_memory, refused, sound_on, then, read_more, refuses}
 use Rattle.im_tree_search.specs.Levels.{bodies_of}
 use Rattle.im_tree_search.specs.Ranges.{IsAlong}
 use Rattle.im_tree_search.proofs.Pages.{got_says, tree_still}
 use Rattle.im_tree_search.proofs.Walks.{memory_not}
 use Rattle.im_tree_search.proofs.Ranges.{along_ends, along_level, along_on, along_stops, along_within, part_none, part_some}
+use Rattle.im_page_writer.specs.Outcome.{mild}
+use Rattle.im_base_types.specs.declared.fault.Fault.TheVariants.{NotAStore}
 use Rattle.im_tree_search.proofs.range.range_along.Goals as goal
+
+pub returns-in_err-left-clause-outcome : goal.returns-in_err-left-clause-outcome
+returns-in_err-left-clause-outcome g c = refused g.D.Disk c.from_residual.result c.from_residual.ensures.1 (read_more g.D.Disk mild refl c.in_err-left.ensures.outcome)
 
 pub returns-in_err-left-clause-kept : goal.returns-in_err-left-clause-kept
 returns-in_err-left-clause-kept g c pages n tree along some = sound_on c.from_residual.result _ _ c.from_residual.ensures.1 (c.in_err-left.ensures.kept pages tree)
@@ -20,11 +25,17 @@ loop-number-init g c =
       kept = λ pages n tree along some. record { n = n; along = along; some = some; count = omega (arith, e.kept pages tree); gone = omega (arith, e.gets) };
     }
 
+pub returns-then-left-eq0-clause-outcome : goal.returns-then-left-eq0-clause-outcome
+returns-then-left-eq0-clause-outcome g c = refuses g.D.Disk NotAStore refl refl c.loop-number.invariant.outcome
+
 pub returns-then-left-eq0-clause-kept : goal.returns-then-left-eq0-clause-kept
 returns-then-left-eq0-clause-kept g c pages n tree along some =
     let l = c.loop-number in
     let so = l.invariant.kept pages n tree along some in
     absurd (along_within (bodies_of pages) tree.spare c.args.lo.now c.args.hi.now l.list.items l.left so.n l.number tree.good so.along (omega (arith, c.loop-number-test.true)) so.count c.if-left-eq0.true)
+
+pub returns-in_err-frame-clause-outcome : goal.returns-in_err-frame-clause-outcome
+returns-in_err-frame-clause-outcome g c = refused g.D.Disk c.from_residual-in_err-frame.result c.from_residual-in_err-frame.ensures.1 (then g.D.Disk c.loop-number.invariant.outcome (read_more g.D.Disk mild refl c.in_err-frame.ensures.outcome))
 
 pub returns-in_err-frame-clause-kept : goal.returns-in_err-frame-clause-kept
 returns-in_err-frame-clause-kept g c pages n tree along some =
@@ -41,7 +52,7 @@ pub returns-in_err-behind-clause-kept : goal.returns-in_err-behind-clause-kept
 returns-in_err-behind-clause-kept g c pages n tree along some = sound_on c.from_residual-in_err-behind.result _ _ c.from_residual-in_err-behind.ensures.1 (memory_not c.in_err-behind.field-0.0 c.in_err-behind.ensures.memory)
 
 pub returns-in-Some-clause-outcome : goal.returns-in-Some-clause-outcome
-returns-in-Some-clause-outcome g c = then g.D.Disk c.loop-number.invariant.outcome c.in_ok-frame.ensures.outcome
+returns-in-Some-clause-outcome g c = then g.D.Disk c.loop-number.invariant.outcome (read_more g.D.Disk mild refl c.in_ok-frame.ensures.outcome)
 
 pub returns-in-Some-clause-kept : goal.returns-in-Some-clause-kept
 returns-in-Some-clause-kept g c pages n tree along some =
@@ -90,6 +101,9 @@ loop-number-preserved g c =
             gone = omega (arith, so.gone, e.gets);
           };
     }
+
+pub returns-clause-outcome : goal.returns-clause-outcome
+returns-clause-outcome g c = read_more g.D.Disk mild refl c.loop-number.invariant.outcome
 
 pub returns-clause-kept : goal.returns-clause-kept
 returns-clause-kept g c pages n tree along some =

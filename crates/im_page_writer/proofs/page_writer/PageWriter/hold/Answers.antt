@@ -51,15 +51,9 @@ returns-in-Err-clause-outcome g c =
       frames = e.frames;
       ends = read_ends g.D.Disk c.in-Err.fault (search rules)
           (λ is. (record { began = c.requires.working; broken = c.eq-self.ensures ∙ rw is refl; stops = λ b base s stands asked. leaves_read g.D.Disk b base s w.log w.table w.pool old c.get.new.disk (g.met.D.Disk.only_now old) stands.writing e.reads }, e.device.0 (ap Err is)))
-          (λ why.
-          let working : c.eq-self.result ≡ false = elim why [
-            | inl memory ↦ c.eq-self.ensures ∙ rw memory refl
-            | inr bytes ↦ c.eq-self.ensures ∙ rw bytes refl
-          ] in
-          let other : c.in-Err.fault ≡ Device → ⊥ = λ device. elim why [
-            | inl memory ↦ let clash : Memory ≡ Device = sym memory ∙ device in cc clash
-            | inr bytes ↦ let clash : NotAStore ≡ Device = sym bytes ∙ device in cc clash
-          ] in
+          (λ bytes.
+          let working : c.eq-self.result ≡ false = c.eq-self.ensures ∙ rw bytes refl in
+          let other : c.in-Err.fault ≡ Device → ⊥ = λ device. let clash : NotAStore ≡ Device = sym bytes ∙ device in cc clash in
           let alive = still_working (g.D.Disk.failed c.get.new.disk) (λ failed. other (let is_device : Err c.in-Err.fault ≡ Err Device = e.device.1 failed in cc is_device)) in
           record {
             began = c.requires.working;

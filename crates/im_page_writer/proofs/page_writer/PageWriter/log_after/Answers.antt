@@ -1,4 +1,4 @@
-use Rattle.std.proofs.Common.{ℕ, ◌∙◌, rules}
+use Rattle.std.proofs.Common.{ℕ, ◌∙◌, rules, refl}
 use Rattle.im_page_writer.proofs.Growing.{if_ok}
 use Rattle.im_page_writer.proofs.Goings.{covered_last, leaves_last}
 use Rattle.im_page_writer.proofs.LoggedChanges.{err_on}
@@ -7,7 +7,7 @@ use Rattle.im_page_writer.proofs.Structure.{refused_not}
 use Rattle.im_page_writer.proofs.page_writer.PageWriter.log_after.Goals as goal
 
 pub returns-in_err-frame-clause-outcome : goal.returns-in_err-frame-clause-outcome
-returns-in_err-frame-clause-outcome g c = log_refused g.D.Disk c.from_residual.result c.from_residual.ensures.1 (read_logs g.D.Disk (search_of g.D.Disk c.in_err-frame.ensures.outcome))
+returns-in_err-frame-clause-outcome g c = log_refused g.D.Disk c.from_residual.result c.from_residual.ensures.1 (read_logs g.D.Disk refl (search_of g.D.Disk c.in_err-frame.ensures.outcome))
 
 pub returns-in_err-frame-clause-kept : goal.returns-in_err-frame-clause-kept
 returns-in_err-frame-clause-kept g c b base s e is over =

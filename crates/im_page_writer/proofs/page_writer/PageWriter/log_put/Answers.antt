@@ -1,4 +1,4 @@
-use Rattle.std.proofs.Common.{ℕ, ap, subst, sym, ◌∙◌, rules}
+use Rattle.std.proofs.Common.{ℕ, ap, subst, sym, ◌∙◌, rules, refl}
 use Rattle.im_base_types.specs.Pages.{Page}
 use Rattle.im_page.specs.Header.{initial}
 use Rattle.im_page_pool.specs.Pool.{held_of}
@@ -10,7 +10,7 @@ use Rattle.im_page_writer.proofs.Outcomes.{append_logs, leaves_of_end, log_refus
 use Rattle.im_page_writer.proofs.page_writer.PageWriter.log_put.Goals as goal
 
 pub returns-in_err-frame-clause-outcome : goal.returns-in_err-frame-clause-outcome
-returns-in_err-frame-clause-outcome g c = log_refused g.D.Disk c.from_residual.result c.from_residual.ensures.1 (read_logs g.D.Disk (search_of g.D.Disk c.in_err-frame.ensures.outcome))
+returns-in_err-frame-clause-outcome g c = log_refused g.D.Disk c.from_residual.result c.from_residual.ensures.1 (read_logs g.D.Disk refl (search_of g.D.Disk c.in_err-frame.ensures.outcome))
 
 pub returns-in_err-frame-clause-kept : goal.returns-in_err-frame-clause-kept
 returns-in_err-frame-clause-kept g c b base s e is over =
@@ -18,7 +18,7 @@ returns-in_err-frame-clause-kept g c b base s e is over =
     record { ok = search rules; stops = leaves_of_end g.D.Disk c.in_err-frame.ensures.outcome b base s is ready; cause = λ takes. err_on c.from_residual.result c.in_err-frame.field-0.0 _ c.from_residual.ensures.1 (c.in_err-frame.ensures.sound b base s is ready) }
 
 pub returns-in_err-i-clause-outcome : goal.returns-in_err-i-clause-outcome
-returns-in_err-i-clause-outcome g c = log_refused g.D.Disk c.from_residual-in_err-i.result c.from_residual-in_err-i.ensures.1 (read_logs g.D.Disk (own_logs g.D.Disk c.in_err-i.ensures.refused.0 (search_of g.D.Disk c.in_ok-frame.ensures.outcome)))
+returns-in_err-i-clause-outcome g c = log_refused g.D.Disk c.from_residual-in_err-i.result c.from_residual-in_err-i.ensures.1 (read_logs g.D.Disk refl (own_logs g.D.Disk c.in_err-i.ensures.refused.0 (search_of g.D.Disk c.in_ok-frame.ensures.outcome)))
 
 pub returns-in_err-i-clause-kept : goal.returns-in_err-i-clause-kept
 returns-in_err-i-clause-kept g c b base s e is over =

@@ -1,4 +1,4 @@
-use Rattle.std.proofs.Common.{◌≡◌, ◌<◌, ◌≤◌, ◌++◌, ℕ, false, sym, ◌∙◌, ap, subst, arith, rules}
+use Rattle.std.proofs.Common.{◌≡◌, ◌<◌, ◌≤◌, ◌++◌, ℕ, false, sym, ◌∙◌, ap, subst, arith, rules, refl}
 use Rattle.im_base_types.specs.Pages.{Page}
 use Rattle.im_theory_log.specs.WriterSteps.{applies}
 use Rattle.im_log_record.specs.Entry.{view, page_of}
@@ -9,12 +9,12 @@ use Rattle.im_page_writer.proofs.KnownCopies.{known_ended}
 use Rattle.im_page_writer.proofs.Goings.{leaves_so_far}
 use Rattle.im_page_writer.specs.Outcome.{pages_of}
 use Rattle.im_page_writer.proofs.LoggedChanges.{err_on}
-use Rattle.im_page_writer.proofs.Outcomes.{leaves_of_end, pages_as, redo_of, redo_refused, redo_then}
+use Rattle.im_page_writer.proofs.Outcomes.{no_page_for, leaves_of_end, pages_as, redo_of, redo_refused, redo_then}
 use Rattle.im_page_writer.proofs.RedoneRecords.{applied_already, copy_still, ready_still, redo_kept_then, redone_none, there_still}
 use Rattle.im_page_writer.proofs.page_writer.PageWriter.redo_on.Goals as goal
 
 pub returns-in_err-frame-clause-outcome : goal.returns-in_err-frame-clause-outcome
-returns-in_err-frame-clause-outcome g c = redo_refused g.D.Disk c.from_residual.result c.from_residual.ensures.1 (redo_of g.D.Disk (λ e is. is) c.in_err-frame.ensures.outcome)
+returns-in_err-frame-clause-outcome g c = redo_refused g.D.Disk c.from_residual.result c.from_residual.ensures.1 (redo_of g.D.Disk (no_page_for _ refl) c.in_err-frame.ensures.outcome)
 
 pub returns-in_err-frame-clause-kept : goal.returns-in_err-frame-clause-kept
 returns-in_err-frame-clause-kept g c b base s newer older is over at there from ready has =
@@ -27,10 +27,10 @@ returns-in_err-frame-clause-kept g c b base s newer older is over at there from 
     }
 
 pub returns-then-lsn-clause-outcome : goal.returns-then-lsn-clause-outcome
-returns-then-lsn-clause-outcome g c = redo_of g.D.Disk (λ e is. is) c.in_ok-frame.ensures.outcome
+returns-then-lsn-clause-outcome g c = redo_of g.D.Disk (no_page_for _ refl) c.in_ok-frame.ensures.outcome
 
 pub returns-clause-outcome : goal.returns-clause-outcome
-returns-clause-outcome g c = redo_then g.D.Disk (redo_of g.D.Disk (λ e is. is) c.in_ok-frame.ensures.outcome) c.redo_with_room.ensures.outcome
+returns-clause-outcome g c = redo_then g.D.Disk (redo_of g.D.Disk (no_page_for _ refl) c.in_ok-frame.ensures.outcome) c.redo_with_room.ensures.outcome
 
 pub returns-then-lsn-clause-kept : goal.returns-then-lsn-clause-kept
 returns-then-lsn-clause-kept g c b base s newer older is over at there from ready has =
