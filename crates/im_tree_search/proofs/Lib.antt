@@ -6,3 +6,4 @@ pub mod Chain
 pub mod Walks
 pub mod NextNames
 pub mod Ranges
+pub mod Quiet

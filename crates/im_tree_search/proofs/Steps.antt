@@ -16,7 +16,7 @@ use Rattle.im_theory_tree.proofs.Way.{step_way}
 use Rattle.im_tree_search.specs.Levels.{HasLevel, bodies_of, kind_at}
 use Rattle.im_tree_search.specs.Found.{IsReached}
 
-inner_kind : (k : ℕ) → kind_at (suc k) ≡ Inner
+pub inner_kind : (k : ℕ) → kind_at (suc k) ≡ Inner
 inner_kind k = ap (λ (b : Bool). if b then Leaf else Inner) (eqb-suc-zero k)
 
 pub way_level : (pages : Pages) (h : ℕ) (key : Key) (p : ℕ) → IsOnWay pages h key p → HasLevel h (pages p)

@@ -3,3 +3,4 @@ pub mod Children
 pub mod Found
 pub mod NextKeys
 pub mod Ranges
+pub mod HeldPages

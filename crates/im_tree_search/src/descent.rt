@@ -1,16 +1,17 @@
 //! The way from the root to the leaf of a key.
 
-ghost use Rattle.std.specs.Prelude.{◌≡◌, ◌≤◌, ◌+◌, ◌-◌, ℕ, IfOk, OnOk};
+ghost use Rattle.std.specs.Prelude.{◌≡◌, ◌≤◌, ◌+◌, ◌-◌, ℕ, Bool, false, true, IfOk, OnOk};
 ghost use Rattle.im_base_types.specs.Keys.{Key};
 ghost use Rattle.im_base_types.specs.declared.page_kind.PageKind.TheVariants.{Inner};
 ghost use Rattle.im_page.specs.Child.{IsChild};
-ghost use Rattle.im_page_pool.specs.Pool.{page_at, IsAt};
+ghost use Rattle.im_page_pool.specs.Pool.{page_at, Holds, IsAt};
 ghost use Rattle.im_page_writer.specs.PageWriter.{IsReadyWriter};
 ghost use Rattle.im_page_writer.specs.Outcome.{fault_of, AllPages, IsSound, Reads};
 ghost use Rattle.im_theory_tree.specs.Levels.{height};
 ghost use Rattle.im_theory_tree.specs.Search.{IsOnWay};
 ghost use Rattle.im_tree_search.specs.Levels.{HasLevel, bodies_of};
 ghost use Rattle.im_tree_search.specs.Found.{HasTree, IsReached, IsLeafFor};
+ghost use Rattle.im_tree_search.specs.HeldPages.{HoldsWay, IsQuiet};
 
 use crate::levels::{has_level, tree_page};
 use im_base_disk::Disk;
@@ -45,13 +46,15 @@ fn step_down<D: Disk>(
     ensures at { IfOk result (IsAt writer.new.pool) }
     ensures page { IfOk result (λ child. HasLevel (level - 1) (page_at writer.new.pool child.number).body) }
     ensures gets { OnOk result (writer.new.pool.gets ≡ writer.old.pool.gets + 1) }
+    ensures quiet { (set : ℕ → Bool) → writer.old.failed ≡ false → HoldsWay key.now writer.old.pool set → set frame.number ≡ true → IsQuiet writer.old disk.old writer.new disk.new }
+    ensures within { (set : ℕ → Bool) → HoldsWay key.now writer.old.pool set → set frame.number ≡ true → IfOk result (λ child. set child.number ≡ true) }
 {
     let child = child_of(writer.page(frame), key);
     tree_page(writer, disk, child, level - 1)
 }
 
-// Page 1, where it is a page of the tree, of whatever level.
-fn root<D: Disk>(writer: &mut PageWriter, disk: &mut D) -> Result<Frame, Fault>
+/// Gets page 1. Refused `NotAStore` where it is no page of the tree, of whatever level; otherwise as `PageWriter::get` is.
+pub fn root<D: Disk>(writer: &mut PageWriter, disk: &mut D) -> Result<Frame, Fault>
     requires ready { IsReadyWriter D.Disk writer.old disk.old }
     ensures outcome { Reads D.Disk writer.old disk.old writer.new disk.new (fault_of result) }
     ensures kept { (pages : AllPages) (key : Key) → HasTree D.Disk pages writer.old disk.old
@@ -60,6 +63,7 @@ fn root<D: Disk>(writer: &mut PageWriter, disk: &mut D) -> Result<Frame, Fault>
     ensures page { IfOk result (λ frame. HasLevel (page_at writer.new.pool frame.number).body.level (page_at writer.new.pool frame.number).body) }
     ensures root { IfOk result (λ frame. frame.number ≡ 1) }
     ensures gets { OnOk result (writer.new.pool.gets ≡ writer.old.pool.gets + 1) }
+    ensures quiet { writer.old.failed ≡ false → Holds writer.old.pool 1 → IsQuiet writer.old disk.old writer.new disk.new }
 {
     let frame = writer.get(disk, 1)?;
     let page = writer.page(frame);
@@ -73,7 +77,7 @@ fn root<D: Disk>(writer: &mut PageWriter, disk: &mut D) -> Result<Frame, Fault>
 ///
 /// Levels are read from the pages and have to fall by one, so that the search ends on any bytes. Refused `NotAStore` where they
 /// don't, or where a page above level 0 is no inner page, or that of level 0 no leaf; otherwise as `PageWriter::get` is. Behind
-/// `NotAStore` the writer goes on.
+/// `NotAStore` the writer goes on. Where the pages of the key's way are held, nothing is asked of the disk (`quiet`).
 #[tactic(auto, using(im_page_writer::proofs::Outcomes::then, im_page_writer::proofs::Outcomes::refused))]
 pub fn leaf_for<D: Disk>(writer: &mut PageWriter, disk: &mut D, key: &[u8]) -> Result<Frame, Fault>
     requires ready { IsReadyWriter D.Disk writer.old disk.old }
@@ -82,6 +86,8 @@ pub fn leaf_for<D: Disk>(writer: &mut PageWriter, disk: &mut D, key: &[u8]) -> R
         → IsSound result (λ frame. IsLeafFor pages key.now frame.number writer.old.pool.gets writer.new.pool) }
     ensures at { IfOk result (IsAt writer.new.pool) }
     ensures leaf { IfOk result (λ frame. HasLevel 0 (page_at writer.new.pool frame.number).body) }
+    ensures quiet { (set : ℕ → Bool) → writer.old.failed ≡ false → HoldsWay key.now writer.old.pool set → IsQuiet writer.old disk.old writer.new disk.new }
+    ensures within { (set : ℕ → Bool) → writer.old.failed ≡ false → HoldsWay key.now writer.old.pool set → IfOk result (λ frame. set frame.number ≡ true) }
 {
     let mut frame = root(writer, disk)?;
     let mut level = writer.page(frame).level();

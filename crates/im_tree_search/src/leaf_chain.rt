@@ -1,6 +1,6 @@
 //! The first entry past a key.
 
-ghost use Rattle.std.specs.Prelude.{◌≡◌, ◌<◌, ℕ, length, Some, None, option_map, IfOk, IfSome, OnOk, ◌+◌};
+ghost use Rattle.std.specs.Prelude.{◌≡◌, ◌≤◌, ◌<◌, ℕ, Bool, false, true, length, Some, None, option_map, IfOk, IfSome, OnOk, ◌+◌};
 ghost use Rattle.im_base_types.specs.Maps.{first_in};
 ghost use Rattle.im_page.specs.Entry.{entry_at};
 ghost use Rattle.im_page_writer.specs.PageWriter.{IsReadyWriter};
@@ -8,7 +8,9 @@ ghost use Rattle.im_page_writer.specs.Outcome.{fault_of, AllPages, IsSound, Read
 ghost use Rattle.im_theory_tree.specs.Levels.{walk};
 ghost use Rattle.im_theory_tree.specs.Lookups.{IsAhead, IsFirstAt};
 ghost use Rattle.im_tree_search.specs.Levels.{bodies_of, start_at};
+ghost use Rattle.im_page_pool.specs.Pool.{Holds};
 ghost use Rattle.im_tree_search.specs.Found.{HasTree, IsFirstOf, entry_of};
+ghost use Rattle.im_tree_search.specs.HeldPages.{HoldsOn, IsQuiet};
 ghost use Rattle.im_tree_search.specs.Ranges.{IsParted};
 
 use crate::descent::leaf_for;
@@ -52,6 +54,7 @@ pub(crate) fn page_count<D: Disk>(writer: &mut PageWriter, disk: &mut D) -> Resu
     ensures kept { (pages : AllPages) → HasTree D.Disk pages writer.old disk.old
         → IsSound result (λ count. count ≡ (pages 0).body.leftmost) }
     ensures gets { OnOk result (writer.new.pool.gets ≡ writer.old.pool.gets + 1) }
+    ensures quiet { writer.old.failed ≡ false → Holds writer.old.pool 0 → IsQuiet writer.old disk.old writer.new disk.new }
 {
     let frame = writer.get(disk, 0)?;
     let page = writer.page(frame);
@@ -76,6 +79,7 @@ pub(crate) fn first_along<D: Disk>(
     ensures kept { (pages : AllPages) → HasTree D.Disk pages writer.old disk.old → IsAhead (bodies_of pages) (start_at inclusive key.now) 0 from
         → IsSound result (λ found. option_map (entry_of writer.new.pool) found ≡ first_in (start_at inclusive key.now) (walk (bodies_of pages))) }
     ensures first { IfOk result (λ found. IfSome found (IsFirstOf (start_at inclusive key.now) writer.new.pool)) }
+    ensures quiet { (set : ℕ → Bool) → writer.old.failed ≡ false → HoldsOn key.now writer.old.pool set → (1 ≤ from → set from ≡ true) → IsQuiet writer.old disk.old writer.new disk.new }
 {
     let mut left = page_count(writer, disk)?;
     let mut number = from;
@@ -113,6 +117,7 @@ pub fn next_entry<D: Disk>(
     ensures kept { (pages : AllPages) → HasTree D.Disk pages writer.old disk.old
         → IsSound result (λ found. option_map (entry_of writer.new.pool) found ≡ first_in (start_at inclusive key.now) (walk (bodies_of pages))) }
     ensures first { IfOk result (λ found. IfSome found (IsFirstOf (start_at inclusive key.now) writer.new.pool)) }
+    ensures quiet { (set : ℕ → Bool) → writer.old.failed ≡ false → HoldsOn key.now writer.old.pool set → IsQuiet writer.old disk.old writer.new disk.new }
 {
     let frame = leaf_for(writer, disk, key)?;
     let leaf = writer.page(frame);

@@ -1,9 +1,10 @@
 //! A page of the tree, from its number and its level.
 
-ghost use Rattle.std.specs.Prelude.{◌≡◌, ◌↔◌, ◌+◌, ℕ, IfOk, OnOk, IsTrue};
-ghost use Rattle.im_page_pool.specs.Pool.{page_at, IsAt};
+ghost use Rattle.std.specs.Prelude.{◌≡◌, ◌↔◌, ◌+◌, ℕ, false, IfOk, OnOk, IsTrue};
+ghost use Rattle.im_page_pool.specs.Pool.{page_at, Holds, IsAt};
 ghost use Rattle.im_page_writer.specs.PageWriter.{IsReadyWriter};
 ghost use Rattle.im_page_writer.specs.Outcome.{fault_of, AllPages, AreLoaded, HasPages, IsSound, Reads};
+ghost use Rattle.im_tree_search.specs.HeldPages.{IsQuiet};
 ghost use Rattle.im_tree_search.specs.Levels.{HasLevel};
 
 use im_base_disk::Disk;
@@ -40,6 +41,7 @@ pub fn tree_page<D: Disk>(
     ensures frame { IfOk result (λ frame. frame.number ≡ number) }
     ensures page { OnOk result (HasLevel level (page_at writer.new.pool number).body) }
     ensures gets { OnOk result (writer.new.pool.gets ≡ writer.old.pool.gets + 1) }
+    ensures quiet { writer.old.failed ≡ false → Holds writer.old.pool number → IsQuiet writer.old disk.old writer.new disk.new }
 {
     let frame = writer.get(disk, number)?;
     if !has_level(writer.page(frame), level) {

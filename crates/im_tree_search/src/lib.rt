@@ -39,7 +39,7 @@ mod range;
 mod reading;
 
 pub use child_place::{Child, ChildPlace};
-pub use descent::leaf_for;
+pub use descent::{leaf_for, root};
 pub use entry_place::EntryPlace;
 pub use leaf_chain::next_entry;
 pub use levels::{has_level, tree_page};

@@ -1,11 +1,12 @@
 //! The row id of a key.
 
-ghost use Rattle.std.specs.Prelude.{◌≡◌, ℕ};
+ghost use Rattle.std.specs.Prelude.{◌≡◌, ℕ, Bool, false};
 ghost use Rattle.std.specs.FinMap.Entries.{find};
 ghost use Rattle.im_base_types.specs.Keys.{key_order};
 ghost use Rattle.im_page_writer.specs.PageWriter.{IsReadyWriter};
 ghost use Rattle.im_page_writer.specs.Outcome.{fault_of, AllPages, IsSound, Reads};
 ghost use Rattle.im_tree_search.specs.Found.{HasTree, IsLocated};
+ghost use Rattle.im_tree_search.specs.HeldPages.{HoldsWay, IsQuiet};
 
 use crate::descent::leaf_for;
 use im_base_disk::Disk;
@@ -36,6 +37,7 @@ pub fn locate<D: Disk>(
     ensures outcome { Reads D.Disk writer.old disk.old writer.new disk.new (fault_of result) }
     ensures kept { (pages : AllPages) → HasTree D.Disk pages writer.old disk.old
         → IsSound result (λ rid. IsLocated pages key.now rid writer.old.pool.gets writer.new.pool) }
+    ensures quiet { (set : ℕ → Bool) → writer.old.failed ≡ false → HoldsWay key.now writer.old.pool set → IsQuiet writer.old disk.old writer.new disk.new }
 {
     let frame = leaf_for(writer, disk, key)?;
     Ok(value_of(writer.page(frame), key))

@@ -1,6 +1,6 @@
 //! The leaf of a key, and the key behind it.
 
-ghost use Rattle.std.specs.Prelude.{◌≡◌, ◌<◌, ℕ, false, IfOk, length};
+ghost use Rattle.std.specs.Prelude.{◌≡◌, ◌≤◌, ◌<◌, ℕ, Bool, false, true, IfOk, length};
 ghost use Rattle.im_base_types.specs.Maps.{Above};
 ghost use Rattle.im_page.specs.Entry.{entry_at};
 ghost use Rattle.im_page_pool.specs.Pool.{page_at, IsAt};
@@ -9,6 +9,7 @@ ghost use Rattle.im_page_writer.specs.Outcome.{fault_of, AllPages, IsSound, Read
 ghost use Rattle.im_theory_tree.specs.Lookups.{IsAhead};
 ghost use Rattle.im_tree_search.specs.Levels.{HasLevel, bodies_of};
 ghost use Rattle.im_tree_search.specs.Found.{HasTree, IsReached, entries_of};
+ghost use Rattle.im_tree_search.specs.HeldPages.{HoldsOn, IsQuiet};
 ghost use Rattle.im_tree_search.specs.NextKeys.{far_name, name_above, IsFar, IsWithin, IsNextInLeaf, IsLeafAndNext};
 ghost use Rattle.im_tree_search.specs.declared.next_key.NextKey.TheVariants.{There};
 
@@ -52,6 +53,7 @@ fn name_along<D: Disk>(
     ensures kept { (pages : AllPages) → HasTree D.Disk pages writer.old disk.old → IsAhead (bodies_of pages) (Above key.now) 0 from
         → IsSound result (λ next. far_name next ≡ name_above key.now (bodies_of pages)) }
     ensures far { IfOk result IsFar }
+    ensures quiet { (set : ℕ → Bool) → writer.old.failed ≡ false → HoldsOn key.now writer.old.pool set → (1 ≤ from → set from ≡ true) → IsQuiet writer.old disk.old writer.new disk.new }
 {
     let Some(place) = first_along(writer, disk, from, key, false)? else {
         return Ok(NextKey::End);
@@ -81,6 +83,7 @@ pub fn next_in_leaf<D: Disk>(
     ensures number { IfOk result (λ x. x.0.number ≡ leaf.number) }
     ensures leaf { IfOk result (λ x. HasLevel 0 (page_at writer.new.pool x.0.number).body) }
     ensures within { IfOk result (λ x. IsWithin (entries_of writer.new.pool x.0.number) x.1) }
+    ensures quiet { (set : ℕ → Bool) → HoldsOn key.now writer.old.pool set → set leaf.number ≡ true → IsQuiet writer.old disk.old writer.new disk.new }
 {
     let page = writer.page(leaf);
     if let Some(at) = first_past(page, key, false) {
@@ -109,6 +112,7 @@ pub fn leaf_and_next<D: Disk>(
     ensures at { IfOk result (λ x. IsAt writer.new.pool x.0) }
     ensures leaf { IfOk result (λ x. HasLevel 0 (page_at writer.new.pool x.0.number).body) }
     ensures within { IfOk result (λ x. IsWithin (entries_of writer.new.pool x.0.number) x.1) }
+    ensures quiet { (set : ℕ → Bool) → writer.old.failed ≡ false → HoldsOn key.now writer.old.pool set → IsQuiet writer.old disk.old writer.new disk.new }
 {
     let leaf = leaf_for(writer, disk, key)?;
     next_in_leaf(writer, disk, leaf, key)

@@ -1,10 +1,11 @@
-use Rattle.std.proofs.Common.{◌≡◌, ℕ, ap, sym, ◌∙◌, subst, arith}
+use Rattle.std.proofs.Common.{◌≡◌, ℕ, true, ap, sym, ◌∙◌, subst, arith}
 use Rattle.im_base_types.specs.Pages.{Page}
 use Rattle.im_page_writer.proofs.Outcomes.{sound_on, then}
 use Rattle.im_theory_tree.specs.Levels.{height}
 use Rattle.im_tree_search.specs.Levels.{bodies_of}
 use Rattle.im_tree_search.specs.Found.{IsReached}
 use Rattle.im_tree_search.proofs.Pages.{tree_still}
+use Rattle.im_tree_search.proofs.Quiet.{quiet_then, way_still}
 use Rattle.im_tree_search.proofs.descent.leaf_for.Goals as goal
 
 pub returns-in_err-frame-clause-kept : goal.returns-in_err-frame-clause-kept
@@ -25,6 +26,7 @@ loop-level-init g c =
             reached = subst (λ (h : ℕ). IsReached pages c.args.key.now h c.in_ok-frame.frame.number c.root.new.writer.pool) (sym tall) r;
             count = omega (arith, e.gets, tall);
           };
+      quiet = λ set working way. (e.quiet working (way.held 1 way.root), subst (λ (n : ℕ). set n ≡ true) (sym e.root) way.root);
     }
 
 pub returns-in_err-frame-2-clause-kept : goal.returns-in_err-frame-2-clause-kept
@@ -43,6 +45,10 @@ loop-level-preserved g c =
       kept = λ pages tree.
           let was = l.invariant.kept pages tree in
           record { reached = e.kept pages (tree_still g.D.Disk tree l.invariant.outcome) was.reached.way; count = omega (arith, e.gets, was.count, c.loop-level-test.true) };
+      quiet = λ set working way.
+          let was = l.invariant.quiet set working way in
+          let here = way_still c.args.key.now set way was.0 in
+          (quiet_then was.0 (e.quiet set l.invariant.outcome.ends.works here was.1), e.within set here was.1);
     }
 
 pub returns-clause-kept : goal.returns-clause-kept
@@ -51,3 +57,18 @@ returns-clause-kept g c pages tree =
     let was = l.invariant.kept pages tree in
     let end : l.level ≡ 0 = omega (arith, c.loop-level-test.false) in
     record { reached = subst (λ (h : ℕ). IsReached pages c.args.key.now h l.frame.number l.writer.pool) end was.reached; gets = omega (arith, was.count, end) }
+
+pub returns-in_err-frame-clause-quiet : goal.returns-in_err-frame-clause-quiet
+returns-in_err-frame-clause-quiet g c set working way = c.in_err-frame.ensures.quiet working (way.held 1 way.root)
+
+pub returns-in_err-frame-2-clause-quiet : goal.returns-in_err-frame-2-clause-quiet
+returns-in_err-frame-2-clause-quiet g c set working way =
+    let l = c.loop-level in
+    let was = l.invariant.quiet set working way in
+    quiet_then was.0 (c.in_err-frame-2.ensures.quiet set l.invariant.outcome.ends.works (way_still c.args.key.now set way was.0) was.1)
+
+pub returns-clause-quiet : goal.returns-clause-quiet
+returns-clause-quiet g c set working way = (c.loop-level.invariant.quiet set working way).0
+
+pub returns-clause-within : goal.returns-clause-within
+returns-clause-within g c set working way = (c.loop-level.invariant.quiet set working way).1

@@ -8,6 +8,7 @@ use Rattle.im_theory_tree.proofs.Way.{way_begins}
 use Rattle.im_tree_search.specs.Levels.{HasLevel, bodies_of}
 use Rattle.im_tree_search.specs.Found.{IsReached}
 use Rattle.im_tree_search.proofs.Steps.{way_level}
+use Rattle.im_tree_search.proofs.Quiet.{got_quiet}
 use Rattle.im_tree_search.proofs.descent.root.Goals as goal
 
 pub returns-in_err-frame-clause-kept : goal.returns-in_err-frame-clause-kept
@@ -25,3 +26,12 @@ pub returns-clause-kept : goal.returns-clause-kept
 returns-clause-kept g c pages key tree =
     subst (λ (n : ℕ). IsReached pages key (height (bodies_of pages)) n c.get.new.self.pool) (sym c.in_ok-frame.ensures.frame)
     (record { shown = c.in_ok-frame.ensures.kept pages (pages_to g.D.Disk 1 tree.has); way = way_begins (bodies_of pages) tree.spare key tree.good })
+
+pub returns-in_err-frame-clause-quiet : goal.returns-in_err-frame-clause-quiet
+returns-in_err-frame-clause-quiet g c working holds = got_quiet (c.in_err-frame.ensures.held working holds) (c.in_err-frame.ensures.quiet working holds)
+
+pub returns-then-not-has_level-clause-quiet : goal.returns-then-not-has_level-clause-quiet
+returns-then-not-has_level-clause-quiet g c working holds = got_quiet (c.in_ok-frame.ensures.held working holds) (c.in_ok-frame.ensures.quiet working holds)
+
+pub returns-clause-quiet : goal.returns-clause-quiet
+returns-clause-quiet g c working holds = got_quiet (c.in_ok-frame.ensures.held working holds) (c.in_ok-frame.ensures.quiet working holds)

@@ -4,6 +4,7 @@ use Rattle.im_page.specs.Child.{IsChild}
 use Rattle.im_page_writer.proofs.Outcomes.{held_is}
 use Rattle.im_tree_search.specs.Levels.{bodies_of}
 use Rattle.im_tree_search.proofs.Steps.{way_level, step_level, reached_got}
+use Rattle.im_tree_search.proofs.Quiet.{child_in_set, number_in_set}
 use Rattle.im_tree_search.proofs.descent.step_down.Goals as goal
 
 pub returns-clause-kept : goal.returns-clause-kept
@@ -13,3 +14,13 @@ returns-clause-kept g c pages tree way =
     let down = step_level (bodies_of pages) c.args.level c.args.key.now c.args.frame.number c.child_of-child.result c.requires.inner way child in
     reached_got c.tree_page.result pages c.args.key.now (c.args.level - 1) c.child_of-child.result c.tree_page.new.writer.pool
     (c.tree_page.ensures.kept pages tree.has (way_level (bodies_of pages) (c.args.level - 1) c.args.key.now c.child_of-child.result down)) c.tree_page.ensures.frame down
+
+pub returns-clause-quiet : goal.returns-clause-quiet
+returns-clause-quiet g c set working way in_set =
+    let child = child_in_set c.args.key.now set c.args.writer.now.pool c.args.level c.args.frame.number c.child_of-child.result c.page.result.now way in_set c.requires.inner c.requires.page c.page.ensures.page c.child_of-child.ensures in
+    c.tree_page.ensures.quiet working (way.held c.child_of-child.result child)
+
+pub returns-clause-within : goal.returns-clause-within
+returns-clause-within g c set way in_set =
+    let child = child_in_set c.args.key.now set c.args.writer.now.pool c.args.level c.args.frame.number c.child_of-child.result c.page.result.now way in_set c.requires.inner c.requires.page c.page.ensures.page c.child_of-child.ensures in
+    number_in_set set c.child_of-child.result c.tree_page.result child c.tree_page.ensures.frame

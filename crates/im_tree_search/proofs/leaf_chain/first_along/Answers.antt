@@ -1,18 +1,19 @@
-use Rattle.std.proofs.Common.{◌≡◌, ◌≤◌, ℕ, suc, sym, subst, refl, arith}
+use Rattle.std.proofs.Common.{◌≡◌, ◌≤◌, ℕ, true, suc, sym, subst, refl, arith}
 use Rattle.im_page_pool.specs.Pool.{page_at}
 use Rattle.im_page_writer.proofs.Outcomes.{sound_on, then}
 use Rattle.im_theory_tree.specs.Lookups.{IsAhead}
 use Rattle.im_theory_tree.proofs.LookupLemmas.{ahead_ends}
-use Rattle.im_tree_search.specs.Levels.{bodies_of, start_at}
+use Rattle.im_tree_search.specs.Levels.{HasLevel, bodies_of, start_at}
 use Rattle.im_tree_search.proofs.Chain.{ahead_answer, ahead_level, ahead_next, chain_ends}
 use Rattle.im_tree_search.proofs.Pages.{got_says, tree_still}
+use Rattle.im_tree_search.proofs.Quiet.{next_in_set, on_still, quiet_then}
 use Rattle.im_tree_search.proofs.leaf_chain.first_along.Goals as goal
 
 pub returns-in_err-left-clause-kept : goal.returns-in_err-left-clause-kept
 returns-in_err-left-clause-kept g c pages tree ahead = sound_on c.from_residual.result _ _ c.from_residual.ensures.1 (c.in_err-left.ensures.kept pages tree)
 
 pub loop-number-init : goal.loop-number-init
-loop-number-init g c = record { outcome = c.in_ok-left.ensures.outcome; kept = λ pages tree ahead. record { passed = 0; ahead = ahead; count = omega (arith, c.in_ok-left.ensures.kept pages tree) } }
+loop-number-init g c = record { outcome = c.in_ok-left.ensures.outcome; kept = λ pages tree ahead. record { passed = 0; ahead = ahead; count = omega (arith, c.in_ok-left.ensures.kept pages tree) }; quiet = λ set working on from. (c.in_ok-left.ensures.quiet working (on.way.held 0 on.meta), from) }
 
 pub returns-then-left-eq0-clause-kept : goal.returns-then-left-eq0-clause-kept
 returns-then-left-eq0-clause-kept g c pages tree ahead =
@@ -62,6 +63,13 @@ loop-number-preserved g c =
             ahead = subst (λ (n : ℕ). IsAhead (bodies_of pages) start (suc so.passed) n) (sym c.next-number.ensures) past;
             count = omega (arith, so.count, c.if-left-eq0.false);
           };
+      quiet = λ set working on from.
+          let was = l.invariant.quiet set working on from in
+          let in_set = was.1 some in
+          let here = on_still c.args.key.now set on was.0 in
+          let still = e.quiet l.invariant.outcome.ends.works (here.way.held l.number in_set) in
+          let there = on_still c.args.key.now set here still in
+          (quiet_then was.0 still, λ more. next_in_set c.args.key.now set pool frame.number c.next-number.result c.page-leaf.result.now there (subst (λ (n : ℕ). set n ≡ true) (sym e.frame) in_set) (subst (λ (n : ℕ). HasLevel 0 (page_at pool n).body) (sym e.frame) e.page) c.page-leaf.ensures.page c.next-number.ensures more);
     }
 
 pub returns-clause-kept : goal.returns-clause-kept
@@ -71,3 +79,24 @@ returns-clause-kept g c pages tree ahead =
     let start = start_at c.args.inclusive c.args.key.now in
     let end : l.number ≡ 0 = omega (arith, c.loop-number-test.false) in
     sym (ahead_ends (bodies_of pages) tree.spare start so.passed tree.good (subst (λ (n : ℕ). IsAhead (bodies_of pages) start so.passed n) end so.ahead))
+
+pub returns-in_err-left-clause-quiet : goal.returns-in_err-left-clause-quiet
+returns-in_err-left-clause-quiet g c set working on from = c.in_err-left.ensures.quiet working (on.way.held 0 on.meta)
+
+pub returns-then-left-eq0-clause-quiet : goal.returns-then-left-eq0-clause-quiet
+returns-then-left-eq0-clause-quiet g c set working on from = (c.loop-number.invariant.quiet set working on from).0
+
+pub returns-in_err-frame-clause-quiet : goal.returns-in_err-frame-clause-quiet
+returns-in_err-frame-clause-quiet g c set working on from =
+    let l = c.loop-number in
+    let was = l.invariant.quiet set working on from in
+    quiet_then was.0 (c.in_err-frame.ensures.quiet l.invariant.outcome.ends.works ((on_still c.args.key.now set on was.0).way.held l.number (was.1 (omega (arith, c.loop-number-test.true)))))
+
+pub returns-in-Some-clause-quiet : goal.returns-in-Some-clause-quiet
+returns-in-Some-clause-quiet g c set working on from =
+    let l = c.loop-number in
+    let was = l.invariant.quiet set working on from in
+    quiet_then was.0 (c.in_ok-frame.ensures.quiet l.invariant.outcome.ends.works ((on_still c.args.key.now set on was.0).way.held l.number (was.1 (omega (arith, c.loop-number-test.true)))))
+
+pub returns-clause-quiet : goal.returns-clause-quiet
+returns-clause-quiet g c set working on from = (c.loop-number.invariant.quiet set working on from).0

@@ -3,6 +3,7 @@ use Rattle.im_base_types.specs.declared.page_kind.PageKind.TheVariants.{Meta}
 use Rattle.im_base_types.specs.Pages.{Page}
 use Rattle.im_page_pool.specs.Pool.{page_at}
 use Rattle.im_page_writer.proofs.Outcomes.{pages_to, sound_on}
+use Rattle.im_tree_search.proofs.Quiet.{got_quiet}
 use Rattle.im_tree_search.proofs.leaf_chain.page_count.Goals as goal
 
 pub returns-in_err-frame-clause-kept : goal.returns-in_err-frame-clause-kept
@@ -17,3 +18,12 @@ returns-then-ne-clause-kept g c pages tree =
 pub returns-clause-kept : goal.returns-clause-kept
 returns-clause-kept g c pages tree =
     c.leftmost.ensures ∙ ap (λ (x : Page). x.body.leftmost) (c.page-page.ensures.page ∙ ap (λ (n : ℕ). page_at c.get.new.self.pool n) c.in_ok-frame.ensures.frame ∙ c.in_ok-frame.ensures.kept pages (pages_to g.D.Disk 0 tree.has))
+
+pub returns-in_err-frame-clause-quiet : goal.returns-in_err-frame-clause-quiet
+returns-in_err-frame-clause-quiet g c working holds = got_quiet (c.in_err-frame.ensures.held working holds) (c.in_err-frame.ensures.quiet working holds)
+
+pub returns-then-ne-clause-quiet : goal.returns-then-ne-clause-quiet
+returns-then-ne-clause-quiet g c working holds = got_quiet (c.in_ok-frame.ensures.held working holds) (c.in_ok-frame.ensures.quiet working holds)
+
+pub returns-clause-quiet : goal.returns-clause-quiet
+returns-clause-quiet g c working holds = got_quiet (c.in_ok-frame.ensures.held working holds) (c.in_ok-frame.ensures.quiet working holds)

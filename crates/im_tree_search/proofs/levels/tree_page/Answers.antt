@@ -4,6 +4,7 @@ use Rattle.im_base_types.specs.Pages.{Page}
 use Rattle.im_page_pool.specs.Pool.{page_at}
 use Rattle.im_tree_search.specs.Levels.{HasLevel}
 use Rattle.im_page_writer.proofs.Outcomes.{pages_to, sound_on}
+use Rattle.im_tree_search.proofs.Quiet.{got_quiet}
 use Rattle.im_tree_search.proofs.levels.tree_page.Goals as goal
 
 pub returns-in_err-frame-clause-kept : goal.returns-in_err-frame-clause-kept
@@ -17,3 +18,12 @@ returns-then-not-has_level-clause-kept g c pages has level =
 
 pub returns-clause-kept : goal.returns-clause-kept
 returns-clause-kept g c pages has level = c.in_ok-frame.ensures.kept pages (pages_to g.D.Disk c.args.number has)
+
+pub returns-in_err-frame-clause-quiet : goal.returns-in_err-frame-clause-quiet
+returns-in_err-frame-clause-quiet g c working holds = got_quiet (c.in_err-frame.ensures.held working holds) (c.in_err-frame.ensures.quiet working holds)
+
+pub returns-then-not-has_level-clause-quiet : goal.returns-then-not-has_level-clause-quiet
+returns-then-not-has_level-clause-quiet g c working holds = got_quiet (c.in_ok-frame.ensures.held working holds) (c.in_ok-frame.ensures.quiet working holds)
+
+pub returns-clause-quiet : goal.returns-clause-quiet
+returns-clause-quiet g c working holds = got_quiet (c.in_ok-frame.ensures.held working holds) (c.in_ok-frame.ensures.quiet working holds)

@@ -18,3 +18,9 @@ returns-clause-kept g c pages tree =
           ∙ sym (leaf_value (bodies_of pages) tree.spare c.args.key.now c.in_ok-frame.frame.number tree.good r.reached.way);
       gets = r.gets;
     }
+
+pub returns-in_err-frame-clause-quiet : goal.returns-in_err-frame-clause-quiet
+returns-in_err-frame-clause-quiet g c set working way = c.in_err-frame.ensures.quiet set working way
+
+pub returns-clause-quiet : goal.returns-clause-quiet
+returns-clause-quiet g c set working way = c.in_ok-frame.ensures.quiet set working way

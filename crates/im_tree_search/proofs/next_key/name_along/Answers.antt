@@ -34,3 +34,12 @@ returns-clause-kept g c pages tree ahead =
 
 pub returns-clause-far : goal.returns-clause-far
 returns-clause-far g c = subst (λ (n : NextKey). IsFar n) (sym c.copied.ensures) tt
+
+pub returns-in_err-place-clause-quiet : goal.returns-in_err-place-clause-quiet
+returns-in_err-place-clause-quiet g c set working on from = c.in_err-place.ensures.quiet set working on from
+
+pub returns-in_default-clause-quiet : goal.returns-in_default-clause-quiet
+returns-in_default-clause-quiet g c set working on from = c.in_ok-place.ensures.quiet set working on from
+
+pub returns-clause-quiet : goal.returns-clause-quiet
+returns-clause-quiet g c set working on from = c.in_ok-place.ensures.quiet set working on from

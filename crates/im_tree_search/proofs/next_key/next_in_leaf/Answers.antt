@@ -10,6 +10,7 @@ use Rattle.im_tree_search.proofs.Chain.{ahead_here, ahead_answer, leads_on}
 use Rattle.im_tree_search.proofs.NextNames.{far_is, far_within, key_of, never_both}
 use Rattle.im_tree_search.proofs.Pages.{tree_still}
 use Rattle.im_tree_search.proofs.Steps.{way_level}
+use Rattle.im_tree_search.proofs.Quiet.{next_in_set, on_still, quiet_start, quiet_then}
 use Rattle.im_tree_search.proofs.next_key.next_in_leaf.Goals as goal
 
 pub returns-in-Some-clause-outcome : goal.returns-in-Some-clause-outcome
@@ -59,3 +60,25 @@ returns-in-Some-clause-within g c = subst (λ (x : Page). c.in-Some.at < length 
 
 pub returns-clause-within : goal.returns-clause-within
 returns-clause-within g c = far_within (entries_of c.tree_page.new.writer.pool c.in_ok-frame.frame.number) c.in_ok-name.name c.in_ok-name.ensures.far
+
+pub returns-in-Some-clause-quiet : goal.returns-in-Some-clause-quiet
+returns-in-Some-clause-quiet g c set on in_set = quiet_start c.args.writer.now c.args.disk.now
+
+pub returns-in_err-name-clause-quiet : goal.returns-in_err-name-clause-quiet
+returns-in_err-name-clause-quiet g c set on in_set =
+    c.in_err-name.ensures.quiet set c.requires.working on
+    (λ some. next_in_set c.args.key.now set c.args.writer.now.pool c.args.leaf.number c.next-next.result c.page-page.result.now on in_set c.requires.page c.page-page.ensures.page c.next-next.ensures some)
+
+pub returns-in_err-frame-clause-quiet : goal.returns-in_err-frame-clause-quiet
+returns-in_err-frame-clause-quiet g c set on in_set =
+    let e = c.in_ok-name.ensures in
+    let still = e.quiet set c.requires.working on
+    (λ some. next_in_set c.args.key.now set c.args.writer.now.pool c.args.leaf.number c.next-next.result c.page-page.result.now on in_set c.requires.page c.page-page.ensures.page c.next-next.ensures some) in
+    quiet_then still (c.in_err-frame.ensures.quiet e.outcome.ends.works ((on_still c.args.key.now set on still).way.held c.args.leaf.number in_set))
+
+pub returns-clause-quiet : goal.returns-clause-quiet
+returns-clause-quiet g c set on in_set =
+    let e = c.in_ok-name.ensures in
+    let still = e.quiet set c.requires.working on
+    (λ some. next_in_set c.args.key.now set c.args.writer.now.pool c.args.leaf.number c.next-next.result c.page-page.result.now on in_set c.requires.page c.page-page.ensures.page c.next-next.ensures some) in
+    quiet_then still (c.in_ok-frame.ensures.quiet e.outcome.ends.works ((on_still c.args.key.now set on still).way.held c.args.leaf.number in_set))
