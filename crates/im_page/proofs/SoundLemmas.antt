@@ -50,28 +50,33 @@ begun_at leaf bytes flags at len walk lt h =
     (λ i li. ((h.sound.cells i li).low, omega arith, (h.sound.cells i li).high)) h.sound.apart all at walk.low lt in
     (some.0, some.1, ⊎_elim (λ (x : slot_at bytes some.0 < at). absurd (omega (arith, (walk.found h some.0 some.1 x).1, some.3))) (λ (x : at ≤ slot_at bytes some.0). omega (arith, x, some.2)) (cases_lt (slot_at bytes some.0) at))
 
+-- where the walk goes on, a packed page has a cell
+pub cell_there : (leaf : Bool) (bytes : List ℕ) (flags : List Bool) (at : ℕ) → length bytes ≡ 4096 → AreStartsTo leaf bytes flags at → at < 4096
+    → SlotsSound leaf bytes → IsCell leaf bytes at
+cell_there leaf bytes flags at len walk lt h = let first = begun_at leaf bytes flags at len walk lt h in subst (IsCell leaf bytes) first.2 (h.sound.cells first.0 first.1)
+
 pub walk_begins : (leaf : Bool) (bytes : List ℕ) (flags : List Bool) → start_of bytes ≤ 4096 → flags ≡ replicate 4096 false → length flags ≡ 4096 → AreStartsTo leaf bytes flags (start_of bytes)
 walk_begins leaf bytes flags start clear long =
     let none : (k : ℕ) → is_taken flags k ≡ true → ⊥ = λ k t. true≢false (sym t ∙ ap (λ f. is_taken f k) clear ∙ all_false 4096 k) in
     record {
       low = omega arith;
-      high = start;
+      high = λ _. start;
       len = long;
-      starts = record { cells = λ k t. absurd (none k t); apart = λ k j t u lt. absurd (none k t) };
+      starts = record { low = λ k t. absurd (none k t); apart = λ k j t u lt. absurd (none k t) };
       ends = λ k t. absurd (none k t);
       found = λ h i li lt. absurd (omega (arith, lt, (h.sound.cells i li).low));
     }
 
 pub walk_goes : (leaf : Bool) (bytes : List ℕ) (flags new : List Bool) (at : ℕ) → length bytes ≡ 4096 → AreStartsTo leaf bytes flags at → at < 4096
-    → IsCell leaf bytes at → MarksOne flags new at → AreStartsTo leaf bytes new (at + cell_size leaf bytes at)
-walk_goes leaf bytes flags new at len walk lt cell marks =
+    → MarksOne flags new at → AreStartsTo leaf bytes new (at + cell_size leaf bytes at)
+walk_goes leaf bytes flags new at len walk lt marks =
     let old : (k : ℕ) → is_taken new k ≡ true → (k ≡ at) ⊎ (is_taken flags k ≡ true) = λ k t. ⊎_elim (λ (e : k ≡ at). inl e) (λ ne. inr (sym (marks.others k ne) ∙ t)) (cases_eq k at) in
     record {
       low = omega (arith, walk.low);
-      high = cell.high;
+      high = λ h. (cell_there leaf bytes flags at len walk lt h).high;
       len = marks.len ∙ walk.len;
       starts = record {
-        cells = λ k t. ⊎_elim (λ (e : k ≡ at). subst (IsCell leaf bytes) (sym e) cell) (λ o. walk.starts.cells k o) (old k t);
+        low = λ k t. ⊎_elim (λ (e : k ≡ at). omega (arith, e, walk.low)) (λ o. walk.starts.low k o) (old k t);
         apart = λ k j t u kj. ⊎_elim
             (λ (e : k ≡ at). ⊎_elim (λ (f : j ≡ at). absurd (omega arith)) (λ o. absurd (omega (arith, e, kj, walk.ends j o))) (old j u))
             (λ o. ⊎_elim (λ (f : j ≡ at). omega (arith, f, walk.ends k o)) (λ p. walk.starts.apart k j o p kj) (old j u))
@@ -93,18 +98,13 @@ walk_goes leaf bytes flags new at len walk lt cell marks =
 pub marks_set : (flags : List Bool) (at : ℕ) → at < length flags → MarksOne flags (slice_set flags at true) at
 marks_set flags at lt = record { len = length-set flags at true; here = get_or-set_same flags at true false lt; others = λ k ne. get_or-set_other flags at k true false ne }
 
--- where the walk goes on, a packed page has a cell
-pub cell_there : (leaf : Bool) (bytes : List ℕ) (flags : List Bool) (at : ℕ) → length bytes ≡ 4096 → AreStartsTo leaf bytes flags at → at < 4096
-    → SlotsSound leaf bytes → IsCell leaf bytes at
-cell_there leaf bytes flags at len walk lt h = let first = begun_at leaf bytes flags at len walk lt h in subst (IsCell leaf bytes) first.2 (h.sound.cells first.0 first.1)
-
 pub all_flagged : (leaf : Bool) (bytes : List ℕ) (flags : List Bool) (at : ℕ) → AreStartsTo leaf bytes flags at → 4096 ≤ at → SlotsSound leaf bytes → HasSlots bytes flags
 all_flagged leaf bytes flags at walk end h = λ i li. (walk.found h i li (omega (arith, (h.sound.cells i li).high))).0
 
 pub sound_more : (leaf : Bool) (bytes : List ℕ) (flags : List Bool) (n at : ℕ) → AreSound leaf bytes n → AreStarts leaf bytes flags
-    → ((i : ℕ) → i < n → is_taken flags (slot_at bytes i) ≡ true) → at ≡ slot_at bytes n → is_taken flags at ≡ true
+    → ((i : ℕ) → i < n → is_taken flags (slot_at bytes i) ≡ true) → IsCell leaf bytes (slot_at bytes n) → at ≡ slot_at bytes n → is_taken flags at ≡ true
     → (0 < n → IsBelow (key_from bytes (slot_at bytes (n - 1))) (key_from bytes at)) → AreSound leaf bytes (n + 1)
-sound_more leaf bytes flags n at h starts flagged is_at taken below =
+sound_more leaf bytes flags n at h starts flagged cell is_at taken below =
     let here : is_taken flags (slot_at bytes n) ≡ true = subst (λ k. is_taken flags k ≡ true) is_at taken in
     let last : 0 < n → IsBelow (key_from bytes (slot_at bytes (n - 1))) (key_from bytes (slot_at bytes n)) = λ some. subst (λ a. IsBelow (key_from bytes (slot_at bytes (n - 1))) (key_from bytes a)) is_at (below some) in
     let up : (i : ℕ) → i < n → IsBelow (key_from bytes (slot_at bytes i)) (key_from bytes (slot_at bytes n)) =
@@ -120,7 +120,7 @@ sound_more leaf bytes flags n at h starts flagged is_at taken below =
     rest)
     (cases_order (slot_at bytes j) (slot_at bytes n)) in
     record {
-      cells = λ i lt. ⊎_elim (λ (x : i < n). h.cells i x) (λ (x : n ≤ i). let e : n ≡ i = omega arith in subst (λ k. IsCell leaf bytes (slot_at bytes k)) e (starts.cells (slot_at bytes n) here)) (cases_lt i n);
+      cells = λ i lt. ⊎_elim (λ (x : i < n). h.cells i x) (λ (x : n ≤ i). let e : n ≡ i = omega arith in subst (λ k. IsCell leaf bytes (slot_at bytes k)) e cell) (cases_lt i n);
       apart = λ i j li lj ne. ⊎_elim
           (λ (x : i < n). ⊎_elim (λ (y : j < n). h.apart i j x y ne)
           (λ (y : n ≤ j). let e : n ≡ j = omega arith in subst (λ k. (slot_at bytes i + cell_size leaf bytes (slot_at bytes i) ≤ slot_at bytes k) ⊎ (slot_at bytes k + cell_size leaf bytes (slot_at bytes k) ≤ slot_at bytes i)) e (beside i x))
@@ -136,11 +136,16 @@ sound_more leaf bytes flags n at h starts flagged is_at taken below =
           (cases_lt j n);
     }
 
--- a slot more is flagged
-pub flagged_more : (bytes : List ℕ) (flags : List Bool) (n at : ℕ) → ((i : ℕ) → i < n → is_taken flags (slot_at bytes i) ≡ true) → at ≡ slot_at bytes n → is_taken flags at ≡ true
-    → (i : ℕ) → i < n + 1 → is_taken flags (slot_at bytes i) ≡ true
-flagged_more bytes flags n at flagged is_at taken i lt =
-    ⊎_elim (λ (x : i < n). flagged i x) (λ (x : n ≤ i). let e : n ≡ i = omega arith in subst (λ k. is_taken flags (slot_at bytes k) ≡ true) e (subst (λ k. is_taken flags k ≡ true) is_at taken)) (cases_lt i n)
+-- flagged slots with cells whose keys rise from one to the next
+pub sound_all : (leaf : Bool) (bytes : List ℕ) (flags : List Bool) (n : ℕ) → AreStarts leaf bytes flags → ((i : ℕ) → i < n → is_taken flags (slot_at bytes i) ≡ true)
+    → ((i : ℕ) → i < n → IsCell leaf bytes (slot_at bytes i)) → ((i : ℕ) → 0 < i → i < n → IsBelow (key_from bytes (slot_at bytes (i - 1))) (key_from bytes (slot_at bytes i)))
+    → AreSound leaf bytes n
+sound_all leaf bytes flags zero starts flagged cells below = none_sound leaf bytes
+sound_all leaf bytes flags (suc n) starts flagged cells below =
+    let next : n + 1 ≡ suc n = omega arith in
+    let front = sound_all leaf bytes flags n starts (λ i lt. flagged i (omega arith)) (λ i lt. cells i (omega arith)) (λ i some lt. below i some (omega arith)) in
+    subst (AreSound leaf bytes) next
+    (sound_more leaf bytes flags n (slot_at bytes n) front starts (λ i lt. flagged i (omega arith)) (cells n (omega arith)) refl (flagged n (omega arith)) (λ some. below n some (omega arith)))
 
 -- the whole form, from the slots
 pub packed_from : (leaf : Bool) (bytes : List ℕ) → length bytes ≡ 4096 → 32 + 2 * count_of bytes ≤ start_of bytes → start_of bytes ≤ 4096

@@ -93,7 +93,7 @@ pub same_pair : {k : List ℕ} {v : ℕ} (e : Entry) → k ≡ e.0 → v ≡ e.1
 same_pair e a b = ap₂ (λ x y. (x, y)) a b
 
 -- an entry takes at most 266 bytes
-width_small : (leaf : Bool) → width leaf ≤ 8
+pub width_small : (leaf : Bool) → width leaf ≤ 8
 width_small true = omega arith
 width_small false = omega arith
 

@@ -4,25 +4,13 @@ ghost use Rattle.std.specs.Prelude.{◌≡◌, ◌↔◌, IsTrue, ℕ, ◌+◌, 
 ghost use Rattle.im_base_types.specs.Keys.{IsBelow};
 ghost use Rattle.im_page.specs.Form.{count_of, start_of, slot_at, key_from, cell_size, IsPacked};
 ghost use Rattle.im_page.specs.Page.{IsHeader, IsForm};
-ghost use Rattle.im_page.specs.Sound.{AreStarts, HasSlots, IsCell, IsTopOf, IsFootOf, SlotsSound};
+ghost use Rattle.im_page.specs.Sound.{AreStarts, AreStartsTo, AreWithin, HasSlots, IsTopOf, IsFootOf, SlotsSound};
 
 use crate::cells::{cell_len, key_at};
 use crate::number::{get_u16, get_u32};
 use byteorder::{BigEndian, ByteOrder};
 use im_base_types::compare;
 use std::cmp::Ordering;
-
-/// Whether a cell with a key begins at `at`.
-fn is_cell(leaf: bool, bytes: &[u8], at: usize) -> bool
-    requires { length bytes.now ≡ 4096 }
-    ensures { IsTrue result ↔ IsCell leaf bytes.now at }
-{
-    if at < get_u16(bytes, 14) || 4096 <= at {
-        return false;
-    }
-    let key = bytes[at] as usize;
-    1 <= key && at + cell_len(leaf, key) <= 4096
-}
 
 /// The first eight bytes of a key as a number, the greatest one where it has fewer: a key whose first word is above it is above the key.
 fn top_of(key: &[u8]) -> u64
@@ -44,42 +32,73 @@ fn foot_of(key: &[u8]) -> u64
     BigEndian::read_u64(key)
 }
 
-/// Whether the key of one cell is below that of another. Where their first words differ, as of most keys, no other byte is read.
-fn is_below(bytes: &[u8], a: usize, top: u64, b: usize) -> bool
-    requires a { a + 1 + slice_index bytes.now a ≤ length bytes.now }
-    requires b { b + 1 + slice_index bytes.now b ≤ length bytes.now }
-    requires top { IsTopOf (key_from bytes.now a) top }
-    ensures { IsTrue result ↔ IsBelow (key_from bytes.now a) (key_from bytes.now b) }
+/// Whether the key of slot i has a byte, and is above the key before it, by all bytes. Few slots need it: most keys have a first word
+/// above the one before.
+#[inline(never)]
+fn is_next(bytes: &[u8], i: usize, before: usize, at: usize) -> bool
+    requires fits { at + 1 + slice_index bytes.now at ≤ length bytes.now }
+    requires before { 0 < i → before + 1 + slice_index bytes.now before ≤ length bytes.now }
+    ensures { IsTrue result ↔ (1 ≤ slice_index bytes.now at) × (0 < i → IsBelow (key_from bytes.now before) (key_from bytes.now at)) }
 {
-    if top < foot_of(key_at(bytes, b)) {
+    let key = key_at(bytes, at);
+    if key.is_empty() {
+        return false;
+    }
+    if i == 0 {
         return true;
     }
-    matches!(compare(key_at(bytes, a), key_at(bytes, b)), Ordering::Less)
+    matches!(compare(key_at(bytes, before), key), Ordering::Less)
 }
 
-/// Sets the flag of each cell's first byte, one cell behind the other from where the cells begin, and answers whether they end with
-/// the page.
-fn mark_cells(leaf: bool, bytes: &[u8], flags: &mut [bool]) -> bool
+/// One step of a walk over the cells, which stand one behind the other: sets the flag of the first byte of the cell where the walk
+/// is, and answers where the next one begins. Behind the end of the page the walk stays.
+fn mark_cell(leaf: bool, bytes: &[u8], flags: &mut [bool], at: usize) -> usize
     requires len { length bytes.now ≡ 4096 }
-    requires start { start_of bytes.now ≤ 4096 }
-    requires flags { flags.old ≡ replicate 4096 false }
-    ensures cells { result ≡ true → AreStarts leaf bytes.now flags.new }
+    requires walk { AreStartsTo leaf bytes.now flags.old at }
+    ensures walk { AreStartsTo leaf bytes.now flags.new result }
+    ensures goes_on { at < 4096 → at < result }
+{
+    if 4096 <= at {
+        return at;
+    }
+    flags[at] = true;
+    at + cell_len(leaf, bytes[at] as usize)
+}
+
+/// Goes on with the walk to its end, and answers whether the cells end with the page.
+fn mark_rest(leaf: bool, bytes: &[u8], flags: &mut [bool], from: usize) -> bool
+    requires len { length bytes.now ≡ 4096 }
+    requires walk { AreStartsTo leaf bytes.now flags.old from }
+    ensures cells { AreStarts leaf bytes.now flags.new }
+    ensures within { result ≡ true → AreWithin leaf bytes.now flags.new }
     ensures whole { SlotsSound leaf bytes.now → (result ≡ true) × HasSlots bytes.now flags.new }
     ensures len { length flags.new ≡ 4096 }
 {
-    let mut at = get_u16(bytes, 14);
+    let mut at = from;
     while at < 4096 {
-        if !is_cell(leaf, bytes, at) {
-            return false;
-        }
-        flags[at] = true;
-        at += cell_len(leaf, bytes[at] as usize);
+        at = mark_cell(leaf, bytes, flags, at);
     }
-    true
+    at == 4096
+}
+
+/// Whether the first byte of each slot's cell is flagged.
+fn has_slots(bytes: &[u8], flags: &[bool]) -> bool
+    requires len { length bytes.now ≡ 4096 }
+    requires slots { 32 + 2 * count_of bytes.now ≤ 4096 }
+    requires flags { length flags.now ≡ 4096 }
+    requires inside { (i : ℕ) → i < count_of bytes.now → slot_at bytes.now i < 4096 }
+    ensures { IsTrue result ↔ HasSlots bytes.now flags.now }
+{
+    let mut missing = false;
+    for i in 0..get_u16(bytes, 12) {
+        missing = missing | !flags[get_u16(bytes, 32 + 2 * i)];
+    }
+    !missing
 }
 
 /// Whether the slots are those of a packed page: each at a cell of its own, their keys rising, and all cells have a slot. Where two
-/// keys rise, they are not one cell's.
+/// keys rise, they are not one cell's. The walk over the cells goes on beside the slots: each of its steps waits for the one before,
+/// and the slots do not.
 fn are_slots_sound(leaf: bool, bytes: &[u8], flags: &mut [bool]) -> bool
     requires len { length bytes.now ≡ 4096 }
     requires slots { 32 + 2 * count_of bytes.now ≤ start_of bytes.now }
@@ -87,25 +106,32 @@ fn are_slots_sound(leaf: bool, bytes: &[u8], flags: &mut [bool]) -> bool
     requires flags { flags.old ≡ replicate 4096 false }
     ensures { IsTrue result ↔ SlotsSound leaf bytes.now }
 {
-    if !mark_cells(leaf, bytes, flags) {
-        return false;
-    }
+    let start = get_u16(bytes, 14);
+    let mut walk = start;
     let mut total = 0usize;
     let mut before = 0usize;
     let mut top = 0u64;
     for i in 0..get_u16(bytes, 12) {
+        walk = mark_cell(leaf, bytes, flags, walk);
         let at = get_u16(bytes, 32 + 2 * i);
-        if 4096 <= at || !flags[at] {
+        if 4096 <= at || 4096 < at + 1 + bytes[at] as usize {
             return false;
         }
-        if 0 < i && !is_below(bytes, before, top, at) {
+        let key = key_at(bytes, at);
+        if foot_of(key) <= top && !is_next(bytes, i, before, at) {
             return false;
         }
-        total += cell_len(leaf, bytes[at] as usize);
-        top = top_of(key_at(bytes, at));
+        total += cell_len(leaf, key.len());
+        top = top_of(key);
         before = at;
     }
-    get_u16(bytes, 14) + total == 4096
+    if start + total != 4096 {
+        return false;
+    }
+    if !mark_rest(leaf, bytes, flags, walk) {
+        return false;
+    }
+    has_slots(bytes, flags)
 }
 
 /// Whether all bytes of a range are zero.
