@@ -3,19 +3,19 @@ use Rattle.std.specs.Prelude.{IfOk}
 use Rattle.im_base_types.specs.Pages.{Body, Page}
 use Rattle.im_page.specs.Page.{is_leaf_kind}
 use Rattle.im_page_pool.specs.Pool.{page_at}
-use Rattle.im_page_writer.specs.Outcome.{mild}
 use Rattle.im_page_writer.proofs.Outcomes.{ends_own, pages_to, search_of, sound_on, sound_own}
 use Rattle.im_tree_search.specs.Levels.{HasLevel, kind_at}
 use Rattle.im_smo_alloc.specs.Seen.{bodies}
 use Rattle.im_smo_split.specs.Readings.{IsRoom}
-use Rattle.im_smo_split.proofs.Reasons.{mildly_read, never_err}
+use Rattle.im_smo_split.proofs.Reasons.{only_bytes, never_err}
+use Rattle.im_page_writer.specs.Outcome.{no_page}
 use Rattle.im_smo_split.proofs.reading.has_room.Goals as goal
 
 pub returns-in_err-frame-clause-kept : goal.returns-in_err-frame-clause-kept
 returns-in_err-frame-clause-kept g c store has level = sound_on c.from_residual.result _ _ c.from_residual.ensures.1 (c.in_err-frame.ensures.kept store (pages_to g.D.Disk c.args.number has))
 
 pub returns-clause-outcome : goal.returns-clause-outcome
-returns-clause-outcome g c = ends_own g.D.Disk mild refl refl refl c.room_in.result (search_of g.D.Disk c.in_ok-frame.ensures.outcome) (mildly_read c.room_in.result c.room_in.ensures.refused)
+returns-clause-outcome g c = ends_own g.D.Disk no_page refl refl refl c.room_in.result (search_of g.D.Disk c.in_ok-frame.ensures.outcome) (only_bytes c.room_in.result c.room_in.ensures.refused)
 
 pub returns-clause-kept : goal.returns-clause-kept
 returns-clause-kept g c store has level =
