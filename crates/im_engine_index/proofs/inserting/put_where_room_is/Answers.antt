@@ -11,7 +11,7 @@ use Rattle.im_engine_index.proofs.Inserts.{calls_left, comes_then, put_refused, 
 use Rattle.im_engine_index.proofs.inserting.put_where_room_is.Goals as goal
 
 pub returns-in_err-leaf-clause-outcome : goal.returns-in_err-leaf-clause-outcome
-returns-in_err-leaf-clause-outcome g c = log_refused g.D.Disk c.from_residual.result c.from_residual.ensures.1 (read_logs g.D.Disk c.in_err-leaf.ensures.outcome)
+returns-in_err-leaf-clause-outcome g c = log_refused g.D.Disk c.from_residual.result c.from_residual.ensures.1 (read_logs g.D.Disk refl c.in_err-leaf.ensures.outcome)
 
 pub returns-in_err-leaf-clause-kept : goal.returns-in_err-leaf-clause-kept
 returns-in_err-leaf-clause-kept g c b base s e undo_next max to fits =
@@ -26,7 +26,7 @@ returns-in_err-leaf-clause-kept g c b base s e undo_next max to fits =
     c.from_residual.result c.from_residual.ensures.1 (c.in_err-leaf.ensures.kept (pages_of to.made.now) tree) (calls_left g.D.Disk b base to.made.now e a.transaction a.last undo_next a.writer.now a.disk.now here c.in_err-leaf.ensures.outcome)
 
 pub returns-then-not-has_room-clause-outcome : goal.returns-then-not-has_room-clause-outcome
-returns-then-not-has_room-clause-outcome g c = read_logs g.D.Disk (own_logs g.D.Disk refl c.in_ok-leaf.ensures.outcome)
+returns-then-not-has_room-clause-outcome g c = read_logs g.D.Disk refl (own_logs g.D.Disk refl c.in_ok-leaf.ensures.outcome)
 
 pub returns-then-not-has_room-clause-kept : goal.returns-then-not-has_room-clause-kept
 returns-then-not-has_room-clause-kept g c b base s e undo_next max to fits =
