@@ -33,6 +33,7 @@ mod entry_place;
 mod leaf_chain;
 mod levels;
 mod listing;
+pub mod laws;
 mod lookup;
 mod next_key;
 mod range;
