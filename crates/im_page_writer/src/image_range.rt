@@ -13,7 +13,7 @@ ghost use Rattle.im_page_writer.specs.Imaging.{Imaging};
 ghost use Rattle.im_page_writer.specs.Outcome.{fault_of};
 ghost use Rattle.im_page_writer.specs.Writing.{with_lsn, lsn_for, IsWriting, MayCopy, PageImageKept, CopyKept, GrownKept, ImagesKept, DurableKept};
 
-use crate::{DirtyTable, append_image};
+use crate::{DirtyTable, append_image, count_pages};
 use im_base_disk::Disk;
 use im_base_types::{Fault, Lsn, PageNo};
 use im_log::LogFile;
@@ -91,11 +91,8 @@ fn append_one<D: Disk>(
     }
 }
 
-/// Sees to it that the log has a full copy of a changed page at or after its redo point, which is known from then on: where none is
-/// known, the page's Image is added. Nothing is done for a page that was not changed.
-///
-/// Refused `LogFull` or `Device`.
-pub(crate) fn note_copy<D: Disk>(
+// Adds the Image of a changed page to the log, by which a full copy of it is known. Nothing is done for a page that was not changed.
+fn note_copy<D: Disk>(
     disk: &mut D,
     log: &mut LogFile,
     table: &mut DirtyTable,
@@ -111,15 +108,36 @@ pub(crate) fn note_copy<D: Disk>(
     let Some(entry) = table.get(number) else {
         return Ok(());
     };
-    if entry.copied {
-        return Ok(());
-    }
     if entry.since.is_none() {
         return Ok(());
     }
     let lsn = append_page(disk, log, pool, spare, number)?;
     table.enter(number, lsn, true);
     Ok(())
+}
+
+/// Adds the Image of a changed page to the log, by which a full copy of it is known, where the file has the page. Nothing is done for a
+/// page that was not changed, or that stands past the file's end.
+///
+/// Refused `LogFull` or `Device`.
+pub(crate) fn note_in_file<D: Disk>(
+    disk: &mut D,
+    log: &mut LogFile,
+    table: &mut DirtyTable,
+    pool: &Pool,
+    spare: &mut Page,
+    number: PageNo,
+) -> Result<(), Fault>
+    requires ready { IsOpen D.Disk log.old disk.old }
+    requires working { log.old.failed ≡ false }
+    ensures outcome { Imaging D.Disk log.old log.new disk.new (fault_of result) }
+    ensures kept { (b : Base) (base : ℕ) (s : Writer) → IsWriting D.Disk b base s log.old table.old pool.now disk.old → GrownKept D.Disk b base s disk.old log.new table.new pool.now disk.new result }
+{
+    let count = count_pages(disk)?;
+    if number as u64 >= count {
+        return Ok(());
+    }
+    note_copy(disk, log, table, pool, spare, number)
 }
 
 /// Sees to it that the log has a full copy of each page of a range at or after its redo point: the Images of those of which none is

@@ -4,7 +4,7 @@ ghost use Rattle.im_theory_log.specs.Histories.{Base};
 ghost use Rattle.im_theory_log.specs.Writer.{Writer};
 
 use crate::PageWriter;
-use crate::image_range::note_copy;
+use crate::image_range::note_in_file;
 use im_base_disk::Disk;
 use im_base_types::{Fault, PageNo};
 use im_page_pool::Frame;
@@ -22,8 +22,8 @@ impl PageWriter {
     ghost use Rattle.im_page_writer.specs.Writing.{SameHeld};
 
     /// Flushes a held page, as `flush_one` does. Where that forces the log, other changed pages go with it, of the half of the frames that
-    /// were used least recently: the first eight, without those whose Image is wanted and does not fit into the log's buffer any more. So
-    /// one force serves them all. The order of use stays.
+    /// were used least recently: the first eight, without those whose Image is wanted and does not fit into the log's buffer any more,
+    /// or that the file does not have. So one force serves them all. The order of use stays.
     pub(crate) fn flush_with_others<D: Disk>(
         &mut self,
         disk: &mut D,
@@ -75,7 +75,7 @@ impl PageWriter {
         Ok(())
     }
 
-    // The same of one page.
+    // The same of one page, of which none may be known.
     fn note_with_room<D: Disk>(&mut self, disk: &mut D, number: PageNo) -> Result<(), Fault>
         requires ready { IsReadyWriter D.Disk self.old disk.old }
         requires working { self.old.failed ≡ false }
@@ -85,10 +85,13 @@ impl PageWriter {
         if self.log.waiting() > WITH_ROOM {
             return Ok(());
         }
+        if self.table.copied(number).is_some() {
+            return Ok(());
+        }
         self.note_one(disk, number)
     }
 
-    // Sees to the full copy of a changed page.
+    // The Image of a changed page that the file has joins the log.
     fn note_one<D: Disk>(&mut self, disk: &mut D, number: PageNo) -> Result<(), Fault>
         requires ready { IsReadyWriter D.Disk self.old disk.old }
         requires working { self.old.failed ≡ false }
@@ -96,7 +99,7 @@ impl PageWriter {
         ensures pool { self.new.pool ≡ self.old.pool }
     {
         self.failed = true;
-        note_copy(
+        note_in_file(
             disk,
             &mut self.log,
             &mut self.table,

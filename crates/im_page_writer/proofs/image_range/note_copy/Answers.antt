@@ -15,14 +15,6 @@ returns-in_default-clause-kept g c b base s w =
     let goes = goes_start g.D.Disk b base s c.args.log.now c.args.table.now c.args.pool.now c.args.disk.now (g.met.D.Disk.only_now c.args.disk.now) w in
     record { ok = record { now = s; goes = goes }; stops = leaves_of g.D.Disk b base s c.args.disk.now c.args.disk.now goes.stops }
 
-pub returns-then-entry-clause-outcome : goal.returns-then-entry-clause-outcome
-returns-then-entry-clause-outcome g c = imaging_none g.D.Disk c.args.log.now c.args.disk.now c.requires.ready c.requires.working
-
-pub returns-then-entry-clause-kept : goal.returns-then-entry-clause-kept
-returns-then-entry-clause-kept g c b base s w =
-    let goes = goes_start g.D.Disk b base s c.args.log.now c.args.table.now c.args.pool.now c.args.disk.now (g.met.D.Disk.only_now c.args.disk.now) w in
-    record { ok = record { now = s; goes = goes }; stops = leaves_of g.D.Disk b base s c.args.disk.now c.args.disk.now goes.stops }
-
 pub returns-then-is_none-clause-outcome : goal.returns-then-is_none-clause-outcome
 returns-then-is_none-clause-outcome g c = imaging_none g.D.Disk c.args.log.now c.args.disk.now c.requires.ready c.requires.working
 
