@@ -130,6 +130,7 @@ module _ {D : Type 0} (d : Ghosts D) (b : Base) (base : ℕ) where
       sound = k.sound;
       stops = left_both d b base s t old mid new left k.stops;
       again = λ is. evicted_memory f is one;
+      short = λ is. record { entry = entry; next = to; lacks = k.short is };
       used_up = λ is. record { entry = entry; next = to; used_up = k.used_up is };
       begun = k.begun;
     }
@@ -139,6 +140,7 @@ module _ {D : Type 0} (d : Ghosts D) (b : Base) (base : ℕ) where
       sound = took_behind s e t l n old mid w new left (record { entry = entry; next = to; taken = k.sound; leads = leads });
       stops = left_both d b base s t old mid new left k.stops;
       again = tt;
+      short = tt;
       used_up = tt;
       begun = tt;
     }
@@ -150,6 +152,7 @@ module _ {D : Type 0} (d : Ghosts D) (b : Base) (base : ℕ) where
     sound = k.sound;
     stops = left_both d b base s t old mid new left k.stops;
     again = λ is. let ev = k.again is in record { now = ev.now; on = goes_on_then d b base s old s v mid on ev.now w new ev.on };
+    short = k.short;
     used_up = k.used_up;
     begun = k.begun;
   }
@@ -178,6 +181,7 @@ module _ {D : Type 0} (d : Ghosts D) (b : Base) (base : ℕ) where
         sound = took_before s e t m n old v mid w new took (stops kept.stops) kept.sound.3 l i kept.sound.0 kept.sound.1 kept.sound.2;
         stops = stops kept.stops;
         again = tt;
+        short = tt;
         used_up = tt;
         begun = tt;
       }
@@ -185,6 +189,7 @@ module _ {D : Type 0} (d : Ghosts D) (b : Base) (base : ℕ) where
         sound = record { last = m; undo_next = n; between = v; mid = mid; took = took; none = kept.sound.0; end = kept.sound.1 };
         stops = stops kept.stops;
         again = tt;
+        short = tt;
         used_up = tt;
         begun = tt;
       }
@@ -192,6 +197,7 @@ module _ {D : Type 0} (d : Ghosts D) (b : Base) (base : ℕ) where
         sound = kept.sound;
         stops = stops kept.stops;
         again = never_memory d {A = Undone} _ (Err f) refl one;
+        short = never_memory d {A = Undone} _ (Err f) refl one;
         used_up = never_capacity d {A = Undone} _ (Err f) refl one;
         begun = never_failed d {A = Undone} _ (Err f) refl one;
       }

@@ -15,7 +15,7 @@ use Rattle.im_page_writer.specs.Outcome.{IsSound}
 use Rattle.im_tree_search.specs.Levels.{bodies}
 use Rattle.im_theory_tree.specs.Theory.{page_tree}
 use Rattle.im_restart_analysis.specs.Undo.{HasEnded, IsUndoable}
-use Rattle.im_restart_undo.specs.Undoing.{HasBegun, IsToUndo, LeavesUndo, TakenBack, UsesUp}
+use Rattle.im_restart_undo.specs.Undoing.{HasBegun, IsToUndo, LeavesUndo, TakenBack, UsesUp, WantsRoom}
 use Rattle.im_engine_rollback.specs.declared.undone.Undone.{Undone}
 use Rattle.im_engine_rollback.specs.declared.undone.Undone.TheVariants.{More, Ended}
 
@@ -27,17 +27,24 @@ module _ {D : Type 0} (d : Ghosts D) (b : Base) (base : ℕ) where
     pub taken : TakenBack d b base s e t entry last old w disk
     pub leads : undo_next ≡ prev_of entry
 
-  -- What the transaction has to undo next finds its leaf without room, and page numbers or levels are used up.
+  -- What the transaction has to undo next finds its leaf without room.
+  pub record LacksRoomBack (s : Writer) (t : ℕ) : Type 0 where
+    pub entry : Entry
+    pub next : IsToUndo d b base s t entry
+    pub lacks : WantsRoom (bodies s) (what_of entry)
+
+  -- and page numbers or levels are used up
   pub record LacksWayBack (s : Writer) (t : ℕ) : Type 0 where
     pub entry : Entry
     pub next : IsToUndo d b base s t entry
     pub used_up : UsesUp (bodies s) (what_of entry)
 
-  -- what that keeps; a want of memory leaves all as it was, or is `Failed` behind a record of the transaction; `Capacity` comes only where a key that is put back finds its leaf without room, and page numbers or levels are used up
+  -- what that keeps; a want of memory leaves all as it was, or is `Failed` behind a record of the transaction; `Memory` comes only where a key that is put back finds its leaf without room, and `Capacity` only where page numbers or levels are used up too
   pub record TakeKept (s : Writer) (e t : ℕ) (old : D) (w : PageWriter) (disk : D) (result : Result (ℕ × ℕ) Fault) : Type 0 where
     pub sound : IsSound result (λ x. Took s e t x.0 x.1 old w disk)
     pub stops : LeavesUndo d b base s t old disk
     pub again : IfErr result (λ e. e ≡ Memory → Evicted d b base s old w disk)
+    pub short : IfErr result (λ e. e ≡ Memory → LacksRoomBack s t)
     pub used_up : IfErr result (λ e. e ≡ Capacity → LacksWayBack s t)
     pub begun : IfErr result (λ e. e ≡ Failed → HasBegun d b base s t w disk)
 
@@ -92,5 +99,6 @@ module _ {D : Type 0} (d : Ghosts D) (b : Base) (base : ℕ) where
     pub sound : IsSound result (λ undone. Turned s e t old w disk undone)
     pub stops : LeavesUndo d b base s t old disk
     pub again : IfErr result (λ e. e ≡ Memory → Evicted d b base s old w disk)
+    pub short : IfErr result (λ e. e ≡ Memory → LacksRoomBack s t)
     pub used_up : IfErr result (λ e. e ≡ Capacity → LacksWayBack s t)
     pub begun : IfErr result (λ e. e ≡ Failed → HasBegun d b base s t w disk)

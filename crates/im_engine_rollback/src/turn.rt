@@ -106,8 +106,8 @@ fn go_on<D: Disk>(
 /// its last record, and `undo_next` where its undo goes on. Records are read into the room, of 16,384 bytes.
 ///
 /// No lock is asked. Refused `Capacity` only where a key that comes back finds its leaf without room, and page numbers or levels are used
-/// up; `Memory` with all as it was; `Failed` only where memory is wanted behind a record of the transaction that joined the log;
-/// `NotAStore` where the records are not as a log of the store has them; otherwise as `PageWriter::log_change` is.
+/// up; `Memory` only where it finds no room either, with all as it was; `Failed` only where memory is wanted behind a record of the
+/// transaction that joined the log; `NotAStore` where the records are not as a log of the store has them; otherwise as `PageWriter::log_change` is.
 pub fn undo_next<D: Disk>(
     alloc: Global,
     writer: &mut PageWriter,

@@ -26,6 +26,7 @@ returns-in_err-size-clause-kept g c b base s e going at =
       sound = sound_on c.from_residual.result _ _ c.from_residual.ensures.1 (device_not_store f found.cause);
       stops = read_stops g.D.Disk b base s e t c.args.last c.args.undo_next c.args.writer.now c.args.disk.now c.read_at.new.disk (g.met.D.Disk.only_now c.args.disk.now) going c.read_at.ensures.reads;
       again = never_memory g.D.Disk _ c.from_residual.result refl one;
+      short = never_memory g.D.Disk _ c.from_residual.result refl one;
       used_up = never_capacity g.D.Disk _ c.from_residual.result refl one;
       begun = never_failed g.D.Disk _ c.from_residual.result refl one;
     }
@@ -90,6 +91,7 @@ returns-in_err-behind-clause-kept g c b base s e going at =
       sound = sound_on c.from_residual-in_err-behind.result _ _ c.from_residual-in_err-behind.ensures.1 r.sound;
       stops = r.stops;
       again = err_on c.from_residual-in_err-behind.result f _ c.from_residual-in_err-behind.ensures.1 r.again;
+      short = err_on c.from_residual-in_err-behind.result f _ c.from_residual-in_err-behind.ensures.1 r.short;
       used_up = err_on c.from_residual-in_err-behind.result f _ c.from_residual-in_err-behind.ensures.1 r.used_up;
       begun = err_on c.from_residual-in_err-behind.result f _ c.from_residual-in_err-behind.ensures.1 r.begun;
     }

@@ -19,6 +19,7 @@ returns-in_err-lsn-clause-kept g c b base s e going some =
       sound = sound_on c.from_residual.result _ _ c.from_residual.ensures.1 k;
       stops = read_stops g.D.Disk b base s e t c.args.last c.args.undo_next c.args.writer.now c.args.disk.now c.next_key_record.new.disk (g.met.D.Disk.only_now c.args.disk.now) going c.next_key_record.ensures.reads;
       again = never_memory g.D.Disk _ c.from_residual.result refl one;
+      short = never_memory g.D.Disk _ c.from_residual.result refl one;
       used_up = never_capacity g.D.Disk _ c.from_residual.result refl one;
       begun = never_failed g.D.Disk _ c.from_residual.result refl one;
     }
@@ -53,6 +54,7 @@ returns-in_err-behind-clause-kept g c b base s e going some =
       sound = sound_on c.from_residual-in_err-behind.result _ _ c.from_residual-in_err-behind.ensures.1 r.sound;
       stops = r.stops;
       again = err_on c.from_residual-in_err-behind.result f _ c.from_residual-in_err-behind.ensures.1 r.again;
+      short = err_on c.from_residual-in_err-behind.result f _ c.from_residual-in_err-behind.ensures.1 r.short;
       used_up = err_on c.from_residual-in_err-behind.result f _ c.from_residual-in_err-behind.ensures.1 r.used_up;
       begun = err_on c.from_residual-in_err-behind.result f _ c.from_residual-in_err-behind.ensures.1 r.begun;
     }

@@ -6,14 +6,16 @@ use Rattle.im_log_record.specs.declared.record.Record.{Record}
 use Rattle.im_log.specs.Spelled.{logged_at}
 use Rattle.im_theory_tree.specs.Theory.{page_tree}
 use Rattle.im_restart.specs.StructureChange.{TakeBackKept}
-use Rattle.im_restart_redo.proofs.Recoveries.{logs_recover}
+use Rattle.im_restart_redo.proofs.Recoveries.{logs_recover, recovers_more}
 use Rattle.im_restart.proofs.Ends.{no_store}
 use Rattle.im_restart.proofs.KeyRecords.{no_smo}
 use Rattle.im_restart.proofs.OpenChanges.{open_is_smo, taken_so}
+use Rattle.im_page_writer.proofs.Outcomes.{no_page_for}
+use Rattle.im_page_writer.specs.Outcome.{mild}
 use Rattle.im_restart.proofs.structure_change.take_back.Goals as goal
 
 pub returns-in-Smo-clause-outcome : goal.returns-in-Smo-clause-outcome
-returns-in-Smo-clause-outcome g c = logs_recover g.D.Disk c.log_smo.ensures.outcome
+returns-in-Smo-clause-outcome g c = recovers_more g.D.Disk (no_page_for mild refl) (logs_recover g.D.Disk c.log_smo.ensures.outcome)
 
 pub returns-in_default-clause-outcome : goal.returns-in_default-clause-outcome
 returns-in_default-clause-outcome g c = no_store g.D.Disk c.args.writer.now c.args.disk.now refl c.requires.working c.requires.ready
