@@ -1,11 +1,16 @@
-//! The laws of logs and of lives, each at a concrete type.
+//! The laws of logs, of lives, of steps and of analysis, each at a concrete type.
 
+use im_restart_analysis::laws::{lawful_logs_are_taken, undo_goes_on};
 use im_theory_log::laws::lives::{StoredEffects, every_list_of_lives};
 use im_theory_log::laws::logs::{
     compensated_at_most_once, finished_tree_is_committed, fronts_are_lawful, logs_stay_lawful,
     open_change_is_on_top, tree_holds_committed_and_nets, undo_chain_leads_to_the_stack,
 };
 use im_theory_log::laws::one_leaf::OneLeaf;
+use im_theory_steps::{
+    copies_are_images, deletes_are_served, inserts_are_served, logged_commits_are_served,
+    quiet_logs_hold_committed, stops_allow,
+};
 
 /// Files that stand for no effects.
 struct NoFiles;
@@ -30,4 +35,20 @@ fn the_laws_hold_of_the_tree_of_one_leaf() {
 #[test]
 fn the_law_of_lives_holds_of_files_that_stand_for_nothing() {
     every_list_of_lives::<NoFiles>();
+}
+
+#[test]
+fn the_laws_of_steps_hold_of_the_tree_of_one_leaf() {
+    inserts_are_served::<OneLeaf>();
+    deletes_are_served::<OneLeaf>();
+    logged_commits_are_served::<OneLeaf>();
+    copies_are_images::<OneLeaf>();
+    quiet_logs_hold_committed::<OneLeaf>();
+    stops_allow::<OneLeaf>();
+}
+
+#[test]
+fn the_laws_of_analysis_hold_of_the_tree_of_one_leaf() {
+    undo_goes_on::<OneLeaf>();
+    lawful_logs_are_taken::<OneLeaf>();
 }
