@@ -1,4 +1,5 @@
-//! Tests of the engine of many transactions: lives on the model disk, one transaction after another, and many at once.
+//! Tests of the engine of many transactions: lives on the model disk, many transactions at once, devices that fail in the middle of a rollback, and
+//! threads that share the engine through a front, over a disk that stops.
 #![tactic(auto)]
 
 #[cfg(test)]
@@ -10,4 +11,4 @@ mod rollbacks;
 #[cfg(test)]
 mod said;
 #[cfg(test)]
-mod shared;
+mod stops;

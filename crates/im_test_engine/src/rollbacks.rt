@@ -86,7 +86,7 @@ fn are_committed<D: Disk>(alloc: Global, engine: &mut Engine<D>) -> Result<(usiz
 
 // What came of a disk that fails: whether the rollback began, whether it failed behind its first key record and in front of its last, the reply
 // to the step within which it failed, and to two behind it, and what the next opening finds.
-#[derive(Clone, Copy, Debug, PartialEq, Eq)]
+#[derive(Clone, Copy, PartialEq, Eq)]
 struct Came {
     begun: Said,
     within: bool,
@@ -155,7 +155,7 @@ fn a_failed_write_ends_a_rollback_and_the_next_opening_takes_the_rest_back(
         let call = before
             .wrapping_add(1)
             .wrapping_add(places.wrapping_mul(third));
-        assert_eq!(rt; came_of(alloc, call, u64::MAX)?, taken_back());
+        assert!(rt; came_of(alloc, call, u64::MAX)? == taken_back());
     }
     Ok(())
 }
@@ -166,7 +166,7 @@ fn a_failed_read_ends_a_rollback_and_the_next_opening_takes_the_rest_back(
 ) -> Result<(), Fail> {
     let alloc = rt.alloc();
     for read in [150u64, 250, 350] {
-        assert_eq!(rt; came_of(alloc, u64::MAX, read)?, taken_back());
+        assert!(rt; came_of(alloc, u64::MAX, read)? == taken_back());
     }
     Ok(())
 }

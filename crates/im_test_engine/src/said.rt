@@ -11,7 +11,7 @@ use std::alloc::Global;
 use std::test::Fail;
 
 /// What a reply says: of an entry its key's first byte and its row id, of entries how many, of a refusal its number.
-#[derive(Clone, Copy, Debug, PartialEq, Eq)]
+#[derive(Clone, Copy, PartialEq, Eq)]
 pub enum Said {
     Started(u64),
     Found(u64),

@@ -1,11 +1,9 @@
-//! Tests of the tree: search, pages that are taken and given back, plans of splits and of page deletions, structure changes in the log,
-//! and steps by a key, over pages that are made by hand.
+//! Tests of the tree: search and the locks of steps by a key, over pages that are made by hand, more pages taken and given back than any run of a
+//! store comes to, and the deletion of a leaf under a chain of pages.
 #![tactic(auto)]
 
 #[cfg(test)]
 mod alloc;
-#[cfg(test)]
-mod change;
 #[cfg(test)]
 mod delete;
 #[cfg(test)]
@@ -16,5 +14,3 @@ mod pages;
 mod search;
 #[cfg(test)]
 mod shared;
-#[cfg(test)]
-mod split;

@@ -1,10 +1,9 @@
 //! Searches over a tree of a root and three leaves, of which the second is empty, and over a chain that leads round in a ring.
-ghost use Rattle.std.specs.Prelude.{◌≡◌};
 ghost use Rattle.im_page_writer.specs.PageWriter.{IsReadyWriter};
 
 use crate::pages::{add_leaf, add_root, three_leaves};
 use crate::shared::{disk_of, open};
-use im_base_disk::{Disk, ModelDisk};
+use im_base_disk::Disk;
 use im_base_types::{Fault, Key, PageNo, Rid};
 use im_page_writer::PageWriter;
 use im_tree_search::{
@@ -31,7 +30,7 @@ enum Ask {
 }
 
 // What a search answers.
-#[derive(Clone, Copy, Debug, PartialEq, Eq)]
+#[derive(Clone, Copy, PartialEq, Eq)]
 enum Told {
     Row(Rid),
     Absent,
@@ -192,128 +191,6 @@ fn over(alloc: Global, pages: Vec<u8>, asks: &[Ask]) -> Result<Vec<Told>, Fail> 
     answers(alloc, &mut writer, &mut disk, asks)
 }
 
-#[test]
-fn keys_are_found_in_their_leaves(rt: HostRuntime) -> Result<(), Fail> {
-    let alloc = rt.alloc();
-    let asks = [
-        Ask::Locate(b"a"),
-        Ask::Locate(b"m"),
-        Ask::Locate(b"c"),
-        Ask::Locate(b"mm"),
-        Ask::Leaf(b"lz"),
-    ];
-    assert_eq!(rt;
-        over(alloc, three_leaves(alloc)?, &asks)?.as_slice(),
-        [
-            Told::Row(97),
-            Told::Row(109),
-            Told::Absent,
-            Told::Absent,
-            Told::Leaf(3)
-        ]
-        .as_slice()
-    );
-    Ok(())
-}
-
-#[test]
-fn the_next_entry_stands_past_an_empty_leaf(rt: HostRuntime) -> Result<(), Fail> {
-    let alloc = rt.alloc();
-    let asks = [
-        Ask::Next(b"a", true),
-        Ask::Next(b"a", false),
-        Ask::Next(b"b", false),
-        Ask::Next(b"d", true),
-        Ask::Next(b"x", true),
-        Ask::Next(b"x", false),
-    ];
-    assert_eq!(rt;
-        over(alloc, three_leaves(alloc)?, &asks)?.as_slice(),
-        [
-            Told::Entry(97, 97),
-            Told::Entry(98, 98),
-            Told::Entry(109, 109),
-            Told::Entry(109, 109),
-            Told::Entry(120, 120),
-            Told::Absent,
-        ]
-        .as_slice()
-    );
-    Ok(())
-}
-
-#[test]
-fn the_next_key_stands_in_the_leaf(rt: HostRuntime) -> Result<(), Fail> {
-    let alloc = rt.alloc();
-    let asks = [Ask::Beside(b"a"), Ask::Beside(b"x")];
-    assert_eq!(rt;
-        over(alloc, three_leaves(alloc)?, &asks)?.as_slice(),
-        [Told::Beside(2, 98), Told::Last(4)].as_slice()
-    );
-    Ok(())
-}
-
-#[test]
-fn the_next_key_stands_in_a_later_leaf(rt: HostRuntime) -> Result<(), Fail> {
-    let alloc = rt.alloc();
-    let asks = [Ask::Beside(b"b"), Ask::Beside(b"d")];
-    assert_eq!(rt;
-        over(alloc, three_leaves(alloc)?, &asks)?.as_slice(),
-        [Told::Beside(2, 109), Told::Beside(3, 109)].as_slice()
-    );
-    Ok(())
-}
-
-#[test]
-fn a_range_goes_over_leaves(rt: HostRuntime) -> Result<(), Fail> {
-    let alloc = rt.alloc();
-    let asks = [
-        Ask::Range(b"b", b"m", 9, b"bm"),
-        Ask::Range(b"aa", b"c", 9, b"b"),
-        Ask::Range(b"m", b"z", 9, b"mx"),
-    ];
-    assert_eq!(rt;
-        over(alloc, three_leaves(alloc)?, &asks)?.as_slice(),
-        [
-            Told::Range(true, 120),
-            Told::Range(true, 109),
-            Told::Range(true, 1)
-        ]
-        .as_slice()
-    );
-    Ok(())
-}
-
-#[test]
-fn a_range_ends_at_its_limit(rt: HostRuntime) -> Result<(), Fail> {
-    let alloc = rt.alloc();
-    let asks = [
-        Ask::Range(b"a", b"z", 3, b"abm"),
-        Ask::Range(b"a", b"z", 0, b""),
-        Ask::Range(b"m", b"b", 9, b""),
-    ];
-    assert_eq!(rt;
-        over(alloc, three_leaves(alloc)?, &asks)?.as_slice(),
-        [
-            Told::Range(true, 0),
-            Told::Range(true, 0),
-            Told::Range(true, 0)
-        ]
-        .as_slice()
-    );
-    Ok(())
-}
-
-#[test]
-fn all_entries_are_listed(rt: HostRuntime) -> Result<(), Fail> {
-    let alloc = rt.alloc();
-    assert_eq!(rt;
-        over(alloc, three_leaves(alloc)?, &[Ask::All(b"abmx")])?.as_slice(),
-        [Told::All(true)].as_slice()
-    );
-    Ok(())
-}
-
 // A tree whose last leaf leads back to the second.
 fn ring(alloc: Global) -> Result<Vec<u8>, Fail> {
     let mut pages = Vec::new(alloc);
@@ -324,28 +201,6 @@ fn ring(alloc: Global) -> Result<Vec<u8>, Fail> {
     Ok(pages)
 }
 
-#[test]
-fn a_ring_of_leaves_is_no_store(rt: HostRuntime) -> Result<(), Fail> {
-    let alloc = rt.alloc();
-    let asks = [
-        Ask::Next(b"x", true),
-        Ask::Next(b"y", true),
-        Ask::All(b"abmx"),
-        Ask::Locate(b"a"),
-    ];
-    assert_eq!(rt;
-        over(alloc, ring(alloc)?, &asks)?.as_slice(),
-        [
-            Told::Entry(120, 120),
-            Told::Refused(Fault::NotAStore),
-            Told::Refused(Fault::NotAStore),
-            Told::Row(97),
-        ]
-        .as_slice()
-    );
-    Ok(())
-}
-
 // A root over three leaves, of which the file has the first alone.
 fn first_leaf(alloc: Global) -> Result<Vec<u8>, Fail> {
     let mut pages = Vec::new(alloc);
@@ -354,33 +209,151 @@ fn first_leaf(alloc: Global) -> Result<Vec<u8>, Fail> {
     Ok(pages)
 }
 
-#[test]
-fn a_child_of_another_level_is_no_store(rt: HostRuntime) -> Result<(), Fail> {
-    let alloc = rt.alloc();
-    let asks = [Ask::Locate(b"b"), Ask::Locate(b"c")];
-    assert_eq!(rt;
-        over(alloc, first_leaf(alloc)?, &asks)?.as_slice(),
-        [Told::Row(98), Told::Refused(Fault::NotAStore)].as_slice()
-    );
-    Ok(())
+// What pages a file has.
+#[derive(Clone, Copy)]
+enum Tree {
+    Three,
+    Ring,
+    First,
+    New,
 }
 
+fn pages_of(alloc: Global, tree: Tree) -> Result<Vec<u8>, Fail> {
+    match tree {
+        Tree::Three => three_leaves(alloc),
+        Tree::Ring => ring(alloc),
+        Tree::First => first_leaf(alloc),
+        Tree::New => Ok(Vec::new(alloc)),
+    }
+}
+
+// Searches over pages, and what they answer.
+static ROWS: [(&str, Tree, &[Ask], &[Told]); 10] = [
+    (
+        "keys_are_found_in_their_leaves",
+        Tree::Three,
+        &[
+            Ask::Locate(b"a"),
+            Ask::Locate(b"m"),
+            Ask::Locate(b"c"),
+            Ask::Locate(b"mm"),
+            Ask::Leaf(b"lz"),
+        ],
+        &[
+            Told::Row(97),
+            Told::Row(109),
+            Told::Absent,
+            Told::Absent,
+            Told::Leaf(3),
+        ],
+    ),
+    (
+        "the_next_entry_stands_past_an_empty_leaf",
+        Tree::Three,
+        &[
+            Ask::Next(b"a", true),
+            Ask::Next(b"a", false),
+            Ask::Next(b"b", false),
+            Ask::Next(b"d", true),
+            Ask::Next(b"x", true),
+            Ask::Next(b"x", false),
+        ],
+        &[
+            Told::Entry(97, 97),
+            Told::Entry(98, 98),
+            Told::Entry(109, 109),
+            Told::Entry(109, 109),
+            Told::Entry(120, 120),
+            Told::Absent,
+        ],
+    ),
+    (
+        "the_next_key_stands_in_the_leaf",
+        Tree::Three,
+        &[Ask::Beside(b"a"), Ask::Beside(b"x")],
+        &[Told::Beside(2, 98), Told::Last(4)],
+    ),
+    (
+        "the_next_key_stands_in_a_later_leaf",
+        Tree::Three,
+        &[Ask::Beside(b"b"), Ask::Beside(b"d")],
+        &[Told::Beside(2, 109), Told::Beside(3, 109)],
+    ),
+    (
+        "a_range_goes_over_leaves",
+        Tree::Three,
+        &[
+            Ask::Range(b"b", b"m", 9, b"bm"),
+            Ask::Range(b"aa", b"c", 9, b"b"),
+            Ask::Range(b"m", b"z", 9, b"mx"),
+        ],
+        &[
+            Told::Range(true, 120),
+            Told::Range(true, 109),
+            Told::Range(true, 1),
+        ],
+    ),
+    (
+        "a_range_ends_at_its_limit",
+        Tree::Three,
+        &[
+            Ask::Range(b"a", b"z", 3, b"abm"),
+            Ask::Range(b"a", b"z", 0, b""),
+            Ask::Range(b"m", b"b", 9, b""),
+        ],
+        &[
+            Told::Range(true, 0),
+            Told::Range(true, 0),
+            Told::Range(true, 0),
+        ],
+    ),
+    (
+        "all_entries_are_listed",
+        Tree::Three,
+        &[Ask::All(b"abmx")],
+        &[Told::All(true)],
+    ),
+    (
+        "a_ring_of_leaves_is_no_store",
+        Tree::Ring,
+        &[
+            Ask::Next(b"x", true),
+            Ask::Next(b"y", true),
+            Ask::All(b"abmx"),
+            Ask::Locate(b"a"),
+        ],
+        &[
+            Told::Entry(120, 120),
+            Told::Refused(Fault::NotAStore),
+            Told::Refused(Fault::NotAStore),
+            Told::Row(97),
+        ],
+    ),
+    (
+        "a_child_of_another_level_is_no_store",
+        Tree::First,
+        &[Ask::Locate(b"b"), Ask::Locate(b"c")],
+        &[Told::Row(98), Told::Refused(Fault::NotAStore)],
+    ),
+    (
+        "a_new_store_has_no_entry",
+        Tree::New,
+        &[
+            Ask::Leaf(b"k"),
+            Ask::Locate(b"k"),
+            Ask::Next(b"k", true),
+            Ask::All(b""),
+        ],
+        &[Told::Leaf(1), Told::Absent, Told::Absent, Told::All(true)],
+    ),
+];
+
 #[test]
-fn a_new_store_has_no_entry(rt: HostRuntime) -> Result<(), Fail> {
+fn searches_are_answered(rt: HostRuntime) -> Result<(), Fail> {
     let alloc = rt.alloc();
-    let mut disk = ModelDisk::new(Vec::new(alloc), Vec::new(alloc));
-    let mut writer = open(alloc, &mut disk)?;
-    let opened = disk.calls();
-    let asks = [
-        Ask::Leaf(b"k"),
-        Ask::Locate(b"k"),
-        Ask::Next(b"k", true),
-        Ask::All(b""),
-    ];
-    assert_eq!(rt;
-        answers(alloc, &mut writer, &mut disk, &asks)?.as_slice(),
-        [Told::Leaf(1), Told::Absent, Told::Absent, Told::All(true)].as_slice()
-    );
-    assert_eq!(rt; disk.calls(), opened);
+    for (name, tree, asks, told) in &ROWS {
+        let pages = pages_of(alloc, *tree)?;
+        assert!(rt; over(alloc, pages, asks)?.as_slice() == *told, "{name}");
+    }
     Ok(())
 }

@@ -4,7 +4,7 @@ ghost use Rattle.im_page_writer.specs.PageWriter.{IsReadyWriter};
 
 use crate::writers::{got, log_insert, new_disk, open, open_over, since};
 use im_base_disk::Disk;
-use im_base_types::{ActiveTransaction, Fault, FileId, Lsn, PageNo};
+use im_base_types::{Fault, FileId, PageNo};
 use im_log_record::Record;
 use im_page::Page;
 use im_page_writer::PageWriter;
@@ -49,15 +49,15 @@ fn a_page_past_the_end_takes_those_before_along(rt: HostRuntime) -> Result<(), F
     let mut writer = open(alloc, &mut disk)?;
     let opened = disk.calls();
     let lsn = log_insert(&mut writer, &mut disk, b"a")?;
-    assert_eq!(rt; since(&disk, opened), 0);
+    assert!(rt; since(&disk, opened) == 0);
     writer.flush_one(&mut disk, 1)?;
-    assert_eq!(rt; since(&disk, opened), 6);
-    assert_eq!(rt; disk.end(FileId::Pages), 8_192);
+    assert!(rt; since(&disk, opened) == 6);
+    assert!(rt; disk.end(FileId::Pages) == 8_192);
     writer.flush_one(&mut disk, 1)?;
-    assert_eq!(rt; got(&mut writer, &mut disk, 1)?, (lsn, 1));
-    assert_eq!(rt; since(&disk, opened), 6);
+    assert!(rt; got(&mut writer, &mut disk, 1)? == (lsn, 1));
+    assert!(rt; since(&disk, opened) == 6);
     writer.sync_pages(&mut disk)?;
-    assert_eq!(rt; since(&disk, opened), 7);
+    assert!(rt; since(&disk, opened) == 7);
     Ok(())
 }
 
@@ -69,57 +69,12 @@ fn an_eviction_writes_the_least_recently_used_page(rt: HostRuntime) -> Result<()
     let opened = disk.calls();
     let first = log_insert(&mut writer, &mut disk, b"a")?;
     change_each(&mut writer, &mut disk, 2, 9)?;
-    assert_eq!(rt; since(&disk, opened), 0);
-    assert_eq!(rt; got(&mut writer, &mut disk, 9)?, (0, 0));
-    assert_eq!(rt; since(&disk, opened), 6);
-    assert_eq!(rt; got(&mut writer, &mut disk, 1)?, (first, 1));
-    assert_eq!(rt; since(&disk, opened), 11);
-    assert_eq!(rt; disk.end(FileId::Pages), 12_288);
-    Ok(())
-}
-
-#[test]
-fn a_logged_insert_changes_its_leaf(rt: HostRuntime) -> Result<(), Fail> {
-    let alloc = rt.alloc();
-    let mut disk = new_disk(alloc);
-    let mut writer = open(alloc, &mut disk)?;
-    let opened = disk.calls();
-    let lsn = log_insert(&mut writer, &mut disk, b"a")?;
-    assert_eq!(rt; got(&mut writer, &mut disk, 1)?, (lsn, 1));
-    assert_eq!(rt;
-        log_insert(&mut writer, &mut disk, b"a"),
-        Err(Fault::NotAStore)
-    );
-    assert_eq!(rt; since(&disk, opened), 0);
-    writer.flush_one(&mut disk, 1)?;
-    assert_eq!(rt; since(&disk, opened), 6);
-    Ok(())
-}
-
-// Logs a commit.
-fn commit<D: Disk>(writer: &mut PageWriter, disk: &mut D) -> Result<Lsn, Fault>
-    requires ready { IsReadyWriter D.Disk writer.old disk.old }
-    ensures ready { IsReadyWriter D.Disk writer.new disk.new }
-{
-    let record = Record::Commit {
-        transaction: 1,
-        prev: 0,
-    };
-    writer.log_only(disk, &record)
-}
-
-#[test]
-fn a_force_takes_four_calls_where_something_waits(rt: HostRuntime) -> Result<(), Fail> {
-    let alloc = rt.alloc();
-    let mut disk = new_disk(alloc);
-    let mut writer = open(alloc, &mut disk)?;
-    let opened = disk.calls();
-    commit(&mut writer, &mut disk)?;
-    assert_eq!(rt; since(&disk, opened), 0);
-    writer.force(&mut disk)?;
-    assert_eq!(rt; since(&disk, opened), 4);
-    writer.force(&mut disk)?;
-    assert_eq!(rt; since(&disk, opened), 4);
+    assert!(rt; since(&disk, opened) == 0);
+    assert!(rt; got(&mut writer, &mut disk, 9)? == (0, 0));
+    assert!(rt; since(&disk, opened) == 6);
+    assert!(rt; got(&mut writer, &mut disk, 1)? == (first, 1));
+    assert!(rt; since(&disk, opened) == 11);
+    assert!(rt; disk.end(FileId::Pages) == 12_288);
     Ok(())
 }
 
@@ -130,33 +85,15 @@ fn a_full_table_is_synced(rt: HostRuntime) -> Result<(), Fail> {
     let mut writer = open(alloc, &mut disk)?;
     let opened = disk.calls();
     writer.make_entry_room(&mut disk)?;
-    assert_eq!(rt; since(&disk, opened), 0);
+    assert!(rt; since(&disk, opened) == 0);
     // A write of the last of 1,024 pages takes those before along, and each has its entry then.
     assert!(rt; change(&mut writer, &mut disk, 1_023)?);
     writer.flush_one(&mut disk, 1_023)?;
-    assert_eq!(rt; writer.dirty_count(), 1_024);
+    assert!(rt; writer.dirty_count() == 1_024);
     let filled = disk.calls();
     writer.make_entry_room(&mut disk)?;
-    assert_eq!(rt; since(&disk, filled), 1);
-    assert_eq!(rt; writer.dirty_count(), 0);
-    Ok(())
-}
-
-#[test]
-fn a_checkpoint_takes_one_sync_and_one_force(rt: HostRuntime) -> Result<(), Fail> {
-    let alloc = rt.alloc();
-    let mut disk = new_disk(alloc);
-    let mut writer = open(alloc, &mut disk)?;
-    let lsn = log_insert(&mut writer, &mut disk, b"a")?;
-    let changed = disk.calls();
-    let active = [ActiveTransaction {
-        transaction: 1,
-        last: lsn,
-        undo_next: lsn,
-    }];
-    assert_eq!(rt; writer.log_checkpoint(&mut disk, 2, &active)?, 79);
-    assert_eq!(rt; since(&disk, changed), 5);
-    assert_eq!(rt; writer.durable_end(), 160);
+    assert!(rt; since(&disk, filled) == 1);
+    assert!(rt; writer.dirty_count() == 0);
     Ok(())
 }
 
@@ -169,9 +106,9 @@ fn a_page_is_copied_again_behind_a_checkpoint(rt: HostRuntime) -> Result<(), Fai
     log_insert(&mut writer, &mut disk, b"a")?;
     writer.flush_one(&mut disk, 1)?;
     log_insert(&mut writer, &mut disk, b"b")?;
-    assert_eq!(rt; writer.log_checkpoint(&mut disk, 2, &[])?, 4_256);
-    assert_eq!(rt; writer.durable_end(), 4_313);
+    assert!(rt; writer.log_checkpoint(&mut disk, 2, &[])? == 4_256);
+    assert!(rt; writer.durable_end() == 4_313);
     writer.flush_one(&mut disk, 1)?;
-    assert_eq!(rt; writer.durable_end(), 8_447);
+    assert!(rt; writer.durable_end() == 8_447);
     Ok(())
 }
