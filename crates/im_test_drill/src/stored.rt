@@ -4,7 +4,7 @@ use crate::drilled::prints;
 use std::test::Fail;
 
 // Scripts with what they print and their exit statuses, word for word.
-static STORED: [(&str, &str, &str, u8); 39] = [
+static STORED: [(&str, &str, &str, u8); 40] = [
     (
         "bad_line_is_named",
         "raw\nputt 61\n",
@@ -123,6 +123,12 @@ static STORED: [(&str, &str, &str, u8); 39] = [
         "younger_inserter_dies_at_read_gap",
         "life\nbegin\nbegin\nfetch 1 a\ninsert 2 a 1\ninsert 2 a 1\n",
         "open ok 6\nstarted 1\nstarted 2\nabsent\ndie\nrefused 2\nfinal 0\n",
+        0,
+    ),
+    (
+        "two_readers_and_a_writer_at_one_gap",
+        "life\nbegin\nbegin\nbegin\nbegin\nfetch 2 k\nfetch 3 k\ninsert 4 k 5\ncommit 4\nrollback 4\ninsert 1 k 5\ncommit 2\ninsert 1 k 5\ncommit 3\ninsert 1 k 5\ncommit 1\n",
+        "open ok 6\nstarted 1\nstarted 2\nstarted 3\nstarted 4\nabsent\nabsent\ndie\nrefused 2\nrolledback\nblocked lock 2\ncommitted\nblocked lock 3\ncommitted\ninserted\ncommitted\nfinal 1\n6b 5\n",
         0,
     ),
     (
