@@ -60,7 +60,8 @@ fn planned<D: Disk>(
     requires synced { IsSynced D.Disk disk.old }
 {
     let mut writer = open(alloc, disk)?;
-    plan_split(alloc, &mut writer, disk, key, max)
+    let plan = plan_split(alloc, &mut writer, disk, key, max)?;
+    Ok(plan.images)
 }
 
 // Whether a key stands in a page among the images.

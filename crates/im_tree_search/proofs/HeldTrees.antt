@@ -50,11 +50,11 @@ child_listed : (pages : Pages) (n : Node) (key : Key) (c : ℕ) → IsChild (pag
 child_listed pages n key c is =
     ⊎_elim
     (λ (x : (c ≡ (pages n.page).leftmost) × StartAbove key (pages n.page).entries).
-        subst (λ (m : ℕ). 1 ≤ times m (page_numbers (children pages n))) (sym x.0)
-        (let here = times-here (pages n.page).leftmost (page_numbers (map child_of (pages n.page).entries)) in omega (arith, here)))
+    subst (λ (m : ℕ). 1 ≤ times m (page_numbers (children pages n))) (sym x.0)
+    (let here = times-here (pages n.page).leftmost (page_numbers (map child_of (pages n.page).entries)) in omega (arith, here)))
     (λ x.
-        subst (λ (m : ℕ). 1 ≤ times m (page_numbers (children pages n))) (sym x.2)
-        (let more = entry_listed (pages n.page).entries x.0 x.1 in omega (arith, more)))
+    subst (λ (m : ℕ). 1 ≤ times m (page_numbers (children pages n))) (sym x.2)
+    (let more = entry_listed (pages n.page).entries x.0 x.1 in omega (arith, more)))
     is
 
 child_below : (pages : Pages) (ns : List Node) (p c : ℕ) (key : Key) → IsChild (pages p) key c → 1 ≤ times p (page_numbers ns) → 1 ≤ times c (page_numbers (below pages ns))

@@ -30,10 +30,10 @@
 mod child_place;
 mod descent;
 mod entry_place;
+pub mod laws;
 mod leaf_chain;
 mod levels;
 mod listing;
-pub mod laws;
 mod lookup;
 mod next_key;
 mod range;
