@@ -36,7 +36,8 @@ use Rattle.im_smo_alloc.specs.Seen.{seen}
 use Rattle.im_smo_log.specs.Changes.{IsOfChange, GrowsByChange, HasRecordOf, MayChange, Changed, ChangeKept, LeavesChange, image_marks}
 use Rattle.im_smo_log.proofs.Runs.{marked_is}
 use Rattle.im_smo_split.specs.Kept.{mild_to_split}
-use Rattle.im_smo_split.specs.Plan.{FitsInLeaf, IsWithin, Planned}
+use Rattle.im_smo_split.specs.Plan.{IsWithin}
+use Rattle.im_smo_split.specs.declared.split_plan.SplitPlan.{SplitPlan}
 use Rattle.im_smo_split.specs.Tops.{HasRoomFor, LacksRoomFor}
 use Rattle.im_smo_split.proofs.OneLeaf.{one_leaf}
 use Rattle.im_smo_actions.specs.Structure.{IsUnfinished, Restructured}
@@ -207,38 +208,6 @@ module _ {D : Type 0} (d : Ghosts D) (b : Base) (base : ℕ) where
     put_refused f rid x new (Ok noted) is sound stops = absurd is
     put_refused f rid x new (Err y) is sound stops = record { sound = λ same. sound (sym is ∙ same); stops = left_behind new stops }
 
-    -- behind a call that changes no page
-    module _ {m : Fault → Bool} (x : PageWriter) (new : D) (one : Ends d AreLoaded m w disk x new None) where
-      abbrev pub behind : Evicted d b base to.made.now disk x new
-      behind = stands_behind to.made.now e t last undo_next w disk to.made.stands one
-
-      abbrev pub comes_then : ComesTo d b base s e t last undo_next key max x new
-      comes_then =
-          let on = behind.on in
-          let images = on.goes.keeps.log in
-          record {
-            since = to.since;
-            forward = to.forward;
-            free = to.free;
-            absent = to.absent;
-            made = record {
-              now = behind.now;
-              stands = unfinished_images d b base to.made.now e t last undo_next w disk to.made.stands (owner_some t owner) behind.now x new on;
-              point = on.goes.keeps.point ∙ to.made.point;
-              durable = front_then s.durable to.made.now.durable behind.now.durable to.made.durable on.goes.keeps.durable;
-              grows = change_then t s.log to.made.now.log behind.now.log to.made.grows (images_as_change b t to.made.now.log behind.now.log images);
-              same = ap (λ (store : AllPages). walk (bodies_of store)) (pages_stay b to.made.now behind.now on.goes.keeps) ∙ to.made.same;
-            };
-            some = λ lacks. record_back t images.images to.made.grows.more (to.some lacks);
-            only = λ has. to.only (past_images b t images.images to.made.now.log to.made.grows.more (owner_some t owner) images.all has);
-            within = to.within;
-            stops = left_behind new (calls_left to.made.now e t last undo_next w disk to.made.stands one);
-          }
-
-      -- the pages are what they were
-      pub same_pages : pages_of comes_then.made.now ≡ pages_of to.made.now
-      same_pages = pages_stay b to.made.now behind.now behind.on.goes.keeps
-
   -- ---- from a plan on
 
   module _ (s : Writer) (e t last undo_next : ℕ) (key : Key) (max : ℕ) (plan : Plan) (page : ℕ) (w : PageWriter) (disk : D) (may : MayInsert d b base s e t last undo_next key max plan page w disk) (owner : 1 ≤ t) where
@@ -304,11 +273,11 @@ module _ {D : Type 0} (d : Ghosts D) (b : Base) (base : ℕ) where
     none_put rid = record { sound = λ same. let never : ⊥ = cc same in never; stops = calls_left s e t last undo_next may.start may.since may.unfinished may.calls }
 
   -- it has none: the pages of the plan are logged
-  module _ (s : Writer) (e t last undo_next : ℕ) (key : Key) (max : ℕ) (images : List Numbered) (page : ℕ) (w : PageWriter) (disk : D) (may : MayInsert d b base s e t last undo_next key max (Split images) page w disk) (owner : 1 ≤ t) where
+  module _ (s : Writer) (e t last undo_next : ℕ) (key : Key) (max : ℕ) (plan : SplitPlan) (page : ℕ) (w : PageWriter) (disk : D) (may : MayInsert d b base s e t last undo_next key max (Split plan) page w disk) (owner : 1 ≤ t) where
     abbrev pub from : Evicted d b base s may.since w disk
     from = stands_behind s e t last undo_next may.start may.since may.unfinished may.calls
 
-    pub may_run : MayChange d b base from.now e images t last undo_next w disk
+    pub may_run : MayChange d b base from.now e plan.images t last undo_next w disk
     may_run =
         let still = unfinished_images d b base s e t last undo_next may.start may.since may.unfinished (owner_some t owner) from.now w disk from.on in
         let stay = pages_stay b s from.now from.on.goes.keeps in
@@ -321,20 +290,20 @@ module _ {D : Type 0} (d : Ghosts D) (b : Base) (base : ℕ) where
           undo = still.undo;
           unfinished = still.unfinished;
           some = may.planned.0;
-          good = subst (λ (store : AllPages). IsGoodTree (seen store images) []) (sym stay) may.planned.1.good;
-          same = subst (λ (store : AllPages). walk (seen store images) ≡ walk (bodies_of store)) (sym stay) may.planned.1.same;
+          good = subst (λ (store : AllPages). IsGoodTree (seen store plan.images) []) (sym stay) may.planned.1.good;
+          same = subst (λ (store : AllPages). walk (seen store plan.images) ≡ walk (bodies_of store)) (sym stay) may.planned.1.same;
         }
 
     pub run_left : (new : D) → LeavesChange d b base from.now t disk new → LeavesEdit d b base s t may.since new
     run_left new stops = left_edit d b base s t may.since new (left_then d b base s t may.since from.now w disk may.unfinished.lawful from.on new stops)
 
-    pub not_none : (images ≡ []) ⊎ IsWithin (bodies s) key max → IsWithin (bodies s) key max
-    not_none (inl none) = let some : 1 ≤ length images = may.planned.0 in let zero_is : length images ≡ 0 = ap (λ (l : List Numbered). length l) none in absurd (omega (arith, some, zero_is))
+    pub not_none : (plan.images ≡ []) ⊎ IsWithin (bodies s) key max → IsWithin (bodies s) key max
+    not_none (inl none) = let some : 1 ≤ length plan.images = may.planned.0 in let zero_is : length plan.images ≡ 0 = ap (λ (l : List Numbered). length l) none in absurd (omega (arith, some, zero_is))
     not_none (inr is) = is
 
-    module _ (lsn : ℕ) (x : PageWriter) (new : D) (kept : ChangeKept d b base from.now e images t undo_next disk x new (Ok lsn)) where
-      pub pages_made : bodies kept.sound.now ≡ seen (pages_of s) images
-      pages_made = fun_ext kept.sound.pages ∙ ap (λ (store : AllPages). seen store images) (pages_stay b s from.now from.on.goes.keeps)
+    module _ (lsn : ℕ) (x : PageWriter) (new : D) (kept : ChangeKept d b base from.now e plan.images t undo_next disk x new (Ok lsn)) where
+      pub pages_made : bodies kept.sound.now ≡ seen (pages_of s) plan.images
+      pages_made = fun_ext kept.sound.pages ∙ ap (λ (store : AllPages). seen store plan.images) (pages_stay b s from.now from.on.goes.keeps)
 
       abbrev pub comes_split : ComesTo d b base s e t lsn undo_next key max x new
       comes_split =
@@ -353,16 +322,20 @@ module _ {D : Type 0} (d : Ghosts D) (b : Base) (base : ℕ) where
               grows = change_then t s.log from.now.log made.now.log (images_as_change b t s.log from.now.log before) made.grows;
               same = ap walk pages_made ∙ may.planned.1.same;
             };
-            some = λ lacks. record_front t made.grows.more before.images (marked_is t made.grows.more None (image_marks (length images) images) made.grows.all made.order);
+            some = λ lacks. record_front t made.grows.more before.images (marked_is t made.grows.more None (image_marks (length plan.images) plan.images) made.grows.all made.order);
             only = λ has. may.planned.1.lacks may.planned.0;
             within = λ lacks. not_none (may.planned.1.within max refl);
             stops = run_left new kept.stops;
           }
 
-      pub split_fits : FitsInLeaf (bodies comes_split.made.now) key
-      split_fits = subst (λ (pages : Pages). FitsInLeaf pages key) (sym pages_made) may.planned.1.fits
+      -- the leaf that the plan names is the key's, and has room
+      pub split_way : IsOnWay (bodies comes_split.made.now) 0 key plan.leaf
+      split_way = subst (λ (pages : Pages). IsOnWay pages 0 key plan.leaf) (sym pages_made) (may.planned.1.way may.planned.0)
 
-    pub run_refused : (f : Fault) (rid : ℕ) (x : PageWriter) (new : D) (r : Result Noted Fault) → IsErrAnd r (λ y. y ≡ f) → ChangeKept d b base from.now e images t undo_next disk x new (Err f) → PutKept d b base s e t key rid max may.since x new r
+      pub split_room : HasRoom true (bodies comes_split.made.now plan.leaf).entries (key, 0)
+      split_room = subst (λ (pages : Pages). HasRoom true (pages plan.leaf).entries (key, 0)) (sym pages_made) (may.planned.1.fits plan.leaf (may.planned.1.way may.planned.0))
+
+    pub run_refused : (f : Fault) (rid : ℕ) (x : PageWriter) (new : D) (r : Result Noted Fault) → IsErrAnd r (λ y. y ≡ f) → ChangeKept d b base from.now e plan.images t undo_next disk x new (Err f) → PutKept d b base s e t key rid max may.since x new r
     run_refused f rid x new (Ok noted) is kept = absurd is
     run_refused f rid x new (Err y) is kept = record { sound = λ same. kept.sound (sym is ∙ same); stops = run_left new kept.stops }
 

@@ -26,7 +26,6 @@ use Rattle.im_theory_tree.specs.Levels.{Pages, walk}
 use Rattle.im_theory_tree.specs.Search.{IsOnWay}
 use Rattle.im_theory_tree.proofs.LookupLemmas.{leaf_value}
 use Rattle.im_tree_search.specs.Levels.{bodies, bodies_of}
-use Rattle.im_smo_pages.specs.Images.{Numbered}
 use Rattle.im_smo_split.specs.Kept.{mild_to_split}
 use Rattle.im_smo_split.proofs.Reasons.{never_capacity, never_pages_full}
 use Rattle.im_smo_split.specs.Plan.{IsOver, Planned, WantsPages}

@@ -54,7 +54,7 @@ pub record HasNoneLeft (pages : AllPages) (key : Key) : Type 0 where
 -- the key is there, or its leaf has room for it; or it lacks that, and these pages make it; or they cannot be had
 abbrev pub IsInsertPlan : AllPages → Key → ℕ → Plan → Type 0
 IsInsertPlan pages key max Fits = (find key_order key (walk (bodies_of pages)) ≢ None) ⊎ HasRoomFor (bodies_of pages) key
-IsInsertPlan pages key max (Split images) = (1 ≤ length images) × Planned pages key (Some max) images
+IsInsertPlan pages key max (Split plan) = (1 ≤ length plan.images) × Planned pages key (Some max) plan.images plan.leaf
 IsInsertPlan pages key max UsedUp = HasNoneLeft pages key
 
 -- what planning an insert keeps

@@ -20,7 +20,6 @@ ghost use Rattle.im_theory_tree.specs.Search.{IsOnWay};
 ghost use Rattle.im_tree_search.specs.Levels.{HasLevel, bodies, bodies_of};
 ghost use Rattle.im_tree_search.specs.Found.{HasTree};
 ghost use Rattle.im_smo_split.specs.Kept.{mild_to_split};
-ghost use Rattle.im_smo_split.specs.Plan.{FitsInLeaf};
 ghost use Rattle.im_smo_split.specs.Tops.{LacksRoomFor};
 ghost use Rattle.im_engine_lock.specs.Table.{SameTable};
 ghost use Rattle.im_engine_index.specs.declared.plan.Plan.TheVariants.{Fits, Split, UsedUp};
@@ -41,8 +40,7 @@ use im_engine_txn::Transaction;
 use im_page_writer::PageWriter;
 use im_smo_actions::has_room;
 use im_smo_log::{late, run};
-use im_smo_pages::Images;
-use im_smo_split::plan_split;
+use im_smo_split::{SplitPlan, plan_split};
 use im_tree_search::{leaf_for, tree_page};
 use std::alloc::Global;
 
@@ -90,7 +88,7 @@ fn plan_pages<D: Disk>(
     ensures never { IfErr result (λ e. e ≢ Capacity) }
 {
     match plan_split(alloc, writer, disk, key, Some(max)) {
-        Ok(images) => Ok(Plan::Split(images)),
+        Ok(plan) => Ok(Plan::Split(plan)),
         Err(fault) => not_planned(fault),
     }
 }
@@ -223,37 +221,12 @@ fn put<D: Disk>(
     })
 }
 
-// Logs it on the key's leaf, which is searched: a structure change has made room in it.
-fn put_where_room_is<D: Disk>(
-    writer: &mut PageWriter,
-    disk: &mut D,
-    transaction: TxnId,
-    last: Lsn,
-    key: &[u8],
-    rid: Rid,
-) -> Result<Noted, Fault>
-    requires ready { IsReadyWriter D.Disk writer.old disk.old }
-    requires owner { 1 ≤ transaction }
-    requires keyed { 1 ≤ length key.now }
-    requires short { length key.now ≤ 255 }
-    ensures outcome { Logs D.Disk false no_page writer.old disk.old writer.new disk.new (fault_of result) }
-    ensures kept { (b : Base) (base : ℕ) (s : Writer) (e undo_next max : ℕ) (to : ComesTo D.Disk b base s e transaction last undo_next key.now max writer.old disk.old)
-        → FitsInLeaf (bodies to.made.now) key.now
-        → PutKept D.Disk b base s e transaction key.now rid max to.since writer.new disk.new result }
-{
-    let leaf = leaf_for(writer, disk, key)?;
-    if !has_room(writer, leaf, key) {
-        return Err(Fault::NotAStore);
-    }
-    put(writer, disk, transaction, last, leaf.number, key, rid)
-}
-
-// Writes the pages of a plan, and then the key into its leaf. Behind the first of these a want of memory is `Failed`.
+// Writes the pages of a plan, and then the key into the leaf that the plan names. Behind the first of these a want of memory is `Failed`.
 fn split_and_put<D: Disk>(
     writer: &mut PageWriter,
     disk: &mut D,
     transaction: &Transaction,
-    images: &Images,
+    plan: &SplitPlan,
     key: &[u8],
     rid: Rid,
 ) -> Result<Noted, Fault>
@@ -263,18 +236,18 @@ fn split_and_put<D: Disk>(
     requires keyed { 1 ≤ length key.now }
     requires short { length key.now ≤ 255 }
     ensures outcome { Logs D.Disk true mild writer.old disk.old writer.new disk.new (fault_of result) }
-    ensures kept { (b : Base) (base : ℕ) (s : Writer) (e max page : ℕ) (may : MayInsert D.Disk b base s e transaction.now.number transaction.now.last transaction.now.undo_next key.now max (Split images.now) page writer.old disk.old)
+    ensures kept { (b : Base) (base : ℕ) (s : Writer) (e max page : ℕ) (may : MayInsert D.Disk b base s e transaction.now.number transaction.now.last transaction.now.undo_next key.now max (Split plan.now) page writer.old disk.old)
         → PutKept D.Disk b base s e transaction.now.number key.now rid max may.since writer.new disk.new result }
 {
     let last = run(
         writer,
         disk,
-        images,
+        &plan.images,
         transaction.number,
         transaction.last,
         transaction.undo_next,
     )?;
-    match put_where_room_is(writer, disk, transaction.number, last, key, rid) {
+    match put(writer, disk, transaction.number, last, plan.leaf, key, rid) {
         Ok(noted) => Ok(noted),
         Err(fault) => Err(late(fault)),
     }
@@ -311,7 +284,7 @@ fn log_prepared<D: Disk>(
             key,
             rid,
         ),
-        Plan::Split(images) => split_and_put(writer, disk, transaction, &images, key, rid),
+        Plan::Split(plan) => split_and_put(writer, disk, transaction, &plan, key, rid),
         Plan::UsedUp => Err(Fault::Capacity),
     }
 }

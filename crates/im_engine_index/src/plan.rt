@@ -1,15 +1,15 @@
 //! What an insert prepares before it changes anything.
 
 use crate::place::Place;
-use im_smo_pages::Images;
+use im_smo_split::SplitPlan;
 
 /// What has to be written before a key goes into its leaf.
 #[derive(Drop)]
 pub(crate) enum Plan {
     /// Nothing: the key is there, or its leaf has room for it.
     Fits,
-    /// These pages.
-    Split(Images),
+    /// These pages; the key goes into the leaf that they name.
+    Split(SplitPlan),
     /// More pages than there are numbers for, or a level too many.
     UsedUp,
 }

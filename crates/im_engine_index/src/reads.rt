@@ -1,6 +1,6 @@
 //! One entry: that of a key, or the next.
 
-ghost use Rattle.std.specs.Prelude.{◌≡◌, ◌<◌, length, None, IfOk, IfErr, OnErr};
+ghost use Rattle.std.specs.Prelude.{◌≡◌, ◌<◌, ℕ, Bool, false, length, None, IfOk, IfErr, OnErr};
 ghost use Rattle.std.specs.FinMap.{entries, get};
 ghost use Rattle.im_base_types.specs.Maps.{IndexMap, first_in};
 ghost use Rattle.im_base_types.specs.Answers.{Fetch, found, entry as entry_found};
@@ -10,6 +10,7 @@ ghost use Rattle.im_engine_index.specs.LockCalls.{AsksLocks};
 ghost use Rattle.im_theory_tree.specs.Levels.{walk};
 ghost use Rattle.im_tree_search.specs.Levels.{bodies_of, start_at};
 ghost use Rattle.im_tree_search.specs.Found.{HasTree};
+ghost use Rattle.im_tree_search.specs.HeldPages.{HoldsOn, IsQuiet};
 ghost use Rattle.im_engine_lock.specs.Table.{SameTable};
 ghost use Rattle.im_engine_lock.specs.Table.{named};
 ghost use Rattle.im_engine_lock.specs.Rows.{name_of};
@@ -39,6 +40,7 @@ fn fetch_absent<D: Disk>(
     ensures kept { (pages : AllPages) (m : IndexMap) → HasTree D.Disk pages writer.old disk.old → walk (bodies_of pages) ≡ entries m → get m key.now ≡ None
         → IsSound result (IsRead found transaction (Fetch key.now) m locks.old locks.new) }
     ensures table { OnErr result (SameTable locks.old locks.new) }
+    ensures quiet { (set : ℕ → Bool) → writer.old.failed ≡ false → HoldsOn key.now writer.old.pool set → IsQuiet writer.old disk.old writer.new disk.new }
 {
     let (leaf, next) = leaf_and_next(writer, disk, key)?;
     let row = fetch_row(key, false, name_in(writer.page(leaf), &next));
@@ -47,7 +49,8 @@ fn fetch_absent<D: Disk>(
 }
 
 /// The row id of a key, `None` where the index doesn't have it. The key's lock is asked where it is there, else that of the next
-/// name, which is looked for only then.
+/// name, which is looked for only then. Where the pages of the key's way are held, page 0 and the leaves behind too, nothing is asked of
+/// the disk, whatever is answered (`quiet`).
 ///
 /// Refused as `im_tree_search::next_entry` is, and `Memory` where the lock table wants it. Behind a refusal, `Wait` and `Die` nobody holds
 /// another lock than before.
@@ -63,6 +66,7 @@ pub fn fetch<D: Disk>(
     ensures kept { (pages : AllPages) (m : IndexMap) → HasTree D.Disk pages writer.old disk.old → walk (bodies_of pages) ≡ entries m
         → IsSound result (IsRead found transaction (Fetch key.now) m locks.old locks.new) }
     ensures table { OnErr result (SameTable locks.old locks.new) }
+    ensures quiet { (set : ℕ → Bool) → writer.old.failed ≡ false → HoldsOn key.now writer.old.pool set → IsQuiet writer.old disk.old writer.new disk.new }
 {
     if let Some(rid) = locate(writer, disk, key)? {
         let row = fetch_row(key, true, Name::End);

@@ -188,7 +188,7 @@ module _ {D : Type 0} (d : Ghosts D) (b : Base) (base : ℕ) (s : Writer) (e t l
           begun = λ failed. absurd (never_failed d f u.stands.working plan failed);
         })
 
-    module _ {m : Fault → Bool} (images : List Numbered) (w : PageWriter) (mid : D) (at : Outcome d AreLoaded m v old w mid None) (plan : Planned (pages_of s) key max images) where
+    module _ {m : Fault → Bool} (images : List Numbered) (leaf : ℕ) (w : PageWriter) (mid : D) (at : Outcome d AreLoaded m v old w mid None) (plan : Planned (pages_of s) key max images leaf) where
       none_lacks : {A : Type 0} → length images ≡ 0 → LacksRoomFor (bodies s) key → A
       none_lacks {A} none lacks = let any : 1 ≤ length images = plan.some lacks.page lacks.way lacks.lacks in absurd (omega (arith, any, none))
 

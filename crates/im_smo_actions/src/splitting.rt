@@ -39,9 +39,9 @@ pub fn split_for<D: Disk>(
     ensures kept { (b : Base) (base : ℕ) (s : Writer) (e : ℕ) → IsUnfinished D.Disk b base s e transaction last undo_next writer.old disk.old
         → SplitKept D.Disk b base s e transaction undo_next key.now max disk.old writer.new disk.new result }
 {
-    let images = plan_split(alloc, writer, disk, key, max)?;
-    if images.len() == 0 {
+    let plan = plan_split(alloc, writer, disk, key, max)?;
+    if plan.images.len() == 0 {
         return Ok(last);
     }
-    run(writer, disk, &images, transaction, last, undo_next)
+    run(writer, disk, &plan.images, transaction, last, undo_next)
 }

@@ -15,8 +15,8 @@ use Rattle.im_smo_split.proofs.Ends.{IsEnd}
 
 module _ (s : AllPages) (key : Key) (images : List Numbered) where
   -- the split of the leaf among the images
-  pub ended : (new : List Numbered) → IsEnd (seen s images) (seen s new) key × (1 ≤ length new) → Ended s key images new
-  ended new end = record { good = end.0.good; same = end.0.same; room = end.0.room; some = end.1 }
+  pub ended : (new : List Numbered) (leaf : ℕ) → IsEnd (seen s images) (seen s new) key leaf × (1 ≤ length new) → Ended s key images new leaf
+  ended new leaf end = record { good = end.0.good; same = end.0.same; room = end.0.room; way = end.0.way; some = end.1 }
 
   module _ (turn : Turn) (mid : List Numbered) (numbers : List ℕ) (one : Turned s key images turn mid numbers) where
     pub has_turned : {D : Type 0} (d : Ghosts D) {w : PageWriter} {disk : D} → HasPages d AreLoaded s w disk → HasImages d s mid (newest_first numbers) w disk
@@ -27,5 +27,5 @@ module _ (s : AllPages) (key : Key) (images : List Numbered) where
     turned_then next new left two = record { turn_is = two.turn_is; parent = two.parent; same = two.same ∙ one.same }
 
     -- the end
-    pub end_then : (new : List Numbered) → Ended s key mid new → Ended s key images new
-    end_then new two = record { good = two.good; same = two.same ∙ one.same; room = two.room; some = two.some }
+    pub end_then : (new : List Numbered) (leaf : ℕ) → Ended s key mid new leaf → Ended s key images new leaf
+    end_then new leaf two = record { good = two.good; same = two.same ∙ one.same; room = two.room; way = two.way; some = two.some }

@@ -43,5 +43,5 @@ module _ (s : AllPages) (first : List Numbered) (none : first ≡ []) where
     under_on e = turn_stays (bodies s) (seen s mid) [] (newest_first numbers) key top.level top.parent top.page (is_top.under e) one.good rest
 
     -- the split
-    pub down_done : (new : List Numbered) → Ended s key mid new → Ended s key [] new
-    down_done new end = record { good = end.good; same = end.same ∙ one.same ∙ ap (λ (l : List Numbered). walk (seen s l)) none; room = end.room; some = end.some }
+    pub down_done : (new : List Numbered) (leaf : ℕ) → Ended s key mid new leaf → Ended s key [] new leaf
+    down_done new leaf end = record { good = end.good; same = end.same ∙ one.same ∙ ap (λ (l : List Numbered). walk (seen s l)) none; room = end.room; way = end.way; some = end.some }

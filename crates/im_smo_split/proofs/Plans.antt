@@ -31,9 +31,9 @@ none_is xs some none = omega (arith, some, ap length none)
 
 -- ---- a plan that was made
 
-module _ (s : AllPages) (key : Key) (max : Option ℕ) (images : List Numbered) where
+module _ (s : AllPages) (key : Key) (max : Option ℕ) (images : List Numbered) (leaf : ℕ) where
   -- the leaf has room
-  pub planned_none : IsGoodTree (bodies s) [] → IsFound (bodies s) key None → images ≡ [] → Planned s key max images
+  pub planned_none : IsGoodTree (bodies s) [] → IsFound (bodies s) key None → images ≡ [] → Planned s key max images leaf
   planned_none good found none =
       let room : HasRoomFor (bodies s) key = (found.room refl).0 in
       let same : bodies s ≡ seen s images = sym (seen_none s images none) in
@@ -42,6 +42,7 @@ module _ (s : AllPages) (key : Key) (max : Option ℕ) (images : List Numbered) 
         same = sym (ap walk same);
         room = subst (λ (pages : Pages). HasRoomFor pages key) same room;
         fits = subst (λ (pages : Pages). FitsInLeaf pages key) same (fits_in_leaf (bodies s) key good room);
+        way = λ some. absurd (none_is images some none);
         any = inl none;
         none = λ is. room;
         some = λ p way lacks. absurd (lacks (fits_in_leaf (bodies s) key good room p way));
@@ -50,7 +51,7 @@ module _ (s : AllPages) (key : Key) (max : Option ℕ) (images : List Numbered) 
       }
 
   -- the leaf is split
-  pub planned : length key ≤ 255 → (top : Top) → IsFound (bodies s) key (Some top) → ((m : ℕ) → max ≡ Some m → IsWithin (bodies s) key m) → Ended s key [] images → Planned s key max images
+  pub planned : length key ≤ 255 → (top : Top) → IsFound (bodies s) key (Some top) → ((m : ℕ) → max ≡ Some m → IsWithin (bodies s) key m) → Ended s key [] images leaf → Planned s key max images leaf
   planned short top found within end =
       let here : HasRoomFor (seen s images) key = room_for (seen s images) key short end.room in
       record {
@@ -58,6 +59,7 @@ module _ (s : AllPages) (key : Key) (max : Option ℕ) (images : List Numbered) 
         same = end.same ∙ ap walk (seen_none s [] refl);
         room = here;
         fits = fits_in_leaf (seen s images) key end.good here;
+        way = λ some. end.way;
         any = inr end.room;
         none = λ is. absurd (none_is images end.some is);
         some = λ p way lacks. end.some;

@@ -1,9 +1,34 @@
--- Whether the store may have the pages that a split takes.
-use Rattle.std.proofs.Common.{◌≡◌, ℕ, ◌+◌, ◌≤◌, ◌<◌, Bool, true, false, Option, Some, sym, subst, ◌∙◌, ⊎_elim, rules}
+-- Whether a page has room for a key, and whether the store may have the pages that a split takes.
+use Rattle.std.proofs.Common.{◌≡◌, ℕ, ◌+◌, ◌≤◌, ◌<◌, ◌⊎◌, inl, inr, Bool, true, false, List, Option, Some, sym, subst, ◌∙◌, ⊎_elim, rules, arith}
 use Rattle.std.proofs.lemmas.Bool.{cases_lt}
 use Rattle.std.specs.Bool.{IsTrue}
 use Rattle.im_base_types.specs.Pages.{Body}
-use Rattle.im_smo_split.specs.Readings.{IsFull}
+use Rattle.im_base_types.specs.Pages.{Entry}
+use Rattle.im_page.specs.Entry.{taken, width}
+use Rattle.im_smo_split.specs.Readings.{IsFull, IsKeyRoom, IsRoom}
+
+-- ---- in a page
+
+-- a key with no more bytes fits too
+pub fits_less : (leaf : Bool) (es : List Entry) (mid k : ℕ) → taken leaf es + (1 + mid + width leaf + 2) ≤ 4064 → k ≤ mid → taken leaf es + (1 + k + width leaf + 2) ≤ 4064
+fits_less leaf es mid k fits less = omega (arith, fits, less)
+
+-- and one with no fewer does not either
+pub lacks_more : (leaf : Bool) (es : List Entry) (mid k : ℕ) → (taken leaf es + (1 + mid + width leaf + 2) ≤ 4064 → ⊥) → mid ≤ k → 4064 < taken leaf es + (1 + k + width leaf + 2)
+lacks_more leaf es mid k lacks more = by (cases_lt 4064 (taken leaf es + (1 + k + width leaf + 2)))
+  where
+    by : (4064 < taken leaf es + (1 + k + width leaf + 2)) ⊎ (taken leaf es + (1 + k + width leaf + 2) ≤ 4064) → 4064 < taken leaf es + (1 + k + width leaf + 2)
+    by (inl lt) = lt
+    by (inr le) = absurd (lacks (omega (arith, le, more)))
+
+-- what is known of one key, from where room ends
+pub room_of : (leaf : Bool) (page : Body) (room k : ℕ) → IsKeyRoom leaf page room → k < room → IsRoom leaf page k true
+room_of leaf page room k is less = record { tells = (λ _. is.fit k less, λ _. search rules); rises = is.rises }
+
+pub no_room_of : (leaf : Bool) (page : Body) (room k : ℕ) → IsKeyRoom leaf page room → room ≤ k → k ≤ 255 → IsRoom leaf page k false
+no_room_of leaf page room k is more short = record { tells = (λ clash. absurd (let never : ⊥ = search (rules, clash) in never), λ le. absurd (let lt = is.full k more short in omega (arith, lt, le))); rises = is.rises }
+
+-- ---- in the store
 
 full_is : (b : Body) (pages max : ℕ) (r : Bool) → IsFull b pages max r → r ≡ true → max + b.prev < b.leftmost + pages
 full_is b pages max r is e = is.0 (search (rules, e))

@@ -14,15 +14,13 @@ use Rattle.im_smo_alloc.specs.Seen.{seen}
 use Rattle.im_smo_split.specs.Steps.{Brought}
 
 -- Leaf p, which held this body, is split, and the leaf behind it is told; `half` is the part that the key belongs to.
-pub record HalvesLeaf (old new : List Numbered) (page : Body) (key : Key) (parent p q : ℕ) : Type 0 where
-  pub half : ℕ
+pub record HalvesLeaf (old new : List Numbered) (page : Body) (key : Key) (parent p q half : ℕ) : Type 0 where
   pub there : Has new p
   pub goes : (pages : Pages) (spare : List ℕ) → IsGoodTree (held pages old) (q ∷ spare) → IsOnWay (held pages old) (suc zero) key parent → IsChild (held pages old parent) key p → held pages old p ≡ page
       → HasRoomIn (held pages old) (held pages new) spare key half
 
 -- the same of the root, a leaf, which is split into pages l and r
-pub record HalvesRootLeaf (old new : List Numbered) (page : Body) (key : Key) (l r : ℕ) : Type 0 where
-  pub half : ℕ
+pub record HalvesRootLeaf (old new : List Numbered) (page : Body) (key : Key) (l r half : ℕ) : Type 0 where
   pub there : Has new 1
   pub goes : (pages : Pages) (spare : List ℕ) → IsGoodTree (held pages old) (l ∷ r ∷ spare) → height (held pages old) ≡ zero → held pages old 1 ≡ page
       → HasRoomIn (held pages old) (held pages new) spare key half
@@ -32,9 +30,10 @@ pub record BroughtBoth (store : AllPages) (images : List Numbered) (number : ℕ
   pub one : Brought store images number new
   pub next : 1 ≤ (seen store images number).next → Has new (seen store images number).next
 
--- The images leave a good tree with no page spare and the walk of before, in which the key's leaf has room for an entry of any size.
-pub record Ended (store : AllPages) (key : Key) (images new : List Numbered) : Type 0 where
+-- The images leave a good tree with no page spare and the walk of before, in which this page is the key's leaf, and it has room for an entry of any size.
+pub record Ended (store : AllPages) (key : Key) (images new : List Numbered) (leaf : ℕ) : Type 0 where
   pub good : IsGoodTree (seen store new) []
   pub same : walk (seen store new) ≡ walk (seen store images)
   pub room : HasRoomOnWay (seen store new) zero key
+  pub way : IsOnWay (seen store new) zero key leaf
   pub some : 1 ≤ length new

@@ -31,12 +31,13 @@ pub record IsOver (pages : Pages) (key : Key) (max : ℕ) : Type 0 where
 abbrev pub FitsInLeaf : Pages → Key → Type 0
 FitsInLeaf pages key = (p : ℕ) → IsOnWay pages zero key p → HasRoom true (pages p).entries (key, 0)
 
--- The images, put in the place of the pages, are a good tree with the same walk and no page spare, in which the key's leaf has room for its entry. There are none only where it had that room already, and some where it had not.
-pub record Planned (store : AllPages) (key : Key) (max : Option ℕ) (images : List Numbered) : Type 0 where
+-- The images, put in the place of the pages, are a good tree with the same walk and no page spare, in which the key's leaf has room for its entry. There are none only where it had that room already, and some where it had not; then this page is that leaf.
+pub record Planned (store : AllPages) (key : Key) (max : Option ℕ) (images : List Numbered) (leaf : ℕ) : Type 0 where
   pub good : IsGoodTree (seen store images) []
   pub same : walk (seen store images) ≡ walk (bodies store)
   pub room : HasRoomFor (seen store images) key
   pub fits : FitsInLeaf (seen store images) key
+  pub way : 1 ≤ length images → IsOnWay (seen store images) zero key leaf
   pub any : (images ≡ []) ⊎ HasRoomOnWay (seen store images) zero key
   pub none : images ≡ [] → HasRoomFor (bodies store) key
   pub some : (p : ℕ) → IsOnWay (bodies store) zero key p → (HasRoom true (bodies store p).entries (key, 0) → ⊥) → 1 ≤ length images

@@ -66,7 +66,7 @@ pub fn turns_stay()
 /// Where the pages become what a plan makes of them, they are a good tree with the same walk, in which each search for the key ends
 /// at a leaf with room for its entry.
 pub fn plans_make_room()
-    ensures good { (store : AllPages) (key : Key) (max : Option ℕ) (images : List Numbered) → Planned store key max images → (pages : Pages) → SamePages pages (seen store images)
+    ensures good { (store : AllPages) (key : Key) (max : Option ℕ) (images : List Numbered) (leaf : ℕ) → Planned store key max images leaf → (pages : Pages) → SamePages pages (seen store images)
         → IsGoodTree pages [] × (walk pages ≡ walk (bodies store)) }
-    ensures room { (store : AllPages) (key : Key) (max : Option ℕ) (images : List Numbered) → Planned store key max images → (pages : Pages) → SamePages pages (seen store images) → (p : ℕ) → IsOnWay pages zero key p → HasRoom true (pages p).entries (key, 0) }
+    ensures room { (store : AllPages) (key : Key) (max : Option ℕ) (images : List Numbered) (leaf : ℕ) → Planned store key max images leaf → (pages : Pages) → SamePages pages (seen store images) → (p : ℕ) → IsOnWay pages zero key p → HasRoom true (pages p).entries (key, 0) }
 {}

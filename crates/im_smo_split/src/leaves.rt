@@ -1,6 +1,6 @@
 //! The split of a key's leaf, the last one.
 
-ghost use Rattle.std.specs.Prelude.{◌≡◌, ◌≤◌, ◌⊎◌, ℕ, zero, suc, List, ◌∷◌, true, false, Ok, Err, IfErr, OnOk, length};
+ghost use Rattle.std.specs.Prelude.{◌≡◌, ◌≤◌, ◌⊎◌, ℕ, zero, suc, List, ◌∷◌, true, false, Ok, Err, IfErr, IfOk, length};
 ghost use Rattle.im_base_types.specs.declared.fault.Fault.TheVariants.{Memory, NotAStore};
 ghost use Rattle.im_base_types.specs.declared.page_kind.PageKind.TheVariants.{Leaf};
 ghost use Rattle.im_page.specs.Entry.{Rises};
@@ -60,7 +60,7 @@ fn bring_both<D: Disk>(
     bring(alloc, images, writer, disk, next)
 }
 
-// Splits the leaf whose turn it is among the images, where the leaf behind it is too.
+// Splits the leaf whose turn it is among the images, where the leaf behind it is too. It answers the half that is the key's leaf now.
 fn part_leaf(
     alloc: Global,
     images: &mut Images,
@@ -68,8 +68,8 @@ fn part_leaf(
     turn: Turn,
     q: PageNo,
     key: &[u8],
-) -> Result<(), Fault>
-    ensures halves { OnOk result (HalvesLeaf images.old images.new page.now.body key.now turn.parent turn.page q) }
+) -> Result<PageNo, Fault>
+    ensures halves { IfOk result (HalvesLeaf images.old images.new page.now.body key.now turn.parent turn.page q) }
     ensures causes { IfErr result (λ e. (e ≡ Memory) ⊎ (e ≡ NotAStore)) }
     ensures sound { (pages : Pages) (spare : List ℕ) → IsGoodTree (held pages images.old) (q ∷ spare) → IsOnWay (held pages images.old) (suc zero) key.now turn.parent
         → IsChild (held pages images.old turn.parent) key.now turn.page → held pages images.old turn.page ≡ page.now.body → Has images.old turn.parent
@@ -77,11 +77,11 @@ fn part_leaf(
         → page.now.body.kind ≡ Leaf → (Rises page.now.body.entries → FitsPage true page.now.body.entries → CanSplit Leaf page.now.body (held pages images.old turn.parent) q) → result ≡ Err NotAStore → ⊥ }
 {
     page.content();
-    images.split_leaf_for(alloc, key, page, turn.parent, turn.page, q)?;
-    Ok(())
+    let half = images.split_leaf_for(alloc, key, page, turn.parent, turn.page, q)?;
+    Ok(half)
 }
 
-// Splits the root, a leaf, among the images.
+// Splits the root, a leaf, among the images. It answers the half that is the key's leaf now.
 fn part_root_leaf(
     alloc: Global,
     images: &mut Images,
@@ -89,17 +89,19 @@ fn part_root_leaf(
     left: PageNo,
     right: PageNo,
     key: &[u8],
-) -> Result<(), Fault>
-    ensures halves { OnOk result (HalvesRootLeaf images.old images.new page.now.body key.now left right) }
+) -> Result<PageNo, Fault>
+    ensures halves { IfOk result (HalvesRootLeaf images.old images.new page.now.body key.now left right) }
     ensures causes { IfErr result (λ e. (e ≡ Memory) ⊎ (e ≡ NotAStore)) }
     ensures sound { page.now.body.kind ≡ Leaf → (FitsPage true page.now.body.entries → CanHalve Leaf page.now.body) → result ≡ Err NotAStore → ⊥ }
 {
     page.content();
-    images.split_root_leaf_for(alloc, key, page, left, right)?;
-    Ok(())
+    let half = images.split_root_leaf_for(alloc, key, page, left, right)?;
+    Ok(half)
 }
 
-/// Splits the leaf whose turn it is, and the leaf behind it learns of the new one; the page that was taken first is no longer spare.
+/// Splits the leaf whose turn it is, and the leaf behind it learns of the new one; the page that was taken first is no longer spare. It
+/// answers the half that is the key's leaf now.
+///
 /// Refused `NotAStore` where the page is no leaf or can not be split, or the page behind it is no leaf; otherwise as `image` is, and
 /// `Memory`. Behind a refusal the images are of no use.
 #[tactic(auto, using(im_page_writer::proofs::Outcomes::then, im_page_writer::proofs::Outcomes::refused))]
@@ -111,14 +113,14 @@ pub(crate) fn split_leaf_turn<D: Disk>(
     disk: &mut D,
     key: &[u8],
     turn: Turn,
-) -> Result<(), Fault>
+) -> Result<PageNo, Fault>
     requires ready { IsReadyWriter D.Disk writer.old disk.old }
     requires working { writer.old.failed ≡ false }
     requires counted { length numbers.old.items ≡ 1 }
     ensures outcome { Plans D.Disk writer.old disk.old writer.new disk.new (fault_of result) }
     ensures kept { (store : AllPages) → HasImages D.Disk store images.old (newest_first numbers.old.items) writer.old disk.old
         → IsTurn (seen store images.old) (newest_first numbers.old.items) key.now zero turn.parent turn.page → Has images.old turn.parent
-        → IsSound result (λ _. Ended store key.now images.old images.new) }
+        → IsSound result (Ended store key.now images.old images.new) }
 {
     let q = numbers.take_last();
     bring_both(alloc, images, writer, disk, turn.page)?;
@@ -127,7 +129,7 @@ pub(crate) fn split_leaf_turn<D: Disk>(
     part_leaf(alloc, images, &page, turn, q, key)
 }
 
-/// Splits the root, a leaf, into the two pages that were taken. Refused as `split_leaf_turn` is.
+/// Splits the root, a leaf, into the two pages that were taken, and answers the key's. Refused as `split_leaf_turn` is.
 pub(crate) fn split_root_leaf<D: Disk>(
     alloc: Global,
     images: &mut Images,
@@ -135,14 +137,14 @@ pub(crate) fn split_root_leaf<D: Disk>(
     writer: &mut PageWriter,
     disk: &mut D,
     key: &[u8],
-) -> Result<(), Fault>
+) -> Result<PageNo, Fault>
     requires ready { IsReadyWriter D.Disk writer.old disk.old }
     requires working { writer.old.failed ≡ false }
     requires counted { length numbers.old.items ≡ 2 }
     ensures outcome { Plans D.Disk writer.old disk.old writer.new disk.new (fault_of result) }
     ensures kept { (store : AllPages) → HasImages D.Disk store images.old (newest_first numbers.old.items) writer.old disk.old
         → IsRootTurn (seen store images.old) (newest_first numbers.old.items) key.now zero
-        → IsSound result (λ _. Ended store key.now images.old images.new) }
+        → IsSound result (Ended store key.now images.old images.new) }
 {
     let right = numbers.take_last();
     let left = numbers.take_last();

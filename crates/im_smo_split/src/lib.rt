@@ -28,8 +28,10 @@ pub mod laws;
 mod leaves;
 mod plan;
 mod reading;
+mod split_plan;
 mod taking;
 mod top;
 mod turns;
 
 pub use plan::plan_split;
+pub use split_plan::SplitPlan;

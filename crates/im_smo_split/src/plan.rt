@@ -17,6 +17,7 @@ ghost use Rattle.im_smo_split.specs.Turns.{IsTurn, IsRootTurn};
 
 use crate::leaves::{split_leaf_turn, split_root_leaf};
 use crate::reading::is_full;
+use crate::split_plan::SplitPlan;
 use crate::taking::take_pages;
 use crate::top::{Top, find_top};
 use crate::turns::{first_turn, split_inner_turn};
@@ -50,7 +51,7 @@ fn check_room<D: Disk>(
     Ok(())
 }
 
-// Splits from the highest page down, over the pages that were taken for it.
+// Splits from the highest page down, over the pages that were taken for it. It answers the key's leaf.
 #[tactic(auto, using(im_page_writer::proofs::Outcomes::then, im_page_writer::proofs::Outcomes::refused))]
 fn split_down<D: Disk>(
     alloc: Global,
@@ -60,7 +61,7 @@ fn split_down<D: Disk>(
     disk: &mut D,
     key: &[u8],
     top: Top,
-) -> Result<(), Fault>
+) -> Result<PageNo, Fault>
     requires ready { IsReadyWriter D.Disk writer.old disk.old }
     requires working { writer.old.failed ≡ false }
     requires low { top.root ≡ true → top.level < 255 }
@@ -70,7 +71,7 @@ fn split_down<D: Disk>(
     ensures kept { (store : AllPages) → HasImages D.Disk store images.old (newest_first numbers.old.items) writer.old disk.old
         → (top.root ≡ true → IsRootTurn (seen store images.old) (newest_first numbers.old.items) key.now top.level)
         → (top.root ≡ false → IsTurn (seen store images.old) (newest_first numbers.old.items) key.now top.level top.parent top.page)
-        → IsSound result (λ _. Ended store key.now images.old images.new) }
+        → IsSound result (Ended store key.now images.old images.new) }
 {
     if top.root && top.level == 0 {
         return split_root_leaf(alloc, images, numbers, writer, disk, key);
@@ -89,25 +90,26 @@ fn split_from<D: Disk>(
     disk: &mut D,
     key: &[u8],
     top: Top,
-) -> Result<Images, Fault>
+) -> Result<SplitPlan, Fault>
     requires ready { IsReadyWriter D.Disk writer.old disk.old }
     requires working { writer.old.failed ≡ false }
     requires low { top.root ≡ true → top.level < 255 }
     requires is_counted { IsCounted 0 top }
     ensures outcome { Outcome D.Disk AreLoaded mild_to_take writer.old disk.old writer.new disk.new (fault_of result) }
     ensures kept { (store : AllPages) → HasPages D.Disk AreLoaded store writer.old disk.old → IsGoodTree (bodies store) [] → IsTop (bodies store) key.now top
-        → IsSound result (Ended store key.now []) }
+        → IsSound result (λ plan. Ended store key.now [] plan.images plan.leaf) }
     ensures used_up { (store : AllPages) → HasPages D.Disk AreLoaded store writer.old disk.old → IsGoodTree (bodies store) [] → IsTop (bodies store) key.now top
         → IfErr result (λ e. e ≡ Capacity → 2 ^ 32 - 1 + (bodies store 0).prev < (bodies store 0).leftmost + top.pages) }
 {
     let mut images = Images::new(alloc);
     let mut numbers = take_pages(alloc, &mut images, writer, disk, top.pages)?;
-    split_down(alloc, &mut images, &mut numbers, writer, disk, key, top)?;
-    Ok(images)
+    let leaf = split_down(alloc, &mut images, &mut numbers, writer, disk, key, top)?;
+    Ok(SplitPlan { images, leaf })
 }
 
 /// The pages that have to be written before a key's entry goes into its leaf, as images: none where the leaf has room for it. Put in
-/// the place of the pages that are there they are a good tree with the same entries, whose leaf for the key has room.
+/// the place of the pages that are there they are a good tree with the same entries, whose leaf for the key has room; which page that
+/// is, is answered beside them.
 ///
 /// Refused `PagesFull` exactly where the store would have more than `max` pages that are not free, which is decided before a page is
 /// taken; `Capacity` where it would have more than 2^32 - 1, or the root is of level 255 and has to be split; otherwise as `image` is.
@@ -118,16 +120,17 @@ pub fn plan_split<D: Disk>(
     disk: &mut D,
     key: &[u8],
     max: Option<PageNo>,
-) -> Result<Images, Fault>
+) -> Result<SplitPlan, Fault>
     requires ready { IsReadyWriter D.Disk writer.old disk.old }
     requires working { writer.old.failed ≡ false }
     requires short { length key.now ≤ 255 }
     ensures outcome { Outcome D.Disk AreLoaded (mild_to_split max) writer.old disk.old writer.new disk.new (fault_of result) }
-    ensures kept { (store : AllPages) → HasPages D.Disk AreLoaded store writer.old disk.old → IsGoodTree (bodies store) [] → IsSound result (Planned store key.now max) }
+    ensures kept { (store : AllPages) → HasPages D.Disk AreLoaded store writer.old disk.old → IsGoodTree (bodies store) [] → IsSound result (λ plan. Planned store key.now max plan.images plan.leaf) }
     ensures wants { (store : AllPages) → HasPages D.Disk AreLoaded store writer.old disk.old → IsGoodTree (bodies store) [] → IfErr result (WantsPages (bodies store) key.now max) }
 {
     let Some(top) = find_top(writer, disk, key)? else {
-        return Ok(Images::new(alloc));
+        let images = Images::new(alloc);
+        return Ok(SplitPlan { images, leaf: 0 });
     };
     check_room(writer, disk, top.pages, max)?;
     if top.root && top.level == 255 {

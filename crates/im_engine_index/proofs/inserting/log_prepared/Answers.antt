@@ -30,7 +30,7 @@ returns-in-Split-clause-kept g c b base s e max may =
     let a = c.args in
     let t = a.transaction.now in
     c.split_and_put.ensures.kept b base s e max a.page
-    (planned_as g.D.Disk b base s e t.number t.last t.undo_next a.key.now max a.plan a.page a.writer.now a.disk.now may c.requires.owner (Split c.in-Split.images) c.in-Split.is)
+    (planned_as g.D.Disk b base s e t.number t.last t.undo_next a.key.now max a.plan a.page a.writer.now a.disk.now may c.requires.owner (Split c.in-Split.plan) c.in-Split.is)
 
 pub returns-in-Split-clause-used_up : goal.returns-in-Split-clause-used_up
 returns-in-Split-clause-used_up g c = never_used_up g.D.Disk refl (c.args.plan ≡ UsedUp) c.split_and_put.result c.split_and_put.ensures.outcome
@@ -51,4 +51,4 @@ pub returns-in-Fits-clause-none : goal.returns-in-Fits-clause-none
 returns-in-Fits-clause-none g c = none_logged g.D.Disk (c.args.plan ≡ Fits) c.put.result c.requires.working c.put.ensures.outcome
 
 pub returns-in-Split-clause-none : goal.returns-in-Split-clause-none
-returns-in-Split-clause-none g c = not_so c.split_and_put.result (λ y. (y ≡ Memory) ⊎ (y ≡ Failed)) c.args.plan _ (λ fits. let clash : Fits ≡ Split c.in-Split.images = sym fits ∙ c.in-Split.is in cc clash)
+returns-in-Split-clause-none g c = not_so c.split_and_put.result (λ y. (y ≡ Memory) ⊎ (y ≡ Failed)) c.args.plan _ (λ fits. let clash : Fits ≡ Split c.in-Split.plan = sym fits ∙ c.in-Split.is in cc clash)

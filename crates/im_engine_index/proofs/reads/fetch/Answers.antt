@@ -11,6 +11,7 @@ use Rattle.im_engine_lock.specs.Table.{row}
 use Rattle.im_engine_index.proofs.Names.{finds_there, found_is, option_none}
 use Rattle.im_engine_index.proofs.Calls.{decided_as, memory_not, says_as}
 use Rattle.im_page_writer.specs.Outcome.{mild}
+use Rattle.im_tree_search.proofs.Quiet.{on_still, quiet_then}
 use Rattle.im_engine_index.proofs.reads.fetch.Goals as goal
 
 pub returns-in_err-rid-clause-outcome : goal.returns-in_err-rid-clause-outcome
@@ -45,3 +46,18 @@ returns-clause-kept g c pages m tree is =
 
 pub returns-clause-outcome : goal.returns-clause-outcome
 returns-clause-outcome g c = then g.D.Disk c.in_ok-rid.ensures.outcome c.fetch_absent.ensures.outcome
+
+pub returns-in_err-rid-clause-quiet : goal.returns-in_err-rid-clause-quiet
+returns-in_err-rid-clause-quiet g c set working on = c.in_err-rid.ensures.quiet set working on.way
+
+pub returns-in_err-verdict-clause-quiet : goal.returns-in_err-verdict-clause-quiet
+returns-in_err-verdict-clause-quiet g c set working on = c.in_ok-rid.ensures.quiet set working on.way
+
+pub returns-in-Some-clause-quiet : goal.returns-in-Some-clause-quiet
+returns-in-Some-clause-quiet g c set working on = c.in_ok-rid.ensures.quiet set working on.way
+
+pub returns-clause-quiet : goal.returns-clause-quiet
+returns-clause-quiet g c set working on =
+    let e = c.in_ok-rid.ensures in
+    let still = e.quiet set working on.way in
+    quiet_then still (c.fetch_absent.ensures.quiet set e.outcome.ends.works (on_still c.args.key.now set on still))

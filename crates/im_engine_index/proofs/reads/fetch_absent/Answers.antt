@@ -39,3 +39,12 @@ returns-clause-kept g c pages m tree is none =
       decides = decided_as c.args.locks.now c.try_all.new.self c.args.transaction _ (asked (Fetch key) m) c.in_ok-verdict.verdict c.outcome_of.result c.in_ok-verdict.ensures.decided asks c.outcome_of.ensures.verdict;
       says = says_as found c.outcome_of.result None (found _) c.outcome_of.ensures.value (ap found (sym none));
     }
+
+pub returns-in_err-leaf-clause-quiet : goal.returns-in_err-leaf-clause-quiet
+returns-in_err-leaf-clause-quiet g c set working on = c.in_err-leaf.ensures.quiet set working on
+
+pub returns-in_err-verdict-clause-quiet : goal.returns-in_err-verdict-clause-quiet
+returns-in_err-verdict-clause-quiet g c set working on = c.in_ok-leaf.ensures.quiet set working on
+
+pub returns-clause-quiet : goal.returns-clause-quiet
+returns-clause-quiet g c set working on = c.in_ok-leaf.ensures.quiet set working on

@@ -5,12 +5,12 @@ use Rattle.im_base_types.specs.declared.fault.Fault.TheVariants.{NotAStore}
 use Rattle.im_smo_split.proofs.Ends.{fits_leaf}
 use Rattle.im_smo_split.proofs.leaves.part_leaf.Goals as goal
 
-pub returns-in_err-split_leaf_for-clause-sound : goal.returns-in_err-split_leaf_for-clause-sound
-returns-in_err-split_leaf_for-clause-sound c pages spare good way goes page_is above next leaf can e =
+pub returns-in_err-half-clause-sound : goal.returns-in_err-half-clause-sound
+returns-in_err-half-clause-sound c pages spare good way goes page_is above next leaf can e =
     let p = err_from_is_err_and c.from_residual.result c.from_residual.ensures.1 in
-    let fault : c.in_err-split_leaf_for.field-0.0 ≡ NotAStore = cc (p.1, p.2, e) in
-    c.in_err-split_leaf_for.ensures.sound pages spare good way goes page_is above next (can c.content.ensures.rises (fits_leaf c.args.page.now.body leaf c.content.ensures.short c.content.ensures.fits))
+    let fault : c.in_err-half.field-0.0 ≡ NotAStore = cc (p.1, p.2, e) in
+    c.in_err-half.ensures.sound pages spare good way goes page_is above next (can c.content.ensures.rises (fits_leaf c.args.page.now.body leaf c.content.ensures.short c.content.ensures.fits))
     (ap (λ (f : Fault). Err f) fault)
 
 pub returns-clause-halves : goal.returns-clause-halves
-returns-clause-halves c = record { half = c.in_ok-split_leaf_for.field-0; there = c.in_ok-split_leaf_for.ensures.there; goes = c.in_ok-split_leaf_for.ensures.goes }
+returns-clause-halves c = record { there = c.in_ok-half.ensures.there; goes = c.in_ok-half.ensures.goes }

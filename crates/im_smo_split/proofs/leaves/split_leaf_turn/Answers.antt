@@ -1,6 +1,6 @@
 use Rattle.std.proofs.Common.{ℕ, zero, List, [], ◌∷◌, refl, ◌∙◌, subst}
 use Rattle.im_page_writer.specs.Outcome.{mild}
-use Rattle.im_page_writer.proofs.Outcomes.{ends_own, pages_still, sound_done, sound_on, then}
+use Rattle.im_page_writer.proofs.Outcomes.{ends_own, pages_still, sound_own, sound_on, then}
 use Rattle.im_smo_alloc.specs.Seen.{seen}
 use Rattle.im_smo_alloc.proofs.Goings.{mildly}
 use Rattle.im_smo_split.specs.Turns.{IsTurn}
@@ -31,9 +31,9 @@ returns-clause-kept g c store has turn above =
     let page_is = c.deref.ensures ∙ c.in_ok-page.ensures.kept store (pages_still g.D.Disk has.has c.in_ok-bring_both.ensures.outcome) in
     let can = leaf_partable store c.args.key.now (seen store c.args.images.now) c.bring_both.new.images c.rise.ensures c.args.turn.page c.args.turn.parent q page both.one.same page_is one
     c.image.new.images c.image.ensures.images (both.one.kept c.args.turn.parent above) both.next in
-    sound_done c.part_leaf.result _ _ c.part_leaf.ensures.halves
+    sound_own c.part_leaf.result _ _ c.part_leaf.ensures.halves
     (not_refused c.part_leaf.result
     (c.part_leaf.ensures.sound (beneath store c.bring_both.new.images c.args.turn.page page c.rise.ensures page_is) [] can.good can.way can.child can.page can.above can.next can.leaf can.can))
-    (λ halves. ended store c.args.key.now c.args.images.now c.part_leaf.new.images
+    (λ half halves. ended store c.args.key.now c.args.images.now c.part_leaf.new.images half
     (leaf_ended store c.args.key.now (seen store c.args.images.now) c.bring_both.new.images c.rise.ensures c.args.turn.page c.args.turn.parent q page both.one.same page_is one
-    c.image.new.images c.part_leaf.new.images c.image.ensures.images halves))
+    c.image.new.images c.part_leaf.new.images half c.image.ensures.images halves))

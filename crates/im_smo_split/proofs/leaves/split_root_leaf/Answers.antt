@@ -1,6 +1,6 @@
 use Rattle.std.proofs.Common.{ℕ, zero, List, [], ◌∷◌, refl, ◌∙◌, subst}
 use Rattle.im_page_writer.specs.Outcome.{mild}
-use Rattle.im_page_writer.proofs.Outcomes.{ends_own, sound_done, sound_on}
+use Rattle.im_page_writer.proofs.Outcomes.{ends_own, sound_own, sound_on}
 use Rattle.im_smo_alloc.specs.Seen.{seen}
 use Rattle.im_smo_alloc.proofs.Goings.{mildly}
 use Rattle.im_smo_split.specs.Turns.{IsRootTurn}
@@ -24,9 +24,9 @@ returns-clause-kept g c store has turn =
     (last_two c.args.numbers.now.items c.take_last-right.new.self.items c.take_last-left.new.self.items l r c.take_last-right.ensures.items c.take_last-left.ensures.items c.requires.counted) turn in
     let page = c.deref.result.now in
     let page_is = c.deref.ensures ∙ c.in_ok-page.ensures.kept store has.has in
-    sound_done c.part_root_leaf.result _ _ c.part_root_leaf.ensures.halves
+    sound_own c.part_root_leaf.result _ _ c.part_root_leaf.ensures.halves
     (not_refused c.part_root_leaf.result
     (c.part_root_leaf.ensures.sound (root_leaf store c.args.key.now c.args.images.now c.rise.ensures l r page page_is one)
     (can_part_root store c.args.key.now c.args.images.now c.rise.ensures l r page page_is one)))
-    (λ halves. ended store c.args.key.now c.args.images.now c.part_root_leaf.new.images
-    (root_ended store c.args.key.now c.args.images.now c.rise.ensures l r page page_is one c.image.new.images c.part_root_leaf.new.images c.image.ensures.images halves))
+    (λ half halves. ended store c.args.key.now c.args.images.now c.part_root_leaf.new.images half
+    (root_ended store c.args.key.now c.args.images.now c.rise.ensures l r page page_is one c.image.new.images c.part_root_leaf.new.images half c.image.ensures.images halves))

@@ -1,9 +1,9 @@
-use Rattle.std.proofs.Common.{List, refl, arith}
+use Rattle.std.proofs.Common.{refl, arith}
 use Rattle.std.specs.Prelude.{Err}
 use Rattle.im_base_types.specs.declared.fault.Fault.TheVariants.{Capacity}
 use Rattle.im_page_writer.proofs.LoggedChanges.{err_on}
 use Rattle.im_page_writer.proofs.Outcomes.{ends_own, pages_still, read_more, refused, sound_also, sound_on, then, with_more}
-use Rattle.im_smo_pages.specs.Images.{Numbered}
+use Rattle.im_smo_split.specs.declared.split_plan.SplitPlan.{SplitPlan}
 use Rattle.im_smo_alloc.specs.Seen.{bodies}
 use Rattle.im_smo_split.specs.Kept.{mild_to_split}
 use Rattle.im_smo_split.proofs.Founds.{few_found, none_found, top_found}
@@ -24,7 +24,7 @@ returns-in_err-top-clause-wants g c store has good =
 
 pub returns-in_default-clause-kept : goal.returns-in_default-clause-kept
 returns-in_default-clause-kept g c store has good =
-    planned_none store c.args.key.now c.args.max c.new.result good (none_found (bodies store) c.args.key.now c.in_ok-top.field-0 c.in_default.not-Some (c.in_ok-top.ensures.kept store has good)) c.new.ensures
+    planned_none store c.args.key.now c.args.max c.new-images.result 0 good (none_found (bodies store) c.args.key.now c.in_ok-top.field-0 c.in_default.not-Some (c.in_ok-top.ensures.kept store has good)) c.new-images.ensures
 
 pub returns-in_err-check_room-clause-outcome : goal.returns-in_err-check_room-clause-outcome
 returns-in_err-check_room-clause-outcome g c =
@@ -43,7 +43,7 @@ returns-in_err-check_room-clause-wants g c store has good =
     (c.in_err-check_room.ensures.full store (pages_still g.D.Disk has c.in_ok-top.ensures.outcome) good.meta))
 
 pub returns-then-top-2-clause-outcome : goal.returns-then-top-2-clause-outcome
-returns-then-top-2-clause-outcome g c = ends_own g.D.Disk (mild_to_split c.args.max) refl refl refl {A = List Numbered} (Err Capacity) (then g.D.Disk c.in_ok-top.ensures.outcome c.in_ok-check_room.ensures.outcome) refl
+returns-then-top-2-clause-outcome g c = ends_own g.D.Disk (mild_to_split c.args.max) refl refl refl {A = SplitPlan} (Err Capacity) (then g.D.Disk c.in_ok-top.ensures.outcome c.in_ok-check_room.ensures.outcome) refl
 
 pub returns-then-top-2-clause-wants : goal.returns-then-top-2-clause-wants
 returns-then-top-2-clause-wants g c store has good =
@@ -60,7 +60,7 @@ returns-clause-kept g c store has good =
     let room = c.in_ok-check_room.ensures.kept store (pages_still g.D.Disk has c.in_ok-top.ensures.outcome) good.meta in
     sound_also c.split_from.result _ _
     (c.split_from.ensures.kept store (pages_still g.D.Disk has (then g.D.Disk c.in_ok-top.ensures.outcome c.in_ok-check_room.ensures.outcome)) good found.splits.0)
-    (λ images end. planned store c.args.key.now c.args.max images c.requires.short c.in-Some.top found (λ m is. few_found (bodies store) c.args.key.now c.in-Some.top m found (room m is)) end)
+    (λ plan end. planned store c.args.key.now c.args.max plan.images plan.leaf c.requires.short c.in-Some.top found (λ m is. few_found (bodies store) c.args.key.now c.in-Some.top m found (room m is)) end)
 
 pub returns-clause-wants : goal.returns-clause-wants
 returns-clause-wants g c store has good =

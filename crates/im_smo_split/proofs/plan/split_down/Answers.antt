@@ -48,4 +48,4 @@ returns-clause-kept g c store has root under =
     sound_also c.split_leaf_turn.result _ _
     (c.split_leaf_turn.ensures.kept store (has_turned store c.args.key.now c.args.images.now l.turn l.images l.numbers.items so g.D.Disk (pages_still g.D.Disk has.has l.invariant.outcome))
     (subst (λ (k : ℕ). IsTurn (seen store l.images) (newest_first l.numbers.items) c.args.key.now k l.turn.parent l.turn.page) end so.turn_is) so.parent)
-    (λ _ two. end_then store c.args.key.now c.args.images.now l.turn l.images l.numbers.items so c.split_leaf_turn.new.images two)
+    (λ leaf two. end_then store c.args.key.now c.args.images.now l.turn l.images l.numbers.items so c.split_leaf_turn.new.images leaf two)

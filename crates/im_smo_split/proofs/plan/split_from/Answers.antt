@@ -15,28 +15,28 @@ returns-in_err-numbers-clause-used_up g c store has good top =
     err_on c.from_residual.result _ _ c.from_residual.ensures.1
     (λ same. too_few store c.new-images.result c.new-images.ensures c.args.top.pages (c.in_err-numbers.ensures.used_up store (has_none store c.new-images.result c.new-images.ensures g.D.Disk has good) same))
 
-pub returns-in_err-split_down-clause-outcome : goal.returns-in_err-split_down-clause-outcome
-returns-in_err-split_down-clause-outcome g c =
-    refused g.D.Disk c.from_residual-in_err-split_down.result c.from_residual-in_err-split_down.ensures.1 (with_more g.D.Disk mild_to_take take_mildly (then g.D.Disk c.in_ok-numbers.ensures.outcome c.in_err-split_down.ensures.outcome))
+pub returns-in_err-leaf-clause-outcome : goal.returns-in_err-leaf-clause-outcome
+returns-in_err-leaf-clause-outcome g c =
+    refused g.D.Disk c.from_residual-in_err-leaf.result c.from_residual-in_err-leaf.ensures.1 (with_more g.D.Disk mild_to_take take_mildly (then g.D.Disk c.in_ok-numbers.ensures.outcome c.in_err-leaf.ensures.outcome))
 
-pub returns-in_err-split_down-clause-kept : goal.returns-in_err-split_down-clause-kept
-returns-in_err-split_down-clause-kept g c store has good top =
+pub returns-in_err-leaf-clause-kept : goal.returns-in_err-leaf-clause-kept
+returns-in_err-leaf-clause-kept g c store has good top =
     let first = c.new-images.result in
     let mid = c.take_pages.new.images in
     let numbers = c.in_ok-numbers.numbers.items in
     let one = c.in_ok-numbers.ensures.kept store (has_none store first c.new-images.ensures g.D.Disk has good) in
-    sound_on c.from_residual-in_err-split_down.result _ _ c.from_residual-in_err-split_down.ensures.1
-    (c.in_err-split_down.ensures.kept store
+    sound_on c.from_residual-in_err-leaf.result _ _ c.from_residual-in_err-leaf.ensures.1
+    (c.in_err-leaf.ensures.kept store
     (has_taken_all store first c.new-images.ensures c.args.key.now c.args.top top mid numbers one g.D.Disk (pages_still g.D.Disk has c.in_ok-numbers.ensures.outcome))
     (root_on store first c.new-images.ensures c.args.key.now c.args.top top mid numbers one)
     (under_on store first c.new-images.ensures c.args.key.now c.args.top top mid numbers one))
 
-pub returns-in_err-split_down-clause-used_up : goal.returns-in_err-split_down-clause-used_up
-returns-in_err-split_down-clause-used_up g c store has good top =
-    err_on c.from_residual-in_err-split_down.result _ _ c.from_residual-in_err-split_down.ensures.1 (λ same. absurd (never_capacity g.D.Disk refl c.in_err-split_down.ensures.outcome same))
+pub returns-in_err-leaf-clause-used_up : goal.returns-in_err-leaf-clause-used_up
+returns-in_err-leaf-clause-used_up g c store has good top =
+    err_on c.from_residual-in_err-leaf.result _ _ c.from_residual-in_err-leaf.ensures.1 (λ same. absurd (never_capacity g.D.Disk refl c.in_err-leaf.ensures.outcome same))
 
 pub returns-clause-outcome : goal.returns-clause-outcome
-returns-clause-outcome g c = with_more g.D.Disk mild_to_take take_mildly (then g.D.Disk c.in_ok-numbers.ensures.outcome c.in_ok-split_down.ensures.outcome)
+returns-clause-outcome g c = with_more g.D.Disk mild_to_take take_mildly (then g.D.Disk c.in_ok-numbers.ensures.outcome c.in_ok-leaf.ensures.outcome)
 
 pub returns-clause-kept : goal.returns-clause-kept
 returns-clause-kept g c store has good top =
@@ -44,8 +44,8 @@ returns-clause-kept g c store has good top =
     let mid = c.take_pages.new.images in
     let numbers = c.in_ok-numbers.numbers.items in
     let one = c.in_ok-numbers.ensures.kept store (has_none store first c.new-images.ensures g.D.Disk has good) in
-    down_done store first c.new-images.ensures c.args.key.now c.args.top top mid numbers one c.split_down.new.images
-    (c.in_ok-split_down.ensures.kept store
+    down_done store first c.new-images.ensures c.args.key.now c.args.top top mid numbers one c.split_down.new.images c.in_ok-leaf.leaf
+    (c.in_ok-leaf.ensures.kept store
     (has_taken_all store first c.new-images.ensures c.args.key.now c.args.top top mid numbers one g.D.Disk (pages_still g.D.Disk has c.in_ok-numbers.ensures.outcome))
     (root_on store first c.new-images.ensures c.args.key.now c.args.top top mid numbers one)
     (under_on store first c.new-images.ensures c.args.key.now c.args.top top mid numbers one))

@@ -1,27 +1,40 @@
-use Rattle.std.proofs.Common.{◌≡◌, ℕ, [], subst, arith}
-use Rattle.im_page_writer.proofs.Outcomes.{pages_still, sound_on, then}
+use Rattle.std.proofs.Common.{◌≡◌, ℕ, [], length, true, ap, sym, ◌∙◌, subst, arith}
+use Rattle.im_base_types.specs.Pages.{Body, Page}
+use Rattle.im_page.specs.Page.{is_leaf_kind}
+use Rattle.im_page_pool.specs.Pool.{page_at}
+use Rattle.im_page_writer.proofs.Outcomes.{held_is, pages_still, sound_on, then}
 use Rattle.im_theory_tree.specs.Levels.{height}
-use Rattle.im_theory_tree.proofs.Way.{way_begins}
-use Rattle.im_tree_search.proofs.Steps.{way_level}
+use Rattle.im_tree_search.specs.Found.{HasTree}
+use Rattle.im_tree_search.specs.Levels.{kind_at}
 use Rattle.im_smo_alloc.specs.Seen.{bodies}
+use Rattle.im_smo_split.specs.Readings.{IsRoom}
 use Rattle.im_smo_split.specs.Tops.{IsPlaced}
 use Rattle.im_smo_split.proofs.Placing.{root_placed, found_room, found_top}
 use Rattle.im_smo_split.proofs.top.find_top.Goals as goal
 
-pub returns-in_err-level-clause-kept : goal.returns-in_err-level-clause-kept
-returns-in_err-level-clause-kept g c store has good =
-    sound_on c.from_residual.result _ _ c.from_residual.ensures.1
-    (c.in_err-level.ensures.kept store has (way_level (bodies store) (height (bodies store)) c.args.key.now 1 (way_begins (bodies store) [] c.args.key.now good)))
+pub returns-in_err-frame-clause-kept : goal.returns-in_err-frame-clause-kept
+returns-in_err-frame-clause-kept g c store has good =
+    sound_on c.from_residual.result _ _ c.from_residual.ensures.1 (c.in_err-frame.ensures.kept store c.args.key.now (record { has = has; spare = []; good = good }))
 
 pub loop-place-init : goal.loop-place-init
 loop-place-init g c =
-    let e = c.in_ok-level.ensures in
+    let e = c.in_ok-frame.ensures in
     record {
       outcome = e.outcome;
+      at = e.at;
+      page = rw (c.level-level.ensures, c.page.ensures.page) e.page;
       counted = record { root = λ is. omega arith; under = λ clash. absurd (cc clash) };
       kept = λ store has good.
-          root_placed (bodies store) c.args.key.now c.in_ok-level.level good
-          (e.kept store has (way_level (bodies store) (height (bodies store)) c.args.key.now 1 (way_begins (bodies store) [] c.args.key.now good)));
+          let r = e.kept store c.args.key.now (record { has = has; spare = []; good = good }) in
+          let same : c.page.result.now ≡ store 1 = c.page.ensures.page ∙ r.shown ∙ ap store e.root in
+          let tall : c.level-level.result ≡ height (bodies store) = c.level-level.ensures ∙ ap (λ (x : Page). x.body.level) same in
+          subst (λ (n : ℕ). IsPlaced (bodies store) c.args.key.now c.level-level.result n (record { level = c.level-level.result; page = 1; parent = 0; root = true; pages = 2 })) (sym e.root)
+          (root_placed (bodies store) c.args.key.now c.level-level.result good tall);
+      gets = λ store has good.
+          let r = e.kept store c.args.key.now (record { has = has; spare = []; good = good }) in
+          let same : c.page.result.now ≡ store 1 = c.page.ensures.page ∙ r.shown ∙ ap store e.root in
+          let tall : c.level-level.result ≡ height (bodies store) = c.level-level.ensures ∙ ap (λ (x : Page). x.body.level) same in
+          omega (arith, e.gets, tall);
     }
 
 pub returns-in_err-place-clause-kept : goal.returns-in_err-place-clause-kept
@@ -36,36 +49,35 @@ loop-place-preserved g c =
     let e = c.in_ok-place.ensures in
     record {
       outcome = then g.D.Disk l.invariant.outcome e.outcome;
+      at = e.at;
+      page = e.page;
       counted = e.counted;
       kept = λ store has good. e.kept store (pages_still g.D.Disk has l.invariant.outcome) good (l.invariant.kept store has good);
+      gets = λ store has good. omega (arith, e.gets, e.level, l.invariant.gets store has good);
     }
 
-pub returns-in_err-has_room-clause-kept : goal.returns-in_err-has_room-clause-kept
-returns-in_err-has_room-clause-kept g c store has good =
+pub returns-then-room_in-clause-kept : goal.returns-then-room_in-clause-kept
+returns-then-room_in-clause-kept g c store has good =
     let l = c.loop-place in
     let end : l.place.level ≡ 0 = omega (arith, c.loop-place-test.false) in
-    let leaf : IsPlaced (bodies store) c.args.key.now 0 l.place.number l.place.top = subst (λ (h : ℕ). IsPlaced (bodies store) c.args.key.now h l.place.number l.place.top) end (l.invariant.kept store has good) in
-    sound_on c.from_residual-in_err-has_room.result _ _ c.from_residual-in_err-has_room.ensures.1
-    (c.in_err-has_room.ensures.kept store (pages_still g.D.Disk has l.invariant.outcome) (way_level (bodies store) 0 c.args.key.now l.place.number leaf.way))
-
-pub returns-then-branch-clause-outcome : goal.returns-then-branch-clause-outcome
-returns-then-branch-clause-outcome g c = then g.D.Disk c.loop-place.invariant.outcome c.in_ok-has_room.ensures.outcome
-
-pub returns-then-branch-clause-kept : goal.returns-then-branch-clause-kept
-returns-then-branch-clause-kept g c store has good =
-    let l = c.loop-place in
-    let end : l.place.level ≡ 0 = omega (arith, c.loop-place-test.false) in
-    let leaf : IsPlaced (bodies store) c.args.key.now 0 l.place.number l.place.top = subst (λ (h : ℕ). IsPlaced (bodies store) c.args.key.now h l.place.number l.place.top) end (l.invariant.kept store has good) in
-    let room = c.in_ok-has_room.ensures.kept store (pages_still g.D.Disk has l.invariant.outcome) (way_level (bodies store) 0 c.args.key.now l.place.number leaf.way) in
-    found_room (bodies store) c.args.key.now l.place.number l.place.top c.in_ok-has_room.field-0 leaf room c.if-branch.true
-
-pub returns-clause-outcome : goal.returns-clause-outcome
-returns-clause-outcome g c = then g.D.Disk c.loop-place.invariant.outcome c.in_ok-has_room.ensures.outcome
+    let leaf : IsPlaced (bodies store) c.args.key.now 0 l.place.frame.number l.place.top = subst (λ (h : ℕ). IsPlaced (bodies store) c.args.key.now h l.place.frame.number l.place.top) end (l.invariant.kept store has good) in
+    let says : c.page-2.result.now.body ≡ bodies store l.place.frame.number = ap (λ (x : Page). x.body) (c.page-2.ensures.page ∙ held_is g.D.Disk l.place.frame (pages_still g.D.Disk has l.invariant.outcome) l.invariant.at) in
+    let room : IsRoom true (bodies store l.place.frame.number) (length c.args.key.now) c.room_in.result = subst (λ (h : ℕ). IsRoom (is_leaf_kind (kind_at h)) (bodies store l.place.frame.number) (length c.args.key.now) c.room_in.result) end
+    (subst (λ (b : Body). IsRoom (is_leaf_kind (kind_at l.place.level)) b (length c.args.key.now) c.room_in.result) says c.room_in.ensures) in
+    found_room (bodies store) c.args.key.now l.place.frame.number l.place.top c.room_in.result leaf room c.if-room_in.true
 
 pub returns-clause-kept : goal.returns-clause-kept
 returns-clause-kept g c store has good =
     let l = c.loop-place in
     let end : l.place.level ≡ 0 = omega (arith, c.loop-place-test.false) in
-    let leaf : IsPlaced (bodies store) c.args.key.now 0 l.place.number l.place.top = subst (λ (h : ℕ). IsPlaced (bodies store) c.args.key.now h l.place.number l.place.top) end (l.invariant.kept store has good) in
-    let room = c.in_ok-has_room.ensures.kept store (pages_still g.D.Disk has l.invariant.outcome) (way_level (bodies store) 0 c.args.key.now l.place.number leaf.way) in
-    found_top (bodies store) c.args.key.now l.place.number l.place.top c.in_ok-has_room.field-0 leaf room c.if-branch.false c.requires.short
+    let leaf : IsPlaced (bodies store) c.args.key.now 0 l.place.frame.number l.place.top = subst (λ (h : ℕ). IsPlaced (bodies store) c.args.key.now h l.place.frame.number l.place.top) end (l.invariant.kept store has good) in
+    let says : c.page-2.result.now.body ≡ bodies store l.place.frame.number = ap (λ (x : Page). x.body) (c.page-2.ensures.page ∙ held_is g.D.Disk l.place.frame (pages_still g.D.Disk has l.invariant.outcome) l.invariant.at) in
+    let room : IsRoom true (bodies store l.place.frame.number) (length c.args.key.now) c.room_in.result = subst (λ (h : ℕ). IsRoom (is_leaf_kind (kind_at h)) (bodies store l.place.frame.number) (length c.args.key.now) c.room_in.result) end
+    (subst (λ (b : Body). IsRoom (is_leaf_kind (kind_at l.place.level)) b (length c.args.key.now) c.room_in.result) says c.room_in.ensures) in
+    found_top (bodies store) c.args.key.now l.place.frame.number l.place.top c.room_in.result leaf room c.if-room_in.false c.requires.short
+
+pub returns-then-room_in-clause-gets : goal.returns-then-room_in-clause-gets
+returns-then-room_in-clause-gets g c store has good = omega (arith, c.loop-place.invariant.gets store has good, c.loop-place-test.false)
+
+pub returns-clause-gets : goal.returns-clause-gets
+returns-clause-gets g c store has good = omega (arith, c.loop-place.invariant.gets store has good, c.loop-place-test.false)

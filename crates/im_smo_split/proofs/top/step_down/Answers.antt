@@ -1,50 +1,52 @@
-use Rattle.std.proofs.Common.{◌≡◌, ℕ, ◌-◌, Bool, false, suc, ap, ◌∙◌, subst, arith}
+use Rattle.std.proofs.Common.{◌≡◌, ℕ, ◌-◌, Bool, false, suc, ap, sym, ◌∙◌, subst, arith}
+use Rattle.im_base_types.specs.Pages.{Body, Page}
+use Rattle.im_page.specs.Child.{IsChild}
 use Rattle.im_page.specs.Page.{is_leaf_kind}
-use Rattle.im_page_writer.proofs.Outcomes.{pages_still, sound_on, then}
+use Rattle.im_page_pool.specs.declared.frame.Frame.{Frame}
+use Rattle.im_page_pool.specs.Pool.{page_at}
+use Rattle.im_page_writer.proofs.Outcomes.{held_is, sound_on}
 use Rattle.im_theory_tree.specs.Search.{IsOnWay}
 use Rattle.im_theory_tree.specs.KeySplits.{is_leaf_level}
 use Rattle.im_tree_search.specs.Levels.{kind_at}
 use Rattle.im_tree_search.proofs.Steps.{way_level, step_level}
 use Rattle.im_smo_alloc.specs.Seen.{bodies}
-use Rattle.im_smo_split.specs.Readings.{HasUp, IsRoom}
+use Rattle.im_smo_split.specs.Readings.{HasUp, IsKeyRoom, IsRoom}
 use Rattle.im_smo_split.specs.Tops.{IsPlaced}
 use Rattle.im_smo_split.proofs.Placing.{leaf_at, placed}
 use Rattle.im_smo_split.proofs.top.step_down.Goals as goal
 
-pub returns-in_err-child-clause-kept : goal.returns-in_err-child-clause-kept
-returns-in_err-child-clause-kept g c store has good was =
-    sound_on c.from_residual.result _ _ c.from_residual.ensures.1
-    (c.in_err-child.ensures.kept store has c.requires.inner (way_level (bodies store) c.args.place.level c.args.key.now c.args.place.number was.way))
-
-pub returns-in_err-bytes-clause-kept : goal.returns-in_err-bytes-clause-kept
-returns-in_err-bytes-clause-kept g c store has good was =
-    let one = c.in_ok-child.ensures.kept store has c.requires.inner (way_level (bodies store) c.args.place.level c.args.key.now c.args.place.number was.way) in
-    let goes = step_level (bodies store) c.args.place.level c.args.key.now c.args.place.number c.in_ok-child.child.number c.requires.inner was.way one.way in
-    sound_on c.from_residual-in_err-bytes.result _ _ c.from_residual-in_err-bytes.ensures.1
-    (c.in_err-bytes.ensures.kept store (pages_still g.D.Disk has c.in_ok-child.ensures.outcome) (way_level (bodies store) (c.args.place.level - 1) c.args.key.now c.in_ok-child.child.number goes))
-
-pub returns-in_err-fits-clause-kept : goal.returns-in_err-fits-clause-kept
-returns-in_err-fits-clause-kept g c store has good was =
-    let still = pages_still g.D.Disk has (then g.D.Disk c.in_ok-child.ensures.outcome c.in_ok-bytes.ensures.outcome) in
-    sound_on c.from_residual-in_err-fits.result _ _ c.from_residual-in_err-fits.ensures.1
-    (c.in_err-fits.ensures.kept store still (way_level (bodies store) c.args.place.level c.args.key.now c.args.place.number was.way))
-
-pub returns-clause-outcome : goal.returns-clause-outcome
-returns-clause-outcome g c = then g.D.Disk (then g.D.Disk c.in_ok-child.ensures.outcome c.in_ok-bytes.ensures.outcome) c.in_ok-fits.ensures.outcome
+pub returns-in_err-frame-clause-kept : goal.returns-in_err-frame-clause-kept
+returns-in_err-frame-clause-kept g c store has good was =
+    let a = c.args in
+    let p = a.place.frame.number in
+    let says : c.page-page.result.now.body ≡ bodies store p = ap (λ (x : Page). x.body) (c.page-page.ensures.page ∙ held_is g.D.Disk a.place.frame has c.requires.at) in
+    let child = subst (λ (b : Body). IsChild b a.key.now c.child_at-child.result) says c.child_at-child.ensures in
+    let goes = step_level (bodies store) a.place.level a.key.now p c.child_at-child.result c.requires.inner was.way child in
+    sound_on c.from_residual.result _ _ c.from_residual.ensures.1 (c.in_err-frame.ensures.kept store has (way_level (bodies store) (a.place.level - 1) a.key.now c.child_at-child.result goes))
 
 pub returns-clause-kept : goal.returns-clause-kept
 returns-clause-kept g c store has good was =
-    let here = way_level (bodies store) c.args.place.level c.args.key.now c.args.place.number was.way in
-    let one = c.in_ok-child.ensures.kept store has c.requires.inner here in
-    let goes : IsOnWay (bodies store) (c.args.place.level - 1) c.args.key.now c.in_ok-child.child.number = step_level (bodies store) c.args.place.level c.args.key.now c.args.place.number c.in_ok-child.child.number c.requires.inner was.way one.way in
-    let two = c.in_ok-bytes.ensures.kept store (pages_still g.D.Disk has c.in_ok-child.ensures.outcome) (way_level (bodies store) (c.args.place.level - 1) c.args.key.now c.in_ok-child.child.number goes) in
-    let three = c.in_ok-fits.ensures.kept store (pages_still g.D.Disk has (then g.D.Disk c.in_ok-child.ensures.outcome c.in_ok-bytes.ensures.outcome)) here in
-    let k : ℕ = c.args.place.level - 1 in
-    let e : c.args.place.level ≡ suc k = omega (arith, c.requires.inner) in
+    let a = c.args in
+    let p = a.place.frame.number in
+    let frame = c.in_ok-frame.frame in
+    let says : c.page-page.result.now.body ≡ bodies store p = ap (λ (x : Page). x.body) (c.page-page.ensures.page ∙ held_is g.D.Disk a.place.frame has c.requires.at) in
+    let child = subst (λ (b : Body). IsChild b a.key.now c.child_at-child.result) says c.child_at-child.ensures in
+    let goes = step_level (bodies store) a.place.level a.key.now p c.child_at-child.result c.requires.inner was.way child in
+    let got = c.in_ok-frame.ensures.kept store has (way_level (bodies store) (a.place.level - 1) a.key.now c.child_at-child.result goes) in
+    let number = c.in_ok-frame.ensures.frame in
+    let child_is : IsChild (bodies store p) a.key.now frame.number = subst (λ (n : ℕ). IsChild (bodies store p) a.key.now n) (sym number) child in
+    let below_says : c.page.result.now.body ≡ bodies store frame.number =
+    ap (λ (x : Page). x.body) (c.page.ensures.page ∙ ap (λ (n : ℕ). page_at c.tree_page.new.writer.pool n) number ∙ got ∙ ap store (sym number)) in
+    let k : ℕ = a.place.level - 1 in
+    let e : a.place.level ≡ suc k = omega (arith, c.requires.inner) in
     let below : c.next_place.result.level ≡ k = omega (arith, c.next_place.ensures.level) in
-    let upper : IsPlaced (bodies store) c.args.key.now (suc k) c.args.place.number c.args.place.top = subst (λ (h : ℕ). IsPlaced (bodies store) c.args.key.now h c.args.place.number c.args.place.top) e was in
-    let up : HasUp (is_leaf_level k) (bodies store c.in_ok-child.child.number) c.in_ok-bytes.bytes = subst (λ (x : Bool). HasUp x (bodies store c.in_ok-child.child.number) c.in_ok-bytes.bytes) (leaf_at k) two in
-    let room : IsRoom false (bodies store c.args.place.number) c.in_ok-bytes.bytes c.in_ok-fits.fits =
-    subst (λ (x : Bool). IsRoom x (bodies store c.args.place.number) c.in_ok-bytes.bytes c.in_ok-fits.fits) (ap (λ (h : ℕ). is_leaf_kind (kind_at h)) e ∙ leaf_at (suc k)) three in
-    placed (bodies store) c.args.key.now k c.args.place.number c.in_ok-child.child.number c.in_ok-bytes.bytes c.args.place.top c.in_ok-fits.fits good upper one.way up room
-    c.next_place.result.level c.next_place.result.number c.next_place.result.top below c.next_place.ensures.number c.next_place.ensures.fits c.next_place.ensures.splits
+    let upper : IsPlaced (bodies store) a.key.now (suc k) p a.place.top = subst (λ (h : ℕ). IsPlaced (bodies store) a.key.now h p a.place.top) e was in
+    let up : HasUp (is_leaf_level k) (bodies store frame.number) c.up_in-bytes.result =
+    subst (λ (x : Bool). HasUp x (bodies store frame.number) c.up_in-bytes.result) (leaf_at k) (subst (λ (b : Body). HasUp (is_leaf_kind (kind_at k)) b c.up_in-bytes.result) below_says c.up_in-bytes.ensures.up) in
+    let room_is : IsKeyRoom (is_leaf_kind (kind_at a.place.level)) (bodies store p) c.key_room-room.result =
+    subst (λ (b : Body). IsKeyRoom (is_leaf_kind (kind_at a.place.level)) b c.key_room-room.result) says c.key_room-room.ensures in
+    let room : IsRoom false (bodies store p) c.up_in-bytes.result c.fits_in-fits.result =
+    subst (λ (x : Bool). IsRoom x (bodies store p) c.up_in-bytes.result c.fits_in-fits.result) (ap (λ (h : ℕ). is_leaf_kind (kind_at h)) e ∙ leaf_at (suc k))
+    (c.fits_in-fits.ensures (is_leaf_kind (kind_at a.place.level)) (bodies store p) room_is) in
+    placed (bodies store) a.key.now k p frame.number c.up_in-bytes.result a.place.top c.fits_in-fits.result good upper child_is up room
+    c.next_place.result.level c.next_place.result.frame.number c.next_place.result.top below (ap (λ (f : Frame). f.number) c.next_place.ensures.frame) c.next_place.ensures.fits c.next_place.ensures.splits
