@@ -15,8 +15,10 @@ use Rattle.im_base_disk.specs.Disk.{Files}
 use Rattle.im_base_disk.specs.Runs.{LeavesOnly}
 use Rattle.im_base_disk.proofs.Runs.{started}
 use Rattle.im_log.proofs.Above.{left_now}
+use Rattle.im_theory_log.specs.Writer.{Writer}
+use Rattle.im_page_writer.specs.declared.page_writer.PageWriter.{PageWriter}
 use Rattle.im_page_writer.specs.PageWriter.{Evicted}
-use Rattle.im_page_writer.specs.Outcome.{fault_of, AreLoaded, Ends, mild}
+use Rattle.im_page_writer.specs.Outcome.{fault_of, AreLoaded, Ends, mild, no_page, Outcome}
 use Rattle.im_theory_tree.specs.Theory.{page_tree}
 use Rattle.im_engine_lock.specs.Locks.{Lock}
 use Rattle.im_engine_lock.specs.Table.{Table, locks_of}
@@ -40,6 +42,12 @@ use Rattle.im_engine.proofs.Openings.{lives_on}
 
 pub not_true : (b : Bool) → b ≡ false → b ≡ true → ⊥
 not_true b off on = let never : false ≡ true = sym off ∙ on in cc never
+
+-- a call that makes nothing grow wants no memory
+pub never_short : {D : Type 0} (d : Ghosts D) {asks : Writer → Type 0} {v : PageWriter} {old : D} {w : PageWriter} {new : D} {f : Fault} → Outcome d asks no_page v old w new (Some f) → f ≡ Memory → ⊥
+never_short d {asks} {v} {old} {w} {new} {f} one is =
+    let moved : Outcome d asks no_page v old w new (Some Memory) = subst (λ (x : Fault). Outcome d asks no_page v old w new (Some x)) is one in
+    let clash : false ≡ true = moved.ends.0 in cc clash
 
 module _ {D : Type 0} (d : Ghosts D) (old new : Engine D d) where
   never_failed : old.writer.failed ≡ false → (why : Option Fault) → Ends d AreLoaded mild old.writer old.disk new.writer new.disk why → why ≡ Some Failed → ⊥

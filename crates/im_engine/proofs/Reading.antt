@@ -11,12 +11,12 @@ use Rattle.im_base_types.specs.declared.fault.Fault.TheVariants.{NotAStore}
 use Rattle.im_base_types.specs.Lives.{Shown, shows}
 use Rattle.im_base_disk.specs.declared.disk.Disk.{Ghosts}
 use Rattle.im_base_disk.specs.Disk.{Files}
-use Rattle.im_page_writer.specs.Outcome.{Reads}
 use Rattle.im_front.specs.Calls.{number_of}
 use Rattle.im_front.specs.declared.fault.Fault.{Fault as Refusal}
 use Rattle.im_engine_index.specs.declared.outcome.Outcome.{Outcome}
 use Rattle.im_engine_index.specs.declared.outcome.Outcome.TheVariants.{Granted as OutcomeGranted, Wait as OutcomeWait, Die as OutcomeDie}
 use Rattle.im_engine_index.specs.Outcomes.{seek_at}
+use Rattle.im_engine_index.specs.LockCalls.{AsksLocks}
 use Rattle.im_engine_index.specs.Reads.{IsRead}
 use Rattle.im_base_types.specs.Keys.{Key}
 use Rattle.im_base_types.specs.Maps.{IndexMap}
@@ -62,7 +62,7 @@ module _ {D : Type 0} (d : Ghosts D) (before : List Effect) (s : Shown) (v : Vie
 
   -- granted, with its answer
   pub granted : changes a v.walk ≡ [] → {X : Type 0} (says : X → Reply) (o : Outcome X) → IsRead says t a v.walk old.locks new.locks o → (x : X) → o ≡ OutcomeGranted x → (reply : Reply) → says x ≡ reply
-      → Reads d old.writer old.disk new.writer new.disk None → new.txns ≡ old.txns → new.failed ≡ false → StepKept d before s v (Do t a) reply old new
+      → AsksLocks d old.writer old.disk new.writer new.disk None → new.txns ≡ old.txns → new.failed ≡ false → StepKept d before s v (Do t a) reply old new
   granted none {X} says o read x is reply told one table works_on =
       let now = subst (λ (y : Outcome X). IsRead says t a v.walk old.locks new.locks y) is read in
       subst (λ (y : Reply). StepKept d before s v (Do t a) y old new) (sym now.says ∙ told)
@@ -71,7 +71,7 @@ module _ {D : Type 0} (d : Ghosts D) (before : List Effect) (s : Shown) (v : Vie
       (asks_nothing s t a v) refl table refl (read_stops d before s v old run.1 new.writer new.disk one) works_on tt)
 
   -- it has to wait
-  pub waits : {X : Type 0} (says : X → Reply) (o : Outcome X) → IsRead says t a v.walk old.locks new.locks o → (holder : ℕ) → o ≡ OutcomeWait holder → Reads d old.writer old.disk new.writer new.disk None → new.txns ≡ old.txns → new.failed ≡ false
+  pub waits : {X : Type 0} (says : X → Reply) (o : Outcome X) → IsRead says t a v.walk old.locks new.locks o → (holder : ℕ) → o ≡ OutcomeWait holder → AsksLocks d old.writer old.disk new.writer new.disk None → new.txns ≡ old.txns → new.failed ≡ false
       → StepKept d before s v (Do t a) (Blocked holder) old new
   waits {X} says o read holder is one table works_on =
       let decides : Decides old.locks t (asked a v.walk) (Wait holder) new.locks = (subst (λ (y : Outcome X). IsRead says t a v.walk old.locks new.locks y) is read).decides in
@@ -80,7 +80,7 @@ module _ {D : Type 0} (d : Ghosts D) (before : List Effect) (s : Shown) (v : Vie
       (waits_ask_nothing s t holder a) refl table refl (read_stops d before s v old run.1 new.writer new.disk one) works_on tt
 
   -- its transaction must die
-  pub dies : {X : Type 0} (says : X → Reply) (o : Outcome X) → IsRead says t a v.walk old.locks new.locks o → o ≡ OutcomeDie → Reads d old.writer old.disk new.writer new.disk None → new.txns ≡ record old.txns { rows = map (changed t (with_mark MustRollBack)) old.txns.rows } → new.failed ≡ false
+  pub dies : {X : Type 0} (says : X → Reply) (o : Outcome X) → IsRead says t a v.walk old.locks new.locks o → o ≡ OutcomeDie → AsksLocks d old.writer old.disk new.writer new.disk None → new.txns ≡ record old.txns { rows = map (changed t (with_mark MustRollBack)) old.txns.rows } → new.failed ≡ false
       → StepKept d before s v (Do t a) Die old new
   dies {X} says o read is one table works_on =
       let decides : Decides old.locks t (asked a v.walk) MustDie new.locks = (subst (λ (y : Outcome X). IsRead says t a v.walk old.locks new.locks y) is read).decides in
@@ -89,7 +89,7 @@ module _ {D : Type 0} (d : Ghosts D) (before : List Effect) (s : Shown) (v : Vie
       (dies_ask_nothing s t a) refl table refl (read_stops d before s v old run.1 new.writer new.disk one) works_on tt
 
   -- a call below refused it
-  pub refused : ((u : ℕ) (c : Files) → u ≤ d.moment new.disk → d.may_leave new.disk c → d.left_since new.disk u c) → (f : Fault) → Wants (Do t a) memory → Reads d old.writer old.disk new.writer new.disk (Some f) → f ≢ NotAStore → new.failed ≡ ends_engine f
+  pub refused : ((u : ℕ) (c : Files) → u ≤ d.moment new.disk → d.may_leave new.disk c → d.left_since new.disk u c) → (f : Fault) → Wants (Do t a) memory → AsksLocks d old.writer old.disk new.writer new.disk (Some f) → f ≢ NotAStore → new.failed ≡ ends_engine f
       → new.txns ≡ old.txns → SameTable old.locks new.locks → (told : Refusal) → told ≡ told_as f → StepKept d before s v (Do t a) (Refused (number_of told)) old new
   refused counts_now f wants one sound fails table same told is =
       subst (λ (y : Refusal). StepKept d before s v (Do t a) (Refused (number_of y)) old new) (sym is) (search_refused d before s v (Do t a) no_commit

@@ -11,9 +11,10 @@ use Rattle.im_base_disk.specs.declared.disk.Disk.{Ghosts}
 use Rattle.im_base_disk.specs.Disk.{Files}
 use Rattle.im_base_disk.specs.Runs.{LeavesOnly}
 use Rattle.im_log.proofs.Above.{left_now}
+use Rattle.im_engine_index.specs.LockCalls.{AsksLocks}
 use Rattle.im_page_writer.specs.declared.page_writer.PageWriter.{PageWriter}
 use Rattle.im_page_writer.specs.PageWriter.{Evicted}
-use Rattle.im_page_writer.specs.Outcome.{Reads, AreLoaded, mild, Ends, none_mild, LogEnds}
+use Rattle.im_page_writer.specs.Outcome.{AreLoaded, mild, Ends, none_mild, LogEnds}
 use Rattle.im_front.specs.Calls.{number_of}
 use Rattle.im_engine_lock.specs.Table.{Table, SameTable, locks_of}
 use Rattle.im_engine_lock.specs.View.{View}
@@ -81,7 +82,7 @@ module _ {D : Type 0} (d : Ghosts D) (before : List Effect) (s : Shown) (v : Vie
       (refusals_ask_nothing memory step s (λ t is. inl refl)) (others_ask_nothing.cut s step other) table refl leaves works_on (none_done d before (shows s step (Some (Refused memory))) v step memory new)
 
   -- one that a search refuses
-  pub search_refused : (f : Fault) → Wants step memory → Reads d old.writer old.disk new.writer new.disk (Some f) → f ≢ NotAStore → new.failed ≡ ends_engine f → new.txns ≡ old.txns → SameTable old.locks new.locks
+  pub search_refused : (f : Fault) → Wants step memory → AsksLocks d old.writer old.disk new.writer new.disk (Some f) → f ≢ NotAStore → new.failed ≡ ends_engine f → new.txns ≡ old.txns → SameTable old.locks new.locks
       → StepKept d before s v step (Refused (number_of (told_as f))) old new
   search_refused f wants one sound fails table same = by f one.ends sound fails
     where

@@ -8,7 +8,8 @@ use Rattle.im_base_types.specs.Pages.{Page}
 use Rattle.im_theory_log.specs.Structure.{settled, taken_back}
 use Rattle.im_theory_log.proofs.Redo.{reached_end}
 use Rattle.im_theory_log.proofs.Fronts.{has_tree}
-use Rattle.im_page_writer.specs.Outcome.{AreLoaded, Reads, Stays, pages_of}
+use Rattle.im_engine_index.specs.LockCalls.{AsksLocks}
+use Rattle.im_page_writer.specs.Outcome.{AreLoaded, Stays, pages_of}
 use Rattle.im_page_writer.proofs.Outcomes.{leaves_of_end, pages_here}
 use Rattle.im_theory_tree.specs.Levels.{Pages, walk}
 use Rattle.im_theory_tree.specs.Good.{IsGoodTree}
@@ -98,7 +99,7 @@ module _ {D : Type 0} (d : Ghosts D) {b : Base} (before : List Effect) (s : Show
       weakened d e.disk new (IsCovered b r.base r.now.durable run.high) (Allowed before s) run.stops (λ told c is. left_on run.high (same.lawful r.lawful) stays.0.commits c is)
 
   -- a stop within a search
-  pub read_stops : {why : Option Fault} (w : PageWriter) (new : D) → Reads d e.writer e.disk w new why → LeavesOnly d e.disk new (Allowed before s)
+  pub read_stops : {why : Option Fault} (w : PageWriter) (new : D) → AsksLocks d e.writer e.disk w new why → LeavesOnly d e.disk new (Allowed before s)
   read_stops {why} w new one = grown_stops new (leaves_of_end d one b r.base r.now r.stands none_waits)
 
   -- where it is not refused the writer goes on from where it stood

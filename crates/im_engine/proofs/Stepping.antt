@@ -261,6 +261,9 @@ module _ {D : Type 0} (d : Ghosts D) (step : Asked) (e : Engine D d) (only_now :
   asks_none works (wants_numbers so) = works_so (λ (n : ℕ). n ≡ 6 → ⊥) (λ e. cc e) (λ e. cc e) (λ e. cc e) (λ e. cc e) (λ e. cc e) works (ap number_of (refused_inj fault faults.Capacity so))
   asks_none works (wants_memory so) = works_so (λ (n : ℕ). n ≡ 10 → ⊥) (λ e. cc e) (λ e. cc e) (λ e. cc e) (λ e. cc e) (λ e. cc e) works (ap number_of (refused_inj fault faults.Failed so))
 
+  memory_none : e.failed ≡ false → Refused fault ≡ Refused faults.Memory → ⊥
+  memory_none works so = works_so (λ (n : ℕ). n ≡ 9 → ⊥) (λ e. cc e) (λ e. cc e) (λ e. cc e) (λ e. cc e) (λ e. cc e) works (ap number_of (refused_inj fault faults.Memory so))
+
   wants_none : e.failed ≡ false → (pages : Pages) (map : IndexMap) (max : ℕ) (s : Step) → WantsOf pages map max s (Refused fault)
   wants_none works pages map max (Do t (answers.Insert key rid)) = record {
     made = λ so. absurd (cc so);
@@ -276,7 +279,7 @@ module _ {D : Type 0} (d : Ghosts D) (step : Asked) (e : Engine D d) (only_now :
   wants_none works pages map max Begin = tt
   wants_none works pages map max (Commit t) = tt
   wants_none works pages map max (Rollback t) = tt
-  wants_none works pages map max (Continue t) = λ so. absurd (asks_none works (wants_numbers so))
+  wants_none works pages map max (Continue t) = record { short = λ so. absurd (memory_none works so); used_up = λ so. absurd (asks_none works (wants_numbers so)) }
   wants_none works pages map max (FlushPage p) = tt
   wants_none works pages map max Force = tt
   wants_none works pages map max Checkpoint = tt

@@ -36,12 +36,12 @@ use Rattle.im_restart_analysis.specs.Undo.{IsUndoable}
 use Rattle.im_restart_analysis.specs.Losers.{row_of}
 use Rattle.im_restart_analysis.specs.declared.rows.Loser.{Loser}
 use Rattle.im_restart_undo.specs.Records.{IsOfUndo, GrowsByUndo, inverse_of}
-use Rattle.im_restart_undo.specs.Undoing.{IsGoing, LeavesUndo, LeftByUndo, ShowsChange, UsesUp}
+use Rattle.im_restart_undo.specs.Undoing.{IsGoing, LeavesUndo, LeftByUndo, ShowsChange, UsesUp, WantsRoom}
 use Rattle.im_restart_undo.proofs.Shown.{get_is, shows_change}
 use Rattle.im_engine_rollback.specs.Ends.{TurnEnds, may_turn}
 use Rattle.im_engine_rollback.specs.declared.undone.Undone.{Undone}
 use Rattle.im_engine_rollback.specs.declared.undone.Undone.TheVariants as turns
-use Rattle.im_engine_rollback.specs.Turns.{Took, HasMore, HasEndedNow, LacksWayBack, Turned}
+use Rattle.im_engine_rollback.specs.Turns.{Took, HasMore, HasEndedNow, LacksWayBack, Turned, LacksRoomBack}
 use Rattle.im_engine_txn.specs.Rows.{is_of, changed, with_record}
 use Rattle.im_engine_txn.specs.LookUps.{without}
 use Rattle.im_engine_txn.specs.declared.transaction.Mark.{Mark}
@@ -71,7 +71,7 @@ use Rattle.im_engine.specs.Numbered.{Numbered}
 use Rattle.im_engine.specs.Stands.{Allowed}
 use Rattle.im_engine.specs.Running.{IsRunning, IsLife}
 use Rattle.im_engine.specs.Kept.{StepKept}
-use Rattle.im_engine.specs.Told.{LacksWay, TurnCause}
+use Rattle.im_engine.specs.Told.{LacksRoom, LacksWay, TurnCause}
 use Rattle.im_engine.proofs.Running.{bodies_are, left_on}
 use Rattle.im_engine.proofs.Made.{step_made}
 use Rattle.im_engine.proofs.Refused.{breaks_with, lacks_with}
@@ -184,7 +184,30 @@ module _ {D : Type 0} (d : Ghosts D) {b : Base} (before : List Effect) (s : Show
   below_next : t < old.txns.next
   below_next = subst (λ (n : ℕ). n < old.txns.next) its.0 its.1.below
 
-  -- a key that comes back finds no room
+  -- a key that comes back finds its leaf without room
+  pub lacks_room : LacksRoomBack d b r.base r.now t → LacksRoom (settled b r.now.log) v.walk
+  lacks_room is = by (what_of is.entry) (shows_change b r.now.log can t (logged_at is.next.lsn is.entry) is.next.next) is.lacks
+    where
+      can : IsUndoable b page_tree r.now.log
+      can = record { lawful = r.lawful; closed = r.closed }
+
+      by : (w : What) → ShowsChange (logs.bodies b r.now.log) w → WantsRoom (bodies r.now) w → LacksRoom (settled b r.now.log) v.walk
+      by (DeleteKey k i) shows wants =
+          let lacks = subst (λ (pages : Pages). LacksRoomFor pages k) (bodies_are d before s v old r) wants in
+          record { key = k; absent = ap (λ (m : IndexMap). get m k) r.serving.seen_by.walk ∙ get_is b r.now.log can k ∙ shows; lacks = lacks }
+      by (InsertKey k i) shows wants = absurd wants
+      by (UndoInsert k i) shows wants = absurd wants
+      by (UndoDelete k i) shows wants = absurd wants
+      by (Smo was now) shows wants = absurd wants
+      by (UndoSmo now) shows wants = absurd wants
+      by DummyClr shows wants = absurd wants
+      by Commit shows wants = absurd wants
+      by End shows wants = absurd wants
+      by (Image c) shows wants = absurd wants
+      by (Checkpoint n a dirty) shows wants = absurd wants
+      by Unreadable shows wants = absurd wants
+
+  -- and its split is not to be had
   pub lacks_way : LacksWayBack d b r.base r.now t → LacksWay (settled b r.now.log) v.walk
   lacks_way is = by (what_of is.entry) (shows_change b r.now.log can t (logged_at is.next.lsn is.entry) is.next.next) is.used_up
     where
@@ -348,6 +371,15 @@ module _ {D : Type 0} (d : Ghosts D) (old : Engine D d) (works : old.failed ≡ 
       behind d old w.log disk works (Continue t) (replies.Refused told) checked (λ fault. refused_for d old w.log disk works (TurnCause d w.log disk) f told is (turn_cause d old.writer w disk f x) fault)
 
 -- a refusal that is told so was one
+pub told_memory : (f : Fault) → told_as f ≡ above.Memory → f ≡ Memory
+told_memory Capacity is = absurd (cc is)
+told_memory PagesFull is = absurd (cc is)
+told_memory LogFull is = absurd (cc is)
+told_memory Device is = absurd (cc is)
+told_memory Memory is = refl
+told_memory NotAStore is = absurd (cc is)
+told_memory e is = absurd (cc is)
+
 pub told_capacity : (f : Fault) → told_as f ≡ above.Capacity → f ≡ Capacity
 told_capacity Capacity is = refl
 told_capacity PagesFull is = absurd (cc is)

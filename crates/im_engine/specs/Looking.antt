@@ -4,7 +4,7 @@ use Rattle.im_base_types.specs.Pages.{Page}
 use Rattle.im_base_types.specs.declared.fault.Fault.{Fault}
 use Rattle.im_base_types.specs.declared.fault.Fault.TheVariants.{Failed}
 use Rattle.im_base_disk.specs.declared.disk.Disk.{Ghosts}
-use Rattle.im_page_writer.specs.Outcome.{Reads}
+use Rattle.im_page_writer.specs.Outcome.{Lists}
 use Rattle.im_engine.specs.declared.header.Header.{Header}
 use Rattle.im_engine.specs.declared.engine.Engine.{Engine}
 use Rattle.im_engine.specs.Faults.{ends_engine}
@@ -21,7 +21,7 @@ broken_by (Some fault) = ends_engine fault
 module _ {D : Type 0} (d : Ghosts D) where
   -- How a search of a working engine ends: its writer as searches do, and the rest is as it was, but that a refusal may break the engine.
   pub record Searched (why : Option Fault) (old new : Engine D d) : Type 0 where
-    pub writer : Reads d old.writer old.disk new.writer new.disk why
+    pub writer : Lists d old.writer old.disk new.writer new.disk why
     pub failed : new.failed ≡ broken_by why
     pub txns : new.txns ≡ old.txns
     pub locks : new.locks ≡ old.locks

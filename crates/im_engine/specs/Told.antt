@@ -216,11 +216,22 @@ module _ (pages : Pages) (map : IndexMap) where
     pub lacks : LacksRoomFor pages key
     pub used_up : IsUsedUp pages key
 
-  -- of the steps inserts and deletes are asked that: a key that is not there is Absent, and no delete of it fails late. A change that is taken back is refused `Capacity` only where a key can't come back
+  -- A key that the tree lacks finds its leaf without room.
+  pub record LacksRoom : Type 0 where
+    pub key : Key
+    pub absent : get map key ≡ None
+    pub lacks : LacksRoomFor pages key
+
+  -- A change that is taken back is refused `Memory` only where a key that comes back finds its leaf without room, so that its split is planned, and `Capacity` only where that can't be had.
+  pub record TurnWants (reply : Reply) : Type 0 where
+    pub short : reply ≡ Refused Memory → LacksRoom
+    pub used_up : reply ≡ Refused Capacity → LacksWay
+
+  -- of the steps inserts and deletes are asked that: a key that is not there is Absent, and no delete of it fails late. Of a change that is taken back it is asked what it wants room for
   abbrev pub WantsOf : ℕ → answers.Step → Reply → Type 0
   WantsOf max_pages (answers.Do t (answers.Insert key rid)) reply = InsertWants max_pages key reply
   WantsOf max_pages (answers.Do t (answers.Delete key)) reply = reply ≡ Refused Failed → get map key ≢ None
-  WantsOf max_pages (answers.Continue t) reply = reply ≡ Refused Capacity → LacksWay
+  WantsOf max_pages (answers.Continue t) reply = TurnWants reply
   WantsOf max_pages _ reply = Unit {0}
 
 -- An access that is answered has the answer of one user alone on the map of all that was committed, with what its transaction did on top.

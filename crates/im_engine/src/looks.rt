@@ -1,6 +1,6 @@
 //! Calls that only look.
 
-ghost use Rattle.std.specs.Prelude.{◌≡◌, ◌≢◌, List, IfOk, IfErr};
+ghost use Rattle.std.specs.Prelude.{◌≡◌, ◌≢◌, List, Err, IfOk, IfErr};
 
 use crate::accesses::breaks;
 use crate::engine::Engine;
@@ -16,7 +16,7 @@ impl<D: Disk> Engine<D> {
     ghost use Rattle.im_theory_log.specs.Histories.{Base};
     ghost use Rattle.im_theory_log.specs.Histories as histories;
     ghost use Rattle.im_base_types.specs.Lives.{Shown};
-    ghost use Rattle.im_base_types.specs.declared.fault.Fault.TheVariants.{NotAStore};
+    ghost use Rattle.im_base_types.specs.declared.fault.Fault.TheVariants.{Memory, NotAStore};
     ghost use Rattle.im_page_pool.specs.Pool.{page_at, IsAt};
     ghost use Rattle.im_page_writer.specs.Outcome.{fault_of};
     ghost use Rattle.im_engine_lock.specs.View.{View};
@@ -48,13 +48,14 @@ impl<D: Disk> Engine<D> {
         }
     }
 
-    /// What a page is for. Refused as `entries` is.
+    /// What a page is for. Refused as `entries` is, but never for want of memory: nothing grows.
     pub fn header(&mut self, page: PageNo) -> Result<Header, Fault>
         ensures outcome { Looks D.Disk (fault_of result) self.old self.new }
         ensures kept { (before : List Effect) (s : Shown) (v : View) → IsLife D.Disk before s v self.old → LookKept D.Disk before s v self.old self.new }
         ensures header { IfOk result (λ header. header ≡ header_of (page_at self.new.writer.pool page)) }
         ensures logged { IfOk result (λ header. (b : Base) (before : List Effect) (s : Shown) (v : View) (r : IsRunning D.Disk b before s v self.old) → header ≡ header_of (histories.page_at b r.now.log page)) }
         ensures never { IfErr result (λ e. (before : List Effect) (s : Shown) (v : View) → IsLife D.Disk before s v self.old → e ≢ NotAStore) }
+        ensures memory { result ≢ Err Memory }
     {
         if self.failed {
             return Err(Fault::Failed);

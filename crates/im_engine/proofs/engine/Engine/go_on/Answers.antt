@@ -6,7 +6,7 @@ use Rattle.im_engine.specs.Numbered.{Numbered}
 use Rattle.im_front.specs.declared.fault.Fault.TheVariants as faults
 use Rattle.im_engine.proofs.Causes.{refused_inj}
 use Rattle.im_engine.proofs.Telling.{not_true, told_answered, told_refused, told_rolled_back}
-use Rattle.im_engine.proofs.Turning.{continue_made, continue_refused, has_ended, has_more, has_more_to_undo, lacks_way, stands_going, told_capacity, turn_lost, turn_refused}
+use Rattle.im_engine.proofs.Turning.{continue_made, continue_refused, has_ended, has_more, has_more_to_undo, lacks_way, stands_going, told_capacity, turn_lost, turn_refused, lacks_room, told_memory}
 use Rattle.im_engine.proofs.engine.Engine.go_on.Goals as goal
 
 pub returns-in-Ok-More-clause-kept : goal.returns-in-Ok-More-clause-kept
@@ -69,10 +69,22 @@ pub returns-in-Err-clause-answered : goal.returns-in-Err-clause-answered
 returns-in-Err-clause-answered g c =
     continue_refused g.D.Disk c.args.self.now c.requires.works c.args.t c.requires.checked c.undo_next.new.writer c.undo_next.new.disk c.in-Err.fault c.told.result c.told.ensures c.in-Err.ensures.outcome.ends
 
+pub returns-in_default-clause-wants : goal.returns-in_default-clause-wants
+returns-in_default-clause-wants g c b before s v r = record { short = λ is. absurd (let never : ⊥ = cc is in never); used_up = λ is. absurd (let never : ⊥ = cc is in never) }
+
+pub returns-in-Ok-More-clause-wants : goal.returns-in-Ok-More-clause-wants
+returns-in-Ok-More-clause-wants g c b before s v r = record { short = λ is. absurd (let never : ⊥ = cc is in never); used_up = λ is. absurd (let never : ⊥ = cc is in never) }
+
+pub returns-in-Ok-Ended-clause-wants : goal.returns-in-Ok-Ended-clause-wants
+returns-in-Ok-Ended-clause-wants g c b before s v r = record { short = λ is. absurd (let never : ⊥ = cc is in never); used_up = λ is. absurd (let never : ⊥ = cc is in never) }
+
 pub returns-in-Err-clause-wants : goal.returns-in-Err-clause-wants
-returns-in-Err-clause-wants g c b before s v r full =
+returns-in-Err-clause-wants g c b before s v r =
     let old = c.args.self.now in
     let row = c.in-Some.row in
     let found = sym c.in-Some.ensures.found in
     let kept = c.in-Err.ensures.kept b r.base r.now r.redo_end (stands_going g.D.Disk before s v c.args.t row old r found c.requires.checked) (has_more_to_undo g.D.Disk before s v c.args.t row old r found c.requires.checked) in
-    lacks_way g.D.Disk before s v c.args.t row old r found c.requires.checked (kept.used_up (told_capacity c.in-Err.fault (sym c.told.ensures ∙ refused_inj c.told.result faults.Capacity full)))
+    record {
+      short = λ wants. lacks_room g.D.Disk before s v c.args.t row old r found c.requires.checked (kept.short (told_memory c.in-Err.fault (sym c.told.ensures ∙ refused_inj c.told.result faults.Memory wants)));
+      used_up = λ full. lacks_way g.D.Disk before s v c.args.t row old r found c.requires.checked (kept.used_up (told_capacity c.in-Err.fault (sym c.told.ensures ∙ refused_inj c.told.result faults.Capacity full)));
+    }
