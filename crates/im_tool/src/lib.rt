@@ -11,30 +11,20 @@
 //! lines.
 #![tactic(auto)]
 
-#[cfg(test)]
-mod answered;
 mod checkpoints;
 mod imdrill;
 mod imstore;
 mod key_notation;
 mod line_input;
-#[cfg(test)]
-mod loaded;
 mod log_bytes;
 mod log_damage;
 mod log_text;
 mod look;
-#[cfg(test)]
-mod looked;
 mod options;
-#[cfg(test)]
-mod programs;
 mod progress;
 mod reason;
 mod recovered;
 mod redo_bound;
-#[cfg(test)]
-mod redo_kept;
 mod store;
 mod tasks;
 mod transfer;
@@ -42,9 +32,14 @@ mod tree_check;
 mod tree_damage;
 mod words_step;
 
+pub use checkpoints::Checkpoints;
 pub use imdrill::drill_program;
 pub use imstore::store_program;
 pub use line_input::LineInput;
+pub use look::{check_text, stat_text};
 pub use options::{Options, Task};
+pub use progress::Progress;
+pub use recovered::{Copies, copies_of};
 pub use redo_bound::RedoBound;
 pub use store::{Manner, StoreEnd, store_text};
+pub use transfer::{Loaded, load_text};

@@ -85,7 +85,7 @@ fn refused_opening(fault: Fault) -> Result<Looked, Fault> {
 
 /// Checks a store: the records of its log, the whole batches behind the log's end, and the tree and the free list as an opening
 /// finds them. Writes `ok`, or a line for each rule that does not hold, and answers the exit status, 0 or 1.
-pub(crate) fn check_text<W: Write>(alloc: Global, writer: &mut W, copies: Copies) -> io::Result<u8>
+pub fn check_text<W: Write>(alloc: Global, writer: &mut W, copies: Copies) -> io::Result<u8>
     ensures { IfOk result (λ status. status ≤ 1) }
 {
     let log = clone_of(alloc, &copies.log)?;
@@ -138,7 +138,7 @@ fn broken_text<W: Write>(writer: &mut W, looked: &Looked) -> io::Result<()> {
 }
 
 /// Writes what a store has, in numbers, and answers the exit status, 0, or 1 where it is broken.
-pub(crate) fn stat_text<W: Write>(alloc: Global, writer: &mut W, copies: Copies) -> io::Result<u8>
+pub fn stat_text<W: Write>(alloc: Global, writer: &mut W, copies: Copies) -> io::Result<u8>
     ensures { IfOk result (λ status. status ≤ 1) }
 {
     let file = copies.log.len();

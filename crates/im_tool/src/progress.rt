@@ -5,9 +5,9 @@ use std::io::Write;
 
 /// Where a task tells how far it is, if somebody reads it there.
 #[derive(Drop)]
-pub(crate) struct Progress<W> {
-    pub(crate) writer: W,
-    pub(crate) is_shown: bool,
+pub struct Progress<W> {
+    pub writer: W,
+    pub is_shown: bool,
 }
 
 impl<W: Write> Progress<W> {

@@ -10,13 +10,13 @@ use std::alloc::Global;
 
 /// The bytes of both files.
 #[derive(Drop)]
-pub(crate) struct Copies {
-    pub(crate) log: Vec<u8>,
-    pub(crate) pages: Vec<u8>,
+pub struct Copies {
+    pub log: Vec<u8>,
+    pub pages: Vec<u8>,
 }
 
 /// Reads both files of a store.
-pub(crate) fn copies_of<D: Disk>(alloc: Global, disk: &mut D) -> Result<Copies, Fault>
+pub fn copies_of<D: Disk>(alloc: Global, disk: &mut D) -> Result<Copies, Fault>
     requires { D.failed disk.old ≡ false }
 {
     let log = whole_file(alloc, disk, FileId::Log)?;

@@ -27,7 +27,7 @@ const TITLE: &[u8] = b"imstore entries ";
 
 /// How a load ended.
 #[derive(Clone, Copy, Debug, PartialEq, Eq)]
-pub(crate) enum Loaded {
+pub enum Loaded {
     /// All entries of the text are in the store.
     All(u64),
     /// This line of the text, counted from 1, is none of a dump, or the text ends before it.
@@ -64,7 +64,7 @@ pub(crate) fn dump_text<W: Write, P: Write>(
 
 /// Puts the entries of such a text into a store, commits them a thousand at a time, and tells of each commit. Checkpoints are taken in
 /// between, as the bound wants them, and one behind the last entry, so that the next opening has nothing to redo.
-pub(crate) fn load_text<D: Disk + Drop, R: LineInput, P: Write>(
+pub fn load_text<D: Disk + Drop, R: LineInput, P: Write>(
     alloc: Global,
     disk: D,
     config: Config,

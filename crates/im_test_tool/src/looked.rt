@@ -1,11 +1,9 @@
 //! A look at a store whose opening takes pages, and at one that a stop left with an empty leaf.
 
-use crate::log_bytes::{first_gate, next_gate, open_batch};
-use crate::look::{check_text, stat_text};
-use crate::recovered::{Copies, copies_of};
-use crate::{Manner, RedoBound, store_text};
 use im_base_disk::FileDisk;
 use im_engine::Config;
+use im_log_gate::FIRST_GATE;
+use im_tool::{Copies, Manner, RedoBound, check_text, copies_of, stat_text, store_text};
 use std::alloc::Global;
 use std::io::{BufReader, Write};
 use std::test::Fail;
@@ -99,6 +97,15 @@ fn cut_at(alloc: Global, copies: &Copies, gate: usize) -> Result<Copies, Fail> {
     Ok(Copies { log, pages })
 }
 
+// The place of the gate behind the open one at a place.
+fn next_gate(log: &[u8], gate: usize) -> Option<usize> {
+    let from = gate.checked_add(5)?;
+    let Some([1, a, b, c, d]) = log.get(gate..from) else {
+        return None;
+    };
+    from.checked_add(u32::from_be_bytes([*a, *b, *c, *d]) as usize)
+}
+
 // Some of these stops fall between the record that empties the leaf and the end of its page deletion.
 #[test]
 fn a_leaf_that_a_stop_left_empty_is_no_damage(rt: HostRuntime) -> Result<(), Fail> {
@@ -106,13 +113,13 @@ fn a_leaf_that_a_stop_left_empty_is_no_damage(rt: HostRuntime) -> Result<(), Fai
     let _ = fs::remove_dir_all(&rt, "im_tool_emptied");
     let copies = left_by(&rt, "im_tool_emptied", emptying_lines(alloc)?.as_slice())?;
     fs::remove_dir_all(&rt, "im_tool_emptied")?;
-    let mut gate = first_gate(&copies.log).unwrap_or(0);
+    let mut gate = FIRST_GATE as usize;
     let mut emptied = 0u64;
     for _batch in 0..100u32 {
-        let Ok(Some(records)) = open_batch(&copies.log, gate) else {
+        let Some(next) = next_gate(&copies.log, gate) else {
             break;
         };
-        gate = next_gate(gate, records);
+        gate = next;
         let mut printed = Vec::new(alloc);
         let status = check_text(alloc, &mut printed, cut_at(alloc, &copies, gate)?)?;
         assert!(rt; status == 0, "{gate}");

@@ -3,10 +3,10 @@
 ghost use Rattle.std.specs.Prelude.{◌≡◌, false};
 ghost use Rattle.im_base_disk.specs.Runs.{IsSynced};
 
-use crate::{Manner, RedoBound, StoreEnd, store_text};
 use im_base_disk::{Disk, FileDisk, ModelDisk};
 use im_base_types::Fault;
 use im_engine::Config;
+use im_tool::{Manner, RedoBound, StoreEnd, store_text};
 use std::alloc::Global;
 use std::io::BufReader;
 use std::test::Fail;

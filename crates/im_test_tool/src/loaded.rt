@@ -1,10 +1,8 @@
 //! What a load tells of how far it is.
 
-use crate::RedoBound;
-use crate::progress::Progress;
-use crate::transfer::{Loaded, load_text};
 use im_base_disk::ModelDisk;
 use im_engine::Config;
+use im_tool::{Loaded, Progress, RedoBound, load_text};
 use std::alloc::Global;
 use std::io;
 use std::io::{BufReader, Write};

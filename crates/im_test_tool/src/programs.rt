@@ -1,6 +1,6 @@
 //! The exit statuses of the programs.
 
-use crate::{drill_program, store_program};
+use im_tool::{drill_program, store_program};
 use std::alloc::{AllocError, Global};
 use std::fs;
 use std::test::Fail;
