@@ -23,12 +23,13 @@ use Rattle.im_log.proofs.Above.{front_then}
 use Rattle.im_page_pool.specs.declared.frame.Frame.{Frame}
 use Rattle.im_page_pool.specs.Pool.{page_at, IsAt}
 use Rattle.im_page_writer.specs.declared.page_writer.PageWriter.{PageWriter}
-use Rattle.im_page_writer.specs.Outcome.{mild, pages_of, Logs, Reads}
+use Rattle.im_page_writer.specs.Outcome.{pages_of, Logs, mild, none_mild}
+use Rattle.im_engine_index.specs.LockCalls.{AsksLocks}
 use Rattle.im_page_writer.specs.PageWriter.{Evicted}
 use Rattle.im_page_writer.proofs.Goings.{leaves_so_far}
 use Rattle.im_page_writer.proofs.Growing.{grows_then as images_then}
 use Rattle.im_page_writer.proofs.LoggedChanges.{err_on}
-use Rattle.im_page_writer.proofs.Outcomes.{held_is, leaves_of_end, logs_then, sound_on}
+use Rattle.im_page_writer.proofs.Outcomes.{held_is, leaves_of_end, logs_then, sound_on, late_behind, logs_for_more, none_mildly}
 use Rattle.im_page_writer.proofs.Standing.{wider_covered}
 use Rattle.im_theory_tree.specs.Levels.{Pages, walk}
 use Rattle.im_theory_tree.specs.Search.{IsOnWay}
@@ -179,16 +180,16 @@ module _ {D : Type 0} (d : Ghosts D) (b : Base) (base : ℕ) (s : Writer) (e t l
 
 module _ {D : Type 0} (d : Ghosts D) (b : Base) (base : ℕ) (s : Writer) (e t last undo_next : ℕ) (v : PageWriter) (old : D) (u : IsUnfinished d b base s e t last undo_next v old) (owner : 1 ≤ t) where
   -- what a stop within the search leaves, however it ended
-  pub search_left : (w : PageWriter) (mid : D) (why : Option Fault) → Reads d v old w mid why → LeavesEdit d b base s t old mid
+  pub search_left : (w : PageWriter) (mid : D) (why : Option Fault) → AsksLocks d v old w mid why → LeavesEdit d b base s t old mid
   search_left w mid why reads = left_edit d b base s t old mid (left_images d b base s t old mid u.lawful (leaves_of_end d reads b base s u.stands (still_ready d b base s e t last undo_next v old u)))
 
-  pub search_done : (w : PageWriter) (mid : D) → Reads d v old w mid None → Evicted d b base s old w mid
+  pub search_done : (w : PageWriter) (mid : D) → AsksLocks d v old w mid None → Evicted d b base s old w mid
   search_done w mid reads = reads.ends.goes b base s u.stands (still_ready d b base s e t last undo_next v old u)
 
   -- a working writer does not refuse a search as failed
-  pub search_works : (w : PageWriter) (mid : D) (f : Fault) → Reads d v old w mid (Some f) → f ≢ Failed
+  pub search_works : (w : PageWriter) (mid : D) (f : Fault) → AsksLocks d v old w mid (Some f) → f ≢ Failed
   search_works w mid f reads is =
-      let ends : (v.failed ≡ true) × (w.failed ≡ true) = (subst (λ (x : Fault). Reads d v old w mid (Some x)) is reads).ends in
+      let ends : (v.failed ≡ true) × (w.failed ≡ true) = (subst (λ (x : Fault). AsksLocks d v old w mid (Some x)) is reads).ends in
       (let clash : false ≡ true = sym u.stands.working ∙ ends.0 in cc clash)
 
   pub has_tree : HasTree d (pages_of s) v old
@@ -252,10 +253,19 @@ module _ {D : Type 0} (d : Ghosts D) (b : Base) (base : ℕ) (s : Writer) (e t l
         (λ told c is. is)
 
 -- a working writer does not refuse a call that logs early as failed
-pub log_works : {D : Type 0} (d : Ghosts D) {v : PageWriter} {old : D} {w : PageWriter} {new : D} {f : Fault} → v.failed ≡ false → Logs d false mild v old w new (Some f) → f ≢ Failed
-log_works {D} d {v} {old} {w} {new} {f} works one is =
-    let ends : (v.failed ≡ true) × (w.failed ≡ true) = (subst (λ (x : Fault). Logs d false mild v old w new (Some x)) is one).ends in
+pub log_works : {D : Type 0} (d : Ghosts D) {m : Fault → Bool} {v : PageWriter} {old : D} {w : PageWriter} {new : D} {f : Fault} → v.failed ≡ false → Logs d false m v old w new (Some f) → f ≢ Failed
+log_works {D} d {m} {v} {old} {w} {new} {f} works one is =
+    let ends : (v.failed ≡ true) × (w.failed ≡ true) = (subst (λ (x : Fault). Logs d false m v old w new (Some x)) is one).ends in
     (let clash : false ≡ true = sym works ∙ ends.0 in cc clash)
+
+-- a refusal behind the key's record, of a call that is not refused for want of memory
+pub dropped_late : {D : Type 0} (d : Ghosts D) {last : Bool} {m n : Fault → Bool} {v : PageWriter} {old : D} {w : PageWriter} {mid : D} {x : PageWriter} {new : D} {f : Fault} → Logs d last m v old w mid None → Logs d true none_mild w mid x new (Some f) → Logs d true n v old x new (Some f)
+dropped_late {D} d {last} {m} {n} {v} {old} {w} {mid} {x} {new} {f} one two = late_behind d one (logs_for_more d (none_mildly mild) two) (λ is. absurd (short is)) (λ other. refl)
+  where
+    short : f ≡ Memory → ⊥
+    short is =
+        let here : Logs d true none_mild w mid x new (Some Memory) = subst (λ (e : Fault). Logs d true none_mild w mid x new (Some e)) is two in
+        let clash : false ≡ true = here.ends.0 in cc clash
 
 is_memory : (f : Fault) → (f ≡ Memory) ⊎ (f ≢ Memory)
 is_memory Memory = inl refl
@@ -275,7 +285,7 @@ module _ {D : Type 0} (d : Ghosts D) (b : Base) (base : ℕ) (s : Writer) (e t l
   abbrev IsOurs : Outcome Place → Type 0
   IsOurs o = IsAsked (pages_of s) t (Delete key) key map_of held new w.pool o
 
-  pub not_asked : (result : Result (Outcome (Option Taken)) Fault) (f : Fault) → IsErrAnd result (λ x. x ≡ f) → f ≢ NotAStore → Reads d v old w mid (Some f) → DeleteKept d b base s e t last key held new old w mid result
+  pub not_asked : (result : Result (Outcome (Option Taken)) Fault) (f : Fault) → IsErrAnd result (λ x. x ≡ f) → f ≢ NotAStore → AsksLocks d v old w mid (Some f) → DeleteKept d b base s e t last key held new old w mid result
   not_asked result f here other reads = record {
     sound = sound_on result f _ here other;
     stops = search_left d b base s e t last undo_next v old may.unfinished owner w mid (Some f) reads;
@@ -283,7 +293,7 @@ module _ {D : Type 0} (d : Ghosts D) (b : Base) (base : ℕ) (s : Writer) (e t l
         (λ is. absurd (search_works d b base s e t last undo_next v old may.unfinished owner w mid f reads is));
   }
 
-  module _ (reads : Reads d v old w mid None) where
+  module _ (reads : AsksLocks d v old w mid None) where
     pub ev : Evicted d b base s old w mid
     ev = search_done d b base s e t last undo_next v old may.unfinished owner w mid reads
 
@@ -323,9 +333,9 @@ module _ {D : Type 0} (d : Ghosts D) (b : Base) (base : ℕ) (s : Writer) (e t l
           begun = tt;
         }
 
-        pub taken_err : (x : PageWriter) (disk : D) (f g : Fault) → (f ≡ Memory → g ≡ Failed) → (f ≢ Memory → g ≡ f) → Logs d true mild w mid x disk (Some f) → TakenKept d b base now_of e t last key mid x disk (Err f)
+        pub taken_err : {m : Fault → Bool} (x : PageWriter) (disk : D) (f g : Fault) → (f ≡ Memory → g ≡ Failed) → (f ≢ Memory → g ≡ f) → Logs d true m w mid x disk (Some f) → TakenKept d b base now_of e t last key mid x disk (Err f)
             → DeleteKept d b base s e t last key held new old x disk (Err g)
-        taken_err x disk f g memory others logs kept = record {
+        taken_err {m} x disk f g memory others logs kept = record {
           sound = late_cause f g memory others kept.sound;
           stops = stops_since d b base s e t last undo_next v old may.unfinished owner key rid there w mid ev disk kept.stops;
           begun = λ failed. ((λ none. (let clash : Some rid ≡ None = sym there ∙ none in cc clash)), ours.decides, wanted (is_memory f) failed);
@@ -333,6 +343,6 @@ module _ {D : Type 0} (d : Ghosts D) (b : Base) (base : ℕ) (s : Writer) (e t l
           where
             wanted : (f ≡ Memory) ⊎ (f ≢ Memory) → g ≡ Failed → HasOne (bodies s) key ⊎ Evicted d b base s old x disk
             wanted (inl short) failed =
-                let whole : Logs d true mild v old x disk (Some Memory) = subst (λ (y : Fault). Logs d true mild v old x disk (Some y)) short (logs_then d reads logs) in
+                let whole : Logs d true m v old x disk (Some Memory) = subst (λ (y : Fault). Logs d true m v old x disk (Some y)) short (logs_then d reads logs) in
                 inr (whole.ends.1.goes b base s may.unfinished.stands (still_ready d b base s e t last undo_next v old may.unfinished))
             wanted (inr other) failed = inl (one_since d b base s e t last undo_next v old may.unfinished owner key rid there w mid ev (kept.begun (sym (others other) ∙ failed)))

@@ -16,7 +16,8 @@ use Rattle.im_theory_log.specs.Writer.{Writer}
 use Rattle.im_base_disk.specs.declared.disk.Disk.{Ghosts}
 use Rattle.im_page_pool.specs.Pool.{PoolView, page_at}
 use Rattle.im_page_writer.specs.declared.page_writer.PageWriter.{PageWriter}
-use Rattle.im_page_writer.specs.Outcome.{fault_of, mild, want_of_memory, pages_of, AllPages, AreLoaded, HasPages, IsSound, Outcome as Ends, Logs, Reads, Stays}
+use Rattle.im_page_writer.specs.Outcome.{fault_of, want_of_memory, pages_of, AllPages, AreLoaded, HasPages, IsSound, Outcome as Ends, Logs, Stays}
+use Rattle.im_engine_index.specs.LockCalls.{AsksLocks}
 use Rattle.im_page_writer.specs.PageWriter.{Evicted}
 use Rattle.im_page_writer.proofs.Outcomes.{stays_then}
 use Rattle.im_page.specs.Split.{HasRoom}
@@ -123,12 +124,12 @@ prepare_refused pages t key rid max m old new pool f (Err y) is sound full = rec
 
 -- where they are asked alone, without a plan
 pub prepared_kept : {D : Type 0} (d : Ghosts D) {v : PageWriter} {old : D} {w : PageWriter} {disk : D} (pages : AllPages) (t : ℕ) (key : Key) (rid max : ℕ) (m : IndexMap) (held new : Table) (pool : PoolView) (r : Result (Outcome Prepared) Fault)
-    → Reads d v old w disk (fault_of r) → IsSound r (IsPrepared pages t key rid max m held new pool) → PreparedKept pages t key rid max m held new pool r
+    → AsksLocks d v old w disk (fault_of r) → IsSound r (IsPrepared pages t key rid max m held new pool) → PreparedKept pages t key rid max m held new pool r
 prepared_kept {D} d {v} {old} {w} {disk} pages t key rid max m held new pool (Ok x) one sound = record { sound = sound; full = tt }
 prepared_kept {D} d {v} {old} {w} {disk} pages t key rid max m held new pool (Err y) one sound = record { sound = sound; full = λ full. absurd (never_pages_full d refl one full) }
 
 -- a search has no refusal for want of page numbers
-pub none_used_up : {D : Type 0} (d : Ghosts D) {A : Type 0} {v : PageWriter} {old : D} {w : PageWriter} {disk : D} (r : Result A Fault) → Reads d v old w disk (fault_of r) → IfErr r (λ y. y ≢ Capacity)
+pub none_used_up : {D : Type 0} (d : Ghosts D) {A : Type 0} {v : PageWriter} {old : D} {w : PageWriter} {disk : D} (r : Result A Fault) → AsksLocks d v old w disk (fault_of r) → IfErr r (λ y. y ≢ Capacity)
 none_used_up {D} d {A} {v} {old} {w} {disk} (Ok a) one = tt
 none_used_up {D} d {A} {v} {old} {w} {disk} (Err y) one = never_capacity d refl one
 
@@ -259,13 +260,13 @@ module _ {D : Type 0} (d : Ghosts D) (b : Base) (base : ℕ) (s : Writer) (e t l
             }
 
 -- where such a call over a writer that works is refused for want of memory, or as failed, nothing of its own was logged
-pub none_logged : {A : Type 0} {D : Type 0} (d : Ghosts D) {v : PageWriter} {old : D} {w : PageWriter} {new : D} (P : Type 0) (r : Result A Fault) → v.failed ≡ false → Logs d false mild v old w new (fault_of r) → IfErr r (λ y. (y ≡ Memory) ⊎ (y ≡ Failed) → P → Stays d AreLoaded v old w new)
-none_logged {A} d {v} {old} {w} {new} P (Ok a) works one = tt
-none_logged {A} d {v} {old} {w} {new} P (Err y) works one = by
+pub none_logged : {A : Type 0} {D : Type 0} (d : Ghosts D) {m : Fault → Bool} {v : PageWriter} {old : D} {w : PageWriter} {new : D} (P : Type 0) (r : Result A Fault) → v.failed ≡ false → Logs d false m v old w new (fault_of r) → IfErr r (λ y. (y ≡ Memory) ⊎ (y ≡ Failed) → P → Stays d AreLoaded v old w new)
+none_logged {A} d {m} {v} {old} {w} {new} P (Ok a) works one = tt
+none_logged {A} d {m} {v} {old} {w} {new} P (Err y) works one = by
   where
     by : (y ≡ Memory) ⊎ (y ≡ Failed) → P → Stays d AreLoaded v old w new
-    by (inl is) p = let moved : Logs d false mild v old w new (Some Memory) = subst (λ (x : Fault). Logs d false mild v old w new (Some x)) is one in moved.ends.1
-    by (inr is) p = let moved : Logs d false mild v old w new (Some Failed) = subst (λ (x : Fault). Logs d false mild v old w new (Some x)) is one in absurd (let clash : false ≡ true = sym works ∙ moved.ends.0 in cc clash)
+    by (inl is) p = let moved : Logs d false m v old w new (Some Memory) = subst (λ (x : Fault). Logs d false m v old w new (Some x)) is one in moved.ends.1
+    by (inr is) p = let moved : Logs d false m v old w new (Some Failed) = subst (λ (x : Fault). Logs d false m v old w new (Some x)) is one in absurd (let clash : false ≡ true = sym works ∙ moved.ends.0 in cc clash)
 
 pub not_so : {A : Type 0} (r : Result A Fault) (W : Fault → Type 0) (plan : Plan) (Q : Type 0) → (plan ≡ Fits → ⊥) → IfErr r (λ y. W y → plan ≡ Fits → Q)
 not_so {A} (Ok a) W plan Q never = tt
@@ -279,11 +280,11 @@ never_full d {v} {old} {w} {new} {f} one is =
     cc clash
 
 -- and none for want of page numbers
-pub never_used_up : {A : Type 0} {D : Type 0} (d : Ghosts D) {late : Bool} {v : PageWriter} {old : D} {w : PageWriter} {new : D} (P : Type 0) (r : Result A Fault) → Logs d late mild v old w new (fault_of r) → IfErr r (λ y. y ≡ Capacity → P)
-never_used_up {A} d {late} {v} {old} {w} {new} P (Ok a) one = tt
-never_used_up {A} d {late} {v} {old} {w} {new} P (Err y) one = λ is.
-    let moved : Logs d late mild v old w new (Some Capacity) = subst (λ (x : Fault). Logs d late mild v old w new (Some x)) is one in
-    absurd (let clash : false ≡ true = moved.ends.0 in cc clash)
+pub never_used_up : {A : Type 0} {D : Type 0} (d : Ghosts D) {late : Bool} {m : Fault → Bool} {v : PageWriter} {old : D} {w : PageWriter} {new : D} → m Capacity ≡ false → (P : Type 0) (r : Result A Fault) → Logs d late m v old w new (fault_of r) → IfErr r (λ y. y ≡ Capacity → P)
+never_used_up {A} d {late} {m} {v} {old} {w} {new} none P (Ok a) one = tt
+never_used_up {A} d {late} {m} {v} {old} {w} {new} none P (Err y) one = λ is.
+    let moved : Logs d late m v old w new (Some Capacity) = subst (λ (x : Fault). Logs d late m v old w new (Some x)) is one in
+    absurd (let clash : false ≡ true = sym none ∙ moved.ends.0 in cc clash)
 
 -- behind the grant there is neither refusal behind which nobody holds another lock
 pub late_table : (f g : Fault) (P : Type 0) → (f ≡ Memory → g ≡ Failed) → (f ≢ Memory → g ≡ f) → f ≢ PagesFull → (g ≡ Memory) ⊎ (g ≡ PagesFull) → P

@@ -1,6 +1,7 @@
 pub mod Outcomes
 pub mod Reads
 pub mod Asks
+pub mod LockCalls
 pub mod KeyLogs
 pub mod Edits
 pub mod InsertPlans

@@ -8,7 +8,8 @@ ghost use Rattle.im_base_types.specs.Maps.{IndexMap};
 ghost use Rattle.im_base_types.specs.Answers.{Insert, Delete};
 ghost use Rattle.im_page_pool.specs.Pool.{page_at, IsAt};
 ghost use Rattle.im_page_writer.specs.PageWriter.{IsReadyWriter};
-ghost use Rattle.im_page_writer.specs.Outcome.{fault_of, AllPages, IsSound, Reads};
+ghost use Rattle.im_page_writer.specs.Outcome.{fault_of, AllPages, IsSound};
+ghost use Rattle.im_engine_index.specs.LockCalls.{AsksLocks};
 ghost use Rattle.im_theory_tree.specs.Levels.{walk};
 ghost use Rattle.im_tree_search.specs.Levels.{HasLevel, bodies_of};
 ghost use Rattle.im_tree_search.specs.Found.{HasTree};
@@ -58,7 +59,7 @@ pub(crate) fn ask_insert_at<D: Disk>(
     requires working { writer.old.failed ≡ false }
     requires at { IsAt writer.old.pool found.leaf }
     requires leaf { HasLevel 0 (page_at writer.old.pool found.leaf.number).body }
-    ensures outcome { Reads D.Disk writer.old disk.old writer.new disk.new (fault_of result) }
+    ensures outcome { AsksLocks D.Disk writer.old disk.old writer.new disk.new (fault_of result) }
     ensures kept { (pages : AllPages) (m : IndexMap) (rid : ℕ) → HasTree D.Disk pages writer.old disk.old → walk (bodies_of pages) ≡ entries m → IsPlace pages key.now m writer.old.pool found
         → IsSound result (IsAsked pages transaction (Insert key.now rid) key.now m locks.old locks.new writer.new.pool) }
     ensures at { IfOk result (λ outcome. IfGranted outcome (λ place. IsAt writer.new.pool place.leaf)) }
@@ -92,7 +93,7 @@ pub fn ask_insert<D: Disk>(
     key: &[u8],
 ) -> Result<Outcome<Place>, Fault>
     requires ready { IsReadyWriter D.Disk writer.old disk.old }
-    ensures outcome { Reads D.Disk writer.old disk.old writer.new disk.new (fault_of result) }
+    ensures outcome { AsksLocks D.Disk writer.old disk.old writer.new disk.new (fault_of result) }
     ensures kept { (pages : AllPages) (m : IndexMap) (rid : ℕ) → HasTree D.Disk pages writer.old disk.old → walk (bodies_of pages) ≡ entries m
         → IsSound result (IsAsked pages transaction (Insert key.now rid) key.now m locks.old locks.new writer.new.pool) }
     ensures at { IfOk result (λ outcome. IfGranted outcome (λ place. IsAt writer.new.pool place.leaf)) }
@@ -116,7 +117,7 @@ pub fn ask_delete<D: Disk>(
     key: &[u8],
 ) -> Result<Outcome<Place>, Fault>
     requires ready { IsReadyWriter D.Disk writer.old disk.old }
-    ensures outcome { Reads D.Disk writer.old disk.old writer.new disk.new (fault_of result) }
+    ensures outcome { AsksLocks D.Disk writer.old disk.old writer.new disk.new (fault_of result) }
     ensures kept { (pages : AllPages) (m : IndexMap) → HasTree D.Disk pages writer.old disk.old → walk (bodies_of pages) ≡ entries m
         → IsSound result (IsAsked pages transaction (Delete key.now) key.now m locks.old locks.new writer.new.pool) }
     ensures at { IfOk result (λ outcome. IfGranted outcome (λ place. IsAt writer.new.pool place.leaf)) }

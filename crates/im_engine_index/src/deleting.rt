@@ -7,7 +7,7 @@ ghost use Rattle.im_theory_log.specs.Histories.{Base};
 ghost use Rattle.im_theory_log.specs.Writer.{Writer};
 ghost use Rattle.im_page_pool.specs.Pool.{IsAt};
 ghost use Rattle.im_page_writer.specs.PageWriter.{IsReadyWriter};
-ghost use Rattle.im_page_writer.specs.Outcome.{fault_of, mild, Logs};
+ghost use Rattle.im_page_writer.specs.Outcome.{fault_of, mild, no_page, Logs};
 ghost use Rattle.im_engine_lock.specs.Table.{SameTable};
 ghost use Rattle.im_engine_index.specs.KeyLogs.{MayTake};
 ghost use Rattle.im_engine_index.specs.Edits.{MayEdit, DeleteKept, TakenKept};
@@ -42,7 +42,7 @@ fn delete_from<D: Disk>(
     requires owner { 1 ≤ transaction.now.number }
     requires keyed { 1 ≤ length key.now }
     requires short { length key.now ≤ 255 }
-    ensures outcome { Logs D.Disk true mild writer.old disk.old writer.new disk.new (fault_of result) }
+    ensures outcome { Logs D.Disk true no_page writer.old disk.old writer.new disk.new (fault_of result) }
     ensures kept { (b : Base) (base : ℕ) (s : Writer) (e : ℕ) → MayTake D.Disk b base s e transaction.now.number transaction.now.last transaction.now.undo_next leaf.number key.now rid writer.old disk.old
         → TakenKept D.Disk b base s e transaction.now.number transaction.now.last key.now disk.old writer.new disk.new result }
 {

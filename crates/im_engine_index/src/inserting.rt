@@ -11,7 +11,8 @@ ghost use Rattle.im_base_types.specs.Maps.{IndexMap};
 ghost use Rattle.im_theory_log.specs.Writer.{Writer};
 ghost use Rattle.im_page_pool.specs.Pool.{page_at, IsAt};
 ghost use Rattle.im_page_writer.specs.PageWriter.{IsReadyWriter};
-ghost use Rattle.im_page_writer.specs.Outcome.{fault_of, mild, AllPages, AreLoaded, HasPages, IsSound, Logs, Outcome as Ends, Reads, Stays};
+ghost use Rattle.im_page_writer.specs.Outcome.{fault_of, mild, no_page, AllPages, AreLoaded, HasPages, IsSound, Logs, Outcome as Ends, Stays};
+ghost use Rattle.im_engine_index.specs.LockCalls.{AsksLocks};
 ghost use Rattle.im_page.specs.Split.{HasRoom};
 ghost use Rattle.im_theory_tree.specs.Good.{IsGoodTree};
 ghost use Rattle.im_theory_tree.specs.Levels.{walk};
@@ -119,7 +120,7 @@ fn ask_planned<D: Disk>(
     requires working { writer.old.failed ≡ false }
     requires at { IsAt writer.old.pool place.leaf }
     requires leaf { HasLevel 0 (page_at writer.old.pool place.leaf.number).body }
-    ensures outcome { Reads D.Disk writer.old disk.old writer.new disk.new (fault_of result) }
+    ensures outcome { AsksLocks D.Disk writer.old disk.old writer.new disk.new (fault_of result) }
     ensures kept { (pages : AllPages) (m : IndexMap) (rid max : ℕ) → HasTree D.Disk pages writer.old disk.old → walk (bodies_of pages) ≡ entries m → IsPlace pages key.now m writer.old.pool place
         → IsInsertPlan pages key.now max plan → IsSound result (IsPrepared pages transaction key.now rid max m locks.old locks.new writer.new.pool) }
     ensures table { OnErr result (SameTable locks.old locks.new) }
@@ -210,7 +211,7 @@ fn put<D: Disk>(
     requires owner { 1 ≤ transaction }
     requires keyed { 1 ≤ length key.now }
     requires short { length key.now ≤ 255 }
-    ensures outcome { Logs D.Disk false mild writer.old disk.old writer.new disk.new (fault_of result) }
+    ensures outcome { Logs D.Disk false no_page writer.old disk.old writer.new disk.new (fault_of result) }
     ensures kept { (b : Base) (base : ℕ) (s : Writer) (e undo_next max : ℕ) (to : ComesTo D.Disk b base s e transaction last undo_next key.now max writer.old disk.old)
         → IsOnWay (bodies to.made.now) 0 key.now page → HasRoom true (bodies to.made.now page).entries (key.now, 0)
         → PutKept D.Disk b base s e transaction key.now rid max to.since writer.new disk.new result }
@@ -235,7 +236,7 @@ fn put_where_room_is<D: Disk>(
     requires owner { 1 ≤ transaction }
     requires keyed { 1 ≤ length key.now }
     requires short { length key.now ≤ 255 }
-    ensures outcome { Logs D.Disk false mild writer.old disk.old writer.new disk.new (fault_of result) }
+    ensures outcome { Logs D.Disk false no_page writer.old disk.old writer.new disk.new (fault_of result) }
     ensures kept { (b : Base) (base : ℕ) (s : Writer) (e undo_next max : ℕ) (to : ComesTo D.Disk b base s e transaction last undo_next key.now max writer.old disk.old)
         → FitsInLeaf (bodies to.made.now) key.now
         → PutKept D.Disk b base s e transaction key.now rid max to.since writer.new disk.new result }

@@ -5,7 +5,7 @@ ghost use Rattle.im_theory_log.specs.Histories.{Base};
 ghost use Rattle.im_base_types.specs.Records.{InsertKey, DeleteKey};
 ghost use Rattle.im_theory_log.specs.Writer.{Writer};
 ghost use Rattle.im_page_writer.specs.PageWriter.{IsReadyWriter};
-ghost use Rattle.im_page_writer.specs.Outcome.{fault_of, mild, Logs};
+ghost use Rattle.im_page_writer.specs.Outcome.{fault_of, no_page, Logs};
 ghost use Rattle.im_engine_index.specs.KeyLogs.{MayPut, MayTake, KeyLogKept};
 
 use im_base_disk::Disk;
@@ -30,7 +30,7 @@ pub fn log_insert<D: Disk>(
     requires owner { 1 ≤ transaction }
     requires keyed { 1 ≤ length key.now }
     requires short { length key.now ≤ 255 }
-    ensures outcome { Logs D.Disk false mild writer.old disk.old writer.new disk.new (fault_of result) }
+    ensures outcome { Logs D.Disk false no_page writer.old disk.old writer.new disk.new (fault_of result) }
     ensures kept { (b : Base) (base : ℕ) (s : Writer) (e undo_next : ℕ) → MayPut D.Disk b base s e transaction last undo_next page key.now writer.old disk.old
         → KeyLogKept D.Disk b base s e transaction last page (InsertKey key.now rid) disk.old writer.new disk.new result }
 {
@@ -61,7 +61,7 @@ pub fn log_delete<D: Disk>(
     requires owner { 1 ≤ transaction }
     requires keyed { 1 ≤ length key.now }
     requires short { length key.now ≤ 255 }
-    ensures outcome { Logs D.Disk false mild writer.old disk.old writer.new disk.new (fault_of result) }
+    ensures outcome { Logs D.Disk false no_page writer.old disk.old writer.new disk.new (fault_of result) }
     ensures kept { (b : Base) (base : ℕ) (s : Writer) (e undo_next : ℕ) → MayTake D.Disk b base s e transaction last undo_next page key.now rid writer.old disk.old
         → KeyLogKept D.Disk b base s e transaction last page (DeleteKey key.now rid) disk.old writer.new disk.new result }
 {

@@ -6,6 +6,7 @@ ghost use Rattle.im_base_types.specs.Maps.{IndexMap, first_in};
 ghost use Rattle.im_base_types.specs.Answers.{Fetch, found, entry as entry_found};
 ghost use Rattle.im_page_writer.specs.PageWriter.{IsReadyWriter};
 ghost use Rattle.im_page_writer.specs.Outcome.{fault_of, AllPages, IsSound, Reads};
+ghost use Rattle.im_engine_index.specs.LockCalls.{AsksLocks};
 ghost use Rattle.im_theory_tree.specs.Levels.{walk};
 ghost use Rattle.im_tree_search.specs.Levels.{bodies_of, start_at};
 ghost use Rattle.im_tree_search.specs.Found.{HasTree};
@@ -34,7 +35,7 @@ fn fetch_absent<D: Disk>(
     key: &[u8],
 ) -> Result<Outcome<Option<Rid>>, Fault>
     requires ready { IsReadyWriter D.Disk writer.old disk.old }
-    ensures outcome { Reads D.Disk writer.old disk.old writer.new disk.new (fault_of result) }
+    ensures outcome { AsksLocks D.Disk writer.old disk.old writer.new disk.new (fault_of result) }
     ensures kept { (pages : AllPages) (m : IndexMap) → HasTree D.Disk pages writer.old disk.old → walk (bodies_of pages) ≡ entries m → get m key.now ≡ None
         → IsSound result (IsRead found transaction (Fetch key.now) m locks.old locks.new) }
     ensures table { OnErr result (SameTable locks.old locks.new) }
@@ -58,7 +59,7 @@ pub fn fetch<D: Disk>(
     key: &[u8],
 ) -> Result<Outcome<Option<Rid>>, Fault>
     requires ready { IsReadyWriter D.Disk writer.old disk.old }
-    ensures outcome { Reads D.Disk writer.old disk.old writer.new disk.new (fault_of result) }
+    ensures outcome { AsksLocks D.Disk writer.old disk.old writer.new disk.new (fault_of result) }
     ensures kept { (pages : AllPages) (m : IndexMap) → HasTree D.Disk pages writer.old disk.old → walk (bodies_of pages) ≡ entries m
         → IsSound result (IsRead found transaction (Fetch key.now) m locks.old locks.new) }
     ensures table { OnErr result (SameTable locks.old locks.new) }
@@ -122,7 +123,7 @@ pub fn seek<D: Disk>(
     inclusive: bool,
 ) -> Result<Outcome<Option<(Key, Rid)>>, Fault>
     requires ready { IsReadyWriter D.Disk writer.old disk.old }
-    ensures outcome { Reads D.Disk writer.old disk.old writer.new disk.new (fault_of result) }
+    ensures outcome { AsksLocks D.Disk writer.old disk.old writer.new disk.new (fault_of result) }
     ensures kept { (pages : AllPages) (m : IndexMap) → HasTree D.Disk pages writer.old disk.old → walk (bodies_of pages) ≡ entries m
         → IsSound result (IsRead entry_found transaction (seek_at inclusive key.now) m locks.old locks.new) }
     ensures table { OnErr result (SameTable locks.old locks.new) }

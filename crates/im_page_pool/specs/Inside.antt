@@ -22,3 +22,8 @@ pub record IsWhole (places : PlacesView) (frames : List Stored) : Type 0 where
 abbrev pub last_marked : List Stored → List (ℕ × ℕ) → Option (ℕ × ℕ)
 last_marked frames [] = None
 last_marked frames (e ∷ es) = option_map_or (λ f. Some f) (last_marked frames es) (if (stored_at frames e.1).changed then Some e else None)
+
+-- the numbers of the entries whose frames were changed, in order
+abbrev pub marked_numbers : List Stored → List (ℕ × ℕ) → List ℕ
+marked_numbers frames [] = []
+marked_numbers frames (e ∷ es) = if (stored_at frames e.1).changed then e.0 ∷ marked_numbers frames es else marked_numbers frames es

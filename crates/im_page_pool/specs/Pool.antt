@@ -32,6 +32,11 @@ abbrev pub last_changed : List (ℕ × Held) → Option (ℕ × Held)
 last_changed [] = None
 last_changed (e ∷ es) = option_map_or (λ f. Some f) (last_changed es) (if e.1.changed then Some e else None)
 
+-- the numbers of the entries whose pages were changed, in order
+abbrev pub changed_numbers : List (ℕ × Held) → List ℕ
+changed_numbers [] = []
+changed_numbers (e ∷ es) = if e.1.changed then e.0 ∷ changed_numbers es else changed_numbers es
+
 -- the page of this number is held
 abbrev pub Holds : PoolView → ℕ → Type 0
 Holds pool p = IsSome (held_of pool p)

@@ -1,6 +1,6 @@
 //! The pool.
 
-ghost use Rattle.std.specs.Prelude.{◌≡◌, ◌≢◌, ◌↔◌, ◌⊎◌, ◌+◌, ◌<◌, ◌≤◌, ◌^◌, ◌∷◌, [], ℕ, List, true, false, length, nat_eq, take, Some, None, Ok, Err, OnOk, OnErr, IfOk, IfErr, IfSome, IsOk, IsTrue, IsSome, insert, remove, slice_get, option_map};
+ghost use Rattle.std.specs.Prelude.{◌≡◌, ◌≢◌, ◌↔◌, ◌⊎◌, ◌+◌, ◌<◌, ◌≤◌, ◌^◌, ◌∷◌, [], ℕ, List, true, false, length, nat_eq, take, Some, None, Ok, Err, OnOk, OnErr, IfOk, IfErr, IfSome, IsOk, IsTrue, IsSome, insert, remove, reverse, slice_get, option_map};
 ghost use Rattle.std.specs.Map.{keys_of, remove_entry};
 ghost use Rattle.lru.specs.LruCache.{last_entry};
 ghost use Rattle.im_base_types.specs.declared.fault.Fault.TheVariants.{Device, Memory, NotAStore};
@@ -13,8 +13,8 @@ ghost use Rattle.im_page.specs.Page.{HoldsEntries, is_leaf_kind, page_of, with_e
 ghost use Rattle.im_page.specs.Header.{initial, empty_body, HasPrev, HasNext, HasLeftmost};
 ghost use Rattle.im_page.specs.PageFile.{page_count, file_page};
 ghost use Rattle.im_page_pool.specs.Writes.{WritesPage, TearsPage};
-ghost use Rattle.im_page_pool.specs.Pool.{held_of, Holds, IsAt, page_at, is_changed, page_seen, frame_of, Sets, Changes, Takes, MovesFirst, Evicts, last_changed};
-ghost use Rattle.im_page_pool.specs.Inside.{last_marked};
+ghost use Rattle.im_page_pool.specs.Pool.{held_of, Holds, IsAt, page_at, is_changed, page_seen, frame_of, Sets, Changes, Takes, MovesFirst, Evicts, changed_numbers, last_changed};
+ghost use Rattle.im_page_pool.specs.Inside.{last_marked, marked_numbers};
 
 use crate::files::write_page;
 use crate::frame::Frame;
@@ -128,6 +128,16 @@ impl Pool {
             Some((number, place)) => Some(Frame { number, place }),
             None => None,
         }
+    }
+
+    /// The pages that were changed since they were read or written, among so many that are the least recently used: their numbers stand
+    /// at the front of `numbers` then, the least recently used page first, as many as it has room for. Answers how many those are.
+    pub fn oldest_changes(&self, among: usize, numbers: &mut [PageNo]) -> usize
+        ensures within { result ≤ length numbers.old }
+        ensures room { length numbers.new ≡ length numbers.old }
+        ensures numbers { take result numbers.new ≡ take (length numbers.old) (changed_numbers (take among (reverse self.now.held))) }
+    {
+        note_changed(&self.places, &self.frames, among, numbers)
     }
 
     /// Whether a held page was changed since it was read or written.
@@ -419,4 +429,27 @@ fn last_changed(places: &Places, frames: &Frames) -> Option<(PageNo, u32)>
         }
     }
     None
+}
+
+// The numbers of the pages whose frames were changed, among so many that are the least recently used.
+fn note_changed(places: &Places, frames: &Frames, among: usize, numbers: &mut [PageNo]) -> usize
+    requires { (i : ℕ) (e : ℕ × ℕ) → slice_get places.now.taken i ≡ Some e → e.1 < length frames.now }
+    ensures within { result ≤ length numbers.old }
+    ensures numbers { take result numbers.new ≡ take (length numbers.old) (marked_numbers frames.now (take among (reverse places.now.taken))) }
+{
+    let mut passed = 0;
+    let mut noted = 0;
+    for (place, number) in places.iter().rev() {
+        if let Some(p) = *number {
+            if passed == among || noted == numbers.len() {
+                return noted;
+            }
+            passed += 1;
+            if frames.is_changed(*place) {
+                numbers[noted] = p;
+                noted += 1;
+            }
+        }
+    }
+    noted
 }

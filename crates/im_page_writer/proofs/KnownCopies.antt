@@ -183,7 +183,7 @@ told_entry : (k : Bool) (l : ℕ) (o : Option DirtyEntry) → record (changed_en
 told_entry k l None = refl
 told_entry k l (Some e) = refl
 
-told_page : (b : Base) (log durable : History) (point : ℕ) (redo_end : Option ℕ) (p : ℕ) (y : PageState) (e : DirtyEntry) → y.entry ≡ Some e → HasCopy log p (redo_point log) → PageKept b log durable point redo_end p y
+pub told_page : (b : Base) (log durable : History) (point : ℕ) (redo_end : Option ℕ) (p : ℕ) (y : PageState) (e : DirtyEntry) → y.entry ≡ Some e → HasCopy log p (redo_point log) → PageKept b log durable point redo_end p y
     → PageKept b log durable point redo_end p (record y { entry = Some (record e { copied = true }) })
 told_page b log durable point redo_end p y e is has k =
     let old = k.entry e is in

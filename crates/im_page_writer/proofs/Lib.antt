@@ -12,6 +12,7 @@ pub mod Growing
 pub mod Goings
 pub mod Imaging
 pub mod Placing
+pub mod NotedCopies
 pub mod Flushing
 pub mod Writers
 pub mod TableRoom

@@ -97,6 +97,16 @@ module _ {D : Type 0} (d : Ghosts D) (b : Base) (base : ℕ) where
     pub grows : GrowsByImages b s.log high
     pub stops : LeavesCovered d b base s.durable high old new
 
+  -- Each page is as it was, and the log has Images more.
+  pub record Grown (s : Writer) (old : D) (log : LogFile) (table : List TableEntry) (pool : PoolView) (disk : D) : Type 0 where
+    pub now : Writer
+    pub goes : Goes s old now log table pool disk
+
+  -- what it keeps to add Images
+  pub record GrownKept (s : Writer) (old : D) (log : LogFile) (table : List TableEntry) (pool : PoolView) (disk : D) (result : Result Unit Fault) : Type 0 where
+    pub ok : OnOk result (Grown s old log table pool disk)
+    pub stops : LeavesGrown s old disk
+
   -- ---- an Image
 
   -- The page's Image joined the log.

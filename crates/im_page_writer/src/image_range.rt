@@ -11,7 +11,7 @@ ghost use Rattle.im_theory_log.specs.WriterSteps.{is_copied};
 ghost use Rattle.im_page_writer.specs.DirtyTable.{entry_in};
 ghost use Rattle.im_page_writer.specs.Imaging.{Imaging};
 ghost use Rattle.im_page_writer.specs.Outcome.{fault_of};
-ghost use Rattle.im_page_writer.specs.Writing.{with_lsn, lsn_for, IsWriting, MayCopy, PageImageKept, CopyKept, ImagesKept, DurableKept};
+ghost use Rattle.im_page_writer.specs.Writing.{with_lsn, lsn_for, IsWriting, MayCopy, PageImageKept, CopyKept, GrownKept, ImagesKept, DurableKept};
 
 use crate::{DirtyTable, append_image};
 use im_base_disk::Disk;
@@ -89,6 +89,37 @@ fn append_one<D: Disk>(
         Some(lsn) => Ok(lsn),
         None => append_page(disk, log, pool, spare, number),
     }
+}
+
+/// Sees to it that the log has a full copy of a changed page at or after its redo point, which is known from then on: where none is
+/// known, the page's Image is added. Nothing is done for a page that was not changed.
+///
+/// Refused `LogFull` or `Device`.
+pub(crate) fn note_copy<D: Disk>(
+    disk: &mut D,
+    log: &mut LogFile,
+    table: &mut DirtyTable,
+    pool: &Pool,
+    spare: &mut Page,
+    number: PageNo,
+) -> Result<(), Fault>
+    requires ready { IsOpen D.Disk log.old disk.old }
+    requires working { log.old.failed ≡ false }
+    ensures outcome { Imaging D.Disk log.old log.new disk.new (fault_of result) }
+    ensures kept { (b : Base) (base : ℕ) (s : Writer) → IsWriting D.Disk b base s log.old table.old pool.now disk.old → GrownKept D.Disk b base s disk.old log.new table.new pool.now disk.new result }
+{
+    let Some(entry) = table.get(number) else {
+        return Ok(());
+    };
+    if entry.copied {
+        return Ok(());
+    }
+    if entry.since.is_none() {
+        return Ok(());
+    }
+    let lsn = append_page(disk, log, pool, spare, number)?;
+    table.enter(number, lsn, true);
+    Ok(())
 }
 
 /// Sees to it that the log has a full copy of each page of a range at or after its redo point: the Images of those of which none is

@@ -35,10 +35,12 @@
 //!   is buffered; then each page is entered and written, one device call each, in rising number. Where the table has no room for the entry of a page that is written along, the file is synced
 //!   behind them.
 //! - A page that is got (`get`) stays in its frame. Where no frame is free, the least recently used page is flushed, if it was
-//!   changed, and its frame given up.
+//!   changed, and its frame given up. Where that forces the log, changed pages that go next are flushed with it: of the half of the
+//!   frames that were used least recently, the first eight, as far as their Images fit into the log's buffer, in rising number. The log
+//!   is forced once for them all, and the order of use stays.
 //! - A change (`log_change`) gets the page, makes room for its entry (`make_entry_room`), appends the record, changes the page,
 //!   gives it the record's LSN, and enters it. What the page does not take is refused before the append.
-//! - Room is made where the table is full: the least recently used page that was changed is flushed, and the file synced. What
+//! - Room is made where the table is full: the least recently used page that was changed is flushed, in the same way, and the file synced. What
 //!   stays in the table then is changed pages in frames, and of those there are at most 1,023: one entry is free (`room`).
 //! - `log_only` appends a record that changes no page, `log_smo` one page of a structure change, which then is the record's
 //!   page; `force` forces the log, `sync_pages` syncs the file, `read_at` reads a record again.

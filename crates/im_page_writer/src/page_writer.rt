@@ -18,6 +18,7 @@ use std::alloc::Global;
 
 mod changes;
 mod checkpoints;
+mod least_used;
 mod redo;
 mod structure;
 
@@ -155,7 +156,7 @@ impl PageWriter {
         self.pool.evict(number);
     }
 
-    // Makes a frame free: the least recently used page is written, if it was changed, and held no more.
+    // Makes a frame free: the least recently used page is written, if it was changed, with others that go next, and held no more.
     fn evict_oldest<D: Disk>(&mut self, disk: &mut D) -> Result<(), Fault>
         requires ready { IsReadyWriter D.Disk self.old disk.old }
         requires working { self.old.failed ≡ false }
@@ -167,7 +168,7 @@ impl PageWriter {
         let Some(frame) = self.pool.oldest() else {
             return Err(Fault::Memory);
         };
-        self.flush_one(disk, frame.number)?;
+        self.flush_with_others(disk, frame)?;
         self.drop_page(frame.number);
         Ok(())
     }
@@ -377,7 +378,7 @@ impl PageWriter {
         self.table.oldest_change()
     }
 
-    // Flushes the least recently used page that was changed, if there is one.
+    // Flushes the least recently used page that was changed, if there is one, with others that go next.
     fn flush_oldest<D: Disk>(&mut self, disk: &mut D) -> Result<(), Fault>
         requires ready { IsReadyWriter D.Disk self.old disk.old }
         requires working { self.old.failed ≡ false }
@@ -387,7 +388,7 @@ impl PageWriter {
     {
         match self.pool.oldest_changed() {
             None => Ok(()),
-            Some(frame) => self.flush_one(disk, frame.number),
+            Some(frame) => self.flush_with_others(disk, frame),
         }
     }
 

@@ -23,7 +23,7 @@ use Rattle.im_log.proofs.Above.{front_then}
 use Rattle.im_page_writer.specs.declared.page_writer.PageWriter.{PageWriter}
 use Rattle.im_page_writer.specs.LeafChange.{CanPutKey, CanTakeKey}
 use Rattle.im_page_writer.specs.LoggedChange.{ChangedFrom, ChangeKept}
-use Rattle.im_page_writer.specs.Outcome.{fault_of, mild, Logs}
+use Rattle.im_page_writer.specs.Outcome.{fault_of, no_page, Logs}
 use Rattle.im_page_writer.proofs.Outcomes.{sound_own}
 use Rattle.im_tree_search.specs.Levels.{bodies}
 use Rattle.im_theory_tree.specs.Levels.{Pages, walk}
@@ -39,7 +39,7 @@ use Rattle.im_restart_analysis.proofs.Losers.{loser_unfinished}
 use Rattle.im_restart_analysis.proofs.Undoing.{undo_goes_on}
 use Rattle.im_restart_undo.specs.Records.{IsOfUndo, compensations, inverse_of, with_compensation}
 use Rattle.im_restart_undo.specs.Undoing.{CompensateKept, IsGoing, IsToUndo, LeavesUndo, TakenBack, TakesIt}
-use Rattle.im_restart_undo.proofs.Ends.{began_working, no_capacity}
+use Rattle.im_restart_undo.proofs.Ends.{began_working, no_capacity, never_short}
 use Rattle.im_restart_undo.proofs.Growth.{going_bodies, images_compensate, images_of_undo, left_images, loser_of, owner_some, same_finished, same_row, still_undoable}
 use Rattle.im_restart_undo.proofs.Shown.{leaf_has, shows_change}
 
@@ -110,7 +110,7 @@ module _ {D : Type 0} (d : Ghosts D) (b : Base) (base : ℕ) where
             once = ap (λ (rs : History). length rs) (counts (compensations by.images) ∙ ap (λ (rs : History). r ∷ rs) (images_compensate b by.images s.log by.all));
           }
 
-    module _ (prev was page : ℕ) (key : Key) (rid : ℕ) (w : PageWriter) (new : D) (result : Result ℕ Fault) (one : Logs d false mild v old w new (fault_of result)) where
+    module _ (prev was page : ℕ) (key : Key) (rid : ℕ) (w : PageWriter) (new : D) (result : Result ℕ Fault) (one : Logs d false no_page v old w new (fault_of result)) where
       module _ (way : IsOnWay (bodies s) 0 key page) where
         way_logged : IsOnWay (logs.bodies b s.log) 0 key page
         way_logged = subst (λ (pages : Pages). IsOnWay pages 0 key page) (going_bodies d b base s e t last undo_next v old g) way
@@ -137,6 +137,7 @@ module _ {D : Type 0} (d : Ghosts D) (b : Base) (base : ℕ) where
             sound = sound_own result (λ lsn. ChangedFrom d b base s entry lsn old w new) (λ lsn. TakenBack d b base s e t said lsn old w new) kept.ok (kept.cause has)
                 (λ lsn from. done said entry to w new lsn refl refl refl refl (refl, drop) refl (λ rs. refl) stops from);
             stops = stops;
+            short = never_short d _ result refl one;
             used_up = no_capacity d _ result refl one;
             begun = began_working d _ result g.stands.working one;
           }
@@ -168,6 +169,7 @@ module _ {D : Type 0} (d : Ghosts D) (b : Base) (base : ℕ) where
             sound = sound_own result (λ lsn. ChangedFrom d b base s entry lsn old w new) (λ lsn. TakenBack d b base s e t said lsn old w new) kept.ok (kept.cause has)
                 (λ lsn from. done said entry to w new lsn refl refl refl refl (refl, put) refl (λ rs. refl) stops from);
             stops = stops;
+            short = never_short d _ result refl one;
             used_up = no_capacity d _ result refl one;
             begun = began_working d _ result g.stands.working one;
           }

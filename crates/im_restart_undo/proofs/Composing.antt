@@ -1,5 +1,5 @@
 -- One key record taken back: the parts of it in a row.
-use Rattle.std.proofs.Common.{◌≡◌, ◌≢◌, inr, ◌≤◌, ℕ, [], ◌∷◌, ◌++◌, length, true, false, None, Some, Result, Ok, Err, refl, sym, ◌∙◌, ap, subst, append-nil}
+use Rattle.std.proofs.Common.{◌≡◌, ◌≢◌, inr, ◌≤◌, ℕ, [], ◌∷◌, ◌++◌, length, true, false, None, Some, Result, Ok, Err, refl, sym, ◌∙◌, ap, subst, append-nil, ◌⊎◌, inl}
 use Rattle.std.proofs.Math.Path.{fun_ext}
 use Rattle.std.specs.Prelude.{IfErr, IsErrAnd}
 use Rattle.im_base_types.specs.declared.fault.Fault.{Fault}
@@ -21,7 +21,7 @@ use Rattle.im_page_pool.specs.Pool.{page_at}
 use Rattle.im_page_writer.specs.declared.page_writer.PageWriter.{PageWriter}
 use Rattle.im_page_writer.specs.Growth.{Keeps}
 use Rattle.im_page_writer.specs.PageWriter.{GoesOn}
-use Rattle.im_page_writer.specs.Outcome.{mild, Logs, Reads}
+use Rattle.im_page_writer.specs.Outcome.{no_page, Logs, Reads}
 use Rattle.im_page_writer.proofs.LoggedChanges.{again_on, err_on}
 use Rattle.im_page_writer.proofs.Outcomes.{log_refused, read_logs, sound_also, sound_on}
 use Rattle.im_theory_tree.specs.Levels.{Pages}
@@ -33,8 +33,8 @@ use Rattle.im_smo_split.specs.Tops.{LacksRoomFor}
 use Rattle.im_restart_analysis.specs.declared.rows.Loser.{Loser}
 use Rattle.im_restart_analysis.specs.Undo.{IsNext}
 use Rattle.im_restart_undo.specs.Records.{compensations, inverse_of}
-use Rattle.im_restart_undo.specs.Undoing.{IsGoing, GoesTo, TakesIt, UsesUp, HasBegun, Restructured, EmptiedKept, HasMadeRoom, SplitKept, IsToUndo, TakenBack, CompensateKept}
-use Rattle.im_restart_undo.proofs.Ends.{began_working, late_capacity, late_cause, late_evicted, left_reading, no_capacity}
+use Rattle.im_restart_undo.specs.Undoing.{IsGoing, GoesTo, TakesIt, UsesUp, HasBegun, Restructured, EmptiedKept, HasMadeRoom, SplitKept, IsToUndo, TakenBack, CompensateKept, WantsRoom}
+use Rattle.im_restart_undo.proofs.Ends.{began_working, late_capacity, late_cause, late_evicted, left_reading, no_capacity, never_short, late_short, no_memory}
 use Rattle.im_restart_undo.proofs.Begun.{begun_then, begun_since}
 use Rattle.im_restart_undo.proofs.Growth.{owner_some, grown_front, going_images, going_ready, left_images, left_then, goes_images, goes_images_none, goes_then, goes_compensations}
 
@@ -172,10 +172,11 @@ module _ {D : Type 0} (d : Ghosts D) (b : Base) (base : ℕ) where
     pub place_refused : (w : PageWriter) (new : D) (l undo_next : ℕ) (start : PageWriter) (f : Fault) (result : Result ℕ Fault) → IsGoing d b base s e t l undo_next start old → f ≢ NotAStore
         → Reads d start old w new (Some f) → IsErrAnd result (λ x. x ≡ f) → CompensateKept d b base s e t entry old w new result
     place_refused w new l undo_next start f result g cause one here =
-        let logs = log_refused d result here (read_logs d one) in
+        let logs = log_refused d result here (read_logs d {m = no_page} refl one) in
         record {
           sound = sound_on result f (λ last. TakenBack d b base s e t entry last old w new) here cause;
           stops = left_images d b base s t old new g.can.lawful (left_reading d b base s g.stands (going_ready d b base s e t l undo_next start old g) one);
+          short = never_short d _ result refl logs;
           used_up = no_capacity d _ result refl logs;
           begun = began_working d _ result g.stands.working logs;
         }
@@ -190,6 +191,8 @@ module _ {D : Type 0} (d : Ghosts D) (b : Base) (base : ℕ) where
           sound = sound_also result (λ last. TakenBack d b base now e t entry last mid w new) (λ last. TakenBack d b base s e t entry last old w new) kept.sound
               (λ last taken. restructured_then l last undo_next v mid w new made taken);
           stops = left_then d b base s e t l undo_next old now v mid made.goes new kept.stops;
+          short = again_on result (λ x. x ≡ Memory) (WantsRoom (bodies now) (what_of entry)) (WantsRoom (bodies s) (what_of entry)) kept.short
+              (λ lacks. subst (λ (pages : Pages). WantsRoom pages (what_of entry)) (bodies_stay b s now on.goes.keeps) lacks);
           used_up = again_on result (λ x. x ≡ Capacity) (UsesUp (bodies now) (what_of entry)) (UsesUp (bodies s) (what_of entry)) kept.used_up
               (λ up. subst (λ (pages : Pages). UsesUp pages (what_of entry)) (bodies_stay b s now on.goes.keeps) up);
           begun = again_on result (λ x. x ≡ Failed) (HasBegun d b base now t w new) (HasBegun d b base s t w new) kept.begun (λ is. begun_then d b base s now t w new made.goes.grows is);
@@ -239,6 +242,7 @@ module _ {D : Type 0} (d : Ghosts D) (b : Base) (base : ℕ) where
     refused_on w new f result here kept = record {
       sound = sound_on result f (λ last. TakenBack d b base s e t entry last old w new) here kept.sound;
       stops = kept.stops;
+      short = err_on result f (λ x. x ≡ Memory → WantsRoom (bodies s) (what_of entry)) here kept.short;
       used_up = err_on result f (λ x. x ≡ Capacity → UsesUp (bodies s) (what_of entry)) here kept.used_up;
       begun = err_on result f (λ x. x ≡ Failed → HasBegun d b base s t w new) here kept.begun;
     }
@@ -246,17 +250,19 @@ module _ {D : Type 0} (d : Ghosts D) (b : Base) (base : ℕ) where
     -- ---- the leaf that was left empty
 
     drop_kept : (l : ℕ) (v : PageWriter) (mid : D) (w : PageWriter) (new : D) (taken : TakenBack d b base s e t entry l old v mid) (result : Result ℕ Fault)
-        → IfErr result (λ x. x ≡ Capacity → ⊥) → EmptiedKept d b base taken.now e t (prev_of entry) mid w new result → CompensateKept d b base s e t entry old w new result
+        → IfErr result (λ x. (x ≡ Memory) ⊎ (x ≡ Capacity) → ⊥) → EmptiedKept d b base taken.now e t (prev_of entry) mid w new result → CompensateKept d b base s e t entry old w new result
     drop_kept l v mid w new taken (Ok last) never kept = record {
       sound = taken_then l last v mid w new taken kept.sound;
       stops = left_then d b base s e t l (prev_of entry) old taken.now v mid taken.goes new kept.stops;
+      short = tt;
       used_up = tt;
       begun = tt;
     }
     drop_kept l v mid w new taken (Err f) never kept = record {
       sound = kept.sound;
       stops = left_then d b base s e t l (prev_of entry) old taken.now v mid taken.goes new kept.stops;
-      used_up = λ is. absurd (never is);
+      short = λ is. absurd (never (inl is));
+      used_up = λ is. absurd (never (inr is));
       begun = λ is. begun_then d b base s taken.now t w new taken.goes.grows (kept.begun is);
     }
 
@@ -268,7 +274,7 @@ module _ {D : Type 0} (d : Ghosts D) (b : Base) (base : ℕ) where
 
     -- it leaves the tree behind the compensation
     pub leaf_dropped : (l : ℕ) (v : PageWriter) (mid : D) (w : PageWriter) (new : D) → CompensateKept d b base s e t entry old v mid (Ok l) → (result : Result ℕ Fault) (u m : ℕ) → u ≡ t → m ≡ prev_of entry
-        → IfErr result (λ x. x ≡ Capacity → ⊥)
+        → IfErr result (λ x. (x ≡ Memory) ⊎ (x ≡ Capacity) → ⊥)
         → ((now : Writer) → IsGoing d b base now e u l m v mid → EmptiedKept d b base now e u m mid w new result) → CompensateKept d b base s e t entry old w new result
     leaf_dropped l v mid w new first result u m owner prev never kept =
         let taken : TakenBack d b base s e t entry l old v mid = first.sound in
@@ -283,10 +289,11 @@ module _ {D : Type 0} (d : Ghosts D) (b : Base) (base : ℕ) where
 
     -- it was refused
     pub split_refused : (undo_next : ℕ) (key : Key) (i : ℕ) → what_of entry ≡ DeleteKey key i → (w : PageWriter) (new : D) (f : Fault) (result : Result ℕ Fault) → IsErrAnd result (λ x. x ≡ f)
-        → SplitKept d b base s e t undo_next key old w new (Err f) → CompensateKept d b base s e t entry old w new result
-    split_refused undo_next key i same w new f result here kept = record {
+        → LacksRoomFor (bodies s) key → SplitKept d b base s e t undo_next key old w new (Err f) → CompensateKept d b base s e t entry old w new result
+    split_refused undo_next key i same w new f result here lacks kept = record {
       sound = sound_on result f (λ last. TakenBack d b base s e t entry last old w new) here kept.sound;
       stops = kept.stops;
+      short = err_on result f (λ x. x ≡ Memory → WantsRoom (bodies s) (what_of entry)) here (λ _. subst (λ (c : What). WantsRoom (bodies s) c) (sym same) lacks);
       used_up = err_on result f (λ x. x ≡ Capacity → UsesUp (bodies s) (what_of entry)) here (λ up. subst (λ (c : What). UsesUp (bodies s) c) (sym same) (kept.used_up up));
       begun = err_on result f (λ x. x ≡ Failed → HasBegun d b base s t w new) here kept.begun;
     }
@@ -303,12 +310,13 @@ module _ {D : Type 0} (d : Ghosts D) (b : Base) (base : ℕ) where
       behind_split m kept = record {
         sound = restructured_then l m undo_next v mid w new room.made (behind (Ok m) kept).sound;
         stops = left_then d b base s e t l undo_next old room.made.now v mid room.made.goes new (behind (Ok m) kept).stops;
+        short = tt;
         used_up = tt;
         begun = tt;
       }
 
       -- or that was refused
-      pub late_refused : (f answer : Fault) → Logs d false mild v mid w new (Some f) → LacksRoomFor (bodies s) key → (f ≡ Memory → answer ≡ Failed) → (f ≢ Memory → answer ≡ f)
+      pub late_refused : (f answer : Fault) → Logs d false no_page v mid w new (Some f) → LacksRoomFor (bodies s) key → (f ≡ Memory → answer ≡ Failed) → (f ≢ Memory → answer ≡ f)
           → ((now : Writer) → IsGoing d b base now e t l undo_next v mid → IsToUndo d b base now t entry → FitsInLeaf (bodies now) key → CompensateKept d b base now e t entry mid w new (Err f))
           → CompensateKept d b base s e t entry old w new (Err answer)
       late_refused f answer one lacks memory others kept =
@@ -318,6 +326,7 @@ module _ {D : Type 0} (d : Ghosts D) (b : Base) (base : ℕ) where
           record {
             sound = late_cause f answer memory others (behind (Err f) kept).sound;
             stops = left_then d b base s e t l undo_next old now v mid room.made.goes new (behind (Err f) kept).stops;
+            short = λ is. absurd (late_short f answer memory others (no_memory d refl one) is);
             used_up = λ is. absurd (late_capacity f answer memory others none is);
             begun = λ is. begun_since d b base s now t mid w new room.made.goes.grows (room.some lacks)
                 (late_evicted d f answer memory others is going.stands.working one b base now going.stands (going_ready d b base now e t l undo_next v mid going));

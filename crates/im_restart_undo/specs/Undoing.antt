@@ -2,7 +2,7 @@
 use Rattle.std.specs.Prelude.{◌≡◌, ◌≤◌, ℕ, true, false, [], ◌∷◌, length, Some, None, Result, IfErr}
 use Rattle.std.specs.FinMap.Entries.{find}
 use Rattle.im_base_types.specs.declared.fault.Fault.{Fault}
-use Rattle.im_base_types.specs.declared.fault.Fault.TheVariants.{Capacity, Failed}
+use Rattle.im_base_types.specs.declared.fault.Fault.TheVariants.{Capacity, Failed, Memory}
 use Rattle.im_base_types.specs.Keys.{Key, key_order}
 use Rattle.im_base_types.specs.Records.{What, InsertKey, DeleteKey}
 use Rattle.im_theory_log.specs.Histories.{Base, History, IsFront}
@@ -49,7 +49,12 @@ pub record CanNotSplit (pages : Pages) (key : Key) : Type 0 where
   pub lacks : LacksRoomFor pages key
   pub used_up : IsUsedUp pages key
 
--- so it is with the key that a record dropped; no other record asks for room
+-- the leaf of the key that a record dropped lacks room for it; no other record asks for room
+abbrev pub WantsRoom : Pages → What → Type 0
+WantsRoom pages (DeleteKey k i) = LacksRoomFor pages k
+WantsRoom pages _ = ⊥
+
+-- and its split is not to be had
 abbrev pub UsesUp : Pages → What → Type 0
 UsesUp pages (DeleteKey k i) = CanNotSplit pages k
 UsesUp pages _ = ⊥
@@ -136,9 +141,10 @@ module _ {D : Type 0} (d : Ghosts D) (b : Base) (base : ℕ) where
     pub map : contents b now.log ≡ contents_after (inverse_of (what_of entry)) (contents b s.log)
     pub once : length (compensations goes.grows.more) ≡ 1
 
-  -- What a compensation keeps. It is refused `Failed` behind a record of the transaction; `Capacity` comes only where a key that is put back finds its leaf without room, and page numbers or levels are used up.
+  -- What a compensation keeps. It is refused `Failed` behind a record of the transaction; `Memory` comes only where a key that is put back finds its leaf without room, and `Capacity` only where page numbers or levels are used up too.
   pub record CompensateKept (s : Writer) (e t : ℕ) (entry : Entry) (old : D) (w : PageWriter) (disk : D) (result : Result ℕ Fault) : Type 0 where
     pub sound : IsSound result (λ last. TakenBack s e t entry last old w disk)
     pub stops : LeavesUndo s t old disk
+    pub short : IfErr result (λ e. e ≡ Memory → WantsRoom (bodies s) (what_of entry))
     pub used_up : IfErr result (λ e. e ≡ Capacity → UsesUp (bodies s) (what_of entry))
     pub begun : IfErr result (λ e. e ≡ Failed → HasBegun s t w disk)

@@ -8,7 +8,7 @@ ghost use Rattle.im_log_record.specs.Entry.{view, transaction_of};
 ghost use Rattle.im_log_record.specs.Spelling.{IsEntry};
 ghost use Rattle.im_log.specs.Whats.{what_of};
 ghost use Rattle.im_page_writer.specs.PageWriter.{IsReadyWriter};
-ghost use Rattle.im_page_writer.specs.Outcome.{fault_of, mild, Logs};
+ghost use Rattle.im_page_writer.specs.Outcome.{fault_of, no_page, Logs};
 ghost use Rattle.im_tree_search.specs.Levels.{bodies};
 ghost use Rattle.im_restart_undo.specs.Undoing.{IsGoing, IsToUndo, TakesIt, CompensateKept};
 
@@ -31,7 +31,7 @@ pub(crate) fn compensate<D: Disk>(
     requires entry { IsEntry (view record.now) }
     requires ready { IsReadyWriter D.Disk writer.old disk.old }
     requires key { is_key (what_of (view record.now)) ≡ true }
-    ensures outcome { Logs D.Disk false mild writer.old disk.old writer.new disk.new (fault_of result) }
+    ensures outcome { Logs D.Disk false no_page writer.old disk.old writer.new disk.new (fault_of result) }
     ensures kept { (b : Base) (base : ℕ) (s : Writer) (e undo_next : ℕ) → IsGoing D.Disk b base s e (transaction_of (view record.now)) last undo_next writer.old disk.old
         → IsToUndo D.Disk b base s (transaction_of (view record.now)) (view record.now) → TakesIt (bodies s) page (what_of (view record.now))
         → CompensateKept D.Disk b base s e (transaction_of (view record.now)) (view record.now) disk.old writer.new disk.new result }

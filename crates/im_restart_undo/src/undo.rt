@@ -9,7 +9,7 @@ ghost use Rattle.im_log_record.specs.Entry.{view, transaction_of};
 ghost use Rattle.im_log_record.specs.Spelling.{IsEntry};
 ghost use Rattle.im_log.specs.Whats.{what_of};
 ghost use Rattle.im_page_writer.specs.PageWriter.{IsReadyWriter};
-ghost use Rattle.im_page_writer.specs.Outcome.{fault_of, mild, Logs};
+ghost use Rattle.im_page_writer.specs.Outcome.{fault_of, no_page, Logs};
 ghost use Rattle.im_smo_alloc.specs.Kept.{mild_to_take};
 ghost use Rattle.im_tree_search.specs.Levels.{bodies};
 ghost use Rattle.im_smo_split.specs.Tops.{LacksRoomFor};
@@ -41,7 +41,7 @@ fn undo_insert<D: Disk>(
     requires working { writer.old.failed ≡ false }
     requires key { is_key (what_of (view record.now)) ≡ true }
     requires owner { 1 ≤ transaction_of (view record.now) }
-    ensures outcome { Logs D.Disk true mild writer.old disk.old writer.new disk.new (fault_of result) }
+    ensures outcome { Logs D.Disk true no_page writer.old disk.old writer.new disk.new (fault_of result) }
     ensures kept { (b : Base) (base : ℕ) (s : Writer) (e undo_next rid : ℕ) → what_of (view record.now) ≡ InsertKey key.now rid
         → IsGoing D.Disk b base s e (transaction_of (view record.now)) last undo_next writer.old disk.old → IsToUndo D.Disk b base s (transaction_of (view record.now)) (view record.now)
         → CompensateKept D.Disk b base s e (transaction_of (view record.now)) (view record.now) disk.old writer.new disk.new result }
@@ -78,7 +78,7 @@ fn put_back<D: Disk>(
     requires entry { IsEntry (view record.now) }
     requires ready { IsReadyWriter D.Disk writer.old disk.old }
     requires key { is_key (what_of (view record.now)) ≡ true }
-    ensures outcome { Logs D.Disk false mild writer.old disk.old writer.new disk.new (fault_of result) }
+    ensures outcome { Logs D.Disk false no_page writer.old disk.old writer.new disk.new (fault_of result) }
     ensures kept { (b : Base) (base : ℕ) (s : Writer) (e undo_next rid : ℕ) → what_of (view record.now) ≡ DeleteKey key.now rid
         → IsGoing D.Disk b base s e (transaction_of (view record.now)) last undo_next writer.old disk.old → IsToUndo D.Disk b base s (transaction_of (view record.now)) (view record.now)
         → FitsInLeaf (bodies s) key.now → CompensateKept D.Disk b base s e (transaction_of (view record.now)) (view record.now) disk.old writer.new disk.new result }
@@ -159,8 +159,8 @@ fn undo_delete<D: Disk>(
 /// left empty is taken out of the tree, each in a structure change of the transaction. For want of memory an empty leaf stays.
 ///
 /// No lock is asked. Refused `Capacity` only where a key that comes back finds its leaf without room, and page numbers or levels are used
-/// up; `Memory` with all as it was; and `Failed` only where memory is wanted behind a record of the transaction that joined the log;
-/// otherwise as `PageWriter::log_change` is.
+/// up; `Memory` only where it finds no room either, with all as it was; and `Failed` only where memory is wanted behind a record of the
+/// transaction that joined the log; otherwise as `PageWriter::log_change` is.
 pub fn undo_one<D: Disk>(
     alloc: Global,
     writer: &mut PageWriter,

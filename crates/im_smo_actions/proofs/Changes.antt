@@ -10,7 +10,7 @@ use Rattle.im_theory_log.specs.Writer.{Writer}
 use Rattle.im_base_disk.specs.declared.disk.Disk.{Ghosts}
 use Rattle.im_log.proofs.Above.{front_then}
 use Rattle.im_page_writer.specs.declared.page_writer.PageWriter.{PageWriter}
-use Rattle.im_page_writer.specs.Outcome.{fault_of, mild, none_mild, AllPages, pages_of, AreLoaded, Ends, Outcome, Reads, LogEnds, Logs}
+use Rattle.im_page_writer.specs.Outcome.{fault_of, mild, none_mild, AllPages, pages_of, AreLoaded, Ends, Outcome, LogEnds, Logs}
 use Rattle.im_page_writer.specs.PageWriter.{GoesOn, Evicted}
 use Rattle.im_page_writer.proofs.Outcomes.{leaves_of_end}
 use Rattle.im_theory_tree.specs.Levels.{Pages, walk}
@@ -18,6 +18,7 @@ use Rattle.im_theory_tree.specs.Good.{IsGoodTree}
 use Rattle.im_smo_pages.specs.Images.{Numbered}
 use Rattle.im_tree_search.specs.Levels.{bodies, bodies_of}
 use Rattle.im_smo_alloc.specs.Seen.{seen}
+use Rattle.im_smo_alloc.specs.Kept.{Plans}
 use Rattle.im_smo_log.specs.Changes.{HasRecordOf, LeavesChange, Begun, MayChange, Changed, ChangeKept, image_marks}
 use Rattle.im_smo_log.proofs.Runs.{marked_is}
 use Rattle.im_smo_split.specs.Plan.{FitsInLeaf, Planned, WantsPages}
@@ -250,7 +251,7 @@ module _ {D : Type 0} (d : Ghosts D) (b : Base) (base : ℕ) (s : Writer) (e t l
         (λ (entries : (bodies s still.page).entries ≢ []). entries (ap (λ (p : ℕ). (bodies s p).entries) (sym same) ∙ spare.none)) still.kept
 
     -- it stays, since it is not spare
-    pub drop_none : (w : PageWriter) (disk : D) → Reads d v old w disk None → IsKept (bodies s) key → SpareKept d b base s e t undo_next key old w disk (Ok last)
+    pub drop_none : (w : PageWriter) (disk : D) → Plans d v old w disk None → IsKept (bodies s) key → SpareKept d b base s e t undo_next key old w disk (Ok last)
     drop_none w disk at plan =
         let now = planned_at at in
         record {
@@ -264,13 +265,13 @@ module _ {D : Type 0} (d : Ghosts D) (b : Base) (base : ℕ) (s : Writer) (e t l
         }
 
     -- its plan was refused
-    pub drop_refused : (w : PageWriter) (disk : D) (f : Fault) → Reads d v old w disk (Some f) → f ≢ NotAStore → (r : Result ℕ Fault) → IsErrAnd r (λ x. x ≡ f) → SpareKept d b base s e t undo_next key old w disk r
+    pub drop_refused : (w : PageWriter) (disk : D) (f : Fault) → Plans d v old w disk (Some f) → f ≢ NotAStore → (r : Result ℕ Fault) → IsErrAnd r (λ x. x ≡ f) → SpareKept d b base s e t undo_next key old w disk r
     drop_refused w disk f plan sound (Ok x) is = absurd is
     drop_refused w disk f plan sound (Err x) is =
         subst (λ (y : Fault). SpareKept d b base s e t undo_next key old w disk (Err y)) (sym is)
         (record { sound = sound; stops = plan_stops plan; begun = λ failed. absurd (never_failed d f u.stands.working plan failed) })
 
-    module _ (images : List Numbered) (w : PageWriter) (mid : D) (at : Reads d v old w mid None) (plan : IsDropPlan (pages_of s) key (Some images)) where
+    module _ (images : List Numbered) (w : PageWriter) (mid : D) (at : Plans d v old w mid None) (plan : IsDropPlan (pages_of s) key (Some images)) where
       pub may_drop : MayChange d b base (planned_at at).now e images t last undo_next w mid
       may_drop = may_change (planned_at at).now w mid (planned_at at).on images plan.1.some plan.1.good plan.1.same
 

@@ -6,9 +6,10 @@ ghost use Rattle.im_theory_log.specs.Histories.{Base};
 ghost use Rattle.im_theory_log.specs.Writer.{Writer};
 ghost use Rattle.im_page_pool.specs.Pool.{page_at, IsAt};
 ghost use Rattle.im_page_writer.specs.PageWriter.{IsReadyWriter};
-ghost use Rattle.im_page_writer.specs.Outcome.{fault_of, mild, none_mild, AllPages, AreLoaded, HasPages, IsSound, Logs, Reads};
+ghost use Rattle.im_page_writer.specs.Outcome.{fault_of, mild, none_mild, AllPages, AreLoaded, HasPages, IsSound, Logs};
 ghost use Rattle.im_theory_tree.specs.Good.{IsGoodTree};
 ghost use Rattle.im_smo_alloc.specs.Seen.{bodies};
+ghost use Rattle.im_smo_alloc.specs.Kept.{Plans};
 ghost use Rattle.im_smo_actions.specs.DropPlan.{IsDropPlan};
 ghost use Rattle.im_smo_actions.specs.Structure.{IsUnfinished, SpareKept, DropKept};
 
@@ -52,7 +53,7 @@ fn plan_drop<D: Disk>(
 ) -> Result<Option<Images>, Fault>
     requires ready { IsReadyWriter D.Disk writer.old disk.old }
     requires working { writer.old.failed ≡ false }
-    ensures outcome { Reads D.Disk writer.old disk.old writer.new disk.new (fault_of result) }
+    ensures outcome { Plans D.Disk writer.old disk.old writer.new disk.new (fault_of result) }
     ensures kept { (store : AllPages) → HasPages D.Disk AreLoaded store writer.old disk.old → IsGoodTree (bodies store) [] → IsSound result (IsDropPlan store key.now) }
 {
     let frame = leaf_for(writer, disk, key)?;

@@ -5,11 +5,11 @@ ghost use Rattle.im_base_types.specs.declared.fault.Fault.TheVariants.{Capacity,
 ghost use Rattle.im_base_types.specs.declared.page_kind.PageKind.TheVariants.{Free, Meta};
 ghost use Rattle.im_page.specs.Header.{empty_body};
 ghost use Rattle.im_page_writer.specs.PageWriter.{IsReadyWriter};
-ghost use Rattle.im_page_writer.specs.Outcome.{fault_of, AllPages, AreLoaded, IsSound, Outcome, Reads};
+ghost use Rattle.im_page_writer.specs.Outcome.{fault_of, AllPages, AreLoaded, IsSound, Outcome};
 ghost use Rattle.im_smo_pages.specs.Bodies.{says, meta_with_first};
 ghost use Rattle.im_smo_pages.specs.Images.{put_image};
 ghost use Rattle.im_smo_alloc.specs.Seen.{next_page, meta_behind, seen, GivesPage, TakesPage};
-ghost use Rattle.im_smo_alloc.specs.Kept.{mild_to_take, HasImages};
+ghost use Rattle.im_smo_alloc.specs.Kept.{mild_to_take, HasImages, Plans};
 
 use crate::page_image::image;
 use im_base_disk::Disk;
@@ -142,7 +142,7 @@ pub fn free<D: Disk>(
 ) -> Result<(), Fault>
     requires ready { IsReadyWriter D.Disk writer.old disk.old }
     requires working { writer.old.failed ≡ false }
-    ensures outcome { Reads D.Disk writer.old disk.old writer.new disk.new (fault_of result) }
+    ensures outcome { Plans D.Disk writer.old disk.old writer.new disk.new (fault_of result) }
     ensures kept { (pages : AllPages) (spare : List ℕ) → HasImages D.Disk pages images.old (number ∷ spare) writer.old disk.old → IsSound result (λ _. GivesPage pages images.old spare number images.new) }
 {
     let _rises = images.len();

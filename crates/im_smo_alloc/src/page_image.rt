@@ -3,9 +3,10 @@
 ghost use Rattle.std.specs.Prelude.{◌≡◌, false, IfErr, IfOk, OnErr};
 ghost use Rattle.im_base_types.specs.declared.fault.Fault.TheVariants.{Memory};
 ghost use Rattle.im_page_writer.specs.PageWriter.{IsReadyWriter};
-ghost use Rattle.im_page_writer.specs.Outcome.{fault_of, AllPages, AreLoaded, HasPages, IsSound, Reads};
+ghost use Rattle.im_page_writer.specs.Outcome.{fault_of, AllPages, AreLoaded, HasPages, IsSound};
 ghost use Rattle.im_smo_pages.specs.Images.{without_image};
 ghost use Rattle.im_smo_alloc.specs.Seen.{page_in};
+ghost use Rattle.im_smo_alloc.specs.Kept.{Plans};
 
 use im_base_disk::Disk;
 use im_base_types::{Fault, PageNo};
@@ -35,7 +36,7 @@ fn pool_copy<D: Disk>(
 ) -> Result<Box<Page>, Fault>
     requires ready { IsReadyWriter D.Disk writer.old disk.old }
     requires working { writer.old.failed ≡ false }
-    ensures outcome { Reads D.Disk writer.old disk.old writer.new disk.new (fault_of result) }
+    ensures outcome { Plans D.Disk writer.old disk.old writer.new disk.new (fault_of result) }
     ensures kept { (pages : AllPages) → HasPages D.Disk AreLoaded pages writer.old disk.old → IsSound result (λ p. p.value ≡ pages number) }
 {
     let frame = writer.get(disk, number)?;
@@ -56,7 +57,7 @@ pub fn image<D: Disk>(
 ) -> Result<Box<Page>, Fault>
     requires ready { IsReadyWriter D.Disk writer.old disk.old }
     requires working { writer.old.failed ≡ false }
-    ensures outcome { Reads D.Disk writer.old disk.old writer.new disk.new (fault_of result) }
+    ensures outcome { Plans D.Disk writer.old disk.old writer.new disk.new (fault_of result) }
     ensures kept { (pages : AllPages) → HasPages D.Disk AreLoaded pages writer.old disk.old → IsSound result (λ p. p.value ≡ page_in pages images.old number) }
     ensures images { images.new ≡ without_image number images.old }
     ensures same { OnErr result (images.new ≡ images.old) }

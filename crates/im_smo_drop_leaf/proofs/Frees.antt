@@ -9,7 +9,7 @@ use Rattle.im_base_types.specs.declared.page_kind.PageKind.TheVariants.{Free}
 use Rattle.im_base_disk.specs.declared.disk.Disk.{Ghosts}
 use Rattle.im_page.specs.Header.{empty_body}
 use Rattle.im_page_writer.specs.declared.page_writer.PageWriter.{PageWriter}
-use Rattle.im_page_writer.specs.Outcome.{AllPages, Reads}
+use Rattle.im_page_writer.specs.Outcome.{AllPages}
 use Rattle.im_page_writer.proofs.Outcomes.{pages_still}
 use Rattle.im_theory_tree.specs.Levels.{Pages}
 use Rattle.im_theory_tree.specs.Good.{times, IsGoodTree}
@@ -20,7 +20,7 @@ use Rattle.im_smo_pages.specs.Changed.{SamePages, free_given_pages}
 use Rattle.im_smo_pages.specs.Images.{Numbered, image_of}
 use Rattle.im_smo_pages.proofs.Updates.{at_here}
 use Rattle.im_smo_alloc.specs.Seen.{seen, GivesPage}
-use Rattle.im_smo_alloc.specs.Kept.{HasImages}
+use Rattle.im_smo_alloc.specs.Kept.{HasImages, Plans}
 use Rattle.im_smo_drop_leaf.specs.Given.{IsGiven}
 
 -- the last page of a list in front of it
@@ -82,7 +82,7 @@ module _ {D : Type 0} (d : Ghosts D) where
   last_first pages images xs q w disk tree = record { has = tree.has; good = last_good (seen pages images) xs q tree.good }
 
   -- and the next one behind it
-  pub next_given : (pages : AllPages) (images mid : List Numbered) (leaf : ℕ) (above spare rest all : List ℕ) (q : ℕ) {v : PageWriter} {old : D} {w : PageWriter} {disk : D} → HasImages d pages images all v old → Reads d v old w disk None
+  pub next_given : (pages : AllPages) (images mid : List Numbered) (leaf : ℕ) (above spare rest all : List ℕ) (q : ℕ) {v : PageWriter} {old : D} {w : PageWriter} {disk : D} → HasImages d pages images all v old → Plans d v old w disk None
       → IsGiven pages images mid leaf above spare → spare ≡ rest ++ q ∷ [] → HasImages d pages mid (q ∷ rest) w disk
   next_given pages images mid leaf above spare rest all q {v} {old} {w} {disk} tree one given is = record {
     has = pages_still d tree.has one;

@@ -5,11 +5,12 @@ ghost use Rattle.im_base_types.specs.declared.fault.Fault.TheVariants.{Memory, N
 ghost use Rattle.im_base_types.specs.declared.page_kind.PageKind.TheVariants.{Leaf, Inner};
 ghost use Rattle.im_theory_log.specs.Tree.{with_body};
 ghost use Rattle.im_page_writer.specs.PageWriter.{IsReadyWriter};
-ghost use Rattle.im_page_writer.specs.Outcome.{fault_of, AllPages, AreLoaded, HasPages, IsSound, Reads};
+ghost use Rattle.im_page_writer.specs.Outcome.{fault_of, AllPages, AreLoaded, HasPages, IsSound};
 ghost use Rattle.im_smo_pages.specs.Bodies.{says};
 ghost use Rattle.im_smo_pages.specs.Changed.{SamePages, unlinked_pages};
 ghost use Rattle.im_smo_pages.specs.Images.{put_image};
 ghost use Rattle.im_smo_alloc.specs.Seen.{seen};
+ghost use Rattle.im_smo_alloc.specs.Kept.{Plans};
 ghost use Rattle.im_tree_search.specs.Children.{StandsAt};
 ghost use Rattle.im_smo_drop_leaf.specs.Chains.{without_child, with_link, linked, out_of_tree, AreLeavesBeside};
 
@@ -94,7 +95,7 @@ fn drop_child<D: Disk>(
 ) -> Result<(), Fault>
     requires ready { IsReadyWriter D.Disk writer.old disk.old }
     requires working { writer.old.failed ≡ false }
-    ensures outcome { Reads D.Disk writer.old disk.old writer.new disk.new (fault_of result) }
+    ensures outcome { Plans D.Disk writer.old disk.old writer.new disk.new (fault_of result) }
     ensures kept { (pages : AllPages) (c : ℕ) → HasPages D.Disk AreLoaded pages writer.old disk.old
         → (seen pages images.old parent).kind ≡ Inner → StandsAt (seen pages images.old parent) place c
         → IsSound result (λ _. SamePages (seen pages images.new) (with_body (seen pages images.old) parent (without_child (seen pages images.old parent) place))) }
@@ -116,7 +117,7 @@ fn set_link<D: Disk>(
 ) -> Result<(), Fault>
     requires ready { IsReadyWriter D.Disk writer.old disk.old }
     requires working { writer.old.failed ≡ false }
-    ensures outcome { Reads D.Disk writer.old disk.old writer.new disk.new (fault_of result) }
+    ensures outcome { Plans D.Disk writer.old disk.old writer.new disk.new (fault_of result) }
     ensures kept { (pages : AllPages) → HasPages D.Disk AreLoaded pages writer.old disk.old
         → (1 ≤ number → (seen pages images.old number).kind ≡ Leaf)
         → IsSound result (λ _. SamePages (seen pages images.new) (linked (seen pages images.old) side number leaf)) }
@@ -139,7 +140,7 @@ fn unlink<D: Disk>(
 ) -> Result<(), Fault>
     requires ready { IsReadyWriter D.Disk writer.old disk.old }
     requires working { writer.old.failed ≡ false }
-    ensures outcome { Reads D.Disk writer.old disk.old writer.new disk.new (fault_of result) }
+    ensures outcome { Plans D.Disk writer.old disk.old writer.new disk.new (fault_of result) }
     ensures kept { (pages : AllPages) → HasPages D.Disk AreLoaded pages writer.old disk.old
         → AreLeavesBeside (seen pages images.old) beside.prev beside.next
         → IsSound result (λ _. SamePages (seen pages images.new) (unlinked_pages (seen pages images.old) beside.prev beside.next)) }
@@ -179,7 +180,7 @@ pub(crate) fn take_out<D: Disk>(
 ) -> Result<(), Fault>
     requires ready { IsReadyWriter D.Disk writer.old disk.old }
     requires working { writer.old.failed ≡ false }
-    ensures outcome { Reads D.Disk writer.old disk.old writer.new disk.new (fault_of result) }
+    ensures outcome { Plans D.Disk writer.old disk.old writer.new disk.new (fault_of result) }
     ensures kept { (pages : AllPages) (c : ℕ) → HasPages D.Disk AreLoaded pages writer.old disk.old
         → (seen pages images.old parent).kind ≡ Inner → StandsAt (seen pages images.old parent) place c → AreLeavesBeside (seen pages images.old) beside.prev beside.next
         → IsSound result (λ _. SamePages (seen pages images.new) (out_of_tree (seen pages images.old) parent place beside.prev beside.next)) }

@@ -2,8 +2,8 @@
 
 ghost use Rattle.std.specs.Prelude.{◌≡◌, [], ◌∷◌, ◌++◌, false};
 ghost use Rattle.im_page_writer.specs.PageWriter.{IsReadyWriter};
-ghost use Rattle.im_page_writer.specs.Outcome.{fault_of, AllPages, IsSound, Reads};
-ghost use Rattle.im_smo_alloc.specs.Kept.{HasImages};
+ghost use Rattle.im_page_writer.specs.Outcome.{fault_of, AllPages, IsSound};
+ghost use Rattle.im_smo_alloc.specs.Kept.{HasImages, Plans};
 ghost use Rattle.im_smo_drop_leaf.specs.Given.{IsGiven};
 
 use im_base_disk::Disk;
@@ -26,7 +26,7 @@ pub(crate) fn give_back<D: Disk>(
 ) -> Result<(), Fault>
     requires ready { IsReadyWriter D.Disk writer.old disk.old }
     requires working { writer.old.failed ≡ false }
-    ensures outcome { Reads D.Disk writer.old disk.old writer.new disk.new (fault_of result) }
+    ensures outcome { Plans D.Disk writer.old disk.old writer.new disk.new (fault_of result) }
     ensures kept { (pages : AllPages) → HasImages D.Disk pages images.old (above.old.items ++ leaf ∷ []) writer.old disk.old
         → IsSound result (λ _. IsGiven pages images.old images.new leaf above.old.items []) }
 {

@@ -3,9 +3,10 @@
 ghost use Rattle.std.specs.Prelude.{◌≡◌, ◌↔◌, [], ◌∷◌, ◌++◌, false, IfErr, IfOk, OnOk, IsTrue};
 ghost use Rattle.im_base_types.specs.declared.fault.Fault.TheVariants.{Memory};
 ghost use Rattle.im_page_writer.specs.PageWriter.{IsReadyWriter};
-ghost use Rattle.im_page_writer.specs.Outcome.{fault_of, AllPages, AreLoaded, HasPages, IsSound, Reads};
+ghost use Rattle.im_page_writer.specs.Outcome.{fault_of, AllPages, AreLoaded, HasPages, IsSound};
 ghost use Rattle.im_theory_tree.specs.Good.{IsGoodTree};
 ghost use Rattle.im_smo_alloc.specs.Seen.{bodies};
+ghost use Rattle.im_smo_alloc.specs.Kept.{Plans};
 ghost use Rattle.im_tree_search.specs.declared.child_place.ChildPlace.TheVariants.{Only};
 ghost use Rattle.im_smo_drop_leaf.specs.Ways.{IsNext, IsPlaced};
 
@@ -77,7 +78,7 @@ pub(crate) fn find_chain<D: Disk>(
 ) -> Result<Place, Fault>
     requires ready { IsReadyWriter D.Disk writer.old disk.old }
     requires working { writer.old.failed ≡ false }
-    ensures outcome { Reads D.Disk writer.old disk.old writer.new disk.new (fault_of result) }
+    ensures outcome { Plans D.Disk writer.old disk.old writer.new disk.new (fault_of result) }
     ensures kept { (pages : AllPages) → HasPages D.Disk AreLoaded pages writer.old disk.old → IsGoodTree (bodies pages) []
         → IsSound result (λ leaf. IsPlaced (bodies pages) key.now leaf.parent leaf.place 0 leaf.number above.new.items) }
 {

@@ -5,14 +5,14 @@ use Rattle.im_base_types.specs.declared.fault.Fault.{Fault}
 use Rattle.im_base_types.specs.declared.fault.Fault.TheVariants.{Capacity, Memory, NotAStore, PagesFull}
 use Rattle.im_base_disk.specs.declared.disk.Disk.{Ghosts}
 use Rattle.im_page_writer.specs.declared.page_writer.PageWriter.{PageWriter}
-use Rattle.im_page_writer.specs.Outcome.{fault_of, mild, AreLoaded, Outcome}
+use Rattle.im_page_writer.specs.Outcome.{fault_of, mild, AreLoaded, Outcome, no_page}
 use Rattle.im_page_writer.proofs.Outcomes.{never_refused}
 use Rattle.im_smo_alloc.specs.Kept.{mild_to_take}
 use Rattle.im_smo_split.specs.Kept.{mild_to_grow, mild_to_split}
 
-pub mildly_read : {A : Type 0} (r : Result A Fault) → IfErr r (λ e. e ≡ NotAStore) → IfErr r (λ e. mild e ≡ true)
-mildly_read (Ok a) is = tt
-mildly_read (Err e) is = ap mild is
+pub only_bytes : {A : Type 0} (r : Result A Fault) → IfErr r (λ e. e ≡ NotAStore) → IfErr r (λ e. no_page e ≡ true)
+only_bytes (Ok a) is = tt
+only_bytes (Err e) is = ap no_page is
 
 -- a call that is refused in no case that it is called in
 pub never_err : {A E : Type 0} (r : Result A E) (P : E → Type 0) → IfErr r (λ e. ⊥) → IfErr r P
@@ -21,18 +21,12 @@ never_err (Err e) P never = absurd never
 
 -- ---- causes
 
-pub mild_grows : (max : Option ℕ) (e : Fault) → mild e ≡ true → mild_to_grow max e ≡ true
-mild_grows max Memory is = refl
-mild_grows max NotAStore is = refl
-mild_grows max e is = absurd (cc is)
-
 pub mild_splits : (max : Option ℕ) (e : Fault) → mild e ≡ true → mild_to_split max e ≡ true
 mild_splits max Memory is = refl
 mild_splits max NotAStore is = refl
 mild_splits max e is = absurd (cc is)
 
 pub grow_splits : (max : Option ℕ) (e : Fault) → mild_to_grow max e ≡ true → mild_to_split max e ≡ true
-grow_splits max Memory is = refl
 grow_splits max NotAStore is = refl
 grow_splits max PagesFull is = is
 grow_splits max e is = absurd (cc is)

@@ -6,7 +6,7 @@ ghost use Rattle.im_base_types.specs.declared.page_kind.PageKind.TheVariants.{Le
 ghost use Rattle.im_page.specs.Entry.{Rises};
 ghost use Rattle.im_page.specs.Child.{IsChild};
 ghost use Rattle.im_page_writer.specs.PageWriter.{IsReadyWriter};
-ghost use Rattle.im_page_writer.specs.Outcome.{fault_of, AllPages, AreLoaded, HasPages, IsSound, Reads};
+ghost use Rattle.im_page_writer.specs.Outcome.{fault_of, AllPages, AreLoaded, HasPages, IsSound};
 ghost use Rattle.im_theory_tree.specs.Levels.{Pages};
 ghost use Rattle.im_theory_tree.specs.Good.{IsGoodTree};
 ghost use Rattle.im_theory_tree.specs.Search.{IsOnWay};
@@ -14,7 +14,7 @@ ghost use Rattle.im_theory_tree.specs.Halves.{FitsPage};
 ghost use Rattle.im_smo_pages.specs.Images.{Has, held};
 ghost use Rattle.im_smo_pages.specs.Parts.{CanHalve, CanSplit};
 ghost use Rattle.im_smo_alloc.specs.Seen.{seen};
-ghost use Rattle.im_smo_alloc.specs.Kept.{HasImages};
+ghost use Rattle.im_smo_alloc.specs.Kept.{HasImages, Plans};
 ghost use Rattle.im_smo_split.specs.Pages.{newest_first};
 ghost use Rattle.im_smo_split.specs.Ends.{HalvesLeaf, HalvesRootLeaf, BroughtBoth, Ended};
 ghost use Rattle.im_smo_split.specs.Turns.{IsTurn, IsRootTurn};
@@ -49,7 +49,7 @@ fn bring_both<D: Disk>(
 ) -> Result<(), Fault>
     requires ready { IsReadyWriter D.Disk writer.old disk.old }
     requires working { writer.old.failed ≡ false }
-    ensures outcome { Reads D.Disk writer.old disk.old writer.new disk.new (fault_of result) }
+    ensures outcome { Plans D.Disk writer.old disk.old writer.new disk.new (fault_of result) }
     ensures kept { (store : AllPages) → HasPages D.Disk AreLoaded store writer.old disk.old → IsSound result (λ _. BroughtBoth store images.old number images.new) }
 {
     bring(alloc, images, writer, disk, number)?;
@@ -115,7 +115,7 @@ pub(crate) fn split_leaf_turn<D: Disk>(
     requires ready { IsReadyWriter D.Disk writer.old disk.old }
     requires working { writer.old.failed ≡ false }
     requires counted { length numbers.old.items ≡ 1 }
-    ensures outcome { Reads D.Disk writer.old disk.old writer.new disk.new (fault_of result) }
+    ensures outcome { Plans D.Disk writer.old disk.old writer.new disk.new (fault_of result) }
     ensures kept { (store : AllPages) → HasImages D.Disk store images.old (newest_first numbers.old.items) writer.old disk.old
         → IsTurn (seen store images.old) (newest_first numbers.old.items) key.now zero turn.parent turn.page → Has images.old turn.parent
         → IsSound result (λ _. Ended store key.now images.old images.new) }
@@ -139,7 +139,7 @@ pub(crate) fn split_root_leaf<D: Disk>(
     requires ready { IsReadyWriter D.Disk writer.old disk.old }
     requires working { writer.old.failed ≡ false }
     requires counted { length numbers.old.items ≡ 2 }
-    ensures outcome { Reads D.Disk writer.old disk.old writer.new disk.new (fault_of result) }
+    ensures outcome { Plans D.Disk writer.old disk.old writer.new disk.new (fault_of result) }
     ensures kept { (store : AllPages) → HasImages D.Disk store images.old (newest_first numbers.old.items) writer.old disk.old
         → IsRootTurn (seen store images.old) (newest_first numbers.old.items) key.now zero
         → IsSound result (λ _. Ended store key.now images.old images.new) }

@@ -4,10 +4,10 @@ ghost use Rattle.std.specs.Prelude.{◌≡◌, ◌≤◌, ◌<◌, ◌+◌, ◌-
 ghost use Rattle.im_base_types.specs.declared.fault.Fault.TheVariants.{Capacity, PagesFull};
 ghost use Rattle.im_base_types.specs.declared.page_kind.PageKind.TheVariants.{Meta};
 ghost use Rattle.im_page_writer.specs.PageWriter.{IsReadyWriter};
-ghost use Rattle.im_page_writer.specs.Outcome.{fault_of, AllPages, AreLoaded, HasPages, IsSound, Outcome, Reads};
+ghost use Rattle.im_page_writer.specs.Outcome.{fault_of, AllPages, AreLoaded, HasPages, IsSound, Outcome};
 ghost use Rattle.im_theory_tree.specs.Good.{IsGoodTree};
 ghost use Rattle.im_smo_alloc.specs.Seen.{bodies, seen};
-ghost use Rattle.im_smo_alloc.specs.Kept.{mild_to_take, HasImages};
+ghost use Rattle.im_smo_alloc.specs.Kept.{mild_to_take, HasImages, Plans};
 ghost use Rattle.im_smo_split.specs.Pages.{newest_first};
 ghost use Rattle.im_smo_split.specs.Ends.{Ended};
 ghost use Rattle.im_smo_split.specs.Kept.{mild_to_grow, mild_to_split};
@@ -66,7 +66,7 @@ fn split_down<D: Disk>(
     requires low { top.root ≡ true → top.level < 255 }
     requires is_counted { IsCounted 0 top }
     requires counted { length numbers.old.items ≡ top.pages }
-    ensures outcome { Reads D.Disk writer.old disk.old writer.new disk.new (fault_of result) }
+    ensures outcome { Plans D.Disk writer.old disk.old writer.new disk.new (fault_of result) }
     ensures kept { (store : AllPages) → HasImages D.Disk store images.old (newest_first numbers.old.items) writer.old disk.old
         → (top.root ≡ true → IsRootTurn (seen store images.old) (newest_first numbers.old.items) key.now top.level)
         → (top.root ≡ false → IsTurn (seen store images.old) (newest_first numbers.old.items) key.now top.level top.parent top.page)

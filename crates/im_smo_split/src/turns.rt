@@ -6,7 +6,7 @@ ghost use Rattle.im_base_types.specs.declared.page_kind.PageKind.TheVariants.{In
 ghost use Rattle.im_page.specs.Entry.{entry_at};
 ghost use Rattle.im_page.specs.Child.{IsChild};
 ghost use Rattle.im_page_writer.specs.PageWriter.{IsReadyWriter};
-ghost use Rattle.im_page_writer.specs.Outcome.{fault_of, AllPages, AreLoaded, HasPages, IsSound, Reads};
+ghost use Rattle.im_page_writer.specs.Outcome.{fault_of, AllPages, AreLoaded, HasPages, IsSound};
 ghost use Rattle.im_theory_tree.specs.Levels.{Pages};
 ghost use Rattle.im_theory_tree.specs.Halves.{FitsPage};
 ghost use Rattle.im_tree_search.specs.Levels.{HasLevel};
@@ -14,7 +14,7 @@ ghost use Rattle.im_smo_pages.specs.Images.{Has, held};
 ghost use Rattle.im_smo_pages.specs.Parts.{CanHalve, CanSplit};
 ghost use Rattle.im_smo_pages.specs.OnWay.{IsHalf};
 ghost use Rattle.im_smo_alloc.specs.Seen.{seen};
-ghost use Rattle.im_smo_alloc.specs.Kept.{HasImages};
+ghost use Rattle.im_smo_alloc.specs.Kept.{HasImages, Plans};
 ghost use Rattle.im_smo_split.specs.Pages.{newest_first};
 ghost use Rattle.im_smo_split.specs.Steps.{Brought, HalvesInner, HalvesRoot, Turned};
 ghost use Rattle.im_smo_split.specs.Tops.{IsCounted};
@@ -50,7 +50,7 @@ pub(crate) fn bring<D: Disk>(
 ) -> Result<(), Fault>
     requires ready { IsReadyWriter D.Disk writer.old disk.old }
     requires working { writer.old.failed ≡ false }
-    ensures outcome { Reads D.Disk writer.old disk.old writer.new disk.new (fault_of result) }
+    ensures outcome { Plans D.Disk writer.old disk.old writer.new disk.new (fault_of result) }
     ensures kept { (store : AllPages) → HasPages D.Disk AreLoaded store writer.old disk.old → IsSound result (λ _. Brought store images.old number images.new) }
 {
     images.rise();
@@ -139,7 +139,7 @@ pub(crate) fn split_inner_turn<D: Disk>(
     requires working { writer.old.failed ≡ false }
     requires inner { 1 ≤ turn.level }
     requires counted { length numbers.old.items ≡ turn.level + 1 }
-    ensures outcome { Reads D.Disk writer.old disk.old writer.new disk.new (fault_of result) }
+    ensures outcome { Plans D.Disk writer.old disk.old writer.new disk.new (fault_of result) }
     ensures kept { (store : AllPages) → HasImages D.Disk store images.old (newest_first numbers.old.items) writer.old disk.old
         → IsTurn (seen store images.old) (newest_first numbers.old.items) key.now turn.level turn.parent turn.page → Has images.old turn.parent
         → IsSound result (λ next. Turned store key.now images.old next images.new numbers.new.items) }
@@ -168,7 +168,7 @@ pub(crate) fn split_root_turn<D: Disk>(
     requires inner { 1 ≤ level }
     requires low { level < 255 }
     requires counted { length numbers.old.items ≡ level + 2 }
-    ensures outcome { Reads D.Disk writer.old disk.old writer.new disk.new (fault_of result) }
+    ensures outcome { Plans D.Disk writer.old disk.old writer.new disk.new (fault_of result) }
     ensures kept { (store : AllPages) → HasImages D.Disk store images.old (newest_first numbers.old.items) writer.old disk.old
         → IsRootTurn (seen store images.old) (newest_first numbers.old.items) key.now level
         → IsSound result (λ next. Turned store key.now images.old next images.new numbers.new.items) }
@@ -199,7 +199,7 @@ pub(crate) fn first_turn<D: Disk>(
     requires low { top.root ≡ true → top.level < 255 }
     requires is_counted { IsCounted 0 top }
     requires counted { length numbers.old.items ≡ top.pages }
-    ensures outcome { Reads D.Disk writer.old disk.old writer.new disk.new (fault_of result) }
+    ensures outcome { Plans D.Disk writer.old disk.old writer.new disk.new (fault_of result) }
     ensures kept { (store : AllPages) → HasImages D.Disk store images.old (newest_first numbers.old.items) writer.old disk.old
         → (top.root ≡ true → IsRootTurn (seen store images.old) (newest_first numbers.old.items) key.now top.level)
         → (top.root ≡ false → IsTurn (seen store images.old) (newest_first numbers.old.items) key.now top.level top.parent top.page)

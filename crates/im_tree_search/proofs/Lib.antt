@@ -7,3 +7,4 @@ pub mod Walks
 pub mod NextNames
 pub mod Ranges
 pub mod Quiet
+pub mod HeldTrees

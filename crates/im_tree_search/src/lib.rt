@@ -30,6 +30,7 @@
 mod child_place;
 mod descent;
 mod entry_place;
+pub mod laws;
 mod leaf_chain;
 mod levels;
 mod listing;

@@ -1,11 +1,11 @@
-use Rattle.std.proofs.Common.{◌≡◌, is_some, sym, ◌∙◌, ap}
+use Rattle.std.proofs.Common.{◌≡◌, is_some, sym, ◌∙◌, ap, refl}
 use Rattle.std.specs.FinMap.{get}
 use Rattle.std.specs.FinMap.Entries.{find}
 use Rattle.im_base_types.specs.Keys.{key_order}
 use Rattle.im_base_types.specs.Pages.{Page}
 use Rattle.im_base_types.specs.Answers.{Delete}
 use Rattle.im_page_pool.specs.Pool.{page_at, IsAt}
-use Rattle.im_page_writer.proofs.Outcomes.{out_of_memory, refused, sound_on}
+use Rattle.im_page_writer.proofs.Outcomes.{out_of_memory, refused, sound_on, read_more}
 use Rattle.im_theory_tree.specs.Levels.{walk}
 use Rattle.im_theory_tree.proofs.LookupLemmas.{leaf_value}
 use Rattle.im_tree_search.specs.Levels.{HasLevel, bodies_of}
@@ -16,7 +16,11 @@ use Rattle.im_engine_index.specs.Asks.{IsPlace}
 use Rattle.im_engine_index.specs.Outcomes.{name_in}
 use Rattle.im_engine_index.proofs.Names.{finds_both, found_is, next_is}
 use Rattle.im_engine_index.proofs.Calls.{decided_as, granted_as, memory_not}
+use Rattle.im_page_writer.specs.Outcome.{mild}
 use Rattle.im_engine_index.proofs.changes.ask_delete.Goals as goal
+
+pub returns-in_err-leaf-clause-outcome : goal.returns-in_err-leaf-clause-outcome
+returns-in_err-leaf-clause-outcome g c = refused g.D.Disk c.from_residual.result c.from_residual.ensures.1 (read_more g.D.Disk mild refl c.in_err-leaf.ensures.outcome)
 
 pub returns-in_err-leaf-clause-kept : goal.returns-in_err-leaf-clause-kept
 returns-in_err-leaf-clause-kept g c pages m tree is = sound_on c.from_residual.result _ _ c.from_residual.ensures.1 (c.in_err-leaf.ensures.kept pages tree)
@@ -26,6 +30,9 @@ returns-in_err-verdict-clause-outcome g c = refused g.D.Disk c.from_residual-in_
 
 pub returns-in_err-verdict-clause-kept : goal.returns-in_err-verdict-clause-kept
 returns-in_err-verdict-clause-kept g c pages m tree is = sound_on c.from_residual-in_err-verdict.result _ _ c.from_residual-in_err-verdict.ensures.1 (memory_not _ c.in_err-verdict.ensures.refused.0)
+
+pub returns-clause-outcome : goal.returns-clause-outcome
+returns-clause-outcome g c = read_more g.D.Disk mild refl c.in_ok-leaf.ensures.outcome
 
 pub returns-clause-kept : goal.returns-clause-kept
 returns-clause-kept g c pages m tree is =

@@ -1,7 +1,12 @@
-use Rattle.im_page_writer.proofs.Outcomes.{sound_on, then}
+use Rattle.std.proofs.Common.{refl}
+use Rattle.im_page_writer.proofs.Outcomes.{sound_on, then, read_more, refused}
 use Rattle.im_tree_search.proofs.Pages.{tree_still}
 use Rattle.im_engine_index.proofs.Names.{place_found}
+use Rattle.im_page_writer.specs.Outcome.{mild}
 use Rattle.im_engine_index.proofs.changes.ask_insert.Goals as goal
+
+pub returns-in_err-leaf-clause-outcome : goal.returns-in_err-leaf-clause-outcome
+returns-in_err-leaf-clause-outcome g c = refused g.D.Disk c.from_residual.result c.from_residual.ensures.1 (read_more g.D.Disk mild refl c.in_err-leaf.ensures.outcome)
 
 pub returns-in_err-leaf-clause-kept : goal.returns-in_err-leaf-clause-kept
 returns-in_err-leaf-clause-kept g c pages m rid tree is = sound_on c.from_residual.result _ _ c.from_residual.ensures.1 (c.in_err-leaf.ensures.kept pages tree)

@@ -1,6 +1,6 @@
 use Rattle.std.proofs.Common.{◌≡◌, ◌⊎◌, None, refl, sym, ◌∙◌}
 use Rattle.im_base_types.specs.declared.fault.Fault.TheVariants.{Capacity, Failed, Memory}
-use Rattle.im_page_writer.proofs.Outcomes.{idle, logs_for_more, logs_late}
+use Rattle.im_page_writer.proofs.Outcomes.{idle, logs_for_more, logs_late, no_page_for}
 use Rattle.im_smo_split.specs.Kept.{mild_to_split}
 use Rattle.im_smo_split.proofs.Reasons.{mild_splits}
 use Rattle.im_engine_index.specs.declared.plan.Plan.TheVariants.{Fits, Split, UsedUp}
@@ -9,7 +9,7 @@ use Rattle.im_engine_index.proofs.Planning.{never_used_up, none_logged, not_so}
 use Rattle.im_engine_index.proofs.inserting.log_prepared.Goals as goal
 
 pub returns-in-Fits-clause-outcome : goal.returns-in-Fits-clause-outcome
-returns-in-Fits-clause-outcome g c = logs_late g.D.Disk (mild_splits None) c.requires.working c.put.ensures.outcome
+returns-in-Fits-clause-outcome g c = logs_late g.D.Disk (no_page_for (mild_to_split None) refl) c.requires.working c.put.ensures.outcome
 
 pub returns-in-Fits-clause-kept : goal.returns-in-Fits-clause-kept
 returns-in-Fits-clause-kept g c b base s e max may =
@@ -20,7 +20,7 @@ returns-in-Fits-clause-kept g c b base s e max may =
     (first_room g.D.Disk b base s e t.number t.last t.undo_next a.key.now max a.plan a.page a.writer.now a.disk.now may c.requires.owner c.in-Fits.is)
 
 pub returns-in-Fits-clause-used_up : goal.returns-in-Fits-clause-used_up
-returns-in-Fits-clause-used_up g c = never_used_up g.D.Disk (c.args.plan ≡ UsedUp) c.put.result c.put.ensures.outcome
+returns-in-Fits-clause-used_up g c = never_used_up g.D.Disk refl (c.args.plan ≡ UsedUp) c.put.result c.put.ensures.outcome
 
 pub returns-in-Split-clause-outcome : goal.returns-in-Split-clause-outcome
 returns-in-Split-clause-outcome g c = logs_for_more g.D.Disk (mild_splits None) c.split_and_put.ensures.outcome
@@ -33,7 +33,7 @@ returns-in-Split-clause-kept g c b base s e max may =
     (planned_as g.D.Disk b base s e t.number t.last t.undo_next a.key.now max a.plan a.page a.writer.now a.disk.now may c.requires.owner (Split c.in-Split.images) c.in-Split.is)
 
 pub returns-in-Split-clause-used_up : goal.returns-in-Split-clause-used_up
-returns-in-Split-clause-used_up g c = never_used_up g.D.Disk (c.args.plan ≡ UsedUp) c.split_and_put.result c.split_and_put.ensures.outcome
+returns-in-Split-clause-used_up g c = never_used_up g.D.Disk refl (c.args.plan ≡ UsedUp) c.split_and_put.result c.split_and_put.ensures.outcome
 
 pub returns-in-UsedUp-clause-outcome : goal.returns-in-UsedUp-clause-outcome
 returns-in-UsedUp-clause-outcome g c = none_left g.D.Disk {m = mild_to_split None} (idle g.D.Disk g.met.D.Disk.only_now c.args.writer.now c.args.disk.now c.requires.working c.requires.ready)

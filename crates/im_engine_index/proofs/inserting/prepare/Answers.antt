@@ -1,7 +1,7 @@
 use Rattle.std.proofs.Common.{[], true, Some, refl, sym, ◌∙◌, subst}
 use Rattle.im_base_types.specs.Pages.{Page}
 use Rattle.im_page.specs.Split.{HasRoom}
-use Rattle.im_page_writer.proofs.Outcomes.{pages_still, refused, then, with_more}
+use Rattle.im_page_writer.proofs.Outcomes.{pages_still, refused, then, with_more, read_more}
 use Rattle.im_page_writer.proofs.LoggedChanges.{err_on}
 use Rattle.im_tree_search.specs.Found.{HasTree}
 use Rattle.im_tree_search.proofs.Pages.{tree_still}
@@ -12,7 +12,7 @@ use Rattle.im_engine_index.proofs.Planning.{none_used_up, nothing_planned, prepa
 use Rattle.im_engine_index.proofs.inserting.prepare.Goals as goal
 
 pub returns-in_err-leaf-clause-outcome : goal.returns-in_err-leaf-clause-outcome
-returns-in_err-leaf-clause-outcome g c = refused g.D.Disk c.from_residual.result c.from_residual.ensures.1 (with_more g.D.Disk (mild_to_split (Some c.args.max)) (mild_splits (Some c.args.max)) c.in_err-leaf.ensures.outcome)
+returns-in_err-leaf-clause-outcome g c = refused g.D.Disk c.from_residual.result c.from_residual.ensures.1 (read_more g.D.Disk (mild_to_split (Some c.args.max)) refl c.in_err-leaf.ensures.outcome)
 
 pub returns-in_err-leaf-clause-kept : goal.returns-in_err-leaf-clause-kept
 returns-in_err-leaf-clause-kept g c pages m rid has good is =

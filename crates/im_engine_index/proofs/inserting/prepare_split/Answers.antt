@@ -1,5 +1,5 @@
 use Rattle.std.proofs.Common.{[], None, Some, refl, sym, ◌∙◌, subst}
-use Rattle.im_page_writer.proofs.Outcomes.{pages_still, refused, sound_on, then, with_more}
+use Rattle.im_page_writer.proofs.Outcomes.{pages_still, refused, sound_on, then, with_more, read_more}
 use Rattle.im_page_writer.proofs.LoggedChanges.{err_on}
 use Rattle.im_tree_search.specs.Found.{HasTree, IsReached}
 use Rattle.im_tree_search.specs.Levels.{bodies_of}
@@ -30,7 +30,7 @@ returns-in_err-plan-clause-never g c = err_on c.from_residual.result _ _ c.from_
 pub returns-in_err-leaf-clause-outcome : goal.returns-in_err-leaf-clause-outcome
 returns-in_err-leaf-clause-outcome g c =
     refused g.D.Disk c.from_residual-in_err-leaf.result c.from_residual-in_err-leaf.ensures.1
-    (with_more g.D.Disk (mild_to_split (Some c.args.max)) (mild_splits (Some c.args.max)) (then g.D.Disk c.in_ok-plan.ensures.outcome c.in_err-leaf.ensures.outcome))
+    (then g.D.Disk c.in_ok-plan.ensures.outcome (read_more g.D.Disk (mild_to_split (Some c.args.max)) refl c.in_err-leaf.ensures.outcome))
 
 pub returns-in_err-leaf-clause-kept : goal.returns-in_err-leaf-clause-kept
 returns-in_err-leaf-clause-kept g c pages m rid has good is absent way full =

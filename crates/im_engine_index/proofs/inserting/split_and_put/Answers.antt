@@ -1,5 +1,7 @@
-use Rattle.im_page_writer.proofs.Outcomes.{late_behind, log_refused, logs_both}
+use Rattle.std.proofs.Common.{refl}
+use Rattle.im_page_writer.proofs.Outcomes.{late_behind, log_refused, logs_both, logs_for_more, no_page_for}
 use Rattle.im_engine_index.proofs.Inserts.{comes_split, may_run, put_late, run_refused, split_fits}
+use Rattle.im_page_writer.specs.Outcome.{mild}
 use Rattle.im_engine_index.proofs.inserting.split_and_put.Goals as goal
 
 pub returns-in_err-last-clause-outcome : goal.returns-in_err-last-clause-outcome
@@ -25,7 +27,7 @@ returns-in-Ok-clause-kept g c b base s e max page may =
     (split_fits g.D.Disk b base s e t.number t.last t.undo_next a.key.now max a.images.now page a.writer.now a.disk.now may c.requires.owner c.in_ok-last.last c.run.new.writer c.run.new.disk kept)
 
 pub returns-in-Err-clause-outcome : goal.returns-in-Err-clause-outcome
-returns-in-Err-clause-outcome g c = late_behind g.D.Disk c.in_ok-last.ensures.outcome c.in-Err.ensures.outcome c.late.ensures.memory c.late.ensures.others
+returns-in-Err-clause-outcome g c = late_behind g.D.Disk c.in_ok-last.ensures.outcome (logs_for_more g.D.Disk (no_page_for mild refl) c.in-Err.ensures.outcome) c.late.ensures.memory c.late.ensures.others
 
 pub returns-in-Err-clause-kept : goal.returns-in-Err-clause-kept
 returns-in-Err-clause-kept g c b base s e max page may =

@@ -1,7 +1,7 @@
-use Rattle.std.proofs.Common.{◌≡◌, None, Some, sym, ◌∙◌, ap}
+use Rattle.std.proofs.Common.{◌≡◌, None, Some, sym, ◌∙◌, ap, refl}
 use Rattle.std.specs.FinMap.{get}
 use Rattle.im_base_types.specs.Answers.{Fetch, found}
-use Rattle.im_page_writer.proofs.Outcomes.{out_of_memory, refused, sound_on, then}
+use Rattle.im_page_writer.proofs.Outcomes.{out_of_memory, refused, sound_on, then, read_more}
 use Rattle.im_theory_tree.specs.Levels.{walk}
 use Rattle.im_tree_search.specs.Levels.{bodies_of}
 use Rattle.im_tree_search.proofs.Pages.{tree_still}
@@ -10,7 +10,11 @@ use Rattle.im_engine_lock.specs.Rows.{asked}
 use Rattle.im_engine_lock.specs.Table.{row}
 use Rattle.im_engine_index.proofs.Names.{finds_there, found_is, option_none}
 use Rattle.im_engine_index.proofs.Calls.{decided_as, memory_not, says_as}
+use Rattle.im_page_writer.specs.Outcome.{mild}
 use Rattle.im_engine_index.proofs.reads.fetch.Goals as goal
+
+pub returns-in_err-rid-clause-outcome : goal.returns-in_err-rid-clause-outcome
+returns-in_err-rid-clause-outcome g c = refused g.D.Disk c.from_residual.result c.from_residual.ensures.1 (read_more g.D.Disk mild refl c.in_err-rid.ensures.outcome)
 
 pub returns-in_err-rid-clause-kept : goal.returns-in_err-rid-clause-kept
 returns-in_err-rid-clause-kept g c pages m tree is = sound_on c.from_residual.result _ _ c.from_residual.ensures.1 (c.in_err-rid.ensures.kept pages tree)
@@ -20,6 +24,9 @@ returns-in_err-verdict-clause-outcome g c = refused g.D.Disk c.from_residual-in_
 
 pub returns-in_err-verdict-clause-kept : goal.returns-in_err-verdict-clause-kept
 returns-in_err-verdict-clause-kept g c pages m tree is = sound_on c.from_residual-in_err-verdict.result _ _ c.from_residual-in_err-verdict.ensures.1 (memory_not _ c.in_err-verdict.ensures.refused.0)
+
+pub returns-in-Some-clause-outcome : goal.returns-in-Some-clause-outcome
+returns-in-Some-clause-outcome g c = read_more g.D.Disk mild refl c.in_ok-rid.ensures.outcome
 
 pub returns-in-Some-clause-kept : goal.returns-in-Some-clause-kept
 returns-in-Some-clause-kept g c pages m tree is =

@@ -1,7 +1,7 @@
-use Rattle.std.proofs.Common.{◌≡◌, ◌∙◌, ap}
+use Rattle.std.proofs.Common.{◌≡◌, ◌∙◌, ap, refl}
 use Rattle.im_base_types.specs.Answers.{answer, entry}
 use Rattle.im_base_types.specs.Maps.{first}
-use Rattle.im_page_writer.proofs.Outcomes.{out_of_memory, refused, sound_on}
+use Rattle.im_page_writer.proofs.Outcomes.{out_of_memory, refused, sound_on, read_more}
 use Rattle.im_theory_tree.specs.Levels.{walk}
 use Rattle.im_tree_search.specs.Levels.{bodies_of, start_at}
 use Rattle.im_engine_lock.specs.Rows.{asked}
@@ -9,7 +9,11 @@ use Rattle.im_engine_lock.specs.Table.{named, row}
 use Rattle.im_engine_index.specs.Outcomes.{seek_at}
 use Rattle.im_engine_index.proofs.Names.{first_is, seek_asks, seek_says}
 use Rattle.im_engine_index.proofs.Calls.{decided_as, memory_not, says_as}
+use Rattle.im_page_writer.specs.Outcome.{mild}
 use Rattle.im_engine_index.proofs.reads.seek.Goals as goal
+
+pub returns-in_err-found-clause-outcome : goal.returns-in_err-found-clause-outcome
+returns-in_err-found-clause-outcome g c = refused g.D.Disk c.from_residual.result c.from_residual.ensures.1 (read_more g.D.Disk mild refl c.in_err-found.ensures.outcome)
 
 pub returns-in_err-found-clause-kept : goal.returns-in_err-found-clause-kept
 returns-in_err-found-clause-kept g c pages m tree is = sound_on c.from_residual.result _ _ c.from_residual.ensures.1 (c.in_err-found.ensures.kept pages tree)
@@ -19,6 +23,9 @@ returns-in_err-verdict-clause-outcome g c = refused g.D.Disk c.from_residual-in_
 
 pub returns-in_err-verdict-clause-kept : goal.returns-in_err-verdict-clause-kept
 returns-in_err-verdict-clause-kept g c pages m tree is = sound_on c.from_residual-in_err-verdict.result _ _ c.from_residual-in_err-verdict.ensures.1 (memory_not _ c.in_err-verdict.ensures.refused.0)
+
+pub returns-clause-outcome : goal.returns-clause-outcome
+returns-clause-outcome g c = read_more g.D.Disk mild refl c.in_ok-found.ensures.outcome
 
 pub returns-clause-kept : goal.returns-clause-kept
 returns-clause-kept g c pages m tree is =

@@ -1,3 +1,4 @@
+use Rattle.std.proofs.Common.{refl}
 use Rattle.im_log_record.specs.Entry.{Entry, view, transaction_of}
 use Rattle.im_page_writer.proofs.Outcomes.{log_refused, logs_then, read_logs}
 use Rattle.im_restart_undo.proofs.PlaceCalls.{as_tree}
@@ -6,7 +7,7 @@ use Rattle.im_restart_undo.proofs.Composing.{place_refused, found_so, delete_fit
 use Rattle.im_restart_undo.proofs.undo.put_back.Goals as goal
 
 pub returns-in_err-frame-clause-outcome : goal.returns-in_err-frame-clause-outcome
-returns-in_err-frame-clause-outcome g c = log_refused g.D.Disk c.from_residual.result c.from_residual.ensures.1 (read_logs g.D.Disk c.in_err-frame.ensures.outcome)
+returns-in_err-frame-clause-outcome g c = log_refused g.D.Disk c.from_residual.result c.from_residual.ensures.1 (read_logs g.D.Disk refl c.in_err-frame.ensures.outcome)
 
 pub returns-in_err-frame-clause-kept : goal.returns-in_err-frame-clause-kept
 returns-in_err-frame-clause-kept g c b base s e undo_next rid same going to fits =

@@ -1,13 +1,15 @@
+use Rattle.std.proofs.Common.{refl}
 use Rattle.im_log_record.specs.Entry.{Entry, view, transaction_of}
 use Rattle.im_smo_alloc.proofs.Goings.{take_mildly}
-use Rattle.im_page_writer.proofs.Outcomes.{log_refused, logs_late, logs_then, read_logs}
+use Rattle.im_page_writer.proofs.Outcomes.{log_refused, logs_late, logs_then, read_logs, no_page_for}
 use Rattle.im_restart_undo.proofs.Growth.{going_tree}
 use Rattle.im_restart_undo.proofs.Composing.{place_refused, found_so, delete_found, full_found}
+use Rattle.im_smo_alloc.specs.Kept.{mild_to_take}
 use Rattle.im_restart_undo.proofs.undo.undo_delete.Goals as goal
 
 pub returns-in_err-frame-clause-outcome : goal.returns-in_err-frame-clause-outcome
 returns-in_err-frame-clause-outcome g c =
-    log_refused g.D.Disk c.from_residual.result c.from_residual.ensures.1 (logs_late g.D.Disk take_mildly c.requires.working (read_logs g.D.Disk c.in_err-frame.ensures.outcome))
+    log_refused g.D.Disk c.from_residual.result c.from_residual.ensures.1 (logs_late g.D.Disk take_mildly c.requires.working (read_logs g.D.Disk refl c.in_err-frame.ensures.outcome))
 
 pub returns-in_err-frame-clause-kept : goal.returns-in_err-frame-clause-kept
 returns-in_err-frame-clause-kept g c b base s e rid same going to =
@@ -17,7 +19,7 @@ returns-in_err-frame-clause-kept g c b base s e rid same going to =
     (c.in_err-frame.ensures.kept _ (going_tree g.D.Disk b base s e t c.args.last c.args.undo_next c.args.writer.now c.args.disk.now going)) c.in_err-frame.ensures.outcome c.from_residual.ensures.1
 
 pub returns-then-has_room-clause-outcome : goal.returns-then-has_room-clause-outcome
-returns-then-has_room-clause-outcome g c = logs_late g.D.Disk take_mildly c.requires.working (logs_then g.D.Disk c.in_ok-frame.ensures.outcome c.compensate.ensures.outcome)
+returns-then-has_room-clause-outcome g c = logs_late g.D.Disk (no_page_for mild_to_take refl) c.requires.working (logs_then g.D.Disk c.in_ok-frame.ensures.outcome c.compensate.ensures.outcome)
 
 pub returns-then-has_room-clause-kept : goal.returns-then-has_room-clause-kept
 returns-then-has_room-clause-kept g c b base s e rid same going to =

@@ -2,14 +2,15 @@ use Rattle.std.proofs.Common.{ℕ, Option, Err, Ok, refl, subst}
 use Rattle.im_log_record.specs.Entry.{Entry, view, transaction_of}
 use Rattle.im_smo_actions.specs.Structure.{DropKept}
 use Rattle.im_page_writer.proofs.Outcomes.{log_refused, logs_both, logs_late, logs_then, read_logs}
-use Rattle.im_restart_undo.proofs.Ends.{no_capacity, none_late}
+use Rattle.im_restart_undo.proofs.Ends.{none_late, wants_nothing}
 use Rattle.im_restart_undo.proofs.Growth.{going_tree}
 use Rattle.im_restart_undo.proofs.StructureChanges.{going_unfinished, emptied, emptied_none, emptied_refused}
 use Rattle.im_restart_undo.proofs.Composing.{place_refused, found_so, insert_found, refused_on, leaf_dropped}
+use Rattle.im_page_writer.specs.Outcome.{no_page}
 use Rattle.im_restart_undo.proofs.undo.undo_insert.Goals as goal
 
 pub returns-in_err-frame-clause-outcome : goal.returns-in_err-frame-clause-outcome
-returns-in_err-frame-clause-outcome g c = log_refused g.D.Disk c.from_residual.result c.from_residual.ensures.1 (logs_late g.D.Disk (λ f is. is) c.requires.working (read_logs g.D.Disk c.in_err-frame.ensures.outcome))
+returns-in_err-frame-clause-outcome g c = log_refused g.D.Disk c.from_residual.result c.from_residual.ensures.1 (logs_late g.D.Disk {m = no_page} (λ f is. is) c.requires.working (read_logs g.D.Disk refl c.in_err-frame.ensures.outcome))
 
 pub returns-in_err-frame-clause-kept : goal.returns-in_err-frame-clause-kept
 returns-in_err-frame-clause-kept g c b base s e undo_next rid same going to =
@@ -66,7 +67,7 @@ returns-in_err-behind-clause-kept g c b base s e undo_next rid same going to =
     let new = c.drop_empty_leaf.new.disk in
     let f = c.in_err-behind.field-0.0 in
     refused_on g.D.Disk b base s e t entry c.args.disk.now w new f c.from_residual-in_err-behind.result c.from_residual-in_err-behind.ensures.1
-    (leaf_dropped g.D.Disk b base s e t entry c.args.disk.now c.in_ok-lsn.lsn v mid w new first (Err f) u m c.transaction.ensures c.prev.ensures (no_capacity g.D.Disk {A = ℕ} ⊥ (Err f) refl c.in_err-behind.ensures.outcome)
+    (leaf_dropped g.D.Disk b base s e t entry c.args.disk.now c.in_ok-lsn.lsn v mid w new first (Err f) u m c.transaction.ensures c.prev.ensures (wants_nothing g.D.Disk {A = ℕ} (Err f) refl refl c.in_err-behind.ensures.outcome)
     (λ now goes. emptied_refused g.D.Disk b base now e u c.in_ok-lsn.lsn m v mid goes c.args.key.now w new f (c.in_err-behind.ensures.kept b base now e (going_unfinished g.D.Disk b base now e u c.in_ok-lsn.lsn m v mid goes))))
 
 pub returns-in-Some-clause-outcome : goal.returns-in-Some-clause-outcome

@@ -1,6 +1,6 @@
 use Rattle.std.proofs.Common.{subst}
 use Rattle.im_page_writer.specs.Outcome.{pages_of}
-use Rattle.im_page_writer.proofs.Outcomes.{log_refused, logs_late, logs_then, read_logs}
+use Rattle.im_page_writer.proofs.Outcomes.{changed_none, log_refused, logs_late, logs_then}
 use Rattle.im_smo_actions.specs.DropPlan.{IsDropPlan}
 use Rattle.im_smo_actions.proofs.Standing.{unfinished_good, unfinished_pages}
 use Rattle.im_smo_actions.proofs.DropPlans.{none_of}
@@ -8,7 +8,7 @@ use Rattle.im_smo_actions.proofs.Changes.{drop_none, drop_refused, may_drop, dro
 use Rattle.im_smo_actions.proofs.dropping.drop_spare.Goals as goal
 
 pub returns-in_err-images-clause-outcome : goal.returns-in_err-images-clause-outcome
-returns-in_err-images-clause-outcome g c = log_refused g.D.Disk c.from_residual.result c.from_residual.ensures.1 (logs_late g.D.Disk (λ e is. is) c.requires.working (read_logs g.D.Disk c.in_err-images.ensures.outcome))
+returns-in_err-images-clause-outcome g c = log_refused g.D.Disk c.from_residual.result c.from_residual.ensures.1 (logs_late g.D.Disk (λ e is. is) c.requires.working (changed_none g.D.Disk (λ e is. is) c.in_err-images.ensures.outcome))
 
 pub returns-in_err-images-clause-kept : goal.returns-in_err-images-clause-kept
 returns-in_err-images-clause-kept g c b base s e u =
@@ -20,7 +20,7 @@ returns-in_err-images-clause-kept g c b base s e u =
     c.from_residual.result c.from_residual.ensures.1
 
 pub returns-in_default-clause-outcome : goal.returns-in_default-clause-outcome
-returns-in_default-clause-outcome g c = logs_late g.D.Disk (λ e is. is) c.requires.working (read_logs g.D.Disk c.in_ok-images.ensures.outcome)
+returns-in_default-clause-outcome g c = logs_late g.D.Disk (λ e is. is) c.requires.working (changed_none g.D.Disk (λ e is. is) c.in_ok-images.ensures.outcome)
 
 pub returns-in_default-clause-kept : goal.returns-in_default-clause-kept
 returns-in_default-clause-kept g c b base s e u =

@@ -1,10 +1,17 @@
-use Rattle.std.proofs.Common.{[], sym, ◌∙◌}
-use Rattle.im_page_writer.proofs.Outcomes.{pages_still, sound_on, then}
+use Rattle.std.proofs.Common.{[], sym, ◌∙◌, refl}
+use Rattle.im_page_writer.proofs.Outcomes.{pages_still, sound_on, then, read_more, refused}
 use Rattle.im_smo_actions.proofs.DropPlans.{entries_are, leaf_goes, leaf_stays}
+use Rattle.im_page_writer.specs.Outcome.{mild}
 use Rattle.im_smo_actions.proofs.dropping.plan_drop.Goals as goal
+
+pub returns-in_err-frame-clause-outcome : goal.returns-in_err-frame-clause-outcome
+returns-in_err-frame-clause-outcome g c = refused g.D.Disk c.from_residual.result c.from_residual.ensures.1 (read_more g.D.Disk mild refl c.in_err-frame.ensures.outcome)
 
 pub returns-in_err-frame-clause-kept : goal.returns-in_err-frame-clause-kept
 returns-in_err-frame-clause-kept g c store has good = sound_on c.from_residual.result _ _ c.from_residual.ensures.1 (c.in_err-frame.ensures.kept store (record { has = has; spare = []; good = good }))
+
+pub returns-then-not-is_spare-clause-outcome : goal.returns-then-not-is_spare-clause-outcome
+returns-then-not-is_spare-clause-outcome g c = read_more g.D.Disk mild refl c.in_ok-frame.ensures.outcome
 
 pub returns-then-not-is_spare-clause-kept : goal.returns-then-not-is_spare-clause-kept
 returns-then-not-is_spare-clause-kept g c store has good =

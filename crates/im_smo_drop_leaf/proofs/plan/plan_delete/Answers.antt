@@ -1,8 +1,9 @@
-use Rattle.std.proofs.Common.{◌≡◌, ◌∷◌, ◌++◌, [], sym, ◌∙◌}
-use Rattle.im_page_writer.proofs.Outcomes.{pages_still, refused, sound_on, then}
+use Rattle.std.proofs.Common.{◌≡◌, ◌∷◌, ◌++◌, [], sym, ◌∙◌, refl}
+use Rattle.im_page_writer.proofs.Outcomes.{pages_still, refused, sound_on, then, read_more}
 use Rattle.im_smo_alloc.specs.Seen.{bodies, seen}
 use Rattle.im_smo_drop_leaf.proofs.Leaving.{chain_keeps}
 use Rattle.im_smo_drop_leaf.proofs.Plans.{the_leaf, spare_leaf, may_take_out, taken_out, planned}
+use Rattle.im_page_writer.specs.Outcome.{mild}
 use Rattle.im_smo_drop_leaf.proofs.plan.plan_delete.Goals as goal
 
 pub returns-in_err-leaf-clause-kept : goal.returns-in_err-leaf-clause-kept
@@ -16,7 +17,7 @@ returns-then-leaf-eq1-clause-kept g c pages has good p way none other =
 
 pub returns-in_err-beside-clause-outcome : goal.returns-in_err-beside-clause-outcome
 returns-in_err-beside-clause-outcome g c =
-    refused g.D.Disk c.from_residual-in_err-beside.result c.from_residual-in_err-beside.ensures.1 (then g.D.Disk c.in_ok-leaf.ensures.outcome c.in_err-beside.ensures.outcome)
+    refused g.D.Disk c.from_residual-in_err-beside.result c.from_residual-in_err-beside.ensures.1 (then g.D.Disk c.in_ok-leaf.ensures.outcome (read_more g.D.Disk mild refl c.in_err-beside.ensures.outcome))
 
 pub returns-in_err-beside-clause-kept : goal.returns-in_err-beside-clause-kept
 returns-in_err-beside-clause-kept g c pages has good p way none other =

@@ -1,19 +1,19 @@
 use Rattle.std.proofs.Common.{◌≡◌, ℕ, [], refl, sym, ap, ◌∙◌, subst}
 use Rattle.im_base_types.specs.Pages.{Body, Page}
 use Rattle.im_page_pool.specs.Pool.{page_at}
-use Rattle.im_page_writer.specs.Outcome.{mild}
 use Rattle.im_page_writer.proofs.Outcomes.{ends_own, pages_to, search_of, sound_on, sound_own}
 use Rattle.im_tree_search.specs.Levels.{HasLevel}
 use Rattle.im_smo_alloc.specs.Seen.{bodies}
 use Rattle.im_smo_drop_leaf.specs.Chains.{IsBeside}
-use Rattle.im_smo_drop_leaf.proofs.Results.{mildly_read, never_err}
+use Rattle.im_smo_drop_leaf.proofs.Results.{only_bytes, never_err}
+use Rattle.im_page_writer.specs.Outcome.{no_page}
 use Rattle.im_smo_drop_leaf.proofs.reading.beside_of.Goals as goal
 
 pub returns-in_err-frame-clause-kept : goal.returns-in_err-frame-clause-kept
 returns-in_err-frame-clause-kept g c pages has level none = sound_on c.from_residual.result _ _ c.from_residual.ensures.1 (c.in_err-frame.ensures.kept pages (pages_to g.D.Disk c.args.number has))
 
 pub returns-clause-outcome : goal.returns-clause-outcome
-returns-clause-outcome g c = ends_own g.D.Disk mild refl refl refl c.beside_in.result (search_of g.D.Disk c.in_ok-frame.ensures.outcome) (mildly_read c.beside_in.result c.beside_in.ensures.refused)
+returns-clause-outcome g c = ends_own g.D.Disk no_page refl refl refl c.beside_in.result (search_of g.D.Disk c.in_ok-frame.ensures.outcome) (only_bytes c.beside_in.result c.beside_in.ensures.refused)
 
 pub returns-clause-kept : goal.returns-clause-kept
 returns-clause-kept g c pages has level none =

@@ -1,5 +1,5 @@
 use Rattle.std.proofs.Common.{◌≡◌, ℕ, ◌-◌, ◌≤◌, suc, [], refl, subst, arith}
-use Rattle.im_page_writer.proofs.Outcomes.{out_of_memory, pages_still, refused, sound_on, then}
+use Rattle.im_page_writer.proofs.Outcomes.{out_of_memory, pages_still, refused, sound_on, then, read_more}
 use Rattle.im_theory_tree.specs.Levels.{height}
 use Rattle.im_theory_tree.proofs.Way.{way_begins}
 use Rattle.im_tree_search.proofs.Steps.{way_level}
@@ -7,7 +7,11 @@ use Rattle.im_smo_alloc.specs.Seen.{bodies}
 use Rattle.im_smo_alloc.proofs.Results.{memory_not}
 use Rattle.im_smo_drop_leaf.specs.Ways.{IsPlaced}
 use Rattle.im_smo_drop_leaf.proofs.Placing.{placed, root_placed}
+use Rattle.im_page_writer.specs.Outcome.{mild}
 use Rattle.im_smo_drop_leaf.proofs.way.find_chain.Goals as goal
+
+pub returns-in_err-level-clause-outcome : goal.returns-in_err-level-clause-outcome
+returns-in_err-level-clause-outcome g c = refused g.D.Disk c.from_residual.result c.from_residual.ensures.1 (read_more g.D.Disk mild refl c.in_err-level.ensures.outcome)
 
 pub returns-in_err-level-clause-kept : goal.returns-in_err-level-clause-kept
 returns-in_err-level-clause-kept g c pages has good =
@@ -18,14 +22,14 @@ pub loop-level-init : goal.loop-level-init
 loop-level-init g c =
     let e = c.in_ok-level.ensures in
     record {
-      outcome = e.outcome;
+      outcome = read_more g.D.Disk mild refl e.outcome;
       kept = λ pages has good.
           let root = way_level (bodies pages) (height (bodies pages)) c.args.key.now 1 (way_begins (bodies pages) [] c.args.key.now good) in
           root_placed (bodies pages) c.args.key.now c.in_ok-level.level _ c.args.above.now.items good (e.kept pages has root) refl;
     }
 
 pub returns-in_err-child-clause-outcome : goal.returns-in_err-child-clause-outcome
-returns-in_err-child-clause-outcome g c = refused g.D.Disk c.from_residual-in_err-child.result c.from_residual-in_err-child.ensures.1 (then g.D.Disk c.loop-level.invariant.outcome c.in_err-child.ensures.outcome)
+returns-in_err-child-clause-outcome g c = refused g.D.Disk c.from_residual-in_err-child.result c.from_residual-in_err-child.ensures.1 (then g.D.Disk c.loop-level.invariant.outcome (read_more g.D.Disk mild refl c.in_err-child.ensures.outcome))
 
 pub returns-in_err-child-clause-kept : goal.returns-in_err-child-clause-kept
 returns-in_err-child-clause-kept g c pages has good =
@@ -47,7 +51,7 @@ loop-level-preserved g c =
     let l = c.loop-level in
     let e = c.in_ok-child.ensures in
     record {
-      outcome = then g.D.Disk l.invariant.outcome e.outcome;
+      outcome = then g.D.Disk l.invariant.outcome (read_more g.D.Disk mild refl e.outcome);
       kept = λ pages has good.
           let so = l.invariant.kept pages has good in
           let some : 1 ≤ l.level = omega (arith, c.loop-level-test.true) in

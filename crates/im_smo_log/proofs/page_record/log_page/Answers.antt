@@ -1,4 +1,4 @@
-use Rattle.std.proofs.Common.{◌≡◌, ℕ, ap, ◌∙◌}
+use Rattle.std.proofs.Common.{◌≡◌, ℕ, ap, ◌∙◌, refl}
 use Rattle.im_base_types.specs.Pages.{Page}
 use Rattle.im_base_types.specs.Records as whats
 use Rattle.im_log_record.specs.Entry.{Smo}
@@ -11,7 +11,7 @@ use Rattle.im_smo_log.proofs.Records.{page_logged, smo_is, smo_leaves}
 use Rattle.im_smo_log.proofs.page_record.log_page.Goals as goal
 
 pub returns-in_err-frame-clause-outcome : goal.returns-in_err-frame-clause-outcome
-returns-in_err-frame-clause-outcome g c = log_refused g.D.Disk c.from_residual.result c.from_residual.ensures.1 (read_logs g.D.Disk (search_of g.D.Disk c.in_err-frame.ensures.outcome))
+returns-in_err-frame-clause-outcome g c = log_refused g.D.Disk c.from_residual.result c.from_residual.ensures.1 (read_logs g.D.Disk refl (search_of g.D.Disk c.in_err-frame.ensures.outcome))
 
 pub returns-in_err-frame-clause-kept : goal.returns-in_err-frame-clause-kept
 returns-in_err-frame-clause-kept g c b base s e is over =

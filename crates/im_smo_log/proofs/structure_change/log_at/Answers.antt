@@ -1,13 +1,14 @@
-use Rattle.std.proofs.Common.{ℕ, subst}
+use Rattle.std.proofs.Common.{ℕ, subst, refl}
 use Rattle.im_base_types.specs.Pages.{Page}
-use Rattle.im_page_writer.proofs.Outcomes.{logs_late}
+use Rattle.im_page_writer.proofs.Outcomes.{logs_late, logs_for_more, no_page_for}
 use Rattle.im_smo_pages.specs.Images.{image_at}
 use Rattle.im_smo_log.specs.Logged.{PageLogged}
 use Rattle.im_smo_log.proofs.Refusals.{answered, failed_later, failed_memory, memory_first, memory_stays, never_failed, still_store}
+use Rattle.im_page_writer.specs.Outcome.{mild}
 use Rattle.im_smo_log.proofs.structure_change.log_at.Goals as goal
 
 pub returns-in-Ok-clause-outcome : goal.returns-in-Ok-clause-outcome
-returns-in-Ok-clause-outcome g c = logs_late g.D.Disk (λ e is. is) c.requires.working c.in-Ok.ensures.outcome
+returns-in-Ok-clause-outcome g c = logs_late g.D.Disk (no_page_for mild refl) c.requires.working c.in-Ok.ensures.outcome
 
 pub returns-in-Ok-clause-kept : goal.returns-in-Ok-clause-kept
 returns-in-Ok-clause-kept g c b base s e is over =
@@ -26,7 +27,7 @@ returns-in-Ok-clause-kept g c b base s e is over =
 pub returns-in-Err-clause-outcome : goal.returns-in-Err-clause-outcome
 returns-in-Err-clause-outcome g c =
     let says = c.refused_at.ensures in
-    answered g.D.Disk c.args.i c.in-Err.fault c.refused_at.result says.first says.late says.others c.requires.working c.in-Err.ensures.outcome
+    answered g.D.Disk c.args.i c.in-Err.fault c.refused_at.result says.first says.late says.others c.requires.working (logs_for_more g.D.Disk (no_page_for mild refl) c.in-Err.ensures.outcome)
 
 pub returns-in-Err-clause-kept : goal.returns-in-Err-clause-kept
 returns-in-Err-clause-kept g c b base s e is over =

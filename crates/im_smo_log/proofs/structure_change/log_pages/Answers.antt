@@ -5,6 +5,7 @@ use Rattle.im_page_writer.proofs.Outcomes.{idle, log_refused, logs_both, logs_la
 use Rattle.im_smo_log.specs.Changes.{PagesLogged, Begun}
 use Rattle.im_smo_log.proofs.Refusals.{behind_pages}
 use Rattle.im_smo_log.proofs.Runs.{pages_begin, pages_next, pages_stops, pages_begun}
+use Rattle.im_page_writer.specs.Outcome.{mild}
 use Rattle.im_smo_log.proofs.structure_change.log_pages.Goals as goal
 
 pub loop-i-init : goal.loop-i-init
@@ -12,7 +13,7 @@ loop-i-init g c =
     let w = c.args.writer.now in
     let disk = c.args.disk.now in
     record {
-      outcome = logs_late g.D.Disk (λ e is. is) c.requires.working (read_logs g.D.Disk (idle g.D.Disk g.met.D.Disk.only_now w disk c.requires.working c.requires.ready));
+      outcome = logs_late g.D.Disk {m = mild} (λ e is. is) c.requires.working (read_logs g.D.Disk refl (idle g.D.Disk g.met.D.Disk.only_now w disk c.requires.working c.requires.ready));
       count = c.len-len.ensures.len;
       first = λ zero. (refl, refl);
       kept = λ b base s e undo_next may. pages_begin g.D.Disk b base s e c.args.images.now c.args.transaction undo_next c.args.last w disk (g.met.D.Disk.only_now disk) may;

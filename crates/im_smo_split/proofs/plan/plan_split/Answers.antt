@@ -2,17 +2,17 @@ use Rattle.std.proofs.Common.{List, refl, arith}
 use Rattle.std.specs.Prelude.{Err}
 use Rattle.im_base_types.specs.declared.fault.Fault.TheVariants.{Capacity}
 use Rattle.im_page_writer.proofs.LoggedChanges.{err_on}
-use Rattle.im_page_writer.proofs.Outcomes.{ends_own, pages_still, refused, sound_also, sound_on, then, with_more}
+use Rattle.im_page_writer.proofs.Outcomes.{ends_own, pages_still, read_more, refused, sound_also, sound_on, then, with_more}
 use Rattle.im_smo_pages.specs.Images.{Numbered}
 use Rattle.im_smo_alloc.specs.Seen.{bodies}
 use Rattle.im_smo_split.specs.Kept.{mild_to_split}
 use Rattle.im_smo_split.proofs.Founds.{few_found, none_found, top_found}
 use Rattle.im_smo_split.proofs.Plans.{planned, planned_none, wants_fewer, wants_level, wants_none, wants_numbers}
-use Rattle.im_smo_split.proofs.Reasons.{grow_splits, mild_splits, never_any_full, never_capacity, never_pages_full, take_splits}
+use Rattle.im_smo_split.proofs.Reasons.{grow_splits, never_any_full, never_capacity, never_pages_full, take_splits}
 use Rattle.im_smo_split.proofs.plan.plan_split.Goals as goal
 
 pub returns-in_err-top-clause-outcome : goal.returns-in_err-top-clause-outcome
-returns-in_err-top-clause-outcome g c = refused g.D.Disk c.from_residual.result c.from_residual.ensures.1 (with_more g.D.Disk (mild_to_split c.args.max) (mild_splits c.args.max) c.in_err-top.ensures.outcome)
+returns-in_err-top-clause-outcome g c = refused g.D.Disk c.from_residual.result c.from_residual.ensures.1 (read_more g.D.Disk (mild_to_split c.args.max) refl c.in_err-top.ensures.outcome)
 
 pub returns-in_err-top-clause-kept : goal.returns-in_err-top-clause-kept
 returns-in_err-top-clause-kept g c store has good = sound_on c.from_residual.result _ _ c.from_residual.ensures.1 (c.in_err-top.ensures.kept store has good)

@@ -12,21 +12,21 @@ returns-in_default-clause-outcome g c = let none : length c.args.self.now.pool.h
 
 pub returns-clause-outcome : goal.returns-clause-outcome
 returns-clause-outcome g c =
-    let one = c.in_ok-flush_one.ensures.outcome.ends in
-    let mid = c.flush_one.new.self in
+    let one = c.in_ok-flush_with_others.ensures.outcome.ends in
+    let mid = c.flush_with_others.new.self in
     let new = c.drop_page.new.self in
     let old = c.args.disk.now in
-    let disk = c.flush_one.new.disk in
+    let disk = c.flush_with_others.new.disk in
     record {
       ready = search rules;
-      frames = c.drop_page.ensures.evicts.frames ∙ c.in_ok-flush_one.ensures.outcome.frames;
+      frames = c.drop_page.ensures.evicts.frames ∙ c.in_ok-flush_with_others.ensures.outcome.frames;
       ends = record {
         began = one.began;
         works = c.drop_page.ensures.failed ∙ one.works;
         alive = one.alive;
         later = subst (λ (log : LogFile). EndsNoSooner c.args.self.now.log log) (sym c.drop_page.ensures.log) one.later;
         goes = λ b base s is asked.
-            let f = c.in_ok-flush_one.ensures.kept b base s is in
+            let f = c.in_ok-flush_with_others.ensures.kept b base s is in
             let gone = goes_evicted g.D.Disk b base s old f.now mid.log mid.table mid.pool new.pool disk c.in-Some.frame.number f.on.goes f.written c.drop_page.ensures.evicts in
             record {
               now = f.now;

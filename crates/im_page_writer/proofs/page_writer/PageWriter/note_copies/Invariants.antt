@@ -1,0 +1,9 @@
+use Rattle.std.proofs.Common.{◌≡◌, None}
+use Rattle.im_page_writer.specs.Outcome.{Flushes}
+use Rattle.im_page_writer.proofs.page_writer.PageWriter.note_copies.Given as goal
+
+abbrev pub invariant-loop-i : goal.invariant-loop-i
+invariant-loop-i g l = record {
+  outcome : Flushes g.D.Disk l.fn.self l.fn.disk l.self l.disk None;
+  pool : l.self.pool ≡ l.fn.self.pool;
+}

@@ -1,0 +1,15 @@
+//! When all that a look-up wants is held.
+
+ghost use Rattle.std.specs.Prelude.{◌≡◌, ◌<◌, ℕ, [], nat_lt};
+ghost use Rattle.im_base_types.specs.Keys.{Key};
+ghost use Rattle.im_page_pool.specs.Pool.{PoolView, page_at, Holds};
+ghost use Rattle.im_page_writer.specs.Outcome.{AllPages};
+ghost use Rattle.im_theory_tree.specs.Good.{IsGoodTree};
+ghost use Rattle.im_tree_search.specs.Levels.{bodies_of};
+ghost use Rattle.im_tree_search.specs.HeldPages.{HoldsOn};
+
+/// Where a pool holds each page below the page count of a good tree, these pages are a set as every look-up wants it, for each key.
+pub fn held_trees_are_enough()
+    ensures { (pages : AllPages) (key : Key) (pool : PoolView) → IsGoodTree (bodies_of pages) [] → ((p : ℕ) → p < (pages 0).body.leftmost → Holds pool p × ((page_at pool p).body ≡ (pages p).body))
+        → HoldsOn key pool (λ p. nat_lt p (pages 0).body.leftmost) }
+{}
