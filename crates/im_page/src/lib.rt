@@ -27,7 +27,8 @@
 //! # The contract
 //!
 //! - `page_of` (in `specs/Page.antt`) is the page that bytes are, or none: `IsForm` says when. `Page::read` and
-//!   `Page::load` answer it, both ways; `Page::bytes` gives bytes whose page is this one.
+//!   `Page::load` answer it, both ways, and `Page::read_from` does of bytes of a disk, which it reads in place;
+//!   `Page::bytes` gives bytes whose page is this one.
 //! - `insert` and `remove` are those of the sorted list. `insert` is refused `Full` exactly where cells and slots with
 //!   the entry take more than 4,064 bytes; the page then stays as it was.
 //! - `find` answers the place of a key, or where it would stand; `child` the child of an inner page that holds it.
@@ -59,10 +60,10 @@
 //!
 //! Slower than C are a removal and an insertion, as cells and slots move by a rotation, which keeps the shorter side in
 //! a buffer meanwhile and moves the rest at once, and as each slot is written again; and on the second machine a split,
-//! as each entry is put by an insertion of its own. Keys are compared eight bytes at a time. The test of a page's form goes once over
-//! the cells, from where they begin to the end, and once over the slots: each slot has to name the first byte of a cell. There the first
-//! eight bytes of each key are read once, as a number that is kept for the next slot; where two such numbers differ, no other byte of
-//! the two keys is read.
+//! as each entry is put by an insertion of its own. Keys are compared eight bytes at a time. The test of a page's form walks
+//! over the cells, from where they begin to the end, beside the slots: a step of the walk waits for the one before, and meanwhile a slot
+//! is looked at. At last each slot has to name the first byte of a cell. The first eight bytes of each key are read once, as a number
+//! that is kept for the next slot; where two such numbers differ, no other byte of the two keys is read.
 #![tactic(auto)]
 
 mod cells;
@@ -71,6 +72,7 @@ mod header;
 mod insertion;
 mod number;
 mod page;
+mod reading;
 mod removal;
 mod split;
 

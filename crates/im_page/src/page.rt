@@ -1,8 +1,10 @@
 //! A page of 4,096 bytes.
 
-ghost use Rattle.std.specs.Prelude.{◌≡◌, IsTrue, ℕ, ◌+◌, ◌≤◌, ◌<◌, length, take, drop, slice_range, insert, remove, [], OnOk, OnErr, IsOk, IfOk, IfErr, ◌↔◌, ◌^◌, Some, None};
+ghost use Rattle.std.specs.Prelude.{◌≡◌, ◌⊎◌, true, false, Err, IsTrue, ℕ, ◌+◌, ◌≤◌, ◌<◌, length, take, drop, slice_range, insert, remove, [], OnOk, OnErr, IsOk, IfOk, IfErr, ◌↔◌, ◌^◌, Some, None};
 ghost use Rattle.im_base_types.specs.declared.page_kind.PageKind.TheVariants.{Free, Leaf, Inner};
-ghost use Rattle.im_base_types.specs.declared.fault.Fault.TheVariants.{NotAStore};
+ghost use Rattle.im_base_types.specs.declared.fault.Fault.TheVariants.{Device, NotAStore};
+ghost use Rattle.im_base_types.specs.declared.file_id.FileId.TheVariants.{Pages};
+ghost use Rattle.im_base_disk.specs.Runs.{Reads};
 ghost use Rattle.im_page.specs.Entry.{entry_at, Parts, IsPlace, taken, size, width};
 ghost use Rattle.im_page.specs.Page.{HoldsEntries, is_leaf_kind, page_of, with_entries};
 ghost use Rattle.im_page.specs.Header.{HasPrev, HasNext, HasLeftmost, empty_body, initial};
@@ -15,8 +17,10 @@ use crate::form::is_form;
 use crate::header::{flags, make_empty, make_initial};
 use crate::insertion::insert_cell;
 use crate::number::{get_u16, get_u32, get_u64, put_u8, put_u32, put_u64};
+use crate::reading::read_form;
 use crate::removal::remove_cell;
 use crate::split::{copy_cells, split_point};
+use im_base_disk::Disk;
 use im_base_types::{Fault, PageKind, PageNo};
 use std::marker::Model;
 use thiserror::Error;
@@ -87,6 +91,24 @@ impl Page {
         }
         self.bytes.copy_from_slice(bytes);
         Ok(())
+    }
+
+    /// Makes it the page that 4,096 bytes of the file of pages are, from a place on, by one read into its own bytes. Refused `Device`
+    /// or, exactly where the bytes are no page, `NotAStore`; it is then some page.
+    pub fn read_from<D: Disk>(&mut self, disk: &mut D, at: u64) -> Result<(), Fault>
+        requires working { D.failed disk.old ≡ false }
+        requires within { D.tells → at + 4096 ≤ length (D.seen disk.old Pages) }
+        ensures page { OnOk result (D.tells → page_of (take 4096 (drop at (D.seen disk.old Pages))) ≡ Some self.new) }
+        ensures none { result ≡ Err NotAStore → D.tells → page_of (take 4096 (drop at (D.seen disk.old Pages))) ≡ None }
+        ensures causes { IfErr result (λ e. (e ≡ Device) ⊎ (e ≡ NotAStore)) }
+        ensures device { result ≡ Err Device ↔ (D.failed disk.new ≡ true) }
+        ensures reads { Reads D.Disk disk.old disk.new }
+    {
+        let read = read_form(disk, at, &mut self.bytes);
+        if read.is_err() {
+            make_initial(&mut self.bytes, 0);
+        }
+        read
     }
 
     /// Its 4,096 bytes. The page that they are is this one.

@@ -23,11 +23,9 @@ file_page_past file p h = let t : nat_lt p (page_count file) ≡ false = grind (
 pub read_past : (file : List ℕ) (n p : ℕ) (page : Page) → n ≡ length file → n / 4096 ≤ p → page ≡ initial p → file_page file p ≡ Some page
 read_past file n p page len past is = let e = ap (λ (k : ℕ). k / 4096) len in file_page_past file p (omega arith) ∙ ap (λ (x : Page). Some x) (sym is)
 
--- else the page that the bytes read are
-pub read_within : (file : List ℕ) (n p m : ℕ) (room : List ℕ) → n ≡ length file → p < n / 4096 → m ≡ 4096 → room ≡ take m (drop (p * 4096) file) → page_of room ≡ file_page file p
-read_within file n p m room len within full read =
-    let e = ap (λ (k : ℕ). k / 4096) len in
-    sym (file_page_within file p (omega arith) ∙ ap page_of (sym (read ∙ ap (λ (k : ℕ). take k (drop (p * 4096) file)) full)))
+-- else the page that its bytes are
+pub read_within : (file : List ℕ) (n p : ℕ) → n ≡ length file → p < n / 4096 → page_of (page_bytes file p) ≡ file_page file p
+read_within file n p len within = let e = ap (λ (k : ℕ). k / 4096) len in sym (file_page_within file p (omega arith))
 
 -- a page whose bytes are the same, in a file that has it as well, or in which it is past the end as well
 same_page : (old new : List ℕ) (q : ℕ) → (q < page_count old → (q < page_count new) × (page_bytes new q ≡ page_bytes old q)) → (page_count old ≤ q → page_count new ≤ q) → file_page new q ≡ file_page old q

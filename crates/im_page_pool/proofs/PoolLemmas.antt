@@ -32,7 +32,7 @@ back : (fs : List Stored) (o : Option ℕ) → option_map (λ (h : Held). h.plac
 back fs None = refl
 back fs (Some f) = refl
 
-module _ (fs : List Stored) (v : PlacesView) (room : List ℕ) (n : ℕ) (pool : PoolView) (whole : IsWhole v fs room) (is : seen_as fs v.taken n ≡ pool) where
+module _ (fs : List Stored) (v : PlacesView) (n : ℕ) (pool : PoolView) (whole : IsWhole v fs) (is : seen_as fs v.taken n ≡ pool) where
   pub held_is : (p : ℕ) → held_of pool p ≡ option_map (held_at fs) (lookup (nat_eq p) v.taken)
   held_is p = ap (λ (w : PoolView). held_of w p) (sym is) ∙ lookup_held (nat_eq p) fs v.taken
 
@@ -147,7 +147,7 @@ module _ (fs : List Stored) (v : PlacesView) (room : List ℕ) (n : ℕ) (pool :
       seen = seen_still;
     }
 
-    pub whole_given_back : (new : PlacesView) → new.taken ≡ remove_entry (nat_eq p) v.taken → new.free ≡ v.free ++ f ∷ [] → IsWhole new fs room
+    pub whole_given_back : (new : PlacesView) → new.taken ≡ remove_entry (nat_eq p) v.taken → new.free ≡ v.free ++ f ∷ [] → IsWhole new fs
     whole_given_back new taken free =
         let l = length_remove_entry (nat_eq p) v.taken f s in
         let a = ap length taken in
@@ -162,7 +162,6 @@ module _ (fs : List Stored) (v : PlacesView) (room : List ℕ) (n : ℕ) (pool :
             never = λ g le. sum g ∙ whole.apart.never g (omega arith);
           };
           all = same ∙ whole.all;
-          sized = whole.sized;
         }
 
     -- a held page is the most recently used
@@ -188,7 +187,7 @@ module _ (fs : List Stored) (v : PlacesView) (room : List ℕ) (n : ℕ) (pool :
       frames = ap (λ (x : PoolView). x.frames) is;
     }
 
-    pub whole_promoted : (new : PlacesView) → new.taken ≡ promoted (nat_eq p) v.taken → new.free ≡ v.free → IsWhole new fs room
+    pub whole_promoted : (new : PlacesView) → new.taken ≡ promoted (nat_eq p) v.taken → new.free ≡ v.free → IsWhole new fs
     whole_promoted new taken free =
         let l = length_promoted (nat_eq p) v.taken in
         let a = ap length taken in
@@ -204,7 +203,6 @@ module _ (fs : List Stored) (v : PlacesView) (room : List ℕ) (n : ℕ) (pool :
             never = λ g le. sum g ∙ whole.apart.never g (omega arith);
           };
           all = same ∙ whole.all;
-          sized = whole.sized;
         }
 
   -- a page that was not held takes the last free frame
@@ -220,7 +218,7 @@ module _ (fs : List Stored) (v : PlacesView) (room : List ℕ) (n : ℕ) (pool :
         let e : length v.free - 1 + 1 ≡ length v.free = omega arith in
         sym (take_all (length v.free) v.free (omega arith)) ∙ sym (ap (λ (k : ℕ). take k v.free) e) ∙ take_more v.free (length v.free - 1) 0 (omega arith) ∙ ap (λ (k : ℕ). take (length v.free - 1) v.free ++ k ∷ []) (sym is_next)
 
-    pub whole_taken : (new : PlacesView) → new.taken ≡ (p, next) ∷ v.taken → new.free ≡ take (length v.free - 1) v.free → IsWhole new fs room
+    pub whole_taken : (new : PlacesView) → new.taken ≡ (p, next) ∷ v.taken → new.free ≡ take (length v.free - 1) v.free → IsWhole new fs
     whole_taken new taken rest =
         let a = ap length taken in
         let b = ap length rest ∙ length-take-le (length v.free - 1) v.free (omega arith) in
@@ -237,7 +235,6 @@ module _ (fs : List Stored) (v : PlacesView) (room : List ℕ) (n : ℕ) (pool :
             never = λ g le. sum g ∙ whole.apart.never g (omega arith);
           };
           all = same ∙ whole.all;
-          sized = whole.sized;
         }
 
     -- with a page in it
@@ -294,5 +291,5 @@ at_any_err (Ok x) p = tt
 at_any_err (Err e) p = p
 
 -- frames of the same number
-pub whole_len : (v : PlacesView) (fs new : List Stored) (room now : List ℕ) → IsWhole v fs room → length new ≡ length fs → length now ≡ length room → IsWhole v new now
-whole_len v fs new room now whole len sized = record { apart = whole.apart; all = whole.all ∙ sym len; sized = sized ∙ whole.sized }
+pub whole_len : (v : PlacesView) (fs new : List Stored) → IsWhole v fs → length new ≡ length fs → IsWhole v new
+whole_len v fs new whole len = record { apart = whole.apart; all = whole.all ∙ sym len }

@@ -13,11 +13,10 @@ held_at frames place = record { place = place; page = (stored_at frames place).p
 abbrev pub held_in : List Stored → List (ℕ × ℕ) → List (ℕ × Held)
 held_in frames taken = map (λ e. (e.0, held_at frames e.1)) taken
 
--- each frame is held or free, once; the numbers differ; and there is room for a page's bytes
-pub record IsWhole (places : PlacesView) (frames : List Stored) (room : List ℕ) : Type 0 where
+-- each frame is held or free, once, and the numbers differ
+pub record IsWhole (places : PlacesView) (frames : List Stored) : Type 0 where
   pub apart : AreApart places
   pub all : frame_count places ≡ length frames
-  pub sized : length room ≡ 4096
 
 -- the last entry whose frame was changed
 abbrev pub last_marked : List Stored → List (ℕ × ℕ) → Option (ℕ × ℕ)

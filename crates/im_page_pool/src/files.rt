@@ -12,17 +12,10 @@ use im_base_disk::{Disk, write};
 use im_base_types::{Fault, FileId, PageNo};
 use im_page::Page;
 
-/// Reads the page of a number, through a room of 4,096 bytes. Past the last whole page of the file it is the initial
-/// one. No device call. Refused `Device` or, exactly where its bytes are no page, `NotAStore`; the page then stays as it
-/// was.
-pub(crate) fn read_page<D: Disk>(
-    disk: &mut D,
-    p: PageNo,
-    room: &mut [u8],
-    page: &mut Page,
-) -> Result<(), Fault>
+/// Reads the page of a number. Past the last whole page of the file it is the initial one. Refused `Device` or, exactly where its bytes
+/// are no page, `NotAStore`; what was read into is then some page.
+pub(crate) fn read_page<D: Disk>(disk: &mut D, p: PageNo, page: &mut Page) -> Result<(), Fault>
     requires working { D.failed disk.old ≡ false }
-    requires room { length room.old ≡ 4096 }
     ensures page { OnOk result (D.tells → file_page (D.seen disk.old Pages) p ≡ Some page.new) }
     ensures none { result ≡ Err NotAStore → D.tells → file_page (D.seen disk.old Pages) p ≡ None }
     ensures causes { IfErr result (λ e. (e ≡ Device) ⊎ (e ≡ NotAStore)) }
@@ -34,8 +27,7 @@ pub(crate) fn read_page<D: Disk>(
         page.reset(p);
         return Ok(());
     }
-    disk.read(FileId::Pages, p as u64 * 4096, room)?;
-    page.load(room)
+    page.read_from(disk, p as u64 * 4096)
 }
 
 /// Writes a page at its place, one device call. Its number is at most the file's page count, so that no page is left

@@ -91,17 +91,10 @@ impl Frames {
         slot.changed
     }
 
-    /// Reads a page into a frame. On `Err` the frame has what it had.
-    pub fn read<D: Disk>(
-        &mut self,
-        place: u32,
-        disk: &mut D,
-        p: PageNo,
-        room: &mut [u8],
-    ) -> Result<(), Fault>
+    /// Reads a page into a frame. On `Err` the frame has some page.
+    pub fn read<D: Disk>(&mut self, place: u32, disk: &mut D, p: PageNo) -> Result<(), Fault>
         requires place { place < length self.old }
         requires working { D.failed disk.old ≡ false }
-        requires room { length room.old ≡ 4096 }
         ensures page { OnOk result (D.tells → file_page (D.seen disk.old Pages) p ≡ Some (stored_at self.new place).page) }
         ensures others { self.new ≡ slice_set self.old place (record { page = (stored_at self.new place).page; changed = false }) }
         ensures none { result ≡ Err NotAStore → D.tells → file_page (D.seen disk.old Pages) p ≡ None }
@@ -111,7 +104,7 @@ impl Frames {
     {
         let slot = &mut self.slots[place as usize];
         slot.changed = false;
-        read_page(disk, p, room, &mut slot.page)
+        read_page(disk, p, &mut slot.page)
     }
 
     /// Says that the page in a frame stands in the file as it is.

@@ -31,8 +31,6 @@ use std::marker::Model;
 pub struct Pool {
     places: Places,
     frames: Frames,
-    /// What a read of the file fills: 4,096 bytes.
-    room: Vec<u8>,
     gets: Count,
 }
 
@@ -45,7 +43,7 @@ impl Model for Pool {
 
     ghost view = { λ a. record { held = held_in a.frames a.places.taken; frames = length a.frames; gets = a.gets.count } };
 
-    ghost invariant = { λ a. IsWhole a.places a.frames a.room.items };
+    ghost invariant = { λ a. IsWhole a.places a.frames };
 }
 
 impl Pool {
@@ -58,11 +56,9 @@ impl Pool {
     {
         let places = Places::new(alloc, frames)?;
         let slots = Frames::new(alloc, frames)?;
-        let room = empty_room(alloc)?;
         Ok(Pool {
             places,
             frames: slots,
-            room,
             gets: Count::new(),
         })
     }
@@ -245,7 +241,7 @@ impl Pool {
         ensures reads { Reads D.Disk disk.old disk.new }
     {
         let place = self.places.next();
-        self.frames.read(place, disk, p, &mut self.room)?;
+        self.frames.read(place, disk, p)?;
         self.places.take(p);
         Ok(Frame { number: p, place })
     }
@@ -456,12 +452,4 @@ fn note_changed(places: &Places, frames: &Frames, among: usize, numbers: &mut [P
         }
     }
     noted
-}
-
-// The bytes of a page, zeros.
-fn empty_room(alloc: Global) -> Result<Vec<u8>, Fault>
-    ensures len { IfOk result (λ v. length v.items ≡ 4096) }
-    ensures refused { IfErr result (λ e. e ≡ Memory) }
-{
-    vec![in alloc; 0; 4096].map_err(|_| Fault::Memory)
 }

@@ -8,9 +8,9 @@ use Rattle.im_page_pool.proofs.PoolLemmas.{seen_as, within, page_there, sets}
 use Rattle.im_page_pool.proofs.pool.Pool.become_inner.Goals as goal
 
 pub become_inner-requires-clause-place : goal.become_inner-requires-clause-place
-become_inner-requires-clause-place c = within c.self.inside.frames c.self.inside.places c.self.inside.room.items c.self.inside.gets.count c.args.self.now c.self.invariant c.self.view_is c.args.frame c.requires.held
+become_inner-requires-clause-place c = within c.self.inside.frames c.self.inside.places c.self.inside.gets.count c.args.self.now c.self.invariant c.self.view_is c.args.frame c.requires.held
 
 pub returns : goal.returns
 returns c =
-    subst (λ (page : Page). Changes c.args.frame (record { lsn = page.lsn; body = empty_body Inner c.args.level 0 0 c.args.leftmost }) c.args.self.now (seen_as c.become_inner.new.self c.self.inside.places.taken c.self.inside.gets.count)) (sym (page_there c.self.inside.frames c.self.inside.places c.self.inside.room.items c.self.inside.gets.count c.args.self.now c.self.invariant c.self.view_is c.args.frame c.requires.held))
-    (sets c.self.inside.frames c.self.inside.places c.self.inside.room.items c.self.inside.gets.count c.args.self.now c.self.invariant c.self.view_is c.args.frame c.requires.held (record { lsn = (stored_at c.self.inside.frames c.args.frame.place).page.lsn; body = empty_body Inner c.args.level 0 0 c.args.leftmost }) true c.become_inner.new.self c.become_inner.ensures)
+    subst (λ (page : Page). Changes c.args.frame (record { lsn = page.lsn; body = empty_body Inner c.args.level 0 0 c.args.leftmost }) c.args.self.now (seen_as c.become_inner.new.self c.self.inside.places.taken c.self.inside.gets.count)) (sym (page_there c.self.inside.frames c.self.inside.places c.self.inside.gets.count c.args.self.now c.self.invariant c.self.view_is c.args.frame c.requires.held))
+    (sets c.self.inside.frames c.self.inside.places c.self.inside.gets.count c.args.self.now c.self.invariant c.self.view_is c.args.frame c.requires.held (record { lsn = (stored_at c.self.inside.frames c.args.frame.place).page.lsn; body = empty_body Inner c.args.level 0 0 c.args.leftmost }) true c.become_inner.new.self c.become_inner.ensures)

@@ -1,4 +1,4 @@
-use Rattle.std.proofs.Common.{ℕ, List, ◌∷◌, true, length, refl, sym, ap, subst, ◌∙◌}
+use Rattle.std.proofs.Common.{ℕ, List, ◌∷◌, true, length, sym, ap, subst, ◌∙◌}
 use Rattle.std.proofs.lemmas.List.{length-set}
 use Rattle.im_page.specs.Header.{initial}
 use Rattle.im_page_pool.specs.Frames.{Stored}
@@ -9,20 +9,20 @@ use Rattle.im_page_pool.proofs.PoolLemmas.{seen_as, not_taken, free_left, next_w
 use Rattle.im_page_pool.proofs.pool.Pool.hold_initial.Goals as goal
 
 pub take-requires-clause-new : goal.take-requires-clause-new
-take-requires-clause-new c = (not_taken c.self.inside.frames c.self.inside.places c.self.inside.room.items c.self.inside.gets.count c.args.self.now c.self.invariant c.self.view_is c.args.p c.requires.absent)
+take-requires-clause-new c = (not_taken c.self.inside.frames c.self.inside.places c.self.inside.gets.count c.args.self.now c.self.invariant c.self.view_is c.args.p c.requires.absent)
 
 pub reset-requires : goal.reset-requires
-reset-requires c = next_within c.self.inside.frames c.self.inside.places c.self.inside.room.items c.self.inside.gets.count c.args.self.now c.self.invariant c.self.view_is c.args.p c.next-place.result c.next-place.ensures (not_taken c.self.inside.frames c.self.inside.places c.self.inside.room.items c.self.inside.gets.count c.args.self.now c.self.invariant c.self.view_is c.args.p c.requires.absent) (free_left c.self.inside.frames c.self.inside.places c.self.inside.room.items c.self.inside.gets.count c.args.self.now c.self.invariant c.self.view_is c.requires.room)
+reset-requires c = next_within c.self.inside.frames c.self.inside.places c.self.inside.gets.count c.args.self.now c.self.invariant c.self.view_is c.args.p c.next-place.result c.next-place.ensures (not_taken c.self.inside.frames c.self.inside.places c.self.inside.gets.count c.args.self.now c.self.invariant c.self.view_is c.args.p c.requires.absent) (free_left c.self.inside.frames c.self.inside.places c.self.inside.gets.count c.args.self.now c.self.invariant c.self.view_is c.requires.room)
 
 pub invariant_of-self : goal.invariant_of-self
 invariant_of-self c =
-    let w = whole_taken c.self.inside.frames c.self.inside.places c.self.inside.room.items c.self.inside.gets.count c.args.self.now c.self.invariant c.self.view_is c.args.p c.next-place.result c.next-place.ensures (not_taken c.self.inside.frames c.self.inside.places c.self.inside.room.items c.self.inside.gets.count c.args.self.now c.self.invariant c.self.view_is c.args.p c.requires.absent) (free_left c.self.inside.frames c.self.inside.places c.self.inside.room.items c.self.inside.gets.count c.args.self.now c.self.invariant c.self.view_is c.requires.room) c.take.new.self (ap (λ (v : PlacesView). v.taken) c.take.ensures ∙ ap (λ (k : ℕ). (c.args.p, k) ∷ c.self.inside.places.taken) (sym c.next-place.ensures)) (ap (λ (v : PlacesView). v.free) c.take.ensures) in
-    whole_len c.take.new.self c.self.inside.frames c.reset.new.self c.self.inside.room.items c.self.inside.room.items w (ap length c.reset.ensures ∙ length-set c.self.inside.frames c.next-place.result (record { page = initial c.args.p; changed = true })) refl
+    let w = whole_taken c.self.inside.frames c.self.inside.places c.self.inside.gets.count c.args.self.now c.self.invariant c.self.view_is c.args.p c.next-place.result c.next-place.ensures (not_taken c.self.inside.frames c.self.inside.places c.self.inside.gets.count c.args.self.now c.self.invariant c.self.view_is c.args.p c.requires.absent) (free_left c.self.inside.frames c.self.inside.places c.self.inside.gets.count c.args.self.now c.self.invariant c.self.view_is c.requires.room) c.take.new.self (ap (λ (v : PlacesView). v.taken) c.take.ensures ∙ ap (λ (k : ℕ). (c.args.p, k) ∷ c.self.inside.places.taken) (sym c.next-place.ensures)) (ap (λ (v : PlacesView). v.free) c.take.ensures) in
+    whole_len c.take.new.self c.self.inside.frames c.reset.new.self w (ap length c.reset.ensures ∙ length-set c.self.inside.frames c.next-place.result (record { page = initial c.args.p; changed = true }))
 
 pub returns-clause-taken : goal.returns-clause-taken
 returns-clause-taken c =
     let w : Stored = (record { page = initial c.args.p; changed = true }) in
     let frame : Frame = record { number = c.args.p; place = c.next-place.result } in
     let t = subst (λ (es : List (ℕ × ℕ)). Takes frame w.page w.changed c.args.self.now (seen_as c.reset.new.self es c.self.inside.gets.count)) (sym (ap (λ (v : PlacesView). v.taken) c.take.ensures ∙ ap (λ (k : ℕ). (c.args.p, k) ∷ c.self.inside.places.taken) (sym c.next-place.ensures)))
-    (takes c.self.inside.frames c.self.inside.places c.self.inside.room.items c.self.inside.gets.count c.args.self.now c.self.invariant c.self.view_is c.args.p c.next-place.result c.next-place.ensures (not_taken c.self.inside.frames c.self.inside.places c.self.inside.room.items c.self.inside.gets.count c.args.self.now c.self.invariant c.self.view_is c.args.p c.requires.absent) (free_left c.self.inside.frames c.self.inside.places c.self.inside.room.items c.self.inside.gets.count c.args.self.now c.self.invariant c.self.view_is c.requires.room) w c.reset.new.self c.reset.ensures c.self.inside.gets.count) in
+    (takes c.self.inside.frames c.self.inside.places c.self.inside.gets.count c.args.self.now c.self.invariant c.self.view_is c.args.p c.next-place.result c.next-place.ensures (not_taken c.self.inside.frames c.self.inside.places c.self.inside.gets.count c.args.self.now c.self.invariant c.self.view_is c.args.p c.requires.absent) (free_left c.self.inside.frames c.self.inside.places c.self.inside.gets.count c.args.self.now c.self.invariant c.self.view_is c.requires.room) w c.reset.new.self c.reset.ensures c.self.inside.gets.count) in
     t

@@ -20,7 +20,7 @@ returns-in-Some-clause-oldest c =
 pub returns-in-Some-clause-at : goal.returns-in-Some-clause-at
 returns-in-Some-clause-at c =
     let h = marked_stands c.self.inside.frames c.self.inside.places.taken (c.in-Some.number, c.in-Some.place) (sym c.in-Some.ensures) in
-    is_at c.self.inside.frames c.self.inside.places c.self.inside.room.items c.self.inside.gets.count c.args.self.now c.self.invariant c.self.view_is c.in-Some.number c.in-Some.place (found_there c.self.inside.places.taken h.0 c.in-Some.number c.in-Some.place (c.self.invariant.apart.numbers c.in-Some.number) h.1)
+    is_at c.self.inside.frames c.self.inside.places c.self.inside.gets.count c.args.self.now c.self.invariant c.self.view_is c.in-Some.number c.in-Some.place (found_there c.self.inside.places.taken h.0 c.in-Some.number c.in-Some.place (c.self.invariant.apart.numbers c.in-Some.number) h.1)
 
 pub returns-in-None-clause-oldest : goal.returns-in-None-clause-oldest
 returns-in-None-clause-oldest c =

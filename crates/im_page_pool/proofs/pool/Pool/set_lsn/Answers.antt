@@ -6,10 +6,10 @@ use Rattle.im_page_pool.proofs.PoolLemmas.{seen_as, within, page_there, sets}
 use Rattle.im_page_pool.proofs.pool.Pool.set_lsn.Goals as goal
 
 pub set_lsn-requires : goal.set_lsn-requires
-set_lsn-requires c = within c.self.inside.frames c.self.inside.places c.self.inside.room.items c.self.inside.gets.count c.args.self.now c.self.invariant c.self.view_is c.args.frame c.requires
+set_lsn-requires c = within c.self.inside.frames c.self.inside.places c.self.inside.gets.count c.args.self.now c.self.invariant c.self.view_is c.args.frame c.requires
 
 pub returns : goal.returns
 returns c =
-    let there = page_there c.self.inside.frames c.self.inside.places c.self.inside.room.items c.self.inside.gets.count c.args.self.now c.self.invariant c.self.view_is c.args.frame c.requires in
+    let there = page_there c.self.inside.frames c.self.inside.places c.self.inside.gets.count c.args.self.now c.self.invariant c.self.view_is c.args.frame c.requires in
     subst (λ (page : Page). Changes c.args.frame (record page { lsn = c.args.lsn }) c.args.self.now (seen_as c.set_lsn.new.self c.self.inside.places.taken c.self.inside.gets.count)) (sym there)
-    (sets c.self.inside.frames c.self.inside.places c.self.inside.room.items c.self.inside.gets.count c.args.self.now c.self.invariant c.self.view_is c.args.frame c.requires (record (stored_at c.self.inside.frames c.args.frame.place).page { lsn = c.args.lsn }) true c.set_lsn.new.self c.set_lsn.ensures)
+    (sets c.self.inside.frames c.self.inside.places c.self.inside.gets.count c.args.self.now c.self.invariant c.self.view_is c.args.frame c.requires (record (stored_at c.self.inside.frames c.args.frame.place).page { lsn = c.args.lsn }) true c.set_lsn.new.self c.set_lsn.ensures)

@@ -7,12 +7,12 @@ use Rattle.im_page_pool.proofs.PoolLemmas.{seen_as, within, page_there, sets}
 use Rattle.im_page_pool.proofs.pool.Pool.set_next.Goals as goal
 
 pub set_next-requires-clause-place : goal.set_next-requires-clause-place
-set_next-requires-clause-place c = within c.self.inside.frames c.self.inside.places c.self.inside.room.items c.self.inside.gets.count c.args.self.now c.self.invariant c.self.view_is c.args.frame c.requires.held
+set_next-requires-clause-place c = within c.self.inside.frames c.self.inside.places c.self.inside.gets.count c.args.self.now c.self.invariant c.self.view_is c.args.frame c.requires.held
 
 pub set_next-requires-clause-holds : goal.set_next-requires-clause-holds
-set_next-requires-clause-holds c = subst (λ (page : Page). HasNext page.body.kind) (page_there c.self.inside.frames c.self.inside.places c.self.inside.room.items c.self.inside.gets.count c.args.self.now c.self.invariant c.self.view_is c.args.frame c.requires.held) c.requires.holds
+set_next-requires-clause-holds c = subst (λ (page : Page). HasNext page.body.kind) (page_there c.self.inside.frames c.self.inside.places c.self.inside.gets.count c.args.self.now c.self.invariant c.self.view_is c.args.frame c.requires.held) c.requires.holds
 
 pub returns : goal.returns
 returns c =
-    subst (λ (page : Page). Changes c.args.frame (record page { body = record page.body { next = c.args.next } }) c.args.self.now (seen_as c.set_next.new.self c.self.inside.places.taken c.self.inside.gets.count)) (sym (page_there c.self.inside.frames c.self.inside.places c.self.inside.room.items c.self.inside.gets.count c.args.self.now c.self.invariant c.self.view_is c.args.frame c.requires.held))
-    (sets c.self.inside.frames c.self.inside.places c.self.inside.room.items c.self.inside.gets.count c.args.self.now c.self.invariant c.self.view_is c.args.frame c.requires.held (record (stored_at c.self.inside.frames c.args.frame.place).page { body = record (stored_at c.self.inside.frames c.args.frame.place).page.body { next = c.args.next } }) true c.set_next.new.self c.set_next.ensures)
+    subst (λ (page : Page). Changes c.args.frame (record page { body = record page.body { next = c.args.next } }) c.args.self.now (seen_as c.set_next.new.self c.self.inside.places.taken c.self.inside.gets.count)) (sym (page_there c.self.inside.frames c.self.inside.places c.self.inside.gets.count c.args.self.now c.self.invariant c.self.view_is c.args.frame c.requires.held))
+    (sets c.self.inside.frames c.self.inside.places c.self.inside.gets.count c.args.self.now c.self.invariant c.self.view_is c.args.frame c.requires.held (record (stored_at c.self.inside.frames c.args.frame.place).page { body = record (stored_at c.self.inside.frames c.args.frame.place).page.body { next = c.args.next } }) true c.set_next.new.self c.set_next.ensures)
