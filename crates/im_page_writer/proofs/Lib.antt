@@ -1,5 +1,6 @@
 pub mod LogEnds
 pub mod ImageCalls
+pub mod Costs
 pub mod Tables
 pub mod Lists
 pub mod PageFiles

@@ -2,6 +2,7 @@ pub mod LogEnds
 pub mod Imaging
 pub mod DirtyTable
 pub mod PageFile
+pub mod Costs
 pub mod KnownCopies
 pub mod Stands
 pub mod Images

@@ -9,7 +9,8 @@ ghost use Rattle.im_log.specs.declared.log_file.LogFile.{LogFile};
 ghost use Rattle.im_log.specs.LogFile.{HasNoRoom, end_with, IsOpen};
 ghost use Rattle.im_page.specs.PageFile.{page_count};
 ghost use Rattle.im_page_pool.specs.Pool.{held_of, is_changed};
-ghost use Rattle.im_page_writer.specs.DirtyTable.{entry_in};
+ghost use Rattle.im_page_writer.specs.Costs.{FlushCosts, PageCosts, WriteCosts};
+ghost use Rattle.im_page_writer.specs.DirtyTable.{entry_in, has_room};
 ghost use Rattle.im_page_writer.specs.Imaging.{Imaging};
 ghost use Rattle.im_page_writer.specs.Outcome.{fault_of};
 ghost use Rattle.im_page_writer.specs.Writing.{lsn_for, SameHeld, IsWriting, MayCopy, MayWriteHere, WriteOutKept, FlushKept};
@@ -43,6 +44,7 @@ fn write_out<D: Disk>(
     ensures stays { first ≡ last → is_some (entry_in table.old first) ≡ true → OnOk result (is_some (entry_in table.new first) ≡ true) }
     ensures held { OnOk result (SameHeld pool.old pool.new) }
     ensures frames { pool.new.frames ≡ pool.old.frames }
+    ensures costs { OnOk result (WriteCosts D.Disk (last + 1 - first) ((first ≡ last) × (has_room first table.old ≡ true)) disk.old disk.new) }
     ensures answers { Answers (D.failed disk.new) result }
 {
     let entered = write_pages(disk, table, pool, spare, lsns, first, last)?;
@@ -76,6 +78,7 @@ fn flush_range<D: Disk>(
     ensures stays { first ≡ last → is_some (entry_in table.old first) ≡ true → OnOk result (is_some (entry_in table.new first) ≡ true) }
     ensures held { OnOk result (SameHeld pool.old pool.new) }
     ensures frames { pool.new.frames ≡ pool.old.frames }
+    ensures costs { OnOk result (FlushCosts D.Disk (last + 1 - first) ((first ≡ last) × (has_room first table.old ≡ true)) disk.old disk.new) }
 {
     log_images(disk, log, table, pool, spare, lsns, first, last)?;
     write_out(disk, table, pool, spare, lsns, first, last)?;
@@ -106,6 +109,7 @@ pub(crate) fn flush_page<D: Disk>(
     ensures stays { D.tells → number ≤ page_count (D.seen disk.old Pages) → is_some (entry_in table.old number) ≡ true → OnOk result (is_some (entry_in table.new number) ≡ true) }
     ensures held { OnOk result (SameHeld pool.old pool.new) }
     ensures frames { pool.new.frames ≡ pool.old.frames }
+    ensures costs { OnOk result (PageCosts D.Disk number (page_count (D.seen disk.old Pages)) (has_room number table.old) disk.old disk.new) }
 {
     let count = count_pages(disk)?;
     if (number as u64) < count {

@@ -4,7 +4,7 @@ ghost use Rattle.im_base_types.specs.declared.fault.Fault.TheVariants.{Device, F
 ghost use Rattle.im_base_types.specs.declared.file_id.FileId.TheVariants.{Log};
 ghost use Rattle.im_theory_log.specs.Histories.{Base};
 ghost use Rattle.im_theory_log.specs.Writer.{Writer};
-ghost use Rattle.im_base_disk.specs.Runs.{ChangesOnly};
+ghost use Rattle.im_base_disk.specs.Runs.{ChangesOnly, Forces};
 ghost use Rattle.im_log.specs.LogFile.{HasNoRoom, end_with, IsOpen};
 ghost use Rattle.im_page_writer.specs.declared.table_entry.TableEntry.{TableEntry};
 ghost use Rattle.im_theory_log.specs.WriterSteps.{is_copied};
@@ -57,6 +57,7 @@ fn append_page<D: Disk>(
     ensures kept { (b : Base) (base : ℕ) (s : Writer) (table : List TableEntry) → IsWriting D.Disk b base s log.old table pool.now disk.old
         → MayCopy s pool.now number → PageImageKept D.Disk b base s number disk.old log.new table pool.now disk.new result }
     ensures changes { ChangesOnly D.Disk Log disk.old disk.new }
+    ensures forces { OnOk result (Forces D.Disk 1 disk.old disk.new) }
 {
     match pool.find(number) {
         Some(frame) => append_image(disk, log, pool.page(frame).bytes(), number),
@@ -84,6 +85,7 @@ fn append_one<D: Disk>(
         → MayCopy s pool.now number → CopyKept D.Disk b base s number disk.old log.new table.now pool.now disk.new result }
     ensures known { is_copied (entry_in table.now number) ≡ true → IsOk result × (log.new ≡ log.old) × (disk.new ≡ disk.old) }
     ensures changes { ChangesOnly D.Disk Log disk.old disk.new }
+    ensures forces { OnOk result (Forces D.Disk 1 disk.old disk.new) }
 {
     match table.copied(number) {
         Some(lsn) => Ok(lsn),
@@ -163,6 +165,7 @@ pub(crate) fn append_images<D: Disk>(
     ensures kept { (b : Base) (base : ℕ) (s : Writer) → IsWriting D.Disk b base s log.old table.now pool.now disk.old
         → ((q : ℕ) → first ≤ q → q ≤ last → MayCopy s pool.now q) → ImagesKept D.Disk b base s first last lsns.new.items disk.old log.new table.now pool.now disk.new result }
     ensures changes { ChangesOnly D.Disk Log disk.old disk.new }
+    ensures forces { OnOk result (Forces D.Disk (last + 1 - first) disk.old disk.new) }
     ensures room { NOTED ≤ vec_capacity lsns.new }
 {
     lsns.clear();
@@ -194,6 +197,7 @@ pub(crate) fn log_images<D: Disk>(
     ensures kept { (b : Base) (base : ℕ) (s : Writer) → IsWriting D.Disk b base s log.old table.now pool.now disk.old
         → ((q : ℕ) → first ≤ q → q ≤ last → MayCopy s pool.now q) → DurableKept D.Disk b base s first last lsns.new.items disk.old log.new table.now pool.now disk.new result }
     ensures changes { ChangesOnly D.Disk Log disk.old disk.new }
+    ensures forces { OnOk result (Forces D.Disk (last + 1 - first + 1) disk.old disk.new) }
     ensures room { NOTED ≤ vec_capacity lsns.new }
 {
     append_images(disk, log, table, pool, spare, lsns, first, last)?;

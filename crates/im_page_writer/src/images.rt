@@ -5,7 +5,7 @@ ghost use Rattle.im_base_types.specs.declared.file_id.FileId.TheVariants.{Log};
 ghost use Rattle.im_base_types.specs.Records.{Logged};
 ghost use Rattle.im_theory_log.specs.Histories.{Base};
 ghost use Rattle.im_theory_log.specs.Writer.{Writer};
-ghost use Rattle.im_base_disk.specs.Runs.{ChangesOnly};
+ghost use Rattle.im_base_disk.specs.Runs.{ChangesOnly, Forces};
 ghost use Rattle.im_log_record.specs.Entry.{Image};
 ghost use Rattle.im_log.specs.LogFile.{HasNoRoom, end_with, IsOpen, IsLog};
 ghost use Rattle.im_log.specs.Kept.{AppendKept};
@@ -38,6 +38,7 @@ pub fn append_image<D: Disk>(
     ensures appended { (base : ℕ) (all durable : List Logged) → IsLog D.Disk base all durable log.old disk.old
         → AppendKept D.Disk base all durable (Image page bytes.now) disk.old log.new disk.new result }
     ensures changes { ChangesOnly D.Disk Log disk.old disk.new }
+    ensures forces { OnOk result (Forces D.Disk 1 disk.old disk.new) }
     ensures fits { log.old.used + 4129 ≤ 16384 → disk.new ≡ disk.old }
     ensures failed { log.new.failed ≡ not (is_ok result) }
     ensures causes { IfErr result (λ e. (e ≡ Failed) ⊎ (e ≡ LogFull) ⊎ (e ≡ Device)) }

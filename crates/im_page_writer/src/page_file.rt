@@ -4,7 +4,7 @@ ghost use Rattle.im_base_types.specs.declared.file_id.FileId.TheVariants.{Pages}
 ghost use Rattle.im_theory_log.specs.Histories.{Base};
 ghost use Rattle.im_theory_log.specs.Writer.{Writer};
 ghost use Rattle.im_base_disk.specs.Disk.{Files, Only, Answers};
-ghost use Rattle.im_base_disk.specs.Runs.{ChangesOnly, Reads};
+ghost use Rattle.im_base_disk.specs.Runs.{ChangesOnly, Reads, Costs};
 ghost use Rattle.im_log.specs.declared.log_file.LogFile.{LogFile};
 ghost use Rattle.im_log.specs.LogFile.{IsOpen};
 ghost use Rattle.im_page.specs.PageFile.{page_count};
@@ -49,6 +49,7 @@ pub fn write_page<D: Disk>(
     ensures entered { IfOk result (λ entered. entered ≡ has_room page table.old) }
     ensures table { table.new ≡ written_in page lsn table.old }
     ensures changes { ChangesOnly D.Disk Pages disk.old disk.new }
+    ensures costs { Costs D.Disk 1 0 disk.old disk.new }
     ensures answers { Answers (D.failed disk.new) result }
 {
     let entered = table.write(page, lsn);
@@ -68,6 +69,7 @@ pub fn sync_pages<D: Disk>(disk: &mut D, table: &mut DirtyTable) -> Result<(), F
     ensures durable { OnOk result (Only Pages (D.seen disk.new) (D.may_leave disk.new)) }
     ensures seen { D.seen disk.new ≡ D.seen disk.old }
     ensures outcomes { (c : Files) → D.may_leave disk.new c → D.may_leave disk.old c }
+    ensures costs { Costs D.Disk 0 1 disk.old disk.new }
     ensures answers { Answers (D.failed disk.new) result }
 {
     sync(disk, FileId::Pages)?;

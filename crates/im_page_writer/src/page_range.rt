@@ -5,7 +5,7 @@ ghost use Rattle.im_base_types.specs.declared.file_id.FileId.TheVariants.{Pages}
 ghost use Rattle.im_theory_log.specs.Histories.{Base};
 ghost use Rattle.im_theory_log.specs.Writer.{Writer};
 ghost use Rattle.im_base_disk.specs.Disk.{Stepped, Follows, InFile, Answers};
-ghost use Rattle.im_base_disk.specs.Runs.{ChangesOnly, LeavesOnly};
+ghost use Rattle.im_base_disk.specs.Runs.{ChangesOnly, LeavesOnly, Costs};
 ghost use Rattle.im_log.specs.declared.log_file.LogFile.{LogFile};
 ghost use Rattle.im_page.specs.PageFile.{page_count};
 ghost use Rattle.im_page_pool.specs.Writes.{WritesPage, TearsPage};
@@ -36,6 +36,7 @@ fn write_in_place<D: Disk>(
     ensures crash { Follows (InFile Pages (TearsPage number)) (D.may_leave disk.old) (D.may_leave disk.new) }
     ensures changes { ChangesOnly D.Disk Pages disk.old disk.new }
     ensures any_moment { LeavesOnly D.Disk disk.old disk.new (Stepped (InFile Pages (TearsPage number)) (D.may_leave disk.old)) }
+    ensures costs { Costs D.Disk 1 0 disk.old disk.new }
     ensures answers { Answers (D.failed disk.new) result }
 {
     match pool.find(number) {
@@ -66,6 +67,7 @@ fn write_one<D: Disk>(
     ensures frames { pool.new.frames ≡ pool.old.frames }
     ensures count { OnOk result (D.tells → number + 1 ≤ page_count (D.seen disk.new Pages)) }
     ensures changes { ChangesOnly D.Disk Pages disk.old disk.new }
+    ensures costs { Costs D.Disk 1 0 disk.old disk.new }
     ensures answers { Answers (D.failed disk.new) result }
 {
     let entered = table.write(number, lsn);
@@ -104,6 +106,7 @@ pub(crate) fn write_pages<D: Disk>(
     ensures held { OnOk result (SameHeld pool.old pool.new) }
     ensures frames { pool.new.frames ≡ pool.old.frames }
     ensures changes { ChangesOnly D.Disk Pages disk.old disk.new }
+    ensures costs { OnOk result (Costs D.Disk (last + 1 - first) 0 disk.old disk.new) }
     ensures answers { Answers (D.failed disk.new) result }
 {
     let mut entered = true;

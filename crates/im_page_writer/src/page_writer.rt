@@ -77,7 +77,9 @@ impl PageWriter {
     ghost use Rattle.im_page.specs.PageFile.{file_page, page_count};
     ghost use Rattle.im_page_pool.specs.Pool.{held_of, is_changed, page_at, Evicts, Holds, IsAt, MovesFirst};
     ghost use Rattle.im_theory_log.specs.WriterSteps.{forced, synced};
-    ghost use Rattle.im_page_writer.specs.DirtyTable.{entry_in, oldest, synced_entries};
+    ghost use Rattle.im_base_disk.specs.Runs.{Costs, CostsAtMost, Forces};
+    ghost use Rattle.im_page_writer.specs.Costs.{PageCosts};
+    ghost use Rattle.im_page_writer.specs.DirtyTable.{entry_in, has_room, oldest, synced_entries};
     ghost use Rattle.im_log_record.specs.Entry.{view};
     ghost use Rattle.im_log_record.specs.Spelling.{IsEntry, size_of};
     ghost use Rattle.im_log.specs.Whats.{what_of};
@@ -102,6 +104,7 @@ impl PageWriter {
         ensures unchanged { self.old.failed ≡ false → is_changed self.old.pool number ≡ false → (result ≡ Ok tt) × (self.new ≡ self.old) × (disk.new ≡ disk.old) }
         ensures stays { D.tells → number ≤ page_count (D.seen disk.old Pages) → is_some (entry_in self.old.table number) ≡ true → OnOk result (is_some (entry_in self.new.table number) ≡ true) }
         ensures held { OnOk result (SameHeld self.old.pool self.new.pool) }
+        ensures costs { is_changed self.old.pool number ≡ true → OnOk result (PageCosts D.Disk number (page_count (D.seen disk.old Pages)) (has_room number self.old.table) disk.old disk.new) }
     {
         if self.failed {
             return Err(Fault::Failed);
@@ -127,6 +130,7 @@ impl PageWriter {
         ensures kept { (b : Base) (base : ℕ) (s : Writer) → StandsAs D.Disk b base s self.old disk.old → OnOk result (FlushedOne D.Disk b base s number disk.old self.new disk.new) }
         ensures stays { D.tells → number ≤ page_count (D.seen disk.old Pages) → is_some (entry_in self.old.table number) ≡ true → OnOk result (is_some (entry_in self.new.table number) ≡ true) }
         ensures held { OnOk result (SameHeld self.old.pool self.new.pool) }
+        ensures costs { OnOk result (PageCosts D.Disk number (page_count (D.seen disk.old Pages)) (has_room number self.old.table) disk.old disk.new) }
     {
         self.failed = true;
         flush_page(
@@ -316,6 +320,8 @@ impl PageWriter {
         ensures room { result ≢ Err LogFull }
         ensures kept { (b : Base) (base : ℕ) (s : Writer) → StandsAs D.Disk b base s self.old disk.old → StepKept D.Disk b base s (forced s) disk.old self.new disk.new result }
         ensures none { self.old.failed ≡ false → self.old.log.used ≡ 0 → (result ≡ Ok tt) × (self.new.log ≡ self.old.log) × (disk.new ≡ disk.old) }
+        ensures costs { OnOk result (1 ≤ self.old.log.used → Costs D.Disk 2 2 disk.old disk.new) }
+        ensures few { CostsAtMost D.Disk 2 2 disk.old disk.new }
         ensures pool { self.new.pool ≡ self.old.pool }
         ensures table { self.new.table ≡ self.old.table }
     {
@@ -337,6 +343,8 @@ impl PageWriter {
         ensures room { result ≢ Err LogFull }
         ensures kept { (b : Base) (base : ℕ) (s : Writer) → StandsAs D.Disk b base s self.old disk.old → StepKept D.Disk b base s (synced s) disk.old self.new disk.new result }
         ensures table { OnOk result (self.new.table ≡ synced_entries self.old.table) }
+        ensures costs { OnOk result (Costs D.Disk 0 1 disk.old disk.new) }
+        ensures few { CostsAtMost D.Disk 0 1 disk.old disk.new }
         ensures log { self.new.log ≡ self.old.log }
         ensures pool { self.new.pool ≡ self.old.pool }
     {
@@ -427,6 +435,10 @@ impl PageWriter {
         ensures kept { (b : Base) (base : ℕ) (s : Writer) (e : ℕ) → StandsAs D.Disk b base s self.old disk.old → s.redo_end ≡ Some e → IsPlain (what_of (view record.now))
             → LogKept D.Disk b base s (view record.now) disk.old self.new disk.new result }
         ensures full { result ≡ Err LogFull ↔ ((self.old.failed ≡ false) × (2 ^ 62 < end_with self.old.log (size_of (view record.now)))) }
+        ensures fits { self.old.log.used + size_of (view record.now) ≤ 16384 → disk.new ≡ disk.old }
+        ensures used { OnOk result (self.old.log.used + size_of (view record.now) ≤ 16384 → self.new.log.used ≡ self.old.log.used + size_of (view record.now)) }
+        ensures forces { OnOk result (Forces D.Disk 1 disk.old disk.new) }
+        ensures few { CostsAtMost D.Disk 2 2 disk.old disk.new }
     {
         if self.failed {
             return Err(Fault::Failed);

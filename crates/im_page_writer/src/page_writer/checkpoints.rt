@@ -5,7 +5,7 @@ ghost use Rattle.im_base_types.specs.declared.file_id.FileId.TheVariants.{Log};
 ghost use Rattle.im_theory_log.specs.Histories.{Base};
 ghost use Rattle.im_base_types.specs.Records.{Logged};
 ghost use Rattle.im_theory_log.specs.Writer.{Writer};
-ghost use Rattle.im_base_disk.specs.Runs.{ChangesOnly};
+ghost use Rattle.im_base_disk.specs.Runs.{ChangesOnly, CostsAtMost};
 ghost use Rattle.im_log_record.specs.Entry.{Checkpoint};
 ghost use Rattle.im_log_record.specs.Spelling.{Rise, size_of};
 ghost use Rattle.im_log.specs.LogFile.{HasNoRoom, end_with, IsOpen, IsLog};
@@ -45,6 +45,7 @@ impl PageWriter {
         ensures device { result ≡ Err Device ↔ (D.failed disk.new ≡ true) }
         ensures table { OnOk result (self.new.table ≡ forgotten_entries self.old.table) }
         ensures pool { self.new.pool ≡ self.old.pool }
+        ensures few { CostsAtMost D.Disk 2 2 disk.old disk.new }
     {
         self.table.copy_rows(&mut self.rows);
         self.table.forget();
@@ -78,6 +79,7 @@ impl PageWriter {
         ensures fits { OnOk result (end_with self.old.log (size_of (Checkpoint next active.now (dirty_pages (synced_entries self.old.table)))) ≤ 2 ^ 62) }
         ensures table { OnOk result (self.new.table ≡ forgotten_entries (synced_entries self.old.table)) }
         ensures pool { self.new.pool ≡ self.old.pool }
+        ensures few { CostsAtMost D.Disk 4 5 disk.old disk.new }
     {
         self.sync_pages(disk)?;
         let lsn = self.log_tables(disk, next, active)?;
@@ -103,6 +105,7 @@ fn append_tables<'a, D: Disk>(
     ensures kept { (base : ℕ) (all durable : List Logged) → IsLog D.Disk base all durable log.old disk.old
         → AppendKept D.Disk base all durable (Checkpoint next active.now dirty.now) disk.old log.new disk.new result }
     ensures changes { ChangesOnly D.Disk Log disk.old disk.new }
+    ensures few { CostsAtMost D.Disk 2 2 disk.old disk.new }
     ensures failed { log.new.failed ≡ not (is_ok result) }
     ensures causes { IfErr result (λ e. (e ≡ Failed) ⊎ (e ≡ LogFull) ⊎ (e ≡ Device)) }
     ensures already { result ≡ Err Failed ↔ (log.old.failed ≡ true) }

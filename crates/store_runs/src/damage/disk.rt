@@ -2,7 +2,7 @@
 
 ghost use Rattle.std.specs.Prelude.{◌≡◌, [], false};
 
-use im_base_disk::Disk;
+use im_base_disk::{Count, Disk};
 use im_base_types::{Fault, FileId};
 use std::alloc::{AllocError, Global};
 
@@ -58,6 +58,8 @@ pub struct BoundedDisk {
     files: Files,
     calls: u64,
     has_failed: bool,
+    writes: Count,
+    syncs: Count,
 }
 
 impl BoundedDisk {
@@ -69,6 +71,8 @@ impl BoundedDisk {
             files,
             calls: 0,
             has_failed: false,
+            writes: Count::new(),
+            syncs: Count::new(),
         }
     }
 
@@ -122,6 +126,10 @@ impl Disk for BoundedDisk {
 
     ghost failed = { λ d. d.has_failed };
 
+    ghost writes = { λ d. d.writes.count };
+
+    ghost syncs = { λ d. d.syncs.count };
+
     ghost counts_now = { λ _ _ _ _ none. none };
 
     ghost only_now = { λ _ _ none. none };
@@ -143,6 +151,7 @@ impl Disk for BoundedDisk {
     }
 
     fn write_at(&mut self, file: FileId, at: u64, bytes: &[u8]) -> Result<(), Fault> {
+        self.writes = self.writes.with_one_more();
         self.calls = self.calls.saturating_add(1);
         if self.calls > MOST_CALLS {
             self.has_failed = true;
@@ -157,6 +166,7 @@ impl Disk for BoundedDisk {
     }
 
     fn sync(&mut self, _file: FileId) -> Result<(), Fault> {
+        self.syncs = self.syncs.with_one_more();
         Ok(())
     }
 }

@@ -2,7 +2,7 @@
 
 ghost use Rattle.std.specs.Prelude.{◌≡◌, [], false};
 
-use im_base_disk::Disk;
+use im_base_disk::{Count, Disk};
 use im_base_types::{Fault, FileId};
 use std::alloc::{AllocError, Global};
 
@@ -24,6 +24,8 @@ pub struct CountingDisk {
     pages: Vec<u8>,
     calls: Calls,
     has_failed: bool,
+    writes: Count,
+    syncs: Count,
 }
 
 impl CountingDisk {
@@ -36,6 +38,8 @@ impl CountingDisk {
             pages: Vec::new(alloc),
             calls: Calls::default(),
             has_failed: false,
+            writes: Count::new(),
+            syncs: Count::new(),
         }
     }
 
@@ -48,6 +52,8 @@ impl CountingDisk {
             pages: self.pages,
             calls: Calls::default(),
             has_failed: false,
+            writes: Count::new(),
+            syncs: Count::new(),
         }
     }
 
@@ -98,6 +104,10 @@ impl Disk for CountingDisk {
 
     ghost failed = { λ d. d.has_failed };
 
+    ghost writes = { λ d. d.writes.count };
+
+    ghost syncs = { λ d. d.syncs.count };
+
     ghost counts_now = { λ _ _ _ _ none. none };
 
     ghost only_now = { λ _ _ none. none };
@@ -115,6 +125,7 @@ impl Disk for CountingDisk {
     }
 
     fn write_at(&mut self, file: FileId, at: u64, bytes: &[u8]) -> Result<(), Fault> {
+        self.writes = self.writes.with_one_more();
         let outcome = match file {
             FileId::Log => {
                 self.calls.log_writes = self.calls.log_writes.wrapping_add(1);
@@ -130,6 +141,7 @@ impl Disk for CountingDisk {
     }
 
     fn sync(&mut self, file: FileId) -> Result<(), Fault> {
+        self.syncs = self.syncs.with_one_more();
         match file {
             FileId::Log => self.calls.log_syncs = self.calls.log_syncs.wrapping_add(1),
             FileId::Pages => self.calls.page_syncs = self.calls.page_syncs.wrapping_add(1),

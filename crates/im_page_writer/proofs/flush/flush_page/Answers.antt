@@ -3,11 +3,13 @@ use Rattle.std.specs.Prelude.{is_some, OnOk}
 use Rattle.im_base_types.specs.declared.file_id.FileId.TheVariants.{Pages}
 use Rattle.im_base_disk.specs.Disk.{Files}
 use Rattle.im_page.specs.PageFile.{page_count}
-use Rattle.im_page_writer.specs.DirtyTable.{entry_in}
+use Rattle.im_page_writer.specs.DirtyTable.{entry_in, has_room}
 use Rattle.im_page_writer.proofs.Growing.{on_ok}
 use Rattle.im_page_writer.proofs.Goings.{leaves_then}
 use Rattle.im_page_writer.proofs.Flushing.{flushed_last, flushed_then, goes_read, leaves_read, may_flush}
 use Rattle.im_page_writer.proofs.ImageCalls.{imaging_lost}
+use Rattle.im_base_disk.proofs.Costs.{costs_reads}
+use Rattle.im_page_writer.proofs.Costs.{page_past, page_within}
 use Rattle.im_page_writer.proofs.flush.flush_page.Goals as goal
 
 pub returns-in_err-count-clause-outcome : goal.returns-in_err-count-clause-outcome
@@ -58,3 +60,13 @@ returns-clause-stays g c tells within some =
     let at : c.args.number ≡ c.in_ok-count.count = omega (arith, is, past, within) in
     subst (λ (n : ℕ). OnOk c.flush_range-2.result (is_some (entry_in c.flush_range-2.new.table n) ≡ true)) (sym at)
     (c.flush_range-2.ensures.stays (sym at) (subst (λ (n : ℕ). is_some (entry_in c.args.table.now n) ≡ true) at some))
+
+pub returns-then-number-count-clause-costs : goal.returns-then-number-count-clause-costs
+returns-then-number-count-clause-costs g c = on_ok c.flush_range.result _ _ c.flush_range.ensures.costs (λ is.
+    page_within g.D.Disk c.args.number (page_count (g.D.Disk.seen c.args.disk.now Pages)) c.in_ok-count.count (has_room c.args.number c.args.table.now) c.args.disk.now c.count_pages.new.disk c.flush_range.new.disk
+    (λ told. c.in_ok-count.ensures.count told) c.if-number-count.true (costs_reads g.D.Disk c.args.disk.now c.count_pages.new.disk c.count_pages.ensures.reads) is)
+
+pub returns-clause-costs : goal.returns-clause-costs
+returns-clause-costs g c = on_ok c.flush_range-2.result _ _ c.flush_range-2.ensures.costs (λ is.
+    page_past g.D.Disk c.args.number (page_count (g.D.Disk.seen c.args.disk.now Pages)) c.in_ok-count.count (λ n. has_room n c.args.table.now) c.args.disk.now c.count_pages.new.disk c.flush_range-2.new.disk
+    (λ told. c.in_ok-count.ensures.count told) c.if-number-count.false (costs_reads g.D.Disk c.args.disk.now c.count_pages.new.disk c.count_pages.ensures.reads) is)

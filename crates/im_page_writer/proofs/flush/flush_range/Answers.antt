@@ -1,8 +1,10 @@
-use Rattle.std.proofs.Common.{rules, subst, sym, ◌≤◌, ◌-◌, ℕ, List}
+use Rattle.std.proofs.Common.{rules, subst, sym, ◌≤◌, ◌-◌, ℕ, List, ◌≡◌, ◌+◌, true}
 use Rattle.im_page_writer.specs.Writing.{lsn_for, MayWriteHere}
 use Rattle.im_page_writer.proofs.Goings.{leaves_last}
 use Rattle.im_page_writer.proofs.Flushing.{flushed_then, may_write}
 use Rattle.im_page_writer.proofs.ImageCalls.{imaging_lost, imaging_refused}
+use Rattle.im_page_writer.specs.DirtyTable.{has_room}
+use Rattle.im_page_writer.proofs.Costs.{costs_flushed}
 use Rattle.im_page_writer.proofs.flush.flush_range.Goals as goal
 
 pub returns-in_err-log_images-clause-outcome : goal.returns-in_err-log_images-clause-outcome
@@ -43,3 +45,7 @@ returns-clause-kept g c b base s w all =
 
 pub returns-clause-stays : goal.returns-clause-stays
 returns-clause-stays g c alone some = c.in_ok-write_out.ensures.stays alone some
+
+pub returns-clause-costs : goal.returns-clause-costs
+returns-clause-costs g c =
+    costs_flushed g.D.Disk (c.args.last + 1 - c.args.first) ((c.args.first ≡ c.args.last) × (has_room c.args.first c.args.table.now ≡ true)) c.args.disk.now c.log_images.new.disk c.write_out.new.disk c.in_ok-log_images.ensures.forces c.in_ok-write_out.ensures.costs

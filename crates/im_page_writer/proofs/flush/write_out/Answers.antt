@@ -1,8 +1,10 @@
-use Rattle.std.proofs.Common.{◌≡◌, Bool, true, false, rules, ◌+◌, sym, ◌∙◌, subst}
+use Rattle.std.proofs.Common.{◌≡◌, Bool, true, false, rules, ◌+◌, sym, ◌∙◌, subst, ◌-◌}
 use Rattle.im_page_writer.specs.Writing.{lsn_for, WritesTo}
 use Rattle.im_page_writer.proofs.Tables.{room_there, written_stays}
 use Rattle.im_page_writer.proofs.Growing.{on_ok}
 use Rattle.im_page_writer.proofs.Placing.{writes_end, writes_stop, writes_sync}
+use Rattle.im_page_writer.specs.DirtyTable.{has_room}
+use Rattle.im_page_writer.proofs.Costs.{always, costs_entered, costs_synced}
 use Rattle.im_page_writer.proofs.flush.write_out.Goals as goal
 
 pub returns-in_err-entered-clause-kept : goal.returns-in_err-entered-clause-kept
@@ -32,3 +34,12 @@ returns-then-entered-clause-stays g c alone some = written_stays c.args.first (l
 pub returns-clause-stays : goal.returns-clause-stays
 returns-clause-stays g c alone some = absurd (
     let clash : true ≡ false = sym (room_there c.args.first c.args.table.now some) ∙ sym (c.in_ok-entered.ensures.one alone).1 ∙ c.if-entered.false in cc clash)
+
+pub returns-then-entered-clause-costs : goal.returns-then-entered-clause-costs
+returns-then-entered-clause-costs g c =
+    costs_entered g.D.Disk (c.args.last + 1 - c.args.first) ((c.args.first ≡ c.args.last) × (has_room c.args.first c.args.table.now ≡ true)) c.args.disk.now c.write_pages.new.disk c.in_ok-entered.ensures.costs
+
+pub returns-clause-costs : goal.returns-clause-costs
+returns-clause-costs g c = always c.sync_pages.result _ (
+    costs_synced g.D.Disk (c.args.last + 1 - c.args.first) ((c.args.first ≡ c.args.last) × (has_room c.args.first c.args.table.now ≡ true)) c.args.disk.now c.write_pages.new.disk c.sync_pages.new.disk
+    (λ room. let clash : true ≡ false = sym room.1 ∙ sym (c.in_ok-entered.ensures.one room.0).1 ∙ c.if-entered.false in cc clash) c.in_ok-entered.ensures.costs c.sync_pages.ensures.costs)

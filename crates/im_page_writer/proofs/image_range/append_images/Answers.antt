@@ -1,4 +1,4 @@
-use Rattle.std.proofs.Common.{◌+◌, List, ℕ, sym, subst, arith, rules}
+use Rattle.std.proofs.Common.{◌+◌, List, ℕ, sym, subst, arith, rules, ◌-◌}
 use Rattle.im_base_types.specs.declared.file_id.FileId.TheVariants.{Log}
 use Rattle.im_base_disk.proofs.Runs.{changes_reads, changes_then, reads_none}
 use Rattle.im_page_writer.specs.Writing.{ImagesTo}
@@ -6,6 +6,7 @@ use Rattle.im_page_writer.proofs.Goings.{leaves_last, leaves_so_far}
 use Rattle.im_page_writer.proofs.LogEnds.{ends_same, ends_then}
 use Rattle.im_page_writer.proofs.Imaging.{image_still, images_more, images_start}
 use Rattle.im_page_writer.proofs.ImageCalls.{imaging_none, imaging_refused, imaging_then}
+use Rattle.im_base_disk.proofs.Costs.{forces_more, forces_none, forces_then}
 use Rattle.im_page_writer.proofs.image_range.append_images.Goals as goal
 
 pub loop-number-init : goal.loop-number-init
@@ -16,6 +17,7 @@ loop-number-init g c = record {
   alive = (imaging_none g.D.Disk c.args.log.now c.args.disk.now c.requires.ready c.requires.working).ends.1;
   room = omega (arith, c.requires.room, c.clear.ensures);
   changes = changes_reads g.D.Disk Log c.args.disk.now c.args.disk.now (reads_none g.D.Disk c.args.disk.now);
+  forces = forces_none g.D.Disk (c.args.first - c.args.first) c.args.disk.now;
   later = ends_same c.args.log.now;
   kept = λ b base s w all.
       subst (λ (l : List ℕ). ImagesTo g.D.Disk b base s c.args.first c.args.first l c.args.disk.now c.args.log.now c.args.table.now c.args.pool.now c.args.disk.now) (search rules)
@@ -32,6 +34,8 @@ loop-number-preserved g c =
       alive = c.in_ok-lsn.ensures.outcome.ends.1;
       room = c.note.ensures.room;
       changes = changes_then g.D.Disk Log c.args.disk.now l.disk c.append_one.new.disk l.invariant.changes c.append_one.ensures.changes;
+      forces = forces_more g.D.Disk (l.number - c.args.first + 1) (l.number + 1 - c.args.first) c.args.disk.now c.append_one.new.disk (omega (arith, l.invariant.low))
+          (forces_then g.D.Disk (l.number - c.args.first) 1 c.args.disk.now l.disk c.append_one.new.disk l.invariant.forces c.in_ok-lsn.ensures.forces);
       later = ends_then c.args.log.now l.log c.append_one.new.log l.invariant.later c.in_ok-lsn.ensures.outcome.ends.2;
       kept = λ b base s w all.
           let so = l.invariant.kept b base s w all in
@@ -65,3 +69,8 @@ returns-in_err-lsn-clause-outcome g c =
 
 pub returns-clause-outcome : goal.returns-clause-outcome
 returns-clause-outcome g c = let i = c.loop-number.invariant in record { still = λ works. i.ready; ends = (i.working, i.alive, i.later) }
+
+pub returns-clause-forces : goal.returns-clause-forces
+returns-clause-forces g c =
+    let l = c.loop-number in
+    forces_more g.D.Disk (l.number - c.args.first) (c.args.last + 1 - c.args.first) c.args.disk.now l.disk (omega (arith, c.loop-number-test.false, c.requires.order)) l.invariant.forces

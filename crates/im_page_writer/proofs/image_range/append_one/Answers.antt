@@ -2,6 +2,7 @@ use Rattle.im_page_writer.proofs.Growing.{if_ok}
 use Rattle.im_page_writer.proofs.Goings.{goes_start}
 use Rattle.im_page_writer.proofs.Imaging.{image_copies, known_copies}
 use Rattle.im_page_writer.proofs.ImageCalls.{imaging_none}
+use Rattle.im_base_disk.proofs.Costs.{forces_none}
 use Rattle.im_page_writer.proofs.image_range.append_one.Goals as goal
 
 pub returns-in-Some-clause-outcome : goal.returns-in-Some-clause-outcome
@@ -19,3 +20,6 @@ returns-in-None-clause-kept g c b base s w may =
       ok = if_ok c.append_page.result _ _ k.ok (λ lsn is. image_copies g.D.Disk b base s c.args.number c.args.table.now c.args.pool.now c.args.disk.now lsn c.append_page.new.log c.append_page.new.disk w.stands.kept may is);
       stops = k.stops;
     }
+
+pub returns-in-Some-clause-forces : goal.returns-in-Some-clause-forces
+returns-in-Some-clause-forces g c = forces_none g.D.Disk 1 c.args.disk.now

@@ -1,10 +1,11 @@
-use Rattle.std.proofs.Common.{Err, ap, rules}
+use Rattle.std.proofs.Common.{Err, ap, rules, ◌+◌, ◌-◌}
 use Rattle.im_page_writer.proofs.Standing.{log_stops}
 use Rattle.im_page_writer.proofs.Goings.{leaves_last, leaves_so_far}
 use Rattle.im_page_writer.proofs.Imaging.{goes_forced, images_durable}
 use Rattle.im_page_writer.proofs.ImageCalls.{force_lost, imaging_refused, imaging_then}
 use Rattle.im_page_writer.proofs.LogEnds.{ends_forced}
 use Rattle.im_page_writer.proofs.Writers.{still_working}
+use Rattle.im_base_disk.proofs.Costs.{forces_by, forces_then}
 use Rattle.im_page_writer.proofs.image_range.log_images.Goals as goal
 
 pub returns-in_err-append_images-clause-outcome : goal.returns-in_err-append_images-clause-outcome
@@ -47,3 +48,8 @@ returns-clause-kept g c b base s w all =
     let goes = goes_forced g.D.Disk b base so.now c.append_images.new.log c.force.new.self c.args.table.now c.args.pool.now c.append_images.new.disk c.force.new.disk so.goes.writing forced.ok.log c.force.ensures.ready c.force.ensures.changes forced.stops in
     let all_durable = images_durable g.D.Disk b base s c.args.first c.args.last c.append_images.new.lsns.items c.args.disk.now c.append_images.new.log c.force.new.self c.args.table.now c.args.pool.now c.append_images.new.disk c.force.new.disk so goes in
     record { ok = all_durable; stops = leaves_so_far g.D.Disk b base s c.args.disk.now all_durable.now c.force.new.self c.args.table.now c.args.pool.now c.force.new.disk all_durable.goes }
+
+pub returns-clause-forces : goal.returns-clause-forces
+returns-clause-forces g c =
+    forces_then g.D.Disk (c.args.last + 1 - c.args.first) 1 c.args.disk.now c.append_images.new.disk c.force.new.disk c.in_ok-append_images.ensures.forces
+    (forces_by g.D.Disk c.append_images.new.log.used c.append_images.new.disk c.force.new.disk c.in_ok-force.ensures.costs c.force.ensures.none)

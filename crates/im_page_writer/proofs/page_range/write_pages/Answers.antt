@@ -1,10 +1,11 @@
-use Rattle.std.proofs.Common.{◌≡◌, ℕ, ◌-◌, List, refl, sym, subst, arith, rules, ◌∙◌, ap}
+use Rattle.std.proofs.Common.{◌≡◌, ℕ, ◌-◌, List, refl, sym, subst, arith, rules, ◌∙◌, ap, ◌+◌}
 use Rattle.im_base_types.specs.declared.file_id.FileId.TheVariants.{Pages}
 use Rattle.im_base_disk.proofs.Runs.{changes_reads, changes_then, reads_none}
 use Rattle.im_page_writer.specs.declared.table_entry.TableEntry.{TableEntry}
 use Rattle.im_page_writer.specs.DirtyTable.{has_room, written_in}
 use Rattle.im_page_writer.specs.Writing.{lsn_for, MayWriteHere, WrittenHere, WritesTo}
 use Rattle.im_page_writer.proofs.Placing.{asked, held_none, held_then, held_unmarked, writes_left, writes_more, writes_start, writes_stop}
+use Rattle.im_base_disk.proofs.Costs.{costs_as, costs_none, costs_then}
 use Rattle.im_page_writer.proofs.page_range.write_pages.Goals as goal
 
 pub loop-number-init : goal.loop-number-init
@@ -13,6 +14,7 @@ loop-number-init g c = record {
   working = c.requires.working;
   place = c.requires.place;
   changes = changes_reads g.D.Disk Pages c.args.disk.now c.args.disk.now (reads_none g.D.Disk c.args.disk.now);
+  costs = costs_as g.D.Disk 0 0 (c.args.first - c.args.first) 0 c.args.disk.now c.args.disk.now (omega arith) refl (costs_none g.D.Disk c.args.disk.now);
   held = held_none c.args.pool.now;
   start = λ e. (refl, refl);
   one = λ e. absurd (omega (arith, e));
@@ -29,6 +31,8 @@ loop-number-preserved g c =
       working = one.answers.noted;
       place = one.count;
       changes = changes_then g.D.Disk Pages c.args.disk.now l.disk c.write_one.new.disk l.invariant.changes one.changes;
+      costs = costs_as g.D.Disk (l.number - c.args.first + 1) (0 + 0) (l.number + 1 - c.args.first) 0 c.args.disk.now c.write_one.new.disk (omega (arith, l.invariant.low)) refl
+          (costs_then g.D.Disk (l.number - c.args.first) 0 1 0 c.args.disk.now l.disk c.write_one.new.disk l.invariant.costs one.costs);
       held = held_then c.args.pool.now l.pool c.write_one.new.pool l.invariant.held (held_unmarked l.number l.pool c.write_one.new.pool one.pool);
       start = λ e. absurd (omega (arith, e, l.invariant.low));
       one = λ e.
@@ -70,3 +74,8 @@ returns-clause-kept g c b base s log w all may =
 
 pub returns-clause-one : goal.returns-clause-one
 returns-clause-one g c alone = c.loop-number.invariant.one (omega (arith, alone, c.loop-number-test.false, c.requires.order))
+
+pub returns-clause-costs : goal.returns-clause-costs
+returns-clause-costs g c =
+    let l = c.loop-number in
+    costs_as g.D.Disk (l.number - c.args.first) 0 (c.args.last + 1 - c.args.first) 0 c.args.disk.now l.disk (omega (arith, c.loop-number-test.false, c.requires.order)) refl l.invariant.costs

@@ -2,7 +2,7 @@ use Rattle.std.proofs.Common.{◌≡◌, ◌≤◌, ◌+◌, ◌-◌, ℕ, true,
 use Rattle.im_base_types.specs.declared.file_id.FileId.TheVariants.{Pages}
 use Rattle.im_theory_log.specs.Histories.{Base}
 use Rattle.im_theory_log.specs.Writer.{Writer}
-use Rattle.im_base_disk.specs.Runs.{ChangesOnly}
+use Rattle.im_base_disk.specs.Runs.{ChangesOnly, Costs}
 use Rattle.im_log.specs.declared.log_file.LogFile.{LogFile}
 use Rattle.im_page.specs.PageFile.{page_count}
 use Rattle.im_page_writer.specs.DirtyTable.{has_room, written_in}
@@ -15,6 +15,7 @@ invariant-loop-number g l = record {
   working : g.D.Disk.failed l.disk ≡ false;
   place : g.D.Disk.tells → l.number ≤ page_count (g.D.Disk.seen l.disk Pages);
   changes : ChangesOnly g.D.Disk Pages l.fn.disk l.disk;
+  costs : Costs g.D.Disk (l.number - l.fn.first) 0 l.fn.disk l.disk;
   held : SameHeld l.fn.pool l.pool;
   start : l.number ≡ l.fn.first → (l.table ≡ l.fn.table) × (l.entered ≡ true);
   one : l.number ≡ l.fn.first + 1 → (l.table ≡ written_in l.fn.first (lsn_for l.fn.lsns 0) l.fn.table) × (l.entered ≡ has_room l.fn.first l.fn.table);

@@ -1,9 +1,10 @@
-use Rattle.std.proofs.Common.{ℕ, Option, subst, sym, ap, ◌∙◌, rules}
+use Rattle.std.proofs.Common.{ℕ, Option, subst, sym, ap, ◌∙◌, rules, ◌≡◌, false, true}
 use Rattle.im_page_pool.specs.Pool.{Held, held_of, is_changed}
 use Rattle.im_page_writer.specs.Writing.{IsShown}
 use Rattle.im_page_writer.proofs.Goings.{found_here, found_none}
 use Rattle.im_page_writer.proofs.Outcomes.{idle_any}
 use Rattle.im_page_writer.proofs.Writers.{flushed_one, goes_on_start, none_left}
+use Rattle.std.specs.Option.{option_map_or}
 use Rattle.im_page_writer.proofs.page_writer.PageWriter.flush_one.Goals as goal
 
 pub returns-in-None-clause-outcome : goal.returns-in-None-clause-outcome
@@ -28,3 +29,16 @@ returns-else-is_changed-clause-kept g c b base s is =
     let here = found_here (held_of w.pool c.args.number) c.args.number c.in-Some.frame c.in-Some.ensures.found in
     let same = ap (λ (n : ℕ). is_changed w.pool n) (sym here.number) ∙ sym c.is_changed.ensures ∙ c.if-is_changed.false in
     flushed_one g.D.Disk b base s old s w old on c.args.number (none_left g.D.Disk b base s w old c.args.number is same)
+
+pub returns-in-None-clause-costs : goal.returns-in-None-clause-costs
+returns-in-None-clause-costs g c changed =
+    let none = found_none (held_of c.args.self.now.pool c.args.number) c.args.number c.in-None.ensures.found in
+    let never : false ≡ true = sym (ap (λ (o : Option Held). option_map_or (λ h. h.changed) o false) none) ∙ changed in
+    absurd (cc never)
+
+pub returns-else-is_changed-clause-costs : goal.returns-else-is_changed-clause-costs
+returns-else-is_changed-clause-costs g c changed =
+    let w = c.args.self.now in
+    let here = found_here (held_of w.pool c.args.number) c.args.number c.in-Some.frame c.in-Some.ensures.found in
+    let never : true ≡ false = sym changed ∙ ap (λ (n : ℕ). is_changed w.pool n) (sym here.number) ∙ sym c.is_changed.ensures ∙ c.if-is_changed.false in
+    absurd (cc never)

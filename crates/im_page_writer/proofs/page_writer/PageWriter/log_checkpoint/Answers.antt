@@ -1,10 +1,11 @@
-use Rattle.std.proofs.Common.{List, refl, subst, rules}
+use Rattle.std.proofs.Common.{List, refl, subst, rules, arith}
 use Rattle.im_theory_log.specs.WriterSteps.{synced}
 use Rattle.im_page_writer.specs.declared.table_entry.TableEntry.{TableEntry}
 use Rattle.im_page_writer.specs.Checkpoints.{TablesLogged}
 use Rattle.im_page_writer.specs.DirtyTable.{dirty_pages, synced_entries}
 use Rattle.im_page_writer.proofs.Checkpointing.{checkpointed, force_left, listed, record_left, sync_left}
 use Rattle.im_page_writer.proofs.Outcomes.{stands_on}
+use Rattle.im_base_disk.proofs.Costs.{most_as, most_then}
 use Rattle.im_page_writer.proofs.page_writer.PageWriter.log_checkpoint.Goals as goal
 
 pub returns-in_err-sync_pages-clause-kept : goal.returns-in_err-sync_pages-clause-kept
@@ -58,3 +59,21 @@ returns-clause-kept g c b base s e is over =
       ok = checkpointed g.D.Disk b base s next active dirty old w mid one lsn x behind two k.stops c.force.new.self c.force.new.disk last.ok;
       stops = force_left g.D.Disk b base s next active dirty old w mid one lsn x behind two k.stops c.force.new.disk last.stops;
     }
+
+pub returns-in_err-sync_pages-clause-few : goal.returns-in_err-sync_pages-clause-few
+returns-in_err-sync_pages-clause-few g c = most_as g.D.Disk 0 1 4 5 c.args.disk.now c.sync_pages.new.disk (omega arith) (omega arith) c.sync_pages.ensures.few
+
+pub returns-in_err-lsn-clause-few : goal.returns-in_err-lsn-clause-few
+returns-in_err-lsn-clause-few g c =
+    most_as g.D.Disk 2 3 4 5 c.args.disk.now c.log_tables.new.disk (omega arith) (omega arith)
+    (most_then g.D.Disk 0 1 2 2 c.args.disk.now c.sync_pages.new.disk c.log_tables.new.disk c.sync_pages.ensures.few c.log_tables.ensures.few)
+
+pub returns-in_err-force-clause-few : goal.returns-in_err-force-clause-few
+returns-in_err-force-clause-few g c =
+    most_then g.D.Disk 2 3 2 2 c.args.disk.now c.log_tables.new.disk c.force.new.disk
+    (most_then g.D.Disk 0 1 2 2 c.args.disk.now c.sync_pages.new.disk c.log_tables.new.disk c.sync_pages.ensures.few c.log_tables.ensures.few) c.force.ensures.few
+
+pub returns-clause-few : goal.returns-clause-few
+returns-clause-few g c =
+    most_then g.D.Disk 2 3 2 2 c.args.disk.now c.log_tables.new.disk c.force.new.disk
+    (most_then g.D.Disk 0 1 2 2 c.args.disk.now c.sync_pages.new.disk c.log_tables.new.disk c.sync_pages.ensures.few c.log_tables.ensures.few) c.force.ensures.few

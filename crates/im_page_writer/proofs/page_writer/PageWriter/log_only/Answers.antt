@@ -5,6 +5,7 @@ use Rattle.im_log.specs.Spelled.{logged_at}
 use Rattle.im_page_writer.proofs.KnownCopies.{known_more}
 use Rattle.im_page_writer.proofs.Standing.{log_stops}
 use Rattle.im_page_writer.proofs.Logging.{logged_high, logged_only}
+use Rattle.im_base_disk.proofs.Costs.{most_none}
 use Rattle.im_page_writer.proofs.page_writer.PageWriter.log_only.Goals as goal
 
 pub returns-in_err-lsn-clause-kept : goal.returns-in_err-lsn-clause-kept
@@ -31,3 +32,6 @@ returns-clause-kept g c b base s e is over plain =
       };
       stops = log_stops g.D.Disk b base s w.log w.table c.args.disk.now is.writing.stands c.append.new.disk k.stops;
     }
+
+pub returns-then-self-clause-few : goal.returns-then-self-clause-few
+returns-then-self-clause-few g c = most_none g.D.Disk 2 2 c.args.disk.now

@@ -1,7 +1,8 @@
-use Rattle.std.proofs.Common.{refl, rules}
+use Rattle.std.proofs.Common.{refl, rules, arith}
 use Rattle.im_theory_log.specs.WriterSteps.{synced}
 use Rattle.im_page_writer.proofs.KnownCopies.{known_same}
 use Rattle.im_page_writer.proofs.Placing.{pooled_synced, synced_keeps}
+use Rattle.im_base_disk.proofs.Costs.{most_none, most_of}
 use Rattle.im_page_writer.proofs.page_writer.PageWriter.sync_pages.Goals as goal
 
 pub returns-in_err-sync_pages-clause-kept : goal.returns-in_err-sync_pages-clause-kept
@@ -23,3 +24,12 @@ returns-clause-kept g c b base s is =
       };
       stops = k.stops;
     }
+
+pub returns-then-self-clause-few : goal.returns-then-self-clause-few
+returns-then-self-clause-few g c = most_none g.D.Disk 0 1 c.args.disk.now
+
+pub returns-in_err-sync_pages-clause-few : goal.returns-in_err-sync_pages-clause-few
+returns-in_err-sync_pages-clause-few g c = most_of g.D.Disk 0 1 0 1 c.args.disk.now c.sync_pages.new.disk (omega arith) (omega arith) c.sync_pages.ensures.costs
+
+pub returns-clause-few : goal.returns-clause-few
+returns-clause-few g c = most_of g.D.Disk 0 1 0 1 c.args.disk.now c.sync_pages.new.disk (omega arith) (omega arith) c.sync_pages.ensures.costs
