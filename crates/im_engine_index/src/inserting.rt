@@ -297,7 +297,8 @@ fn log_prepared<D: Disk>(
 /// `Capacity` behind them, and a want of memory behind the grant is `Failed`. Behind `Memory`, `PagesFull`, `Wait` and `Die` nobody holds
 /// another lock than before.
 ///
-/// The leaf is searched once. Where it has room and holds the next key, that is one get for each level, and the change is one more.
+/// The leaf is searched once. Where it has room and holds the next key, that is one get for each level, and the change is one more. Where
+/// it lacks room, the plan gets each page of the way once more, and the record goes to the leaf that the plan names.
 pub fn insert<D: Disk>(
     alloc: Global,
     writer: &mut PageWriter,

@@ -9,12 +9,15 @@
 //! - `entries_between` answers copies of the entries of a range, at most so many, and the key behind them.
 //! - `level_of` answers the level of a page of the tree, `child_of` the child of an inner page on a key's way, and where it
 //!   stands there; `child_in` answers it of a page that the caller has.
-//! - `tree_page` gets a page that is to be of a level, and `has_level` tests whether a page is.
+//! - `root` gets page 1, `tree_page` gets a page that is to be of a level, and `has_level` tests whether a page is.
 //!
 //! The contract: where the pages are a good tree, all with their copies loaded (`HasTree`), the answers are those of the
 //! walk, the entries of the leaves from left to right; the number of gets is the root's level plus one; and no search is
 //! refused `NotAStore`. A get may take another page's frame, and write that page first. So each page is as it was behind a
 //! search, the log has Images more at most (`GoesOn`), and a stop within leaves what redo can start from.
+//!
+//! A search whose pages are held asks nothing of the disk, whatever it answers (`quiet`, over a set of pages as `HoldsWay` or `HoldsOn` has
+//! it; `laws` says when a pool holds one).
 //!
 //! On any bytes each search ends: levels are read from the pages and have to fall by one, a page of another kind than its
 //! level asks for is refused, and a chain of leaves that goes on longer than there are pages is a ring.
