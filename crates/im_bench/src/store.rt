@@ -9,9 +9,10 @@
 //!
 //! # Figures
 //!
-//! Bytes of log a key, inserts in scattered order, 64 a commit, no Checkpoint: 100,000 keys leave 336 in 64 frames and 332 in 1,024;
-//! 1,000,000 keys leave 340 in 64 frames. Structure changes alone take some 280 of it, records and Commits 51: evictions add no
-//! full copy but the first of a page in no structure change. An opening behind it adds no byte to the log, and neither does the next.
+//! Bytes of log a key, inserts in scattered order, 64 a commit, no Checkpoint: 100,000 keys leave 333 in 64 frames and 332 in 1,024.
+//! Structure changes alone take some 280 of it, records and Commits 51: evictions add no full copy but the first of a page in no
+//! structure change. In 64 frames an insert takes 0.26 writes and as many syncs of the log, and 0.71 writes of pages. An opening behind
+//! it adds no byte to the log, and neither does the next.
 
 mod counted;
 mod memory;
