@@ -4,6 +4,7 @@ ghost use Rattle.std.specs.Prelude.{◌≡◌, ◌≤◌, ◌<◌, ◌^◌, ℕ,
 ghost use Rattle.im_base_types.specs.declared.fault.Fault.TheVariants.{LogFull};
 ghost use Rattle.im_theory_log.specs.Histories.{Base};
 ghost use Rattle.im_theory_log.specs.Writer.{Writer};
+ghost use Rattle.im_base_disk.specs.Runs.{CostsAtMost};
 ghost use Rattle.im_log_record.specs.Entry.{Checkpoint};
 ghost use Rattle.im_log_record.specs.Spelling.{size_of};
 ghost use Rattle.im_log.specs.LogFile.{end_with};
@@ -47,6 +48,7 @@ pub fn take<D: Disk>(
     ensures fits { OnOk result (end_with writer.old.log (size_of (Checkpoint next (listed table.now) (dirty_pages (synced_entries writer.old.table)))) ≤ 2 ^ 62) }
     ensures table { OnOk result (writer.new.table ≡ forgotten_entries (synced_entries writer.old.table)) }
     ensures pool { writer.new.pool ≡ writer.old.pool }
+    ensures few { CostsAtMost D.Disk 4 5 disk.old disk.new }
 {
     let mut rows = [NO_TRANSACTION; 64];
     let count = rows_of(table, &mut rows);
