@@ -81,6 +81,10 @@ impl<D: Disk> Disk for Counted<D> {
 
     ghost failed = { λ d. D.failed d.disk };
 
+    ghost writes = { λ d. D.writes d.disk };
+
+    ghost syncs = { λ d. D.syncs d.disk };
+
     ghost counts_now = { λ d. D.counts_now d.disk };
 
     ghost only_now = { λ d. D.only_now d.disk };

@@ -2,7 +2,7 @@
 
 ghost use Rattle.std.specs.Prelude.{◌≡◌, [], false};
 
-use im_base_disk::Disk;
+use im_base_disk::{Count, Disk};
 use im_base_types::{Fault, FileId};
 use std::alloc::{AllocError, Global};
 
@@ -12,6 +12,8 @@ pub struct MemoryDisk {
     log: Vec<u8>,
     pages: Vec<u8>,
     has_failed: bool,
+    writes: Count,
+    syncs: Count,
 }
 
 impl MemoryDisk {
@@ -23,6 +25,8 @@ impl MemoryDisk {
             log: Vec::new(alloc),
             pages: Vec::new(alloc),
             has_failed: false,
+            writes: Count::new(),
+            syncs: Count::new(),
         }
     }
 
@@ -34,6 +38,8 @@ impl MemoryDisk {
             log: self.log,
             pages: self.pages,
             has_failed: false,
+            writes: Count::new(),
+            syncs: Count::new(),
         }
     }
 
@@ -74,6 +80,10 @@ impl Disk for MemoryDisk {
 
     ghost failed = { λ d. d.has_failed };
 
+    ghost writes = { λ d. d.writes.count };
+
+    ghost syncs = { λ d. d.syncs.count };
+
     ghost counts_now = { λ _ _ _ _ none. none };
 
     ghost only_now = { λ _ _ none. none };
@@ -90,6 +100,7 @@ impl Disk for MemoryDisk {
     }
 
     fn write_at(&mut self, file: FileId, at: u64, bytes: &[u8]) -> Result<(), Fault> {
+        self.writes = self.writes.with_one_more();
         let outcome = match file {
             FileId::Log => put(&mut self.log, at, bytes),
             FileId::Pages => put(&mut self.pages, at, bytes),
@@ -99,6 +110,7 @@ impl Disk for MemoryDisk {
     }
 
     fn sync(&mut self, _file: FileId) -> Result<(), Fault> {
+        self.syncs = self.syncs.with_one_more();
         Ok(())
     }
 }
