@@ -50,11 +50,11 @@
 //! |---|---|---|---|---|---|---|
 //! | find a key, and its value | 27 | 67 | 0.40 | 36 | 87 | 0.41 |
 //! | find, remove, find, insert again | 415 | 379 | 1.10 | 552 | 446 | 1.24 |
-//! | read a full page in place | 951 | 2,724 | 0.35 | 1,176 | 2,307 | 0.51 |
+//! | read a full page in place | 532 | 2,728 | 0.20 | 623 | 2,290 | 0.27 |
 //! | split into two pages | 1,794 | 2,542 | 0.71 | 2,315 | 3,445 | 0.67 |
 //!
-//! The row of reads is of another machine than the others, with a load of nine to ten on its four cores; where the test of the form
-//! read each key twice, it took 1,200 and 1,507 in the same minutes. On that or a like machine the other ratios were, in the same
+//! The row of reads is of another machine than the others, with a load of ten to fifteen on its four cores; where the walk over the
+//! cells came before the slots, it took 843 and 1,054 in the same minutes. On that or a like machine the other ratios were, in the same
 //! order, 0.22 and 0.22, 0.91 and 0.97, and between 1.1 and 1.6 for a split, which took 2,763 to 4,141 there with 150 entries from
 //! run to run, where C took 2,554.
 //!
