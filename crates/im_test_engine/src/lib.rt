@@ -1,5 +1,5 @@
 //! Tests of the engine of many transactions: lives on the model disk, many transactions at once, devices that fail in the middle of a rollback, and
-//! threads that share the engine through a front, over a disk that stops.
+//! threads that share a store through a front: the engine over a disk that stops, and a store in memory.
 #![tactic(auto)]
 
 #[cfg(test)]
@@ -12,3 +12,5 @@ mod rollbacks;
 mod said;
 #[cfg(test)]
 mod stops;
+#[cfg(test)]
+mod threads;

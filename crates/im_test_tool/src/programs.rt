@@ -1,6 +1,7 @@
 //! The exit statuses of the programs.
 
-use im_tool::{drill_program, store_program};
+use im_tool::store_program;
+use im_tool_script::drill_program;
 use std::alloc::{AllocError, Global};
 use std::fs;
 use std::test::Fail;

@@ -2,10 +2,10 @@
 
 ghost use Rattle.std.specs.Prelude.{◌≤◌, IfOk};
 
-use crate::imdrill::status_of;
 use crate::options::{Options, Task, parse_options};
 use crate::store::{Manner, StoreEnd, print_refused_opening, store_text};
 use crate::tasks::{load_program, look_program};
+use clap::Error;
 use im_base_disk::{FileDisk, ModelDisk, OpenError};
 use std::alloc::AllocError;
 use std::fmt::Display;
@@ -31,6 +31,13 @@ pub fn store_program(rt: &HostRuntime, words: &[String]) -> io::Result<u8>
             Ok(status_of(&error))
         }
     }
+}
+
+// Help goes to standard output, and is no error.
+fn status_of(error: &Error) -> u8
+    ensures { result ≤ 2 }
+{
+    if error.use_stderr() { 2 } else { 0 }
 }
 
 fn run_task(rt: &HostRuntime, options: &Options) -> io::Result<u8>

@@ -1,18 +1,16 @@
-//! The programs of the store, as functions of their words and of the runtime.
+//! The program that keeps a store, as a function of its words and of the runtime.
 //!
-//! `drill_program` is all of `imdrill` but its `main`: it reads the words of the command line, finds the script, has it run by
-//! `im_tool_drill`, and answers the exit status, 2 at most. `store_program` is all of `imstore`: it opens the folder that its words name, or an
+//! `store_program` is all of `imstore` but its `main`: it opens the folder that its words name, or an
 //! empty model disk, and hands the disk on to `store_text`, which opens the store of any disk, makes the steps that a
 //! reader's lines ask for, and has written and flushed all replies before it waits for a line. Checkpoints are taken behind the steps as a
 //! `RedoBound` wants them, and one behind the last line, so that the next opening has little to redo, or nothing. What goes to which
 //! stream is tested, by stored outputs word for word among other tests, and stands in no clause.
 //!
-//! It stands on `im_tool_drill` for scripts, on `im_tool_words` for the lines of steps and the words of replies, on the engine, and on `clap` for command
-//! lines.
+//! It stands on `im_tool_words` for the lines of steps and the words of replies, on the engine, and on `clap` for command lines. Scripts are none
+//! of its work, so it is proved beside their crates.
 #![tactic(auto)]
 
 mod checkpoints;
-mod imdrill;
 mod imstore;
 mod key_notation;
 mod line_input;
@@ -22,7 +20,6 @@ mod log_text;
 mod look;
 mod options;
 mod progress;
-mod reason;
 mod recovered;
 mod redo_bound;
 mod store;
@@ -33,7 +30,6 @@ mod tree_damage;
 mod words_step;
 
 pub use checkpoints::Checkpoints;
-pub use imdrill::drill_program;
 pub use imstore::store_program;
 pub use line_input::LineInput;
 pub use look::{check_text, stat_text};

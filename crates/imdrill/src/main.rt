@@ -2,7 +2,7 @@
 //! prints how many openings behind that were bad.
 #![tactic(auto)]
 
-use im_tool::drill_program;
+use im_tool_script::drill_program;
 use std::process::ExitCode;
 use std::{env, io};
 

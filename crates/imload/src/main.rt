@@ -3,8 +3,6 @@
 #![tactic(auto)]
 
 mod progress;
-#[cfg(test)]
-mod tests;
 
 use crate::progress::Progress;
 use clap::error::ErrorKind;

@@ -90,7 +90,7 @@ fn run_every(rt: &HostRuntime, text: &[u8], printed: &mut Vec<u8>) -> io::Result
 }
 
 // Help goes to standard output, and is no error.
-pub(crate) fn status_of(error: &Error) -> u8
+fn status_of(error: &Error) -> u8
     ensures { result ≤ 2 }
 {
     if error.use_stderr() { 2 } else { 0 }
