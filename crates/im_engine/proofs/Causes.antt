@@ -166,7 +166,7 @@ module _ {D : Type 0} (d : Ghosts D) (old : Engine D d) (log : LogFile) (disk : 
   pub logged : 1 ≤ row.last → HasLogged (find (is_of t) old.txns.rows)
   logged some = subst (λ (o : Option Transaction). HasLogged o) (sym found) some
 
-  unlogged : row.last ≡ 0 → HasLogged (find (is_of t) old.txns.rows) → ⊥
+  pub unlogged : row.last ≡ 0 → HasLogged (find (is_of t) old.txns.rows) → ⊥
   unlogged zero_is has = let some = subst (λ (o : Option Transaction). HasLogged o) found has in omega (arith, zero_is, some)
 
   -- of a transaction without records

@@ -7,6 +7,7 @@ pub mod Refused
 pub mod Reading
 pub mod Ending
 pub mod Barred
+pub mod Costs
 pub mod Telling
 pub mod Causes
 pub mod Stepping

@@ -11,6 +11,7 @@ use Rattle.im_base_types.specs.Maps.{IndexMap}
 use Rattle.im_base_types.specs.Refusals.{failed as has_failed, not_a_store}
 use Rattle.im_base_disk.specs.declared.disk.Disk.{Ghosts}
 use Rattle.im_base_disk.specs.Disk.{Files}
+use Rattle.im_base_disk.proofs.Costs.{most_none}
 use Rattle.im_theory_tree.specs.Levels.{Pages}
 use Rattle.im_engine_lock.specs.View.{View}
 use Rattle.im_engine_lock.specs.Machine.{Moves, Answers, Goes, begins, does, waits, dies, commits, drops, turns, undoes, ends, flushes, forces, checkpoints, lacks, breaks as breaks_it, Breaks, Wants, barred, barred_to, barred_to_rollback, barred_to_continue, first_check, mark_for, or_else, fault_if, keys_fit}
@@ -25,7 +26,7 @@ use Rattle.im_front.specs.Calls.{asked_by, told_by, number_of}
 use Rattle.im_engine.specs.declared.engine.Engine.{Engine}
 use Rattle.im_engine.specs.Running.{IsLife}
 use Rattle.im_engine.specs.Kept.{StepKept}
-use Rattle.im_engine.specs.Told.{Fixed, Known, AnswersAlone, AsksChange, wants_pages, wants_numbers, wants_memory, Checked, IsAnswered, IsMade, IsStep, IsTold, Refuses, WantsOf, after, check_of, fixed_of, is_early, known_of}
+use Rattle.im_engine.specs.Told.{Fixed, Known, AnswersAlone, AsksChange, wants_pages, wants_numbers, wants_memory, Checked, IsAnswered, IsMade, IsStep, IsTold, Refuses, StepCosts, WantsOf, after, check_of, fixed_of, is_early, known_of}
 use Rattle.im_engine.proofs.Alone.{answers_alone}
 use Rattle.im_engine.proofs.Barred.{barred_kept, first_failed}
 use Rattle.im_engine.proofs.Causes.{refused_inj}
@@ -222,6 +223,7 @@ step_made_of d step reply old new none m = record {
   suits = m.suits;
   wants = λ works. m.wants;
   quiet = m.quiet;
+  costs = m.costs;
   works = told_works d reply old new m.told;
   never = never_found d (asked_by step) reply old new m.kept m.told;
   max_pages = ap (λ (f : Fixed). f.max_pages) (told_fixed d reply old new m.told);
@@ -284,6 +286,17 @@ module _ {D : Type 0} (d : Ghosts D) (step : Asked) (e : Engine D d) (only_now :
   wants_none works pages map max Force = tt
   wants_none works pages map max Checkpoint = tt
 
+  -- a refusal by a check costs nothing
+  costs_none : (step : Step) → StepCosts d step (Refused fault) e e
+  costs_none Begin = tt
+  costs_none (Do t a) = tt
+  costs_none (Commit t) = record { most = most_none d 4 4 e.disk; forces = λ is. absurd (cc is); one = λ is. absurd (cc is) }
+  costs_none (Rollback t) = tt
+  costs_none (Continue t) = tt
+  costs_none (FlushPage p) = λ is. absurd (cc is)
+  costs_none Force = record { most = most_none d 2 2 e.disk; one = λ is. absurd (cc is) }
+  costs_none Checkpoint = most_none d 4 5 e.disk
+
   told_so : IsTold d (Refused fault) e e
   told_so = record {
     known = λ j. record { failed = stays_so j; active = length e.txns.rows; next = e.txns.next; fixed = fixed_of d e };
@@ -304,6 +317,7 @@ module _ {D : Type 0} (d : Ghosts D) (step : Asked) (e : Engine D d) (only_now :
     suits = tt;
     wants = λ works b before s v r. wants_none works _ _ _ (asked_by step);
     quiet = λ _. refl;
+    costs = costs_none (asked_by step);
     works = told_works d (Refused fault) e e told_so;
     never = never_found d (asked_by step) (Refused fault) e e (λ before s v life. barred_kept d before s v (asked_by step) e life only_now (number_of fault) is) told_so;
     max_pages = refl;

@@ -4,6 +4,7 @@ pub mod Stands
 pub mod Running
 pub mod Kept
 pub mod Looking
+pub mod Costs
 pub mod Told
 pub mod Counted
 pub mod Turns

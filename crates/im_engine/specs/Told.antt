@@ -8,14 +8,18 @@ use Rattle.im_base_types.specs.Keys.{Key}
 use Rattle.im_base_types.specs.Lives.{Shown, breaks, effects}
 use Rattle.im_base_types.specs.Maps.{IndexMap}
 use Rattle.im_theory_log.specs.Structure.{settled}
+use Rattle.im_base_types.specs.declared.file_id.FileId.TheVariants.{Pages as PagesFile}
 use Rattle.im_base_disk.specs.declared.disk.Disk.{Ghosts}
+use Rattle.im_base_disk.specs.Runs.{CostsAtMost}
 use Rattle.im_log_record.specs.Entry as entries
 use Rattle.im_log_record.specs.Entry.{Entry}
 use Rattle.im_log_record.specs.Spelling.{size_of}
 use Rattle.im_log.specs.declared.log_file.LogFile.{LogFile}
 use Rattle.im_log.specs.LogFile.{HasNoRoom, end_with}
+use Rattle.im_page.specs.PageFile.{page_count}
 use Rattle.im_page_pool.specs.Pool.{is_changed}
-use Rattle.im_page_writer.specs.DirtyTable.{dirty_pages, synced_entries}
+use Rattle.im_page_writer.specs.Costs.{PageCosts}
+use Rattle.im_page_writer.specs.DirtyTable.{dirty_pages, has_room, synced_entries}
 use Rattle.im_engine_checkpoint.specs.Rows.{listed}
 use Rattle.im_theory_tree.specs.Levels.{Pages}
 use Rattle.im_smo_split.specs.Plan.{IsWithin, IsOver}
@@ -31,10 +35,11 @@ use Rattle.im_front.specs.declared.fault.Fault.{Fault}
 use Rattle.im_front.specs.declared.fault.Fault.TheVariants.{NoTransaction, MustRollBack, KeyLength, RollingBack, PagesFull, Capacity, LogFull, Device, Memory, Failed, NotAStore, TooMany}
 use Rattle.im_front.specs.declared.step.Step.{Step}
 use Rattle.im_front.specs.declared.reply.Reply.{Reply}
-use Rattle.im_front.specs.declared.reply.Reply.TheVariants.{Started, Inserted, Committed, RolledBack, Refused}
+use Rattle.im_front.specs.declared.reply.Reply.TheVariants.{Started, Inserted, Committed, RolledBack, Done, Refused}
 use Rattle.im_front.specs.Calls.{asked_by, told_by, number_of}
 use Rattle.im_front.specs.Replies.{Suits}
 use Rattle.im_engine.specs.declared.engine.Engine.{Engine}
+use Rattle.im_engine.specs.Costs.{CommitCosts, ForceCosts}
 use Rattle.im_engine.specs.Running.{IsRunning, IsLife}
 use Rattle.im_engine.specs.Kept.{StepKept}
 
@@ -156,6 +161,15 @@ module _ {D : Type 0} (d : Ghosts D) where
   CallsDevice answers.Force e = 1 ≤ e.writer.log.used
   CallsDevice answers.Checkpoint e = Unit {0}
 
+  -- what a step costs that is asked for to bring records or a page to the disk
+  abbrev pub StepCosts : answers.Step → Reply → Engine D d → Engine D d → Type 0
+  StepCosts (answers.Commit t) reply old new = CommitCosts d old.writer.log.used (HasLogged (find (is_of t) old.txns.rows)) reply old.disk new.disk
+  StepCosts answers.Force reply old new = ForceCosts d old.writer.log.used reply old.disk new.disk
+  StepCosts (answers.FlushPage page) reply old new =
+      reply ≡ Done → is_changed old.writer.pool page ≡ true → PageCosts d page (page_count (d.seen old.disk PagesFile)) (has_room page old.writer.table) old.disk new.disk
+  StepCosts answers.Checkpoint reply old new = CostsAtMost d 4 5 old.disk new.disk
+  StepCosts _ reply old new = Unit {0}
+
   -- the record of a Checkpoint that is taken now
   abbrev pub checkpoint_of : Engine D d → Entry
   checkpoint_of e = entries.Checkpoint e.txns.next (listed e.txns.rows) (dirty_pages (synced_entries e.writer.table))
@@ -251,6 +265,7 @@ module _ {D : Type 0} (d : Ghosts D) where
     pub frames : new.writer.pool.frames ≡ old.writer.pool.frames
     pub wants : (b : Base) (before : List Effect) (s : Shown) (v : View) (r : IsRunning d b before s v old) → WantsOf (settled b r.now.log) v.walk old.max_pages step reply
     pub quiet : (CallsDevice d step old → ⊥) → new.disk ≡ old.disk
+    pub costs : StepCosts d step reply old new
 
   -- a step of the engine
   pub record IsStep (step : Step) (reply : Reply) (old new : Engine D d) : Type 0 where
@@ -264,6 +279,7 @@ module _ {D : Type 0} (d : Ghosts D) where
     pub suits : Suits (asked_by step) (told_by reply)
     pub wants : old.failed ≡ false → (b : Base) (before : List Effect) (s : Shown) (v : View) (r : IsRunning d b before s v old) → WantsOf (settled b r.now.log) v.walk old.max_pages (asked_by step) reply
     pub quiet : (CallsDevice d (asked_by step) old → ⊥) → new.disk ≡ old.disk
+    pub costs : StepCosts d (asked_by step) reply old new
     pub works : d.failed new.disk ≡ true → new.failed ≡ true
     -- the bytes of a sound store are never found to be none
     pub never : (before : List Effect) (s : Shown) (v : View) → IsLife d before s v old → reply ≢ Refused NotAStore

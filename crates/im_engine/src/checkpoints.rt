@@ -16,7 +16,7 @@ impl<D: Disk> Engine<D> {
     ghost use Rattle.im_front.specs.Replies.{Suits};
     ghost use Rattle.im_engine.specs.Running.{IsLife};
     ghost use Rattle.im_engine.specs.Kept.{StepKept};
-    ghost use Rattle.im_engine.specs.Told.{IsTold, IsAnswered};
+    ghost use Rattle.im_engine.specs.Told.{IsTold, IsAnswered, StepCosts};
 
     // Takes a Checkpoint of both tables (`logged_checkpoints_are_served`).
     pub(crate) fn checkpoint(&mut self) -> Reply
@@ -26,6 +26,7 @@ impl<D: Disk> Engine<D> {
         ensures answered { IsAnswered D.Disk answers.Checkpoint result self.old self.new }
         ensures suits { Suits answers.Checkpoint (told_by result) }
         ensures frames { self.new.writer.pool.frames ≡ self.old.writer.pool.frames }
+        ensures costs { StepCosts D.Disk answers.Checkpoint result self.old self.new }
     {
         self.failed = true;
         match im_engine_checkpoint::take(

@@ -20,7 +20,7 @@ impl<D: Disk> Engine<D> {
     ghost use Rattle.im_theory_steps.specs.Checks.{checked_by};
     ghost use Rattle.im_engine.specs.Running.{IsLife};
     ghost use Rattle.im_engine.specs.Kept.{StepKept};
-    ghost use Rattle.im_engine.specs.Told.{IsTold, IsAnswered, CallsDevice};
+    ghost use Rattle.im_engine.specs.Told.{IsTold, IsAnswered, CallsDevice, StepCosts};
 
     // Begins a transaction (`begins_are_served`; numbers that are used up break the engine).
     pub(crate) fn begin(&mut self) -> Reply
@@ -52,6 +52,7 @@ impl<D: Disk> Engine<D> {
         ensures suits { Suits (answers.Commit t) (told_by result) }
         ensures frames { self.new.writer.pool.frames ≡ self.old.writer.pool.frames }
         ensures quiet { (CallsDevice D.Disk (answers.Commit t) self.old → ⊥) → self.new.disk ≡ self.old.disk }
+        ensures costs { StepCosts D.Disk (answers.Commit t) result self.old self.new }
     {
         let Some(row) = self.txns.find(t) else {
             return Reply::Refused(Fault::NoTransaction);
@@ -110,6 +111,7 @@ impl<D: Disk> Engine<D> {
         ensures suits { Suits answers.Force (told_by result) }
         ensures frames { self.new.writer.pool.frames ≡ self.old.writer.pool.frames }
         ensures quiet { (CallsDevice D.Disk answers.Force self.old → ⊥) → self.new.disk ≡ self.old.disk }
+        ensures costs { StepCosts D.Disk answers.Force result self.old self.new }
     {
         self.failed = true;
         match self.writer.force(&mut self.disk) {
@@ -130,6 +132,7 @@ impl<D: Disk> Engine<D> {
         ensures suits { Suits (answers.FlushPage page) (told_by result) }
         ensures frames { self.new.writer.pool.frames ≡ self.old.writer.pool.frames }
         ensures quiet { (CallsDevice D.Disk (answers.FlushPage page) self.old → ⊥) → self.new.disk ≡ self.old.disk }
+        ensures costs { StepCosts D.Disk (answers.FlushPage page) result self.old self.new }
     {
         self.failed = true;
         match self.writer.flush_one(&mut self.disk, page) {

@@ -67,3 +67,9 @@ returns-in-Err-clause-answered g c =
     (append_cause g.D.Disk old.writer old.disk c.take.new.writer c.take.new.disk c.in-Err.fault c.in-Err.ensures.outcome.ends (old.working c.requires.works))
     (λ full. subst (λ (n : ℕ). 2 ^ 62 < end_with old.writer.log (size_of (Checkpoint n (listed old.txns.rows) dirty))) c.next.ensures
     (subst (λ (rows : List Transaction). 2 ^ 62 < end_with old.writer.log (size_of (Checkpoint c.next.result (listed rows) dirty))) c.table.ensures.rows (c.in-Err.ensures.full (λ j. Err (full j))))) fault)
+
+pub returns-in-Ok-clause-costs : goal.returns-in-Ok-clause-costs
+returns-in-Ok-clause-costs g c = c.take.ensures.few
+
+pub returns-in-Err-clause-costs : goal.returns-in-Err-clause-costs
+returns-in-Err-clause-costs g c = c.take.ensures.few

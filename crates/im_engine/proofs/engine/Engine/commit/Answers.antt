@@ -10,7 +10,9 @@ use Rattle.im_base_types.specs.declared.fault.Fault.TheVariants.{LogFull}
 use Rattle.im_page_writer.specs.Outcome.{none_mild}
 use Rattle.im_front.specs.declared.reply.Reply.TheVariants as replies
 use Rattle.im_engine.proofs.Telling.{alive_now, not_true, told_committed, told_refused, log_lost, log_ends}
-use Rattle.im_engine.proofs.Causes.{append_cause, force_cause, commit_empty, commit_made, commit_append, commit_lost, logged}
+use Rattle.im_engine.proofs.Causes.{append_cause, force_cause, commit_empty, commit_made, commit_append, commit_lost, logged, unlogged}
+use Rattle.im_base_disk.proofs.Costs.{forces_by, forces_none, most_as, most_none, most_then}
+use Rattle.im_engine.proofs.Costs.{commit_costs}
 use Rattle.im_engine.proofs.engine.Engine.commit.Goals as goal
 
 pub returns-then-row-eq0-clause-kept : goal.returns-then-row-eq0-clause-kept
@@ -122,3 +124,35 @@ returns-in-Err-force-clause-quiet g c calls = absurd (calls (logged g.D.Disk c.a
 
 pub returns-clause-quiet : goal.returns-clause-quiet
 returns-clause-quiet g c calls = absurd (calls (logged g.D.Disk c.args.self.now c.args.self.now.writer.log c.args.self.now.disk c.requires.works c.args.t c.in-Some.row (sym c.in-Some.ensures.found) c.requires.checked (omega (arith, c.if-row-eq0.false))))
+
+pub returns-then-row-eq0-clause-costs : goal.returns-then-row-eq0-clause-costs
+returns-then-row-eq0-clause-costs g c =
+    let old = c.args.self.now in
+    record {
+      most = most_none g.D.Disk 4 4 old.disk;
+      forces = λ is. forces_none g.D.Disk 2 old.disk;
+      one = λ is has. absurd (unlogged g.D.Disk old old.writer.log old.disk c.requires.works c.args.t c.in-Some.row (sym c.in-Some.ensures.found) c.requires.checked (omega (arith, c.if-row-eq0.true)) has);
+    }
+
+pub returns-in-Err-clause-costs : goal.returns-in-Err-clause-costs
+returns-in-Err-clause-costs g c = record {
+  most = most_as g.D.Disk 2 2 4 4 c.args.self.now.disk c.log_only.new.disk (omega arith) (omega arith) c.log_only.ensures.few;
+  forces = λ is. absurd (cc is);
+  one = λ is. absurd (cc is);
+}
+
+pub returns-in-Err-force-clause-costs : goal.returns-in-Err-force-clause-costs
+returns-in-Err-force-clause-costs g c = record {
+  most = most_then g.D.Disk 2 2 2 2 c.args.self.now.disk c.log_only.new.disk c.force.new.disk c.log_only.ensures.few c.force.ensures.few;
+  forces = λ is. absurd (cc is);
+  one = λ is. absurd (cc is);
+}
+
+pub returns-clause-costs : goal.returns-clause-costs
+returns-clause-costs g c =
+    let old = c.args.self.now in
+    let logged = c.in_default-log_only.ensures in
+    let forced = c.in_default-force.ensures in
+    commit_costs g.D.Disk old.writer.log.used _ replies.Committed old.disk c.log_only.new.disk c.force.new.disk c.log_only.ensures.few c.force.ensures.few logged.forces
+    (forces_by g.D.Disk c.log_only.new.self.log.used c.log_only.new.disk c.force.new.disk forced.costs (λ none. (forced.none logged.outcome.ends.works none).2)) logged.fits
+    (λ fits. forced.costs (omega (arith, logged.used fits)))

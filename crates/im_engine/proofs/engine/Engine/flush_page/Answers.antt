@@ -44,3 +44,9 @@ returns-in-Ok-clause-quiet g c unchanged = let old = c.args.self.now in (c.in-Ok
 
 pub returns-in-Err-clause-quiet : goal.returns-in-Err-clause-quiet
 returns-in-Err-clause-quiet g c unchanged = let old = c.args.self.now in (c.in-Err.ensures.unchanged (old.working c.requires.works) (still_false (is_changed old.writer.pool c.args.page) unchanged)).2
+
+pub returns-in-Ok-clause-costs : goal.returns-in-Ok-clause-costs
+returns-in-Ok-clause-costs g c is changed = c.in-Ok.ensures.costs changed
+
+pub returns-in-Err-clause-costs : goal.returns-in-Err-clause-costs
+returns-in-Err-clause-costs g c is = absurd (cc is)

@@ -46,3 +46,9 @@ returns-in-Ok-clause-quiet g c empty = let old = c.args.self.now in (c.in-Ok.ens
 
 pub returns-in-Err-clause-quiet : goal.returns-in-Err-clause-quiet
 returns-in-Err-clause-quiet g c empty = let old = c.args.self.now in (c.in-Err.ensures.none (old.working c.requires.works) (omega (arith, empty))).2
+
+pub returns-in-Ok-clause-costs : goal.returns-in-Ok-clause-costs
+returns-in-Ok-clause-costs g c = record { most = c.force.ensures.few; one = λ is some. c.in-Ok.ensures.costs some }
+
+pub returns-in-Err-clause-costs : goal.returns-in-Err-clause-costs
+returns-in-Err-clause-costs g c = record { most = c.force.ensures.few; one = λ is. absurd (cc is) }
