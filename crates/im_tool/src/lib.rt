@@ -12,11 +12,7 @@
 
 mod checkpoints;
 mod imstore;
-mod key_notation;
 mod line_input;
-mod log_bytes;
-mod log_damage;
-mod log_text;
 mod look;
 mod options;
 mod progress;
@@ -25,8 +21,6 @@ mod redo_bound;
 mod store;
 mod tasks;
 mod transfer;
-mod tree_check;
-mod tree_damage;
 mod words_step;
 
 pub use checkpoints::Checkpoints;

@@ -2,13 +2,11 @@
 
 ghost use Rattle.std.specs.Prelude.{◌≤◌, IfOk};
 
-use crate::log_bytes::{Survey, batches_behind, read_log};
-use crate::log_damage::LogDamage;
 use crate::recovered::{Copies, log_of, opened, pages_of};
-use crate::tree_check::{ROOM, TreeSurvey, check_pages};
 use im_base_disk::ModelDisk;
 use im_base_types::{Fault, PageNo};
 use im_engine::Engine;
+use im_tool_look::{LogDamage, ROOM, Survey, TreeSurvey, batches_behind, check_pages, read_log};
 use std::alloc::{AllocError, Global};
 use std::io;
 use std::io::Write;

@@ -4,7 +4,6 @@ ghost use Rattle.std.specs.Prelude.{◌≡◌, ◌≤◌, false, IfOk};
 ghost use Rattle.im_base_disk.specs.Runs.{IsSynced};
 
 use crate::checkpoints::Checkpoints;
-use crate::key_notation::write_key;
 use crate::line_input::{LineInput, without_newline};
 use crate::redo_bound::RedoBound;
 use crate::words_step::words_step;
@@ -12,6 +11,7 @@ use im_base_disk::Disk;
 use im_base_types::{Fault, Key, Rid};
 use im_engine::{Config, Engine};
 use im_front::{Reply, Step};
+use im_tool_look::write_key;
 use im_tool_words::{entries_text, reply_text, report_text, step_line};
 use std::alloc::{AllocError, Global};
 use std::fmt::Display;

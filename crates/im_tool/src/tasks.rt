@@ -3,7 +3,6 @@
 ghost use Rattle.std.specs.Prelude.{◌≤◌, IfOk};
 
 use crate::imstore::{tell, tell_unopened};
-use crate::log_text::log_text;
 use crate::look::{check_text, stat_text};
 use crate::options::{Options, Task};
 use crate::progress::Progress;
@@ -12,6 +11,7 @@ use crate::store::print_refused_opening;
 use crate::transfer::{Loaded, dump_text, load_text};
 use im_base_disk::{FileDisk, OpenError};
 use im_base_types::Fault;
+use im_tool_look::log_text;
 use std::fmt::Display;
 use std::io;
 use std::io::{BufReader, BufWriter, IsTerminal, Write};

@@ -4,7 +4,6 @@ ghost use Rattle.std.specs.Prelude.{◌≡◌, false};
 ghost use Rattle.im_base_disk.specs.Runs.{IsSynced};
 
 use crate::checkpoints::Checkpoints;
-use crate::key_notation::noted_key;
 use crate::line_input::{LineInput, without_newline};
 use crate::progress::Progress;
 use crate::redo_bound::RedoBound;
@@ -13,6 +12,7 @@ use im_base_disk::Disk;
 use im_base_types::{Fault, Key, Rid, TxnId};
 use im_engine::{Config, Engine};
 use im_front::{Reply, Step};
+use im_tool_look::noted_key;
 use std::alloc::Global;
 use std::io;
 use std::io::Write;

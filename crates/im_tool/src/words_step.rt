@@ -2,9 +2,9 @@
 
 ghost use Rattle.std.specs.Prelude.{◌≤◌, length, IfSome};
 
-use crate::key_notation::noted_key;
 use im_base_types::Fault;
 use im_front::Step;
+use im_tool_look::noted_key;
 use im_tool_words::step_line;
 use std::alloc::Global;
 

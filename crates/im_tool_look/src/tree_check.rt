@@ -11,21 +11,21 @@ const PAGE_SIZE: usize = 4_096;
 const ROOT: PageNo = 1;
 
 /// The bytes of cells and slots that a page of the tree may have.
-pub(crate) const ROOM: u64 = 4_064;
+pub const ROOM: u64 = 4_064;
 
 /// What the pages of a store are, in numbers, and what is broken in them.
 #[derive(Drop)]
-pub(crate) struct TreeSurvey {
-    pub(crate) height: u64,
-    pub(crate) leaves: u64,
-    pub(crate) empty_leaves: u64,
-    pub(crate) inner: u64,
-    pub(crate) free: u64,
-    pub(crate) entries: u64,
+pub struct TreeSurvey {
+    pub height: u64,
+    pub leaves: u64,
+    pub empty_leaves: u64,
+    pub inner: u64,
+    pub free: u64,
+    pub entries: u64,
     /// The bytes of cells and slots in all leaves, and in all inner pages.
-    pub(crate) leaf_bytes: u64,
-    pub(crate) inner_bytes: u64,
-    pub(crate) damages: Vec<TreeDamage>,
+    pub leaf_bytes: u64,
+    pub inner_bytes: u64,
+    pub damages: Vec<TreeDamage>,
 }
 
 // A page in a level of the tree, and the keys between which its keys lie.
@@ -46,7 +46,7 @@ struct Walk<'a> {
 }
 
 /// Checks all pages of a store. Refused `Memory`.
-pub(crate) fn check_pages(alloc: Global, pages: &[u8]) -> Result<TreeSurvey, Fault> {
+pub fn check_pages(alloc: Global, pages: &[u8]) -> Result<TreeSurvey, Fault> {
     let mut survey = TreeSurvey {
         height: 0,
         leaves: 0,

@@ -7,7 +7,7 @@ use std::io::Write;
 
 /// Writes a key as a line takes it: its text where that is printable ASCII without space, quotation mark, `+`, `*` and
 /// backslash and does not begin with `x'`; that text in quotation marks where it has spaces too; and all others as `x'6100'`.
-pub(crate) fn write_key<W: Write>(alloc: Global, writer: &mut W, key: &[u8]) -> io::Result<()> {
+pub fn write_key<W: Write>(alloc: Global, writer: &mut W, key: &[u8]) -> io::Result<()> {
     if is_plain(key) {
         return writer.write_all(key);
     }
@@ -42,7 +42,7 @@ fn is_quotable_byte(byte: u8) -> bool {
 /// A key in such a notation at the front of a text, and what stands behind it. None where no `x'` and no quotation mark begins it.
 ///
 /// Refused `BadScript` where the notation is not closed or has a digit too few; `Memory`.
-pub(crate) fn noted_key(alloc: Global, text: &[u8]) -> Result<Option<(Vec<u8>, &[u8])>, Fault> {
+pub fn noted_key(alloc: Global, text: &[u8]) -> Result<Option<(Vec<u8>, &[u8])>, Fault> {
     if let [b'"', rest @ ..] = text {
         let (inside, behind) = up_to(rest, b'"')?;
         let key = Vec::from_slice(alloc, inside).map_err(|_| Fault::Memory)?;

@@ -4,7 +4,7 @@ use thiserror::Error;
 
 /// What of a log is not as a store leaves it. A place is counted in bytes from the front of the file.
 #[derive(Clone, Copy, Debug, PartialEq, Eq, Error)]
-pub(crate) enum LogDamage {
+pub enum LogDamage {
     #[error("log: its header is none of a store")]
     NoHeader,
     #[error("log: no whole batch behind the open gate at {0}")]

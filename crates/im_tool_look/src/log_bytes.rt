@@ -23,15 +23,15 @@ const AHEAD: usize = 5;
 
 /// What the log says, read once.
 #[derive(Drop)]
-pub(crate) struct Survey {
+pub struct Survey {
     /// The place of the closed gate that ends the log; 0 where the log is not made.
-    pub(crate) end: usize,
-    pub(crate) batches: u64,
-    pub(crate) records: u64,
-    pub(crate) commits: u64,
+    pub end: usize,
+    pub batches: u64,
+    pub records: u64,
+    pub commits: u64,
     /// The greatest page that a record names.
-    pub(crate) greatest_page: PageNo,
-    pub(crate) analysed: Analysed,
+    pub greatest_page: PageNo,
+    pub analysed: Analysed,
 }
 
 /// Whether the log says that it was made.
@@ -82,7 +82,7 @@ pub(crate) fn next_gate(gate: usize, records: &[u8]) -> usize {
 }
 
 /// Reads the log to its closed gate.
-pub(crate) fn read_log(alloc: Global, log: &[u8]) -> Result<Survey, LogDamage> {
+pub fn read_log(alloc: Global, log: &[u8]) -> Result<Survey, LogDamage> {
     let mut counts = Counts::default();
     let mut analysis = Analysis::new(alloc, LEAST_NUMBER);
     let mut gate = 0;
@@ -157,7 +157,7 @@ fn note(counts: &mut Counts, record: &Record) {
 
 /// How many whole batches stand behind the gate that ends the log, where one with an open gate is among them: a put opens a gate
 /// only once all gates in front of it are open, so that the log was cut there by damage. 0 where there is none.
-pub(crate) fn batches_behind(log: &[u8], end: usize) -> u64 {
+pub fn batches_behind(log: &[u8], end: usize) -> u64 {
     let Some(first) = whole_batch(log, end) else {
         return 0;
     };

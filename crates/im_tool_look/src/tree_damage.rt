@@ -5,7 +5,7 @@ use thiserror::Error;
 
 /// A rule of the tree or of the free list that does not hold, and the page where it does not.
 #[derive(Clone, Copy, Debug, PartialEq, Eq, Error)]
-pub(crate) enum TreeDamage {
+pub enum TreeDamage {
     #[error("page {0}: its bytes are no page")]
     NoPage(PageNo),
     #[error("page 0: it is no meta page")]

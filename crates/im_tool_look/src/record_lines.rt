@@ -10,7 +10,7 @@ use std::io::Write;
 
 /// Writes a line for each record: its LSN, kind, transaction, prev, undo_next and page, and of a key record the key and its row
 /// id. Answers the damage that it ended at, if any.
-pub(crate) fn log_text<W: Write>(
+pub fn log_text<W: Write>(
     alloc: Global,
     writer: &mut W,
     log: &[u8],
