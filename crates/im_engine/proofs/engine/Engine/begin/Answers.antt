@@ -14,8 +14,8 @@ returns-in-Some g c =
     let made = c.in-Some.ensures.some in
     record {
       kept = λ before s v life. began g.D.Disk before s v old _ life c.requires.works refl refl (g.met.D.Disk.only_now old.disk) c.in-Some.number made.0 made.1 (begin_few old.txns.rows c.requires.checked) made.2 refl c.requires.works;
-      told = told_started g.D.Disk c.args.self.now _ c.requires.works c.in-Some.number made.0 made.2 refl c.requires.works refl;
-      answered = begin_made g.D.Disk c.args.self.now c.args.self.now.writer.log c.args.self.now.disk c.requires.works c.requires.checked (replies.Started c.in-Some.number) (subst (λ (n : ℕ). n ≤ 2 ^ 62) made.0 made.1) (λ x e. cc e);
+      told = told_started g.D.Disk old _ c.requires.works c.in-Some.number made.0 made.2 refl c.requires.works refl;
+      answered = begin_made g.D.Disk old old.writer.log old.disk c.requires.works c.requires.checked (replies.Started c.in-Some.number) (subst (λ (n : ℕ). n ≤ 2 ^ 62) made.0 made.1) (λ x e. cc e);
       suits = search rules;
       frames = refl;
       wants = λ b before s v r. tt;
@@ -30,7 +30,7 @@ returns-in-None g c =
     record {
       kept = λ before s v life. numbers_end g.D.Disk before s v old _ life c.requires.works c.requires.checked refl refl (g.met.D.Disk.only_now old.disk) (λ t f le left. g.met.D.Disk.counts_now old.disk t f le left);
       told = told_refused g.D.Disk old _ c.requires.works (ap (λ (x : Numbered). x.next) same) refl Capacity above.Capacity refl refl (ap (λ (x : Numbered). length x.rows) same) (λ lost. absurd (not_true (g.D.Disk.failed old.disk) (alive_now g.D.Disk old c.requires.works) lost));
-      answered = begin_full g.D.Disk c.args.self.now c.args.self.now.writer.log c.args.self.now.disk c.requires.works c.requires.checked c.in-None.ensures.used_up;
+      answered = begin_full g.D.Disk old old.writer.log old.disk c.requires.works c.requires.checked c.in-None.ensures.used_up;
       suits = search rules;
       frames = refl;
       wants = λ b before s v r. tt;

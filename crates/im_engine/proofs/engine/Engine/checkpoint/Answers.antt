@@ -28,7 +28,7 @@ returns-in-Ok g c =
           (subst (λ (rows : List Transaction). CheckpointKept g.D.Disk b r.base r.now c.next.result (listed rows) dirty old.disk c.take.new.writer c.take.new.disk (Ok c.in-Ok._lsn)) c.table.ensures.rows
           (c.in-Ok.ensures.kept b r.base r.now r.redo_end r.stands r.over)) in
           checkpointed g.D.Disk before s v old _ life c.requires.works dirty c.in-Ok._lsn kept.ok kept.stops refl refl refl;
-      told = told_answered g.D.Disk c.args.self.now _ c.requires.works refl refl replies.Done (λ k. refl) refl tt refl refl c.in-Ok.ensures.outcome.ends.alive;
+      told = told_answered g.D.Disk old _ c.requires.works refl refl replies.Done (λ k. refl) refl tt refl refl c.in-Ok.ensures.outcome.ends.alive;
       answered =
           let fits = subst (λ (n : ℕ). end_with old.writer.log (size_of (Checkpoint n (listed old.txns.rows) dirty)) ≤ 2 ^ 62) c.next.ensures
           (subst (λ (rows : List Transaction). end_with old.writer.log (size_of (Checkpoint c.next.result (listed rows) dirty)) ≤ 2 ^ 62) c.table.ensures.rows c.in-Ok.ensures.fits) in

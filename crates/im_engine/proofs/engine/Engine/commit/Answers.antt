@@ -6,7 +6,6 @@ use Rattle.im_engine.specs.Numbered.{Numbered}
 use Rattle.im_engine.proofs.Checked.{commit_mark}
 use Rattle.im_engine.proofs.Running.{covered_stops}
 use Rattle.im_engine.proofs.Ending.{of_log, cut_leaves, ended, commit_stops, committed_on, commit_refused}
-use Rattle.im_base_types.specs.declared.fault.Fault.TheVariants.{LogFull}
 use Rattle.im_page_writer.specs.Outcome.{none_mild}
 use Rattle.im_front.specs.declared.reply.Reply.TheVariants as replies
 use Rattle.im_engine.proofs.Telling.{alive_now, not_true, told_committed, told_refused, log_lost, log_ends}
@@ -25,9 +24,9 @@ returns-then-row-eq0 g c =
           c.release_all.ensures (c.end.ensures.one c.in-Some.row found ∙ ap (λ (x : Numbered). length x.rows + 1) c.end.ensures.left) c.end.ensures.left c.requires.works
           (omega (arith, c.if-row-eq0.true)) refl refl (g.met.D.Disk.only_now old.disk);
       told =
-          told_committed g.D.Disk old _ c.requires.works (ap (λ (x : Numbered). x.next) c.end.ensures.left) refl (c.end.ensures.one c.in-Some.row (sym c.in-Some.ensures.found)) c.requires.works
+          told_committed g.D.Disk old _ c.requires.works (ap (λ (x : Numbered). x.next) c.end.ensures.left) refl (c.end.ensures.one c.in-Some.row found) c.requires.works
           (λ lost. absurd (not_true (g.D.Disk.failed old.disk) (alive_now g.D.Disk old c.requires.works) lost));
-      answered = commit_empty g.D.Disk c.args.self.now c.args.self.now.writer.log c.args.self.now.disk c.requires.works c.args.t c.in-Some.row (sym c.in-Some.ensures.found) c.requires.checked replies.Committed (omega (arith, c.if-row-eq0.true)) (λ x e. cc e);
+      answered = commit_empty g.D.Disk old old.writer.log old.disk c.requires.works c.args.t c.in-Some.row found c.requires.checked replies.Committed (omega (arith, c.if-row-eq0.true)) (λ x e. cc e);
       suits = search rules;
       frames = search rules;
       wants = λ b before s v r. tt;
@@ -36,13 +35,14 @@ returns-then-row-eq0 g c =
           record {
             most = most_none g.D.Disk 4 4 old.disk;
             forces = λ is. forces_none g.D.Disk 2 old.disk;
-            one = λ is has. absurd (unlogged g.D.Disk old old.writer.log old.disk c.requires.works c.args.t c.in-Some.row (sym c.in-Some.ensures.found) c.requires.checked (omega (arith, c.if-row-eq0.true)) has);
+            one = λ is has. absurd (unlogged g.D.Disk old old.writer.log old.disk c.requires.works c.args.t c.in-Some.row found c.requires.checked (omega (arith, c.if-row-eq0.true)) has);
           };
     }
 
 pub returns-in-Err : goal.returns-in-Err
 returns-in-Err g c =
     let old = c.args.self.now in
+    let found = sym c.in-Some.ensures.found in
     let of = of_log g.D.Disk old.writer old.disk c.log_only.new.self c.log_only.new.disk (old.working c.requires.works) c.in-Err.fault c.in-Err.ensures.outcome.ends in
     let ends = c.in-Err.ensures.outcome.ends in
     record {
@@ -57,16 +57,16 @@ returns-in-Err g c =
           told_refused g.D.Disk old _ c.requires.works refl refl c.in-Err.fault c.told.result c.told.ensures (log_ends g.D.Disk old.writer old.disk c.log_only.new.self c.log_only.new.disk c.in-Err.fault ends) refl
           (λ lost. log_lost g.D.Disk old.writer old.disk c.log_only.new.self c.log_only.new.disk lost none_mild c.in-Err.fault ends (old.working c.requires.works));
       answered =
-          commit_append g.D.Disk old c.log_only.new.self.log c.log_only.new.disk c.requires.works c.args.t c.in-Some.row (sym c.in-Some.ensures.found) c.requires.checked (omega (arith, c.if-row-eq0.false)) c.in-Err.fault c.told.result c.told.ensures
+          commit_append g.D.Disk old c.log_only.new.self.log c.log_only.new.disk c.requires.works c.args.t c.in-Some.row found c.requires.checked (omega (arith, c.if-row-eq0.false)) c.in-Err.fault c.told.result c.told.ensures
           (append_cause g.D.Disk old.writer old.disk c.log_only.new.self c.log_only.new.disk c.in-Err.fault c.in-Err.ensures.outcome.ends (old.working c.requires.works))
           (λ is. (c.in-Err.ensures.full.0 (λ j. Err (is j))).1) (λ over. let is = c.in-Err.ensures.full.1 (old.working c.requires.works, over) in cc is);
       suits = search rules;
       frames = search rules;
       wants = λ b before s v r. tt;
-      quiet = λ calls. absurd (calls (logged g.D.Disk c.args.self.now c.args.self.now.writer.log c.args.self.now.disk c.requires.works c.args.t c.in-Some.row (sym c.in-Some.ensures.found) c.requires.checked (omega (arith, c.if-row-eq0.false))));
+      quiet = λ calls. absurd (calls (logged g.D.Disk old old.writer.log old.disk c.requires.works c.args.t c.in-Some.row found c.requires.checked (omega (arith, c.if-row-eq0.false))));
       costs =
           record {
-            most = most_as g.D.Disk 2 2 4 4 c.args.self.now.disk c.log_only.new.disk (omega arith) (omega arith) c.log_only.ensures.few;
+            most = most_as g.D.Disk 2 2 4 4 old.disk c.log_only.new.disk (omega arith) (omega arith) c.log_only.ensures.few;
             forces = λ is. absurd (cc is);
             one = λ is. absurd (cc is);
           };
@@ -75,8 +75,8 @@ returns-in-Err g c =
 pub returns-in-Err-force : goal.returns-in-Err-force
 returns-in-Err-force g c =
     let old = c.args.self.now in
-    let row = c.in-Some.row in
     let found = sym c.in-Some.ensures.found in
+    let row = c.in-Some.row in
     let lsn = c.in_default-log_only.field-0 in
     let of = of_log g.D.Disk c.log_only.new.self c.log_only.new.disk c.force.new.self c.force.new.disk c.in_default-log_only.ensures.outcome.ends.works c.in-Err-force.fault c.in-Err-force.ensures.outcome.ends in
     let works = c.in_default-log_only.ensures.outcome.ends.works in
@@ -96,15 +96,15 @@ returns-in-Err-force g c =
           told_refused g.D.Disk old _ c.requires.works refl refl c.in-Err-force.fault c.told-in-Err-force.result c.told-in-Err-force.ensures (log_ends g.D.Disk c.log_only.new.self c.log_only.new.disk c.force.new.self c.force.new.disk c.in-Err-force.fault ends) refl
           (λ lost. log_lost g.D.Disk c.log_only.new.self c.log_only.new.disk c.force.new.self c.force.new.disk lost none_mild c.in-Err-force.fault ends works);
       answered =
-          commit_lost g.D.Disk old c.force.new.self.log c.force.new.disk c.requires.works c.args.t c.in-Some.row (sym c.in-Some.ensures.found) c.requires.checked (omega (arith, c.if-row-eq0.false)) c.told-in-Err-force.result (c.told-in-Err-force.ensures ∙ cause.0)
+          commit_lost g.D.Disk old c.force.new.self.log c.force.new.disk c.requires.works c.args.t c.in-Some.row found c.requires.checked (omega (arith, c.if-row-eq0.false)) c.told-in-Err-force.result (c.told-in-Err-force.ensures ∙ cause.0)
           (λ over. let is = c.in_default-log_only.ensures.full.1 (old.working c.requires.works, over) in cc is) cause.1;
       suits = search rules;
       frames = search rules;
       wants = λ b before s v r. tt;
-      quiet = λ calls. absurd (calls (logged g.D.Disk c.args.self.now c.args.self.now.writer.log c.args.self.now.disk c.requires.works c.args.t c.in-Some.row (sym c.in-Some.ensures.found) c.requires.checked (omega (arith, c.if-row-eq0.false))));
+      quiet = λ calls. absurd (calls (logged g.D.Disk old old.writer.log old.disk c.requires.works c.args.t c.in-Some.row found c.requires.checked (omega (arith, c.if-row-eq0.false))));
       costs =
           record {
-            most = most_then g.D.Disk 2 2 2 2 c.args.self.now.disk c.log_only.new.disk c.force.new.disk c.log_only.ensures.few c.force.ensures.few;
+            most = most_then g.D.Disk 2 2 2 2 old.disk c.log_only.new.disk c.force.new.disk c.log_only.ensures.few c.force.ensures.few;
             forces = λ is. absurd (cc is);
             one = λ is. absurd (cc is);
           };
@@ -113,8 +113,8 @@ returns-in-Err-force g c =
 pub returns : goal.returns
 returns g c =
     let old = c.args.self.now in
-    let row = c.in-Some.row in
     let found = sym c.in-Some.ensures.found in
+    let row = c.in-Some.row in
     let mark = commit_mark old.txns.rows c.args.t row found c.requires.checked in
     let lsn = c.in_default-log_only.field-0 in
     let written = c.in_default-log_only.ensures in
@@ -129,15 +129,15 @@ returns g c =
           forced.ok (commit_stops g.D.Disk before s v old old life c.requires.works c.args.t row found mark (omega (arith, c.if-row-eq0.false)) lsn c.log_only.new.self c.log_only.new.disk logged.ok c.force.new.disk logged.stops forced.stops)
           c.release_all-2.ensures (c.end-2.ensures.one row found ∙ ap (λ (x : Numbered). length x.rows + 1) c.end-2.ensures.left) c.end-2.ensures.left refl;
       told =
-          told_committed g.D.Disk c.args.self.now _ c.requires.works (ap (λ (x : Numbered). x.next) c.end-2.ensures.left) refl (c.end-2.ensures.one c.in-Some.row (sym c.in-Some.ensures.found)) refl
+          told_committed g.D.Disk old _ c.requires.works (ap (λ (x : Numbered). x.next) c.end-2.ensures.left) refl (c.end-2.ensures.one c.in-Some.row found) refl
           (λ lost. absurd (not_true (g.D.Disk.failed c.force.new.disk) c.in_default-force.ensures.outcome.ends.alive lost));
       answered =
-          commit_made g.D.Disk old c.force.new.self.log c.force.new.disk c.requires.works c.args.t c.in-Some.row (sym c.in-Some.ensures.found) c.requires.checked (omega (arith, c.if-row-eq0.false)) replies.Committed
+          commit_made g.D.Disk old c.force.new.self.log c.force.new.disk c.requires.works c.args.t c.in-Some.row found c.requires.checked (omega (arith, c.if-row-eq0.false)) replies.Committed
           (λ over. let is = c.in_default-log_only.ensures.full.1 (old.working c.requires.works, over) in cc is) (λ lost. not_true (g.D.Disk.failed c.force.new.disk) c.in_default-force.ensures.outcome.ends.alive lost) (λ x e. cc e);
       suits = search rules;
       frames = search rules;
       wants = λ b before s v r. tt;
-      quiet = λ calls. absurd (calls (logged g.D.Disk c.args.self.now c.args.self.now.writer.log c.args.self.now.disk c.requires.works c.args.t c.in-Some.row (sym c.in-Some.ensures.found) c.requires.checked (omega (arith, c.if-row-eq0.false))));
+      quiet = λ calls. absurd (calls (logged g.D.Disk old old.writer.log old.disk c.requires.works c.args.t c.in-Some.row found c.requires.checked (omega (arith, c.if-row-eq0.false))));
       costs =
           commit_costs g.D.Disk old.writer.log.used _ replies.Committed old.disk c.log_only.new.disk c.force.new.disk c.log_only.ensures.few c.force.ensures.few written.forces
           (forces_by g.D.Disk c.log_only.new.self.log.used c.log_only.new.disk c.force.new.disk synced.costs (λ none. (synced.none written.outcome.ends.works none).2)) written.fits

@@ -21,8 +21,8 @@ returns-in-Some g c =
           let r = (life.running c.requires.works).1 in
           let read = c.in-Ok-Granted.ensures.kept (pages_of r.now) v.walk (has_good_tree g.D.Disk before s v old r) (walk_is g.D.Disk before s v old r) in
           granted g.D.Disk before s v c.args.t (answers.Fetch c.args.key.now) old _ life c.requires.works c.requires.checked refl answers.found c.in-Ok-Granted.field-0 read c.in-Ok-Granted.found c.in-Ok-Granted.field-0-is (answers.Found c.in-Some.rid) (ap answers.found c.in-Some.is) c.in-Ok-Granted.ensures.outcome refl refl;
-      told = told_answered g.D.Disk c.args.self.now _ c.requires.works refl refl (replies.Found c.in-Some.rid) (λ k. refl) refl tt refl refl c.in-Ok-Granted.ensures.outcome.ends.alive;
-      answered = read_answered g.D.Disk c.args.self.now c.fetch.new.writer.log c.fetch.new.disk c.requires.works c.args.t (answers.Fetch c.args.key.now) refl c.requires.checked (replies.Found c.in-Some.rid) (λ x e. cc e);
+      told = told_answered g.D.Disk old _ c.requires.works refl refl (replies.Found c.in-Some.rid) (λ k. refl) refl tt refl refl c.in-Ok-Granted.ensures.outcome.ends.alive;
+      answered = read_answered g.D.Disk old c.fetch.new.writer.log c.fetch.new.disk c.requires.works c.args.t (answers.Fetch c.args.key.now) refl c.requires.checked (replies.Found c.in-Some.rid) (λ x e. cc e);
       suits = search rules;
       frames = search rules;
       wants = λ b before s v r. tt;
@@ -38,8 +38,8 @@ returns-in-None g c =
           let r = (life.running c.requires.works).1 in
           let read = c.in-Ok-Granted.ensures.kept (pages_of r.now) v.walk (has_good_tree g.D.Disk before s v old r) (walk_is g.D.Disk before s v old r) in
           granted g.D.Disk before s v c.args.t (answers.Fetch c.args.key.now) old _ life c.requires.works c.requires.checked refl answers.found c.in-Ok-Granted.field-0 read c.in-Ok-Granted.found c.in-Ok-Granted.field-0-is answers.Absent (ap answers.found c.in-None.is) c.in-Ok-Granted.ensures.outcome refl refl;
-      told = told_answered g.D.Disk c.args.self.now _ c.requires.works refl refl replies.Absent (λ k. refl) refl tt refl refl c.in-Ok-Granted.ensures.outcome.ends.alive;
-      answered = read_answered g.D.Disk c.args.self.now c.fetch.new.writer.log c.fetch.new.disk c.requires.works c.args.t (answers.Fetch c.args.key.now) refl c.requires.checked replies.Absent (λ x e. cc e);
+      told = told_answered g.D.Disk old _ c.requires.works refl refl replies.Absent (λ k. refl) refl tt refl refl c.in-Ok-Granted.ensures.outcome.ends.alive;
+      answered = read_answered g.D.Disk old c.fetch.new.writer.log c.fetch.new.disk c.requires.works c.args.t (answers.Fetch c.args.key.now) refl c.requires.checked replies.Absent (λ x e. cc e);
       suits = search rules;
       frames = search rules;
       wants = λ b before s v r. tt;
@@ -55,8 +55,8 @@ returns-in-Ok-Wait g c =
           let r = (life.running c.requires.works).1 in
           let read = c.in-Ok-Wait.ensures.kept (pages_of r.now) v.walk (has_good_tree g.D.Disk before s v old r) (walk_is g.D.Disk before s v old r) in
           waits g.D.Disk before s v c.args.t (answers.Fetch c.args.key.now) old _ life c.requires.works c.requires.checked answers.found c.in-Ok-Wait.field-0 read c.in-Ok-Wait.holder c.in-Ok-Wait.field-0-is c.in-Ok-Wait.ensures.outcome refl refl;
-      told = told_answered g.D.Disk c.args.self.now _ c.requires.works refl refl (replies.Blocked (Lock c.in-Ok-Wait.holder)) (λ k. refl) refl tt refl refl c.in-Ok-Wait.ensures.outcome.ends.alive;
-      answered = read_answered g.D.Disk c.args.self.now c.fetch.new.writer.log c.fetch.new.disk c.requires.works c.args.t (answers.Fetch c.args.key.now) refl c.requires.checked (replies.Blocked (Lock c.in-Ok-Wait.holder)) (λ x e. cc e);
+      told = told_answered g.D.Disk old _ c.requires.works refl refl (replies.Blocked (Lock c.in-Ok-Wait.holder)) (λ k. refl) refl tt refl refl c.in-Ok-Wait.ensures.outcome.ends.alive;
+      answered = read_answered g.D.Disk old c.fetch.new.writer.log c.fetch.new.disk c.requires.works c.args.t (answers.Fetch c.args.key.now) refl c.requires.checked (replies.Blocked (Lock c.in-Ok-Wait.holder)) (λ x e. cc e);
       suits = search rules;
       frames = search rules;
       wants = λ b before s v r. tt;
@@ -72,8 +72,8 @@ returns-in-Ok-Die g c =
           let r = (life.running c.requires.works).1 in
           let read = c.in-Ok-Die.ensures.kept (pages_of r.now) v.walk (has_good_tree g.D.Disk before s v old r) (walk_is g.D.Disk before s v old r) in
           dies g.D.Disk before s v c.args.t (answers.Fetch c.args.key.now) old _ life c.requires.works c.requires.checked answers.found c.in-Ok-Die.field-0 read c.in-Ok-Die.field-0-is c.in-Ok-Die.ensures.outcome c.set_mark.ensures refl;
-      told = told_answered g.D.Disk c.args.self.now _ c.requires.works (ap (λ (x : Numbered). x.next) c.set_mark.ensures) refl replies.Die (λ k. refl) refl tt refl (ap (λ (x : Numbered). length x.rows) c.set_mark.ensures ∙ length-map c.args.self.now.txns.rows (changed c.args.t (with_mark MustRollBack))) c.in-Ok-Die.ensures.outcome.ends.alive;
-      answered = read_answered g.D.Disk c.args.self.now c.fetch.new.writer.log c.fetch.new.disk c.requires.works c.args.t (answers.Fetch c.args.key.now) refl c.requires.checked replies.Die (λ x e. cc e);
+      told = told_answered g.D.Disk old _ c.requires.works (ap (λ (x : Numbered). x.next) c.set_mark.ensures) refl replies.Die (λ k. refl) refl tt refl (ap (λ (x : Numbered). length x.rows) c.set_mark.ensures ∙ length-map old.txns.rows (changed c.args.t (with_mark MustRollBack))) c.in-Ok-Die.ensures.outcome.ends.alive;
+      answered = read_answered g.D.Disk old c.fetch.new.writer.log c.fetch.new.disk c.requires.works c.args.t (answers.Fetch c.args.key.now) refl c.requires.checked replies.Die (λ x e. cc e);
       suits = search rules;
       frames = search rules;
       wants = λ b before s v r. tt;
@@ -92,8 +92,8 @@ returns-in-Err g c =
           c.breaks-self.ensures refl c.in-Err.ensures.table c.told.result c.told.ensures;
       told = told_refused g.D.Disk old _ c.requires.works refl refl c.in-Err.fault c.told.result c.told.ensures c.breaks-self.ensures refl (λ lost. read_lost g.D.Disk old.writer old.disk c.fetch.new.writer c.fetch.new.disk lost c.in-Err.fault c.in-Err.ensures.outcome.ends (old.working c.requires.works));
       answered =
-          read_refused g.D.Disk c.args.self.now c.fetch.new.writer.log c.fetch.new.disk c.requires.works c.args.t (answers.Fetch c.args.key.now) refl c.requires.checked c.in-Err.fault c.told.result c.told.ensures
-          (read_cause g.D.Disk c.args.self.now.writer c.args.self.now.disk c.fetch.new.writer c.fetch.new.disk c.in-Err.fault c.in-Err.ensures.outcome.ends (c.args.self.now.working c.requires.works));
+          read_refused g.D.Disk old c.fetch.new.writer.log c.fetch.new.disk c.requires.works c.args.t (answers.Fetch c.args.key.now) refl c.requires.checked c.in-Err.fault c.told.result c.told.ensures
+          (read_cause g.D.Disk old.writer old.disk c.fetch.new.writer c.fetch.new.disk c.in-Err.fault c.in-Err.ensures.outcome.ends (old.working c.requires.works));
       suits = search rules;
       frames = search rules;
       wants = λ b before s v r. tt;

@@ -14,8 +14,8 @@ returns-in-Ok g c =
           let b = (life.running c.requires.works).0 in
           let r = (life.running c.requires.works).1 in
           let forced = c.in-Ok.ensures.kept b r.base r.now r.stands in
-          log_forced g.D.Disk before s v c.args.self.now _ life c.requires.works forced.ok forced.stops refl refl refl;
-      told = told_answered g.D.Disk c.args.self.now _ c.requires.works refl refl replies.Done (λ k. refl) refl tt refl refl c.in-Ok.ensures.outcome.ends.alive;
+          log_forced g.D.Disk before s v old _ life c.requires.works forced.ok forced.stops refl refl refl;
+      told = told_answered g.D.Disk old _ c.requires.works refl refl replies.Done (λ k. refl) refl tt refl refl c.in-Ok.ensures.outcome.ends.alive;
       answered = behind g.D.Disk old c.force.new.self.log c.force.new.disk c.requires.works answers.Force replies.Done refl (λ fault. force_made g.D.Disk old c.force.new.self.log c.force.new.disk replies.Done (λ lost. not_true (g.D.Disk.failed c.force.new.disk) c.in-Ok.ensures.outcome.ends.alive lost) (λ x e. cc e) fault);
       suits = search rules;
       frames = search rules;

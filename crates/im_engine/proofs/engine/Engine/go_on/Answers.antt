@@ -23,7 +23,7 @@ returns-in-Ok-More g c =
       told =
           told_answered g.D.Disk old _ c.requires.works (ap (λ (x : Numbered). x.next) c.note_record.ensures) refl replies.More (λ k. refl) refl tt refl
           (ap (λ (x : Numbered). length x.rows) c.note_record.ensures ∙ length-map old.txns.rows (changed c.args.t (with_record c.in-Ok-More.last c.in-Ok-More.undo_next))) c.in-Ok-More.ensures.outcome.ends.alive;
-      answered = continue_made g.D.Disk c.args.self.now c.requires.works c.args.t c.requires.checked c.undo_next.new.writer.log c.undo_next.new.disk replies.More (λ x e. cc e);
+      answered = continue_made g.D.Disk old c.requires.works c.args.t c.requires.checked c.undo_next.new.writer.log c.undo_next.new.disk replies.More (λ x e. cc e);
       suits = search rules;
       frames = search rules;
       wants = λ b before s v r. record { short = λ is. absurd (let never : ⊥ = cc is in never); used_up = λ is. absurd (let never : ⊥ = cc is in never) };
@@ -34,8 +34,8 @@ returns-in-Ok-More g c =
 pub returns-in-Ok-Ended : goal.returns-in-Ok-Ended
 returns-in-Ok-Ended g c =
     let old = c.args.self.now in
-    let row = c.in-Some.row in
     let found = sym c.in-Some.ensures.found in
+    let row = c.in-Some.row in
     record {
       kept = λ before s v life.
           let b = (life.running c.requires.works).0 in
@@ -44,9 +44,9 @@ returns-in-Ok-Ended g c =
           has_ended g.D.Disk before s v c.args.t row old _ life c.requires.works found c.requires.checked refl kept.stops c.in-Ok-Ended.field-0 c.in-Ok-Ended.field-0-is kept.sound c.release_all.ensures
           (c.end.ensures.one row found ∙ ap (λ (x : Numbered). length x.rows + 1) c.end.ensures.left) c.end.ensures.left;
       told =
-          told_rolled_back g.D.Disk old _ c.requires.works (ap (λ (x : Numbered). x.next) c.end.ensures.left) refl (c.end.ensures.one c.in-Some.row (sym c.in-Some.ensures.found)) refl
+          told_rolled_back g.D.Disk old _ c.requires.works (ap (λ (x : Numbered). x.next) c.end.ensures.left) refl (c.end.ensures.one c.in-Some.row found) refl
           (λ lost. absurd (not_true (g.D.Disk.failed c.undo_next.new.disk) c.in-Ok-Ended.ensures.outcome.ends.alive lost));
-      answered = continue_made g.D.Disk c.args.self.now c.requires.works c.args.t c.requires.checked c.undo_next.new.writer.log c.undo_next.new.disk replies.RolledBack (λ x e. cc e);
+      answered = continue_made g.D.Disk old c.requires.works c.args.t c.requires.checked c.undo_next.new.writer.log c.undo_next.new.disk replies.RolledBack (λ x e. cc e);
       suits = search rules;
       frames = search rules;
       wants = λ b before s v r. record { short = λ is. absurd (let never : ⊥ = cc is in never); used_up = λ is. absurd (let never : ⊥ = cc is in never) };
@@ -69,7 +69,7 @@ returns-in-Err g c =
       told =
           told_refused g.D.Disk old _ c.requires.works refl refl c.in-Err.fault c.told.result c.told.ensures c.breaks-self.ensures refl
           (λ lost. turn_lost g.D.Disk old.writer c.undo_next.new.writer c.undo_next.new.disk lost c.in-Err.fault c.in-Err.ensures.outcome.ends);
-      answered = continue_refused g.D.Disk c.args.self.now c.requires.works c.args.t c.requires.checked c.undo_next.new.writer c.undo_next.new.disk c.in-Err.fault c.told.result c.told.ensures c.in-Err.ensures.outcome.ends;
+      answered = continue_refused g.D.Disk old c.requires.works c.args.t c.requires.checked c.undo_next.new.writer c.undo_next.new.disk c.in-Err.fault c.told.result c.told.ensures c.in-Err.ensures.outcome.ends;
       suits = search rules;
       frames = search rules;
       wants = λ b before s v r.

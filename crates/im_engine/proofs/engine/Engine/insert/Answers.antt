@@ -1,6 +1,5 @@
 use Rattle.std.proofs.Common.{ℕ, ◌≤◌, refl, sym, subst, ap, ◌∙◌, length, Some, rules}
 use Rattle.std.proofs.lemmas.List.{length-map}
-use Rattle.im_base_types.specs.Answers as answers
 use Rattle.im_theory_log.specs.Structure.{settled}
 use Rattle.im_smo_split.specs.Kept.{mild_to_split}
 use Rattle.im_engine_txn.proofs.LookUps.{look_ups_follow}
@@ -20,19 +19,20 @@ insert-requires-clause-owner g c = subst (λ (n : ℕ). 1 ≤ n) (sym (look_ups_
 pub returns-in-Some-found : goal.returns-in-Some-found
 returns-in-Some-found g c =
     let old = c.args.self.now in
+    let found = sym c.in-Some.ensures.found in
     record {
       kept = λ before s v life.
           let r = (life.running c.requires.works).1 in
-          insert_made g.D.Disk old _ c.args.t c.args.key.now c.args.rid c.in-Some.row (sym c.in-Some.ensures.found) c.requires.checked before s v r c.in-Ok-Granted.field-0 c.in-Ok-Granted.ensures.kept c.in-Ok-Granted.found c.in-Ok-Granted.field-0-is
+          insert_made g.D.Disk old _ c.args.t c.args.key.now c.args.rid c.in-Some.row found c.requires.checked before s v r c.in-Ok-Granted.field-0 c.in-Ok-Granted.ensures.kept c.in-Ok-Granted.found c.in-Ok-Granted.field-0-is
           c.in-Some-found.noted c.in-Some-found.is c.note_record.ensures refl;
       told =
           told_answered g.D.Disk old _ c.requires.works (ap (λ (x : Numbered). x.next) c.note_record.ensures) refl replies.Inserted (λ k. refl) refl tt refl
           (ap (λ (x : Numbered). length x.rows) c.note_record.ensures ∙ length-map old.txns.rows (changed c.args.t (with_record c.in-Some-found.noted.last c.in-Some-found.noted.undo_next))) c.in-Ok-Granted.ensures.outcome.ends.alive;
-      answered = insert_answered g.D.Disk c.args.self.now c.insert.new.writer.log c.insert.new.disk c.requires.works c.args.t c.args.key.now c.args.rid c.requires.checked replies.Inserted (λ x e. cc e);
+      answered = insert_answered g.D.Disk old c.insert.new.writer.log c.insert.new.disk c.requires.works c.args.t c.args.key.now c.args.rid c.requires.checked replies.Inserted (λ x e. cc e);
       suits = search rules;
       frames = search rules;
       wants = λ b before s v r.
-          made_wants g.D.Disk c.args.self.now c.insert.new.locks c.insert.new.writer c.insert.new.disk c.args.t c.args.key.now c.args.rid c.in-Some.row (sym c.in-Some.ensures.found) c.requires.checked before s v r c.in-Ok-Granted.field-0 c.in-Ok-Granted.ensures.kept c.in-Ok-Granted.found c.in-Ok-Granted.field-0-is
+          made_wants g.D.Disk old c.insert.new.locks c.insert.new.writer c.insert.new.disk c.args.t c.args.key.now c.args.rid c.in-Some.row found c.requires.checked before s v r c.in-Ok-Granted.field-0 c.in-Ok-Granted.ensures.kept c.in-Ok-Granted.found c.in-Ok-Granted.field-0-is
           c.in-Some-found.noted c.in-Some-found.is;
       quiet = λ none. absurd (none tt);
       costs = tt;
@@ -46,11 +46,11 @@ returns-in-None g c =
           let r = (life.running c.requires.works).1 in
           insert_there g.D.Disk old _ c.args.t c.args.key.now c.args.rid c.in-Some.row (sym c.in-Some.ensures.found) c.requires.checked before s v r c.in-Ok-Granted.field-0 c.in-Ok-Granted.ensures.kept c.in-Ok-Granted.found c.in-Ok-Granted.field-0-is
           c.in-None.is refl refl;
-      told = told_answered g.D.Disk c.args.self.now _ c.requires.works refl refl replies.Duplicate (λ k. refl) refl tt refl refl c.in-Ok-Granted.ensures.outcome.ends.alive;
-      answered = insert_answered g.D.Disk c.args.self.now c.insert.new.writer.log c.insert.new.disk c.requires.works c.args.t c.args.key.now c.args.rid c.requires.checked replies.Duplicate (λ x e. cc e);
+      told = told_answered g.D.Disk old _ c.requires.works refl refl replies.Duplicate (λ k. refl) refl tt refl refl c.in-Ok-Granted.ensures.outcome.ends.alive;
+      answered = insert_answered g.D.Disk old c.insert.new.writer.log c.insert.new.disk c.requires.works c.args.t c.args.key.now c.args.rid c.requires.checked replies.Duplicate (λ x e. cc e);
       suits = search rules;
       frames = search rules;
-      wants = λ b before s v r. wants_none (settled b r.now.log) v.walk c.args.self.now.max_pages c.args.key.now replies.Duplicate (λ e. cc e) (λ x e. cc e);
+      wants = λ b before s v r. wants_none (settled b r.now.log) v.walk old.max_pages c.args.key.now replies.Duplicate (λ e. cc e) (λ x e. cc e);
       quiet = λ none. absurd (none tt);
       costs = tt;
     }
@@ -62,11 +62,11 @@ returns-in-Ok-Wait g c =
       kept = λ before s v life.
           let r = (life.running c.requires.works).1 in
           insert_waits g.D.Disk old _ c.args.t c.args.key.now c.args.rid c.in-Some.row (sym c.in-Some.ensures.found) c.requires.checked before s v r c.in-Ok-Wait.field-0 c.in-Ok-Wait.ensures.kept c.in-Ok-Wait.holder c.in-Ok-Wait.field-0-is refl refl;
-      told = told_answered g.D.Disk c.args.self.now _ c.requires.works refl refl (replies.Blocked (Lock c.in-Ok-Wait.holder)) (λ k. refl) refl tt refl refl c.in-Ok-Wait.ensures.outcome.ends.alive;
-      answered = insert_answered g.D.Disk c.args.self.now c.insert.new.writer.log c.insert.new.disk c.requires.works c.args.t c.args.key.now c.args.rid c.requires.checked (replies.Blocked (Lock c.in-Ok-Wait.holder)) (λ x e. cc e);
+      told = told_answered g.D.Disk old _ c.requires.works refl refl (replies.Blocked (Lock c.in-Ok-Wait.holder)) (λ k. refl) refl tt refl refl c.in-Ok-Wait.ensures.outcome.ends.alive;
+      answered = insert_answered g.D.Disk old c.insert.new.writer.log c.insert.new.disk c.requires.works c.args.t c.args.key.now c.args.rid c.requires.checked (replies.Blocked (Lock c.in-Ok-Wait.holder)) (λ x e. cc e);
       suits = search rules;
       frames = search rules;
-      wants = λ b before s v r. wants_none (settled b r.now.log) v.walk c.args.self.now.max_pages c.args.key.now (replies.Blocked (Lock c.in-Ok-Wait.holder)) (λ e. cc e) (λ x e. cc e);
+      wants = λ b before s v r. wants_none (settled b r.now.log) v.walk old.max_pages c.args.key.now (replies.Blocked (Lock c.in-Ok-Wait.holder)) (λ e. cc e) (λ x e. cc e);
       quiet = λ none. absurd (none tt);
       costs = tt;
     }
@@ -78,11 +78,11 @@ returns-in-Ok-Die g c =
       kept = λ before s v life.
           let r = (life.running c.requires.works).1 in
           insert_dies g.D.Disk old _ c.args.t c.args.key.now c.args.rid c.in-Some.row (sym c.in-Some.ensures.found) c.requires.checked before s v r c.in-Ok-Die.field-0 c.in-Ok-Die.ensures.kept c.in-Ok-Die.field-0-is c.set_mark.ensures refl;
-      told = told_answered g.D.Disk c.args.self.now _ c.requires.works (ap (λ (x : Numbered). x.next) c.set_mark.ensures) refl replies.Die (λ k. refl) refl tt refl (ap (λ (x : Numbered). length x.rows) c.set_mark.ensures ∙ length-map c.args.self.now.txns.rows (changed c.args.t (with_mark MustRollBack))) c.in-Ok-Die.ensures.outcome.ends.alive;
-      answered = insert_answered g.D.Disk c.args.self.now c.insert.new.writer.log c.insert.new.disk c.requires.works c.args.t c.args.key.now c.args.rid c.requires.checked replies.Die (λ x e. cc e);
+      told = told_answered g.D.Disk old _ c.requires.works (ap (λ (x : Numbered). x.next) c.set_mark.ensures) refl replies.Die (λ k. refl) refl tt refl (ap (λ (x : Numbered). length x.rows) c.set_mark.ensures ∙ length-map old.txns.rows (changed c.args.t (with_mark MustRollBack))) c.in-Ok-Die.ensures.outcome.ends.alive;
+      answered = insert_answered g.D.Disk old c.insert.new.writer.log c.insert.new.disk c.requires.works c.args.t c.args.key.now c.args.rid c.requires.checked replies.Die (λ x e. cc e);
       suits = search rules;
       frames = search rules;
-      wants = λ b before s v r. wants_none (settled b r.now.log) v.walk c.args.self.now.max_pages c.args.key.now replies.Die (λ e. cc e) (λ x e. cc e);
+      wants = λ b before s v r. wants_none (settled b r.now.log) v.walk old.max_pages c.args.key.now replies.Die (λ e. cc e) (λ x e. cc e);
       quiet = λ none. absurd (none tt);
       costs = tt;
     }
@@ -90,9 +90,10 @@ returns-in-Ok-Die g c =
 pub returns-in-Err : goal.returns-in-Err
 returns-in-Err g c =
     let old = c.args.self.now in
+    let found = sym c.in-Some.ensures.found in
     record {
       kept = λ before s v life.
-          insert_refused g.D.Disk old _ c.args.t c.args.key.now c.args.rid c.in-Some.row (sym c.in-Some.ensures.found) c.requires.checked before s v life c.requires.works (λ t f le left. g.met.D.Disk.counts_now c.insert.new.disk t f le left) c.in-Err.fault c.in-Err.ensures.kept
+          insert_refused g.D.Disk old _ c.args.t c.args.key.now c.args.rid c.in-Some.row found c.requires.checked before s v life c.requires.works (λ t f le left. g.met.D.Disk.counts_now c.insert.new.disk t f le left) c.in-Err.fault c.in-Err.ensures.kept
           c.in-Err.ensures.outcome.ends c.breaks-self.ensures refl c.in-Err.ensures.table c.told.result c.told.ensures;
       told = told_refused g.D.Disk old _ c.requires.works refl refl c.in-Err.fault c.told.result c.told.ensures c.breaks-self.ensures refl (λ lost. late_lost g.D.Disk old.writer old.disk c.insert.new.writer c.insert.new.disk lost (mild_to_split (Some old.max_pages)) c.in-Err.fault c.in-Err.ensures.outcome.ends);
       answered =
@@ -100,7 +101,7 @@ returns-in-Err g c =
           (insert_cause g.D.Disk old.writer old.disk c.insert.new.writer c.insert.new.disk (mild_to_split (Some old.max_pages)) c.in-Err.fault c.in-Err.ensures.outcome.ends);
       suits = search rules;
       frames = search rules;
-      wants = λ b before s v r. refused_wants g.D.Disk c.args.self.now c.insert.new.locks c.insert.new.writer c.insert.new.disk c.args.t c.args.key.now c.args.rid c.in-Some.row (sym c.in-Some.ensures.found) c.requires.checked before s v r c.in-Err.fault c.in-Err.ensures.kept c.in-Err.ensures.outcome.ends c.told.result c.told.ensures;
+      wants = λ b before s v r. refused_wants g.D.Disk old c.insert.new.locks c.insert.new.writer c.insert.new.disk c.args.t c.args.key.now c.args.rid c.in-Some.row found c.requires.checked before s v r c.in-Err.fault c.in-Err.ensures.kept c.in-Err.ensures.outcome.ends c.told.result c.told.ensures;
       quiet = λ none. absurd (none tt);
       costs = tt;
     }

@@ -21,7 +21,7 @@ returns-then-row-ne0 g c =
       told =
           told_answered g.D.Disk old _ c.requires.works (ap (λ (x : Numbered). x.next) c.set_mark.ensures) refl replies.More (λ k. refl) refl tt c.requires.works
           (ap (λ (x : Numbered). length x.rows) c.set_mark.ensures ∙ length-map old.txns.rows (changed c.args.t (with_mark RollingBack))) (alive_now g.D.Disk old c.requires.works);
-      answered = rollback_made g.D.Disk c.args.self.now c.args.self.now.writer.log c.args.self.now.disk c.requires.works c.args.t c.requires.checked replies.More (λ x e. cc e);
+      answered = rollback_made g.D.Disk old old.writer.log old.disk c.requires.works c.args.t c.requires.checked replies.More (λ x e. cc e);
       suits = search rules;
       frames = refl;
       wants = λ b before s v r. tt;
@@ -38,9 +38,9 @@ returns g c =
           dropped g.D.Disk before s v old _ life c.requires.works refl refl (g.met.D.Disk.only_now old.disk) c.args.t c.in-Some.row found (back_mark old.txns.rows c.args.t c.in-Some.row found c.requires.checked)
           (omega (arith, c.if-row-ne0.false)) c.release_all.ensures (c.end.ensures.one c.in-Some.row found ∙ ap (λ (x : Numbered). length x.rows + 1) c.end.ensures.left) c.end.ensures.left c.requires.works;
       told =
-          told_rolled_back g.D.Disk old _ c.requires.works (ap (λ (x : Numbered). x.next) c.end.ensures.left) refl (c.end.ensures.one c.in-Some.row (sym c.in-Some.ensures.found)) c.requires.works
+          told_rolled_back g.D.Disk old _ c.requires.works (ap (λ (x : Numbered). x.next) c.end.ensures.left) refl (c.end.ensures.one c.in-Some.row found) c.requires.works
           (λ lost. absurd (not_true (g.D.Disk.failed old.disk) (alive_now g.D.Disk old c.requires.works) lost));
-      answered = rollback_made g.D.Disk c.args.self.now c.args.self.now.writer.log c.args.self.now.disk c.requires.works c.args.t c.requires.checked replies.RolledBack (λ x e. cc e);
+      answered = rollback_made g.D.Disk old old.writer.log old.disk c.requires.works c.args.t c.requires.checked replies.RolledBack (λ x e. cc e);
       suits = search rules;
       frames = refl;
       wants = λ b before s v r. tt;

@@ -24,8 +24,8 @@ returns-in-Ok-Granted g c =
           let r = (life.running c.requires.works).1 in
           let read = c.in-Ok-Granted.ensures.kept (pages_of r.now) v.walk (has_good_tree g.D.Disk before s v old r) (walk_is g.D.Disk before s v old r) in
           granted g.D.Disk before s v c.args.t (answers.Scan c.args.lo.now c.args.hi.now c.args.limit) old _ life c.requires.works c.requires.checked refl entries_found c.in-Ok-Granted.field-0 read c.in-Ok-Granted.list c.in-Ok-Granted.field-0-is _ refl c.in-Ok-Granted.ensures.outcome refl refl;
-      told = told_answered g.D.Disk c.args.self.now _ c.requires.works refl refl (replies.Entries c.in-Ok-Granted.list) (λ k. refl) refl tt refl refl c.in-Ok-Granted.ensures.outcome.ends.alive;
-      answered = read_answered g.D.Disk c.args.self.now c.scan.new.writer.log c.scan.new.disk c.requires.works c.args.t (answers.Scan c.args.lo.now c.args.hi.now c.args.limit) refl c.requires.checked (replies.Entries c.in-Ok-Granted.list) (λ x e. cc e);
+      told = told_answered g.D.Disk old _ c.requires.works refl refl (replies.Entries c.in-Ok-Granted.list) (λ k. refl) refl tt refl refl c.in-Ok-Granted.ensures.outcome.ends.alive;
+      answered = read_answered g.D.Disk old c.scan.new.writer.log c.scan.new.disk c.requires.works c.args.t (answers.Scan c.args.lo.now c.args.hi.now c.args.limit) refl c.requires.checked (replies.Entries c.in-Ok-Granted.list) (λ x e. cc e);
       suits = (refl, subst (λ (o : Outcome (Vec (List ℕ × ℕ) Global)). IfGranted o (λ l. length l.items ≤ limit_of c.args.limit)) c.in-Ok-Granted.field-0-is c.in-Ok-Granted.ensures.most);
       frames = search rules;
       wants = λ b before s v r. tt;
@@ -41,8 +41,8 @@ returns-in-Ok-Wait g c =
           let r = (life.running c.requires.works).1 in
           let read = c.in-Ok-Wait.ensures.kept (pages_of r.now) v.walk (has_good_tree g.D.Disk before s v old r) (walk_is g.D.Disk before s v old r) in
           waits g.D.Disk before s v c.args.t (answers.Scan c.args.lo.now c.args.hi.now c.args.limit) old _ life c.requires.works c.requires.checked entries_found c.in-Ok-Wait.field-0 read c.in-Ok-Wait.holder c.in-Ok-Wait.field-0-is c.in-Ok-Wait.ensures.outcome refl refl;
-      told = told_answered g.D.Disk c.args.self.now _ c.requires.works refl refl (replies.Blocked (Lock c.in-Ok-Wait.holder)) (λ k. refl) refl tt refl refl c.in-Ok-Wait.ensures.outcome.ends.alive;
-      answered = read_answered g.D.Disk c.args.self.now c.scan.new.writer.log c.scan.new.disk c.requires.works c.args.t (answers.Scan c.args.lo.now c.args.hi.now c.args.limit) refl c.requires.checked (replies.Blocked (Lock c.in-Ok-Wait.holder)) (λ x e. cc e);
+      told = told_answered g.D.Disk old _ c.requires.works refl refl (replies.Blocked (Lock c.in-Ok-Wait.holder)) (λ k. refl) refl tt refl refl c.in-Ok-Wait.ensures.outcome.ends.alive;
+      answered = read_answered g.D.Disk old c.scan.new.writer.log c.scan.new.disk c.requires.works c.args.t (answers.Scan c.args.lo.now c.args.hi.now c.args.limit) refl c.requires.checked (replies.Blocked (Lock c.in-Ok-Wait.holder)) (λ x e. cc e);
       suits = search rules;
       frames = search rules;
       wants = λ b before s v r. tt;
@@ -58,8 +58,8 @@ returns-in-Ok-Die g c =
           let r = (life.running c.requires.works).1 in
           let read = c.in-Ok-Die.ensures.kept (pages_of r.now) v.walk (has_good_tree g.D.Disk before s v old r) (walk_is g.D.Disk before s v old r) in
           dies g.D.Disk before s v c.args.t (answers.Scan c.args.lo.now c.args.hi.now c.args.limit) old _ life c.requires.works c.requires.checked entries_found c.in-Ok-Die.field-0 read c.in-Ok-Die.field-0-is c.in-Ok-Die.ensures.outcome c.set_mark.ensures refl;
-      told = told_answered g.D.Disk c.args.self.now _ c.requires.works (ap (λ (x : Numbered). x.next) c.set_mark.ensures) refl replies.Die (λ k. refl) refl tt refl (ap (λ (x : Numbered). length x.rows) c.set_mark.ensures ∙ length-map c.args.self.now.txns.rows (changed c.args.t (with_mark MustRollBack))) c.in-Ok-Die.ensures.outcome.ends.alive;
-      answered = read_answered g.D.Disk c.args.self.now c.scan.new.writer.log c.scan.new.disk c.requires.works c.args.t (answers.Scan c.args.lo.now c.args.hi.now c.args.limit) refl c.requires.checked replies.Die (λ x e. cc e);
+      told = told_answered g.D.Disk old _ c.requires.works (ap (λ (x : Numbered). x.next) c.set_mark.ensures) refl replies.Die (λ k. refl) refl tt refl (ap (λ (x : Numbered). length x.rows) c.set_mark.ensures ∙ length-map old.txns.rows (changed c.args.t (with_mark MustRollBack))) c.in-Ok-Die.ensures.outcome.ends.alive;
+      answered = read_answered g.D.Disk old c.scan.new.writer.log c.scan.new.disk c.requires.works c.args.t (answers.Scan c.args.lo.now c.args.hi.now c.args.limit) refl c.requires.checked replies.Die (λ x e. cc e);
       suits = search rules;
       frames = search rules;
       wants = λ b before s v r. tt;
@@ -78,8 +78,8 @@ returns-in-Err g c =
           c.breaks-self.ensures refl c.in-Err.ensures.table c.told.result c.told.ensures;
       told = told_refused g.D.Disk old _ c.requires.works refl refl c.in-Err.fault c.told.result c.told.ensures c.breaks-self.ensures refl (λ lost. read_lost g.D.Disk old.writer old.disk c.scan.new.writer c.scan.new.disk lost c.in-Err.fault c.in-Err.ensures.outcome.ends (old.working c.requires.works));
       answered =
-          read_refused g.D.Disk c.args.self.now c.scan.new.writer.log c.scan.new.disk c.requires.works c.args.t (answers.Scan c.args.lo.now c.args.hi.now c.args.limit) refl c.requires.checked c.in-Err.fault c.told.result c.told.ensures
-          (read_cause g.D.Disk c.args.self.now.writer c.args.self.now.disk c.scan.new.writer c.scan.new.disk c.in-Err.fault c.in-Err.ensures.outcome.ends (c.args.self.now.working c.requires.works));
+          read_refused g.D.Disk old c.scan.new.writer.log c.scan.new.disk c.requires.works c.args.t (answers.Scan c.args.lo.now c.args.hi.now c.args.limit) refl c.requires.checked c.in-Err.fault c.told.result c.told.ensures
+          (read_cause g.D.Disk old.writer old.disk c.scan.new.writer c.scan.new.disk c.in-Err.fault c.in-Err.ensures.outcome.ends (old.working c.requires.works));
       suits = search rules;
       frames = search rules;
       wants = λ b before s v r. tt;
