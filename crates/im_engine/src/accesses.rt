@@ -1,6 +1,6 @@
 //! Steps by a key.
 
-ghost use Rattle.std.specs.Prelude.{◌≡◌, None, false, List};
+ghost use Rattle.std.specs.Prelude.{◌≡◌, None, false};
 ghost use Rattle.im_engine.specs.Faults.{told_as, ends_engine};
 
 use crate::engine::Engine;
@@ -36,28 +36,17 @@ pub(crate) fn breaks(fault: im_base_types::Fault) -> bool
 }
 
 impl<D: Disk> Engine<D> {
-    ghost use Rattle.im_base_types.specs.Changes.{Effect};
-    ghost use Rattle.im_base_types.specs.Lives.{Shown};
     ghost use Rattle.im_base_types.specs.Answers as answers;
-    ghost use Rattle.im_engine_lock.specs.View.{View};
     ghost use Rattle.im_engine_index.specs.Outcomes.{seek_at};
-    ghost use Rattle.im_front.specs.Calls.{told_by};
-    ghost use Rattle.im_front.specs.Replies.{Suits};
     ghost use Rattle.im_theory_steps.specs.Checks.{checked_by};
-    ghost use Rattle.im_engine.specs.Running.{IsLife};
-    ghost use Rattle.im_engine.specs.Kept.{StepKept};
-    ghost use Rattle.im_engine.specs.Told.{IsTold, IsAnswered};
+    ghost use Rattle.im_engine.specs.Told.{IsMade};
 
     // The row id of a key. The law of its answer is `reads_are_served`, of the other two `waits_are_served` and `dies_are_served`, and of a
     // refusal `lacks_are_served` or, where it broke the engine, `lives_go_on`.
     pub(crate) fn fetch(&mut self, t: TxnId, key: &[u8]) -> Reply
         requires works { self.old.failed ≡ false }
         requires checked { checked_by self.old.txns.rows (answers.Do t (answers.Fetch key.now)) ≡ None }
-        ensures kept { (before : List Effect) (s : Shown) (v : View) → IsLife D.Disk before s v self.old → StepKept D.Disk before s v (answers.Do t (answers.Fetch key.now)) (told_by result) self.old self.new }
-        ensures told { IsTold D.Disk result self.old self.new }
-        ensures answered { IsAnswered D.Disk (answers.Do t (answers.Fetch key.now)) result self.old self.new }
-        ensures suits { Suits (answers.Do t (answers.Fetch key.now)) (told_by result) }
-        ensures frames { self.new.writer.pool.frames ≡ self.old.writer.pool.frames }
+        ensures { IsMade D.Disk (answers.Do t (answers.Fetch key.now)) result self.old self.new }
     {
         self.failed = true;
         match im_engine_index::fetch(&mut self.writer, &mut self.disk, &mut self.locks, t, key) {
@@ -88,11 +77,7 @@ impl<D: Disk> Engine<D> {
     pub(crate) fn seek(&mut self, t: TxnId, key: &[u8], inclusive: bool) -> Reply
         requires works { self.old.failed ≡ false }
         requires checked { checked_by self.old.txns.rows (answers.Do t (seek_at inclusive key.now)) ≡ None }
-        ensures kept { (before : List Effect) (s : Shown) (v : View) → IsLife D.Disk before s v self.old → StepKept D.Disk before s v (answers.Do t (seek_at inclusive key.now)) (told_by result) self.old self.new }
-        ensures told { IsTold D.Disk result self.old self.new }
-        ensures answered { IsAnswered D.Disk (answers.Do t (seek_at inclusive key.now)) result self.old self.new }
-        ensures suits { Suits (answers.Do t (seek_at inclusive key.now)) (told_by result) }
-        ensures frames { self.new.writer.pool.frames ≡ self.old.writer.pool.frames }
+        ensures { IsMade D.Disk (answers.Do t (seek_at inclusive key.now)) result self.old self.new }
     {
         self.failed = true;
         match im_engine_index::seek(
@@ -130,11 +115,7 @@ impl<D: Disk> Engine<D> {
     pub(crate) fn scan(&mut self, t: TxnId, lo: &[u8], hi: &[u8], limit: u64) -> Reply
         requires works { self.old.failed ≡ false }
         requires checked { checked_by self.old.txns.rows (answers.Do t (answers.Scan lo.now hi.now limit)) ≡ None }
-        ensures kept { (before : List Effect) (s : Shown) (v : View) → IsLife D.Disk before s v self.old → StepKept D.Disk before s v (answers.Do t (answers.Scan lo.now hi.now limit)) (told_by result) self.old self.new }
-        ensures told { IsTold D.Disk result self.old self.new }
-        ensures answered { IsAnswered D.Disk (answers.Do t (answers.Scan lo.now hi.now limit)) result self.old self.new }
-        ensures suits { Suits (answers.Do t (answers.Scan lo.now hi.now limit)) (told_by result) }
-        ensures frames { self.new.writer.pool.frames ≡ self.old.writer.pool.frames }
+        ensures { IsMade D.Disk (answers.Do t (answers.Scan lo.now hi.now limit)) result self.old self.new }
     {
         self.failed = true;
         match im_engine_index::scan(

@@ -1,6 +1,6 @@
 //! Transactions that begin and end.
 
-ghost use Rattle.std.specs.Prelude.{◌≡◌, None, false, List};
+ghost use Rattle.std.specs.Prelude.{◌≡◌, None, false};
 
 use crate::accesses::told;
 use crate::engine::Engine;
@@ -11,27 +11,15 @@ use im_front::{Fault, Reply};
 use im_log_record::Record;
 
 impl<D: Disk> Engine<D> {
-    ghost use Rattle.im_base_types.specs.Changes.{Effect};
-    ghost use Rattle.im_base_types.specs.Lives.{Shown};
     ghost use Rattle.im_base_types.specs.Answers as answers;
-    ghost use Rattle.im_engine_lock.specs.View.{View};
-    ghost use Rattle.im_front.specs.Calls.{told_by};
-    ghost use Rattle.im_front.specs.Replies.{Suits};
     ghost use Rattle.im_theory_steps.specs.Checks.{checked_by};
-    ghost use Rattle.im_engine.specs.Running.{IsLife};
-    ghost use Rattle.im_engine.specs.Kept.{StepKept};
-    ghost use Rattle.im_engine.specs.Told.{IsTold, IsAnswered, CallsDevice, StepCosts};
+    ghost use Rattle.im_engine.specs.Told.{IsMade};
 
     // Begins a transaction (`begins_are_served`; numbers that are used up break the engine).
     pub(crate) fn begin(&mut self) -> Reply
         requires works { self.old.failed ≡ false }
         requires checked { checked_by self.old.txns.rows answers.Begin ≡ None }
-        ensures kept { (before : List Effect) (s : Shown) (v : View) → IsLife D.Disk before s v self.old → StepKept D.Disk before s v answers.Begin (told_by result) self.old self.new }
-        ensures told { IsTold D.Disk result self.old self.new }
-        ensures answered { IsAnswered D.Disk answers.Begin result self.old self.new }
-        ensures suits { Suits answers.Begin (told_by result) }
-        ensures frames { self.new.writer.pool.frames ≡ self.old.writer.pool.frames }
-        ensures quiet { self.new.disk ≡ self.old.disk }
+        ensures { IsMade D.Disk answers.Begin result self.old self.new }
     {
         match self.txns.begin() {
             Some(number) => Reply::Started(number),
@@ -46,13 +34,7 @@ impl<D: Disk> Engine<D> {
     pub(crate) fn commit(&mut self, t: TxnId) -> Reply
         requires works { self.old.failed ≡ false }
         requires checked { checked_by self.old.txns.rows (answers.Commit t) ≡ None }
-        ensures kept { (before : List Effect) (s : Shown) (v : View) → IsLife D.Disk before s v self.old → StepKept D.Disk before s v (answers.Commit t) (told_by result) self.old self.new }
-        ensures told { IsTold D.Disk result self.old self.new }
-        ensures answered { IsAnswered D.Disk (answers.Commit t) result self.old self.new }
-        ensures suits { Suits (answers.Commit t) (told_by result) }
-        ensures frames { self.new.writer.pool.frames ≡ self.old.writer.pool.frames }
-        ensures quiet { (CallsDevice D.Disk (answers.Commit t) self.old → ⊥) → self.new.disk ≡ self.old.disk }
-        ensures costs { StepCosts D.Disk (answers.Commit t) result self.old self.new }
+        ensures { IsMade D.Disk (answers.Commit t) result self.old self.new }
     {
         let Some(row) = self.txns.find(t) else {
             return Reply::Refused(Fault::NoTransaction);
@@ -83,12 +65,7 @@ impl<D: Disk> Engine<D> {
     pub(crate) fn roll_back(&mut self, t: TxnId) -> Reply
         requires works { self.old.failed ≡ false }
         requires checked { checked_by self.old.txns.rows (answers.Rollback t) ≡ None }
-        ensures kept { (before : List Effect) (s : Shown) (v : View) → IsLife D.Disk before s v self.old → StepKept D.Disk before s v (answers.Rollback t) (told_by result) self.old self.new }
-        ensures told { IsTold D.Disk result self.old self.new }
-        ensures answered { IsAnswered D.Disk (answers.Rollback t) result self.old self.new }
-        ensures suits { Suits (answers.Rollback t) (told_by result) }
-        ensures frames { self.new.writer.pool.frames ≡ self.old.writer.pool.frames }
-        ensures quiet { self.new.disk ≡ self.old.disk }
+        ensures { IsMade D.Disk (answers.Rollback t) result self.old self.new }
     {
         let Some(row) = self.txns.find(t) else {
             return Reply::Refused(Fault::NoTransaction);
@@ -105,13 +82,7 @@ impl<D: Disk> Engine<D> {
     // Makes every record durable (`forces_are_served`, `commits_stand.acked`).
     pub(crate) fn force(&mut self) -> Reply
         requires works { self.old.failed ≡ false }
-        ensures kept { (before : List Effect) (s : Shown) (v : View) → IsLife D.Disk before s v self.old → StepKept D.Disk before s v answers.Force (told_by result) self.old self.new }
-        ensures told { IsTold D.Disk result self.old self.new }
-        ensures answered { IsAnswered D.Disk answers.Force result self.old self.new }
-        ensures suits { Suits answers.Force (told_by result) }
-        ensures frames { self.new.writer.pool.frames ≡ self.old.writer.pool.frames }
-        ensures quiet { (CallsDevice D.Disk answers.Force self.old → ⊥) → self.new.disk ≡ self.old.disk }
-        ensures costs { StepCosts D.Disk answers.Force result self.old self.new }
+        ensures { IsMade D.Disk answers.Force result self.old self.new }
     {
         self.failed = true;
         match self.writer.force(&mut self.disk) {
@@ -126,13 +97,7 @@ impl<D: Disk> Engine<D> {
     // Writes a page, where something of it is left to be written (`flushes_are_served`).
     pub(crate) fn flush_page(&mut self, page: PageNo) -> Reply
         requires works { self.old.failed ≡ false }
-        ensures kept { (before : List Effect) (s : Shown) (v : View) → IsLife D.Disk before s v self.old → StepKept D.Disk before s v (answers.FlushPage page) (told_by result) self.old self.new }
-        ensures told { IsTold D.Disk result self.old self.new }
-        ensures answered { IsAnswered D.Disk (answers.FlushPage page) result self.old self.new }
-        ensures suits { Suits (answers.FlushPage page) (told_by result) }
-        ensures frames { self.new.writer.pool.frames ≡ self.old.writer.pool.frames }
-        ensures quiet { (CallsDevice D.Disk (answers.FlushPage page) self.old → ⊥) → self.new.disk ≡ self.old.disk }
-        ensures costs { StepCosts D.Disk (answers.FlushPage page) result self.old self.new }
+        ensures { IsMade D.Disk (answers.FlushPage page) result self.old self.new }
     {
         self.failed = true;
         match self.writer.flush_one(&mut self.disk, page) {

@@ -1,7 +1,6 @@
 //! Keys that go.
 
-ghost use Rattle.std.specs.Prelude.{◌≡◌, None, false, List};
-ghost use Rattle.im_engine.specs.Faults.{told_as, ends_engine};
+ghost use Rattle.std.specs.Prelude.{◌≡◌, None, false};
 
 use crate::accesses::{breaks, told};
 use crate::engine::Engine;
@@ -12,30 +11,16 @@ use im_engine_txn::Mark;
 use im_front::{Blocker, Fault, Reply};
 
 impl<D: Disk> Engine<D> {
-    ghost use Rattle.im_base_types.specs.Changes.{Effect};
-    ghost use Rattle.im_theory_log.specs.Histories.{Base};
-    ghost use Rattle.im_base_types.specs.Lives.{Shown};
-    ghost use Rattle.im_theory_log.specs.Structure.{settled};
     ghost use Rattle.im_base_types.specs.Answers as answers;
-    ghost use Rattle.im_engine_lock.specs.View.{View};
-    ghost use Rattle.im_front.specs.Calls.{told_by};
-    ghost use Rattle.im_front.specs.Replies.{Suits};
     ghost use Rattle.im_theory_steps.specs.Checks.{checked_by};
-    ghost use Rattle.im_engine.specs.Running.{IsRunning, IsLife};
-    ghost use Rattle.im_engine.specs.Kept.{StepKept};
-    ghost use Rattle.im_engine.specs.Told.{IsTold, IsAnswered, WantsOf};
+    ghost use Rattle.im_engine.specs.Told.{IsMade};
 
     // Drops a key (`deletes_are_served`), and takes the leaf out of the tree that it leaves empty. For want of memory before its locks are
     // granted all is as it was; behind the grant the engine fails.
     pub(crate) fn delete(&mut self, t: TxnId, key: &[u8]) -> Reply
         requires works { self.old.failed ≡ false }
         requires checked { checked_by self.old.txns.rows (answers.Do t (answers.Delete key.now)) ≡ None }
-        ensures kept { (before : List Effect) (s : Shown) (v : View) → IsLife D.Disk before s v self.old → StepKept D.Disk before s v (answers.Do t (answers.Delete key.now)) (told_by result) self.old self.new }
-        ensures told { IsTold D.Disk result self.old self.new }
-        ensures answered { IsAnswered D.Disk (answers.Do t (answers.Delete key.now)) result self.old self.new }
-        ensures suits { Suits (answers.Do t (answers.Delete key.now)) (told_by result) }
-        ensures frames { self.new.writer.pool.frames ≡ self.old.writer.pool.frames }
-        ensures wants { (b : Base) (before : List Effect) (s : Shown) (v : View) (r : IsRunning D.Disk b before s v self.old) → WantsOf (settled b r.now.log) v.walk self.old.max_pages (answers.Do t (answers.Delete key.now)) result }
+        ensures { IsMade D.Disk (answers.Do t (answers.Delete key.now)) result self.old self.new }
     {
         let Some(row) = self.txns.find(t) else {
             return Reply::Refused(Fault::NoTransaction);

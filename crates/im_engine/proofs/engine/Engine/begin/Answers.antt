@@ -1,4 +1,4 @@
-use Rattle.std.proofs.Common.{ℕ, ◌≤◌, ◌^◌, length, refl, ap, subst}
+use Rattle.std.proofs.Common.{ℕ, ◌≤◌, ◌^◌, length, refl, ap, subst, rules}
 use Rattle.im_engine.proofs.Ending.{begin_few, began, numbers_end}
 use Rattle.im_base_types.specs.declared.fault.Fault.TheVariants.{Capacity}
 use Rattle.im_front.specs.declared.fault.Fault.TheVariants as above
@@ -8,32 +8,32 @@ use Rattle.im_engine.proofs.Telling.{alive_now, not_true, told_started, told_ref
 use Rattle.im_engine.proofs.Causes.{begin_made, begin_full}
 use Rattle.im_engine.proofs.engine.Engine.begin.Goals as goal
 
-pub returns-in-Some-clause-kept : goal.returns-in-Some-clause-kept
-returns-in-Some-clause-kept g c before s v life =
+pub returns-in-Some : goal.returns-in-Some
+returns-in-Some g c =
     let old = c.args.self.now in
     let made = c.in-Some.ensures.some in
-    began g.D.Disk before s v old _ life c.requires.works refl refl (g.met.D.Disk.only_now old.disk) c.in-Some.number made.0 made.1 (begin_few old.txns.rows c.requires.checked) made.2 refl c.requires.works
+    record {
+      kept = λ before s v life. began g.D.Disk before s v old _ life c.requires.works refl refl (g.met.D.Disk.only_now old.disk) c.in-Some.number made.0 made.1 (begin_few old.txns.rows c.requires.checked) made.2 refl c.requires.works;
+      told = told_started g.D.Disk old _ c.requires.works c.in-Some.number made.0 made.2 refl c.requires.works refl;
+      answered = begin_made g.D.Disk old old.writer.log old.disk c.requires.works c.requires.checked (replies.Started c.in-Some.number) (subst (λ (n : ℕ). n ≤ 2 ^ 62) made.0 made.1) (λ x e. cc e);
+      suits = search rules;
+      frames = refl;
+      wants = λ b before s v r. tt;
+      quiet = λ none. refl;
+      costs = tt;
+    }
 
-pub returns-in-None-clause-kept : goal.returns-in-None-clause-kept
-returns-in-None-clause-kept g c before s v life =
-    let old = c.args.self.now in
-    numbers_end g.D.Disk before s v old _ life c.requires.works c.requires.checked refl refl (g.met.D.Disk.only_now old.disk) (λ t f le left. g.met.D.Disk.counts_now old.disk t f le left)
-
-pub returns-in-Some-clause-told : goal.returns-in-Some-clause-told
-returns-in-Some-clause-told g c =
-    let made = c.in-Some.ensures.some in
-    told_started g.D.Disk c.args.self.now _ c.requires.works c.in-Some.number made.0 made.2 refl c.requires.works refl
-
-pub returns-in-Some-clause-answered : goal.returns-in-Some-clause-answered
-returns-in-Some-clause-answered g c =
-    let made = c.in-Some.ensures.some in
-    begin_made g.D.Disk c.args.self.now c.args.self.now.writer.log c.args.self.now.disk c.requires.works c.requires.checked (replies.Started c.in-Some.number) (subst (λ (n : ℕ). n ≤ 2 ^ 62) made.0 made.1) (λ x e. cc e)
-
-pub returns-in-None-clause-told : goal.returns-in-None-clause-told
-returns-in-None-clause-told g c =
+pub returns-in-None : goal.returns-in-None
+returns-in-None g c =
     let old = c.args.self.now in
     let same = c.in-None.ensures.none in
-    told_refused g.D.Disk old _ c.requires.works (ap (λ (x : Numbered). x.next) same) refl Capacity above.Capacity refl refl (ap (λ (x : Numbered). length x.rows) same) (λ lost. absurd (not_true (g.D.Disk.failed old.disk) (alive_now g.D.Disk old c.requires.works) lost))
-
-pub returns-in-None-clause-answered : goal.returns-in-None-clause-answered
-returns-in-None-clause-answered g c = begin_full g.D.Disk c.args.self.now c.args.self.now.writer.log c.args.self.now.disk c.requires.works c.requires.checked c.in-None.ensures.used_up
+    record {
+      kept = λ before s v life. numbers_end g.D.Disk before s v old _ life c.requires.works c.requires.checked refl refl (g.met.D.Disk.only_now old.disk) (λ t f le left. g.met.D.Disk.counts_now old.disk t f le left);
+      told = told_refused g.D.Disk old _ c.requires.works (ap (λ (x : Numbered). x.next) same) refl Capacity above.Capacity refl refl (ap (λ (x : Numbered). length x.rows) same) (λ lost. absurd (not_true (g.D.Disk.failed old.disk) (alive_now g.D.Disk old c.requires.works) lost));
+      answered = begin_full g.D.Disk old old.writer.log old.disk c.requires.works c.requires.checked c.in-None.ensures.used_up;
+      suits = search rules;
+      frames = refl;
+      wants = λ b before s v r. tt;
+      quiet = λ none. refl;
+      costs = tt;
+    }

@@ -1,4 +1,4 @@
-use Rattle.std.proofs.Common.{ℕ, ◌<◌, ◌≤◌, ◌^◌, List, Ok, Err, refl, subst}
+use Rattle.std.proofs.Common.{ℕ, ◌<◌, ◌≤◌, ◌^◌, List, Ok, Err, refl, subst, rules}
 use Rattle.im_base_types.specs.Answers as answers
 use Rattle.im_theory_log.specs.Histories.{Base}
 use Rattle.im_log_record.specs.Entry.{Checkpoint}
@@ -16,60 +16,57 @@ use Rattle.im_engine.proofs.Telling.{not_true, told_answered, told_refused, log_
 use Rattle.im_engine.proofs.Causes.{append_cause, behind, checkpoint_made, checkpoint_lost}
 use Rattle.im_engine.proofs.engine.Engine.checkpoint.Goals as goal
 
-pub returns-in-Ok-clause-kept : goal.returns-in-Ok-clause-kept
-returns-in-Ok-clause-kept g c before s v life =
+pub returns-in-Ok : goal.returns-in-Ok
+returns-in-Ok g c =
     let old = c.args.self.now in
-    let b : Base = (life.running c.requires.works).0 in
-    let r = (life.running c.requires.works).1 in
     let dirty = dirty_pages (synced_entries old.writer.table) in
-    let kept = subst (λ (n : ℕ). CheckpointKept g.D.Disk b r.base r.now n (listed old.txns.rows) dirty old.disk c.take.new.writer c.take.new.disk (Ok c.in-Ok._lsn)) c.next.ensures
-    (subst (λ (rows : List Transaction). CheckpointKept g.D.Disk b r.base r.now c.next.result (listed rows) dirty old.disk c.take.new.writer c.take.new.disk (Ok c.in-Ok._lsn)) c.table.ensures.rows
-    (c.in-Ok.ensures.kept b r.base r.now r.redo_end r.stands r.over)) in
-    checkpointed g.D.Disk before s v old _ life c.requires.works dirty c.in-Ok._lsn kept.ok kept.stops refl refl refl
+    record {
+      kept = λ before s v life.
+          let b : Base = (life.running c.requires.works).0 in
+          let r = (life.running c.requires.works).1 in
+          let kept = subst (λ (n : ℕ). CheckpointKept g.D.Disk b r.base r.now n (listed old.txns.rows) dirty old.disk c.take.new.writer c.take.new.disk (Ok c.in-Ok._lsn)) c.next.ensures
+          (subst (λ (rows : List Transaction). CheckpointKept g.D.Disk b r.base r.now c.next.result (listed rows) dirty old.disk c.take.new.writer c.take.new.disk (Ok c.in-Ok._lsn)) c.table.ensures.rows
+          (c.in-Ok.ensures.kept b r.base r.now r.redo_end r.stands r.over)) in
+          checkpointed g.D.Disk before s v old _ life c.requires.works dirty c.in-Ok._lsn kept.ok kept.stops refl refl refl;
+      told = told_answered g.D.Disk old _ c.requires.works refl refl replies.Done (λ k. refl) refl tt refl refl c.in-Ok.ensures.outcome.ends.alive;
+      answered =
+          let fits = subst (λ (n : ℕ). end_with old.writer.log (size_of (Checkpoint n (listed old.txns.rows) dirty)) ≤ 2 ^ 62) c.next.ensures
+          (subst (λ (rows : List Transaction). end_with old.writer.log (size_of (Checkpoint c.next.result (listed rows) dirty)) ≤ 2 ^ 62) c.table.ensures.rows c.in-Ok.ensures.fits) in
+          behind g.D.Disk old c.take.new.writer.log c.take.new.disk c.requires.works answers.Checkpoint replies.Done refl
+          (λ fault. checkpoint_made g.D.Disk old c.take.new.writer.log c.take.new.disk replies.Done (λ lost. not_true (g.D.Disk.failed c.take.new.disk) c.in-Ok.ensures.outcome.ends.alive lost) fits (λ x e. cc e) fault);
+      suits = search rules;
+      frames = search rules;
+      wants = λ b before s v r. tt;
+      quiet = λ none. absurd (none tt);
+      costs = c.take.ensures.few;
+    }
 
-pub returns-in-Err-clause-kept : goal.returns-in-Err-clause-kept
-returns-in-Err-clause-kept g c before s v life =
+pub returns-in-Err : goal.returns-in-Err
+returns-in-Err g c =
     let old = c.args.self.now in
-    let b : Base = (life.running c.requires.works).0 in
-    let r = (life.running c.requires.works).1 in
     let dirty = dirty_pages (synced_entries old.writer.table) in
-    let kept = subst (λ (n : ℕ). CheckpointKept g.D.Disk b r.base r.now n (listed old.txns.rows) dirty old.disk c.take.new.writer c.take.new.disk (Err c.in-Err.fault)) c.next.ensures
-    (subst (λ (rows : List Transaction). CheckpointKept g.D.Disk b r.base r.now c.next.result (listed rows) dirty old.disk c.take.new.writer c.take.new.disk (Err c.in-Err.fault)) c.table.ensures.rows
-    (c.in-Err.ensures.kept b r.base r.now r.redo_end r.stands r.over)) in
-    let of = of_log g.D.Disk old.writer old.disk c.take.new.writer c.take.new.disk (old.working c.requires.works) c.in-Err.fault c.in-Err.ensures.outcome.ends in
-    checkpoint_refused g.D.Disk before s v old _ life c.requires.works dirty c.in-Err.fault of c.told.result c.told.ensures refl kept.stops (λ t f le left. g.met.D.Disk.counts_now c.take.new.disk t f le left)
-
-pub returns-in-Ok-clause-told : goal.returns-in-Ok-clause-told
-returns-in-Ok-clause-told g c = told_answered g.D.Disk c.args.self.now _ c.requires.works refl refl replies.Done (λ k. refl) refl tt refl refl c.in-Ok.ensures.outcome.ends.alive
-
-pub returns-in-Err-clause-told : goal.returns-in-Err-clause-told
-returns-in-Err-clause-told g c =
-    let old = c.args.self.now in
     let ends = c.in-Err.ensures.outcome.ends in
-    told_refused g.D.Disk old _ c.requires.works refl refl c.in-Err.fault c.told.result c.told.ensures (log_ends g.D.Disk old.writer old.disk c.take.new.writer c.take.new.disk c.in-Err.fault ends) refl
-    (λ lost. log_lost g.D.Disk old.writer old.disk c.take.new.writer c.take.new.disk lost none_mild c.in-Err.fault ends (old.working c.requires.works))
-
-pub returns-in-Ok-clause-answered : goal.returns-in-Ok-clause-answered
-returns-in-Ok-clause-answered g c =
-    let old = c.args.self.now in
-    let dirty = dirty_pages (synced_entries old.writer.table) in
-    let fits = subst (λ (n : ℕ). end_with old.writer.log (size_of (Checkpoint n (listed old.txns.rows) dirty)) ≤ 2 ^ 62) c.next.ensures
-    (subst (λ (rows : List Transaction). end_with old.writer.log (size_of (Checkpoint c.next.result (listed rows) dirty)) ≤ 2 ^ 62) c.table.ensures.rows c.in-Ok.ensures.fits) in
-    behind g.D.Disk old c.take.new.writer.log c.take.new.disk c.requires.works answers.Checkpoint replies.Done refl
-    (λ fault. checkpoint_made g.D.Disk old c.take.new.writer.log c.take.new.disk replies.Done (λ lost. not_true (g.D.Disk.failed c.take.new.disk) c.in-Ok.ensures.outcome.ends.alive lost) fits (λ x e. cc e) fault)
-
-pub returns-in-Err-clause-answered : goal.returns-in-Err-clause-answered
-returns-in-Err-clause-answered g c =
-    let old = c.args.self.now in
-    let dirty = dirty_pages (synced_entries old.writer.table) in
-    behind g.D.Disk old c.take.new.writer.log c.take.new.disk c.requires.works answers.Checkpoint (replies.Refused c.told.result) refl
-    (λ fault. checkpoint_lost g.D.Disk old c.take.new.writer.log c.take.new.disk c.in-Err.fault c.told.result c.told.ensures
-    (append_cause g.D.Disk old.writer old.disk c.take.new.writer c.take.new.disk c.in-Err.fault c.in-Err.ensures.outcome.ends (old.working c.requires.works))
-    (λ full. subst (λ (n : ℕ). 2 ^ 62 < end_with old.writer.log (size_of (Checkpoint n (listed old.txns.rows) dirty))) c.next.ensures
-    (subst (λ (rows : List Transaction). 2 ^ 62 < end_with old.writer.log (size_of (Checkpoint c.next.result (listed rows) dirty))) c.table.ensures.rows (c.in-Err.ensures.full (λ j. Err (full j))))) fault)
-
-pub returns-in-Ok-clause-costs : goal.returns-in-Ok-clause-costs
-returns-in-Ok-clause-costs g c = c.take.ensures.few
-
-pub returns-in-Err-clause-costs : goal.returns-in-Err-clause-costs
-returns-in-Err-clause-costs g c = c.take.ensures.few
+    record {
+      kept = λ before s v life.
+          let b : Base = (life.running c.requires.works).0 in
+          let r = (life.running c.requires.works).1 in
+          let kept = subst (λ (n : ℕ). CheckpointKept g.D.Disk b r.base r.now n (listed old.txns.rows) dirty old.disk c.take.new.writer c.take.new.disk (Err c.in-Err.fault)) c.next.ensures
+          (subst (λ (rows : List Transaction). CheckpointKept g.D.Disk b r.base r.now c.next.result (listed rows) dirty old.disk c.take.new.writer c.take.new.disk (Err c.in-Err.fault)) c.table.ensures.rows
+          (c.in-Err.ensures.kept b r.base r.now r.redo_end r.stands r.over)) in
+          let of = of_log g.D.Disk old.writer old.disk c.take.new.writer c.take.new.disk (old.working c.requires.works) c.in-Err.fault c.in-Err.ensures.outcome.ends in
+          checkpoint_refused g.D.Disk before s v old _ life c.requires.works dirty c.in-Err.fault of c.told.result c.told.ensures refl kept.stops (λ t f le left. g.met.D.Disk.counts_now c.take.new.disk t f le left);
+      told =
+          told_refused g.D.Disk old _ c.requires.works refl refl c.in-Err.fault c.told.result c.told.ensures (log_ends g.D.Disk old.writer old.disk c.take.new.writer c.take.new.disk c.in-Err.fault ends) refl
+          (λ lost. log_lost g.D.Disk old.writer old.disk c.take.new.writer c.take.new.disk lost none_mild c.in-Err.fault ends (old.working c.requires.works));
+      answered =
+          behind g.D.Disk old c.take.new.writer.log c.take.new.disk c.requires.works answers.Checkpoint (replies.Refused c.told.result) refl
+          (λ fault. checkpoint_lost g.D.Disk old c.take.new.writer.log c.take.new.disk c.in-Err.fault c.told.result c.told.ensures
+          (append_cause g.D.Disk old.writer old.disk c.take.new.writer c.take.new.disk c.in-Err.fault c.in-Err.ensures.outcome.ends (old.working c.requires.works))
+          (λ full. subst (λ (n : ℕ). 2 ^ 62 < end_with old.writer.log (size_of (Checkpoint n (listed old.txns.rows) dirty))) c.next.ensures
+          (subst (λ (rows : List Transaction). 2 ^ 62 < end_with old.writer.log (size_of (Checkpoint c.next.result (listed rows) dirty))) c.table.ensures.rows (c.in-Err.ensures.full (λ j. Err (full j))))) fault);
+      suits = search rules;
+      frames = search rules;
+      wants = λ b before s v r. tt;
+      quiet = λ none. absurd (none tt);
+      costs = c.take.ensures.few;
+    }

@@ -1,4 +1,4 @@
-use Rattle.std.proofs.Common.{Err, refl, sym, ap, ◌∙◌, ◌+◌, length, arith}
+use Rattle.std.proofs.Common.{Err, refl, sym, ap, ◌∙◌, ◌+◌, length, arith, rules}
 use Rattle.im_theory_log.specs.WriterSteps.{appended}
 use Rattle.im_log_record.specs.Entry.{Commit}
 use Rattle.im_log.specs.Spelled.{logged_at}
@@ -6,7 +6,6 @@ use Rattle.im_engine.specs.Numbered.{Numbered}
 use Rattle.im_engine.proofs.Checked.{commit_mark}
 use Rattle.im_engine.proofs.Running.{covered_stops}
 use Rattle.im_engine.proofs.Ending.{of_log, cut_leaves, ended, commit_stops, committed_on, commit_refused}
-use Rattle.im_base_types.specs.declared.fault.Fault.TheVariants.{LogFull}
 use Rattle.im_page_writer.specs.Outcome.{none_mild}
 use Rattle.im_front.specs.declared.reply.Reply.TheVariants as replies
 use Rattle.im_engine.proofs.Telling.{alive_now, not_true, told_committed, told_refused, log_lost, log_ends}
@@ -15,144 +14,132 @@ use Rattle.im_base_disk.proofs.Costs.{forces_by, forces_none, most_as, most_none
 use Rattle.im_engine.proofs.Costs.{commit_costs}
 use Rattle.im_engine.proofs.engine.Engine.commit.Goals as goal
 
-pub returns-then-row-eq0-clause-kept : goal.returns-then-row-eq0-clause-kept
-returns-then-row-eq0-clause-kept g c before s v life =
+pub returns-then-row-eq0 : goal.returns-then-row-eq0
+returns-then-row-eq0 g c =
     let old = c.args.self.now in
     let found = sym c.in-Some.ensures.found in
-    ended g.D.Disk before s v old _ life c.requires.works c.args.t c.in-Some.row found (commit_mark old.txns.rows c.args.t c.in-Some.row found c.requires.checked)
-    c.release_all.ensures (c.end.ensures.one c.in-Some.row found ∙ ap (λ (x : Numbered). length x.rows + 1) c.end.ensures.left) c.end.ensures.left c.requires.works
-    (omega (arith, c.if-row-eq0.true)) refl refl (g.met.D.Disk.only_now old.disk)
-
-pub returns-in-Err-clause-kept : goal.returns-in-Err-clause-kept
-returns-in-Err-clause-kept g c before s v life =
-    let b = (life.running c.requires.works).0 in
-    let r = (life.running c.requires.works).1 in
-    let old = c.args.self.now in
-    let of = of_log g.D.Disk old.writer old.disk c.log_only.new.self c.log_only.new.disk (old.working c.requires.works) c.in-Err.fault c.in-Err.ensures.outcome.ends in
-    let kept = c.in-Err.ensures.kept b r.base r.now r.redo_end r.stands r.over (record { page = λ l p. refl; copy = λ l. refl; point = refl }) in
-    commit_refused g.D.Disk before s v old _ life c.requires.works c.args.t c.requires.checked c.in-Err.fault of c.told.result c.told.ensures refl
-    (cut_leaves g.D.Disk before s c.args.t old.disk c.log_only.new.disk (covered_stops g.D.Disk before s v old r c.log_only.new.disk kept.stops))
-    (λ t f le left. g.met.D.Disk.counts_now c.log_only.new.disk t f le left)
-
-pub returns-in-Err-force-clause-kept : goal.returns-in-Err-force-clause-kept
-returns-in-Err-force-clause-kept g c before s v life =
-    let b = (life.running c.requires.works).0 in
-    let r = (life.running c.requires.works).1 in
-    let old = c.args.self.now in
-    let row = c.in-Some.row in
-    let found = sym c.in-Some.ensures.found in
-    let lsn = c.in_default-log_only.field-0 in
-    let logged = c.in_default-log_only.ensures.kept b r.base r.now r.redo_end r.stands r.over (record { page = λ l p. refl; copy = λ l. refl; point = refl }) in
-    let forced = c.in-Err-force.ensures.kept b r.base (record (appended (logged_at lsn (Commit c.args.t row.last)) r.now) { durable = logged.ok.durable }) logged.ok.stands in
-    let of = of_log g.D.Disk c.log_only.new.self c.log_only.new.disk c.force.new.self c.force.new.disk c.in_default-log_only.ensures.outcome.ends.works c.in-Err-force.fault c.in-Err-force.ensures.outcome.ends in
-    commit_refused g.D.Disk before s v old _ life c.requires.works c.args.t c.requires.checked c.in-Err-force.fault of c.told-in-Err-force.result c.told-in-Err-force.ensures refl
-    (commit_stops g.D.Disk before s v old old life c.requires.works c.args.t row found (commit_mark old.txns.rows c.args.t row found c.requires.checked) (omega (arith, c.if-row-eq0.false)) lsn c.log_only.new.self c.log_only.new.disk logged.ok
-    c.force.new.disk logged.stops forced.stops)
-    (λ t f le left. g.met.D.Disk.counts_now c.force.new.disk t f le left)
-
-pub returns-clause-kept : goal.returns-clause-kept
-returns-clause-kept g c before s v life =
-    let b = (life.running c.requires.works).0 in
-    let r = (life.running c.requires.works).1 in
-    let old = c.args.self.now in
-    let row = c.in-Some.row in
-    let found = sym c.in-Some.ensures.found in
-    let mark = commit_mark old.txns.rows c.args.t row found c.requires.checked in
-    let lsn = c.in_default-log_only.field-0 in
-    let logged = c.in_default-log_only.ensures.kept b r.base r.now r.redo_end r.stands r.over (record { page = λ l p. refl; copy = λ l. refl; point = refl }) in
-    let forced = c.in_default-force.ensures.kept b r.base (record (appended (logged_at lsn (Commit c.args.t row.last)) r.now) { durable = logged.ok.durable }) logged.ok.stands in
-    committed_on g.D.Disk before s v old _ life c.requires.works c.args.t row found mark (omega (arith, c.if-row-eq0.false)) lsn c.log_only.new.self c.log_only.new.disk logged.ok
-    forced.ok (commit_stops g.D.Disk before s v old old life c.requires.works c.args.t row found mark (omega (arith, c.if-row-eq0.false)) lsn c.log_only.new.self c.log_only.new.disk logged.ok c.force.new.disk logged.stops forced.stops)
-    c.release_all-2.ensures (c.end-2.ensures.one row found ∙ ap (λ (x : Numbered). length x.rows + 1) c.end-2.ensures.left) c.end-2.ensures.left refl
-
-pub returns-then-row-eq0-clause-told : goal.returns-then-row-eq0-clause-told
-returns-then-row-eq0-clause-told g c =
-    let old = c.args.self.now in
-    told_committed g.D.Disk old _ c.requires.works (ap (λ (x : Numbered). x.next) c.end.ensures.left) refl (c.end.ensures.one c.in-Some.row (sym c.in-Some.ensures.found)) c.requires.works
-    (λ lost. absurd (not_true (g.D.Disk.failed old.disk) (alive_now g.D.Disk old c.requires.works) lost))
-
-pub returns-then-row-eq0-clause-answered : goal.returns-then-row-eq0-clause-answered
-returns-then-row-eq0-clause-answered g c =
-    commit_empty g.D.Disk c.args.self.now c.args.self.now.writer.log c.args.self.now.disk c.requires.works c.args.t c.in-Some.row (sym c.in-Some.ensures.found) c.requires.checked replies.Committed (omega (arith, c.if-row-eq0.true)) (λ x e. cc e)
-
-pub returns-in-Err-clause-told : goal.returns-in-Err-clause-told
-returns-in-Err-clause-told g c =
-    let old = c.args.self.now in
-    let ends = c.in-Err.ensures.outcome.ends in
-    told_refused g.D.Disk old _ c.requires.works refl refl c.in-Err.fault c.told.result c.told.ensures (log_ends g.D.Disk old.writer old.disk c.log_only.new.self c.log_only.new.disk c.in-Err.fault ends) refl
-    (λ lost. log_lost g.D.Disk old.writer old.disk c.log_only.new.self c.log_only.new.disk lost none_mild c.in-Err.fault ends (old.working c.requires.works))
-
-pub returns-in-Err-clause-answered : goal.returns-in-Err-clause-answered
-returns-in-Err-clause-answered g c =
-    let old = c.args.self.now in
-    commit_append g.D.Disk old c.log_only.new.self.log c.log_only.new.disk c.requires.works c.args.t c.in-Some.row (sym c.in-Some.ensures.found) c.requires.checked (omega (arith, c.if-row-eq0.false)) c.in-Err.fault c.told.result c.told.ensures
-    (append_cause g.D.Disk old.writer old.disk c.log_only.new.self c.log_only.new.disk c.in-Err.fault c.in-Err.ensures.outcome.ends (old.working c.requires.works))
-    (λ is. (c.in-Err.ensures.full.0 (λ j. Err (is j))).1) (λ over. let is = c.in-Err.ensures.full.1 (old.working c.requires.works, over) in cc is)
-
-pub returns-in-Err-force-clause-told : goal.returns-in-Err-force-clause-told
-returns-in-Err-force-clause-told g c =
-    let old = c.args.self.now in
-    let works = c.in_default-log_only.ensures.outcome.ends.works in
-    let ends = c.in-Err-force.ensures.outcome.ends in
-    told_refused g.D.Disk old _ c.requires.works refl refl c.in-Err-force.fault c.told-in-Err-force.result c.told-in-Err-force.ensures (log_ends g.D.Disk c.log_only.new.self c.log_only.new.disk c.force.new.self c.force.new.disk c.in-Err-force.fault ends) refl
-    (λ lost. log_lost g.D.Disk c.log_only.new.self c.log_only.new.disk c.force.new.self c.force.new.disk lost none_mild c.in-Err-force.fault ends works)
-
-pub returns-in-Err-force-clause-answered : goal.returns-in-Err-force-clause-answered
-returns-in-Err-force-clause-answered g c =
-    let old = c.args.self.now in
-    let works = c.in_default-log_only.ensures.outcome.ends.works in
-    let cause = force_cause g.D.Disk c.log_only.new.self c.log_only.new.disk c.force.new.self c.force.new.disk c.in-Err-force.fault c.in-Err-force.ensures.outcome.ends works (λ full. c.in-Err-force.ensures.room (λ j. Err (full j))) in
-    commit_lost g.D.Disk old c.force.new.self.log c.force.new.disk c.requires.works c.args.t c.in-Some.row (sym c.in-Some.ensures.found) c.requires.checked (omega (arith, c.if-row-eq0.false)) c.told-in-Err-force.result (c.told-in-Err-force.ensures ∙ cause.0)
-    (λ over. let is = c.in_default-log_only.ensures.full.1 (old.working c.requires.works, over) in cc is) cause.1
-
-pub returns-clause-told : goal.returns-clause-told
-returns-clause-told g c =
-    told_committed g.D.Disk c.args.self.now _ c.requires.works (ap (λ (x : Numbered). x.next) c.end-2.ensures.left) refl (c.end-2.ensures.one c.in-Some.row (sym c.in-Some.ensures.found)) refl
-    (λ lost. absurd (not_true (g.D.Disk.failed c.force.new.disk) c.in_default-force.ensures.outcome.ends.alive lost))
-
-pub returns-clause-answered : goal.returns-clause-answered
-returns-clause-answered g c =
-    let old = c.args.self.now in
-    commit_made g.D.Disk old c.force.new.self.log c.force.new.disk c.requires.works c.args.t c.in-Some.row (sym c.in-Some.ensures.found) c.requires.checked (omega (arith, c.if-row-eq0.false)) replies.Committed
-    (λ over. let is = c.in_default-log_only.ensures.full.1 (old.working c.requires.works, over) in cc is) (λ lost. not_true (g.D.Disk.failed c.force.new.disk) c.in_default-force.ensures.outcome.ends.alive lost) (λ x e. cc e)
-
-pub returns-in-Err-clause-quiet : goal.returns-in-Err-clause-quiet
-returns-in-Err-clause-quiet g c calls = absurd (calls (logged g.D.Disk c.args.self.now c.args.self.now.writer.log c.args.self.now.disk c.requires.works c.args.t c.in-Some.row (sym c.in-Some.ensures.found) c.requires.checked (omega (arith, c.if-row-eq0.false))))
-
-pub returns-in-Err-force-clause-quiet : goal.returns-in-Err-force-clause-quiet
-returns-in-Err-force-clause-quiet g c calls = absurd (calls (logged g.D.Disk c.args.self.now c.args.self.now.writer.log c.args.self.now.disk c.requires.works c.args.t c.in-Some.row (sym c.in-Some.ensures.found) c.requires.checked (omega (arith, c.if-row-eq0.false))))
-
-pub returns-clause-quiet : goal.returns-clause-quiet
-returns-clause-quiet g c calls = absurd (calls (logged g.D.Disk c.args.self.now c.args.self.now.writer.log c.args.self.now.disk c.requires.works c.args.t c.in-Some.row (sym c.in-Some.ensures.found) c.requires.checked (omega (arith, c.if-row-eq0.false))))
-
-pub returns-then-row-eq0-clause-costs : goal.returns-then-row-eq0-clause-costs
-returns-then-row-eq0-clause-costs g c =
-    let old = c.args.self.now in
     record {
-      most = most_none g.D.Disk 4 4 old.disk;
-      forces = λ is. forces_none g.D.Disk 2 old.disk;
-      one = λ is has. absurd (unlogged g.D.Disk old old.writer.log old.disk c.requires.works c.args.t c.in-Some.row (sym c.in-Some.ensures.found) c.requires.checked (omega (arith, c.if-row-eq0.true)) has);
+      kept = λ before s v life.
+          ended g.D.Disk before s v old _ life c.requires.works c.args.t c.in-Some.row found (commit_mark old.txns.rows c.args.t c.in-Some.row found c.requires.checked)
+          c.release_all.ensures (c.end.ensures.one c.in-Some.row found ∙ ap (λ (x : Numbered). length x.rows + 1) c.end.ensures.left) c.end.ensures.left c.requires.works
+          (omega (arith, c.if-row-eq0.true)) refl refl (g.met.D.Disk.only_now old.disk);
+      told =
+          told_committed g.D.Disk old _ c.requires.works (ap (λ (x : Numbered). x.next) c.end.ensures.left) refl (c.end.ensures.one c.in-Some.row found) c.requires.works
+          (λ lost. absurd (not_true (g.D.Disk.failed old.disk) (alive_now g.D.Disk old c.requires.works) lost));
+      answered = commit_empty g.D.Disk old old.writer.log old.disk c.requires.works c.args.t c.in-Some.row found c.requires.checked replies.Committed (omega (arith, c.if-row-eq0.true)) (λ x e. cc e);
+      suits = search rules;
+      frames = search rules;
+      wants = λ b before s v r. tt;
+      quiet = λ calls. refl;
+      costs =
+          record {
+            most = most_none g.D.Disk 4 4 old.disk;
+            forces = λ is. forces_none g.D.Disk 2 old.disk;
+            one = λ is has. absurd (unlogged g.D.Disk old old.writer.log old.disk c.requires.works c.args.t c.in-Some.row found c.requires.checked (omega (arith, c.if-row-eq0.true)) has);
+          };
     }
 
-pub returns-in-Err-clause-costs : goal.returns-in-Err-clause-costs
-returns-in-Err-clause-costs g c = record {
-  most = most_as g.D.Disk 2 2 4 4 c.args.self.now.disk c.log_only.new.disk (omega arith) (omega arith) c.log_only.ensures.few;
-  forces = λ is. absurd (cc is);
-  one = λ is. absurd (cc is);
-}
-
-pub returns-in-Err-force-clause-costs : goal.returns-in-Err-force-clause-costs
-returns-in-Err-force-clause-costs g c = record {
-  most = most_then g.D.Disk 2 2 2 2 c.args.self.now.disk c.log_only.new.disk c.force.new.disk c.log_only.ensures.few c.force.ensures.few;
-  forces = λ is. absurd (cc is);
-  one = λ is. absurd (cc is);
-}
-
-pub returns-clause-costs : goal.returns-clause-costs
-returns-clause-costs g c =
+pub returns-in-Err : goal.returns-in-Err
+returns-in-Err g c =
     let old = c.args.self.now in
-    let logged = c.in_default-log_only.ensures in
-    let forced = c.in_default-force.ensures in
-    commit_costs g.D.Disk old.writer.log.used _ replies.Committed old.disk c.log_only.new.disk c.force.new.disk c.log_only.ensures.few c.force.ensures.few logged.forces
-    (forces_by g.D.Disk c.log_only.new.self.log.used c.log_only.new.disk c.force.new.disk forced.costs (λ none. (forced.none logged.outcome.ends.works none).2)) logged.fits
-    (λ fits. forced.costs (omega (arith, logged.used fits)))
+    let found = sym c.in-Some.ensures.found in
+    let of = of_log g.D.Disk old.writer old.disk c.log_only.new.self c.log_only.new.disk (old.working c.requires.works) c.in-Err.fault c.in-Err.ensures.outcome.ends in
+    let ends = c.in-Err.ensures.outcome.ends in
+    record {
+      kept = λ before s v life.
+          let b = (life.running c.requires.works).0 in
+          let r = (life.running c.requires.works).1 in
+          let kept = c.in-Err.ensures.kept b r.base r.now r.redo_end r.stands r.over (record { page = λ l p. refl; copy = λ l. refl; point = refl }) in
+          commit_refused g.D.Disk before s v old _ life c.requires.works c.args.t c.requires.checked c.in-Err.fault of c.told.result c.told.ensures refl
+          (cut_leaves g.D.Disk before s c.args.t old.disk c.log_only.new.disk (covered_stops g.D.Disk before s v old r c.log_only.new.disk kept.stops))
+          (λ t f le left. g.met.D.Disk.counts_now c.log_only.new.disk t f le left);
+      told =
+          told_refused g.D.Disk old _ c.requires.works refl refl c.in-Err.fault c.told.result c.told.ensures (log_ends g.D.Disk old.writer old.disk c.log_only.new.self c.log_only.new.disk c.in-Err.fault ends) refl
+          (λ lost. log_lost g.D.Disk old.writer old.disk c.log_only.new.self c.log_only.new.disk lost none_mild c.in-Err.fault ends (old.working c.requires.works));
+      answered =
+          commit_append g.D.Disk old c.log_only.new.self.log c.log_only.new.disk c.requires.works c.args.t c.in-Some.row found c.requires.checked (omega (arith, c.if-row-eq0.false)) c.in-Err.fault c.told.result c.told.ensures
+          (append_cause g.D.Disk old.writer old.disk c.log_only.new.self c.log_only.new.disk c.in-Err.fault c.in-Err.ensures.outcome.ends (old.working c.requires.works))
+          (λ is. (c.in-Err.ensures.full.0 (λ j. Err (is j))).1) (λ over. let is = c.in-Err.ensures.full.1 (old.working c.requires.works, over) in cc is);
+      suits = search rules;
+      frames = search rules;
+      wants = λ b before s v r. tt;
+      quiet = λ calls. absurd (calls (logged g.D.Disk old old.writer.log old.disk c.requires.works c.args.t c.in-Some.row found c.requires.checked (omega (arith, c.if-row-eq0.false))));
+      costs =
+          record {
+            most = most_as g.D.Disk 2 2 4 4 old.disk c.log_only.new.disk (omega arith) (omega arith) c.log_only.ensures.few;
+            forces = λ is. absurd (cc is);
+            one = λ is. absurd (cc is);
+          };
+    }
+
+pub returns-in-Err-force : goal.returns-in-Err-force
+returns-in-Err-force g c =
+    let old = c.args.self.now in
+    let found = sym c.in-Some.ensures.found in
+    let row = c.in-Some.row in
+    let lsn = c.in_default-log_only.field-0 in
+    let of = of_log g.D.Disk c.log_only.new.self c.log_only.new.disk c.force.new.self c.force.new.disk c.in_default-log_only.ensures.outcome.ends.works c.in-Err-force.fault c.in-Err-force.ensures.outcome.ends in
+    let works = c.in_default-log_only.ensures.outcome.ends.works in
+    let ends = c.in-Err-force.ensures.outcome.ends in
+    let cause = force_cause g.D.Disk c.log_only.new.self c.log_only.new.disk c.force.new.self c.force.new.disk c.in-Err-force.fault c.in-Err-force.ensures.outcome.ends works (λ full. c.in-Err-force.ensures.room (λ j. Err (full j))) in
+    record {
+      kept = λ before s v life.
+          let b = (life.running c.requires.works).0 in
+          let r = (life.running c.requires.works).1 in
+          let logged = c.in_default-log_only.ensures.kept b r.base r.now r.redo_end r.stands r.over (record { page = λ l p. refl; copy = λ l. refl; point = refl }) in
+          let forced = c.in-Err-force.ensures.kept b r.base (record (appended (logged_at lsn (Commit c.args.t row.last)) r.now) { durable = logged.ok.durable }) logged.ok.stands in
+          commit_refused g.D.Disk before s v old _ life c.requires.works c.args.t c.requires.checked c.in-Err-force.fault of c.told-in-Err-force.result c.told-in-Err-force.ensures refl
+          (commit_stops g.D.Disk before s v old old life c.requires.works c.args.t row found (commit_mark old.txns.rows c.args.t row found c.requires.checked) (omega (arith, c.if-row-eq0.false)) lsn c.log_only.new.self c.log_only.new.disk logged.ok
+          c.force.new.disk logged.stops forced.stops)
+          (λ t f le left. g.met.D.Disk.counts_now c.force.new.disk t f le left);
+      told =
+          told_refused g.D.Disk old _ c.requires.works refl refl c.in-Err-force.fault c.told-in-Err-force.result c.told-in-Err-force.ensures (log_ends g.D.Disk c.log_only.new.self c.log_only.new.disk c.force.new.self c.force.new.disk c.in-Err-force.fault ends) refl
+          (λ lost. log_lost g.D.Disk c.log_only.new.self c.log_only.new.disk c.force.new.self c.force.new.disk lost none_mild c.in-Err-force.fault ends works);
+      answered =
+          commit_lost g.D.Disk old c.force.new.self.log c.force.new.disk c.requires.works c.args.t c.in-Some.row found c.requires.checked (omega (arith, c.if-row-eq0.false)) c.told-in-Err-force.result (c.told-in-Err-force.ensures ∙ cause.0)
+          (λ over. let is = c.in_default-log_only.ensures.full.1 (old.working c.requires.works, over) in cc is) cause.1;
+      suits = search rules;
+      frames = search rules;
+      wants = λ b before s v r. tt;
+      quiet = λ calls. absurd (calls (logged g.D.Disk old old.writer.log old.disk c.requires.works c.args.t c.in-Some.row found c.requires.checked (omega (arith, c.if-row-eq0.false))));
+      costs =
+          record {
+            most = most_then g.D.Disk 2 2 2 2 old.disk c.log_only.new.disk c.force.new.disk c.log_only.ensures.few c.force.ensures.few;
+            forces = λ is. absurd (cc is);
+            one = λ is. absurd (cc is);
+          };
+    }
+
+pub returns : goal.returns
+returns g c =
+    let old = c.args.self.now in
+    let found = sym c.in-Some.ensures.found in
+    let row = c.in-Some.row in
+    let mark = commit_mark old.txns.rows c.args.t row found c.requires.checked in
+    let lsn = c.in_default-log_only.field-0 in
+    let written = c.in_default-log_only.ensures in
+    let synced = c.in_default-force.ensures in
+    record {
+      kept = λ before s v life.
+          let b = (life.running c.requires.works).0 in
+          let r = (life.running c.requires.works).1 in
+          let logged = c.in_default-log_only.ensures.kept b r.base r.now r.redo_end r.stands r.over (record { page = λ l p. refl; copy = λ l. refl; point = refl }) in
+          let forced = c.in_default-force.ensures.kept b r.base (record (appended (logged_at lsn (Commit c.args.t row.last)) r.now) { durable = logged.ok.durable }) logged.ok.stands in
+          committed_on g.D.Disk before s v old _ life c.requires.works c.args.t row found mark (omega (arith, c.if-row-eq0.false)) lsn c.log_only.new.self c.log_only.new.disk logged.ok
+          forced.ok (commit_stops g.D.Disk before s v old old life c.requires.works c.args.t row found mark (omega (arith, c.if-row-eq0.false)) lsn c.log_only.new.self c.log_only.new.disk logged.ok c.force.new.disk logged.stops forced.stops)
+          c.release_all-2.ensures (c.end-2.ensures.one row found ∙ ap (λ (x : Numbered). length x.rows + 1) c.end-2.ensures.left) c.end-2.ensures.left refl;
+      told =
+          told_committed g.D.Disk old _ c.requires.works (ap (λ (x : Numbered). x.next) c.end-2.ensures.left) refl (c.end-2.ensures.one c.in-Some.row found) refl
+          (λ lost. absurd (not_true (g.D.Disk.failed c.force.new.disk) c.in_default-force.ensures.outcome.ends.alive lost));
+      answered =
+          commit_made g.D.Disk old c.force.new.self.log c.force.new.disk c.requires.works c.args.t c.in-Some.row found c.requires.checked (omega (arith, c.if-row-eq0.false)) replies.Committed
+          (λ over. let is = c.in_default-log_only.ensures.full.1 (old.working c.requires.works, over) in cc is) (λ lost. not_true (g.D.Disk.failed c.force.new.disk) c.in_default-force.ensures.outcome.ends.alive lost) (λ x e. cc e);
+      suits = search rules;
+      frames = search rules;
+      wants = λ b before s v r. tt;
+      quiet = λ calls. absurd (calls (logged g.D.Disk old old.writer.log old.disk c.requires.works c.args.t c.in-Some.row found c.requires.checked (omega (arith, c.if-row-eq0.false))));
+      costs =
+          commit_costs g.D.Disk old.writer.log.used _ replies.Committed old.disk c.log_only.new.disk c.force.new.disk c.log_only.ensures.few c.force.ensures.few written.forces
+          (forces_by g.D.Disk c.log_only.new.self.log.used c.log_only.new.disk c.force.new.disk synced.costs (λ none. (synced.none written.outcome.ends.works none).2)) written.fits
+          (λ fits. synced.costs (omega (arith, written.used fits)));
+    }

@@ -1,4 +1,4 @@
-use Rattle.std.proofs.Common.{refl, ap, ◌∙◌, length}
+use Rattle.std.proofs.Common.{refl, ap, ◌∙◌, length, rules}
 use Rattle.im_base_types.specs.Answers as answers
 use Rattle.im_page_writer.specs.Outcome.{pages_of}
 use Rattle.im_engine.proofs.Running.{has_good_tree, walk_is}
@@ -13,71 +13,90 @@ use Rattle.im_engine.proofs.Telling.{told_answered, told_refused, read_lost}
 use Rattle.im_engine.proofs.Causes.{read_answered, read_cause, read_refused}
 use Rattle.im_engine.proofs.engine.Engine.fetch.Goals as goal
 
-pub returns-in-Some-clause-kept : goal.returns-in-Some-clause-kept
-returns-in-Some-clause-kept g c before s v life =
-    let r = (life.running c.requires.works).1 in
+pub returns-in-Some : goal.returns-in-Some
+returns-in-Some g c =
     let old = c.args.self.now in
-    let read = c.in-Ok-Granted.ensures.kept (pages_of r.now) v.walk (has_good_tree g.D.Disk before s v old r) (walk_is g.D.Disk before s v old r) in
-    granted g.D.Disk before s v c.args.t (answers.Fetch c.args.key.now) old _ life c.requires.works c.requires.checked refl answers.found c.in-Ok-Granted.field-0 read c.in-Ok-Granted.found c.in-Ok-Granted.field-0-is (answers.Found c.in-Some.rid) (ap answers.found c.in-Some.is) c.in-Ok-Granted.ensures.outcome refl refl
+    record {
+      kept = λ before s v life.
+          let r = (life.running c.requires.works).1 in
+          let read = c.in-Ok-Granted.ensures.kept (pages_of r.now) v.walk (has_good_tree g.D.Disk before s v old r) (walk_is g.D.Disk before s v old r) in
+          granted g.D.Disk before s v c.args.t (answers.Fetch c.args.key.now) old _ life c.requires.works c.requires.checked refl answers.found c.in-Ok-Granted.field-0 read c.in-Ok-Granted.found c.in-Ok-Granted.field-0-is (answers.Found c.in-Some.rid) (ap answers.found c.in-Some.is) c.in-Ok-Granted.ensures.outcome refl refl;
+      told = told_answered g.D.Disk old _ c.requires.works refl refl (replies.Found c.in-Some.rid) (λ k. refl) refl tt refl refl c.in-Ok-Granted.ensures.outcome.ends.alive;
+      answered = read_answered g.D.Disk old c.fetch.new.writer.log c.fetch.new.disk c.requires.works c.args.t (answers.Fetch c.args.key.now) refl c.requires.checked (replies.Found c.in-Some.rid) (λ x e. cc e);
+      suits = search rules;
+      frames = search rules;
+      wants = λ b before s v r. tt;
+      quiet = λ none. absurd (none tt);
+      costs = tt;
+    }
 
-pub returns-in-None-clause-kept : goal.returns-in-None-clause-kept
-returns-in-None-clause-kept g c before s v life =
-    let r = (life.running c.requires.works).1 in
+pub returns-in-None : goal.returns-in-None
+returns-in-None g c =
     let old = c.args.self.now in
-    let read = c.in-Ok-Granted.ensures.kept (pages_of r.now) v.walk (has_good_tree g.D.Disk before s v old r) (walk_is g.D.Disk before s v old r) in
-    granted g.D.Disk before s v c.args.t (answers.Fetch c.args.key.now) old _ life c.requires.works c.requires.checked refl answers.found c.in-Ok-Granted.field-0 read c.in-Ok-Granted.found c.in-Ok-Granted.field-0-is answers.Absent (ap answers.found c.in-None.is) c.in-Ok-Granted.ensures.outcome refl refl
+    record {
+      kept = λ before s v life.
+          let r = (life.running c.requires.works).1 in
+          let read = c.in-Ok-Granted.ensures.kept (pages_of r.now) v.walk (has_good_tree g.D.Disk before s v old r) (walk_is g.D.Disk before s v old r) in
+          granted g.D.Disk before s v c.args.t (answers.Fetch c.args.key.now) old _ life c.requires.works c.requires.checked refl answers.found c.in-Ok-Granted.field-0 read c.in-Ok-Granted.found c.in-Ok-Granted.field-0-is answers.Absent (ap answers.found c.in-None.is) c.in-Ok-Granted.ensures.outcome refl refl;
+      told = told_answered g.D.Disk old _ c.requires.works refl refl replies.Absent (λ k. refl) refl tt refl refl c.in-Ok-Granted.ensures.outcome.ends.alive;
+      answered = read_answered g.D.Disk old c.fetch.new.writer.log c.fetch.new.disk c.requires.works c.args.t (answers.Fetch c.args.key.now) refl c.requires.checked replies.Absent (λ x e. cc e);
+      suits = search rules;
+      frames = search rules;
+      wants = λ b before s v r. tt;
+      quiet = λ none. absurd (none tt);
+      costs = tt;
+    }
 
-pub returns-in-Ok-Wait-clause-kept : goal.returns-in-Ok-Wait-clause-kept
-returns-in-Ok-Wait-clause-kept g c before s v life =
-    let r = (life.running c.requires.works).1 in
+pub returns-in-Ok-Wait : goal.returns-in-Ok-Wait
+returns-in-Ok-Wait g c =
     let old = c.args.self.now in
-    let read = c.in-Ok-Wait.ensures.kept (pages_of r.now) v.walk (has_good_tree g.D.Disk before s v old r) (walk_is g.D.Disk before s v old r) in
-    waits g.D.Disk before s v c.args.t (answers.Fetch c.args.key.now) old _ life c.requires.works c.requires.checked answers.found c.in-Ok-Wait.field-0 read c.in-Ok-Wait.holder c.in-Ok-Wait.field-0-is c.in-Ok-Wait.ensures.outcome refl refl
+    record {
+      kept = λ before s v life.
+          let r = (life.running c.requires.works).1 in
+          let read = c.in-Ok-Wait.ensures.kept (pages_of r.now) v.walk (has_good_tree g.D.Disk before s v old r) (walk_is g.D.Disk before s v old r) in
+          waits g.D.Disk before s v c.args.t (answers.Fetch c.args.key.now) old _ life c.requires.works c.requires.checked answers.found c.in-Ok-Wait.field-0 read c.in-Ok-Wait.holder c.in-Ok-Wait.field-0-is c.in-Ok-Wait.ensures.outcome refl refl;
+      told = told_answered g.D.Disk old _ c.requires.works refl refl (replies.Blocked (Lock c.in-Ok-Wait.holder)) (λ k. refl) refl tt refl refl c.in-Ok-Wait.ensures.outcome.ends.alive;
+      answered = read_answered g.D.Disk old c.fetch.new.writer.log c.fetch.new.disk c.requires.works c.args.t (answers.Fetch c.args.key.now) refl c.requires.checked (replies.Blocked (Lock c.in-Ok-Wait.holder)) (λ x e. cc e);
+      suits = search rules;
+      frames = search rules;
+      wants = λ b before s v r. tt;
+      quiet = λ none. absurd (none tt);
+      costs = tt;
+    }
 
-pub returns-in-Ok-Die-clause-kept : goal.returns-in-Ok-Die-clause-kept
-returns-in-Ok-Die-clause-kept g c before s v life =
-    let r = (life.running c.requires.works).1 in
+pub returns-in-Ok-Die : goal.returns-in-Ok-Die
+returns-in-Ok-Die g c =
     let old = c.args.self.now in
-    let read = c.in-Ok-Die.ensures.kept (pages_of r.now) v.walk (has_good_tree g.D.Disk before s v old r) (walk_is g.D.Disk before s v old r) in
-    dies g.D.Disk before s v c.args.t (answers.Fetch c.args.key.now) old _ life c.requires.works c.requires.checked answers.found c.in-Ok-Die.field-0 read c.in-Ok-Die.field-0-is c.in-Ok-Die.ensures.outcome c.set_mark.ensures refl
+    record {
+      kept = λ before s v life.
+          let r = (life.running c.requires.works).1 in
+          let read = c.in-Ok-Die.ensures.kept (pages_of r.now) v.walk (has_good_tree g.D.Disk before s v old r) (walk_is g.D.Disk before s v old r) in
+          dies g.D.Disk before s v c.args.t (answers.Fetch c.args.key.now) old _ life c.requires.works c.requires.checked answers.found c.in-Ok-Die.field-0 read c.in-Ok-Die.field-0-is c.in-Ok-Die.ensures.outcome c.set_mark.ensures refl;
+      told = told_answered g.D.Disk old _ c.requires.works (ap (λ (x : Numbered). x.next) c.set_mark.ensures) refl replies.Die (λ k. refl) refl tt refl (ap (λ (x : Numbered). length x.rows) c.set_mark.ensures ∙ length-map old.txns.rows (changed c.args.t (with_mark MustRollBack))) c.in-Ok-Die.ensures.outcome.ends.alive;
+      answered = read_answered g.D.Disk old c.fetch.new.writer.log c.fetch.new.disk c.requires.works c.args.t (answers.Fetch c.args.key.now) refl c.requires.checked replies.Die (λ x e. cc e);
+      suits = search rules;
+      frames = search rules;
+      wants = λ b before s v r. tt;
+      quiet = λ none. absurd (none tt);
+      costs = tt;
+    }
 
-pub returns-in-Err-clause-kept : goal.returns-in-Err-clause-kept
-returns-in-Err-clause-kept g c before s v life =
-    let r = (life.running c.requires.works).1 in
+pub returns-in-Err : goal.returns-in-Err
+returns-in-Err g c =
     let old = c.args.self.now in
-    let sound = c.in-Err.ensures.kept (pages_of r.now) v.walk (has_good_tree g.D.Disk before s v old r) (walk_is g.D.Disk before s v old r) in
-    refused g.D.Disk before s v c.args.t (answers.Fetch c.args.key.now) old _ life c.requires.works c.requires.checked (λ t f le left. g.met.D.Disk.counts_now c.fetch.new.disk t f le left) c.in-Err.fault refl c.in-Err.ensures.outcome sound
-    c.breaks-self.ensures refl c.in-Err.ensures.table c.told.result c.told.ensures
-
-pub returns-in-Some-clause-told : goal.returns-in-Some-clause-told
-returns-in-Some-clause-told g c = told_answered g.D.Disk c.args.self.now _ c.requires.works refl refl (replies.Found c.in-Some.rid) (λ k. refl) refl tt refl refl c.in-Ok-Granted.ensures.outcome.ends.alive
-
-pub returns-in-Some-clause-answered : goal.returns-in-Some-clause-answered
-returns-in-Some-clause-answered g c = read_answered g.D.Disk c.args.self.now c.fetch.new.writer.log c.fetch.new.disk c.requires.works c.args.t (answers.Fetch c.args.key.now) refl c.requires.checked (replies.Found c.in-Some.rid) (λ x e. cc e)
-
-pub returns-in-None-clause-told : goal.returns-in-None-clause-told
-returns-in-None-clause-told g c = told_answered g.D.Disk c.args.self.now _ c.requires.works refl refl replies.Absent (λ k. refl) refl tt refl refl c.in-Ok-Granted.ensures.outcome.ends.alive
-
-pub returns-in-None-clause-answered : goal.returns-in-None-clause-answered
-returns-in-None-clause-answered g c = read_answered g.D.Disk c.args.self.now c.fetch.new.writer.log c.fetch.new.disk c.requires.works c.args.t (answers.Fetch c.args.key.now) refl c.requires.checked replies.Absent (λ x e. cc e)
-
-pub returns-in-Ok-Wait-clause-told : goal.returns-in-Ok-Wait-clause-told
-returns-in-Ok-Wait-clause-told g c = told_answered g.D.Disk c.args.self.now _ c.requires.works refl refl (replies.Blocked (Lock c.in-Ok-Wait.holder)) (λ k. refl) refl tt refl refl c.in-Ok-Wait.ensures.outcome.ends.alive
-
-pub returns-in-Ok-Wait-clause-answered : goal.returns-in-Ok-Wait-clause-answered
-returns-in-Ok-Wait-clause-answered g c = read_answered g.D.Disk c.args.self.now c.fetch.new.writer.log c.fetch.new.disk c.requires.works c.args.t (answers.Fetch c.args.key.now) refl c.requires.checked (replies.Blocked (Lock c.in-Ok-Wait.holder)) (λ x e. cc e)
-
-pub returns-in-Ok-Die-clause-told : goal.returns-in-Ok-Die-clause-told
-returns-in-Ok-Die-clause-told g c = told_answered g.D.Disk c.args.self.now _ c.requires.works (ap (λ (x : Numbered). x.next) c.set_mark.ensures) refl replies.Die (λ k. refl) refl tt refl (ap (λ (x : Numbered). length x.rows) c.set_mark.ensures ∙ length-map c.args.self.now.txns.rows (changed c.args.t (with_mark MustRollBack))) c.in-Ok-Die.ensures.outcome.ends.alive
-
-pub returns-in-Ok-Die-clause-answered : goal.returns-in-Ok-Die-clause-answered
-returns-in-Ok-Die-clause-answered g c = read_answered g.D.Disk c.args.self.now c.fetch.new.writer.log c.fetch.new.disk c.requires.works c.args.t (answers.Fetch c.args.key.now) refl c.requires.checked replies.Die (λ x e. cc e)
-
-pub returns-in-Err-clause-told : goal.returns-in-Err-clause-told
-returns-in-Err-clause-told g c =
-    let old = c.args.self.now in
-    told_refused g.D.Disk old _ c.requires.works refl refl c.in-Err.fault c.told.result c.told.ensures c.breaks-self.ensures refl (λ lost. read_lost g.D.Disk old.writer old.disk c.fetch.new.writer c.fetch.new.disk lost c.in-Err.fault c.in-Err.ensures.outcome.ends (old.working c.requires.works))
-
-pub returns-in-Err-clause-answered : goal.returns-in-Err-clause-answered
-returns-in-Err-clause-answered g c = read_refused g.D.Disk c.args.self.now c.fetch.new.writer.log c.fetch.new.disk c.requires.works c.args.t (answers.Fetch c.args.key.now) refl c.requires.checked c.in-Err.fault c.told.result c.told.ensures
-    (read_cause g.D.Disk c.args.self.now.writer c.args.self.now.disk c.fetch.new.writer c.fetch.new.disk c.in-Err.fault c.in-Err.ensures.outcome.ends (c.args.self.now.working c.requires.works))
+    record {
+      kept = λ before s v life.
+          let r = (life.running c.requires.works).1 in
+          let sound = c.in-Err.ensures.kept (pages_of r.now) v.walk (has_good_tree g.D.Disk before s v old r) (walk_is g.D.Disk before s v old r) in
+          refused g.D.Disk before s v c.args.t (answers.Fetch c.args.key.now) old _ life c.requires.works c.requires.checked (λ t f le left. g.met.D.Disk.counts_now c.fetch.new.disk t f le left) c.in-Err.fault refl c.in-Err.ensures.outcome sound
+          c.breaks-self.ensures refl c.in-Err.ensures.table c.told.result c.told.ensures;
+      told = told_refused g.D.Disk old _ c.requires.works refl refl c.in-Err.fault c.told.result c.told.ensures c.breaks-self.ensures refl (λ lost. read_lost g.D.Disk old.writer old.disk c.fetch.new.writer c.fetch.new.disk lost c.in-Err.fault c.in-Err.ensures.outcome.ends (old.working c.requires.works));
+      answered =
+          read_refused g.D.Disk old c.fetch.new.writer.log c.fetch.new.disk c.requires.works c.args.t (answers.Fetch c.args.key.now) refl c.requires.checked c.in-Err.fault c.told.result c.told.ensures
+          (read_cause g.D.Disk old.writer old.disk c.fetch.new.writer c.fetch.new.disk c.in-Err.fault c.in-Err.ensures.outcome.ends (old.working c.requires.works));
+      suits = search rules;
+      frames = search rules;
+      wants = λ b before s v r. tt;
+      quiet = λ none. absurd (none tt);
+      costs = tt;
+    }

@@ -1,4 +1,4 @@
-use Rattle.std.proofs.Common.{refl, ◌∙◌, Err, arith}
+use Rattle.std.proofs.Common.{refl, ◌∙◌, Err, arith, rules}
 use Rattle.im_engine.proofs.Ending.{of_log, log_forced, force_refused}
 use Rattle.im_base_types.specs.Answers as answers
 use Rattle.im_front.specs.declared.reply.Reply.TheVariants as replies
@@ -6,49 +6,39 @@ use Rattle.im_engine.proofs.Telling.{not_true, told_answered, told_refused, ends
 use Rattle.im_engine.proofs.Causes.{behind, force_made, force_lost, force_cause}
 use Rattle.im_engine.proofs.engine.Engine.force.Goals as goal
 
-pub returns-in-Ok-clause-kept : goal.returns-in-Ok-clause-kept
-returns-in-Ok-clause-kept g c before s v life =
-    let b = (life.running c.requires.works).0 in
-    let r = (life.running c.requires.works).1 in
-    let forced = c.in-Ok.ensures.kept b r.base r.now r.stands in
-    log_forced g.D.Disk before s v c.args.self.now _ life c.requires.works forced.ok forced.stops refl refl refl
+pub returns-in-Ok : goal.returns-in-Ok
+returns-in-Ok g c =
+    let old = c.args.self.now in
+    record {
+      kept = λ before s v life.
+          let b = (life.running c.requires.works).0 in
+          let r = (life.running c.requires.works).1 in
+          let forced = c.in-Ok.ensures.kept b r.base r.now r.stands in
+          log_forced g.D.Disk before s v old _ life c.requires.works forced.ok forced.stops refl refl refl;
+      told = told_answered g.D.Disk old _ c.requires.works refl refl replies.Done (λ k. refl) refl tt refl refl c.in-Ok.ensures.outcome.ends.alive;
+      answered = behind g.D.Disk old c.force.new.self.log c.force.new.disk c.requires.works answers.Force replies.Done refl (λ fault. force_made g.D.Disk old c.force.new.self.log c.force.new.disk replies.Done (λ lost. not_true (g.D.Disk.failed c.force.new.disk) c.in-Ok.ensures.outcome.ends.alive lost) (λ x e. cc e) fault);
+      suits = search rules;
+      frames = search rules;
+      wants = λ b before s v r. tt;
+      quiet = λ empty. (c.in-Ok.ensures.none (old.working c.requires.works) (omega (arith, empty))).2;
+      costs = record { most = c.force.ensures.few; one = λ is some. c.in-Ok.ensures.costs some };
+    }
 
-pub returns-in-Err-clause-kept : goal.returns-in-Err-clause-kept
-returns-in-Err-clause-kept g c before s v life =
-    let b = (life.running c.requires.works).0 in
-    let r = (life.running c.requires.works).1 in
+pub returns-in-Err : goal.returns-in-Err
+returns-in-Err g c =
     let old = c.args.self.now in
     let of = of_log g.D.Disk old.writer old.disk c.force.new.self c.force.new.disk (old.working c.requires.works) c.in-Err.fault c.in-Err.ensures.outcome.ends in
-    force_refused g.D.Disk before s v old _ life c.requires.works c.in-Err.fault of c.told.result c.told.ensures refl (c.in-Err.ensures.kept b r.base r.now r.stands).stops (λ t f le left. g.met.D.Disk.counts_now c.force.new.disk t f le left)
-
-pub returns-in-Ok-clause-told : goal.returns-in-Ok-clause-told
-returns-in-Ok-clause-told g c = told_answered g.D.Disk c.args.self.now _ c.requires.works refl refl replies.Done (λ k. refl) refl tt refl refl c.in-Ok.ensures.outcome.ends.alive
-
-pub returns-in-Ok-clause-answered : goal.returns-in-Ok-clause-answered
-returns-in-Ok-clause-answered g c =
-    let old = c.args.self.now in
-    behind g.D.Disk old c.force.new.self.log c.force.new.disk c.requires.works answers.Force replies.Done refl (λ fault. force_made g.D.Disk old c.force.new.self.log c.force.new.disk replies.Done (λ lost. not_true (g.D.Disk.failed c.force.new.disk) c.in-Ok.ensures.outcome.ends.alive lost) (λ x e. cc e) fault)
-
-pub returns-in-Err-clause-told : goal.returns-in-Err-clause-told
-returns-in-Err-clause-told g c =
-    let old = c.args.self.now in
     let cause = force_cause g.D.Disk old.writer old.disk c.force.new.self c.force.new.disk c.in-Err.fault c.in-Err.ensures.outcome.ends (old.working c.requires.works) (λ full. c.in-Err.ensures.room (λ j. Err (full j))) in
-    told_refused g.D.Disk old _ c.requires.works refl refl c.in-Err.fault c.told.result c.told.ensures (ends_as c.in-Err.fault cause.0) refl (λ lost. cause.0)
-
-pub returns-in-Err-clause-answered : goal.returns-in-Err-clause-answered
-returns-in-Err-clause-answered g c =
-    let old = c.args.self.now in
-    let cause = force_cause g.D.Disk old.writer old.disk c.force.new.self c.force.new.disk c.in-Err.fault c.in-Err.ensures.outcome.ends (old.working c.requires.works) (λ full. c.in-Err.ensures.room (λ j. Err (full j))) in
-    behind g.D.Disk old c.force.new.self.log c.force.new.disk c.requires.works answers.Force (replies.Refused c.told.result) refl (λ fault. force_lost g.D.Disk old c.force.new.self.log c.force.new.disk c.told.result (c.told.ensures ∙ cause.0) cause.1 fault)
-
-pub returns-in-Ok-clause-quiet : goal.returns-in-Ok-clause-quiet
-returns-in-Ok-clause-quiet g c empty = let old = c.args.self.now in (c.in-Ok.ensures.none (old.working c.requires.works) (omega (arith, empty))).2
-
-pub returns-in-Err-clause-quiet : goal.returns-in-Err-clause-quiet
-returns-in-Err-clause-quiet g c empty = let old = c.args.self.now in (c.in-Err.ensures.none (old.working c.requires.works) (omega (arith, empty))).2
-
-pub returns-in-Ok-clause-costs : goal.returns-in-Ok-clause-costs
-returns-in-Ok-clause-costs g c = record { most = c.force.ensures.few; one = λ is some. c.in-Ok.ensures.costs some }
-
-pub returns-in-Err-clause-costs : goal.returns-in-Err-clause-costs
-returns-in-Err-clause-costs g c = record { most = c.force.ensures.few; one = λ is. absurd (cc is) }
+    record {
+      kept = λ before s v life.
+          let b = (life.running c.requires.works).0 in
+          let r = (life.running c.requires.works).1 in
+          force_refused g.D.Disk before s v old _ life c.requires.works c.in-Err.fault of c.told.result c.told.ensures refl (c.in-Err.ensures.kept b r.base r.now r.stands).stops (λ t f le left. g.met.D.Disk.counts_now c.force.new.disk t f le left);
+      told = told_refused g.D.Disk old _ c.requires.works refl refl c.in-Err.fault c.told.result c.told.ensures (ends_as c.in-Err.fault cause.0) refl (λ lost. cause.0);
+      answered = behind g.D.Disk old c.force.new.self.log c.force.new.disk c.requires.works answers.Force (replies.Refused c.told.result) refl (λ fault. force_lost g.D.Disk old c.force.new.self.log c.force.new.disk c.told.result (c.told.ensures ∙ cause.0) cause.1 fault);
+      suits = search rules;
+      frames = search rules;
+      wants = λ b before s v r. tt;
+      quiet = λ empty. (c.in-Err.ensures.none (old.working c.requires.works) (omega (arith, empty))).2;
+      costs = record { most = c.force.ensures.few; one = λ is. absurd (cc is) };
+    }

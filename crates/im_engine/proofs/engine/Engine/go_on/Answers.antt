@@ -1,4 +1,4 @@
-use Rattle.std.proofs.Common.{refl, sym, ap, ◌∙◌, ◌+◌, length}
+use Rattle.std.proofs.Common.{refl, sym, ap, ◌∙◌, ◌+◌, length, rules}
 use Rattle.std.proofs.lemmas.List.{length-map}
 use Rattle.im_engine_txn.specs.Rows.{changed, with_record}
 use Rattle.im_front.specs.declared.reply.Reply.TheVariants as replies
@@ -9,82 +9,75 @@ use Rattle.im_engine.proofs.Telling.{not_true, told_answered, told_refused, told
 use Rattle.im_engine.proofs.Turning.{continue_made, continue_refused, has_ended, has_more, has_more_to_undo, lacks_way, stands_going, told_capacity, turn_lost, turn_refused, lacks_room, told_memory}
 use Rattle.im_engine.proofs.engine.Engine.go_on.Goals as goal
 
-pub returns-in-Ok-More-clause-kept : goal.returns-in-Ok-More-clause-kept
-returns-in-Ok-More-clause-kept g c before s v life =
-    let b = (life.running c.requires.works).0 in
-    let r = (life.running c.requires.works).1 in
+pub returns-in-Ok-More : goal.returns-in-Ok-More
+returns-in-Ok-More g c =
     let old = c.args.self.now in
     let row = c.in-Some.row in
     let found = sym c.in-Some.ensures.found in
-    let kept = c.in-Ok-More.ensures.kept b r.base r.now r.redo_end (stands_going g.D.Disk before s v c.args.t row old r found c.requires.checked) (has_more_to_undo g.D.Disk before s v c.args.t row old r found c.requires.checked) in
-    has_more g.D.Disk before s v c.args.t row old _ life c.requires.works found c.requires.checked refl kept.stops c.in-Ok-More.field-0 c.in-Ok-More.last c.in-Ok-More.undo_next c.in-Ok-More.field-0-is kept.sound refl c.note_record.ensures
-
-pub returns-in-Ok-Ended-clause-kept : goal.returns-in-Ok-Ended-clause-kept
-returns-in-Ok-Ended-clause-kept g c before s v life =
-    let b = (life.running c.requires.works).0 in
-    let r = (life.running c.requires.works).1 in
-    let old = c.args.self.now in
-    let row = c.in-Some.row in
-    let found = sym c.in-Some.ensures.found in
-    let kept = c.in-Ok-Ended.ensures.kept b r.base r.now r.redo_end (stands_going g.D.Disk before s v c.args.t row old r found c.requires.checked) (has_more_to_undo g.D.Disk before s v c.args.t row old r found c.requires.checked) in
-    has_ended g.D.Disk before s v c.args.t row old _ life c.requires.works found c.requires.checked refl kept.stops c.in-Ok-Ended.field-0 c.in-Ok-Ended.field-0-is kept.sound c.release_all.ensures
-    (c.end.ensures.one row found ∙ ap (λ (x : Numbered). length x.rows + 1) c.end.ensures.left) c.end.ensures.left
-
-pub returns-in-Err-clause-kept : goal.returns-in-Err-clause-kept
-returns-in-Err-clause-kept g c before s v life =
-    let b = (life.running c.requires.works).0 in
-    let r = (life.running c.requires.works).1 in
-    let old = c.args.self.now in
-    let row = c.in-Some.row in
-    let found = sym c.in-Some.ensures.found in
-    let kept = c.in-Err.ensures.kept b r.base r.now r.redo_end (stands_going g.D.Disk before s v c.args.t row old r found c.requires.checked) (has_more_to_undo g.D.Disk before s v c.args.t row old r found c.requires.checked) in
-    turn_refused g.D.Disk before s v c.args.t row old _ life c.requires.works found c.requires.checked c.in-Err.fault c.in-Err.ensures.outcome.ends kept.sound kept.again kept.stops c.breaks-self.ensures refl refl
-    c.told.result c.told.ensures (λ t f le left. g.met.D.Disk.counts_now c.undo_next.new.disk t f le left)
-
-pub returns-in-Ok-More-clause-told : goal.returns-in-Ok-More-clause-told
-returns-in-Ok-More-clause-told g c =
-    let old = c.args.self.now in
-    told_answered g.D.Disk old _ c.requires.works (ap (λ (x : Numbered). x.next) c.note_record.ensures) refl replies.More (λ k. refl) refl tt refl
-    (ap (λ (x : Numbered). length x.rows) c.note_record.ensures ∙ length-map old.txns.rows (changed c.args.t (with_record c.in-Ok-More.last c.in-Ok-More.undo_next))) c.in-Ok-More.ensures.outcome.ends.alive
-
-pub returns-in-Ok-Ended-clause-told : goal.returns-in-Ok-Ended-clause-told
-returns-in-Ok-Ended-clause-told g c =
-    let old = c.args.self.now in
-    told_rolled_back g.D.Disk old _ c.requires.works (ap (λ (x : Numbered). x.next) c.end.ensures.left) refl (c.end.ensures.one c.in-Some.row (sym c.in-Some.ensures.found)) refl
-    (λ lost. absurd (not_true (g.D.Disk.failed c.undo_next.new.disk) c.in-Ok-Ended.ensures.outcome.ends.alive lost))
-
-pub returns-in-Err-clause-told : goal.returns-in-Err-clause-told
-returns-in-Err-clause-told g c =
-    let old = c.args.self.now in
-    told_refused g.D.Disk old _ c.requires.works refl refl c.in-Err.fault c.told.result c.told.ensures c.breaks-self.ensures refl
-    (λ lost. turn_lost g.D.Disk old.writer c.undo_next.new.writer c.undo_next.new.disk lost c.in-Err.fault c.in-Err.ensures.outcome.ends)
-
-pub returns-in-Ok-More-clause-answered : goal.returns-in-Ok-More-clause-answered
-returns-in-Ok-More-clause-answered g c = continue_made g.D.Disk c.args.self.now c.requires.works c.args.t c.requires.checked c.undo_next.new.writer.log c.undo_next.new.disk replies.More (λ x e. cc e)
-
-pub returns-in-Ok-Ended-clause-answered : goal.returns-in-Ok-Ended-clause-answered
-returns-in-Ok-Ended-clause-answered g c = continue_made g.D.Disk c.args.self.now c.requires.works c.args.t c.requires.checked c.undo_next.new.writer.log c.undo_next.new.disk replies.RolledBack (λ x e. cc e)
-
-pub returns-in-Err-clause-answered : goal.returns-in-Err-clause-answered
-returns-in-Err-clause-answered g c =
-    continue_refused g.D.Disk c.args.self.now c.requires.works c.args.t c.requires.checked c.undo_next.new.writer c.undo_next.new.disk c.in-Err.fault c.told.result c.told.ensures c.in-Err.ensures.outcome.ends
-
-pub returns-in_default-clause-wants : goal.returns-in_default-clause-wants
-returns-in_default-clause-wants g c b before s v r = record { short = λ is. absurd (let never : ⊥ = cc is in never); used_up = λ is. absurd (let never : ⊥ = cc is in never) }
-
-pub returns-in-Ok-More-clause-wants : goal.returns-in-Ok-More-clause-wants
-returns-in-Ok-More-clause-wants g c b before s v r = record { short = λ is. absurd (let never : ⊥ = cc is in never); used_up = λ is. absurd (let never : ⊥ = cc is in never) }
-
-pub returns-in-Ok-Ended-clause-wants : goal.returns-in-Ok-Ended-clause-wants
-returns-in-Ok-Ended-clause-wants g c b before s v r = record { short = λ is. absurd (let never : ⊥ = cc is in never); used_up = λ is. absurd (let never : ⊥ = cc is in never) }
-
-pub returns-in-Err-clause-wants : goal.returns-in-Err-clause-wants
-returns-in-Err-clause-wants g c b before s v r =
-    let old = c.args.self.now in
-    let row = c.in-Some.row in
-    let found = sym c.in-Some.ensures.found in
-    let kept = c.in-Err.ensures.kept b r.base r.now r.redo_end (stands_going g.D.Disk before s v c.args.t row old r found c.requires.checked) (has_more_to_undo g.D.Disk before s v c.args.t row old r found c.requires.checked) in
     record {
-      short = λ wants. lacks_room g.D.Disk before s v c.args.t row old r found c.requires.checked (kept.short (told_memory c.in-Err.fault (sym c.told.ensures ∙ refused_inj c.told.result faults.Memory wants)));
-      used_up = λ full. lacks_way g.D.Disk before s v c.args.t row old r found c.requires.checked (kept.used_up (told_capacity c.in-Err.fault (sym c.told.ensures ∙ refused_inj c.told.result faults.Capacity full)));
+      kept = λ before s v life.
+          let b = (life.running c.requires.works).0 in
+          let r = (life.running c.requires.works).1 in
+          let kept = c.in-Ok-More.ensures.kept b r.base r.now r.redo_end (stands_going g.D.Disk before s v c.args.t row old r found c.requires.checked) (has_more_to_undo g.D.Disk before s v c.args.t row old r found c.requires.checked) in
+          has_more g.D.Disk before s v c.args.t row old _ life c.requires.works found c.requires.checked refl kept.stops c.in-Ok-More.field-0 c.in-Ok-More.last c.in-Ok-More.undo_next c.in-Ok-More.field-0-is kept.sound refl c.note_record.ensures;
+      told =
+          told_answered g.D.Disk old _ c.requires.works (ap (λ (x : Numbered). x.next) c.note_record.ensures) refl replies.More (λ k. refl) refl tt refl
+          (ap (λ (x : Numbered). length x.rows) c.note_record.ensures ∙ length-map old.txns.rows (changed c.args.t (with_record c.in-Ok-More.last c.in-Ok-More.undo_next))) c.in-Ok-More.ensures.outcome.ends.alive;
+      answered = continue_made g.D.Disk old c.requires.works c.args.t c.requires.checked c.undo_next.new.writer.log c.undo_next.new.disk replies.More (λ x e. cc e);
+      suits = search rules;
+      frames = search rules;
+      wants = λ b before s v r. record { short = λ is. absurd (let never : ⊥ = cc is in never); used_up = λ is. absurd (let never : ⊥ = cc is in never) };
+      quiet = λ none. absurd (none tt);
+      costs = tt;
+    }
+
+pub returns-in-Ok-Ended : goal.returns-in-Ok-Ended
+returns-in-Ok-Ended g c =
+    let old = c.args.self.now in
+    let found = sym c.in-Some.ensures.found in
+    let row = c.in-Some.row in
+    record {
+      kept = λ before s v life.
+          let b = (life.running c.requires.works).0 in
+          let r = (life.running c.requires.works).1 in
+          let kept = c.in-Ok-Ended.ensures.kept b r.base r.now r.redo_end (stands_going g.D.Disk before s v c.args.t row old r found c.requires.checked) (has_more_to_undo g.D.Disk before s v c.args.t row old r found c.requires.checked) in
+          has_ended g.D.Disk before s v c.args.t row old _ life c.requires.works found c.requires.checked refl kept.stops c.in-Ok-Ended.field-0 c.in-Ok-Ended.field-0-is kept.sound c.release_all.ensures
+          (c.end.ensures.one row found ∙ ap (λ (x : Numbered). length x.rows + 1) c.end.ensures.left) c.end.ensures.left;
+      told =
+          told_rolled_back g.D.Disk old _ c.requires.works (ap (λ (x : Numbered). x.next) c.end.ensures.left) refl (c.end.ensures.one c.in-Some.row found) refl
+          (λ lost. absurd (not_true (g.D.Disk.failed c.undo_next.new.disk) c.in-Ok-Ended.ensures.outcome.ends.alive lost));
+      answered = continue_made g.D.Disk old c.requires.works c.args.t c.requires.checked c.undo_next.new.writer.log c.undo_next.new.disk replies.RolledBack (λ x e. cc e);
+      suits = search rules;
+      frames = search rules;
+      wants = λ b before s v r. record { short = λ is. absurd (let never : ⊥ = cc is in never); used_up = λ is. absurd (let never : ⊥ = cc is in never) };
+      quiet = λ none. absurd (none tt);
+      costs = tt;
+    }
+
+pub returns-in-Err : goal.returns-in-Err
+returns-in-Err g c =
+    let old = c.args.self.now in
+    let row = c.in-Some.row in
+    let found = sym c.in-Some.ensures.found in
+    record {
+      kept = λ before s v life.
+          let b = (life.running c.requires.works).0 in
+          let r = (life.running c.requires.works).1 in
+          let kept = c.in-Err.ensures.kept b r.base r.now r.redo_end (stands_going g.D.Disk before s v c.args.t row old r found c.requires.checked) (has_more_to_undo g.D.Disk before s v c.args.t row old r found c.requires.checked) in
+          turn_refused g.D.Disk before s v c.args.t row old _ life c.requires.works found c.requires.checked c.in-Err.fault c.in-Err.ensures.outcome.ends kept.sound kept.again kept.stops c.breaks-self.ensures refl refl
+          c.told.result c.told.ensures (λ t f le left. g.met.D.Disk.counts_now c.undo_next.new.disk t f le left);
+      told =
+          told_refused g.D.Disk old _ c.requires.works refl refl c.in-Err.fault c.told.result c.told.ensures c.breaks-self.ensures refl
+          (λ lost. turn_lost g.D.Disk old.writer c.undo_next.new.writer c.undo_next.new.disk lost c.in-Err.fault c.in-Err.ensures.outcome.ends);
+      answered = continue_refused g.D.Disk old c.requires.works c.args.t c.requires.checked c.undo_next.new.writer c.undo_next.new.disk c.in-Err.fault c.told.result c.told.ensures c.in-Err.ensures.outcome.ends;
+      suits = search rules;
+      frames = search rules;
+      wants = λ b before s v r.
+          let kept = c.in-Err.ensures.kept b r.base r.now r.redo_end (stands_going g.D.Disk before s v c.args.t row old r found c.requires.checked) (has_more_to_undo g.D.Disk before s v c.args.t row old r found c.requires.checked) in
+          record {
+            short = λ wants. lacks_room g.D.Disk before s v c.args.t row old r found c.requires.checked (kept.short (told_memory c.in-Err.fault (sym c.told.ensures ∙ refused_inj c.told.result faults.Memory wants)));
+            used_up = λ full. lacks_way g.D.Disk before s v c.args.t row old r found c.requires.checked (kept.used_up (told_capacity c.in-Err.fault (sym c.told.ensures ∙ refused_inj c.told.result faults.Capacity full)));
+          };
+      quiet = λ none. absurd (none tt);
+      costs = tt;
     }

@@ -1,6 +1,5 @@
-use Rattle.std.proofs.Common.{ℕ, ◌≤◌, refl, sym, subst, ap, ◌∙◌, length, Some}
+use Rattle.std.proofs.Common.{ℕ, ◌≤◌, refl, sym, subst, ap, ◌∙◌, length, Some, rules}
 use Rattle.std.proofs.lemmas.List.{length-map}
-use Rattle.im_base_types.specs.Answers as answers
 use Rattle.im_theory_log.specs.Structure.{settled}
 use Rattle.im_smo_split.specs.Kept.{mild_to_split}
 use Rattle.im_engine_txn.proofs.LookUps.{look_ups_follow}
@@ -17,90 +16,92 @@ use Rattle.im_engine.proofs.engine.Engine.insert.Goals as goal
 pub insert-requires-clause-owner : goal.insert-requires-clause-owner
 insert-requires-clause-owner g c = subst (λ (n : ℕ). 1 ≤ n) (sym (look_ups_follow.found c.args.t c.args.self.now.txns.rows c.in-Some.row (sym c.in-Some.ensures.found))) c.in-Some.ensures.owned
 
-pub returns-in-Some-found-clause-kept : goal.returns-in-Some-found-clause-kept
-returns-in-Some-found-clause-kept g c before s v life =
-    let r = (life.running c.requires.works).1 in
+pub returns-in-Some-found : goal.returns-in-Some-found
+returns-in-Some-found g c =
     let old = c.args.self.now in
-    insert_made g.D.Disk old _ c.args.t c.args.key.now c.args.rid c.in-Some.row (sym c.in-Some.ensures.found) c.requires.checked before s v r c.in-Ok-Granted.field-0 c.in-Ok-Granted.ensures.kept c.in-Ok-Granted.found c.in-Ok-Granted.field-0-is
-    c.in-Some-found.noted c.in-Some-found.is c.note_record.ensures refl
+    let found = sym c.in-Some.ensures.found in
+    record {
+      kept = λ before s v life.
+          let r = (life.running c.requires.works).1 in
+          insert_made g.D.Disk old _ c.args.t c.args.key.now c.args.rid c.in-Some.row found c.requires.checked before s v r c.in-Ok-Granted.field-0 c.in-Ok-Granted.ensures.kept c.in-Ok-Granted.found c.in-Ok-Granted.field-0-is
+          c.in-Some-found.noted c.in-Some-found.is c.note_record.ensures refl;
+      told =
+          told_answered g.D.Disk old _ c.requires.works (ap (λ (x : Numbered). x.next) c.note_record.ensures) refl replies.Inserted (λ k. refl) refl tt refl
+          (ap (λ (x : Numbered). length x.rows) c.note_record.ensures ∙ length-map old.txns.rows (changed c.args.t (with_record c.in-Some-found.noted.last c.in-Some-found.noted.undo_next))) c.in-Ok-Granted.ensures.outcome.ends.alive;
+      answered = insert_answered g.D.Disk old c.insert.new.writer.log c.insert.new.disk c.requires.works c.args.t c.args.key.now c.args.rid c.requires.checked replies.Inserted (λ x e. cc e);
+      suits = search rules;
+      frames = search rules;
+      wants = λ b before s v r.
+          made_wants g.D.Disk old c.insert.new.locks c.insert.new.writer c.insert.new.disk c.args.t c.args.key.now c.args.rid c.in-Some.row found c.requires.checked before s v r c.in-Ok-Granted.field-0 c.in-Ok-Granted.ensures.kept c.in-Ok-Granted.found c.in-Ok-Granted.field-0-is
+          c.in-Some-found.noted c.in-Some-found.is;
+      quiet = λ none. absurd (none tt);
+      costs = tt;
+    }
 
-pub returns-in-None-clause-kept : goal.returns-in-None-clause-kept
-returns-in-None-clause-kept g c before s v life =
-    let r = (life.running c.requires.works).1 in
+pub returns-in-None : goal.returns-in-None
+returns-in-None g c =
     let old = c.args.self.now in
-    insert_there g.D.Disk old _ c.args.t c.args.key.now c.args.rid c.in-Some.row (sym c.in-Some.ensures.found) c.requires.checked before s v r c.in-Ok-Granted.field-0 c.in-Ok-Granted.ensures.kept c.in-Ok-Granted.found c.in-Ok-Granted.field-0-is
-    c.in-None.is refl refl
+    record {
+      kept = λ before s v life.
+          let r = (life.running c.requires.works).1 in
+          insert_there g.D.Disk old _ c.args.t c.args.key.now c.args.rid c.in-Some.row (sym c.in-Some.ensures.found) c.requires.checked before s v r c.in-Ok-Granted.field-0 c.in-Ok-Granted.ensures.kept c.in-Ok-Granted.found c.in-Ok-Granted.field-0-is
+          c.in-None.is refl refl;
+      told = told_answered g.D.Disk old _ c.requires.works refl refl replies.Duplicate (λ k. refl) refl tt refl refl c.in-Ok-Granted.ensures.outcome.ends.alive;
+      answered = insert_answered g.D.Disk old c.insert.new.writer.log c.insert.new.disk c.requires.works c.args.t c.args.key.now c.args.rid c.requires.checked replies.Duplicate (λ x e. cc e);
+      suits = search rules;
+      frames = search rules;
+      wants = λ b before s v r. wants_none (settled b r.now.log) v.walk old.max_pages c.args.key.now replies.Duplicate (λ e. cc e) (λ x e. cc e);
+      quiet = λ none. absurd (none tt);
+      costs = tt;
+    }
 
-pub returns-in-Ok-Wait-clause-kept : goal.returns-in-Ok-Wait-clause-kept
-returns-in-Ok-Wait-clause-kept g c before s v life =
-    let r = (life.running c.requires.works).1 in
+pub returns-in-Ok-Wait : goal.returns-in-Ok-Wait
+returns-in-Ok-Wait g c =
     let old = c.args.self.now in
-    insert_waits g.D.Disk old _ c.args.t c.args.key.now c.args.rid c.in-Some.row (sym c.in-Some.ensures.found) c.requires.checked before s v r c.in-Ok-Wait.field-0 c.in-Ok-Wait.ensures.kept c.in-Ok-Wait.holder c.in-Ok-Wait.field-0-is refl refl
+    record {
+      kept = λ before s v life.
+          let r = (life.running c.requires.works).1 in
+          insert_waits g.D.Disk old _ c.args.t c.args.key.now c.args.rid c.in-Some.row (sym c.in-Some.ensures.found) c.requires.checked before s v r c.in-Ok-Wait.field-0 c.in-Ok-Wait.ensures.kept c.in-Ok-Wait.holder c.in-Ok-Wait.field-0-is refl refl;
+      told = told_answered g.D.Disk old _ c.requires.works refl refl (replies.Blocked (Lock c.in-Ok-Wait.holder)) (λ k. refl) refl tt refl refl c.in-Ok-Wait.ensures.outcome.ends.alive;
+      answered = insert_answered g.D.Disk old c.insert.new.writer.log c.insert.new.disk c.requires.works c.args.t c.args.key.now c.args.rid c.requires.checked (replies.Blocked (Lock c.in-Ok-Wait.holder)) (λ x e. cc e);
+      suits = search rules;
+      frames = search rules;
+      wants = λ b before s v r. wants_none (settled b r.now.log) v.walk old.max_pages c.args.key.now (replies.Blocked (Lock c.in-Ok-Wait.holder)) (λ e. cc e) (λ x e. cc e);
+      quiet = λ none. absurd (none tt);
+      costs = tt;
+    }
 
-pub returns-in-Ok-Die-clause-kept : goal.returns-in-Ok-Die-clause-kept
-returns-in-Ok-Die-clause-kept g c before s v life =
-    let r = (life.running c.requires.works).1 in
+pub returns-in-Ok-Die : goal.returns-in-Ok-Die
+returns-in-Ok-Die g c =
     let old = c.args.self.now in
-    insert_dies g.D.Disk old _ c.args.t c.args.key.now c.args.rid c.in-Some.row (sym c.in-Some.ensures.found) c.requires.checked before s v r c.in-Ok-Die.field-0 c.in-Ok-Die.ensures.kept c.in-Ok-Die.field-0-is c.set_mark.ensures refl
+    record {
+      kept = λ before s v life.
+          let r = (life.running c.requires.works).1 in
+          insert_dies g.D.Disk old _ c.args.t c.args.key.now c.args.rid c.in-Some.row (sym c.in-Some.ensures.found) c.requires.checked before s v r c.in-Ok-Die.field-0 c.in-Ok-Die.ensures.kept c.in-Ok-Die.field-0-is c.set_mark.ensures refl;
+      told = told_answered g.D.Disk old _ c.requires.works (ap (λ (x : Numbered). x.next) c.set_mark.ensures) refl replies.Die (λ k. refl) refl tt refl (ap (λ (x : Numbered). length x.rows) c.set_mark.ensures ∙ length-map old.txns.rows (changed c.args.t (with_mark MustRollBack))) c.in-Ok-Die.ensures.outcome.ends.alive;
+      answered = insert_answered g.D.Disk old c.insert.new.writer.log c.insert.new.disk c.requires.works c.args.t c.args.key.now c.args.rid c.requires.checked replies.Die (λ x e. cc e);
+      suits = search rules;
+      frames = search rules;
+      wants = λ b before s v r. wants_none (settled b r.now.log) v.walk old.max_pages c.args.key.now replies.Die (λ e. cc e) (λ x e. cc e);
+      quiet = λ none. absurd (none tt);
+      costs = tt;
+    }
 
-pub returns-in-Err-clause-kept : goal.returns-in-Err-clause-kept
-returns-in-Err-clause-kept g c before s v life =
+pub returns-in-Err : goal.returns-in-Err
+returns-in-Err g c =
     let old = c.args.self.now in
-    insert_refused g.D.Disk old _ c.args.t c.args.key.now c.args.rid c.in-Some.row (sym c.in-Some.ensures.found) c.requires.checked before s v life c.requires.works (λ t f le left. g.met.D.Disk.counts_now c.insert.new.disk t f le left) c.in-Err.fault c.in-Err.ensures.kept
-    c.in-Err.ensures.outcome.ends c.breaks-self.ensures refl c.in-Err.ensures.table c.told.result c.told.ensures
-
-pub returns-in-Some-found-clause-told : goal.returns-in-Some-found-clause-told
-returns-in-Some-found-clause-told g c =
-    let old = c.args.self.now in
-    told_answered g.D.Disk old _ c.requires.works (ap (λ (x : Numbered). x.next) c.note_record.ensures) refl replies.Inserted (λ k. refl) refl tt refl
-    (ap (λ (x : Numbered). length x.rows) c.note_record.ensures ∙ length-map old.txns.rows (changed c.args.t (with_record c.in-Some-found.noted.last c.in-Some-found.noted.undo_next))) c.in-Ok-Granted.ensures.outcome.ends.alive
-
-pub returns-in-None-clause-told : goal.returns-in-None-clause-told
-returns-in-None-clause-told g c = told_answered g.D.Disk c.args.self.now _ c.requires.works refl refl replies.Duplicate (λ k. refl) refl tt refl refl c.in-Ok-Granted.ensures.outcome.ends.alive
-
-pub returns-in-Ok-Wait-clause-told : goal.returns-in-Ok-Wait-clause-told
-returns-in-Ok-Wait-clause-told g c = told_answered g.D.Disk c.args.self.now _ c.requires.works refl refl (replies.Blocked (Lock c.in-Ok-Wait.holder)) (λ k. refl) refl tt refl refl c.in-Ok-Wait.ensures.outcome.ends.alive
-
-pub returns-in-Ok-Die-clause-told : goal.returns-in-Ok-Die-clause-told
-returns-in-Ok-Die-clause-told g c = told_answered g.D.Disk c.args.self.now _ c.requires.works (ap (λ (x : Numbered). x.next) c.set_mark.ensures) refl replies.Die (λ k. refl) refl tt refl (ap (λ (x : Numbered). length x.rows) c.set_mark.ensures ∙ length-map c.args.self.now.txns.rows (changed c.args.t (with_mark MustRollBack))) c.in-Ok-Die.ensures.outcome.ends.alive
-
-pub returns-in-Err-clause-told : goal.returns-in-Err-clause-told
-returns-in-Err-clause-told g c =
-    let old = c.args.self.now in
-    told_refused g.D.Disk old _ c.requires.works refl refl c.in-Err.fault c.told.result c.told.ensures c.breaks-self.ensures refl (λ lost. late_lost g.D.Disk old.writer old.disk c.insert.new.writer c.insert.new.disk lost (mild_to_split (Some old.max_pages)) c.in-Err.fault c.in-Err.ensures.outcome.ends)
-
-pub returns-in-Some-found-clause-answered : goal.returns-in-Some-found-clause-answered
-returns-in-Some-found-clause-answered g c = insert_answered g.D.Disk c.args.self.now c.insert.new.writer.log c.insert.new.disk c.requires.works c.args.t c.args.key.now c.args.rid c.requires.checked replies.Inserted (λ x e. cc e)
-
-pub returns-in-None-clause-answered : goal.returns-in-None-clause-answered
-returns-in-None-clause-answered g c = insert_answered g.D.Disk c.args.self.now c.insert.new.writer.log c.insert.new.disk c.requires.works c.args.t c.args.key.now c.args.rid c.requires.checked replies.Duplicate (λ x e. cc e)
-
-pub returns-in-Ok-Wait-clause-answered : goal.returns-in-Ok-Wait-clause-answered
-returns-in-Ok-Wait-clause-answered g c = insert_answered g.D.Disk c.args.self.now c.insert.new.writer.log c.insert.new.disk c.requires.works c.args.t c.args.key.now c.args.rid c.requires.checked (replies.Blocked (Lock c.in-Ok-Wait.holder)) (λ x e. cc e)
-
-pub returns-in-Ok-Die-clause-answered : goal.returns-in-Ok-Die-clause-answered
-returns-in-Ok-Die-clause-answered g c = insert_answered g.D.Disk c.args.self.now c.insert.new.writer.log c.insert.new.disk c.requires.works c.args.t c.args.key.now c.args.rid c.requires.checked replies.Die (λ x e. cc e)
-
-pub returns-in-Err-clause-answered : goal.returns-in-Err-clause-answered
-returns-in-Err-clause-answered g c =
-    let old = c.args.self.now in
-    insert_not_answered g.D.Disk old c.insert.new.writer.log c.insert.new.disk c.requires.works c.args.t c.args.key.now c.args.rid c.requires.checked c.in-Err.fault c.told.result c.told.ensures
-    (insert_cause g.D.Disk old.writer old.disk c.insert.new.writer c.insert.new.disk (mild_to_split (Some old.max_pages)) c.in-Err.fault c.in-Err.ensures.outcome.ends)
-
-pub returns-in-Some-found-clause-wants : goal.returns-in-Some-found-clause-wants
-returns-in-Some-found-clause-wants g c b before s v r =
-    made_wants g.D.Disk c.args.self.now c.insert.new.locks c.insert.new.writer c.insert.new.disk c.args.t c.args.key.now c.args.rid c.in-Some.row (sym c.in-Some.ensures.found) c.requires.checked before s v r c.in-Ok-Granted.field-0 c.in-Ok-Granted.ensures.kept c.in-Ok-Granted.found c.in-Ok-Granted.field-0-is
-    c.in-Some-found.noted c.in-Some-found.is
-
-pub returns-in-None-clause-wants : goal.returns-in-None-clause-wants
-returns-in-None-clause-wants g c b before s v r = wants_none (settled b r.now.log) v.walk c.args.self.now.max_pages c.args.key.now replies.Duplicate (λ e. cc e) (λ x e. cc e)
-
-pub returns-in-Ok-Wait-clause-wants : goal.returns-in-Ok-Wait-clause-wants
-returns-in-Ok-Wait-clause-wants g c b before s v r = wants_none (settled b r.now.log) v.walk c.args.self.now.max_pages c.args.key.now (replies.Blocked (Lock c.in-Ok-Wait.holder)) (λ e. cc e) (λ x e. cc e)
-
-pub returns-in-Ok-Die-clause-wants : goal.returns-in-Ok-Die-clause-wants
-returns-in-Ok-Die-clause-wants g c b before s v r = wants_none (settled b r.now.log) v.walk c.args.self.now.max_pages c.args.key.now replies.Die (λ e. cc e) (λ x e. cc e)
-
-pub returns-in-Err-clause-wants : goal.returns-in-Err-clause-wants
-returns-in-Err-clause-wants g c b before s v r =
-    refused_wants g.D.Disk c.args.self.now c.insert.new.locks c.insert.new.writer c.insert.new.disk c.args.t c.args.key.now c.args.rid c.in-Some.row (sym c.in-Some.ensures.found) c.requires.checked before s v r c.in-Err.fault c.in-Err.ensures.kept c.in-Err.ensures.outcome.ends c.told.result c.told.ensures
+    let found = sym c.in-Some.ensures.found in
+    record {
+      kept = λ before s v life.
+          insert_refused g.D.Disk old _ c.args.t c.args.key.now c.args.rid c.in-Some.row found c.requires.checked before s v life c.requires.works (λ t f le left. g.met.D.Disk.counts_now c.insert.new.disk t f le left) c.in-Err.fault c.in-Err.ensures.kept
+          c.in-Err.ensures.outcome.ends c.breaks-self.ensures refl c.in-Err.ensures.table c.told.result c.told.ensures;
+      told = told_refused g.D.Disk old _ c.requires.works refl refl c.in-Err.fault c.told.result c.told.ensures c.breaks-self.ensures refl (λ lost. late_lost g.D.Disk old.writer old.disk c.insert.new.writer c.insert.new.disk lost (mild_to_split (Some old.max_pages)) c.in-Err.fault c.in-Err.ensures.outcome.ends);
+      answered =
+          insert_not_answered g.D.Disk old c.insert.new.writer.log c.insert.new.disk c.requires.works c.args.t c.args.key.now c.args.rid c.requires.checked c.in-Err.fault c.told.result c.told.ensures
+          (insert_cause g.D.Disk old.writer old.disk c.insert.new.writer c.insert.new.disk (mild_to_split (Some old.max_pages)) c.in-Err.fault c.in-Err.ensures.outcome.ends);
+      suits = search rules;
+      frames = search rules;
+      wants = λ b before s v r. refused_wants g.D.Disk old c.insert.new.locks c.insert.new.writer c.insert.new.disk c.args.t c.args.key.now c.args.rid c.in-Some.row found c.requires.checked before s v r c.in-Err.fault c.in-Err.ensures.kept c.in-Err.ensures.outcome.ends c.told.result c.told.ensures;
+      quiet = λ none. absurd (none tt);
+      costs = tt;
+    }

@@ -1,4 +1,4 @@
-use Rattle.std.proofs.Common.{refl, sym, ap, ◌∙◌, ◌+◌, length, arith}
+use Rattle.std.proofs.Common.{refl, sym, ap, ◌∙◌, ◌+◌, length, arith, rules}
 use Rattle.im_engine.specs.Numbered.{Numbered}
 use Rattle.im_engine.proofs.Checked.{back_mark}
 use Rattle.im_engine.proofs.Ending.{dropped, turned}
@@ -10,34 +10,40 @@ use Rattle.im_engine.proofs.Telling.{alive_now, not_true, told_answered, told_ro
 use Rattle.im_engine.proofs.Causes.{rollback_made}
 use Rattle.im_engine.proofs.engine.Engine.roll_back.Goals as goal
 
-pub returns-then-row-ne0-clause-kept : goal.returns-then-row-ne0-clause-kept
-returns-then-row-ne0-clause-kept g c before s v life =
+pub returns-then-row-ne0 : goal.returns-then-row-ne0
+returns-then-row-ne0 g c =
     let old = c.args.self.now in
     let found = sym c.in-Some.ensures.found in
-    turned g.D.Disk before s v old _ life c.requires.works refl refl (g.met.D.Disk.only_now old.disk) c.args.t c.in-Some.row found (back_mark old.txns.rows c.args.t c.in-Some.row found c.requires.checked)
-    (omega (arith, c.if-row-ne0.true)) refl c.set_mark.ensures c.requires.works
+    record {
+      kept = λ before s v life.
+          turned g.D.Disk before s v old _ life c.requires.works refl refl (g.met.D.Disk.only_now old.disk) c.args.t c.in-Some.row found (back_mark old.txns.rows c.args.t c.in-Some.row found c.requires.checked)
+          (omega (arith, c.if-row-ne0.true)) refl c.set_mark.ensures c.requires.works;
+      told =
+          told_answered g.D.Disk old _ c.requires.works (ap (λ (x : Numbered). x.next) c.set_mark.ensures) refl replies.More (λ k. refl) refl tt c.requires.works
+          (ap (λ (x : Numbered). length x.rows) c.set_mark.ensures ∙ length-map old.txns.rows (changed c.args.t (with_mark RollingBack))) (alive_now g.D.Disk old c.requires.works);
+      answered = rollback_made g.D.Disk old old.writer.log old.disk c.requires.works c.args.t c.requires.checked replies.More (λ x e. cc e);
+      suits = search rules;
+      frames = refl;
+      wants = λ b before s v r. tt;
+      quiet = λ none. refl;
+      costs = tt;
+    }
 
-pub returns-clause-kept : goal.returns-clause-kept
-returns-clause-kept g c before s v life =
+pub returns : goal.returns
+returns g c =
     let old = c.args.self.now in
     let found = sym c.in-Some.ensures.found in
-    dropped g.D.Disk before s v old _ life c.requires.works refl refl (g.met.D.Disk.only_now old.disk) c.args.t c.in-Some.row found (back_mark old.txns.rows c.args.t c.in-Some.row found c.requires.checked)
-    (omega (arith, c.if-row-ne0.false)) c.release_all.ensures (c.end.ensures.one c.in-Some.row found ∙ ap (λ (x : Numbered). length x.rows + 1) c.end.ensures.left) c.end.ensures.left c.requires.works
-
-pub returns-then-row-ne0-clause-told : goal.returns-then-row-ne0-clause-told
-returns-then-row-ne0-clause-told g c =
-    let old = c.args.self.now in
-    told_answered g.D.Disk old _ c.requires.works (ap (λ (x : Numbered). x.next) c.set_mark.ensures) refl replies.More (λ k. refl) refl tt c.requires.works
-    (ap (λ (x : Numbered). length x.rows) c.set_mark.ensures ∙ length-map old.txns.rows (changed c.args.t (with_mark RollingBack))) (alive_now g.D.Disk old c.requires.works)
-
-pub returns-then-row-ne0-clause-answered : goal.returns-then-row-ne0-clause-answered
-returns-then-row-ne0-clause-answered g c = rollback_made g.D.Disk c.args.self.now c.args.self.now.writer.log c.args.self.now.disk c.requires.works c.args.t c.requires.checked replies.More (λ x e. cc e)
-
-pub returns-clause-told : goal.returns-clause-told
-returns-clause-told g c =
-    let old = c.args.self.now in
-    told_rolled_back g.D.Disk old _ c.requires.works (ap (λ (x : Numbered). x.next) c.end.ensures.left) refl (c.end.ensures.one c.in-Some.row (sym c.in-Some.ensures.found)) c.requires.works
-    (λ lost. absurd (not_true (g.D.Disk.failed old.disk) (alive_now g.D.Disk old c.requires.works) lost))
-
-pub returns-clause-answered : goal.returns-clause-answered
-returns-clause-answered g c = rollback_made g.D.Disk c.args.self.now c.args.self.now.writer.log c.args.self.now.disk c.requires.works c.args.t c.requires.checked replies.RolledBack (λ x e. cc e)
+    record {
+      kept = λ before s v life.
+          dropped g.D.Disk before s v old _ life c.requires.works refl refl (g.met.D.Disk.only_now old.disk) c.args.t c.in-Some.row found (back_mark old.txns.rows c.args.t c.in-Some.row found c.requires.checked)
+          (omega (arith, c.if-row-ne0.false)) c.release_all.ensures (c.end.ensures.one c.in-Some.row found ∙ ap (λ (x : Numbered). length x.rows + 1) c.end.ensures.left) c.end.ensures.left c.requires.works;
+      told =
+          told_rolled_back g.D.Disk old _ c.requires.works (ap (λ (x : Numbered). x.next) c.end.ensures.left) refl (c.end.ensures.one c.in-Some.row found) c.requires.works
+          (λ lost. absurd (not_true (g.D.Disk.failed old.disk) (alive_now g.D.Disk old c.requires.works) lost));
+      answered = rollback_made g.D.Disk old old.writer.log old.disk c.requires.works c.args.t c.requires.checked replies.RolledBack (λ x e. cc e);
+      suits = search rules;
+      frames = refl;
+      wants = λ b before s v r. tt;
+      quiet = λ none. refl;
+      costs = tt;
+    }

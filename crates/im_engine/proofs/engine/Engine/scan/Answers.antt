@@ -1,4 +1,4 @@
-use Rattle.std.proofs.Common.{◌≤◌, ℕ, List, Vec, Global, refl, ap, subst, ◌∙◌, length}
+use Rattle.std.proofs.Common.{◌≤◌, ℕ, List, Vec, Global, refl, ap, subst, ◌∙◌, length, rules}
 use Rattle.im_base_types.specs.Answers as answers
 use Rattle.im_base_types.specs.Answers.{limit_of}
 use Rattle.im_page_writer.specs.Outcome.{pages_of}
@@ -16,62 +16,73 @@ use Rattle.im_engine.proofs.Telling.{told_answered, told_refused, read_lost}
 use Rattle.im_engine.proofs.Causes.{read_answered, read_cause, read_refused}
 use Rattle.im_engine.proofs.engine.Engine.scan.Goals as goal
 
-pub returns-in-Ok-Granted-clause-suits : goal.returns-in-Ok-Granted-clause-suits
-returns-in-Ok-Granted-clause-suits g c =
-    (refl, subst (λ (o : Outcome (Vec (List ℕ × ℕ) Global)). IfGranted o (λ l. length l.items ≤ limit_of c.args.limit)) c.in-Ok-Granted.field-0-is c.in-Ok-Granted.ensures.most)
-
-pub returns-in-Ok-Granted-clause-kept : goal.returns-in-Ok-Granted-clause-kept
-returns-in-Ok-Granted-clause-kept g c before s v life =
-    let r = (life.running c.requires.works).1 in
+pub returns-in-Ok-Granted : goal.returns-in-Ok-Granted
+returns-in-Ok-Granted g c =
     let old = c.args.self.now in
-    let read = c.in-Ok-Granted.ensures.kept (pages_of r.now) v.walk (has_good_tree g.D.Disk before s v old r) (walk_is g.D.Disk before s v old r) in
-    granted g.D.Disk before s v c.args.t (answers.Scan c.args.lo.now c.args.hi.now c.args.limit) old _ life c.requires.works c.requires.checked refl entries_found c.in-Ok-Granted.field-0 read c.in-Ok-Granted.list c.in-Ok-Granted.field-0-is _ refl c.in-Ok-Granted.ensures.outcome refl refl
+    record {
+      kept = λ before s v life.
+          let r = (life.running c.requires.works).1 in
+          let read = c.in-Ok-Granted.ensures.kept (pages_of r.now) v.walk (has_good_tree g.D.Disk before s v old r) (walk_is g.D.Disk before s v old r) in
+          granted g.D.Disk before s v c.args.t (answers.Scan c.args.lo.now c.args.hi.now c.args.limit) old _ life c.requires.works c.requires.checked refl entries_found c.in-Ok-Granted.field-0 read c.in-Ok-Granted.list c.in-Ok-Granted.field-0-is _ refl c.in-Ok-Granted.ensures.outcome refl refl;
+      told = told_answered g.D.Disk old _ c.requires.works refl refl (replies.Entries c.in-Ok-Granted.list) (λ k. refl) refl tt refl refl c.in-Ok-Granted.ensures.outcome.ends.alive;
+      answered = read_answered g.D.Disk old c.scan.new.writer.log c.scan.new.disk c.requires.works c.args.t (answers.Scan c.args.lo.now c.args.hi.now c.args.limit) refl c.requires.checked (replies.Entries c.in-Ok-Granted.list) (λ x e. cc e);
+      suits = (refl, subst (λ (o : Outcome (Vec (List ℕ × ℕ) Global)). IfGranted o (λ l. length l.items ≤ limit_of c.args.limit)) c.in-Ok-Granted.field-0-is c.in-Ok-Granted.ensures.most);
+      frames = search rules;
+      wants = λ b before s v r. tt;
+      quiet = λ none. absurd (none tt);
+      costs = tt;
+    }
 
-pub returns-in-Ok-Wait-clause-kept : goal.returns-in-Ok-Wait-clause-kept
-returns-in-Ok-Wait-clause-kept g c before s v life =
-    let r = (life.running c.requires.works).1 in
+pub returns-in-Ok-Wait : goal.returns-in-Ok-Wait
+returns-in-Ok-Wait g c =
     let old = c.args.self.now in
-    let read = c.in-Ok-Wait.ensures.kept (pages_of r.now) v.walk (has_good_tree g.D.Disk before s v old r) (walk_is g.D.Disk before s v old r) in
-    waits g.D.Disk before s v c.args.t (answers.Scan c.args.lo.now c.args.hi.now c.args.limit) old _ life c.requires.works c.requires.checked entries_found c.in-Ok-Wait.field-0 read c.in-Ok-Wait.holder c.in-Ok-Wait.field-0-is c.in-Ok-Wait.ensures.outcome refl refl
+    record {
+      kept = λ before s v life.
+          let r = (life.running c.requires.works).1 in
+          let read = c.in-Ok-Wait.ensures.kept (pages_of r.now) v.walk (has_good_tree g.D.Disk before s v old r) (walk_is g.D.Disk before s v old r) in
+          waits g.D.Disk before s v c.args.t (answers.Scan c.args.lo.now c.args.hi.now c.args.limit) old _ life c.requires.works c.requires.checked entries_found c.in-Ok-Wait.field-0 read c.in-Ok-Wait.holder c.in-Ok-Wait.field-0-is c.in-Ok-Wait.ensures.outcome refl refl;
+      told = told_answered g.D.Disk old _ c.requires.works refl refl (replies.Blocked (Lock c.in-Ok-Wait.holder)) (λ k. refl) refl tt refl refl c.in-Ok-Wait.ensures.outcome.ends.alive;
+      answered = read_answered g.D.Disk old c.scan.new.writer.log c.scan.new.disk c.requires.works c.args.t (answers.Scan c.args.lo.now c.args.hi.now c.args.limit) refl c.requires.checked (replies.Blocked (Lock c.in-Ok-Wait.holder)) (λ x e. cc e);
+      suits = search rules;
+      frames = search rules;
+      wants = λ b before s v r. tt;
+      quiet = λ none. absurd (none tt);
+      costs = tt;
+    }
 
-pub returns-in-Ok-Die-clause-kept : goal.returns-in-Ok-Die-clause-kept
-returns-in-Ok-Die-clause-kept g c before s v life =
-    let r = (life.running c.requires.works).1 in
+pub returns-in-Ok-Die : goal.returns-in-Ok-Die
+returns-in-Ok-Die g c =
     let old = c.args.self.now in
-    let read = c.in-Ok-Die.ensures.kept (pages_of r.now) v.walk (has_good_tree g.D.Disk before s v old r) (walk_is g.D.Disk before s v old r) in
-    dies g.D.Disk before s v c.args.t (answers.Scan c.args.lo.now c.args.hi.now c.args.limit) old _ life c.requires.works c.requires.checked entries_found c.in-Ok-Die.field-0 read c.in-Ok-Die.field-0-is c.in-Ok-Die.ensures.outcome c.set_mark.ensures refl
+    record {
+      kept = λ before s v life.
+          let r = (life.running c.requires.works).1 in
+          let read = c.in-Ok-Die.ensures.kept (pages_of r.now) v.walk (has_good_tree g.D.Disk before s v old r) (walk_is g.D.Disk before s v old r) in
+          dies g.D.Disk before s v c.args.t (answers.Scan c.args.lo.now c.args.hi.now c.args.limit) old _ life c.requires.works c.requires.checked entries_found c.in-Ok-Die.field-0 read c.in-Ok-Die.field-0-is c.in-Ok-Die.ensures.outcome c.set_mark.ensures refl;
+      told = told_answered g.D.Disk old _ c.requires.works (ap (λ (x : Numbered). x.next) c.set_mark.ensures) refl replies.Die (λ k. refl) refl tt refl (ap (λ (x : Numbered). length x.rows) c.set_mark.ensures ∙ length-map old.txns.rows (changed c.args.t (with_mark MustRollBack))) c.in-Ok-Die.ensures.outcome.ends.alive;
+      answered = read_answered g.D.Disk old c.scan.new.writer.log c.scan.new.disk c.requires.works c.args.t (answers.Scan c.args.lo.now c.args.hi.now c.args.limit) refl c.requires.checked replies.Die (λ x e. cc e);
+      suits = search rules;
+      frames = search rules;
+      wants = λ b before s v r. tt;
+      quiet = λ none. absurd (none tt);
+      costs = tt;
+    }
 
-pub returns-in-Err-clause-kept : goal.returns-in-Err-clause-kept
-returns-in-Err-clause-kept g c before s v life =
-    let r = (life.running c.requires.works).1 in
+pub returns-in-Err : goal.returns-in-Err
+returns-in-Err g c =
     let old = c.args.self.now in
-    let sound = c.in-Err.ensures.kept (pages_of r.now) v.walk (has_good_tree g.D.Disk before s v old r) (walk_is g.D.Disk before s v old r) in
-    refused g.D.Disk before s v c.args.t (answers.Scan c.args.lo.now c.args.hi.now c.args.limit) old _ life c.requires.works c.requires.checked (λ t f le left. g.met.D.Disk.counts_now c.scan.new.disk t f le left) c.in-Err.fault refl c.in-Err.ensures.outcome sound
-    c.breaks-self.ensures refl c.in-Err.ensures.table c.told.result c.told.ensures
-
-pub returns-in-Ok-Granted-clause-told : goal.returns-in-Ok-Granted-clause-told
-returns-in-Ok-Granted-clause-told g c = told_answered g.D.Disk c.args.self.now _ c.requires.works refl refl (replies.Entries c.in-Ok-Granted.list) (λ k. refl) refl tt refl refl c.in-Ok-Granted.ensures.outcome.ends.alive
-
-pub returns-in-Ok-Granted-clause-answered : goal.returns-in-Ok-Granted-clause-answered
-returns-in-Ok-Granted-clause-answered g c = read_answered g.D.Disk c.args.self.now c.scan.new.writer.log c.scan.new.disk c.requires.works c.args.t (answers.Scan c.args.lo.now c.args.hi.now c.args.limit) refl c.requires.checked (replies.Entries c.in-Ok-Granted.list) (λ x e. cc e)
-
-pub returns-in-Ok-Wait-clause-told : goal.returns-in-Ok-Wait-clause-told
-returns-in-Ok-Wait-clause-told g c = told_answered g.D.Disk c.args.self.now _ c.requires.works refl refl (replies.Blocked (Lock c.in-Ok-Wait.holder)) (λ k. refl) refl tt refl refl c.in-Ok-Wait.ensures.outcome.ends.alive
-
-pub returns-in-Ok-Wait-clause-answered : goal.returns-in-Ok-Wait-clause-answered
-returns-in-Ok-Wait-clause-answered g c = read_answered g.D.Disk c.args.self.now c.scan.new.writer.log c.scan.new.disk c.requires.works c.args.t (answers.Scan c.args.lo.now c.args.hi.now c.args.limit) refl c.requires.checked (replies.Blocked (Lock c.in-Ok-Wait.holder)) (λ x e. cc e)
-
-pub returns-in-Ok-Die-clause-told : goal.returns-in-Ok-Die-clause-told
-returns-in-Ok-Die-clause-told g c = told_answered g.D.Disk c.args.self.now _ c.requires.works (ap (λ (x : Numbered). x.next) c.set_mark.ensures) refl replies.Die (λ k. refl) refl tt refl (ap (λ (x : Numbered). length x.rows) c.set_mark.ensures ∙ length-map c.args.self.now.txns.rows (changed c.args.t (with_mark MustRollBack))) c.in-Ok-Die.ensures.outcome.ends.alive
-
-pub returns-in-Ok-Die-clause-answered : goal.returns-in-Ok-Die-clause-answered
-returns-in-Ok-Die-clause-answered g c = read_answered g.D.Disk c.args.self.now c.scan.new.writer.log c.scan.new.disk c.requires.works c.args.t (answers.Scan c.args.lo.now c.args.hi.now c.args.limit) refl c.requires.checked replies.Die (λ x e. cc e)
-
-pub returns-in-Err-clause-told : goal.returns-in-Err-clause-told
-returns-in-Err-clause-told g c =
-    let old = c.args.self.now in
-    told_refused g.D.Disk old _ c.requires.works refl refl c.in-Err.fault c.told.result c.told.ensures c.breaks-self.ensures refl (λ lost. read_lost g.D.Disk old.writer old.disk c.scan.new.writer c.scan.new.disk lost c.in-Err.fault c.in-Err.ensures.outcome.ends (old.working c.requires.works))
-
-pub returns-in-Err-clause-answered : goal.returns-in-Err-clause-answered
-returns-in-Err-clause-answered g c = read_refused g.D.Disk c.args.self.now c.scan.new.writer.log c.scan.new.disk c.requires.works c.args.t (answers.Scan c.args.lo.now c.args.hi.now c.args.limit) refl c.requires.checked c.in-Err.fault c.told.result c.told.ensures
-    (read_cause g.D.Disk c.args.self.now.writer c.args.self.now.disk c.scan.new.writer c.scan.new.disk c.in-Err.fault c.in-Err.ensures.outcome.ends (c.args.self.now.working c.requires.works))
+    record {
+      kept = λ before s v life.
+          let r = (life.running c.requires.works).1 in
+          let sound = c.in-Err.ensures.kept (pages_of r.now) v.walk (has_good_tree g.D.Disk before s v old r) (walk_is g.D.Disk before s v old r) in
+          refused g.D.Disk before s v c.args.t (answers.Scan c.args.lo.now c.args.hi.now c.args.limit) old _ life c.requires.works c.requires.checked (λ t f le left. g.met.D.Disk.counts_now c.scan.new.disk t f le left) c.in-Err.fault refl c.in-Err.ensures.outcome sound
+          c.breaks-self.ensures refl c.in-Err.ensures.table c.told.result c.told.ensures;
+      told = told_refused g.D.Disk old _ c.requires.works refl refl c.in-Err.fault c.told.result c.told.ensures c.breaks-self.ensures refl (λ lost. read_lost g.D.Disk old.writer old.disk c.scan.new.writer c.scan.new.disk lost c.in-Err.fault c.in-Err.ensures.outcome.ends (old.working c.requires.works));
+      answered =
+          read_refused g.D.Disk old c.scan.new.writer.log c.scan.new.disk c.requires.works c.args.t (answers.Scan c.args.lo.now c.args.hi.now c.args.limit) refl c.requires.checked c.in-Err.fault c.told.result c.told.ensures
+          (read_cause g.D.Disk old.writer old.disk c.scan.new.writer c.scan.new.disk c.in-Err.fault c.in-Err.ensures.outcome.ends (old.working c.requires.works));
+      suits = search rules;
+      frames = search rules;
+      wants = λ b before s v r. tt;
+      quiet = λ none. absurd (none tt);
+      costs = tt;
+    }

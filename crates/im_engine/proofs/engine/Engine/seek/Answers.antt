@@ -1,5 +1,10 @@
-use Rattle.std.proofs.Common.{◌≡◌, ℕ, Bool, true, false, List, refl, ap, ◌∙◌, length}
+use Rattle.std.proofs.Common.{◌≡◌, ℕ, Bool, true, false, List, refl, ap, ◌∙◌, length, rules}
 use Rattle.im_base_types.specs.Answers as answers
+use Rattle.im_base_types.specs.Maps.{IndexMap}
+use Rattle.im_theory_log.specs.Structure.{settled}
+use Rattle.im_theory_tree.specs.Levels.{Pages}
+use Rattle.im_front.specs.declared.reply.Reply.{Reply}
+use Rattle.im_engine.specs.Told.{WantsOf}
 use Rattle.im_page_writer.specs.Outcome.{pages_of}
 use Rattle.im_engine.proofs.Running.{has_good_tree, walk_is}
 use Rattle.im_engine_index.specs.Outcomes.{seek_at}
@@ -15,82 +20,100 @@ use Rattle.im_engine.proofs.Causes.{read_answered, read_cause, read_refused, see
 use Rattle.im_front.specs.Replies.{is_search}
 use Rattle.im_engine.proofs.engine.Engine.seek.Goals as goal
 
+-- neither wants anything
+seeks_want : (pages : Pages) (map : IndexMap) (max_pages t : ℕ) (inclusive : Bool) (key : List ℕ) (reply : Reply) → WantsOf pages map max_pages (answers.Do t (seek_at inclusive key)) reply
+seeks_want pages map max_pages t true key reply = tt
+seeks_want pages map max_pages t false key reply = tt
+
 -- both searches are
 a_search : (t : ℕ) (inclusive : Bool) (key : List ℕ) → is_search (answers.Do t (seek_at inclusive key)) ≡ true
 a_search t true key = refl
 a_search t false key = refl
 
-pub returns-in-Some-clause-suits : goal.returns-in-Some-clause-suits
-returns-in-Some-clause-suits g c = a_search c.args.t c.args.inclusive c.args.key.now
-
-pub returns-in-None-clause-suits : goal.returns-in-None-clause-suits
-returns-in-None-clause-suits g c = a_search c.args.t c.args.inclusive c.args.key.now
-
-pub returns-in-Some-clause-kept : goal.returns-in-Some-clause-kept
-returns-in-Some-clause-kept g c before s v life =
-    let r = (life.running c.requires.works).1 in
+pub returns-in-Some : goal.returns-in-Some
+returns-in-Some g c =
     let old = c.args.self.now in
-    let read = c.in-Ok-Granted.ensures.kept (pages_of r.now) v.walk (has_good_tree g.D.Disk before s v old r) (walk_is g.D.Disk before s v old r) in
-    granted g.D.Disk before s v c.args.t (seek_at c.args.inclusive c.args.key.now) old _ life c.requires.works c.requires.checked (seeks_change_nothing c.args.inclusive c.args.key.now v.walk) answers.entry c.in-Ok-Granted.field-0 read c.in-Ok-Granted.found c.in-Ok-Granted.field-0-is (answers.Entry c.in-Some.key c.in-Some.rid) (ap answers.entry c.in-Some.is) c.in-Ok-Granted.ensures.outcome refl refl
+    record {
+      kept = λ before s v life.
+          let r = (life.running c.requires.works).1 in
+          let read = c.in-Ok-Granted.ensures.kept (pages_of r.now) v.walk (has_good_tree g.D.Disk before s v old r) (walk_is g.D.Disk before s v old r) in
+          granted g.D.Disk before s v c.args.t (seek_at c.args.inclusive c.args.key.now) old _ life c.requires.works c.requires.checked (seeks_change_nothing c.args.inclusive c.args.key.now v.walk) answers.entry c.in-Ok-Granted.field-0 read c.in-Ok-Granted.found c.in-Ok-Granted.field-0-is (answers.Entry c.in-Some.key c.in-Some.rid) (ap answers.entry c.in-Some.is) c.in-Ok-Granted.ensures.outcome refl refl;
+      told = told_answered g.D.Disk old _ c.requires.works refl refl (replies.Entry c.in-Some.key c.in-Some.rid) (λ k. refl) refl tt refl refl c.in-Ok-Granted.ensures.outcome.ends.alive;
+      answered = read_answered g.D.Disk old c.seek.new.writer.log c.seek.new.disk c.requires.works c.args.t (seek_at c.args.inclusive c.args.key.now) (seeks_read c.args.inclusive c.args.key.now) c.requires.checked (replies.Entry c.in-Some.key c.in-Some.rid) (λ x e. cc e);
+      suits = a_search c.args.t c.args.inclusive c.args.key.now;
+      frames = search rules;
+      wants = λ b before s v r. seeks_want (settled b r.now.log) v.walk old.max_pages c.args.t c.args.inclusive c.args.key.now (replies.Entry c.in-Some.key c.in-Some.rid);
+      quiet = λ none. absurd (none tt);
+      costs = tt;
+    }
 
-pub returns-in-None-clause-kept : goal.returns-in-None-clause-kept
-returns-in-None-clause-kept g c before s v life =
-    let r = (life.running c.requires.works).1 in
+pub returns-in-None : goal.returns-in-None
+returns-in-None g c =
     let old = c.args.self.now in
-    let read = c.in-Ok-Granted.ensures.kept (pages_of r.now) v.walk (has_good_tree g.D.Disk before s v old r) (walk_is g.D.Disk before s v old r) in
-    granted g.D.Disk before s v c.args.t (seek_at c.args.inclusive c.args.key.now) old _ life c.requires.works c.requires.checked (seeks_change_nothing c.args.inclusive c.args.key.now v.walk) answers.entry c.in-Ok-Granted.field-0 read c.in-Ok-Granted.found c.in-Ok-Granted.field-0-is answers.End (ap answers.entry c.in-None.is) c.in-Ok-Granted.ensures.outcome refl refl
+    record {
+      kept = λ before s v life.
+          let r = (life.running c.requires.works).1 in
+          let read = c.in-Ok-Granted.ensures.kept (pages_of r.now) v.walk (has_good_tree g.D.Disk before s v old r) (walk_is g.D.Disk before s v old r) in
+          granted g.D.Disk before s v c.args.t (seek_at c.args.inclusive c.args.key.now) old _ life c.requires.works c.requires.checked (seeks_change_nothing c.args.inclusive c.args.key.now v.walk) answers.entry c.in-Ok-Granted.field-0 read c.in-Ok-Granted.found c.in-Ok-Granted.field-0-is answers.End (ap answers.entry c.in-None.is) c.in-Ok-Granted.ensures.outcome refl refl;
+      told = told_answered g.D.Disk old _ c.requires.works refl refl replies.End (λ k. refl) refl tt refl refl c.in-Ok-Granted.ensures.outcome.ends.alive;
+      answered = read_answered g.D.Disk old c.seek.new.writer.log c.seek.new.disk c.requires.works c.args.t (seek_at c.args.inclusive c.args.key.now) (seeks_read c.args.inclusive c.args.key.now) c.requires.checked replies.End (λ x e. cc e);
+      suits = a_search c.args.t c.args.inclusive c.args.key.now;
+      frames = search rules;
+      wants = λ b before s v r. seeks_want (settled b r.now.log) v.walk old.max_pages c.args.t c.args.inclusive c.args.key.now replies.End;
+      quiet = λ none. absurd (none tt);
+      costs = tt;
+    }
 
-pub returns-in-Ok-Wait-clause-kept : goal.returns-in-Ok-Wait-clause-kept
-returns-in-Ok-Wait-clause-kept g c before s v life =
-    let r = (life.running c.requires.works).1 in
+pub returns-in-Ok-Wait : goal.returns-in-Ok-Wait
+returns-in-Ok-Wait g c =
     let old = c.args.self.now in
-    let read = c.in-Ok-Wait.ensures.kept (pages_of r.now) v.walk (has_good_tree g.D.Disk before s v old r) (walk_is g.D.Disk before s v old r) in
-    waits g.D.Disk before s v c.args.t (seek_at c.args.inclusive c.args.key.now) old _ life c.requires.works c.requires.checked answers.entry c.in-Ok-Wait.field-0 read c.in-Ok-Wait.holder c.in-Ok-Wait.field-0-is c.in-Ok-Wait.ensures.outcome refl refl
+    record {
+      kept = λ before s v life.
+          let r = (life.running c.requires.works).1 in
+          let read = c.in-Ok-Wait.ensures.kept (pages_of r.now) v.walk (has_good_tree g.D.Disk before s v old r) (walk_is g.D.Disk before s v old r) in
+          waits g.D.Disk before s v c.args.t (seek_at c.args.inclusive c.args.key.now) old _ life c.requires.works c.requires.checked answers.entry c.in-Ok-Wait.field-0 read c.in-Ok-Wait.holder c.in-Ok-Wait.field-0-is c.in-Ok-Wait.ensures.outcome refl refl;
+      told = told_answered g.D.Disk old _ c.requires.works refl refl (replies.Blocked (Lock c.in-Ok-Wait.holder)) (λ k. refl) refl tt refl refl c.in-Ok-Wait.ensures.outcome.ends.alive;
+      answered = read_answered g.D.Disk old c.seek.new.writer.log c.seek.new.disk c.requires.works c.args.t (seek_at c.args.inclusive c.args.key.now) (seeks_read c.args.inclusive c.args.key.now) c.requires.checked (replies.Blocked (Lock c.in-Ok-Wait.holder)) (λ x e. cc e);
+      suits = search rules;
+      frames = search rules;
+      wants = λ b before s v r. seeks_want (settled b r.now.log) v.walk old.max_pages c.args.t c.args.inclusive c.args.key.now (replies.Blocked (Lock c.in-Ok-Wait.holder));
+      quiet = λ none. absurd (none tt);
+      costs = tt;
+    }
 
-pub returns-in-Ok-Die-clause-kept : goal.returns-in-Ok-Die-clause-kept
-returns-in-Ok-Die-clause-kept g c before s v life =
-    let r = (life.running c.requires.works).1 in
+pub returns-in-Ok-Die : goal.returns-in-Ok-Die
+returns-in-Ok-Die g c =
     let old = c.args.self.now in
-    let read = c.in-Ok-Die.ensures.kept (pages_of r.now) v.walk (has_good_tree g.D.Disk before s v old r) (walk_is g.D.Disk before s v old r) in
-    dies g.D.Disk before s v c.args.t (seek_at c.args.inclusive c.args.key.now) old _ life c.requires.works c.requires.checked answers.entry c.in-Ok-Die.field-0 read c.in-Ok-Die.field-0-is c.in-Ok-Die.ensures.outcome c.set_mark.ensures refl
+    record {
+      kept = λ before s v life.
+          let r = (life.running c.requires.works).1 in
+          let read = c.in-Ok-Die.ensures.kept (pages_of r.now) v.walk (has_good_tree g.D.Disk before s v old r) (walk_is g.D.Disk before s v old r) in
+          dies g.D.Disk before s v c.args.t (seek_at c.args.inclusive c.args.key.now) old _ life c.requires.works c.requires.checked answers.entry c.in-Ok-Die.field-0 read c.in-Ok-Die.field-0-is c.in-Ok-Die.ensures.outcome c.set_mark.ensures refl;
+      told = told_answered g.D.Disk old _ c.requires.works (ap (λ (x : Numbered). x.next) c.set_mark.ensures) refl replies.Die (λ k. refl) refl tt refl (ap (λ (x : Numbered). length x.rows) c.set_mark.ensures ∙ length-map old.txns.rows (changed c.args.t (with_mark MustRollBack))) c.in-Ok-Die.ensures.outcome.ends.alive;
+      answered = read_answered g.D.Disk old c.seek.new.writer.log c.seek.new.disk c.requires.works c.args.t (seek_at c.args.inclusive c.args.key.now) (seeks_read c.args.inclusive c.args.key.now) c.requires.checked replies.Die (λ x e. cc e);
+      suits = search rules;
+      frames = search rules;
+      wants = λ b before s v r. seeks_want (settled b r.now.log) v.walk old.max_pages c.args.t c.args.inclusive c.args.key.now replies.Die;
+      quiet = λ none. absurd (none tt);
+      costs = tt;
+    }
 
-pub returns-in-Err-clause-kept : goal.returns-in-Err-clause-kept
-returns-in-Err-clause-kept g c before s v life =
-    let r = (life.running c.requires.works).1 in
+pub returns-in-Err : goal.returns-in-Err
+returns-in-Err g c =
     let old = c.args.self.now in
-    let sound = c.in-Err.ensures.kept (pages_of r.now) v.walk (has_good_tree g.D.Disk before s v old r) (walk_is g.D.Disk before s v old r) in
-    refused g.D.Disk before s v c.args.t (seek_at c.args.inclusive c.args.key.now) old _ life c.requires.works c.requires.checked (λ t f le left. g.met.D.Disk.counts_now c.seek.new.disk t f le left) c.in-Err.fault (seeks_want_memory c.args.t c.args.inclusive c.args.key.now) c.in-Err.ensures.outcome sound
-    c.breaks-self.ensures refl c.in-Err.ensures.table c.told.result c.told.ensures
-
-pub returns-in-Some-clause-told : goal.returns-in-Some-clause-told
-returns-in-Some-clause-told g c = told_answered g.D.Disk c.args.self.now _ c.requires.works refl refl (replies.Entry c.in-Some.key c.in-Some.rid) (λ k. refl) refl tt refl refl c.in-Ok-Granted.ensures.outcome.ends.alive
-
-pub returns-in-Some-clause-answered : goal.returns-in-Some-clause-answered
-returns-in-Some-clause-answered g c = read_answered g.D.Disk c.args.self.now c.seek.new.writer.log c.seek.new.disk c.requires.works c.args.t (seek_at c.args.inclusive c.args.key.now) (seeks_read c.args.inclusive c.args.key.now) c.requires.checked (replies.Entry c.in-Some.key c.in-Some.rid) (λ x e. cc e)
-
-pub returns-in-None-clause-told : goal.returns-in-None-clause-told
-returns-in-None-clause-told g c = told_answered g.D.Disk c.args.self.now _ c.requires.works refl refl replies.End (λ k. refl) refl tt refl refl c.in-Ok-Granted.ensures.outcome.ends.alive
-
-pub returns-in-None-clause-answered : goal.returns-in-None-clause-answered
-returns-in-None-clause-answered g c = read_answered g.D.Disk c.args.self.now c.seek.new.writer.log c.seek.new.disk c.requires.works c.args.t (seek_at c.args.inclusive c.args.key.now) (seeks_read c.args.inclusive c.args.key.now) c.requires.checked replies.End (λ x e. cc e)
-
-pub returns-in-Ok-Wait-clause-told : goal.returns-in-Ok-Wait-clause-told
-returns-in-Ok-Wait-clause-told g c = told_answered g.D.Disk c.args.self.now _ c.requires.works refl refl (replies.Blocked (Lock c.in-Ok-Wait.holder)) (λ k. refl) refl tt refl refl c.in-Ok-Wait.ensures.outcome.ends.alive
-
-pub returns-in-Ok-Wait-clause-answered : goal.returns-in-Ok-Wait-clause-answered
-returns-in-Ok-Wait-clause-answered g c = read_answered g.D.Disk c.args.self.now c.seek.new.writer.log c.seek.new.disk c.requires.works c.args.t (seek_at c.args.inclusive c.args.key.now) (seeks_read c.args.inclusive c.args.key.now) c.requires.checked (replies.Blocked (Lock c.in-Ok-Wait.holder)) (λ x e. cc e)
-
-pub returns-in-Ok-Die-clause-told : goal.returns-in-Ok-Die-clause-told
-returns-in-Ok-Die-clause-told g c = told_answered g.D.Disk c.args.self.now _ c.requires.works (ap (λ (x : Numbered). x.next) c.set_mark.ensures) refl replies.Die (λ k. refl) refl tt refl (ap (λ (x : Numbered). length x.rows) c.set_mark.ensures ∙ length-map c.args.self.now.txns.rows (changed c.args.t (with_mark MustRollBack))) c.in-Ok-Die.ensures.outcome.ends.alive
-
-pub returns-in-Ok-Die-clause-answered : goal.returns-in-Ok-Die-clause-answered
-returns-in-Ok-Die-clause-answered g c = read_answered g.D.Disk c.args.self.now c.seek.new.writer.log c.seek.new.disk c.requires.works c.args.t (seek_at c.args.inclusive c.args.key.now) (seeks_read c.args.inclusive c.args.key.now) c.requires.checked replies.Die (λ x e. cc e)
-
-pub returns-in-Err-clause-told : goal.returns-in-Err-clause-told
-returns-in-Err-clause-told g c =
-    let old = c.args.self.now in
-    told_refused g.D.Disk old _ c.requires.works refl refl c.in-Err.fault c.told.result c.told.ensures c.breaks-self.ensures refl (λ lost. read_lost g.D.Disk old.writer old.disk c.seek.new.writer c.seek.new.disk lost c.in-Err.fault c.in-Err.ensures.outcome.ends (old.working c.requires.works))
-
-pub returns-in-Err-clause-answered : goal.returns-in-Err-clause-answered
-returns-in-Err-clause-answered g c = read_refused g.D.Disk c.args.self.now c.seek.new.writer.log c.seek.new.disk c.requires.works c.args.t (seek_at c.args.inclusive c.args.key.now) (seeks_read c.args.inclusive c.args.key.now) c.requires.checked c.in-Err.fault c.told.result c.told.ensures
-    (read_cause g.D.Disk c.args.self.now.writer c.args.self.now.disk c.seek.new.writer c.seek.new.disk c.in-Err.fault c.in-Err.ensures.outcome.ends (c.args.self.now.working c.requires.works))
+    record {
+      kept = λ before s v life.
+          let r = (life.running c.requires.works).1 in
+          let sound = c.in-Err.ensures.kept (pages_of r.now) v.walk (has_good_tree g.D.Disk before s v old r) (walk_is g.D.Disk before s v old r) in
+          refused g.D.Disk before s v c.args.t (seek_at c.args.inclusive c.args.key.now) old _ life c.requires.works c.requires.checked (λ t f le left. g.met.D.Disk.counts_now c.seek.new.disk t f le left) c.in-Err.fault (seeks_want_memory c.args.t c.args.inclusive c.args.key.now) c.in-Err.ensures.outcome sound
+          c.breaks-self.ensures refl c.in-Err.ensures.table c.told.result c.told.ensures;
+      told = told_refused g.D.Disk old _ c.requires.works refl refl c.in-Err.fault c.told.result c.told.ensures c.breaks-self.ensures refl (λ lost. read_lost g.D.Disk old.writer old.disk c.seek.new.writer c.seek.new.disk lost c.in-Err.fault c.in-Err.ensures.outcome.ends (old.working c.requires.works));
+      answered =
+          read_refused g.D.Disk old c.seek.new.writer.log c.seek.new.disk c.requires.works c.args.t (seek_at c.args.inclusive c.args.key.now) (seeks_read c.args.inclusive c.args.key.now) c.requires.checked c.in-Err.fault c.told.result c.told.ensures
+          (read_cause g.D.Disk old.writer old.disk c.seek.new.writer c.seek.new.disk c.in-Err.fault c.in-Err.ensures.outcome.ends (old.working c.requires.works));
+      suits = search rules;
+      frames = search rules;
+      wants = λ b before s v r. seeks_want (settled b r.now.log) v.walk old.max_pages c.args.t c.args.inclusive c.args.key.now (replies.Refused c.told.result);
+      quiet = λ none. absurd (none tt);
+      costs = tt;
+    }
