@@ -91,32 +91,35 @@ pub fn check_text<W: Write>(alloc: Global, writer: &mut W, copies: Copies) -> io
         Ok(looked) => looked,
         Err(_) => return Err(io::Error::from(AllocError)),
     };
-    let mut is_whole = true;
-    match &looked {
+    if is_whole(writer, &log, &looked)? {
+        writeln!(writer, "ok")?;
+        return Ok(0);
+    }
+    Ok(1)
+}
+
+// Whether nothing is broken; a line for each thing that is.
+fn is_whole<W: Write>(writer: &mut W, log: &[u8], looked: &Looked) -> io::Result<bool> {
+    match looked {
         Looked::Whole(said, tree) => {
-            let behind = batches_behind(&log, said.end);
+            let behind = batches_behind(log, said.end);
             if behind > 0 {
                 writeln!(
                     writer,
                     "log: {behind} whole batches behind the closed gate at {}",
                     said.end
                 )?;
-                is_whole = false;
             }
             for damage in &tree.damages {
                 writeln!(writer, "{damage}")?;
-                is_whole = false;
             }
+            Ok(behind == 0 && tree.damages.is_empty())
         }
         broken => {
             broken_text(writer, broken)?;
-            is_whole = false;
+            Ok(false)
         }
     }
-    if is_whole {
-        writeln!(writer, "ok")?;
-    }
-    Ok(if is_whole { 0 } else { 1 })
 }
 
 fn broken_text<W: Write>(writer: &mut W, looked: &Looked) -> io::Result<()> {

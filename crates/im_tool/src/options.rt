@@ -111,32 +111,44 @@ fn task_of(matches: &ArgMatches) -> Task {
 }
 
 fn command<'a>(alloc: Global) -> Result<Command<'a>, Error> {
-    let dir = Arg::new(alloc, "DIR").help(
-        "The folder of the store; without one the store is in memory",
+    let command = Command::new(alloc, "imstore").version("1").about(
+        "Keeps keys with their row ids in a store, and makes the steps that standard input asks for",
     );
-    let frames = Arg::new(alloc, "frames")
-        .long("frames")
-        .value_parser(ValueParser::unsigned(8, 1_024))
-        .help("Pages held in memory at once, 8 to 1024 [1024 with DIR, 64 without]");
-    let pages = Arg::new(alloc, "pages")
-        .long("pages")
-        .value_parser(ValueParser::unsigned(2, 4_294_967_295))
-        .help("The most pages that the store may have [1000000]");
-    let checkpoint = Arg::new(alloc, "checkpoint")
-        .long("checkpoint")
-        .value_parser(ValueParser::unsigned(0, MOST_CHECKPOINT))
-        .help(
-            "MiB of log that an opening redoes at most, also after a kill, 0 to 1048576; smaller ones open sooner and write more, 0 takes no Checkpoint [16 with DIR, 0 without]",
-        );
-    let command = Command::new(alloc, "imstore")
-        .version("1")
-        .about(
-            "Keeps keys with their row ids in a store, and makes the steps that standard input asks for",
-        )
-        .arg(dir)?
-        .arg(frames)?
-        .arg(pages)?
-        .arg(checkpoint)?
+    with_tasks(alloc, with_flags(alloc, with_numbers(alloc, command)?)?)
+}
+
+// The folder, and the options that are numbers.
+fn with_numbers<'a>(alloc: Global, command: Command<'a>) -> Result<Command<'a>, Error> {
+    let command = command
+        .arg(Arg::new(alloc, "DIR").help(
+            "The folder of the store; without one the store is in memory",
+        ))?
+        .arg(
+            Arg::new(alloc, "frames")
+                .long("frames")
+                .value_parser(ValueParser::unsigned(8, 1_024))
+                .help("Pages held in memory at once, 8 to 1024 [1024 with DIR, 64 without]"),
+        )?
+        .arg(
+            Arg::new(alloc, "pages")
+                .long("pages")
+                .value_parser(ValueParser::unsigned(2, 4_294_967_295))
+                .help("The most pages that the store may have [1000000]"),
+        )?
+        .arg(
+            Arg::new(alloc, "checkpoint")
+                .long("checkpoint")
+                .value_parser(ValueParser::unsigned(0, MOST_CHECKPOINT))
+                .help(
+                    "MiB of log that an opening redoes at most, also after a kill, 0 to 1048576; smaller ones open sooner and write more, 0 takes no Checkpoint [16 with DIR, 0 without]",
+                ),
+        )?;
+    Ok(command)
+}
+
+// How lines are read and answered.
+fn with_flags<'a>(alloc: Global, command: Command<'a>) -> Result<Command<'a>, Error> {
+    let command = command
         .arg(flag(
             alloc,
             "words",
@@ -146,25 +158,47 @@ fn command<'a>(alloc: Global) -> Result<Command<'a>, Error> {
             alloc,
             "batch",
             "End with status 3 at the first line that is refused",
-        ))?
-        .arg(task_flag(alloc, "check", "Check the store, and change nothing")?)?
-        .arg(task_flag(
-            alloc,
-            "stat",
-            "Print what the store has, in numbers, and change nothing",
-        )?)?
-        .arg(task_flag(
-            alloc,
-            "log",
-            "Print the records of the log, and change nothing",
-        )?)?
-        .arg(task_flag(alloc, "dump", "Print all entries as text")?)?
-        .arg(task_flag(
-            alloc,
-            "load",
-            "Put in the entries that standard input has, as --dump prints them",
-        )?)?;
+        ))?;
     Ok(command)
+}
+
+// What is done in the place of steps.
+fn with_tasks<'a>(alloc: Global, command: Command<'a>) -> Result<Command<'a>, Error> {
+    let mut command = command;
+    command = with_task(
+        alloc,
+        command,
+        "check",
+        "Check the store, and change nothing",
+    )?;
+    command = with_task(
+        alloc,
+        command,
+        "stat",
+        "Print what the store has, in numbers, and change nothing",
+    )?;
+    command = with_task(
+        alloc,
+        command,
+        "log",
+        "Print the records of the log, and change nothing",
+    )?;
+    command = with_task(alloc, command, "dump", "Print all entries as text")?;
+    with_task(
+        alloc,
+        command,
+        "load",
+        "Put in the entries that standard input has, as --dump prints them",
+    )
+}
+
+fn with_task<'a>(
+    alloc: Global,
+    command: Command<'a>,
+    name: &'a str,
+    help: &'a str,
+) -> Result<Command<'a>, Error> {
+    Ok(command.arg(task_flag(alloc, name, help)?)?)
 }
 
 fn flag<'a>(alloc: Global, name: &'a str, help: &'a str) -> Arg<'a> {

@@ -67,13 +67,18 @@ pub(crate) fn pages_of(
     count: PageNo,
 ) -> Result<Vec<u8>, Fault> {
     let mut engine = engine;
+    write_pages(&mut engine, count)?;
+    let mut left = engine.disk().after_stop(alloc)?;
+    whole_file(alloc, &mut left, FileId::Pages)
+}
+
+fn write_pages(engine: &mut Engine<ModelDisk>, count: PageNo) -> Result<(), Fault> {
     for page in 0..count {
         if let Reply::Refused(fault) = engine.step(&Step::FlushPage(page)) {
             return Err(fault_of(fault));
         }
     }
-    let mut left = engine.disk().after_stop(alloc)?;
-    whole_file(alloc, &mut left, FileId::Pages)
+    Ok(())
 }
 
 // A refusal of a step that writes a page, among those of openings.

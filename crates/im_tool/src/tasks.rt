@@ -125,38 +125,47 @@ pub(crate) fn load_program(rt: &HostRuntime, dir: &str, options: &Options) -> io
         &mut reader,
         &mut progress,
     )?;
-    let status = match loaded {
-        Loaded::All(_) => 0,
-        Loaded::RefusedOpening(fault) => return refused(rt, dir, &mut writer, fault),
-        Loaded::RefusedClose(_, _) => 1,
-        _ => 3,
-    };
+    let status = print_loaded(rt, dir, &mut writer, has_words, loaded)?;
+    writer.flush()?;
+    Ok(status)
+}
+
+// Says how a load ended. It answers the exit status.
+fn print_loaded<W: Write>(
+    rt: &HostRuntime,
+    dir: &str,
+    writer: &mut W,
+    has_words: bool,
+    loaded: Loaded,
+) -> io::Result<u8>
+    ensures { IfOk result (λ status. status ≤ 3) }
+{
     match loaded {
-        Loaded::All(count) => writeln!(writer, "loaded {count}")?,
-        Loaded::BadLine(line) => print_refused_line(
-            &mut writer,
-            has_words,
-            line,
-            Fault::BadScript.number(),
-            &Fault::BadScript,
-        )?,
-        Loaded::Duplicate(line) => writeln!(writer, "duplicate line {line}")?,
-        Loaded::Refused(line, fault) => print_refused_line(
-            &mut writer,
-            has_words,
-            line,
-            fault.number(),
-            &fault,
-        )?,
+        Loaded::All(count) => {
+            writeln!(writer, "loaded {count}")?;
+            Ok(0)
+        }
+        Loaded::RefusedOpening(fault) => refused(rt, dir, writer, fault),
         Loaded::RefusedClose(count, fault) => {
             writeln!(writer, "loaded {count}")?;
             writeln!(writer, "close refused {}", fault.number())?;
             tell(rt, dir, &fault);
+            Ok(1)
         }
-        Loaded::RefusedOpening(_) => {}
+        Loaded::Duplicate(line) => {
+            writeln!(writer, "duplicate line {line}")?;
+            Ok(3)
+        }
+        Loaded::BadLine(line) => {
+            let fault = Fault::BadScript;
+            print_refused_line(writer, has_words, line, fault.number(), &fault)?;
+            Ok(3)
+        }
+        Loaded::Refused(line, fault) => {
+            print_refused_line(writer, has_words, line, fault.number(), &fault)?;
+            Ok(3)
+        }
     }
-    writer.flush()?;
-    Ok(status)
 }
 
 // Writes that a line was refused by its number, and in words where they are wanted.

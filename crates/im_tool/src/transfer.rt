@@ -98,7 +98,8 @@ fn load_to_close<D: Disk, R: LineInput, P: Write>(
     if let Err(fault) = checkpoints.keep(engine) {
         return Ok(Loaded::Refused(1, fault));
     }
-    let loaded = load_lines(alloc, engine, &mut checkpoints, reader, progress)?;
+    let mut line = Vec::new(alloc);
+    let loaded = load_lines(alloc, engine, &mut checkpoints, reader, &mut line, progress)?;
     let Loaded::All(count) = loaded else {
         return Ok(loaded);
     };
@@ -108,15 +109,16 @@ fn load_to_close<D: Disk, R: LineInput, P: Write>(
     }
 }
 
+// Reads line by line into the room for one.
 fn load_lines<D: Disk, R: LineInput, P: Write>(
     alloc: Global,
     engine: &mut Engine<D>,
     checkpoints: &mut Checkpoints,
     reader: &mut R,
+    line: &mut Vec<u8>,
     progress: &mut Progress<P>,
 ) -> io::Result<Loaded> {
-    let mut line = Vec::new(alloc);
-    let Some(count) = next_count(reader, &mut line)? else {
+    let Some(count) = next_count(reader, line)? else {
         return Ok(Loaded::BadLine(1));
     };
     let mut number = 0;
@@ -129,10 +131,10 @@ fn load_lines<D: Disk, R: LineInput, P: Write>(
             }
         }
         line.clear();
-        if !reader.next_line(&mut line)? {
+        if !reader.next_line(line)? {
             return Ok(Loaded::BadLine(at));
         }
-        if let Some(end) = load_entry(alloc, engine, number, without_newline(&line), at)? {
+        if let Some(end) = load_entry(alloc, engine, number, without_newline(line), at)? {
             return Ok(end);
         }
         let is_last = place.saturating_add(1) == count;
