@@ -11,7 +11,7 @@ use Rattle.im_theory_log.proofs.LogLaws.{nothing_left, none_open}
 use Rattle.im_restart_analysis.specs.Losers.{has_record, is_loser}
 use Rattle.im_restart_analysis.specs.Numbers.{IsNextNumber}
 use Rattle.im_restart_analysis.proofs.Losers.{all_done, loser_from}
-use Rattle.im_restart.specs.Undone.{IsUndo, AreUndo, GrowsByUndo}
+use Rattle.im_restart.specs.Undone.{IsUndo, AreUndo, GrowsByRestart}
 use Rattle.im_theory_tree.specs.Theory.{page_tree}
 use Rattle.im_theory_steps.specs.Growth.{AreBelow, IsOver}
 
@@ -108,7 +108,7 @@ leaves_all (r ∷ more) older all =
       below = λ n least low. (one.below n least (rest.below n least low), rest.below n least low);
     }
 
-pub leaves_logs : (older longer : History) → GrowsByUndo older longer → LeavesLogs longer older
+pub leaves_logs : (older longer : History) → GrowsByRestart older longer → LeavesLogs longer older
 leaves_logs older longer grown = subst (λ (x : History). LeavesLogs x older) (sym grown.is) (leaves_all grown.more older grown.all)
 
 -- ---- where no loser is left

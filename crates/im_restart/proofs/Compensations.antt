@@ -35,7 +35,7 @@ use Rattle.im_restart_undo.specs.Undoing.{IsGoing, LeavesUndo, LeftByUndo, Taken
 use Rattle.im_restart_undo.proofs.Growth as growth
 use Rattle.im_restart_undo.proofs.Growth.{going_page}
 use Rattle.im_restart.specs.declared.chains.Chain.{Chain}
-use Rattle.im_restart.specs.Undone.{AreUndo, GrowsByUndo, IsUndo}
+use Rattle.im_restart.specs.Undone.{AreUndo, GrowsByRestart, IsUndo}
 use Rattle.im_restart.specs.Restart.{IsLeftUndoing}
 use Rattle.im_restart.specs.LoserChains.{IsToUndo}
 use Rattle.im_restart.specs.Undoing.{Compensated, CompensateKept, IsUndoing}
@@ -111,7 +111,7 @@ are_of_restart t (r ∷ more) older all loser =
     }
 
 -- the log that a restart found grew by them
-pub grows_key : (all old new : History) (t : ℕ) → GrowsByUndo all old → is_loser t old ≡ true → undone.GrowsByUndo t old new → GrowsByUndo all new
+pub grows_key : (all old new : History) (t : ℕ) → GrowsByRestart all old → is_loser t old ≡ true → undone.GrowsByUndo t old new → GrowsByRestart all new
 grows_key all old new t grown loser by = grows_then all old new grown (record { more = by.more; is = by.is; all = (are_of_restart t by.more old by.all loser).all })
 
 -- ---- one record taken back

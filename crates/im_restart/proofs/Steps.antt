@@ -30,7 +30,7 @@ use Rattle.im_restart_analysis.proofs.Undoing.{undo_goes_on}
 use Rattle.im_theory_tree.specs.Theory.{page_tree}
 use Rattle.im_theory_tree.proofs.TheoryLaws.{page_tree_laws}
 use Rattle.im_restart.specs.declared.chains.Chain.{Chain}
-use Rattle.im_restart.specs.Undone.{GrowsByUndo}
+use Rattle.im_restart.specs.Undone.{GrowsByRestart}
 use Rattle.im_restart.specs.UndoOrder.{IsInOrder}
 use Rattle.im_restart.specs.Restart.{IsLeftUndoing}
 use Rattle.im_restart.specs.LoserChains.{GoesOnAt}
@@ -58,7 +58,7 @@ nothing_left b tree laws log c can goes =
 
 module _ {D : Type 0} (d : Ghosts D) (b : Base) (base : ℕ) (all : History) where
   -- what a stop leaves between two fronts of the log
-  pub left_covered : (low high : History) (old new : D) → LeavesCovered d b base low high old new → IsFront all low → GrowsByUndo all high → IsInOrder all high → IsLawful b page_tree high → LeavesOnly d old new (IsLeftUndoing b base all)
+  pub left_covered : (low high : History) (old new : D) → LeavesCovered d b base low high old new → IsFront all low → GrowsByRestart all high → IsInOrder all high → IsLawful b page_tree high → LeavesOnly d old new (IsLeftUndoing b base all)
   left_covered low high old new stops found grown order law =
       weakened d old new (IsCovered b base low high) (IsLeftUndoing b base all) stops
       (λ told c is. record {
@@ -108,7 +108,7 @@ module _ {D : Type 0} (d : Ghosts D) (b : Base) (base : ℕ) (all : History) whe
       let none : to_undo c.transaction s.log ≡ [] = nothing_left b page_tree page_tree_laws s.log c is.can goes in
       let ends : Ends b c.transaction s.log r = record { linked = record { rises = logged.high; owner = refl; prev = goes.last }; what = refl; leads = refl } in
       let after = (undo_goes_on page_tree page_tree_laws).ends b s.log c.transaction r is.can goes.loser none ends in
-      let grown : GrowsByUndo all (r ∷ s.log) = grows_one all s.log r is.grown (record { loser = goes.loser; none = none; page = refl }) in
+      let grown : GrowsByRestart all (r ∷ s.log) = grows_one all s.log r is.grown (record { loser = goes.loser; none = none; page = refl }) in
       record {
         now = _;
         goes = record {

@@ -25,7 +25,7 @@ use Rattle.im_restart_analysis.specs.Orderly.{FitsBehind, IsOrderly, IsReadable}
 use Rattle.im_restart_redo.specs.Redo.{AreApplicable, applied_in, first_lsn}
 use Rattle.im_restart.specs.declared.redo_report.RedoReport.{RedoReport}
 use Rattle.im_restart.specs.declared.restarted.Restarted.{Restarted}
-use Rattle.im_restart.specs.Undone.{GrowsByUndo}
+use Rattle.im_restart.specs.Undone.{GrowsByRestart}
 use Rattle.im_restart.specs.UndoOrder.{IsInOrder, IsNearlyInOrder}
 
 -- What redo did: where it began, and how many records it applied to pages that it first had from this file or from their noted copies.
@@ -81,7 +81,7 @@ pub record MayRedo (b : Base) (base : ℕ) (all : History) (files : Files) : Typ
 pub record IsLeftUndoing (b : Base) (base : ℕ) (all : History) (files : Files) : Type 0 where
   pub left : History
   pub has : HasStore b base left files
-  pub grown : GrowsByUndo all left
+  pub grown : GrowsByRestart all left
   pub order : IsNearlyInOrder all left
   pub lawful : IsLawful b page_tree left
 
@@ -93,7 +93,7 @@ module _ {D : Type 0} (d : Ghosts D) (b : Base) (base : ℕ) (all : History) whe
     pub redo_end : ℕ
     pub over : now.redo_end ≡ Some redo_end
     pub durable : now.durable ≡ now.log
-    pub grown : GrowsByUndo all now.log
+    pub grown : GrowsByRestart all now.log
     pub order : IsInOrder all now.log
     pub lawful : IsLawful b page_tree now.log
     pub ended : (t : ℕ) → is_loser t now.log ≡ false

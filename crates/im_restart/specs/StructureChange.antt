@@ -14,7 +14,7 @@ use Rattle.im_page_writer.specs.declared.page_writer.PageWriter.{PageWriter}
 use Rattle.im_page_writer.specs.PageWriter.{StandsAs}
 use Rattle.im_theory_tree.specs.Theory.{page_tree}
 use Rattle.im_restart_analysis.specs.Losers.{AreLosers, LoserMap}
-use Rattle.im_restart.specs.Undone.{GrowsByUndo}
+use Rattle.im_restart.specs.Undone.{GrowsByRestart}
 use Rattle.im_restart.specs.UndoOrder.{IsInOrder}
 use Rattle.im_restart.specs.Restart.{IsLeftUndoing, RestartSound}
 
@@ -22,7 +22,7 @@ use Rattle.im_restart.specs.Restart.{IsLeftUndoing, RestartSound}
 pub record IsTakingBack (b : Base) (all : History) (now : Writer) : Type 0 where
   pub redo_end : ℕ
   pub over : now.redo_end ≡ Some redo_end
-  pub grown : GrowsByUndo all now.log
+  pub grown : GrowsByRestart all now.log
   pub order : IsInOrder all now.log
   pub found : IsFront all now.durable
   pub lawful : IsLawful b page_tree now.log

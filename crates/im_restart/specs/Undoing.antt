@@ -10,7 +10,7 @@ use Rattle.im_page_writer.specs.PageWriter.{StandsAs}
 use Rattle.im_theory_tree.specs.Theory.{page_tree}
 use Rattle.im_restart_analysis.specs.Losers.{is_loser, row_of}
 use Rattle.im_restart_analysis.specs.Undo.{IsUndoable}
-use Rattle.im_restart.specs.Undone.{GrowsByUndo}
+use Rattle.im_restart.specs.Undone.{GrowsByRestart}
 use Rattle.im_restart.specs.UndoOrder.{IsInOrder}
 use Rattle.im_restart.specs.Restart.{IsLeftUndoing, RestartSound}
 use Rattle.im_restart.specs.LoserChains.{ChainMap, AreChains, nobody, SparesOthers}
@@ -21,7 +21,7 @@ use Rattle.im_restart.specs.LoserChains.{ChainMap, AreChains, nobody, SparesOthe
 pub record IsUndoing (b : Base) (all : History) (now : Writer) : Type 0 where
   pub redo_end : ℕ
   pub over : now.redo_end ≡ Some redo_end
-  pub grown : GrowsByUndo all now.log
+  pub grown : GrowsByRestart all now.log
   pub order : IsInOrder all now.log
   pub found : IsFront all now.durable
   pub can : IsUndoable b page_tree now.log

@@ -41,7 +41,7 @@ AreUndo [] older = Unit {0}
 AreUndo (r ∷ more) older = IsUndo r (more ++ older) r.what × AreUndo more older
 
 -- The longer log is the older one with such records.
-pub record GrowsByUndo (older longer : History) : Type 0 where
+pub record GrowsByRestart (older longer : History) : Type 0 where
   pub more : History
   pub is : longer ≡ more ++ older
   pub all : AreUndo more older
