@@ -1,6 +1,6 @@
 //! Records that change a leaf: logged, and then the page changed by them.
-ghost use Rattle.std.specs.Prelude.{◌≡◌, ◌≢◌, ◌≤◌, ◌<◌, ◌+◌, ◌^◌, ◌⊎◌, ◌↔◌, ℕ, List, None, Some, Ok, Err, false, true, not, is_ok, length, IfErr, IfOk, OnOk};
-ghost use Rattle.im_base_types.specs.declared.fault.Fault.TheVariants.{Device, Failed, LogFull, Memory, NotAStore};
+ghost use Rattle.std.specs.Prelude.{◌≡◌, ◌≢◌, ◌≤◌, ◌<◌, ◌^◌, ◌⊎◌, ◌↔◌, ℕ, None, Some, Err, false, true, is_ok, length, IfErr, IfOk, OnOk};
+ghost use Rattle.im_base_types.specs.declared.fault.Fault.TheVariants.{Device, Failed, LogFull, NotAStore};
 ghost use Rattle.im_theory_log.specs.Histories.{Base};
 ghost use Rattle.im_theory_log.specs.Writer.{Writer};
 ghost use Rattle.im_page_writer.specs.KnownCopies.{or_from};
@@ -16,16 +16,15 @@ impl PageWriter {
     ghost use Rattle.im_base_types.specs.Records.{InsertKey, DeleteKey};
     ghost use Rattle.im_log_record.specs.Entry.{view, page_of};
     ghost use Rattle.im_log_record.specs.Spelling.{IsEntry, size_of};
-    ghost use Rattle.im_log.specs.LogFile.{HasNoRoom, end_with};
+    ghost use Rattle.im_log.specs.LogFile.{end_with};
     ghost use Rattle.im_log.specs.Whats.{what_of};
     ghost use Rattle.im_page_pool.specs.Pool.{held_of, page_at, IsAt};
     ghost use Rattle.im_page_writer.specs.DirtyTable.{entry_in};
     ghost use Rattle.im_page_writer.specs.KnownCopies.{IsAtOrAfter};
     ghost use Rattle.im_page_writer.specs.PageWriter.{IsReadyWriter, StandsAs};
     ghost use Rattle.im_page_writer.specs.LeafChange.{HasPlaceFor, HasKey};
-    ghost use Rattle.im_page_writer.specs.LogEnds.{EndsNoSooner};
     ghost use Rattle.im_page_writer.specs.Outcome.{fault_of, no_page, AreLoadedTo, Logs, Outcome};
-    ghost use Rattle.im_page_writer.specs.LoggedChange.{IsLike, HeldKept, LoggedKept, ChangeKept};
+    ghost use Rattle.im_page_writer.specs.LoggedChange.{IsLike, LoggedKept, ChangeKept};
 
     // Whether the dirty table can't take the page's entry.
     pub(super) fn lacks_room(&self, number: PageNo) -> bool
@@ -101,16 +100,12 @@ impl PageWriter {
         requires at { IsAt self.old.pool frame }
         requires place { HasPlaceFor (page_at self.old.pool frame.number) key.now i }
         requires room { entry_in self.old.table frame.number ≡ None → length self.old.table < 1024 }
-        ensures ready { IsReadyWriter D.Disk self.new disk.new }
+        ensures outcome { Logs D.Disk false no_page self.old disk.old self.new disk.new (fault_of result) }
         ensures kept { (b : Base) (base : ℕ) (s : Writer) (e : ℕ) → StandsAs D.Disk b base s self.old disk.old → s.redo_end ≡ Some e
             → LoggedKept D.Disk b base s (view record.now) disk.old self.new disk.new result }
-        ensures failed { self.new.failed ≡ not (is_ok result) }
         ensures causes { IfErr result (λ e. (e ≡ LogFull) ⊎ (e ≡ Device)) }
-        ensures no_room { result ≡ Err LogFull → HasNoRoom self.new.log }
         ensures full { result ≡ Err LogFull ↔ (2 ^ 62 < end_with self.old.log (size_of (view record.now))) }
         ensures left { result ≡ Err LogFull → 2 ^ 62 < end_with self.new.log (size_of (view record.now)) }
-        ensures device { result ≡ Err Device ↔ (D.failed disk.new ≡ true) }
-        ensures frames { self.new.pool.frames ≡ self.old.pool.frames }
     {
         let known = self.is_known(frame);
         self.failed = true;
@@ -140,16 +135,12 @@ impl PageWriter {
         requires at { IsAt self.old.pool frame }
         requires place { HasKey (page_at self.old.pool frame.number) key.now i }
         requires room { entry_in self.old.table frame.number ≡ None → length self.old.table < 1024 }
-        ensures ready { IsReadyWriter D.Disk self.new disk.new }
+        ensures outcome { Logs D.Disk false no_page self.old disk.old self.new disk.new (fault_of result) }
         ensures kept { (b : Base) (base : ℕ) (s : Writer) (e : ℕ) → StandsAs D.Disk b base s self.old disk.old → s.redo_end ≡ Some e
             → LoggedKept D.Disk b base s (view record.now) disk.old self.new disk.new result }
-        ensures failed { self.new.failed ≡ not (is_ok result) }
         ensures causes { IfErr result (λ e. (e ≡ LogFull) ⊎ (e ≡ Device)) }
-        ensures no_room { result ≡ Err LogFull → HasNoRoom self.new.log }
         ensures full { result ≡ Err LogFull ↔ (2 ^ 62 < end_with self.old.log (size_of (view record.now))) }
         ensures left { result ≡ Err LogFull → 2 ^ 62 < end_with self.new.log (size_of (view record.now)) }
-        ensures device { result ≡ Err Device ↔ (D.failed disk.new ≡ true) }
-        ensures frames { self.new.pool.frames ≡ self.old.pool.frames }
     {
         let known = self.is_known(frame);
         self.failed = true;
@@ -161,13 +152,9 @@ impl PageWriter {
         Ok(lsn)
     }
 
-    /// Logs a record that puts a key into a leaf, and changes the page by it: the page is got, room is made for its entry in the
-    /// dirty table, the record is appended, the key put in and the page given the record's LSN, and the page entered. It answers
-    /// the LSN.
-    ///
-    /// Refused `NotAStore`, before the append, where the page is no leaf, has the key, or has no room for it; `LogFull` where the
-    /// record, or an Image before it, would end above LSN 2^62 (a record that would is never logged); otherwise as `get` is.
-    pub fn log_put<D: Disk>(
+    // Logs a record that puts a key into a leaf, and changes the page by it. Refused `NotAStore`, before the append, where the page is
+    // no leaf, has the key, or has no room for it.
+    fn log_put<D: Disk>(
         &mut self,
         disk: &mut D,
         record: &Record,
@@ -190,11 +177,9 @@ impl PageWriter {
         self.put_logged(disk, frame, record, i, key, rid)
     }
 
-    /// Logs a record that takes a key out of a leaf, and changes the page by it, in the same order.
-    ///
-    /// Refused `NotAStore`, before the append, where the page is no leaf or lacks the key; `LogFull` as `log_put` is; otherwise as
-    /// `get` is.
-    pub fn log_take<D: Disk>(
+    // Logs a record that takes a key out of a leaf, and changes the page by it, in the same order. Refused `NotAStore`, before the
+    // append, where the page is no leaf or lacks the key.
+    fn log_take<D: Disk>(
         &mut self,
         disk: &mut D,
         record: &Record,
@@ -234,7 +219,8 @@ impl PageWriter {
     /// entered. It answers the LSN.
     ///
     /// Refused `NotAStore`, before the append, for a record of another kind, and where the page does not take it: it is no leaf,
-    /// it has the key already or has no room, or it lacks the key; `LogFull` as `log_put` is; otherwise as `get` is.
+    /// it has the key already or has no room, or it lacks the key; `LogFull` where the record, or an Image before it, would end above
+    /// LSN 2^62 (a record that would is never logged); otherwise as `get` is.
     pub fn log_change<D: Disk>(&mut self, disk: &mut D, record: &Record) -> Result<Lsn, Fault>
         requires entry { IsEntry (view record.now) }
         requires ready { IsReadyWriter D.Disk self.old disk.old }

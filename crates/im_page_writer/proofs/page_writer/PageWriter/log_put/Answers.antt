@@ -6,7 +6,7 @@ use Rattle.im_page_writer.specs.LeafChange.{CanPutKey}
 use Rattle.im_page_writer.proofs.Growing.{if_ok}
 use Rattle.im_page_writer.proofs.Goings.{covered_last, leaves_last, leaves_so_far}
 use Rattle.im_page_writer.proofs.LoggedChanges.{at_shows, err_on, failed_cause}
-use Rattle.im_page_writer.proofs.Outcomes.{append_logs, leaves_of_end, log_refused, logs_then, own_logs, read_logs, search_of, stands_on}
+use Rattle.im_page_writer.proofs.Outcomes.{leaves_of_end, log_refused, logs_then, own_logs, read_logs, search_of, stands_on}
 use Rattle.im_page_writer.proofs.page_writer.PageWriter.log_put.Goals as goal
 
 pub returns-in_err-frame-clause-outcome : goal.returns-in_err-frame-clause-outcome
@@ -36,9 +36,7 @@ returns-in_err-i-clause-kept g c b base s e is over =
     }
 
 pub returns-clause-outcome : goal.returns-clause-outcome
-returns-clause-outcome g c =
-    let e = c.put_logged.ensures in
-    logs_then g.D.Disk (search_of g.D.Disk c.in_ok-frame.ensures.outcome) (append_logs g.D.Disk c.put_logged.result c.in_ok-frame.ensures.outcome.ends.works e.ready e.failed e.causes e.no_room e.device e.frames)
+returns-clause-outcome g c = logs_then g.D.Disk (search_of g.D.Disk c.in_ok-frame.ensures.outcome) c.put_logged.ensures.outcome
 
 pub returns-clause-kept : goal.returns-clause-kept
 returns-clause-kept g c b base s e is over =
