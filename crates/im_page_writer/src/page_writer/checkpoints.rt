@@ -1,5 +1,5 @@
 //! Checkpoints: the rows of both tables in a record of the log, behind a sync of the file of pages.
-ghost use Rattle.std.specs.Prelude.{◌≡◌, ◌≤◌, ◌<◌, ◌^◌, ◌⊎◌, ◌↔◌, ◌+◌, ◌*◌, ℕ, List, None, Some, Ok, Err, false, true, not, is_ok, length, IfErr, OnOk};
+ghost use Rattle.std.specs.Prelude.{◌≡◌, ◌≤◌, ◌<◌, ◌^◌, ◌⊎◌, ◌↔◌, ℕ, List, None, Some, Err, false, true, not, is_ok, length, IfErr, OnOk};
 ghost use Rattle.im_base_types.specs.declared.fault.Fault.TheVariants.{Device, Failed, LogFull};
 ghost use Rattle.im_base_types.specs.declared.file_id.FileId.TheVariants.{Log};
 ghost use Rattle.im_theory_log.specs.Histories.{Base};
@@ -18,7 +18,6 @@ use im_log::LogFile;
 use im_log_record::Record;
 
 impl PageWriter {
-    ghost use Rattle.im_theory_log.specs.Writer.{PageState};
     ghost use Rattle.im_page_writer.specs.DirtyTable.{dirty_pages, forgotten_entries, synced_entries};
     ghost use Rattle.im_page_writer.specs.Outcome.{fault_of, none_mild, Logs};
     ghost use Rattle.im_page_writer.specs.PageWriter.{IsReadyWriter, StandsAs};
@@ -35,14 +34,10 @@ impl PageWriter {
         requires rise { Rise (λ a. a.transaction) None active.now }
         requires ready { IsReadyWriter D.Disk self.old disk.old }
         requires working { self.old.failed ≡ false }
-        ensures ready { IsReadyWriter D.Disk self.new disk.new }
+        ensures outcome { Logs D.Disk false none_mild self.old disk.old self.new disk.new (fault_of result) }
         ensures kept { (b : Base) (base : ℕ) (s : Writer) (e : ℕ) → StandsAs D.Disk b base s self.old disk.old → s.redo_end ≡ Some e → ((p : ℕ) → (s.pages p).unsynced ≡ false)
             → TablesKept D.Disk b base s next active.now (dirty_pages self.old.table) disk.old self.new disk.new result }
-        ensures failed { self.new.failed ≡ not (is_ok result) }
-        ensures causes { IfErr result (λ e. (e ≡ LogFull) ⊎ (e ≡ Device)) }
-        ensures no_room { result ≡ Err LogFull → HasNoRoom self.new.log }
         ensures full { result ≡ Err LogFull ↔ (2 ^ 62 < end_with self.old.log (size_of (Checkpoint next active.now (dirty_pages self.old.table)))) }
-        ensures device { result ≡ Err Device ↔ (D.failed disk.new ≡ true) }
         ensures table { OnOk result (self.new.table ≡ forgotten_entries self.old.table) }
         ensures pool { self.new.pool ≡ self.old.pool }
         ensures few { CostsAtMost D.Disk 2 2 disk.old disk.new }
