@@ -91,8 +91,7 @@ mod redone_page;
 mod table_entry;
 
 pub use dirty_table::{DirtyTable, MOST};
-pub use images::append_image;
 pub use laws::written_pages_have_copies;
-pub use page_file::{count_pages, sync_pages, write_page};
+pub use page_file::{sync_pages, write_page};
 pub use page_writer::PageWriter;
 pub use table_entry::TableEntry;
