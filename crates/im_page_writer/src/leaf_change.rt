@@ -1,10 +1,8 @@
 //! A held leaf, changed as a record says.
-ghost use Rattle.std.specs.Prelude.{◌≡◌, ◌≤◌, ◌<◌, ◌+◌, true, length, IfErr, IfOk};
+ghost use Rattle.std.specs.Prelude.{◌≡◌, true, IfErr, IfOk};
 ghost use Rattle.im_base_types.specs.declared.fault.Fault.TheVariants.{NotAStore};
-ghost use Rattle.im_base_types.specs.declared.page_kind.PageKind.TheVariants.{Leaf};
 ghost use Rattle.im_base_types.specs.Records.{InsertKey, DeleteKey};
 ghost use Rattle.im_theory_log.specs.Histories.{page_after};
-ghost use Rattle.im_page.specs.Entry.{Parts, Rises, entry_at, taken};
 ghost use Rattle.im_page_pool.specs.Pool.{IsAt, Sets, page_at};
 ghost use Rattle.im_page_writer.specs.LeafChange.{HasPlaceFor, HasKey, CanPutKey, CanTakeKey};
 ghost use Rattle.im_page_writer.specs.LeafEdits.{edit_of, HasPlace, MayEdit};
@@ -20,8 +18,8 @@ pub(crate) enum LeafEdit {
     Take,
 }
 
-/// Where a key would stand in a leaf that lacks it and has room for it. Refused `NotAStore`, exactly where the page is no such leaf.
-pub(crate) fn place_for(page: &Page, key: &[u8]) -> Result<usize, Fault>
+// Where a key would stand in a leaf that lacks it and has room for it. Refused `NotAStore`, exactly where the page is no such leaf.
+fn place_for(page: &Page, key: &[u8]) -> Result<usize, Fault>
     ensures ok { IfOk result (λ i. HasPlaceFor page.now key.now i) }
     ensures refused { IfErr result (λ e. (e ≡ NotAStore) × ¬ (CanPutKey page.now key.now)) }
 {
@@ -41,8 +39,8 @@ pub(crate) fn place_for(page: &Page, key: &[u8]) -> Result<usize, Fault>
     }
 }
 
-/// Where a key stands in a leaf. Refused `NotAStore`, exactly where the page is no leaf that has it.
-pub(crate) fn place_of(page: &Page, key: &[u8]) -> Result<usize, Fault>
+// Where a key stands in a leaf. Refused `NotAStore`, exactly where the page is no leaf that has it.
+fn place_of(page: &Page, key: &[u8]) -> Result<usize, Fault>
     ensures ok { IfOk result (λ i. HasKey page.now key.now i) }
     ensures refused { IfErr result (λ e. (e ≡ NotAStore) × ¬ (CanTakeKey page.now key.now)) }
 {
@@ -68,8 +66,8 @@ pub(crate) fn place_in(edit: LeafEdit, page: &Page, key: &[u8]) -> Result<usize,
     }
 }
 
-/// Puts a key at its place in a held leaf, by the record at an LSN. A change of entries clears the mark of a structure change.
-pub(crate) fn put_key(pool: &mut Pool, frame: Frame, i: usize, key: &[u8], rid: u64, lsn: Lsn)
+// Puts a key at its place in a held leaf, by the record at an LSN. A change of entries clears the mark of a structure change.
+fn put_key(pool: &mut Pool, frame: Frame, i: usize, key: &[u8], rid: u64, lsn: Lsn)
     requires at { IsAt pool.old frame }
     requires place { HasPlaceFor (page_at pool.old frame.number) key.now i }
     ensures { Sets frame (page_after lsn (InsertKey key.now rid) (page_at pool.old frame.number)) true pool.old pool.new }
@@ -83,8 +81,8 @@ pub(crate) fn put_key(pool: &mut Pool, frame: Frame, i: usize, key: &[u8], rid: 
     }
 }
 
-/// Takes a key out of its place in a held leaf, by the record at an LSN.
-pub(crate) fn take_key(pool: &mut Pool, frame: Frame, i: usize, key: &[u8], rid: u64, lsn: Lsn)
+// Takes a key out of its place in a held leaf, by the record at an LSN.
+fn take_key(pool: &mut Pool, frame: Frame, i: usize, key: &[u8], rid: u64, lsn: Lsn)
     requires at { IsAt pool.old frame }
     requires place { HasKey (page_at pool.old frame.number) key.now i }
     ensures { Sets frame (page_after lsn (DeleteKey key.now rid) (page_at pool.old frame.number)) true pool.old pool.new }
