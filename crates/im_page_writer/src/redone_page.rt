@@ -1,7 +1,6 @@
 //! A held page, changed by a record of redo.
 ghost use Rattle.std.specs.Prelude.{◌≡◌, None, true, false, IfErr, IfOk, OnErr};
 ghost use Rattle.im_base_types.specs.declared.fault.Fault.TheVariants.{NotAStore};
-ghost use Rattle.im_theory_log.specs.Histories.{page_after};
 ghost use Rattle.im_log_record.specs.Entry.{view};
 ghost use Rattle.im_log_record.specs.Spelling.{IsEntry};
 ghost use Rattle.im_log.specs.Whats.{what_of};
