@@ -7,7 +7,7 @@ ghost use Rattle.im_base_types.specs.declared.page_kind.PageKind.TheVariants.{Fr
 ghost use Rattle.im_base_disk.specs.Runs.{Reads};
 ghost use Rattle.im_page.specs.Entry.{Parts, taken, size};
 ghost use Rattle.im_page.specs.Page.{HoldsEntries, is_leaf_kind, page_of, with_entries};
-ghost use Rattle.im_page.specs.Header.{initial, empty_body, HasPrev, HasNext, HasLeftmost};
+ghost use Rattle.im_page.specs.Header.{empty_body, HasPrev, HasNext, HasLeftmost};
 ghost use Rattle.im_page.specs.PageFile.{file_page};
 ghost use Rattle.im_page_pool.specs.Frames.{stored_at, Puts};
 
@@ -114,16 +114,6 @@ impl Frames {
     {
         let slot = &mut self.slots[place as usize];
         slot.changed = false;
-    }
-
-    /// Makes it the page of a number before anything was put.
-    pub fn reset(&mut self, place: u32, p: PageNo)
-        requires { place < length self.old }
-        ensures { Puts place (initial p) self.old self.new }
-    {
-        let slot = &mut self.slots[place as usize];
-        slot.page.reset(p);
-        slot.changed = true;
     }
 
     /// Makes it the page that bytes are. On `Err` it stays as it was.

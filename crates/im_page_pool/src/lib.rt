@@ -14,7 +14,7 @@
 //! - `get_held` does the same of a page that is held, and of any other says that it is not, by one look-up.
 //! - `insert`, `remove`, `copy_in` and the setters change the one page of their frame, as the calls of `im_page` of the
 //!   same names do, and mark it.
-//! - `hold_copy` and `hold_initial` hold a page whatever the file has, without a call of the disk.
+//! - `hold_copy` holds a page whatever the file has, without a call of the disk.
 //! - `write_back` writes one page at its place and takes the mark off; `write_page` does so for a page outside. A stop
 //!   within leaves any bytes where that page stands, and each other page as it was.
 //! - `evict` gives the frame of one page back.

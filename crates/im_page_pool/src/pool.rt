@@ -10,7 +10,7 @@ ghost use Rattle.im_base_disk.specs.Disk.{Stepped, Follows, InFile, Answers};
 ghost use Rattle.im_base_disk.specs.Runs.{LeavesOnly, ChangesOnly, Reads, Costs};
 ghost use Rattle.im_page.specs.Entry.{Parts, taken, size};
 ghost use Rattle.im_page.specs.Page.{HoldsEntries, is_leaf_kind, page_of, with_entries};
-ghost use Rattle.im_page.specs.Header.{initial, empty_body, HasPrev, HasNext, HasLeftmost};
+ghost use Rattle.im_page.specs.Header.{empty_body, HasPrev, HasNext, HasLeftmost};
 ghost use Rattle.im_page.specs.PageFile.{page_count, file_page};
 ghost use Rattle.im_page_pool.specs.Writes.{WritesPage, TearsPage};
 ghost use Rattle.im_page_pool.specs.Pool.{held_of, Holds, IsAt, page_at, is_changed, page_seen, frame_of, Sets, Changes, Takes, MovesFirst, Evicts, changed_numbers, last_changed};
@@ -244,20 +244,6 @@ impl Pool {
         self.frames.read(place, disk, p)?;
         self.places.take(p);
         Ok(Frame { number: p, place })
-    }
-
-    /// Holds the page of a number as it is before anything was put, whatever the file has. It counts as changed.
-    pub fn hold_initial(&mut self, p: PageNo) -> Frame
-        requires absent { held_of self.old p ≡ None }
-        requires room { length self.old.held < self.old.frames }
-        ensures frame { result.number ≡ p }
-        ensures taken { Takes result (initial p) true self.old self.new }
-        ensures count { self.new.gets ≡ self.old.gets }
-    {
-        let place = self.places.next();
-        self.places.take(p);
-        self.frames.reset(place, p);
-        Frame { number: p, place }
     }
 
     /// Holds a full copy as the page of a number, whatever the file has. It counts as changed. Refused `NotAStore` exactly where the

@@ -1,15 +1,13 @@
 -- A Checkpoint: copies are forgotten, its record joins the log, and the three calls in a row.
 use Rattle.std.proofs.Common.{◌≡◌, inl, inr, ℕ, ◌<◌, Bool, false, true, List, [], ◌∷◌, Option, None, Some, refl, sym, ◌∙◌, ap, subst}
-use Rattle.std.specs.Prelude.{◌⊎◌, Result, Ok, Err, IfOk, OnOk}
 use Rattle.im_base_types.specs.declared.fault.Fault.{Fault}
 use Rattle.im_base_types.specs.declared.fault.Fault.TheVariants.{Device, Failed, LogFull, NotAStore}
 use Rattle.im_base_types.specs.declared.file_id.FileId.TheVariants.{Log, Pages}
 use Rattle.im_base_types.specs.declared.tables.ActiveTransaction.{ActiveTransaction}
 use Rattle.im_base_types.specs.declared.tables.DirtyPage.{DirtyPage}
-use Rattle.im_theory_log.specs.Histories.{Base, History, IsFront, end_of}
+use Rattle.im_theory_log.specs.Histories.{Base, end_of}
 use Rattle.im_theory_log.specs.Writer.{DirtyEntry, IsWritten, PageState, Writer}
-use Rattle.im_theory_log.specs.WriterSteps.{IsIn, IsDirty, Lists, appended, forced, forgotten, forgotten_entry, forgotten_page, is_copied, passed, synced}
-use Rattle.im_theory_log.proofs.Histories.{front_self}
+use Rattle.im_theory_log.specs.WriterSteps.{IsIn, Lists, appended, forced, forgotten, forgotten_entry, forgotten_page, is_copied, passed, synced}
 use Rattle.im_theory_log.proofs.WriterCheckpoints.{checkpoint_kept}
 use Rattle.im_theory_log.proofs.WriterGrowth.{grown_kept}
 use Rattle.im_theory_log.proofs.WriterWrites.{forgotten_kept}
@@ -27,8 +25,8 @@ use Rattle.im_page_writer.specs.DirtyTable.{entry_in}
 use Rattle.im_page_writer.specs.KnownCopies.{KnowsCopies}
 use Rattle.im_page_writer.specs.Stands.{HasEntries, is_changed, LeavesCovered}
 use Rattle.im_page_writer.specs.Writing.{IsPooled, IsShown, IsWriting}
-use Rattle.im_page_writer.specs.PageWriter.{GoesOn, StandsAs, StepKept}
-use Rattle.im_page_writer.specs.Checkpoints.{checkpoint_at, CheckpointKept, Checkpointed, LeavesCheckpointed, TablesKept, TablesLogged}
+use Rattle.im_page_writer.specs.PageWriter.{GoesOn}
+use Rattle.im_page_writer.specs.Checkpoints.{checkpoint_at, Checkpointed, LeavesCheckpointed, TablesLogged}
 use Rattle.im_page_writer.specs.Outcome.{none_mild, LogEnds, Logs}
 use Rattle.im_page_writer.proofs.Goings.{covered_last, covered_then, pooled_same}
 use Rattle.im_page_writer.proofs.KnownCopies.{knows_grown, knows_joined}

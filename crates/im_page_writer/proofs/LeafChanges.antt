@@ -1,5 +1,5 @@
 -- A held leaf through the calls that change it by a record.
-use Rattle.std.proofs.Common.{◌≡◌, ℕ, ◌<◌, true, false, Bool, List, length, insert, remove, Option, sym, ◌∙◌, ap, subst}
+use Rattle.std.proofs.Common.{◌≡◌, ℕ, ◌<◌, true, false, Bool, List, length, insert, remove, Option, refl, sym, ◌∙◌, ap, subst}
 use Rattle.std.specs.Prelude.{option_map}
 use Rattle.std.specs.Option.{option_map_or}
 use Rattle.im_base_types.specs.Keys.{Key}
@@ -11,6 +11,10 @@ use Rattle.im_page.specs.Page as pages
 use Rattle.im_page.specs.Header.{initial}
 use Rattle.im_page_pool.specs.declared.frame.Frame.{Frame}
 use Rattle.im_page_pool.specs.Pool.{Held, PoolView, IsAt, page_at, Sets}
+use Rattle.im_page_writer.specs.declared.leaf_change.LeafEdit.{LeafEdit}
+use Rattle.im_page_writer.specs.declared.leaf_change.LeafEdit.TheVariants.{Put, Take}
+use Rattle.im_page_writer.specs.LeafChange.{LeafTakes}
+use Rattle.im_page_writer.specs.LeafEdits.{edit_of, MayEdit}
 use Rattle.im_page_writer.proofs.KeyLists.{put_at, without_at}
 
 -- the page that was set
@@ -46,3 +50,15 @@ three_sets frame lsn es want old one two new first second third is =
     let b = set_page frame _ true one two second ∙ ap (λ (p : Page). record p { body = record p.body { marked = false } }) a in
     let c = ap (λ (p : Page). record p { lsn = lsn }) b ∙ is in
     subst (λ (p : Page). Sets frame p true old new) c (set_then frame _ _ old two new (set_then frame _ _ old one two first second) third)
+
+-- ---- a key put or taken
+
+-- it gives its page the record's LSN
+pub edit_gives : (e : LeafEdit) (k : Key) (v : ℕ) (g : Page) → (page_after 1 (edit_of e k v) g).lsn ≡ 1
+edit_gives Put k v g = refl
+edit_gives Take k v g = refl
+
+-- a leaf that takes the record takes the change
+pub may_edit : (e : LeafEdit) (k : Key) (v : ℕ) (g : Page) → LeafTakes (edit_of e k v) g → MayEdit e g k
+may_edit Put k v g takes = takes
+may_edit Take k v g takes = takes

@@ -517,13 +517,6 @@ module _ {D : Type 0} (d : Ghosts D) where
       (record { began = works; broken = broken }, still_working (d.failed new) (λ failed. let clash : LogFull ≡ Device = sym is ∙ lost.1 failed in let never : ⊥ = cc clash in never), no_room is)
   append_ends late m v old w new works e broken (inr is) no_room lost = subst (λ (f : Fault). LogEnds d late m v old w new (Some f)) (sym is) (record { began = works; broken = broken }, lost.0 is)
 
-  pub append_logs : {A : Type 0} {late : Bool} {m : Fault → Bool} {v : PageWriter} {old : D} {w : PageWriter} {new : D} (r : Result A Fault) → v.failed ≡ false → IsReadyWriter d w new → w.failed ≡ not (is_ok r) → IfErr r (λ e. (e ≡ LogFull) ⊎ (e ≡ Device)) → (r ≡ Err LogFull → HasNoRoom w.log)
-      → (r ≡ Err Device) ↔ (d.failed new ≡ true) → w.pool.frames ≡ v.pool.frames → Logs d late m v old w new (fault_of r)
-  append_logs {A} {late} {m} {v} {old} {w} {new} (Ok a) works ready failed causes no_room lost frames =
-      record { ready = ready; frames = frames; ends = record { began = works; works = failed; alive = still_working (d.failed new) (λ is. let clash = lost.1 is in let never : ⊥ = cc clash in never) } }
-  append_logs {A} {late} {m} {v} {old} {w} {new} (Err e) works ready failed causes no_room lost frames =
-      record { ready = ready; frames = frames; ends = append_ends late m v old w new works e failed causes (λ is. no_room (ap Err is)) ((λ is. lost.0 (ap Err is)), (λ is. let same = lost.1 is in cc same)) }
-
   -- a refusal without a call
   pub idle_logs : {A : Type 0} → ((disk : D) (c : Files) → d.left_since disk (d.moment disk) c → d.may_leave disk c) → (v : PageWriter) (old : D) → IsReadyWriter d v old → (r : Result A Fault) → IfErr r (λ e. (e ≡ Failed) ⊎ (e ≡ NotAStore)) → (r ≡ Err Failed) ↔ (v.failed ≡ true)
       → is_ok r ≡ false → Logs d false no_page v old v old (fault_of r)
@@ -558,24 +551,12 @@ module _ {D : Type 0} (d : Ghosts D) (only_now : (disk : D) (c : Files) → d.le
         };
   }
 
-  after_ends : (v : PageWriter) (old : D) (w : PageWriter) (new : D) → v.failed ≡ false → (e : Fault) → (w.failed ≡ false) ↔ (e ≡ NotAStore) → (e ≡ NotAStore) ⊎ (e ≡ LogFull) ⊎ (e ≡ Device) → (e ≡ LogFull → HasNoRoom w.log) → (e ≡ Device) ↔ (d.failed new ≡ true)
-      → (e ≡ NotAStore → (w.log ≡ v.log) × (w.table ≡ v.table) × (w.pool ≡ v.pool) × (w.known_from ≡ v.known_from) × (new ≡ old)) → LogEnds d false no_page v old w new (Some e)
-  after_ends v old w new began e fails (inl is) no_room lost same =
-      let so = same is in
-      subst (λ (f : Fault). LogEnds d false no_page v old w new (Some f)) (sym is)
-      (refl, stays_here v old w new began (fails.1 is) (still_working (d.failed new) (λ failed. let clash : NotAStore ≡ Device = sym is ∙ lost.1 failed in let never : ⊥ = cc clash in never)) so.0 so.1 so.2 so.3 so.4)
-  after_ends v old w new began e fails (inr failed) no_room lost same =
-      let broken : w.failed ≡ true = broken_of w.failed (λ works. let is = fails.0 works in elim failed [
-        | inl full ↦ let clash : LogFull ≡ NotAStore = sym full ∙ is in cc clash
-        | inr device ↦ let clash : Device ≡ NotAStore = sym device ∙ is in cc clash
-      ]) in
-      append_ends d false no_page v old w new began e broken failed no_room lost
-
-  -- a record of a structure change, whose images may be no pages
-  pub after_logs : {A : Type 0} {v : PageWriter} {old : D} {w : PageWriter} {new : D} (r : Result A Fault) → v.failed ≡ false → IsReadyWriter d w new → OnOk r (w.failed ≡ false) → IfErr r (λ e. (w.failed ≡ false) ↔ (e ≡ NotAStore)) → IfErr r (λ e. (e ≡ NotAStore) ⊎ (e ≡ LogFull) ⊎ (e ≡ Device))
-      → (r ≡ Err LogFull → HasNoRoom w.log) → (r ≡ Err Device) ↔ (d.failed new ≡ true) → (r ≡ Err NotAStore → (w.log ≡ v.log) × (w.table ≡ v.table) × (w.pool ≡ v.pool) × (w.known_from ≡ v.known_from) × (new ≡ old))
-      → w.pool.frames ≡ v.pool.frames → Logs d false no_page v old w new (fault_of r)
-  after_logs {A} {v} {old} {w} {new} (Ok a) began ready works fails causes no_room lost same frames =
-      record { ready = ready; frames = frames; ends = record { began = began; works = works; alive = still_working (d.failed new) (λ is. let clash = lost.1 is in let never : ⊥ = cc clash in never) } }
-  after_logs {A} {v} {old} {w} {new} (Err e) began ready works fails causes no_room lost same frames =
-      record { ready = ready; frames = frames; ends = after_ends v old w new began e fails causes (λ is. no_room (ap Err is)) ((λ is. lost.0 (ap Err is)), (λ is. let x = lost.1 is in cc x)) (λ is. same (ap Err is)) }
+  -- a refusal for bytes that are no page's, behind which nothing that pages are read from has changed
+  pub same_logs : {v : PageWriter} {old : D} {w : PageWriter} → v.failed ≡ false → w.failed ≡ false → IsReadyWriter d w old → w.log ≡ v.log → w.table ≡ v.table → w.pool ≡ v.pool → w.known_from ≡ v.known_from → Logs d false no_page v old w old (Some NotAStore)
+  same_logs {v} {old} {w} began works ready log table pool known =
+      let opened = ready.opened works in
+      record {
+        ready = ready;
+        frames = ap (λ (p : PoolView). p.frames) pool;
+        ends = (refl, stays_here v old w old began works (opened.ready.reading.working (opened.working (ready.works works))) log table pool known refl);
+      }

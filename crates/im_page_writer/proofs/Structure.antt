@@ -1,9 +1,9 @@
 -- A structure change joins the log, after redo: its page is the one after, and enters the dirty table.
-use Rattle.std.proofs.Common.{◌≡◌, Bor, ◌⊎◌, inl, inr, ℕ, true, false, List, ◌∷◌, Option, None, Some, refl, sym, ◌∙◌, ap, subst, Bool}
+use Rattle.std.proofs.Common.{◌≡◌, Bor, ◌⊎◌, inr, ℕ, true, false, List, ◌∷◌, Option, None, Some, refl, sym, ◌∙◌, ap, subst, Bool}
 use Rattle.std.specs.Prelude.{is_some, Result, Ok, Err, IfErr, ◌≢◌, ◌==◌}
 use Rattle.std.proofs.lemmas.Bool.{cond-true, eq-eqb}
 use Rattle.im_base_types.specs.declared.fault.Fault.{Fault}
-use Rattle.im_base_types.specs.declared.fault.Fault.TheVariants.{Device, Failed, LogFull, Memory, NotAStore}
+use Rattle.im_base_types.specs.declared.fault.Fault.TheVariants.{Device, Failed, LogFull, NotAStore}
 use Rattle.im_base_types.specs.declared.file_id.FileId.TheVariants.{Log}
 use Rattle.im_base_types.specs.Pages.{Body, Page}
 use Rattle.im_base_types.specs.Records.{What, InsertKey, DeleteKey, UndoInsert, UndoDelete, Smo, UndoSmo, DummyClr, Commit, End, Image, Checkpoint, Unreadable}

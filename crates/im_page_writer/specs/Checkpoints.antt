@@ -1,5 +1,5 @@
 -- What a Checkpoint keeps.
-use Rattle.std.specs.Prelude.{◌≡◌, ◌⊎◌, ◌<◌, ℕ, false, List, ◌∷◌, Result, IfOk}
+use Rattle.std.specs.Prelude.{◌≡◌, ◌⊎◌, ◌<◌, ℕ, List, ◌∷◌, Result, IfOk}
 use Rattle.im_base_types.specs.declared.fault.Fault.{Fault}
 use Rattle.im_base_types.specs.declared.tables.ActiveTransaction.{ActiveTransaction}
 use Rattle.im_base_types.specs.declared.tables.DirtyPage.{DirtyPage}

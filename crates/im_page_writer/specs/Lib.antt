@@ -10,6 +10,7 @@ pub mod Growth
 pub mod Writing
 pub mod PageWriter
 pub mod LeafChange
+pub mod LeafEdits
 pub mod LoggedChange
 pub mod Checkpoints
 pub mod PageCopy

@@ -9,7 +9,7 @@ use Rattle.im_log_record.specs.Entry.{Entry}
 use Rattle.im_log.specs.Whats.{what_of}
 use Rattle.im_page_writer.specs.declared.page_writer.PageWriter.{PageWriter}
 use Rattle.im_page_writer.specs.Writing.{LeavesGrown}
-use Rattle.im_page_writer.specs.PageWriter.{StandsAs, StaysOn}
+use Rattle.im_page_writer.specs.PageWriter.{StandsAs}
 use Rattle.im_page_writer.specs.LoggedChange.{LoggedKept, ChangedFrom}
 use Rattle.im_page_writer.specs.PageCopy.{after_in}
 

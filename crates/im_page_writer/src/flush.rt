@@ -16,8 +16,9 @@ ghost use Rattle.im_page_writer.specs.Outcome.{fault_of};
 ghost use Rattle.im_page_writer.specs.Writing.{lsn_for, SameHeld, IsWriting, MayCopy, MayWriteHere, WriteOutKept, FlushKept};
 
 use crate::image_range::log_images;
+use crate::page_file::count_pages;
 use crate::page_range::write_pages;
-use crate::{DirtyTable, count_pages, sync_pages};
+use crate::{DirtyTable, sync_pages};
 use im_base_disk::Disk;
 use im_base_types::{Fault, Lsn, PageNo};
 use im_log::LogFile;

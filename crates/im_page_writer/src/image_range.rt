@@ -13,7 +13,9 @@ ghost use Rattle.im_page_writer.specs.Imaging.{Imaging};
 ghost use Rattle.im_page_writer.specs.Outcome.{fault_of};
 ghost use Rattle.im_page_writer.specs.Writing.{with_lsn, lsn_for, IsWriting, MayCopy, PageImageKept, CopyKept, GrownKept, ImagesKept, DurableKept};
 
-use crate::{DirtyTable, append_image, count_pages};
+use crate::DirtyTable;
+use crate::images::append_image;
+use crate::page_file::count_pages;
 use im_base_disk::Disk;
 use im_base_types::{Fault, Lsn, PageNo};
 use im_log::LogFile;

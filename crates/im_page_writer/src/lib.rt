@@ -63,7 +63,7 @@
 //!
 //! # What is kept
 //!
-//! What a writer keeps (`Writer`, in im_base_types' specs) is the log with its durable front, and for each page what the pool shows,
+//! What a writer keeps (`Writer`, in im_theory_log's specs) is the log with its durable front, and for each page what the pool shows,
 //! its entry, what the file has as of its last sync and what a read gives. `Stands` says that what a writer keeps is kept, and
 //! that a log file, a table and a disk are as it says; `StandsAs` says the same of a `PageWriter`, with its pool. Each call has a
 //! clause `kept`: where the writer stands, and may do the step, it stands as the step leaves it, and a stop at any moment within
@@ -91,8 +91,7 @@ mod redone_page;
 mod table_entry;
 
 pub use dirty_table::{DirtyTable, MOST};
-pub use images::append_image;
 pub use laws::written_pages_have_copies;
-pub use page_file::{count_pages, sync_pages, write_page};
+pub use page_file::{sync_pages, write_page};
 pub use page_writer::PageWriter;
 pub use table_entry::TableEntry;

@@ -19,7 +19,7 @@ use im_base_types::{Fault, FileId, Lsn, PageNo};
 const PAGE: u64 = 4_096;
 
 /// How many pages the file has: bytes behind the last whole one do not count. No device call. Refused `Device`.
-pub fn count_pages<D: Disk>(disk: &mut D) -> Result<u64, Fault>
+pub(crate) fn count_pages<D: Disk>(disk: &mut D) -> Result<u64, Fault>
     requires working { D.failed disk.old ≡ false }
     ensures count { IfOk result (λ n. D.tells → n ≡ page_count (D.seen disk.old Pages)) }
     ensures reads { Reads D.Disk disk.old disk.new }

@@ -1,10 +1,10 @@
 //! The writer of pages.
-ghost use Rattle.std.specs.Prelude.{◌≡◌, ◌≢◌, ◌≤◌, ◌<◌, ◌+◌, ◌-◌, ◌^◌, min, ◌⊎◌, ◌↔◌, ℕ, List, [], None, Some, Ok, Err, false, true, not, is_ok, is_some, length, vec_capacity, IsOk, IfErr, IfOk, OnOk};
-ghost use Rattle.im_base_types.specs.declared.fault.Fault.TheVariants.{Device, Failed, LogFull, Memory, NotAStore};
+ghost use Rattle.std.specs.Prelude.{◌≡◌, ◌≢◌, ◌≤◌, ◌<◌, ◌+◌, ◌-◌, ◌^◌, min, ◌⊎◌, ◌↔◌, ℕ, [], None, Some, Ok, Err, false, true, is_some, length, vec_capacity, IsOk, IfErr, IfOk, OnOk};
+ghost use Rattle.im_base_types.specs.declared.fault.Fault.TheVariants.{LogFull, Memory, NotAStore};
 ghost use Rattle.im_base_types.specs.declared.file_id.FileId.TheVariants.{Pages};
 ghost use Rattle.im_theory_log.specs.Histories.{Base};
 ghost use Rattle.im_theory_log.specs.Writer.{Writer};
-ghost use Rattle.im_log.specs.LogFile.{end_with, HasNoRoom, IsOpen};
+ghost use Rattle.im_log.specs.LogFile.{end_with};
 
 use crate::flush::flush_page;
 use crate::{DirtyTable, MOST, sync_pages};
@@ -84,7 +84,6 @@ impl PageWriter {
     ghost use Rattle.im_log_record.specs.Spelling.{IsEntry, size_of};
     ghost use Rattle.im_log.specs.Whats.{what_of};
     ghost use Rattle.im_log_gate.specs.Gate.{place_of};
-    ghost use Rattle.im_page_writer.specs.LogEnds.{EndsNoSooner};
     ghost use Rattle.im_page_writer.specs.Writing.{SameHeld};
     ghost use Rattle.im_page_writer.specs.Outcome.{fault_of, no_page, none_mild, AllPages, AreLoadedTo, Flushes, HasPages, IsSound, Logs, Outcome};
     ghost use Rattle.im_page_writer.specs.PageWriter.{IsReadyWriter, StandsAs, FlushedOne, StepKept, FlushedOldest, HasRoom, IsPlain, LogKept};
@@ -216,10 +215,6 @@ impl PageWriter {
         ensures at { IfOk result (IsAt self.new.pool) }
         ensures frame { IfOk result (λ frame. frame.number ≡ number) }
         ensures gets { IfOk result (λ _. self.new.pool.gets ≡ self.old.pool.gets + 1) }
-        ensures held { Holds self.old.pool number → IsOk result × MovesFirst number self.old.pool self.new.pool }
-        ensures quiet { Holds self.old.pool number → disk.new ≡ disk.old }
-        ensures log { self.new.log ≡ self.old.log }
-        ensures table { self.new.table ≡ self.old.table }
         ensures no_page { result ≡ Err NotAStore → D.tells → file_page (D.seen disk.new Pages) number ≡ None }
     {
         match self.pool.get(disk, number) {

@@ -1,44 +1,37 @@
 //! A held page, changed by a record of redo.
 ghost use Rattle.std.specs.Prelude.{◌≡◌, None, true, false, IfErr, IfOk, OnErr};
 ghost use Rattle.im_base_types.specs.declared.fault.Fault.TheVariants.{NotAStore};
-ghost use Rattle.im_base_types.specs.Records.{InsertKey, DeleteKey};
-ghost use Rattle.im_theory_log.specs.Histories.{page_after};
 ghost use Rattle.im_log_record.specs.Entry.{view};
 ghost use Rattle.im_log_record.specs.Spelling.{IsEntry};
 ghost use Rattle.im_log.specs.Whats.{what_of};
 ghost use Rattle.im_page_pool.specs.Pool.{IsAt, Sets, page_at};
-ghost use Rattle.im_page_writer.specs.LeafChange.{CanPutKey, CanTakeKey};
+ghost use Rattle.im_page_writer.specs.LeafEdits.{edit_of, MayEdit};
 ghost use Rattle.im_page_writer.specs.PageCopy.{after_in};
 ghost use Rattle.im_page_writer.specs.Redoing.{TakesRecord, AppliedTo};
 
-use crate::leaf_change::{place_for, place_of, put_key, take_key};
+use crate::leaf_change::{LeafEdit, edit_key, place_in};
 use crate::page_copy::read_after;
 use im_base_types::{Fault, Lsn};
 use im_log_record::Record;
 use im_page::Page;
 use im_page_pool::{Frame, Pool};
 
-// A key is put into a leaf. Refused `NotAStore` where it does not take it.
-fn redo_put(pool: &mut Pool, frame: Frame, lsn: Lsn, key: &[u8], rid: u64) -> Result<bool, Fault>
+// A key is put into a leaf, or taken out. Refused `NotAStore` where it does not take that.
+fn redo_key(
+    pool: &mut Pool,
+    frame: Frame,
+    lsn: Lsn,
+    edit: LeafEdit,
+    key: &[u8],
+    rid: u64,
+) -> Result<bool, Fault>
     requires at { IsAt pool.old frame }
-    ensures ok { IfOk result (λ done. AppliedTo lsn (InsertKey key.now rid) frame pool.old done pool.new) }
+    ensures ok { IfOk result (λ done. AppliedTo lsn (edit_of edit key.now rid) frame pool.old done pool.new) }
     ensures err { OnErr result (pool.new ≡ pool.old) }
-    ensures refused { IfErr result (λ e. (e ≡ NotAStore) × ¬ (CanPutKey (page_at pool.old frame.number) key.now)) }
+    ensures refused { IfErr result (λ e. (e ≡ NotAStore) × ¬ (MayEdit edit (page_at pool.old frame.number) key.now)) }
 {
-    let i = place_for(pool.page(frame), key)?;
-    put_key(pool, frame, i, key, rid, lsn);
-    Ok(true)
-}
-
-// A key is taken out of a leaf. Refused `NotAStore` where it does not have it.
-fn redo_take(pool: &mut Pool, frame: Frame, lsn: Lsn, key: &[u8], rid: u64) -> Result<bool, Fault>
-    requires at { IsAt pool.old frame }
-    ensures ok { IfOk result (λ done. AppliedTo lsn (DeleteKey key.now rid) frame pool.old done pool.new) }
-    ensures err { OnErr result (pool.new ≡ pool.old) }
-    ensures refused { IfErr result (λ e. (e ≡ NotAStore) × ¬ (CanTakeKey (page_at pool.old frame.number) key.now)) }
-{
-    let i = place_of(pool.page(frame), key)?;
-    take_key(pool, frame, i, key, rid, lsn);
+    let i = place_in(edit, pool.page(frame), key)?;
+    edit_key(pool, frame, edit, i, key, rid, lsn);
     Ok(true)
 }
 
@@ -86,10 +79,17 @@ pub(crate) fn redo_record(
     ensures refused { IfErr result (λ e. (e ≡ NotAStore) × ¬ (TakesRecord (what_of (view record.now)) (page_at pool.old frame.number))) }
 {
     match record {
-        Record::InsertKey { key, rid, .. } => redo_put(pool, frame, lsn, key, *rid),
-        Record::UndoDelete { key, rid, .. } => redo_put(pool, frame, lsn, key, *rid),
-        Record::DeleteKey { key, rid, .. } => redo_take(pool, frame, lsn, key, *rid),
-        Record::UndoInsert { key, rid, .. } => redo_take(pool, frame, lsn, key, *rid),
+        Record::InsertKey { key, rid, .. } => redo_key(pool, frame, lsn, LeafEdit::Put, key, *rid),
+        Record::UndoDelete { key, rid, .. } => redo_key(pool, frame, lsn, LeafEdit::Put, key, *rid),
+        Record::DeleteKey { key, rid, .. } => redo_key(pool, frame, lsn, LeafEdit::Take, key, *rid),
+        Record::UndoInsert { key, rid, .. } => redo_key(
+            pool,
+            frame,
+            lsn,
+            LeafEdit::Take,
+            key,
+            *rid,
+        ),
         Record::Smo { .. } => Ok(redo_after(pool, spare, frame, lsn, record)),
         Record::UndoSmo { .. } => Ok(redo_after(pool, spare, frame, lsn, record)),
         _ => Ok(false),

@@ -1,31 +1,29 @@
 //! Records that change a leaf: logged, and then the page changed by them.
-ghost use Rattle.std.specs.Prelude.{◌≡◌, ◌≢◌, ◌≤◌, ◌<◌, ◌+◌, ◌^◌, ◌⊎◌, ◌↔◌, ℕ, List, None, Some, Ok, Err, false, true, not, is_ok, length, IfErr, IfOk, OnOk};
-ghost use Rattle.im_base_types.specs.declared.fault.Fault.TheVariants.{Device, Failed, LogFull, Memory, NotAStore};
+ghost use Rattle.std.specs.Prelude.{◌≡◌, ◌≢◌, ◌≤◌, ◌<◌, ◌^◌, ◌⊎◌, ◌↔◌, ℕ, None, Some, Err, false, true, is_ok, length, IfErr, IfOk, OnOk};
+ghost use Rattle.im_base_types.specs.declared.fault.Fault.TheVariants.{Device, Failed, LogFull, NotAStore};
 ghost use Rattle.im_theory_log.specs.Histories.{Base};
 ghost use Rattle.im_theory_log.specs.Writer.{Writer};
 ghost use Rattle.im_page_writer.specs.KnownCopies.{or_from};
 
 use crate::PageWriter;
-use crate::leaf_change::{place_for, place_of, put_key, take_key};
+use crate::leaf_change::{LeafEdit, edit_key, place_in};
 use im_base_disk::Disk;
 use im_base_types::{Fault, Lsn, PageNo};
 use im_log_record::Record;
 use im_page_pool::Frame;
 
 impl PageWriter {
-    ghost use Rattle.im_base_types.specs.Records.{InsertKey, DeleteKey};
     ghost use Rattle.im_log_record.specs.Entry.{view, page_of};
     ghost use Rattle.im_log_record.specs.Spelling.{IsEntry, size_of};
-    ghost use Rattle.im_log.specs.LogFile.{HasNoRoom, end_with};
+    ghost use Rattle.im_log.specs.LogFile.{end_with};
     ghost use Rattle.im_log.specs.Whats.{what_of};
     ghost use Rattle.im_page_pool.specs.Pool.{held_of, page_at, IsAt};
     ghost use Rattle.im_page_writer.specs.DirtyTable.{entry_in};
     ghost use Rattle.im_page_writer.specs.KnownCopies.{IsAtOrAfter};
     ghost use Rattle.im_page_writer.specs.PageWriter.{IsReadyWriter, StandsAs};
-    ghost use Rattle.im_page_writer.specs.LeafChange.{HasPlaceFor, HasKey};
-    ghost use Rattle.im_page_writer.specs.LogEnds.{EndsNoSooner};
+    ghost use Rattle.im_page_writer.specs.LeafEdits.{edit_of, HasPlace};
     ghost use Rattle.im_page_writer.specs.Outcome.{fault_of, no_page, AreLoadedTo, Logs, Outcome};
-    ghost use Rattle.im_page_writer.specs.LoggedChange.{IsLike, HeldKept, LoggedKept, ChangeKept};
+    ghost use Rattle.im_page_writer.specs.LoggedChange.{IsLike, LoggedKept, ChangeKept};
 
     // Whether the dirty table can't take the page's entry.
     pub(super) fn lacks_room(&self, number: PageNo) -> bool
@@ -83,100 +81,55 @@ impl PageWriter {
         }
     }
 
-    // A record puts a key into a held leaf at its place.
-    fn put_logged<D: Disk>(
+    // A record puts a key into a held leaf at its place, or takes it out of there.
+    fn edit_logged<D: Disk>(
         &mut self,
         disk: &mut D,
         frame: Frame,
         record: &Record,
+        edit: LeafEdit,
         i: usize,
         key: &[u8],
         rid: u64,
     ) -> Result<Lsn, Fault>
         requires entry { IsEntry (view record.now) }
-        requires what { IsLike (what_of (view record.now)) (InsertKey key.now rid) }
+        requires what { IsLike (what_of (view record.now)) (edit_of edit key.now rid) }
         requires page { page_of (view record.now) ≡ frame.number }
         requires ready { IsReadyWriter D.Disk self.old disk.old }
         requires working { self.old.failed ≡ false }
         requires at { IsAt self.old.pool frame }
-        requires place { HasPlaceFor (page_at self.old.pool frame.number) key.now i }
+        requires place { HasPlace edit (page_at self.old.pool frame.number) key.now i }
         requires room { entry_in self.old.table frame.number ≡ None → length self.old.table < 1024 }
-        ensures ready { IsReadyWriter D.Disk self.new disk.new }
+        ensures outcome { Logs D.Disk false no_page self.old disk.old self.new disk.new (fault_of result) }
         ensures kept { (b : Base) (base : ℕ) (s : Writer) (e : ℕ) → StandsAs D.Disk b base s self.old disk.old → s.redo_end ≡ Some e
             → LoggedKept D.Disk b base s (view record.now) disk.old self.new disk.new result }
-        ensures failed { self.new.failed ≡ not (is_ok result) }
         ensures causes { IfErr result (λ e. (e ≡ LogFull) ⊎ (e ≡ Device)) }
-        ensures no_room { result ≡ Err LogFull → HasNoRoom self.new.log }
         ensures full { result ≡ Err LogFull ↔ (2 ^ 62 < end_with self.old.log (size_of (view record.now))) }
         ensures left { result ≡ Err LogFull → 2 ^ 62 < end_with self.new.log (size_of (view record.now)) }
-        ensures device { result ≡ Err Device ↔ (D.failed disk.new ≡ true) }
-        ensures frames { self.new.pool.frames ≡ self.old.pool.frames }
     {
         let known = self.is_known(frame);
         self.failed = true;
         let lsn = self.log.append(disk, record)?;
-        put_key(&mut self.pool, frame, i, key, rid, lsn);
+        edit_key(&mut self.pool, frame, edit, i, key, rid, lsn);
         self.table.enter(frame.number, lsn, known);
         self.known_from = first_of(self.known_from, lsn);
         self.failed = false;
         Ok(lsn)
     }
 
-    // A record takes a key out of a held leaf.
-    fn take_logged<D: Disk>(
-        &mut self,
-        disk: &mut D,
-        frame: Frame,
-        record: &Record,
-        i: usize,
-        key: &[u8],
-        rid: u64,
-    ) -> Result<Lsn, Fault>
-        requires entry { IsEntry (view record.now) }
-        requires what { IsLike (what_of (view record.now)) (DeleteKey key.now rid) }
-        requires page { page_of (view record.now) ≡ frame.number }
-        requires ready { IsReadyWriter D.Disk self.old disk.old }
-        requires working { self.old.failed ≡ false }
-        requires at { IsAt self.old.pool frame }
-        requires place { HasKey (page_at self.old.pool frame.number) key.now i }
-        requires room { entry_in self.old.table frame.number ≡ None → length self.old.table < 1024 }
-        ensures ready { IsReadyWriter D.Disk self.new disk.new }
-        ensures kept { (b : Base) (base : ℕ) (s : Writer) (e : ℕ) → StandsAs D.Disk b base s self.old disk.old → s.redo_end ≡ Some e
-            → LoggedKept D.Disk b base s (view record.now) disk.old self.new disk.new result }
-        ensures failed { self.new.failed ≡ not (is_ok result) }
-        ensures causes { IfErr result (λ e. (e ≡ LogFull) ⊎ (e ≡ Device)) }
-        ensures no_room { result ≡ Err LogFull → HasNoRoom self.new.log }
-        ensures full { result ≡ Err LogFull ↔ (2 ^ 62 < end_with self.old.log (size_of (view record.now))) }
-        ensures left { result ≡ Err LogFull → 2 ^ 62 < end_with self.new.log (size_of (view record.now)) }
-        ensures device { result ≡ Err Device ↔ (D.failed disk.new ≡ true) }
-        ensures frames { self.new.pool.frames ≡ self.old.pool.frames }
-    {
-        let known = self.is_known(frame);
-        self.failed = true;
-        let lsn = self.log.append(disk, record)?;
-        take_key(&mut self.pool, frame, i, key, rid, lsn);
-        self.table.enter(frame.number, lsn, known);
-        self.known_from = first_of(self.known_from, lsn);
-        self.failed = false;
-        Ok(lsn)
-    }
-
-    /// Logs a record that puts a key into a leaf, and changes the page by it: the page is got, room is made for its entry in the
-    /// dirty table, the record is appended, the key put in and the page given the record's LSN, and the page entered. It answers
-    /// the LSN.
-    ///
-    /// Refused `NotAStore`, before the append, where the page is no leaf, has the key, or has no room for it; `LogFull` where the
-    /// record, or an Image before it, would end above LSN 2^62 (a record that would is never logged); otherwise as `get` is.
-    pub fn log_put<D: Disk>(
+    // Logs a record that puts a key into a leaf or takes it out, and changes the page by it. Refused `NotAStore`, before the append,
+    // where the page does not take it.
+    fn log_edit<D: Disk>(
         &mut self,
         disk: &mut D,
         record: &Record,
         number: PageNo,
+        edit: LeafEdit,
         key: &[u8],
         rid: u64,
     ) -> Result<Lsn, Fault>
         requires entry { IsEntry (view record.now) }
-        requires what { IsLike (what_of (view record.now)) (InsertKey key.now rid) }
+        requires what { IsLike (what_of (view record.now)) (edit_of edit key.now rid) }
         requires page { page_of (view record.now) ≡ number }
         requires ready { IsReadyWriter D.Disk self.old disk.old }
         ensures outcome { Logs D.Disk false no_page self.old disk.old self.new disk.new (fault_of result) }
@@ -186,35 +139,8 @@ impl PageWriter {
         ensures fits { OnOk result (end_with self.old.log (size_of (view record.now)) ≤ 2 ^ 62) }
     {
         let frame = self.hold_with_room(disk, number)?;
-        let i = place_for(self.pool.page(frame), key)?;
-        self.put_logged(disk, frame, record, i, key, rid)
-    }
-
-    /// Logs a record that takes a key out of a leaf, and changes the page by it, in the same order.
-    ///
-    /// Refused `NotAStore`, before the append, where the page is no leaf or lacks the key; `LogFull` as `log_put` is; otherwise as
-    /// `get` is.
-    pub fn log_take<D: Disk>(
-        &mut self,
-        disk: &mut D,
-        record: &Record,
-        number: PageNo,
-        key: &[u8],
-        rid: u64,
-    ) -> Result<Lsn, Fault>
-        requires entry { IsEntry (view record.now) }
-        requires what { IsLike (what_of (view record.now)) (DeleteKey key.now rid) }
-        requires page { page_of (view record.now) ≡ number }
-        requires ready { IsReadyWriter D.Disk self.old disk.old }
-        ensures outcome { Logs D.Disk false no_page self.old disk.old self.new disk.new (fault_of result) }
-        ensures kept { (b : Base) (base : ℕ) (s : Writer) (e : ℕ) → StandsAs D.Disk b base s self.old disk.old → s.redo_end ≡ Some e
-            → ChangeKept D.Disk b base s (view record.now) disk.old self.new disk.new result }
-        ensures full { result ≡ Err LogFull → (2 ^ 62 < end_with self.new.log (size_of (view record.now))) ⊎ (2 ^ 62 < end_with self.new.log 4129) }
-        ensures fits { OnOk result (end_with self.old.log (size_of (view record.now)) ≤ 2 ^ 62) }
-    {
-        let frame = self.hold_with_room(disk, number)?;
-        let i = place_of(self.pool.page(frame), key)?;
-        self.take_logged(disk, frame, record, i, key, rid)
+        let i = place_in(edit, self.pool.page(frame), key)?;
+        self.edit_logged(disk, frame, record, edit, i, key, rid)
     }
 
     // Why a record of another kind is refused.
@@ -234,7 +160,8 @@ impl PageWriter {
     /// entered. It answers the LSN.
     ///
     /// Refused `NotAStore`, before the append, for a record of another kind, and where the page does not take it: it is no leaf,
-    /// it has the key already or has no room, or it lacks the key; `LogFull` as `log_put` is; otherwise as `get` is.
+    /// it has the key already or has no room, or it lacks the key; `LogFull` where the record, or an Image before it, would end above
+    /// LSN 2^62 (a record that would is never logged); otherwise as `get` is.
     pub fn log_change<D: Disk>(&mut self, disk: &mut D, record: &Record) -> Result<Lsn, Fault>
         requires entry { IsEntry (view record.now) }
         requires ready { IsReadyWriter D.Disk self.old disk.old }
@@ -245,17 +172,37 @@ impl PageWriter {
         ensures fits { OnOk result (end_with self.old.log (size_of (view record.now)) ≤ 2 ^ 62) }
     {
         match record {
-            Record::InsertKey { page, key, rid, .. } => self.log_put(
-                disk, record, *page, key, *rid,
+            Record::InsertKey { page, key, rid, .. } => self.log_edit(
+                disk,
+                record,
+                *page,
+                LeafEdit::Put,
+                key,
+                *rid,
             ),
-            Record::UndoDelete { page, key, rid, .. } => self.log_put(
-                disk, record, *page, key, *rid,
+            Record::UndoDelete { page, key, rid, .. } => self.log_edit(
+                disk,
+                record,
+                *page,
+                LeafEdit::Put,
+                key,
+                *rid,
             ),
-            Record::DeleteKey { page, key, rid, .. } => self.log_take(
-                disk, record, *page, key, *rid,
+            Record::DeleteKey { page, key, rid, .. } => self.log_edit(
+                disk,
+                record,
+                *page,
+                LeafEdit::Take,
+                key,
+                *rid,
             ),
-            Record::UndoInsert { page, key, rid, .. } => self.log_take(
-                disk, record, *page, key, *rid,
+            Record::UndoInsert { page, key, rid, .. } => self.log_edit(
+                disk,
+                record,
+                *page,
+                LeafEdit::Take,
+                key,
+                *rid,
             ),
             _ => self.not_a_change(),
         }

@@ -1,6 +1,6 @@
 //! Checkpoints: the rows of both tables in a record of the log, behind a sync of the file of pages.
-ghost use Rattle.std.specs.Prelude.{◌≡◌, ◌≤◌, ◌<◌, ◌^◌, ◌⊎◌, ◌↔◌, ◌+◌, ◌*◌, ℕ, List, None, Some, Ok, Err, false, true, not, is_ok, length, IfErr, OnOk};
-ghost use Rattle.im_base_types.specs.declared.fault.Fault.TheVariants.{Device, Failed, LogFull};
+ghost use Rattle.std.specs.Prelude.{◌≡◌, ◌≤◌, ◌<◌, ◌^◌, ◌↔◌, ℕ, List, None, Some, Err, false, length, OnOk};
+ghost use Rattle.im_base_types.specs.declared.fault.Fault.TheVariants.{LogFull};
 ghost use Rattle.im_base_types.specs.declared.file_id.FileId.TheVariants.{Log};
 ghost use Rattle.im_theory_log.specs.Histories.{Base};
 ghost use Rattle.im_base_types.specs.Records.{Logged};
@@ -8,8 +8,10 @@ ghost use Rattle.im_theory_log.specs.Writer.{Writer};
 ghost use Rattle.im_base_disk.specs.Runs.{ChangesOnly, CostsAtMost};
 ghost use Rattle.im_log_record.specs.Entry.{Checkpoint};
 ghost use Rattle.im_log_record.specs.Spelling.{Rise, size_of};
-ghost use Rattle.im_log.specs.LogFile.{HasNoRoom, end_with, IsOpen, IsLog};
+ghost use Rattle.im_log.specs.LogFile.{end_with, IsOpen, IsLog};
 ghost use Rattle.im_log.specs.Kept.{AppendKept};
+ghost use Rattle.im_page_writer.specs.Imaging.{Appends};
+ghost use Rattle.im_page_writer.specs.Outcome.{fault_of};
 
 use crate::PageWriter;
 use im_base_disk::Disk;
@@ -18,9 +20,8 @@ use im_log::LogFile;
 use im_log_record::Record;
 
 impl PageWriter {
-    ghost use Rattle.im_theory_log.specs.Writer.{PageState};
     ghost use Rattle.im_page_writer.specs.DirtyTable.{dirty_pages, forgotten_entries, synced_entries};
-    ghost use Rattle.im_page_writer.specs.Outcome.{fault_of, none_mild, Logs};
+    ghost use Rattle.im_page_writer.specs.Outcome.{none_mild, Logs};
     ghost use Rattle.im_page_writer.specs.PageWriter.{IsReadyWriter, StandsAs};
     ghost use Rattle.im_page_writer.specs.Checkpoints.{TablesKept, CheckpointKept};
 
@@ -35,14 +36,10 @@ impl PageWriter {
         requires rise { Rise (λ a. a.transaction) None active.now }
         requires ready { IsReadyWriter D.Disk self.old disk.old }
         requires working { self.old.failed ≡ false }
-        ensures ready { IsReadyWriter D.Disk self.new disk.new }
+        ensures outcome { Logs D.Disk false none_mild self.old disk.old self.new disk.new (fault_of result) }
         ensures kept { (b : Base) (base : ℕ) (s : Writer) (e : ℕ) → StandsAs D.Disk b base s self.old disk.old → s.redo_end ≡ Some e → ((p : ℕ) → (s.pages p).unsynced ≡ false)
             → TablesKept D.Disk b base s next active.now (dirty_pages self.old.table) disk.old self.new disk.new result }
-        ensures failed { self.new.failed ≡ not (is_ok result) }
-        ensures causes { IfErr result (λ e. (e ≡ LogFull) ⊎ (e ≡ Device)) }
-        ensures no_room { result ≡ Err LogFull → HasNoRoom self.new.log }
         ensures full { result ≡ Err LogFull ↔ (2 ^ 62 < end_with self.old.log (size_of (Checkpoint next active.now (dirty_pages self.old.table)))) }
-        ensures device { result ≡ Err Device ↔ (D.failed disk.new ≡ true) }
         ensures table { OnOk result (self.new.table ≡ forgotten_entries self.old.table) }
         ensures pool { self.new.pool ≡ self.old.pool }
         ensures few { CostsAtMost D.Disk 2 2 disk.old disk.new }
@@ -101,17 +98,12 @@ fn append_tables<'a, D: Disk>(
     requires dirty_most { length dirty.now ≤ 1024 }
     requires dirty_rise { Rise (λ r. r.page) None dirty.now }
     requires ready { IsOpen D.Disk log.old disk.old }
-    ensures ready { IsOpen D.Disk log.new disk.new }
+    ensures outcome { log.old.failed ≡ false → Appends D.Disk log.new disk.new (fault_of result) }
     ensures kept { (base : ℕ) (all durable : List Logged) → IsLog D.Disk base all durable log.old disk.old
         → AppendKept D.Disk base all durable (Checkpoint next active.now dirty.now) disk.old log.new disk.new result }
     ensures changes { ChangesOnly D.Disk Log disk.old disk.new }
     ensures few { CostsAtMost D.Disk 2 2 disk.old disk.new }
-    ensures failed { log.new.failed ≡ not (is_ok result) }
-    ensures causes { IfErr result (λ e. (e ≡ Failed) ⊎ (e ≡ LogFull) ⊎ (e ≡ Device)) }
-    ensures already { result ≡ Err Failed ↔ (log.old.failed ≡ true) }
     ensures full { result ≡ Err LogFull ↔ ((log.old.failed ≡ false) × (2 ^ 62 < end_with log.old (size_of (Checkpoint next active.now dirty.now)))) }
-    ensures no_room { result ≡ Err LogFull → HasNoRoom log.new }
-    ensures device { log.old.failed ≡ false → result ≡ Err Device ↔ (D.failed disk.new ≡ true) }
 {
     let record = Record::checkpoint(next, active, dirty);
     log.append(disk, &record)

@@ -1,6 +1,6 @@
 //! Records of structure changes: logged, and then the page made the one after.
-ghost use Rattle.std.specs.Prelude.{◌≡◌, ◌≢◌, ◌<◌, ◌≤◌, ◌^◌, ◌⊎◌, ◌↔◌, ℕ, None, Some, Err, false, true, length, IfErr, IfOk, OnOk};
-ghost use Rattle.im_base_types.specs.declared.fault.Fault.TheVariants.{Device, Failed, LogFull, Memory, NotAStore};
+ghost use Rattle.std.specs.Prelude.{◌≡◌, ◌≢◌, ◌<◌, ◌≤◌, ◌^◌, ◌⊎◌, ◌↔◌, ℕ, None, Some, Err, false, length, OnOk};
+ghost use Rattle.im_base_types.specs.declared.fault.Fault.TheVariants.{LogFull, NotAStore};
 ghost use Rattle.im_theory_log.specs.Histories.{Base};
 ghost use Rattle.im_theory_log.specs.Writer.{Writer};
 
@@ -15,9 +15,9 @@ use im_page_pool::Frame;
 impl PageWriter {
     ghost use Rattle.im_log_record.specs.Entry.{view, page_of};
     ghost use Rattle.im_log_record.specs.Spelling.{IsEntry, size_of};
-    ghost use Rattle.im_log.specs.LogFile.{HasNoRoom, end_with};
+    ghost use Rattle.im_log.specs.LogFile.{end_with};
     ghost use Rattle.im_log.specs.Whats.{what_of};
-    ghost use Rattle.im_page_pool.specs.Pool.{held_of, IsAt};
+    ghost use Rattle.im_page_pool.specs.Pool.{IsAt};
     ghost use Rattle.im_page_writer.specs.DirtyTable.{entry_in};
     ghost use Rattle.im_page_writer.specs.PageCopy.{after_in};
     ghost use Rattle.im_page_writer.specs.Outcome.{fault_of, no_page, Logs};
@@ -37,20 +37,13 @@ impl PageWriter {
         requires working { self.old.failed ≡ false }
         requires at { IsAt self.old.pool frame }
         requires room { entry_in self.old.table frame.number ≡ None → length self.old.table < 1024 }
-        ensures ready { IsReadyWriter D.Disk self.new disk.new }
+        ensures outcome { Logs D.Disk false no_page self.old disk.old self.new disk.new (fault_of result) }
         ensures kept { (b : Base) (base : ℕ) (s : Writer) (e : ℕ) → StandsAs D.Disk b base s self.old disk.old → s.redo_end ≡ Some e
             → LeftHere D.Disk b base s (view record.now) disk.old self.new disk.new result }
-        ensures works { OnOk result (self.new.failed ≡ false) }
-        ensures fails { IfErr result (λ e. (self.new.failed ≡ false) ↔ (e ≡ NotAStore)) }
-        ensures same { result ≡ Err NotAStore → (self.new.log ≡ self.old.log) × (self.new.table ≡ self.old.table) × (self.new.pool ≡ self.old.pool) × (self.new.known_from ≡ self.old.known_from) × (disk.new ≡ disk.old) }
         ensures refused { result ≡ Err NotAStore ↔ (after_in (what_of (view record.now)) ≡ None) }
         ensures images { OnOk result (after_in (what_of (view record.now)) ≢ None) }
-        ensures causes { IfErr result (λ e. (e ≡ NotAStore) ⊎ (e ≡ LogFull) ⊎ (e ≡ Device)) }
-        ensures no_room { result ≡ Err LogFull → HasNoRoom self.new.log }
         ensures full { result ≡ Err LogFull ↔ ((after_in (what_of (view record.now)) ≢ None) × (2 ^ 62 < end_with self.old.log (size_of (view record.now)))) }
         ensures left { result ≡ Err LogFull → 2 ^ 62 < end_with self.new.log (size_of (view record.now)) }
-        ensures device { result ≡ Err Device ↔ (D.failed disk.new ≡ true) }
-        ensures frames { self.new.pool.frames ≡ self.old.pool.frames }
     {
         if !read_after(&mut self.spare, record) {
             return Err(Fault::NotAStore);
@@ -89,7 +82,7 @@ impl PageWriter {
     /// the LSN.
     ///
     /// Refused `NotAStore`, before the append, for a record of another kind, and where its images are no pages; `LogFull` as
-    /// `log_put` is; otherwise as `get` is.
+    /// `log_change` is; otherwise as `get` is.
     pub fn log_smo<D: Disk>(&mut self, disk: &mut D, record: &Record) -> Result<Lsn, Fault>
         requires entry { IsEntry (view record.now) }
         requires ready { IsReadyWriter D.Disk self.old disk.old }

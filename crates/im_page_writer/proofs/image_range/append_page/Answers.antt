@@ -2,18 +2,13 @@ use Rattle.std.proofs.Common.{sym, ◌∙◌}
 use Rattle.im_page_pool.specs.Pool.{held_of}
 use Rattle.im_page_writer.proofs.Growing.{if_ok}
 use Rattle.im_page_writer.proofs.Goings.{copy_done, found_none, found_page, may_image}
-use Rattle.im_page_writer.proofs.ImageCalls.{appended_image}
 use Rattle.im_page_writer.proofs.image_range.append_page.Goals as goal
 
 pub returns-in-Some-clause-outcome : goal.returns-in-Some-clause-outcome
-returns-in-Some-clause-outcome g c =
-    let e = c.append_image.ensures in
-    appended_image g.D.Disk c.append_image.result c.requires.working e.ready e.failed e.causes e.no_room e.left e.later e.already e.device
+returns-in-Some-clause-outcome g c = c.append_image.ensures.outcome c.requires.working
 
 pub returns-in-None-clause-outcome : goal.returns-in-None-clause-outcome
-returns-in-None-clause-outcome g c =
-    let e = c.append_image-in-None.ensures in
-    appended_image g.D.Disk c.append_image-in-None.result c.requires.working e.ready e.failed e.causes e.no_room e.left e.later e.already e.device
+returns-in-None-clause-outcome g c = c.append_image-in-None.ensures.outcome c.requires.working
 
 pub returns-in-Some-clause-kept : goal.returns-in-Some-clause-kept
 returns-in-Some-clause-kept g c b base s table w may =

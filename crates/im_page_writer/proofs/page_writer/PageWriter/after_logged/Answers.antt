@@ -8,9 +8,13 @@ use Rattle.im_page_pool.specs.Pool.{held_of, Sets}
 use Rattle.im_page_writer.proofs.Standing.{log_stops}
 use Rattle.im_page_writer.proofs.LoggedChanges.{at_held, err_on}
 use Rattle.im_page_writer.proofs.KnownCopies.{known_more}
+use Rattle.im_page_writer.proofs.Outcomes.{same_logs}
 use Rattle.im_page_writer.proofs.Structure.{leaves_body, left_by, never_none}
 use Rattle.im_page_writer.proofs.Writers.{goes_on_start}
 use Rattle.im_page_writer.proofs.page_writer.PageWriter.after_logged.Goals as goal
+
+pub returns-then-not-read_after-clause-outcome : goal.returns-then-not-read_after-clause-outcome
+returns-then-not-read_after-clause-outcome g c = same_logs g.D.Disk g.met.D.Disk.only_now c.requires.working c.requires.working (search rules) refl refl refl refl
 
 pub returns-then-not-read_after-clause-kept : goal.returns-then-not-read_after-clause-kept
 returns-then-not-read_after-clause-kept g c b base s e is over =

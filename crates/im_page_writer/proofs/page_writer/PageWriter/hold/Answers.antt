@@ -1,5 +1,5 @@
-use Rattle.std.proofs.Common.{◌≡◌, inl, inr, refl, sym, ◌∙◌, ap, subst, false, Err, None, rules, arith}
-use Rattle.im_base_types.specs.declared.fault.Fault.TheVariants.{Device, Memory, NotAStore}
+use Rattle.std.proofs.Common.{◌≡◌, refl, sym, ◌∙◌, ap, subst, false, Err, None, rules, arith}
+use Rattle.im_base_types.specs.declared.fault.Fault.TheVariants.{Device, NotAStore}
 use Rattle.im_base_types.specs.declared.file_id.FileId.TheVariants.{Pages}
 use Rattle.im_base_disk.specs.Disk.{Files}
 use Rattle.im_page.specs.PageFile.{file_page}

@@ -2,7 +2,7 @@ use Rattle.std.proofs.Common.{ℕ, ◌∙◌, rules, refl}
 use Rattle.im_page_writer.proofs.Growing.{if_ok}
 use Rattle.im_page_writer.proofs.Goings.{covered_last, leaves_last}
 use Rattle.im_page_writer.proofs.LoggedChanges.{err_on}
-use Rattle.im_page_writer.proofs.Outcomes.{after_logs, leaves_of_end, log_refused, logs_then, read_logs, search_of, stands_on}
+use Rattle.im_page_writer.proofs.Outcomes.{leaves_of_end, log_refused, logs_then, read_logs, search_of, stands_on}
 use Rattle.im_page_writer.proofs.Structure.{refused_not}
 use Rattle.im_page_writer.proofs.page_writer.PageWriter.log_after.Goals as goal
 
@@ -15,10 +15,7 @@ returns-in_err-frame-clause-kept g c b base s e is over =
     record { ok = search rules; stops = leaves_of_end g.D.Disk c.in_err-frame.ensures.outcome b base s is ready; cause = λ has. err_on c.from_residual.result c.in_err-frame.field-0.0 _ c.from_residual.ensures.1 (c.in_err-frame.ensures.sound b base s is ready) }
 
 pub returns-clause-outcome : goal.returns-clause-outcome
-returns-clause-outcome g c =
-    let e = c.after_logged.ensures in
-    logs_then g.D.Disk (search_of g.D.Disk c.in_ok-frame.ensures.outcome)
-    (after_logs g.D.Disk g.met.D.Disk.only_now c.after_logged.result c.in_ok-frame.ensures.outcome.ends.works e.ready e.works e.fails e.causes e.no_room e.device e.same e.frames)
+returns-clause-outcome g c = logs_then g.D.Disk (search_of g.D.Disk c.in_ok-frame.ensures.outcome) c.after_logged.ensures.outcome
 
 pub returns-clause-kept : goal.returns-clause-kept
 returns-clause-kept g c b base s e is over =

@@ -36,7 +36,7 @@ returns-clause-kept g c b base s e is over synced =
         stands = record {
           working = refl;
           known = tt;
-          writing = tables_logged g.D.Disk b base s e c.args.next c.args.active.now dirty lsn w.log c.append_tables.new.log table w.pool old new f over done lists synced c.append_tables.ensures.ready c.append_tables.ensures.changes;
+          writing = tables_logged g.D.Disk b base s e c.args.next c.args.active.now dirty lsn w.log c.append_tables.new.log table w.pool old new f over done lists synced (c.append_tables.ensures.outcome (c.requires.ready.works c.requires.working)).opened c.append_tables.ensures.changes;
         };
         high = done.rises b is.writing.based;
         lists = lists;

@@ -1,6 +1,5 @@
 use Rattle.std.proofs.Common.{◌≡◌, ℕ, Option, None, refl, sym, ap, subst, ◌∙◌, true, rules}
 use Rattle.im_base_types.specs.Pages.{Page}
-use Rattle.im_base_types.specs.Records.{InsertKey}
 use Rattle.im_theory_log.specs.Histories.{page_after}
 use Rattle.im_log_record.specs.Entry.{view}
 use Rattle.im_page.specs.Header.{initial}
@@ -8,11 +7,13 @@ use Rattle.im_log.specs.Spelled.{logged_at}
 use Rattle.im_log.specs.Whats.{what_of}
 use Rattle.im_page_pool.specs.Pool.{held_of, Sets}
 use Rattle.im_page_writer.specs.KnownCopies.{changed_as, IsAtOrAfter, IsKnownFrom}
+use Rattle.im_page_writer.specs.LeafEdits.{edit_of}
 use Rattle.im_page_writer.proofs.KnownCopies.{known_first}
 use Rattle.im_page_writer.proofs.Standing.{log_stops}
 use Rattle.im_page_writer.proofs.Changing.{changed_by, like_names}
+use Rattle.im_page_writer.proofs.LeafChanges.{edit_gives}
 use Rattle.im_page_writer.proofs.LoggedChanges.{at_held, at_shows}
-use Rattle.im_page_writer.proofs.page_writer.PageWriter.put_logged.Goals as goal
+use Rattle.im_page_writer.proofs.page_writer.PageWriter.edit_logged.Goals as goal
 
 pub returns-in_err-lsn-clause-kept : goal.returns-in_err-lsn-clause-kept
 returns-in_err-lsn-clause-kept g c b base s e is over =
@@ -27,8 +28,8 @@ returns-clause-kept g c b base s e is over =
     let lsn = c.in_ok-lsn.lsn in
     let k = c.in_ok-lsn.ensures.kept base s.log s.durable is.writing.stands.log_is in
     let shows = at_shows (held_of w.pool frame.number) frame.place (s.pages frame.number) (initial 0) c.requires.at (is.writing.pooled.shows frame.number) in
-    let made = ap (λ (g : Page). page_after lsn (InsertKey c.args.key.now c.args.rid) g) shows ∙ sym (c.requires.what.after lsn (s.pages frame.number).page) in
-    let sets = subst (λ (p : Page). Sets frame p true w.pool c.put_key.new.pool) made c.put_key.ensures in
+    let made = ap (λ (g : Page). page_after lsn (edit_of c.args.edit c.args.key.now c.args.rid) g) shows ∙ sym (c.requires.what.after lsn (s.pages frame.number).page) in
+    let sets = subst (λ (p : Page). Sets frame p true w.pool c.edit_key.new.pool) made c.edit_key.ensures in
     let has_copy : c.is_known-known.result ≡ true → ((s.pages frame.number).entry ≡ None) × IsAtOrAfter w.known_from (s.pages frame.number).page.lsn =
     λ t. (sym (is.writing.entries frame.number) ∙ c.is_known-known.ensures.none t, subst (λ (p : Page). IsAtOrAfter w.known_from p.lsn) shows (c.is_known-known.ensures.late t)) in
     record {
@@ -40,8 +41,8 @@ returns-clause-kept g c b base s e is over =
           working = refl;
           known = subst (λ (o : Option ℕ). IsKnownFrom (record (changed_as c.is_known-known.result (logged_at lsn (view c.args.record.now)) s) { durable = k.ok.now_durable }) o) (sym c.first_of-self.ensures)
               (known_first b (logged_at lsn (view c.args.record.now)) s (record (changed_as c.is_known-known.result (logged_at lsn (view c.args.record.now)) s) { durable = k.ok.now_durable }) e w.known_from is.writing.stands.kept over refl refl c.requires.what.point (k.ok.rises b is.writing.based) is.known);
-          writing = changed_by g.D.Disk b base s e w.log c.append.new.self w.table c.enter.new.self w.pool c.put_key.new.pool c.args.disk.now c.append.new.disk (view c.args.record.now) lsn frame is.writing over (c.requires.what.copy lsn)
-              c.requires.what.point (like_names (what_of (view c.args.record.now)) (InsertKey c.args.key.now c.args.rid) (λ g. refl) c.requires.what.after) k.ok c.requires.page c.is_known-known.result w.known_from is.known has_copy c.append.ensures.ready c.append.ensures.changes (at_held (held_of w.pool frame.number) frame.place c.requires.at) sets c.enter.ensures.entry;
+          writing = changed_by g.D.Disk b base s e w.log c.append.new.self w.table c.enter.new.self w.pool c.edit_key.new.pool c.args.disk.now c.append.new.disk (view c.args.record.now) lsn frame is.writing over (c.requires.what.copy lsn)
+              c.requires.what.point (like_names (what_of (view c.args.record.now)) (edit_of c.args.edit c.args.key.now c.args.rid) (edit_gives c.args.edit c.args.key.now c.args.rid) c.requires.what.after) k.ok c.requires.page c.is_known-known.result w.known_from is.known has_copy c.append.ensures.ready c.append.ensures.changes (at_held (held_of w.pool frame.number) frame.place c.requires.at) sets c.enter.ensures.entry;
         };
         high = k.ok.rises b is.writing.based;
       };

@@ -2,12 +2,13 @@ use Rattle.std.proofs.Common.{ℕ, ap, subst, sym, ◌∙◌, rules, refl}
 use Rattle.im_base_types.specs.Pages.{Page}
 use Rattle.im_page.specs.Header.{initial}
 use Rattle.im_page_pool.specs.Pool.{held_of}
-use Rattle.im_page_writer.specs.LeafChange.{CanTakeKey}
+use Rattle.im_page_writer.specs.LeafEdits.{MayEdit}
 use Rattle.im_page_writer.proofs.Growing.{if_ok}
 use Rattle.im_page_writer.proofs.Goings.{covered_last, leaves_last, leaves_so_far}
+use Rattle.im_page_writer.proofs.LeafChanges.{may_edit}
 use Rattle.im_page_writer.proofs.LoggedChanges.{at_shows, err_on, failed_cause}
-use Rattle.im_page_writer.proofs.Outcomes.{append_logs, leaves_of_end, log_refused, logs_then, own_logs, read_logs, search_of, stands_on}
-use Rattle.im_page_writer.proofs.page_writer.PageWriter.log_take.Goals as goal
+use Rattle.im_page_writer.proofs.Outcomes.{leaves_of_end, log_refused, logs_then, own_logs, read_logs, search_of, stands_on}
+use Rattle.im_page_writer.proofs.page_writer.PageWriter.log_edit.Goals as goal
 
 pub returns-in_err-frame-clause-outcome : goal.returns-in_err-frame-clause-outcome
 returns-in_err-frame-clause-outcome g c = log_refused g.D.Disk c.from_residual.result c.from_residual.ensures.1 (read_logs g.D.Disk refl (search_of g.D.Disk c.in_err-frame.ensures.outcome))
@@ -32,21 +33,19 @@ returns-in_err-i-clause-kept g c b base s e is over =
     record {
       ok = search rules;
       stops = leaves_so_far g.D.Disk b base s c.args.disk.now held.now w.log w.table w.pool c.hold_with_room.new.disk held.on.goes;
-      cause = λ takes. absurd (c.in_err-i.ensures.refused.1 (subst (λ (x : Page). CanTakeKey x c.args.key.now) (sym page) (c.requires.what.takes _ takes)));
+      cause = λ takes. absurd (c.in_err-i.ensures.refused.1 (subst (λ (x : Page). MayEdit c.args.edit x c.args.key.now) (sym page) (may_edit c.args.edit c.args.key.now c.args.rid _ (c.requires.what.takes _ takes))));
     }
 
 pub returns-clause-outcome : goal.returns-clause-outcome
-returns-clause-outcome g c =
-    let e = c.take_logged.ensures in
-    logs_then g.D.Disk (search_of g.D.Disk c.in_ok-frame.ensures.outcome) (append_logs g.D.Disk c.take_logged.result c.in_ok-frame.ensures.outcome.ends.works e.ready e.failed e.causes e.no_room e.device e.frames)
+returns-clause-outcome g c = logs_then g.D.Disk (search_of g.D.Disk c.in_ok-frame.ensures.outcome) c.edit_logged.ensures.outcome
 
 pub returns-clause-kept : goal.returns-clause-kept
 returns-clause-kept g c b base s e is over =
     let held = c.in_ok-frame.ensures.outcome.ends.goes b base s is (λ q le. ((is.writing.stands.kept.pages q).run e over).0) in
     let w = c.hold_with_room.new.self in
-    let k = c.take_logged.ensures.kept b base held.now e (stands_on g.D.Disk b base s c.args.disk.now held.now w c.hold_with_room.new.disk held.on) (held.on.goes.keeps.redo_end ∙ over) in
+    let k = c.edit_logged.ensures.kept b base held.now e (stands_on g.D.Disk b base s c.args.disk.now held.now w c.hold_with_room.new.disk held.on) (held.on.goes.keeps.redo_end ∙ over) in
     record {
-      ok = if_ok c.take_logged.result _ _ k.ok (λ lsn done. record { before = held.now; keeps = held.on.goes.keeps; stops = covered_last g.D.Disk b base s c.args.disk.now held.now w.log w.table w.pool c.hold_with_room.new.disk held.on.goes c.take_logged.new.disk k.stops; logged = done });
-      stops = leaves_last g.D.Disk b base s c.args.disk.now held.now w.log w.table w.pool c.hold_with_room.new.disk held.on.goes c.take_logged.new.disk k.stops;
-      cause = λ takes. failed_cause c.take_logged.result c.take_logged.ensures.causes;
+      ok = if_ok c.edit_logged.result _ _ k.ok (λ lsn done. record { before = held.now; keeps = held.on.goes.keeps; stops = covered_last g.D.Disk b base s c.args.disk.now held.now w.log w.table w.pool c.hold_with_room.new.disk held.on.goes c.edit_logged.new.disk k.stops; logged = done });
+      stops = leaves_last g.D.Disk b base s c.args.disk.now held.now w.log w.table w.pool c.hold_with_room.new.disk held.on.goes c.edit_logged.new.disk k.stops;
+      cause = λ takes. failed_cause c.edit_logged.result c.edit_logged.ensures.causes;
     }
