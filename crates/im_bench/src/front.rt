@@ -266,20 +266,24 @@ pub fn run<R: Threads + Wait + Clock + Print + Sync>(
     if timed {
         let store = per_second(LOOK_UPS, alone(rt, alloc)?);
         println!(rt; "look-ups a second: the store alone {store}")?;
-        for (threads, m) in [(1, &one), (4, &four)] {
-            println!(rt;
-                "look-ups a second: {threads} threads {}; reads of the statistics a second {}",
-                per_second(LOOK_UPS, m.look_ups),
-                per_second(READS, m.reads)
-            )?;
-        }
+    }
+    print_measured(rt, 1, &one, timed)?;
+    print_measured(rt, 4, &four, timed)
+}
+
+// One line: what came out of so many threads, or how fast they were.
+fn print_measured<R: Print>(rt: &R, threads: u64, m: &Measured, timed: bool) -> Result<()> {
+    if timed {
+        println!(rt;
+            "look-ups a second: {threads} threads {}; reads of the statistics a second {}",
+            per_second(LOOK_UPS, m.look_ups),
+            per_second(READS, m.reads)
+        )?;
     } else {
-        for (threads, m) in [(1, &one), (4, &four)] {
-            println!(rt;
-                "{threads} threads: found {}, all steps counted: {}",
-                m.found, m.all_counted
-            )?;
-        }
+        println!(rt;
+            "{threads} threads: found {}, all steps counted: {}",
+            m.found, m.all_counted
+        )?;
     }
     Ok(())
 }

@@ -214,13 +214,15 @@ fn each_transaction(
 
 // Stops of a life whose transaction never commits, and of the opening that takes it back.
 fn stopped(rt: &HostRuntime) -> Result<()> {
-    let alloc = rt.alloc();
-    let base = founded(alloc)?;
-    let (tally, kinds, lost) = losing(alloc, &base)?;
-    println!(rt; "a loser behind splits on two levels and a page deletion")?;
-    show_tally(rt, tally)?;
-    show_kinds(rt, kinds)?;
-    show_stops(rt, "its life", &base, Life::Losing)?;
+    let base = founded(rt.alloc())?;
+    stopped_on(rt, &base)
+}
+
+// The same on copies of a disk that has what is committed.
+fn stopped_on(rt: &HostRuntime, base: &ModelDisk) -> Result<()> {
+    let (tally, kinds, lost) = losing(rt.alloc(), base)?;
+    show_losing(rt, tally, kinds)?;
+    show_stops(rt, "its life", base, Life::Losing)?;
     show_stops(rt, "its opening", &lost, Life::TakingBack)
 }
 
@@ -274,6 +276,12 @@ fn show_kinds(rt: &HostRuntime, kinds: Kinds) -> Result<()> {
         kinds.leaves, kinds.inner, kinds.level, kinds.last
     )?;
     Ok(())
+}
+
+fn show_losing(rt: &HostRuntime, tally: Tally, kinds: Kinds) -> Result<()> {
+    println!(rt; "a loser behind splits on two levels and a page deletion")?;
+    show_tally(rt, tally)?;
+    show_kinds(rt, kinds)
 }
 
 fn show_stops(rt: &HostRuntime, name: &str, disk: &ModelDisk, life: Life) -> Result<()> {

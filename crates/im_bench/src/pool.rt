@@ -18,20 +18,30 @@ use work::{cached, file, filled, looked_up, missed};
 pub fn run(rt: &HostRuntime, words: &[String]) -> anyhow::Result<()> {
     let timed = is_timed(words);
     let rounds = if timed { 2_000_000 } else { 1_000 };
+    show_held(rt, rounds, timed)?;
+    show_looked_up(rt, rounds, timed)?;
+    show_read(rt, rounds / 10, timed)
+}
+
+fn show_held(rt: &HostRuntime, rounds: u64, timed: bool) -> anyhow::Result<()> {
     let start = Instant::now(rt)?;
     let sum = held(rt, rounds)?;
     let nanos = start.elapsed(rt)?.as_nanos();
-    show(rt, "get of a held page", sum, nanos, rounds, timed)?;
+    show(rt, "get of a held page", sum, nanos, rounds, timed)
+}
+
+fn show_looked_up(rt: &HostRuntime, rounds: u64, timed: bool) -> anyhow::Result<()> {
     let start = Instant::now(rt)?;
     let sum = looked_up(rt.alloc(), 1_000, rounds)?;
     let nanos = start.elapsed(rt)?.as_nanos();
-    show(rt, "look-up in a hash map", sum, nanos, rounds, timed)?;
-    let rounds = rounds / 10;
+    show(rt, "look-up in a hash map", sum, nanos, rounds, timed)
+}
+
+fn show_read(rt: &HostRuntime, rounds: u64, timed: bool) -> anyhow::Result<()> {
     let start = Instant::now(rt)?;
     let sum = read(rt, rounds)?;
     let nanos = start.elapsed(rt)?.as_nanos();
-    show(rt, "get that reads", sum, nanos, rounds, timed)?;
-    Ok(())
+    show(rt, "get that reads", sum, nanos, rounds, timed)
 }
 
 /// Gets of pages that are all held.
