@@ -127,33 +127,66 @@ fn measure<L: Ledger + Send + Sync, R: Threads + Wait + Clock + Sync>(
         Ok(front) => front,
         Err(refused) => return Err(refused.0.into()),
     };
-    let mut mine = front.share(rt)?;
-    fill(rt, alloc, &front, &mut mine)?;
-    let callers = callers(rt, alloc, &front, threads)?;
-    let shared = &front;
-    let start = Instant::now(rt)?;
-    let Ok(done) = map_vec(rt, callers, &|caller| answered(rt, alloc, shared, caller)) else {
-        return Err(Fault::Memory.into());
-    };
-    let look_ups = nanos_since(rt, &start)?;
-    let start = Instant::now(rt)?;
-    for _read in 0..READS {
-        let _ = front.stats(&mut mine);
-    }
-    let reads = nanos_since(rt, &start)?;
-    let (found, shares) = gathered(alloc, mine, done)?;
+    let (mut measured, shares) = measured_on(rt, alloc, &front, threads)?;
     let Closed {
         cut,
         trace,
         sum,
         ..
     } = front.close(shares);
-    Ok(Measured {
+    measured.all_counted = sum == Some(cut.saturating_add(trace.len() as u64));
+    Ok(measured)
+}
+
+// The same on a front that is there, which is not closed yet, and all shares.
+fn measured_on<L: Ledger + Send + Sync, R: Threads + Wait + Clock + Sync>(
+    rt: &R,
+    alloc: Global,
+    front: &Front<MemoryStore, L>,
+    threads: u64,
+) -> Result<(Measured, Vec<Share<L>>)> {
+    let mut mine = front.share(rt)?;
+    let (done, look_ups) = all_answered(rt, alloc, front, &mut mine, threads)?;
+    let reads = all_read(rt, front, &mut mine)?;
+    let (found, shares) = gathered(alloc, mine, done)?;
+    let measured = Measured {
         found,
-        all_counted: sum == Some(cut.saturating_add(trace.len() as u64)),
+        all_counted: false,
         look_ups,
         reads,
-    })
+    };
+    Ok((measured, shares))
+}
+
+// All look-ups, by so many threads, and the time that they took.
+fn all_answered<L: Ledger + Send + Sync, R: Threads + Wait + Clock + Sync>(
+    rt: &R,
+    alloc: Global,
+    front: &Front<MemoryStore, L>,
+    mine: &mut Share<L>,
+    threads: u64,
+) -> Result<(Vec<Called<L>>, u64)> {
+    fill(rt, alloc, front, mine)?;
+    let callers = callers(rt, alloc, front, threads)?;
+    let start = Instant::now(rt)?;
+    let Ok(done) = map_vec(rt, callers, &|caller| answered(rt, alloc, front, caller)) else {
+        return Err(Fault::Memory.into());
+    };
+    let look_ups = nanos_since(rt, &start)?;
+    Ok((done, look_ups))
+}
+
+// The time that the reads of the statistics took.
+fn all_read<L: Ledger, R: Clock>(
+    rt: &R,
+    front: &Front<MemoryStore, L>,
+    mine: &mut Share<L>,
+) -> Result<u64> {
+    let start = Instant::now(rt)?;
+    for _read in 0..READS {
+        let _ = front.stats(mine);
+    }
+    nanos_since(rt, &start)
 }
 
 // A caller for each thread, with a share of its own.
@@ -198,11 +231,21 @@ fn gathered<L: Ledger>(
 // The same look-ups by the store alone: the time that they took.
 fn alone<R: Clock>(rt: &R, alloc: Global) -> Result<u64> {
     let mut store = MemoryStore::new(alloc);
+    fill_alone(alloc, &mut store)?;
+    look_up_alone(rt, alloc, &mut store)
+}
+
+// One transaction that inserts all keys.
+fn fill_alone(alloc: Global, store: &mut MemoryStore) -> Result<(), Fault> {
     let _ = store.step(&Step::Begin);
     for number in 0..u64::from(KEYS) {
         let _ = store.step(&Step::Insert(1, key(alloc, number)?, number));
     }
     let _ = store.step(&Step::Commit(1));
+    Ok(())
+}
+
+fn look_up_alone<R: Clock>(rt: &R, alloc: Global, store: &mut MemoryStore) -> Result<u64> {
     let _ = store.step(&Step::Begin);
     let start = Instant::now(rt)?;
     for number in 0..LOOK_UPS {
@@ -223,20 +266,24 @@ pub fn run<R: Threads + Wait + Clock + Print + Sync>(
     if timed {
         let store = per_second(LOOK_UPS, alone(rt, alloc)?);
         println!(rt; "look-ups a second: the store alone {store}")?;
-        for (threads, m) in [(1, &one), (4, &four)] {
-            println!(rt;
-                "look-ups a second: {threads} threads {}; reads of the statistics a second {}",
-                per_second(LOOK_UPS, m.look_ups),
-                per_second(READS, m.reads)
-            )?;
-        }
+    }
+    print_measured(rt, 1, &one, timed)?;
+    print_measured(rt, 4, &four, timed)
+}
+
+// One line: what came out of so many threads, or how fast they were.
+fn print_measured<R: Print>(rt: &R, threads: u64, m: &Measured, timed: bool) -> Result<()> {
+    if timed {
+        println!(rt;
+            "look-ups a second: {threads} threads {}; reads of the statistics a second {}",
+            per_second(LOOK_UPS, m.look_ups),
+            per_second(READS, m.reads)
+        )?;
     } else {
-        for (threads, m) in [(1, &one), (4, &four)] {
-            println!(rt;
-                "{threads} threads: found {}, all steps counted: {}",
-                m.found, m.all_counted
-            )?;
-        }
+        println!(rt;
+            "{threads} threads: found {}, all steps counted: {}",
+            m.found, m.all_counted
+        )?;
     }
     Ok(())
 }

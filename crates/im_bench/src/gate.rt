@@ -121,19 +121,29 @@ fn print_rates(rt: &HostRuntime, dir: &str) -> anyhow::Result<()> {
     Ok(())
 }
 
-fn print_counts(rt: &HostRuntime, dir: &str) -> anyhow::Result<()> {
-    let alloc = rt.alloc();
+// Puts a few batches into a new log on the model disk, and a few behind those that a stop has left; how many there then are.
+fn model_count(alloc: Global) -> Result<u64, Fault> {
     let mut model = ModelDisk::new(Vec::new(alloc), Vec::new(alloc));
     put_many(alloc, &mut model, FEW)?;
+    left_count(alloc, &model)
+}
+
+fn left_count(alloc: Global, model: &ModelDisk) -> Result<u64, Fault> {
     let mut left = model.after_stop(alloc)?;
-    let batches = put_many(alloc, &mut left, FEW)?;
+    put_many(alloc, &mut left, FEW)
+}
+
+// Puts a few batches into the log of a directory; how many it then has.
+fn file_count(rt: &HostRuntime, dir: &str) -> anyhow::Result<u64> {
+    let mut files = FileDisk::open(rt, dir)?;
+    Ok(put_many(rt.alloc(), &mut files, FEW)?)
+}
+
+fn print_counts(rt: &HostRuntime, dir: &str) -> anyhow::Result<()> {
+    let batches = model_count(rt.alloc())?;
     println!(rt; "model disk: {batches} batches")?;
-    {
-        let mut files = FileDisk::open(rt, dir)?;
-        put_many(alloc, &mut files, FEW)?;
-    }
-    let mut again = FileDisk::open(rt, dir)?;
-    let batches = put_many(alloc, &mut again, FEW)?;
+    file_count(rt, dir)?;
+    let batches = file_count(rt, dir)?;
     println!(rt; "files: {batches} batches")?;
     fs::remove_dir_all(rt, dir)?;
     Ok(())

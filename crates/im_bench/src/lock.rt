@@ -89,11 +89,21 @@ fn scan_costs(rt: &HostRuntime, scans: u64) -> anyhow::Result<(u64, u64)> {
         requests.push(shared(Name::Key(key)))?;
     }
     let mut table = LockTable::new(rt.alloc());
+    costs_of(rt, &mut table, requests.as_slice(), scans)
+}
+
+// The same for these requests.
+fn costs_of(
+    rt: &HostRuntime,
+    table: &mut LockTable,
+    requests: &[Request<'_>],
+    scans: u64,
+) -> anyhow::Result<(u64, u64)> {
     let (mut taking, mut releasing): (u64, u64) = (0, 0);
     for _round in 0..MANY / SCANNED / scans.max(1) {
         let start = Instant::now(rt)?;
         for _scan in 0..scans {
-            table.try_all(1, requests.as_slice())?;
+            table.try_all(1, requests)?;
         }
         taking = taking.saturating_add(nanos_since(rt, &start)?);
         let start = Instant::now(rt)?;
@@ -124,15 +134,20 @@ fn print_rates(rt: &HostRuntime) -> anyhow::Result<()> {
 fn print_counts(rt: &HostRuntime) -> anyhow::Result<()> {
     for size in SIZES {
         let mut table = LockTable::new(rt.alloc());
-        let granted = take_many(&mut table, 2, size)?;
-        let older = take(&mut table, 1, size / 2)?;
-        let younger = take(&mut table, 3, size / 2)?;
-        table.release_all(2);
-        let again = take_many(&mut table, 3, size)?;
-        println!(rt;
-            "{size} locks: granted {granted}, older {older:?}, younger {younger:?}, granted again {again}"
-        )?;
+        print_granted(rt, &mut table, size)?;
     }
+    Ok(())
+}
+
+fn print_granted(rt: &HostRuntime, table: &mut LockTable, size: u64) -> anyhow::Result<()> {
+    let granted = take_many(table, 2, size)?;
+    let older = take(table, 1, size / 2)?;
+    let younger = take(table, 3, size / 2)?;
+    table.release_all(2);
+    let again = take_many(table, 3, size)?;
+    println!(rt;
+        "{size} locks: granted {granted}, older {older:?}, younger {younger:?}, granted again {again}"
+    )?;
     Ok(())
 }
 

@@ -9,19 +9,25 @@ mod work;
 
 use crate::figures::is_timed;
 use im_base_disk::ModelDisk;
+use im_base_types::Fault;
+use std::alloc::Global;
 use timing::{print_hand_times, print_times};
-use work::counted;
+use work::{Counts, counted};
 
 // Batches of the shorter log and of the longer one.
 const SIZES: [u64; 2] = [10, 2_000];
 
 const ROUNDS: u64 = 3;
 
-fn print_counts(rt: &HostRuntime) -> anyhow::Result<()> {
-    let alloc = rt.alloc();
+// What came out on a new disk, and how often it was called.
+fn counts_and_calls(alloc: Global) -> Result<(Counts, u64), Fault> {
     let mut disk = ModelDisk::new(Vec::new(alloc), Vec::new(alloc));
     let counts = counted(alloc, &mut disk, 1_000)?;
-    let calls = disk.calls();
+    Ok((counts, disk.calls()))
+}
+
+fn print_counts(rt: &HostRuntime) -> anyhow::Result<()> {
+    let (counts, calls) = counts_and_calls(rt.alloc())?;
     println!(rt;
         "appended: durable below {}, {} bytes wait",
         counts.durable_end, counts.waiting

@@ -3,8 +3,13 @@
 //! Without words it does each bench in turn, each under a line with its name, and prints what came out, the same each run. With a
 //! name it does that one, with the words behind its name: `im_bench gate --time keys`. Each module says what its bench does, which
 //! words it takes, and what its figures were.
+//!
+//! The last two are runs of whole stores, for what no contract can say, and have no figures: `long` is one long run of a store of ten
+//! thousand keys, and a life and an opening stopped at each device call; `damage` opens a store whose files are damaged, one byte at a
+//! time, by strides. `im_bench damage --all` damages each byte of both files, which takes minutes.
 #![tactic(auto)]
 
+mod damage;
 mod figures;
 mod flush;
 mod front;
@@ -12,6 +17,7 @@ mod gate;
 mod keys;
 mod lock;
 mod log;
+mod long;
 mod page;
 mod pool;
 mod record;
@@ -25,8 +31,9 @@ use std::thread::Threads;
 use std::time::Clock;
 
 /// The names, in the order of the layers.
-const NAMES: [&str; 10] = [
-    "gate", "record", "page", "log", "pool", "flush", "tree", "store", "lock", "front",
+const NAMES: [&str; 12] = [
+    "gate", "record", "page", "log", "pool", "flush", "tree", "store", "lock", "front", "long",
+    "damage",
 ];
 
 fn main(rt: HostRuntime) -> Result<()> {
@@ -59,8 +66,10 @@ fn run<R: Threads + Wait + Clock + Print + Sync>(
         "store" => store::run(rt, words),
         "lock" => lock::run(rt, words),
         "front" => front::run(threads, rt.alloc(), words),
+        "long" => long::run(rt),
+        "damage" => damage::run(rt, words),
         _ => bail!(
-            "no bench {name}; there are gate, record, page, log, pool, flush, tree, store, lock, front"
+            "no bench {name}; there are gate, record, page, log, pool, flush, tree, store, lock, front, long, damage"
         ),
     }
 }

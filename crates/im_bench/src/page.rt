@@ -56,25 +56,32 @@ fn quickest(rt: &HostRuntime, count: u64) -> Result<u128> {
 fn leaf(rt: &HostRuntime, count: u64, timed: bool) -> Result<()> {
     let rounds = if timed { 20_000 } else { 1 };
     let mut page = Page::initial(1);
-    let mut left = Page::initial(1);
-    let mut right = Page::initial(1);
     let kept = filled(&mut page, count);
     println!(rt; "leaf {count} entries {kept}")?;
-    let start = Instant::now(rt)?;
-    let sum = found(&page, count, rounds);
-    let nanos = start.elapsed(rt)?.as_nanos();
-    show(rt, "find", sum, nanos, rounds.wrapping_mul(count), timed)?;
+    show_found(rt, &page, count, rounds, timed)?;
     let start = Instant::now(rt)?;
     let sum = edited(&mut page, count, rounds);
     let nanos = start.elapsed(rt)?.as_nanos();
     show(rt, "edit", sum, nanos, rounds.wrapping_mul(count), timed)?;
-    let start = Instant::now(rt)?;
-    let sum = read(page.bytes(), rounds);
-    let nanos = start.elapsed(rt)?.as_nanos();
-    show(rt, "read", sum, nanos, rounds, timed)?;
+    show_read(rt, &page, rounds, timed)?;
+    let mut left = Page::initial(1);
+    let mut right = Page::initial(1);
     let start = Instant::now(rt)?;
     let sum = split(&page, &mut left, &mut right, rounds);
     let nanos = start.elapsed(rt)?.as_nanos();
-    show(rt, "split", sum, nanos, rounds, timed)?;
-    Ok(())
+    show(rt, "split", sum, nanos, rounds, timed)
+}
+
+fn show_found(rt: &HostRuntime, page: &Page, count: u64, rounds: u64, timed: bool) -> Result<()> {
+    let start = Instant::now(rt)?;
+    let sum = found(page, count, rounds);
+    let nanos = start.elapsed(rt)?.as_nanos();
+    show(rt, "find", sum, nanos, rounds.wrapping_mul(count), timed)
+}
+
+fn show_read(rt: &HostRuntime, page: &Page, rounds: u64, timed: bool) -> Result<()> {
+    let start = Instant::now(rt)?;
+    let sum = read(page.bytes(), rounds);
+    let nanos = start.elapsed(rt)?.as_nanos();
+    show(rt, "read", sum, nanos, rounds, timed)
 }

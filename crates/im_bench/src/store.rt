@@ -145,27 +145,50 @@ fn lived<D: Disk + Drop>(
         Ok(engine) => engine,
         Err((fault, _disk)) => return Err(fault.into()),
     };
+    each_done(rt, options, &mut engine, &start, parts)?;
+    Ok(engine.into_disk().into_disk())
+}
+
+// Says what the opening took that began at the start, and does parts in turn.
+fn each_done<D: Disk>(
+    rt: &HostRuntime,
+    options: &Options<'_>,
+    engine: &mut Engine<Counted<D>>,
+    start: &Instant,
+    parts: &[Named],
+) -> Result<()> {
     let nanos = start.elapsed(rt)?.as_nanos();
     let mut before = engine.disk().calls();
     show(rt, options, "opened", 1, 1, nanos)?;
     show_calls(rt, before)?;
     for part in parts {
-        let keys = options.keys.wrapping_mul(part.parts) / 64;
-        let span = Part {
-            work: part.work,
-            first: options.keys.wrapping_mul(part.from) / 64,
-            keys,
-            each: part.each,
-        };
-        let start = Instant::now(rt)?;
-        let right = worked(rt.alloc(), &mut engine, span)?;
-        let nanos = start.elapsed(rt)?.as_nanos();
-        let calls = engine.disk().calls();
-        show(rt, options, part.name, right, keys, nanos)?;
-        show_calls(rt, calls.since(before))?;
-        before = calls;
+        before = done(rt, options, engine, part, before)?;
     }
-    Ok(engine.into_disk().into_disk())
+    Ok(())
+}
+
+// Does a part, and says what it took; the calls before it are known, and it answers those behind it.
+fn done<D: Disk>(
+    rt: &HostRuntime,
+    options: &Options<'_>,
+    engine: &mut Engine<Counted<D>>,
+    part: &Named,
+    before: Calls,
+) -> Result<Calls> {
+    let keys = options.keys.wrapping_mul(part.parts) / 64;
+    let span = Part {
+        work: part.work,
+        first: options.keys.wrapping_mul(part.from) / 64,
+        keys,
+        each: part.each,
+    };
+    let start = Instant::now(rt)?;
+    let right = worked(rt.alloc(), engine, span)?;
+    let nanos = start.elapsed(rt)?.as_nanos();
+    let calls = engine.disk().calls();
+    show(rt, options, part.name, right, keys, nanos)?;
+    show_calls(rt, calls.since(before))?;
+    Ok(calls)
 }
 
 // One line: how many steps came out right, and how long each took.

@@ -29,11 +29,13 @@ mod lookups;
 mod pages;
 mod store;
 
+ghost use Rattle.im_page_writer.specs.PageWriter.{IsReadyWriter};
+
 use crate::figures::is_timed;
 use anyhow::Result;
 use im_base_disk::{Disk, ModelDisk};
-use im_base_types::Fault;
 use im_engine::{Config, Engine};
+use im_page_writer::PageWriter;
 use lookups::{disk_of, found, opened};
 use pages::{keys_in, tree};
 use std::time::Instant;
@@ -62,13 +64,26 @@ pub fn run(rt: &HostRuntime, words: &[String]) -> Result<()> {
 /// Look-ups in a tree of so many leaves.
 fn look_up(rt: &HostRuntime, leaves: u32, timed: bool) -> Result<()> {
     let alloc = rt.alloc();
-    let rounds = if timed { 1_000_000 } else { 2_000 };
-    let keys = keys_in(leaves);
     let mut disk = disk_of(alloc, tree(alloc, leaves)?)?;
     let mut writer = opened(alloc, &mut disk)?;
-    found(&mut writer, &mut disk, keys, rounds)?;
+    looked_up(rt, &mut writer, &mut disk, leaves, timed)
+}
+
+/// The look-ups, once as they come, and once more beside the clock.
+fn looked_up<D: Disk>(
+    rt: &HostRuntime,
+    writer: &mut PageWriter,
+    disk: &mut D,
+    leaves: u32,
+    timed: bool,
+) -> Result<()>
+    requires ready { IsReadyWriter D.Disk writer.old disk.old }
+{
+    let rounds = if timed { 1_000_000 } else { 2_000 };
+    let keys = keys_in(leaves);
+    found(writer, disk, keys, rounds)?;
     let start = Instant::now(rt)?;
-    let sum = found(&mut writer, &mut disk, keys, rounds)?;
+    let sum = found(writer, disk, keys, rounds)?;
     let nanos = start.elapsed(rt)?.as_nanos();
     println!(rt; "{keys} keys in {leaves} leaves")?;
     show(rt, "look-up", sum, rounds, nanos, timed)
@@ -77,19 +92,32 @@ fn look_up(rt: &HostRuntime, leaves: u32, timed: bool) -> Result<()> {
 /// Each work over a store, with its keys in rising order or not.
 fn fill(rt: &HostRuntime, rising: bool, timed: bool) -> Result<()> {
     let alloc = rt.alloc();
-    let keys = if timed { 100_000 } else { 2_000 };
     let disk = ModelDisk::new(Vec::new(alloc), Vec::new(alloc));
     let config = Config {
         frames: 1_024,
         max_pages: 1_000_000,
     };
-    let mut engine = Engine::open_or_create(alloc, disk, config).map_err(|x| x.0)?;
+    let mut engine = match Engine::open_or_create(alloc, disk, config) {
+        Ok(engine) => engine,
+        Err((fault, _disk)) => return Err(fault.into()),
+    };
+    each_done(rt, &mut engine, rising, timed)
+}
+
+/// Each work in turn over a new store.
+fn each_done(
+    rt: &HostRuntime,
+    engine: &mut Engine<ModelDisk>,
+    rising: bool,
+    timed: bool,
+) -> Result<()> {
+    let keys = if timed { 100_000 } else { 2_000 };
     let order = if rising { "rising" } else { "scattered" };
     println!(rt; "{keys} keys, {order}")?;
     for (work, name) in WORKS {
         let before = engine.disk().calls();
         let start = Instant::now(rt)?;
-        let sum = worked(alloc, &mut engine, work, rising, keys)?;
+        let sum = worked(rt.alloc(), engine, work, rising, keys)?;
         let nanos = start.elapsed(rt)?.as_nanos();
         let calls = engine.disk().calls().wrapping_sub(before);
         show(rt, name, sum, keys, nanos, timed)?;

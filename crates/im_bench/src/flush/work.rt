@@ -28,11 +28,23 @@ pub fn worked<D: Disk>(alloc: Global, disk: &mut D, work: Work, rounds: u64) -> 
     requires synced { IsSynced D.Disk disk.old }
 {
     let mut writer = opened(alloc, disk)?;
-    changed(&mut writer, disk, 0)?;
+    worked_with(&mut writer, disk, work, rounds)
+}
+
+// The same with a new writer.
+fn worked_with<D: Disk>(
+    writer: &mut PageWriter,
+    disk: &mut D,
+    work: Work,
+    rounds: u64,
+) -> Result<(), Fault>
+    requires ready { IsReadyWriter D.Disk writer.old disk.old }
+{
+    changed(writer, disk, 0)?;
     match work {
-        Work::Get => got_many(&mut writer, disk, rounds),
-        Work::Change => changed_many(&mut writer, disk, rounds),
-        Work::Flush => flushed_many(&mut writer, disk, rounds),
+        Work::Get => got_many(writer, disk, rounds),
+        Work::Change => changed_many(writer, disk, rounds),
+        Work::Flush => flushed_many(writer, disk, rounds),
     }
 }
 

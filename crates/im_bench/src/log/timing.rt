@@ -64,13 +64,24 @@ fn print_log_times<D: Disk>(rt: &HostRuntime, disk: &mut D, batches: u64) -> Res
     requires working { D.failed disk.old ≡ false }
     requires synced { IsSynced D.Disk disk.old }
 {
-    let alloc = rt.alloc();
-    let mut log = open_or_create(alloc, disk)?;
-    let append = append_nanos(rt, &mut log, disk, batches)?;
-    append_many(&mut log, disk, BATCH)?;
-    let (durable, waiting) = read_nanos(rt, &log, disk, batches.saturating_mul(BATCH))?;
+    let mut log = open_or_create(rt.alloc(), disk)?;
+    print_times_of(rt, &mut log, disk, batches)
+}
+
+// Prints the times of the calls of a log that is open.
+fn print_times_of<D: Disk>(
+    rt: &HostRuntime,
+    log: &mut LogFile,
+    disk: &mut D,
+    batches: u64,
+) -> Result<()>
+    requires ready { IsOpen D.Disk log.old disk.old }
+{
+    let append = append_nanos(rt, log, disk, batches)?;
+    append_many(log, disk, BATCH)?;
+    let (durable, waiting) = read_nanos(rt, log, disk, batches.saturating_mul(BATCH))?;
     let start = Instant::now(rt)?;
-    let records = scan_all(alloc, &log, disk)?;
+    let records = scan_all(rt.alloc(), log, disk)?;
     let scan = nanos_each(rt, &start, records)?;
     println!(rt;
         "{batches} batches: a record is appended in {append} ns, read from the buffer in {waiting} and from the file in {durable}, passed by a scan in {scan}"
@@ -103,17 +114,22 @@ pub fn print_times(rt: &HostRuntime, batches: u64) -> Result<()> {
 
 /// Prints the times of the same bytes copied, and put by the same device calls.
 pub fn print_hand_times(rt: &HostRuntime) -> Result<()> {
-    let alloc = rt.alloc();
     let mut room = [0; 16_384];
     let start = Instant::now(rt)?;
     let at = copy_by_hand(&[0x5a; 50], &mut room, MANY);
     let copied = nanos_each(rt, &start, MANY)?;
-    let mut disk = ModelDisk::new(Vec::new(alloc), Vec::new(alloc));
-    let start = Instant::now(rt)?;
-    put_by_hand(&mut disk, MANY)?;
-    let put = nanos_each(rt, &start, MANY)?;
+    let put = hand_put_nanos(rt)?;
     println!(rt;
         "by hand: a record is copied in {copied} ns (up to place {at}), its bytes are put by four device calls in {put}"
     )?;
     Ok(())
+}
+
+// The nanoseconds of a record's device calls.
+fn hand_put_nanos(rt: &HostRuntime) -> Result<u128> {
+    let alloc = rt.alloc();
+    let start = Instant::now(rt)?;
+    let mut disk = ModelDisk::new(Vec::new(alloc), Vec::new(alloc));
+    put_by_hand(&mut disk, MANY)?;
+    nanos_each(rt, &start, MANY)
 }

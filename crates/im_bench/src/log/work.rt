@@ -95,6 +95,15 @@ pub fn read_many<D: Disk>(
     Ok(sum)
 }
 
+// Reads so many records by their LSNs, from the first on, and adds up their lengths.
+fn read_first<D: Disk>(alloc: Global, log: &LogFile, disk: &mut D, count: u64) -> Result<u64, Fault>
+    requires ready { IsOpen D.Disk log.now disk.old }
+    ensures ready { OnOk result (IsOpen D.Disk log.now disk.new) }
+{
+    let mut room = vec![in alloc; 0; 16_384].map_err(|_| Fault::Memory)?;
+    read_many(log, disk, &mut room, 0, count, count)
+}
+
 /// Reads all durable records in turn, and answers how many there are.
 pub fn scan_all<D: Disk>(alloc: Global, log: &LogFile, disk: &mut D) -> Result<u64, Fault>
     requires ready { IsOpen D.Disk log.now disk.old }
@@ -152,15 +161,26 @@ pub fn counted<D: Disk>(alloc: Global, disk: &mut D, count: u64) -> Result<Count
     requires working { D.failed disk.old ≡ false }
     requires synced { IsSynced D.Disk disk.old }
 {
-    let mut room = vec![in alloc; 0; 16_384].map_err(|_| Fault::Memory)?;
     let mut log = open_or_create(alloc, disk)?;
-    append_many(&mut log, disk, count)?;
+    counted_in(alloc, &mut log, disk, count)
+}
+
+// The same in a log that is open.
+fn counted_in<D: Disk>(
+    alloc: Global,
+    log: &mut LogFile,
+    disk: &mut D,
+    count: u64,
+) -> Result<Counts, Fault>
+    requires ready { IsOpen D.Disk log.old disk.old }
+{
+    append_many(log, disk, count)?;
     let durable_end = log.durable_end();
     let waiting = log.waiting();
-    let read = read_many(&log, disk, &mut room, 0, count, count)?;
+    let read = read_first(alloc, log, disk, count)?;
     log.force(disk)?;
     let end = log.durable_end();
-    let scanned = scan_all(alloc, &log, disk)?;
+    let scanned = scan_all(alloc, log, disk)?;
     Ok(Counts {
         durable_end,
         waiting,

@@ -28,8 +28,9 @@ struct Part {
     stride: usize,
 }
 
-/// Does it, and prints what came of it: with some bytes, by strides, or with each.
-pub fn run(rt: &HostRuntime, each: bool) -> Result<()> {
+/// Does it, and prints what came of it: with some bytes, by strides, or with each where the first word is `--all`.
+pub fn run(rt: &HostRuntime, words: &[String]) -> Result<()> {
+    let each = !words.is_empty() && words[0].as_str() == "--all";
     let files = founded(rt.alloc())?;
     let log = files.size(FileId::Log);
     let pages = files.size(FileId::Pages);

@@ -3,6 +3,7 @@
 use crate::damage::disk::{BoundedDisk, Files};
 use crate::damage::store::{PAGES, are_committed, key_of, make, open};
 use im_base_types::{Fault, FileId};
+use im_engine::Engine;
 use im_front::Step;
 use std::alloc::Global;
 
@@ -58,25 +59,36 @@ pub fn judged(alloc: Global, files: &Files, damaged: Damaged) -> Result<Outcome,
         Err(Fault::NotAStore) => return Ok(Outcome::NoStore),
         Err(_) => return Ok(Outcome::Bad),
     };
-    let outcome = match engine.entries(alloc) {
-        Ok(entries) if are_committed(alloc, &entries)? => Outcome::Right,
-        Ok(_) => Outcome::Others,
-        Err(Fault::NotAStore) => Outcome::Others,
-        Err(_) => Outcome::Bad,
-    };
-    make(&mut engine, Step::Begin);
-    make(&mut engine, Step::Fetch(4, key_of(alloc, 20)?));
-    make(&mut engine, Step::Insert(4, key_of(alloc, 1)?, 9));
-    make(&mut engine, Step::Delete(4, key_of(alloc, 30)?));
-    make(&mut engine, Step::Commit(4));
-    for page in 0..PAGES {
-        make(&mut engine, Step::FlushPage(page));
-    }
+    let outcome = listed(alloc, &mut engine)?;
+    make_each(alloc, &mut engine)?;
     let disk = engine.into_disk();
     if disk.is_at_bound() {
         return Ok(Outcome::Bad);
     }
     Ok(outcome)
+}
+
+// What the list of the entries comes to.
+fn listed(alloc: Global, engine: &mut Engine<BoundedDisk>) -> Result<Outcome, Fault> {
+    Ok(match engine.entries(alloc) {
+        Ok(entries) if are_committed(alloc, &entries)? => Outcome::Right,
+        Ok(_) => Outcome::Others,
+        Err(Fault::NotAStore) => Outcome::Others,
+        Err(_) => Outcome::Bad,
+    })
+}
+
+// Makes steps of each kind, and writes each page.
+fn make_each(alloc: Global, engine: &mut Engine<BoundedDisk>) -> Result<(), Fault> {
+    make(engine, Step::Begin);
+    make(engine, Step::Fetch(4, key_of(alloc, 20)?));
+    make(engine, Step::Insert(4, key_of(alloc, 1)?, 9));
+    make(engine, Step::Delete(4, key_of(alloc, 30)?));
+    make(engine, Step::Commit(4));
+    for page in 0..PAGES {
+        make(engine, Step::FlushPage(page));
+    }
+    Ok(())
 }
 
 /// Where the page numbers of the log's records begin.

@@ -45,8 +45,7 @@ const PAGES: u32 = 2_048;
 pub fn run(rt: &HostRuntime) -> Result<()> {
     let disk = CountingDisk::new(rt.alloc());
     let mut engine = opened(rt, disk, 1_024, "created")?;
-    each_transaction(rt, &mut engine, "filled", Work::Insert, Order::Rising)?;
-    show_pages(rt, &mut engine)?;
+    fill(rt, &mut engine)?;
     let engine = read(rt, engine)?;
     let engine = left(rt, engine, "inserts of a loser, falling", FALLING)?;
     let engine = left(rt, engine, "inserts of a loser, scattered", SCATTERED)?;
@@ -110,8 +109,7 @@ fn opened(
         Ok(engine) => engine,
         Err((fault, _disk)) => return Err(fault.into()),
     };
-    println!(rt; "{name} in {frames} frames")?;
-    show_calls(rt, engine.disk().calls())?;
+    show_opened(rt, frames, name, engine.disk().calls())?;
     Ok(engine)
 }
 
@@ -123,6 +121,12 @@ fn opened_again(
     name: &str,
 ) -> Result<Engine<CountingDisk>> {
     opened(rt, engine.into_disk().at_rest(), frames, name)
+}
+
+// Every key is inserted.
+fn fill(rt: &HostRuntime, engine: &mut Engine<CountingDisk>) -> Result<()> {
+    each_transaction(rt, engine, "filled", Work::Insert, Order::Rising)?;
+    show_pages(rt, engine)
 }
 
 // Every key is read, and then all are listed, while no page is changed.
@@ -141,11 +145,24 @@ fn left(
     losing: Losing,
 ) -> Result<Engine<CountingDisk>> {
     let mut engine = engine;
+    lose(rt, &mut engine, name, losing)?;
+    let mut engine = opened_again(rt, engine, 64, "taken back")?;
+    show_all(rt, &mut engine)?;
+    Ok(engine)
+}
+
+// The steps of a transaction that never commits, and a force behind them.
+fn lose(
+    rt: &HostRuntime,
+    engine: &mut Engine<CountingDisk>,
+    name: &str,
+    losing: Losing,
+) -> Result<()> {
     let mut tally = Tally::default();
-    if let Some(transaction) = begun(&mut engine) {
+    if let Some(transaction) = begun(engine) {
         worked(
             rt.alloc(),
-            &mut engine,
+            engine,
             transaction,
             losing.work,
             losing.span,
@@ -156,22 +173,21 @@ fn left(
     tally.add(&reply, matches!(&reply, Reply::Done));
     println!(rt; "{name}")?;
     show_tally(rt, tally)?;
-    show_calls(rt, engine.disk().calls())?;
-    let mut engine = opened_again(rt, engine, 64, "taken back")?;
-    show_entries(rt, &mut engine)?;
-    show_pages(rt, &mut engine)?;
-    Ok(engine)
+    show_calls(rt, engine.disk().calls())
 }
 
 // All keys go, in rising order, and the store is opened once more.
 fn emptied(rt: &HostRuntime, engine: Engine<CountingDisk>) -> Result<()> {
     let mut engine = engine;
-    each_transaction(rt, &mut engine, "emptied", Work::Delete, Order::Rising)?;
-    show_entries(rt, &mut engine)?;
-    show_pages(rt, &mut engine)?;
+    empty(rt, &mut engine)?;
     let mut engine = opened_again(rt, engine, 64, "opened empty")?;
-    show_entries(rt, &mut engine)?;
-    show_pages(rt, &mut engine)
+    show_all(rt, &mut engine)
+}
+
+// All keys go.
+fn empty(rt: &HostRuntime, engine: &mut Engine<CountingDisk>) -> Result<()> {
+    each_transaction(rt, engine, "emptied", Work::Delete, Order::Rising)?;
+    show_all(rt, engine)
 }
 
 // Makes a work of all keys, by transactions that commit.
@@ -198,17 +214,30 @@ fn each_transaction(
 
 // Stops of a life whose transaction never commits, and of the opening that takes it back.
 fn stopped(rt: &HostRuntime) -> Result<()> {
-    let alloc = rt.alloc();
-    let base = founded(alloc)?;
-    let (tally, kinds, lost) = losing(alloc, &base)?;
-    println!(rt; "a loser behind splits on two levels and a page deletion")?;
-    show_tally(rt, tally)?;
-    show_kinds(rt, kinds)?;
-    show_stops(rt, "its life", &base, Life::Losing)?;
+    let base = founded(rt.alloc())?;
+    stopped_on(rt, &base)
+}
+
+// The same on copies of a disk that has what is committed.
+fn stopped_on(rt: &HostRuntime, base: &ModelDisk) -> Result<()> {
+    let (tally, kinds, lost) = losing(rt.alloc(), base)?;
+    show_losing(rt, tally, kinds)?;
+    show_stops(rt, "its life", base, Life::Losing)?;
     show_stops(rt, "its opening", &lost, Life::TakingBack)
 }
 
 // ---- lines
+
+fn show_opened(rt: &HostRuntime, frames: usize, name: &str, calls: Calls) -> Result<()> {
+    println!(rt; "{name} in {frames} frames")?;
+    show_calls(rt, calls)
+}
+
+// What the store has, and what its pages are for.
+fn show_all(rt: &HostRuntime, engine: &mut Engine<CountingDisk>) -> Result<()> {
+    show_entries(rt, engine)?;
+    show_pages(rt, engine)
+}
 
 fn show_tally(rt: &HostRuntime, tally: Tally) -> Result<()> {
     println!(rt;
@@ -247,6 +276,12 @@ fn show_kinds(rt: &HostRuntime, kinds: Kinds) -> Result<()> {
         kinds.leaves, kinds.inner, kinds.level, kinds.last
     )?;
     Ok(())
+}
+
+fn show_losing(rt: &HostRuntime, tally: Tally, kinds: Kinds) -> Result<()> {
+    println!(rt; "a loser behind splits on two levels and a page deletion")?;
+    show_tally(rt, tally)?;
+    show_kinds(rt, kinds)
 }
 
 fn show_stops(rt: &HostRuntime, name: &str, disk: &ModelDisk, life: Life) -> Result<()> {

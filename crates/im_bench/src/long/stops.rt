@@ -95,10 +95,15 @@ pub fn losing(alloc: Global, base: &ModelDisk) -> Result<(Tally, Kinds, ModelDis
         Ok(engine) => engine,
         Err((fault, _disk)) => return Err(fault),
     };
-    let mut tally = Tally::default();
-    lose(alloc, &mut engine, &mut tally)?;
-    let kinds = pages_by_kind(&mut engine, 64)?;
+    let (tally, kinds) = lost(alloc, &mut engine)?;
     Ok((tally, kinds, engine.into_disk()))
+}
+
+fn lost(alloc: Global, engine: &mut Engine<ModelDisk>) -> Result<(Tally, Kinds), Fault> {
+    let mut tally = Tally::default();
+    lose(alloc, engine, &mut tally)?;
+    let kinds = pages_by_kind(engine, 64)?;
+    Ok((tally, kinds))
 }
 
 /// Stops a life on copies of a disk at each of its device calls.

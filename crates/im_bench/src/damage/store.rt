@@ -49,24 +49,30 @@ pub fn founded(alloc: Global) -> Result<Files, Fault> {
         pages: Vec::new(alloc),
     };
     let mut engine = open(BoundedDisk::new(files), alloc)?;
-    make(&mut engine, Step::Begin);
-    for number in 0..KEYS {
-        make(&mut engine, Step::Insert(1, key_of(alloc, number)?, number));
-    }
-    make(&mut engine, Step::Commit(1));
-    make(&mut engine, Step::Begin);
-    for number in 0..DELETED {
-        make(&mut engine, Step::Delete(2, key_of(alloc, number)?));
-    }
-    make(&mut engine, Step::Commit(2));
-    for page in 0..PAGES {
-        make(&mut engine, Step::FlushPage(page));
-    }
-    make(&mut engine, Step::Begin);
-    make(&mut engine, Step::Delete(3, key_of(alloc, DELETED)?));
-    make(&mut engine, Step::Insert(3, key_of(alloc, 0)?, 7));
-    make(&mut engine, Step::Force);
+    found(alloc, &mut engine)?;
     Ok(engine.into_disk().into_files())
+}
+
+// The steps of the three transactions.
+fn found(alloc: Global, engine: &mut Engine<BoundedDisk>) -> Result<(), Fault> {
+    make(engine, Step::Begin);
+    for number in 0..KEYS {
+        make(engine, Step::Insert(1, key_of(alloc, number)?, number));
+    }
+    make(engine, Step::Commit(1));
+    make(engine, Step::Begin);
+    for number in 0..DELETED {
+        make(engine, Step::Delete(2, key_of(alloc, number)?));
+    }
+    make(engine, Step::Commit(2));
+    for page in 0..PAGES {
+        make(engine, Step::FlushPage(page));
+    }
+    make(engine, Step::Begin);
+    make(engine, Step::Delete(3, key_of(alloc, DELETED)?));
+    make(engine, Step::Insert(3, key_of(alloc, 0)?, 7));
+    make(engine, Step::Force);
+    Ok(())
 }
 
 /// Makes a step, whatever it answers.
