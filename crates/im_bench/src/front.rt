@@ -6,8 +6,8 @@
 
 ghost use Rattle.std.specs.Prelude.{◌≡◌};
 
-use crate::figures::{is_timed, nanos_since, per_second};
 use anyhow::Result;
+use im_bench_layers::figures::{is_timed, nanos_since, per_second};
 use im_front::{Closed, Fault, Front, Reply, Share, Step, Store};
 use im_front_load::key_of;
 use im_front_memory::MemoryStore;

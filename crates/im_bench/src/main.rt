@@ -10,21 +10,13 @@
 #![tactic(auto)]
 
 mod damage;
-mod figures;
-mod flush;
 mod front;
-mod gate;
-mod keys;
-mod lock;
-mod log;
 mod long;
-mod page;
-mod pool;
-mod record;
 mod store;
 mod tree;
 
 use anyhow::{Result, bail};
+use im_bench_layers::{flush, gate, lock, log, page, pool, record};
 use std::env;
 use std::sync::Wait;
 use std::thread::Threads;

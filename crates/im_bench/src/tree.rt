@@ -31,9 +31,9 @@ mod store;
 
 ghost use Rattle.im_page_writer.specs.PageWriter.{IsReadyWriter};
 
-use crate::figures::is_timed;
 use anyhow::Result;
 use im_base_disk::{Disk, ModelDisk};
+use im_bench_layers::figures::is_timed;
 use im_engine::{Config, Engine};
 use im_page_writer::PageWriter;
 use lookups::{disk_of, found, opened};

@@ -4,9 +4,9 @@ ghost use Rattle.std.specs.Prelude.{◌≡◌, false, IfOk, OnOk};
 ghost use Rattle.im_base_disk.specs.Runs.{IsSynced};
 ghost use Rattle.im_page_writer.specs.PageWriter.{IsReadyWriter};
 
-use crate::keys::{key_of, scattered};
 use im_base_disk::{Disk, ModelDisk, read_vec};
 use im_base_types::{Fault, FileId};
+use im_bench_layers::keys::{key_of, scattered};
 use im_log::open_or_create;
 use im_page_writer::PageWriter;
 use im_tree_search::locate;

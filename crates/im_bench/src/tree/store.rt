@@ -1,8 +1,8 @@
 //! Keys put into a store, looked up and dropped, by steps of its engine.
 
-use crate::keys::{key_of, scattered};
 use im_base_disk::Disk;
 use im_base_types::{Fault, TxnId};
+use im_bench_layers::keys::{key_of, scattered};
 use im_engine::Engine;
 use im_front::{Reply, Step};
 use std::alloc::Global;
