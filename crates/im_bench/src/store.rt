@@ -9,10 +9,18 @@
 //!
 //! # Figures
 //!
-//! Bytes of log a key, inserts in scattered order, 64 a commit, no Checkpoint: 100,000 keys leave 333 in 64 frames and 332 in 1,024.
-//! Structure changes alone take some 280 of it, records and Commits 51: evictions add no full copy but the first of a page in no
-//! structure change. In 64 frames an insert takes 0.26 writes and as many syncs of the log, and 0.71 writes of pages. An opening behind
-//! it adds no byte to the log, and neither does the next.
+//! Bytes of log a key, inserts in scattered order, 64 a commit, no Checkpoint: 100,000 keys leave 333 in 64 frames and 332 in 1,024,
+//! 1,000,000 keys in 64 frames 335. Structure changes alone take some 280 of it, records and Commits 51: evictions add no full copy but
+//! the first of a page in no structure change. In 64 frames an insert takes 0.26 writes and as many syncs of the log, and 0.71 writes of
+//! pages. Of two openings behind it the first logs what it takes back, and the second adds no byte.
+//!
+//! In memory, 100,000 keys in 1,024 frames, the least of eight runs on a machine with other work on it: a look-up of a key that is there
+//! 656 ns, of one that is not 977, a scan of 100 entries with its 101 locks 11.7 us, an insert of 64 a commit 2.4 us.
+//!
+//! Through step lines of `imstore`, keys in random order, each commit synced, in one run with others at a load of 1, two rounds: 64 a
+//! commit, 100,000 keys, 49,600 and 70,000 inserts a second; LMDB 53,700 and 60,900, SQLite in WAL mode 58,600 and 61,800, Berkeley DB
+//! 117,500 and 129,200. One a commit 5,200 and 6,400; LMDB 5,900 and 6,800, SQLite 7,600 and 10,200, Berkeley DB 9,600 and 14,200; two
+//! writes and two syncs of as many bytes in C, behind both rounds, 7,100.
 
 mod counted;
 mod memory;

@@ -6,16 +6,17 @@
 //!
 //! # Figures
 //!
-//! Nanoseconds of a look-up, the least of six runs in turn on one machine with other work on it, beside a plain walk in C (`cc -O2`)
-//! of pages of the same bytes that all stand in memory, with no pool and no checks:
+//! Nanoseconds of a look-up, the least of five runs within two minutes at a load below 1, and of a plain walk in C (`cc -O2`) of pages of
+//! the same bytes that all stand in memory, with no pool and no checks, some minutes later:
 //!
 //! | Tree | Look-up | in C | ratio |
 //! |---|---|---|---|
-//! | 100,107 keys in 681 leaves, each page held | 428 | 370 | 1.16 |
-//! | 1,000,041 keys in 6,803 leaves, one page in seven held | 5,705 | 1,215 | 4.70 |
+//! | 100,107 keys in 681 leaves, each page held | 399 | 598 | 0.67 |
+//! | 1,000,041 keys in 6,803 leaves, one page in seven held | 1,692 | 1,286 | 1.32 |
 //!
 //! A look-up goes through three pages. Leaves seven tenths full of such keys fit into the pool up to some 149,000 keys. In the second
-//! tree most look-ups read their leaf: the test of the page's form takes about half of the time, and two copies of 4 KiB a quarter.
+//! tree most look-ups read their leaf: its copy from the memory of the disk takes a third of the time, and so does the test of its form;
+//! in C the copy of 4 KiB from such memory took 507 ns then, and a test of a page's form 4,065.
 //!
 //! Nanoseconds of a step on a store that is filled with 100,000 keys, searched and emptied, each the least of some runs, beside a tree in C of
 //! pages of the same bytes, which logs nothing, has no pool and keeps empty leaves; its figures are the least and the most of the runs:
