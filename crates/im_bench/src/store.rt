@@ -14,7 +14,7 @@
 //! the first of a page in no structure change. In 64 frames an insert takes 0.26 writes and as many syncs of the log, and 0.71 writes of
 //! pages. Of two openings behind it the first logs what it takes back, and the second adds no byte.
 //!
-//! In memory, 100,000 keys in 1,024 frames, the least of eight runs on a machine with other work on it: a look-up of a key that is there
+//! In memory, 100,000 keys in 1,024 frames, the least of six runs on a machine with other work on it: a look-up of a key that is there
 //! 656 ns, of one that is not 977, a scan of 100 entries with its 101 locks 11.7 us, an insert of 64 a commit 2.4 us.
 //!
 //! Through step lines of `imstore`, keys in random order, each commit synced, in one run with others at a load of 1, two rounds: 64 a

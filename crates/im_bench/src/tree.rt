@@ -6,7 +6,7 @@
 //!
 //! # Figures
 //!
-//! Nanoseconds of a look-up, the least of five runs within two minutes at a load below 1, and of a plain walk in C (`cc -O2`) of pages of
+//! Nanoseconds of a look-up, the least of five runs with nothing else running, and of a plain walk in C (`cc -O2`) of pages of
 //! the same bytes that all stand in memory, with no pool and no checks, some minutes later:
 //!
 //! | Tree | Look-up | in C | ratio |
