@@ -8,4 +8,3 @@ pub mod Changes
 pub mod Nets
 pub mod Answers
 pub mod Lives
-pub mod Steps

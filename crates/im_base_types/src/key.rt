@@ -1,8 +1,9 @@
 //! Keys.
 
-ghost use Rattle.std.specs.Prelude.{◌≡◌, ◌≤◌, ◌↔◌, length, IfOk, IfErr, Result, Ok, Err, IsOk};
-ghost use Rattle.im_base_types.specs.declared.fault.Fault.TheVariants.{KeyLength};
+ghost use Rattle.std.specs.Prelude.{◌≡◌, ◌⊎◌, ◌≤◌, ◌↔◌, ◌+◌, ◌++◌, ◌∷◌, [], length, IfOk, IfErr, OnOk, OnErr, Result, Ok, Err, IsOk};
+ghost use Rattle.im_base_types.specs.declared.fault.Fault.TheVariants.{KeyLength, Memory};
 
+use crate::Rid;
 use crate::fault::Fault;
 use arrayvec::ArrayVec;
 use std::marker::Model;
@@ -46,4 +47,40 @@ impl Key {
     {
         self.bytes.as_slice()
     }
+
+    // A key of one byte.
+    fn of_byte(byte: u8) -> Key
+        ensures { result ≡ byte ∷ [] }
+    {
+        let mut bytes = ArrayVec::new();
+        bytes.push(byte);
+        Key { bytes }
+    }
+
+    // Adds bytes behind those that it has.
+    fn extend(&mut self, more: &[u8])
+        requires { length self.old + length more.now ≤ 255 }
+        ensures { self.new ≡ self.old ++ more.now }
+    {
+        let _ = self.bytes.try_extend_from_slice(more);
+    }
+}
+
+/// Adds a key, with what stands with it, to the end of a list. The key is made in its place there: it takes 255 bytes however short it is, so that
+/// to make it first and to move it then would cost most of the time. Refused `KeyLength` where the key has no byte, or more than 255, and
+/// `Memory`; the list then stays as it was.
+pub fn push_entry(list: &mut Vec<(Key, Rid)>, key: &[u8], rid: Rid) -> Result<(), Fault>
+    ensures added { OnOk result (list.new.items ≡ list.old.items ++ (key.now, rid) ∷ []) }
+    ensures same { OnErr result (list.new.items ≡ list.old.items) }
+    ensures length { result ≡ Err KeyLength ↔ (length key.now ≡ 0) ⊎ (256 ≤ length key.now) }
+    ensures causes { IfErr result (λ e. (e ≡ KeyLength) ⊎ (e ≡ Memory)) }
+{
+    if key.is_empty() || key.len() > 255 {
+        return Err(Fault::KeyLength);
+    }
+    let Ok(entry) = list.push_mut((Key::of_byte(key[0]), rid)) else {
+        return Err(Fault::Memory);
+    };
+    entry.0.extend(&key[1..]);
+    Ok(())
 }

@@ -1,4 +1,4 @@
-//! The words that every layer speaks: keys, numbers, files, kinds of pages, steps, replies, faults.
+//! The words that every layer speaks: keys, numbers, files, kinds of pages, faults.
 //!
 //! A key is 1 to 255 bytes, and keys are ordered by their unsigned bytes, a front before what it begins
 //! (`IsBelow`). Contracts see a `Key` as the list of its bytes. `compare` is that order over slices, eight
@@ -14,17 +14,13 @@ mod file_id;
 mod key;
 mod order;
 mod page_kind;
-mod reply;
-mod step;
 mod tables;
 
 pub use fault::Fault;
 pub use file_id::FileId;
-pub use key::Key;
+pub use key::{Key, push_entry};
 pub use order::compare;
 pub use page_kind::PageKind;
-pub use reply::Reply;
-pub use step::Step;
 pub use tables::{ActiveTransaction, DirtyPage};
 
 /// The number that an index keeps with a key, to name a record of the store's own.
