@@ -16,7 +16,7 @@ use crate::leaf_chain::{page_count, place_past};
 use crate::levels::tree_page;
 use crate::next_key::{NextKey, copied};
 use im_base_disk::Disk;
-use im_base_types::{Fault, Key, PageNo, Rid, compare};
+use im_base_types::{Fault, Key, PageNo, Rid, compare, push_entry};
 use im_page::Page;
 use im_page_writer::PageWriter;
 use std::alloc::Global;
@@ -42,8 +42,7 @@ fn add_entry(list: &mut Vec<(Key, Rid)>, page: &Page, i: usize) -> Result<(), Fa
     ensures added { OnOk result (list.new.items ≡ list.old.items ++ entry_at page.now.body.entries i ∷ []) }
     ensures memory { IfErr result (λ e. e ≡ Memory) }
 {
-    let key = Key::new(page.key(i))?;
-    list.push((key, page.value(i))).map_err(|_| Fault::Memory)
+    push_entry(list, page.key(i), page.value(i))
 }
 
 // Adds the entries of a leaf that lie in a range, until there are `limit`. Answers what stands behind the range, where the leaf ends
