@@ -118,10 +118,6 @@ pub option_none : (o : Option ℕ) → ((x : ℕ) → o ≡ Some x → ⊥) → 
 option_none None lacks = refl
 option_none (Some x) lacks = absurd (lacks x refl)
 
-flat_some : (o : Option (Option ℕ)) (f : ℕ) → option_flatten o ≡ Some f → is_some o ≡ true
-flat_some None f s = absurd cc
-flat_some (Some x) f s = refl
-
 -- ---- what goes together goes on so
 module _ (es : Uses) (at : ℕ → Option (Option ℕ)) (room : ℕ) (free : List ℕ) (go : GoTogether es at room free) where
   module _ (p f : ℕ) (held : lookup (nat_eq p) (taken_in es) ≡ Some f) where
@@ -176,9 +172,6 @@ module _ (es : Uses) (at : ℕ → Option (Option ℕ)) (room : ℕ) (free : Lis
       subst (λ (l : Uses). GoTogether l at room free) (sym is) go_promoted,
       let l = ap length is ∙ length_promoted (nat_eq f) es in omega arith,
     )
-
-    pub has_number : is_some (at p) ≡ true
-    has_number = flat_some (at p) f (go.found p ∙ held)
 
     -- it is given back
     pub taken_given : taken_in (front f None es) ≡ remove_entry (nat_eq p) (taken_in es)

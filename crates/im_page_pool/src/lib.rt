@@ -11,7 +11,8 @@
 //!   file's page count on, and none where the bytes are no page.
 //! - `get` leaves that function as it is, and answers the frame at which the page is held. A page that is held costs a
 //!   look-up of its number, and one of its frame, which moves in the order of use; any other one length call, one read and one check.
-//! - `get_held` does the same of a page that is held, and of any other says that it is not, by one look-up.
+//! - `get_held` does the same of a page that is held, and of any other says that it is not, by one look-up; `get_absent` does it of a page
+//!   that is not held.
 //! - `insert`, `remove`, `copy_in` and the setters change the one page of their frame, as the calls of `im_page` of the
 //!   same names do, and mark it.
 //! - `hold_copy` holds a page whatever the file has, without a call of the disk.

@@ -5,7 +5,7 @@
 //! leaves it all its room, and the held pages are put in again, half as many at most. So no number takes memory, and of as many pages
 //! that come in as there are frames one pays for that.
 
-ghost use Rattle.std.specs.Prelude.{◌≡◌, ◌+◌, ◌*◌, ◌<◌, ◌≤◌, ◌∷◌, ℕ, Some, None, true, false, nat_eq, length, is_some, if◌then◌else◌};
+ghost use Rattle.std.specs.Prelude.{◌≡◌, ◌+◌, ◌*◌, ◌<◌, ◌≤◌, ◌∷◌, ℕ, Some, None, true, false, nat_eq, length, is_some, IsSome, if◌then◌else◌};
 ghost use Rattle.std.specs.Option.{option_flatten};
 ghost use Rattle.std.specs.Map.{keys_of, lookup};
 ghost use Rattle.std.specs.HashMap.{get, hash_map_len, spare};
@@ -16,7 +16,7 @@ use lru::LruCache;
 use std::collections::HashMap;
 
 /// Notes the frame of a page whose number the map has. Says whether it has it.
-pub fn set(numbers: &mut HashMap<PageNo, Option<u32>>, p: PageNo, place: Option<u32>) -> bool
+fn set(numbers: &mut HashMap<PageNo, Option<u32>>, p: PageNo, place: Option<u32>) -> bool
     ensures there { result ≡ is_some (get nat_eq numbers.old p) }
     ensures noted { result ≡ true → (q : ℕ) → get nat_eq numbers.new q ≡ (if nat_eq p q then Some place else get nat_eq numbers.old q) }
     ensures none { result ≡ false → numbers.new ≡ numbers.old }
@@ -28,6 +28,22 @@ pub fn set(numbers: &mut HashMap<PageNo, Option<u32>>, p: PageNo, place: Option<
             true
         }
         None => false,
+    }
+}
+
+/// Takes the frame of a page that is held, by one look-up. Its number stays in the map, with no frame.
+pub fn take_frame(numbers: &mut HashMap<PageNo, Option<u32>>, p: PageNo) -> Option<u32>
+    ensures found { result ≡ option_flatten (get nat_eq numbers.old p) }
+    ensures noted { IsSome result → (q : ℕ) → get nat_eq numbers.new q ≡ (if nat_eq p q then Some None else get nat_eq numbers.old q) }
+    ensures room { hash_map_len numbers.new + spare numbers.new ≡ hash_map_len numbers.old + spare numbers.old }
+{
+    match numbers.get_mut(&p) {
+        Some(at) => {
+            let place = *at;
+            *at = None;
+            place
+        }
+        None => None,
     }
 }
 

@@ -185,6 +185,28 @@ impl Pool {
         self.fetch(disk, p)
     }
 
+    /// The same of a page that is not held, for which there is a frame: its number is not looked up.
+    pub fn get_absent<D: Disk>(&mut self, disk: &mut D, p: PageNo) -> Result<Frame, Fault>
+        requires working { D.failed disk.old ≡ false }
+        requires absent { held_of self.old p ≡ None }
+        requires room { length self.old.held < self.old.frames }
+        ensures frame { IfOk result (λ f. f.number ≡ p) }
+        ensures at { IfOk result (IsAt self.new) }
+        ensures read { IfOk result (λ f. Takes f (page_at self.new p) false self.old self.new) }
+        ensures err { OnErr result (self.new.held ≡ self.old.held) }
+        ensures frames { self.new.frames ≡ self.old.frames }
+        ensures count { self.new.gets ≡ self.old.gets + 1 }
+        ensures page { OnOk result (D.tells → page_seen self.old (D.seen disk.old Pages) p ≡ Some (page_at self.new p)) }
+        ensures seen { D.tells → (q : ℕ) → page_seen self.new (D.seen disk.new Pages) q ≡ page_seen self.old (D.seen disk.old Pages) q }
+        ensures refused { D.tells → D.failed disk.new ≡ false → (result ≡ Err NotAStore ↔ (page_seen self.old (D.seen disk.old Pages) p ≡ None)) }
+        ensures causes { IfErr result (λ e. (e ≡ Device) ⊎ (e ≡ NotAStore)) }
+        ensures device { result ≡ Err Device ↔ (D.failed disk.new ≡ true) }
+        ensures reads { Reads D.Disk disk.old disk.new }
+    {
+        self.count();
+        self.fetch(disk, p)
+    }
+
     /// Where a held page is, as the most recently used from now on, by one look-up, which counts as one get. `None` where it is not
     /// held; the pool then stays as it was.
     pub fn get_held(&mut self, p: PageNo) -> Option<Frame>

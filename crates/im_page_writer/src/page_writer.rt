@@ -167,6 +167,7 @@ impl PageWriter {
         ensures outcome { Flushes D.Disk self.old disk.old self.new disk.new (fault_of result) }
         ensures free { OnOk result (length self.new.pool.held < self.new.pool.frames) }
         ensures gets { OnOk result (self.new.pool.gets ≡ self.old.pool.gets) }
+        ensures absent { OnOk result ((q : ℕ) → held_of self.old.pool q ≡ None → held_of self.new.pool q ≡ None) }
     {
         let Some(frame) = self.pool.oldest() else {
             return Err(Fault::Memory);
@@ -183,6 +184,7 @@ impl PageWriter {
         ensures outcome { Flushes D.Disk self.old disk.old self.new disk.new (fault_of result) }
         ensures free { OnOk result (length self.new.pool.held < self.new.pool.frames) }
         ensures gets { OnOk result (self.new.pool.gets ≡ self.old.pool.gets) }
+        ensures absent { OnOk result ((q : ℕ) → held_of self.old.pool q ≡ None → held_of self.new.pool q ≡ None) }
     {
         if !self.pool.is_full() {
             return Ok(());
@@ -205,11 +207,12 @@ impl PageWriter {
         self.make_frame(disk)
     }
 
-    // Where a page is held from now on, for which there is room.
+    // Where a page is held from now on that is not held, for which there is room.
     fn hold<D: Disk>(&mut self, disk: &mut D, number: PageNo) -> Result<Frame, Fault>
         requires ready { IsReadyWriter D.Disk self.old disk.old }
         requires working { self.old.failed ≡ false }
-        requires room { Holds self.old.pool number ⊎ (length self.old.pool.held < self.old.pool.frames) }
+        requires absent { held_of self.old.pool number ≡ None }
+        requires room { length self.old.pool.held < self.old.pool.frames }
         ensures outcome { Outcome D.Disk (AreLoadedTo number) no_page self.old disk.old self.new disk.new (fault_of result) }
         ensures kept { (pages : AllPages) → HasPages D.Disk (AreLoadedTo number) pages self.old disk.old → IsSound result (λ _. page_at self.new.pool number ≡ pages number) }
         ensures at { IfOk result (IsAt self.new.pool) }
@@ -217,7 +220,7 @@ impl PageWriter {
         ensures gets { IfOk result (λ _. self.new.pool.gets ≡ self.old.pool.gets + 1) }
         ensures no_page { result ≡ Err NotAStore → D.tells → file_page (D.seen disk.new Pages) number ≡ None }
     {
-        match self.pool.get(disk, number) {
+        match self.pool.get_absent(disk, number) {
             Ok(frame) => Ok(frame),
             Err(fault) => {
                 self.failed = fault == Fault::Device;

@@ -4,6 +4,7 @@ use Rattle.im_page_writer.specs.declared.table_entry.TableEntry.{TableEntry}
 use Rattle.im_page_writer.specs.KnownCopies.{IsKnownFrom}
 use Rattle.im_page_writer.specs.LogEnds.{EndsNoSooner}
 use Rattle.im_page_writer.specs.Writing.{Goes}
+use Rattle.im_page_writer.proofs.Placing.{absent_still}
 use Rattle.im_page_writer.proofs.Writers.{goes_evicted}
 use Rattle.im_page_writer.proofs.page_writer.PageWriter.evict_oldest.Goals as goal
 
@@ -39,3 +40,6 @@ returns-clause-outcome g c =
             };
       };
     }
+
+pub returns-clause-absent : goal.returns-clause-absent
+returns-clause-absent g c = absent_still c.args.self.now.pool c.flush_with_others.new.self.pool c.drop_page.new.self.pool c.in-Some.frame.number c.in_ok-flush_with_others.ensures.held c.drop_page.ensures.evicts
