@@ -83,3 +83,42 @@ fn is_right(work: Work, number: u64, reply: &Reply) -> bool {
         _ => false,
     }
 }
+
+/// Looks up so many keys by an engine, each somewhere among the first `keys` numbers, a thousand in a transaction, and answers how many
+/// were found with their number as row id.
+pub fn found_locked<D: Disk>(
+    alloc: Global,
+    engine: &mut Engine<D>,
+    keys: u64,
+    rounds: u64,
+) -> Result<u64, Fault> {
+    let mut found = 0u64;
+    for batch in 0..rounds / STEPS {
+        let first = batch.wrapping_mul(STEPS);
+        found = found.wrapping_add(batch_found(alloc, engine, keys, first)?);
+    }
+    Ok(found)
+}
+
+// A transaction of look-ups from this round on.
+fn batch_found<D: Disk>(
+    alloc: Global,
+    engine: &mut Engine<D>,
+    keys: u64,
+    first: u64,
+) -> Result<u64, Fault> {
+    let Reply::Started(transaction) = engine.step(&Step::Begin) else {
+        return Ok(0);
+    };
+    let mut found = 0u64;
+    for i in 0..STEPS {
+        let number = scattered(first.wrapping_add(i)) % keys.max(1);
+        let key = Vec::from_slice(alloc, &key_of(number)).map_err(|_| Fault::Memory)?;
+        let step = Step::Fetch(transaction, key);
+        if is_right(Work::Fetch, number, &engine.step(&step)) {
+            found = found.wrapping_add(1);
+        }
+    }
+    let _ = engine.step(&Step::Commit(transaction));
+    Ok(found)
+}
