@@ -1,6 +1,6 @@
 -- Ranges that are apart and take all of a stretch together leave no number of it out.
-use Rattle.std.proofs.Common.{zero, suc, ◌≡◌, ◌≢◌, ◌⊎◌, ℕ, ◌+◌, ◌-◌, ◌<◌, ◌≤◌, if◌then◌else◌, nat_le, refl, ap, subst, ◌∙◌, inl, inr, ⊎_elim, arith}
-use Rattle.std.proofs.lemmas.Bool.{cases_lt, le-leb, lt-leb}
+use Rattle.std.proofs.Common.{zero, suc, ◌≡◌, ◌≢◌, ◌⊎◌, ℕ, ◌+◌, ◌-◌, ◌<◌, ◌≤◌, if◌then◌else◌, nat_le, refl, sym, ap, subst, ◌∙◌, inl, inr, ⊎_elim, arith}
+use Rattle.std.proofs.lemmas.Bool.{cases_eq, cases_lt, le-leb, lt-leb}
 
 -- what a function has below m, added up
 counted : (ℕ → ℕ) → ℕ → ℕ
@@ -81,6 +81,16 @@ missing f start (suc m) k one none from to out =
     (λ (x : m ≤ k). let same : k ≡ m = omega arith in let here : f m ≡ 0 = subst (λ j. f j ≡ 0) same out in omega (arith, (bounded f start m one none).1 (omega arith), here))
     (cases_lt k m)
 
+-- one each from a number on, and none before it
+filled : (f : ℕ → ℕ) (start m : ℕ) → ((k : ℕ) → k < start → f k ≡ 0) → ((k : ℕ) → start ≤ k → k < m → f k ≡ 1) → (m ≤ start → counted f m ≡ 0) × (start ≤ m → counted f m + start ≡ m)
+unfolding counted
+filled f start zero none one = (λ _. refl, λ le. omega arith)
+filled f start (suc m) none one =
+    let before = filled f start m none (λ k le lt. one k le (omega arith)) in (
+      λ le. omega (arith, before.0 (omega arith), none m (omega arith)),
+      λ le. ⊎_elim (λ (x : m < start). omega (arith, before.0 (omega arith), none m x)) (λ (x : start ≤ m). omega (arith, before.1 x, one m x (omega arith))) (cases_lt m start),
+    )
+
 module _ (s e : ℕ → ℕ) where
   -- how many of the first n ranges have a number
   cover : ℕ → ℕ → ℕ
@@ -150,3 +160,108 @@ module _ (s e : ℕ → ℕ) where
     where
       early : (j : ℕ) → j < start → cover n j ≡ 0
       early j lt = ⊎_elim (λ none. none) (λ some. absurd (omega (arith, (ok some.0 some.1).0, some.2))) (none_or n j)
+
+  some_cover : (n i k : ℕ) → i < n → s i ≤ k → k < e i → 1 ≤ cover n k
+  unfolding cover
+  some_cover zero i k li from to = absurd (omega arith)
+  some_cover (suc n) i k li from to =
+      ⊎_elim
+      (λ (x : i < n). omega (arith, some_cover n i k x from to))
+      (λ (x : n ≤ i). let same : i ≡ n = omega arith in
+      let here : within (s n) (e n) k ≡ 1 = inside (s n) (e n) k (subst (λ j. s j ≤ k) same from) (subst (λ j. k < e j) same to) in omega (arith, here))
+      (cases_lt i n)
+
+  -- ranges that are apart and leave no number of the stretch out take all of it together
+  pub full : (n start m : ℕ) → ((i : ℕ) → i < n → (start ≤ s i) × (s i ≤ e i) × (e i ≤ m)) → Apart n → start ≤ m
+      → ((k : ℕ) → start ≤ k → k < m → (i : ℕ) × (i < n) × (s i ≤ k) × (k < e i)) → start + spans n ≡ m
+  full n start m ok apart order all =
+      let early : (j : ℕ) → j < start → cover n j ≡ 0 = λ j lt. ⊎_elim (λ none. none) (λ some. absurd (omega (arith, (ok some.0 some.1).0, some.2))) (none_or n j) in
+      let one : (k : ℕ) → start ≤ k → k < m → cover n k ≡ 1 = λ k from to. let some = all k from to in omega (arith, at_most_one n k apart, some_cover n some.0 k some.1 some.2 some.3) in
+      omega (arith, counted_spans n m (λ i lt. ((ok i lt).1, (ok i lt).2)), (filled (cover n) start m early one).1 order)
+
+  -- each range begins at the start, or where a range ends
+  abbrev pub Follow : ℕ → ℕ → Type 0
+  Follow n start = (i : ℕ) → i < n → (s i ≡ start) ⊎ ((j : ℕ) × (j < n) × (e j ≡ s i))
+
+  abbrev pub Distinct : ℕ → Type 0
+  Distinct n = (i j : ℕ) → i < n → j < n → i ≢ j → s i ≢ s j
+
+  from_start : (n start m : ℕ) → ((i : ℕ) → i < n → s i < e i) → Follow n start → (i : ℕ) → i < n → s i ≤ m → start ≤ s i
+  from_start n start zero some follow i li le =
+      ⊎_elim (λ (x : s i ≡ start). omega (arith, x)) (λ (p : (j : ℕ) × (j < n) × (e j ≡ s i)). absurd (omega (arith, p.2, some p.0 p.1, le))) (follow i li)
+  from_start n start (suc m) some follow i li le =
+      ⊎_elim (λ (x : s i ≡ start). omega (arith, x))
+      (λ (p : (j : ℕ) × (j < n) × (e j ≡ s i)). omega (arith, p.2, some p.0 p.1, from_start n start m some follow p.0 p.1 (omega (arith, p.2, some p.0 p.1, le))))
+      (follow i li)
+
+  -- no range begins below a start
+  pub none_below : (n start : ℕ) → ((i : ℕ) → i < n → s i < e i) → Follow n start → (i : ℕ) → i < n → start ≤ s i
+  none_below n start some follow i li = from_start n start (s i) some follow i li (omega arith)
+
+  passed : (n start m : ℕ) → ((i : ℕ) → i < n → s i < e i) → Distinct n → Follow n start → (i j : ℕ) → i < n → j < n → s j ≤ m → s i < s j → e i ≤ s j
+  passed n start zero some distinct follow i j li lj le lt = absurd (omega (arith, le, lt))
+  passed n start (suc m) some distinct follow i j li lj le lt =
+      ⊎_elim
+      (λ (x : s j ≡ start). absurd (omega (arith, x, lt, none_below n start some follow i li)))
+      (λ (p : (k : ℕ) × (k < n) × (e k ≡ s j)).
+      let k : ℕ = p.0 in
+      let before : s k < e k = some k p.1 in
+      ⊎_elim
+      (λ (y : k ≡ i). subst (λ a. e a ≤ s j) y (omega (arith, p.2)))
+      (λ (ne : k ≢ i). ⊎_elim
+      (λ (z : s i < s k). omega (arith, passed n start m some distinct follow i k li p.1 (omega (arith, p.2, before, le)) z, before, p.2))
+      (λ (z : s k ≤ s i). let other : s k ≢ s i = distinct k i p.1 li ne in
+      ⊎_elim
+      (λ (w : s k < s i). absurd (omega (arith, passed n start m some distinct follow k i p.1 li (omega (arith, le, lt)) w, p.2, lt)))
+      (λ (w : s i ≤ s k). absurd (other (omega (arith, z, w))))
+      (cases_lt (s k) (s i)))
+      (cases_lt (s i) (s k)))
+      (cases_eq k i))
+      (follow j lj)
+
+  -- ranges that follow one another, no two of which begin at one number, are apart
+  pub follow_apart : (n start : ℕ) → ((i : ℕ) → i < n → s i < e i) → Distinct n → Follow n start → Apart n
+  follow_apart n start some distinct follow i j li lj ne =
+      let other : s i ≢ s j = distinct i j li lj ne in
+      ⊎_elim
+      (λ (x : s i < s j). inl (passed n start (s j) some distinct follow i j li lj (omega arith) x))
+      (λ (x : s j ≤ s i). ⊎_elim
+      (λ (y : s j < s i). inr (passed n start (s i) some distinct follow j i lj li (omega arith) y))
+      (λ (y : s i ≤ s j). absurd (other (omega (arith, x, y))))
+      (cases_lt (s j) (s i)))
+      (cases_lt (s i) (s j))
+
+  -- they leave no number out, from the start to where one ends
+  pub follow_all : (n start m d : ℕ) → ((i : ℕ) → i < n → s i < e i) → Follow n start → (start ≡ m) ⊎ ((j : ℕ) × (j < n) × (e j ≡ m))
+      → (k : ℕ) → start ≤ k → k + 1 + d ≡ m → (i : ℕ) × (i < n) × (s i ≤ k) × (k < e i)
+  follow_all n start m zero some follow end k from to =
+      ⊎_elim
+      (λ (x : start ≡ m). absurd (omega (arith, x, from, to)))
+      (λ (p : (j : ℕ) × (j < n) × (e j ≡ m)). (p.0, p.1, omega (arith, some p.0 p.1, p.2, to), omega (arith, p.2, to)))
+      end
+  follow_all n start m (suc d) some follow end k from to =
+      let next = follow_all n start m d some follow end (k + 1) (omega (arith, from)) (omega (arith, to)) in
+      ⊎_elim
+      (λ (x : k < s next.0). ⊎_elim
+      (λ (y : s next.0 ≡ start). absurd (omega (arith, x, y, from)))
+      (λ (p : (j : ℕ) × (j < n) × (e j ≡ s next.0)). (p.0, p.1, omega (arith, some p.0 p.1, p.2, next.2), omega (arith, p.2, x)))
+      (follow next.0 next.1))
+      (λ (x : s next.0 ≤ k). (next.0, next.1, x, omega (arith, next.3)))
+      (cases_lt k (s next.0))
+
+  -- where ranges are apart and take all of a stretch together, each but the first begins where one ends, and one ends with the stretch
+  pub ended_at : (n start m : ℕ) → ((i : ℕ) → i < n → (start ≤ s i) × (s i < e i) × (e i ≤ m)) → Apart n → start + spans n ≡ m
+      → (v : ℕ) → start < v → (v ≡ m) ⊎ ((i : ℕ) × (i < n) × (s i ≡ v)) → (j : ℕ) × (j < n) × (e j ≡ v)
+  ended_at n start m ok apart all v from at =
+      let within_page : v ≤ m = ⊎_elim (λ (x : v ≡ m). omega (arith, x)) (λ (p : (i : ℕ) × (i < n) × (s i ≡ v)). omega (arith, p.2, (ok p.0 p.1).1, (ok p.0 p.1).2)) at in
+      let last = covered n start m (λ i lt. ((ok i lt).0, omega (arith, (ok i lt).1), (ok i lt).2)) apart all (v - 1) (omega (arith, from)) (omega (arith, from, within_page)) in (
+        last.0,
+        last.1,
+        ⊎_elim
+            (λ (x : v ≡ m). omega (arith, x, last.3, (ok last.0 last.1).2, from))
+            (λ (p : (i : ℕ) × (i < n) × (s i ≡ v)). ⊎_elim
+            (λ z. omega (arith, z, p.2, last.3, from))
+            (λ z. absurd (omega (arith, z, p.2, last.2, (ok p.0 p.1).1, from)))
+            (apart last.0 p.0 last.1 p.1 (λ same. absurd (omega (arith, subst (λ a. s a ≡ v) (sym same) p.2, last.2, from)))))
+            at,
+      )

@@ -23,15 +23,6 @@ pub record AreSound (leaf : Bool) (bytes : List ℕ) (n : ℕ) : Type 0 where
       ⊎ (slot_at bytes j + cell_size leaf bytes (slot_at bytes j) ≤ slot_at bytes i)
   pub rises : (i j : ℕ) → i < j → j < n → IsBelow (key_from bytes (slot_at bytes i)) (key_from bytes (slot_at bytes j))
 
--- the flagged bytes lie in the area, and no cell that begins at one reaches another
-pub record AreStarts (leaf : Bool) (bytes : List ℕ) (flags : List Bool) : Type 0 where
-  pub low : (k : ℕ) → is_taken flags k ≡ true → start_of bytes ≤ k
-  pub apart : (k j : ℕ) → is_taken flags k ≡ true → is_taken flags j ≡ true → k < j → k + cell_size leaf bytes k ≤ j
-
--- no cell that begins at a flagged byte reaches past the page
-abbrev pub AreWithin : Bool → List ℕ → List Bool → Type 0
-AreWithin leaf bytes flags = (k : ℕ) → is_taken flags k ≡ true → k + cell_size leaf bytes k ≤ 4096
-
 -- the first byte of each slot's cell is flagged
 abbrev pub HasSlots : List ℕ → List Bool → Type 0
 HasSlots bytes flags = (i : ℕ) → i < count_of bytes → is_taken flags (slot_at bytes i) ≡ true
@@ -53,15 +44,12 @@ pub record SlotsSound (leaf : Bool) (bytes : List ℕ) : Type 0 where
   pub sound : AreSound leaf bytes (count_of bytes)
   pub full : start_of bytes + total_of leaf bytes (count_of bytes) ≡ 4096
 
--- The cells up to here are flagged, one behind the other: a packed page has no other cell there, and ends no earlier.
-pub record AreStartsTo (leaf : Bool) (bytes : List ℕ) (flags : List Bool) (at : ℕ) : Type 0 where
-  pub low : start_of bytes ≤ at
-  pub high : SlotsSound leaf bytes → at ≤ 4096
-  pub len : length flags ≡ 4096
-  pub starts : AreStarts leaf bytes flags
-  pub ends : (k : ℕ) → is_taken flags k ≡ true → k + cell_size leaf bytes k ≤ at
-  pub found : SlotsSound leaf bytes → (i : ℕ) → i < count_of bytes → slot_at bytes i < at
-      → (is_taken flags (slot_at bytes i) ≡ true) × (slot_at bytes i + cell_size leaf bytes (slot_at bytes i) ≤ at)
+-- flagged are where the cells begin, and where each of the first n slots' cells ends
+pub record AreEnds (leaf : Bool) (bytes : List ℕ) (flags : List Bool) (n : ℕ) : Type 0 where
+  pub len : length flags ≡ 4097
+  pub start : is_taken flags (start_of bytes) ≡ true
+  pub ends : (i : ℕ) → i < n → is_taken flags (slot_at bytes i + cell_size leaf bytes (slot_at bytes i)) ≡ true
+  pub only : (k : ℕ) → is_taken flags k ≡ true → (k ≡ start_of bytes) ⊎ ((i : ℕ) × (i < n) × (slot_at bytes i + cell_size leaf bytes (slot_at bytes i) ≡ k))
 
 -- one flag is set
 pub record MarksOne (old new : List Bool) (at : ℕ) : Type 0 where

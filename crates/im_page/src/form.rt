@@ -4,7 +4,7 @@ ghost use Rattle.std.specs.Prelude.{◌≡◌, ◌↔◌, IsTrue, ℕ, ◌+◌, 
 ghost use Rattle.im_base_types.specs.Keys.{IsBelow};
 ghost use Rattle.im_page.specs.Form.{count_of, start_of, slot_at, key_from, cell_size, IsPacked};
 ghost use Rattle.im_page.specs.Page.{IsHeader, IsForm};
-ghost use Rattle.im_page.specs.Sound.{AreStarts, AreStartsTo, AreWithin, HasSlots, IsTopOf, IsFootOf, SlotsSound};
+ghost use Rattle.im_page.specs.Sound.{HasSlots, IsTopOf, IsFootOf, SlotsSound};
 
 use crate::cells::{cell_len, key_at};
 use crate::number::{get_u16, get_u32};
@@ -50,42 +50,11 @@ fn is_next(bytes: &[u8], i: usize, before: usize, at: usize) -> bool
     matches!(compare(key_at(bytes, before), key), Ordering::Less)
 }
 
-/// One step of a walk over the cells, which stand one behind the other: sets the flag of the first byte of the cell where the walk
-/// is, and answers where the next one begins. Behind the end of the page the walk stays.
-fn mark_cell(leaf: bool, bytes: &[u8], flags: &mut [bool], at: usize) -> usize
-    requires len { length bytes.now ≡ 4096 }
-    requires walk { AreStartsTo leaf bytes.now flags.old at }
-    ensures walk { AreStartsTo leaf bytes.now flags.new result }
-    ensures goes_on { at < 4096 → at < result }
-{
-    if 4096 <= at {
-        return at;
-    }
-    flags[at] = true;
-    at + cell_len(leaf, bytes[at] as usize)
-}
-
-/// Goes on with the walk to its end, and answers whether the cells end with the page.
-fn mark_rest(leaf: bool, bytes: &[u8], flags: &mut [bool], from: usize) -> bool
-    requires len { length bytes.now ≡ 4096 }
-    requires walk { AreStartsTo leaf bytes.now flags.old from }
-    ensures cells { AreStarts leaf bytes.now flags.new }
-    ensures within { result ≡ true → AreWithin leaf bytes.now flags.new }
-    ensures whole { SlotsSound leaf bytes.now → (result ≡ true) × HasSlots bytes.now flags.new }
-    ensures len { length flags.new ≡ 4096 }
-{
-    let mut at = from;
-    while at < 4096 {
-        at = mark_cell(leaf, bytes, flags, at);
-    }
-    at == 4096
-}
-
 /// Whether the first byte of each slot's cell is flagged.
 fn has_slots(bytes: &[u8], flags: &[bool]) -> bool
     requires len { length bytes.now ≡ 4096 }
     requires slots { 32 + 2 * count_of bytes.now ≤ 4096 }
-    requires flags { length flags.now ≡ 4096 }
+    requires flags { length flags.now ≡ 4097 }
     requires inside { (i : ℕ) → i < count_of bytes.now → slot_at bytes.now i < 4096 }
     ensures { IsTrue result ↔ HasSlots bytes.now flags.now }
 {
@@ -97,41 +66,36 @@ fn has_slots(bytes: &[u8], flags: &[bool]) -> bool
 }
 
 /// Whether the slots are those of a packed page: each at a cell of its own, their keys rising, and all cells have a slot. Where two
-/// keys rise, they are not one cell's. The walk over the cells goes on beside the slots: each of its steps waits for the one before,
-/// and the slots do not.
+/// keys rise, they are not one cell's. Flagged are the byte where the cells begin and the one behind each slot's cell: the cells stand
+/// one behind the other, up to the page's end, where each of them begins at a flag and the end is flagged too.
 fn are_slots_sound(leaf: bool, bytes: &[u8], flags: &mut [bool]) -> bool
     requires len { length bytes.now ≡ 4096 }
     requires slots { 32 + 2 * count_of bytes.now ≤ start_of bytes.now }
     requires start { start_of bytes.now ≤ 4096 }
-    requires flags { flags.old ≡ replicate 4096 false }
+    requires flags { flags.old ≡ replicate 4097 false }
     ensures { IsTrue result ↔ SlotsSound leaf bytes.now }
 {
-    let start = get_u16(bytes, 14);
-    let mut walk = start;
-    let mut total = 0usize;
+    flags[get_u16(bytes, 14)] = true;
     let mut before = 0usize;
     let mut top = 0u64;
     for i in 0..get_u16(bytes, 12) {
-        walk = mark_cell(leaf, bytes, flags, walk);
         let at = get_u16(bytes, 32 + 2 * i);
-        if 4096 <= at || 4096 < at + 1 + bytes[at] as usize {
+        if 4096 <= at {
             return false;
         }
+        let end = at + cell_len(leaf, bytes[at] as usize);
+        if 4096 < end {
+            return false;
+        }
+        flags[end] = true;
         let key = key_at(bytes, at);
         if foot_of(key) <= top && !is_next(bytes, i, before, at) {
             return false;
         }
-        total += cell_len(leaf, key.len());
         top = top_of(key);
         before = at;
     }
-    if start + total != 4096 {
-        return false;
-    }
-    if !mark_rest(leaf, bytes, flags, walk) {
-        return false;
-    }
-    has_slots(bytes, flags)
+    flags[4096] && has_slots(bytes, flags)
 }
 
 /// Whether all bytes of a range are zero.
@@ -157,7 +121,7 @@ pub fn is_packed(leaf: bool, bytes: &[u8]) -> bool
     if start < front || 4096 < start || !is_zero(bytes, front, start) {
         return false;
     }
-    let mut flags = [false; 4096];
+    let mut flags = [false; 4097];
     are_slots_sound(leaf, bytes, &mut flags)
 }
 
