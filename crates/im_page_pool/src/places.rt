@@ -7,7 +7,7 @@ ghost use Rattle.lru.specs.LruCache.{promoted, last_entry};
 ghost use Rattle.im_base_types.specs.declared.fault.Fault.TheVariants.{Memory};
 ghost use Rattle.im_page_pool.specs.Places.{taken_in, frame_count, AreUnused, IsAll, AreApart};
 
-use crate::numbers::{enter, take_frame};
+use crate::numbers::{enter, leave};
 use im_base_types::{Fault, PageNo};
 use lru::{Iter, LruCache};
 use std::alloc::Global;
@@ -48,7 +48,7 @@ impl Places {
         ensures refused { IfErr result (λ e. e ≡ Memory) }
     {
         let by_use = all_unused(alloc, frames)?;
-        let numbers = HashMap::with_capacity(alloc, 2 * frames).map_err(|_| Fault::Memory)?;
+        let numbers = HashMap::with_capacity(alloc, 2 * frames + 1).map_err(|_| Fault::Memory)?;
         let free = all_free(alloc, frames)?;
         Ok(Places {
             by_use,
@@ -131,7 +131,7 @@ impl Places {
         ensures taken { self.new.taken ≡ remove_entry (nat_eq p) self.old.taken }
         ensures free { IfSome (lookup (nat_eq p) self.old.taken) (λ place. self.new.free ≡ self.old.free ++ place ∷ []) }
     {
-        if let Some(place) = take_frame(&mut self.numbers, p) {
+        if let Some(place) = leave(&mut self.numbers, p) {
             let _ = self.by_use.put(place, None);
             self.free.push_reserved(place);
         }

@@ -178,14 +178,13 @@ impl Pool {
         ensures device { result ≡ Err Device ↔ (D.failed disk.new ≡ true) }
         ensures reads { Reads D.Disk disk.old disk.new }
     {
-        self.count();
-        if let Some(frame) = self.touch(p) {
+        if let Some(frame) = self.get_held(p) {
             return Ok(frame);
         }
-        self.fetch(disk, p)
+        self.get_absent(disk, p)
     }
 
-    /// The same of a page that is not held, for which there is a frame: its number is not looked up.
+    /// The same of a page that is not held, for which a frame is free: its number is not looked up before it is entered.
     pub fn get_absent<D: Disk>(&mut self, disk: &mut D, p: PageNo) -> Result<Frame, Fault>
         requires working { D.failed disk.old ≡ false }
         requires absent { held_of self.old p ≡ None }
@@ -247,7 +246,7 @@ impl Pool {
         None
     }
 
-    // The same of a page that is not held, and not counted.
+    // Reads a page that is not held into a free frame. That is not counted.
     fn fetch<D: Disk>(&mut self, disk: &mut D, p: PageNo) -> Result<Frame, Fault>
         requires working { D.failed disk.old ≡ false }
         requires absent { held_of self.old p ≡ None }

@@ -1,5 +1,5 @@
 -- The page writes of a flush.
-use Rattle.std.proofs.Common.{◌≡◌, ◌≢◌, ⊎_elim, inl, inr, ℕ, ◌+◌, ◌-◌, ◌*◌, ◌≤◌, false, true, Bool, List, Option, None, Some, refl, sym, ◌∙◌, ap, subst, arith}
+use Rattle.std.proofs.Common.{◌≡◌, inl, inr, ℕ, ◌+◌, ◌-◌, ◌*◌, ◌≤◌, false, true, Bool, List, Option, None, Some, refl, sym, ◌∙◌, ap, subst, arith}
 use Rattle.std.specs.Prelude.{if◌then◌else◌, option_map, is_some}
 use Rattle.std.proofs.lemmas.Bool.{cases_Bool, cases_eq}
 use Rattle.im_base_types.specs.declared.file_id.FileId.TheVariants.{Log, Pages}
@@ -18,7 +18,7 @@ use Rattle.im_log.proofs.Above.{log_spared, open_spared}
 use Rattle.im_page.specs.Header.{initial}
 use Rattle.im_page.specs.PageFile.{file_page, page_count}
 use Rattle.im_page.proofs.PageFileLemmas.{page_past}
-use Rattle.im_page_pool.specs.Pool.{Held, PoolView, held_of, Evicts}
+use Rattle.im_page_pool.specs.Pool.{Held, PoolView, held_of}
 use Rattle.im_page_pool.specs.Writes.{TearsPage, WritesPage}
 use Rattle.im_page_writer.specs.declared.table_entry.TableEntry.{TableEntry}
 use Rattle.im_page_writer.specs.DirtyTable.{entry_in, has_room, put, written_in, ChangesEntry}
@@ -264,22 +264,11 @@ past_end d b base s log table pool disk q w past ready none =
 
 -- ---- the same pages are held
 
-none_still : (o : Option Held) → is_some o ≡ false → o ≡ None
-none_still None is = refl
-none_still (Some h) is = absurd cc
-
 pub held_none : (pool : PoolView) → SameHeld pool pool
 held_none pool = record { held = λ p. refl; frames = refl; gets = refl }
 
 pub held_then : (one two three : PoolView) → SameHeld one two → SameHeld two three → SameHeld one three
 held_then one two three first next = record { held = λ p. next.held p ∙ first.held p; frames = next.frames ∙ first.frames; gets = next.gets ∙ first.gets }
-
--- none more is held
-pub absent_still : (old mid new : PoolView) (p : ℕ) → SameHeld old mid → Evicts p mid new → (q : ℕ) → held_of old q ≡ None → held_of new q ≡ None
-absent_still old mid new p same gone q none = ⊎_elim
-    (λ (e : q ≡ p). subst (λ (n : ℕ). held_of new n ≡ None) (sym e) gone.gone)
-    (λ (ne : q ≢ p). gone.others q ne ∙ none_still (held_of mid q) (same.held q ∙ ap (λ (o : Option Held). is_some o) none))
-    (cases_eq q p)
 
 pub held_unmarked : (p : ℕ) (old new : PoolView) → Unmarks p old new → SameHeld old new
 held_unmarked p old new un = record {

@@ -22,7 +22,7 @@ use Rattle.im_page_pool.specs.Pool as pools
 use Rattle.im_page_writer.specs.declared.table_entry.TableEntry.{TableEntry}
 use Rattle.im_page_writer.specs.declared.page_writer.PageWriter.{PageWriter}
 use Rattle.im_page_writer.specs.Stands.{is_changed}
-use Rattle.im_page_writer.specs.Writing.{IsShown, IsPooled, IsWriting, Goes}
+use Rattle.im_page_writer.specs.Writing.{IsShown, IsPooled, IsWriting, Goes, SameHeld}
 use Rattle.im_page_writer.specs.PageWriter.{StandsAs, GoesOn, FlushedOne}
 use Rattle.im_page_writer.proofs.Goings.{goes_start, goes_then}
 use Rattle.im_page_writer.proofs.Flushing.{goes_read, unchanged_here}
@@ -75,6 +75,17 @@ pooled_taken pool new pages p frame page is done number shown takes ready = reco
 seen_is : (o : Option Held) (x : PageState) (f : Option Page) → IsShown o x → (o ≡ None → f ≡ Some x.page) → option_map_or (λ h. Some h.page) o f ≡ Some x.page
 seen_is None x f is here = here refl
 seen_is (Some h) x f is here = ap (λ (g : Page). Some g) is.0
+
+nothing_held : (o : Option Held) → is_some o ≡ false → o ≡ None
+nothing_held None none = refl
+nothing_held (Some h) none = absurd (let clash : true ≡ false = none in cc clash)
+
+-- a page that is not held is not held behind an eviction either
+pub absent_still : (old mid new : PoolView) (p : ℕ) → SameHeld old mid → Evicts p mid new → (q : ℕ) → held_of old q ≡ None → held_of new q ≡ None
+absent_still old mid new p same gone q none = elim (cases_eq q p) [
+  | inl here ↦ subst (λ (n : ℕ). held_of new n ≡ None) (sym here) gone.gone
+  | inr other ↦ gone.others q other ∙ nothing_held (held_of mid q) (same.held q ∙ ap (λ (o : Option Held). is_some o) none)
+]
 
 -- a page that is not seen is not in the file
 pub seen_none : (o : Option Held) (f : Option Page) → option_map_or (λ h. Some h.page) o f ≡ None → f ≡ None

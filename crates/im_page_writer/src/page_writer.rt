@@ -207,7 +207,7 @@ impl PageWriter {
         self.make_frame(disk)
     }
 
-    // Where a page is held from now on that is not held, for which there is room.
+    // Where a page that is not held is held from now on, for which there is room.
     fn hold<D: Disk>(&mut self, disk: &mut D, number: PageNo) -> Result<Frame, Fault>
         requires ready { IsReadyWriter D.Disk self.old disk.old }
         requires working { self.old.failed ≡ false }

@@ -4,8 +4,7 @@ use Rattle.im_page_writer.specs.declared.table_entry.TableEntry.{TableEntry}
 use Rattle.im_page_writer.specs.KnownCopies.{IsKnownFrom}
 use Rattle.im_page_writer.specs.LogEnds.{EndsNoSooner}
 use Rattle.im_page_writer.specs.Writing.{Goes}
-use Rattle.im_page_writer.proofs.Placing.{absent_still}
-use Rattle.im_page_writer.proofs.Writers.{goes_evicted}
+use Rattle.im_page_writer.proofs.Writers.{absent_still, goes_evicted}
 use Rattle.im_page_writer.proofs.page_writer.PageWriter.evict_oldest.Goals as goal
 
 pub returns-in_default-clause-outcome : goal.returns-in_default-clause-outcome

@@ -1,4 +1,4 @@
-use Rattle.std.proofs.Common.{◌≡◌, refl, sym, ◌∙◌, ap, subst, false, true, Option, Err, None, is_some, rules, arith}
+use Rattle.std.proofs.Common.{◌≡◌, refl, sym, ◌∙◌, ap, subst, Option, false, true, is_some, Err, None, rules, arith}
 use Rattle.im_base_types.specs.declared.fault.Fault.TheVariants.{Device, NotAStore}
 use Rattle.im_base_types.specs.declared.file_id.FileId.TheVariants.{Pages}
 use Rattle.im_base_disk.specs.Disk.{Files}
@@ -29,7 +29,7 @@ returns-in-Ok-clause-outcome g c =
             working = is.working;
             known = is.known;
             goes = goes_got g.D.Disk b base s w.log w.table w.pool old is.writing c.args.number ready c.get_absent.new.self c.get_absent.new.disk c.in-Ok.frame (g.met.D.Disk.only_now old) e.reads
-                alive (e.page is.writing.stands.log_is.tells) e.frame (λ holds. absurd (let clash : false ≡ true = sym (ap (λ (o : Option Held). is_some o) c.requires.absent) ∙ holds in cc clash)) (λ none. e.read);
+                alive (e.page is.writing.stands.log_is.tells) e.frame (λ holds. let clash : false ≡ true = subst (λ (o : Option Held). is_some o ≡ true) c.requires.absent holds in absurd cc) (λ _. e.read);
           };
         };
       };
