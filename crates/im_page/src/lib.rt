@@ -60,9 +60,9 @@
 //!
 //! Slower than C are a removal and an insertion, as cells and slots move by a rotation, which keeps the shorter side in
 //! a buffer meanwhile and moves the rest at once, and as each slot is written again; and on the second machine a split,
-//! as each entry is put by an insertion of its own. Keys are compared eight bytes at a time. The test of a page's form walks
-//! over the cells, from where they begin to the end, beside the slots: a step of the walk waits for the one before, and meanwhile a slot
-//! is looked at. At last each slot has to name the first byte of a cell. The first eight bytes of each key are read once, as a number
+//! as each entry is put by an insertion of its own. Keys are compared eight bytes at a time. The test of a page's form flags
+//! the byte where the cells begin and the one behind each slot's cell, so that no step of it waits for the one before; at last each slot
+//! has to name a flagged byte, and the page's end has to be one. The first eight bytes of each key are read once, as a number
 //! that is kept for the next slot; where two such numbers differ, no other byte of the two keys is read.
 #![tactic(auto)]
 

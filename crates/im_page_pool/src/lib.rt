@@ -12,7 +12,8 @@
 //! - `get` leaves that function as it is, and answers the frame at which the page is held. A page that is held costs a
 //!   look-up of its number, and one of its frame, which moves in the order of use; any other one length call, one read and one check.
 //! - `get_held` does the same of a page that is held, and of any other says that it is not, by one look-up.
-//! - `get_absent` does the same of a page that is not held, for which a frame is free. Its number is looked up once, where it is entered.
+//! - `get_absent` does the same of a page that is not held, for which a frame is free. Its number is looked up where it is entered, once
+//!   where there is room for it (`numbers`), and not before.
 //! - `insert`, `remove`, `copy_in` and the setters change the one page of their frame, as the calls of `im_page` of the
 //!   same names do, and mark it.
 //! - `hold_copy` holds a page whatever the file has, without a call of the disk.
