@@ -80,8 +80,10 @@ fn show_found(rt: &HostRuntime, page: &Page, count: u64, rounds: u64, timed: boo
 }
 
 fn show_read(rt: &HostRuntime, page: &Page, rounds: u64, timed: bool) -> Result<()> {
+    let mut source = Page::initial(1);
+    source.load(page.bytes())?;
     let start = Instant::now(rt)?;
-    let sum = read(page.bytes(), rounds);
+    let sum = read(&mut source, rounds);
     let nanos = start.elapsed(rt)?.as_nanos();
     show(rt, "read", sum, nanos, rounds, timed)
 }

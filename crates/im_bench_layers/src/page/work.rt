@@ -68,13 +68,15 @@ pub fn edited(page: &mut Page, count: u64, rounds: u64) -> u64
     sum
 }
 
-/// Reads a page's bytes into a page, and counts the entries.
-pub fn read(bytes: &[u8], rounds: u64) -> u64 {
-    let mut page = Page::initial(1);
+/// Reads a page's bytes into another page, and counts the entries. Each time it has another LSN: of bytes that stay, a compiler does the
+/// test once for all times.
+pub fn read(page: &mut Page, rounds: u64) -> u64 {
+    let mut copy = Page::initial(1);
     let mut sum = 0u64;
-    for _ in 0..rounds {
-        if page.load(bytes).is_ok() {
-            sum = sum.wrapping_add(page.len() as u64);
+    for round in 0..rounds {
+        page.set_lsn(round);
+        if copy.load(page.bytes()).is_ok() {
+            sum = sum.wrapping_add(copy.len() as u64);
         }
     }
     sum
