@@ -36,11 +36,12 @@ use anyhow::Result;
 use im_base_disk::{Disk, ModelDisk};
 use im_bench_layers::figures::is_timed;
 use im_engine::{Config, Engine};
+use im_engine_lock::LockTable;
 use im_page_writer::PageWriter;
-use lookups::{disk_of, found, opened};
+use lookups::{disk_of, found, found_locked, opened};
 use pages::{keys_in, tree};
 use std::time::Instant;
-use store::{Work, found_locked, worked};
+use store::{Work, worked};
 
 /// What is done with a store, in turn, and its line's name.
 const WORKS: [(Work, &str); 3] = [
@@ -67,39 +68,7 @@ fn look_up(rt: &HostRuntime, leaves: u32, timed: bool) -> Result<()> {
     let alloc = rt.alloc();
     let mut disk = disk_of(alloc, tree(alloc, leaves)?)?;
     let mut writer = opened(alloc, &mut disk)?;
-    looked_up(rt, &mut writer, &mut disk, leaves, timed)?;
-    look_up_locked(rt, leaves, timed)
-}
-
-/// Look-ups in the same tree by the engine, each with its lock.
-fn look_up_locked(rt: &HostRuntime, leaves: u32, timed: bool) -> Result<()> {
-    let alloc = rt.alloc();
-    let disk = disk_of(alloc, tree(alloc, leaves)?)?;
-    let config = Config {
-        frames: 1_024,
-        max_pages: 1_000_000,
-    };
-    let mut engine = match Engine::open_or_create(alloc, disk, config) {
-        Ok(engine) => engine,
-        Err((fault, _disk)) => return Err(fault.into()),
-    };
-    locked(rt, &mut engine, leaves, timed)
-}
-
-/// The look-ups of an engine, once as they come, and once more beside the clock.
-fn locked(
-    rt: &HostRuntime,
-    engine: &mut Engine<ModelDisk>,
-    leaves: u32,
-    timed: bool,
-) -> Result<()> {
-    let rounds = if timed { 1_000_000 } else { 2_000 };
-    let keys = keys_in(leaves);
-    found_locked(rt.alloc(), engine, keys, rounds)?;
-    let start = Instant::now(rt)?;
-    let sum = found_locked(rt.alloc(), engine, keys, rounds)?;
-    let nanos = start.elapsed(rt)?.as_nanos();
-    show(rt, "look-up with its lock", sum, rounds, nanos, timed)
+    looked_up(rt, &mut writer, &mut disk, leaves, timed)
 }
 
 /// The look-ups, once as they come, and once more beside the clock.
@@ -114,12 +83,17 @@ fn looked_up<D: Disk>(
 {
     let rounds = if timed { 1_000_000 } else { 2_000 };
     let keys = keys_in(leaves);
+    println!(rt; "{keys} keys in {leaves} leaves")?;
     found(writer, disk, keys, rounds)?;
     let start = Instant::now(rt)?;
     let sum = found(writer, disk, keys, rounds)?;
     let nanos = start.elapsed(rt)?.as_nanos();
-    println!(rt; "{keys} keys in {leaves} leaves")?;
-    show(rt, "look-up", sum, rounds, nanos, timed)
+    show(rt, "look-up", sum, rounds, nanos, timed)?;
+    let mut locks = LockTable::new(rt.alloc());
+    let start = Instant::now(rt)?;
+    let sum = found_locked(writer, disk, &mut locks, keys, rounds)?;
+    let nanos = start.elapsed(rt)?.as_nanos();
+    show(rt, "look-up with its lock", sum, rounds, nanos, timed)
 }
 
 /// Each work over a store, with its keys in rising order or not.

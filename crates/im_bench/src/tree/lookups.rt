@@ -7,6 +7,8 @@ ghost use Rattle.im_page_writer.specs.PageWriter.{IsReadyWriter};
 use im_base_disk::{Disk, ModelDisk, read_vec};
 use im_base_types::{Fault, FileId};
 use im_bench_layers::keys::{key_of, scattered};
+use im_engine_index::{Outcome, fetch};
+use im_engine_lock::LockTable;
 use im_log::open_or_create;
 use im_page_writer::PageWriter;
 use im_tree_search::locate;
@@ -57,6 +59,34 @@ pub fn found<D: Disk>(
         let number = scattered(round) % keys.max(1);
         if locate(writer, disk, &key_of(number))? == Some(number) {
             found = found.wrapping_add(1);
+        }
+    }
+    Ok(found)
+}
+
+/// How many look-ups a transaction makes.
+const LOOK_UPS: u64 = 1_000;
+
+/// The same by a transaction's Fetch, each with its lock: they are given back behind each thousand.
+pub fn found_locked<D: Disk>(
+    writer: &mut PageWriter,
+    disk: &mut D,
+    locks: &mut LockTable,
+    keys: u64,
+    rounds: u64,
+) -> Result<u64, Fault>
+    requires ready { IsReadyWriter D.Disk writer.old disk.old }
+    ensures ready { OnOk result (IsReadyWriter D.Disk writer.new disk.new) }
+{
+    let mut found = 0u64;
+    for round in 0..rounds {
+        let number = scattered(round) % keys.max(1);
+        match fetch(writer, disk, locks, 1, &key_of(number))? {
+            Outcome::Granted(Some(rid)) if rid == number => found = found.wrapping_add(1),
+            _ => {}
+        }
+        if round % LOOK_UPS == LOOK_UPS - 1 {
+            locks.release_all(1);
         }
     }
     Ok(found)
