@@ -14,13 +14,15 @@
 //! the first of a page in no structure change. In 64 frames an insert takes 0.26 writes and as many syncs of the log, and 0.71 writes of
 //! pages. Of two openings behind it the first logs what it takes back, and the second adds no byte.
 //!
-//! In memory, 100,000 keys in 1,024 frames, the least of six runs on a machine with other work on it: a look-up of a key that is there
-//! 656 ns, of one that is not 977, a scan of 100 entries with its 101 locks 11.7 us, an insert of 64 a commit 2.4 us.
+//! In memory, 100,000 keys in 1,024 frames, in the calm ones of some twenty runs on a host with other work on it: a scan of 100 entries
+//! with its 101 locks 10.8, 11.2 and 11.9 us, a look-up of a key that is there 589 to 639 ns, of one that is not 961 to 979, an insert of
+//! 64 a commit 1.6 us. Where C took twice its least for what it does in the same minute, so did these.
 //!
-//! Through step lines of `imstore`, keys in random order, each commit synced, in one run with others at a load of 1, two rounds: 64 a
-//! commit, 100,000 keys, 49,600 and 70,000 inserts a second; LMDB 53,700 and 60,900, SQLite in WAL mode 58,600 and 61,800, Berkeley DB
-//! 117,500 and 129,200. One a commit 5,200 and 6,400; LMDB 5,900 and 6,800, SQLite 7,600 and 10,200, Berkeley DB 9,600 and 14,200; two
-//! writes and two syncs of as many bytes in C, behind both rounds, 7,100.
+//! Through step lines of `imstore`, keys in random order, each commit synced, each in turn with nothing else running, two rounds: 64 a
+//! commit, 100,000 keys, 75,600 and 65,800 inserts a second; LMDB 51,600 and 50,000, SQLite in WAL mode 54,300 and 48,500. One a commit,
+//! 8,000 from a file of lines, with replies into memory, beside two writes and two syncs of as many bytes in C, seven rounds: 6,460 to
+//! 7,430 a second, 0.93 of C's in the middle (0.86 to 1.22); with replies into a file of the same disk 0.86 in the middle. Of 8,000 such
+//! commits the splits add 3 % to the syncs, and lines and replies some 8 us to each.
 
 mod counted;
 mod memory;

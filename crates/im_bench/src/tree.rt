@@ -17,6 +17,11 @@
 //! A look-up goes through three pages. Leaves seven tenths full of such keys fit into the pool up to some 149,000 keys. In the second
 //! tree most look-ups read their leaf: its copy from the memory of the disk takes a third of the time, and so does the test of its form;
 //! in C the copy of 4 KiB from such memory took 507 ns then, and a test of a page's form 4,065.
+//! The table is from before a page that is not held was looked up once, and its cells were tested without a walk. Behind both, on a host
+//! with other work on it, the second tree took 2,108 at the least, where C took 1,251 to 1,655 and the copy alone 566 to 743.
+//!
+//! With its lock, and the locks of each thousand given back, a look-up in the first tree took 1.30 times what the same took without, in the
+//! middle of fourteen runs in turn on that host (1.17 to 1.60; the least of each 693 and 497), and in the second 1.07 to 1.25 times.
 //!
 //! Nanoseconds of a step on a store that is filled with 100,000 keys, searched and emptied, each the least of some runs, beside a tree in C of
 //! pages of the same bytes, which logs nothing, has no pool and keeps empty leaves; its figures are the least and the most of the runs:
