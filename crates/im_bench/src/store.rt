@@ -14,9 +14,9 @@
 //! the first of a page in no structure change. In 64 frames an insert takes 0.26 writes and as many syncs of the log, and 0.71 writes of
 //! pages. Of two openings behind it the first logs what it takes back, and the second adds no byte.
 //!
-//! In memory, 100,000 keys in 1,024 frames, in the calm ones of some twenty runs on a host with other work on it: a scan of 100 entries
-//! with its 101 locks 10.8, 11.2 and 11.9 us, a look-up of a key that is there 589 to 639 ns, of one that is not 961 to 979, an insert of
-//! 64 a commit 1.6 us. Where C took twice its least for what it does in the same minute, so did these.
+//! In memory, 100,000 keys in 1,024 frames, seventeen runs on a host with other work on it: a scan of 100 entries with its 101 locks 10.8,
+//! 11.2 and 11.9 us in the three calm ones, and 14.0 to 33.1 in the others, in which C too took up to twice its least for what it does; in
+//! the calm ones a look-up of a key that is there 589 to 639 ns, of one that is not 961 to 1,115, an insert of 64 a commit 1.6 to 2.5 us.
 //!
 //! Through step lines of `imstore`, keys in random order, each commit synced, each in turn with nothing else running, two rounds: 64 a
 //! commit, 100,000 keys, 75,600 and 65,800 inserts a second; LMDB 51,600 and 50,000, SQLite in WAL mode 54,300 and 48,500. One a commit,
