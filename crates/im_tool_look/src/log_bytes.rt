@@ -139,12 +139,20 @@ fn take_batch(
         match analysis.take(at as u64, &record) {
             Ok(()) => {}
             Err(Fault::Memory) => return Err(LogDamage::Memory),
-            Err(_) => return Err(LogDamage::OpensTwice(at)),
+            Err(_) => return Err(misplaced(counts, at, record.page())),
         }
         note(counts, &record);
         left = rest;
     }
     Ok(())
+}
+
+// What is broken where analysis does not take the record at a place, which names this page: each record before it makes a page at most.
+fn misplaced(counts: &Counts, at: usize, page: PageNo) -> LogDamage {
+    if u64::from(page) > counts.records.saturating_add(2) {
+        return LogDamage::NoPage(page);
+    }
+    LogDamage::Misplaced(at)
 }
 
 fn note(counts: &mut Counts, record: &Record) {
