@@ -99,8 +99,8 @@ module _ (records junk : List ℕ) (some : 1 ≤ length records) (most : length 
   pub put_next : get_or (put records junk) (4 + length records) 0 ≡ 0
   put_next = sym (get_or-drop 4 (put records junk) (length records) 0) ∙ ap (λ (l : List ℕ). get_or l (length records) 0) put_parts ∙ get_or_at records 0 junk 0 (length records) refl
 
--- the two writes of a batch, behind its gate and then over it
-module _ (first : ℕ) (file : List ℕ) (place : ℕ) (r : Reaches first file place) (closed : get_or file place 0 ≢ 1) (records : List ℕ) (some : 1 ≤ length records) (most : length records ≤ 16384) where
+-- the two writes of a batch, behind its gate and then over it; the first has more bytes behind those of the batch
+module _ (first : ℕ) (file : List ℕ) (place : ℕ) (r : Reaches first file place) (closed : get_or file place 0 ≢ 1) (records rest : List ℕ) (some : 1 ≤ length records) (most : length records ≤ 16384) where
   -- the closed gate stands in each outcome of a write behind it
   pub torn_behind : (n : ℕ) (c : List ℕ) → Torn (place + 1) n file c → batches first c ≡ batches first file
   torn_behind n c torn =
@@ -113,8 +113,12 @@ module _ (first : ℕ) (file : List ℕ) (place : ℕ) (r : Reaches first file p
       let still : get_or c place 0 ≢ 1 = λ one. closed (sym gate ∙ one) in
       ends first c place (carried first file c place r same within) still ∙ ap Some (same_before first file c place same) ∙ sym (ends first file place r closed)
 
+  -- what comes behind the written bytes
+  abbrev last : List ℕ
+  last = drop (place + 1 + length (spelled records ++ rest)) file
+
   abbrev pub junk : List ℕ
-  junk = drop (place + 1 + length (spelled records)) file
+  junk = rest ++ last
 
   -- the file with a batch behind this gate
   abbrev pub staged : ℕ → List ℕ
@@ -123,10 +127,11 @@ module _ (first : ℕ) (file : List ℕ) (place : ℕ) (r : Reaches first file p
   front_is : length (take place file) ≡ place
   front_is = length-take-le place file (omega (arith, r.within))
 
-  pub written_behind : (new : List ℕ) → Holds (place + 1) (spelled records) file new → new ≡ staged (get_or file place 0)
+  pub written_behind : (new : List ℕ) → Holds (place + 1) (spelled records ++ rest) file new → new ≡ staged (get_or file place 0)
   unfolding put
   written_behind new holds =
-      holds ∙ append_assoc (take (place + 1) file) (spelled records) junk
+      holds ∙ append_assoc (take (place + 1) file) (spelled records ++ rest) last
+      ∙ ap (λ (l : List ℕ). take (place + 1) file ++ l) (append_assoc (spelled records) rest last)
       ∙ ap (λ (l : List ℕ). l ++ (spelled records ++ junk)) (take_more file place 0 r.within)
       ∙ append_assoc (take place file) (get_or file place 0 ∷ []) (spelled records ++ junk)
 

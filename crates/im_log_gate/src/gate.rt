@@ -34,6 +34,8 @@ pub struct Gate {
     least: TxnId,
     place: u64,
     room: Vec<u8>,
+    // How long the file is at the least, in bytes: as the last write that made it longer left it.
+    long: u64,
     failed: bool,
     ghost sized: { length room.items ≡ 16389 },
     ghost low: { base + first ≤ 2 ^ 62 },
@@ -71,6 +73,7 @@ impl Gate {
             least: LEAST_NUMBER,
             place: FIRST_GATE,
             room,
+            long: 0,
             failed: false,
         }
     }
@@ -288,7 +291,20 @@ impl Gate {
         if self.place > PLACES || size > PLACES - self.place {
             return Err(Fault::LogFull);
         }
-        put_behind(disk, self.file, self.place, &mut self.room, records)?;
+        // A file is longer by a whole room, so that most syncs have no new length to write.
+        let is_within = self.place + size < self.long;
+        let written = if is_within { records.len() + 5 } else { ROOM };
+        put_behind(
+            disk,
+            self.file,
+            self.place,
+            written,
+            &mut self.room,
+            records,
+        )?;
+        if !is_within {
+            self.long = self.place + 1 + ROOM as u64;
+        }
         self.place += size;
         self.failed = false;
         Ok(())

@@ -21,17 +21,29 @@ fn spell(room: &mut [u8], records: &[u8])
     room[end] = 0;
 }
 
-// Puts a batch behind the closed gate at this place, and opens it: whichever first gate this one is reached from.
+// Puts zeros into the room, from one place up to another.
+fn clear(room: &mut [u8], from: usize, to: usize)
+    requires order { from ≤ to }
+    requires room { to ≤ length room.old }
+    ensures front { take from room.new ≡ take from room.old }
+{
+    room[from..to].fill(0);
+}
+
+// Puts a batch behind the closed gate at this place, and opens it: whichever first gate this one is reached from. So many bytes are
+// written behind the gate: the batch, and zeros behind it.
 pub(crate) fn put_behind<D: Disk>(
     disk: &mut D,
     file: FileId,
     place: u64,
+    size: usize,
     room: &mut [u8],
     records: &[u8],
 ) -> Result<(), Fault>
     requires some { 1 ≤ length records.now }
     requires most { length records.now ≤ 16384 }
-    requires room { length records.now + 5 ≤ length room.old }
+    requires least { length records.now + 5 ≤ size }
+    requires room { size ≤ length room.old }
     requires place { place ≤ 2 ^ 62 }
     requires working { D.failed disk.old ≡ false }
     requires within { D.tells → place < length (D.seen disk.old file) }
@@ -53,7 +65,8 @@ pub(crate) fn put_behind<D: Disk>(
     ensures answers { Answers (D.failed disk.new) result }
 {
     spell(room, records);
-    write_synced(disk, file, place + 1, &room[..records.len() + 5])?;
+    clear(room, records.len() + 5, size);
+    write_synced(disk, file, place + 1, &room[..size])?;
     write_synced(disk, file, place, &[1])?;
     Ok(())
 }
