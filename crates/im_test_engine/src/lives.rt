@@ -1,11 +1,12 @@
 //! Lives of a store on the model disk.
 
-use crate::said::{Said, make, opened, said_of};
+use crate::said::{Said, are_said, created, end, make};
 use im_base_disk::{Disk, ModelDisk};
 use im_base_types::{FileId, PageKind, PageNo};
 use im_engine::{Config, Engine, live};
 use im_front::Step;
 use std::alloc::Global;
+use std::process::Abort;
 use std::test::Fail;
 
 fn key_of(alloc: Global, byte: u8) -> Result<Vec<u8>, Fail> {
@@ -33,24 +34,40 @@ fn found<D: Disk>(alloc: Global, engine: &mut Engine<D>) -> Result<(usize, u8, u
     }
 }
 
+// Whether a life of one insert is answered so.
+fn insert_is_said<D: Disk>(
+    alloc: Global,
+    engine: &mut Engine<D>,
+    said: &[Said],
+) -> Result<bool, Fail> {
+    let steps = one_insert(alloc, b'a', 7)?;
+    let replies = engine.life(alloc, &steps)?;
+    Ok(are_said(&replies, said))
+}
+
+// How many calls were made of a disk, and how long the log's file is.
+fn left_on(disk: ModelDisk) -> (u64, u64) {
+    (disk.calls(), disk.end(FileId::Log))
+}
+
 #[test]
 fn one_insert_is_committed(rt: HostRuntime) -> Result<(), Fail> {
     let alloc = rt.alloc();
-    let disk = ModelDisk::new(Vec::new(alloc), Vec::new(alloc));
-    let steps = one_insert(alloc, b'a', 7)?;
-    let mut engine = opened(alloc, disk, Config::default())?;
-    assert!(rt; engine.disk().calls() == 6);
-    let replies = engine.life(alloc, &steps)?;
-    assert!(rt;
-        said_of(alloc, &replies)?.as_slice()
-            == [Said::Started(1), Said::Inserted, Said::Committed].as_slice()
-    );
-    assert!(rt; found(alloc, &mut engine)? == (1, b'a', 7));
-    assert!(rt; engine.active() == 0);
-    let disk = engine.into_disk();
-    assert!(rt; disk.calls() == 10);
+    let mut engine = created(alloc, Config::default())?;
+    let told = commit_one(&rt, alloc, &mut engine);
+    let left = left_on(engine.into_disk());
+    told?;
     // The log is 113 bytes; its first batch makes the file longer by the room of a batch, from behind its gate on.
-    assert!(rt; disk.end(FileId::Log) == 32 + 16_389);
+    assert!(rt; left == (10, 32 + 16_389));
+    Ok(())
+}
+
+fn commit_one(rt: &impl Abort, alloc: Global, engine: &mut Engine<ModelDisk>) -> Result<(), Fail> {
+    assert!(rt; engine.disk().calls() == 6);
+    let said = [Said::Started(1), Said::Inserted, Said::Committed];
+    assert!(rt; insert_is_said(alloc, engine, &said)?);
+    assert!(rt; found(alloc, engine)? == (1, b'a', 7));
+    assert!(rt; engine.active() == 0);
     Ok(())
 }
 
@@ -60,8 +77,8 @@ fn a_life_gives_its_disk_back(rt: HostRuntime) -> Result<(), Fail> {
     let disk = ModelDisk::new(Vec::new(alloc), Vec::new(alloc));
     let steps = one_insert(alloc, b'a', 7)?;
     let (replies, disk) = live(alloc, disk, Config::default(), &steps);
-    assert!(rt; replies?.len() == 3);
-    assert!(rt; disk.calls() == 10);
+    let (calls, _) = left_on(disk);
+    assert!(rt; (replies?.len(), calls) == (3, 10));
     Ok(())
 }
 
@@ -132,13 +149,22 @@ fn a_thousand_go<D: Disk>(
 #[test]
 fn a_thousand_keys_come_and_go(rt: HostRuntime) -> Result<(), Fail> {
     let alloc = rt.alloc();
-    let disk = ModelDisk::new(Vec::new(alloc), Vec::new(alloc));
     let config = Config {
         frames: 8,
         max_pages: 100,
     };
-    let mut engine = opened(alloc, disk, config)?;
-    assert!(rt; a_thousand_come(alloc, &mut engine)? == (1000, (1000, b'0', 0), Said::Found(1)));
-    assert!(rt; a_thousand_go(alloc, &mut engine)? == (1000, (0, 0, 0), (PageKind::Leaf, 0, 0)));
+    let mut engine = created(alloc, config)?;
+    let told = come_and_go(&rt, alloc, &mut engine);
+    end(engine);
+    told
+}
+
+fn come_and_go<D: Disk>(
+    rt: &impl Abort,
+    alloc: Global,
+    engine: &mut Engine<D>,
+) -> Result<(), Fail> {
+    assert!(rt; a_thousand_come(alloc, engine)? == (1000, (1000, b'0', 0), Said::Found(1)));
+    assert!(rt; a_thousand_go(alloc, engine)? == (1000, (0, 0, 0), (PageKind::Leaf, 0, 0)));
     Ok(())
 }

@@ -1,10 +1,11 @@
 //! Many transactions at once.
 
-use crate::said::{Said, make, opened};
+use crate::said::{Said, created, end, make, opened_after_stop};
 use im_base_disk::{Disk, ModelDisk};
 use im_engine::{Config, Engine};
 use im_front::Step;
 use std::alloc::Global;
+use std::process::Abort;
 use std::test::Fail;
 
 // The key of three digits.
@@ -57,14 +58,25 @@ fn count_all<D: Disk>(
 #[test]
 fn sixty_four_are_active_and_commit(rt: HostRuntime) -> Result<(), Fail> {
     let alloc = rt.alloc();
-    let disk = ModelDisk::new(Vec::new(alloc), Vec::new(alloc));
-    let mut engine = opened(alloc, disk, Config::default())?;
-    assert!(rt; count_all(alloc, &mut engine)? == (64, Said::Refused(12), 64, 64));
+    let mut engine = created(alloc, Config::default())?;
+    let told = commit_all(&rt, alloc, &mut engine);
+    end(engine);
+    told
+}
+
+fn commit_all(rt: &impl Abort, alloc: Global, engine: &mut Engine<ModelDisk>) -> Result<(), Fail> {
+    assert!(rt; count_all(alloc, engine)? == (64, Said::Refused(12), 64, 64));
     assert!(rt; engine.active() == 0);
-    let left = engine.disk().after_stop(alloc)?;
-    let mut next = opened(alloc, left, Config::default())?;
-    assert!(rt; next.entries(alloc)?.len() == 64);
+    assert!(rt; left_after_stop(alloc, engine)? == 64);
     Ok(())
+}
+
+// How many entries there are behind a stop.
+fn left_after_stop(alloc: Global, engine: &Engine<ModelDisk>) -> Result<usize, Fail> {
+    let mut next = opened_after_stop(alloc, engine, Config::default())?;
+    let entries = next.entries(alloc);
+    end(next);
+    Ok(entries?.len())
 }
 
 // Puts 300 keys into the store by one transaction, and commits it.
@@ -89,12 +101,23 @@ fn scan<D: Disk>(alloc: Global, engine: &mut Engine<D>, limit: u64) -> Result<Sa
 #[test]
 fn a_scan_lists_as_many_as_its_limit(rt: HostRuntime) -> Result<(), Fail> {
     let alloc = rt.alloc();
-    let disk = ModelDisk::new(Vec::new(alloc), Vec::new(alloc));
-    let mut engine = opened(alloc, disk, Config::default())?;
-    assert!(rt; put_many(alloc, &mut engine)? == Said::Committed);
-    assert!(rt; make(&mut engine, Step::Begin) == Said::Started(2));
-    assert!(rt; scan(alloc, &mut engine, 256)? == Said::Entries(256));
-    assert!(rt; scan(alloc, &mut engine, 1000)? == Said::Entries(256));
-    assert!(rt; scan(alloc, &mut engine, 3)? == Said::Entries(3));
+    let mut engine = created(alloc, Config::default())?;
+    let told = scan_many(&rt, alloc, &mut engine);
+    end(engine);
+    told
+}
+
+// Limits, and how many entries a scan then lists.
+static LIMITS: [(u64, usize); 3] = [(256, 256), (1000, 256), (3, 3)];
+
+fn scan_many<D: Disk>(rt: &impl Abort, alloc: Global, engine: &mut Engine<D>) -> Result<(), Fail> {
+    assert!(rt; put_many(alloc, engine)? == Said::Committed);
+    assert!(rt; make(engine, Step::Begin) == Said::Started(2));
+    for (limit, count) in &LIMITS {
+        assert!(rt;
+            scan(alloc, engine, *limit)? == Said::Entries(*count),
+            "{limit}"
+        );
+    }
     Ok(())
 }

@@ -1,6 +1,6 @@
 //! Devices that fail in the middle of a rollback.
 
-use crate::said::{Said, make, opened};
+use crate::said::{Said, created, end, make, opened, opened_after_stop};
 use im_base_disk::{Disk, ModelDisk};
 use im_engine::{Config, Engine};
 use im_front::Step;
@@ -114,33 +114,49 @@ fn came_of(alloc: Global, call: u64, read: u64) -> Result<Came, Fail> {
     disk.fail_call(call);
     disk.fail_read(read);
     let mut engine = opened(alloc, disk, few_frames())?;
-    let begun = many_to_undo(alloc, &mut engine)?;
-    let (times, failing) = go_on(&mut engine);
-    let behind = (
-        make(&mut engine, Step::Continue(2)),
-        make(&mut engine, Step::Begin),
-    );
-    let left = engine.disk().after_stop(alloc)?;
-    let mut next = opened(alloc, left, few_frames())?;
-    let found = are_committed(alloc, &mut next)?;
+    let came = roll_back(alloc, &mut engine);
+    end(engine);
+    came
+}
+
+// What comes of this engine.
+fn roll_back(alloc: Global, engine: &mut Engine<ModelDisk>) -> Result<Came, Fail> {
+    let begun = many_to_undo(alloc, engine)?;
+    let (times, failing) = go_on(engine);
+    let behind = (make(engine, Step::Continue(2)), make(engine, Step::Begin));
+    let (found, next) = found_after_stop(alloc, engine)?;
     Ok(Came {
         begun,
         within: 0 < times && times < KEYS - 1,
         failing,
         behind,
         found,
-        next: make(&mut next, Step::Begin),
+        next,
     })
+}
+
+// What there is behind a stop, and the reply to a Begin then.
+fn found_after_stop(
+    alloc: Global,
+    engine: &Engine<ModelDisk>,
+) -> Result<((usize, bool), Said), Fail> {
+    let mut next = opened_after_stop(alloc, engine, few_frames())?;
+    let found = are_committed(alloc, &mut next);
+    let said = make(&mut next, Step::Begin);
+    end(next);
+    Ok((found?, said))
 }
 
 // How many device calls there are before the first Continue, and behind the last, where none fails.
 fn calls_within(alloc: Global) -> Result<(u64, u64), Fail> {
-    let disk = ModelDisk::new(Vec::new(alloc), Vec::new(alloc));
-    let mut engine = opened(alloc, disk, few_frames())?;
-    let _ = many_to_undo(alloc, &mut engine)?;
+    let mut engine = created(alloc, few_frames())?;
+    let begun = many_to_undo(alloc, &mut engine);
     let before = engine.disk().calls();
     let _ = go_on(&mut engine);
-    Ok((before, engine.disk().calls()))
+    let behind = engine.disk().calls();
+    end(engine);
+    let _ = begun?;
+    Ok((before, behind))
 }
 
 #[test]

@@ -1,9 +1,10 @@
-//! Replies, as tests compare them.
+//! Replies, as tests compare them, and engines, as tests open and end them.
+//! Each test lends its engine to the steps: what a function owns is dropped at each of its exits, which takes a proof each.
 
 ghost use Rattle.std.specs.Prelude.{◌≡◌, false};
 ghost use Rattle.im_base_disk.specs.Runs.{IsSynced};
 
-use im_base_disk::Disk;
+use im_base_disk::{Disk, ModelDisk};
 use im_base_types::Fault;
 use im_engine::{Config, Engine};
 use im_front::{Blocker, Reply, Step};
@@ -55,13 +56,17 @@ pub fn as_said(reply: &Reply) -> Said {
     }
 }
 
-/// What each of these replies says.
-pub fn said_of(alloc: Global, replies: &[Reply]) -> Result<Vec<Said>, Fail> {
-    let mut list = Vec::new(alloc);
-    for reply in replies {
-        list.push(as_said(reply))?;
+/// Whether these replies say this.
+pub fn are_said(replies: &[Reply], said: &[Said]) -> bool {
+    if replies.len() != said.len() {
+        return false;
     }
-    Ok(list)
+    for i in 0..replies.len() {
+        if as_said(&replies[i]) != said[i] {
+            return false;
+        }
+    }
+    true
 }
 
 /// Makes a step, and says what was answered.
@@ -80,3 +85,22 @@ pub fn opened<D: Disk + Drop>(alloc: Global, disk: D, config: Config) -> Result<
         Err((fault, _disk)) => Err(fault),
     }
 }
+
+/// Opens a new store.
+pub fn created(alloc: Global, config: Config) -> Result<Engine<ModelDisk>, Fault> {
+    let disk = ModelDisk::new(Vec::new(alloc), Vec::new(alloc));
+    opened(alloc, disk, config)
+}
+
+/// Opens what a stop now leaves of an engine's disk.
+pub fn opened_after_stop(
+    alloc: Global,
+    engine: &Engine<ModelDisk>,
+    config: Config,
+) -> Result<Engine<ModelDisk>, Fault> {
+    let left = engine.disk().after_stop(alloc)?;
+    opened(alloc, left, config)
+}
+
+/// Ends an engine, and its disk.
+pub fn end(_engine: Engine<ModelDisk>) {}

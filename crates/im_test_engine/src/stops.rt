@@ -3,6 +3,8 @@
 ghost use Rattle.std.specs.Prelude.{◌≡◌, IfOk};
 ghost use Rattle.im_front.specs.Held.{IsResting};
 
+use crate::said::{end, opened};
+use crate::threads::both_shares;
 use im_base_disk::{Fill, Length, ModelDisk, Stop};
 use im_base_types::{Key, Rid, TxnId};
 use im_engine::{Config, Engine, every_list_of_lives};
@@ -146,41 +148,54 @@ fn both<E: Store + Send, L: Ledger + Send + Sync, R: Threads + Wait + Sync>(
         Ok(front) => front,
         Err(refused) => return Err(refused.0),
     };
+    let shares = work_at_once(rt, alloc, &front)?;
+    Ok(front.close(shares))
+}
+
+// Both threads at work, and their shares then.
+fn work_at_once<E: Store + Send, L: Ledger + Send + Sync, R: Threads + Wait + Sync>(
+    rt: &R,
+    alloc: Global,
+    front: &Front<E, L>,
+) -> Result<Vec<Share<L>>, Fault> {
     let first = front.share(rt)?;
     let second = front.share(rt)?;
-    let shared = &front;
     let (first, second) = join(
         rt,
-        || work(rt, alloc, shared, first, 0),
-        || work(rt, alloc, shared, second, 1),
+        || work(rt, alloc, front, first, 0),
+        || work(rt, alloc, front, second, 1),
     );
-    let mut shares = Vec::new(alloc);
-    let Ok(()) = shares.push(first?) else {
-        return Err(Fault::Memory);
-    };
-    let Ok(()) = shares.push(second?) else {
-        return Err(Fault::Memory);
-    };
-    Ok(front.close(shares))
+    both_shares(alloc, first?, second?)
 }
 
 // What the stop left, opened again.
 fn reopened(alloc: Global, closed: Closed<Engine<ModelDisk>>) -> Result<Left, Fault> {
     let Closed { engine, trace, .. } = closed;
-    let disk = engine.into_disk();
-    let stopped = disk.stopped();
+    let (stopped, entries) = left_on(alloc, engine.into_disk());
+    Ok(Left {
+        trace,
+        entries: entries?,
+        stopped,
+    })
+}
+
+// Whether a disk has stopped, and the entries that it left.
+fn left_on(alloc: Global, disk: ModelDisk) -> (bool, Result<Vec<(Key, Rid)>, Fault>) {
+    (disk.stopped(), entries_left(alloc, &disk))
+}
+
+// The entries that a stop leaves of a disk, opened again.
+fn entries_left(alloc: Global, disk: &ModelDisk) -> Result<Vec<(Key, Rid)>, Fault> {
     let Ok(left) = disk.after_stop(alloc) else {
         return Err(Fault::Memory);
     };
-    let Ok(mut next) = Engine::open_or_create(alloc, left, Config::default()) else {
+    let Ok(mut next) = opened(alloc, left, Config::default()) else {
         return Err(Fault::NotAStore);
     };
-    match next.entries(alloc) {
-        Ok(entries) => Ok(Left {
-            trace,
-            entries,
-            stopped,
-        }),
+    let entries = next.entries(alloc);
+    end(next);
+    match entries {
+        Ok(entries) => Ok(entries),
         Err(_) => Err(Fault::NotAStore),
     }
 }

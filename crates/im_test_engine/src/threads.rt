@@ -50,20 +50,100 @@ fn load_two_at_once(rt: HostRuntime) -> Result<(), Fail> {
     Ok(())
 }
 
-// What one caller sees of a store in memory.
-#[derive(Drop)]
-struct Seen {
+// What one caller sees of a store in memory within its steps.
+#[derive(Clone, Copy)]
+struct Within {
     found: bool,
     stats: Stats,
     busy: bool,
     cut: bool,
+}
+
+// What one caller sees of a store in memory.
+#[derive(Clone, Copy)]
+struct Seen {
+    within: Within,
     steps: u64,
     kept: usize,
     sum: Option<u64>,
 }
 
-// One transaction inserts a key and the next one looks for it. A second share makes no step, and does not come back where it is not
-// asked for.
+// Makes a step, whatever is answered.
+fn make<E: Store, L: Ledger, R: Wait>(
+    rt: &R,
+    front: &Front<E, L>,
+    mine: &mut Share<L>,
+    step: Step,
+) {
+    let _ = front.call(rt, mine, step);
+}
+
+// Whether a Fetch finds a key, with the row id 7.
+fn is_there<E: Store, L: Ledger, R: Wait>(
+    rt: &R,
+    front: &Front<E, L>,
+    mine: &mut Share<L>,
+    t: u64,
+    key: Vec<u8>,
+) -> bool {
+    matches!(front.call(rt, mine, Step::Fetch(t, key)), Reply::Found(7))
+}
+
+/// Two shares, as a front is closed with them.
+pub fn both_shares<L: Ledger>(
+    alloc: Global,
+    first: Share<L>,
+    second: Share<L>,
+) -> Result<Vec<Share<L>>, Fault> {
+    let mut shares = Vec::new(alloc);
+    let Ok(()) = shares.push(first) else {
+        return Err(Fault::Memory);
+    };
+    let Ok(()) = shares.push(second) else {
+        return Err(Fault::Memory);
+    };
+    Ok(shares)
+}
+
+// One transaction inserts a key and the next one looks for it.
+fn insert_and_look<L: Ledger, R: Wait>(
+    rt: &R,
+    alloc: Global,
+    front: &Front<MemoryStore, L>,
+    mine: &mut Share<L>,
+) -> Result<Within, Fault> {
+    make(rt, front, mine, Step::Begin);
+    make(rt, front, mine, Step::Insert(1, key(alloc)?, 7));
+    make(rt, front, mine, Step::Commit(1));
+    make(rt, front, mine, Step::Begin);
+    let found = is_there(rt, front, mine, 2, key(alloc)?);
+    let stats = front.stats(mine);
+    let busy = matches!(front.cut_trace(rt), Err(Fault::Busy));
+    make(rt, front, mine, Step::Commit(2));
+    let cut = front.cut_trace(rt).is_ok();
+    make(rt, front, mine, Step::Force);
+    Ok(Within {
+        found,
+        stats,
+        busy,
+        cut,
+    })
+}
+
+// The same by a share of its own. A second share makes no step.
+fn look_by_share<L: Ledger, R: Wait>(
+    rt: &R,
+    alloc: Global,
+    front: &Front<MemoryStore, L>,
+) -> Result<(Within, Vec<Share<L>>), Fault> {
+    let mut mine = front.share(rt)?;
+    let other = front.share(rt)?;
+    let within = insert_and_look(rt, alloc, front, &mut mine);
+    let shares = both_shares(alloc, mine, other)?;
+    Ok((within?, shares))
+}
+
+// The same on a new store. The second share does not come back where it is not asked for.
 fn one_caller<L: Ledger, R: Wait>(
     rt: &R,
     alloc: Global,
@@ -76,23 +156,8 @@ fn one_caller<L: Ledger, R: Wait>(
         Ok(front) => front,
         Err(refused) => return Err(refused.0),
     };
-    let mut mine = front.share(rt)?;
-    let other = front.share(rt)?;
-    let _ = front.call(rt, &mut mine, Step::Begin);
-    let _ = front.call(rt, &mut mine, Step::Insert(1, key(alloc)?, 7));
-    let _ = front.call(rt, &mut mine, Step::Commit(1));
-    let _ = front.call(rt, &mut mine, Step::Begin);
-    let found = front.call(rt, &mut mine, Step::Fetch(2, key(alloc)?));
-    let stats = front.stats(&mut mine);
-    let busy = matches!(front.cut_trace(rt), Err(Fault::Busy));
-    let _ = front.call(rt, &mut mine, Step::Commit(2));
-    let cut = front.cut_trace(rt).is_ok();
-    let _ = front.call(rt, &mut mine, Step::Force);
-    let mut shares = Vec::new(alloc);
-    shares.push(mine).map_err(|_| Fault::Memory)?;
-    if both {
-        shares.push(other).map_err(|_| Fault::Memory)?;
-    }
+    let (within, mut shares) = look_by_share(rt, alloc, &front)?;
+    let _away = if both { None } else { shares.pop() };
     let Closed {
         cut: steps,
         trace,
@@ -100,10 +165,7 @@ fn one_caller<L: Ledger, R: Wait>(
         ..
     } = front.close(shares);
     Ok(Seen {
-        found: matches!(found, Reply::Found(7)),
-        stats,
-        busy,
-        cut,
+        within,
         steps,
         kept: trace.len(),
         sum,
@@ -122,18 +184,17 @@ fn key(alloc: Global) -> Result<Vec<u8>, Fault> {
 #[test]
 fn read_back(rt: HostRuntime) -> Result<(), Fail> {
     let seen = one_caller::<Brand, HostRuntime>(&rt, rt.alloc(), Blank::new(1024), true)?;
-    assert!(rt; seen.found && seen.busy && seen.cut);
+    let within = seen.within;
+    assert!(rt; within.found && within.busy && within.cut);
     assert_eq!(rt;
-        seen.stats,
+        within.stats,
         Stats {
             started: 2,
             committed: 1,
             rolled_back: 0
         }
     );
-    assert_eq!(rt; seen.steps, 6);
-    assert_eq!(rt; seen.kept, 1);
-    assert_eq!(rt; seen.sum, Some(7));
+    assert_eq!(rt; (seen.steps, seen.kept, seen.sum), (6, 1, Some(7)));
     Ok(())
 }
 
@@ -156,19 +217,38 @@ fn found_behind_another<L: Ledger + Send + Sync, R: Threads + Wait + Sync>(
         Ok(front) => front,
         Err(refused) => return Err(refused.0),
     };
+    older_finds(rt, alloc, &front)
+}
+
+// The same on a front.
+fn older_finds<L: Ledger + Send + Sync, R: Threads + Wait + Sync>(
+    rt: &R,
+    alloc: Global,
+    front: &Front<MemoryStore, L>,
+) -> Result<bool, Fault> {
     let mut older = front.share(rt)?;
     let mut younger = front.share(rt)?;
-    let wanted = key(alloc)?;
-    let _ = front.call(rt, &mut older, Step::Begin);
-    let _ = front.call(rt, &mut younger, Step::Begin);
-    let _ = front.call(rt, &mut younger, Step::Insert(2, key(alloc)?, 7));
-    let shared = &front;
+    let wanted = begin_both(rt, alloc, front, &mut older, &mut younger)?;
     let (found, committed) = join(
         rt,
-        || is_found(rt, shared, older, wanted),
-        || is_committed(rt, shared, younger),
+        || is_found(rt, front, older, wanted),
+        || is_committed(rt, front, younger),
     );
     Ok(found && committed)
+}
+
+// Both begin, and the younger one inserts the key that is answered.
+fn begin_both<L: Ledger, R: Wait>(
+    rt: &R,
+    alloc: Global,
+    front: &Front<MemoryStore, L>,
+    older: &mut Share<L>,
+    younger: &mut Share<L>,
+) -> Result<Vec<u8>, Fault> {
+    make(rt, front, older, Step::Begin);
+    make(rt, front, younger, Step::Begin);
+    make(rt, front, younger, Step::Insert(2, key(alloc)?, 7));
+    key(alloc)
 }
 
 fn is_found<E: Store, L: Ledger, R: Wait>(
@@ -178,10 +258,7 @@ fn is_found<E: Store, L: Ledger, R: Wait>(
     key: Vec<u8>,
 ) -> bool {
     let mut mine = mine;
-    matches!(
-        front.call(rt, &mut mine, Step::Fetch(1, key)),
-        Reply::Found(7)
-    )
+    is_there(rt, front, &mut mine, 1, key)
 }
 
 // It lets the other thread run first, for a while.

@@ -2,13 +2,14 @@
 ghost use Rattle.std.specs.Prelude.{◌≡◌, false, OnOk};
 ghost use Rattle.im_page_writer.specs.PageWriter.{IsReadyWriter};
 
-use crate::shared::{disk_of, open};
-use im_base_disk::Disk;
+use crate::shared::{end, opened};
+use im_base_disk::{Disk, ModelDisk};
 use im_base_types::{Fault, PageNo};
 use im_page_writer::PageWriter;
 use im_smo_alloc::{allocate, free};
 use im_smo_pages::Images;
 use std::alloc::Global;
+use std::process::Abort;
 use std::test::Fail;
 
 // The first free page, and how many are free, by page 0 among the images.
@@ -64,12 +65,27 @@ fn give_many<D: Disk>(
 #[test]
 fn a_change_takes_and_gives_back_as_many_pages_as_it_wants(rt: HostRuntime) -> Result<(), Fail> {
     let alloc = rt.alloc();
-    let mut disk = disk_of(alloc, Vec::new(alloc))?;
-    let mut writer = open(alloc, &mut disk)?;
+    let (mut writer, mut disk) = opened(alloc, Vec::new(alloc))?;
     let mut images = Images::new(alloc);
-    assert!(rt; take_many(alloc, &mut images, &mut writer, &mut disk, 30)? == 31);
-    assert!(rt; images.len() == 31);
-    give_many(alloc, &mut images, &mut writer, &mut disk, 2, 30)?;
-    assert!(rt; free_list(&images) == Some((31, 30)));
+    let told = take_and_give(&rt, alloc, &mut images, &mut writer, &mut disk);
+    end(writer, disk);
+    told
+}
+
+// Takes 30 pages, and gives them back.
+fn take_and_give(
+    rt: &impl Abort,
+    alloc: Global,
+    images: &mut Images,
+    writer: &mut PageWriter,
+    disk: &mut ModelDisk,
+) -> Result<(), Fail>
+    requires ready { IsReadyWriter ⟦<ModelDisk as Disk>⟧ writer.old disk.old }
+    requires working { writer.old.failed ≡ false }
+{
+    let last = take_many(alloc, images, writer, disk, 30)?;
+    assert!(rt; (last, images.len()) == (31, 31));
+    give_many(alloc, images, writer, disk, 2, 30)?;
+    assert!(rt; free_list(images) == Some((31, 30)));
     Ok(())
 }

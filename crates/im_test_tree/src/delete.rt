@@ -1,6 +1,6 @@
 //! A leaf left empty under a chain of pages: they go with it.
 use crate::pages::{add_leaf, add_meta, put, shown};
-use crate::shared::{disk_of, open};
+use crate::shared::{end, opened};
 use im_base_types::{Fault, PageKind, PageNo};
 use im_page::Page;
 use im_smo_drop_leaf::plan_delete;
@@ -29,25 +29,28 @@ fn add_inner(file: &mut Vec<u8>, level: u8, first: PageNo, second: PageNo) -> Re
     Ok(())
 }
 
-// The plan over these pages.
-fn plan(alloc: Global, pages: Vec<u8>, key: u8) -> Result<Result<Images, Fault>, Fail> {
-    let mut disk = disk_of(alloc, pages)?;
-    let mut writer = open(alloc, &mut disk)?;
-    Ok(plan_delete(alloc, &mut writer, &mut disk, &[key]))
+// Level and child of pages 2 to 5.
+static SINGLES: [(u8, PageNo); 4] = [(2, 4), (2, 5), (1, 6), (1, 7)];
+
+// Adds a root of level 3 over pages 2 and 3, each with one child, page 4 and page 5, and these with one leaf, page 6 and page 7.
+fn add_two_chains(file: &mut Vec<u8>) -> Result<(), Fail> {
+    add_meta(file, 8)?;
+    add_inner(file, 3, 2, 3)?;
+    for (level, child) in &SINGLES {
+        add_single(file, *level, *child)?;
+    }
+    add_leaf(file, b"a", 0, 7)?;
+    add_leaf(file, b"", 6, 0)
 }
 
-// A root of level 3 over pages 2 and 3, each with one child, page 4 and page 5, and these with one leaf, page 6 and page 7.
-fn two_chains(alloc: Global) -> Result<Vec<u8>, Fail> {
+// The plan of a delete over these pages.
+fn plan(alloc: Global, key: u8) -> Result<Result<Images, Fault>, Fail> {
     let mut pages = Vec::new(alloc);
-    add_meta(&mut pages, 8)?;
-    add_inner(&mut pages, 3, 2, 3)?;
-    add_single(&mut pages, 2, 4)?;
-    add_single(&mut pages, 2, 5)?;
-    add_single(&mut pages, 1, 6)?;
-    add_single(&mut pages, 1, 7)?;
-    add_leaf(&mut pages, b"a", 0, 7)?;
-    add_leaf(&mut pages, b"", 6, 0)?;
-    Ok(pages)
+    add_two_chains(&mut pages)?;
+    let (mut writer, mut disk) = opened(alloc, pages)?;
+    let planned = plan_delete(alloc, &mut writer, &mut disk, &[key]);
+    end(writer, disk);
+    Ok(planned)
 }
 
 // Number, kind, level, entries, links and leftmost child of pages then.
@@ -63,7 +66,7 @@ static LEFT: [[u64; 7]; 6] = [
 #[test]
 fn pages_left_without_a_child_go_behind_the_leaf(rt: HostRuntime) -> Result<(), Fail> {
     let alloc = rt.alloc();
-    let images = plan(alloc, two_chains(alloc)?, b'x')??;
+    let images = plan(alloc, b'x')??;
     assert!(rt; images.len() == 6);
     for want in &LEFT {
         assert!(rt; shown(&images, want[0] as PageNo) == *want, "{}", want[0]);

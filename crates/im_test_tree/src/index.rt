@@ -1,8 +1,8 @@
 //! Steps by a key over a tree of a root and three leaves, of which the second is empty.
 ghost use Rattle.im_page_writer.specs.PageWriter.{IsReadyWriter};
 
-use crate::pages::three_leaves;
-use crate::shared::{disk_of, open};
+use crate::pages::add_three_leaves;
+use crate::shared::{end, opened};
 use im_base_disk::Disk;
 use im_base_types::{Fault, Key, PageNo, Rid, TxnId};
 use im_engine_index::{Outcome, Place, ask_delete, ask_insert, fetch, scan, seek};
@@ -246,10 +246,13 @@ fn answers<D: Disk>(
 
 // What is answered over the three leaves, with no lock held before.
 fn over(alloc: Global, asks: &[Ask]) -> Result<Vec<Told>, Fail> {
-    let mut disk = disk_of(alloc, three_leaves(alloc)?)?;
-    let mut writer = open(alloc, &mut disk)?;
+    let mut pages = Vec::new(alloc);
+    add_three_leaves(&mut pages, 0)?;
+    let (mut writer, mut disk) = opened(alloc, pages)?;
     let mut locks = LockTable::new(alloc);
-    answers(alloc, &mut writer, &mut disk, &mut locks, asks)
+    let told = answers(alloc, &mut writer, &mut disk, &mut locks, asks);
+    end(writer, disk);
+    told
 }
 
 // Requests over the three leaves, with no lock held before, and what is answered.

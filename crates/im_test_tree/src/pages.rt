@@ -51,14 +51,12 @@ pub fn add_root(file: &mut Vec<u8>, count: PageNo) -> Result<(), Fail> {
     Ok(())
 }
 
-/// The bytes of a tree of a root and three leaves, of which the second is empty.
-pub fn three_leaves(alloc: Global) -> Result<Vec<u8>, Fail> {
-    let mut pages = Vec::new(alloc);
-    add_root(&mut pages, 5)?;
-    add_leaf(&mut pages, b"ab", 0, 3)?;
-    add_leaf(&mut pages, b"", 2, 4)?;
-    add_leaf(&mut pages, b"mx", 3, 0)?;
-    Ok(pages)
+/// Adds a tree of a root and three leaves, of which the second is empty; the last leads to this page.
+pub fn add_three_leaves(file: &mut Vec<u8>, next: PageNo) -> Result<(), Fail> {
+    add_root(file, 5)?;
+    add_leaf(file, b"ab", 0, 3)?;
+    add_leaf(file, b"", 2, 4)?;
+    add_leaf(file, b"mx", 3, next)
 }
 
 /// Number, kind, level, entries, links and leftmost child of a page among the images, or zeros.

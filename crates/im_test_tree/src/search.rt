@@ -1,8 +1,8 @@
 //! Searches over a tree of a root and three leaves, of which the second is empty, and over a chain that leads round in a ring.
 ghost use Rattle.im_page_writer.specs.PageWriter.{IsReadyWriter};
 
-use crate::pages::{add_leaf, add_root, three_leaves};
-use crate::shared::{disk_of, open};
+use crate::pages::{add_leaf, add_root, add_three_leaves};
+use crate::shared::{end, opened};
 use im_base_disk::Disk;
 use im_base_types::{Fault, Key, PageNo, Rid};
 use im_page_writer::PageWriter;
@@ -184,47 +184,38 @@ fn answers<D: Disk>(
     Ok(list)
 }
 
-// What searches over these pages answer.
-fn over(alloc: Global, pages: Vec<u8>, asks: &[Ask]) -> Result<Vec<Told>, Fail> {
-    let mut disk = disk_of(alloc, pages)?;
-    let mut writer = open(alloc, &mut disk)?;
-    answers(alloc, &mut writer, &mut disk, asks)
-}
-
-// A tree whose last leaf leads back to the second.
-fn ring(alloc: Global) -> Result<Vec<u8>, Fail> {
-    let mut pages = Vec::new(alloc);
-    add_root(&mut pages, 5)?;
-    add_leaf(&mut pages, b"ab", 0, 3)?;
-    add_leaf(&mut pages, b"", 2, 4)?;
-    add_leaf(&mut pages, b"mx", 3, 3)?;
-    Ok(pages)
-}
-
-// A root over three leaves, of which the file has the first alone.
-fn first_leaf(alloc: Global) -> Result<Vec<u8>, Fail> {
-    let mut pages = Vec::new(alloc);
-    add_root(&mut pages, 3)?;
-    add_leaf(&mut pages, b"ab", 0, 0)?;
-    Ok(pages)
-}
-
 // What pages a file has.
 #[derive(Clone, Copy)]
 enum Tree {
     Three,
+    // The last leaf leads back to the second.
     Ring,
+    // A root over three leaves, of which the file has the first alone.
     First,
     New,
 }
 
-fn pages_of(alloc: Global, tree: Tree) -> Result<Vec<u8>, Fail> {
+// Adds the pages of a tree.
+fn add_tree(file: &mut Vec<u8>, tree: Tree) -> Result<(), Fail> {
     match tree {
-        Tree::Three => three_leaves(alloc),
-        Tree::Ring => ring(alloc),
-        Tree::First => first_leaf(alloc),
-        Tree::New => Ok(Vec::new(alloc)),
+        Tree::Three => add_three_leaves(file, 0),
+        Tree::Ring => add_three_leaves(file, 3),
+        Tree::First => {
+            add_root(file, 3)?;
+            add_leaf(file, b"ab", 0, 0)
+        }
+        Tree::New => Ok(()),
     }
+}
+
+// What searches over these pages answer.
+fn over(alloc: Global, tree: Tree, asks: &[Ask]) -> Result<Vec<Told>, Fail> {
+    let mut pages = Vec::new(alloc);
+    add_tree(&mut pages, tree)?;
+    let (mut writer, mut disk) = opened(alloc, pages)?;
+    let told = answers(alloc, &mut writer, &mut disk, asks);
+    end(writer, disk);
+    told
 }
 
 // Searches over pages, and what they answer.
@@ -350,10 +341,11 @@ static ROWS: [(&str, Tree, &[Ask], &[Told]); 10] = [
 
 #[test]
 fn searches_are_answered(rt: HostRuntime) -> Result<(), Fail> {
-    let alloc = rt.alloc();
     for (name, tree, asks, told) in &ROWS {
-        let pages = pages_of(alloc, *tree)?;
-        assert!(rt; over(alloc, pages, asks)?.as_slice() == *told, "{name}");
+        assert!(rt;
+            over(rt.alloc(), *tree, asks)?.as_slice() == *told,
+            "{name}"
+        );
     }
     Ok(())
 }

@@ -1,13 +1,15 @@
 //! Flushes and evictions over a model disk, with their device calls counted.
+//! Each test lends its writer and its disk to the calls: what a function owns is dropped at each of its exits, which takes a proof each.
 ghost use Rattle.std.specs.Prelude.{OnOk};
 ghost use Rattle.im_page_writer.specs.PageWriter.{IsReadyWriter};
 
-use crate::writers::{got, log_insert, new_disk, open, open_over, since};
-use im_base_disk::Disk;
+use crate::writers::{end, got, log_insert, new_disk, open, open_over, since};
+use im_base_disk::{Disk, ModelDisk};
 use im_base_types::{Fault, FileId, PageNo};
 use im_log_record::Record;
 use im_page::Page;
 use im_page_writer::PageWriter;
+use std::process::Abort;
 use std::test::Fail;
 
 // Makes a page an empty leaf, by a structure change that is redone: the page is changed, and no copy of it is known.
@@ -47,17 +49,29 @@ fn a_page_past_the_end_takes_those_before_along(rt: HostRuntime) -> Result<(), F
     let alloc = rt.alloc();
     let mut disk = new_disk(alloc);
     let mut writer = open(alloc, &mut disk)?;
+    let told = flush_past_the_end(&rt, &mut writer, &mut disk);
+    end(writer, disk);
+    told
+}
+
+fn flush_past_the_end(
+    rt: &impl Abort,
+    writer: &mut PageWriter,
+    disk: &mut ModelDisk,
+) -> Result<(), Fail>
+    requires { IsReadyWriter ⟦<ModelDisk as Disk>⟧ writer.old disk.old }
+{
     let opened = disk.calls();
-    let lsn = log_insert(&mut writer, &mut disk, b"a")?;
-    assert!(rt; since(&disk, opened) == 0);
-    writer.flush_one(&mut disk, 1)?;
-    assert!(rt; since(&disk, opened) == 6);
+    let lsn = log_insert(writer, disk, b"a")?;
+    assert!(rt; since(disk, opened) == 0);
+    writer.flush_one(disk, 1)?;
+    assert!(rt; since(disk, opened) == 6);
     assert!(rt; disk.end(FileId::Pages) == 8_192);
-    writer.flush_one(&mut disk, 1)?;
-    assert!(rt; got(&mut writer, &mut disk, 1)? == (lsn, 1));
-    assert!(rt; since(&disk, opened) == 6);
-    writer.sync_pages(&mut disk)?;
-    assert!(rt; since(&disk, opened) == 7);
+    writer.flush_one(disk, 1)?;
+    assert!(rt; got(writer, disk, 1)? == (lsn, 1));
+    assert!(rt; since(disk, opened) == 6);
+    writer.sync_pages(disk)?;
+    assert!(rt; since(disk, opened) == 7);
     Ok(())
 }
 
@@ -66,14 +80,22 @@ fn an_eviction_writes_the_least_recently_used_page(rt: HostRuntime) -> Result<()
     let alloc = rt.alloc();
     let mut disk = new_disk(alloc);
     let mut writer = open(alloc, &mut disk)?;
+    let told = evict(&rt, &mut writer, &mut disk);
+    end(writer, disk);
+    told
+}
+
+fn evict(rt: &impl Abort, writer: &mut PageWriter, disk: &mut ModelDisk) -> Result<(), Fail>
+    requires { IsReadyWriter ⟦<ModelDisk as Disk>⟧ writer.old disk.old }
+{
     let opened = disk.calls();
-    let first = log_insert(&mut writer, &mut disk, b"a")?;
-    change_each(&mut writer, &mut disk, 2, 9)?;
-    assert!(rt; since(&disk, opened) == 0);
-    assert!(rt; got(&mut writer, &mut disk, 9)? == (0, 0));
-    assert!(rt; since(&disk, opened) == 6);
-    assert!(rt; got(&mut writer, &mut disk, 1)? == (first, 1));
-    assert!(rt; since(&disk, opened) == 11);
+    let first = log_insert(writer, disk, b"a")?;
+    change_each(writer, disk, 2, 9)?;
+    assert!(rt; since(disk, opened) == 0);
+    assert!(rt; got(writer, disk, 9)? == (0, 0));
+    assert!(rt; since(disk, opened) == 6);
+    assert!(rt; got(writer, disk, 1)? == (first, 1));
+    assert!(rt; since(disk, opened) == 11);
     assert!(rt; disk.end(FileId::Pages) == 12_288);
     Ok(())
 }
@@ -83,16 +105,24 @@ fn a_full_table_is_synced(rt: HostRuntime) -> Result<(), Fail> {
     let alloc = rt.alloc();
     let mut disk = new_disk(alloc);
     let mut writer = open(alloc, &mut disk)?;
+    let told = fill_table(&rt, &mut writer, &mut disk);
+    end(writer, disk);
+    told
+}
+
+fn fill_table(rt: &impl Abort, writer: &mut PageWriter, disk: &mut ModelDisk) -> Result<(), Fail>
+    requires { IsReadyWriter ⟦<ModelDisk as Disk>⟧ writer.old disk.old }
+{
     let opened = disk.calls();
-    writer.make_entry_room(&mut disk)?;
-    assert!(rt; since(&disk, opened) == 0);
+    writer.make_entry_room(disk)?;
+    assert!(rt; since(disk, opened) == 0);
     // A write of the last of 1,024 pages takes those before along, and each has its entry then.
-    assert!(rt; change(&mut writer, &mut disk, 1_023)?);
-    writer.flush_one(&mut disk, 1_023)?;
+    assert!(rt; change(writer, disk, 1_023)?);
+    writer.flush_one(disk, 1_023)?;
     assert!(rt; writer.dirty_count() == 1_024);
     let filled = disk.calls();
-    writer.make_entry_room(&mut disk)?;
-    assert!(rt; since(&disk, filled) == 1);
+    writer.make_entry_room(disk)?;
+    assert!(rt; since(disk, filled) == 1);
     assert!(rt; writer.dirty_count() == 0);
     Ok(())
 }
@@ -101,14 +131,25 @@ fn a_full_table_is_synced(rt: HostRuntime) -> Result<(), Fail> {
 fn a_page_is_copied_again_behind_a_checkpoint(rt: HostRuntime) -> Result<(), Fail> {
     let alloc = rt.alloc();
     let mut disk = new_disk(alloc);
-    let meta = Page::initial(0);
-    let mut writer = open_over(alloc, &mut disk, meta.bytes())?;
-    log_insert(&mut writer, &mut disk, b"a")?;
-    writer.flush_one(&mut disk, 1)?;
-    log_insert(&mut writer, &mut disk, b"b")?;
-    assert!(rt; writer.log_checkpoint(&mut disk, 2, &[])? == 4_256);
+    let mut writer = open_over(alloc, &mut disk, Page::initial(0).bytes())?;
+    let told = flush_behind_checkpoint(&rt, &mut writer, &mut disk);
+    end(writer, disk);
+    told
+}
+
+fn flush_behind_checkpoint(
+    rt: &impl Abort,
+    writer: &mut PageWriter,
+    disk: &mut ModelDisk,
+) -> Result<(), Fail>
+    requires { IsReadyWriter ⟦<ModelDisk as Disk>⟧ writer.old disk.old }
+{
+    log_insert(writer, disk, b"a")?;
+    writer.flush_one(disk, 1)?;
+    log_insert(writer, disk, b"b")?;
+    assert!(rt; writer.log_checkpoint(disk, 2, &[])? == 4_256);
     assert!(rt; writer.durable_end() == 4_313);
-    writer.flush_one(&mut disk, 1)?;
+    writer.flush_one(disk, 1)?;
     assert!(rt; writer.durable_end() == 8_447);
     Ok(())
 }

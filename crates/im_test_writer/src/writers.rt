@@ -46,6 +46,9 @@ pub fn open_over<D: Disk>(alloc: Global, disk: &mut D, pages: &[u8]) -> Result<P
     open(alloc, disk)
 }
 
+/// Ends both. A test hands them in: what it owns takes a proof of its own at each of its exits.
+pub fn end(_writer: PageWriter, _disk: ModelDisk) {}
+
 /// An insert of a key into page 1.
 pub fn insert(key: &[u8]) -> Record<'_>
     requires keyed { 1 ≤ length key.now }
