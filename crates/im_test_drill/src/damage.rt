@@ -32,8 +32,9 @@ fn whole_log(alloc: Global) -> Vec<u8> {
 fn answer_of(alloc: Global, log: Vec<u8>, pages: Vec<u8>) -> Result<u8, AllocError> {
     match open(alloc, ModelDisk::new(log, pages)) {
         Ok(mut engine) => {
-            make_steps(alloc, &mut engine)?;
+            let made = make_steps(alloc, &mut engine);
             let _disk = engine.into_disk();
+            made?;
             Ok(0)
         }
         Err(fault) => Ok(fault.number()),

@@ -83,14 +83,19 @@ static EVERY: [(&str, &str, &str, u8); 4] = [
     ),
 ];
 
+// Whether every stop of a script prints this and no more, with this exit status.
+fn prints_every(alloc: Global, script: &str, want: &str, want_status: u8) -> io::Result<bool> {
+    let mut printed = Vec::new(alloc);
+    let mut reader = script.as_bytes();
+    let status = every_text(alloc, &mut reader, &mut printed, &mut io::sink())?;
+    Ok(status == want_status && printed.as_slice() == want.as_bytes())
+}
+
 #[test]
 fn every_stop_prints_its_counts(rt: HostRuntime) -> Result<(), Fail> {
     for (name, script, want, want_status) in &EVERY {
-        let mut printed = Vec::new(rt.alloc());
-        let mut reader = script.as_bytes();
-        let status = every_text(rt.alloc(), &mut reader, &mut printed, &mut io::sink())?;
         assert!(rt;
-            status == *want_status && printed.as_slice() == want.as_bytes(),
+            prints_every(rt.alloc(), script, want, *want_status)?,
             "{name}"
         );
     }

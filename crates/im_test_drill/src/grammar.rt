@@ -3,6 +3,7 @@
 use crate::drilled::prints;
 use std::alloc::Global;
 use std::io;
+use std::process::Abort;
 use std::test::Fail;
 
 // Scripts whose first line is bad.
@@ -125,6 +126,13 @@ fn is_bad(alloc: Global, first: &str, line: &str) -> io::Result<bool> {
     prints(alloc, script.as_bytes(), b"refused 16 line 2\n", 1)
 }
 
+fn each_is_bad(rt: &impl Abort, alloc: Global, first: &str, lines: &[&str]) -> Result<(), Fail> {
+    for line in lines {
+        assert!(rt; is_bad(alloc, first, line)?, "{line}");
+    }
+    Ok(())
+}
+
 #[test]
 fn lines_that_the_grammar_lacks_are_refused(rt: HostRuntime) -> Result<(), Fail> {
     for script in &SCRIPTS {
@@ -133,16 +141,10 @@ fn lines_that_the_grammar_lacks_are_refused(rt: HostRuntime) -> Result<(), Fail>
             "{script}"
         );
     }
-    for line in &IN_RAW {
-        assert!(rt; is_bad(rt.alloc(), "raw", line)?, "{line}");
-    }
-    Ok(())
+    each_is_bad(&rt, rt.alloc(), "raw", &IN_RAW)
 }
 
 #[test]
 fn a_life_takes_no_other_line(rt: HostRuntime) -> Result<(), Fail> {
-    for line in &IN_LIFE {
-        assert!(rt; is_bad(rt.alloc(), "life", line)?, "{line}");
-    }
-    Ok(())
+    each_is_bad(&rt, rt.alloc(), "life", &IN_LIFE)
 }

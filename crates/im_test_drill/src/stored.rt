@@ -1,6 +1,8 @@
 //! Scripts with what they print, word for word.
 
 use crate::drilled::prints;
+use std::alloc::Global;
+use std::process::Abort;
 use std::test::Fail;
 
 // Scripts with what they print and their exit statuses, word for word.
@@ -249,9 +251,18 @@ static STORED: [(&str, &str, &str, u8); 40] = [
 
 #[test]
 fn scripts_print_their_stored_outputs(rt: HostRuntime) -> Result<(), Fail> {
-    for (name, script, want, want_status) in &STORED {
+    each_prints(&rt, rt.alloc(), &STORED)
+}
+
+// The rows are lent: a proof about a function that names so long a table has all of it at each step.
+fn each_prints(
+    rt: &impl Abort,
+    alloc: Global,
+    rows: &[(&str, &str, &str, u8)],
+) -> Result<(), Fail> {
+    for (name, script, want, want_status) in rows {
         assert!(rt;
-            prints(rt.alloc(), script.as_bytes(), want.as_bytes(), *want_status)?,
+            prints(alloc, script.as_bytes(), want.as_bytes(), *want_status)?,
             "{name}"
         );
     }

@@ -5,6 +5,7 @@ use crate::texts::Part::{Each, Scattered, Text};
 use crate::texts::{Part, text_of};
 use std::alloc::Global;
 use std::io;
+use std::process::Abort;
 use std::test::Fail;
 
 // What is printed is this, begins so, or ends so.
@@ -165,9 +166,17 @@ fn prints_so(alloc: Global, script: &[u8], so: Prints) -> io::Result<bool> {
 
 #[test]
 fn trees_grow_and_shrink(rt: HostRuntime) -> Result<(), Fail> {
-    for (name, parts, so) in &ROWS {
-        let script = text_of(rt.alloc(), parts)?;
-        assert!(rt; prints_so(rt.alloc(), &script, *so)?, "{name}");
+    each_prints_so(&rt, rt.alloc(), &ROWS)
+}
+
+fn each_prints_so(
+    rt: &impl Abort,
+    alloc: Global,
+    rows: &[(&str, &[Part], Prints)],
+) -> Result<(), Fail> {
+    for (name, parts, so) in rows {
+        let script = text_of(alloc, parts)?;
+        assert!(rt; prints_so(alloc, &script, *so)?, "{name}");
     }
     Ok(())
 }

@@ -171,19 +171,32 @@ fn kept(
     Ok(answers(rt.alloc(), disk, bound, BY_NUMBERS, lines)?)
 }
 
+// Whether a store in a folder comes to the input's end, and answers this and no more to these lines.
+fn keeps(
+    rt: &HostRuntime,
+    folder: &str,
+    bound: u64,
+    lines: &str,
+    want: &str,
+) -> Result<bool, Fail> {
+    let (end, printed) = kept(rt, folder, bound, lines)?;
+    Ok(end == StoreEnd::Input && printed.as_slice() == want.as_bytes())
+}
+
+// Lines in turn for one folder, and what is answered.
+static KEPT: [(&str, &str); 2] = [
+    (
+        "begin\ninsert 1 a 7\ncommit 1\nbegin\ninsert 2 b 8\n",
+        "started 1\ninserted\ncommitted\nstarted 2\ninserted\n",
+    ),
+    ("entries\n", "total 1\n61 7\n"),
+];
+
 #[test]
 fn a_store_in_a_folder_keeps_its_keys(rt: HostRuntime) -> Result<(), Fail> {
     let _ = fs::remove_dir_all(&rt, "im_tool_kept");
-    for (lines, want) in [
-        (
-            "begin\ninsert 1 a 7\ncommit 1\nbegin\ninsert 2 b 8\n",
-            "started 1\ninserted\ncommitted\nstarted 2\ninserted\n",
-        ),
-        ("entries\n", "total 1\n61 7\n"),
-    ] {
-        let (end, printed) = kept(&rt, "im_tool_kept", 0, lines)?;
-        assert!(rt; end == StoreEnd::Input, "{lines}");
-        assert!(rt; printed.as_slice() == want.as_bytes(), "{lines}");
+    for (lines, want) in &KEPT {
+        assert!(rt; keeps(&rt, "im_tool_kept", 0, lines, want)?, "{lines}");
     }
     fs::remove_dir_all(&rt, "im_tool_kept")?;
     Ok(())
@@ -214,12 +227,15 @@ fn files(rt: &HostRuntime) -> io::Result<(Vec<u8>, Vec<u8>)> {
     Ok((log, pages))
 }
 
+fn has_three(rt: &HostRuntime, bound: u64) -> Result<bool, Fail> {
+    let want = "total 3\n61 7\n62 8\n63 9\n";
+    keeps(rt, "im_tool_closed", bound, "entries\n", want)
+}
+
 // Whether one more opening and close find the three entries, and leave the files as they are.
 fn is_left(rt: &HostRuntime, bound: u64) -> Result<bool, Fail> {
     let left = files(rt)?;
-    let (end, printed) = kept(rt, "im_tool_closed", bound, "entries\n")?;
-    let has_three = printed.as_slice() == b"total 3\n61 7\n62 8\n63 9\n".as_slice();
-    Ok(end == StoreEnd::Input && has_three && files(rt)? == left)
+    Ok(has_three(rt, bound)? && files(rt)? == left)
 }
 
 // Three inserts are redone where nothing bounds that, and none behind a close.

@@ -8,14 +8,18 @@ use std::io;
 use std::io::{BufReader, Write};
 use std::test::Fail;
 
-// What a load of so many entries answers, and what it tells of how far it is.
-fn loaded(alloc: Global, count: u32, is_shown: bool) -> io::Result<(Loaded, Vec<u8>)> {
-    let mut text = Vec::new(alloc);
+// Writes so many entries as a dump has them.
+fn write_entries(text: &mut Vec<u8>, count: u32) -> io::Result<()> {
     writeln!(text, "imstore entries {count}")?;
     for n in 0..count {
         writeln!(text, "k{n} {n}")?;
     }
-    let mut reader = BufReader::new(alloc, text.as_slice())?;
+    Ok(())
+}
+
+// What a load of a text answers, and what it tells of how far it is.
+fn loaded(alloc: Global, text: &[u8], is_shown: bool) -> io::Result<(Loaded, Vec<u8>)> {
+    let mut reader = BufReader::new(alloc, text)?;
     let mut progress = Progress {
         writer: Vec::new(alloc),
         is_shown,
@@ -33,19 +37,28 @@ fn loaded(alloc: Global, count: u32, is_shown: bool) -> io::Result<(Loaded, Vec<
     Ok((end, writer))
 }
 
+// How many entries are loaded, whether it is shown how far that is, and what is told then.
+static LOADS: [(u32, bool, &str); 2] = [
+    (
+        1_003,
+        true,
+        "\r1000 of 1003 entries\r1003 of 1003 entries\n",
+    ),
+    (3, false, ""),
+];
+
+// Whether all of so many entries are loaded, and this and no more is told.
+fn tells(alloc: Global, count: u32, is_shown: bool, want: &str) -> io::Result<bool> {
+    let mut text = Vec::new(alloc);
+    write_entries(&mut text, count)?;
+    let (end, told) = loaded(alloc, &text, is_shown)?;
+    Ok(end == Loaded::All(u64::from(count)) && told.as_slice() == want.as_bytes())
+}
+
 #[test]
 fn a_load_tells_how_far_it_is(rt: HostRuntime) -> Result<(), Fail> {
-    for (count, is_shown, want) in [
-        (
-            1_003,
-            true,
-            "\r1000 of 1003 entries\r1003 of 1003 entries\n",
-        ),
-        (3, false, ""),
-    ] {
-        let (end, told) = loaded(rt.alloc(), count, is_shown)?;
-        assert!(rt; end == Loaded::All(count as u64), "{count}");
-        assert!(rt; told.as_slice() == want.as_bytes(), "{count}");
+    for (count, is_shown, want) in &LOADS {
+        assert!(rt; tells(rt.alloc(), *count, *is_shown, want)?, "{count}");
     }
     Ok(())
 }

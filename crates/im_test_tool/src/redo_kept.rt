@@ -5,6 +5,7 @@ use im_engine::{Config, Engine};
 use im_front::{Reply, Step};
 use im_tool::{Checkpoints, RedoBound};
 use std::alloc::Global;
+use std::process::Abort;
 use std::test::Fail;
 
 // How long the log is that an opening would read which follows a stop now, from its redo point on.
@@ -47,21 +48,31 @@ fn is_put(
     Ok(matches!(&insert, (Reply::Inserted, true)) && matches!(&commit, (Reply::Committed, true)))
 }
 
-// Keys of 255 bytes, each committed, over leaves of fifteen: the store stops behind each commit.
+// How much an opening may have to redo, in bytes.
+const MOST: u64 = 131_072;
+
 #[test]
 fn what_is_redone_stays_within_the_bound(rt: HostRuntime) -> Result<(), Fail> {
     let alloc = rt.alloc();
-    let most = 131_072;
     let disk = ModelDisk::new(Vec::new(alloc), Vec::new(alloc));
-    let Ok(mut engine) = Engine::open_or_create(alloc, disk, Config::default()) else {
-        return Err(Fail::from(im_base_types::Fault::Memory));
-    };
-    let mut checkpoints = Checkpoints::of(&engine, RedoBound::of_bytes(most));
-    for n in 0..90u64 {
-        assert!(rt; is_put(alloc, &mut engine, &mut checkpoints, n)?, "{n}");
-        assert!(rt; redo_length(alloc, &engine)? <= most, "{n}");
+    match Engine::open_or_create(alloc, disk, Config::default()) {
+        Ok(mut engine) => stop_behind_each(&rt, alloc, &mut engine),
+        Err((fault, _disk)) => Err(Fail::from(fault)),
     }
-    assert!(rt; checkpoints.close(&mut engine).is_ok());
-    assert!(rt; redo_length(alloc, &engine)? <= 4_096);
+}
+
+// Keys of 255 bytes, each committed, over leaves of fifteen: the store stops behind each commit.
+fn stop_behind_each(
+    rt: &impl Abort,
+    alloc: Global,
+    engine: &mut Engine<ModelDisk>,
+) -> Result<(), Fail> {
+    let mut checkpoints = Checkpoints::of(engine, RedoBound::of_bytes(MOST));
+    for n in 0..90u64 {
+        assert!(rt; is_put(alloc, engine, &mut checkpoints, n)?, "{n}");
+        assert!(rt; redo_length(alloc, engine)? <= MOST, "{n}");
+    }
+    assert!(rt; checkpoints.close(engine).is_ok());
+    assert!(rt; redo_length(alloc, engine)? <= 4_096);
     Ok(())
 }

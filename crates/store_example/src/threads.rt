@@ -1,59 +1,54 @@
 //! How threads share one store in a folder: a front over the engine, two threads that insert keys of their own, and what is there when the
 //! store is opened again.
 
-ghost use Rattle.std.specs.Prelude.{◌≡◌, IfOk};
+ghost use Rattle.std.specs.Prelude.{◌≡◌};
 ghost use Rattle.im_front.specs.Held.{IsResting};
 
+use crate::open_store;
 use im_base_disk::FileDisk;
 use im_base_types::TxnId;
-use im_engine::{Config, Engine};
+use im_engine::Engine;
 use im_front::{Closed, Fault, Front, Reply, Share, Stats, Step, Store};
 use std::alloc::Global;
-use std::fs;
 use std::sync::Wait;
 use std::sync::ledger::{Blank, Ledger};
 use std::thread::{Threads, join};
 
-const DIR: &str = "store_example_threads";
-
 /// How many keys each thread inserts.
 const KEYS: u8 = 25;
 
-/// What is left of a front that was closed: the counts and the trace, and what the store has when it is opened again.
+/// What is left of a front that was closed: the counts and the trace, and what the store in its folder has when it is opened again.
 pub fn show(
     rt: &HostRuntime,
     stats: Stats,
     closed: Closed<Engine<FileDisk>>,
+    folder: &str,
 ) -> anyhow::Result<()> {
+    let all = close(closed)?;
+    println!(rt; "committed {}", stats.committed)?;
+    println!(rt; "every step is in the trace: {all}")?;
+    println!(rt; "entries when opened again: {}", count(rt, folder)?)?;
+    Ok(())
+}
+
+// Closes the store. Whether every step is in the trace.
+fn close(closed: Closed<Engine<FileDisk>>) -> Result<bool, im_base_types::Fault> {
     let Closed {
         engine,
         trace,
         sum,
         ..
     } = closed;
-    let all = sum == Some(trace.len() as u64);
-    println!(rt; "committed {}", stats.committed)?;
-    println!(rt; "every step is in the trace: {all}")?;
-    let (synced, disk) = engine.close();
+    let (synced, _disk) = engine.close();
     synced?;
-    drop(disk);
-    let mut engine = open_shared(rt)?;
-    let entries = engine.entries(rt.alloc())?;
-    println!(rt; "entries when opened again: {}", entries.len())?;
-    let _disk = engine.into_disk();
-    fs::remove_dir_all(rt, DIR)?;
-    Ok(())
+    Ok(sum == Some(trace.len() as u64))
 }
 
-/// The store of the folder. No transaction is active in it.
-pub fn open_shared(rt: &HostRuntime) -> anyhow::Result<Engine<FileDisk>>
-    ensures { IfOk result (λ engine. IsResting ⟦<Engine<FileDisk> as Store>⟧ engine) }
-{
-    let disk = FileDisk::open(rt, DIR)?;
-    match Engine::open_or_create(rt.alloc(), disk, Config::default()) {
-        Ok(engine) => Ok(engine),
-        Err((fault, _disk)) => Err(anyhow::Error::from(fault)),
-    }
+// How many entries the store in a folder has.
+fn count(rt: &HostRuntime, folder: &str) -> anyhow::Result<usize> {
+    let mut engine = open_store(rt, folder)?;
+    let entries = engine.entries(rt.alloc())?;
+    Ok(entries.len())
 }
 
 /// Two threads at work on one store, to the end of both; what the statistics say then, and what is left of the front.
@@ -70,39 +65,46 @@ pub fn share<E: Store + Send, L: Ledger + Send + Sync, R: Threads + Wait + Sync>
         Ok(front) => front,
         Err(refused) => return Err(refused.0),
     };
-    let first = front.share(rt)?;
-    let second = front.share(rt)?;
     let shared = &front;
     let (first, second) = join(
         rt,
-        || work(rt, alloc, shared, first, b'a'),
-        || work(rt, alloc, shared, second, b'b'),
+        || work(rt, alloc, shared, b'a'),
+        || work(rt, alloc, shared, b'b'),
     );
     let mut first = first?;
     let stats = front.stats(&mut first);
-    let mut shares = Vec::new(alloc);
-    let Ok(()) = shares.push(first) else {
-        return Err(Fault::Memory);
-    };
-    let Ok(()) = shares.push(second?) else {
-        return Err(Fault::Memory);
-    };
+    let shares = both(alloc, first, second?)?;
     Ok((stats, front.close(shares)))
 }
 
-// What a thread does: it inserts its keys, each in a transaction of its own, and hands its share back.
+// What a thread does: it takes a share, inserts its keys, each in a transaction of its own, and hands the share back.
 fn work<E: Store, L: Ledger, R: Wait>(
     rt: &R,
     alloc: Global,
     front: &Front<E, L>,
-    share: Share<L>,
     thread: u8,
 ) -> Result<Share<L>, Fault> {
-    let mut mine = share;
+    let mut mine = front.share(rt)?;
     for number in 0..KEYS {
         insert(rt, alloc, front, &mut mine, thread, number)?;
     }
     Ok(mine)
+}
+
+// The shares of both threads, as the front takes them back.
+fn both<L: Ledger>(
+    alloc: Global,
+    first: Share<L>,
+    second: Share<L>,
+) -> Result<Vec<Share<L>>, Fault> {
+    let mut shares = Vec::new(alloc);
+    let Ok(()) = shares.push(first) else {
+        return Err(Fault::Memory);
+    };
+    let Ok(()) = shares.push(second) else {
+        return Err(Fault::Memory);
+    };
+    Ok(shares)
 }
 
 // Inserts a key and commits. Where the transaction must die it is rolled back, and a new one tries again.

@@ -1,5 +1,5 @@
 use Rattle.std.proofs.Common.{length, ap}
-use Rattle.store_example.proofs.threads.open_shared.Goals as goal
+use Rattle.store_example.proofs.open_store.Goals as goal
 
 -- no transaction is active; and real files tell nothing
 pub returns-in-Ok : goal.returns-in-Ok
