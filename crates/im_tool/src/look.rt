@@ -17,8 +17,6 @@ const PAGE_SIZE: usize = 4_096;
 #[derive(Drop)]
 enum Looked {
     Log(LogDamage),
-    // A record names a page that is past all that records can have made.
-    PastRecords(PageNo),
     Opening(Fault),
     Whole(Survey, TreeSurvey),
 }
@@ -31,7 +29,7 @@ fn look(alloc: Global, copies: Copies) -> Result<Looked, Fault> {
     let in_file = (copies.pages.len() / PAGE_SIZE) as u64;
     let most = in_file.saturating_add(said.records).saturating_add(2);
     if u64::from(said.greatest_page) > most {
-        return Ok(Looked::PastRecords(said.greatest_page));
+        return Ok(Looked::Log(LogDamage::NoPage(said.greatest_page)));
     }
     let count = u64::from(said.greatest_page).max(in_file).saturating_add(1);
     let engine = match opened(alloc, copies) {
@@ -59,7 +57,7 @@ fn look_at_pages(
     count: u64,
 ) -> Result<Looked, Fault> {
     let Ok(count) = PageNo::try_from(count) else {
-        return Ok(Looked::PastRecords(said.greatest_page));
+        return Ok(Looked::Log(LogDamage::NoPage(said.greatest_page)));
     };
     match pages_of(alloc, engine, count) {
         Ok(pages) => Ok(Looked::Whole(said, check_pages(alloc, &pages)?)),
@@ -125,12 +123,6 @@ fn is_whole<W: Write>(writer: &mut W, log: &[u8], looked: &Looked) -> io::Result
 fn broken_text<W: Write>(writer: &mut W, looked: &Looked) -> io::Result<()> {
     match looked {
         Looked::Log(damage) => writeln!(writer, "{damage}"),
-        Looked::PastRecords(page) => {
-            writeln!(
-                writer,
-                "log: a record names page {page}, which no record has made"
-            )
-        }
         Looked::Opening(fault) => {
             writeln!(writer, "opening: refused {}: {fault}", fault.number())
         }
