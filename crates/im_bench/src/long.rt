@@ -12,7 +12,6 @@
 //! behind a page deletion, and in the same way the opening that takes this transaction back, and counts behind how many stops the next
 //! opening finds just what was committed.
 
-mod disk;
 mod keys;
 mod parts;
 mod stops;
@@ -20,16 +19,17 @@ mod tally;
 
 ghost use Rattle.std.specs.Prelude.{◌≡◌, false};
 
-use crate::long::disk::{Calls, CountingDisk};
+use crate::counted::{self, Calls, Counted};
 use crate::long::parts::{
     Kinds, Order, Span, Work, begun, committed, listed, pages_by_kind, worked,
 };
 use crate::long::stops::{Doubt, Life, founded, losing, stopped_at_each};
 use crate::long::tally::Tally;
+use crate::memory::MemoryDisk;
 use anyhow::Result;
 use im_base_disk::{Disk, ModelDisk};
 use im_base_types::FileId;
-use im_engine::{Config, Engine};
+use im_engine::Engine;
 use im_front::{Reply, Step};
 
 /// How many keys the store has.
@@ -43,20 +43,71 @@ const PAGES: u32 = 2_048;
 
 /// Does it, and prints its counts.
 pub fn run(rt: &HostRuntime) -> Result<()> {
-    let disk = CountingDisk::new(rt.alloc());
-    let mut engine = opened(rt, disk, 1_024, "created")?;
-    fill(rt, &mut engine)?;
-    let engine = read(rt, engine)?;
-    let engine = left(rt, engine, "inserts of a loser, falling", FALLING)?;
-    let engine = left(rt, engine, "inserts of a loser, scattered", SCATTERED)?;
-    let engine = left(rt, engine, "deletes of a loser", DELETES)?;
-    emptied(rt, engine)?;
+    let mut disk = MemoryDisk::new(rt.alloc());
+    for opening in &OPENINGS {
+        disk = lived(rt, disk.at_rest(), opening)?;
+    }
     stopped(rt)
 }
+
+/// An opening of the store, by its name, in so many frames, and what is done then.
+struct Opening {
+    frames: usize,
+    name: &'static str,
+    parts: &'static [Part],
+}
+
+/// A part of what is done.
+enum Part {
+    /// Every key is inserted.
+    Fill,
+    /// Every key is read, and then all are listed, while no page is changed.
+    Read,
+    /// What the store has is printed.
+    Show,
+    /// A transaction does this, and the store ends before it commits; the next opening takes it back.
+    Lose(Losing),
+    /// All keys go, in rising order.
+    Empty,
+}
+
+const OPENINGS: [Opening; 6] = [
+    Opening {
+        frames: 1_024,
+        name: "created",
+        parts: &[Part::Fill],
+    },
+    Opening {
+        frames: 8,
+        name: "opened again",
+        parts: &[Part::Read, Part::Lose(FALLING)],
+    },
+    Opening {
+        frames: 64,
+        name: "taken back",
+        parts: &[Part::Show, Part::Lose(SCATTERED)],
+    },
+    Opening {
+        frames: 64,
+        name: "taken back",
+        parts: &[Part::Show, Part::Lose(DELETES)],
+    },
+    Opening {
+        frames: 64,
+        name: "taken back",
+        parts: &[Part::Show, Part::Empty],
+    },
+    Opening {
+        frames: 64,
+        name: "opened empty",
+        parts: &[Part::Show],
+    },
+];
 
 /// What a transaction does that never commits.
 #[derive(Clone, Copy)]
 struct Losing {
+    name: &'static str,
     work: Work,
     span: Span,
 }
@@ -64,6 +115,7 @@ struct Losing {
 /// Keys above those that are there, in falling order. Their leaves split, so that most of them lie on other pages than their records
 /// name, and their undo leaves each such leaf empty.
 const FALLING: Losing = Losing {
+    name: "inserts of a loser, falling",
     work: Work::Insert,
     span: Span {
         first: 20_001,
@@ -74,6 +126,7 @@ const FALLING: Losing = Losing {
 
 /// Keys above those that are there, in scattered order, whose leaves split as well.
 const SCATTERED: Losing = Losing {
+    name: "inserts of a loser, scattered",
     work: Work::Insert,
     span: Span {
         first: 30_001,
@@ -84,6 +137,7 @@ const SCATTERED: Losing = Losing {
 
 /// Keys that are there, so many that pages go on each level.
 const DELETES: Losing = Losing {
+    name: "deletes of a loser",
     work: Work::Delete,
     span: Span {
         first: 0,
@@ -92,72 +146,50 @@ const DELETES: Losing = Losing {
     },
 };
 
-// Opens the store, and says what that took.
-fn opened(
-    rt: &HostRuntime,
-    disk: CountingDisk,
-    frames: usize,
-    name: &str,
-) -> Result<Engine<CountingDisk>>
-    requires { ⟦<CountingDisk as Disk>⟧.failed disk ≡ false }
+// A life of the store: its opening, and what is done then.
+fn lived(rt: &HostRuntime, disk: MemoryDisk, opening: &Opening) -> Result<MemoryDisk>
+    requires { ⟦<MemoryDisk as Disk>⟧.failed disk ≡ false }
 {
-    let config = Config {
-        frames,
-        max_pages: 1_000_000,
-    };
-    let engine = match Engine::open_or_create(rt.alloc(), disk, config) {
-        Ok(engine) => engine,
-        Err((fault, _disk)) => return Err(fault.into()),
-    };
-    show_opened(rt, frames, name, engine.disk().calls())?;
-    Ok(engine)
+    let mut engine = counted::opened(rt.alloc(), disk, opening.frames)?;
+    each_done(rt, &mut engine, opening)?;
+    Ok(engine.into_disk().into_disk())
 }
 
-// Ends the engine and opens the store again.
-fn opened_again(
+// Says what the opening took, and does the parts.
+fn each_done(
     rt: &HostRuntime,
-    engine: Engine<CountingDisk>,
-    frames: usize,
-    name: &str,
-) -> Result<Engine<CountingDisk>> {
-    opened(rt, engine.into_disk().at_rest(), frames, name)
+    engine: &mut Engine<Counted<MemoryDisk>>,
+    opening: &Opening,
+) -> Result<()> {
+    println!(rt; "{} in {} frames", opening.name, opening.frames)?;
+    show_calls(rt, engine.disk().calls())?;
+    for part in opening.parts {
+        done(rt, engine, part)?;
+    }
+    Ok(())
 }
 
-// Every key is inserted.
-fn fill(rt: &HostRuntime, engine: &mut Engine<CountingDisk>) -> Result<()> {
-    each_transaction(rt, engine, "filled", Work::Insert, Order::Rising)?;
-    show_pages(rt, engine)
-}
-
-// Every key is read, and then all are listed, while no page is changed.
-fn read(rt: &HostRuntime, engine: Engine<CountingDisk>) -> Result<Engine<CountingDisk>> {
-    let mut engine = opened_again(rt, engine, 8, "opened again")?;
-    each_transaction(rt, &mut engine, "read", Work::Fetch, Order::Scattered)?;
-    show_entries(rt, &mut engine)?;
-    Ok(engine)
-}
-
-// A transaction does this, and the store ends before it commits; the next opening takes it back.
-fn left(
-    rt: &HostRuntime,
-    engine: Engine<CountingDisk>,
-    name: &str,
-    losing: Losing,
-) -> Result<Engine<CountingDisk>> {
-    let mut engine = engine;
-    lose(rt, &mut engine, name, losing)?;
-    let mut engine = opened_again(rt, engine, 64, "taken back")?;
-    show_all(rt, &mut engine)?;
-    Ok(engine)
+fn done(rt: &HostRuntime, engine: &mut Engine<Counted<MemoryDisk>>, part: &Part) -> Result<()> {
+    match part {
+        Part::Fill => {
+            each_transaction(rt, engine, "filled", Work::Insert, Order::Rising)?;
+            show_pages(rt, engine)
+        }
+        Part::Read => {
+            each_transaction(rt, engine, "read", Work::Fetch, Order::Scattered)?;
+            show_entries(rt, engine)
+        }
+        Part::Show => show_all(rt, engine),
+        Part::Lose(losing) => lose(rt, engine, losing),
+        Part::Empty => {
+            each_transaction(rt, engine, "emptied", Work::Delete, Order::Rising)?;
+            show_all(rt, engine)
+        }
+    }
 }
 
 // The steps of a transaction that never commits, and a force behind them.
-fn lose(
-    rt: &HostRuntime,
-    engine: &mut Engine<CountingDisk>,
-    name: &str,
-    losing: Losing,
-) -> Result<()> {
+fn lose(rt: &HostRuntime, engine: &mut Engine<Counted<MemoryDisk>>, losing: &Losing) -> Result<()> {
     let mut tally = Tally::default();
     if let Some(transaction) = begun(engine) {
         worked(
@@ -171,29 +203,15 @@ fn lose(
     }
     let reply = engine.step(&Step::Force);
     tally.add(&reply, matches!(&reply, Reply::Done));
-    println!(rt; "{name}")?;
+    println!(rt; "{}", losing.name)?;
     show_tally(rt, tally)?;
     show_calls(rt, engine.disk().calls())
-}
-
-// All keys go, in rising order, and the store is opened once more.
-fn emptied(rt: &HostRuntime, engine: Engine<CountingDisk>) -> Result<()> {
-    let mut engine = engine;
-    empty(rt, &mut engine)?;
-    let mut engine = opened_again(rt, engine, 64, "opened empty")?;
-    show_all(rt, &mut engine)
-}
-
-// All keys go.
-fn empty(rt: &HostRuntime, engine: &mut Engine<CountingDisk>) -> Result<()> {
-    each_transaction(rt, engine, "emptied", Work::Delete, Order::Rising)?;
-    show_all(rt, engine)
 }
 
 // Makes a work of all keys, by transactions that commit.
 fn each_transaction(
     rt: &HostRuntime,
-    engine: &mut Engine<CountingDisk>,
+    engine: &mut Engine<Counted<MemoryDisk>>,
     name: &str,
     work: Work,
     order: Order,
@@ -228,13 +246,8 @@ fn stopped_on(rt: &HostRuntime, base: &ModelDisk) -> Result<()> {
 
 // ---- lines
 
-fn show_opened(rt: &HostRuntime, frames: usize, name: &str, calls: Calls) -> Result<()> {
-    println!(rt; "{name} in {frames} frames")?;
-    show_calls(rt, calls)
-}
-
 // What the store has, and what its pages are for.
-fn show_all(rt: &HostRuntime, engine: &mut Engine<CountingDisk>) -> Result<()> {
+fn show_all(rt: &HostRuntime, engine: &mut Engine<Counted<MemoryDisk>>) -> Result<()> {
     show_entries(rt, engine)?;
     show_pages(rt, engine)
 }
@@ -255,16 +268,16 @@ fn show_calls(rt: &HostRuntime, calls: Calls) -> Result<()> {
     Ok(())
 }
 
-fn show_entries(rt: &HostRuntime, engine: &mut Engine<CountingDisk>) -> Result<()> {
+fn show_entries(rt: &HostRuntime, engine: &mut Engine<Counted<MemoryDisk>>) -> Result<()> {
     let (entries, right) = listed(rt.alloc(), engine)?;
     println!(rt; "  entries: {entries}, right {right}")?;
     Ok(())
 }
 
-fn show_pages(rt: &HostRuntime, engine: &mut Engine<CountingDisk>) -> Result<()> {
+fn show_pages(rt: &HostRuntime, engine: &mut Engine<Counted<MemoryDisk>>) -> Result<()> {
     let kinds = pages_by_kind(engine, PAGES)?;
-    let pages = engine.disk().size(FileId::Pages) / 4_096;
-    let log = engine.disk().size(FileId::Log);
+    let pages = engine.disk().disk().size(FileId::Pages) / 4_096;
+    let log = engine.disk().disk().size(FileId::Log);
     show_kinds(rt, kinds)?;
     println!(rt; "  files: {pages} pages, log {log} bytes")?;
     Ok(())

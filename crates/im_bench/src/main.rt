@@ -9,9 +9,11 @@
 //! time, by strides. `im_bench damage --all` damages each byte of both files, which takes minutes.
 #![tactic(auto)]
 
+mod counted;
 mod damage;
 mod front;
 mod long;
+mod memory;
 mod store;
 mod tree;
 

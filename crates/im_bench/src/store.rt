@@ -24,19 +24,17 @@
 //! 7,430 a second, 0.93 of C's in the middle (0.86 to 1.22); with replies into a file of the same disk 0.86 in the middle. Of 8,000 such
 //! commits the splits add 3 % to the syncs, and lines and replies some 8 us to each.
 
-mod counted;
-mod memory;
 mod options;
 mod works;
 
 ghost use Rattle.std.specs.Prelude.{◌≡◌, false};
 ghost use Rattle.im_base_disk.specs.Runs.{IsSynced};
 
+use crate::counted::{Calls, Counted, opened};
+use crate::memory::MemoryDisk;
 use anyhow::Result;
-use counted::{Calls, Counted};
 use im_base_disk::{Disk, FileDisk};
-use im_engine::{Config, Engine};
-use memory::MemoryDisk;
+use im_engine::Engine;
 use options::{Options, options_of};
 use std::time::Instant;
 use works::{Part, Work, worked};
@@ -146,15 +144,8 @@ fn lived<D: Disk + Drop>(
     requires working { D.failed disk ≡ false }
     requires synced { IsSynced D.Disk disk }
 {
-    let config = Config {
-        frames,
-        max_pages: 1_000_000,
-    };
     let start = Instant::now(rt)?;
-    let mut engine = match Engine::open_or_create(rt.alloc(), Counted::new(disk), config) {
-        Ok(engine) => engine,
-        Err((fault, _disk)) => return Err(fault.into()),
-    };
+    let mut engine = opened(rt.alloc(), disk, frames)?;
     each_done(rt, options, &mut engine, &start, parts)?;
     Ok(engine.into_disk().into_disk())
 }

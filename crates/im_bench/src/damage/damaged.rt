@@ -15,7 +15,7 @@ pub struct Damaged {
 }
 
 /// What comes of one damaged byte.
-#[derive(Clone, Copy, Debug, PartialEq, Eq)]
+#[derive(Clone, Copy)]
 pub enum Outcome {
     /// The opening finds just what was committed.
     Right,
@@ -28,7 +28,7 @@ pub enum Outcome {
 }
 
 /// How often each came.
-#[derive(Clone, Copy, Debug, Default, PartialEq, Eq)]
+#[derive(Clone, Copy, Default)]
 pub struct Outcomes {
     pub all: u64,
     pub right: u64,

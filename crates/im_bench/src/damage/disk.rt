@@ -2,6 +2,7 @@
 
 ghost use Rattle.std.specs.Prelude.{◌≡◌, [], false};
 
+use crate::memory::{put, take};
 use im_base_disk::{Count, Disk};
 use im_base_types::{Fault, FileId};
 use std::alloc::{AllocError, Global};
@@ -94,25 +95,6 @@ impl BoundedDisk {
     }
 }
 
-// Puts bytes into a file, over what is there and past its end. A place past the end is taken for the end.
-fn put(file: &mut Vec<u8>, at: u64, bytes: &[u8]) -> Result<(), AllocError> {
-    let at = (at as usize).min(file.len());
-    let over = bytes.len().min(file.len() - at);
-    file[at..at + over].copy_from_slice(&bytes[..over]);
-    file.extend_from_slice(&bytes[over..])?;
-    if file.len() > MOST_BYTES {
-        return Err(AllocError);
-    }
-    Ok(())
-}
-
-// Takes bytes out of a file. Where the file has fewer, the rest of the buffer stays as it is.
-fn take(file: &[u8], at: u64, buf: &mut [u8]) {
-    let at = (at as usize).min(file.len());
-    let size = buf.len().min(file.len() - at);
-    buf[..size].copy_from_slice(&file[at..at + size]);
-}
-
 impl Disk for BoundedDisk {
     ghost tells = { ⊥ };
 
@@ -161,8 +143,12 @@ impl Disk for BoundedDisk {
             FileId::Log => put(&mut self.files.log, at, bytes),
             FileId::Pages => put(&mut self.files.pages, at, bytes),
         };
-        self.has_failed = outcome.is_err();
-        outcome.map_err(|_| Fault::Device)
+        self.has_failed = outcome.is_err() || self.file(file).len() > MOST_BYTES;
+        if self.has_failed {
+            Err(Fault::Device)
+        } else {
+            Ok(())
+        }
     }
 
     fn sync(&mut self, _file: FileId) -> Result<(), Fault> {

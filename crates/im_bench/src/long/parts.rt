@@ -9,7 +9,7 @@ use im_front::{Reply, Step};
 use std::alloc::Global;
 
 /// What is done with a key.
-#[derive(Clone, Copy, Debug, PartialEq, Eq)]
+#[derive(Clone, Copy)]
 pub enum Work {
     Insert,
     Fetch,
@@ -17,7 +17,7 @@ pub enum Work {
 }
 
 /// In which order the keys of a part come.
-#[derive(Clone, Copy, Debug, PartialEq, Eq)]
+#[derive(Clone, Copy)]
 pub enum Order {
     Rising,
     Falling,
@@ -25,7 +25,7 @@ pub enum Order {
 }
 
 /// The keys of a part: so many numbers from the first one on, in steps of two.
-#[derive(Clone, Copy, Debug)]
+#[derive(Clone, Copy)]
 pub struct Span {
     pub first: u64,
     pub keys: u64,
@@ -33,7 +33,7 @@ pub struct Span {
 }
 
 /// How many pages are for what.
-#[derive(Clone, Copy, Debug, Default, PartialEq, Eq)]
+#[derive(Clone, Copy, Default)]
 pub struct Kinds {
     pub leaves: u64,
     pub inner: u64,
@@ -109,11 +109,10 @@ fn step_of(alloc: Global, transaction: TxnId, work: Work, number: u64) -> Result
 
 // Whether it has the reply that it should have.
 fn is_right(work: Work, number: u64, reply: &Reply) -> bool {
-    match reply {
-        Reply::Inserted => work == Work::Insert,
-        Reply::Found(rid) => work == Work::Fetch && *rid == number,
-        Reply::Deleted => work == Work::Delete,
-        _ => false,
+    match work {
+        Work::Insert => matches!(reply, Reply::Inserted),
+        Work::Fetch => matches!(reply, Reply::Found(rid) if *rid == number),
+        Work::Delete => matches!(reply, Reply::Deleted),
     }
 }
 

@@ -48,7 +48,7 @@ const CONFIG: Config = Config {
 };
 
 /// What is stopped.
-#[derive(Clone, Copy, Debug, PartialEq, Eq)]
+#[derive(Clone, Copy)]
 pub enum Life {
     /// The life of the transaction that never commits.
     Losing,
@@ -57,7 +57,7 @@ pub enum Life {
 }
 
 /// What a stop leaves of the places that were not synced.
-#[derive(Clone, Copy, Debug, PartialEq, Eq)]
+#[derive(Clone, Copy, Debug)]
 pub enum Doubt {
     /// What was written, and the files as long as that.
     Written,
@@ -68,7 +68,7 @@ pub enum Doubt {
 }
 
 /// What came of the stops.
-#[derive(Clone, Copy, Debug, Default, PartialEq, Eq)]
+#[derive(Clone, Copy, Default)]
 pub struct Stops {
     /// How many device calls had their stop.
     pub calls: u64,
@@ -156,7 +156,7 @@ fn run(alloc: Global, disk: ModelDisk, life: Life) -> Result<ModelDisk, Fault>
         Ok(engine) => engine,
         Err((_fault, disk)) => return Ok(disk),
     };
-    if life == Life::Losing {
+    if matches!(life, Life::Losing) {
         let mut tally = Tally::default();
         lose(alloc, &mut engine, &mut tally)?;
     }

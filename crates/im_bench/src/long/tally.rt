@@ -3,7 +3,7 @@
 use im_front::{Fault, Reply};
 
 /// How many steps had the reply that they should have, and how many another one, by what it was.
-#[derive(Clone, Copy, Debug, Default, PartialEq, Eq)]
+#[derive(Clone, Copy, Default)]
 pub struct Tally {
     pub right: u64,
     /// Refused for want of memory, or as the engine had failed for it.

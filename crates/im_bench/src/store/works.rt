@@ -8,7 +8,7 @@ use im_front::{Reply, Step};
 use std::alloc::Global;
 
 /// What is done with each key.
-#[derive(Clone, Copy, Debug, PartialEq, Eq)]
+#[derive(Clone, Copy)]
 pub enum Work {
     Insert,
     /// A look-up of a key that is there.
@@ -26,7 +26,7 @@ pub enum Work {
 pub const SCANNED: u64 = 100;
 
 /// A work on so many keys from a number on, so many in a transaction.
-#[derive(Clone, Copy, Debug)]
+#[derive(Clone, Copy)]
 pub struct Part {
     pub work: Work,
     pub first: u64,

@@ -8,7 +8,7 @@ use im_front::{Reply, Step};
 use std::alloc::Global;
 
 /// What is done with each key.
-#[derive(Clone, Copy, Debug, PartialEq, Eq)]
+#[derive(Clone, Copy)]
 pub enum Work {
     Insert,
     Fetch,
@@ -76,10 +76,9 @@ fn step_of(
 
 // Whether it has the reply that it should have.
 fn is_right(work: Work, number: u64, reply: &Reply) -> bool {
-    match reply {
-        Reply::Inserted => work == Work::Insert,
-        Reply::Found(rid) => work == Work::Fetch && *rid == number,
-        Reply::Deleted => work == Work::Delete,
-        _ => false,
+    match work {
+        Work::Insert => matches!(reply, Reply::Inserted),
+        Work::Fetch => matches!(reply, Reply::Found(rid) if *rid == number),
+        Work::Delete => matches!(reply, Reply::Deleted),
     }
 }

@@ -1,12 +1,15 @@
-//! A disk that counts its calls.
+//! A disk that counts its calls, and a store over it.
 
 ghost use Rattle.std.specs.Prelude.{◌≡◌, false};
+ghost use Rattle.im_base_disk.specs.Runs.{IsSynced};
 
 use im_base_disk::Disk;
 use im_base_types::{Fault, FileId};
+use im_engine::{Config, Engine};
+use std::alloc::Global;
 
-/// How often a disk was called, each kind by itself, and how many bytes of log were written.
-#[derive(Clone, Copy, Debug, Default, PartialEq, Eq)]
+/// How often a disk was called, each kind by itself, and how many bytes the log has more.
+#[derive(Clone, Copy, Default)]
 pub struct Calls {
     pub log_writes: u64,
     pub log_bytes: u64,
@@ -54,6 +57,11 @@ impl<D: Disk> Counted<D> {
     /// The calls so far.
     pub fn calls(&self) -> Calls {
         self.calls
+    }
+
+    /// The disk itself, to be looked at.
+    pub fn disk(&self) -> &D {
+        &self.disk
     }
 
     /// The disk itself.
@@ -104,7 +112,7 @@ impl<D: Disk> Disk for Counted<D> {
         match file {
             FileId::Log => {
                 self.calls.log_writes = self.calls.log_writes.wrapping_add(1);
-                self.calls.log_bytes = self.calls.log_bytes.wrapping_add(bytes.len() as u64);
+                self.calls.log_bytes = self.calls.log_bytes.wrapping_add(of_log(bytes));
             }
             FileId::Pages => self.calls.page_writes = self.calls.page_writes.wrapping_add(1),
         }
@@ -117,5 +125,34 @@ impl<D: Disk> Disk for Counted<D> {
             FileId::Pages => self.calls.page_syncs = self.calls.page_syncs.wrapping_add(1),
         }
         self.disk.sync(file)
+    }
+}
+
+// How many bytes of a write are the log's: of a batch those that its length says, with the length and the next gate, and none of
+// what is written behind them.
+fn of_log(bytes: &[u8]) -> u64 {
+    let size = bytes.len() as u64;
+    match bytes {
+        [a, b, c, d, ..] => size.min(u64::from(u32::from_be_bytes([*a, *b, *c, *d])) + 5),
+        _ => size,
+    }
+}
+
+/// The store of a disk, with so many frames, over a count of its calls.
+pub fn opened<D: Disk + Drop>(
+    alloc: Global,
+    disk: D,
+    frames: usize,
+) -> Result<Engine<Counted<D>>, Fault>
+    requires working { D.failed disk ≡ false }
+    requires synced { IsSynced D.Disk disk }
+{
+    let config = Config {
+        frames,
+        max_pages: 1_000_000,
+    };
+    match Engine::open_or_create(alloc, Counted::new(disk), config) {
+        Ok(engine) => Ok(engine),
+        Err((fault, _disk)) => Err(fault),
     }
 }

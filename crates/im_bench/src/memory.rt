@@ -1,4 +1,4 @@
-//! A disk in memory that counts its calls.
+//! A disk in memory.
 
 ghost use Rattle.std.specs.Prelude.{◌≡◌, [], false};
 
@@ -6,60 +6,41 @@ use im_base_disk::{Count, Disk};
 use im_base_types::{Fault, FileId};
 use std::alloc::{AllocError, Global};
 
-/// How often a disk was called, each kind by itself.
-#[derive(Clone, Copy, Debug, Default, PartialEq, Eq)]
-pub struct Calls {
-    pub log_writes: u64,
-    pub log_syncs: u64,
-    pub page_writes: u64,
-    pub page_syncs: u64,
-    /// Reads of either file.
-    pub reads: u64,
-}
-
 /// Two files in memory, whose calls never fail but for want of memory. Nothing is told of their bytes.
 #[derive(Drop)]
-pub struct CountingDisk {
+pub struct MemoryDisk {
     log: Vec<u8>,
     pages: Vec<u8>,
-    calls: Calls,
     has_failed: bool,
     writes: Count,
     syncs: Count,
 }
 
-impl CountingDisk {
+impl MemoryDisk {
     /// Two empty files.
-    pub fn new(alloc: Global) -> CountingDisk
-        ensures { ⟦<CountingDisk as Disk>⟧.failed result ≡ false }
+    pub fn new(alloc: Global) -> MemoryDisk
+        ensures { ⟦<MemoryDisk as Disk>⟧.failed result ≡ false }
     {
-        CountingDisk {
+        MemoryDisk {
             log: Vec::new(alloc),
             pages: Vec::new(alloc),
-            calls: Calls::default(),
             has_failed: false,
             writes: Count::new(),
             syncs: Count::new(),
         }
     }
 
-    /// The same files at the beginning of another life: all that was written is there, and no call was made.
-    pub fn at_rest(self) -> CountingDisk
-        ensures { ⟦<CountingDisk as Disk>⟧.failed result ≡ false }
+    /// The same files at the beginning of another life: all that was written is there.
+    pub fn at_rest(self) -> MemoryDisk
+        ensures { ⟦<MemoryDisk as Disk>⟧.failed result ≡ false }
     {
-        CountingDisk {
+        MemoryDisk {
             log: self.log,
             pages: self.pages,
-            calls: Calls::default(),
             has_failed: false,
             writes: Count::new(),
             syncs: Count::new(),
         }
-    }
-
-    /// The calls of this life so far.
-    pub fn calls(&self) -> Calls {
-        self.calls
     }
 
     /// The length of a file, in bytes.
@@ -75,8 +56,8 @@ impl CountingDisk {
     }
 }
 
-// Puts bytes into a file, over what is there and past its end. A place past the end is taken for the end.
-fn put(file: &mut Vec<u8>, at: u64, bytes: &[u8]) -> Result<(), AllocError> {
+/// Puts bytes into a file, over what is there and past its end. A place past the end is taken for the end.
+pub fn put(file: &mut Vec<u8>, at: u64, bytes: &[u8]) -> Result<(), AllocError> {
     let at = (at as usize).min(file.len());
     let over = bytes.len().min(file.len() - at);
     file[at..at + over].copy_from_slice(&bytes[..over]);
@@ -84,14 +65,14 @@ fn put(file: &mut Vec<u8>, at: u64, bytes: &[u8]) -> Result<(), AllocError> {
     Ok(())
 }
 
-// Takes bytes out of a file. Where the file has fewer, the rest of the buffer stays as it is.
-fn take(file: &[u8], at: u64, buf: &mut [u8]) {
+/// Takes bytes out of a file. Where the file has fewer, the rest of the buffer stays as it is.
+pub fn take(file: &[u8], at: u64, buf: &mut [u8]) {
     let at = (at as usize).min(file.len());
     let size = buf.len().min(file.len() - at);
     buf[..size].copy_from_slice(&file[at..at + size]);
 }
 
-impl Disk for CountingDisk {
+impl Disk for MemoryDisk {
     ghost tells = { ⊥ };
 
     ghost seen = { λ _ _. [] };
@@ -119,7 +100,6 @@ impl Disk for CountingDisk {
     }
 
     fn read(&mut self, file: FileId, at: u64, buf: &mut [u8]) -> Result<(), Fault> {
-        self.calls.reads = self.calls.reads.wrapping_add(1);
         take(self.file(file), at, buf);
         Ok(())
     }
@@ -127,25 +107,15 @@ impl Disk for CountingDisk {
     fn write_at(&mut self, file: FileId, at: u64, bytes: &[u8]) -> Result<(), Fault> {
         self.writes = self.writes.with_one_more();
         let outcome = match file {
-            FileId::Log => {
-                self.calls.log_writes = self.calls.log_writes.wrapping_add(1);
-                put(&mut self.log, at, bytes)
-            }
-            FileId::Pages => {
-                self.calls.page_writes = self.calls.page_writes.wrapping_add(1);
-                put(&mut self.pages, at, bytes)
-            }
+            FileId::Log => put(&mut self.log, at, bytes),
+            FileId::Pages => put(&mut self.pages, at, bytes),
         };
         self.has_failed = outcome.is_err();
         outcome.map_err(|_| Fault::Device)
     }
 
-    fn sync(&mut self, file: FileId) -> Result<(), Fault> {
+    fn sync(&mut self, _file: FileId) -> Result<(), Fault> {
         self.syncs = self.syncs.with_one_more();
-        match file {
-            FileId::Log => self.calls.log_syncs = self.calls.log_syncs.wrapping_add(1),
-            FileId::Pages => self.calls.page_syncs = self.calls.page_syncs.wrapping_add(1),
-        }
         Ok(())
     }
 }
