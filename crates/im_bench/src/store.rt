@@ -14,15 +14,16 @@
 //! the first of a page in no structure change. In 64 frames an insert takes 0.26 writes and as many syncs of the log, and 0.71 writes of
 //! pages. Of two openings behind it the first logs what it takes back, and the second adds no byte.
 //!
-//! In memory, 100,000 keys in 1,024 frames, seventeen runs on a host with other work on it: a scan of 100 entries with its 101 locks 10.8,
-//! 11.2 and 11.9 us in the three calm ones, and 14.0 to 33.1 in the others, in which C too took up to twice its least for what it does; in
-//! the calm ones a look-up of a key that is there 589 to 639 ns, of one that is not 961 to 1,115, an insert of 64 a commit 1.6 to 2.5 us.
+//! In memory, 100,000 keys in 1,024 frames, five runs with nothing else running, on a host that is half as fast in some minutes: a scan
+//! of 100 entries with its 101 locks 10.8 and 10.9 us in its two fast runs and 16.0 to 17.6 in the others; in the fast ones a look-up of a key
+//! that is there 660 and 672 ns, of one that is not 945 and 966, an insert of 64 a commit 1.5 us.
 //!
-//! Through step lines of `imstore`, keys in random order, each commit synced, each in turn with nothing else running, two rounds: 64 a
-//! commit, 100,000 keys, 75,600 and 65,800 inserts a second; LMDB 51,600 and 50,000, SQLite in WAL mode 54,300 and 48,500. One a commit,
-//! 8,000 from a file of lines, with replies into memory, beside two writes and two syncs of as many bytes in C, seven rounds: 6,460 to
-//! 7,430 a second, 0.93 of C's in the middle (0.86 to 1.22); with replies into a file of the same disk 0.86 in the middle. Of 8,000 such
-//! commits the splits add 3 % to the syncs, and lines and replies some 8 us to each.
+//! Through step lines of `imstore`, keys in random order, each commit synced, each in turn with nothing else running. 64 a commit, 100,000
+//! keys, eight rounds: 56,000 to 79,000 inserts a second, 64,200 in the middle; LMDB 47,200 to 73,100, 56,500 in the middle, SQLite in WAL
+//! mode 43,500 to 58,200, 54,800 in the middle. One a commit, 8,000 from a file of lines, nine rounds: 8,050 to 9,920 a second, in the
+//! middle 1.09 times two writes and two syncs of as many bytes in C on a file that they make longer (0.96 to 1.20), and 1.06 times the
+//! same within a file of zeros; with replies into a file of the same disk 1.09 and 1.07 times, seven rounds. A log's file is longer by a room
+//! of zeros at a time, so that most syncs write no new length, which is why it is above the first of the two.
 
 mod options;
 mod works;

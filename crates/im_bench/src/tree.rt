@@ -6,22 +6,22 @@
 //!
 //! # Figures
 //!
-//! Nanoseconds of a look-up, the least of five runs with nothing else running, and of a plain walk in C (`cc -O2`) of pages of
-//! the same bytes that all stand in memory, with no pool and no checks, some minutes later:
+//! Nanoseconds of a look-up, the least of ten runs with nothing else running, and of a plain walk in C (`cc -O2`) of pages of
+//! the same bytes that all stand in memory, with no pool and no checks, in turn with them:
 //!
 //! | Tree | Look-up | in C | ratio |
 //! |---|---|---|---|
-//! | 100,107 keys in 681 leaves, each page held | 399 | 598 | 0.67 |
-//! | 1,000,041 keys in 6,803 leaves, one page in seven held | 1,692 | 1,286 | 1.32 |
+//! | 100,107 keys in 681 leaves, each page held | 337 | 438 | 0.77 |
+//! | 1,000,041 keys in 6,803 leaves, one page in seven held | 1,691 | 1,080 | 1.57 |
 //!
 //! A look-up goes through three pages. Leaves seven tenths full of such keys fit into the pool up to some 149,000 keys. In the second
-//! tree most look-ups read their leaf: its copy from the memory of the disk takes a third of the time, and so does the test of its form;
-//! in C the copy of 4 KiB from such memory took 507 ns then, and a test of a page's form 4,065.
-//! The table is from before a page that is not held was looked up once, and its cells were tested without a walk. Behind both, on a host
-//! with other work on it, the second tree took 2,108 at the least, where C took 1,251 to 1,655 and the copy alone 566 to 743.
+//! tree most look-ups read their leaf. By samples its copy from the memory of the disk into a frame takes 40 % of the time, the test of its
+//! form 23 %, the zeros that the test begins with 5 %, the search of the inner pages 9 %, the pool's maps 12 %. In C, with 1,024 frames by
+//! use in arrays, a table of the pages' frames, and such a copy into a frame for each page that is not held, the second tree took 1,467 to
+//! 1,655 in the same minutes where no page was tested, and 2,801 to 3,056 where each page that came in was.
 //!
-//! With its lock, and the locks of each thousand given back, a look-up in the first tree took 1.30 times what the same took without, in the
-//! middle of fourteen runs in turn on that host (1.17 to 1.60; the least of each 693 and 497), and in the second 1.07 to 1.25 times.
+//! With its lock, and the locks of each thousand given back, a look-up in the first tree took 1.28 times what the same took without, in the
+//! middle of these runs (0.95 to 1.58; the least of each 428 and 337), and in the second 1.16 times.
 //!
 //! Nanoseconds of a step on a store that is filled with 100,000 keys, searched and emptied, each the least of some runs, beside a tree in C of
 //! pages of the same bytes, which logs nothing, has no pool and keeps empty leaves; its figures are the least and the most of the runs:
