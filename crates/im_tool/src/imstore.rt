@@ -1,12 +1,14 @@
 //! The program that keeps a store.
 
-ghost use Rattle.std.specs.Prelude.{◌≤◌, IfOk};
+ghost use Rattle.std.specs.Prelude.{◌≡◌, ◌≤◌, false, IfOk};
+ghost use Rattle.im_base_disk.specs.Runs.{IsSynced};
 
+use crate::line_input::LineInput;
 use crate::options::{Options, Task, parse_options};
 use crate::store::{Manner, StoreEnd, print_refused_opening, store_text};
 use crate::tasks::{load_program, look_program};
 use clap::Error;
-use im_base_disk::{FileDisk, ModelDisk, OpenError};
+use im_base_disk::{Disk, FileDisk, ModelDisk, OpenError};
 use std::alloc::AllocError;
 use std::fmt::Display;
 use std::io;
@@ -60,37 +62,30 @@ fn run_in_memory(rt: &HostRuntime, options: &Options) -> io::Result<u8>
     let mut reader = BufReader::new(alloc, rt.reader())?;
     let mut writer = BufWriter::new(alloc, io::writer(rt))?;
     let disk = ModelDisk::new(Vec::new(alloc), Vec::new(alloc));
-    let manner = manner_of(rt, options);
-    let end = store_text(
-        alloc,
-        disk,
-        options.config(),
-        options.redo_bound(),
-        manner,
-        &mut reader,
-        &mut writer,
-    )?;
+    let end = run_steps(rt, disk, options, &mut reader, &mut writer)?;
     Ok(status_at(end))
 }
 
 fn run_in_folder(rt: &HostRuntime, dir: &str, options: &Options) -> io::Result<u8>
     ensures { IfOk result (λ status. status ≤ 3) }
 {
-    let alloc = rt.alloc();
-    let mut reader = BufReader::new(alloc, rt.reader())?;
-    let mut writer = BufWriter::new(alloc, io::writer(rt))?;
+    let mut reader = BufReader::new(rt.alloc(), rt.reader())?;
+    let mut writer = BufWriter::new(rt.alloc(), io::writer(rt))?;
+    run_on_files(rt, dir, options, &mut reader, &mut writer)
+}
+
+fn run_on_files<R: LineInput, W: Write>(
+    rt: &HostRuntime,
+    dir: &str,
+    options: &Options,
+    reader: &mut R,
+    writer: &mut W,
+) -> io::Result<u8>
+    ensures { IfOk result (λ status. status ≤ 3) }
+{
     match FileDisk::open(rt, dir) {
         Ok(disk) => {
-            let manner = manner_of(rt, options);
-            let end = store_text(
-                alloc,
-                disk,
-                options.config(),
-                options.redo_bound(),
-                manner,
-                &mut reader,
-                &mut writer,
-            )?;
+            let end = run_steps(rt, disk, options, reader, writer)?;
             match end {
                 StoreEnd::RefusedOpening(fault) => tell(rt, dir, &fault),
                 StoreEnd::RefusedClose(fault) => tell(rt, dir, &fault),
@@ -99,11 +94,34 @@ fn run_in_folder(rt: &HostRuntime, dir: &str, options: &Options) -> io::Result<u
             Ok(status_at(end))
         }
         Err(error) => {
-            print_refused_opening(&mut writer, error.fault())?;
+            print_refused_opening(writer, error.fault())?;
             tell_unopened(rt, dir, &error);
             Ok(1)
         }
     }
+}
+
+// The steps that the lines of a reader ask for, as the options say.
+fn run_steps<D: Disk + Drop, R: LineInput, W: Write>(
+    rt: &HostRuntime,
+    disk: D,
+    options: &Options,
+    reader: &mut R,
+    writer: &mut W,
+) -> io::Result<StoreEnd>
+    requires working { D.failed disk ≡ false }
+    requires synced { IsSynced D.Disk disk }
+{
+    let (config, bound) = (options.config(), options.redo_bound());
+    store_text(
+        rt.alloc(),
+        disk,
+        config,
+        bound,
+        manner_of(rt, options),
+        reader,
+        writer,
+    )
 }
 
 fn status_at(end: StoreEnd) -> u8

@@ -13,69 +13,74 @@ use std::io::Write;
 
 const PAGE_SIZE: usize = 4_096;
 
-// A store that was looked at: what its log says, and what its pages are behind an opening.
+// What is broken of a store. `Memory` is told of none: what looked at it had too little.
 #[derive(Drop)]
-enum Looked {
+enum Broken {
     Log(LogDamage),
     Opening(Fault),
-    Whole(Survey, TreeSurvey),
 }
 
-fn look(alloc: Global, copies: Copies) -> Result<Looked, Fault> {
-    let said = match read_log(alloc, &copies.log) {
-        Ok(said) => said,
-        Err(damage) => return broken_log(damage),
-    };
-    let in_file = (copies.pages.len() / PAGE_SIZE) as u64;
-    let most = in_file.saturating_add(said.records).saturating_add(2);
-    if u64::from(said.greatest_page) > most {
-        return Ok(Looked::Log(LogDamage::NoPage(said.greatest_page)));
-    }
-    let count = u64::from(said.greatest_page).max(in_file).saturating_add(1);
-    let engine = match opened(alloc, copies) {
-        Ok(engine) => engine,
-        Err(fault) => return refused_opening(fault),
-    };
-    if said.analysed.losers.is_empty() {
-        return look_at_pages(alloc, said, engine, count);
-    }
-    // what was unfinished is taken back, which may have taken pages that only the log behind it names
-    match read_log(alloc, &log_of(alloc, &engine)?) {
-        Ok(behind) => {
-            let named = u64::from(behind.greatest_page).saturating_add(1);
-            look_at_pages(alloc, said, engine, count.max(named))
-        }
-        Err(damage) => broken_log(damage),
+// What the log says, and what the tree and the free list are behind an opening.
+fn look(alloc: Global, copies: Copies) -> Result<(Survey, TreeSurvey), Broken> {
+    match read_log(alloc, &copies.log) {
+        Ok(said) => look_behind(alloc, said, copies),
+        Err(damage) => Err(Broken::Log(damage)),
     }
 }
 
-// The pages below a number, as the opening left them.
-fn look_at_pages(
+// The same of files whose log says this.
+fn look_behind(
     alloc: Global,
     said: Survey,
-    engine: Engine<ModelDisk>,
+    copies: Copies,
+) -> Result<(Survey, TreeSurvey), Broken> {
+    match tree_behind(alloc, &said, copies) {
+        Ok(tree) => Ok((said, tree)),
+        Err(broken) => Err(broken),
+    }
+}
+
+fn tree_behind(alloc: Global, said: &Survey, copies: Copies) -> Result<TreeSurvey, Broken> {
+    let in_file = (copies.pages.len() / PAGE_SIZE) as u64;
+    let most = in_file.saturating_add(said.records).saturating_add(2);
+    let greatest = u64::from(said.greatest_page);
+    if greatest > most {
+        return Err(Broken::Log(LogDamage::NoPage(said.greatest_page)));
+    }
+    let count = greatest.max(in_file).saturating_add(1);
+    match opened(alloc, copies) {
+        Ok(mut engine) => tree_of(alloc, said, &mut engine, count),
+        Err(fault) => Err(Broken::Opening(fault)),
+    }
+}
+
+// The tree in the pages below a number, as the opening left them.
+fn tree_of(
+    alloc: Global,
+    said: &Survey,
+    engine: &mut Engine<ModelDisk>,
     count: u64,
-) -> Result<Looked, Fault> {
-    let Ok(count) = PageNo::try_from(count) else {
-        return Ok(Looked::Log(LogDamage::NoPage(said.greatest_page)));
+) -> Result<TreeSurvey, Broken> {
+    let named = if said.analysed.losers.is_empty() {
+        0
+    } else {
+        count_named(alloc, engine)?
     };
-    match pages_of(alloc, engine, count) {
-        Ok(pages) => Ok(Looked::Whole(said, check_pages(alloc, &pages)?)),
-        Err(fault) => refused_opening(fault),
-    }
+    let Ok(count) = PageNo::try_from(count.max(named)) else {
+        return Err(Broken::Log(LogDamage::NoPage(said.greatest_page)));
+    };
+    let pages = pages_of(alloc, engine, count).map_err(Broken::Opening)?;
+    check_pages(alloc, &pages).map_err(|_| Broken::Opening(Fault::Memory))
 }
 
-fn broken_log(damage: LogDamage) -> Result<Looked, Fault> {
-    match damage {
-        LogDamage::Memory => Err(Fault::Memory),
-        damage => Ok(Looked::Log(damage)),
-    }
-}
-
-fn refused_opening(fault: Fault) -> Result<Looked, Fault> {
-    match fault {
-        Fault::Memory => Err(Fault::Memory),
-        fault => Ok(Looked::Opening(fault)),
+// How many pages the log behind an opening names: what was unfinished is taken back, which may have taken pages that nothing else names.
+fn count_named(alloc: Global, engine: &Engine<ModelDisk>) -> Result<u64, Broken> {
+    let Ok(log) = log_of(alloc, engine) else {
+        return Err(Broken::Opening(Fault::Memory));
+    };
+    match read_log(alloc, &log) {
+        Ok(behind) => Ok(u64::from(behind.greatest_page).saturating_add(1)),
+        Err(damage) => Err(Broken::Log(damage)),
     }
 }
 
@@ -85,49 +90,53 @@ pub fn check_text<W: Write>(alloc: Global, writer: &mut W, copies: Copies) -> io
     ensures { IfOk result (λ status. status ≤ 1) }
 {
     let log = clone_of(alloc, &copies.log)?;
-    let looked = match look(alloc, copies) {
-        Ok(looked) => looked,
-        Err(_) => return Err(io::Error::from(AllocError)),
-    };
-    if is_whole(writer, &log, &looked)? {
-        writeln!(writer, "ok")?;
-        return Ok(0);
+    match look(alloc, copies) {
+        Ok((said, tree)) => whole_text(writer, &log, &said, &tree),
+        Err(broken) => broken_text(writer, &broken),
+    }
+}
+
+// A line for each thing that is broken behind an opening, or `ok`. It answers the exit status.
+fn whole_text<W: Write>(
+    writer: &mut W,
+    log: &[u8],
+    said: &Survey,
+    tree: &TreeSurvey,
+) -> io::Result<u8>
+    ensures { IfOk result (λ status. status ≤ 1) }
+{
+    let behind = batches_behind(log, said.end);
+    if behind > 0 {
+        writeln!(
+            writer,
+            "log: {behind} whole batches behind the closed gate at {}",
+            said.end
+        )?;
+    }
+    for damage in &tree.damages {
+        writeln!(writer, "{damage}")?;
+    }
+    if behind > 0 || !tree.damages.is_empty() {
+        return Ok(1);
+    }
+    writeln!(writer, "ok")?;
+    Ok(0)
+}
+
+// What is broken. It answers the exit status.
+fn broken_text<W: Write>(writer: &mut W, broken: &Broken) -> io::Result<u8>
+    ensures { IfOk result (λ status. status ≤ 1) }
+{
+    match broken {
+        Broken::Log(LogDamage::Memory) | Broken::Opening(Fault::Memory) => {
+            return Err(io::Error::from(AllocError));
+        }
+        Broken::Log(damage) => writeln!(writer, "{damage}")?,
+        Broken::Opening(fault) => {
+            writeln!(writer, "opening: refused {}: {fault}", fault.number())?;
+        }
     }
     Ok(1)
-}
-
-// Whether nothing is broken; a line for each thing that is.
-fn is_whole<W: Write>(writer: &mut W, log: &[u8], looked: &Looked) -> io::Result<bool> {
-    match looked {
-        Looked::Whole(said, tree) => {
-            let behind = batches_behind(log, said.end);
-            if behind > 0 {
-                writeln!(
-                    writer,
-                    "log: {behind} whole batches behind the closed gate at {}",
-                    said.end
-                )?;
-            }
-            for damage in &tree.damages {
-                writeln!(writer, "{damage}")?;
-            }
-            Ok(behind == 0 && tree.damages.is_empty())
-        }
-        broken => {
-            broken_text(writer, broken)?;
-            Ok(false)
-        }
-    }
-}
-
-fn broken_text<W: Write>(writer: &mut W, looked: &Looked) -> io::Result<()> {
-    match looked {
-        Looked::Log(damage) => writeln!(writer, "{damage}"),
-        Looked::Opening(fault) => {
-            writeln!(writer, "opening: refused {}: {fault}", fault.number())
-        }
-        Looked::Whole(..) => Ok(()),
-    }
 }
 
 /// Writes what a store has, in numbers, and answers the exit status, 0, or 1 where it is broken.
@@ -136,16 +145,12 @@ pub fn stat_text<W: Write>(alloc: Global, writer: &mut W, copies: Copies) -> io:
 {
     let file = copies.log.len();
     match look(alloc, copies) {
-        Ok(Looked::Whole(said, tree)) => {
+        Ok((said, tree)) => {
             tree_text(writer, &tree)?;
             survey_text(writer, &said, file)?;
             Ok(0)
         }
-        Ok(broken) => {
-            broken_text(writer, &broken)?;
-            Ok(1)
-        }
-        Err(_) => Err(io::Error::from(AllocError)),
+        Err(broken) => broken_text(writer, &broken),
     }
 }
 

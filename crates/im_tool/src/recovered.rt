@@ -63,11 +63,10 @@ pub(crate) fn log_of(alloc: Global, engine: &Engine<ModelDisk>) -> Result<Vec<u8
 /// The file of pages of an open store, as it is once so many pages were written.
 pub(crate) fn pages_of(
     alloc: Global,
-    engine: Engine<ModelDisk>,
+    engine: &mut Engine<ModelDisk>,
     count: PageNo,
 ) -> Result<Vec<u8>, Fault> {
-    let mut engine = engine;
-    write_pages(&mut engine, count)?;
+    write_pages(engine, count)?;
     let mut left = engine.disk().after_stop(alloc)?;
     whole_file(alloc, &mut left, FileId::Pages)
 }

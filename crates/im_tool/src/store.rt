@@ -118,7 +118,7 @@ fn run_to_close<D: Disk, R: LineInput, W: Write>(
     if is_unkept && manner.is_batch {
         return Ok(StoreEnd::RefusedLine);
     }
-    let end = run_lines(alloc, engine, &mut checkpoints, manner, reader, writer)?;
+    let end = run_all_lines(alloc, engine, &mut checkpoints, manner, reader, writer)?;
     if end != StoreEnd::Input {
         return Ok(end);
     }
@@ -132,7 +132,7 @@ fn run_to_close<D: Disk, R: LineInput, W: Write>(
     }
 }
 
-fn run_lines<D: Disk, R: LineInput, W: Write>(
+fn run_all_lines<D: Disk, R: LineInput, W: Write>(
     alloc: Global,
     engine: &mut Engine<D>,
     checkpoints: &mut Checkpoints,
@@ -141,17 +141,38 @@ fn run_lines<D: Disk, R: LineInput, W: Write>(
     writer: &mut W,
 ) -> io::Result<StoreEnd> {
     let mut line = Vec::new(alloc);
+    run_lines(
+        alloc,
+        engine,
+        checkpoints,
+        manner,
+        reader,
+        &mut line,
+        writer,
+    )
+}
+
+// Reads line by line into the room for one.
+fn run_lines<D: Disk, R: LineInput, W: Write>(
+    alloc: Global,
+    engine: &mut Engine<D>,
+    checkpoints: &mut Checkpoints,
+    manner: Manner,
+    reader: &mut R,
+    line: &mut Vec<u8>,
+    writer: &mut W,
+) -> io::Result<StoreEnd> {
     for _count in 0..u64::MAX {
         if !reader.has_line() {
             print_prompt(manner, writer)?;
             writer.flush()?;
         }
         line.clear();
-        if !reader.next_line(&mut line)? {
+        if !reader.next_line(line)? {
             end_prompt(manner, writer)?;
             return Ok(StoreEnd::Input);
         }
-        let text = without_newline(&line);
+        let text = without_newline(line);
         if !text.is_empty() {
             let is_refused = run_line(alloc, engine, checkpoints, manner, text, writer)?;
             let is_unkept = keep(engine, checkpoints, manner, writer)?;

@@ -3,6 +3,7 @@
 ghost use Rattle.std.specs.Prelude.{◌≤◌, IfOk};
 
 use crate::imstore::{tell, tell_unopened};
+use crate::line_input::LineInput;
 use crate::look::{check_text, stat_text};
 use crate::options::{Options, Task};
 use crate::progress::Progress;
@@ -21,28 +22,49 @@ use std::io::{BufReader, BufWriter, IsTerminal, Write};
 pub(crate) fn look_program(rt: &HostRuntime, dir: &str, task: Task) -> io::Result<u8>
     ensures { IfOk result (λ status. status ≤ 1) }
 {
-    let alloc = rt.alloc();
-    let mut writer = BufWriter::new(alloc, io::writer(rt))?;
-    let mut disk = match FileDisk::open_to_read(rt, dir) {
-        Ok(disk) => disk,
-        Err(error) => {
-            print_refused_opening(&mut writer, error.fault())?;
-            tell_unread(rt, dir, &error);
-            return Ok(1);
-        }
-    };
-    let copies = match copies_of(alloc, &mut disk) {
-        Ok(copies) => copies,
-        Err(fault) => return refused(rt, dir, &mut writer, fault),
-    };
-    let status = match task {
-        Task::Check => check_text(alloc, &mut writer, copies)?,
-        Task::Stat => stat_text(alloc, &mut writer, copies)?,
-        Task::Log => print_log(rt, dir, &mut writer, &copies)?,
-        _ => dump(rt, dir, &mut writer, copies)?,
-    };
+    let mut writer = BufWriter::new(rt.alloc(), io::writer(rt))?;
+    let status = look_in(rt, dir, task, &mut writer)?;
     writer.flush()?;
     Ok(status)
+}
+
+// The same, written without a flush.
+fn look_in<W: Write>(rt: &HostRuntime, dir: &str, task: Task, writer: &mut W) -> io::Result<u8>
+    ensures { IfOk result (λ status. status ≤ 1) }
+{
+    match FileDisk::open_to_read(rt, dir) {
+        Ok(mut disk) => {
+            let copies = copies_of(rt.alloc(), &mut disk);
+            look_at(rt, dir, task, writer, copies)
+        }
+        Err(error) => {
+            print_refused_opening(writer, error.fault())?;
+            tell_unread(rt, dir, &error);
+            Ok(1)
+        }
+    }
+}
+
+// The same of the files that were read, if they were.
+fn look_at<W: Write>(
+    rt: &HostRuntime,
+    dir: &str,
+    task: Task,
+    writer: &mut W,
+    copies: Result<Copies, Fault>,
+) -> io::Result<u8>
+    ensures { IfOk result (λ status. status ≤ 1) }
+{
+    let copies = match copies {
+        Ok(copies) => copies,
+        Err(fault) => return refused(rt, dir, writer, fault),
+    };
+    match task {
+        Task::Check => check_text(rt.alloc(), writer, copies),
+        Task::Stat => stat_text(rt.alloc(), writer, copies),
+        Task::Log => print_log(rt, dir, writer, &copies),
+        _ => dump(rt, dir, writer, copies),
+    }
 }
 
 // Says on standard error why a store is not looked at. No folder is made for that.
@@ -101,33 +123,40 @@ fn dump<W: Write>(rt: &HostRuntime, dir: &str, writer: &mut W, copies: Copies) -
 pub(crate) fn load_program(rt: &HostRuntime, dir: &str, options: &Options) -> io::Result<u8>
     ensures { IfOk result (λ status. status ≤ 3) }
 {
-    let alloc = rt.alloc();
-    let mut reader = BufReader::new(alloc, rt.reader())?;
-    let mut writer = BufWriter::new(alloc, io::writer(rt))?;
-    let disk = match FileDisk::open(rt, dir) {
-        Ok(disk) => disk,
-        Err(error) => {
-            print_refused_opening(&mut writer, error.fault())?;
-            tell_unopened(rt, dir, &error);
-            return Ok(1);
-        }
-    };
-    let has_words = options.has_words || rt.stdout().is_terminal();
-    let mut progress = Progress {
-        writer: rt.stderr(),
-        is_shown: rt.stderr().is_terminal(),
-    };
-    let loaded = load_text(
-        alloc,
-        disk,
-        options.config(),
-        options.redo_bound(),
-        &mut reader,
-        &mut progress,
-    )?;
-    let status = print_loaded(rt, dir, &mut writer, has_words, loaded)?;
+    let mut reader = BufReader::new(rt.alloc(), rt.reader())?;
+    let mut writer = BufWriter::new(rt.alloc(), io::writer(rt))?;
+    let status = load_from(rt, dir, options, &mut reader, &mut writer)?;
     writer.flush()?;
     Ok(status)
+}
+
+// The same of the lines of a reader, written without a flush.
+fn load_from<R: LineInput, W: Write>(
+    rt: &HostRuntime,
+    dir: &str,
+    options: &Options,
+    reader: &mut R,
+    writer: &mut W,
+) -> io::Result<u8>
+    ensures { IfOk result (λ status. status ≤ 3) }
+{
+    match FileDisk::open(rt, dir) {
+        Ok(disk) => {
+            let mut progress = Progress {
+                writer: rt.stderr(),
+                is_shown: rt.stderr().is_terminal(),
+            };
+            let (config, bound) = (options.config(), options.redo_bound());
+            let loaded = load_text(rt.alloc(), disk, config, bound, reader, &mut progress)?;
+            let has_words = options.has_words || rt.stdout().is_terminal();
+            print_loaded(rt, dir, writer, has_words, loaded)
+        }
+        Err(error) => {
+            print_refused_opening(writer, error.fault())?;
+            tell_unopened(rt, dir, &error);
+            Ok(1)
+        }
+    }
 }
 
 // Says how a load ended. It answers the exit status.

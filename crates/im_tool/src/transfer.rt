@@ -98,8 +98,7 @@ fn load_to_close<D: Disk, R: LineInput, P: Write>(
     if let Err(fault) = checkpoints.keep(engine) {
         return Ok(Loaded::Refused(1, fault));
     }
-    let mut line = Vec::new(alloc);
-    let loaded = load_lines(alloc, engine, &mut checkpoints, reader, &mut line, progress)?;
+    let loaded = load_all_lines(alloc, engine, &mut checkpoints, reader, progress)?;
     let Loaded::All(count) = loaded else {
         return Ok(loaded);
     };
@@ -107,6 +106,17 @@ fn load_to_close<D: Disk, R: LineInput, P: Write>(
         Ok(()) => Ok(loaded),
         Err(fault) => Ok(Loaded::RefusedClose(count, fault)),
     }
+}
+
+fn load_all_lines<D: Disk, R: LineInput, P: Write>(
+    alloc: Global,
+    engine: &mut Engine<D>,
+    checkpoints: &mut Checkpoints,
+    reader: &mut R,
+    progress: &mut Progress<P>,
+) -> io::Result<Loaded> {
+    let mut line = Vec::new(alloc);
+    load_lines(alloc, engine, checkpoints, reader, &mut line, progress)
 }
 
 // Reads line by line into the room for one.
@@ -125,9 +135,9 @@ fn load_lines<D: Disk, R: LineInput, P: Write>(
     for place in 0..count {
         let at = place.saturating_add(2);
         if place % A_COMMIT == 0 {
-            match engine.step(&Step::Begin) {
-                Reply::Started(started) => number = started,
-                reply => return Ok(Loaded::Refused(at, fault_of(reply))),
+            match begun(engine) {
+                Ok(started) => number = started,
+                Err(fault) => return Ok(Loaded::Refused(at, fault)),
             }
         }
         line.clear();
@@ -139,9 +149,9 @@ fn load_lines<D: Disk, R: LineInput, P: Write>(
         }
         let is_last = place.saturating_add(1) == count;
         if is_last || place % A_COMMIT == A_COMMIT - 1 {
-            match engine.step(&Step::Commit(number)) {
-                Reply::Committed => progress.show(place.saturating_add(1), count),
-                reply => return Ok(Loaded::Refused(at, fault_of(reply))),
+            match committed(engine, number) {
+                Ok(()) => progress.show(place.saturating_add(1), count),
+                Err(fault) => return Ok(Loaded::Refused(at, fault)),
             }
         }
         if let Err(fault) = checkpoints.keep(engine) {
@@ -149,6 +159,20 @@ fn load_lines<D: Disk, R: LineInput, P: Write>(
         }
     }
     Ok(Loaded::All(count))
+}
+
+fn begun<D: Disk>(engine: &mut Engine<D>) -> Result<TxnId, im_front::Fault> {
+    match engine.step(&Step::Begin) {
+        Reply::Started(number) => Ok(number),
+        reply => Err(fault_of(reply)),
+    }
+}
+
+fn committed<D: Disk>(engine: &mut Engine<D>, number: TxnId) -> Result<(), im_front::Fault> {
+    match engine.step(&Step::Commit(number)) {
+        Reply::Committed => Ok(()),
+        reply => Err(fault_of(reply)),
+    }
 }
 
 // The number in the first line.
