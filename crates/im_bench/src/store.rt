@@ -26,7 +26,7 @@
 //! of zeros at a time, so that most syncs write no new length, which is why it is above the first of the two.
 
 mod options;
-mod works;
+pub mod works;
 
 ghost use Rattle.std.specs.Prelude.{◌≡◌, false};
 ghost use Rattle.im_base_disk.specs.Runs.{IsSynced};
@@ -38,7 +38,7 @@ use im_base_disk::{Disk, FileDisk};
 use im_engine::Engine;
 use options::{Options, options_of};
 use std::time::Instant;
-use works::{Part, Work, worked};
+use works::{Order, Part, Work, worked};
 
 /// The lives of a store, by what the words say.
 pub fn run(rt: &HostRuntime, words: &[String]) -> Result<()> {
@@ -180,6 +180,7 @@ fn done<D: Disk>(
     let keys = options.keys.wrapping_mul(part.parts) / 64;
     let span = Part {
         work: part.work,
+        order: Order::Scattered,
         first: options.keys.wrapping_mul(part.from) / 64,
         keys,
         each: part.each,

@@ -33,10 +33,10 @@
 
 mod lookups;
 mod pages;
-mod store;
 
 ghost use Rattle.im_page_writer.specs.PageWriter.{IsReadyWriter};
 
+use crate::store::works::{Order, Part, Work, worked};
 use anyhow::Result;
 use im_base_disk::{Disk, ModelDisk};
 use im_bench_layers::figures::is_timed;
@@ -46,12 +46,14 @@ use im_page_writer::PageWriter;
 use lookups::{disk_of, found, found_locked, opened};
 use pages::{keys_in, tree};
 use std::time::Instant;
-use store::{Work, worked};
+
+/// How many steps a transaction makes.
+const STEPS: u64 = 1_000;
 
 /// What is done with a store, in turn, and its line's name.
 const WORKS: [(Work, &str); 3] = [
     (Work::Insert, "insert"),
-    (Work::Fetch, "look-up"),
+    (Work::Present, "look-up"),
     (Work::Delete, "delete"),
 ];
 
@@ -62,10 +64,8 @@ pub fn run(rt: &HostRuntime, words: &[String]) -> Result<()> {
     for leaves in shapes {
         look_up(rt, leaves, timed)?;
     }
-    for rising in [true, false] {
-        fill(rt, rising, timed)?;
-    }
-    Ok(())
+    fill(rt, Order::Rising, timed)?;
+    fill(rt, Order::Scattered, timed)
 }
 
 /// Look-ups in a tree of so many leaves.
@@ -101,8 +101,8 @@ fn looked_up<D: Disk>(
     show(rt, "look-up with its lock", sum, rounds, nanos, timed)
 }
 
-/// Each work over a store, with its keys in rising order or not.
-fn fill(rt: &HostRuntime, rising: bool, timed: bool) -> Result<()> {
+/// Each work over a store, with its keys in this order.
+fn fill(rt: &HostRuntime, order: Order, timed: bool) -> Result<()> {
     let alloc = rt.alloc();
     let disk = ModelDisk::new(Vec::new(alloc), Vec::new(alloc));
     let config = Config {
@@ -113,29 +113,42 @@ fn fill(rt: &HostRuntime, rising: bool, timed: bool) -> Result<()> {
         Ok(engine) => engine,
         Err((fault, _disk)) => return Err(fault.into()),
     };
-    each_done(rt, &mut engine, rising, timed)
+    each_done(rt, &mut engine, order, timed)
 }
 
 /// Each work in turn over a new store.
 fn each_done(
     rt: &HostRuntime,
     engine: &mut Engine<ModelDisk>,
-    rising: bool,
+    order: Order,
     timed: bool,
 ) -> Result<()> {
     let keys = if timed { 100_000 } else { 2_000 };
-    let order = if rising { "rising" } else { "scattered" };
-    println!(rt; "{keys} keys, {order}")?;
+    println!(rt; "{keys} keys, {}", name_of(order))?;
     for (work, name) in WORKS {
+        let part = Part {
+            work,
+            order,
+            first: 0,
+            keys,
+            each: STEPS,
+        };
         let before = engine.disk().calls();
         let start = Instant::now(rt)?;
-        let sum = worked(rt.alloc(), engine, work, rising, keys)?;
+        let sum = worked(rt.alloc(), engine, part)?;
         let nanos = start.elapsed(rt)?.as_nanos();
         let calls = engine.disk().calls().wrapping_sub(before);
         show(rt, name, sum, keys, nanos, timed)?;
         println!(rt; "device calls {calls}")?;
     }
     Ok(())
+}
+
+fn name_of(order: Order) -> &'static str {
+    match order {
+        Order::Rising => "rising",
+        Order::Scattered => "scattered",
+    }
 }
 
 /// One line: how many rounds came out right, and how long each took.

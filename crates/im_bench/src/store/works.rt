@@ -25,10 +25,18 @@ pub enum Work {
 /// How many entries a scan asks for.
 pub const SCANNED: u64 = 100;
 
+/// In which order the keys of a part come.
+#[derive(Clone, Copy)]
+pub enum Order {
+    Rising,
+    Scattered,
+}
+
 /// A work on so many keys from a number on, so many in a transaction.
 #[derive(Clone, Copy)]
 pub struct Part {
     pub work: Work,
+    pub order: Order,
     pub first: u64,
     pub keys: u64,
     pub each: u64,
@@ -42,7 +50,7 @@ pub fn worked<D: Disk>(alloc: Global, engine: &mut Engine<D>, part: Part) -> Res
         let done = n.wrapping_mul(each);
         let keys = part.keys.wrapping_sub(done).min(each);
         let first = part.first.wrapping_add(done);
-        right = right.wrapping_add(made(alloc, engine, part.work, first, keys)?);
+        right = right.wrapping_add(made(alloc, engine, part, first, keys)?);
     }
     Ok(right)
 }
@@ -51,7 +59,7 @@ pub fn worked<D: Disk>(alloc: Global, engine: &mut Engine<D>, part: Part) -> Res
 fn made<D: Disk>(
     alloc: Global,
     engine: &mut Engine<D>,
-    work: Work,
+    part: Part,
     first: u64,
     keys: u64,
 ) -> Result<u64, Fault> {
@@ -61,12 +69,12 @@ fn made<D: Disk>(
     let mut right = 0u64;
     for i in 0..keys {
         let number = first.wrapping_add(i);
-        let step = step_of(alloc, transaction, work, number)?;
-        if is_wanted(work, number, &engine.step(&step)) {
+        let step = step_of(alloc, transaction, part, number)?;
+        if is_wanted(part.work, number, &engine.step(&step)) {
             right = right.wrapping_add(1);
         }
     }
-    let ended = match work {
+    let ended = match part.work {
         Work::TakenBack => is_taken_back(engine, transaction, keys),
         _ => matches!(engine.step(&Step::Commit(transaction)), Reply::Committed),
     };
@@ -85,14 +93,15 @@ fn is_taken_back<D: Disk>(engine: &mut Engine<D>, transaction: TxnId, changes: u
     matches!(reply, Reply::RolledBack)
 }
 
-// The step of a number. Keys of numbers from 2^63 on are never put.
-fn step_of(alloc: Global, transaction: TxnId, work: Work, number: u64) -> Result<Step, Fault> {
-    let place = match work {
-        Work::Absent => scattered(number | 1 << 63),
+// The step of a number. Keys of numbers from 2^63 on are never put; absent ones are looked up in scattered order alone.
+fn step_of(alloc: Global, transaction: TxnId, part: Part, number: u64) -> Result<Step, Fault> {
+    let place = match (part.order, part.work) {
+        (Order::Rising, _) => number,
+        (_, Work::Absent) => scattered(number | 1 << 63),
         _ => scattered(number),
     };
     let key = Vec::from_slice(alloc, &key_of(place)).map_err(|_| Fault::Memory)?;
-    Ok(match work {
+    Ok(match part.work {
         Work::Insert | Work::TakenBack => Step::Insert(transaction, key, number),
         Work::Present | Work::Absent => Step::Fetch(transaction, key),
         Work::Scan => {
