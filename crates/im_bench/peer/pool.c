@@ -1,9 +1,11 @@
-/* The look-ups of `im_bench tree` in C, in the same order over the same pages: a root, inner pages and leaves of eight-byte keys, of which
- * 1,024 at most are held. What a pool costs at the least: frames by use in arrays, a table that has the frame of each page, one copy of 4,096
- * bytes for a page that is not held, and of those bytes the test of their form that a `Page` makes, or none.
+/* The look-ups of `im_bench tree` in C, with the same keys in the same order, over pages with the same entries: a root, inner pages and leaves
+ * of eight-byte keys, of which 1,024 at most are held. A plain pool: frames by use in arrays, a table that has the frame of each page, one copy
+ * of 4,096 bytes for a page that is not held, and of those bytes a test, or none: the slots and cells that a `Page` tests, for keys of eight
+ * bytes, but not the header. It is no floor: `im_bench tree` was faster in some pairs.
  *     cc -O3 -o pool pool.c && ./pool [--no-test]
- * In six pairs, in turn, means of 1,000,000 and 2,000,000 look-ups, on a host that is half as fast in some minutes, `im_bench tree --time` took
- * 0.84 to 1.07 times what this takes with the test, 0.94 in the middle: 1,754 to 2,614 ns for 1,859 to 2,818. Without it, it took 896 to 1,323. */
+ * On a host that is half as fast in some minutes, all in slow ones, in turn with `im_bench tree --time`: by means of 1,000,000 look-ups there and
+ * 2,000,000 here, six pairs, `im_bench tree` took 0.84 to 1.07 times what this takes with the test (1,754 to 2,614 ns for 1,859 to 2,818). By its
+ * mean and the least of ten runs here, which favours this, twelve pairs before, 0.73 to 1.54 times. Without the test this took 858 to 1,323. */
 #include <stdint.h>
 #include <stdio.h>
 #include <stdlib.h>
