@@ -1,9 +1,2 @@
 pub mod Disk
-pub mod Left
-pub mod Model
-pub mod ModelFile
-pub mod Past
-pub mod Plan
-pub mod RealFiles
 pub mod Runs
-pub mod Written

@@ -38,7 +38,8 @@ ghost use Rattle.im_page_writer.specs.PageWriter.{IsReadyWriter};
 
 use crate::store::works::{Order, Part, Work, worked};
 use anyhow::Result;
-use im_base_disk::{Disk, ModelDisk};
+use im_base_disk::Disk;
+use im_base_model_disk::ModelDisk;
 use im_bench_layers::figures::is_timed;
 use im_engine::{Config, Engine};
 use im_engine_lock::LockTable;

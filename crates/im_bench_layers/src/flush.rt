@@ -7,7 +7,7 @@ mod work;
 
 use crate::figures::is_timed;
 use anyhow::Result;
-use im_base_disk::ModelDisk;
+use im_base_model_disk::ModelDisk;
 use im_base_types::Fault;
 use std::time::Instant;
 use work::{Work, worked};

@@ -9,7 +9,9 @@ ghost use Rattle.im_base_disk.specs.Runs.{IsSynced};
 ghost use Rattle.im_log_gate.specs.Gate.{IsReading, IsReady};
 
 use crate::figures::{is_timed, nanos_since, per_second};
-use im_base_disk::{Disk, FileDisk, ModelDisk};
+use im_base_disk::Disk;
+use im_base_file_disk::FileDisk;
+use im_base_model_disk::ModelDisk;
 use im_base_types::{Fault, FileId};
 use im_log_gate::Gate;
 use std::alloc::Global;

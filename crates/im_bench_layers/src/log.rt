@@ -8,7 +8,7 @@ mod timing;
 mod work;
 
 use crate::figures::is_timed;
-use im_base_disk::ModelDisk;
+use im_base_model_disk::ModelDisk;
 use im_base_types::Fault;
 use std::alloc::Global;
 use timing::{print_hand_times, print_times};

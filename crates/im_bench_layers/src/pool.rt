@@ -8,7 +8,8 @@ mod work;
 ghost use Rattle.std.specs.Prelude.{◌≡◌, false};
 
 use crate::figures::{is_timed, show};
-use im_base_disk::{Disk, ModelDisk};
+use im_base_disk::Disk;
+use im_base_model_disk::ModelDisk;
 use im_base_types::Fault;
 use im_page_pool::Pool;
 use std::time::Instant;

@@ -1,6 +1,7 @@
 //! Real files: what is refused of a folder, what is read of one that is opened to be read, and the words of errors.
 
-use im_base_disk::{Disk, FileDisk, OpenError, read_vec, write_synced};
+use im_base_disk::{Disk, read_vec, write_synced};
+use im_base_file_disk::{FileDisk, OpenError};
 use im_base_types::{Fault, FileId};
 use std::alloc::Global;
 use std::fs;

@@ -2,7 +2,8 @@
 ghost use Rattle.std.specs.Prelude.{◌≡◌, false, OnOk};
 ghost use Rattle.im_base_disk.specs.Runs.{IsSynced};
 
-use im_base_disk::{Disk, ModelDisk, read_vec};
+use im_base_disk::{Disk, read_vec};
+use im_base_model_disk::ModelDisk;
 use im_base_types::{Fault, FileId};
 use im_log::open_or_create;
 use im_log_record::Record;

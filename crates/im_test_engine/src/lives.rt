@@ -1,7 +1,8 @@
 //! Lives of a store on the model disk.
 
 use crate::said::{Said, are_said, created, end, make};
-use im_base_disk::{Disk, ModelDisk};
+use im_base_disk::Disk;
+use im_base_model_disk::ModelDisk;
 use im_base_types::{FileId, PageKind, PageNo};
 use im_engine::{Config, Engine, live};
 use im_front::Step;

@@ -1,7 +1,8 @@
 //! Devices that fail in the middle of a rollback.
 
 use crate::said::{Said, created, end, make, opened, opened_after_stop};
-use im_base_disk::{Disk, ModelDisk};
+use im_base_disk::Disk;
+use im_base_model_disk::ModelDisk;
 use im_engine::{Config, Engine};
 use im_front::Step;
 use std::alloc::Global;

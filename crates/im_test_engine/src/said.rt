@@ -4,7 +4,8 @@
 ghost use Rattle.std.specs.Prelude.{◌≡◌, false};
 ghost use Rattle.im_base_disk.specs.Runs.{IsSynced};
 
-use im_base_disk::{Disk, ModelDisk};
+use im_base_disk::Disk;
+use im_base_model_disk::ModelDisk;
 use im_base_types::Fault;
 use im_engine::{Config, Engine};
 use im_front::{Blocker, Reply, Step};

@@ -5,7 +5,7 @@ ghost use Rattle.im_front.specs.Held.{IsResting};
 
 use crate::said::{end, opened};
 use crate::threads::both_shares;
-use im_base_disk::{Fill, Length, ModelDisk, Stop};
+use im_base_model_disk::{Fill, Length, ModelDisk, Stop};
 use im_base_types::{Key, Rid, TxnId};
 use im_engine::{Config, Engine, every_list_of_lives};
 use im_front::{Closed, Fault, Front, Recorded, Reply, Share, Step, Store, Told};

@@ -3,7 +3,9 @@
 ghost use Rattle.std.specs.Prelude.{◌≡◌, false};
 ghost use Rattle.im_base_disk.specs.Runs.{IsSynced};
 
-use im_base_disk::{Disk, FileDisk, ModelDisk};
+use im_base_disk::Disk;
+use im_base_file_disk::FileDisk;
+use im_base_model_disk::ModelDisk;
 use im_base_types::Fault;
 use im_engine::Config;
 use im_tool::{Manner, RedoBound, StoreEnd, store_text};

@@ -1,6 +1,6 @@
 //! What a load tells of how far it is.
 
-use im_base_disk::ModelDisk;
+use im_base_model_disk::ModelDisk;
 use im_engine::Config;
 use im_tool::{Loaded, Progress, RedoBound, load_text};
 use std::alloc::Global;

@@ -1,6 +1,6 @@
 //! A look at a store whose opening takes pages, and at one that a stop left with an empty leaf.
 
-use im_base_disk::FileDisk;
+use im_base_file_disk::FileDisk;
 use im_engine::Config;
 use im_log_gate::FIRST_GATE;
 use im_tool::{Copies, Manner, RedoBound, check_text, copies_of, stat_text, store_text};

@@ -1,6 +1,6 @@
 //! What an opening redoes, within a bound.
 
-use im_base_disk::ModelDisk;
+use im_base_model_disk::ModelDisk;
 use im_engine::{Config, Engine};
 use im_front::{Reply, Step};
 use im_tool::{Checkpoints, RedoBound};

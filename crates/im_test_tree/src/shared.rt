@@ -3,7 +3,8 @@ ghost use Rattle.std.specs.Prelude.{◌≡◌, false, IfOk};
 ghost use Rattle.im_base_disk.specs.Runs.{IsSynced};
 ghost use Rattle.im_page_writer.specs.PageWriter.{IsReadyWriter};
 
-use im_base_disk::{Disk, ModelDisk, read_vec};
+use im_base_disk::{Disk, read_vec};
+use im_base_model_disk::ModelDisk;
 use im_base_types::{Fault, FileId};
 use im_log::open_or_create;
 use im_page_writer::PageWriter;

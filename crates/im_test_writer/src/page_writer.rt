@@ -4,7 +4,8 @@ ghost use Rattle.std.specs.Prelude.{OnOk};
 ghost use Rattle.im_page_writer.specs.PageWriter.{IsReadyWriter};
 
 use crate::writers::{end, got, log_insert, new_disk, open, open_over, since};
-use im_base_disk::{Disk, ModelDisk};
+use im_base_disk::Disk;
+use im_base_model_disk::ModelDisk;
 use im_base_types::{Fault, FileId, PageNo};
 use im_log_record::Record;
 use im_page::Page;

@@ -5,7 +5,8 @@ ghost use Rattle.im_log_record.specs.Entry.{view};
 ghost use Rattle.im_log_record.specs.Spelling.{IsEntry};
 ghost use Rattle.im_page_writer.specs.PageWriter.{IsReadyWriter};
 
-use im_base_disk::{Disk, ModelDisk};
+use im_base_disk::Disk;
+use im_base_model_disk::ModelDisk;
 use im_base_types::{Fault, FileId, Lsn, PageNo};
 use im_log::open_or_create;
 use im_log_record::Record;

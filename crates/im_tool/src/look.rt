@@ -3,7 +3,7 @@
 ghost use Rattle.std.specs.Prelude.{◌≤◌, IfOk};
 
 use crate::recovered::{Copies, log_of, opened, pages_of};
-use im_base_disk::ModelDisk;
+use im_base_model_disk::ModelDisk;
 use im_base_types::{Fault, PageNo};
 use im_engine::Engine;
 use im_tool_look::{LogDamage, ROOM, Survey, TreeSurvey, batches_behind, check_pages, read_log};

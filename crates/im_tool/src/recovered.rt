@@ -2,7 +2,8 @@
 
 ghost use Rattle.std.specs.Prelude.{◌≡◌, false, OnOk};
 
-use im_base_disk::{Disk, ModelDisk, read_vec};
+use im_base_disk::{Disk, read_vec};
+use im_base_model_disk::ModelDisk;
 use im_base_types::{Fault, FileId, Key, PageNo, Rid};
 use im_engine::{Config, Engine};
 use im_front::{Reply, Step};

@@ -10,7 +10,7 @@ use crate::progress::Progress;
 use crate::recovered::{Copies, copies_of, entries_of};
 use crate::store::print_refused_opening;
 use crate::transfer::{Loaded, dump_text, load_text};
-use im_base_disk::{FileDisk, OpenError};
+use im_base_file_disk::{FileDisk, OpenError};
 use im_base_types::Fault;
 use im_tool_look::log_text;
 use std::fmt::Display;

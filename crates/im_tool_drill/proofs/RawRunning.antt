@@ -3,8 +3,8 @@ use Rattle.std.proofs.Common.{◌≡◌, ◌≢◌, ℕ, zero, suc, ◌<◌, tru
 use Rattle.im_base_types.specs.declared.fault.Fault.{Fault}
 use Rattle.im_base_types.specs.declared.fault.Fault.TheVariants.{Memory, Device, NotAStore}
 use Rattle.im_base_disk.specs.declared.disk.Disk.{Ghosts}
-use Rattle.im_base_disk.specs.declared.model_disk.ModelDisk.{ModelDisk}
-use Rattle.im_base_disk.specs.declared.stop.Stop.{Stop}
+use Rattle.im_base_model_disk.specs.declared.model_disk.ModelDisk.{ModelDisk}
+use Rattle.im_base_model_disk.specs.declared.stop.Stop.{Stop}
 use Rattle.im_log_gate.specs.declared.gate.Gate.{Gate}
 use Rattle.im_tool_drill.specs.declared.raw_line.RawLine.{RawLine}
 use Rattle.im_tool_drill.specs.declared.raw_life.RawLife.{RawLife}

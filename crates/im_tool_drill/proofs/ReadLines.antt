@@ -3,7 +3,7 @@ use Rattle.std.proofs.Common.{◌≡◌, ℕ, List, [], ◌∷◌, ◌++◌, map
 use Rattle.std.proofs.lemmas.List.{append-nil, map-append}
 use Rattle.im_base_types.specs.declared.file_id.FileId.{FileId}
 use Rattle.im_base_disk.specs.Disk.{Files, both}
-use Rattle.im_base_disk.specs.declared.stop.Stop.{Stop}
+use Rattle.im_base_model_disk.specs.declared.stop.Stop.{Stop}
 use Rattle.im_tool_drill.specs.declared.line.Line.{Line}
 use Rattle.im_tool_drill.specs.declared.line.Line.TheVariants as lines
 use Rattle.im_tool_drill.specs.declared.raw_line.RawLine.{RawLine}

@@ -2,10 +2,10 @@
 use Rattle.std.proofs.Common.{◌≡◌, ◌≢◌, inl, inr, ℕ, ◌≤◌, List, [], ◌∷◌, ◌++◌, length, slice_index, if◌then◌else◌, ◌==◌, Ok, codes, sym, ◌∙◌, ap, subst, arith}
 use Rattle.std.specs.Str.Parse.{AllDigits}
 use Rattle.hex.specs.Hex.{decode_of}
-use Rattle.im_base_disk.specs.declared.stop.Stop.{Stop}
-use Rattle.im_base_disk.specs.declared.stop.Fill.{Fill}
-use Rattle.im_base_disk.specs.declared.stop.Length.{Length}
-use Rattle.im_base_disk.specs.declared.stop.Length.TheVariants as lengths
+use Rattle.im_base_model_disk.specs.declared.stop.Stop.{Stop}
+use Rattle.im_base_model_disk.specs.declared.stop.Fill.{Fill}
+use Rattle.im_base_model_disk.specs.declared.stop.Length.{Length}
+use Rattle.im_base_model_disk.specs.declared.stop.Length.TheVariants as lengths
 use Rattle.im_tool_drill.specs.declared.line.Line.{Line}
 use Rattle.im_tool_drill.specs.declared.line.Line.TheVariants as lines
 use Rattle.im_tool_words.specs.Words.{Lacks}

@@ -2,10 +2,10 @@
 use Rattle.std.specs.Prelude.{◌≡◌, ◌≢◌, ◌⊎◌, ℕ, ◌≤◌, ◌<◌, ◌^◌, List, [], ◌∷◌, ◌++◌, length, slice_index, codes, Option, None, Some, Ok}
 use Rattle.std.specs.Borrow.{Bor}
 use Rattle.hex.specs.Hex.{decode_of}
-use Rattle.im_base_disk.specs.declared.stop.Fill.{Fill}
-use Rattle.im_base_disk.specs.declared.stop.Fill.TheVariants as fills
-use Rattle.im_base_disk.specs.declared.stop.Length.{Length}
-use Rattle.im_base_disk.specs.declared.stop.Length.TheVariants as lengths
+use Rattle.im_base_model_disk.specs.declared.stop.Fill.{Fill}
+use Rattle.im_base_model_disk.specs.declared.stop.Fill.TheVariants as fills
+use Rattle.im_base_model_disk.specs.declared.stop.Length.{Length}
+use Rattle.im_base_model_disk.specs.declared.stop.Length.TheVariants as lengths
 use Rattle.im_base_types.specs.declared.file_id.FileId.{FileId}
 use Rattle.im_base_types.specs.declared.file_id.FileId.TheVariants as files
 use Rattle.im_tool_words.specs.Words.{IsNumber}

@@ -4,10 +4,10 @@ use Rattle.std.specs.Global.{Vec}
 use Rattle.im_base_types.specs.declared.fault.Fault.{Fault}
 use Rattle.im_base_types.specs.declared.fault.Fault.TheVariants.{Memory, Device, LogFull, NotAStore, Failed}
 use Rattle.im_base_disk.specs.declared.disk.Disk.{Ghosts}
-use Rattle.im_base_disk.specs.declared.model_disk.ModelDisk.{ModelDisk}
-use Rattle.im_base_disk.specs.declared.stop.Stop.{Stop}
+use Rattle.im_base_model_disk.specs.declared.model_disk.ModelDisk.{ModelDisk}
+use Rattle.im_base_model_disk.specs.declared.stop.Stop.{Stop}
 use Rattle.im_base_disk.specs.Disk.{both}
-use Rattle.im_base_disk.specs.Model.{IsFresh, model_calls}
+use Rattle.im_base_model_disk.specs.Model.{IsFresh, model_calls}
 use Rattle.im_log_gate.specs.declared.gate.Gate.{Gate}
 use Rattle.im_log_gate.specs.Batches.{with_batch}
 use Rattle.im_log_gate.specs.Gate.{logged, place_of, has_failed}

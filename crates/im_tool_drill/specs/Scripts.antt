@@ -4,7 +4,7 @@ use Rattle.std.specs.Global.{Vec}
 use Rattle.im_base_types.specs.declared.file_id.FileId.{FileId}
 use Rattle.im_base_types.specs.declared.file_id.FileId.TheVariants.{Log, Pages}
 use Rattle.im_base_disk.specs.Disk.{Files, both}
-use Rattle.im_base_disk.specs.declared.stop.Stop.{Stop}
+use Rattle.im_base_model_disk.specs.declared.stop.Stop.{Stop}
 use Rattle.im_tool_drill.specs.declared.line.Line.{Line}
 use Rattle.im_tool_drill.specs.declared.line.Line.TheVariants as lines
 use Rattle.im_tool_drill.specs.declared.raw_line.RawLine.{RawLine}

@@ -3,12 +3,12 @@ use Rattle.std.specs.Prelude.{◌≡◌, ◌≢◌, ◌⊎◌, ℕ, true, Option
 use Rattle.im_base_types.specs.declared.fault.Fault.{Fault}
 use Rattle.im_base_types.specs.declared.file_id.FileId.{FileId}
 use Rattle.im_base_disk.specs.declared.disk.Disk.{Ghosts}
-use Rattle.im_base_disk.specs.declared.stop.Stop.{Stop}
-use Rattle.im_base_disk.specs.declared.stop.Fill.{Fill}
-use Rattle.im_base_disk.specs.declared.stop.Fill.TheVariants as fills
-use Rattle.im_base_disk.specs.declared.model_disk.ModelDisk.{ModelDisk}
-use Rattle.im_base_disk.specs.Left.{IsLeftBy}
-use Rattle.im_base_disk.specs.Model.{IsArmed, IsFresh, armed_of, file_of, model_stop, model_stopped}
+use Rattle.im_base_model_disk.specs.declared.stop.Stop.{Stop}
+use Rattle.im_base_model_disk.specs.declared.stop.Fill.{Fill}
+use Rattle.im_base_model_disk.specs.declared.stop.Fill.TheVariants as fills
+use Rattle.im_base_model_disk.specs.declared.model_disk.ModelDisk.{ModelDisk}
+use Rattle.im_base_model_disk.specs.Left.{IsLeftBy}
+use Rattle.im_base_model_disk.specs.Model.{IsArmed, IsFresh, armed_of, file_of, model_stop, model_stopped}
 use Rattle.im_tool_drill.specs.declared.life_answers.Opening.{Opening}
 use Rattle.im_tool_drill.specs.declared.life_answers.Opening.TheVariants as openings
 

@@ -11,10 +11,10 @@ use Rattle.im_base_types.specs.Lives.{Shown}
 use Rattle.im_engine_lock.specs.View.{View}
 use Rattle.im_base_types.specs.Pages.{Entry}
 use Rattle.im_base_disk.specs.declared.disk.Disk.{Ghosts}
-use Rattle.im_base_disk.specs.declared.model_disk.ModelDisk.{ModelDisk}
-use Rattle.im_base_disk.specs.declared.stop.Stop.{Stop}
+use Rattle.im_base_model_disk.specs.declared.model_disk.ModelDisk.{ModelDisk}
+use Rattle.im_base_model_disk.specs.declared.stop.Stop.{Stop}
 use Rattle.im_base_disk.specs.Disk.{both}
-use Rattle.im_base_disk.specs.Model.{IsFresh, model_calls}
+use Rattle.im_base_model_disk.specs.Model.{IsFresh, model_calls}
 use Rattle.im_base_disk.specs.Runs.{Reads}
 use Rattle.im_page_pool.specs.Pool.{page_at}
 use Rattle.im_page_writer.specs.Outcome.{fault_of}

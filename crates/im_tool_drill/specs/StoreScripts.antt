@@ -3,7 +3,7 @@ use Rattle.std.specs.Prelude.{◌≡◌, ◌≢◌, ◌⊎◌, ℕ, List, [], �
 use Rattle.std.specs.Global.{Vec}
 use Rattle.im_base_types.specs.declared.file_id.FileId.{FileId}
 use Rattle.im_base_disk.specs.Disk.{both}
-use Rattle.im_base_disk.specs.declared.stop.Stop.{Stop}
+use Rattle.im_base_model_disk.specs.declared.stop.Stop.{Stop}
 use Rattle.im_tool_drill.specs.declared.line.Line.TheVariants as raws
 use Rattle.im_tool_drill.specs.declared.store_script_line.StoreScriptLine.{StoreScriptLine}
 use Rattle.im_tool_drill.specs.declared.store_script_line.StoreScriptLine.TheVariants as lines

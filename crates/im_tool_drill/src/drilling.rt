@@ -10,7 +10,8 @@ ghost use Rattle.im_tool_drill.specs.RawRuns.{IsRawRun};
 use crate::lives::run_life;
 use crate::opening::last_batches;
 use crate::{Drilled, Script};
-use im_base_disk::{Disk, ModelDisk};
+use im_base_disk::Disk;
+use im_base_model_disk::ModelDisk;
 use std::alloc::{AllocError, Global};
 
 /// Runs the lives of a script on a model disk, each on what the stop of the one before has left, and opens once

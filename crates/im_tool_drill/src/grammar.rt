@@ -9,7 +9,7 @@ ghost use Rattle.im_tool_drill.specs.Lines.{Spells};
 use crate::set_words::file_of;
 use crate::stop::{call_of, fill_of, length_of};
 use crate::{Batch, Line};
-use im_base_disk::Stop;
+use im_base_model_disk::Stop;
 use im_base_types::Fault;
 use im_tool_words::{bytes_of, first_piece};
 use std::alloc::Global;

@@ -16,7 +16,8 @@ ghost use Rattle.im_tool_drill.specs.Answered.{IsReply, Answered, AnsweredBehind
 use crate::opening::open_batches;
 use crate::stop::{copy_of, has_come};
 use crate::{Batch, LifeAnswers, Opening, RawLife, RawLine, RawReply};
-use im_base_disk::{Disk, ModelDisk, Stop};
+use im_base_disk::Disk;
+use im_base_model_disk::{ModelDisk, Stop};
 use im_base_types::Fault;
 use im_log_gate::Gate;
 use std::alloc::{AllocError, Global};

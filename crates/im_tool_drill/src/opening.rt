@@ -10,7 +10,8 @@ ghost use Rattle.im_tool_drill.specs.Lives.{StandsFor};
 ghost use Rattle.im_tool_drill.specs.Living.{IsLiving};
 ghost use Rattle.im_tool_drill.specs.RawRuns.{IsRawLastRun};
 
-use im_base_disk::{Disk, ModelDisk};
+use im_base_disk::Disk;
+use im_base_model_disk::ModelDisk;
 use im_base_types::{Fault, FileId};
 use im_log_gate::Gate;
 use std::alloc::Global;

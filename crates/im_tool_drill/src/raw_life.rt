@@ -1,7 +1,7 @@
 //! A life over the gate alone.
 
 use crate::RawLine;
-use im_base_disk::Stop;
+use im_base_model_disk::Stop;
 
 /// A life over the gate alone.
 #[derive(Debug, Drop)]

@@ -9,7 +9,7 @@ ghost use Rattle.im_tool_drill.specs.Reading.{IsReading};
 
 use crate::grammar::parse_line;
 use crate::{Line, RawLife, RawLine, Script, ScriptError};
-use im_base_disk::Stop;
+use im_base_model_disk::Stop;
 use im_base_types::{Fault, FileId};
 use std::alloc::Global;
 

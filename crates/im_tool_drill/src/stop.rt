@@ -2,12 +2,12 @@
 
 ghost use Rattle.std.specs.Prelude.{◌≡◌, ◌⊎◌, ◌↔◌, ℕ, true, IfOk, IfErr, MatchOption};
 ghost use Rattle.im_base_types.specs.declared.fault.Fault.TheVariants.{BadScript, Memory};
-ghost use Rattle.im_base_disk.specs.declared.stop.Fill.{Fill};
-ghost use Rattle.im_base_disk.specs.declared.stop.Length.{Length};
+ghost use Rattle.im_base_model_disk.specs.declared.stop.Fill.{Fill};
+ghost use Rattle.im_base_model_disk.specs.declared.stop.Length.{Length};
 ghost use Rattle.im_tool_drill.specs.Stops.{IsSameStop, HasCome};
 ghost use Rattle.im_tool_drill.specs.Lines.{IsCall, IsLengthWord, IsFillWord};
 
-use im_base_disk::{Fill, Length, ModelDisk, Stop};
+use im_base_model_disk::{Fill, Length, ModelDisk, Stop};
 use im_base_types::Fault;
 use im_tool_words::{bytes_of, number_of};
 use std::alloc::{AllocError, Global};

@@ -1,7 +1,7 @@
 //! What the lives of a store answer.
 
 use crate::Opening;
-use im_base_disk::ModelDisk;
+use im_base_model_disk::ModelDisk;
 use im_base_types::{Fault, Key, PageNo, Rid};
 use im_engine::Header;
 use im_front::Reply;

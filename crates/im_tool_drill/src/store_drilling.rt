@@ -13,7 +13,8 @@ ghost use Rattle.im_tool_drill.specs.StoreRuns.{IsRun};
 use crate::store_answers::StoreDrilled;
 use crate::store_lives::{last_entries, run_store_life};
 use crate::store_script::StoreScript;
-use im_base_disk::{Disk, ModelDisk};
+use im_base_disk::Disk;
+use im_base_model_disk::ModelDisk;
 use std::alloc::{AllocError, Global};
 
 /// Runs the lives of a script on a model disk, each on what the stop of the one before has left, and opens once

@@ -1,6 +1,6 @@
 //! A life of a store in a script.
 
-use im_base_disk::Stop;
+use im_base_model_disk::Stop;
 use im_base_types::PageNo;
 use im_front::Step;
 

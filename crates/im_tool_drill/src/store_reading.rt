@@ -12,7 +12,7 @@ use crate::store_grammar::parse_store_line;
 use crate::store_life::{LifeOptions, StoreLife, StoreLine};
 use crate::store_script::StoreScript;
 use crate::store_script_line::StoreScriptLine;
-use im_base_disk::Stop;
+use im_base_model_disk::Stop;
 use im_base_types::{Fault, FileId};
 use std::alloc::Global;
 

@@ -1,7 +1,7 @@
 //! What one line of a script of lives of a store says.
 
 use crate::store_life::{LifeOptions, StoreLine};
-use im_base_disk::Stop;
+use im_base_model_disk::Stop;
 use im_base_types::FileId;
 
 /// A line of a script of lives of a store.

@@ -3,10 +3,10 @@ use Rattle.std.proofs.Common.{◌≡◌, Result, Some, sym, subst}
 use Rattle.im_base_types.specs.declared.fault.Fault.{Fault}
 use Rattle.im_base_types.specs.declared.file_id.FileId.{FileId}
 use Rattle.im_base_disk.specs.declared.disk.Disk.{Ghosts}
-use Rattle.im_base_disk.specs.declared.model_disk.ModelDisk.{ModelDisk}
-use Rattle.im_base_disk.specs.declared.stop.Stop.{Stop}
-use Rattle.im_base_disk.specs.Left.{IsLeftBy}
-use Rattle.im_base_disk.specs.Model.{IsArmed, IsFresh, armed_of, file_of, model_stop}
+use Rattle.im_base_model_disk.specs.declared.model_disk.ModelDisk.{ModelDisk}
+use Rattle.im_base_model_disk.specs.declared.stop.Stop.{Stop}
+use Rattle.im_base_model_disk.specs.Left.{IsLeftBy}
+use Rattle.im_base_model_disk.specs.Model.{IsArmed, IsFresh, armed_of, file_of, model_stop}
 use Rattle.im_engine.specs.declared.engine.Engine.{Engine}
 use Rattle.im_engine.specs.Kept.{disk_of}
 use Rattle.im_tool_drill.specs.declared.store_life.LifeOptions.{LifeOptions}

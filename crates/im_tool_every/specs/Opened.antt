@@ -6,10 +6,10 @@ use Rattle.im_base_types.specs.declared.fault.Fault.TheVariants.{Device, PoolSiz
 use Rattle.im_base_types.specs.declared.file_id.FileId.{FileId}
 use Rattle.im_base_types.specs.Pages.{Entry}
 use Rattle.im_base_disk.specs.declared.disk.Disk.{Ghosts}
-use Rattle.im_base_disk.specs.declared.model_disk.ModelDisk.{ModelDisk}
-use Rattle.im_base_disk.specs.declared.stop.Stop.{Stop}
-use Rattle.im_base_disk.specs.Left.{IsLeftBy}
-use Rattle.im_base_disk.specs.Model.{IsArmed, IsFresh, armed_of, file_of, model_calls, model_stop}
+use Rattle.im_base_model_disk.specs.declared.model_disk.ModelDisk.{ModelDisk}
+use Rattle.im_base_model_disk.specs.declared.stop.Stop.{Stop}
+use Rattle.im_base_model_disk.specs.Left.{IsLeftBy}
+use Rattle.im_base_model_disk.specs.Model.{IsArmed, IsFresh, armed_of, file_of, model_calls, model_stop}
 use Rattle.im_engine.specs.declared.engine.Engine.{Engine}
 use Rattle.im_engine.specs.Kept.{disk_of}
 use Rattle.im_tool_drill.specs.declared.store_life.LifeOptions.{LifeOptions}

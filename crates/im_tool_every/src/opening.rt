@@ -2,14 +2,15 @@
 
 ghost use Rattle.std.specs.Prelude.{◌≡◌, ◌↔◌, true, false, IfOk};
 ghost use Rattle.im_base_types.specs.declared.file_id.FileId.{FileId};
-ghost use Rattle.im_base_disk.specs.Left.{IsLeftBy};
-ghost use Rattle.im_base_disk.specs.Model.{IsFresh, file_of, model_stop};
+ghost use Rattle.im_base_model_disk.specs.Left.{IsLeftBy};
+ghost use Rattle.im_base_model_disk.specs.Model.{IsFresh, file_of, model_stop};
 ghost use Rattle.im_base_disk.specs.Runs.{IsSynced};
 ghost use Rattle.im_tool_every.specs.Opened.{IsGood, IsJudged, IsJudgedBy, IsPassedOver, IsStopped};
 
 use crate::change::AskedEffect;
 use crate::judge::is_allowed;
-use im_base_disk::{Disk, ModelDisk, Stop};
+use im_base_disk::Disk;
+use im_base_model_disk::{ModelDisk, Stop};
 use im_base_types::{Fault, Key, Rid};
 use im_engine::Engine;
 use im_tool_drill::{LifeOptions, open_store};

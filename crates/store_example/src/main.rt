@@ -6,7 +6,7 @@ ghost use Rattle.im_front.specs.Held.{IsResting};
 
 mod threads;
 
-use im_base_disk::FileDisk;
+use im_base_file_disk::FileDisk;
 use im_engine::{Config, Engine};
 use im_front::{Reply, Step, Store};
 use std::fs;

@@ -5,7 +5,7 @@ ghost use Rattle.std.specs.Prelude.{◌≡◌};
 ghost use Rattle.im_front.specs.Held.{IsResting};
 
 use crate::open_store;
-use im_base_disk::FileDisk;
+use im_base_file_disk::FileDisk;
 use im_base_types::TxnId;
 use im_engine::Engine;
 use im_front::{Closed, Fault, Front, Reply, Share, Stats, Step, Store};

@@ -11,7 +11,8 @@ use crate::long::parts::{
     Kinds, Order, Span, Work, begun, committed, listed, pages_by_kind, worked,
 };
 use crate::long::tally::Tally;
-use im_base_disk::{Disk, Fill, Length, ModelDisk, Stop};
+use im_base_disk::Disk;
+use im_base_model_disk::{Fill, Length, ModelDisk, Stop};
 use im_base_types::Fault;
 use im_engine::{Config, Engine};
 use im_front::Step;

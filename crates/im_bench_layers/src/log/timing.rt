@@ -8,7 +8,8 @@ use crate::log::work::{
     BATCH, append_many, copy_by_hand, force_many, put_by_hand, read_many, scan_all,
 };
 use anyhow::Result;
-use im_base_disk::{Disk, ModelDisk};
+use im_base_disk::Disk;
+use im_base_model_disk::ModelDisk;
 use im_log::{LogFile, open_or_create};
 use std::time::Instant;
 

@@ -1,5 +1,5 @@
 use Rattle.std.proofs.Common.{◌≡◌, List, ℕ, false, take}
-use Rattle.im_base_disk.specs.contracts.model_disk.ModelDiskDisk.TheImpl.{ghosts}
+use Rattle.im_base_model_disk.specs.contracts.model_disk.ModelDiskDisk.TheImpl.{ghosts}
 use Rattle.im_base_disk.specs.Disk.{both}
 use Rattle.im_base_disk.specs.Runs.{IsSynced}
 use Rattle.im_tool_drill.specs.Lives.{StandsFor, Lives}

@@ -1,5 +1,5 @@
 use Rattle.std.proofs.Common.{◌≡◌, List, ℕ, [], map, Err, refl, sym, ◌∙◌, ap, subst}
-use Rattle.im_base_disk.specs.contracts.model_disk.ModelDiskDisk.TheImpl.{ghosts}
+use Rattle.im_base_model_disk.specs.contracts.model_disk.ModelDiskDisk.TheImpl.{ghosts}
 use Rattle.im_base_disk.specs.Disk.{Files}
 use Rattle.im_tool_drill.specs.declared.raw_line.RawLine.{RawLine}
 use Rattle.im_tool_drill.specs.declared.life_answers.RawReply.{RawReply}

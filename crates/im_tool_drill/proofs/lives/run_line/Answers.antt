@@ -1,6 +1,6 @@
 use Rattle.std.proofs.Common.{List, ℕ, [], ◌∷◌, ◌++◌, sym, subst}
 use Rattle.std.proofs.lemmas.List.{append-nil}
-use Rattle.im_base_disk.specs.contracts.model_disk.ModelDiskDisk.TheImpl.{ghosts}
+use Rattle.im_base_model_disk.specs.contracts.model_disk.ModelDiskDisk.TheImpl.{ghosts}
 use Rattle.im_tool_drill.specs.declared.raw_line.RawLine.{RawLine}
 use Rattle.im_tool_drill.specs.declared.life_answers.RawReply.TheVariants as replies
 use Rattle.im_tool_drill.specs.Lives.{asked_of, acked_of}

@@ -1,5 +1,5 @@
 use Rattle.std.proofs.Common.{◌≡◌, List, ℕ, [], length, take}
-use Rattle.im_base_disk.specs.contracts.model_disk.ModelDiskDisk.TheImpl.{ghosts}
+use Rattle.im_base_model_disk.specs.contracts.model_disk.ModelDiskDisk.TheImpl.{ghosts}
 use Rattle.im_log_gate.specs.Gate.{IsReady}
 use Rattle.im_tool_drill.specs.Lives.{asked_of, acked_of}
 use Rattle.im_tool_drill.specs.Living.{IsLiving}

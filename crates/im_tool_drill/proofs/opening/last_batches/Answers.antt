@@ -1,5 +1,5 @@
 use Rattle.std.proofs.Common.{map, Err, ap}
-use Rattle.im_base_disk.specs.contracts.model_disk.ModelDiskDisk.TheImpl.{ghosts}
+use Rattle.im_base_model_disk.specs.contracts.model_disk.ModelDiskDisk.TheImpl.{ghosts}
 use Rattle.im_tool_drill.proofs.RawRunning.{raw_opening, raw_last_ok, raw_last_err}
 use Rattle.im_tool_drill.proofs.Stands.{stands_once}
 use Rattle.im_tool_drill.proofs.opening.last_batches.Goals as goal

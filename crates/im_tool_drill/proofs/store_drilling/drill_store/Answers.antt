@@ -2,7 +2,7 @@ use Rattle.std.proofs.Common.{◌≡◌, ◌<◌, List, ℕ, ◌+◌, length, ge
 use Rattle.std.proofs.lemmas.Grind.{common_steps}
 use Rattle.std.proofs.lemmas.List.{take_more}
 use Rattle.im_base_types.specs.Lives.{Lives}
-use Rattle.im_base_disk.specs.contracts.model_disk.ModelDiskDisk.TheImpl.{ghosts}
+use Rattle.im_base_model_disk.specs.contracts.model_disk.ModelDiskDisk.TheImpl.{ghosts}
 use Rattle.im_base_disk.specs.Disk.{Files, both}
 use Rattle.im_engine.specs.Stands.{StandsFor}
 use Rattle.im_tool_drill.specs.declared.store_life.StoreLife.{StoreLife}

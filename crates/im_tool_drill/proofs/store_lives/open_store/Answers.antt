@@ -1,4 +1,4 @@
-use Rattle.im_base_disk.specs.contracts.model_disk.ModelDiskDisk.TheImpl.{ghosts}
+use Rattle.im_base_model_disk.specs.contracts.model_disk.ModelDiskDisk.TheImpl.{ghosts}
 use Rattle.im_tool_drill.proofs.StoreRunning.{opened_as}
 use Rattle.im_tool_drill.proofs.store_lives.open_store.Goals as goal
 

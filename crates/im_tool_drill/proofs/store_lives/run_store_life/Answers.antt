@@ -1,9 +1,9 @@
 use Rattle.std.proofs.Common.{ℕ, List, refl, sym, ap, subst, ◌∙◌, inl}
 use Rattle.im_base_types.specs.Lives.{Shown, nothing_shown}
-use Rattle.im_base_disk.specs.contracts.model_disk.ModelDiskDisk.TheImpl.{ghosts}
-use Rattle.im_base_disk.specs.declared.model_disk.ModelDisk.{ModelDisk}
+use Rattle.im_base_model_disk.specs.contracts.model_disk.ModelDiskDisk.TheImpl.{ghosts}
+use Rattle.im_base_model_disk.specs.declared.model_disk.ModelDisk.{ModelDisk}
 use Rattle.im_base_disk.specs.Disk.{Files}
-use Rattle.im_base_disk.specs.Model.{model_calls}
+use Rattle.im_base_model_disk.specs.Model.{model_calls}
 use Rattle.im_engine.specs.Stands.{StandsFor, Allowed}
 use Rattle.im_tool_drill.specs.declared.life_answers.Opening.TheVariants as openings
 use Rattle.im_tool_drill.specs.declared.store_life.StoreLine.{StoreLine}

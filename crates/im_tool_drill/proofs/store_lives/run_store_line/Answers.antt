@@ -1,5 +1,5 @@
 use Rattle.std.proofs.Common.{sym, subst}
-use Rattle.im_base_disk.specs.contracts.model_disk.ModelDiskDisk.TheImpl.{ghosts}
+use Rattle.im_base_model_disk.specs.contracts.model_disk.ModelDiskDisk.TheImpl.{ghosts}
 use Rattle.im_tool_drill.specs.declared.store_life.StoreLine.{StoreLine}
 use Rattle.im_tool_drill.specs.declared.store_answers.StoreReply.TheVariants as replies
 use Rattle.im_tool_drill.specs.StoreLives.{LineKept}

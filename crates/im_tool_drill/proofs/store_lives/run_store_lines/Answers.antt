@@ -1,7 +1,7 @@
 use Rattle.std.proofs.lemmas.List.{take_more}
 use Rattle.std.proofs.Common.{inl, inr, ◌++◌, ◌≡◌, List, ℕ, ◌+◌, [], ◌∷◌, length, take, sym, ◌∙◌, ap, subst, length-append}
 use Rattle.im_base_types.specs.Lives.{Shown, nothing_shown}
-use Rattle.im_base_disk.specs.contracts.model_disk.ModelDiskDisk.TheImpl.{ghosts}
+use Rattle.im_base_model_disk.specs.contracts.model_disk.ModelDiskDisk.TheImpl.{ghosts}
 use Rattle.im_engine.specs.Stands.{Allowed}
 use Rattle.im_tool_drill.specs.declared.store_answers.StoreReply.{StoreReply}
 use Rattle.im_tool_drill.specs.declared.store_life.StoreLine.{StoreLine}

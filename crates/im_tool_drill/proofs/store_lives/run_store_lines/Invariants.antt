@@ -1,7 +1,7 @@
 use Rattle.std.proofs.Common.{◌≡◌, List, length, take}
 use Rattle.im_base_types.specs.Changes.{Effect}
 use Rattle.im_base_types.specs.Lives.{nothing_shown}
-use Rattle.im_base_disk.specs.contracts.model_disk.ModelDiskDisk.TheImpl.{ghosts}
+use Rattle.im_base_model_disk.specs.contracts.model_disk.ModelDiskDisk.TheImpl.{ghosts}
 use Rattle.im_tool_drill.specs.Answered.{RepliedBy}
 use Rattle.im_tool_drill.specs.StoreLives.{GoesOn, shown_in, IsStoreReply}
 use Rattle.im_tool_drill.specs.StoreRuns.{AreLinesRun}

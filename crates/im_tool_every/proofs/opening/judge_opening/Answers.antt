@@ -1,6 +1,6 @@
 use Rattle.std.proofs.Common.{◌≡◌, rules, arith}
 use Rattle.std.proofs.lemmas.Grind.{common_steps}
-use Rattle.im_base_disk.specs.Model.{model_calls}
+use Rattle.im_base_model_disk.specs.Model.{model_calls}
 use Rattle.im_tool_every.proofs.opening.judge_opening.Goals as goal
 
 pub returns-in_ok-good-in-Ok : goal.returns-in_ok-good-in-Ok

@@ -1,0 +1,12 @@
+//! The disk of real files: a folder with a log and pages.
+//!
+//! `FileDisk` is a disk in the words of `im_base_disk`. It tells no bytes: code over it is safe and total, and nothing
+//! is said of what it reads. `FileDisk::open` makes what is missing, and `OpenError` says why it refused.
+#![tactic(auto)]
+
+mod file_disk;
+mod folders;
+mod open_error;
+
+pub use file_disk::FileDisk;
+pub use open_error::OpenError;

@@ -1,0 +1,78 @@
+//! Why a folder's files were not opened.
+ghost use Rattle.std.specs.Prelude.{◌≡◌};
+ghost use Rattle.im_base_file_disk.specs.RealFiles.{fault_of};
+
+use im_base_types::Fault;
+use std::io;
+use std::io::ErrorKind;
+use thiserror::Error;
+
+/// What kept `FileDisk::open` from the files of a folder, in words for a user. `fault` is the refusal that
+/// programs print.
+#[derive(Debug, Drop, Error)]
+pub enum OpenError {
+    /// The folder is not there, and it or a folder above it cannot be made.
+    #[error("there is no such folder, and it cannot be made: {0}")]
+    NoFolder(io::Error),
+    /// The name, or one above it, is that of something else.
+    #[error("it is no folder, or lies under something that is none")]
+    NotAFolder,
+    /// The system does not let the program read or write there.
+    #[error("the system does not allow it: {0}")]
+    Denied(io::Error),
+    /// The name stands in the folder for something else than a plain file.
+    #[error("`{0}` in it is no plain file")]
+    NotAFile(&'static str),
+    /// The folder has no file of that name, and none was to be made.
+    #[error("there is no `{0}` in it")]
+    NoFile(&'static str),
+    /// The log does not say that it was made, and is longer than a stop leaves one of which that is true: its first
+    /// byte is damaged, or it is a file of another program. It is left as it is.
+    #[error("`log` in it does not begin as the log of a store")]
+    NotALog,
+    /// Another opening, of this program or of another, holds the files.
+    #[error("the store is open elsewhere")]
+    Locked,
+    /// There was no memory.
+    #[error("out of memory")]
+    Memory,
+    /// The files got the descriptors of standard input, output or error.
+    #[error("no descriptor is left but those of the standard streams")]
+    NoDescriptor,
+    /// Any other error of the system.
+    #[error("{0}")]
+    System(io::Error),
+}
+
+impl OpenError {
+    /// The refusal: `NotAStore` where the folder has other files or none, `Locked`, `Memory`, and `Device` for all else.
+    pub fn fault(&self) -> Fault
+        ensures { result ≡ fault_of self.now }
+    {
+        match self {
+            OpenError::NotAFile(_) => Fault::NotAStore,
+            OpenError::NoFile(_) => Fault::NotAStore,
+            OpenError::NotALog => Fault::NotAStore,
+            OpenError::Locked => Fault::Locked,
+            OpenError::Memory => Fault::Memory,
+            OpenError::NoFolder(_) => Fault::Device,
+            OpenError::NotAFolder => Fault::Device,
+            OpenError::Denied(_) => Fault::Device,
+            OpenError::NoDescriptor => Fault::Device,
+            OpenError::System(_) => Fault::Device,
+        }
+    }
+}
+
+impl From<io::Error> for OpenError {
+    fn from(error: io::Error) -> OpenError {
+        match error.kind() {
+            ErrorKind::NotFound => OpenError::NoFolder(error),
+            ErrorKind::NotADirectory => OpenError::NotAFolder,
+            ErrorKind::AlreadyExists => OpenError::NotAFolder,
+            ErrorKind::PermissionDenied => OpenError::Denied(error),
+            ErrorKind::OutOfMemory => OpenError::Memory,
+            _ => OpenError::System(error),
+        }
+    }
+}

@@ -1,0 +1,42 @@
+-- Files that are all on the disk, and places that no write has touched.
+use Rattle.std.proofs.Common.{◌≡◌, ◌⊎◌, ℕ, zero, suc, ◌+◌, ◌<◌, ◌≤◌, List, [], ◌∷◌, length, get_or, refl, sym, ◌∙◌, ap, subst, arith}
+use Rattle.std.proofs.lemmas.List.{ext_get_or}
+use Rattle.im_base_types.specs.declared.file_id.FileId.{FileId}
+use Rattle.im_base_types.specs.declared.file_id.FileId.TheVariants.{Log, Pages}
+use Rattle.im_base_model_disk.specs.declared.model_file.ModelFile.{ModelFile}
+use Rattle.im_base_disk.specs.Disk.{Files, both}
+use Rattle.im_base_model_disk.specs.ModelFile.{IsOutside}
+use Rattle.im_base_model_disk.specs.Past.{FileMayHold, MayLeave, either}
+
+pub outside_item : (writes : List (ℕ × ℕ)) (k i : ℕ) → k < length writes → IsOutside writes i → (i < (get_or writes k (0, 0)).0) ⊎ ((get_or writes k (0, 0)).0 + (get_or writes k (0, 0)).1 ≤ i)
+outside_item [] k i lt out = absurd (omega (arith, lt))
+outside_item (v ∷ writes) zero i lt out = out.0
+outside_item (v ∷ writes) (suc k) i lt out = outside_item writes k i (omega (arith, lt)) out.1
+
+-- each write apart from the place, by its number
+pub outside_each : (writes : List (ℕ × ℕ)) (i : ℕ) → ((k : ℕ) → k < length writes → (i < (get_or writes k (0, 0)).0) ⊎ ((get_or writes k (0, 0)).0 + (get_or writes k (0, 0)).1 ≤ i)) → IsOutside writes i
+outside_each [] i apart = tt
+outside_each (v ∷ writes) i apart = (apart 0 (omega arith), outside_each writes i (λ k lt. apart (suc k) (omega (arith, lt))))
+
+none_outside : (writes : List (ℕ × ℕ)) (i : ℕ) → writes ≡ [] → IsOutside writes i
+none_outside writes i none = subst (λ (w : List (ℕ × ℕ)). IsOutside w i) (sym none) tt
+
+synced_file : (file : ModelFile) → file.synced ≡ length file.bytes.items → file.written.items ≡ [] → (c : List ℕ) → FileMayHold file c → c ≡ file.bytes.items
+synced_file file synced none c may =
+    ext_get_or 0 c file.bytes.items (omega (arith, synced, may.no_shorter, may.no_longer))
+    (λ i lt. may.same i (omega (arith, lt, synced, may.no_longer)) (none_outside file.written.items i none))
+
+pub synced_both : (log pages : ModelFile) → log.synced ≡ length log.bytes.items → log.written.items ≡ [] → pages.synced ≡ length pages.bytes.items → pages.written.items ≡ []
+    → (c : Files) → MayLeave log pages c → (file : FileId) → c file ≡ both log.bytes.items pages.bytes.items file
+synced_both log pages ls ln ps pn c may Log = synced_file log ls ln (c Log) may.0
+synced_both log pages ls ln ps pn c may Pages = synced_file pages ps pn (c Pages) may.1
+
+-- a read gives the bytes of the one file or of the other
+pub seen_of : (log pages : ModelFile) (file : FileId) → both log.bytes.items pages.bytes.items file ≡ (either log pages file).bytes.items
+seen_of log pages Log = refl
+seen_of log pages Pages = refl
+
+-- a file that is the same reads the same
+pub same_seen : (log pages log_new pages_new : ModelFile) (file : FileId) → either log_new pages_new file ≡ either log pages file
+    → both log_new.bytes.items pages_new.bytes.items file ≡ both log.bytes.items pages.bytes.items file
+same_seen log pages log_new pages_new file same = seen_of log_new pages_new file ∙ ap (λ (f : ModelFile). f.bytes.items) same ∙ sym (seen_of log pages file)
