@@ -5,7 +5,7 @@ use Rattle.im_base_types.specs.declared.fault.Fault.{Fault}
 use Rattle.im_base_types.specs.declared.fault.Fault.TheVariants.{Failed}
 use Rattle.im_base_disk.specs.declared.disk.Disk.{Ghosts}
 use Rattle.im_page_writer.specs.Outcome.{Lists}
-use Rattle.im_engine.specs.declared.header.Header.{Header}
+use Rattle.im_page.specs.declared.header.Header.{Header}
 use Rattle.im_engine.specs.declared.engine.Engine.{Engine}
 use Rattle.im_engine.specs.Faults.{ends_engine}
 

@@ -15,7 +15,6 @@ mod checkpoints;
 mod config;
 mod ends;
 mod engine;
-mod header;
 mod inserts;
 mod laws;
 mod lives;
@@ -30,7 +29,7 @@ mod writes;
 
 pub use config::Config;
 pub use engine::Engine;
-pub use header::Header;
+pub use im_page::Header;
 pub use laws::{changes_are_taken_back_once, every_list_of_lives};
 pub use lives::live;
 pub use syncing::sync_files;

@@ -4,9 +4,9 @@ ghost use Rattle.std.specs.Prelude.{◌≡◌, ◌≢◌, List, Err, IfOk, IfErr
 
 use crate::accesses::breaks;
 use crate::engine::Engine;
-use crate::header::Header;
 use im_base_disk::Disk;
 use im_base_types::{Fault, Key, PageNo, Rid};
+use im_page::Header;
 use im_page_pool::Frame;
 use std::alloc::Global;
 

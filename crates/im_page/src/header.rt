@@ -1,4 +1,4 @@
-//! The header of a page's bytes, as it is written.
+//! The header of a page: what it says, and how its bytes are written.
 
 ghost use Rattle.std.specs.Prelude.{◌≡◌, ℕ, ◌+◌, ◌≤◌, ◌<◌, ◌==◌, length, if◌then◌else◌};
 ghost use Rattle.im_page.specs.Number.{u16_at, u32_at, u64_at, SameOutside};
@@ -9,6 +9,14 @@ ghost use Rattle.im_page.specs.Edit.{IsErased, HasHeader};
 use crate::number::{put_u8, put_u16, put_u32, put_u64};
 use crate::removal::clear;
 use im_base_types::PageKind;
+
+/// What a page is for: its kind, its level, 0 for a leaf, and how many entries it has.
+#[derive(Clone, Copy, Debug, PartialEq, Eq)]
+pub struct Header {
+    pub kind: PageKind,
+    pub level: u8,
+    pub count: usize,
+}
 
 /// The number of a kind.
 fn code(kind: PageKind) -> u8

@@ -76,4 +76,5 @@ mod reading;
 mod removal;
 mod split;
 
+pub use header::Header;
 pub use page::{Full, Page};

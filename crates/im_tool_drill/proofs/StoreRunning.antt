@@ -18,7 +18,7 @@ use Rattle.im_base_types.specs.Lives.{Shown}
 use Rattle.im_engine_lock.specs.View.{View}
 use Rattle.im_page_pool.specs.Pool.{page_at}
 use Rattle.im_page_writer.specs.Outcome.{fault_of}
-use Rattle.im_engine.specs.declared.header.Header.{Header}
+use Rattle.im_page.specs.declared.header.Header.{Header}
 use Rattle.im_engine.specs.Looking.{Looks, header_of}
 use Rattle.im_engine.specs.Kept.{LookKept}
 use Rattle.im_engine.specs.Running.{IsLife}

@@ -21,7 +21,7 @@ use Rattle.im_page_writer.specs.Outcome.{fault_of}
 use Rattle.im_restart.specs.declared.redo_report.RedoReport.{RedoReport}
 use Rattle.im_restart.specs.Restart.{IsFullLog, SpellsLog}
 use Rattle.im_engine.specs.declared.config.Config.{Config}
-use Rattle.im_engine.specs.declared.header.Header.{Header}
+use Rattle.im_page.specs.declared.header.Header.{Header}
 use Rattle.im_engine.specs.declared.engine.Engine.{Engine}
 use Rattle.im_engine.specs.Looking.{Looks, header_of}
 use Rattle.im_engine.specs.Kept.{OpenKept, LookKept, disk_of}

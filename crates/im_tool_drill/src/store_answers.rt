@@ -3,8 +3,8 @@
 use crate::Opening;
 use im_base_model_disk::ModelDisk;
 use im_base_types::{Fault, Key, PageNo, Rid};
-use im_engine::Header;
 use im_front::Reply;
+use im_page::Header;
 use im_restart::RedoReport;
 
 /// What a line of a life of a store answers.

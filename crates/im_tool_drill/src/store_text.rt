@@ -7,7 +7,7 @@ ghost use Rattle.im_tool_drill.specs.StoreScripts.{BeginsLife, IsRaw};
 use crate::Opening;
 use crate::store_answers::{StoreAnswers, StoreDrilled, StoreReply};
 use im_base_types::{PageKind, PageNo};
-use im_engine::Header;
+use im_page::Header;
 use im_tool_words::{entries_text, first_piece, reply_text, report_text};
 use std::alloc::Global;
 use std::io;

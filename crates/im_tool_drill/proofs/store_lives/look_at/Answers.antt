@@ -1,6 +1,6 @@
 use Rattle.std.proofs.Common.{◌≡◌, true, false, Ok, Err, refl, inl, inr, sym, subst}
 use Rattle.im_base_model_disk.specs.contracts.model_disk.ModelDiskDisk.TheImpl.{ghosts}
-use Rattle.im_engine.specs.declared.header.Header.{Header}
+use Rattle.im_page.specs.declared.header.Header.{Header}
 use Rattle.im_base_model_disk.specs.declared.model_disk.ModelDisk.{ModelDisk}
 use Rattle.im_engine.proofs.Looked.{look_works, look_fails}
 use Rattle.im_tool_drill.specs.declared.store_answers.StoreReply.TheVariants as replies
