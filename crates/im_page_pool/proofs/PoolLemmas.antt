@@ -10,12 +10,13 @@ use Rattle.im_base_types.specs.Pages.{Page}
 use Rattle.im_page.specs.Header.{initial}
 use Rattle.im_page.specs.PageFile.{file_page}
 use Rattle.im_page_pool.specs.Frames.{Stored, no_page, stored_at}
-use Rattle.im_page_pool.specs.Places.{PlacesView, times, frame_count}
+use Rattle.im_page_places.specs.Places.{PlacesView, times, frame_count}
 use Rattle.im_page_pool.specs.Inside.{held_at, held_in, IsWhole}
 use Rattle.im_page_pool.specs.Pool.{Held, PoolView, held_of, Holds, IsAt, page_at, is_changed, page_seen, Sets, Takes, MovesFirst, Evicts}
 use Rattle.im_page_pool.specs.declared.frame.Frame.{Frame}
-use Rattle.im_page_pool.proofs.PlaceLemmas.{length_remove_entry, length_promoted, lookup_entry_none, times_push}
-use Rattle.im_page_pool.proofs.HeldLemmas.{entry_found, itself, differ, lookup_others, lookup_nowhere, nowhere_from_none, times_removed, place_within, places_differ, free_within, free_not_taken, keys_held, length_held, some_at, none_at, last_none, last_found, lookup_held, remove_held, held_same, held_at_other}
+use Rattle.im_page_places.proofs.PlaceLemmas.{length_remove_entry, length_promoted, lookup_entry_none, times_push}
+use Rattle.im_page_places.proofs.EntryLemmas.{entry_found, itself, differ, lookup_others, lookup_nowhere, nowhere_from_none, times_removed, place_within, places_differ, free_within, free_not_taken, last_none, last_found}
+use Rattle.im_page_pool.proofs.HeldLemmas.{keys_held, length_held, some_at, none_at, lookup_held, remove_held, held_same, held_at_other}
 
 -- the pool that has these inside
 abbrev pub seen_as : List Stored → List (ℕ × ℕ) → ℕ → PoolView
@@ -258,9 +259,6 @@ module _ (fs : List Stored) (v : PlacesView) (n : ℕ) (pool : PoolView) (whole 
 
 pub page_now : (fs : List Stored) (es : List (ℕ × ℕ)) (n p f : ℕ) → lookup (nat_eq p) es ≡ Some f → page_at (seen_as fs es n) p ≡ (stored_at fs f).page
 page_now fs es n p f s = ap (λ (o : Option Held). option_map_or (λ (h : Held). h.page) o (initial 0)) (lookup_held (nat_eq p) fs es ∙ ap (option_map (held_at fs)) s)
-
-pub promoted_none : (p : ℕ) (es : List (ℕ × ℕ)) → lookup (nat_eq p) es ≡ None → promoted (nat_eq p) es ≡ es
-promoted_none p es s = ap (λ (o : Option (ℕ × ℕ)). option_map_or (λ e. e ∷ remove_entry (nat_eq p) es) o es) (lookup_entry_none (nat_eq p) es s)
 
 module _ (frame : Frame) (page : Page) (changed : Bool) (old new : PoolView) where
   -- the page is that which the pool then shows

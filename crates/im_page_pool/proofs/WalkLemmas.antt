@@ -20,19 +20,6 @@ last_marked_push fs (d ∷ es) e =
       | false ↦ refl
     ])
 
--- an entry that stands in a front stands in the list
-pub in_front : (es : List (ℕ × ℕ)) (e x : ℕ × ℕ) (i : ℕ) → slice_get es i ≡ Some x → slice_get (es ++ e ∷ []) i ≡ Some x
-in_front [] e x i s = absurd cc
-in_front (d ∷ es) e x zero s = s
-in_front (d ∷ es) e x (suc i) s = in_front es e x i s
-
-pub at_end : (es : List (ℕ × ℕ)) (e : ℕ × ℕ) → slice_get (es ++ e ∷ []) (length es) ≡ Some e
-at_end [] e = refl
-at_end (d ∷ es) e = at_end es e
-
-pub last_push : (es : List (ℕ × ℕ)) (e : ℕ × ℕ) → last_entry (es ++ e ∷ []) ≡ Some e
-last_push es e = let k : length (es ++ e ∷ []) - 1 ≡ length es = omega (arith, length_push es e) in ap (slice_get (es ++ e ∷ [])) k ∙ at_end es e
-
 -- the same walk over what contracts see
 shown : (fs : List Stored) (o : Option (ℕ × ℕ)) (e : ℕ × ℕ) (b : Bool)
     → option_map_or (λ (f : ℕ × Held). Some f) (option_map (λ (x : ℕ × ℕ). (x.0, held_at fs x.1)) o) (cond b (Some (e.0, held_at fs e.1)) None)

@@ -13,7 +13,7 @@
 //!   look-up of its number, and one of its frame, which moves in the order of use; any other one length call, one read and one check.
 //! - `get_held` does the same of a page that is held, and of any other says that it is not, by one look-up.
 //! - `get_absent` does the same of a page that is not held, for which a frame is free. Its number is looked up where it is entered, once
-//!   where there is room for it (`numbers`), and not before.
+//!   where there is room for it, and not before.
 //! - `insert`, `remove`, `copy_in` and the setters change the one page of their frame, as the calls of `im_page` of the
 //!   same names do, and mark it.
 //! - `hold_copy` holds a page whatever the file has, without a call of the disk.
@@ -39,16 +39,13 @@
 //! Each call of `get` or of `get_absent` adds one to the pool's `gets`, whether it succeeds or not, and each of `get_held` that finds
 //! its page. That number has no bytes (`Count` of `im_base_disk`): it stands in contracts alone.
 //!
-//! The crate stands on `im_page`, on `im_base_disk` and on `lru`. A place is an index of the vector of frames; the invariant
-//! says that each place stands once among those of the held pages and the free ones. All places are in the order of use from the
-//! start (`places`), and a map with room for one more than twice as many numbers finds the place of a page (`numbers`).
+//! The crate stands on `im_page`, on `im_base_disk` and on `im_page_places`, which says which page stands in which frame. A place is an
+//! index of the vector of frames; the invariant says that each place stands once among those of the held pages and the free ones.
 #![tactic(auto)]
 
 mod files;
 mod frame;
 mod frames;
-mod numbers;
-mod places;
 mod pool;
 
 pub use files::write_page;

@@ -1,5 +1,5 @@
 use Rattle.std.proofs.Common.{◌≡◌, ℕ, List, true, false, Option, IsSome, option_map, refl, sym, ap, subst, ◌∙◌}
-use Rattle.im_page_pool.specs.Places.{PlacesView}
+use Rattle.im_page_places.specs.Places.{PlacesView}
 use Rattle.im_page_pool.specs.Inside.{IsWhole}
 use Rattle.im_page_pool.specs.Pool.{Held, Holds, MovesFirst}
 use Rattle.im_page_pool.proofs.PoolLemmas.{seen_as, whole_promoted, moves_first, not_held, found, is_at, promoted_none, the_places}

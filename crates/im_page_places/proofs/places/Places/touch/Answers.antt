@@ -1,0 +1,24 @@
+use Rattle.std.proofs.Common.{◌≡◌, ℕ, List, Option, Some, nat_eq, sym, ap, ◌∙◌}
+use Rattle.std.specs.Map.{lookup}
+use Rattle.std.specs.HashMap.{get}
+use Rattle.lru.specs.LruCache.{LruCache, promoted}
+use Rattle.im_page_places.specs.Places.{PlacesView, taken_in}
+use Rattle.im_page_places.proofs.PlaceLemmas.{promoted_none}
+use Rattle.im_page_places.proofs.UseLemmas.{shown, taken_promoted, keeps_promoted}
+use Rattle.im_page_places.proofs.places.Places.touch.Goals as goal
+
+pub invariant_of-self : goal.invariant_of-self
+invariant_of-self c =
+    let held : lookup (nat_eq c.args.p) (taken_in c.self.inside.by_use.entries) ≡ Some c.in-Some.place = ap (λ (v : PlacesView). lookup (nat_eq c.args.p) v.taken) c.self.view_is ∙ sym c.in-Some.ensures in
+    keeps_promoted c.self.inside.by_use.entries (get nat_eq c.self.inside.numbers) _ c.self.inside.free.items c.self.invariant.0 c.args.p c.in-Some.place held c.promote.new.self.entries _
+    (ap (λ (d : LruCache ℕ (Option ℕ)). d.entries) c.promote.ensures.entries) c.self.invariant.1
+
+pub returns-in-Some-clause-moved : goal.returns-in-Some-clause-moved
+returns-in-Some-clause-moved c =
+    let held : lookup (nat_eq c.args.p) (taken_in c.self.inside.by_use.entries) ≡ Some c.in-Some.place = ap (λ (v : PlacesView). lookup (nat_eq c.args.p) v.taken) c.self.view_is ∙ sym c.in-Some.ensures in
+    ap (λ (d : LruCache ℕ (Option ℕ)). shown (taken_in d.entries) c.self.inside.free.items) c.promote.ensures.entries
+    ∙ ap (λ (l : List (ℕ × ℕ)). shown l c.self.inside.free.items) (taken_promoted c.self.inside.by_use.entries (get nat_eq c.self.inside.numbers) _ c.self.inside.free.items c.self.invariant.0 c.args.p c.in-Some.place held)
+    ∙ ap (λ (v : PlacesView). shown (promoted (nat_eq c.args.p) v.taken) v.free) c.self.view_is
+
+pub returns-clause-moved : goal.returns-clause-moved
+returns-clause-moved c = sym (ap (λ (l : List (ℕ × ℕ)). shown l c.args.self.now.free) (promoted_none c.args.p c.args.self.now.taken (sym c.in_default.ensures)))
