@@ -14,7 +14,7 @@ use Rattle.im_page_places.specs.Places.{PlacesView, times, frame_count}
 use Rattle.im_page_pool.specs.Inside.{held_at, held_in, IsWhole}
 use Rattle.im_page_pool.specs.Pool.{Held, PoolView, held_of, Holds, IsAt, page_at, is_changed, page_seen, Sets, Takes, MovesFirst, Evicts}
 use Rattle.im_page_pool.specs.declared.frame.Frame.{Frame}
-use Rattle.im_page_places.proofs.PlaceLemmas.{length_remove_entry, length_promoted, lookup_entry_none, times_push}
+use Rattle.im_page_places.proofs.PlaceLemmas.{length_remove_entry, length_promoted, times_push}
 use Rattle.im_page_places.proofs.EntryLemmas.{entry_found, itself, differ, lookup_others, lookup_nowhere, nowhere_from_none, times_removed, place_within, places_differ, free_within, free_not_taken, last_none, last_found}
 use Rattle.im_page_pool.proofs.HeldLemmas.{keys_held, length_held, some_at, none_at, lookup_held, remove_held, held_same, held_at_other}
 

@@ -1,8 +1,7 @@
 -- The walk from the least recently used page on, to the first that was changed.
-use Rattle.std.proofs.Common.{◌≡◌, ℕ, zero, suc, ◌+◌, ◌-◌, ◌<◌, Bool, true, false, cond, List, [], ◌∷◌, ◌++◌, length, take, set, reverse, slice_get, Option, Some, None, option_map, refl, sym, ap, ◌∙◌, append_assoc, arith}
-use Rattle.std.proofs.lemmas.List.{length_push, map-append, reverse-append, take-map, take_more_set}
+use Rattle.std.proofs.Common.{◌≡◌, ℕ, suc, ◌+◌, ◌-◌, ◌<◌, Bool, true, false, cond, List, [], ◌∷◌, ◌++◌, length, take, set, reverse, slice_get, Option, Some, None, option_map, refl, sym, ap, ◌∙◌, append_assoc, arith}
+use Rattle.std.proofs.lemmas.List.{map-append, reverse-append, take-map, take_more_set}
 use Rattle.std.specs.Option.{option_map_or}
-use Rattle.lru.specs.LruCache.{last_entry}
 use Rattle.im_page_pool.specs.Frames.{Stored, stored_at}
 use Rattle.im_page_pool.specs.Inside.{held_at, held_in, last_marked, marked_numbers}
 use Rattle.im_page_pool.specs.Pool.{Held, changed_numbers, last_changed}
