@@ -8,8 +8,8 @@ use Rattle.im_theory_log.specs.Writer.{DirtyEntry, PageState, IsWritten}
 use Rattle.im_theory_log.specs.WriterSteps.{entry_since, synced_entry, synced_page}
 use Rattle.im_page_pool.specs.declared.frame.Frame.{Frame}
 use Rattle.im_page_pool.specs.Pool.{Held, PoolView, frame_of, held_of, last_changed}
-use Rattle.im_page_pool.proofs.PlaceLemmas.{length_remove_entry}
-use Rattle.im_page_pool.proofs.HeldLemmas.{lookup_others}
+use Rattle.im_page_places.proofs.PlaceLemmas.{length_remove_entry}
+use Rattle.im_page_places.proofs.EntryLemmas.{lookup_others}
 use Rattle.im_page_writer.specs.declared.table_entry.TableEntry.{TableEntry}
 use Rattle.im_page_writer.specs.DirtyTable.{dirty_entry, entry_in, IsRising, synced_entries}
 use Rattle.im_page_writer.specs.Stands.{HasEntries}
