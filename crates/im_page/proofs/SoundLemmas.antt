@@ -6,7 +6,7 @@ use Rattle.std.proofs.lemmas.List.FromFn.{sum_by-map-range_with_len_more}
 use Rattle.im_page.specs.Entry.{size}
 use Rattle.im_base_types.specs.Keys.{IsBelow}
 use Rattle.im_page.specs.Form.{count_of, start_of, slot_at, cell_size, key_from, entry_from, entries_of, IsPacked}
-use Rattle.im_page.specs.Sound.{is_taken, AreEnds, AreSound, HasSlots, MarksOne, SlotsSound, total_of}
+use Rattle.im_page.specs.Sound.{is_taken, AreEnds, AreSound, HasSlots, IsRun, MarksOne, SlotsSound, total_of}
 use Rattle.im_page.proofs.Order.{below_irrefl, below_trans}
 use Rattle.im_page.proofs.CoverLemmas.{ended_at, follow_all, follow_apart, full, none_below, spans}
 use Rattle.im_page.proofs.RemoveLemmas.{key_len}
@@ -107,6 +107,40 @@ sound_all leaf bytes flags len start h end begun high keyed below =
     let all = full (slot_at bytes) (end_of leaf bytes) n (start_of bytes) 4096 (λ i lt. (low i lt, omega arith, high i lt)) apart start
     (λ k from to. follow_all (slot_at bytes) (end_of leaf bytes) n (start_of bytes) 4096 (4095 - k) some follow last k from (omega arith)) in
     record { sound = sound; full = omega (arith, all, spans_total leaf bytes n len sound) }
+
+pub run_begins : (leaf : Bool) (bytes : List ℕ) → IsRun leaf bytes 0 4096
+run_begins leaf bytes = record { low = λ i lt. absurd (omega arith); falls = λ i j ij lj. absurd (omega arith); high = λ i lt. absurd (omega arith); full = refl }
+
+-- one cell more, right in front of the last one
+pub run_more : (leaf : Bool) (bytes : List ℕ) (n from at : ℕ) → length bytes ≡ 4096 → IsRun leaf bytes n from → at ≡ slot_at bytes n → at + cell_size leaf bytes at ≡ from → IsRun leaf bytes (n + 1) at
+run_more leaf bytes n from at len h is_at meets =
+    let within : from ≤ 4096 = omega (arith, h.full) in
+    let more = total_more leaf bytes n at is_at (omega (arith, meets, within, len)) in
+    let here : end_of leaf bytes n ≡ from = subst (λ a. a + cell_size leaf bytes a ≡ from) is_at meets in
+    record {
+      low = λ i lt. ⊎_elim (λ (x : i < n). omega (arith, h.low i x, meets))
+          (λ (x : n ≤ i). let e : n ≡ i = omega arith in subst (λ k. at ≤ slot_at bytes k) e (omega (arith, is_at)))
+          (cases_lt i n);
+      falls = λ i j ij lj. ⊎_elim (λ (x : j < n). h.falls i j ij x)
+          (λ (x : n ≤ j). let e : n ≡ j = omega arith in subst (λ k. end_of leaf bytes k ≤ slot_at bytes i) e (omega (arith, here, h.low i (omega arith))))
+          (cases_lt j n);
+      high = λ i lt. ⊎_elim (λ (x : i < n). h.high i x)
+          (λ (x : n ≤ i). let e : n ≡ i = omega arith in subst (λ k. end_of leaf bytes k ≤ 4096) e (omega (arith, here, within)))
+          (cases_lt i n);
+      full = omega (arith, more, h.full, meets);
+    }
+
+-- cells that lie so down to where they begin, and whose keys rise from one to the next
+pub run_sound : (leaf : Bool) (bytes : List ℕ) → IsRun leaf bytes (count_of bytes) (start_of bytes) → ((i : ℕ) → i < count_of bytes → 1 ≤ slice_index bytes (slot_at bytes i))
+    → ((i : ℕ) → 0 < i → i < count_of bytes → IsBelow (key_from bytes (slot_at bytes (i - 1))) (key_from bytes (slot_at bytes i))) → SlotsSound leaf bytes
+run_sound leaf bytes h keyed below = record {
+  sound = record {
+    cells = λ i lt. record { low = h.low i lt; high = h.high i lt; keyed = keyed i lt };
+    apart = λ i j li lj ne. ⊎_elim (λ (x : i < j). inr (h.falls i j x lj)) (λ (x : j ≤ i). inl (h.falls j i (omega (arith, ne)) li)) (cases_lt i j);
+    rises = rise_all bytes (count_of bytes) below;
+  };
+  full = h.full;
+}
 
 -- where a cell of a packed page begins, or the page ends, is a flag
 flagged_at : (leaf : Bool) (bytes : List ℕ) (flags : List Bool) → length bytes ≡ 4096 → AreEnds leaf bytes flags (count_of bytes) → SlotsSound leaf bytes

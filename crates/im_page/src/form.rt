@@ -98,6 +98,50 @@ fn are_slots_sound(leaf: bool, bytes: &[u8], flags: &mut [bool]) -> bool
     flags[4096] && has_slots(bytes, flags)
 }
 
+/// Whether the cells lie as where a page is filled in order: the first slot's at the page's end, each other one right in front of that of
+/// the slot before, the last one where the cells begin. Then nothing has to be flagged: no two share a byte, and none is left over.
+fn is_run(leaf: bool, bytes: &[u8]) -> bool
+    requires len { length bytes.now ≡ 4096 }
+    requires slots { 32 + 2 * count_of bytes.now ≤ start_of bytes.now }
+    requires start { start_of bytes.now ≤ 4096 }
+    ensures { IsTrue result → SlotsSound leaf bytes.now }
+{
+    let mut before = 4096usize;
+    let mut top = 0u64;
+    for i in 0..get_u16(bytes, 12) {
+        let at = get_u16(bytes, 32 + 2 * i);
+        if before <= at {
+            return false;
+        }
+        let behind = at + cell_len(leaf, bytes[at] as usize);
+        if behind != before {
+            return false;
+        }
+        let key = key_at(bytes, at);
+        if foot_of(key) <= top && !is_next(bytes, i, before, at) {
+            return false;
+        }
+        top = top_of(key);
+        before = at;
+    }
+    if before != get_u16(bytes, 14) {
+        return false;
+    }
+    true
+}
+
+/// Whether the slots are those of a packed page, whose cells lie in any order.
+#[inline(never)]
+fn are_any_sound(leaf: bool, bytes: &[u8]) -> bool
+    requires len { length bytes.now ≡ 4096 }
+    requires slots { 32 + 2 * count_of bytes.now ≤ start_of bytes.now }
+    requires start { start_of bytes.now ≤ 4096 }
+    ensures { IsTrue result ↔ SlotsSound leaf bytes.now }
+{
+    let mut flags = [false; 4097];
+    are_slots_sound(leaf, bytes, &mut flags)
+}
+
 /// Whether all bytes of a range are zero.
 fn is_zero(bytes: &[u8], from: usize, to: usize) -> bool
     requires order { from ≤ to }
@@ -121,8 +165,7 @@ pub fn is_packed(leaf: bool, bytes: &[u8]) -> bool
     if start < front || 4096 < start || !is_zero(bytes, front, start) {
         return false;
     }
-    let mut flags = [false; 4097];
-    are_slots_sound(leaf, bytes, &mut flags)
+    is_run(leaf, bytes) || are_any_sound(leaf, bytes)
 }
 
 /// Whether the header's fields are those of its kind.

@@ -60,8 +60,10 @@
 //!
 //! Slower than C are a removal and an insertion, as cells and slots move by a rotation, which keeps the shorter side in
 //! a buffer meanwhile and moves the rest at once, and as each slot is written again; and on the second machine a split,
-//! as each entry is put by an insertion of its own. Keys are compared eight bytes at a time. The test of a page's form flags
-//! the byte where the cells begin and the one behind each slot's cell, so that no step of it waits for the one before; at last each slot
+//! as each entry is put by an insertion of its own. Keys are compared eight bytes at a time. The test of a page's form first
+//! goes over the slots as long as each one's cell ends where that of the slot before begins, as they do where a page was filled in order, by
+//! `copy_entries` too. Where they do so down to the byte where the cells begin, nothing more is asked of the cells. Else it flags that
+//! byte and the one behind each slot's cell, so that no step of it waits for the one before; at last each slot
 //! has to name a flagged byte, and the page's end has to be one. The first eight bytes of each key are read once, as a number
 //! that is kept for the next slot; where two such numbers differ, no other byte of the two keys is read.
 #![tactic(auto)]
