@@ -14,9 +14,9 @@ use Rattle.im_theory_log.specs.Lawful.{IsLawful}
 use Rattle.im_theory_log.proofs.RedoPoints.{covers_base}
 use Rattle.im_base_disk.specs.Disk.{Files}
 use Rattle.im_log_gate.specs.Header.{base_of}
-use Rattle.im_page.specs.Header.{initial}
-use Rattle.im_page.specs.PageFile.{file_page}
-use Rattle.im_page.proofs.PageFileLemmas.{page_past}
+use Rattle.im_page_form.specs.Header.{initial}
+use Rattle.im_page_form.specs.PageFile.{file_page}
+use Rattle.im_page_form.proofs.PageFileLemmas.{page_past}
 use Rattle.im_restart.specs.Restart.{IsFresh, HasStore}
 use Rattle.im_theory_tree.specs.Good.{times, IsGoodTree}
 use Rattle.im_theory_tree.specs.Theory.{page_tree}

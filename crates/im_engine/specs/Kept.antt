@@ -15,7 +15,7 @@ use Rattle.im_base_disk.specs.declared.disk.Disk.{Ghosts}
 use Rattle.im_base_disk.specs.Runs.{LeavesOnly}
 use Rattle.im_log_gate.specs.Header.{least_number}
 use Rattle.im_restart_analysis.specs.Numbers.{IsNextNumber}
-use Rattle.im_page.specs.PageFile.{file_page}
+use Rattle.im_page_form.specs.PageFile.{file_page}
 use Rattle.im_page_writer.specs.Checkpoints.{checkpoint_at}
 use Rattle.im_engine_checkpoint.specs.Rows.{listed}
 use Rattle.im_engine_lock.specs.Locks.{Lock}

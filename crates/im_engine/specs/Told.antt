@@ -16,7 +16,7 @@ use Rattle.im_log_record.specs.Entry.{Entry}
 use Rattle.im_log_record.specs.Spelling.{size_of}
 use Rattle.im_log.specs.declared.log_file.LogFile.{LogFile}
 use Rattle.im_log.specs.LogFile.{HasNoRoom, end_with}
-use Rattle.im_page.specs.PageFile.{page_count}
+use Rattle.im_page_form.specs.PageFile.{page_count}
 use Rattle.im_page_pool.specs.Pool.{is_changed}
 use Rattle.im_page_writer.specs.Costs.{PageCosts}
 use Rattle.im_page_writer.specs.DirtyTable.{dirty_pages, has_room, synced_entries}

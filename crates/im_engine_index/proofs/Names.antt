@@ -16,7 +16,7 @@ use Rattle.im_theory_tree.specs.Levels.{walk}
 use Rattle.im_theory_tree.proofs.LookupLemmas.{leaf_value}
 use Rattle.im_tree_search.specs.declared.next_key.NextKey.{NextKey}
 use Rattle.im_tree_search.specs.declared.next_key.NextKey.TheVariants.{Here, There, End}
-use Rattle.im_page.specs.Entry.{entry_at}
+use Rattle.im_page_form.specs.Entry.{entry_at}
 use Rattle.im_tree_search.specs.declared.entry_place.EntryPlace.{EntryPlace}
 use Rattle.im_tree_search.specs.Found.{IsReached, entries_of, entry_of}
 use Rattle.im_tree_search.specs.NextKeys.{next_name as next_key_name, far_name, IsFar}

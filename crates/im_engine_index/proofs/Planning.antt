@@ -20,7 +20,7 @@ use Rattle.im_page_writer.specs.Outcome.{fault_of, want_of_memory, pages_of, All
 use Rattle.im_engine_index.specs.LockCalls.{AsksLocks}
 use Rattle.im_page_writer.specs.PageWriter.{Evicted}
 use Rattle.im_page_writer.proofs.Outcomes.{stays_then}
-use Rattle.im_page.specs.Split.{HasRoom}
+use Rattle.im_page_form.specs.Split.{HasRoom}
 use Rattle.im_theory_tree.specs.Good.{IsGoodTree}
 use Rattle.im_theory_tree.specs.Levels.{Pages, walk}
 use Rattle.im_theory_tree.specs.Search.{IsOnWay}

@@ -13,7 +13,7 @@ ghost use Rattle.im_page_pool.specs.Pool.{page_at, IsAt};
 ghost use Rattle.im_page_writer.specs.PageWriter.{IsReadyWriter};
 ghost use Rattle.im_page_writer.specs.Outcome.{fault_of, mild, no_page, AllPages, AreLoaded, HasPages, IsSound, Logs, Outcome as Ends, Stays};
 ghost use Rattle.im_engine_index.specs.LockCalls.{AsksLocks};
-ghost use Rattle.im_page.specs.Split.{HasRoom};
+ghost use Rattle.im_page_form.specs.Split.{HasRoom};
 ghost use Rattle.im_theory_tree.specs.Good.{IsGoodTree};
 ghost use Rattle.im_theory_tree.specs.Levels.{walk};
 ghost use Rattle.im_theory_tree.specs.Search.{IsOnWay};

@@ -14,7 +14,7 @@ ghost use Rattle.im_tree_search.specs.HeldPages.{HoldsOn, IsQuiet};
 ghost use Rattle.im_engine_lock.specs.Table.{SameTable};
 ghost use Rattle.im_engine_lock.specs.Table.{named};
 ghost use Rattle.im_engine_lock.specs.Rows.{name_of};
-ghost use Rattle.im_page.specs.Entry.{entry_at};
+ghost use Rattle.im_page_form.specs.Entry.{entry_at};
 ghost use Rattle.im_engine_index.specs.Outcomes.{seek_at};
 ghost use Rattle.im_engine_index.specs.Reads.{IsRead};
 

@@ -1,17 +1,9 @@
-pub mod Order
-pub mod FoundLemmas
 pub mod CellLemmas
 pub mod ListLemmas
 pub mod InsertLemmas
 pub mod RemoveLemmas
-pub mod EntryLemmas
-pub mod ChildLemmas
 pub mod CoverLemmas
 pub mod WordLemmas
 pub mod SoundLemmas
-pub mod FormLemmas
 pub mod HeaderLemmas
 pub mod FieldLemmas
-pub mod SplitLemmas
-pub mod ContentLemmas
-pub mod PageFileLemmas

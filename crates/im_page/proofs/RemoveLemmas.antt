@@ -3,13 +3,13 @@ use Rattle.std.proofs.Common.{◌≡◌, ◌≢◌, ◌⊎◌, ℕ, ◌+◌, ◌
 use Rattle.std.proofs.lemmas.Bool.{cases_lt, lt-ltb, le-ltb}
 use Rattle.std.proofs.lemmas.List.Sums.{sum_by-remove}
 use Rattle.std.proofs.lemmas.List.Edits.{length-between}
-use Rattle.im_page.specs.Entry.{no_entry, entry_at, width, size}
+use Rattle.im_page_form.specs.Entry.{no_entry, entry_at, width, size}
 use Rattle.im_base_types.specs.Pages.{Entry}
-use Rattle.im_page.specs.Form.{count_of, start_of, slot_at, cell_size, key_from, entry_from, entries_of, KeysRise, AreApart, IsPacked}
+use Rattle.im_page_form.specs.Form.{count_of, start_of, slot_at, cell_size, key_from, entry_from, entries_of, KeysRise, AreApart, IsPacked}
 use Rattle.im_page.specs.Edit.{moved_up, MovesCells, DropsSlot}
 use Rattle.im_page.proofs.CellLemmas.{SameBytes, same_entry, same_at}
 use Rattle.im_page.proofs.ListLemmas.{made, made_remove}
-use Rattle.im_page.proofs.EntryLemmas.{length-entries_of, entry_at-entries_of}
+use Rattle.im_page_form.proofs.EntryLemmas.{length-entries_of, entry_at-entries_of, key_len}
 
 -- What a removal does: the cells below the one that goes move up, and then its slot goes.
 pub record Removed (leaf : Bool) (old mid new : List ℕ) (i at n : ℕ) : Type 0 where
@@ -146,13 +146,6 @@ still_apart leaf old mid new i at n h a b la lb ne =
     (λ (z : slot_at old x.0 + cell_size leaf old (slot_at old x.0) ≤ slot_at old y.0). inl (omega (arith, s.size, s.place, t.place)))
     (λ (z : slot_at old y.0 + cell_size leaf old (slot_at old y.0) ≤ slot_at old x.0). inr (omega (arith, t.size, s.place, t.place)))
     (h.packed.apart x.0 y.0 x.1.within y.1.within other)
-
-pub key_len : (leaf : Bool) (bytes : List ℕ) (at : ℕ) → at + 1 + slice_index bytes at ≤ length bytes → size leaf (entry_from leaf bytes at) ≡ cell_size leaf bytes at
-unfolding entry_from
-key_len leaf bytes at fits =
-    let n : ℕ = slice_index bytes at in
-    let len : length (key_from bytes at) ≡ n = length-between bytes (at + 1) (at + 1 + n) fits ∙ (let e : at + 1 + n - (at + 1) ≡ n = omega arith in e) in
-    ap (λ k. 1 + k + width leaf) len
 
 -- the bytes that are no cell's any more are zeros
 pub cleared : (leaf : Bool) (old mid new : List ℕ) (i at n : ℕ) → Removed leaf old mid new i at n

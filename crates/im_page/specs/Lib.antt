@@ -1,13 +1,2 @@
-pub mod Number
-pub mod Entry
-pub mod Form
-pub mod Tests
-pub mod Header
-pub mod Page
-pub mod PageFile
-pub mod Child
 pub mod Edit
-pub mod Found
 pub mod Sound
-pub mod Content
-pub mod Split

@@ -2,8 +2,8 @@
 
 ghost use Rattle.std.specs.Prelude.{◌≡◌, ◌↔◌, IsTrue, ℕ, ◌+◌, ◌*◌, ◌<◌, ◌≤◌, false, true, length, slice_index, replicate};
 ghost use Rattle.im_base_types.specs.Keys.{IsBelow};
-ghost use Rattle.im_page.specs.Form.{count_of, start_of, slot_at, key_from, cell_size, IsPacked};
-ghost use Rattle.im_page.specs.Page.{IsHeader, IsForm};
+ghost use Rattle.im_page_form.specs.Form.{count_of, start_of, slot_at, key_from, cell_size, IsPacked};
+ghost use Rattle.im_page_form.specs.Page.{IsHeader, IsForm};
 ghost use Rattle.im_page.specs.Sound.{HasSlots, IsTopOf, IsFootOf, SlotsSound};
 
 use crate::cells::{cell_len, key_at};

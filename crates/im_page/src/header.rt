@@ -1,9 +1,9 @@
 //! The header of a page: what it says, and how its bytes are written.
 
 ghost use Rattle.std.specs.Prelude.{◌≡◌, ℕ, ◌+◌, ◌≤◌, ◌<◌, ◌==◌, length, if◌then◌else◌};
-ghost use Rattle.im_page.specs.Number.{u16_at, u32_at, u64_at, SameOutside};
-ghost use Rattle.im_page.specs.Page.{kind_of, said_by, IsForm};
-ghost use Rattle.im_page.specs.Header.{FitsKind, empty_body, initial};
+ghost use Rattle.im_page_form.specs.Number.{u16_at, u32_at, u64_at, SameOutside};
+ghost use Rattle.im_page_form.specs.Page.{kind_of, said_by, IsForm};
+ghost use Rattle.im_page_form.specs.Header.{FitsKind, empty_body, initial};
 ghost use Rattle.im_page.specs.Edit.{IsErased, HasHeader};
 
 use crate::number::{put_u8, put_u16, put_u32, put_u64};

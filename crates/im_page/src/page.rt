@@ -5,12 +5,12 @@ ghost use Rattle.im_base_types.specs.declared.page_kind.PageKind.TheVariants.{Fr
 ghost use Rattle.im_base_types.specs.declared.fault.Fault.TheVariants.{Device, NotAStore};
 ghost use Rattle.im_base_types.specs.declared.file_id.FileId.TheVariants.{Pages};
 ghost use Rattle.im_base_disk.specs.Runs.{Reads};
-ghost use Rattle.im_page.specs.Entry.{entry_at, Parts, IsPlace, taken, size, width};
-ghost use Rattle.im_page.specs.Page.{HoldsEntries, is_leaf_kind, page_of, with_entries};
-ghost use Rattle.im_page.specs.Header.{HasPrev, HasNext, HasLeftmost, empty_body, initial};
-ghost use Rattle.im_page.specs.Content.{IsContent};
-ghost use Rattle.im_page.specs.Split.{IsSplitPoint, HasRoomForAny, LacksRoom};
-ghost use Rattle.im_page.specs.Child.{IsChild};
+ghost use Rattle.im_page_form.specs.Entry.{entry_at, Parts, IsPlace, taken, size, width};
+ghost use Rattle.im_page_form.specs.Page.{HoldsEntries, is_leaf_kind, page_of, with_entries};
+ghost use Rattle.im_page_form.specs.Header.{HasPrev, HasNext, HasLeftmost, empty_body, initial};
+ghost use Rattle.im_page_form.specs.Content.{IsContent};
+ghost use Rattle.im_page_form.specs.Split.{IsSplitPoint, HasRoomForAny, LacksRoom};
+ghost use Rattle.im_page_form.specs.Child.{IsChild};
 
 use crate::cells;
 use crate::form::is_form;
@@ -38,7 +38,7 @@ pub struct Page {
 
 impl Model for Page {
     ghost use Rattle.im_base_types.specs.Pages.{Page};
-    ghost use Rattle.im_page.specs.Page.{said_by, IsForm};
+    ghost use Rattle.im_page_form.specs.Page.{said_by, IsForm};
 
     ghost Value = { Page };
 

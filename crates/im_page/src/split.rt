@@ -1,8 +1,8 @@
 //! Where a page's entries are split, and a range of them copied.
 
 ghost use Rattle.std.specs.Prelude.{◌≡◌, ℕ, ◌<◌, ◌≤◌, [], length, slice_index, slice_range};
-ghost use Rattle.im_page.specs.Form.{count_of, entries_of, IsPacked};
-ghost use Rattle.im_page.specs.Split.{IsSplitPoint};
+ghost use Rattle.im_page_form.specs.Form.{count_of, entries_of, IsPacked};
+ghost use Rattle.im_page_form.specs.Split.{IsSplitPoint};
 
 use crate::cells::{cell_len, key, value};
 use crate::insertion::insert_cell;

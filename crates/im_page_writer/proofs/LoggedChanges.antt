@@ -10,7 +10,7 @@ use Rattle.im_theory_log.specs.Writer.{PageState}
 use Rattle.im_log_record.specs.declared.record.Record.{Record}
 use Rattle.im_log_record.specs.declared.record.Record.TheVariants as records
 use Rattle.im_log_record.specs.Entry.{view}
-use Rattle.im_page.specs.Page.{page_of}
+use Rattle.im_page_form.specs.Page.{page_of}
 use Rattle.im_log.specs.Whats.{image_of, page_behind, smo_of, undo_smo_of, what_of}
 use Rattle.im_page_pool.specs.Pool.{Held}
 use Rattle.im_page_writer.specs.LeafChange.{LeafTakes}

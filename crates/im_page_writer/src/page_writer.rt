@@ -74,7 +74,7 @@ fn spare_page(alloc: Global) -> Result<Box<Page>, Fault>
 }
 
 impl PageWriter {
-    ghost use Rattle.im_page.specs.PageFile.{file_page, page_count};
+    ghost use Rattle.im_page_form.specs.PageFile.{file_page, page_count};
     ghost use Rattle.im_page_pool.specs.Pool.{held_of, is_changed, page_at, Evicts, Holds, IsAt, MovesFirst};
     ghost use Rattle.im_theory_log.specs.WriterSteps.{forced, synced};
     ghost use Rattle.im_base_disk.specs.Runs.{Costs, CostsAtMost, Forces};

@@ -19,7 +19,7 @@ use Rattle.im_base_disk.specs.Disk.{Files, Only}
 use Rattle.im_base_disk.specs.Runs.{ChangesOnly, LeavesIn, LeavesOnly, Reads}
 use Rattle.im_base_disk.proofs.Runs.{reads_on, started, weakened}
 use Rattle.im_log_gate.specs.Header.{IsUnmade, least_number}
-use Rattle.im_page.specs.PageFile.{file_page}
+use Rattle.im_page_form.specs.PageFile.{file_page}
 use Rattle.im_log.specs.Kept.{IsLogOf}
 use Rattle.im_log.specs.LogFile.{IsOpen, IsLog}
 use Rattle.im_log.proofs.Above.{front_none}

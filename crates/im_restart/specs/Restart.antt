@@ -13,7 +13,7 @@ use Rattle.im_base_disk.specs.Disk.{Files}
 use Rattle.im_base_disk.specs.Runs.{LeavesOnly}
 use Rattle.im_log_gate.specs.Header.{base_of, least_number, IsUnmade}
 use Rattle.im_log.specs.Kept.{HasLog, IsLogOf}
-use Rattle.im_page.specs.PageFile.{file_page}
+use Rattle.im_page_form.specs.PageFile.{file_page}
 use Rattle.im_page_writer.specs.declared.page_writer.PageWriter.{PageWriter}
 use Rattle.im_page_writer.specs.PageWriter.{StandsAs}
 use Rattle.im_page_writer.specs.Outcome.{IsSound}

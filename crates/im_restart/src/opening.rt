@@ -10,7 +10,7 @@ ghost use Rattle.im_theory_log.specs.WriterSteps.{opened};
 ghost use Rattle.im_base_disk.specs.Disk.{Only};
 ghost use Rattle.im_base_disk.specs.Runs.{IsSynced, Reads};
 ghost use Rattle.im_log_gate.specs.Header.{IsMade};
-ghost use Rattle.im_page.specs.PageFile.{file_page};
+ghost use Rattle.im_page_form.specs.PageFile.{file_page};
 ghost use Rattle.im_log.specs.LogFile.{IsOpen};
 ghost use Rattle.im_restart_analysis.specs.Analysis.{IsAnalysis};
 ghost use Rattle.im_restart_analysis.specs.Losers.{AreLosers};

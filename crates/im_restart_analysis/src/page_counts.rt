@@ -4,7 +4,7 @@ ghost use Rattle.std.specs.Prelude.{◌≡◌, ◌≢◌, ◌<◌, ◌↔◌, �
 ghost use Rattle.im_base_types.specs.Records.{Unreadable};
 ghost use Rattle.im_theory_log.specs.Histories.{History};
 ghost use Rattle.im_theory_log.specs.PageCounts.{count_in, greatest_count, names_page};
-ghost use Rattle.im_page.specs.Number.{u32_at};
+ghost use Rattle.im_page_form.specs.Number.{u32_at};
 ghost use Rattle.im_log_record.specs.Entry.{view, page_of};
 ghost use Rattle.im_log.specs.Whats.{what_of};
 ghost use Rattle.im_log.specs.Spelled.{logged_at};

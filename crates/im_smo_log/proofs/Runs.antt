@@ -18,7 +18,7 @@ use Rattle.im_base_disk.specs.declared.disk.Disk.{Ghosts}
 use Rattle.im_base_disk.specs.Disk.{Files}
 use Rattle.im_base_disk.proofs.Runs.{then_on, weakened}
 use Rattle.im_log.proofs.Above.{front_then}
-use Rattle.im_page.specs.Header.{initial}
+use Rattle.im_page_form.specs.Header.{initial}
 use Rattle.im_log_record.specs.Entry as entries
 use Rattle.im_page_writer.specs.declared.page_writer.PageWriter.{PageWriter}
 use Rattle.im_page_writer.specs.Stands.{IsCovered}

@@ -1,7 +1,7 @@
 -- A split of the leaf on a key's way, and allocations.
 use Rattle.std.specs.Prelude.{◌≡◌, ◌⊎◌, ℕ, zero, ◌≤◌, true, List, Some}
 use Rattle.im_base_types.specs.Keys.{Key, IsBelow}
-use Rattle.im_page.specs.Split.{HasRoomForAny}
+use Rattle.im_page_form.specs.Split.{HasRoomForAny}
 use Rattle.im_theory_tree.specs.Levels.{Pages, walk}
 use Rattle.im_theory_tree.specs.Good.{AtOrAbove, IsGoodTree}
 use Rattle.im_theory_tree.specs.Search.{IsOnWay}

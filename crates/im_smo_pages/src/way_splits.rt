@@ -4,8 +4,8 @@ ghost use Rattle.std.specs.Prelude.{◌≡◌, ◌⊎◌, ◌<◌, ◌≤◌, �
 ghost use Rattle.im_base_types.specs.Keys.{Key};
 ghost use Rattle.im_base_types.specs.declared.fault.Fault.TheVariants.{Memory, NotAStore};
 ghost use Rattle.im_base_types.specs.declared.page_kind.PageKind.TheVariants.{Leaf};
-ghost use Rattle.im_page.specs.Entry.{entry_at};
-ghost use Rattle.im_page.specs.Child.{IsChild};
+ghost use Rattle.im_page_form.specs.Entry.{entry_at};
+ghost use Rattle.im_page_form.specs.Child.{IsChild};
 ghost use Rattle.im_theory_tree.specs.Levels.{Pages, height};
 ghost use Rattle.im_theory_tree.specs.Good.{IsGoodTree};
 ghost use Rattle.im_theory_tree.specs.Search.{IsOnWay};

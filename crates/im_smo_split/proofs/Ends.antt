@@ -5,9 +5,9 @@ use Rattle.im_base_types.specs.Pages.{Body, Page}
 use Rattle.im_page_writer.specs.Outcome.{AllPages}
 use Rattle.im_base_types.specs.declared.page_kind.PageKind.{PageKind}
 use Rattle.im_base_types.specs.declared.page_kind.PageKind.TheVariants.{Leaf}
-use Rattle.im_page.specs.Entry.{entry_at, taken, Rises}
-use Rattle.im_page.specs.Child.{IsChild}
-use Rattle.im_page.specs.Page.{is_leaf_kind}
+use Rattle.im_page_form.specs.Entry.{entry_at, taken, Rises}
+use Rattle.im_page_form.specs.Child.{IsChild}
+use Rattle.im_page_form.specs.Page.{is_leaf_kind}
 use Rattle.im_theory_tree.specs.Levels.{Pages, walk}
 use Rattle.im_theory_tree.specs.Good.{IsGoodTree}
 use Rattle.im_theory_tree.specs.Search.{IsOnWay}

@@ -4,8 +4,8 @@ use Rattle.im_base_types.specs.Keys.{Key, IsBelow}
 use Rattle.im_base_types.specs.Pages.{Body, Page}
 use Rattle.im_page_writer.specs.Outcome.{AllPages}
 use Rattle.im_base_types.specs.declared.page_kind.PageKind.TheVariants.{Inner}
-use Rattle.im_page.specs.Entry.{entry_at}
-use Rattle.im_page.specs.Child.{IsChild}
+use Rattle.im_page_form.specs.Entry.{entry_at}
+use Rattle.im_page_form.specs.Child.{IsChild}
 use Rattle.im_theory_tree.specs.Levels.{Pages, walk}
 use Rattle.im_theory_tree.specs.Good.{AtOrAbove}
 use Rattle.im_theory_tree.specs.Halves.{FitsPage}

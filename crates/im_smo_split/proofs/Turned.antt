@@ -6,10 +6,10 @@ use Rattle.im_base_types.specs.declared.fault.Fault.TheVariants.{NotAStore}
 use Rattle.im_base_types.specs.Keys.{Key}
 use Rattle.im_base_types.specs.Pages.{Page}
 use Rattle.im_base_types.specs.declared.page_kind.PageKind.TheVariants.{Inner}
-use Rattle.im_page.specs.Entry.{taken}
-use Rattle.im_page.specs.Child.{IsChild}
-use Rattle.im_page.specs.Content.{IsContent}
-use Rattle.im_page.specs.Page.{is_leaf_kind}
+use Rattle.im_page_form.specs.Entry.{taken}
+use Rattle.im_page_form.specs.Child.{IsChild}
+use Rattle.im_page_form.specs.Content.{IsContent}
+use Rattle.im_page_form.specs.Page.{is_leaf_kind}
 use Rattle.im_page_writer.specs.Outcome.{AllPages, IsSound}
 use Rattle.im_page_writer.proofs.Outcomes.{sound_own}
 use Rattle.im_theory_tree.specs.Levels.{Pages}

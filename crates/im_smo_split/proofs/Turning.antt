@@ -4,9 +4,9 @@ use Rattle.im_base_types.specs.Keys.{Key, IsBelow}
 use Rattle.im_base_types.specs.Pages.{Entry, Body}
 use Rattle.im_theory_log.specs.Tree.{with_body, with_entries}
 use Rattle.im_base_types.specs.declared.page_kind.PageKind.TheVariants.{Leaf, Inner}
-use Rattle.im_page.specs.Entry.{entry_at, Rises}
-use Rattle.im_page.specs.Child.{IsChild}
-use Rattle.im_page.specs.Split.{IsSplitPoint, HasRoom, HasRoomForAny}
+use Rattle.im_page_form.specs.Entry.{entry_at, Rises}
+use Rattle.im_page_form.specs.Child.{IsChild}
+use Rattle.im_page_form.specs.Split.{IsSplitPoint, HasRoom, HasRoomForAny}
 use Rattle.im_theory_tree.specs.Levels.{Pages, walk}
 use Rattle.im_theory_tree.specs.Same.{SameTree}
 use Rattle.im_theory_tree.specs.Good.{AtOrAbove, times, IsGoodTree}

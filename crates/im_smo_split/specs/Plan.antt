@@ -4,7 +4,7 @@ use Rattle.im_base_types.specs.declared.fault.Fault.{Fault}
 use Rattle.im_base_types.specs.declared.fault.Fault.TheVariants.{Capacity, PagesFull}
 use Rattle.im_base_types.specs.Keys.{Key}
 use Rattle.im_page_writer.specs.Outcome.{AllPages}
-use Rattle.im_page.specs.Split.{HasRoom}
+use Rattle.im_page_form.specs.Split.{HasRoom}
 use Rattle.im_theory_tree.specs.Levels.{Pages, height, walk}
 use Rattle.im_theory_tree.specs.Good.{IsGoodTree}
 use Rattle.im_theory_tree.specs.Search.{IsOnWay}

@@ -2,8 +2,8 @@
 use Rattle.std.specs.Prelude.{◌≡◌, ℕ, List}
 use Rattle.im_base_types.specs.Keys.{Key}
 use Rattle.im_base_types.specs.Pages.{Body}
-use Rattle.im_page.specs.Entry.{entry_at, Rises}
-use Rattle.im_page.specs.Child.{IsChild}
+use Rattle.im_page_form.specs.Entry.{entry_at, Rises}
+use Rattle.im_page_form.specs.Child.{IsChild}
 use Rattle.im_page_writer.specs.Outcome.{AllPages}
 use Rattle.im_theory_tree.specs.Levels.{walk}
 use Rattle.im_smo_pages.specs.Images.{Numbered, Has, KeepsAll}

@@ -3,7 +3,7 @@
 ghost use Rattle.std.specs.Prelude.{◌≡◌, ◌≤◌, ◌<◌, ◌++◌, [], ◌∷◌, ℕ, length, false, IfErr, IfOk, IfSome, OnOk};
 ghost use Rattle.im_base_types.specs.declared.fault.Fault.TheVariants.{Memory};
 ghost use Rattle.im_base_types.specs.Maps.{is_below};
-ghost use Rattle.im_page.specs.Entry.{entry_at};
+ghost use Rattle.im_page_form.specs.Entry.{entry_at};
 ghost use Rattle.im_page_writer.specs.PageWriter.{IsReadyWriter};
 ghost use Rattle.im_page_writer.specs.Outcome.{fault_of, AllPages, IsSound, Lists};
 ghost use Rattle.im_tree_search.specs.Levels.{bodies_of};

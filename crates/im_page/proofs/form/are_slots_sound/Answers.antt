@@ -1,7 +1,7 @@
 use Rattle.std.proofs.Common.{◌≡◌, ℕ, ◌+◌, ◌-◌, ◌<◌, ◌≤◌, List, length, slice_index, slice_set, true, arith, rules, refl, ap, subst, sym, ◌∙◌, ⊎_elim}
 use Rattle.std.proofs.lemmas.Bool.{cases_lt}
 use Rattle.im_base_types.specs.Keys.{IsBelow}
-use Rattle.im_page.specs.Form.{count_of, start_of, slot_at, cell_size, key_from}
+use Rattle.im_page_form.specs.Form.{count_of, start_of, slot_at, cell_size, key_from}
 use Rattle.im_page.specs.Sound.{AreEnds, MarksOne, IsTopOf, IsFootOf}
 use Rattle.im_page.proofs.SoundLemmas.{all_flagged, end_flagged, ends_begin, ends_more, marks_set, sound_all}
 use Rattle.im_page.proofs.WordLemmas.{by_words, key_bytes}

@@ -1,6 +1,6 @@
 use Rattle.std.proofs.Common.{◌≡◌, ℕ, [], length, true, ap, sym, ◌∙◌, subst, arith}
 use Rattle.im_base_types.specs.Pages.{Body, Page}
-use Rattle.im_page.specs.Page.{is_leaf_kind}
+use Rattle.im_page_form.specs.Page.{is_leaf_kind}
 use Rattle.im_page_pool.specs.Pool.{page_at}
 use Rattle.im_page_writer.proofs.Outcomes.{held_is, pages_still, sound_on, then}
 use Rattle.im_theory_tree.specs.Levels.{height}

@@ -1,5 +1,5 @@
 use Rattle.std.proofs.Common.{◌≡◌, true, refl}
-use Rattle.im_page.proofs.FormLemmas.{page_of_form, no_page}
+use Rattle.im_page_form.proofs.FormLemmas.{page_of_form, no_page}
 use Rattle.im_page.proofs.page.Page.load.Goals.{then-bytes-ne4096-via-then-bytes-ne4096, then-bytes-ne4096-via-else-bytes-ne4096+then-not-is_form}
 use Rattle.im_page.proofs.page.Page.load.Goals as goal
 

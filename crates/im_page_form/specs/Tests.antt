@@ -3,8 +3,8 @@ use Rattle.std.specs.Prelude.{ℕ, zero, suc, ◌+◌, ◌*◌, Bool, true, fals
 use Rattle.std.specs.declared.cmp.Ordering.{Ordering}
 use Rattle.std.specs.declared.cmp.Ordering.TheVariants.{Less, Equal, Greater}
 use Rattle.im_base_types.specs.Keys.{key_order}
-use Rattle.im_page.specs.Entry.{size}
-use Rattle.im_page.specs.Form.{count_of, start_of, slot_at, cell_size, key_from, entries_of}
+use Rattle.im_page_form.specs.Entry.{size}
+use Rattle.im_page_form.specs.Form.{count_of, start_of, slot_at, cell_size, key_from, entries_of}
 
 -- a test holds of each number below n
 abbrev pub all_below : (ℕ → Bool) → ℕ → Bool

@@ -5,13 +5,12 @@ use Rattle.std.proofs.lemmas.List.{take_more, get_or-take, get_or-drop}
 use Rattle.std.proofs.lemmas.List.Sums.{sum_by-take-drop, sum_by_more, sum_by_more_le}
 use Rattle.std.proofs.lemmas.List.Edits.{insert-append_right}
 use Rattle.im_base_types.specs.Pages.{Entry}
-use Rattle.im_page.specs.Entry.{no_entry, entry_at, width, size, taken, Rises}
-use Rattle.im_page.specs.Form.{count_of, start_of, slot_at, cell_size, key_from, entries_of, IsPacked}
-use Rattle.im_page.specs.Found.{Parts}
-use Rattle.im_page.specs.Split.{IsSplitPoint, HasRoomForAny, LacksRoom}
-use Rattle.im_page.proofs.EntryLemmas.{length-entries_of, entry_at-entries_of, key-entries_of, room_is}
-use Rattle.im_page.proofs.RemoveLemmas.{key_len}
-use Rattle.im_page.proofs.ChildLemmas.{rises_of}
+use Rattle.im_page_form.specs.Entry.{no_entry, entry_at, width, size, taken, Rises}
+use Rattle.im_page_form.specs.Form.{count_of, start_of, slot_at, cell_size, key_from, entries_of, IsPacked}
+use Rattle.im_page_form.specs.Found.{Parts}
+use Rattle.im_page_form.specs.Split.{IsSplitPoint, HasRoomForAny, LacksRoom}
+use Rattle.im_page_form.proofs.EntryLemmas.{length-entries_of, entry_at-entries_of, key-entries_of, key_len, room_is}
+use Rattle.im_page_form.proofs.ChildLemmas.{rises_of}
 
 -- an entry takes its cell
 pub size_of_slot : (leaf : Bool) (bytes : List ℕ) (i : ℕ) → IsPacked leaf bytes → i < count_of bytes → size leaf (entry_at (entries_of leaf bytes) i) ≡ cell_size leaf bytes (slot_at bytes i)

@@ -1,8 +1,8 @@
 -- The form of a page that has entries, over its bytes.
 use Rattle.std.specs.Prelude.{◌≡◌, ◌≢◌, ◌⊎◌, ℕ, ◌+◌, ◌*◌, ◌<◌, ◌≤◌, Bool, List, length, map, sum_by, slice_index, slice_range, if◌then◌else◌}
 use Rattle.std.specs.List.{range_with_len}
-use Rattle.im_page.specs.Number.{u16_at, u32_at, u64_at}
-use Rattle.im_page.specs.Entry.{width, size}
+use Rattle.im_page_form.specs.Number.{u16_at, u32_at, u64_at}
+use Rattle.im_page_form.specs.Entry.{width, size}
 use Rattle.im_base_types.specs.Keys.{IsBelow}
 use Rattle.im_base_types.specs.Pages.{Entry}
 

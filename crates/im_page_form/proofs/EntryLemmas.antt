@@ -1,13 +1,14 @@
 -- The entries of a page, by their slots.
-use Rattle.std.proofs.Common.{◌≡◌, ℕ, ◌+◌, ◌*◌, ◌<◌, ◌≤◌, Bool, List, [], ◌∷◌, Result, Ok, Err, length, slice_index, sum_by, ◌==◌, refl, sym, ap, ◌∙◌, ◌↔◌, arith}
+use Rattle.std.proofs.Common.{◌≡◌, ℕ, ◌+◌, ◌-◌, ◌*◌, ◌<◌, ◌≤◌, Bool, List, [], ◌∷◌, Result, Ok, Err, length, slice_index, sum_by, ◌==◌, refl, sym, ap, ◌∙◌, ◌↔◌, arith}
 use Rattle.std.proofs.lemmas.Bool.Decides.{nat_tests}
 use Rattle.std.proofs.lemmas.List.Sums.{sum_by-cons}
-use Rattle.im_page.specs.Page.{is_leaf_kind, kind_of, is_leaf, said_by}
+use Rattle.std.proofs.lemmas.List.Edits.{length-between}
+use Rattle.im_page_form.specs.Page.{is_leaf_kind, kind_of, is_leaf, said_by}
 use Rattle.std.proofs.lemmas.List.FromFn.{length-map-range_with_len, get_or-map-range_with_len}
-use Rattle.im_page.specs.Entry.{no_entry, entry_at, Parts, IsPlace, taken, size, width}
+use Rattle.im_page_form.specs.Entry.{no_entry, entry_at, Parts, IsPlace, taken, size, width}
 use Rattle.im_base_types.specs.Pages.{Entry}
-use Rattle.im_page.specs.Form.{count_of, start_of, slot_at, key_from, entry_from, entries_of, IsPacked}
-use Rattle.im_page.specs.Found as found
+use Rattle.im_page_form.specs.Form.{count_of, start_of, slot_at, cell_size, key_from, entry_from, entries_of, IsPacked}
+use Rattle.im_page_form.specs.Found as found
 
 pub length-entries_of : (leaf : Bool) (bytes : List ℕ) → length (entries_of leaf bytes) ≡ count_of bytes
 unfolding entries_of
@@ -77,3 +78,11 @@ room_exact bytes room key h is =
     let kind = leaf_kind (slice_index bytes 8) in
     rw kind
     (λ fits. omega (arith, room_is (is_leaf bytes) bytes h), λ fits. omega (arith, room_is (is_leaf bytes) bytes h))
+
+-- a cell takes what its entry does
+pub key_len : (leaf : Bool) (bytes : List ℕ) (at : ℕ) → at + 1 + slice_index bytes at ≤ length bytes → size leaf (entry_from leaf bytes at) ≡ cell_size leaf bytes at
+unfolding entry_from
+key_len leaf bytes at fits =
+    let n : ℕ = slice_index bytes at in
+    let len : length (key_from bytes at) ≡ n = length-between bytes (at + 1) (at + 1 + n) fits ∙ (let e : at + 1 + n - (at + 1) ≡ n = omega arith in e) in
+    ap (λ k. 1 + k + width leaf) len

@@ -1,12 +1,12 @@
 -- The child of a key, by the place of the key among the separators.
 use Rattle.std.proofs.Common.{zero, suc, ◌≡◌, ℕ, ◌+◌, ◌-◌, ◌<◌, ◌≤◌, Bool, List, [], ◌∷◌, Ok, Err, length, drop, refl, inl, inr, arith}
-use Rattle.im_page.specs.Entry.{entry_at, IsPlace, Rises}
+use Rattle.im_page_form.specs.Entry.{entry_at, IsPlace, Rises}
 use Rattle.im_base_types.specs.Keys.{IsBelow}
 use Rattle.im_base_types.specs.Pages.{Entry}
 use Rattle.im_base_types.specs.Pages.{Body}
-use Rattle.im_page.specs.Child.{StartAbove, IsChild}
-use Rattle.im_page.specs.Form.{entries_of, KeysRise}
-use Rattle.im_page.proofs.EntryLemmas.{length-entries_of, key-entries_of}
+use Rattle.im_page_form.specs.Child.{StartAbove, IsChild}
+use Rattle.im_page_form.specs.Form.{entries_of, KeysRise}
+use Rattle.im_page_form.proofs.EntryLemmas.{length-entries_of, key-entries_of}
 
 pub nothing_above : (key : List ℕ) (i : ℕ) → StartAbove key (drop i [])
 nothing_above key zero = tt

@@ -1,13 +1,13 @@
 -- What a page's bytes say of its contents.
 use Rattle.std.proofs.Common.{◌≡◌, ℕ, ◌+◌, ◌-◌, ◌<◌, ◌≤◌, Bool, List, length, slice_index, ap, ◌∙◌, arith}
 use Rattle.std.proofs.lemmas.List.Edits.{length-between}
-use Rattle.im_page.specs.Entry.{entry_at}
-use Rattle.im_page.specs.Form.{count_of, slot_at, entries_of, IsPacked}
-use Rattle.im_page.specs.Page.{is_leaf, said_by, IsForm}
-use Rattle.im_page.specs.Content.{IsContent}
-use Rattle.im_page.proofs.EntryLemmas.{length-entries_of, key-entries_of, taken_kind}
-use Rattle.im_page.proofs.SplitLemmas.{taken_fits}
-use Rattle.im_page.proofs.ChildLemmas.{rises_of}
+use Rattle.im_page_form.specs.Entry.{entry_at}
+use Rattle.im_page_form.specs.Form.{count_of, slot_at, entries_of, IsPacked}
+use Rattle.im_page_form.specs.Page.{is_leaf, said_by, IsForm}
+use Rattle.im_page_form.specs.Content.{IsContent}
+use Rattle.im_page_form.proofs.EntryLemmas.{length-entries_of, key-entries_of, taken_kind}
+use Rattle.im_page_form.proofs.SplitLemmas.{taken_fits}
+use Rattle.im_page_form.proofs.ChildLemmas.{rises_of}
 
 -- a key is as long as its length byte says
 pub key_length : (leaf : Bool) (bytes : List ℕ) (i : ℕ) → IsPacked leaf bytes → i < count_of bytes → length (entry_at (entries_of leaf bytes) i).0 ≡ slice_index bytes (slot_at bytes i)

@@ -3,10 +3,10 @@ use Rattle.std.specs.Prelude.{◌≡◌, ◌⊎◌, ℕ, ◌≤◌, Bool, true, 
 use Rattle.im_base_types.specs.declared.page_kind.PageKind.{PageKind}
 use Rattle.im_base_types.specs.declared.page_kind.PageKind.TheVariants.{Free, Meta, Leaf, Inner}
 use Rattle.im_base_types.specs.Pages.{Entry, Page}
-use Rattle.im_page.specs.Number.{u32_at, u64_at}
-use Rattle.im_page.specs.Form.{count_of, entries_of, IsPacked}
-use Rattle.im_page.specs.Tests.{is_packed}
-use Rattle.im_page.specs.Header.{FitsKind, fits_kind}
+use Rattle.im_page_form.specs.Number.{u32_at, u64_at}
+use Rattle.im_page_form.specs.Form.{count_of, entries_of, IsPacked}
+use Rattle.im_page_form.specs.Tests.{is_packed}
+use Rattle.im_page_form.specs.Header.{FitsKind, fits_kind}
 
 -- the kind that a number stands for
 abbrev pub kind_of : ℕ → PageKind

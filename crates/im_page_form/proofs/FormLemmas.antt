@@ -8,12 +8,12 @@ use Rattle.std.specs.declared.cmp.Ordering.TheVariants.{Less, Equal, Greater}
 use Rattle.im_base_types.specs.Keys.{key_order, IsBelow}
 use Rattle.im_base_types.specs.declared.page_kind.PageKind.{PageKind}
 use Rattle.im_base_types.specs.declared.page_kind.PageKind.TheVariants.{Free, Meta, Leaf, Inner}
-use Rattle.im_page.specs.Number.{u32_at}
-use Rattle.im_page.specs.Entry.{size}
-use Rattle.im_page.specs.Form.{count_of, start_of, slot_at, cell_size, key_from, entries_of, IsPacked}
-use Rattle.im_page.specs.Tests as tests
-use Rattle.im_page.specs.Page.{kind_of, is_leaf, said_by, IsForm, is_form, page_of}
-use Rattle.im_page.specs.Header.{FitsKind, fits_kind}
+use Rattle.im_page_form.specs.Number.{u32_at}
+use Rattle.im_page_form.specs.Entry.{size}
+use Rattle.im_page_form.specs.Form.{count_of, start_of, slot_at, cell_size, key_from, entries_of, IsPacked}
+use Rattle.im_page_form.specs.Tests as tests
+use Rattle.im_page_form.specs.Page.{kind_of, is_leaf, said_by, IsForm, is_form, page_of}
+use Rattle.im_page_form.specs.Header.{FitsKind, fits_kind}
 
 le_decides : (a b : ℕ) → Decides (nat_le a b) (a ≤ b)
 le_decides a b = (λ e. grind (arith, nat_tests), λ h. le-leb a b h)

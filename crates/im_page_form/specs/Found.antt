@@ -1,7 +1,7 @@
 -- The place of a key among the slots of a page.
 use Rattle.std.specs.Prelude.{◌≡◌, ℕ, ◌<◌, ◌≤◌, List, Result, Ok, Err}
 use Rattle.im_base_types.specs.Keys.{IsBelow}
-use Rattle.im_page.specs.Form.{count_of, slot_at, key_from}
+use Rattle.im_page_form.specs.Form.{count_of, slot_at, key_from}
 
 -- the keys before place i are below this key, and those from `above` on are above it
 pub record Parts (bytes key : List ℕ) (i from : ℕ) : Type 0 where

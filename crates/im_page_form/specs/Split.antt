@@ -1,7 +1,7 @@
 -- Where a page that has no room is split.
 use Rattle.std.specs.Prelude.{ℕ, ◌+◌, ◌<◌, ◌≤◌, Bool, List, length, take}
 use Rattle.im_base_types.specs.Pages.{Entry}
-use Rattle.im_page.specs.Entry.{taken, size, width}
+use Rattle.im_page_form.specs.Entry.{taken, size, width}
 
 -- the first n entries are the longest front whose cells and slots take at most 2,032 bytes
 pub record IsSplitPoint (leaf : Bool) (es : List Entry) (n : ℕ) : Type 0 where

@@ -1,9 +1,9 @@
 -- What every page's contents are, whatever bytes they came from.
 use Rattle.std.specs.Prelude.{ℕ, ◌<◌, ◌≤◌, length}
 use Rattle.im_base_types.specs.Pages.{Page}
-use Rattle.im_page.specs.Entry.{entry_at, Rises, taken}
-use Rattle.im_page.specs.Header.{FitsKind}
-use Rattle.im_page.specs.Page.{is_leaf_kind}
+use Rattle.im_page_form.specs.Entry.{entry_at, Rises, taken}
+use Rattle.im_page_form.specs.Header.{FitsKind}
+use Rattle.im_page_form.specs.Page.{is_leaf_kind}
 
 -- the header is that of its kind, keys rise and have 1 to 255 bytes, and cells and slots take at most 4,064 bytes
 pub record IsContent (p : Page) : Type 0 where

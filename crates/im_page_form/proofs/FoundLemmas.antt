@@ -2,9 +2,9 @@
 use Rattle.std.proofs.Common.{◌≡◌, ℕ, ◌+◌, ◌<◌, ◌≤◌, List, ap, ◌∙◌, ⊎_elim, arith}
 use Rattle.std.proofs.lemmas.Bool.{cases_lt}
 use Rattle.im_base_types.specs.Keys.{IsBelow}
-use Rattle.im_page.specs.Form.{count_of, slot_at, key_from, KeysRise}
-use Rattle.im_page.specs.Found.{Parts}
-use Rattle.im_page.proofs.Order.{below_trans}
+use Rattle.im_page_form.specs.Form.{count_of, slot_at, key_from, KeysRise}
+use Rattle.im_page_form.specs.Found.{Parts}
+use Rattle.im_page_form.proofs.Order.{below_trans}
 
 pub parts_right : (bytes key : List ℕ) (low high m : ℕ) → Parts bytes key low high → KeysRise bytes → m < count_of bytes
     → IsBelow (key_from bytes (slot_at bytes m)) key → Parts bytes key (m + 1) high

@@ -2,7 +2,7 @@
 use Rattle.std.specs.Prelude.{◌⊎◌, ◌+◌, ◌<◌, ◌≡◌, ℕ, List, [], ◌∷◌, length, drop}
 use Rattle.im_base_types.specs.Keys.{Key, IsBelow}
 use Rattle.im_base_types.specs.Pages.{Entry, Body}
-use Rattle.im_page.specs.Entry.{entry_at}
+use Rattle.im_page_form.specs.Entry.{entry_at}
 
 -- the first of these separators, if there is one, is above the key
 abbrev pub StartAbove : Key → List Entry → Type 0

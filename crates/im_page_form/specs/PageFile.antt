@@ -1,8 +1,8 @@
 -- The pages that the bytes of a file of pages are: page p stands at byte p * 4,096.
 use Rattle.std.specs.Prelude.{ℕ, ◌*◌, ◌/◌, nat_lt, if◌then◌else◌, List, length, take, drop, Option, Some}
 use Rattle.im_base_types.specs.Pages.{Page}
-use Rattle.im_page.specs.Header.{initial}
-use Rattle.im_page.specs.Page.{page_of}
+use Rattle.im_page_form.specs.Header.{initial}
+use Rattle.im_page_form.specs.Page.{page_of}
 
 -- how many pages the file has: bytes behind the last whole one do not count
 abbrev pub page_count : List ℕ → ℕ

@@ -3,9 +3,9 @@ use Rattle.std.proofs.Common.{◌≡◌, ⊎_elim, ℕ, ◌+◌, ◌-◌, ◌*�
 use Rattle.std.specs.Prelude.{nat_lt}
 use Rattle.std.proofs.lemmas.Bool.{cases_lt, cond-true, cond-false, lt-ltb, le-ltb}
 use Rattle.std.proofs.lemmas.List.{drop-take, take_at, drop_at}
-use Rattle.im_page.specs.Header.{initial}
-use Rattle.im_page.specs.Page.{page_of}
-use Rattle.im_page.specs.PageFile.{page_count, page_bytes, file_page}
+use Rattle.im_page_form.specs.Header.{initial}
+use Rattle.im_page_form.specs.Page.{page_of}
+use Rattle.im_page_form.specs.PageFile.{page_count, page_bytes, file_page}
 
 -- ---- the page count
 

@@ -1,0 +1,11 @@
+pub mod Child
+pub mod Content
+pub mod Entry
+pub mod Form
+pub mod Found
+pub mod Header
+pub mod Number
+pub mod Page
+pub mod PageFile
+pub mod Split
+pub mod Tests
