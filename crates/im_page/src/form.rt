@@ -100,6 +100,7 @@ fn are_slots_sound(leaf: bool, bytes: &[u8], flags: &mut [bool]) -> bool
 
 /// Whether the cells lie as where a page is filled in order: the first slot's at the page's end, each other one right in front of that of
 /// the slot before, the last one where the cells begin. Then nothing has to be flagged: no two share a byte, and none is left over.
+#[inline(never)]
 fn is_run(leaf: bool, bytes: &[u8]) -> bool
     requires len { length bytes.now ≡ 4096 }
     requires slots { 32 + 2 * count_of bytes.now ≤ start_of bytes.now }
