@@ -99,16 +99,23 @@ fn are_slots_sound(leaf: bool, bytes: &[u8], flags: &mut [bool]) -> bool
 }
 
 /// Whether the cells lie as where a page is filled in order: the first slot's at the page's end, each other one right in front of that of
-/// the slot before, the last one where the cells begin. Then nothing has to be flagged: no two share a byte, and none is left over.
+/// the slot before, the last one where the cells begin. Then nothing has to be flagged: no two share a byte, and none is left over. The
+/// last slot is looked at first: a key that came behind others in another place has its cell in front of theirs.
+#[inline(never)]
 fn is_run(leaf: bool, bytes: &[u8]) -> bool
     requires len { length bytes.now ≡ 4096 }
     requires slots { 32 + 2 * count_of bytes.now ≤ start_of bytes.now }
     requires start { start_of bytes.now ≤ 4096 }
     ensures { IsTrue result → SlotsSound leaf bytes.now }
 {
+    let count = get_u16(bytes, 12);
+    let start = get_u16(bytes, 14);
+    if 1 <= count && get_u16(bytes, 30 + 2 * count) != start {
+        return false;
+    }
     let mut before = 4096usize;
     let mut top = 0u64;
-    for i in 0..get_u16(bytes, 12) {
+    for i in 0..count {
         let at = get_u16(bytes, 32 + 2 * i);
         if before <= at {
             return false;
@@ -124,7 +131,7 @@ fn is_run(leaf: bool, bytes: &[u8]) -> bool
         top = top_of(key);
         before = at;
     }
-    if before != get_u16(bytes, 14) {
+    if before != start {
         return false;
     }
     true

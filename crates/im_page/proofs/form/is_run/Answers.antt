@@ -60,7 +60,7 @@ pub returns : goal.returns
 returns c =
     let leaf = c.args.leaf in
     let bytes : List ℕ = c.args.bytes.now in
-    let all : c.loop-i.i ≡ count_of bytes = omega (arith, c.loop-i-test.false, c.loop-i.auto.i-end, c.get_u16-i-end.ensures.value) in
-    let start : c.loop-i.before ≡ start_of bytes = omega (arith, c.if-before-get_u16.false, c.get_u16.ensures.value) in
+    let all : c.loop-i.i ≡ count_of bytes = omega (arith, c.loop-i-test.false, c.loop-i.auto.i-end, c.get_u16-count.ensures.value) in
+    let start : c.loop-i.before ≡ start_of bytes = omega (arith, c.if-before-start.false, c.get_u16-start.ensures.value) in
     λ t. run_sound leaf bytes (subst (IsRun leaf bytes (count_of bytes)) start (subst (λ n. IsRun leaf bytes n c.loop-i.before) all c.loop-i.invariant.run))
     (λ i lt. c.loop-i.invariant.keyed i (omega (arith, all, lt))) (λ i some lt. c.loop-i.invariant.below i some (omega (arith, all, lt)))
