@@ -10,9 +10,7 @@
 #![tactic(auto)]
 
 use anyhow::{Result, bail};
-use im_bench_front::front;
-use im_bench_log::{gate, log, record};
-use im_bench_pages::{flush, lock, page, pool};
+use im_bench_layers::{flush, front, gate, lock, log, page, pool, record};
 use im_bench_runs::{damage, long};
 use im_bench_store::{store, tree};
 use std::env;

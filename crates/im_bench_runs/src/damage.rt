@@ -13,8 +13,8 @@ mod damaged;
 use crate::damage::damaged::{Damaged, Outcomes, founded, judged};
 use anyhow::Result;
 use im_base_types::FileId;
-use im_bench_base::bounded::Files;
-use im_bench_steps::places::{is_in_page_number, page_numbers};
+use im_bench_layers::bounded::Files;
+use im_bench_layers::places::{is_in_page_number, page_numbers};
 
 /// Which bytes of a file are damaged in turn.
 #[derive(Clone, Copy)]

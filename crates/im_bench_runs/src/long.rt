@@ -24,11 +24,11 @@ use anyhow::Result;
 use im_base_disk::Disk;
 use im_base_model_disk::ModelDisk;
 use im_base_types::FileId;
-use im_bench_base::counted::{Counted, show_calls};
-use im_bench_base::memory::MemoryDisk;
-use im_bench_steps::kinds::{Kinds, show_kinds};
-use im_bench_steps::spans::{Order, Span, Work, all_committed, worked_and_forced};
-use im_bench_steps::tally::{Tally, show_tally};
+use im_bench_layers::counted::{Counted, show_calls};
+use im_bench_layers::kinds::{Kinds, show_kinds};
+use im_bench_layers::memory::MemoryDisk;
+use im_bench_layers::spans::{Order, Span, Work, all_committed, worked_and_forced};
+use im_bench_layers::tally::{Tally, show_tally};
 use im_engine::Engine;
 
 /// How many keys the store has.

@@ -34,8 +34,8 @@
 use crate::opening::opened;
 use anyhow::Result;
 use im_base_model_disk::ModelDisk;
-use im_bench_base::figures::{is_timed, show_of};
-use im_bench_steps::works::{Order, Part, Work, worked};
+use im_bench_layers::figures::{is_timed, show_of};
+use im_bench_layers::works::{Order, Part, Work, worked};
 use im_bench_tree::look_ups::look_up;
 use im_engine::Engine;
 use std::time::Instant;

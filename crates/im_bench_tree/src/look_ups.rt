@@ -6,7 +6,7 @@ use crate::pages::{keys_in, tree};
 use crate::work::{disk_of, found, found_locked, opened};
 use anyhow::Result;
 use im_base_disk::Disk;
-use im_bench_base::figures::show_of;
+use im_bench_layers::figures::show_of;
 use im_engine_lock::LockTable;
 use im_page_writer::PageWriter;
 use std::time::Instant;

@@ -4,7 +4,7 @@ ghost use Rattle.std.specs.Prelude.{◌≡◌, ◌≤◌};
 ghost use Rattle.im_page.specs.Page.{HoldsEntries};
 
 use im_base_types::{Fault, PageNo};
-use im_bench_base::keys::key_of;
+use im_bench_layers::keys::key_of;
 use im_page::Page;
 use std::alloc::Global;
 

@@ -7,7 +7,7 @@ ghost use Rattle.im_page_writer.specs.PageWriter.{IsReadyWriter};
 use im_base_disk::{Disk, read_vec};
 use im_base_model_disk::ModelDisk;
 use im_base_types::{Fault, FileId};
-use im_bench_base::keys::{key_of, scattered};
+use im_bench_layers::keys::{key_of, scattered};
 use im_engine_index::{Outcome, fetch};
 use im_engine_lock::LockTable;
 use im_log::open_or_create;

@@ -2,8 +2,8 @@
 
 use crate::opening::opened;
 use im_base_types::{Fault, FileId, Key, Rid};
-use im_bench_base::bounded::{BoundedDisk, Files};
-use im_bench_steps::founding::{are_committed, found, make_each};
+use im_bench_layers::bounded::{BoundedDisk, Files};
+use im_bench_layers::founding::{are_committed, found, make_each};
 use im_engine::Engine;
 use std::alloc::Global;
 

@@ -2,8 +2,8 @@
 
 use im_base_disk::Disk;
 use im_base_types::Fault;
-use im_bench_steps::kinds::Kinds;
-use im_bench_steps::spans::right_among;
+use im_bench_layers::kinds::Kinds;
+use im_bench_layers::spans::right_among;
 use im_engine::Engine;
 use std::alloc::Global;
 

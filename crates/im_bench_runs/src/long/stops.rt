@@ -12,9 +12,9 @@ use crate::opening::opened;
 use im_base_disk::Disk;
 use im_base_model_disk::{Fill, Length, ModelDisk, Stop};
 use im_base_types::Fault;
-use im_bench_steps::kinds::Kinds;
-use im_bench_steps::spans::{Order, Span, Work, committed, lose};
-use im_bench_steps::tally::Tally;
+use im_bench_layers::kinds::Kinds;
+use im_bench_layers::spans::{Order, Span, Work, committed, lose};
+use im_bench_layers::tally::Tally;
 use im_engine::{Config, Engine};
 use std::alloc::Global;
 
