@@ -9,16 +9,10 @@
 //! time, by strides. `im_bench damage --all` damages each byte of both files, which takes minutes.
 #![tactic(auto)]
 
-mod counted;
-mod damage;
-mod front;
-mod long;
-mod memory;
-mod store;
-mod tree;
-
 use anyhow::{Result, bail};
-use im_bench_layers::{flush, gate, lock, log, page, pool, record};
+use im_bench_layers::{flush, front, gate, lock, log, page, pool, record};
+use im_bench_runs::{damage, long};
+use im_bench_store::{store, tree};
 use std::env;
 use std::sync::Wait;
 use std::thread::Threads;

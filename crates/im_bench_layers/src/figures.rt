@@ -36,3 +36,21 @@ pub fn show(
     }
     Ok(())
 }
+
+/// One line: how many rounds came out right, and how long each took.
+pub fn show_of(
+    rt: &HostRuntime,
+    name: &str,
+    sum: u64,
+    rounds: u64,
+    nanos: u128,
+    timed: bool,
+) -> Result<()> {
+    if timed {
+        let each = nanos / u128::from(rounds.max(1));
+        println!(rt; "{name} {sum} of {rounds}, {each} ns each")?;
+    } else {
+        println!(rt; "{name} {sum} of {rounds}")?;
+    }
+    Ok(())
+}

@@ -1,8 +1,8 @@
 //! The calls of a page, over leaves of 150 and of 200 entries with keys of eight bytes.
 //!
 //! Without words it does each work once and prints what came out, the same each run, and whether a search halves what it
-//! searches. With `--time` it prints the nanoseconds of each call. `peer/page.c` does the same work in C over the same bytes and
-//! prints the same lines for each leaf, so that the two can be compared: `cc -O2 -o page peer/page.c && ./page --time`, in the same
+//! searches. With `--time` it prints the nanoseconds of each call. `crates/im_bench/peer/page.c` does the same work in C over the same bytes and
+//! prints the same lines for each leaf, so that the two can be compared: `cc -O2 -o page crates/im_bench/peer/page.c && ./page --time`, in the same
 //! minute.
 
 mod numbers;

@@ -1,0 +1,105 @@
+//! Openings of damaged files, and what they come to.
+
+use crate::opening::opened;
+use im_base_types::{Fault, FileId, Key, Rid};
+use im_bench_layers::bounded::{BoundedDisk, Files};
+use im_bench_layers::founding::{are_committed, found, make_each};
+use im_engine::Engine;
+use std::alloc::Global;
+
+/// In how few frames the store is opened, so that pages are written on the way.
+const FRAMES: usize = 8;
+
+/// Which byte is damaged.
+#[derive(Clone, Copy)]
+pub struct Damaged {
+    pub file: FileId,
+    pub at: usize,
+}
+
+/// What comes of one damaged byte.
+#[derive(Clone, Copy)]
+pub enum Outcome {
+    /// The opening finds just what was committed.
+    Right,
+    /// It finds other entries, or the entries cannot be listed as the pages are no tree.
+    Others,
+    /// There is no store.
+    NoStore,
+    /// Anything else: another refusal, or the disk came to its bound.
+    Bad,
+}
+
+/// How often each came.
+#[derive(Clone, Copy, Default)]
+pub struct Outcomes {
+    pub all: u64,
+    pub right: u64,
+    pub others: u64,
+    pub refused: u64,
+    pub bad: u64,
+}
+
+impl Outcomes {
+    /// One more.
+    pub fn add(&mut self, outcome: Outcome) {
+        self.all = self.all.wrapping_add(1);
+        match outcome {
+            Outcome::Right => self.right = self.right.wrapping_add(1),
+            Outcome::Others => self.others = self.others.wrapping_add(1),
+            Outcome::NoStore => self.refused = self.refused.wrapping_add(1),
+            Outcome::Bad => self.bad = self.bad.wrapping_add(1),
+        }
+    }
+}
+
+/// Opens the files with one byte damaged, lists the entries, and then makes steps of each kind and writes each page.
+pub fn judged(alloc: Global, files: &Files, damaged: Damaged) -> Result<Outcome, Fault> {
+    let mut files = files.copy(alloc).map_err(|_| Fault::Memory)?;
+    files.damage(damaged.file, damaged.at);
+    match opened(alloc, BoundedDisk::new(files), FRAMES) {
+        Ok(mut engine) => used(alloc, &mut engine),
+        Err(Fault::NotAStore) => Ok(Outcome::NoStore),
+        Err(_) => Ok(Outcome::Bad),
+    }
+}
+
+// What the entries, and the steps behind them, come to.
+fn used(alloc: Global, engine: &mut Engine<BoundedDisk>) -> Result<Outcome, Fault> {
+    let outcome = listed(alloc, engine)?;
+    make_each(alloc, engine)?;
+    Ok(if engine.disk().is_at_bound() {
+        Outcome::Bad
+    } else {
+        outcome
+    })
+}
+
+// What the list of the entries comes to.
+fn listed(alloc: Global, engine: &mut Engine<BoundedDisk>) -> Result<Outcome, Fault> {
+    match engine.entries(alloc) {
+        Ok(entries) => judged_by(alloc, &entries),
+        Err(Fault::NotAStore) => Ok(Outcome::Others),
+        Err(_) => Ok(Outcome::Bad),
+    }
+}
+
+// What entries that were listed come to.
+fn judged_by(alloc: Global, entries: &[(Key, Rid)]) -> Result<Outcome, Fault> {
+    Ok(if are_committed(alloc, entries)? {
+        Outcome::Right
+    } else {
+        Outcome::Others
+    })
+}
+
+/// The files of the store, in which a third transaction has changed keys that it never committed.
+pub fn founded(alloc: Global) -> Result<Files, Fault> {
+    let files = Files {
+        log: Vec::new(alloc),
+        pages: Vec::new(alloc),
+    };
+    let mut engine = opened(alloc, BoundedDisk::new(files), FRAMES)?;
+    found(alloc, &mut engine)?;
+    Ok(engine.into_disk().into_files())
+}

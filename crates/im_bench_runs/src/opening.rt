@@ -1,0 +1,24 @@
+//! An opening of a store.
+
+ghost use Rattle.std.specs.Prelude.{◌≡◌, false};
+ghost use Rattle.im_base_disk.specs.Runs.{IsSynced};
+
+use im_base_disk::Disk;
+use im_base_types::Fault;
+use im_engine::{Config, Engine};
+use std::alloc::Global;
+
+/// The store of a disk, in so many frames.
+pub fn opened<D: Disk + Drop>(alloc: Global, disk: D, frames: usize) -> Result<Engine<D>, Fault>
+    requires working { D.failed disk ≡ false }
+    requires synced { IsSynced D.Disk disk }
+{
+    let config = Config {
+        frames,
+        max_pages: 1_000_000,
+    };
+    match Engine::open_or_create(alloc, disk, config) {
+        Ok(engine) => Ok(engine),
+        Err((fault, _disk)) => Err(fault),
+    }
+}

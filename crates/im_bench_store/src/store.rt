@@ -1,0 +1,197 @@
+//! A store that is filled, searched, emptied in part and opened again, with what each part costs: device calls by kind, and bytes of log.
+//!
+//! Without words it works on 2,000 keys in memory, in 8 frames and in 64, and prints counts, the same each run. With `--time` it
+//! prints nanoseconds beside them. `--keys N`, `--frames N` and `--in FOLDER` work on so many keys, in so many frames, in a folder in
+//! the place of memory, which has to be empty. Keys have eight bytes and come in scattered order.
+//!
+//! By the formats an insert takes 50 bytes of log with its share of a batch of 64, a Commit 33; each page of a split some 8,225, as it
+//! is before and after; a full copy of a page 4,129.
+//!
+//! # Figures
+//!
+//! Bytes of log a key, inserts in scattered order, 64 a commit, no Checkpoint: 100,000 keys leave 333 in 64 frames and 332 in 1,024,
+//! 1,000,000 keys in 64 frames 335. Structure changes alone take some 280 of it, records and Commits 51: evictions add no full copy but
+//! the first of a page in no structure change. In 64 frames an insert takes 0.26 writes and as many syncs of the log, and 0.71 writes of
+//! pages. Of two openings behind it the first logs what it takes back, and the second adds no byte.
+//!
+//! In memory, 100,000 keys in 1,024 frames, five runs with nothing else running, on a host that is half as fast in some minutes: a scan
+//! of 100 entries with its 101 locks 10.8 and 10.9 us in its two fast runs and 16.0 to 17.6 in the others; in the fast ones a look-up of a key
+//! that is there 660 and 672 ns, of one that is not 945 and 966, an insert of 64 a commit 1.5 us.
+//!
+//! Through step lines of `imstore`, keys in random order, each commit synced, each in turn with nothing else running. 64 a commit, 100,000
+//! keys, eight rounds: 56,000 to 79,000 inserts a second, 64,200 in the middle; LMDB 47,200 to 73,100, 56,500 in the middle, SQLite in WAL
+//! mode 43,500 to 58,200, 54,800 in the middle. One a commit, 8,000 from a file of lines, nine rounds: 8,050 to 9,920 a second, in the
+//! middle 1.09 times two writes and two syncs of as many bytes in C on a file that they make longer (0.96 to 1.20), and 1.06 times the
+//! same within a file of zeros; with replies into a file of the same disk 1.09 and 1.07 times, seven rounds. A log's file is longer by a room
+//! of zeros at a time, so that most syncs write no new length, which is why it is above the first of the two.
+
+mod options;
+
+ghost use Rattle.std.specs.Prelude.{◌≡◌, false};
+ghost use Rattle.im_base_disk.specs.Runs.{IsSynced};
+
+use crate::opening::opened;
+use anyhow::Result;
+use im_base_disk::Disk;
+use im_base_file_disk::FileDisk;
+use im_bench_layers::counted::{Calls, Counted, show_costs};
+use im_bench_layers::figures::show_of;
+use im_bench_layers::memory::MemoryDisk;
+use im_bench_layers::works::{Order, Part, Work, worked};
+use im_engine::Engine;
+use options::{Options, options_of};
+use std::time::Instant;
+
+/// The lives of a store, by what the words say.
+pub fn run(rt: &HostRuntime, words: &[String]) -> Result<()> {
+    let options = options_of(words);
+    if let Some(folder) = options.folder {
+        return in_folder(rt, &options, folder);
+    }
+    in_memory(rt, &options, options.frames[0])?;
+    if options.frames[0] != options.frames[1] {
+        in_memory(rt, &options, options.frames[1])?;
+    }
+    Ok(())
+}
+
+// All parts in memory.
+fn in_memory(rt: &HostRuntime, options: &Options<'_>, frames: usize) -> Result<()> {
+    println!(rt; "{} keys in {frames} frames", options.keys)?;
+    let disk = MemoryDisk::new(rt.alloc());
+    let disk = lived(rt, options, frames, disk, &PARTS)?;
+    let disk = lived(rt, options, frames, disk.at_rest(), &[])?;
+    lived(rt, options, frames, disk.at_rest(), &[])?;
+    Ok(())
+}
+
+// All parts in a folder.
+fn in_folder(rt: &HostRuntime, options: &Options<'_>, folder: &str) -> Result<()> {
+    let frames = options.frames[0];
+    println!(rt; "{} keys in {frames} frames", options.keys)?;
+    lived(rt, options, frames, FileDisk::open(rt, folder)?, &PARTS)?;
+    lived(rt, options, frames, FileDisk::open(rt, folder)?, &[])?;
+    lived(rt, options, frames, FileDisk::open(rt, folder)?, &[])?;
+    Ok(())
+}
+
+/// A part by its name: a work, on so many parts of 64 of the keys, from such a part on, so many in a transaction.
+struct Named {
+    name: &'static str,
+    work: Work,
+    from: u64,
+    parts: u64,
+    each: u64,
+}
+
+const PARTS: [Named; 7] = [
+    Named {
+        name: "insert, 64 a commit:",
+        work: Work::Insert,
+        from: 0,
+        parts: 64,
+        each: 64,
+    },
+    Named {
+        name: "look up, present:",
+        work: Work::Present,
+        from: 0,
+        parts: 64,
+        each: 1_000,
+    },
+    Named {
+        name: "look up, absent:",
+        work: Work::Absent,
+        from: 0,
+        parts: 64,
+        each: 1_000,
+    },
+    Named {
+        name: "scan of 100 entries:",
+        work: Work::Scan,
+        from: 0,
+        parts: 16,
+        each: 16,
+    },
+    Named {
+        name: "insert, one a commit:",
+        work: Work::Insert,
+        from: 64,
+        parts: 4,
+        each: 1,
+    },
+    Named {
+        name: "delete, 64 a commit:",
+        work: Work::Delete,
+        from: 0,
+        parts: 32,
+        each: 64,
+    },
+    Named {
+        name: "insert, 64 taken back:",
+        work: Work::TakenBack,
+        from: 68,
+        parts: 8,
+        each: 64,
+    },
+];
+
+// A life: the store is opened, and parts are done in turn.
+fn lived<D: Disk + Drop>(
+    rt: &HostRuntime,
+    options: &Options<'_>,
+    frames: usize,
+    disk: D,
+    parts: &[Named],
+) -> Result<D>
+    requires working { D.failed disk ≡ false }
+    requires synced { IsSynced D.Disk disk }
+{
+    let start = Instant::now(rt)?;
+    let mut engine = opened(rt.alloc(), Counted::new(disk), frames)?;
+    each_done(rt, options, &mut engine, &start, parts)?;
+    Ok(engine.into_disk().into_disk())
+}
+
+// Says what the opening took that began at the start, and does parts in turn.
+fn each_done<D: Disk + Drop>(
+    rt: &HostRuntime,
+    options: &Options<'_>,
+    engine: &mut Engine<Counted<D>>,
+    start: &Instant,
+    parts: &[Named],
+) -> Result<()> {
+    let nanos = start.elapsed(rt)?.as_nanos();
+    let mut before = engine.disk().calls();
+    show_of(rt, "opened:", 1, 1, nanos, options.timed)?;
+    show_costs(rt, before)?;
+    for part in parts {
+        before = done(rt, options, engine, part, before)?;
+    }
+    Ok(())
+}
+
+// Does a part, and says what it took; the calls before it are known, and it answers those behind it.
+fn done<D: Disk + Drop>(
+    rt: &HostRuntime,
+    options: &Options<'_>,
+    engine: &mut Engine<Counted<D>>,
+    part: &Named,
+    before: Calls,
+) -> Result<Calls> {
+    let keys = options.keys.wrapping_mul(part.parts) / 64;
+    let span = Part {
+        work: part.work,
+        order: Order::Scattered,
+        first: options.keys.wrapping_mul(part.from) / 64,
+        keys,
+        each: part.each,
+    };
+    let start = Instant::now(rt)?;
+    let right = worked(rt.alloc(), engine, span)?;
+    let nanos = start.elapsed(rt)?.as_nanos();
+    let calls = engine.disk().calls();
+    show_of(rt, part.name, right, keys, nanos, options.timed)?;
+    show_costs(rt, calls.since(before))?;
+    Ok(calls)
+}

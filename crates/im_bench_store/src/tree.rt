@@ -1,0 +1,105 @@
+//! A tree of pages: look-ups in one whose pages are made at once (`im_bench_tree`), and a store that is filled, searched and emptied key by key.
+//!
+//! Without words it prints how many steps came out as they should and how many device calls they took, the same each run. With
+//! `--time` it prints the nanoseconds of each step beside them. Keys have eight bytes. The disk is in memory, the pool has 1,024
+//! frames, the most that it can have, and a transaction makes 1,000 steps, its Commit among what is timed.
+//!
+//! # Figures
+//!
+//! Nanoseconds of a look-up, the least of ten runs with nothing else running, and of a plain walk in C (`cc -O2`) of pages of
+//! the same bytes that all stand in memory, with no pool and no checks, in turn with them:
+//!
+//! | Tree | Look-up | in C | ratio |
+//! |---|---|---|---|
+//! | 100,107 keys in 681 leaves, each page held | 337 | 438 | 0.77 |
+//! | 1,000,041 keys in 6,803 leaves, one page in seven held | 1,691 | 1,080 | 1.57 |
+//!
+//! A look-up goes through three pages. Leaves seven tenths full of such keys fit into the pool up to some 149,000 keys. In the second
+//! tree most look-ups read their leaf. By samples its copy from the memory of the disk into a frame takes 40 % of the time, the test of its
+//! form 23 %, the zeros that the test begins with 5 %, the search of the inner pages 9 %, the pool's maps 12 %. In C, with 1,024 frames by
+//! use in arrays, a table of the pages' frames, and such a copy into a frame for each page that is not held, the second tree took 1,467 to
+//! 1,655 in the same minutes where no page was tested, and 2,801 to 3,056 where each page that came in was.
+//!
+//! With its lock, and the locks of each thousand given back, a look-up in the first tree took 1.28 times what the same took without, in the
+//! middle of these runs (0.95 to 1.58; the least of each 428 and 337), and in the second 1.16 times.
+//!
+//! Nanoseconds of a step on a store that is filled with 100,000 keys, searched and emptied, each the least of some runs, beside a tree in C of
+//! pages of the same bytes, which logs nothing, has no pool and keeps empty leaves; its figures are the least and the most of the runs:
+//!
+//! | Order of the keys | Insert | in C | Look-up | in C | Delete | in C |
+//! |---|---|---|---|---|---|---|
+//! | rising | 1,000 | 120 to 260 | 207 | 132 to 203 | 1,100 | 180 to 380 |
+//! | scattered | 1,300 | 310 to 500 | 369 | 310 to 497 | 1,500 | 520 to 730 |
+
+use crate::opening::opened;
+use anyhow::Result;
+use im_base_model_disk::ModelDisk;
+use im_bench_layers::figures::{is_timed, show_of};
+use im_bench_layers::works::{Order, Part, Work, worked};
+use im_bench_tree::look_ups::look_up;
+use im_engine::Engine;
+use std::time::Instant;
+
+/// How many steps a transaction makes.
+const STEPS: u64 = 1_000;
+
+/// What is done with a store, in turn, and its line's name.
+const WORKS: [(Work, &str); 3] = [
+    (Work::Insert, "insert"),
+    (Work::Present, "look-up"),
+    (Work::Delete, "delete"),
+];
+
+/// Look-ups in made trees, and stores that are filled, searched and emptied.
+pub fn run(rt: &HostRuntime, words: &[String]) -> Result<()> {
+    let timed = is_timed(words);
+    let shapes = if timed { [681, 6_803] } else { [400, 1_400] };
+    for leaves in shapes {
+        look_up(rt, leaves, timed)?;
+    }
+    fill(rt, Order::Rising, timed)?;
+    fill(rt, Order::Scattered, timed)
+}
+
+/// Each work over a store, with its keys in this order.
+fn fill(rt: &HostRuntime, order: Order, timed: bool) -> Result<()> {
+    let alloc = rt.alloc();
+    let disk = ModelDisk::new(Vec::new(alloc), Vec::new(alloc));
+    let mut engine = opened(alloc, disk, 1_024)?;
+    each_done(rt, &mut engine, order, timed)
+}
+
+/// Each work in turn over a new store.
+fn each_done(
+    rt: &HostRuntime,
+    engine: &mut Engine<ModelDisk>,
+    order: Order,
+    timed: bool,
+) -> Result<()> {
+    let keys = if timed { 100_000 } else { 2_000 };
+    println!(rt; "{keys} keys, {}", name_of(order))?;
+    for (work, name) in WORKS {
+        let part = Part {
+            work,
+            order,
+            first: 0,
+            keys,
+            each: STEPS,
+        };
+        let before = engine.disk().calls();
+        let start = Instant::now(rt)?;
+        let sum = worked(rt.alloc(), engine, part)?;
+        let nanos = start.elapsed(rt)?.as_nanos();
+        let calls = engine.disk().calls().wrapping_sub(before);
+        show_of(rt, name, sum, keys, nanos, timed)?;
+        println!(rt; "device calls {calls}")?;
+    }
+    Ok(())
+}
+
+fn name_of(order: Order) -> &'static str {
+    match order {
+        Order::Rising => "rising",
+        Order::Scattered => "scattered",
+    }
+}
