@@ -8,7 +8,7 @@ use im_base_model_disk::ModelDisk;
 use im_base_types::Fault;
 use im_engine::{Config, Engine};
 use im_front::{Reply, Step};
-use im_tool_drill::StoreScript;
+use im_tool_lines::StoreScript;
 use std::alloc::{AllocError, Global};
 use std::test::Fail;
 

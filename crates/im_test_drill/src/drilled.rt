@@ -1,6 +1,6 @@
 //! A script, and what it prints.
 
-use im_tool_drill::drill_text;
+use im_tool_text::drill_text;
 use std::alloc::Global;
 use std::io;
 

@@ -3,8 +3,8 @@
 
 use crate::texts::Part::{Each, Text};
 use crate::texts::{Part, text_of};
-use im_tool_drill::StoreScript;
 use im_tool_every::{Counts, every_failure, every_restart, every_text};
+use im_tool_lines::StoreScript;
 use std::alloc::{AllocError, Global};
 use std::io;
 use std::test::Fail;

@@ -1,13 +1,3 @@
-pub mod Lives
-pub mod Living
-pub mod RawRuns
-pub mod Lines
-pub mod Scripts
-pub mod Reading
-pub mod Answered
 pub mod StoreLives
 pub mod Listing
 pub mod StoreRuns
-pub mod StoreScripts
-pub mod StoreReading
-pub mod Stops

@@ -7,14 +7,14 @@ ghost use Rattle.im_base_types.specs.Changes.{Effect, apply_all};
 ghost use Rattle.im_base_types.specs.Lives.{Lives};
 ghost use Rattle.im_base_disk.specs.Disk.{both};
 ghost use Rattle.im_engine.specs.Stands.{StandsFor};
-ghost use Rattle.im_tool_drill.specs.StoreLives.{asked_in_each, EachStoreAnswered, AreStores};
+ghost use Rattle.im_tool_answers.specs.StoreShown.{asked_in_each, EachStoreAnswered, AreStores};
 ghost use Rattle.im_tool_drill.specs.StoreRuns.{IsRun};
 
-use crate::store_answers::StoreDrilled;
+use crate::store_drilled::StoreDrilled;
 use crate::store_lives::{last_entries, run_store_life};
-use crate::store_script::StoreScript;
 use im_base_disk::Disk;
 use im_base_model_disk::ModelDisk;
+use im_tool_lines::StoreScript;
 use std::alloc::{AllocError, Global};
 
 /// Runs the lives of a script on a model disk, each on what the stop of the one before has left, and opens once

@@ -8,22 +8,21 @@ ghost use Rattle.im_base_types.specs.Lives.{Shown, nothing_shown, StandsForMore}
 ghost use Rattle.im_base_disk.specs.Disk.{Files};
 ghost use Rattle.im_base_disk.specs.Runs.{IsSynced, Reads};
 ghost use Rattle.im_engine.specs.Stands.{StandsFor, Allowed};
-ghost use Rattle.im_tool_drill.specs.declared.store_answers.StoreReply.TheVariants.{Stopped};
-ghost use Rattle.im_tool_drill.specs.Answered.{AnsweredBy};
-ghost use Rattle.im_tool_drill.specs.Stops.{IsArmedAll, IsCallArmed, IsReadArmed};
-ghost use Rattle.im_tool_drill.specs.StoreLives.{asked_in, shown_in, in_32_bits, GoesOn, IsConfigOf, LineKept, IsStoreReply, StoreAnswered};
+ghost use Rattle.im_tool_answers.specs.declared.store_answers.StoreReply.TheVariants.{Stopped};
+ghost use Rattle.im_tool_raw.specs.Answered.{AnsweredBy};
+ghost use Rattle.im_tool_raw.specs.Stops.{IsArmedAll, IsCallArmed, IsReadArmed};
+ghost use Rattle.im_tool_answers.specs.StoreShown.{asked_in, shown_in, IsStoreReply, StoreAnswered};
+ghost use Rattle.im_tool_drill.specs.StoreLives.{in_32_bits, GoesOn, IsConfigOf, LineKept};
 ghost use Rattle.im_tool_drill.specs.StoreRuns.{IsOpening, IsLifeRun, AreLinesRun, IsLineRun, IsStepRun, IsLookRun, IsLastRun};
 
-use crate::Opening;
-use crate::lives::{arm, refused_opening};
-use crate::stop::has_come;
-use crate::store_answers::{StoreAnswers, StoreReply};
-use crate::store_life::{LifeOptions, StoreLife, StoreLine};
 use im_base_disk::Disk;
 use im_base_model_disk::{ModelDisk, Stop};
 use im_base_types::{Fault, Key, PageNo, Rid};
 use im_engine::{Config, Engine};
 use im_front::Step;
+use im_tool_answers::{StoreAnswers, StoreReply};
+use im_tool_lines::{LifeOptions, StoreLife, StoreLine};
+use im_tool_raw::{Opening, arm, has_come, refused_opening};
 use std::alloc::{AllocError, Global};
 
 /// Runs one life on the disk, and gives the disk back as it was when the stop came or the lines ended.

@@ -1,6 +1,1 @@
-pub mod Disturbed
-pub mod Entries
-pub mod Fronts
 pub mod Opens
-pub mod Shows
-pub mod Replies

@@ -1,5 +1,1 @@
-pub mod Disturbed
-pub mod Judged
 pub mod Opened
-pub mod Shows
-pub mod Replies

@@ -12,12 +12,12 @@ use Rattle.im_base_model_disk.specs.Left.{IsLeftBy}
 use Rattle.im_base_model_disk.specs.Model.{IsArmed, IsFresh, armed_of, file_of, model_calls, model_stop}
 use Rattle.im_engine.specs.declared.engine.Engine.{Engine}
 use Rattle.im_engine.specs.Kept.{disk_of}
-use Rattle.im_tool_drill.specs.declared.store_life.LifeOptions.{LifeOptions}
+use Rattle.im_tool_lines.specs.declared.store_life.LifeOptions.{LifeOptions}
 use Rattle.im_tool_drill.specs.Listing.{IsListing}
 use Rattle.im_tool_drill.specs.StoreRuns.{IsOpening}
-use Rattle.im_tool_every.specs.declared.change.AskedEffect.{AskedEffect}
+use Rattle.im_tool_judge.specs.declared.change.AskedEffect.{AskedEffect}
 use Rattle.im_tool_every.specs.declared.opening.Judged.{Judged}
-use Rattle.im_tool_every.specs.Judged.{IsAllowed}
+use Rattle.im_tool_judge.specs.Judged.{IsAllowed}
 
 -- Such a refusal says nothing against a store: the device failed, or the frames are too few or too many.
 abbrev pub IsPassedOver : Fault → Type 0

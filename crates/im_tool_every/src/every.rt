@@ -3,12 +3,12 @@
 ghost use Rattle.std.specs.Prelude.{◌≡◌, false};
 ghost use Rattle.im_base_disk.specs.Runs.{IsSynced};
 
-use crate::change::AskedEffect;
 use crate::opening::{judge_opening, left_by, stop_opening};
-use crate::showing::effects_asked;
 use im_base_disk::Disk;
 use im_base_model_disk::{Fill, Length, ModelDisk, Stop};
-use im_tool_drill::{LifeOptions, StoreLife, run_store_life};
+use im_tool_drill::run_store_life;
+use im_tool_judge::{AskedEffect, effects_asked};
+use im_tool_lines::{LifeOptions, StoreLife};
 use std::alloc::{AllocError, Global};
 use std::io::Write;
 

@@ -1,15 +1,13 @@
 //! Every device call of a life that fails once, and every read.
 
-ghost use Rattle.std.specs.Prelude.{◌≡◌, ◌↔◌, true, false};
-ghost use Rattle.im_tool_every.specs.Disturbed.{IsDisturbed, AreDisturbed, IsNext, TellsSame, is_behind_failure, is_by_device};
-
 use crate::every::{Counts, WAYS, judge, new_disk, stop_at};
 use crate::opening::left_by;
-use crate::same_replies::says_same;
-use crate::showing::effects_asked;
 use im_base_types::Fault;
-use im_front::Reply;
-use im_tool_drill::{Opening, StoreAnswers, StoreLife, StoreReply, run_store_life};
+use im_tool_answers::{StoreAnswers, StoreReply};
+use im_tool_drill::run_store_life;
+use im_tool_judge::{effects_asked, is_by_device, is_disturbed};
+use im_tool_lines::StoreLife;
+use im_tool_raw::Opening;
 use std::alloc::{AllocError, Global};
 
 /// Makes a life again and again, in which another device call fails each time, then another read or length call, and ends it in each length and
@@ -81,79 +79,4 @@ fn has_failed_within(replies: &[StoreReply]) -> bool {
         }
     }
     false
-}
-
-// Whether a life in which one device call failed may answer so, where it answers as the first without that.
-fn is_disturbed(plain: &StoreAnswers, told: &StoreAnswers) -> bool
-    ensures { result ≡ true ↔ IsDisturbed plain.now told.now }
-{
-    if told.opening == Opening::Refused(Fault::Device) {
-        return told.replies.is_empty();
-    }
-    told.opening == plain.opening && are_disturbed(&plain.replies, &told.replies)
-}
-
-fn are_disturbed(plain: &[StoreReply], told: &[StoreReply]) -> bool
-    ensures { result ≡ true ↔ AreDisturbed false plain.now told.now }
-{
-    if plain.len() != told.len() {
-        return false;
-    }
-    let mut failed = false;
-    for i in 0..plain.len() {
-        let expected = &plain[i];
-        let reply = &told[i];
-        if !is_next(failed, expected, reply) {
-            return false;
-        }
-        let by_device = is_by_device(reply);
-        failed = failed || by_device;
-    }
-    true
-}
-
-// Whether a line may have this reply that had the first one undisturbed, once a device call has failed or before.
-fn is_next(failed: bool, plain: &StoreReply, told: &StoreReply) -> bool
-    ensures { result ≡ true ↔ IsNext failed plain.now told.now }
-{
-    if failed {
-        is_behind_failure(told) || tells_same(told, plain)
-    } else {
-        is_by_device(told) || says_same(told, plain)
-    }
-}
-
-// Behind a device call that failed the engine has failed, and makes no more.
-fn is_behind_failure(reply: &StoreReply) -> bool
-    ensures { result ≡ is_behind_failure reply.now }
-{
-    matches!(
-        reply,
-        StoreReply::Calls(_)
-            | StoreReply::Step(Reply::Refused(im_front::Fault::Failed))
-            | StoreReply::Refused(Fault::Failed)
-    )
-}
-
-// Whether both tell one report of an opening.
-fn tells_same(told: &StoreReply, plain: &StoreReply) -> bool
-    ensures { result ≡ true ↔ TellsSame told.now plain.now }
-{
-    match told {
-        StoreReply::Redo(told) => match plain {
-            StoreReply::Redo(plain) => told == plain,
-            _ => false,
-        },
-        _ => false,
-    }
-}
-
-fn is_by_device(reply: &StoreReply) -> bool
-    ensures { result ≡ is_by_device reply.now }
-{
-    matches!(
-        reply,
-        StoreReply::Step(Reply::Refused(im_front::Fault::Device))
-            | StoreReply::Refused(Fault::Device)
-    )
 }

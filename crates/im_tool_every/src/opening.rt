@@ -7,13 +7,13 @@ ghost use Rattle.im_base_model_disk.specs.Model.{IsFresh, file_of, model_stop};
 ghost use Rattle.im_base_disk.specs.Runs.{IsSynced};
 ghost use Rattle.im_tool_every.specs.Opened.{IsGood, IsJudged, IsJudgedBy, IsPassedOver, IsStopped};
 
-use crate::change::AskedEffect;
-use crate::judge::is_allowed;
 use im_base_disk::Disk;
 use im_base_model_disk::{ModelDisk, Stop};
 use im_base_types::{Fault, Key, Rid};
 use im_engine::Engine;
-use im_tool_drill::{LifeOptions, open_store};
+use im_tool_drill::open_store;
+use im_tool_judge::{AskedEffect, is_allowed};
+use im_tool_lines::LifeOptions;
 use std::alloc::{AllocError, Global};
 
 /// How many device calls an opening made, and whether it is good.

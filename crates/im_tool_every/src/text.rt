@@ -4,7 +4,7 @@ ghost use Rattle.std.specs.Prelude.{◌≤◌, IfOk};
 
 use crate::every::every_stop;
 use im_base_types::Fault;
-use im_tool_drill::{Script, ScriptError, StoreLife, StoreScript, is_raw};
+use im_tool_lines::{Script, ScriptError, StoreLife, StoreScript, is_raw};
 use std::alloc::{AllocError, Global};
 use std::io;
 use std::io::{Read, Write};

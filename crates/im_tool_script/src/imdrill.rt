@@ -2,10 +2,10 @@
 
 ghost use Rattle.std.specs.Prelude.{◌≤◌, IfOk};
 
-use crate::reason::{reason_of, refused_line};
 use clap::{Arg, ArgAction, ArgMatches, Command, Error};
-use im_tool_drill::drill_text;
 use im_tool_every::every_text;
+use im_tool_lines::{reason_of, refused_line};
+use im_tool_text::drill_text;
 use std::alloc::{AllocError, Global};
 use std::io::{BufWriter, ErrorKind, IsTerminal, Read, Write};
 use std::{fs, io};

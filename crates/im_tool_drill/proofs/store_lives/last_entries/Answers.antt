@@ -4,7 +4,7 @@ use Rattle.im_base_types.specs.Changes.{apply_all}
 use Rattle.im_engine_lock.specs.Machine.{start}
 use Rattle.im_base_model_disk.specs.contracts.model_disk.ModelDiskDisk.TheImpl.{ghosts}
 use Rattle.im_engine.specs.Running.{IsLife}
-use Rattle.im_tool_drill.proofs.StoreShown.{entries_match}
+use Rattle.im_tool_drill.proofs.StoreLooks.{entries_match}
 use Rattle.im_tool_drill.proofs.store_lives.last_entries.Goals as goal
 
 pub returns-in-Ok-clause-found : goal.returns-in-Ok-clause-found

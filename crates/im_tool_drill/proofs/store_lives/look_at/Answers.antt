@@ -3,10 +3,10 @@ use Rattle.im_base_model_disk.specs.contracts.model_disk.ModelDiskDisk.TheImpl.{
 use Rattle.im_page.specs.declared.header.Header.{Header}
 use Rattle.im_base_model_disk.specs.declared.model_disk.ModelDisk.{ModelDisk}
 use Rattle.im_engine.proofs.Looked.{look_works, look_fails}
-use Rattle.im_tool_drill.specs.declared.store_answers.StoreReply.TheVariants as replies
-use Rattle.im_tool_drill.specs.Stops.{HasCome}
+use Rattle.im_tool_answers.specs.declared.store_answers.StoreReply.TheVariants as replies
+use Rattle.im_tool_raw.specs.Stops.{HasCome}
 use Rattle.im_tool_drill.proofs.StoreRunning.{look_run}
-use Rattle.im_tool_drill.proofs.StoreShown.{looked_on, looked_as}
+use Rattle.im_tool_drill.proofs.StoreLooks.{looked_on, looked_as}
 use Rattle.im_tool_drill.proofs.store_lives.look_at.Goals as goal
 
 pub returns-in-Ok-clause-kept : goal.returns-in-Ok-clause-kept

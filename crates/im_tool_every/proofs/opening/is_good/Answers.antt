@@ -1,7 +1,7 @@
 use Rattle.std.proofs.Common.{◌≡◌, ◌↔◌, true, List, Result, sym, subst}
 use Rattle.im_base_types.specs.Pages.{Entry}
 use Rattle.im_base_types.specs.declared.fault.Fault.{Fault}
-use Rattle.im_tool_every.specs.Judged.{IsAllowed}
+use Rattle.im_tool_judge.specs.Judged.{IsAllowed}
 use Rattle.im_tool_every.specs.Opened.{IsGood}
 use Rattle.im_tool_every.proofs.opening.is_good.Goals as goal
 

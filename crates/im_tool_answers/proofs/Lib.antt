@@ -1,0 +1,2 @@
+pub mod StoreAsked
+pub mod StoreShown

@@ -1,0 +1,12 @@
+//! What a life of a store in a script answers, and what its lines and replies show.
+//!
+//! `StoreAnswers` has the opening's answer and one reply a line (`StoreReply`). What a life asked is what its own lines and replies show by the
+//! definition of lives (`shown_in`, `asked_in`): a step with its reply, or cut off by the stop. Each line has its reply, up to one into which
+//! the stop fell (`StoreAnswered`).
+//!
+//! This crate has no code that runs, and knows no engine: of a reply it has the words of `im_front`, `im_page` and `im_restart`.
+#![tactic(auto)]
+
+mod store_answers;
+
+pub use store_answers::{StoreAnswers, StoreReply};

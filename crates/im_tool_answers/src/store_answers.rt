@@ -1,0 +1,33 @@
+//! What a life of a store answers.
+
+use im_base_types::{Fault, PageNo};
+use im_front::Reply;
+use im_page::Header;
+use im_restart::RedoReport;
+use im_tool_raw::Opening;
+
+/// What a line of a life of a store answers.
+#[derive(Drop)]
+pub enum StoreReply {
+    /// The step's reply.
+    Step(Reply),
+    /// The device calls so far.
+    Calls(u64),
+    /// What a page is for.
+    Page(PageNo, Header),
+    /// What redo did in the life's opening: where it began, and how many records it applied. Without any record it began at 0.
+    Redo(RedoReport),
+    /// What a page is for can't be told.
+    Refused(Fault),
+    /// The stop fell into it. The life's other lines answer nothing.
+    Stopped,
+}
+
+/// What a life of a store answers.
+#[derive(Drop)]
+pub struct StoreAnswers {
+    /// Its opening.
+    pub opening: Opening,
+    /// One reply for each of its lines, as far as it came.
+    pub replies: Vec<StoreReply>,
+}

@@ -1,7 +1,0 @@
-use Rattle.std.proofs.Common.{◌↔◌, false, drop}
-use Rattle.im_tool_every.specs.Disturbed.{AreDisturbed}
-use Rattle.im_tool_every.proofs.failing.are_disturbed.Given as goal
-
--- the replies from here on decide
-abbrev pub invariant-loop-i : goal.invariant-loop-i
-invariant-loop-i l = AreDisturbed false l.plain l.told ↔ AreDisturbed l.failed (drop l.i l.plain) (drop l.i l.told)

@@ -1,7 +1,0 @@
-use Rattle.std.proofs.Common.{◌≡◌, take}
-use Rattle.im_tool_every.specs.Judged.{held}
-use Rattle.im_tool_every.proofs.sorted.Sorted.is.Given as goal
-
--- the entries so far are the same
-abbrev pub invariant-loop-i : goal.invariant-loop-i
-invariant-loop-i l = take l.i l.found ≡ take l.i (held l.self.entries.items)

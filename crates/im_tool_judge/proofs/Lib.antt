@@ -1,0 +1,5 @@
+pub mod Disturbed
+pub mod Entries
+pub mod Fronts
+pub mod Shows
+pub mod Replies

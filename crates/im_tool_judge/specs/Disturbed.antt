@@ -1,0 +1,56 @@
+-- What a life answers in which one device call, read or length call failed.
+use Rattle.std.specs.Prelude.{◌≡◌, ◌≢◌, ◌⊎◌, ◌||◌, Bool, true, false, List, [], ◌∷◌}
+use Rattle.im_base_types.specs.declared.fault.Fault.TheVariants as faults
+use Rattle.im_front.specs.declared.fault.Fault.TheVariants as causes
+use Rattle.im_front.specs.declared.reply.Reply.TheVariants as said
+use Rattle.im_front.specs.Calls.{told_by}
+use Rattle.im_tool_raw.specs.declared.life_answers.Opening.TheVariants as openings
+use Rattle.im_tool_answers.specs.declared.store_answers.StoreAnswers.{StoreAnswers}
+use Rattle.im_tool_answers.specs.declared.store_answers.StoreReply.{StoreReply}
+use Rattle.im_tool_answers.specs.declared.store_answers.StoreReply.TheVariants as replies
+
+-- whether a line is refused by the device
+abbrev pub is_by_device : StoreReply → Bool
+is_by_device (replies.Step (said.Refused causes.Device)) = true
+is_by_device (replies.Refused faults.Device) = true
+is_by_device _ = false
+
+-- Whether an engine that has failed answers so: it refuses all, and its device calls can still be counted.
+abbrev pub is_behind_failure : StoreReply → Bool
+is_behind_failure (replies.Calls n) = true
+is_behind_failure (replies.Step (said.Refused causes.Failed)) = true
+is_behind_failure (replies.Refused faults.Failed) = true
+is_behind_failure _ = false
+
+-- The replies to two lines say the same.
+abbrev pub SaysSame : StoreReply → StoreReply → Type 0
+SaysSame (replies.Step told) (replies.Step plain) = told_by told ≡ told_by plain
+SaysSame (replies.Calls told) (replies.Calls plain) = told ≡ plain
+SaysSame (replies.Page page told) (replies.Page other plain) = (page ≡ other) × (told ≡ plain)
+SaysSame (replies.Redo told) (replies.Redo plain) = told ≡ plain
+SaysSame (replies.Refused told) (replies.Refused plain) = told ≡ plain
+SaysSame replies.Stopped replies.Stopped = Unit {0}
+SaysSame _ _ = ⊥
+
+-- The replies tell one report of an opening.
+abbrev pub TellsSame : StoreReply → StoreReply → Type 0
+TellsSame (replies.Redo told) (replies.Redo plain) = told ≡ plain
+TellsSame _ _ = ⊥
+
+-- Until a device call has failed a line has a reply that says what it says undisturbed, or is refused by the device; behind that, that of an engine which has failed, whose report of its opening stays.
+abbrev pub IsNext : Bool → StoreReply → StoreReply → Type 0
+IsNext true plain told = (is_behind_failure told ≡ true) ⊎ TellsSame told plain
+IsNext false plain told = (is_by_device told ≡ true) ⊎ SaysSame told plain
+
+-- Each line has such a reply in turn; the first refusal by the device says that a call has failed.
+abbrev pub AreDisturbed : Bool → List StoreReply → List StoreReply → Type 0
+AreDisturbed failed [] [] = Unit {0}
+AreDisturbed failed [] (told ∷ others) = ⊥
+AreDisturbed failed (plain ∷ rest) [] = ⊥
+AreDisturbed failed (plain ∷ rest) (told ∷ others) = IsNext failed plain told × AreDisturbed (failed || is_by_device told) rest others
+
+-- The opening was refused by the device, and no line has a reply; or it is as undisturbed, and the lines' replies are such.
+abbrev pub IsDisturbed : StoreAnswers → StoreAnswers → Type 0
+IsDisturbed plain told =
+    ((told.opening ≡ openings.Refused faults.Device) × (told.replies.items ≡ []))
+    ⊎ ((told.opening ≢ openings.Refused faults.Device) × (told.opening ≡ plain.opening) × AreDisturbed false plain.replies.items told.replies.items)

@@ -1,0 +1,4 @@
+pub mod Disturbed
+pub mod Judged
+pub mod Shows
+pub mod Replies

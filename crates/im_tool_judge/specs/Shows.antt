@@ -1,0 +1,48 @@
+-- What of a life's lines and replies is kept while they are read, as the definition of lives shows it.
+use Rattle.std.specs.Prelude.{◌≡◌, ℕ, List, [], ◌∷◌, Bool, true, false, if◌then◌else◌, ◌==◌, Option, None, Some}
+use Rattle.im_base_types.specs.Answers.{Mark, Idle, Going, MustRollBack, RollingBack, Committing, Step, Do}
+use Rattle.im_base_types.specs.Lives.{Running, Shown, idle}
+use Rattle.im_tool_judge.specs.declared.showing.Event.{Event}
+use Rattle.im_tool_judge.specs.declared.showing.Found.{Found}
+use Rattle.im_tool_judge.specs.declared.showing.Happened.{Happened}
+use Rattle.im_tool_judge.specs.declared.showing.Happened.TheVariants.{Began, Changed, Died, Turned, Waited, Ended}
+use Rattle.im_tool_judge.specs.declared.showing.Showing.{Showing}
+use Rattle.im_tool_judge.specs.Judged.{asked_in, change_of, newest_first}
+
+-- a transaction behind what happened to it
+abbrev pub behind : Happened → Running → Running
+behind Began r = record { mark = Going; effect = [] }
+behind (Changed change) r = record r { effect = change_of change ∷ r.effect }
+behind Died r = record r { mark = MustRollBack }
+behind Turned r = record r { mark = RollingBack }
+behind Waited r = record r { mark = Committing }
+behind Ended r = idle
+
+-- a transaction behind all that happened, the oldest first
+abbrev pub running_from : ℕ → Running → List Event → Running
+running_from t r [] = r
+running_from t r (e ∷ more) = running_from t (if t == e.txn then behind e.what r else r) more
+
+-- What is kept is what is shown.
+pub record IsShown (w : Showing) (s : Shown) : Type 0 where
+  pub failed : w.failed ≡ s.failed
+  pub running : (t : ℕ) → s.running t ≡ running_from t idle w.events.items
+  pub asked : asked_in w.asked.items ≡ s.asked
+
+-- the mark of a transaction that goes on with its accesses
+abbrev pub is_going : Mark → Bool
+is_going Idle = false
+is_going Going = true
+is_going MustRollBack = false
+is_going RollingBack = false
+is_going Committing = false
+
+-- the transaction of an access
+abbrev pub access_of : Step → Option ℕ
+access_of (Do t access) = Some t
+access_of _ = None
+
+-- A transaction is found as it is.
+pub record IsFound (f : Found) (r : Running) : Type 0 where
+  pub mark : f.going ≡ is_going r.mark
+  pub effect : r.effect ≡ newest_first f.changes.items []

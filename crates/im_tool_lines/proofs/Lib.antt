@@ -1,0 +1,10 @@
+pub mod LifeWords
+pub mod Lines
+pub mod Passed
+pub mod RawTexts
+pub mod ReadLines
+pub mod ReadStoreLines
+pub mod SetSpelled
+pub mod Spelled
+pub mod Standing
+pub mod StoreSpelled

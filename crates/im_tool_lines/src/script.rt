@@ -1,0 +1,50 @@
+//! A script: what the files hold at first, and the lives.
+
+ghost use Rattle.std.specs.Prelude.{◌≡◌, ℕ, IfOk};
+ghost use Rattle.im_tool_lines.specs.Scripts.{lines_of, IsScript, IsFirstBad};
+
+use crate::reading::Reading;
+use crate::{RawLife, ScriptError};
+use im_base_types::Fault;
+use im_tool_words::first_piece;
+use std::alloc::Global;
+
+/// A script whose lines are all good.
+#[derive(Debug, Drop)]
+pub struct Script {
+    /// The bytes of the log file before the first life.
+    pub log: Vec<u8>,
+    /// The bytes of the file of pages before the first life.
+    pub pages: Vec<u8>,
+    /// The lives, in order.
+    pub lives: Vec<RawLife>,
+}
+
+impl Script {
+    /// Reads a script. Empty lines are passed over, and counted.
+    ///
+    /// The script is that of the text's lines. Refused `BadLine` with the first line that no line of the grammar
+    /// spells or that may not stand where it stands; `Memory`.
+    pub fn parse(alloc: Global, text: &[u8]) -> Result<Script, ScriptError>
+        ensures read { IfOk result (λ script. IsScript (lines_of text.now) script) }
+        ensures refused { (n : ℕ) → result ≡ Err (ScriptError.BadLine n) → IsFirstBad (lines_of text.now) n }
+    {
+        let mut reading = Reading::new(alloc);
+        let mut number = 0u64;
+        let mut left = Some(text);
+        while let Some(rest) = left {
+            let (line, more) = first_piece(rest, b'\n');
+            left = more;
+            number += 1;
+            if line.is_empty() {
+                continue;
+            }
+            match reading.read_line(alloc, line) {
+                Ok(()) => {}
+                Err(Fault::BadScript) => return Err(ScriptError::BadLine(number)),
+                Err(_) => return Err(ScriptError::Memory),
+            }
+        }
+        reading.end()
+    }
+}

@@ -1,0 +1,6 @@
+pub mod Acked
+pub mod OpenedLogs
+pub mod Putting
+pub mod RawRunning
+pub mod Replied
+pub mod Stands

@@ -1,0 +1,5 @@
+pub mod Lives
+pub mod Living
+pub mod RawRuns
+pub mod Answered
+pub mod Stops

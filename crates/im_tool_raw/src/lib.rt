@@ -1,0 +1,27 @@
+//! What lives of scripts answer, and lives over the gate alone, run on the model disk.
+//!
+//! `drill` promises, of a script whose files stand for some batches at first (`StandsFor`): each life leaves the batches
+//! from before it and behind them a front of those that it asked to put, in order, with every one that was answered `put ok`
+//! (`Survives`, `Lives`), whatever the stop leaves of the places that were not synced; and the last opening finds what the
+//! last life left, or was refused for want of memory or by the disk. Each life has its answers and each line its reply, up to a
+//! line into which the stop fell (`EachAnswered`). Every answer comes from a call of a gate (`IsRawRun`).
+//!
+//! `arm`, `has_come` and `refused_opening` are the parts of a life that a life of a store has too: its stop, and what an opening answers
+//! that did not succeed (`Opening`). So are `AnsweredBy`, which lines have replies, and `IsNextDisk`, on what the next life begins.
+//!
+//! This crate stands on the gate's contracts over any disk, and on the model disk. Within a life it keeps one fact (`IsLiving`): what a stop
+//! may leave now survives the life so far, and as long as the gate works, all that was asked was acknowledged.
+#![tactic(auto)]
+
+mod answers;
+mod drilling;
+mod life_answers;
+mod lives;
+mod opening;
+mod stop;
+
+pub use answers::Drilled;
+pub use drilling::drill;
+pub use life_answers::{LifeAnswers, Opening, RawReply};
+pub use opening::open_batches;
+pub use stop::{arm, has_come, refused_opening};
