@@ -26,8 +26,8 @@ use Rattle.im_log.specs.Whats.{what_of}
 use Rattle.im_log.specs.Kept.{Appended}
 use Rattle.im_page_pool.specs.declared.frame.Frame.{Frame}
 use Rattle.im_page_pool.specs.Pool.{Held, PoolView, held_of, Sets}
-use Rattle.im_page_writer.specs.declared.table_entry.TableEntry.{TableEntry}
-use Rattle.im_page_writer.specs.DirtyTable.{ChangesEntry}
+use Rattle.im_page_table.specs.declared.table_entry.TableEntry.{TableEntry}
+use Rattle.im_page_table.specs.DirtyTable.{ChangesEntry}
 use Rattle.im_page_writer.specs.PageFile.{IsPageFile}
 use Rattle.im_page_writer.specs.Stands.{HasEntries, is_changed}
 use Rattle.im_page_writer.specs.Writing.{IsShown, IsPooled, IsWriting}

@@ -20,8 +20,8 @@ use Rattle.im_log.specs.LogFile.{IsOpen}
 use Rattle.im_log.specs.Kept.{Appended}
 use Rattle.im_page_pool.specs.Pool.{Held, PoolView, held_of}
 use Rattle.im_page_writer.specs.declared.page_writer.PageWriter.{PageWriter}
-use Rattle.im_page_writer.specs.declared.table_entry.TableEntry.{TableEntry}
-use Rattle.im_page_writer.specs.DirtyTable.{entry_in}
+use Rattle.im_page_table.specs.declared.table_entry.TableEntry.{TableEntry}
+use Rattle.im_page_table.specs.DirtyTable.{entry_in}
 use Rattle.im_page_writer.specs.KnownCopies.{KnowsCopies}
 use Rattle.im_page_writer.specs.Stands.{HasEntries, is_changed, LeavesCovered}
 use Rattle.im_page_writer.specs.Writing.{IsPooled, IsShown, IsWriting}

@@ -13,7 +13,7 @@ use Rattle.im_log.specs.declared.log_file.LogFile.{LogFile}
 use Rattle.im_page.specs.PageFile.{page_count}
 use Rattle.im_page_pool.specs.Pool.{Held, PoolView, held_of}
 use Rattle.im_page_pool.specs.Pool as pools
-use Rattle.im_page_writer.specs.declared.table_entry.TableEntry.{TableEntry}
+use Rattle.im_page_table.specs.declared.table_entry.TableEntry.{TableEntry}
 use Rattle.im_page_writer.specs.Stands.{is_changed, IsCovered, LeavesCovered}
 use Rattle.im_page_writer.specs.Writing.{lsn_for, IsShown, MayCopy, MayWriteHere, IsWriting, Goes, LeavesGrown, ImagesDurable, Flushed}
 use Rattle.im_page_writer.proofs.Standing.{stands_read}

@@ -14,7 +14,7 @@ use Rattle.im_page.specs.Header.{initial}
 use Rattle.im_page.specs.Page.{page_of}
 use Rattle.im_page_pool.specs.declared.frame.Frame.{Frame}
 use Rattle.im_page_pool.specs.Pool.{Held, PoolView, held_of, frame_of, page_at}
-use Rattle.im_page_writer.specs.declared.table_entry.TableEntry.{TableEntry}
+use Rattle.im_page_table.specs.declared.table_entry.TableEntry.{TableEntry}
 use Rattle.im_page_writer.specs.Stands.{is_changed, IsCovered, LeavesCovered}
 use Rattle.im_page_writer.specs.Images.{with_image, MayImage, Imaged}
 use Rattle.im_page_writer.specs.Writing.{IsShown, IsPooled, MayCopy, IsWriting, Goes, LeavesGrown, PageImaged}

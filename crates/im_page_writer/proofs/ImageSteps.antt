@@ -26,8 +26,8 @@ use Rattle.im_log.specs.Spelled.{logged_at}
 use Rattle.im_log.specs.Kept.{Appended, AppendKept}
 use Rattle.im_log.specs.Whats.{image_of}
 use Rattle.im_page.specs.Page.{page_of}
-use Rattle.im_page_writer.specs.declared.table_entry.TableEntry.{TableEntry}
-use Rattle.im_page_writer.specs.DirtyTable.{entry_in}
+use Rattle.im_page_table.specs.declared.table_entry.TableEntry.{TableEntry}
+use Rattle.im_page_table.specs.DirtyTable.{entry_in}
 use Rattle.im_page_writer.specs.PageFile.{IsPageFile}
 use Rattle.im_page_writer.specs.Stands.{IsTied, Stands}
 use Rattle.im_page_writer.specs.Images.{image_at, image_pages, with_image, MayImage, Imaged, ImageKept}

@@ -1,8 +1,6 @@
 pub mod LogEnds
 pub mod ImageCalls
 pub mod Costs
-pub mod Tables
-pub mod Lists
 pub mod PageFiles
 pub mod KnownCopies
 pub mod Standing

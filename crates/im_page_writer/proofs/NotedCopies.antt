@@ -11,8 +11,8 @@ use Rattle.im_theory_log.proofs.Histories.{front_self}
 use Rattle.im_base_disk.specs.declared.disk.Disk.{Ghosts}
 use Rattle.im_log.specs.declared.log_file.LogFile.{LogFile}
 use Rattle.im_page_pool.specs.Pool.{Held, PoolView, held_of}
-use Rattle.im_page_writer.specs.declared.table_entry.TableEntry.{TableEntry}
-use Rattle.im_page_writer.specs.DirtyTable.{entry_in, ChangesEntry}
+use Rattle.im_page_table.specs.declared.table_entry.TableEntry.{TableEntry}
+use Rattle.im_page_table.specs.DirtyTable.{entry_in, ChangesEntry}
 use Rattle.im_page_writer.specs.Growth.{SamePage}
 use Rattle.im_page_writer.specs.KnownCopies.{checkpoint_lsn, KnowsCopies}
 use Rattle.im_page_writer.specs.PageFile.{IsPageFile}

@@ -15,8 +15,8 @@ use Rattle.im_base_disk.specs.declared.disk.Disk.{Ghosts}
 use Rattle.im_log.specs.declared.log_file.LogFile.{LogFile}
 use Rattle.im_page_pool.specs.declared.frame.Frame.{Frame}
 use Rattle.im_page_pool.specs.Pool.{Held, Holds, PoolView, held_of, page_at, Takes}
-use Rattle.im_page_writer.specs.declared.table_entry.TableEntry.{TableEntry}
-use Rattle.im_page_writer.specs.DirtyTable.{ChangesEntry}
+use Rattle.im_page_table.specs.declared.table_entry.TableEntry.{TableEntry}
+use Rattle.im_page_table.specs.DirtyTable.{ChangesEntry}
 use Rattle.im_page_writer.specs.Stands.{HasEntries}
 use Rattle.im_page_writer.specs.Writing.{IsShown, IsPooled, IsWriting}
 use Rattle.im_page_writer.specs.declared.page_writer.PageWriter.{PageWriter}

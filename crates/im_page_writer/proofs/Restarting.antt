@@ -13,7 +13,7 @@ use Rattle.im_base_disk.specs.Disk.{Only}
 use Rattle.im_log.specs.LogFile.{IsOpen, IsLog}
 use Rattle.im_page.specs.PageFile.{file_page}
 use Rattle.im_page_pool.specs.Pool.{PoolView}
-use Rattle.im_page_writer.specs.declared.table_entry.TableEntry.{TableEntry}
+use Rattle.im_page_table.specs.declared.table_entry.TableEntry.{TableEntry}
 use Rattle.im_page_writer.specs.declared.page_writer.PageWriter.{PageWriter}
 use Rattle.im_page_writer.specs.Writing.{IsPooled, IsWriting}
 use Rattle.im_page_writer.specs.PageWriter.{StandsAs}

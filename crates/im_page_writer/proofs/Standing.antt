@@ -20,11 +20,11 @@ use Rattle.im_log.specs.Spelled.{log_of}
 use Rattle.im_log.specs.Kept.{HasLog, SpellsEither}
 use Rattle.im_log.proofs.Above.{front_then, log_spared, open_spared}
 use Rattle.im_page.specs.PageFile.{file_page}
-use Rattle.im_page_writer.specs.declared.table_entry.TableEntry.{TableEntry}
-use Rattle.im_page_writer.specs.DirtyTable.{entry_in, has_room, put, written_in, ChangesEntry}
+use Rattle.im_page_table.specs.declared.table_entry.TableEntry.{TableEntry}
+use Rattle.im_page_table.specs.DirtyTable.{entry_in, has_room, put, written_in, ChangesEntry}
 use Rattle.im_page_writer.specs.PageFile.{KeepsSynced}
 use Rattle.im_page_writer.specs.Stands.{IsTied, HasEntries, IsCovered, LeavesCovered, Stands, MayWritePage, Synced, Run}
-use Rattle.im_page_writer.proofs.Tables.{room_found}
+use Rattle.im_page_table.proofs.Tables.{room_found}
 use Rattle.im_page_writer.proofs.KnownCopies.{knows_forced, knows_synced, knows_written}
 use Rattle.im_page_writer.proofs.PageFiles.{only_here, only_other, page_file_spared, page_file_synced, page_file_torn, page_file_written}
 

@@ -3,8 +3,8 @@ use Rattle.std.proofs.Common.{◌≡◌, inl, inr, ℕ, List, Option, Some, sym,
 use Rattle.std.proofs.lemmas.Bool.{cases_eq}
 use Rattle.im_theory_log.specs.Writer.{DirtyEntry, PageState}
 use Rattle.im_theory_log.specs.WriterSteps.{only}
-use Rattle.im_page_writer.specs.declared.table_entry.TableEntry.{TableEntry}
-use Rattle.im_page_writer.specs.DirtyTable.{entry_in, ChangesEntry}
+use Rattle.im_page_table.specs.declared.table_entry.TableEntry.{TableEntry}
+use Rattle.im_page_table.specs.DirtyTable.{entry_in, ChangesEntry}
 use Rattle.im_page_writer.specs.Stands.{HasEntries}
 use Rattle.im_page_writer.proofs.PageFiles.{only_here, only_other}
 

@@ -19,7 +19,7 @@ use Rattle.im_page.specs.PageFile.{file_page}
 use Rattle.im_page_pool.specs.declared.frame.Frame.{Frame}
 use Rattle.im_page_pool.specs.Pool.{Held, PoolView, held_of, page_at, page_seen, Evicts, MovesFirst, Takes}
 use Rattle.im_page_pool.specs.Pool as pools
-use Rattle.im_page_writer.specs.declared.table_entry.TableEntry.{TableEntry}
+use Rattle.im_page_table.specs.declared.table_entry.TableEntry.{TableEntry}
 use Rattle.im_page_writer.specs.declared.page_writer.PageWriter.{PageWriter}
 use Rattle.im_page_writer.specs.Stands.{is_changed}
 use Rattle.im_page_writer.specs.Writing.{IsShown, IsPooled, IsWriting, Goes, SameHeld}

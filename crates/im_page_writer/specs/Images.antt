@@ -9,7 +9,7 @@ use Rattle.im_theory_log.specs.WriterSteps.{passed}
 use Rattle.im_base_disk.specs.declared.disk.Disk.{Ghosts}
 use Rattle.im_log.specs.declared.log_file.LogFile.{LogFile}
 use Rattle.im_page.specs.Page.{page_of}
-use Rattle.im_page_writer.specs.declared.table_entry.TableEntry.{TableEntry}
+use Rattle.im_page_table.specs.declared.table_entry.TableEntry.{TableEntry}
 use Rattle.im_page_writer.specs.Stands.{Stands, LeavesCovered}
 
 -- the record

@@ -1,6 +1,5 @@
 pub mod LogEnds
 pub mod Imaging
-pub mod DirtyTable
 pub mod PageFile
 pub mod Costs
 pub mod KnownCopies

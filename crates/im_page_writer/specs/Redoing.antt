@@ -11,7 +11,7 @@ use Rattle.im_theory_log.specs.WriterSteps.{applies, at_point, is_copied, loaded
 use Rattle.im_base_disk.specs.declared.disk.Disk.{Ghosts}
 use Rattle.im_page_pool.specs.declared.frame.Frame.{Frame}
 use Rattle.im_page_pool.specs.Pool.{PoolView, Holds, IsAt, Sets, Takes, page_at}
-use Rattle.im_page_writer.specs.DirtyTable.{ChangesEntry}
+use Rattle.im_page_table.specs.DirtyTable.{ChangesEntry}
 use Rattle.im_page_writer.specs.declared.page_writer.PageWriter.{PageWriter}
 use Rattle.im_page_writer.specs.Stands.{LeavesCovered}
 use Rattle.im_page_writer.specs.KnownCopies.{redone_as}

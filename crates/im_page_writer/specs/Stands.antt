@@ -15,8 +15,8 @@ use Rattle.im_log.specs.LogFile.{IsOpen, IsLog}
 use Rattle.im_log.specs.Kept.{SpellsBetween}
 use Rattle.im_page.specs.Page.{page_of}
 use Rattle.im_page.specs.PageFile.{file_page}
-use Rattle.im_page_writer.specs.declared.table_entry.TableEntry.{TableEntry}
-use Rattle.im_page_writer.specs.DirtyTable.{entry_in}
+use Rattle.im_page_table.specs.declared.table_entry.TableEntry.{TableEntry}
+use Rattle.im_page_table.specs.DirtyTable.{entry_in}
 use Rattle.im_page_writer.specs.PageFile.{IsPageFile}
 use Rattle.im_page_writer.specs.KnownCopies.{KnowsCopies}
 

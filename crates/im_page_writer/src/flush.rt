@@ -10,7 +10,7 @@ ghost use Rattle.im_log.specs.LogFile.{HasNoRoom, end_with, IsOpen};
 ghost use Rattle.im_page.specs.PageFile.{page_count};
 ghost use Rattle.im_page_pool.specs.Pool.{held_of, is_changed};
 ghost use Rattle.im_page_writer.specs.Costs.{FlushCosts, PageCosts, WriteCosts};
-ghost use Rattle.im_page_writer.specs.DirtyTable.{entry_in, has_room};
+ghost use Rattle.im_page_table.specs.DirtyTable.{entry_in, has_room};
 ghost use Rattle.im_page_writer.specs.Imaging.{Imaging};
 ghost use Rattle.im_page_writer.specs.Outcome.{fault_of};
 ghost use Rattle.im_page_writer.specs.Writing.{lsn_for, SameHeld, IsWriting, MayCopy, MayWriteHere, WriteOutKept, FlushKept};

@@ -5,7 +5,7 @@ ghost use Rattle.im_theory_log.specs.Histories.{Base};
 ghost use Rattle.im_theory_log.specs.Writer.{Writer};
 ghost use Rattle.im_base_disk.specs.Runs.{ChangesOnly, Forces};
 ghost use Rattle.im_log.specs.LogFile.{IsOpen};
-ghost use Rattle.im_page_writer.specs.declared.table_entry.TableEntry.{TableEntry};
+ghost use Rattle.im_page_table.specs.declared.table_entry.TableEntry.{TableEntry};
 ghost use Rattle.im_page_writer.specs.Stands.{Stands};
 ghost use Rattle.im_page_writer.specs.Images.{MayImage, ImageKept};
 ghost use Rattle.im_page_writer.specs.Imaging.{Imaging};

@@ -3,7 +3,7 @@ ghost use Rattle.std.specs.Prelude.{◌≡◌, ℕ, List, true};
 ghost use Rattle.im_theory_log.specs.Histories.{Base};
 ghost use Rattle.im_theory_log.specs.Writer.{Writer, HasFullCopy};
 ghost use Rattle.im_log.specs.declared.log_file.LogFile.{LogFile};
-ghost use Rattle.im_page_writer.specs.declared.table_entry.TableEntry.{TableEntry};
+ghost use Rattle.im_page_table.specs.declared.table_entry.TableEntry.{TableEntry};
 ghost use Rattle.im_page_writer.specs.Stands.{Stands};
 
 use im_base_disk::Disk;

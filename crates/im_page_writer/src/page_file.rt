@@ -8,7 +8,7 @@ ghost use Rattle.im_base_disk.specs.Runs.{ChangesOnly, Reads, Costs};
 ghost use Rattle.im_log.specs.declared.log_file.LogFile.{LogFile};
 ghost use Rattle.im_log.specs.LogFile.{IsOpen};
 ghost use Rattle.im_page.specs.PageFile.{page_count};
-ghost use Rattle.im_page_writer.specs.DirtyTable.{has_room, written_in, synced_entries};
+ghost use Rattle.im_page_table.specs.DirtyTable.{has_room, written_in, synced_entries};
 ghost use Rattle.im_page_writer.specs.Stands.{Stands, MayWritePage, WriteKept, SyncKept};
 
 use crate::DirtyTable;

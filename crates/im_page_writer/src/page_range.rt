@@ -9,7 +9,7 @@ ghost use Rattle.im_base_disk.specs.Runs.{ChangesOnly, LeavesOnly, Costs};
 ghost use Rattle.im_log.specs.declared.log_file.LogFile.{LogFile};
 ghost use Rattle.im_page.specs.PageFile.{page_count};
 ghost use Rattle.im_page_pool.specs.Writes.{WritesPage, TearsPage};
-ghost use Rattle.im_page_writer.specs.DirtyTable.{entry_in, has_room, written_in};
+ghost use Rattle.im_page_table.specs.DirtyTable.{entry_in, has_room, written_in};
 ghost use Rattle.im_page_writer.specs.Stands.{Stands};
 ghost use Rattle.im_page_writer.specs.Writing.{lsn_for, pool_page, SameHeld, Unmarks, IsPooled, IsWriting, MayWriteHere, PlacedKept, ImagesDurable, WritesKept};
 

@@ -79,7 +79,7 @@ impl PageWriter {
     ghost use Rattle.im_theory_log.specs.WriterSteps.{forced, synced};
     ghost use Rattle.im_base_disk.specs.Runs.{Costs, CostsAtMost, Forces};
     ghost use Rattle.im_page_writer.specs.Costs.{PageCosts};
-    ghost use Rattle.im_page_writer.specs.DirtyTable.{entry_in, has_room, oldest, synced_entries};
+    ghost use Rattle.im_page_table.specs.DirtyTable.{entry_in, has_room, oldest, synced_entries};
     ghost use Rattle.im_log_record.specs.Entry.{view};
     ghost use Rattle.im_log_record.specs.Spelling.{IsEntry, size_of};
     ghost use Rattle.im_log.specs.Whats.{what_of};

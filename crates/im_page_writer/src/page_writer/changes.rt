@@ -18,7 +18,7 @@ impl PageWriter {
     ghost use Rattle.im_log.specs.LogFile.{end_with};
     ghost use Rattle.im_log.specs.Whats.{what_of};
     ghost use Rattle.im_page_pool.specs.Pool.{held_of, page_at, IsAt};
-    ghost use Rattle.im_page_writer.specs.DirtyTable.{entry_in};
+    ghost use Rattle.im_page_table.specs.DirtyTable.{entry_in};
     ghost use Rattle.im_page_writer.specs.KnownCopies.{IsAtOrAfter};
     ghost use Rattle.im_page_writer.specs.PageWriter.{IsReadyWriter, StandsAs};
     ghost use Rattle.im_page_writer.specs.LeafEdits.{edit_of, HasPlace};

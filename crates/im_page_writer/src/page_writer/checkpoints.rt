@@ -20,7 +20,7 @@ use im_log::LogFile;
 use im_log_record::Record;
 
 impl PageWriter {
-    ghost use Rattle.im_page_writer.specs.DirtyTable.{dirty_pages, forgotten_entries, synced_entries};
+    ghost use Rattle.im_page_table.specs.DirtyTable.{dirty_pages, forgotten_entries, synced_entries};
     ghost use Rattle.im_page_writer.specs.Outcome.{none_mild, Logs};
     ghost use Rattle.im_page_writer.specs.PageWriter.{IsReadyWriter, StandsAs};
     ghost use Rattle.im_page_writer.specs.Checkpoints.{TablesKept, CheckpointKept};

@@ -27,7 +27,7 @@ impl PageWriter {
     ghost use Rattle.im_log.specs.Reading.{FoundKept};
     ghost use Rattle.im_base_disk.specs.Runs.{Reads};
     ghost use Rattle.im_page_pool.specs.Pool.{Holds, IsAt};
-    ghost use Rattle.im_page_writer.specs.DirtyTable.{entry_in};
+    ghost use Rattle.im_page_table.specs.DirtyTable.{entry_in};
     ghost use Rattle.im_page_writer.specs.Outcome.{fault_of, mild, Flushes, Redoes};
     ghost use Rattle.im_page_writer.specs.PageWriter.{IsReadyWriter, StandsAs};
     ghost use Rattle.im_page_writer.specs.Redoing.{LoadKept, RedoKept, LacksTaker, LoadedHere, RedoneHere};

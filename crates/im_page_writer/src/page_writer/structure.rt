@@ -18,7 +18,7 @@ impl PageWriter {
     ghost use Rattle.im_log.specs.LogFile.{end_with};
     ghost use Rattle.im_log.specs.Whats.{what_of};
     ghost use Rattle.im_page_pool.specs.Pool.{IsAt};
-    ghost use Rattle.im_page_writer.specs.DirtyTable.{entry_in};
+    ghost use Rattle.im_page_table.specs.DirtyTable.{entry_in};
     ghost use Rattle.im_page_writer.specs.PageCopy.{after_in};
     ghost use Rattle.im_page_writer.specs.Outcome.{fault_of, no_page, Logs};
     ghost use Rattle.im_page_writer.specs.PageWriter.{IsReadyWriter, StandsAs};

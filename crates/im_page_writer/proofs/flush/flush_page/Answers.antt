@@ -3,7 +3,7 @@ use Rattle.std.specs.Prelude.{is_some, OnOk}
 use Rattle.im_base_types.specs.declared.file_id.FileId.TheVariants.{Pages}
 use Rattle.im_base_disk.specs.Disk.{Files}
 use Rattle.im_page.specs.PageFile.{page_count}
-use Rattle.im_page_writer.specs.DirtyTable.{entry_in, has_room}
+use Rattle.im_page_table.specs.DirtyTable.{entry_in, has_room}
 use Rattle.im_page_writer.proofs.Growing.{on_ok}
 use Rattle.im_page_writer.proofs.Goings.{leaves_then}
 use Rattle.im_page_writer.proofs.Flushing.{flushed_last, flushed_then, goes_read, leaves_read, may_flush}

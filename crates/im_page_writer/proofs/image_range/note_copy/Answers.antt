@@ -1,6 +1,6 @@
 use Rattle.std.proofs.Common.{◌≡◌, Bool, None, Some, sym, ◌∙◌, ap, rules}
 use Rattle.std.specs.Prelude.{not}
-use Rattle.im_page_writer.specs.DirtyTable.{dirty_entry}
+use Rattle.im_page_table.specs.DirtyTable.{dirty_entry}
 use Rattle.im_page_writer.proofs.Goings.{goes_start, leaves_of}
 use Rattle.im_page_writer.proofs.Imaging.{image_copies}
 use Rattle.im_page_writer.proofs.ImageCalls.{imaging_none}

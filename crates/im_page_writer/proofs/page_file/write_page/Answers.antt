@@ -2,7 +2,7 @@ use Rattle.std.proofs.Common.{rules, ◌≡◌, ◌*◌, ◌≤◌, true, length
 use Rattle.im_base_types.specs.declared.file_id.FileId.TheVariants.{Pages}
 use Rattle.im_theory_log.specs.WriterSteps.{written_entry}
 use Rattle.im_page.proofs.PageFileLemmas.{place_within}
-use Rattle.im_page_writer.specs.DirtyTable.{has_room, ChangesEntry}
+use Rattle.im_page_table.specs.DirtyTable.{has_room, ChangesEntry}
 use Rattle.im_page_writer.proofs.Standing.{open_written, entries_written, stands_written, write_stops}
 use Rattle.im_page_writer.proofs.page_file.write_page.Goals as goal
 

@@ -1,6 +1,6 @@
 use Rattle.std.proofs.Common.{◌≡◌, ℕ, List, Option, length, subst, sym, ◌∙◌, arith, rules}
 use Rattle.im_log.specs.declared.log_file.LogFile.{LogFile}
-use Rattle.im_page_writer.specs.declared.table_entry.TableEntry.{TableEntry}
+use Rattle.im_page_table.specs.declared.table_entry.TableEntry.{TableEntry}
 use Rattle.im_page_writer.specs.KnownCopies.{IsKnownFrom}
 use Rattle.im_page_writer.specs.LogEnds.{EndsNoSooner}
 use Rattle.im_page_writer.specs.Writing.{Goes}
