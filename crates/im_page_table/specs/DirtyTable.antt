@@ -1,7 +1,7 @@
 -- The dirty table as a list in rising page order, and the function of the page for which it stands.
-use Rattle.std.specs.Prelude.{◌≡◌, ◌≢◌, ◌<◌, ◌≤◌, ℕ, List, [], ◌∷◌, length, map, slice_index_or, if◌then◌else◌, ◌==◌, nat_lt, Bool, false, true, ◌||◌, Option, None, Some, option_map}
+use Rattle.std.specs.Prelude.{◌≡◌, ◌≢◌, ◌⊎◌, ◌<◌, ◌≤◌, ℕ, List, [], ◌∷◌, length, map, slice_index_or, if◌then◌else◌, ◌==◌, nat_lt, Bool, false, true, ◌||◌, Option, None, Some, option_map}
 use Rattle.std.specs.Option.{is_some}
-use Rattle.im_theory_log.specs.Writer.{DirtyEntry}
+use Rattle.im_theory_log.specs.Writer.{DirtyEntry, IsWritten, PageState}
 use Rattle.im_base_types.specs.declared.tables.DirtyPage.{DirtyPage}
 use Rattle.im_theory_log.specs.WriterSteps.{written_entry}
 use Rattle.im_page_table.specs.declared.dirty_table.TheConstants.{MOST}
@@ -111,3 +111,18 @@ older (Some a) (Some b) = if nat_lt b.rec_lsn a.rec_lsn then Some b else Some a
 abbrev pub oldest : Option DirtyPage → List TableEntry → Option DirtyPage
 oldest o [] = o
 oldest o (x ∷ xs) = oldest (older o (changed_page x)) xs
+
+-- ---- beside the entries that a writer keeps of its pages
+
+-- the table has the page's entry; or it has none, as none had room, and nothing of the page is left to be written
+abbrev pub IsTied : Option DirtyEntry → Option DirtyEntry → Type 0
+IsTied has entry = (has ≡ entry) ⊎ ((has ≡ None) × IsWritten entry)
+
+-- the table has the entry of each page
+abbrev pub HasEntries : List TableEntry → (ℕ → PageState) → Type 0
+HasEntries table pages = (p : ℕ) → entry_in table p ≡ (pages p).entry
+
+-- the page was changed since its last write
+abbrev pub is_changed : Option DirtyEntry → Bool
+is_changed None = false
+is_changed (Some e) = is_some e.since

@@ -15,11 +15,13 @@ use Rattle.im_page.specs.Page.{page_of}
 use Rattle.im_page_pool.specs.declared.frame.Frame.{Frame}
 use Rattle.im_page_pool.specs.Pool.{Held, PoolView, held_of, frame_of, page_at}
 use Rattle.im_page_table.specs.declared.table_entry.TableEntry.{TableEntry}
-use Rattle.im_page_writer.specs.Stands.{is_changed, IsCovered, LeavesCovered}
-use Rattle.im_page_writer.specs.Images.{with_image, MayImage, Imaged}
+use Rattle.im_page_table.specs.DirtyTable.{is_changed}
+use Rattle.im_page_file.specs.Stands.{IsCovered, LeavesCovered}
+use Rattle.im_page_table.specs.Growth.{with_image}
+use Rattle.im_page_file.specs.Images.{MayImage, Imaged}
 use Rattle.im_page_writer.specs.Writing.{IsShown, IsPooled, MayCopy, IsWriting, Goes, LeavesGrown, PageImaged}
-use Rattle.im_page_writer.proofs.Standing.{run_start, wider_covered}
-use Rattle.im_page_writer.proofs.Growing.{image_entry, image_keeps, grown_front, grows_none, grows_then, keeps_none, keeps_then}
+use Rattle.im_page_file.proofs.Standing.{run_start, wider_covered}
+use Rattle.im_page_table.proofs.Growing.{image_entry, image_keeps, grown_front, grows_none, grows_then, keeps_none, keeps_then}
 
 -- ---- the pool
 
@@ -68,18 +70,6 @@ found_page pool p frame x found is =
     ap (λ (n : ℕ). page_at pool n) here.number ∙ held_page (held_of pool p) here.held (initial 0) here.is ∙ shown.0
 
 module _ {D : Type 0} (d : Ghosts D) (b : Base) (base : ℕ) where
-  -- what a stop leaves of two runs in a row
-  pub covered_then : (low high below above : History) (old mid new : D) → LeavesCovered d b base low high old mid → LeavesCovered d b base below above mid new → IsFront low below → IsFront high above
-      → LeavesCovered d b base low above old new
-  covered_then low high below above old mid new first second up on =
-      then_on d old mid new (IsCovered b base low above) (IsCovered b base below above)
-      (weakened d old mid (IsCovered b base low high) (IsCovered b base low above) first (λ told c is. wider_covered d b base low low high above c (front_self low) on is)) second
-      (λ told c is. wider_covered d b base low below above above c up (front_self above) is)
-
-  pub covered_wider : (low high above : History) (old new : D) → LeavesCovered d b base low high old new → IsFront high above → LeavesCovered d b base low above old new
-  covered_wider low high above old new stops on =
-      weakened d old new (IsCovered b base low high) (IsCovered b base low above) stops (λ told c is. wider_covered d b base low low high above c (front_self low) on is)
-
   -- before the first call
   pub goes_start : (s : Writer) (log : LogFile) (table : List TableEntry) (pool : PoolView) (disk : D) → ((c : Files) → d.left_since disk (d.moment disk) c → d.may_leave disk c) → IsWriting d b base s log table pool disk
       → Goes d b base s disk s log table pool disk

@@ -1,13 +1,5 @@
-pub mod LogEnds
 pub mod ImageCalls
 pub mod Costs
-pub mod PageFiles
-pub mod KnownCopies
-pub mod Standing
-pub mod TableSteps
-pub mod ImageSteps
-pub mod Openings
-pub mod Growing
 pub mod Goings
 pub mod Imaging
 pub mod Placing

@@ -11,8 +11,7 @@ use Rattle.im_page_pool.specs.Pool.{Held, PoolView, frame_of, held_of, last_chan
 use Rattle.im_page_pool.proofs.PlaceLemmas.{length_remove_entry}
 use Rattle.im_page_pool.proofs.HeldLemmas.{lookup_others}
 use Rattle.im_page_table.specs.declared.table_entry.TableEntry.{TableEntry}
-use Rattle.im_page_table.specs.DirtyTable.{dirty_entry, entry_in, IsRising, synced_entries}
-use Rattle.im_page_writer.specs.Stands.{HasEntries}
+use Rattle.im_page_table.specs.DirtyTable.{dirty_entry, entry_in, IsRising, synced_entries, HasEntries}
 use Rattle.im_page_writer.specs.Writing.{IsShown, IsPooled, SameHeld}
 use Rattle.im_page_writer.specs.PageWriter.{IsOldestWritten}
 use Rattle.im_page_writer.proofs.Placing.{written_synced}

@@ -3,7 +3,7 @@ ghost use Rattle.std.specs.Prelude.{◌≡◌, ◌≢◌, ◌≤◌, ◌<◌, �
 ghost use Rattle.im_base_types.specs.declared.fault.Fault.TheVariants.{Device, Failed, LogFull, NotAStore};
 ghost use Rattle.im_theory_log.specs.Histories.{Base};
 ghost use Rattle.im_theory_log.specs.Writer.{Writer};
-ghost use Rattle.im_page_writer.specs.KnownCopies.{or_from};
+ghost use Rattle.im_page_table.specs.KnownCopies.{or_from};
 
 use crate::PageWriter;
 use crate::leaf_change::{LeafEdit, edit_key, place_in};
@@ -19,7 +19,7 @@ impl PageWriter {
     ghost use Rattle.im_log.specs.Whats.{what_of};
     ghost use Rattle.im_page_pool.specs.Pool.{held_of, page_at, IsAt};
     ghost use Rattle.im_page_table.specs.DirtyTable.{entry_in};
-    ghost use Rattle.im_page_writer.specs.KnownCopies.{IsAtOrAfter};
+    ghost use Rattle.im_page_table.specs.KnownCopies.{IsAtOrAfter};
     ghost use Rattle.im_page_writer.specs.PageWriter.{IsReadyWriter, StandsAs};
     ghost use Rattle.im_page_writer.specs.LeafEdits.{edit_of, HasPlace};
     ghost use Rattle.im_page_writer.specs.Outcome.{fault_of, no_page, AreLoadedTo, Logs, Outcome};

@@ -10,7 +10,7 @@ ghost use Rattle.im_log_record.specs.Entry.{Checkpoint};
 ghost use Rattle.im_log_record.specs.Spelling.{Rise, size_of};
 ghost use Rattle.im_log.specs.LogFile.{end_with, IsOpen, IsLog};
 ghost use Rattle.im_log.specs.Kept.{AppendKept};
-ghost use Rattle.im_page_writer.specs.Imaging.{Appends};
+ghost use Rattle.im_page_file.specs.Imaging.{Appends};
 ghost use Rattle.im_page_writer.specs.Outcome.{fault_of};
 
 use crate::PageWriter;

@@ -7,11 +7,11 @@ ghost use Rattle.im_log_record.specs.Entry.{view};
 ghost use Rattle.im_log.specs.Whats.{what_of};
 
 use crate::PageWriter;
-use crate::page_copy::read_copy;
 use crate::redone_page::redo_record;
 use im_base_disk::Disk;
 use im_base_types::{Fault, Lsn, PageNo};
 use im_log_record::Record;
+use im_page_file::read_copy;
 use im_page_pool::Frame;
 
 impl PageWriter {
