@@ -1,11 +1,10 @@
 -- How a writer of pages stands behind each of its calls, and what a stop within one leaves.
-use Rattle.std.proofs.Common.{◌≡◌, inl, inr, ⊎_elim, ℕ, ◌*◌, ◌≤◌, false, true, List, length, Option, None, Some, refl, sym, ◌∙◌, ap, subst}
-use Rattle.std.proofs.lemmas.Bool.{cases_Bool, cases_eq, cond-false}
+use Rattle.std.proofs.Common.{◌≡◌, inl, ⊎_elim, ℕ, ◌*◌, ◌≤◌, false, true, List, length, refl, sym, ◌∙◌, ap, subst}
 use Rattle.im_base_types.specs.declared.file_id.FileId.{FileId}
 use Rattle.im_base_types.specs.declared.file_id.FileId.TheVariants.{Log, Pages}
 use Rattle.im_theory_log.specs.Histories.{Base, History, IsFront}
-use Rattle.im_theory_log.specs.Writer.{DirtyEntry, PageState, Writer, IsWritten, WriterKept}
-use Rattle.im_theory_log.specs.WriterSteps.{MayWrite, entry_since, forced, only, synced_entry, synced_page, written, written_entry, written_page}
+use Rattle.im_theory_log.specs.Writer.{Writer, WriterKept}
+use Rattle.im_theory_log.specs.WriterSteps.{MayWrite, forced, synced_entry, written, written_entry}
 use Rattle.im_theory_log.proofs.Histories.{front_self}
 use Rattle.im_theory_log.proofs.WriterCovers.{covers}
 use Rattle.im_theory_log.proofs.WriterWrites.{forced_kept, synced_kept, written_kept}
@@ -21,7 +20,7 @@ use Rattle.im_log.specs.Kept.{HasLog, SpellsEither}
 use Rattle.im_log.proofs.Above.{front_then, log_spared, open_spared}
 use Rattle.im_page.specs.PageFile.{file_page}
 use Rattle.im_page_table.specs.declared.table_entry.TableEntry.{TableEntry}
-use Rattle.im_page_table.specs.DirtyTable.{entry_in, has_room, put, written_in, ChangesEntry, IsTied, HasEntries}
+use Rattle.im_page_table.specs.DirtyTable.{entry_in, has_room, written_in, ChangesEntry}
 use Rattle.im_page_file.specs.PageFile.{KeepsSynced}
 use Rattle.im_page_file.specs.Stands.{IsCovered, LeavesCovered, Stands, MayWritePage, Synced, Run}
 use Rattle.im_page_table.proofs.TableSteps.{tied_synced, tied_written}
@@ -57,12 +56,12 @@ module _ {D : Type 0} (d : Ghosts D) (b : Base) (base : ℕ) where
       → LeavesCovered d b base low above old new
   covered_then low high below above old mid new first second up on =
       then_on d old mid new (IsCovered b base low above) (IsCovered b base below above)
-      (weakened d old mid (IsCovered b base low high) (IsCovered b base low above) first (λ told c is. wider_covered d b base low low high above c (front_self low) on is)) second
-      (λ told c is. wider_covered d b base low below above above c up (front_self above) is)
+      (weakened d old mid (IsCovered b base low high) (IsCovered b base low above) first (λ told c is. wider_covered low low high above c (front_self low) on is)) second
+      (λ told c is. wider_covered low below above above c up (front_self above) is)
 
   pub covered_wider : (low high above : History) (old new : D) → LeavesCovered d b base low high old new → IsFront high above → LeavesCovered d b base low above old new
   covered_wider low high above old new stops on =
-      weakened d old new (IsCovered b base low high) (IsCovered b base low above) stops (λ told c is. wider_covered d b base low low high above c (front_self low) on is)
+      weakened d old new (IsCovered b base low high) (IsCovered b base low above) stops (λ told c is. wider_covered low low high above c (front_self low) on is)
 
   module _ (s : Writer) (log : LogFile) (table : List TableEntry) (old : D) (st : Stands d b base s log table old) where
     -- the log's file is all on the disk

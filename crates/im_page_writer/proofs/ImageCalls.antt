@@ -14,6 +14,7 @@ use Rattle.im_page_writer.specs.Outcome.{Breaks, Ends, Outcome}
 use Rattle.im_page_writer.specs.PageWriter.{StandsAs}
 use Rattle.im_page_writer.specs.Writing.{LeavesGrown}
 use Rattle.im_page_writer.proofs.Outcomes.{handed_on}
+
 module _ {D : Type 0} (d : Ghosts D) where
   broke_end : (asks : Writer → Type 0) (m : Fault → Bool) (v : PageWriter) (old : D) (w : PageWriter) (new : D) → Breaks d asks v old w new → (log : LogFile) (e : Fault) → ImagingEnds d log w.log new (Some e) → Ends d asks m v old w new (Some e)
   broke_end asks m v old w new breaks log LogFull one = (breaks, one.0, one.1, one.2)

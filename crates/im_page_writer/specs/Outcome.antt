@@ -11,7 +11,6 @@ use Rattle.im_page_writer.specs.declared.page_writer.PageWriter.{PageWriter}
 use Rattle.im_page_writer.specs.Writing.{LeavesGrown}
 use Rattle.im_page_file.specs.LogEnds.{EndsNoSooner}
 use Rattle.im_page_writer.specs.PageWriter.{IsReadyWriter, StandsAs, Evicted}
-
 pub use Rattle.im_page_file.specs.LogEnds.{fault_of}
 
 -- what a call says over files that are a store: the answer is this, or it is refused, but not for bytes that are no store's
