@@ -9,7 +9,6 @@ pub mod Writers
 pub mod TableRoom
 pub mod Logging
 pub mod Changing
-pub mod KeyLists
 pub mod LeafChanges
 pub mod LoggedChanges
 pub mod Redoing

@@ -1,8 +1,6 @@
 pub mod Costs
 pub mod Writing
 pub mod PageWriter
-pub mod LeafChange
-pub mod LeafEdits
 pub mod LoggedChange
 pub mod Checkpoints
 pub mod StructureChange

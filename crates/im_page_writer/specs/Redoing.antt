@@ -18,7 +18,7 @@ use Rattle.im_page_table.specs.KnownCopies.{redone_as}
 use Rattle.im_page_table.specs.Growth.{Keeps}
 use Rattle.im_page_writer.specs.Writing.{LeavesGrown}
 use Rattle.im_page_writer.specs.PageWriter.{StandsAs}
-use Rattle.im_page_writer.specs.LeafChange.{CanPutKey, CanTakeKey}
+use Rattle.im_page_leaf.specs.LeafChange.{CanPutKey, CanTakeKey}
 
 -- a page takes a record: a key to be put is lacking and has room in the leaf, one to be taken out is there; an image is always taken
 abbrev pub TakesRecord : What → Page → Type 0
