@@ -32,7 +32,7 @@ use Rattle.im_base_disk.proofs.Runs.{weakened, then_on}
 use Rattle.im_log_record.specs.Entry as entries
 use Rattle.im_log.specs.Spelled.{logged_at}
 use Rattle.im_log.proofs.Above.{left_now}
-use Rattle.im_page_writer.specs.Stands.{IsCovered, LeavesCovered}
+use Rattle.im_page_file.specs.Stands.{IsCovered, LeavesCovered}
 use Rattle.im_page_writer.specs.declared.page_writer.PageWriter.{PageWriter}
 use Rattle.im_page_writer.specs.PageWriter.{StandsAs, GoesOn, FlushedOne, LoggedOnly}
 use Rattle.im_page_writer.proofs.Writers.{goes_on_start}

@@ -17,7 +17,7 @@ use Rattle.im_base_disk.specs.Disk.{Files}
 use Rattle.im_base_disk.specs.Runs.{LeavesOnly}
 use Rattle.im_base_disk.proofs.Runs.{weakened}
 use Rattle.im_page_writer.specs.Checkpoints.{checkpoint_at, Checkpointed, HasCheckpoint, LeavesCheckpointed}
-use Rattle.im_page_writer.specs.Stands.{IsCovered}
+use Rattle.im_page_file.specs.Stands.{IsCovered}
 use Rattle.im_theory_tree.specs.Theory.{page_tree}
 use Rattle.im_engine_checkpoint.specs.Rows.{listed}
 use Rattle.im_front.specs.Calls.{number_of}

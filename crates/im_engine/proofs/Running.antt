@@ -25,11 +25,11 @@ use Rattle.im_base_disk.specs.declared.disk.Disk.{Ghosts}
 use Rattle.im_base_disk.specs.Disk.{Files}
 use Rattle.im_base_disk.specs.Runs.{LeavesOnly}
 use Rattle.im_base_disk.proofs.Runs.{started, weakened}
-use Rattle.im_page_writer.specs.Stands.{IsCovered, LeavesCovered}
+use Rattle.im_page_file.specs.Stands.{IsCovered, LeavesCovered}
 use Rattle.im_page_writer.specs.Writing.{LeavesGrown}
 use Rattle.im_page_writer.specs.declared.page_writer.PageWriter.{PageWriter}
 use Rattle.im_page_writer.specs.PageWriter.{StandsAs, GoesOn, Evicted}
-use Rattle.im_page_writer.proofs.Standing.{stop_now}
+use Rattle.im_page_file.proofs.Standing.{stop_now}
 use Rattle.im_theory_tree.specs.Theory.{page_tree}
 use Rattle.im_engine_txn.specs.declared.transaction.Transaction.{Transaction}
 use Rattle.im_engine_lock.specs.Table.{Table}

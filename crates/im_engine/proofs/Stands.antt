@@ -9,7 +9,7 @@ use Rattle.im_base_types.specs.Lives.{Shown}
 use Rattle.im_base_disk.specs.Disk.{Files}
 use Rattle.im_log_gate.specs.Header.{IsMade, IsUnmade}
 use Rattle.im_log_gate.proofs.Starts.{gate_behind}
-use Rattle.im_page_writer.specs.Stands.{IsCovered}
+use Rattle.im_page_file.specs.Stands.{IsCovered}
 use Rattle.im_theory_tree.specs.Theory.{page_tree}
 use Rattle.im_restart.specs.Restart.{HasStore}
 use Rattle.im_theory_steps.specs.Durable.{AreCommitted}

@@ -19,7 +19,7 @@ use Rattle.im_log.specs.LogFile.{HasNoRoom, end_with}
 use Rattle.im_page_form.specs.PageFile.{page_count}
 use Rattle.im_page_pool.specs.Pool.{is_changed}
 use Rattle.im_page_writer.specs.Costs.{PageCosts}
-use Rattle.im_page_writer.specs.DirtyTable.{dirty_pages, has_room, synced_entries}
+use Rattle.im_page_table.specs.DirtyTable.{dirty_pages, has_room, synced_entries}
 use Rattle.im_engine_checkpoint.specs.Rows.{listed}
 use Rattle.im_theory_tree.specs.Levels.{Pages}
 use Rattle.im_smo_split.specs.Plan.{IsWithin, IsOver}

@@ -8,7 +8,7 @@ use im_base_types::{DirtyPage, Lsn};
 
 impl<D: Disk> Engine<D> {
     ghost use Rattle.im_log_gate.specs.Gate.{place_of};
-    ghost use Rattle.im_page_writer.specs.DirtyTable.{oldest};
+    ghost use Rattle.im_page_table.specs.DirtyTable.{oldest};
 
     /// The LSN below which each record of the log is durable: a stop that comes now leaves all of them, and an opening reads them. An engine
     /// that has failed answers any number.

@@ -9,7 +9,7 @@ ghost use Rattle.im_log_record.specs.Entry.{Checkpoint};
 ghost use Rattle.im_log_record.specs.Spelling.{size_of};
 ghost use Rattle.im_log.specs.LogFile.{end_with};
 ghost use Rattle.im_page_writer.specs.Checkpoints.{CheckpointKept};
-ghost use Rattle.im_page_writer.specs.DirtyTable.{dirty_pages, forgotten_entries, synced_entries};
+ghost use Rattle.im_page_table.specs.DirtyTable.{dirty_pages, forgotten_entries, synced_entries};
 ghost use Rattle.im_page_writer.specs.Outcome.{fault_of, none_mild, Logs};
 ghost use Rattle.im_page_writer.specs.PageWriter.{IsReadyWriter, StandsAs};
 ghost use Rattle.im_engine_checkpoint.specs.Rows.{listed};

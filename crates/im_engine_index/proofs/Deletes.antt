@@ -27,10 +27,10 @@ use Rattle.im_page_writer.specs.Outcome.{pages_of, Logs, mild, none_mild}
 use Rattle.im_engine_index.specs.LockCalls.{AsksLocks}
 use Rattle.im_page_writer.specs.PageWriter.{Evicted}
 use Rattle.im_page_writer.proofs.Goings.{leaves_so_far}
-use Rattle.im_page_writer.proofs.Growing.{grows_then as images_then}
+use Rattle.im_page_table.proofs.Growing.{grows_then as images_then}
 use Rattle.im_page_writer.proofs.LoggedChanges.{err_on}
 use Rattle.im_page_writer.proofs.Outcomes.{held_is, leaves_of_end, logs_then, sound_on, late_behind, logs_for_more, none_mildly}
-use Rattle.im_page_writer.proofs.Standing.{wider_covered}
+use Rattle.im_page_file.proofs.Standing.{wider_covered}
 use Rattle.im_theory_tree.specs.Levels.{Pages, walk}
 use Rattle.im_theory_tree.specs.Search.{IsOnWay}
 use Rattle.im_tree_search.specs.Found.{HasTree}

@@ -22,10 +22,10 @@ use Rattle.im_log.proofs.Above.{front_then}
 use Rattle.im_page_pool.specs.Pool.{PoolView}
 use Rattle.im_page_writer.specs.declared.page_writer.PageWriter.{PageWriter}
 use Rattle.im_page_writer.specs.Outcome.{fault_of, mild, want_of_memory, pages_of, AllPages, AreLoaded, HasPages, IsSound, Outcome as Ends, LogEnds, Logs}
-use Rattle.im_page_writer.specs.Growth.{Keeps}
+use Rattle.im_page_table.specs.Growth.{Keeps}
 use Rattle.im_page_writer.specs.PageWriter.{Evicted}
 use Rattle.im_page_writer.proofs.Outcomes.{leaves_of_end, pages_here}
-use Rattle.im_page_writer.proofs.Standing.{wider_covered}
+use Rattle.im_page_file.proofs.Standing.{wider_covered}
 use Rattle.im_page_form.specs.Split.{HasRoom}
 use Rattle.im_theory_tree.specs.Good.{AllOf, IsGoodTree}
 use Rattle.im_theory_tree.specs.Levels.{Pages, walk}

@@ -13,7 +13,7 @@ use Rattle.im_base_disk.specs.declared.disk.Disk.{Ghosts}
 use Rattle.im_base_disk.specs.Disk.{Files}
 use Rattle.im_base_disk.specs.Runs.{LeavesOnly}
 use Rattle.im_page_writer.specs.declared.page_writer.PageWriter.{PageWriter}
-use Rattle.im_page_writer.specs.Stands.{IsCovered}
+use Rattle.im_page_file.specs.Stands.{IsCovered}
 use Rattle.im_page_writer.specs.Outcome.{IsSound}
 use Rattle.im_page_form.specs.Split.{HasRoom}
 use Rattle.im_theory_tree.specs.Search.{IsOnWay}

@@ -8,7 +8,7 @@ use Rattle.im_smo_alloc.specs.Kept.{mild_to_take}
 use Rattle.im_page_writer.specs.declared.page_writer.PageWriter.{PageWriter}
 use Rattle.im_page_writer.specs.PageWriter.{IsReadyWriter}
 use Rattle.im_page_writer.specs.Outcome.{fault_of, none_mild, Works, LogEnds, Logs}
-use Rattle.im_page_writer.proofs.Writers.{still_working}
+use Rattle.im_page_file.proofs.LogEnds.{still_working}
 use Rattle.im_engine_rollback.specs.Ends.{may_be_full, may_turn, TurnEnds, TurnOutcome}
 
 module _ {D : Type 0} (d : Ghosts D) where

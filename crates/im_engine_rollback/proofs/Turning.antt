@@ -15,7 +15,7 @@ use Rattle.im_base_disk.proofs.Runs.{reads_on, weakened}
 use Rattle.im_log_record.specs.Entry.{Entry, End, prev_of, transaction_of}
 use Rattle.im_log.specs.Spelled.{logged_at}
 use Rattle.im_page_writer.specs.declared.page_writer.PageWriter.{PageWriter}
-use Rattle.im_page_writer.specs.Stands.{IsCovered, LeavesCovered}
+use Rattle.im_page_file.specs.Stands.{IsCovered, LeavesCovered}
 use Rattle.im_page_writer.specs.PageWriter.{Evicted, GoesOn, LoggedOnly, StandsAs}
 use Rattle.im_page_writer.specs.Outcome.{fault_of, AreLoaded, Logs}
 use Rattle.im_page_writer.proofs.Outcomes.{stands_on}

@@ -26,15 +26,15 @@ use Rattle.im_log.specs.Whats.{what_of}
 use Rattle.im_log.specs.Kept.{Appended}
 use Rattle.im_page_pool.specs.declared.frame.Frame.{Frame}
 use Rattle.im_page_pool.specs.Pool.{Held, PoolView, held_of, Sets}
-use Rattle.im_page_writer.specs.declared.table_entry.TableEntry.{TableEntry}
-use Rattle.im_page_writer.specs.DirtyTable.{ChangesEntry}
-use Rattle.im_page_writer.specs.PageFile.{IsPageFile}
-use Rattle.im_page_writer.specs.Stands.{HasEntries, is_changed}
+use Rattle.im_page_table.specs.declared.table_entry.TableEntry.{TableEntry}
+use Rattle.im_page_table.specs.DirtyTable.{ChangesEntry, HasEntries, is_changed}
+use Rattle.im_page_file.specs.PageFile.{IsPageFile}
 use Rattle.im_page_writer.specs.Writing.{IsShown, IsPooled, IsWriting}
-use Rattle.im_page_writer.specs.KnownCopies.{changed_as, changed_page_as, IsAtOrAfter, IsKnownFrom}
-use Rattle.im_page_writer.proofs.KnownCopies.{changed_as_kept, known_copy, knows_grown, knows_joined, others_none}
-use Rattle.im_page_writer.proofs.PageFiles.{only_here, only_other, page_file_spared}
-use Rattle.im_page_writer.proofs.TableSteps.{entries_put}
+use Rattle.im_page_table.specs.KnownCopies.{changed_as, changed_page_as, IsAtOrAfter, IsKnownFrom}
+use Rattle.im_page_table.proofs.KnownCopies.{changed_as_kept, known_copy, knows_grown, knows_joined, others_none}
+use Rattle.im_page_table.proofs.OnePage.{only_here, only_other}
+use Rattle.im_page_file.proofs.PageFiles.{page_file_spared}
+use Rattle.im_page_table.proofs.TableSteps.{entries_put}
 use Rattle.im_page_writer.proofs.Goings.{pooled_same}
 
 -- ---- one page

@@ -20,18 +20,19 @@ use Rattle.im_log.specs.LogFile.{IsOpen}
 use Rattle.im_log.specs.Kept.{Appended}
 use Rattle.im_page_pool.specs.Pool.{Held, PoolView, held_of}
 use Rattle.im_page_writer.specs.declared.page_writer.PageWriter.{PageWriter}
-use Rattle.im_page_writer.specs.declared.table_entry.TableEntry.{TableEntry}
-use Rattle.im_page_writer.specs.DirtyTable.{entry_in}
-use Rattle.im_page_writer.specs.KnownCopies.{KnowsCopies}
-use Rattle.im_page_writer.specs.Stands.{HasEntries, is_changed, LeavesCovered}
+use Rattle.im_page_table.specs.declared.table_entry.TableEntry.{TableEntry}
+use Rattle.im_page_table.specs.DirtyTable.{entry_in, HasEntries, is_changed}
+use Rattle.im_page_table.specs.KnownCopies.{KnowsCopies}
+use Rattle.im_page_file.specs.Stands.{LeavesCovered}
 use Rattle.im_page_writer.specs.Writing.{IsPooled, IsShown, IsWriting}
 use Rattle.im_page_writer.specs.PageWriter.{GoesOn}
 use Rattle.im_page_writer.specs.Checkpoints.{checkpoint_at, Checkpointed, LeavesCheckpointed, TablesLogged}
 use Rattle.im_page_writer.specs.Outcome.{none_mild, LogEnds, Logs}
-use Rattle.im_page_writer.proofs.Goings.{covered_last, covered_then, pooled_same}
-use Rattle.im_page_writer.proofs.KnownCopies.{knows_grown, knows_joined}
+use Rattle.im_page_writer.proofs.Goings.{covered_last, pooled_same}
+use Rattle.im_page_file.proofs.Standing.{covered_then}
+use Rattle.im_page_table.proofs.KnownCopies.{knows_grown, knows_joined}
 use Rattle.im_page_writer.proofs.Outcomes.{stands_on}
-use Rattle.im_page_writer.proofs.PageFiles.{page_file_spared}
+use Rattle.im_page_file.proofs.PageFiles.{page_file_spared}
 
 -- ---- copies are forgotten
 

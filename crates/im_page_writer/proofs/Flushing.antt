@@ -13,11 +13,12 @@ use Rattle.im_log.specs.declared.log_file.LogFile.{LogFile}
 use Rattle.im_page_form.specs.PageFile.{page_count}
 use Rattle.im_page_pool.specs.Pool.{Held, PoolView, held_of}
 use Rattle.im_page_pool.specs.Pool as pools
-use Rattle.im_page_writer.specs.declared.table_entry.TableEntry.{TableEntry}
-use Rattle.im_page_writer.specs.Stands.{is_changed, IsCovered, LeavesCovered}
+use Rattle.im_page_table.specs.declared.table_entry.TableEntry.{TableEntry}
+use Rattle.im_page_table.specs.DirtyTable.{is_changed}
+use Rattle.im_page_file.specs.Stands.{IsCovered, LeavesCovered}
 use Rattle.im_page_writer.specs.Writing.{lsn_for, IsShown, MayCopy, MayWriteHere, IsWriting, Goes, LeavesGrown, ImagesDurable, Flushed}
-use Rattle.im_page_writer.proofs.Standing.{stands_read}
-use Rattle.im_page_writer.proofs.Growing.{grows_none, keeps_none}
+use Rattle.im_page_file.proofs.Standing.{stands_read}
+use Rattle.im_page_table.proofs.Growing.{grows_none, keeps_none}
 use Rattle.im_page_writer.proofs.Goings.{goes_start, goes_then}
 use Rattle.im_page_writer.proofs.Placing.{past_end}
 

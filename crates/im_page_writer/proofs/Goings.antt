@@ -14,12 +14,14 @@ use Rattle.im_page_form.specs.Header.{initial}
 use Rattle.im_page_form.specs.Page.{page_of}
 use Rattle.im_page_pool.specs.declared.frame.Frame.{Frame}
 use Rattle.im_page_pool.specs.Pool.{Held, PoolView, held_of, frame_of, page_at}
-use Rattle.im_page_writer.specs.declared.table_entry.TableEntry.{TableEntry}
-use Rattle.im_page_writer.specs.Stands.{is_changed, IsCovered, LeavesCovered}
-use Rattle.im_page_writer.specs.Images.{with_image, MayImage, Imaged}
+use Rattle.im_page_table.specs.declared.table_entry.TableEntry.{TableEntry}
+use Rattle.im_page_table.specs.DirtyTable.{is_changed}
+use Rattle.im_page_file.specs.Stands.{IsCovered, LeavesCovered}
+use Rattle.im_page_table.specs.Growth.{with_image}
+use Rattle.im_page_file.specs.Images.{MayImage, Imaged}
 use Rattle.im_page_writer.specs.Writing.{IsShown, IsPooled, MayCopy, IsWriting, Goes, LeavesGrown, PageImaged}
-use Rattle.im_page_writer.proofs.Standing.{run_start, wider_covered}
-use Rattle.im_page_writer.proofs.Growing.{image_entry, image_keeps, grown_front, grows_none, grows_then, keeps_none, keeps_then}
+use Rattle.im_page_file.proofs.Standing.{covered_then, covered_wider, run_start}
+use Rattle.im_page_table.proofs.Growing.{image_entry, image_keeps, grown_front, grows_none, grows_then, keeps_none, keeps_then}
 
 -- ---- the pool
 
@@ -68,18 +70,6 @@ found_page pool p frame x found is =
     ap (λ (n : ℕ). page_at pool n) here.number ∙ held_page (held_of pool p) here.held (initial 0) here.is ∙ shown.0
 
 module _ {D : Type 0} (d : Ghosts D) (b : Base) (base : ℕ) where
-  -- what a stop leaves of two runs in a row
-  pub covered_then : (low high below above : History) (old mid new : D) → LeavesCovered d b base low high old mid → LeavesCovered d b base below above mid new → IsFront low below → IsFront high above
-      → LeavesCovered d b base low above old new
-  covered_then low high below above old mid new first second up on =
-      then_on d old mid new (IsCovered b base low above) (IsCovered b base below above)
-      (weakened d old mid (IsCovered b base low high) (IsCovered b base low above) first (λ told c is. wider_covered d b base low low high above c (front_self low) on is)) second
-      (λ told c is. wider_covered d b base low below above above c up (front_self above) is)
-
-  pub covered_wider : (low high above : History) (old new : D) → LeavesCovered d b base low high old new → IsFront high above → LeavesCovered d b base low above old new
-  covered_wider low high above old new stops on =
-      weakened d old new (IsCovered b base low high) (IsCovered b base low above) stops (λ told c is. wider_covered d b base low low high above c (front_self low) on is)
-
   -- before the first call
   pub goes_start : (s : Writer) (log : LogFile) (table : List TableEntry) (pool : PoolView) (disk : D) → ((c : Files) → d.left_since disk (d.moment disk) c → d.may_leave disk c) → IsWriting d b base s log table pool disk
       → Goes d b base s disk s log table pool disk
@@ -90,7 +80,7 @@ module _ {D : Type 0} (d : Ghosts D) (b : Base) (base : ℕ) where
     pub goes_then : (u : Writer) (new_log : LogFile) (new_table : List TableEntry) (new_pool : PoolView) (new : D) → Goes d b base t mid u new_log new_table new_pool new → Goes d b base s old u new_log new_table new_pool new
     goes_then u new_log new_table new_pool new two = record {
       writing = two.writing;
-      stops = covered_then s.durable t.log t.durable u.log old mid new one.stops two.stops one.keeps.durable (grown_front b t.log u.log two.keeps.log);
+      stops = covered_then d b base s.durable t.log t.durable u.log old mid new one.stops two.stops one.keeps.durable (grown_front b t.log u.log two.keeps.log);
       keeps = keeps_then b s t u one.keeps two.keeps;
     }
 
@@ -99,11 +89,11 @@ module _ {D : Type 0} (d : Ghosts D) (b : Base) (base : ℕ) where
     leaves_then new two = record {
       high = two.high;
       grows = grows_then b s.log t.log two.high one.keeps.log two.grows;
-      stops = covered_then s.durable t.log t.durable two.high old mid new one.stops two.stops one.keeps.durable (grown_front b t.log two.high two.grows);
+      stops = covered_then d b base s.durable t.log t.durable two.high old mid new one.stops two.stops one.keeps.durable (grown_front b t.log two.high two.grows);
     }
 
     pub covered_last : (new : D) → LeavesCovered d b base t.durable t.log mid new → LeavesCovered d b base s.durable t.log old new
-    covered_last new two = covered_then s.durable t.log t.durable t.log old mid new one.stops two one.keeps.durable (front_self t.log)
+    covered_last new two = covered_then d b base s.durable t.log t.durable t.log old mid new one.stops two one.keeps.durable (front_self t.log)
 
     pub leaves_last : (new : D) → LeavesCovered d b base t.durable t.log mid new → LeavesGrown d b base s old new
     leaves_last new two = record { high = t.log; grows = one.keeps.log; stops = covered_last new two }
@@ -136,7 +126,7 @@ module _ {D : Type 0} (d : Ghosts D) (b : Base) (base : ℕ) where
               pooled = pooled_same pool s.pages (with_image lsn p done.durable s).pages (λ q. (keeps.pages q).page) entry (λ q. (keeps.pages q).waits) w.pooled;
               based = w.based;
             };
-            stops = covered_wider s.durable s.log (with_image lsn p done.durable s).log old new stops (grown_front b s.log (with_image lsn p done.durable s).log keeps.log);
+            stops = covered_wider d b base s.durable s.log (with_image lsn p done.durable s).log old new stops (grown_front b s.log (with_image lsn p done.durable s).log keeps.log);
             keeps = keeps;
           };
         }

@@ -21,13 +21,12 @@ use Rattle.im_log.specs.declared.log_file.LogFile.{LogFile}
 use Rattle.im_log.specs.LogFile.{IsLog, IsOpen}
 use Rattle.im_log.specs.Kept.{SpellsEither}
 use Rattle.im_page_pool.specs.Pool.{PoolView}
-use Rattle.im_page_writer.specs.declared.table_entry.TableEntry.{TableEntry}
-use Rattle.im_page_writer.specs.DirtyTable.{IsCopied}
-use Rattle.im_page_writer.specs.Images.{image_at, with_image}
-use Rattle.im_page_writer.specs.Growth.{Keeps}
+use Rattle.im_page_table.specs.declared.table_entry.TableEntry.{TableEntry}
+use Rattle.im_page_table.specs.DirtyTable.{IsCopied}
+use Rattle.im_page_table.specs.Growth.{image_at, with_image, Keeps}
 use Rattle.im_page_writer.specs.Writing.{lsn_for, with_lsn, MayCopy, IsWriting, Goes, PageImaged, CopyDone, ImagesTo, ImagesDurable}
-use Rattle.im_page_writer.proofs.Standing.{log_stops, stands_forced}
-use Rattle.im_page_writer.proofs.Growing.{begun_still, grown_front, grows_none, same_page}
+use Rattle.im_page_file.proofs.Standing.{log_stops, stands_forced}
+use Rattle.im_page_table.proofs.Growing.{begun_still, grown_front, grows_none, same_page}
 use Rattle.im_page_writer.proofs.Goings.{goes_start, goes_then}
 
 -- ---- what a write asks, of the log as it is

@@ -11,11 +11,11 @@ use Rattle.im_page_form.specs.Page as pages
 use Rattle.im_page_form.specs.Header.{initial}
 use Rattle.im_page_pool.specs.declared.frame.Frame.{Frame}
 use Rattle.im_page_pool.specs.Pool.{Held, PoolView, IsAt, page_at, Sets}
-use Rattle.im_page_writer.specs.declared.leaf_change.LeafEdit.{LeafEdit}
-use Rattle.im_page_writer.specs.declared.leaf_change.LeafEdit.TheVariants.{Put, Take}
-use Rattle.im_page_writer.specs.LeafChange.{LeafTakes}
-use Rattle.im_page_writer.specs.LeafEdits.{edit_of, MayEdit}
-use Rattle.im_page_writer.proofs.KeyLists.{put_at, without_at}
+use Rattle.im_page_leaf.specs.declared.leaf_edit.LeafEdit.{LeafEdit}
+use Rattle.im_page_leaf.specs.declared.leaf_edit.LeafEdit.TheVariants.{Put, Take}
+use Rattle.im_page_leaf.specs.LeafChange.{LeafTakes}
+use Rattle.im_page_leaf.specs.LeafEdits.{edit_of, MayEdit}
+use Rattle.im_page_leaf.proofs.KeyLists.{put_at, without_at}
 
 -- the page that was set
 pub set_page : (frame : Frame) (page : Page) (mark : Bool) (old new : PoolView) → Sets frame page mark old new → page_at new frame.number ≡ page

@@ -1,15 +1,5 @@
-pub mod LogEnds
 pub mod ImageCalls
 pub mod Costs
-pub mod Tables
-pub mod Lists
-pub mod PageFiles
-pub mod KnownCopies
-pub mod Standing
-pub mod TableSteps
-pub mod ImageSteps
-pub mod Openings
-pub mod Growing
 pub mod Goings
 pub mod Imaging
 pub mod Placing
@@ -19,7 +9,6 @@ pub mod Writers
 pub mod TableRoom
 pub mod Logging
 pub mod Changing
-pub mod KeyLists
 pub mod LeafChanges
 pub mod LoggedChanges
 pub mod Redoing

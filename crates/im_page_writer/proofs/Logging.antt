@@ -18,11 +18,11 @@ use Rattle.im_log.specs.Spelled.{logged_at}
 use Rattle.im_log.specs.Whats.{what_of}
 use Rattle.im_log.specs.Kept.{Appended}
 use Rattle.im_page_pool.specs.Pool.{PoolView}
-use Rattle.im_page_writer.specs.declared.table_entry.TableEntry.{TableEntry}
+use Rattle.im_page_table.specs.declared.table_entry.TableEntry.{TableEntry}
 use Rattle.im_page_writer.specs.Writing.{IsWriting}
 use Rattle.im_page_writer.specs.PageWriter.{IsPlain}
-use Rattle.im_page_writer.proofs.KnownCopies.{knows_grown, knows_joined}
-use Rattle.im_page_writer.proofs.PageFiles.{page_file_spared}
+use Rattle.im_page_table.proofs.KnownCopies.{knows_grown, knows_joined}
+use Rattle.im_page_file.proofs.PageFiles.{page_file_spared}
 use Rattle.im_page_writer.proofs.Goings.{pooled_same}
 
 module _ {D : Type 0} (d : Ghosts D) (b : Base) (base : ℕ) (s : Writer) (e : ℕ) (log new_log : LogFile) (table : List TableEntry) (pool : PoolView) (old new : D) (entry : Entry) (lsn : ℕ)

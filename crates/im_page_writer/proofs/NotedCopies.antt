@@ -11,16 +11,15 @@ use Rattle.im_theory_log.proofs.Histories.{front_self}
 use Rattle.im_base_disk.specs.declared.disk.Disk.{Ghosts}
 use Rattle.im_log.specs.declared.log_file.LogFile.{LogFile}
 use Rattle.im_page_pool.specs.Pool.{Held, PoolView, held_of}
-use Rattle.im_page_writer.specs.declared.table_entry.TableEntry.{TableEntry}
-use Rattle.im_page_writer.specs.DirtyTable.{entry_in, ChangesEntry}
-use Rattle.im_page_writer.specs.Growth.{SamePage}
-use Rattle.im_page_writer.specs.KnownCopies.{checkpoint_lsn, KnowsCopies}
-use Rattle.im_page_writer.specs.PageFile.{IsPageFile}
-use Rattle.im_page_writer.specs.Stands.{is_changed, HasEntries}
+use Rattle.im_page_table.specs.declared.table_entry.TableEntry.{TableEntry}
+use Rattle.im_page_table.specs.DirtyTable.{entry_in, ChangesEntry, is_changed, HasEntries}
+use Rattle.im_page_table.specs.Growth.{SamePage}
+use Rattle.im_page_table.specs.KnownCopies.{checkpoint_lsn, KnowsCopies}
+use Rattle.im_page_file.specs.PageFile.{IsPageFile}
 use Rattle.im_page_writer.specs.Writing.{IsShown, IsPooled, IsWriting, MayCopy, Goes, CopyDone}
-use Rattle.im_page_writer.proofs.Growing.{grows_none, keeps_then}
-use Rattle.im_page_writer.proofs.KnownCopies.{told_page}
-use Rattle.im_page_writer.proofs.PageFiles.{only_here, only_other}
+use Rattle.im_page_table.proofs.Growing.{grows_none, keeps_then}
+use Rattle.im_page_table.proofs.KnownCopies.{told_page}
+use Rattle.im_page_table.proofs.OnePage.{only_here, only_other}
 
 -- ---- one page
 

@@ -12,18 +12,18 @@ use Rattle.im_page_pool.specs.declared.frame.Frame.{Frame}
 use Rattle.im_page_pool.specs.Pool.{PoolView, held_of, page_at, IsAt}
 use Rattle.im_log.specs.declared.log_file.LogFile.{LogFile}
 use Rattle.im_log.specs.LogFile.{HasNoRoom, end_with}
-use Rattle.im_page_writer.specs.declared.table_entry.TableEntry.{TableEntry}
+use Rattle.im_page_table.specs.declared.table_entry.TableEntry.{TableEntry}
 use Rattle.im_page_writer.specs.declared.page_writer.PageWriter.{PageWriter}
-use Rattle.im_page_writer.specs.Growth.{Keeps}
-use Rattle.im_page_writer.specs.KnownCopies.{IsKnownFrom}
-use Rattle.im_page_writer.specs.LogEnds.{EndsNoSooner}
+use Rattle.im_page_table.specs.Growth.{Keeps}
+use Rattle.im_page_table.specs.KnownCopies.{IsKnownFrom}
+use Rattle.im_page_file.specs.LogEnds.{EndsNoSooner}
 use Rattle.im_page_writer.specs.Writing.{Goes, LeavesGrown}
 use Rattle.im_page_writer.specs.PageWriter.{IsReadyWriter, StandsAs, GoesOn, Evicted}
 use Rattle.im_page_writer.specs.Outcome.{fault_of, mild, no_page, none_mild, AllPages, pages_of, AsksNothing, AreLoaded, AreLoadedTo, HasPages, IsSound, Stays, Breaks, Ends, Outcome, Reads, Lists, Flushes, Works, LogEnds, Logs, RedoEnds, Redoes}
 use Rattle.im_page_writer.proofs.Goings.{leaves_then, leaves_so_far}
-use Rattle.im_page_writer.proofs.LogEnds.{ends_then}
+use Rattle.im_page_file.proofs.LogEnds.{ends_then, still_working}
 use Rattle.im_page_writer.proofs.LoggedChanges.{at_shows}
-use Rattle.im_page_writer.proofs.Writers.{goes_on_start, goes_on_then, still_working}
+use Rattle.im_page_writer.proofs.Writers.{goes_on_start, goes_on_then}
 
 broken_of : (failed : Bool) → (failed ≡ false → ⊥) → failed ≡ true
 broken_of true never = refl

@@ -20,16 +20,18 @@ use Rattle.im_page_form.specs.PageFile.{file_page, page_count}
 use Rattle.im_page_form.proofs.PageFileLemmas.{page_past}
 use Rattle.im_page_pool.specs.Pool.{Held, PoolView, held_of}
 use Rattle.im_page_pool.specs.Writes.{TearsPage, WritesPage}
-use Rattle.im_page_writer.specs.declared.table_entry.TableEntry.{TableEntry}
-use Rattle.im_page_writer.specs.DirtyTable.{entry_in, has_room, put, written_in, ChangesEntry}
-use Rattle.im_page_writer.specs.Stands.{is_changed, LeavesCovered, Stands, Synced}
-use Rattle.im_page_writer.specs.Growth.{Keeps, SamePage}
+use Rattle.im_page_table.specs.declared.table_entry.TableEntry.{TableEntry}
+use Rattle.im_page_table.specs.DirtyTable.{entry_in, has_room, put, written_in, ChangesEntry, is_changed}
+use Rattle.im_page_file.specs.Stands.{LeavesCovered, Stands, Synced}
+use Rattle.im_page_table.specs.Growth.{Keeps, SamePage}
 use Rattle.im_page_writer.specs.Writing.{lsn_for, IsShown, IsPooled, SameHeld, Unmarks, unmarked, pool_page, IsWriting, MayWriteHere, WrittenHere, WritesTo, Flushed}
-use Rattle.im_page_writer.proofs.Tables.{held_put_other}
-use Rattle.im_page_writer.proofs.KnownCopies.{knows_written}
-use Rattle.im_page_writer.proofs.PageFiles.{only_here, only_other, page_file_torn}
-use Rattle.im_page_writer.proofs.Standing.{entries_written, run_start, run_stops, run_then, tied_written, write_stops}
-use Rattle.im_page_writer.proofs.Growing.{grows_none, keeps_none, keeps_then, same_page}
+use Rattle.im_page_table.proofs.Tables.{held_put_other}
+use Rattle.im_page_table.proofs.KnownCopies.{knows_written}
+use Rattle.im_page_table.proofs.OnePage.{only_here, only_other}
+use Rattle.im_page_file.proofs.PageFiles.{page_file_torn}
+use Rattle.im_page_table.proofs.TableSteps.{entries_written, tied_written}
+use Rattle.im_page_file.proofs.Standing.{run_start, run_stops, run_then, write_stops}
+use Rattle.im_page_table.proofs.Growing.{grows_none, keeps_none, keeps_then, same_page}
 use Rattle.im_page_writer.proofs.Goings.{pool_shows}
 
 -- ---- the table

@@ -15,17 +15,16 @@ use Rattle.im_base_disk.specs.declared.disk.Disk.{Ghosts}
 use Rattle.im_log.specs.declared.log_file.LogFile.{LogFile}
 use Rattle.im_page_pool.specs.declared.frame.Frame.{Frame}
 use Rattle.im_page_pool.specs.Pool.{Held, Holds, PoolView, held_of, page_at, Takes}
-use Rattle.im_page_writer.specs.declared.table_entry.TableEntry.{TableEntry}
-use Rattle.im_page_writer.specs.DirtyTable.{ChangesEntry}
-use Rattle.im_page_writer.specs.Stands.{HasEntries}
+use Rattle.im_page_table.specs.declared.table_entry.TableEntry.{TableEntry}
+use Rattle.im_page_table.specs.DirtyTable.{ChangesEntry, HasEntries}
 use Rattle.im_page_writer.specs.Writing.{IsShown, IsPooled, IsWriting}
 use Rattle.im_page_writer.specs.declared.page_writer.PageWriter.{PageWriter}
 use Rattle.im_page_writer.specs.Redoing.{LoadedHere}
-use Rattle.im_page_writer.proofs.KnownCopies.{knows_redoing}
+use Rattle.im_page_table.proofs.KnownCopies.{knows_redoing}
 use Rattle.im_page_writer.proofs.LoggedChanges.{cause_of}
-use Rattle.im_page_writer.proofs.Openings.{SameInFile, page_file_as}
-use Rattle.im_page_writer.proofs.PageFiles.{only_here, only_other}
-use Rattle.im_page_writer.proofs.TableSteps.{entries_put}
+use Rattle.im_page_file.proofs.Openings.{SameInFile, page_file_as}
+use Rattle.im_page_table.proofs.OnePage.{only_here, only_other}
+use Rattle.im_page_table.proofs.TableSteps.{entries_put}
 
 -- ---- refusals
 

@@ -19,22 +19,22 @@ use Rattle.im_log.specs.declared.log_file.LogFile.{LogFile}
 use Rattle.im_page_form.specs.Header.{initial}
 use Rattle.im_page_pool.specs.declared.frame.Frame.{Frame}
 use Rattle.im_page_pool.specs.Pool.{Held, PoolView, held_of, page_at, Sets}
-use Rattle.im_page_writer.specs.declared.table_entry.TableEntry.{TableEntry}
+use Rattle.im_page_table.specs.declared.table_entry.TableEntry.{TableEntry}
 use Rattle.im_page_writer.specs.declared.page_writer.PageWriter.{PageWriter}
-use Rattle.im_page_writer.specs.DirtyTable.{ChangesEntry}
-use Rattle.im_page_writer.specs.Stands.{HasEntries}
-use Rattle.im_page_writer.specs.Growth.{Keeps}
+use Rattle.im_page_table.specs.DirtyTable.{ChangesEntry, HasEntries}
+use Rattle.im_page_table.specs.Growth.{Keeps}
 use Rattle.im_page_writer.specs.Writing.{IsShown, IsPooled, IsWriting, Goes}
-use Rattle.im_page_writer.specs.Redoing.{every_page, TakesRecord, LacksTaker, RedoneHere, RedoKept}
+use Rattle.im_page_table.specs.KnownCopies.{every_page, redone_as, redone_page_as}
+use Rattle.im_page_writer.specs.Redoing.{TakesRecord, LacksTaker, RedoneHere, RedoKept}
 use Rattle.im_page_writer.proofs.Changing.{pooled_set}
-use Rattle.im_page_writer.proofs.Goings.{covered_then, leaves_then, pooled_same}
-use Rattle.im_page_writer.proofs.Growing.{grown_front, keeps_then, on_ok}
-use Rattle.im_page_writer.specs.KnownCopies.{redone_as, redone_page_as}
-use Rattle.im_page_writer.proofs.KnownCopies.{knows_redoing, redo_copy, redone_as_kept}
+use Rattle.im_page_file.proofs.Standing.{covered_then}
+use Rattle.im_page_writer.proofs.Goings.{leaves_then, pooled_same}
+use Rattle.im_page_table.proofs.Growing.{grown_front, keeps_then, on_ok}
+use Rattle.im_page_table.proofs.KnownCopies.{knows_redoing, redo_copy, redone_as_kept}
 use Rattle.im_page_writer.proofs.LoggedChanges.{at_held, at_shows}
-use Rattle.im_page_writer.proofs.Openings.{page_file_as}
-use Rattle.im_page_writer.proofs.PageFiles.{only_here, only_other}
-use Rattle.im_page_writer.proofs.TableSteps.{entries_put}
+use Rattle.im_page_file.proofs.Openings.{page_file_as}
+use Rattle.im_page_table.proofs.OnePage.{only_here, only_other}
+use Rattle.im_page_table.proofs.TableSteps.{entries_put}
 
 -- ---- whether redo applies a record
 

@@ -13,15 +13,14 @@ use Rattle.im_base_disk.specs.Disk.{Only}
 use Rattle.im_log.specs.LogFile.{IsOpen, IsLog}
 use Rattle.im_page_form.specs.PageFile.{file_page}
 use Rattle.im_page_pool.specs.Pool.{PoolView}
-use Rattle.im_page_writer.specs.declared.table_entry.TableEntry.{TableEntry}
+use Rattle.im_page_table.specs.declared.table_entry.TableEntry.{TableEntry}
 use Rattle.im_page_writer.specs.declared.page_writer.PageWriter.{PageWriter}
 use Rattle.im_page_writer.specs.Writing.{IsPooled, IsWriting}
 use Rattle.im_page_writer.specs.PageWriter.{StandsAs}
-use Rattle.im_page_writer.specs.KnownCopies.{IsKnownFrom}
-use Rattle.im_page_writer.specs.Redoing.{every_page}
-use Rattle.im_page_writer.proofs.KnownCopies.{known_ended, knows_ended}
+use Rattle.im_page_table.specs.KnownCopies.{IsKnownFrom, every_page}
+use Rattle.im_page_table.proofs.KnownCopies.{known_ended, knows_ended}
 use Rattle.im_page_writer.proofs.Goings.{pooled_same}
-use Rattle.im_page_writer.proofs.Openings.{page_file_as, stands_opened}
+use Rattle.im_page_file.proofs.Openings.{page_file_as, stands_opened}
 use Rattle.im_page_writer.proofs.RedoneRecords.{applies_none, redone_none}
 
 -- how many frames a new writer has

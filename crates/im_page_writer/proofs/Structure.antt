@@ -28,15 +28,15 @@ use Rattle.im_log.specs.Whats.{image_of, what_of}
 use Rattle.im_log.specs.Kept.{Appended}
 use Rattle.im_page_pool.specs.declared.frame.Frame.{Frame}
 use Rattle.im_page_pool.specs.Pool.{PoolView, held_of, Sets}
-use Rattle.im_page_writer.specs.declared.table_entry.TableEntry.{TableEntry}
+use Rattle.im_page_table.specs.declared.table_entry.TableEntry.{TableEntry}
 use Rattle.im_page_writer.specs.declared.page_writer.PageWriter.{PageWriter}
 use Rattle.im_page_writer.specs.PageWriter.{StandsAs, GoesOn, Evicted}
-use Rattle.im_page_writer.specs.DirtyTable.{ChangesEntry}
-use Rattle.im_page_writer.specs.PageCopy.{after_in}
-use Rattle.im_page_writer.specs.Stands.{LeavesCovered}
+use Rattle.im_page_table.specs.DirtyTable.{ChangesEntry}
+use Rattle.im_page_file.specs.PageCopy.{after_in}
+use Rattle.im_page_file.specs.Stands.{LeavesCovered}
 use Rattle.im_page_writer.specs.Writing.{IsWriting}
 use Rattle.im_page_writer.proofs.Changing.{step_by}
-use Rattle.im_page_writer.proofs.Growing.{keeps_none}
+use Rattle.im_page_table.proofs.Growing.{keeps_none}
 use Rattle.im_page_writer.proofs.LoggedChanges.{cause_of}
 use Rattle.im_page_writer.proofs.Writers.{goes_on_then}
 

@@ -10,13 +10,12 @@ use Rattle.im_page_pool.specs.declared.frame.Frame.{Frame}
 use Rattle.im_page_pool.specs.Pool.{Held, PoolView, frame_of, held_of, last_changed}
 use Rattle.im_page_places.proofs.PlaceLemmas.{length_remove_entry}
 use Rattle.im_page_places.proofs.EntryLemmas.{lookup_others}
-use Rattle.im_page_writer.specs.declared.table_entry.TableEntry.{TableEntry}
-use Rattle.im_page_writer.specs.DirtyTable.{dirty_entry, entry_in, IsRising, synced_entries}
-use Rattle.im_page_writer.specs.Stands.{HasEntries}
+use Rattle.im_page_table.specs.declared.table_entry.TableEntry.{TableEntry}
+use Rattle.im_page_table.specs.DirtyTable.{dirty_entry, entry_in, IsRising, synced_entries, HasEntries}
 use Rattle.im_page_writer.specs.Writing.{IsShown, IsPooled, SameHeld}
 use Rattle.im_page_writer.specs.PageWriter.{IsOldestWritten}
 use Rattle.im_page_writer.proofs.Placing.{written_synced}
-use Rattle.im_page_writer.proofs.Tables.{above_rising, held_synced, not_below, synced_rising}
+use Rattle.im_page_table.proofs.Tables.{above_rising, held_synced, not_below, synced_rising}
 
 -- ---- the last page of a list that was changed
 

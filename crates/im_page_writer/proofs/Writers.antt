@@ -19,9 +19,9 @@ use Rattle.im_page_form.specs.PageFile.{file_page}
 use Rattle.im_page_pool.specs.declared.frame.Frame.{Frame}
 use Rattle.im_page_pool.specs.Pool.{Held, PoolView, held_of, page_at, page_seen, Evicts, MovesFirst, Takes}
 use Rattle.im_page_pool.specs.Pool as pools
-use Rattle.im_page_writer.specs.declared.table_entry.TableEntry.{TableEntry}
+use Rattle.im_page_table.specs.declared.table_entry.TableEntry.{TableEntry}
 use Rattle.im_page_writer.specs.declared.page_writer.PageWriter.{PageWriter}
-use Rattle.im_page_writer.specs.Stands.{is_changed}
+use Rattle.im_page_table.specs.DirtyTable.{is_changed}
 use Rattle.im_page_writer.specs.Writing.{IsShown, IsPooled, IsWriting, Goes, SameHeld}
 use Rattle.im_page_writer.specs.PageWriter.{StandsAs, GoesOn, FlushedOne}
 use Rattle.im_page_writer.proofs.Goings.{goes_start, goes_then}
@@ -91,10 +91,6 @@ absent_still old mid new p same gone q none = elim (cases_eq q p) [
 pub seen_none : (o : Option Held) (f : Option Page) → option_map_or (λ h. Some h.page) o f ≡ None → f ≡ None
 seen_none None f none = none
 seen_none (Some h) f none = absurd (let clash : Some h.page ≡ None = none in cc clash)
-
-pub still_working : (failed : Bool) → (failed ≡ true → ⊥) → failed ≡ false
-still_working true never = absurd (never refl)
-still_working false never = refl
 
 module _ {D : Type 0} (d : Ghosts D) (b : Base) (base : ℕ) where
   -- ---- an eviction

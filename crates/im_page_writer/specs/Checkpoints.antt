@@ -9,7 +9,7 @@ use Rattle.im_theory_log.specs.Writer.{Writer}
 use Rattle.im_theory_log.specs.WriterSteps.{Lists, appended, forced, forgotten, synced}
 use Rattle.im_base_disk.specs.declared.disk.Disk.{Ghosts}
 use Rattle.im_page_writer.specs.declared.page_writer.PageWriter.{PageWriter}
-use Rattle.im_page_writer.specs.Stands.{LeavesCovered}
+use Rattle.im_page_file.specs.Stands.{LeavesCovered}
 use Rattle.im_page_writer.specs.PageWriter.{StandsAs}
 
 -- the record of a Checkpoint: the next transaction number, the rows of the active transactions, and those of the dirty table

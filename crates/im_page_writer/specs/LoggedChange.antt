@@ -14,10 +14,10 @@ use Rattle.im_log.specs.Spelled.{logged_at}
 use Rattle.im_log.specs.Whats.{what_of}
 use Rattle.im_page_pool.specs.declared.frame.Frame.{Frame}
 use Rattle.im_page_writer.specs.declared.page_writer.PageWriter.{PageWriter}
-use Rattle.im_page_writer.specs.KnownCopies.{changed_as}
-use Rattle.im_page_writer.specs.Stands.{LeavesCovered}
-use Rattle.im_page_writer.specs.Growth.{Keeps}
-use Rattle.im_page_writer.specs.LeafChange.{LeafTakes}
+use Rattle.im_page_table.specs.KnownCopies.{changed_as}
+use Rattle.im_page_file.specs.Stands.{LeavesCovered}
+use Rattle.im_page_table.specs.Growth.{Keeps}
+use Rattle.im_page_leaf.specs.LeafChange.{LeafTakes}
 use Rattle.im_page_writer.specs.Writing.{LeavesGrown}
 use Rattle.im_page_writer.specs.PageWriter.{StandsAs, Evicted, StaysOn}
 

@@ -9,13 +9,9 @@ use Rattle.im_base_disk.specs.declared.disk.Disk.{Ghosts}
 use Rattle.im_log.specs.LogFile.{HasNoRoom, end_with}
 use Rattle.im_page_writer.specs.declared.page_writer.PageWriter.{PageWriter}
 use Rattle.im_page_writer.specs.Writing.{LeavesGrown}
-use Rattle.im_page_writer.specs.LogEnds.{EndsNoSooner}
+use Rattle.im_page_file.specs.LogEnds.{EndsNoSooner}
 use Rattle.im_page_writer.specs.PageWriter.{IsReadyWriter, StandsAs, Evicted}
-
--- why a call was refused, if it was
-abbrev pub fault_of : {A : Type 0} → Result A Fault → Option Fault
-fault_of (Ok a) = None
-fault_of (Err e) = Some e
+pub use Rattle.im_page_file.specs.LogEnds.{fault_of}
 
 -- what a call says over files that are a store: the answer is this, or it is refused, but not for bytes that are no store's
 abbrev pub IsSound : {A : Type 0} → Result A Fault → (A → Type 0) → Type 0

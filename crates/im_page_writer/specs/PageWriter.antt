@@ -16,8 +16,8 @@ use Rattle.im_log.specs.LogFile.{IsOpen}
 use Rattle.im_page_pool.specs.declared.frame.Frame.{Frame}
 use Rattle.im_page_pool.specs.Pool.{Held, PoolView, last_changed, page_at}
 use Rattle.im_page_writer.specs.declared.page_writer.PageWriter.{PageWriter}
-use Rattle.im_page_writer.specs.KnownCopies.{IsKnownFrom}
-use Rattle.im_page_writer.specs.Stands.{LeavesCovered}
+use Rattle.im_page_table.specs.KnownCopies.{IsKnownFrom}
+use Rattle.im_page_file.specs.Stands.{LeavesCovered}
 use Rattle.im_page_writer.specs.Writing.{Goes, IsWriting, LeavesGrown}
 
 -- A record of this kind changes no page, has no full copy, and does not move the redo point.

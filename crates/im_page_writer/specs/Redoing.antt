@@ -11,14 +11,14 @@ use Rattle.im_theory_log.specs.WriterSteps.{applies, at_point, is_copied, loaded
 use Rattle.im_base_disk.specs.declared.disk.Disk.{Ghosts}
 use Rattle.im_page_pool.specs.declared.frame.Frame.{Frame}
 use Rattle.im_page_pool.specs.Pool.{PoolView, Holds, IsAt, Sets, Takes, page_at}
-use Rattle.im_page_writer.specs.DirtyTable.{ChangesEntry}
+use Rattle.im_page_table.specs.DirtyTable.{ChangesEntry}
 use Rattle.im_page_writer.specs.declared.page_writer.PageWriter.{PageWriter}
-use Rattle.im_page_writer.specs.Stands.{LeavesCovered}
-use Rattle.im_page_writer.specs.KnownCopies.{redone_as}
-use Rattle.im_page_writer.specs.Growth.{Keeps}
+use Rattle.im_page_file.specs.Stands.{LeavesCovered}
+use Rattle.im_page_table.specs.KnownCopies.{redone_as}
+use Rattle.im_page_table.specs.Growth.{Keeps}
 use Rattle.im_page_writer.specs.Writing.{LeavesGrown}
 use Rattle.im_page_writer.specs.PageWriter.{StandsAs}
-use Rattle.im_page_writer.specs.LeafChange.{CanPutKey, CanTakeKey}
+use Rattle.im_page_leaf.specs.LeafChange.{CanPutKey, CanTakeKey}
 
 -- a page takes a record: a key to be put is lacking and has room in the leaf, one to be taken out is there; an image is always taken
 abbrev pub TakesRecord : What → Page → Type 0
@@ -56,10 +56,6 @@ pub record RedoneHere (known : Bool) (point lsn : ℕ) (what : What) (number : �
 pub record LacksTaker (what : What) (number : ℕ) (pool : PoolView) : Type 0 where
   pub held : Holds pool number
   pub lacks : ¬ (TakesRecord what (page_at pool number))
-
--- redo deals a record to every page
-abbrev pub every_page : ℕ → Bool
-every_page p = true
 
 module _ {D : Type 0} (d : Ghosts D) (b : Base) (base : ℕ) where
   -- Each page was as before, the log had Images more, and then the page's noted copy was loaded.

@@ -11,7 +11,7 @@ use Rattle.im_page_writer.specs.declared.page_writer.PageWriter.{PageWriter}
 use Rattle.im_page_writer.specs.Writing.{LeavesGrown}
 use Rattle.im_page_writer.specs.PageWriter.{StandsAs}
 use Rattle.im_page_writer.specs.LoggedChange.{LoggedKept, ChangedFrom}
-use Rattle.im_page_writer.specs.PageCopy.{after_in}
+use Rattle.im_page_file.specs.PageCopy.{after_in}
 
 module _ {D : Type 0} (d : Ghosts D) (b : Base) (base : ℕ) where
   -- what it keeps of a page that is held

@@ -13,11 +13,10 @@ use Rattle.im_base_disk.specs.declared.disk.Disk.{Ghosts}
 use Rattle.im_log.specs.declared.log_file.LogFile.{LogFile}
 use Rattle.im_page_form.specs.Header.{initial}
 use Rattle.im_page_pool.specs.Pool.{Held, PoolView, held_of, Holds}
-use Rattle.im_page_writer.specs.declared.table_entry.TableEntry.{TableEntry}
-use Rattle.im_page_writer.specs.DirtyTable.{entry_in}
-use Rattle.im_page_writer.specs.Stands.{HasEntries, is_changed, LeavesCovered, Run, Stands}
-use Rattle.im_page_writer.specs.Images.{with_image}
-use Rattle.im_page_writer.specs.Growth.{Keeps}
+use Rattle.im_page_table.specs.declared.table_entry.TableEntry.{TableEntry}
+use Rattle.im_page_table.specs.DirtyTable.{entry_in, HasEntries, is_changed}
+use Rattle.im_page_file.specs.Stands.{LeavesCovered, Run, Stands}
+use Rattle.im_page_table.specs.Growth.{with_image, Keeps}
 
 -- ---- the pool
 

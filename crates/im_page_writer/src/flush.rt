@@ -10,20 +10,20 @@ ghost use Rattle.im_log.specs.LogFile.{HasNoRoom, end_with, IsOpen};
 ghost use Rattle.im_page_form.specs.PageFile.{page_count};
 ghost use Rattle.im_page_pool.specs.Pool.{held_of, is_changed};
 ghost use Rattle.im_page_writer.specs.Costs.{FlushCosts, PageCosts, WriteCosts};
-ghost use Rattle.im_page_writer.specs.DirtyTable.{entry_in, has_room};
-ghost use Rattle.im_page_writer.specs.Imaging.{Imaging};
+ghost use Rattle.im_page_table.specs.DirtyTable.{entry_in, has_room};
+ghost use Rattle.im_page_file.specs.Imaging.{Imaging};
 ghost use Rattle.im_page_writer.specs.Outcome.{fault_of};
 ghost use Rattle.im_page_writer.specs.Writing.{lsn_for, SameHeld, IsWriting, MayCopy, MayWriteHere, WriteOutKept, FlushKept};
 
 use crate::image_range::log_images;
-use crate::page_file::count_pages;
 use crate::page_range::write_pages;
-use crate::{DirtyTable, sync_pages};
 use im_base_disk::Disk;
 use im_base_types::{Fault, Lsn, PageNo};
 use im_log::LogFile;
 use im_page::Page;
+use im_page_file::{count_pages, sync_pages};
 use im_page_pool::Pool;
+use im_page_table::DirtyTable;
 
 // Writes pages whose full copies are durable; where the table has no room for the entry of one, the file is synced behind them.
 fn write_out<D: Disk>(

@@ -6,21 +6,20 @@ ghost use Rattle.im_theory_log.specs.Histories.{Base};
 ghost use Rattle.im_theory_log.specs.Writer.{Writer};
 ghost use Rattle.im_base_disk.specs.Runs.{ChangesOnly, Forces};
 ghost use Rattle.im_log.specs.LogFile.{HasNoRoom, end_with, IsOpen};
-ghost use Rattle.im_page_writer.specs.declared.table_entry.TableEntry.{TableEntry};
+ghost use Rattle.im_page_table.specs.declared.table_entry.TableEntry.{TableEntry};
 ghost use Rattle.im_theory_log.specs.WriterSteps.{is_copied};
-ghost use Rattle.im_page_writer.specs.DirtyTable.{entry_in};
-ghost use Rattle.im_page_writer.specs.Imaging.{Imaging};
+ghost use Rattle.im_page_table.specs.DirtyTable.{entry_in};
+ghost use Rattle.im_page_file.specs.Imaging.{Imaging};
 ghost use Rattle.im_page_writer.specs.Outcome.{fault_of};
 ghost use Rattle.im_page_writer.specs.Writing.{with_lsn, lsn_for, IsWriting, MayCopy, PageImageKept, CopyKept, GrownKept, ImagesKept, DurableKept};
 
-use crate::DirtyTable;
-use crate::images::append_image;
-use crate::page_file::count_pages;
 use im_base_disk::Disk;
 use im_base_types::{Fault, Lsn, PageNo};
 use im_log::LogFile;
 use im_page::Page;
+use im_page_file::{append_image, count_pages};
 use im_page_pool::Pool;
+use im_page_table::DirtyTable;
 
 /// How many LSNs are noted.
 const NOTED: usize = 1_024;

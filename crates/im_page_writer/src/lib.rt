@@ -5,29 +5,9 @@
 //! loads a page's last copy from the redo point on, never the file's bytes in its place, and applies what follows: so one copy serves
 //! for as long as the redo point stays, however often the page is changed, written and synced.
 //!
-//! # The dirty table
-//!
-//! `DirtyTable` has each page that may lack changes in the file of pages: with its `rec_lsn`, the LSN from which on it may lack
-//! them, with `since`, the LSN of its first change after its last write, and with `copied`, whether the log is known to have a full
-//! copy of it at or after its redo point: behind a write, behind a record of a structure change, where redo has loaded a noted
-//! copy, and for a page that comes in by a change once more. Such a page had an entry in this life before, was written, and left by a
-//! sync: its write found a copy, and the redo point has not moved since. Its own LSN says so, which is at or after that of the first
-//! record of this life, behind its last Checkpoint, that changed a leaf (`KnowsCopies`, `IsKnownFrom`): no copy is remembered beside
-//! the table.
-//! There are at most 1,024 entries, in rising page order. Room for them is made once: no call after `new` takes memory, and none is
-//! refused. Each call says what it makes of the list (`table`), and of each page's entry (`entry`). `copy_rows` gives the list that a
-//! Checkpoint has (`lists`).
-//!
-//! # The file of pages
-//!
-//! Page p stands at byte p * 4,096. From the page count on, the length divided by 4,096 and rounded down, each page is as it was
-//! before anything was put (`file_page`, in im_page_form's specs). `write_page` enters the page into the table and writes it, one
-//! device call; `sync_pages` syncs the file, one device call, and then the table. A write goes to a page that the file has or by
-//! which it grows. So a stop leaves each other page as it would have been left before, however long it leaves the file.
-//!
 //! # The writer of pages
 //!
-//! `PageWriter` has the log, a pool of 8 to 1,024 frames over the file of pages, and the dirty table. It owns no disk.
+//! `PageWriter` has the log, a pool of 8 to 1,024 frames over the file of pages, and the dirty table (im_page_table). It owns no disk.
 //!
 //! - A flush (`flush_one`) writes a page that was changed: it alone, where the file has it, and past the file's end every page
 //!   from the page count up to it, so that no range of the file is left without a page. First the Images of those pages join the
@@ -63,35 +43,20 @@
 //!
 //! # What is kept
 //!
-//! What a writer keeps (`Writer`, in im_theory_log's specs) is the log with its durable front, and for each page what the pool shows,
-//! its entry, what the file has as of its last sync and what a read gives. `Stands` says that what a writer keeps is kept, and
-//! that a log file, a table and a disk are as it says; `StandsAs` says the same of a `PageWriter`, with its pool. Each call has a
-//! clause `kept`: where the writer stands, and may do the step, it stands as the step leaves it, and a stop at any moment within
-//! leaves what redo can start from, a front of the log between the durable one and the whole that covers the file of pages
-//! (`LeavesCovered`). A call that flushes on its way leaves each page as it was, and the log with Images more (`Keeps`). What a
-//! stop leaves holds behind a refusal too, and behind one that leaves the writer working it stands as before (`again`).
+//! How a writer's log, table and disk stand to what it keeps im_page_file's `Stands` says, and what a stop may leave its
+//! `LeavesCovered`; `StandsAs` says the same of a `PageWriter`, with its pool, which shows each page as the writer has it. Each call
+//! has a clause `kept`: where the writer stands, and may do the step, it stands as the step leaves it, and a stop at any moment within
+//! leaves what redo can start from. A call that flushes on its way leaves each page as it was, and the log with Images more (`Keeps`).
+//! What a stop leaves holds behind a refusal too, and behind one that leaves the writer working it stands as before (`again`).
 //!
-//! `written_pages_have_copies` is the law of full copies: a page that was written since the last sync has an entry in the table,
-//! and the durable log a full copy of it at or after the redo point of every log that a stop can leave. So redo never reads bytes that a stop may have torn.
-//!
-//! It stands on the log, on pages, on the pool and on the disk.
+//! It stands on the log, on pages and their file, on the dirty table, on the pool and on the disk.
 #![tactic(auto)]
 
-mod dirty_table;
 mod flush;
 mod image_range;
-mod images;
-mod laws;
 mod leaf_change;
-mod page_copy;
-mod page_file;
 mod page_range;
 mod page_writer;
 mod redone_page;
-mod table_entry;
 
-pub use dirty_table::{DirtyTable, MOST};
-pub use laws::written_pages_have_copies;
-pub use page_file::{sync_pages, write_page};
 pub use page_writer::PageWriter;
-pub use table_entry::TableEntry;

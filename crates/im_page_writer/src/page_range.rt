@@ -9,16 +9,16 @@ ghost use Rattle.im_base_disk.specs.Runs.{ChangesOnly, LeavesOnly, Costs};
 ghost use Rattle.im_log.specs.declared.log_file.LogFile.{LogFile};
 ghost use Rattle.im_page_form.specs.PageFile.{page_count};
 ghost use Rattle.im_page_pool.specs.Writes.{WritesPage, TearsPage};
-ghost use Rattle.im_page_writer.specs.DirtyTable.{entry_in, has_room, written_in};
-ghost use Rattle.im_page_writer.specs.Stands.{Stands};
+ghost use Rattle.im_page_table.specs.DirtyTable.{entry_in, has_room, written_in};
+ghost use Rattle.im_page_file.specs.Stands.{Stands};
 ghost use Rattle.im_page_writer.specs.Writing.{lsn_for, pool_page, SameHeld, Unmarks, IsPooled, IsWriting, MayWriteHere, PlacedKept, ImagesDurable, WritesKept};
 
-use crate::DirtyTable;
 use crate::image_range::lsn_of;
 use im_base_disk::Disk;
 use im_base_types::{Fault, Lsn, PageNo};
 use im_page::Page;
 use im_page_pool::{Pool, write_page};
+use im_page_table::DirtyTable;
 
 // Writes a page in place, one device call: as the pool has it, which then counts it as unchanged, and one that the pool doesn't hold
 // as the initial page.

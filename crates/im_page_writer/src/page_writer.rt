@@ -7,13 +7,14 @@ ghost use Rattle.im_theory_log.specs.Writer.{Writer};
 ghost use Rattle.im_log.specs.LogFile.{end_with};
 
 use crate::flush::flush_page;
-use crate::{DirtyTable, MOST, sync_pages};
 use im_base_disk::Disk;
 use im_base_types::{DirtyPage, Fault, Lsn, PageNo};
 use im_log::LogFile;
 use im_log_record::Record;
 use im_page::Page;
+use im_page_file::sync_pages;
 use im_page_pool::{Frame, Pool};
+use im_page_table::{DirtyTable, MOST};
 use std::alloc::Global;
 
 mod changes;
@@ -79,7 +80,7 @@ impl PageWriter {
     ghost use Rattle.im_theory_log.specs.WriterSteps.{forced, synced};
     ghost use Rattle.im_base_disk.specs.Runs.{Costs, CostsAtMost, Forces};
     ghost use Rattle.im_page_writer.specs.Costs.{PageCosts};
-    ghost use Rattle.im_page_writer.specs.DirtyTable.{entry_in, has_room, oldest, synced_entries};
+    ghost use Rattle.im_page_table.specs.DirtyTable.{entry_in, has_room, oldest, synced_entries};
     ghost use Rattle.im_log_record.specs.Entry.{view};
     ghost use Rattle.im_log_record.specs.Spelling.{IsEntry, size_of};
     ghost use Rattle.im_log.specs.Whats.{what_of};

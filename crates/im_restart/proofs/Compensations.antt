@@ -11,7 +11,7 @@ use Rattle.im_theory_log.specs.Histories.{Base, History, page_after, page_at}
 use Rattle.im_theory_log.specs.Copies.{GrowsByImages}
 use Rattle.im_theory_log.specs.Transactions.{is_end, is_finished, last_of}
 use Rattle.im_theory_log.specs.Writer.{PageState, Writer}
-use Rattle.im_page_writer.specs.KnownCopies.{changed_page_as}
+use Rattle.im_page_table.specs.KnownCopies.{changed_page_as}
 use Rattle.im_theory_log.proofs.Fronts.{fronts_lawful}
 use Rattle.im_theory_log.proofs.Images.{images_pages}
 use Rattle.im_base_disk.specs.declared.disk.Disk.{Ghosts}

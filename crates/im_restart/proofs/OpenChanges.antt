@@ -29,13 +29,13 @@ use Rattle.im_log.specs.Spelled.{logged_at}
 use Rattle.im_log.specs.Whats.{page_behind, smo_of, undo_smo_of, what_of}
 use Rattle.im_log.proofs.Above.{front_none, front_one, front_then}
 use Rattle.im_page_writer.specs.declared.page_writer.PageWriter.{PageWriter}
-use Rattle.im_page_writer.specs.PageCopy.{after_in}
+use Rattle.im_page_file.specs.PageCopy.{after_in}
 use Rattle.im_page_writer.specs.PageWriter.{StandsAs}
 use Rattle.im_page_writer.specs.LoggedChange.{ChangedFrom}
 use Rattle.im_page_writer.specs.StructureChange.{LeftKept}
 use Rattle.im_page_writer.specs.Writing.{LeavesGrown}
 use Rattle.im_page_writer.proofs.Goings.{goes_start}
-use Rattle.im_page_writer.proofs.Growing.{grown_front}
+use Rattle.im_page_table.proofs.Growing.{grown_front}
 use Rattle.im_page_writer.proofs.Outcomes.{sound_also, sound_done, sound_own}
 use Rattle.im_restart_analysis.specs.declared.rows.Loser.{Loser}
 use Rattle.im_restart_analysis.specs.declared.rows.OpenRecord.{OpenRecord}

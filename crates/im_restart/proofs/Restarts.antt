@@ -27,7 +27,7 @@ use Rattle.im_log.proofs.Creations.{not_both}
 use Rattle.im_log.specs.declared.log_file.LogFile.{LogFile}
 use Rattle.im_page_writer.specs.declared.page_writer.PageWriter.{PageWriter}
 use Rattle.im_page_writer.specs.PageWriter.{GoesOn, StandsAs, StepKept}
-use Rattle.im_page_writer.proofs.Growing.{grown_front}
+use Rattle.im_page_table.proofs.Growing.{grown_front}
 use Rattle.im_page_writer.proofs.Outcomes.{sound_done}
 use Rattle.im_page_writer.proofs.Restarting.{writer_opens}
 use Rattle.im_restart_analysis.specs.Numbers.{IsNextNumber}

@@ -21,7 +21,7 @@ use Rattle.im_log.specs.Spelled.{logged_at}
 use Rattle.im_log.proofs.Above.{front_none, front_one, front_then}
 use Rattle.im_log.proofs.Creations.{not_both}
 use Rattle.im_page_writer.specs.declared.page_writer.PageWriter.{PageWriter}
-use Rattle.im_page_writer.specs.Stands.{IsCovered, LeavesCovered}
+use Rattle.im_page_file.specs.Stands.{IsCovered, LeavesCovered}
 use Rattle.im_page_writer.specs.Writing.{LeavesGrown}
 use Rattle.im_page_writer.specs.PageWriter.{LoggedOnly, StandsAs}
 use Rattle.im_page_writer.proofs.Goings.{goes_start}

@@ -19,7 +19,7 @@ use Rattle.im_log_record.specs.Entry.{Entry}
 use Rattle.im_log.specs.Spelled.{logged_at}
 use Rattle.im_base_disk.specs.declared.disk.Disk.{Ghosts}
 use Rattle.im_page_writer.specs.declared.page_writer.PageWriter.{PageWriter}
-use Rattle.im_page_writer.specs.KnownCopies.{redone_as}
+use Rattle.im_page_table.specs.KnownCopies.{redone_as}
 use Rattle.im_page_writer.specs.Redoing.{RedoneFrom, TakesRecord}
 use Rattle.im_page_writer.proofs.Restarting.{writer_ends}
 use Rattle.im_restart_analysis.specs.CopyLsns.{AreCopies, CopyMap}

@@ -32,7 +32,7 @@ use Rattle.im_base_disk.specs.declared.disk.Disk.{Ghosts}
 use Rattle.im_page_writer.specs.declared.page_writer.PageWriter.{PageWriter}
 use Rattle.im_page_writer.specs.Redoing.{LoadKept}
 use Rattle.im_page_writer.proofs.Outcomes.{sound_done}
-use Rattle.im_page_writer.proofs.PageFiles.{only_here, only_other}
+use Rattle.im_page_table.proofs.OnePage.{only_here, only_other}
 use Rattle.im_restart_redo.specs.Loading.{AreWaiting, IsLoading, LoadingKept, WaitsFor, lsn_at}
 use Rattle.im_restart_redo.specs.Redo.{first_lsn}
 use Rattle.im_restart_redo.specs.Within.{IsWithinRedo}

@@ -8,9 +8,9 @@ use Rattle.im_theory_log.proofs.WriterFronts.{whole}
 use Rattle.im_base_disk.specs.declared.disk.Disk.{Ghosts}
 use Rattle.im_page_writer.specs.declared.page_writer.PageWriter.{PageWriter}
 use Rattle.im_page_writer.specs.PageWriter.{StandsAs}
-use Rattle.im_page_writer.proofs.KnownCopies.{known_same}
+use Rattle.im_page_table.proofs.KnownCopies.{known_same}
 use Rattle.im_page_writer.proofs.Goings.{pooled_same}
-use Rattle.im_page_writer.proofs.Openings.{page_file_as}
+use Rattle.im_page_file.proofs.Openings.{page_file_as}
 
 -- the same writer with another bound for all pages
 abbrev pub raised : ℕ → Writer → Writer

@@ -7,7 +7,7 @@ use Rattle.im_base_disk.specs.declared.disk.Disk.{Ghosts}
 use Rattle.im_page_writer.specs.declared.page_writer.PageWriter.{PageWriter}
 use Rattle.im_page_writer.specs.PageWriter.{IsReadyWriter}
 use Rattle.im_page_writer.specs.Outcome.{Logs, LogEnds, RedoEnds, Redoes, Works, fault_of, mild, none_mild}
-use Rattle.im_page_writer.proofs.Writers.{still_working}
+use Rattle.im_page_file.proofs.LogEnds.{still_working}
 use Rattle.im_restart_redo.specs.Recovery.{RecoveryEnds, Recovers}
 
 module _ {D : Type 0} (d : Ghosts D) where

@@ -15,12 +15,12 @@ use Rattle.im_base_disk.specs.declared.disk.Disk.{Ghosts}
 use Rattle.im_base_disk.specs.Runs.{Reads}
 use Rattle.im_base_disk.proofs.Runs.{reads_on}
 use Rattle.im_page_writer.specs.declared.page_writer.PageWriter.{PageWriter}
-use Rattle.im_page_writer.specs.Growth.{Keeps}
+use Rattle.im_page_table.specs.Growth.{Keeps}
 use Rattle.im_page_writer.specs.PageWriter.{GoesOn, StandsAs}
-use Rattle.im_page_writer.specs.Stands.{IsCovered, LeavesCovered}
+use Rattle.im_page_file.specs.Stands.{IsCovered, LeavesCovered}
 use Rattle.im_page_writer.specs.Writing.{LeavesGrown}
-use Rattle.im_page_writer.proofs.Goings.{covered_then}
-use Rattle.im_page_writer.proofs.Growing.{grown_front, grows_none, grows_then}
+use Rattle.im_page_file.proofs.Standing.{covered_then}
+use Rattle.im_page_table.proofs.Growing.{grown_front, grows_none, grows_then}
 use Rattle.im_restart_redo.specs.Redo.{LeavesRedoing}
 use Rattle.im_restart_redo.specs.Within.{IsWithinRedo}
 

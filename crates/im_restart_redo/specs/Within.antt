@@ -6,7 +6,7 @@ use Rattle.im_theory_log.specs.RedoPoints.{redo_point}
 use Rattle.im_theory_log.specs.Writer.{Writer}
 use Rattle.im_base_disk.specs.declared.disk.Disk.{Ghosts}
 use Rattle.im_page_writer.specs.declared.page_writer.PageWriter.{PageWriter}
-use Rattle.im_page_writer.specs.Stands.{LeavesCovered}
+use Rattle.im_page_file.specs.Stands.{LeavesCovered}
 use Rattle.im_page_writer.specs.PageWriter.{StandsAs}
 
 -- Redo of a log goes on: Images alone have joined it, and a stop since redo began, at this disk, leaves what redo can start from.

@@ -19,7 +19,7 @@ use Rattle.im_log.specs.Whats.{what_of}
 use Rattle.im_page_form.specs.Split.{HasRoom}
 use Rattle.im_page_pool.specs.Pool.{page_at}
 use Rattle.im_page_writer.specs.declared.page_writer.PageWriter.{PageWriter}
-use Rattle.im_page_writer.specs.Growth.{Keeps}
+use Rattle.im_page_table.specs.Growth.{Keeps}
 use Rattle.im_page_writer.specs.PageWriter.{GoesOn}
 use Rattle.im_page_writer.specs.Outcome.{no_page, Logs, Reads}
 use Rattle.im_page_writer.proofs.LoggedChanges.{again_on, err_on}

@@ -16,7 +16,7 @@ use Rattle.im_log_record.specs.Entry.{Entry, prev_of}
 use Rattle.im_log.specs.Whats.{what_of}
 use Rattle.im_log.specs.Spelled.{logged_at}
 use Rattle.im_page_writer.specs.declared.page_writer.PageWriter.{PageWriter}
-use Rattle.im_page_writer.specs.Stands.{IsCovered}
+use Rattle.im_page_file.specs.Stands.{IsCovered}
 use Rattle.im_page_writer.specs.PageWriter.{StandsAs}
 use Rattle.im_page_writer.specs.Outcome.{IsSound}
 use Rattle.im_page_form.specs.Split.{HasRoom}

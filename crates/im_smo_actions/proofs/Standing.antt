@@ -15,13 +15,13 @@ use Rattle.im_theory_log.proofs.Redo.{reached_end}
 use Rattle.im_base_disk.specs.declared.disk.Disk.{Ghosts}
 use Rattle.im_base_disk.proofs.Runs.{then_on, weakened}
 use Rattle.im_page_writer.specs.declared.page_writer.PageWriter.{PageWriter}
-use Rattle.im_page_writer.specs.Growth.{Keeps}
+use Rattle.im_page_table.specs.Growth.{Keeps}
 use Rattle.im_page_writer.specs.Outcome.{AllPages, pages_of, AreLoaded, HasPages}
 use Rattle.im_page_writer.specs.Writing.{LeavesGrown}
 use Rattle.im_page_writer.specs.PageWriter.{GoesOn}
 use Rattle.im_page_writer.proofs.Goings.{leaves_so_far}
 use Rattle.im_page_writer.proofs.Outcomes.{pages_here}
-use Rattle.im_page_writer.proofs.Standing.{wider_covered}
+use Rattle.im_page_file.proofs.Standing.{wider_covered}
 use Rattle.im_theory_tree.specs.Levels.{Pages, walk}
 use Rattle.im_theory_tree.specs.Good.{IsGoodTree}
 use Rattle.im_theory_tree.specs.Theory.{page_tree}

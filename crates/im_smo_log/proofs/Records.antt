@@ -5,17 +5,17 @@ use Rattle.im_base_types.specs.Records as whats
 use Rattle.im_base_types.specs.Records.{What, Logged}
 use Rattle.im_theory_log.specs.Histories.{Base}
 use Rattle.im_theory_log.specs.Writer.{Writer}
-use Rattle.im_page_writer.specs.KnownCopies.{changed_as}
+use Rattle.im_page_table.specs.KnownCopies.{changed_as}
 use Rattle.im_base_disk.specs.declared.disk.Disk.{Ghosts}
 use Rattle.im_log_record.specs.Entry.{Smo}
 use Rattle.im_log.specs.Whats.{page_behind, smo_of, what_of}
 use Rattle.im_log.specs.Spelled.{logged_at}
 use Rattle.im_page_writer.specs.declared.page_writer.PageWriter.{PageWriter}
-use Rattle.im_page_writer.specs.Growth.{Keeps}
-use Rattle.im_page_writer.specs.PageCopy.{after_in}
+use Rattle.im_page_table.specs.Growth.{Keeps}
+use Rattle.im_page_file.specs.PageCopy.{after_in}
 use Rattle.im_page_writer.specs.PageWriter.{StandsAs}
 use Rattle.im_page_writer.specs.LoggedChange.{ChangedFrom}
-use Rattle.im_page_writer.proofs.Growing.{keeps_then}
+use Rattle.im_page_table.proofs.Growing.{keeps_then}
 use Rattle.im_smo_log.specs.Logged.{PageLogged}
 
 -- what it does, of the bytes of the page before and after

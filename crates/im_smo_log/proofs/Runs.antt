@@ -10,7 +10,7 @@ use Rattle.im_theory_log.specs.Lawful.{IsLawful, resumes}
 use Rattle.im_theory_log.specs.Tree.{with_body}
 use Rattle.im_theory_log.specs.Writer.{PageState, Writer}
 use Rattle.im_theory_log.specs.WriterSteps.{appended}
-use Rattle.im_page_writer.specs.KnownCopies.{changed_as, changed_page_as}
+use Rattle.im_page_table.specs.KnownCopies.{changed_as, changed_page_as}
 use Rattle.im_theory_log.proofs.Histories.{front_self}
 use Rattle.im_theory_log.proofs.Images.{images_pages}
 use Rattle.im_theory_log.proofs.Redo.{reached_end}
@@ -21,12 +21,12 @@ use Rattle.im_log.proofs.Above.{front_then}
 use Rattle.im_page_form.specs.Header.{initial}
 use Rattle.im_log_record.specs.Entry as entries
 use Rattle.im_page_writer.specs.declared.page_writer.PageWriter.{PageWriter}
-use Rattle.im_page_writer.specs.Stands.{IsCovered}
+use Rattle.im_page_file.specs.Stands.{IsCovered}
 use Rattle.im_page_writer.specs.Writing.{LeavesGrown}
 use Rattle.im_page_writer.specs.Outcome.{pages_of}
 use Rattle.im_page_writer.specs.PageWriter.{StandsAs, LoggedOnly, Evicted}
 use Rattle.im_page_writer.proofs.Goings.{leaves_so_far}
-use Rattle.im_page_writer.proofs.Standing.{wider_covered}
+use Rattle.im_page_file.proofs.Standing.{wider_covered}
 use Rattle.im_page_writer.proofs.Writers.{goes_on_start}
 use Rattle.im_theory_tree.specs.Levels.{Pages, walk}
 use Rattle.im_theory_tree.specs.Good.{AllOf, IsGoodTree}

@@ -8,8 +8,8 @@ use Rattle.im_theory_log.specs.Histories.{Base, History, IsFront, end_of}
 use Rattle.im_theory_log.specs.Writer.{Writer}
 use Rattle.im_base_disk.specs.declared.disk.Disk.{Ghosts}
 use Rattle.im_page_writer.specs.declared.page_writer.PageWriter.{PageWriter}
-use Rattle.im_page_writer.specs.KnownCopies.{changed_as}
-use Rattle.im_page_writer.specs.Growth.{Keeps}
+use Rattle.im_page_table.specs.KnownCopies.{changed_as}
+use Rattle.im_page_table.specs.Growth.{Keeps}
 use Rattle.im_page_writer.specs.Writing.{LeavesGrown}
 use Rattle.im_page_writer.specs.Outcome.{IsSound}
 use Rattle.im_page_writer.specs.PageWriter.{StandsAs, Evicted}

@@ -3,13 +3,14 @@ ghost use Rattle.std.specs.Prelude.{◌≡◌, ◌≢◌, ◌≤◌, ◌<◌, �
 ghost use Rattle.im_base_types.specs.declared.fault.Fault.TheVariants.{Device, Failed, LogFull, NotAStore};
 ghost use Rattle.im_theory_log.specs.Histories.{Base};
 ghost use Rattle.im_theory_log.specs.Writer.{Writer};
-ghost use Rattle.im_page_writer.specs.KnownCopies.{or_from};
+ghost use Rattle.im_page_table.specs.KnownCopies.{or_from};
 
 use crate::PageWriter;
-use crate::leaf_change::{LeafEdit, edit_key, place_in};
+use crate::leaf_change::edit_key;
 use im_base_disk::Disk;
 use im_base_types::{Fault, Lsn, PageNo};
 use im_log_record::Record;
+use im_page_leaf::{LeafEdit, place_in};
 use im_page_pool::Frame;
 
 impl PageWriter {
@@ -18,10 +19,10 @@ impl PageWriter {
     ghost use Rattle.im_log.specs.LogFile.{end_with};
     ghost use Rattle.im_log.specs.Whats.{what_of};
     ghost use Rattle.im_page_pool.specs.Pool.{held_of, page_at, IsAt};
-    ghost use Rattle.im_page_writer.specs.DirtyTable.{entry_in};
-    ghost use Rattle.im_page_writer.specs.KnownCopies.{IsAtOrAfter};
+    ghost use Rattle.im_page_table.specs.DirtyTable.{entry_in};
+    ghost use Rattle.im_page_table.specs.KnownCopies.{IsAtOrAfter};
     ghost use Rattle.im_page_writer.specs.PageWriter.{IsReadyWriter, StandsAs};
-    ghost use Rattle.im_page_writer.specs.LeafEdits.{edit_of, HasPlace};
+    ghost use Rattle.im_page_leaf.specs.LeafEdits.{edit_of, HasPlace};
     ghost use Rattle.im_page_writer.specs.Outcome.{fault_of, no_page, AreLoadedTo, Logs, Outcome};
     ghost use Rattle.im_page_writer.specs.LoggedChange.{IsLike, LoggedKept, ChangeKept};
 

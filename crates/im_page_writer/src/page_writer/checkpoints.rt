@@ -10,7 +10,7 @@ ghost use Rattle.im_log_record.specs.Entry.{Checkpoint};
 ghost use Rattle.im_log_record.specs.Spelling.{Rise, size_of};
 ghost use Rattle.im_log.specs.LogFile.{end_with, IsOpen, IsLog};
 ghost use Rattle.im_log.specs.Kept.{AppendKept};
-ghost use Rattle.im_page_writer.specs.Imaging.{Appends};
+ghost use Rattle.im_page_file.specs.Imaging.{Appends};
 ghost use Rattle.im_page_writer.specs.Outcome.{fault_of};
 
 use crate::PageWriter;
@@ -20,7 +20,7 @@ use im_log::LogFile;
 use im_log_record::Record;
 
 impl PageWriter {
-    ghost use Rattle.im_page_writer.specs.DirtyTable.{dirty_pages, forgotten_entries, synced_entries};
+    ghost use Rattle.im_page_table.specs.DirtyTable.{dirty_pages, forgotten_entries, synced_entries};
     ghost use Rattle.im_page_writer.specs.Outcome.{none_mild, Logs};
     ghost use Rattle.im_page_writer.specs.PageWriter.{IsReadyWriter, StandsAs};
     ghost use Rattle.im_page_writer.specs.Checkpoints.{TablesKept, CheckpointKept};

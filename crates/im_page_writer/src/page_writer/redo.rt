@@ -7,11 +7,11 @@ ghost use Rattle.im_log_record.specs.Entry.{view};
 ghost use Rattle.im_log.specs.Whats.{what_of};
 
 use crate::PageWriter;
-use crate::page_copy::read_copy;
 use crate::redone_page::redo_record;
 use im_base_disk::Disk;
 use im_base_types::{Fault, Lsn, PageNo};
 use im_log_record::Record;
+use im_page_file::read_copy;
 use im_page_pool::Frame;
 
 impl PageWriter {
@@ -27,7 +27,7 @@ impl PageWriter {
     ghost use Rattle.im_log.specs.Reading.{FoundKept};
     ghost use Rattle.im_base_disk.specs.Runs.{Reads};
     ghost use Rattle.im_page_pool.specs.Pool.{Holds, IsAt};
-    ghost use Rattle.im_page_writer.specs.DirtyTable.{entry_in};
+    ghost use Rattle.im_page_table.specs.DirtyTable.{entry_in};
     ghost use Rattle.im_page_writer.specs.Outcome.{fault_of, mild, Flushes, Redoes};
     ghost use Rattle.im_page_writer.specs.PageWriter.{IsReadyWriter, StandsAs};
     ghost use Rattle.im_page_writer.specs.Redoing.{LoadKept, RedoKept, LacksTaker, LoadedHere, RedoneHere};

@@ -5,11 +5,11 @@ ghost use Rattle.im_theory_log.specs.Histories.{Base};
 ghost use Rattle.im_theory_log.specs.Writer.{Writer};
 
 use crate::PageWriter;
-use crate::page_copy::read_after;
 use crate::redone_page::set_page;
 use im_base_disk::Disk;
 use im_base_types::{Fault, Lsn, PageNo};
 use im_log_record::Record;
+use im_page_file::read_after;
 use im_page_pool::Frame;
 
 impl PageWriter {
@@ -18,8 +18,8 @@ impl PageWriter {
     ghost use Rattle.im_log.specs.LogFile.{end_with};
     ghost use Rattle.im_log.specs.Whats.{what_of};
     ghost use Rattle.im_page_pool.specs.Pool.{IsAt};
-    ghost use Rattle.im_page_writer.specs.DirtyTable.{entry_in};
-    ghost use Rattle.im_page_writer.specs.PageCopy.{after_in};
+    ghost use Rattle.im_page_table.specs.DirtyTable.{entry_in};
+    ghost use Rattle.im_page_file.specs.PageCopy.{after_in};
     ghost use Rattle.im_page_writer.specs.Outcome.{fault_of, no_page, Logs};
     ghost use Rattle.im_page_writer.specs.PageWriter.{IsReadyWriter, StandsAs};
     ghost use Rattle.im_page_writer.specs.StructureChange.{LeftHere, LeftKept};

@@ -1,7 +1,7 @@
 use Rattle.std.proofs.Common.{List, subst}
 use Rattle.im_base_types.specs.declared.tables.ActiveTransaction.{ActiveTransaction}
 use Rattle.im_page_writer.specs.Checkpoints.{CheckpointKept}
-use Rattle.im_page_writer.specs.DirtyTable.{dirty_pages, synced_entries}
+use Rattle.im_page_table.specs.DirtyTable.{dirty_pages, synced_entries}
 use Rattle.im_engine_checkpoint.proofs.checkpoint.take.Goals as goal
 
 pub returns-clause-kept : goal.returns-clause-kept

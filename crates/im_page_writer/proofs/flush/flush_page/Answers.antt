@@ -3,11 +3,11 @@ use Rattle.std.specs.Prelude.{is_some, OnOk}
 use Rattle.im_base_types.specs.declared.file_id.FileId.TheVariants.{Pages}
 use Rattle.im_base_disk.specs.Disk.{Files}
 use Rattle.im_page_form.specs.PageFile.{page_count}
-use Rattle.im_page_writer.specs.DirtyTable.{entry_in, has_room}
-use Rattle.im_page_writer.proofs.Growing.{on_ok}
+use Rattle.im_page_table.specs.DirtyTable.{entry_in, has_room}
+use Rattle.im_page_table.proofs.Growing.{on_ok}
 use Rattle.im_page_writer.proofs.Goings.{leaves_then}
 use Rattle.im_page_writer.proofs.Flushing.{flushed_last, flushed_then, goes_read, leaves_read, may_flush}
-use Rattle.im_page_writer.proofs.ImageCalls.{imaging_lost}
+use Rattle.im_page_file.proofs.ImageCalls.{imaging_lost}
 use Rattle.im_base_disk.proofs.Costs.{costs_reads}
 use Rattle.im_page_writer.proofs.Costs.{page_past, page_within}
 use Rattle.im_page_writer.proofs.flush.flush_page.Goals as goal

@@ -2,8 +2,8 @@ use Rattle.std.proofs.Common.{rules, subst, sym, ◌≤◌, ◌-◌, ℕ, List, 
 use Rattle.im_page_writer.specs.Writing.{lsn_for, MayWriteHere}
 use Rattle.im_page_writer.proofs.Goings.{leaves_last}
 use Rattle.im_page_writer.proofs.Flushing.{flushed_then, may_write}
-use Rattle.im_page_writer.proofs.ImageCalls.{imaging_lost, imaging_refused}
-use Rattle.im_page_writer.specs.DirtyTable.{has_room}
+use Rattle.im_page_file.proofs.ImageCalls.{imaging_lost, imaging_refused}
+use Rattle.im_page_table.specs.DirtyTable.{has_room}
 use Rattle.im_page_writer.proofs.Costs.{costs_flushed}
 use Rattle.im_page_writer.proofs.flush.flush_range.Goals as goal
 

@@ -1,9 +1,9 @@
 use Rattle.std.proofs.Common.{◌≡◌, Bool, true, false, rules, ◌+◌, sym, ◌∙◌, subst, ◌-◌}
 use Rattle.im_page_writer.specs.Writing.{lsn_for, WritesTo}
-use Rattle.im_page_writer.proofs.Tables.{room_there, written_stays}
-use Rattle.im_page_writer.proofs.Growing.{on_ok}
+use Rattle.im_page_table.proofs.Tables.{room_there, written_stays}
+use Rattle.im_page_table.proofs.Growing.{on_ok}
 use Rattle.im_page_writer.proofs.Placing.{writes_end, writes_stop, writes_sync}
-use Rattle.im_page_writer.specs.DirtyTable.{has_room}
+use Rattle.im_page_table.specs.DirtyTable.{has_room}
 use Rattle.im_page_writer.proofs.Costs.{always, costs_entered, costs_synced}
 use Rattle.im_page_writer.proofs.flush.write_out.Goals as goal
 

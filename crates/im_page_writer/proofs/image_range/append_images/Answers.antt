@@ -3,9 +3,9 @@ use Rattle.im_base_types.specs.declared.file_id.FileId.TheVariants.{Log}
 use Rattle.im_base_disk.proofs.Runs.{changes_reads, changes_then, reads_none}
 use Rattle.im_page_writer.specs.Writing.{ImagesTo}
 use Rattle.im_page_writer.proofs.Goings.{leaves_last, leaves_so_far}
-use Rattle.im_page_writer.proofs.LogEnds.{ends_same, ends_then}
+use Rattle.im_page_file.proofs.LogEnds.{ends_same, ends_then}
 use Rattle.im_page_writer.proofs.Imaging.{image_still, images_more, images_start}
-use Rattle.im_page_writer.proofs.ImageCalls.{imaging_none, imaging_refused, imaging_then}
+use Rattle.im_page_file.proofs.ImageCalls.{imaging_none, imaging_refused, imaging_then}
 use Rattle.im_base_disk.proofs.Costs.{forces_more, forces_none, forces_then}
 use Rattle.im_page_writer.proofs.image_range.append_images.Goals as goal
 

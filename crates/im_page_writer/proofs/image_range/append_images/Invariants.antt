@@ -5,7 +5,7 @@ use Rattle.im_theory_log.specs.Writer.{Writer}
 use Rattle.im_base_disk.specs.Runs.{ChangesOnly, Forces}
 use Rattle.im_log.specs.LogFile.{IsOpen}
 use Rattle.im_page_writer.specs.declared.image_range.TheConstants.{NOTED}
-use Rattle.im_page_writer.specs.LogEnds.{EndsNoSooner}
+use Rattle.im_page_file.specs.LogEnds.{EndsNoSooner}
 use Rattle.im_page_writer.specs.Writing.{IsWriting, ImagesTo, MayCopy}
 use Rattle.im_page_writer.proofs.image_range.append_images.Given as goal
 

@@ -1,7 +1,7 @@
-use Rattle.im_page_writer.proofs.Growing.{if_ok}
+use Rattle.im_page_table.proofs.Growing.{if_ok}
 use Rattle.im_page_writer.proofs.Goings.{goes_start}
 use Rattle.im_page_writer.proofs.Imaging.{image_copies, known_copies}
-use Rattle.im_page_writer.proofs.ImageCalls.{imaging_none}
+use Rattle.im_page_file.proofs.ImageCalls.{imaging_none}
 use Rattle.im_base_disk.proofs.Costs.{forces_none}
 use Rattle.im_page_writer.proofs.image_range.append_one.Goals as goal
 

@@ -1,6 +1,6 @@
 use Rattle.std.proofs.Common.{sym, ◌∙◌}
 use Rattle.im_page_pool.specs.Pool.{held_of}
-use Rattle.im_page_writer.proofs.Growing.{if_ok}
+use Rattle.im_page_table.proofs.Growing.{if_ok}
 use Rattle.im_page_writer.proofs.Goings.{copy_done, found_none, found_page, may_image}
 use Rattle.im_page_writer.proofs.image_range.append_page.Goals as goal
 

@@ -1,10 +1,9 @@
 use Rattle.std.proofs.Common.{Err, ap, rules, ◌+◌, ◌-◌}
-use Rattle.im_page_writer.proofs.Standing.{log_stops}
+use Rattle.im_page_file.proofs.Standing.{log_stops}
 use Rattle.im_page_writer.proofs.Goings.{leaves_last, leaves_so_far}
 use Rattle.im_page_writer.proofs.Imaging.{goes_forced, images_durable}
-use Rattle.im_page_writer.proofs.ImageCalls.{force_lost, imaging_refused, imaging_then}
-use Rattle.im_page_writer.proofs.LogEnds.{ends_forced}
-use Rattle.im_page_writer.proofs.Writers.{still_working}
+use Rattle.im_page_file.proofs.ImageCalls.{force_lost, imaging_refused, imaging_then}
+use Rattle.im_page_file.proofs.LogEnds.{ends_forced, still_working}
 use Rattle.im_base_disk.proofs.Costs.{forces_by, forces_then}
 use Rattle.im_page_writer.proofs.image_range.log_images.Goals as goal
 

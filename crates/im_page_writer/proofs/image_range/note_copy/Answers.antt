@@ -1,9 +1,9 @@
 use Rattle.std.proofs.Common.{◌≡◌, Bool, None, Some, sym, ◌∙◌, ap, rules}
 use Rattle.std.specs.Prelude.{not}
-use Rattle.im_page_writer.specs.DirtyTable.{dirty_entry}
+use Rattle.im_page_table.specs.DirtyTable.{dirty_entry}
 use Rattle.im_page_writer.proofs.Goings.{goes_start, leaves_of}
 use Rattle.im_page_writer.proofs.Imaging.{image_copies}
-use Rattle.im_page_writer.proofs.ImageCalls.{imaging_none}
+use Rattle.im_page_file.proofs.ImageCalls.{imaging_none}
 use Rattle.im_page_writer.proofs.NotedCopies.{goes_told, may_note, since_some, told_of}
 use Rattle.im_page_writer.proofs.image_range.note_copy.Goals as goal
 

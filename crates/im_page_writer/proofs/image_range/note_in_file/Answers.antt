@@ -1,8 +1,8 @@
 use Rattle.std.proofs.Common.{rules}
-use Rattle.im_page_writer.proofs.Growing.{on_ok}
+use Rattle.im_page_table.proofs.Growing.{on_ok}
 use Rattle.im_page_writer.proofs.Goings.{goes_then, leaves_so_far, leaves_then}
 use Rattle.im_page_writer.proofs.Flushing.{goes_read, leaves_read}
-use Rattle.im_page_writer.proofs.ImageCalls.{imaging_lost}
+use Rattle.im_page_file.proofs.ImageCalls.{imaging_lost}
 use Rattle.im_page_writer.proofs.image_range.note_in_file.Goals as goal
 
 pub returns-in_err-count-clause-outcome : goal.returns-in_err-count-clause-outcome

@@ -1,8 +1,8 @@
 use Rattle.std.proofs.Common.{◌≡◌, ℕ, ◌-◌, List, refl, sym, subst, arith, rules, ◌∙◌, ap, ◌+◌}
 use Rattle.im_base_types.specs.declared.file_id.FileId.TheVariants.{Pages}
 use Rattle.im_base_disk.proofs.Runs.{changes_reads, changes_then, reads_none}
-use Rattle.im_page_writer.specs.declared.table_entry.TableEntry.{TableEntry}
-use Rattle.im_page_writer.specs.DirtyTable.{has_room, written_in}
+use Rattle.im_page_table.specs.declared.table_entry.TableEntry.{TableEntry}
+use Rattle.im_page_table.specs.DirtyTable.{has_room, written_in}
 use Rattle.im_page_writer.specs.Writing.{lsn_for, MayWriteHere, WrittenHere, WritesTo}
 use Rattle.im_page_writer.proofs.Placing.{asked, held_none, held_then, held_unmarked, writes_left, writes_more, writes_start, writes_stop}
 use Rattle.im_base_disk.proofs.Costs.{costs_as, costs_none, costs_then}

@@ -5,7 +5,7 @@ use Rattle.im_log_record.specs.Entry.{Checkpoint}
 use Rattle.im_log_record.specs.Spelling.{size_of}
 use Rattle.im_log.specs.LogFile.{end_with}
 use Rattle.im_page_writer.specs.Checkpoints.{CheckpointKept}
-use Rattle.im_page_writer.specs.DirtyTable.{dirty_pages, synced_entries}
+use Rattle.im_page_table.specs.DirtyTable.{dirty_pages, synced_entries}
 use Rattle.im_page_writer.specs.Outcome.{none_mild}
 use Rattle.im_engine_txn.specs.declared.transaction.Transaction.{Transaction}
 use Rattle.im_engine_checkpoint.specs.Rows.{listed}

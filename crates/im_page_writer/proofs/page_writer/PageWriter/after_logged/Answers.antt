@@ -5,9 +5,9 @@ use Rattle.im_log_record.specs.Entry.{view}
 use Rattle.im_log.specs.Spelled.{logged_at}
 use Rattle.im_log.specs.Whats.{what_of}
 use Rattle.im_page_pool.specs.Pool.{held_of, Sets}
-use Rattle.im_page_writer.proofs.Standing.{log_stops}
+use Rattle.im_page_file.proofs.Standing.{log_stops}
 use Rattle.im_page_writer.proofs.LoggedChanges.{at_held, err_on}
-use Rattle.im_page_writer.proofs.KnownCopies.{known_more}
+use Rattle.im_page_table.proofs.KnownCopies.{known_more}
 use Rattle.im_page_writer.proofs.Outcomes.{same_logs}
 use Rattle.im_page_writer.proofs.Structure.{leaves_body, left_by, never_none}
 use Rattle.im_page_writer.proofs.Writers.{goes_on_start}

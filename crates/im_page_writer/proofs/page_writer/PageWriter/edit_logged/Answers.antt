@@ -6,10 +6,10 @@ use Rattle.im_page_form.specs.Header.{initial}
 use Rattle.im_log.specs.Spelled.{logged_at}
 use Rattle.im_log.specs.Whats.{what_of}
 use Rattle.im_page_pool.specs.Pool.{held_of, Sets}
-use Rattle.im_page_writer.specs.KnownCopies.{changed_as, IsAtOrAfter, IsKnownFrom}
-use Rattle.im_page_writer.specs.LeafEdits.{edit_of}
-use Rattle.im_page_writer.proofs.KnownCopies.{known_first}
-use Rattle.im_page_writer.proofs.Standing.{log_stops}
+use Rattle.im_page_table.specs.KnownCopies.{changed_as, IsAtOrAfter, IsKnownFrom}
+use Rattle.im_page_leaf.specs.LeafEdits.{edit_of}
+use Rattle.im_page_table.proofs.KnownCopies.{known_first}
+use Rattle.im_page_file.proofs.Standing.{log_stops}
 use Rattle.im_page_writer.proofs.Changing.{changed_by, like_names}
 use Rattle.im_page_writer.proofs.LeafChanges.{edit_gives}
 use Rattle.im_page_writer.proofs.LoggedChanges.{at_held, at_shows}

@@ -1,8 +1,8 @@
 use Rattle.std.proofs.Common.{◌≡◌, ℕ, List, Option, length, subst, sym, ◌∙◌, arith, rules}
 use Rattle.im_log.specs.declared.log_file.LogFile.{LogFile}
-use Rattle.im_page_writer.specs.declared.table_entry.TableEntry.{TableEntry}
-use Rattle.im_page_writer.specs.KnownCopies.{IsKnownFrom}
-use Rattle.im_page_writer.specs.LogEnds.{EndsNoSooner}
+use Rattle.im_page_table.specs.declared.table_entry.TableEntry.{TableEntry}
+use Rattle.im_page_table.specs.KnownCopies.{IsKnownFrom}
+use Rattle.im_page_file.specs.LogEnds.{EndsNoSooner}
 use Rattle.im_page_writer.specs.Writing.{Goes}
 use Rattle.im_page_writer.proofs.Writers.{absent_still, goes_evicted}
 use Rattle.im_page_writer.proofs.page_writer.PageWriter.evict_oldest.Goals as goal

@@ -1,4 +1,4 @@
-use Rattle.im_page_writer.proofs.Growing.{on_ok}
+use Rattle.im_page_table.proofs.Growing.{on_ok}
 use Rattle.im_page_pool.specs.Pool.{last_changed}
 use Rattle.im_page_writer.proofs.Outcomes.{idle_any}
 use Rattle.im_page_writer.proofs.TableRoom.{none_changed, oldest_none, oldest_some}

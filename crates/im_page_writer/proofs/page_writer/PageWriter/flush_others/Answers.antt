@@ -2,7 +2,7 @@ use Rattle.std.proofs.Common.{subst}
 use Rattle.im_page_pool.specs.Pool.{PoolView}
 use Rattle.im_page_writer.specs.Outcome.{AsksNothing}
 use Rattle.im_page_writer.specs.Writing.{SameHeld}
-use Rattle.im_page_writer.proofs.Growing.{on_ok}
+use Rattle.im_page_table.proofs.Growing.{on_ok}
 use Rattle.im_page_writer.proofs.Outcomes.{behind, handed_on, idle_any, none_still}
 use Rattle.im_page_writer.proofs.Placing.{held_none}
 use Rattle.im_page_writer.proofs.page_writer.PageWriter.flush_others.Goals as goal

@@ -1,5 +1,5 @@
 use Rattle.im_page_writer.specs.Outcome.{AsksNothing}
-use Rattle.im_page_writer.proofs.Growing.{on_ok}
+use Rattle.im_page_table.proofs.Growing.{on_ok}
 use Rattle.im_page_writer.proofs.Outcomes.{behind, handed_on, none_still, stands_on}
 use Rattle.im_page_writer.proofs.Placing.{held_then}
 use Rattle.im_page_writer.proofs.Writers.{goes_on_then}

@@ -1,7 +1,7 @@
 use Rattle.std.proofs.Common.{refl, rules}
 use Rattle.im_theory_log.specs.WriterSteps.{forced}
-use Rattle.im_page_writer.proofs.KnownCopies.{known_same}
-use Rattle.im_page_writer.proofs.Standing.{log_stops}
+use Rattle.im_page_table.proofs.KnownCopies.{known_same}
+use Rattle.im_page_file.proofs.Standing.{log_stops}
 use Rattle.im_page_writer.proofs.Imaging.{goes_forced}
 use Rattle.im_base_disk.proofs.Costs.{most_none}
 use Rattle.im_page_writer.proofs.page_writer.PageWriter.force.Goals as goal

@@ -6,7 +6,8 @@ use Rattle.im_page_form.specs.PageFile.{file_page}
 use Rattle.im_page_pool.specs.Pool.{Held, held_of}
 use Rattle.im_page_writer.proofs.Flushing.{leaves_read}
 use Rattle.im_page_writer.proofs.Outcomes.{read_ends}
-use Rattle.im_page_writer.proofs.Writers.{got_page, goes_got, goes_refused, no_page_missing, seen_none, still_working}
+use Rattle.im_page_writer.proofs.Writers.{got_page, goes_got, goes_refused, no_page_missing, seen_none}
+use Rattle.im_page_file.proofs.LogEnds.{still_working}
 use Rattle.im_page_writer.proofs.page_writer.PageWriter.hold.Goals as goal
 
 pub returns-in-Ok-clause-outcome : goal.returns-in-Ok-clause-outcome

@@ -2,9 +2,9 @@ use Rattle.std.proofs.Common.{ℕ, Option, refl, sym, subst, ◌∙◌, rules}
 use Rattle.im_log_record.specs.Entry.{view, page_of}
 use Rattle.im_log.specs.Whats.{what_of}
 use Rattle.im_theory_log.specs.WriterSteps.{loaded}
-use Rattle.im_page_writer.specs.KnownCopies.{IsKnownFrom}
-use Rattle.im_page_writer.proofs.KnownCopies.{known_ended}
-use Rattle.im_page_writer.proofs.Growing.{on_ok}
+use Rattle.im_page_table.specs.KnownCopies.{IsKnownFrom}
+use Rattle.im_page_table.proofs.KnownCopies.{known_ended}
+use Rattle.im_page_table.proofs.Growing.{on_ok}
 use Rattle.im_page_writer.proofs.Goings.{leaves_so_far}
 use Rattle.im_page_writer.proofs.LoggedChanges.{err_on}
 use Rattle.im_page_writer.proofs.Outcomes.{flush_sound, leaves_of_end, none_mildly, redo_of, redo_own, redo_refused}

@@ -1,8 +1,8 @@
 use Rattle.std.proofs.Common.{List, refl, subst, rules, arith}
 use Rattle.im_theory_log.specs.WriterSteps.{synced}
-use Rattle.im_page_writer.specs.declared.table_entry.TableEntry.{TableEntry}
+use Rattle.im_page_table.specs.declared.table_entry.TableEntry.{TableEntry}
 use Rattle.im_page_writer.specs.Checkpoints.{TablesLogged}
-use Rattle.im_page_writer.specs.DirtyTable.{dirty_pages, synced_entries}
+use Rattle.im_page_table.specs.DirtyTable.{dirty_pages, synced_entries}
 use Rattle.im_page_writer.proofs.Checkpointing.{checkpointed, force_left, listed, record_left, sync_left}
 use Rattle.im_page_writer.proofs.Outcomes.{stands_on}
 use Rattle.im_base_disk.proofs.Costs.{most_as, most_then}

@@ -2,8 +2,8 @@ use Rattle.std.proofs.Common.{ℕ, ap, subst, sym, ◌∙◌, rules, refl}
 use Rattle.im_base_types.specs.Pages.{Page}
 use Rattle.im_page_form.specs.Header.{initial}
 use Rattle.im_page_pool.specs.Pool.{held_of}
-use Rattle.im_page_writer.specs.LeafEdits.{MayEdit}
-use Rattle.im_page_writer.proofs.Growing.{if_ok}
+use Rattle.im_page_leaf.specs.LeafEdits.{MayEdit}
+use Rattle.im_page_table.proofs.Growing.{if_ok}
 use Rattle.im_page_writer.proofs.Goings.{covered_last, leaves_last, leaves_so_far}
 use Rattle.im_page_writer.proofs.LeafChanges.{may_edit}
 use Rattle.im_page_writer.proofs.LoggedChanges.{at_shows, err_on, failed_cause}

@@ -2,8 +2,8 @@ use Rattle.std.proofs.Common.{refl, rules}
 use Rattle.im_theory_log.specs.WriterSteps.{appended}
 use Rattle.im_log_record.specs.Entry.{view}
 use Rattle.im_log.specs.Spelled.{logged_at}
-use Rattle.im_page_writer.proofs.KnownCopies.{known_more}
-use Rattle.im_page_writer.proofs.Standing.{log_stops}
+use Rattle.im_page_table.proofs.KnownCopies.{known_more}
+use Rattle.im_page_file.proofs.Standing.{log_stops}
 use Rattle.im_page_writer.proofs.Logging.{logged_high, logged_only}
 use Rattle.im_base_disk.proofs.Costs.{most_none}
 use Rattle.im_page_writer.proofs.page_writer.PageWriter.log_only.Goals as goal

@@ -3,9 +3,9 @@ use Rattle.im_base_types.specs.declared.tables.DirtyPage.{DirtyPage}
 use Rattle.im_theory_log.specs.WriterSteps.{Lists, forgotten}
 use Rattle.im_log_record.specs.Entry.{Checkpoint}
 use Rattle.im_log.specs.Kept.{Appended}
-use Rattle.im_page_writer.specs.DirtyTable.{dirty_pages}
+use Rattle.im_page_table.specs.DirtyTable.{dirty_pages}
 use Rattle.im_page_writer.proofs.Checkpointing.{forgets, tables_logged}
-use Rattle.im_page_writer.proofs.Standing.{log_stops}
+use Rattle.im_page_file.proofs.Standing.{log_stops}
 use Rattle.im_page_writer.proofs.page_writer.PageWriter.log_tables.Goals as goal
 
 pub returns-in_err-lsn-clause-kept : goal.returns-in_err-lsn-clause-kept

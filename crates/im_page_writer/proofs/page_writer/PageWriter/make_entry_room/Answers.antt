@@ -1,11 +1,11 @@
 use Rattle.std.proofs.Common.{◌≡◌, ◌<◌, ◌≤◌, List, length, false, true, refl, subst, sym, ◌∙◌, rules, arith}
 use Rattle.im_theory_log.specs.WriterSteps.{synced}
 use Rattle.im_page_pool.specs.Pool.{last_changed}
-use Rattle.im_page_writer.specs.declared.table_entry.TableEntry.{TableEntry}
+use Rattle.im_page_table.specs.declared.table_entry.TableEntry.{TableEntry}
 use Rattle.im_page_writer.proofs.Goings.{leaves_last}
-use Rattle.im_page_writer.proofs.LogEnds.{ends_as}
+use Rattle.im_page_file.proofs.LogEnds.{ends_as}
 use Rattle.im_page_writer.proofs.LoggedChanges.{ok_with}
-use Rattle.im_page_writer.proofs.Growing.{on_ok}
+use Rattle.im_page_table.proofs.Growing.{on_ok}
 use Rattle.im_page_writer.proofs.Outcomes.{behind, idle_any, none_still, stands_on, step_flushes}
 use Rattle.im_page_writer.specs.Outcome.{AsksNothing}
 use Rattle.im_page_writer.proofs.TableRoom.{oldest_synced, room_left}

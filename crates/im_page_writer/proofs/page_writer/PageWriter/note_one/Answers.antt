@@ -1,5 +1,5 @@
 use Rattle.std.proofs.Common.{refl, rules}
-use Rattle.im_page_writer.proofs.KnownCopies.{known_grown}
+use Rattle.im_page_table.proofs.KnownCopies.{known_grown}
 use Rattle.im_page_writer.proofs.ImageCalls.{imaging_broke}
 use Rattle.im_page_writer.proofs.page_writer.PageWriter.note_one.Goals as goal
 

@@ -2,10 +2,10 @@ use Rattle.std.proofs.Common.{◌≤◌, ℕ, false, sym, subst, rules}
 use Rattle.im_theory_log.specs.Copies.{HasCopy}
 use Rattle.im_log_record.specs.Entry.{view, page_of}
 use Rattle.im_log.specs.Spelled.{logged_at}
-use Rattle.im_page_writer.specs.KnownCopies.{redone_as}
-use Rattle.im_page_writer.proofs.KnownCopies.{known_ended}
+use Rattle.im_page_table.specs.KnownCopies.{redone_as}
+use Rattle.im_page_table.proofs.KnownCopies.{known_ended}
 use Rattle.im_page_writer.proofs.Goings.{leaves_so_far}
-use Rattle.im_page_writer.proofs.Growing.{keeps_none}
+use Rattle.im_page_table.proofs.Growing.{keeps_none}
 use Rattle.im_page_writer.specs.Outcome.{mild, AsksNothing}
 use Rattle.im_page_writer.proofs.Outcomes.{idle_any, redo_of}
 use Rattle.im_page_writer.proofs.RedoneRecords.{applies_none, redone_none}

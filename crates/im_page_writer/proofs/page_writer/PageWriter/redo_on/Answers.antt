@@ -4,8 +4,8 @@ use Rattle.im_theory_log.specs.WriterSteps.{applies}
 use Rattle.im_log_record.specs.Entry.{view, page_of}
 use Rattle.im_log.specs.Spelled.{logged_at}
 use Rattle.im_page_pool.specs.Pool.{page_at}
-use Rattle.im_page_writer.specs.KnownCopies.{redone_as}
-use Rattle.im_page_writer.proofs.KnownCopies.{known_ended}
+use Rattle.im_page_table.specs.KnownCopies.{redone_as}
+use Rattle.im_page_table.proofs.KnownCopies.{known_ended}
 use Rattle.im_page_writer.proofs.Goings.{leaves_so_far}
 use Rattle.im_page_writer.specs.Outcome.{pages_of}
 use Rattle.im_page_writer.proofs.LoggedChanges.{err_on}

@@ -4,11 +4,11 @@ use Rattle.im_theory_log.specs.Copies.{HasCopy}
 use Rattle.im_theory_log.specs.WriterSteps.{applies}
 use Rattle.im_log_record.specs.Entry.{view, page_of}
 use Rattle.im_log.specs.Spelled.{logged_at}
-use Rattle.im_page_writer.specs.KnownCopies.{IsKnownFrom, redone_as}
+use Rattle.im_page_table.specs.KnownCopies.{IsKnownFrom, redone_as}
 use Rattle.im_page_writer.specs.Redoing.{TakesRecord}
-use Rattle.im_page_writer.proofs.KnownCopies.{known_ended}
+use Rattle.im_page_table.proofs.KnownCopies.{known_ended}
 use Rattle.im_page_writer.proofs.Goings.{leaves_so_far}
-use Rattle.im_page_writer.proofs.Growing.{if_ok}
+use Rattle.im_page_table.proofs.Growing.{if_ok}
 use Rattle.im_page_writer.proofs.LoggedChanges.{err_on}
 use Rattle.im_page_writer.proofs.Outcomes.{flush_sound, leaves_of_end, none_mildly, redo_of, redo_own, redo_refused}
 use Rattle.im_page_writer.proofs.Redoing.{not_no_store}

@@ -1,6 +1,6 @@
 use Rattle.std.proofs.Common.{refl, rules, arith}
 use Rattle.im_theory_log.specs.WriterSteps.{synced}
-use Rattle.im_page_writer.proofs.KnownCopies.{known_same}
+use Rattle.im_page_table.proofs.KnownCopies.{known_same}
 use Rattle.im_page_writer.proofs.Placing.{pooled_synced, synced_keeps}
 use Rattle.im_base_disk.proofs.Costs.{most_none, most_of}
 use Rattle.im_page_writer.proofs.page_writer.PageWriter.sync_pages.Goals as goal

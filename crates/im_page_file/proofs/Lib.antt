@@ -1,0 +1,6 @@
+pub mod LogEnds
+pub mod ImageCalls
+pub mod PageFiles
+pub mod Standing
+pub mod ImageSteps
+pub mod Openings

@@ -1,0 +1,6 @@
+pub mod LogEnds
+pub mod Imaging
+pub mod PageFile
+pub mod Stands
+pub mod Images
+pub mod PageCopy

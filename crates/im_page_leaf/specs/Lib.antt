@@ -1,0 +1,2 @@
+pub mod LeafChange
+pub mod LeafEdits

@@ -1,0 +1,6 @@
+pub mod Tables
+pub mod Lists
+pub mod OnePage
+pub mod TableSteps
+pub mod KnownCopies
+pub mod Growing

@@ -1,0 +1,3 @@
+pub mod DirtyTable
+pub mod KnownCopies
+pub mod Growth

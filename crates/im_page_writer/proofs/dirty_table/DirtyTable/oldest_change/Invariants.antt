@@ -1,8 +1,0 @@
-use Rattle.std.proofs.Common.{◌≡◌, None, drop}
-use Rattle.im_page_writer.specs.DirtyTable.{oldest}
-use Rattle.im_page_writer.proofs.dirty_table.DirtyTable.oldest_change.Given as goal
-
-abbrev pub invariant-loop-at : goal.invariant-loop-at
-invariant-loop-at l = record {
-  left : oldest None l.self ≡ oldest l.found (drop l.at l.self);
-}

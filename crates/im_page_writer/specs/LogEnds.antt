@@ -1,8 +1,0 @@
--- Where records of a log would end, from call to call.
-use Rattle.std.specs.Prelude.{◌≤◌, ℕ}
-use Rattle.im_log.specs.declared.log_file.LogFile.{LogFile}
-use Rattle.im_log.specs.LogFile.{end_with}
-
--- A record of whatever length ends no sooner in the one log than it would have in the other.
-pub record EndsNoSooner (old new : LogFile) : Type 0 where
-  pub each : (size : ℕ) → end_with old size ≤ end_with new size
