@@ -1,4 +1,4 @@
-pub mod Disturbed
+pub mod DisturbedReplies
 pub mod Entries
 pub mod Fronts
 pub mod Shows

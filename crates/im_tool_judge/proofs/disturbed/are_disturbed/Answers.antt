@@ -1,7 +1,7 @@
 use Rattle.std.proofs.Common.{◌≡◌, false, ℕ, ◌+◌, ◌<◌, ◌≤◌, ◌||◌, length, Bool, drop, refl, sym, ◌∙◌, ap, subst, arith}
 use Rattle.std.proofs.lemmas.Grind.{common_steps}
 use Rattle.im_tool_judge.specs.Disturbed.{AreDisturbed, is_by_device}
-use Rattle.im_tool_judge.proofs.Disturbed.{none_behind, same_length, step_on}
+use Rattle.im_tool_judge.proofs.DisturbedReplies.{none_behind, same_length, step_on}
 use Rattle.im_tool_judge.proofs.disturbed.are_disturbed.Goals as goal
 use Rattle.im_tool_judge.proofs.disturbed.are_disturbed.Goals.{then-failed, else-failed}
 
