@@ -3,12 +3,11 @@ use Rattle.std.proofs.Common.{◌≡◌, ℕ, ◌<◌, List, Option, None, Some,
 use Rattle.std.specs.Prelude.{option_map}
 use Rattle.std.specs.Option.{option_map_or}
 use Rattle.im_base_types.specs.Pages.{Page}
-use Rattle.im_theory_log.specs.Histories.{Base, History, IsFront, end_of}
+use Rattle.im_theory_log.specs.Histories.{Base, end_of}
 use Rattle.im_theory_log.specs.Writer.{DirtyEntry, PageState, Writer, IsWritten}
 use Rattle.im_theory_log.proofs.Histories.{front_self}
 use Rattle.im_base_disk.specs.declared.disk.Disk.{Ghosts}
 use Rattle.im_base_disk.specs.Disk.{Files}
-use Rattle.im_base_disk.proofs.Runs.{then_on, weakened}
 use Rattle.im_log.specs.declared.log_file.LogFile.{LogFile}
 use Rattle.im_page_form.specs.Header.{initial}
 use Rattle.im_page_form.specs.Page.{page_of}
@@ -16,7 +15,7 @@ use Rattle.im_page_pool.specs.declared.frame.Frame.{Frame}
 use Rattle.im_page_pool.specs.Pool.{Held, PoolView, held_of, frame_of, page_at}
 use Rattle.im_page_table.specs.declared.table_entry.TableEntry.{TableEntry}
 use Rattle.im_page_table.specs.DirtyTable.{is_changed}
-use Rattle.im_page_file.specs.Stands.{IsCovered, LeavesCovered}
+use Rattle.im_page_file.specs.Stands.{LeavesCovered}
 use Rattle.im_page_table.specs.Growth.{with_image}
 use Rattle.im_page_file.specs.Images.{MayImage, Imaged}
 use Rattle.im_page_writer.specs.Writing.{IsShown, IsPooled, MayCopy, IsWriting, Goes, LeavesGrown, PageImaged}
