@@ -1,16 +1,15 @@
 //! Lives of a store, on the model disk.
 
-ghost use Rattle.std.specs.Prelude.{◌≡◌, ◌≢◌, ◌⊎◌, ◌↔◌, true, false, List, IfOk, OnOk, MatchResult};
+ghost use Rattle.std.specs.Prelude.{◌≡◌, ◌≢◌, ◌⊎◌, ◌↔◌, true, false, List, IfOk, MatchResult};
 ghost use Rattle.std.specs.FinMap.{empty, entries};
 ghost use Rattle.im_base_types.specs.declared.fault.Fault.TheVariants.{NotAStore};
 ghost use Rattle.im_base_types.specs.Changes.{Effect, apply_all};
 ghost use Rattle.im_base_types.specs.Lives.{Shown, nothing_shown, StandsForMore};
 ghost use Rattle.im_base_disk.specs.Disk.{Files};
-ghost use Rattle.im_base_disk.specs.Runs.{IsSynced, Reads};
+ghost use Rattle.im_base_disk.specs.Runs.{IsSynced};
 ghost use Rattle.im_engine.specs.Stands.{StandsFor, Allowed};
 ghost use Rattle.im_tool_answers.specs.declared.store_answers.StoreReply.TheVariants.{Stopped};
 ghost use Rattle.im_tool_raw.specs.Answered.{AnsweredBy};
-ghost use Rattle.im_tool_raw.specs.Stops.{IsArmedAll, IsCallArmed, IsReadArmed};
 ghost use Rattle.im_tool_answers.specs.StoreShown.{asked_in, shown_in, IsStoreReply, StoreAnswered};
 ghost use Rattle.im_tool_drill.specs.StoreLives.{in_32_bits, GoesOn, IsConfigOf, LineKept};
 ghost use Rattle.im_tool_drill.specs.StoreRuns.{IsOpening, IsLifeRun, AreLinesRun, IsLineRun, IsStepRun, IsLookRun, IsLastRun};
@@ -22,7 +21,7 @@ use im_engine::{Config, Engine};
 use im_front::Step;
 use im_tool_answers::{StoreAnswers, StoreReply};
 use im_tool_lines::{LifeOptions, StoreLife, StoreLine};
-use im_tool_raw::{Opening, arm, has_come, refused_opening};
+use im_tool_raw::{Opening, arm_life, has_come, refused_opening};
 use std::alloc::{AllocError, Global};
 
 /// Runs one life on the disk, and gives the disk back as it was when the stop came or the lines ended.
@@ -73,43 +72,6 @@ pub fn open_store(
     ensures { IsOpening ⟦<ModelDisk as Disk>⟧ options disk result }
 {
     Engine::open_or_create(alloc, disk, config_of(options))
-}
-
-// Sets the life's stop, and the device call and the read that fail in it.
-fn arm_life(alloc: Global, disk: &mut ModelDisk, life: &StoreLife) -> Result<(), AllocError>
-    ensures armed { OnOk result (IsArmedAll life.now.stop life.now.options.failing_call life.now.options.failing_read disk.old disk.new) }
-    ensures reads { Reads ⟦<ModelDisk as Disk>⟧ disk.old disk.new }
-    ensures synced { IsSynced ⟦<ModelDisk as Disk>⟧ disk.old → IsSynced ⟦<ModelDisk as Disk>⟧ disk.new }
-    ensures failed { ⟦<ModelDisk as Disk>⟧.failed disk.new ≡ ⟦<ModelDisk as Disk>⟧.failed disk.old }
-{
-    arm(alloc, disk, &life.stop)?;
-    arm_call(disk, life.options.failing_call);
-    arm_read(disk, life.options.failing_read);
-    Ok(())
-}
-
-fn arm_call(disk: &mut ModelDisk, call: Option<u64>)
-    ensures armed { IsCallArmed call disk.old disk.new }
-    ensures reads { Reads ⟦<ModelDisk as Disk>⟧ disk.old disk.new }
-    ensures synced { IsSynced ⟦<ModelDisk as Disk>⟧ disk.old → IsSynced ⟦<ModelDisk as Disk>⟧ disk.new }
-    ensures failed { ⟦<ModelDisk as Disk>⟧.failed disk.new ≡ ⟦<ModelDisk as Disk>⟧.failed disk.old }
-{
-    match call {
-        Some(call) => disk.fail_call(call),
-        None => {}
-    }
-}
-
-fn arm_read(disk: &mut ModelDisk, read: Option<u64>)
-    ensures armed { IsReadArmed read disk.old disk.new }
-    ensures reads { Reads ⟦<ModelDisk as Disk>⟧ disk.old disk.new }
-    ensures synced { IsSynced ⟦<ModelDisk as Disk>⟧ disk.old → IsSynced ⟦<ModelDisk as Disk>⟧ disk.new }
-    ensures failed { ⟦<ModelDisk as Disk>⟧.failed disk.new ≡ ⟦<ModelDisk as Disk>⟧.failed disk.old }
-{
-    match read {
-        Some(read) => disk.fail_read(read),
-        None => {}
-    }
 }
 
 /// How an engine is opened by these options: 64 frames and 1,000,000 pages where they are left out.

@@ -1,8 +1,7 @@
 -- Openings that are stopped, and openings that are judged.
-use Rattle.std.specs.Prelude.{◌≡◌, ◌⊎◌, ◌↔◌, Bool, true, List, Some, Result, Ok, Err}
+use Rattle.std.specs.Prelude.{◌≡◌, ◌↔◌, Bool, true, List, Some, Result, Ok, Err}
 use Rattle.std.specs.Global.{Vec}
 use Rattle.im_base_types.specs.declared.fault.Fault.{Fault}
-use Rattle.im_base_types.specs.declared.fault.Fault.TheVariants.{Device, PoolSize}
 use Rattle.im_base_types.specs.declared.file_id.FileId.{FileId}
 use Rattle.im_base_types.specs.Pages.{Entry}
 use Rattle.im_base_disk.specs.declared.disk.Disk.{Ghosts}
@@ -17,16 +16,7 @@ use Rattle.im_tool_drill.specs.Listing.{IsListing}
 use Rattle.im_tool_drill.specs.StoreRuns.{IsOpening}
 use Rattle.im_tool_judge.specs.declared.change.AskedEffect.{AskedEffect}
 use Rattle.im_tool_every.specs.declared.opening.Judged.{Judged}
-use Rattle.im_tool_judge.specs.Judged.{IsAllowed}
-
--- Such a refusal says nothing against a store: the device failed, or the frames are too few or too many.
-abbrev pub IsPassedOver : Fault → Type 0
-IsPassedOver fault = (fault ≡ Device) ⊎ (fault ≡ PoolSize)
-
--- The entries are allowed, or what hid them says nothing against the store.
-abbrev pub IsGood : List AskedEffect → Result (Vec Entry) Fault → Type 0
-IsGood asked (Ok found) = IsAllowed asked found.items
-IsGood asked (Err fault) = IsPassedOver fault
+use Rattle.im_tool_judge.specs.Judged.{IsGood, IsPassedOver}
 
 module _ (d : Ghosts ModelDisk) where
   -- The stop was armed on this disk, an engine was opened on it, and the new disk has byte for byte what the stop left.

@@ -1,18 +1,17 @@
 //! An opening that is judged, and one that is stopped.
 
-ghost use Rattle.std.specs.Prelude.{◌≡◌, ◌↔◌, true, false, IfOk};
+ghost use Rattle.std.specs.Prelude.{◌≡◌, false, IfOk};
 ghost use Rattle.im_base_types.specs.declared.file_id.FileId.{FileId};
 ghost use Rattle.im_base_model_disk.specs.Left.{IsLeftBy};
 ghost use Rattle.im_base_model_disk.specs.Model.{IsFresh, file_of, model_stop};
 ghost use Rattle.im_base_disk.specs.Runs.{IsSynced};
-ghost use Rattle.im_tool_every.specs.Opened.{IsGood, IsJudged, IsJudgedBy, IsPassedOver, IsStopped};
+ghost use Rattle.im_tool_every.specs.Opened.{IsJudged, IsJudgedBy, IsStopped};
 
 use im_base_disk::Disk;
 use im_base_model_disk::{ModelDisk, Stop};
-use im_base_types::{Fault, Key, Rid};
 use im_engine::Engine;
 use im_tool_drill::open_store;
-use im_tool_judge::{AskedEffect, is_allowed};
+use im_tool_judge::{AskedEffect, is_good, is_passed_over};
 use im_tool_lines::LifeOptions;
 use std::alloc::{AllocError, Global};
 
@@ -62,22 +61,6 @@ fn judge_entries(
     Ok(good)
 }
 
-fn is_good(
-    alloc: Global,
-    asked: &[AskedEffect],
-    found: Result<Vec<(Key, Rid)>, Fault>,
-) -> Result<bool, AllocError>
-    ensures { IfOk result (λ good. good ≡ true ↔ IsGood asked.now found) }
-{
-    match found {
-        Ok(found) => {
-            let good = is_allowed(alloc, asked, &found)?;
-            Ok(good)
-        }
-        Err(fault) => Ok(is_passed_over(fault)),
-    }
-}
-
 /// Opens with a stop armed, and gives the disk that the stop leaves.
 pub(crate) fn stop_opening(
     alloc: Global,
@@ -117,11 +100,4 @@ pub(crate) fn left_by(alloc: Global, disk: &ModelDisk) -> Result<ModelDisk, Allo
         Ok(left) => Ok(left),
         Err(_) => Err(AllocError),
     }
-}
-
-// Whether such a refusal says nothing against a store: the device failed, or the frames are too few or too many.
-fn is_passed_over(fault: Fault) -> bool
-    ensures { result ≡ true ↔ IsPassedOver fault }
-{
-    fault == Fault::Device || fault == Fault::PoolSize
 }

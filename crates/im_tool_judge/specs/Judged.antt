@@ -1,8 +1,10 @@
 -- What a judge of openings says.
-use Rattle.std.specs.Prelude.{◌≡◌, ℕ, List, [], ◌∷◌, map}
+use Rattle.std.specs.Prelude.{◌≡◌, ◌⊎◌, ℕ, List, [], ◌∷◌, map, Result, Ok, Err}
 use Rattle.std.specs.Global.{Vec}
 use Rattle.std.specs.FinMap.{empty, entries}
 use Rattle.std.specs.FinMap.Entries as lists
+use Rattle.im_base_types.specs.declared.fault.Fault.{Fault}
+use Rattle.im_base_types.specs.declared.fault.Fault.TheVariants.{Device, PoolSize}
 use Rattle.im_base_types.specs.Changes as changes
 use Rattle.im_base_types.specs.Changes.{Effect, applied, apply_all}
 use Rattle.im_base_types.specs.Keys.{Key, key_order}
@@ -35,6 +37,15 @@ pub record IsAllowed (asked : List AskedEffect) (found : List Entry) : Type 0 wh
   pub after : List Effect
   pub survives : Survives [] (asked_in asked) after
   pub is : found ≡ entries (apply_all empty after)
+
+-- Such a refusal says nothing against a store: the device failed, or the frames are too few or too many.
+abbrev pub IsPassedOver : Fault → Type 0
+IsPassedOver fault = (fault ≡ Device) ⊎ (fault ≡ PoolSize)
+
+-- The entries are allowed, or what hid them says nothing against the store.
+abbrev pub IsGood : List AskedEffect → Result (Vec Entry) Fault → Type 0
+IsGood asked (Ok found) = IsAllowed asked found.items
+IsGood asked (Err fault) = IsPassedOver fault
 
 -- entries with keys that lie elsewhere in memory
 abbrev pub held : List (Vec ℕ × ℕ) → List Entry

@@ -1,12 +1,12 @@
-//! The judge of an opening.
+//! The judges of an opening.
 
 ghost use Rattle.std.specs.Prelude.{◌≡◌, ◌↔◌, true, IfOk};
 ghost use Rattle.im_base_types.specs.Lives.{NoneAcked};
-ghost use Rattle.im_tool_judge.specs.Judged.{IsAllowed, asked_in, held};
+ghost use Rattle.im_tool_judge.specs.Judged.{IsAllowed, IsGood, IsPassedOver, asked_in, held};
 
 use crate::change::AskedEffect;
 use crate::sorted::Sorted;
-use im_base_types::{Key, Rid};
+use im_base_types::{Fault, Key, Rid};
 use std::alloc::{AllocError, Global};
 
 /// Whether the entries that an opening found are those of a front of the effects that were asked, with all that were acknowledged.
@@ -25,6 +25,30 @@ pub fn is_allowed(
         good = good || front;
     }
     Ok(good)
+}
+
+/// Whether an opening that came to this is good: the entries that it found are allowed, or what hid them says nothing against the store.
+pub fn is_good(
+    alloc: Global,
+    asked: &[AskedEffect],
+    found: Result<Vec<(Key, Rid)>, Fault>,
+) -> Result<bool, AllocError>
+    ensures { IfOk result (λ good. good ≡ true ↔ IsGood asked.now found) }
+{
+    match found {
+        Ok(found) => {
+            let good = is_allowed(alloc, asked, &found)?;
+            Ok(good)
+        }
+        Err(fault) => Ok(is_passed_over(fault)),
+    }
+}
+
+/// Whether such a refusal says nothing against a store: the device failed, or the frames are too few or too many.
+pub fn is_passed_over(fault: Fault) -> bool
+    ensures { result ≡ true ↔ IsPassedOver fault }
+{
+    fault == Fault::Device || fault == Fault::PoolSize
 }
 
 // Whether none of the effects behind a front was acknowledged, and what was found are the entries of the map behind that front.

@@ -2,7 +2,7 @@
 //!
 //! `effects_asked` reads off a life's lines and replies which effects it asked, as the definition of lives shows them (`shown_in`). `is_allowed` says
 //! whether the entries that an opening found are those of a front of these effects, with all that were acknowledged (`IsAllowed`): it keeps a plain
-//! ordered list of entries, and knows nothing of pages or logs.
+//! ordered list of entries, and knows nothing of pages or logs. `is_good` judges also an opening that was refused (`IsGood`).
 //!
 //! `is_disturbed` judges the answers of a life in which a device call, a read or a length call failed by those of the same life undisturbed
 //! (`IsDisturbed`): it answers as undisturbed up to a refusal by the device, and behind that as an engine that has failed.
@@ -19,5 +19,5 @@ mod sorted;
 
 pub use change::{AskedEffect, Change};
 pub use disturbed::{is_by_device, is_disturbed};
-pub use judge::is_allowed;
+pub use judge::{is_allowed, is_good, is_passed_over};
 pub use showing::effects_asked;

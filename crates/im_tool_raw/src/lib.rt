@@ -6,8 +6,9 @@
 //! last life left, or was refused for want of memory or by the disk. Each life has its answers and each line its reply, up to a
 //! line into which the stop fell (`EachAnswered`). Every answer comes from a call of a gate (`IsRawRun`).
 //!
-//! `arm`, `has_come` and `refused_opening` are the parts of a life that a life of a store has too: its stop, and what an opening answers
-//! that did not succeed (`Opening`). So are `AnsweredBy`, which lines have replies, and `IsNextDisk`, on what the next life begins.
+//! Of a life of a store there is here what it has in common: its stop, and the device call and the read that fail in it, armed (`arm_life`,
+//! `has_come`), what an opening answers that did not succeed (`refused_opening`), which lines have replies (`AnsweredBy`), and on which disk the
+//! next life begins (`IsNextDisk`).
 //!
 //! This crate stands on the gate's contracts over any disk, and on the model disk. Within a life it keeps one fact (`IsLiving`): what a stop
 //! may leave now survives the life so far, and as long as the gate works, all that was asked was acknowledged.
@@ -24,4 +25,4 @@ pub use answers::Drilled;
 pub use drilling::drill;
 pub use life_answers::{LifeAnswers, Opening, RawReply};
 pub use opening::open_batches;
-pub use stop::{arm, has_come, refused_opening};
+pub use stop::{arm_life, has_come, refused_opening};

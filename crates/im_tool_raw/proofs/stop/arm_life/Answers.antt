@@ -1,6 +1,6 @@
 use Rattle.im_base_model_disk.specs.contracts.model_disk.ModelDiskDisk.TheImpl.{ghosts}
 use Rattle.im_base_disk.proofs.Runs.{reads_then}
-use Rattle.im_tool_drill.proofs.store_lives.arm_life.Goals as goal
+use Rattle.im_tool_raw.proofs.stop.arm_life.Goals as goal
 
 pub returns-clause-reads : goal.returns-clause-reads
 returns-clause-reads c =

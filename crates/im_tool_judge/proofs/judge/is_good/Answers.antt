@@ -1,9 +1,8 @@
 use Rattle.std.proofs.Common.{◌≡◌, ◌↔◌, true, List, Result, sym, subst}
 use Rattle.im_base_types.specs.Pages.{Entry}
 use Rattle.im_base_types.specs.declared.fault.Fault.{Fault}
-use Rattle.im_tool_judge.specs.Judged.{IsAllowed}
-use Rattle.im_tool_every.specs.Opened.{IsGood}
-use Rattle.im_tool_every.proofs.opening.is_good.Goals as goal
+use Rattle.im_tool_judge.specs.Judged.{IsAllowed, IsGood}
+use Rattle.im_tool_judge.proofs.judge.is_good.Goals as goal
 
 pub returns-in_ok-good-in-Ok : goal.returns-in_ok-good-in-Ok
 returns-in_ok-good-in-Ok c =
