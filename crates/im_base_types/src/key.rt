@@ -1,6 +1,6 @@
 //! Keys.
 
-ghost use Rattle.std.specs.Prelude.{◌≡◌, ◌⊎◌, ◌≤◌, ◌↔◌, ◌+◌, ◌++◌, ◌∷◌, [], length, IfOk, IfErr, OnOk, OnErr, Result, Ok, Err, IsOk};
+ghost use Rattle.std.specs.Prelude.{◌≡◌, ◌⊎◌, ◌≤◌, ◌↔◌, ◌+◌, ◌++◌, ◌∷◌, [], length, vec_len, vec_capacity, IfOk, IfErr, OnOk, OnErr, Result, Ok, Err, IsOk};
 ghost use Rattle.im_base_types.specs.declared.fault.Fault.TheVariants.{KeyLength, Memory};
 
 use crate::Rid;
@@ -68,12 +68,13 @@ impl Key {
 
 /// Adds a key, with what stands with it, to the end of a list. The key is made in its place there: it takes 255 bytes however short it is, so that
 /// to make it first and to move it then would cost most of the time. Refused `KeyLength` where the key has no byte, or more than 255, and
-/// `Memory`; the list then stays as it was.
+/// `Memory`, where the list has no room for one entry more; the list then stays as it was.
 pub fn push_entry(list: &mut Vec<(Key, Rid)>, key: &[u8], rid: Rid) -> Result<(), Fault>
     ensures added { OnOk result (list.new.items ≡ list.old.items ++ (key.now, rid) ∷ []) }
     ensures same { OnErr result (list.new.items ≡ list.old.items) }
     ensures length { result ≡ Err KeyLength ↔ (length key.now ≡ 0) ⊎ (256 ≤ length key.now) }
     ensures causes { IfErr result (λ e. (e ≡ KeyLength) ⊎ (e ≡ Memory)) }
+    ensures full { result ≡ Err Memory → vec_capacity list.old ≤ vec_len list.old }
 {
     if key.is_empty() || key.len() > 255 {
         return Err(Fault::KeyLength);

@@ -258,7 +258,9 @@ impl Gate {
         Ok(Some(size as usize))
     }
 
-    /// Puts a batch of 1 to 16,384 bytes behind the closed gate and opens it, by two writes and two syncs. It takes no memory.
+    /// Puts a batch of 1 to 16,384 bytes behind the closed gate and opens it, by two writes and two syncs. Where the file may end before the
+    /// batch does, zeros follow the next gate, 16,389 bytes in all behind the one that is opened: most syncs then find the file as long as it
+    /// was, and bytes behind a closed gate mean nothing. It takes no memory.
     ///
     /// Refused `LogFull`, with no device call made, where the records would end past place 2^62; `Device`. After a refusal every
     /// later call answers `Failed` until the file is opened again.

@@ -5,5 +5,6 @@ pub mod RemoveLemmas
 pub mod CoverLemmas
 pub mod WordLemmas
 pub mod SoundLemmas
+pub mod UniformLemmas
 pub mod HeaderLemmas
 pub mod FieldLemmas

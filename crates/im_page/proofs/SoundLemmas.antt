@@ -16,7 +16,7 @@ all_false zero k = refl
 all_false (suc n) zero = refl
 all_false (suc n) (suc k) = all_false n k
 
-total_more : (leaf : Bool) (bytes : List ℕ) (n at : ℕ) → at ≡ slot_at bytes n → at + 1 + slice_index bytes at ≤ length bytes
+pub total_more : (leaf : Bool) (bytes : List ℕ) (n at : ℕ) → at ≡ slot_at bytes n → at + 1 + slice_index bytes at ≤ length bytes
     → total_of leaf bytes (n + 1) ≡ total_of leaf bytes n + cell_size leaf bytes at
 total_more leaf bytes n at is_at fits =
     sum_by-map-range_with_len_more (size leaf) (λ i. entry_from leaf bytes (slot_at bytes i)) 0 n n (omega arith)
@@ -69,7 +69,7 @@ pub marks_set : (flags : List Bool) (at : ℕ) → at < length flags → MarksOn
 marks_set flags at lt = record { len = length-set flags at true; here = get_or-set_same flags at true false lt; others = λ k ne. get_or-set_other flags at k true false ne }
 
 -- keys that rise from one to the next rise
-rise_all : (bytes : List ℕ) (n : ℕ) → ((i : ℕ) → 0 < i → i < n → IsBelow (key_from bytes (slot_at bytes (i - 1))) (key_from bytes (slot_at bytes i)))
+pub rise_all : (bytes : List ℕ) (n : ℕ) → ((i : ℕ) → 0 < i → i < n → IsBelow (key_from bytes (slot_at bytes (i - 1))) (key_from bytes (slot_at bytes i)))
     → (i j : ℕ) → i < j → j < n → IsBelow (key_from bytes (slot_at bytes i)) (key_from bytes (slot_at bytes j))
 rise_all bytes n below i zero ij lj = absurd (omega arith)
 rise_all bytes n below i (suc j) ij lj =
@@ -80,7 +80,7 @@ rise_all bytes n below i (suc j) ij lj =
     (cases_lt i j)
 
 -- two keys of which one is above the other are not one cell's
-rise_distinct : (bytes : List ℕ) (n : ℕ) → ((i j : ℕ) → i < j → j < n → IsBelow (key_from bytes (slot_at bytes i)) (key_from bytes (slot_at bytes j)))
+pub rise_distinct : (bytes : List ℕ) (n : ℕ) → ((i j : ℕ) → i < j → j < n → IsBelow (key_from bytes (slot_at bytes i)) (key_from bytes (slot_at bytes j)))
     → (i j : ℕ) → i < n → j < n → i ≢ j → slot_at bytes i ≢ slot_at bytes j
 rise_distinct bytes n rises i j li lj ne same =
     ⊎_elim

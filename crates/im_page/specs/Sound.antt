@@ -1,5 +1,5 @@
 -- The test of a page's form, slot by slot.
-use Rattle.std.specs.Prelude.{◌≡◌, ◌≢◌, ◌⊎◌, ℕ, ◌+◌, ◌-◌, ◌^◌, ◌<◌, ◌≤◌, Bool, true, false, List, length, map, sum_by, slice_index, slice_index_or, take}
+use Rattle.std.specs.Prelude.{◌≡◌, ◌≢◌, ◌⊎◌, ℕ, ◌+◌, ◌-◌, ◌*◌, ◌^◌, ◌<◌, ◌≤◌, Bool, true, false, List, length, map, sum_by, slice_index, slice_index_or, take}
 use Rattle.std.specs.Int.{w64, from_be_bytes}
 use Rattle.std.specs.List.{range_with_len}
 use Rattle.im_page_form.specs.Entry.{size}
@@ -63,3 +63,19 @@ pub record IsRun (leaf : Bool) (bytes : List ℕ) (n from : ℕ) : Type 0 where
   pub falls : (i j : ℕ) → i < j → j < n → slot_at bytes j + cell_size leaf bytes (slot_at bytes j) ≤ slot_at bytes i
   pub high : (i : ℕ) → i < n → slot_at bytes i + cell_size leaf bytes (slot_at bytes i) ≤ 4096
   pub full : from + total_of leaf bytes n ≡ 4096
+
+-- a cell of this size is in the page, a whole number of such cells behind where the cells begin
+pub record IsPlace (start each at : ℕ) : Type 0 where
+  pub high : at + each ≤ 4096
+  pub behind : (k : ℕ) × (start + k * each ≡ at)
+
+-- the first n slots are places of cells of one size
+abbrev pub ArePlaces : List ℕ → ℕ → ℕ → Type 0
+ArePlaces bytes each n = (i : ℕ) → i < n → IsPlace (start_of bytes) each (slot_at bytes i)
+
+-- the first n slots' cells have one size, and keys that rise from one to the next
+pub record AreUniform (leaf : Bool) (bytes : List ℕ) (each n : ℕ) : Type 0 where
+  pub sizes : (i : ℕ) → i < n → cell_size leaf bytes (slot_at bytes i) ≡ each
+  pub total : total_of leaf bytes n ≡ n * each
+  pub keyed : (i : ℕ) → i < n → 1 ≤ slice_index bytes (slot_at bytes i)
+  pub below : (i : ℕ) → 0 < i → i < n → IsBelow (key_from bytes (slot_at bytes (i - 1))) (key_from bytes (slot_at bytes i))

@@ -1,10 +1,11 @@
 //! The test of a page's form.
 
-ghost use Rattle.std.specs.Prelude.{◌≡◌, ◌↔◌, IsTrue, ℕ, ◌+◌, ◌*◌, ◌<◌, ◌≤◌, false, true, length, slice_index, replicate};
+ghost use Rattle.std.specs.Prelude.{◌≡◌, ◌↔◌, IsTrue, ℕ, ◌+◌, ◌*◌, ◌/◌, ◌<◌, ◌≤◌, false, true, length, slice_index, replicate};
 ghost use Rattle.im_base_types.specs.Keys.{IsBelow};
 ghost use Rattle.im_page_form.specs.Form.{count_of, start_of, slot_at, key_from, cell_size, IsPacked};
+ghost use Rattle.im_page_form.specs.Entry.{width};
 ghost use Rattle.im_page_form.specs.Page.{IsHeader, IsForm};
-ghost use Rattle.im_page.specs.Sound.{HasSlots, IsTopOf, IsFootOf, SlotsSound};
+ghost use Rattle.im_page.specs.Sound.{HasSlots, IsTopOf, IsFootOf, IsPlace, ArePlaces, AreUniform, SlotsSound};
 
 use crate::cells::{cell_len, key_at};
 use crate::number::{get_u16, get_u32};
@@ -137,6 +138,84 @@ fn is_run(leaf: bool, bytes: &[u8]) -> bool
     true
 }
 
+/// Whether a cell of this size is in the page and a whole number of such cells behind where the cells begin. `inverse` is 2^32 by the size,
+/// rounded up. What the cell is behind by times it is in 32 bits below it where that is a multiple of the size, and only there, as long as
+/// both are small: a product in the place of a division.
+fn is_place(at: u32, start: u32, size: u32, inverse: u32) -> bool
+    requires start { start + size ≤ 4096 }
+    requires size { 2 ≤ size }
+    requires short { size ≤ 264 }
+    requires inverse { inverse ≡ 4294967295 / size + 1 }
+    ensures { IsTrue result → IsPlace start size at }
+{
+    let behind = at.wrapping_sub(start);
+    (behind <= 4096 - size - start) & (behind.wrapping_mul(inverse) < inverse)
+}
+
+/// Whether each slot is the place of a cell of this size. It has no branches, so that it goes by some slots at a time.
+fn are_places(bytes: &[u8], size: u32) -> bool
+    requires len { length bytes.now ≡ 4096 }
+    requires slots { 32 + 2 * count_of bytes.now ≤ 4096 }
+    requires start { start_of bytes.now + size ≤ 4096 }
+    requires size { 2 ≤ size }
+    requires short { size ≤ 264 }
+    ensures { IsTrue result → ArePlaces bytes.now size (count_of bytes.now) }
+{
+    let start = get_u16(bytes, 14) as u32;
+    let inverse = u32::MAX / size + 1;
+    let mut all = true;
+    for i in 0..get_u16(bytes, 12) {
+        all = all & is_place(get_u16(bytes, 32 + 2 * i) as u32, start, size, inverse);
+    }
+    all
+}
+
+/// Whether the cells of the slots have keys of this length, and their keys rise.
+fn do_keys_rise(leaf: bool, bytes: &[u8], key_len: u8) -> bool
+    requires len { length bytes.now ≡ 4096 }
+    requires slots { 32 + 2 * count_of bytes.now ≤ 4096 }
+    requires places { ArePlaces bytes.now (1 + key_len + width leaf) (count_of bytes.now) }
+    ensures { IsTrue result → AreUniform leaf bytes.now (1 + key_len + width leaf) (count_of bytes.now) }
+{
+    let mut before = 0usize;
+    let mut top = 0u64;
+    for i in 0..get_u16(bytes, 12) {
+        let at = get_u16(bytes, 32 + 2 * i);
+        if bytes[at] != key_len {
+            return false;
+        }
+        let key = key_at(bytes, at);
+        if foot_of(key) <= top && !is_next(bytes, i, before, at) {
+            return false;
+        }
+        top = top_of(key);
+        before = at;
+    }
+    true
+}
+
+/// Whether all cells have one size, as where all keys have one length, each of them whole sizes behind where the cells begin, and all of them
+/// take all of their place. Then nothing has to be flagged: keys that rise are in cells of their own, and such cells share no byte.
+#[inline(never)]
+fn is_uniform(leaf: bool, bytes: &[u8]) -> bool
+    requires len { length bytes.now ≡ 4096 }
+    requires slots { 32 + 2 * count_of bytes.now ≤ start_of bytes.now }
+    requires start { start_of bytes.now ≤ 4096 }
+    ensures { IsTrue result → SlotsSound leaf bytes.now }
+{
+    let count = get_u16(bytes, 12);
+    let first = get_u16(bytes, 32);
+    if count == 0 || 4096 <= first {
+        return false;
+    }
+    let key_len = bytes[first];
+    let size = cell_len(leaf, key_len as usize);
+    if get_u16(bytes, 14) + count * size != 4096 {
+        return false;
+    }
+    are_places(bytes, size as u32) && do_keys_rise(leaf, bytes, key_len)
+}
+
 /// Whether the slots are those of a packed page, whose cells lie in any order.
 #[inline(never)]
 fn are_any_sound(leaf: bool, bytes: &[u8]) -> bool
@@ -172,7 +251,7 @@ pub fn is_packed(leaf: bool, bytes: &[u8]) -> bool
     if start < front || 4096 < start || !is_zero(bytes, front, start) {
         return false;
     }
-    is_run(leaf, bytes) || are_any_sound(leaf, bytes)
+    is_run(leaf, bytes) || is_uniform(leaf, bytes) || are_any_sound(leaf, bytes)
 }
 
 /// Whether the header's fields are those of its kind.

@@ -53,25 +53,28 @@
 //! | read a full page in place | 532 | 2,728 | 0.20 | 623 | 2,290 | 0.27 |
 //! | split into two pages | 1,794 | 2,542 | 0.71 | 2,315 | 3,445 | 0.67 |
 //!
-//! The row of reads is of another machine than the others, with a load of ten to fifteen on its four cores; where the walk over the
-//! cells came before the slots, it took 843 and 1,054 in the same minutes. On that or a like machine the other ratios were, in the same
-//! order, 0.22 and 0.22, 0.91 and 0.97, and between 1.1 and 1.6 for a split, which took 2,763 to 4,141 there with 150 entries from
-//! run to run, where C took 2,554.
+//! The row of reads is of another machine than the others, with a load of ten to fifteen on its four cores, and from before cells of one
+//! size were tested without flags. On that or a like machine the other ratios were, in the same order, 0.22 and 0.22, 0.91 and 0.97, and
+//! between 1.1 and 1.6 for a split, which took 2,763 to 4,141 there with 150 entries from run to run, where C took 2,554.
 //!
 //! Slower than C are a removal and an insertion, as cells and slots move by a rotation, which keeps the shorter side in
 //! a buffer meanwhile and moves the rest at once, and as each slot is written again; and on the second machine a split,
-//! as each entry is put by an insertion of its own. Keys are compared eight bytes at a time. The test of a page's form looks
-//! first whether the last slot's cell is the foremost one, and if so goes over the slots as long as each one's cell ends where that of
-//! the slot before begins. So they lie where a page was filled in order, by `copy_entries` too; where they do down to the byte where the
-//! cells begin, nothing more is asked of the cells. Else the test flags that byte and the one behind each slot's cell, so that no step of
-//! it waits for the one before; at last each slot has to name a flagged byte, and the page's end has to be one. The first eight bytes of
-//! each key are read once, as a number that is kept for the next slot; where two such numbers differ, no other byte of the two keys is
-//! read.
+//! as each entry is put by an insertion of its own. Keys are compared eight bytes at a time. The first eight bytes of each key are read
+//! once by the test of a page's form, as a number that is kept for the next slot; where two such numbers differ, no other byte of the two
+//! keys is read.
 //!
-//! What the pass in order saves, on one machine with a load of eight to ten on its four cores: `load` of one of four leaves of 147 entries
-//! with keys of eight bytes took 338 ns where their cells lie in order, 595 where they lie scattered, and 596 where the middle key came last,
-//! where it took 728 of each without that pass, its flags then in one function with all else (each the least of eight runs in turn, of 1,000
-//! times 200 calls each).
+//! That no two cells share a byte and none is left over is tested in the first of three ways that serves:
+//! - The cells lie in the order of their slots, from the page's end down to where the cells begin, as where a page was filled in order, by
+//!   `copy_entries` too: one pass over the slots, which looks first whether the last slot's cell is the foremost one.
+//! - All cells have one size, as where all keys have one length, and begin at whole numbers of it: one pass for that, without a branch, and
+//!   one for the keys. As the keys rise, no two slots have one cell, and together the cells are as long as their place.
+//! - Else flags: for the byte where the cells begin and the one behind each slot's cell, so that no step waits for the one before; at last
+//!   each slot has to name a flagged byte, and the page's end has to be one.
+//!
+//! What the first two save, on one machine: `load` of one of 64 leaves of 147 entries with keys of eight bytes, behind a copy into a buffer,
+//! took 410 ns where their cells lie in order, 440 or 555 where they lie scattered, by how the compiler laid the loop out, and 794 where one
+//! key has a byte more, so that flags are needed; of one of 2,048 leaves into one of 1,024 pages 933, 1,001 or 1,171, and 1,430 to 1,504 (each
+//! the least of some runs of 20 times 20,000 calls).
 #![tactic(auto)]
 
 mod cells;
