@@ -3,9 +3,9 @@
  * of 4,096 bytes for a page that is not held, and of those bytes a test, or none: the slots and cells that a `Page` tests, for keys of eight
  * bytes, but not the header. It is no floor: `im_bench tree` was faster in some pairs.
  *     cc -O3 -o pool pool.c && ./pool [--no-test]
- * On a host that is half as fast in some minutes, all in slow ones, in turn with `im_bench tree --time`: by means of 1,000,000 look-ups there and
- * 2,000,000 here, six pairs, `im_bench tree` took 0.84 to 1.07 times what this takes with the test (1,754 to 2,614 ns for 1,859 to 2,818). By its
- * mean and the least of ten runs here, which favours this, twelve pairs before, 0.73 to 1.54 times. Without the test this took 858 to 1,323. */
+ * On a host that is half as fast in some minutes, in turn with `im_bench tree --time`, eight pairs, by means of 1,000,000 look-ups there and
+ * 2,000,000 here: 1,514 to 2,180 ns there, 1,874 to 2,261 here with the test, and 965 to 1,177 without. There a page whose cells lie in order
+ * is tested with no flags. */
 #include <stdint.h>
 #include <stdio.h>
 #include <stdlib.h>

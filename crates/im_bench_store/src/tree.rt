@@ -6,22 +6,29 @@
 //!
 //! # Figures
 //!
-//! Nanoseconds of a look-up, the least of ten runs with nothing else running, and of a plain walk in C (`cc -O2`) of pages of
-//! the same bytes that all stand in memory, with no pool and no checks, in turn with them:
+//! Nanoseconds of a look-up, with nothing else running:
 //!
-//! | Tree | Look-up | in C | ratio |
-//! |---|---|---|---|
-//! | 100,107 keys in 681 leaves, each page held | 337 | 438 | 0.77 |
-//! | 1,000,041 keys in 6,803 leaves, one page in seven held | 1,691 | 1,080 | 1.57 |
+//! | Tree | Look-up | in C |
+//! |---|---|---|
+//! | 100,107 keys in 681 leaves, each page held | 337 | 438 |
+//! | 1,000,041 keys in 6,803 leaves, one page in seven held | 1,474 to 2,180, 1,693 in the middle | 1,874 to 2,261 |
+//! | the same, memory in pages of 2 MiB | 1,339 to 1,980, 1,448 in the middle | |
+//!
+//! The first row is the least of ten runs, and of a plain walk in C (`cc -O2`) of pages of the same bytes that all stand in memory, with no
+//! pool and no checks, in turn with them. The second is sixteen runs on a host that is half as fast in some minutes, eight of them (1,514 to
+//! 2,180) in turn with `crates/im_bench/peer/pool.c`: a pool of 1,024 frames by use in arrays, with a table of the pages' frames, one copy for a
+//! page that is not held, and a test of what comes in, by flags; with no test it took 965 to 1,177. The third is eight runs with
+//! `GLIBC_TUNABLES=glibc.malloc.hugetlb=1`, in turn with eight of the second.
 //!
 //! A look-up goes through three pages. Leaves seven tenths full of such keys fit into the pool up to some 149,000 keys. In the second
-//! tree most look-ups read their leaf. By samples its copy from the memory of the disk into a frame takes 40 % of the time, the test of its
-//! form 23 %, the zeros that the test begins with 5 %, the search of the inner pages 9 %, the pool's maps 12 %. In C, with 1,024 frames by
-//! use in arrays, a table of the pages' frames, and such a copy into a frame for each page that is not held, the second tree took 1,467 to
-//! 1,655 in the same minutes where no page was tested, and 2,801 to 3,056 where each page that came in was.
+//! tree most look-ups read their leaf. By samples of all that `--time` does here, the copy from the memory of the disk into a frame takes a
+//! third of the time, the test of its form 15 %, the search of pages 21 %, the pool's maps 15 %.
+//!
+//! These leaves are filled in order. Of a store that was filled with 1,000,000 keys in scattered order (`im_bench store --time --keys 1000000
+//! --frames 1024`), a look-up by the engine's step, with its lock, took 1,913 to 2,425 for a key that is there.
 //!
 //! With its lock, and the locks of each thousand given back, a look-up in the first tree took 1.28 times what the same took without, in the
-//! middle of these runs (0.95 to 1.58; the least of each 428 and 337), and in the second 1.16 times.
+//! middle of ten pairs (0.95 to 1.58; the least of each 428 and 337), and in the second 1.16 times.
 //!
 //! Nanoseconds of a step on a store that is filled with 100,000 keys, searched and emptied, each the least of some runs, beside a tree in C of
 //! pages of the same bytes, which logs nothing, has no pool and keeps empty leaves; its figures are the least and the most of the runs:
