@@ -3,9 +3,8 @@
  * of 4,096 bytes for a page that is not held, and of those bytes a test, or none: the slots and cells that a `Page` tests, for keys of eight
  * bytes, but not the header. It is no floor: `im_bench tree` was faster in some pairs.
  *     cc -O3 -o pool pool.c && ./pool [--no-test]
- * On a host that is half as fast in some minutes, in turn with `im_bench tree --time`, eight pairs, by means of 1,000,000 look-ups there and
- * 2,000,000 here: 1,514 to 2,180 ns there, 1,874 to 2,261 here with the test, and 965 to 1,177 without. There a page whose cells lie in order
- * is tested with no flags. */
+ * In turn with `im_bench tree --time`, four pairs, by means of 1,000,000 look-ups there and 2,000,000 here: 1,228 to 1,311 ns there, 1,496 to
+ * 1,586 here with the test, and 738 to 813 without. There a page whose cells lie in order is tested with no flags. */
 #include <stdint.h>
 #include <stdio.h>
 #include <stdlib.h>

@@ -11,21 +11,22 @@
 //! | Tree | Look-up | in C |
 //! |---|---|---|
 //! | 100,107 keys in 681 leaves, each page held | 337 | 438 |
-//! | 1,000,041 keys in 6,803 leaves, one page in seven held | 1,474 to 2,180, 1,693 in the middle | 1,874 to 2,261 |
-//! | the same, memory in pages of 2 MiB | 1,339 to 1,980, 1,448 in the middle | |
+//! | 1,000,041 keys in 6,803 leaves, one page in seven held | 1,228 to 1,358 | 1,496 to 1,586 |
+//! | the same, memory in pages of 2 MiB | 1,188 to 1,316 | |
 //!
 //! The first row is the least of ten runs, and of a plain walk in C (`cc -O2`) of pages of the same bytes that all stand in memory, with no
-//! pool and no checks, in turn with them. The second is sixteen runs on a host that is half as fast in some minutes, eight of them (1,514 to
-//! 2,180) in turn with `crates/im_bench/peer/pool.c`: a pool of 1,024 frames by use in arrays, with a table of the pages' frames, one copy for a
-//! page that is not held, and a test of what comes in, by flags; with no test it took 965 to 1,177. The third is eight runs with
-//! `GLIBC_TUNABLES=glibc.malloc.hugetlb=1`, in turn with eight of the second.
+//! pool and no checks, in turn with them. The second is fourteen runs, four of them (1,228 to 1,311) in turn with
+//! `crates/im_bench/peer/pool.c`: a pool of 1,024 frames by use in arrays, with a table of the pages' frames, one copy for a page that is not
+//! held, and a test of what comes in, by flags; with no test it took 738 to 813. The third is ten runs with
+//! `GLIBC_TUNABLES=glibc.malloc.hugetlb=1`, in turn with ten of the second. Half an hour before, the same host gave half of itself: sixteen runs
+//! took 1,474 to 2,180, and C in turn with eight of them 1,874 to 2,261.
 //!
 //! A look-up goes through three pages. Leaves seven tenths full of such keys fit into the pool up to some 149,000 keys. In the second
 //! tree most look-ups read their leaf. By samples of all that `--time` does here, the copy from the memory of the disk into a frame takes a
 //! third of the time, the test of its form 15 %, the search of pages 21 %, the pool's maps 15 %.
 //!
 //! These leaves are filled in order. Of a store that was filled with 1,000,000 keys in scattered order (`im_bench store --time --keys 1000000
-//! --frames 1024`), a look-up by the engine's step, with its lock, took 1,913 to 2,425 for a key that is there.
+//! --frames 1024`), a look-up by the engine's step, with its lock, took 1,564 and 1,592 for a key that is there.
 //!
 //! With its lock, and the locks of each thousand given back, a look-up in the first tree took 1.28 times what the same took without, in the
 //! middle of ten pairs (0.95 to 1.58; the least of each 428 and 337), and in the second 1.16 times.
