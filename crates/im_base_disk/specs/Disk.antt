@@ -1,18 +1,23 @@
 -- What the calls of a disk do to its files, and what a stop may do between two syncs.
-use Rattle.std.specs.Prelude.{◌≡◌, ◌≢◌, ◌⊎◌, ℕ, ◌+◌, ◌≤◌, max, Bool, not, is_ok, List, ◌++◌, length, take, drop, Result, IfErr}
+use Rattle.std.specs.Prelude.{◌≡◌, ◌≢◌, ◌⊎◌, ℕ, ◌+◌, ◌≤◌, max, Bool, not, is_ok, List, [], ◌++◌, length, take, drop, Result, IfErr}
 use Rattle.im_base_types.specs.declared.fault.Fault.{Fault}
 use Rattle.im_base_types.specs.declared.fault.Fault.TheVariants.{Device}
 use Rattle.im_base_types.specs.declared.file_id.FileId.{FileId}
-use Rattle.im_base_types.specs.declared.file_id.FileId.TheVariants.{Log, Pages}
+use Rattle.im_base_types.specs.declared.file_id.FileId.TheVariants.{Log, Pages, Log2}
 
 -- the bytes of each file
 abbrev pub Files : Type 0
 Files = FileId → List ℕ
 
--- these bytes of the one file and these of the other
+-- these bytes of each file
+abbrev pub three : List ℕ → List ℕ → List ℕ → Files
+three log pages log2 Log = log
+three log pages log2 Pages = pages
+three log pages log2 Log2 = log2
+
+-- these of the one log and of the pages; the other log is empty
 abbrev pub both : List ℕ → List ℕ → Files
-both log pages Log = log
-both log pages Pages = pages
+both log pages = three log pages []
 
 -- new is old with these bytes at this place
 abbrev pub Holds : ℕ → List ℕ → List ℕ → List ℕ → Type 0

@@ -1,9 +1,10 @@
 //! Real files. Nothing is told of their bytes.
-ghost use Rattle.std.specs.Prelude.{◌≡◌, ◌↔◌, [], true, false, IfOk};
-ghost use Rattle.im_base_file_disk.specs.RealFiles.{IsApart, HasOwnDescriptors, MayBeLog};
+ghost use Rattle.std.specs.Prelude.{◌≡◌, ◌↔◌, [], true, false, IfOk, IfErr, IfSome, OnOk, Ok, Err, Some, is_err, option_map};
+ghost use Rattle.im_base_types.specs.declared.fault.Fault.TheVariants.{Device};
+ghost use Rattle.im_base_file_disk.specs.RealFiles.{IsApart, HasOwnDescriptors, LacksPages, MayBeStore};
 
-use crate::OpenError;
 use crate::folders::{make_folders, sync_folders};
+use crate::{DiskCall, DiskError, OpenError};
 use im_base_disk::{Count, Disk};
 use im_base_types::{Fault, FileId};
 use std::fs::{self, File, OpenOptions, TryLockError};
@@ -13,32 +14,36 @@ use std::os::fd::AsRawFd;
 use std::os::unix::fs::FileExt;
 
 // A stop of a creation leaves no more bytes of a log that was not made: its header, and the first gate.
-const UNMADE_LOG: u64 = 32;
+const UNMADE_LOG: u64 = 48;
 
 // The greatest of the descriptors of standard input, output and error.
 const STANDARD_ERROR: i32 = 2;
 
-/// A folder with the files `log` and `pages`. A call of the disk is one call of the system, and a further one
+/// A folder with the files `log`, `pages` and `log2`. A call of the disk is one call of the system, and a further one
 /// where the system read or wrote a part, or was interrupted. Until it is dropped it holds the lock of the system
 /// on the log, which no second opening gets.
 #[derive(Drop)]
 pub struct FileDisk {
     log: File,
     pages: File,
+    // None where it is missing in a folder that is only read: it reads as a file without bytes.
+    log2: Option<File>,
     has_failed: bool,
+    // What the last call that failed was.
+    last_error: Option<DiskError>,
     writes: Count,
     syncs: Count,
 }
 
 impl FileDisk {
-    /// Opens `log` and `pages` in the folder, makes what is missing of the three, locks the log, and syncs all three,
+    /// Opens `log`, `pages` and `log2` in the folder, makes what is missing of the four, locks the log, and syncs all four,
     /// so that what an ended program left unsynced is kept before it is read. Where no store was made yet, each folder
     /// above them is synced too. Neither file gets the descriptor of standard input, output or error, also where the
     /// program was started without one of them: what it prints there would be written over the store.
     ///
     /// Refused `NotAFile` where a name in the folder is taken by something else, `Locked` where another opening holds
-    /// the log, `NotALog` where the log is of no store and none that a stop of a creation leaves: in these three no
-    /// byte of a file was changed. The other errors are the system's.
+    /// the log, `NotALog` where neither log says that it was made, and they are none that a stop of a creation leaves, `NoPages` where one
+    /// says so and there is no `pages`: in these four no byte of a file was changed and none was made but an empty `log`. The other errors are the system's.
     pub fn open(rt: &HostRuntime, dir: &str) -> Result<FileDisk, OpenError>
         ensures working { IfOk result (λ disk. ⟦<FileDisk as Disk>⟧.failed disk ≡ false) }
         ensures descriptors { IfOk result HasOwnDescriptors }
@@ -54,22 +59,29 @@ impl FileDisk {
         let pages_path = path_of_file(rt, dir, "pages")?;
         let log = open_file(rt, log_path.as_str(), &options)?;
         lock(&log)?;
-        let is_made = has_made_log(&log)?;
+        let found = open_if_made(rt, dir, &options)?;
+        let is_made = has_made_log(&log, found.as_ref())?;
+        if !may_make_pages(is_made, fs::exists(rt, pages_path.as_str())?) {
+            return Err(OpenError::NoPages);
+        }
+        let log2 = made(rt, dir, &options, found)?;
         let pages = open_file(rt, pages_path.as_str(), &options)?;
-        sync_all(&[&log, &pages, &folder])?;
+        sync_all(&[&log, &log2, &pages, &folder])?;
         if !is_made {
             sync_folders(rt, dir)?;
         }
         Ok(FileDisk {
             log,
             pages,
+            log2: Some(log2),
             has_failed: false,
+            last_error: None,
             writes: Count::new(),
             syncs: Count::new(),
         })
     }
 
-    /// Opens the `log` and `pages` that the folder has, to be read only, and locks the log. It makes nothing and syncs
+    /// Opens the `log` and `pages` that the folder has, and its `log2` if it has one, to be read only, and locks the log. It makes nothing and syncs
     /// nothing, and a write to what it opens is refused `Device`. The descriptors are as `open` has them.
     ///
     /// Refused as `open` refuses, and `NoFile` where one of the two is missing.
@@ -86,22 +98,84 @@ impl FileDisk {
         let pages_path = path_of_made_file(rt, dir, "pages")?;
         let log = open_file(rt, log_path.as_str(), &options)?;
         lock(&log)?;
-        has_made_log(&log)?;
+        let log2 = open_if_made(rt, dir, &options)?;
+        has_made_log(&log, log2.as_ref())?;
         let pages = open_file(rt, pages_path.as_str(), &options)?;
         Ok(FileDisk {
             log,
             pages,
+            log2,
             has_failed: false,
+            last_error: None,
             writes: Count::new(),
             syncs: Count::new(),
         })
     }
 
-    fn file(&self, file: FileId) -> &File {
-        match file {
-            FileId::Log => &self.log,
-            FileId::Pages => &self.pages,
+    /// The last call that failed: which it was, on which file and where, and what the system said. None where none has failed.
+    pub fn last_error(&self) -> Option<&DiskError>
+        ensures { option_map (λ e. e.now) result ≡ self.now.last_error }
+    {
+        match &self.last_error {
+            Some(error) => Some(error),
+            None => None,
         }
+    }
+
+    // What a call came to, which was this one: where it failed, it is the last error, with what the system said.
+    fn keep<T: Drop>(
+        &mut self,
+        call: DiskCall,
+        file: FileId,
+        outcome: io::Result<T>,
+    ) -> Result<T, Fault>
+        ensures failed { self.new.has_failed ≡ is_err result }
+        ensures value { IfOk outcome (λ v. result ≡ Ok v) }
+        ensures device { IfErr outcome (λ e. (result ≡ Err Device) × (self.new.last_error ≡ Some (record { call = call; file = file; error = e }))) }
+        ensures same { OnOk outcome (self.new.last_error ≡ self.old.last_error) }
+        ensures counts { (self.new.writes ≡ self.old.writes) × (self.new.syncs ≡ self.old.syncs) }
+    {
+        match outcome {
+            Ok(value) => {
+                self.has_failed = false;
+                Ok(value)
+            }
+            Err(error) => {
+                self.has_failed = true;
+                self.last_error = Some(DiskError { call, file, error });
+                Err(Fault::Device)
+            }
+        }
+    }
+
+    fn file(&self, file: FileId) -> io::Result<&File> {
+        match file {
+            FileId::Log => Ok(&self.log),
+            FileId::Pages => Ok(&self.pages),
+            FileId::Log2 => match &self.log2 {
+                Some(log2) => Ok(log2),
+                None => Err(io::Error::from(ErrorKind::NotFound)),
+            },
+        }
+    }
+
+    fn length(&self, file: FileId) -> io::Result<u64> {
+        if matches!(file, FileId::Log2) && self.log2.is_none() {
+            return Ok(0);
+        }
+        len_of(self.file(file)?)
+    }
+
+    fn read_at(&self, file: FileId, at: u64, buf: &mut [u8]) -> io::Result<()> {
+        self.file(file)?.read_exact_at(buf, at)
+    }
+
+    fn write(&self, file: FileId, at: u64, bytes: &[u8]) -> io::Result<()> {
+        self.file(file)?.write_all_at(bytes, at)
+    }
+
+    fn bring(&self, file: FileId) -> io::Result<()> {
+        self.file(file)?.sync_data()
     }
 }
 
@@ -154,26 +228,76 @@ fn lock(file: &File) -> Result<(), OpenError> {
     }
 }
 
-// Whether the log says that it was made. Nothing is written.
-fn has_made_log(log: &File) -> Result<bool, OpenError> {
-    let len = len_of(log)?;
-    if len == 0 {
-        return Ok(false);
+// The other log of a folder that is only read, if it has one.
+fn open_if_made(
+    rt: &HostRuntime,
+    dir: &str,
+    options: &OpenOptions,
+) -> Result<Option<File>, OpenError>
+    ensures { IfOk result (λ log2. IfSome log2 IsApart) }
+{
+    let path = path_of_file(rt, dir, "log2")?;
+    if fs::exists(rt, path.as_str())? {
+        Ok(Some(open_file(rt, path.as_str(), options)?))
+    } else {
+        Ok(None)
     }
-    let mut first = [0];
-    log.read_exact_at(&mut first, 0)?;
-    if may_be_log(len, first[0]) {
-        Ok(first[0] == 1)
+}
+
+// The other log, which is made where it was not found.
+fn made(
+    rt: &HostRuntime,
+    dir: &str,
+    options: &OpenOptions,
+    found: Option<File>,
+) -> Result<File, OpenError>
+    requires { IfSome found IsApart }
+    ensures { IfOk result IsApart }
+{
+    if let Some(log2) = found {
+        return Ok(log2);
+    }
+    let path = path_of_file(rt, dir, "log2")?;
+    open_file(rt, path.as_str(), options)
+}
+
+// Whether a log says that it was made. Nothing is written.
+fn has_made_log(log: &File, log2: Option<&File>) -> Result<bool, OpenError> {
+    let (long, first) = front_of(log)?;
+    let (long2, first2) = match log2 {
+        Some(log2) => front_of(log2)?,
+        None => (0, 0),
+    };
+    if may_be_store(long, first, long2, first2) {
+        Ok(first == 1 || first2 == 1)
     } else {
         Err(OpenError::NotALog)
     }
 }
 
-// A store that was made says so in its first byte.
-fn may_be_log(len: u64, first: u8) -> bool
-    ensures { (result ≡ true) ↔ MayBeLog len first }
+// The length of a file, and its first byte, 0 where it has none.
+fn front_of(file: &File) -> Result<(u64, u8), OpenError> {
+    let len = len_of(file)?;
+    if len == 0 {
+        return Ok((0, 0));
+    }
+    let mut first = [0];
+    file.read_exact_at(&mut first, 0)?;
+    Ok((len, first[0]))
+}
+
+// A store that was made says so in the first byte of a log. While its current log is one of them, a stop leaves any first byte of the other.
+fn may_be_store(long: u64, first: u8, long2: u64, first2: u8) -> bool
+    ensures { (result ≡ true) ↔ MayBeStore long first long2 first2 }
 {
-    len <= UNMADE_LOG || first == 1
+    first == 1 || first2 == 1 || (long <= UNMADE_LOG && long2 <= UNMADE_LOG)
+}
+
+// A log that was made stands beside the file of pages, which a creation makes first: where that is missing it is not made anew.
+fn may_make_pages(is_made: bool, has_pages: bool) -> bool
+    ensures { (result ≡ false) ↔ LacksPages is_made has_pages }
+{
+    !is_made || has_pages
 }
 
 fn sync_all(files: &[&File]) -> io::Result<()> {
@@ -211,28 +335,24 @@ impl Disk for FileDisk {
     ghost seen_may_stay = { λ _ none. absurd none };
 
     fn len(&mut self, file: FileId) -> Result<u64, Fault> {
-        let outcome = len_of(self.file(file));
-        self.has_failed = outcome.is_err();
-        outcome.map_err(|_| Fault::Device)
+        let outcome = self.length(file);
+        self.keep(DiskCall::Len, file, outcome)
     }
 
     fn read(&mut self, file: FileId, at: u64, buf: &mut [u8]) -> Result<(), Fault> {
-        let outcome = self.file(file).read_exact_at(buf, at);
-        self.has_failed = outcome.is_err();
-        outcome.map_err(|_| Fault::Device)
+        let outcome = self.read_at(file, at, buf);
+        self.keep(DiskCall::Read(at), file, outcome)
     }
 
     fn write_at(&mut self, file: FileId, at: u64, bytes: &[u8]) -> Result<(), Fault> {
         self.writes = self.writes.with_one_more();
-        let outcome = self.file(file).write_all_at(bytes, at);
-        self.has_failed = outcome.is_err();
-        outcome.map_err(|_| Fault::Device)
+        let outcome = self.write(file, at, bytes);
+        self.keep(DiskCall::Write(at), file, outcome)
     }
 
     fn sync(&mut self, file: FileId) -> Result<(), Fault> {
         self.syncs = self.syncs.with_one_more();
-        let outcome = self.file(file).sync_data();
-        self.has_failed = outcome.is_err();
-        outcome.map_err(|_| Fault::Device)
+        let outcome = self.bring(file);
+        self.keep(DiskCall::Sync, file, outcome)
     }
 }

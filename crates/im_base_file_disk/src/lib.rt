@@ -4,9 +4,11 @@
 //! is said of what it reads. `FileDisk::open` makes what is missing, and `OpenError` says why it refused.
 #![tactic(auto)]
 
+mod disk_error;
 mod file_disk;
 mod folders;
 mod open_error;
 
+pub use disk_error::{DiskCall, DiskError};
 pub use file_disk::FileDisk;
 pub use open_error::OpenError;

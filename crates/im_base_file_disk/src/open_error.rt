@@ -26,6 +26,9 @@ pub enum OpenError {
     /// The folder has no file of that name, and none was to be made.
     #[error("there is no `{0}` in it")]
     NoFile(&'static str),
+    /// A log says that it was made, so that there was a file of pages beside it: it is missing.
+    #[error("there is no `pages` in it beside a log that was made: the pages of the store are missing")]
+    NoPages,
     /// The log does not say that it was made, and is longer than a stop leaves one of which that is true: its first
     /// byte is damaged, or it is a file of another program. It is left as it is.
     #[error("`log` in it does not begin as the log of a store")]
@@ -52,6 +55,7 @@ impl OpenError {
         match self {
             OpenError::NotAFile(_) => Fault::NotAStore,
             OpenError::NoFile(_) => Fault::NotAStore,
+            OpenError::NoPages => Fault::NotAStore,
             OpenError::NotALog => Fault::NotAStore,
             OpenError::Locked => Fault::Locked,
             OpenError::Memory => Fault::Memory,

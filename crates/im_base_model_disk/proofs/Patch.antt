@@ -3,9 +3,9 @@ use Rattle.std.proofs.Common.{◌≡◌, ◌≢◌, ◌⊎◌, inl, inr, ⊎_eli
 use Rattle.std.proofs.lemmas.Bool.Decides.{nat_tests}
 use Rattle.std.proofs.lemmas.List.{ext_get_or, get_or-take, get_or-drop}
 use Rattle.im_base_types.specs.declared.file_id.FileId.{FileId}
-use Rattle.im_base_types.specs.declared.file_id.FileId.TheVariants.{Log, Pages}
+use Rattle.im_base_types.specs.declared.file_id.FileId.TheVariants.{Log, Pages, Log2}
 use Rattle.im_base_model_disk.specs.declared.model_file.ModelFile.{ModelFile}
-use Rattle.im_base_disk.specs.Disk.{Files, both, Torn, InFile, Follows}
+use Rattle.im_base_disk.specs.Disk.{Files, three, Torn, InFile, Follows}
 use Rattle.im_base_model_disk.specs.Past.{FileMayHold, MayLeave}
 use Rattle.im_base_model_disk.specs.ModelFile.{IsOutside, MayHold, Keeps}
 use Rattle.im_base_model_disk.specs.Written.{IsWritten, IsRefused}
@@ -121,17 +121,27 @@ module _ (old new : ModelFile) (at : ℕ) (bytes : List ℕ) (place : at ≤ len
         patched_torn old.bytes.items new.bytes.items old.synced end end_new old.written.items new.written.items at (length bytes) old.synced_within past place kept kept.no_longer touched c moved,
       )
 
-  -- and of both
-  pub log_torn : (pages : ModelFile) → Follows (InFile Log (Torn at (length bytes))) (MayLeave old pages) (MayLeave new pages)
-  log_torn pages c left = let d = torn_file (c Log) left.0 in (both d.0 (c Pages), (d.1, left.1), record { changed = d.2; others = same d.0 c })
+  -- and of all
+  pub log_torn : (pages log2 : ModelFile) → Follows (InFile Log (Torn at (length bytes))) (MayLeave old pages log2) (MayLeave new pages log2)
+  log_torn pages log2 c left = let d = torn_file (c Log) left.0 in (three d.0 (c Pages) (c Log2), (d.1, left.1, left.2), record { changed = d.2; others = same d.0 c })
     where
-      same : (d : List ℕ) (c : Files) (other : FileId) → other ≢ Log → c other ≡ both d (c Pages) other
+      same : (d : List ℕ) (c : Files) (other : FileId) → other ≢ Log → c other ≡ three d (c Pages) (c Log2) other
       same d c Log ne = absurd (ne refl)
       same d c Pages ne = refl
+      same d c Log2 ne = refl
 
-  pub pages_torn : (log : ModelFile) → Follows (InFile Pages (Torn at (length bytes))) (MayLeave log old) (MayLeave log new)
-  pages_torn log c left = let d = torn_file (c Pages) left.1 in (both (c Log) d.0, (left.0, d.1), record { changed = d.2; others = same d.0 c })
+  pub pages_torn : (log log2 : ModelFile) → Follows (InFile Pages (Torn at (length bytes))) (MayLeave log old log2) (MayLeave log new log2)
+  pages_torn log log2 c left = let d = torn_file (c Pages) left.1 in (three (c Log) d.0 (c Log2), (left.0, d.1, left.2), record { changed = d.2; others = same d.0 c })
     where
-      same : (d : List ℕ) (c : Files) (other : FileId) → other ≢ Pages → c other ≡ both (c Log) d other
+      same : (d : List ℕ) (c : Files) (other : FileId) → other ≢ Pages → c other ≡ three (c Log) d (c Log2) other
       same d c Log ne = refl
       same d c Pages ne = absurd (ne refl)
+      same d c Log2 ne = refl
+
+  pub log2_torn : (log pages : ModelFile) → Follows (InFile Log2 (Torn at (length bytes))) (MayLeave log pages old) (MayLeave log pages new)
+  log2_torn log pages c left = let d = torn_file (c Log2) left.2 in (three (c Log) (c Pages) d.0, (left.0, left.1, d.1), record { changed = d.2; others = same d.0 c })
+    where
+      same : (d : List ℕ) (c : Files) (other : FileId) → other ≢ Log2 → c other ≡ three (c Log) (c Pages) d other
+      same d c Log ne = refl
+      same d c Pages ne = refl
+      same d c Log2 ne = absurd (ne refl)

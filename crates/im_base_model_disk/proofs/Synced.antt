@@ -2,9 +2,9 @@
 use Rattle.std.proofs.Common.{◌≡◌, ◌⊎◌, ℕ, zero, suc, ◌+◌, ◌<◌, ◌≤◌, List, [], ◌∷◌, length, get_or, refl, sym, ◌∙◌, ap, subst, arith}
 use Rattle.std.proofs.lemmas.List.{ext_get_or}
 use Rattle.im_base_types.specs.declared.file_id.FileId.{FileId}
-use Rattle.im_base_types.specs.declared.file_id.FileId.TheVariants.{Log, Pages}
+use Rattle.im_base_types.specs.declared.file_id.FileId.TheVariants.{Log, Pages, Log2}
 use Rattle.im_base_model_disk.specs.declared.model_file.ModelFile.{ModelFile}
-use Rattle.im_base_disk.specs.Disk.{Files, both}
+use Rattle.im_base_disk.specs.Disk.{Files, three}
 use Rattle.im_base_model_disk.specs.ModelFile.{IsOutside}
 use Rattle.im_base_model_disk.specs.Past.{FileMayHold, MayLeave, either}
 
@@ -26,17 +26,19 @@ synced_file file synced none c may =
     ext_get_or 0 c file.bytes.items (omega (arith, synced, may.no_shorter, may.no_longer))
     (λ i lt. may.same i (omega (arith, lt, synced, may.no_longer)) (none_outside file.written.items i none))
 
-pub synced_both : (log pages : ModelFile) → log.synced ≡ length log.bytes.items → log.written.items ≡ [] → pages.synced ≡ length pages.bytes.items → pages.written.items ≡ []
-    → (c : Files) → MayLeave log pages c → (file : FileId) → c file ≡ both log.bytes.items pages.bytes.items file
-synced_both log pages ls ln ps pn c may Log = synced_file log ls ln (c Log) may.0
-synced_both log pages ls ln ps pn c may Pages = synced_file pages ps pn (c Pages) may.1
+pub synced_both : (log pages log2 : ModelFile) → log.synced ≡ length log.bytes.items → log.written.items ≡ [] → pages.synced ≡ length pages.bytes.items → pages.written.items ≡ []
+    → log2.synced ≡ length log2.bytes.items → log2.written.items ≡ [] → (c : Files) → MayLeave log pages log2 c → (file : FileId) → c file ≡ three log.bytes.items pages.bytes.items log2.bytes.items file
+synced_both log pages log2 ls ln ps pn l2s l2n c may Log = synced_file log ls ln (c Log) may.0
+synced_both log pages log2 ls ln ps pn l2s l2n c may Pages = synced_file pages ps pn (c Pages) may.1
+synced_both log pages log2 ls ln ps pn l2s l2n c may Log2 = synced_file log2 l2s l2n (c Log2) may.2
 
--- a read gives the bytes of the one file or of the other
-pub seen_of : (log pages : ModelFile) (file : FileId) → both log.bytes.items pages.bytes.items file ≡ (either log pages file).bytes.items
-seen_of log pages Log = refl
-seen_of log pages Pages = refl
+-- a read gives the bytes of that file
+pub seen_of : (log pages log2 : ModelFile) (file : FileId) → three log.bytes.items pages.bytes.items log2.bytes.items file ≡ (either log pages log2 file).bytes.items
+seen_of log pages log2 Log = refl
+seen_of log pages log2 Pages = refl
+seen_of log pages log2 Log2 = refl
 
 -- a file that is the same reads the same
-pub same_seen : (log pages log_new pages_new : ModelFile) (file : FileId) → either log_new pages_new file ≡ either log pages file
-    → both log_new.bytes.items pages_new.bytes.items file ≡ both log.bytes.items pages.bytes.items file
-same_seen log pages log_new pages_new file same = seen_of log_new pages_new file ∙ ap (λ (f : ModelFile). f.bytes.items) same ∙ sym (seen_of log pages file)
+pub same_seen : (log pages log2 log_new pages_new log2_new : ModelFile) (file : FileId) → either log_new pages_new log2_new file ≡ either log pages log2 file
+    → three log_new.bytes.items pages_new.bytes.items log2_new.bytes.items file ≡ three log.bytes.items pages.bytes.items log2.bytes.items file
+same_seen log pages log2 log_new pages_new log2_new file same = seen_of log_new pages_new log2_new file ∙ ap (λ (f : ModelFile). f.bytes.items) same ∙ sym (seen_of log pages log2 file)

@@ -10,7 +10,7 @@ use Rattle.im_base_model_disk.specs.Plan.{armed_with_nothing, stops_at}
 
 -- one file: its bytes, its synced length, and the ranges written since
 abbrev pub file_of : ModelDisk → FileId → ModelFile
-file_of disk file = either disk.log disk.pages file
+file_of disk file = either disk.log disk.pages disk.log2 file
 
 -- the greatest written end, which is the length as it reads
 abbrev pub model_end : ModelDisk → FileId → ℕ

@@ -4,40 +4,42 @@ use mathlib.Core.Logic.{inl, inr}
 use Rattle.std.proofs.Common.{le_refl}
 use Rattle.im_base_model_disk.specs.declared.model_file.ModelFile.{ModelFile}
 use Rattle.im_base_types.specs.declared.file_id.FileId.{FileId}
-use Rattle.im_base_types.specs.declared.file_id.FileId.TheVariants.{Log, Pages}
-use Rattle.im_base_disk.specs.Disk.{Files, both}
+use Rattle.im_base_types.specs.declared.file_id.FileId.TheVariants.{Log, Pages, Log2}
+use Rattle.im_base_disk.specs.Disk.{Files, three}
 use Rattle.im_base_model_disk.specs.ModelFile.{MayHold}
 
 -- Each write is made, whether it fails or not, so the greatest written end is the length as it reads.
 abbrev pub FileMayHold : ModelFile → List ℕ → Type 0
 FileMayHold file c = MayHold file.bytes.items file.synced file.written.items (length file.bytes.items) c
 
--- the one file or the other
-abbrev pub either : ModelFile → ModelFile → FileId → ModelFile
-either log pages Log = log
-either log pages Pages = pages
+-- one of the files
+abbrev pub either : ModelFile → ModelFile → ModelFile → FileId → ModelFile
+either log pages log2 Log = log
+either log pages log2 Pages = pages
+either log pages log2 Log2 = log2
 
--- of the two files together
-abbrev pub MayLeave : ModelFile → ModelFile → Files → Type 0
-MayLeave log pages c = FileMayHold log (c Log) × FileMayHold pages (c Pages)
+-- of the files together
+abbrev pub MayLeave : ModelFile → ModelFile → ModelFile → Files → Type 0
+MayLeave log pages log2 c = FileMayHold log (c Log) × FileMayHold pages (c Pages) × FileMayHold log2 (c Log2)
 
 -- at one of these moments a stop might have left this
-abbrev pub HadBeen : List (ModelFile × ModelFile) → Files → Type 0
+abbrev pub HadBeen : List (ModelFile × ModelFile × ModelFile) → Files → Type 0
 HadBeen [] c = ⊥
-HadBeen (moment ∷ past) c = MayLeave moment.0 moment.1 c ⊎ HadBeen past c
+HadBeen (moment ∷ past) c = MayLeave moment.0 moment.1 moment.2 c ⊎ HadBeen past c
 
-none_left : (past : List (ModelFile × ModelFile)) (c : Files) → HadBeen (drop (length past) past) c → ⊥
+none_left : (past : List (ModelFile × ModelFile × ModelFile)) (c : Files) → HadBeen (drop (length past) past) c → ⊥
 none_left [] c had = had
 none_left (moment ∷ past) c had = none_left past c had
 
 -- since the last of them there is what may be left now
-pub none_since : (past : List (ModelFile × ModelFile)) (Now : Type 0) (c : Files) → Now ⊎ HadBeen (drop (length past) past) c → Now
+pub none_since : (past : List (ModelFile × ModelFile × ModelFile)) (Now : Type 0) (c : Files) → Now ⊎ HadBeen (drop (length past) past) c → Now
 none_since past Now c (inl now) = now
 none_since past Now c (inr had) = absurd (none_left past c had)
 
 -- the bytes as they read
-pub reads_may_stay : (log pages : ModelFile) → MayLeave log pages (both log.bytes.items pages.bytes.items)
-reads_may_stay log pages = (
+pub reads_may_stay : (log pages log2 : ModelFile) → MayLeave log pages log2 (three log.bytes.items pages.bytes.items log2.bytes.items)
+reads_may_stay log pages log2 = (
   record { no_shorter = log.synced_within; no_longer = le_refl (length log.bytes.items); same = λ i lt out. refl },
   record { no_shorter = pages.synced_within; no_longer = le_refl (length pages.bytes.items); same = λ i lt out. refl },
+  record { no_shorter = log2.synced_within; no_longer = le_refl (length log2.bytes.items); same = λ i lt out. refl },
 )

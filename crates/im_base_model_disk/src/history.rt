@@ -6,11 +6,11 @@ ghost use Rattle.im_base_model_disk.specs.declared.model_file.ModelFile.{ModelFi
 use crate::ModelFile;
 use std::marker::Model;
 
-/// The log and the pages as they stood before each device call, the first call first. Clauses read it as
+/// The files as they stood before each device call, the first call first. Clauses read it as
 /// `moments`. It has no bytes, and its methods do nothing at run time.
 #[derive(Drop)]
 pub struct History {
-    pub ghost moments: { List (ModelFile × ModelFile) },
+    pub ghost moments: { List (ModelFile × ModelFile × ModelFile) },
 }
 
 impl Model for History {
@@ -29,8 +29,8 @@ impl History {
     }
 
     /// One moment more.
-    pub(crate) fn with(&self, _log: &ModelFile, _pages: &ModelFile) -> History
-        ensures { result.moments ≡ self.now.moments ++ (_log.now, _pages.now) ∷ [] }
+    pub(crate) fn with(&self, _log: &ModelFile, _pages: &ModelFile, _log2: &ModelFile) -> History
+        ensures { result.moments ≡ self.now.moments ++ (_log.now, _pages.now, _log2.now) ∷ [] }
     {
         History {}
     }

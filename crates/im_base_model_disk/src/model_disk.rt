@@ -3,7 +3,7 @@
 ghost use Rattle.std.specs.Prelude.{◌≡◌, ◌≢◌, ◌+◌, ◌^◌, ◌≤◌, ◌<◌, ◌⊎◌, [], ◌∷◌, true, false, refl, length, take, drop, OnOk, OnErr, IfOk, IfErr, Some};
 ghost use Rattle.std.proofs.Common.{inl};
 ghost use Rattle.im_base_types.specs.declared.file_id.FileId.{FileId};
-ghost use Rattle.im_base_disk.specs.Disk.{Files, both, Only, Follows, InFile, Holds, Torn, Elapses, Answers};
+ghost use Rattle.im_base_disk.specs.Disk.{Files, both, three, Only, Follows, InFile, Holds, Torn, Elapses, Answers};
 ghost use Rattle.im_base_model_disk.specs.Past.{MayLeave, HadBeen, none_since, reads_may_stay};
 
 use crate::either::{sync_either, write_either};
@@ -14,13 +14,14 @@ use im_base_disk::{Count, Disk};
 use im_base_types::{Fault, FileId};
 use std::alloc::Global;
 
-/// Two files in memory. Device calls are writes and syncs, counted from 1 in each life, which begins with `new`
+/// Three files in memory. Device calls are writes and syncs, counted from 1 in each life, which begins with `new`
 /// or `after_stop`. A call past number 2^62 fails. A write that fails is made and counts as not synced. Where
 /// memory for a growth is refused, the write fails and leaves the file as it was.
 #[derive(Drop)]
 pub struct ModelDisk {
     log: ModelFile,
     pages: ModelFile,
+    log2: ModelFile,
     past: History,
     plan: Plan,
     has_failed: bool,
@@ -35,7 +36,7 @@ impl ModelDisk {
     ghost use Rattle.im_base_model_disk.specs.Left.{IsLeft, IsLeftBy};
     ghost use Rattle.im_base_disk.specs.Runs.{IsSynced, Reads};
 
-    /// A disk with these bytes of the log and of the pages, all synced.
+    /// A disk with these bytes of the log and of the pages, all synced. The other log is empty.
     pub fn new(log: Vec<u8>, pages: Vec<u8>) -> ModelDisk
         ensures tells { ⟦<ModelDisk as Disk>⟧.tells }
         ensures seen { ⟦<ModelDisk as Disk>⟧.seen result ≡ both log.items pages.items }
@@ -43,9 +44,22 @@ impl ModelDisk {
         ensures working { ⟦<ModelDisk as Disk>⟧.failed result ≡ false }
         ensures fresh { IsFresh result }
     {
+        let log2 = Vec::new(*log.allocator());
+        ModelDisk::with_log2(log, pages, log2)
+    }
+
+    /// The same with these bytes of the other log.
+    pub fn with_log2(log: Vec<u8>, pages: Vec<u8>, log2: Vec<u8>) -> ModelDisk
+        ensures tells { ⟦<ModelDisk as Disk>⟧.tells }
+        ensures seen { ⟦<ModelDisk as Disk>⟧.seen result ≡ three log.items pages.items log2.items }
+        ensures synced { IsSynced ⟦<ModelDisk as Disk>⟧ result }
+        ensures working { ⟦<ModelDisk as Disk>⟧.failed result ≡ false }
+        ensures fresh { IsFresh result }
+    {
         ModelDisk {
             log: ModelFile::new(log),
             pages: ModelFile::new(pages),
+            log2: ModelFile::new(log2),
             past: History::new(),
             plan: Plan::new(),
             has_failed: false,
@@ -136,7 +150,10 @@ impl ModelDisk {
         let Ok(pages) = left(alloc, &self.pages, length, fill) else {
             return Err(Fault::Memory);
         };
-        Ok(ModelDisk::new(log, pages))
+        let Ok(log2) = left(alloc, &self.log2, length, fill) else {
+            return Err(Fault::Memory);
+        };
+        Ok(ModelDisk::with_log2(log, pages, log2))
     }
 
     fn file(&self, file: FileId) -> &ModelFile
@@ -145,6 +162,7 @@ impl ModelDisk {
         match file {
             FileId::Log => &self.log,
             FileId::Pages => &self.pages,
+            FileId::Log2 => &self.log2,
         }
     }
 }
@@ -157,13 +175,13 @@ impl Disk for ModelDisk {
 
     ghost tells = { Unit {0} };
 
-    ghost seen = { λ d. both d.log.bytes.items d.pages.bytes.items };
+    ghost seen = { λ d. three d.log.bytes.items d.pages.bytes.items d.log2.bytes.items };
 
-    ghost may_leave = { λ d c. MayLeave d.log d.pages c };
+    ghost may_leave = { λ d c. MayLeave d.log d.pages d.log2 c };
 
     ghost moment = { λ d. length d.past.moments };
 
-    ghost left_since = { λ d t c. MayLeave d.log d.pages c ⊎ HadBeen (drop t d.past.moments) c };
+    ghost left_since = { λ d t c. MayLeave d.log d.pages d.log2 c ⊎ HadBeen (drop t d.past.moments) c };
 
     ghost failed = { λ d. d.has_failed };
 
@@ -173,9 +191,9 @@ impl Disk for ModelDisk {
 
     ghost counts_now = { λ d t c le now. inl now };
 
-    ghost only_now = { λ d c left. none_since d.past.moments (MayLeave d.log d.pages c) c left };
+    ghost only_now = { λ d c left. none_since d.past.moments (MayLeave d.log d.pages d.log2 c) c left };
 
-    ghost seen_may_stay = { λ d told. reads_may_stay d.log d.pages };
+    ghost seen_may_stay = { λ d told. reads_may_stay d.log d.pages d.log2 };
 
     fn len(&mut self, file: FileId) -> Result<u64, Fault>
         requires { ⟦<ModelDisk as Disk>⟧.failed self.old ≡ false }
@@ -226,9 +244,16 @@ impl Disk for ModelDisk {
         ensures spares { (other : FileId) → other ≢ file → file_of self.new other ≡ file_of self.old other }
         ensures counts { CountsCall self.old self.new }
     {
-        self.past = self.past.with(&self.log, &self.pages);
+        self.past = self.past.with(&self.log, &self.pages, &self.log2);
         self.writes = self.writes.with_one_more();
-        let outcome = write_either(&mut self.log, &mut self.pages, file, at as usize, bytes);
+        let outcome = write_either(
+            &mut self.log,
+            &mut self.pages,
+            &mut self.log2,
+            file,
+            at as usize,
+            bytes,
+        );
         let fails = self.plan.call_fails();
         self.has_failed = fails || outcome.is_err();
         if self.has_failed {
@@ -252,13 +277,13 @@ impl Disk for ModelDisk {
         ensures spares { (other : FileId) → other ≢ file → file_of self.new other ≡ file_of self.old other }
         ensures counts { CountsCall self.old self.new }
     {
-        self.past = self.past.with(&self.log, &self.pages);
+        self.past = self.past.with(&self.log, &self.pages, &self.log2);
         self.syncs = self.syncs.with_one_more();
         self.has_failed = self.plan.call_fails();
         if self.has_failed {
             return Err(Fault::Device);
         }
-        sync_either(&mut self.log, &mut self.pages, file);
+        sync_either(&mut self.log, &mut self.pages, &mut self.log2, file);
         Ok(())
     }
 }

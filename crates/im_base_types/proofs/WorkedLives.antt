@@ -40,6 +40,22 @@ commit_capacity = refl
 commit_fails : (asked_of (shows going (Commit 1) (Some (Refused failed))) ≡ effect false) × ((shows going (Commit 1) (Some (Refused failed))).failed ≡ true)
 commit_fails = (refl, refl)
 
+-- an insert that goes on joins the effect with the reply that ends it, and a delete so too
+abbrev put_later : List (Step × Reply)
+put_later = (Begin, Started 1) ∷ (Do 1 (Insert (97 ∷ []) 7), More) ∷ (Continue 1, More) ∷ []
+
+commit_going_on : asked_of (shows (shown_by nothing_shown put_later) (Commit 1) None) ≡ []
+commit_going_on = refl
+
+commit_put_later : asked_of (shows (shows (shown_by nothing_shown put_later) (Continue 1) (Some Inserted)) (Commit 1) (Some Committed)) ≡ effect true
+commit_put_later = refl
+
+commit_dropping : asked_of (shows (shows going (Do 1 (Delete (97 ∷ []))) (Some More)) (Commit 1) None) ≡ effect false
+commit_dropping = refl
+
+commit_dropped : asked_of (shows (shows (shows going (Do 1 (Delete (97 ∷ []))) (Some More)) (Continue 1) (Some Deleted)) (Commit 1) None) ≡ record { txn = 1; effect = Drop (97 ∷ []) 0 ∷ Put (97 ∷ []) 7 ∷ []; acked = false } ∷ []
+commit_dropped = refl
+
 -- not asked: for want of memory, within a structure change, of a failed engine, of no transaction, of one told to roll back, of one that rolls back
 commit_memory : asked_of (shows going (Commit 1) (Some (Refused memory))) ≡ []
 commit_memory = refl

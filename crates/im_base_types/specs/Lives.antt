@@ -10,6 +10,8 @@ use Rattle.im_base_types.specs.Refusals.{capacity, log_full, device, memory, fai
 pub record Running : Type 0 where
   pub mark : Mark
   pub effect : Effect
+  -- its Insert or Delete that was answered More: a later reply to Continue ends it
+  pub pending : Option Access
 
 -- an effect whose Commit was asked, and whether it was acknowledged
 pub record Asked : Type 0 where
@@ -24,7 +26,7 @@ pub record Shown : Type 0 where
   pub asked : List Asked
 
 abbrev pub idle : Running
-idle = record { mark = Idle; effect = [] }
+idle = record { mark = Idle; effect = []; pending = None }
 
 -- as an opening leaves it
 abbrev pub nothing_shown : Shown
@@ -39,6 +41,20 @@ marks t m s = with_running t (record (s.running t) { mark = m }) s
 
 abbrev pub adds : ℕ → Change → Shown → Shown
 adds t c s = with_running t (record (s.running t) { effect = c ∷ (s.running t).effect }) s
+
+-- an Insert or a Delete goes on
+abbrev pub pends : ℕ → Access → Shown → Shown
+pends t a s = with_running t (record (s.running t) { pending = Some a }) s
+
+-- the change that an access shows with the reply that ends it
+abbrev pub shown_change : Option Access → Reply → Effect
+shown_change (Some (Insert k r)) Inserted = Put k r ∷ []
+shown_change (Some (Delete k)) Deleted = Drop k 0 ∷ []
+shown_change _ _ = []
+
+-- the access that went on is answered
+abbrev pub finishes : ℕ → Reply → Shown → Shown
+finishes t reply s = with_running t (record (s.running t) { effect = shown_change ((s.running t).pending) reply ++ (s.running t).effect; pending = None }) s
 
 -- a Commit asks for an effect where the transaction is going, and logged something
 abbrev pub effect_asked : ℕ → Bool → Mark → Effect → List Asked
@@ -60,10 +76,12 @@ refused n (Commit t) s =
     else record (asks t false s) { failed = breaks n }
 refused n _ s = record s { failed = s.failed || breaks n }
 
--- a reply to an access: a change joins its transaction's effect, and Die, to any access, marks its transaction
+-- a reply to an access: a change joins its transaction's effect, More to an Insert or a Delete lets it go on, and Die, to any access, marks its transaction
 abbrev pub accessed : ℕ → Access → Reply → Shown → Shown
 accessed t (Insert k r) Inserted s = adds t (Put k r) s
 accessed t (Delete k) Deleted s = adds t (Drop k 0) s
+accessed t (Insert k r) More s = pends t (Insert k r) s
+accessed t (Delete k) More s = pends t (Delete k) s
 accessed t a Die s = marks t MustRollBack s
 accessed t a _ s = s
 
@@ -75,13 +93,15 @@ all_acked (a ∷ more) = record a { acked = true } ∷ all_acked more
 -- what is shown once a step was answered
 abbrev pub answered : Step → Reply → Shown → Shown
 answered step (Refused n) s = refused n step s
-answered Begin (Started t) s = with_running t (record { mark = Going; effect = [] }) s
+answered Begin (Started t) s = with_running t (record { mark = Going; effect = []; pending = None }) s
 answered (Do t a) reply s = accessed t a reply s
 answered (Commit t) Committed s = with_running t idle (asks t true s)
 answered (Commit t) More s = marks t Committing (asks t false s)
 answered (Rollback t) RolledBack s = with_running t idle s
 answered (Rollback t) More s = marks t RollingBack s
 answered (Continue t) RolledBack s = with_running t idle s
+answered (Continue t) Inserted s = finishes t Inserted s
+answered (Continue t) Deleted s = finishes t Deleted s
 answered Force Done s = record s { asked = all_acked s.asked }
 answered _ _ s = s
 

@@ -1,4 +1,4 @@
-//! The two files of a store.
+//! The files of a store.
 
 /// A file of a store.
 #[derive(Clone, Copy, Debug, PartialEq, Eq)]
@@ -7,4 +7,6 @@ pub enum FileId {
     Log,
     /// The pages, in place.
     Pages,
+    /// The other log: records too, of the generation before or of the one to come.
+    Log2,
 }

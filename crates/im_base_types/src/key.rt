@@ -5,13 +5,14 @@ ghost use Rattle.im_base_types.specs.declared.fault.Fault.TheVariants.{KeyLength
 
 use crate::Rid;
 use crate::fault::Fault;
+use crate::sizes::LONGEST_KEY;
 use arrayvec::ArrayVec;
 use std::marker::Model;
 
 /// A key: 1 to 255 bytes, in place. Contracts see it as the list of its bytes.
 #[derive(Drop)]
 pub struct Key {
-    bytes: ArrayVec<u8, 255>,
+    bytes: ArrayVec<u8, LONGEST_KEY>,
 }
 
 impl Model for Key {
@@ -31,7 +32,7 @@ impl Key {
         ensures taken { IsOk result ↔ ((1 ≤ length bytes.now) × (length bytes.now ≤ 255)) }
         ensures refused { IfErr result (λ e. e ≡ KeyLength) }
     {
-        if bytes.is_empty() || bytes.len() > 255 {
+        if bytes.is_empty() || bytes.len() > LONGEST_KEY {
             return Err(Fault::KeyLength);
         }
         let mut key = ArrayVec::new();
@@ -76,7 +77,7 @@ pub fn push_entry(list: &mut Vec<(Key, Rid)>, key: &[u8], rid: Rid) -> Result<()
     ensures causes { IfErr result (λ e. (e ≡ KeyLength) ⊎ (e ≡ Memory)) }
     ensures full { result ≡ Err Memory → vec_capacity list.old ≤ vec_len list.old }
 {
-    if key.is_empty() || key.len() > 255 {
+    if key.is_empty() || key.len() > LONGEST_KEY {
         return Err(Fault::KeyLength);
     }
     let Ok(entry) = list.push_mut((Key::of_byte(key[0]), rid)) else {

@@ -1,4 +1,4 @@
-//! The words that every layer speaks: keys, numbers, files, kinds of pages, faults.
+//! The words that every layer speaks: keys, numbers, sizes, files, kinds of pages, faults.
 //!
 //! A key is 1 to 255 bytes, and keys are ordered by their unsigned bytes, a front before what it begins
 //! (`IsBelow`). Contracts see a `Key` as the list of its bytes. `compare` is that order over slices, eight
@@ -14,6 +14,7 @@ mod file_id;
 mod key;
 mod order;
 mod page_kind;
+mod sizes;
 mod tables;
 
 pub use fault::Fault;
@@ -21,6 +22,10 @@ pub use file_id::FileId;
 pub use key::{Key, push_entry};
 pub use order::compare;
 pub use page_kind::PageKind;
+pub use sizes::{
+    BATCH_ROOM, IMAGE_SIZE, LAST_LSN, LAST_TRANSACTION, LEAST_FRAMES, LONGEST_BATCH, LONGEST_KEY,
+    MOST_ACTIVE, MOST_DIRTY, MOST_ENTRIES, MOST_FRAMES, PAGE_BODY, PAGE_ROOM, PAGE_SIZE,
+};
 pub use tables::{ActiveTransaction, DirtyPage};
 
 /// The number that an index keeps with a key, to name a record of the store's own.

@@ -12,6 +12,8 @@ use std::alloc::{AllocError, Global};
 pub struct Files {
     pub log: Vec<u8>,
     pub pages: Vec<u8>,
+    /// The other log.
+    pub log2: Vec<u8>,
 }
 
 impl Files {
@@ -20,6 +22,7 @@ impl Files {
         match file {
             FileId::Log => self.log.len(),
             FileId::Pages => self.pages.len(),
+            FileId::Log2 => self.log2.len(),
         }
     }
 
@@ -27,7 +30,8 @@ impl Files {
     pub fn copy(&self, alloc: Global) -> Result<Files, AllocError> {
         let log = Vec::from_slice(alloc, &self.log)?;
         let pages = Vec::from_slice(alloc, &self.pages)?;
-        Ok(Files { log, pages })
+        let log2 = Vec::from_slice(alloc, &self.log2)?;
+        Ok(Files { log, pages, log2 })
     }
 
     /// Changes one byte of a file.
@@ -35,6 +39,7 @@ impl Files {
         match file {
             FileId::Log => change(&mut self.log, at),
             FileId::Pages => change(&mut self.pages, at),
+            FileId::Log2 => change(&mut self.log2, at),
         }
     }
 }
@@ -53,7 +58,7 @@ const MOST_CALLS: u64 = 20_000;
 /// How many bytes a file has at most.
 const MOST_BYTES: usize = 2_000_000;
 
-/// Two files in memory. Past either bound a call fails. Nothing is told of their bytes.
+/// Three files in memory. Past either bound a call fails. Nothing is told of their bytes.
 #[derive(Drop)]
 pub struct BoundedDisk {
     files: Files,
@@ -91,6 +96,7 @@ impl BoundedDisk {
         match file {
             FileId::Log => &self.files.log,
             FileId::Pages => &self.files.pages,
+            FileId::Log2 => &self.files.log2,
         }
     }
 }
@@ -142,6 +148,7 @@ impl Disk for BoundedDisk {
         let outcome = match file {
             FileId::Log => put(&mut self.files.log, at, bytes),
             FileId::Pages => put(&mut self.files.pages, at, bytes),
+            FileId::Log2 => put(&mut self.files.log2, at, bytes),
         };
         self.has_failed = outcome.is_err() || self.file(file).len() > MOST_BYTES;
         if self.has_failed {

@@ -1,8 +1,8 @@
 //! The store of `im_bench damage`, whose files are damaged: its keys, and the steps that fill it.
 
 use crate::making::make;
-use im_base_types::{Fault, Key, Rid};
-use im_front::{Step, Store};
+use im_base_steps::{Step, Store};
+use im_base_types::{Fault, Key, LONGEST_KEY, Rid};
 use std::alloc::Global;
 
 // How many keys a first transaction inserts, and commits.
@@ -18,7 +18,7 @@ const PAGES: u32 = 30;
 fn key_of(alloc: Global, number: u64) -> Result<Vec<u8>, Fault> {
     let front = [(number / 100 % 100) as u8, (number % 100) as u8];
     let mut key = Vec::from_slice(alloc, &front).map_err(|_| Fault::Memory)?;
-    key.resize(255, b'z').map_err(|_| Fault::Memory)?;
+    key.resize(LONGEST_KEY, b'z').map_err(|_| Fault::Memory)?;
     Ok(key)
 }
 

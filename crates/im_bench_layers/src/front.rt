@@ -8,7 +8,9 @@ ghost use Rattle.std.specs.Prelude.{◌≡◌};
 
 use crate::figures::{is_timed, nanos_since, per_second};
 use anyhow::Result;
-use im_front::{Closed, Fault, Front, Reply, Share, Step, Store};
+use im_base_steps::{Reply, Step, Store};
+use im_base_types::Fault;
+use im_front::{Closed, Front, Share};
 use im_front_load::key_of;
 use im_front_memory::MemoryStore;
 use std::alloc::Global;

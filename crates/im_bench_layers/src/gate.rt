@@ -12,7 +12,7 @@ use crate::figures::{is_timed, nanos_since, per_second};
 use im_base_disk::Disk;
 use im_base_file_disk::FileDisk;
 use im_base_model_disk::ModelDisk;
-use im_base_types::{Fault, FileId};
+use im_base_types::{Fault, FileId, LONGEST_BATCH};
 use im_log_gate::Gate;
 use std::alloc::Global;
 use std::fs::{self, File, OpenOptions};
@@ -39,7 +39,7 @@ fn read_to_end<D: Disk>(alloc: Global, disk: &mut D, gate: &mut Gate) -> Result<
     requires reading { IsReading D.Disk gate.old disk.old }
     ensures ready { OnOk result (IsReady D.Disk gate.new disk.new) }
 {
-    let mut buffer = vec![in alloc; 0; 16_384].map_err(|_| Fault::Memory)?;
+    let mut buffer = vec![in alloc; 0; LONGEST_BATCH].map_err(|_| Fault::Memory)?;
     for count in 0..u64::MAX {
         if gate.read_into(disk, &mut buffer)?.is_none() {
             return Ok(count);

@@ -13,8 +13,8 @@
 //! released by another 4 million times a second.
 
 use crate::figures::{is_timed, nanos_since, per_second};
+use im_base_lock::{Duration, LockTable, Mode, Name, Request, Verdict, shared};
 use im_base_types::{Fault, TxnId};
-use im_engine_lock::{Duration, LockTable, Mode, Name, Request, Verdict, shared};
 use std::time::Instant;
 
 const SIZES: [u64; 3] = [10, 1_000, 30_000];

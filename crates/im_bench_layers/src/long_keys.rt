@@ -1,6 +1,6 @@
 //! Keys of 255 bytes, the longest that there are, and an order that leaps about among them.
 
-use im_base_types::Fault;
+use im_base_types::{Fault, LONGEST_KEY};
 use std::alloc::Global;
 
 /// The key of a number below 100,000: its five digits, and then `z` up to 255 bytes. Keys rise as the numbers do.
@@ -13,7 +13,7 @@ pub fn key_of(alloc: Global, number: u64) -> Result<Vec<u8>, Fault> {
         digit(number),
     ];
     let mut key = Vec::from_slice(alloc, &digits).map_err(|_| Fault::Memory)?;
-    key.resize(255, b'z').map_err(|_| Fault::Memory)?;
+    key.resize(LONGEST_KEY, b'z').map_err(|_| Fault::Memory)?;
     Ok(key)
 }
 

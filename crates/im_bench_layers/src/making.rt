@@ -1,7 +1,7 @@
 //! Steps that are made, and what is seen of their replies.
 
+use im_base_steps::{Reply, Step, Store};
 use im_base_types::TxnId;
-use im_front::{Reply, Step, Store};
 
 /// Makes a step, whatever it answers.
 pub fn make<E: Store>(store: &mut E, step: Step) {

@@ -6,24 +6,26 @@ use im_base_disk::{Count, Disk};
 use im_base_types::{Fault, FileId};
 use std::alloc::{AllocError, Global};
 
-/// Two files in memory, whose calls never fail but for want of memory. Nothing is told of their bytes.
+/// Three files in memory, whose calls never fail but for want of memory. Nothing is told of their bytes.
 #[derive(Drop)]
 pub struct MemoryDisk {
     log: Vec<u8>,
     pages: Vec<u8>,
+    log2: Vec<u8>,
     has_failed: bool,
     writes: Count,
     syncs: Count,
 }
 
 impl MemoryDisk {
-    /// Two empty files.
+    /// Three empty files.
     pub fn new(alloc: Global) -> MemoryDisk
         ensures { ⟦<MemoryDisk as Disk>⟧.failed result ≡ false }
     {
         MemoryDisk {
             log: Vec::new(alloc),
             pages: Vec::new(alloc),
+            log2: Vec::new(alloc),
             has_failed: false,
             writes: Count::new(),
             syncs: Count::new(),
@@ -37,6 +39,7 @@ impl MemoryDisk {
         MemoryDisk {
             log: self.log,
             pages: self.pages,
+            log2: self.log2,
             has_failed: false,
             writes: Count::new(),
             syncs: Count::new(),
@@ -52,6 +55,7 @@ impl MemoryDisk {
         match file {
             FileId::Log => &self.log,
             FileId::Pages => &self.pages,
+            FileId::Log2 => &self.log2,
         }
     }
 }
@@ -109,6 +113,7 @@ impl Disk for MemoryDisk {
         let outcome = match file {
             FileId::Log => put(&mut self.log, at, bytes),
             FileId::Pages => put(&mut self.pages, at, bytes),
+            FileId::Log2 => put(&mut self.log2, at, bytes),
         };
         self.has_failed = outcome.is_err();
         outcome.map_err(|_| Fault::Device)

@@ -10,7 +10,7 @@ ghost use Rattle.std.specs.Prelude.{◌≡◌, false};
 use crate::figures::{is_timed, show};
 use im_base_disk::Disk;
 use im_base_model_disk::ModelDisk;
-use im_base_types::Fault;
+use im_base_types::{Fault, MOST_FRAMES};
 use im_page_pool::Pool;
 use std::time::Instant;
 use work::{cached, file, filled, looked_up, missed};
@@ -49,7 +49,7 @@ fn show_read(rt: &HostRuntime, rounds: u64, timed: bool) -> anyhow::Result<()> {
 fn held(rt: &HostRuntime, rounds: u64) -> anyhow::Result<u64> {
     let alloc = rt.alloc();
     let mut disk = ModelDisk::new(Vec::new(alloc), file(alloc, 1_000)?);
-    let mut pool = Pool::new(alloc, 1_024)?;
+    let mut pool = Pool::new(alloc, MOST_FRAMES)?;
     Ok(held_in(&mut pool, &mut disk, rounds)?)
 }
 

@@ -3,16 +3,15 @@
 
 use crate::figures::is_timed;
 use anyhow::Result;
+use im_base_types::LONGEST_BATCH;
 use im_log_record::{Record, decode_front};
 use std::time::Instant;
 
 // Records in a batch, of 50 bytes each.
 const RECORDS: usize = 327;
 
-const BATCH: usize = 16_384;
-
 // Writes a batch of insert records.
-fn write(batch: &mut [u8; 16_384], first: u64) {
+fn write(batch: &mut [u8; LONGEST_BATCH], first: u64) {
     let mut at = 0;
     for i in 0..RECORDS {
         let number = first.wrapping_add(i as u64);
@@ -47,7 +46,7 @@ fn read(batch: &[u8]) -> u64 {
 pub fn run(rt: &HostRuntime, words: &[String]) -> Result<()> {
     let timed = is_timed(words);
     let rounds: u64 = if timed { 100_000 } else { 100 };
-    let mut batch = [0u8; BATCH];
+    let mut batch = [0u8; LONGEST_BATCH];
     let mut sum = 0u64;
     let start = Instant::now(rt)?;
     for round in 0..rounds {

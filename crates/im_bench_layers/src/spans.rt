@@ -3,8 +3,8 @@
 use crate::long_keys::{key_of, scattered};
 use crate::making::{begun, make};
 use crate::tally::Tally;
-use im_base_types::{Fault, Key, Rid, TxnId};
-use im_front::{Reply, Step, Store};
+use im_base_steps::{Reply, Step, Store};
+use im_base_types::{Fault, Key, LONGEST_KEY, Rid, TxnId};
 use std::alloc::Global;
 
 /// How many keys a transaction takes.
@@ -170,7 +170,7 @@ pub fn right_among(entries: &[(Key, Rid)]) -> u64 {
     let mut right = 0u64;
     let mut next: Rid = 0;
     for (key, rid) in entries {
-        if *rid == next && key.bytes().len() == 255 {
+        if *rid == next && key.bytes().len() == LONGEST_KEY {
             right = right.wrapping_add(1);
         }
         next = next.wrapping_add(2);

@@ -1,7 +1,8 @@
 //! How the steps of a part were answered.
 
 use anyhow::Result;
-use im_front::{Fault, Reply};
+use im_base_steps::Reply;
+use im_base_types::Fault;
 
 /// How many steps had the reply that they should have, and how many another one, by what it was.
 #[derive(Clone, Copy, Default)]

@@ -12,7 +12,7 @@ mod damaged;
 
 use crate::damage::damaged::{Damaged, Outcomes, founded, judged};
 use anyhow::Result;
-use im_base_types::FileId;
+use im_base_types::{FileId, MOST_FRAMES};
 use im_bench_layers::bounded::Files;
 use im_bench_layers::places::{is_in_page_number, page_numbers};
 
@@ -42,7 +42,7 @@ fn show_parts(rt: &HostRuntime, files: &Files, strides: [usize; 3]) -> Result<()
         bytes_of(
             "the log's first 1,024 bytes",
             FileId::Log,
-            1_024,
+            MOST_FRAMES,
             strides[1],
         ),
         bytes_of("the log", FileId::Log, log, strides[2]),
@@ -83,7 +83,7 @@ fn show(rt: &HostRuntime, files: &Files, numbers: &[usize], part: Part) -> Resul
     let is_many = outcomes.all >= 100;
     let is_good = match part.file {
         FileId::Pages => outcomes.right == outcomes.all,
-        FileId::Log => outcomes.bad == 0,
+        FileId::Log | FileId::Log2 => outcomes.bad == 0,
     };
     println!(rt;
         "{}: 100 bytes or more {is_many}, each as it may be {is_good}",

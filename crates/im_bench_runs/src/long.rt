@@ -23,7 +23,7 @@ use crate::opening::opened;
 use anyhow::Result;
 use im_base_disk::Disk;
 use im_base_model_disk::ModelDisk;
-use im_base_types::FileId;
+use im_base_types::{FileId, MOST_FRAMES, PAGE_SIZE};
 use im_bench_layers::counted::{Counted, show_calls};
 use im_bench_layers::kinds::{Kinds, show_kinds};
 use im_bench_layers::memory::MemoryDisk;
@@ -69,7 +69,7 @@ enum Part {
 
 const OPENINGS: [Opening; 6] = [
     Opening {
-        frames: 1_024,
+        frames: MOST_FRAMES,
         name: "created",
         parts: &[Part::Fill],
     },
@@ -235,7 +235,7 @@ fn show_entries(rt: &HostRuntime, engine: &mut Engine<Counted<MemoryDisk>>) -> R
 
 fn show_pages(rt: &HostRuntime, engine: &mut Engine<Counted<MemoryDisk>>) -> Result<()> {
     let kinds = pages_by_kind(engine, PAGES)?;
-    let pages = engine.disk().disk().size(FileId::Pages) / 4_096;
+    let pages = engine.disk().disk().size(FileId::Pages) / PAGE_SIZE;
     let log = engine.disk().disk().size(FileId::Log);
     show_kinds(rt, kinds)?;
     println!(rt; "  files: {pages} pages, log {log} bytes")?;

@@ -42,6 +42,7 @@
 use crate::opening::opened;
 use anyhow::Result;
 use im_base_model_disk::ModelDisk;
+use im_base_types::MOST_FRAMES;
 use im_bench_layers::figures::{is_timed, show_of};
 use im_bench_layers::works::{Order, Part, Work, worked};
 use im_bench_tree::look_ups::look_up;
@@ -73,7 +74,7 @@ pub fn run(rt: &HostRuntime, words: &[String]) -> Result<()> {
 fn fill(rt: &HostRuntime, order: Order, timed: bool) -> Result<()> {
     let alloc = rt.alloc();
     let disk = ModelDisk::new(Vec::new(alloc), Vec::new(alloc));
-    let mut engine = opened(alloc, disk, 1_024)?;
+    let mut engine = opened(alloc, disk, MOST_FRAMES)?;
     each_done(rt, &mut engine, order, timed)
 }
 

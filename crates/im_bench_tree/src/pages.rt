@@ -1,7 +1,7 @@
 //! A file of pages that are a tree of three levels.
 
 ghost use Rattle.std.specs.Prelude.{◌≡◌, ◌≤◌};
-ghost use Rattle.im_page_form.specs.Page.{HoldsEntries};
+ghost use Rattle.im_theory_page.specs.Page.{HoldsEntries};
 
 use im_base_types::{Fault, PageNo};
 use im_bench_layers::keys::key_of;

@@ -5,11 +5,11 @@ ghost use Rattle.im_base_disk.specs.Runs.{IsSynced};
 ghost use Rattle.im_page_writer.specs.PageWriter.{IsReadyWriter};
 
 use im_base_disk::{Disk, read_vec};
+use im_base_lock::LockTable;
 use im_base_model_disk::ModelDisk;
-use im_base_types::{Fault, FileId};
+use im_base_types::{Fault, FileId, MOST_FRAMES};
 use im_bench_layers::keys::{key_of, scattered};
 use im_engine_index::{Outcome, fetch};
-use im_engine_lock::LockTable;
 use im_log::open_or_create;
 use im_page_writer::PageWriter;
 use im_tree_search::locate;
@@ -30,7 +30,7 @@ fn new_log<D: Disk>(alloc: Global, disk: &mut D) -> Result<Vec<u8>, Fault>
     requires working { D.failed disk.old ≡ false }
     requires synced { IsSynced D.Disk disk.old }
 {
-    open_or_create(alloc, disk)?;
+    open_or_create(alloc, disk, 1)?;
     let size = disk.len(FileId::Log)?;
     read_vec(alloc, disk, FileId::Log, 0, size as usize)
 }
@@ -41,8 +41,8 @@ pub fn opened<D: Disk>(alloc: Global, disk: &mut D) -> Result<PageWriter, Fault>
     requires synced { IsSynced D.Disk disk.old }
     ensures ready { IfOk result (λ writer. IsReadyWriter D.Disk writer disk.new) }
 {
-    let log = open_or_create(alloc, disk)?;
-    PageWriter::new(alloc, log, 1_024)
+    let log = open_or_create(alloc, disk, 1)?;
+    PageWriter::new(alloc, log, MOST_FRAMES)
 }
 
 /// Looks up so many keys, each somewhere among the first `keys` numbers, and answers how many were found with their number as row id.

@@ -6,18 +6,18 @@ use Rattle.im_base_types.specs.Answers as answers
 use Rattle.im_base_types.specs.Answers.{Step, Refused}
 use Rattle.im_base_types.specs.Lives.{Shown}
 use Rattle.im_base_disk.specs.declared.disk.Disk.{Ghosts}
-use Rattle.im_base_types.specs.declared.fault.Fault as below
 use Rattle.im_base_types.specs.declared.fault.Fault.TheVariants.{Failed}
-use Rattle.im_engine_lock.specs.Locks.{Lock}
-use Rattle.im_engine_lock.specs.View.{View, broken}
-use Rattle.im_front.specs.Store as front
-use Rattle.im_engine_lock.specs.Machine.{barred, Answers, Goes, Moves, begins, does, waits, dies, commits, drops, turns, undoes, ends, flushes, forces, checkpoints, lacks, breaks}
-use Rattle.im_front.specs.declared.step.Step as steps
-use Rattle.im_front.specs.declared.fault.Fault.{Fault}
-use Rattle.im_front.specs.declared.fault.Fault.TheVariants as faults
-use Rattle.im_front.specs.declared.reply.Reply.{Reply}
-use Rattle.im_front.specs.declared.reply.Reply.TheVariants as replies
-use Rattle.im_front.specs.Calls.{asked_by, told_by, number_of}
+use Rattle.im_base_lock.specs.Locks.{Lock}
+use Rattle.im_base_lock.specs.View.{View, broken}
+use Rattle.im_base_steps.specs.Store as front
+use Rattle.im_base_lock.specs.Machine.{barred, Answers, Goes, Moves, begins, does, waits, dies, commits, queues, drops, turns, undoes, ends, puts_later, puts, drops_first, drops_leaf, takes_later, takes_first, takes_leaf, takes_last, logs_page, tree_blocks, tree_halts, flushes, forces, checkpoints, lacks, breaks}
+use Rattle.im_base_steps.specs.declared.step.Step as steps
+use Rattle.im_base_types.specs.declared.fault.Fault.{Fault}
+use Rattle.im_base_types.specs.declared.fault.Fault.TheVariants as faults
+use Rattle.im_base_steps.specs.declared.reply.Reply.{Reply}
+use Rattle.im_base_steps.specs.declared.reply.Reply.TheVariants as replies
+use Rattle.im_base_steps.specs.Calls.{asked_by, told_by}
+use Rattle.im_base_types.specs.Faults.{number_of}
 use Rattle.im_engine.specs.declared.engine.Engine.{Engine}
 use Rattle.im_engine.specs.Running.{IsLife}
 use Rattle.im_engine.specs.Kept.{StepKept, LookKept}
@@ -33,13 +33,25 @@ refused_goes v w step n (begins s le r e) = cc r
 refused_goes v w step n (does t a ls s m f l r e) = ap (λ (x : View). x.active) e
 refused_goes v w step n (waits t a h s m f r e) = ap (λ (x : View). x.active) e
 refused_goes v w step n (dies t a s m f r e) = ap (λ (x : View). x.active) e
-refused_goes v w step n (commits t s m r e) = cc r
+refused_goes v w step n (commits t s m some r e) = cc r
+refused_goes v w step n (queues t c cs s m some r e) = cc r
 refused_goes v w step n (drops t s m none r e) = cc r
 refused_goes v w step n (turns t c cs s m is r e) = ap (λ (x : View). x.active) e
 refused_goes v w step n (undoes t c d cs s m is r e) = ap (λ (x : View). x.active) e
 refused_goes v w step n (ends t c s m is r e) = cc r
+refused_goes v w step n (puts_later u k r ls b is none absent unheld same d e) = cc d
+refused_goes v w step n (puts u k r b is under d e) = cc d
+refused_goes v w step n (drops_first u k r ls b is none there unheld same d e) = cc d
+refused_goes v w step n (drops_leaf u k b is under d e) = cc d
+refused_goes v w step n (takes_later u c cs b is none net_is d e) = cc d
+refused_goes v w step n (takes_first u c cs b is none net_is d e) = cc d
+refused_goes v w step n (takes_leaf u c cs b is under net_is d e) = cc d
+refused_goes v w step n (takes_last u b is under empty d e) = cc d
+refused_goes v w step n (logs_page u x b under owner d e) = cc d
+refused_goes v w step n (tree_blocks u a x b under other d e) = cc d
+refused_goes v w step n (tree_halts u x b under other d e) = cc d
 refused_goes v w step n (flushes p s r e) = ap (λ (x : View). x.active) e
-refused_goes v w step n (forces s r e) = ap (λ (x : View). x.active) e
+refused_goes v w step n (forces s r e) = cc r
 refused_goes v w step n (checkpoints s r e) = ap (λ (x : View). x.active) e
 refused_goes v w step n (lacks f wants r e) = ap (λ (x : View). x.active) e
 refused_goes v w step n (breaks f ls is r e) = ap (λ (x : View). x.active) e
@@ -95,7 +107,7 @@ module _ {D : Type 0} (d : Ghosts D) (before : List Effect) (s : Shown) (v : Vie
       subst_moves why = refused_active v made.next (asked_by step) (number_of why.0) (subst (λ (r : Reply). Moves v (asked_by step) (told_by r) made.next) why.1 made.moves)
 
   -- behind a look
-  module _ (old new : Engine D d) {why : Option below.Fault} (looks : Looks d why old new) (was : IsStoreLife d before s v old) where
+  module _ (old new : Engine D d) {why : Option Fault} (looks : Looks d why old new) (was : IsStoreLife d before s v old) where
     rows_are : length new.txns.rows ≡ v.active
     rows_are = elim (cases_Bool old.failed) [
       | inl failed ↦ ap (λ (e : Engine D d). length e.txns.rows) (looks.same failed) ∙ was.active

@@ -1,7 +1,8 @@
 -- Steps that a check bars, and steps of an engine that has failed.
-use Rattle.std.proofs.Common.{◌≡◌, ◌⊎◌, inl, inr, ℕ, List, Bool, true, false, Option, Some, None, length, refl, sym, ap, subst, ◌∙◌}
+use Rattle.std.proofs.Common.{◌≡◌, ◌⊎◌, inl, inr, ℕ, List, Bool, true, false, Option, Some, None, length, refl, sym, ap, subst, ◌∙◌, is_some}
 use Rattle.std.specs.Prelude.{◌||◌, ◌==◌, if◌then◌else◌}
 use Rattle.std.specs.FinMap.{empty}
+use Rattle.im_base_types.specs.Answers as answers
 use Rattle.im_base_types.specs.Answers.{Step, Begin, Do, Commit, Rollback, Continue, FlushPage, Force, Checkpoint, Reply, Refused, Mark}
 use Rattle.im_base_types.specs.Changes.{Effect, apply_all}
 use Rattle.im_theory_log.specs.Histories.{Base}
@@ -12,19 +13,20 @@ use Rattle.im_base_disk.specs.Disk.{Files}
 use Rattle.im_base_disk.specs.Runs.{LeavesOnly}
 use Rattle.im_base_disk.proofs.Runs.{started}
 use Rattle.im_page_writer.proofs.Writers.{goes_on_start}
-use Rattle.im_engine_lock.specs.View.{View}
-use Rattle.im_engine_lock.specs.Machine.{barred, first_check, mark_for}
+use Rattle.im_base_lock.specs.View.{View, pending_of}
+use Rattle.im_base_lock.specs.Machine.{barred, first_check, mark_for}
 use Rattle.im_theory_steps.specs.Checks.{marks_in}
 use Rattle.im_theory_steps.specs.Durable.{AreCommitted}
 use Rattle.im_theory_steps.proofs.Acknowledged.{going_free}
+use Rattle.im_theory_steps.proofs.Showing.{is_shown_so}
 use Rattle.im_theory_steps.proofs.Asking.{refusals_ask_nothing}
-use Rattle.im_theory_steps.proofs.Lived.{rows_tell, lives_go_on}
+use Rattle.im_theory_steps.proofs.Lived.{lives_go_on}
 use Rattle.im_theory_steps.proofs.Steps.{barred_served}
 use Rattle.im_engine.specs.declared.engine.Engine.{Engine}
 use Rattle.im_engine.specs.Stands.{Allowed}
 use Rattle.im_engine.specs.Running.{IsRunning, IsLife}
 use Rattle.im_engine.specs.Kept.{StepKept}
-use Rattle.im_engine.proofs.Running.{allowed_as, idle_stops, runs_on}
+use Rattle.im_engine.proofs.Running.{allowed_as, idle_stops, runs_on, checks_tell}
 use Rattle.im_engine.proofs.Made.{step_made}
 use Rattle.im_engine.proofs.Refused.{none_done}
 use Rattle.im_engine.proofs.Ending.{cut_leaves}
@@ -51,15 +53,15 @@ failed_asks s (FlushPage p) is = refl
 failed_asks s Force is = refl
 failed_asks s Checkpoint is = refl
 
-pub first_failed : (active : ℕ) (mark : Mark) (step : Step) → first_check true active mark step ≡ Some has_failed
-first_failed active mark Begin = refl
-first_failed active mark (Do t a) = refl
-first_failed active mark (Commit t) = refl
-first_failed active mark (Rollback t) = refl
-first_failed active mark (Continue t) = refl
-first_failed active mark (FlushPage p) = refl
-first_failed active mark Force = refl
-first_failed active mark Checkpoint = refl
+pub first_failed : (active : ℕ) (mark : Mark) (owns : Bool) (step : Step) → first_check true active mark owns step ≡ Some has_failed
+first_failed active mark owns Begin = refl
+first_failed active mark owns (Do t a) = refl
+first_failed active mark owns (Commit t) = refl
+first_failed active mark owns (Rollback t) = refl
+first_failed active mark owns (Continue t) = refl
+first_failed active mark owns (FlushPage p) = refl
+first_failed active mark owns Force = refl
+first_failed active mark owns Checkpoint = refl
 
 module _ {D : Type 0} (d : Ghosts D) (before : List Effect) (s : Shown) (v : View) (step : Step) (e : Engine D d) (life : IsLife d before s v e) (only_now : (c : Files) → d.left_since e.disk (d.moment e.disk) c → d.may_leave e.disk c) where
   stops_here : LeavesOnly d e.disk e.disk (Allowed before s)
@@ -90,22 +92,25 @@ module _ {D : Type 0} (d : Ghosts D) (before : List Effect) (s : Shown) (v : Vie
       let r = (life.running works).1 in
       let served = barred_served b r.earlier before s v r.now.log e.txns.rows e.txns.next e.locks step n r.serving checked in
       let asks_none = refusals_ask_nothing n step s
-      (λ t is. inr (λ going. going_free v.failed t n ((v.txns t).mark) r.serving.works (sym (ap (λ (x : Step). barred v x) is) ∙ checked) (sym (r.serving.shows.shown.marks t) ∙ going))) in
+      (λ t is. elim (going_free v.failed (is_some (pending_of v.under t)) n ((v.txns t).mark) r.serving.works (sym (ap (λ (x : Step). barred v x) is) ∙ checked)) [
+        | inl quiet ↦ inl quiet
+        | inr still ↦ inr (λ going. still (is_shown_so ((s.running t).mark) ((v.txns t).mark) answers.Going (r.serving.shows.shown.marks t) going (λ x. cc x)))
+      ]) in
       let shown = shows s step (Some (Refused n)) in
       let running = runs_on d before s v e r shown v e r.now (goes_on_start d b r.base r.now e.writer e.disk only_now r.stands) served.1
-      (subst (λ (l : List Asked). AreCommitted r.earlier before l r.now.durable r.now.log) (sym asks_none) r.commits) r.numbered in
+      (subst (λ (l : List Asked). AreCommitted r.earlier before l r.now.durable r.now.log) (sym asks_none) r.commits) r.numbered r.alone r.unowned in
       step_made d before s v step (Refused n) e e v served.0 running works (cut_any d before s step e.disk e.disk stops_here) (none_done d before shown v step n e)
 
   -- the first check that a step fails
-  pub barred_kept : (n : ℕ) → Some n ≡ first_check e.failed (length e.txns.rows) (mark_for (marks_in e.txns.rows) step) step → StepKept d before s v step (Refused n) e e
+  pub barred_kept : (n : ℕ) → Some n ≡ first_check e.failed (length e.txns.rows) (mark_for (marks_in e.txns.rows) step) false step → StepKept d before s v step (Refused n) e e
   barred_kept n is = by e.failed refl
     where
       by : (b : Bool) → e.failed ≡ b → StepKept d before s v step (Refused n) e e
       by true fails =
-          let some : Some n ≡ Some has_failed = is ∙ ap (λ (x : Bool). first_check x (length e.txns.rows) (mark_for (marks_in e.txns.rows) step) step) fails ∙ first_failed (length e.txns.rows) (mark_for (marks_in e.txns.rows) step) step in
+          let some : Some n ≡ Some has_failed = is ∙ ap (λ (x : Bool). first_check x (length e.txns.rows) (mark_for (marks_in e.txns.rows) step) false step) fails ∙ first_failed (length e.txns.rows) (mark_for (marks_in e.txns.rows) step) false step in
           let same : n ≡ has_failed = cc some in
           subst (λ (m : ℕ). StepKept d before s v step (Refused m) e e) (sym same) (has_no_step fails)
       by false works =
           let r = (life.running works).1 in
-          is_barred works n (rows_tell (life.running works).0 r.earlier before s v r.now.log e.txns.rows e.txns.next e.locks step r.serving
-          ∙ sym (is ∙ ap (λ (x : Bool). first_check x (length e.txns.rows) (mark_for (marks_in e.txns.rows) step) step) works))
+          is_barred works n (checks_tell d before s v e r step
+          ∙ sym (is ∙ ap (λ (x : Bool). first_check x (length e.txns.rows) (mark_for (marks_in e.txns.rows) step) false step) works))

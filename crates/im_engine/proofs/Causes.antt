@@ -12,14 +12,13 @@ use Rattle.im_log.specs.LogFile.{end_with}
 use Rattle.im_page_writer.specs.declared.page_writer.PageWriter.{PageWriter}
 use Rattle.im_page_writer.specs.Outcome.{AreLoaded, AsksNothing, Ends, LogEnds, mild, none_mild}
 use Rattle.im_engine_index.specs.Outcomes.{seek_at}
-use Rattle.im_engine_txn.specs.declared.transaction.Transaction.{Transaction}
-use Rattle.im_engine_txn.specs.Rows.{is_of}
-use Rattle.im_engine_lock.specs.Machine.{first_check, mark_for}
+use Rattle.im_base_txn.specs.declared.transaction.Transaction.{Transaction}
+use Rattle.im_base_txn.specs.Rows.{is_of}
+use Rattle.im_base_lock.specs.Machine.{first_check, mark_for}
 use Rattle.im_theory_steps.specs.Checks.{checked_by, marks_in}
-use Rattle.im_front.specs.declared.fault.Fault.{Fault as Refusal}
-use Rattle.im_front.specs.declared.fault.Fault.TheVariants as above
-use Rattle.im_front.specs.declared.reply.Reply.{Reply}
-use Rattle.im_front.specs.declared.reply.Reply.TheVariants.{Refused}
+use Rattle.im_base_types.specs.declared.fault.Fault.TheVariants as faults
+use Rattle.im_base_steps.specs.declared.reply.Reply.{Reply}
+use Rattle.im_base_steps.specs.declared.reply.Reply.TheVariants.{Refused}
 use Rattle.im_engine.specs.declared.engine.Engine.{Engine}
 use Rattle.im_engine.specs.Faults.{told_as}
 use Rattle.im_engine.specs.Told.{Where, Checked, HasLogged, IsFor, OfForce, Refuses, ReadCause, FlushCause, DeleteCause, InsertCause, check_of, checkpoint_of}
@@ -39,12 +38,12 @@ past not same = (λ x. inr (not, same.0 x), λ w. ⊎_elim (λ h. absurd (not h.
 pub none : {X : Type 0} → (X → ⊥) → (X ↔ ⊥)
 none not = (not, λ never. absurd never)
 
-pub refused_inj : (a b : Refusal) → Refused a ≡ Refused b → a ≡ b
-refused_inj a b e = ap (λ (x : Reply). elim x as (λ _. Refusal) [ Refused y ↦ y | _ ↦ a ]) e
+pub refused_inj : (a b : Fault) → Refused a ≡ Refused b → a ≡ b
+refused_inj a b e = ap (λ (x : Reply). elim x as (λ _. Fault) [ Refused y ↦ y | _ ↦ a ]) e
 
 -- the reply has this fault
-pub named : (fault other is : Refusal) → fault ≡ is → ((Refused fault ≡ Refused other) ↔ (other ≡ is))
-named fault other is same = (λ e. sym (refused_inj fault other e) ∙ same, λ e. ap (λ (x : Refusal). Refused x) (same ∙ sym e))
+pub named : (fault other is : Fault) → fault ≡ is → ((Refused fault ≡ Refused other) ↔ (other ≡ is))
+named fault other is same = (λ e. sym (refused_inj fault other e) ∙ same, λ e. ap (λ (x : Fault). Refused x) (same ∙ sym e))
 
 -- ---- the cause that a call below had
 
@@ -80,7 +79,7 @@ module _ {D : Type 0} (d : Ghosts D) (v : PageWriter) (old : D) (w : PageWriter)
   delete_cause e x = tt
 
   -- a force
-  pub force_cause : (f : Fault) → LogEnds d false none_mild v old w new (Some f) → v.failed ≡ false → (f ≡ LogFull → ⊥) → (told_as f ≡ above.Device) × (d.failed new ≡ true)
+  pub force_cause : (f : Fault) → LogEnds d false none_mild v old w new (Some f) → v.failed ≡ false → (f ≡ LogFull → ⊥) → (told_as f ≡ faults.Device) × (d.failed new ≡ true)
   force_cause Device x works room = (refl, x.1)
   force_cause LogFull x works room = absurd (room refl)
   force_cause Failed x works room = absurd (not_true v.failed works x.0)
@@ -99,20 +98,20 @@ module _ {D : Type 0} (d : Ghosts D) (v : PageWriter) (old : D) (w : PageWriter)
 
 -- as `IsAnswered` has it, by the log and the disk that a step left
 abbrev pub Answers : {D : Type 0} (d : Ghosts D) → Engine D d → LogFile → D → answers.Step → Reply → Type 0
-Answers d old log disk step reply = (fault : Refusal) → (reply ≡ Refused fault) ↔ Checked (check_of d step old) fault (Refuses d reply old log disk fault step)
+Answers d old log disk step reply = (fault : Fault) → (reply ≡ Refused fault) ↔ Checked (check_of d step old) fault (Refuses d reply old log disk fault step)
 
 module _ {D : Type 0} (d : Ghosts D) (old : Engine D d) (log : LogFile) (disk : D) (works : old.failed ≡ false) where
   -- behind the checks
-  pub behind : (step : answers.Step) (reply : Reply) → checked_by old.txns.rows step ≡ None → ((fault : Refusal) → (reply ≡ Refused fault) ↔ Refuses d reply old log disk fault step) → Answers d old log disk step reply
+  pub behind : (step : answers.Step) (reply : Reply) → checked_by old.txns.rows false step ≡ None → ((fault : Fault) → (reply ≡ Refused fault) ↔ Refuses d reply old log disk fault step) → Answers d old log disk step reply
   behind step reply checked h fault =
-      let is : check_of d step old ≡ None = ap (λ (b : Bool). first_check b (length old.txns.rows) (mark_for (marks_in old.txns.rows) step) step) works ∙ checked in
+      let is : check_of d step old ≡ None = ap (λ (b : Bool). first_check b (length old.txns.rows) (mark_for (marks_in old.txns.rows) step) false step) works ∙ checked in
       subst (λ (o : Option ℕ). (reply ≡ Refused fault) ↔ Checked o fault (Refuses d reply old log disk fault step)) (sym is) (h fault)
 
   -- it is refused for a cause of this kind, or not refused
-  pub refused_for : (Cause : Refusal → Type 0) (f : Fault) (told : Refusal) → told ≡ told_as f → Cause (told_as f) → (fault : Refusal) → ((Refused told ≡ Refused fault) ↔ IsFor d (Refused told) old log disk fault Cause)
+  pub refused_for : (Cause : Fault → Type 0) (f : Fault) (told : Fault) → told ≡ told_as f → Cause (told_as f) → (fault : Fault) → ((Refused told ≡ Refused fault) ↔ IsFor d (Refused told) old log disk fault Cause)
   refused_for Cause f told is cause fault = (λ e. (e, subst Cause (sym is ∙ refused_inj told fault e) cause), λ y. y.0)
 
-  pub not_refused_for : (Cause : Refusal → Type 0) (reply : Reply) → ((x : Refusal) → reply ≢ Refused x) → (fault : Refusal) → ((reply ≡ Refused fault) ↔ IsFor d reply old log disk fault Cause)
+  pub not_refused_for : (Cause : Fault → Type 0) (reply : Reply) → ((x : Fault) → reply ≢ Refused x) → (fault : Fault) → ((reply ≡ Refused fault) ↔ IsFor d reply old log disk fault Cause)
   not_refused_for Cause reply not fault = (λ e. absurd (not fault e), λ y. y.0)
 
 -- an access that changes nothing
@@ -126,7 +125,7 @@ seeks_read true key = refl
 seeks_read false key = refl
 
 module _ {D : Type 0} (d : Ghosts D) (old : Engine D d) (log : LogFile) (disk : D) (works : old.failed ≡ false) (t : ℕ) where
-  reading_is : (a : answers.Access) → reads a ≡ true → (reply : Reply) (fault : Refusal) → ((reply ≡ Refused fault) ↔ IsFor d reply old log disk fault (ReadCause d log disk)) → ((reply ≡ Refused fault) ↔ Refuses d reply old log disk fault (answers.Do t a))
+  reading_is : (a : answers.Access) → reads a ≡ true → (reply : Reply) (fault : Fault) → ((reply ≡ Refused fault) ↔ IsFor d reply old log disk fault (ReadCause d log disk)) → ((reply ≡ Refused fault) ↔ Refuses d reply old log disk fault (answers.Do t a))
   reading_is (answers.Fetch key) is reply fault h = h
   reading_is (answers.Seek key) is reply fault h = h
   reading_is (answers.Next key) is reply fault h = h
@@ -134,35 +133,35 @@ module _ {D : Type 0} (d : Ghosts D) (old : Engine D d) (log : LogFile) (disk : 
   reading_is (answers.Insert key rid) is reply fault h = absurd (cc is)
   reading_is (answers.Delete key) is reply fault h = absurd (cc is)
 
-  module _ (a : answers.Access) (is : reads a ≡ true) (checked : checked_by old.txns.rows (answers.Do t a) ≡ None) where
+  module _ (a : answers.Access) (is : reads a ≡ true) (checked : checked_by old.txns.rows false (answers.Do t a) ≡ None) where
     -- it was answered
-    pub read_answered : (reply : Reply) → ((x : Refusal) → reply ≢ Refused x) → Answers d old log disk (answers.Do t a) reply
+    pub read_answered : (reply : Reply) → ((x : Fault) → reply ≢ Refused x) → Answers d old log disk (answers.Do t a) reply
     read_answered reply not = behind d old log disk works (answers.Do t a) reply checked (λ fault. reading_is a is reply fault (not_refused_for d old log disk works (ReadCause d log disk) reply not fault))
 
     -- a search refused it
-    pub read_refused : (f : Fault) (told : Refusal) → told ≡ told_as f → ReadCause d log disk (told_as f) → Answers d old log disk (answers.Do t a) (Refused told)
+    pub read_refused : (f : Fault) (told : Fault) → told ≡ told_as f → ReadCause d log disk (told_as f) → Answers d old log disk (answers.Do t a) (Refused told)
     read_refused f told same cause =
         behind d old log disk works (answers.Do t a) (Refused told) checked (λ fault. reading_is a is (Refused told) fault
         (refused_for d old log disk works (ReadCause d log disk) f told same cause fault))
 
 -- ---- a Begin
 
-module _ {D : Type 0} (d : Ghosts D) (old : Engine D d) (log : LogFile) (disk : D) (works : old.failed ≡ false) (checked : checked_by old.txns.rows answers.Begin ≡ None) where
-  pub begin_made : (reply : Reply) → old.txns.next ≤ 2 ^ 62 → ((x : Refusal) → reply ≢ Refused x) → Answers d old log disk answers.Begin reply
+module _ {D : Type 0} (d : Ghosts D) (old : Engine D d) (log : LogFile) (disk : D) (works : old.failed ≡ false) (checked : checked_by old.txns.rows false answers.Begin ≡ None) where
+  pub begin_made : (reply : Reply) → old.txns.next ≤ 2 ^ 62 → ((x : Fault) → reply ≢ Refused x) → Answers d old log disk answers.Begin reply
   begin_made reply le not = behind d old log disk works answers.Begin reply checked (λ fault. past (λ over. omega (arith, le, over)) (none (not fault)))
 
-  pub begin_full : 2 ^ 62 < old.txns.next → Answers d old log disk answers.Begin (Refused above.Capacity)
-  begin_full over = behind d old log disk works answers.Begin (Refused above.Capacity) checked (λ fault. here over (named above.Capacity fault above.Capacity refl))
+  pub begin_full : 2 ^ 62 < old.txns.next → Answers d old log disk answers.Begin (Refused faults.Capacity)
+  begin_full over = behind d old log disk works answers.Begin (Refused faults.Capacity) checked (λ fault. here over (named faults.Capacity fault faults.Capacity refl))
 
 -- ---- a Rollback
 
-module _ {D : Type 0} (d : Ghosts D) (old : Engine D d) (log : LogFile) (disk : D) (works : old.failed ≡ false) (t : ℕ) (checked : checked_by old.txns.rows (answers.Rollback t) ≡ None) where
-  pub rollback_made : (reply : Reply) → ((x : Refusal) → reply ≢ Refused x) → Answers d old log disk (answers.Rollback t) reply
+module _ {D : Type 0} (d : Ghosts D) (old : Engine D d) (log : LogFile) (disk : D) (works : old.failed ≡ false) (t : ℕ) (checked : checked_by old.txns.rows false (answers.Rollback t) ≡ None) where
+  pub rollback_made : (reply : Reply) → ((x : Fault) → reply ≢ Refused x) → Answers d old log disk (answers.Rollback t) reply
   rollback_made reply not = behind d old log disk works (answers.Rollback t) reply checked (λ fault. none (not fault))
 
 -- ---- a Commit
 
-module _ {D : Type 0} (d : Ghosts D) (old : Engine D d) (log : LogFile) (disk : D) (works : old.failed ≡ false) (t : ℕ) (row : Transaction) (found : find (is_of t) old.txns.rows ≡ Some row) (checked : checked_by old.txns.rows (answers.Commit t) ≡ None) where
+module _ {D : Type 0} (d : Ghosts D) (old : Engine D d) (log : LogFile) (disk : D) (works : old.failed ≡ false) (t : ℕ) (row : Transaction) (found : find (is_of t) old.txns.rows ≡ Some row) (checked : checked_by old.txns.rows false (answers.Commit t) ≡ None) where
   pub logged : 1 ≤ row.last → HasLogged (find (is_of t) old.txns.rows)
   logged some = subst (λ (o : Option Transaction). HasLogged o) (sym found) some
 
@@ -170,24 +169,24 @@ module _ {D : Type 0} (d : Ghosts D) (old : Engine D d) (log : LogFile) (disk : 
   unlogged zero_is has = let some = subst (λ (o : Option Transaction). HasLogged o) found has in omega (arith, zero_is, some)
 
   -- of a transaction without records
-  pub commit_empty : (reply : Reply) → row.last ≡ 0 → ((x : Refusal) → reply ≢ Refused x) → Answers d old log disk (answers.Commit t) reply
+  pub commit_empty : (reply : Reply) → row.last ≡ 0 → ((x : Fault) → reply ≢ Refused x) → Answers d old log disk (answers.Commit t) reply
   commit_empty reply zero_is not = behind d old log disk works (answers.Commit t) reply checked (λ fault. past (unlogged zero_is) (none (not fault)))
 
   module _ (some : 1 ≤ row.last) where
     -- one that was made
-    pub commit_made : (reply : Reply) → (2 ^ 62 < end_with old.writer.log 33 → ⊥) → (d.failed disk ≡ true → ⊥) → ((x : Refusal) → reply ≢ Refused x) → Answers d old log disk (answers.Commit t) reply
+    pub commit_made : (reply : Reply) → (2 ^ 62 < end_with old.writer.log 33 → ⊥) → (d.failed disk ≡ true → ⊥) → ((x : Fault) → reply ≢ Refused x) → Answers d old log disk (answers.Commit t) reply
     commit_made reply fits on not = behind d old log disk works (answers.Commit t) reply checked (λ fault. here (logged some) (past fits (past on (none (not fault)))))
 
     -- one whose record was refused
-    pub commit_full : (told : Refusal) → told ≡ above.LogFull → 2 ^ 62 < end_with old.writer.log 33 → Answers d old log disk (answers.Commit t) (Refused told)
-    commit_full told is over = behind d old log disk works (answers.Commit t) (Refused told) checked (λ fault. here (logged some) (here over (named told fault above.LogFull is)))
+    pub commit_full : (told : Fault) → told ≡ faults.LogFull → 2 ^ 62 < end_with old.writer.log 33 → Answers d old log disk (answers.Commit t) (Refused told)
+    commit_full told is over = behind d old log disk works (answers.Commit t) (Refused told) checked (λ fault. here (logged some) (here over (named told fault faults.LogFull is)))
 
     -- one behind which the disk has failed
-    pub commit_lost : (told : Refusal) → told ≡ above.Device → (2 ^ 62 < end_with old.writer.log 33 → ⊥) → d.failed disk ≡ true → Answers d old log disk (answers.Commit t) (Refused told)
-    commit_lost told is fits broken = behind d old log disk works (answers.Commit t) (Refused told) checked (λ fault. here (logged some) (past fits (here broken (named told fault above.Device is))))
+    pub commit_lost : (told : Fault) → told ≡ faults.Device → (2 ^ 62 < end_with old.writer.log 33 → ⊥) → d.failed disk ≡ true → Answers d old log disk (answers.Commit t) (Refused told)
+    commit_lost told is fits broken = behind d old log disk works (answers.Commit t) (Refused told) checked (λ fault. here (logged some) (past fits (here broken (named told fault faults.Device is))))
 
     -- one whose append was refused
-    pub commit_append : (f : Fault) (told : Refusal) → told ≡ told_as f → ((f ≡ LogFull) × (d.failed disk ≡ false)) ⊎ ((f ≡ Device) × (d.failed disk ≡ true)) → (f ≡ LogFull → 2 ^ 62 < end_with old.writer.log 33) → (2 ^ 62 < end_with old.writer.log 33 → f ≡ LogFull)
+    pub commit_append : (f : Fault) (told : Fault) → told ≡ told_as f → ((f ≡ LogFull) × (d.failed disk ≡ false)) ⊎ ((f ≡ Device) × (d.failed disk ≡ true)) → (f ≡ LogFull → 2 ^ 62 < end_with old.writer.log 33) → (2 ^ 62 < end_with old.writer.log 33 → f ≡ LogFull)
         → Answers d old log disk (answers.Commit t) (Refused told)
     commit_append f told is (inl full) over exact = commit_full told (is ∙ ap told_as full.0) (over full.0)
     commit_append f told is (inr lost) over exact = commit_lost told (is ∙ ap told_as lost.0) (λ wide. let never : Device ≡ LogFull = sym lost.0 ∙ exact wide in cc never) lost.1
@@ -195,19 +194,19 @@ module _ {D : Type 0} (d : Ghosts D) (old : Engine D d) (log : LogFile) (disk : 
 -- ---- a force, and a Checkpoint
 
 module _ {D : Type 0} (d : Ghosts D) (old : Engine D d) (log : LogFile) (disk : D) where
-  pub force_made : (reply : Reply) → (d.failed disk ≡ true → ⊥) → ((x : Refusal) → reply ≢ Refused x) → (fault : Refusal) → ((reply ≡ Refused fault) ↔ OfForce d reply old log disk fault)
+  pub force_made : (reply : Reply) → (d.failed disk ≡ true → ⊥) → ((x : Fault) → reply ≢ Refused x) → (fault : Fault) → ((reply ≡ Refused fault) ↔ OfForce d reply old log disk fault)
   force_made reply on not fault = past on (none (not fault))
 
-  pub force_lost : (told : Refusal) → told ≡ above.Device → d.failed disk ≡ true → (fault : Refusal) → ((Refused told ≡ Refused fault) ↔ OfForce d (Refused told) old log disk fault)
-  force_lost told is broken fault = here broken (named told fault above.Device is)
+  pub force_lost : (told : Fault) → told ≡ faults.Device → d.failed disk ≡ true → (fault : Fault) → ((Refused told ≡ Refused fault) ↔ OfForce d (Refused told) old log disk fault)
+  force_lost told is broken fault = here broken (named told fault faults.Device is)
 
   -- a Checkpoint that was taken
-  pub checkpoint_made : (reply : Reply) → (d.failed disk ≡ true → ⊥) → end_with old.writer.log (size_of (checkpoint_of d old)) ≤ 2 ^ 62 → ((x : Refusal) → reply ≢ Refused x) → (fault : Refusal)
+  pub checkpoint_made : (reply : Reply) → (d.failed disk ≡ true → ⊥) → end_with old.writer.log (size_of (checkpoint_of d old)) ≤ 2 ^ 62 → ((x : Fault) → reply ≢ Refused x) → (fault : Fault)
       → ((reply ≡ Refused fault) ↔ Refuses d reply old log disk fault answers.Checkpoint)
   checkpoint_made reply on fits not fault = past on (past (λ over. omega (arith, fits, over)) (none (not fault)))
 
   -- one that was refused
-  pub checkpoint_lost : (f : Fault) (told : Refusal) → told ≡ told_as f → ((f ≡ LogFull) × (d.failed disk ≡ false)) ⊎ ((f ≡ Device) × (d.failed disk ≡ true)) → (f ≡ LogFull → 2 ^ 62 < end_with old.writer.log (size_of (checkpoint_of d old))) → (fault : Refusal)
+  pub checkpoint_lost : (f : Fault) (told : Fault) → told ≡ told_as f → ((f ≡ LogFull) × (d.failed disk ≡ false)) ⊎ ((f ≡ Device) × (d.failed disk ≡ true)) → (f ≡ LogFull → 2 ^ 62 < end_with old.writer.log (size_of (checkpoint_of d old))) → (fault : Fault)
       → ((Refused told ≡ Refused fault) ↔ Refuses d (Refused told) old log disk fault answers.Checkpoint)
-  checkpoint_lost f told is (inl full) over fault = past (not_true (d.failed disk) full.1) (here (over full.0) (named told fault above.LogFull (is ∙ ap told_as full.0)))
-  checkpoint_lost f told is (inr lost) over fault = here lost.1 (named told fault above.Device (is ∙ ap told_as lost.0))
+  checkpoint_lost f told is (inl full) over fault = past (not_true (d.failed disk) full.1) (here (over full.0) (named told fault faults.LogFull (is ∙ ap told_as full.0)))
+  checkpoint_lost f told is (inr lost) over fault = here lost.1 (named told fault faults.Device (is ∙ ap told_as lost.0))

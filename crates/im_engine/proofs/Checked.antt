@@ -3,11 +3,11 @@ use Rattle.std.proofs.Common.{◌≡◌, ◌⊎◌, inl, inr, ℕ, Bool, true, f
 use Rattle.std.specs.Prelude.{find}
 use Rattle.im_base_types.specs.Refusals.{key_length}
 use Rattle.im_base_types.specs.Answers.{Access, Step, Do, Commit, Rollback, Reply, Refused, FlushPage, Force, Begin, Continue, Checkpoint}
-use Rattle.im_engine_txn.specs.declared.transaction.Mark.{Mark}
-use Rattle.im_engine_txn.specs.declared.transaction.Mark.TheVariants.{Going, MustRollBack, RollingBack, Committing}
-use Rattle.im_engine_txn.specs.declared.transaction.Transaction.{Transaction}
-use Rattle.im_engine_txn.specs.Rows.{is_of}
-use Rattle.im_engine_lock.specs.Machine.{keys_fit, barred_to, barred_to_rollback, or_else, fault_if}
+use Rattle.im_base_txn.specs.declared.transaction.Mark.{Mark}
+use Rattle.im_base_txn.specs.declared.transaction.Mark.TheVariants.{Going, MustRollBack, RollingBack, Committing}
+use Rattle.im_base_txn.specs.declared.transaction.Transaction.{Transaction}
+use Rattle.im_base_txn.specs.Rows.{is_of}
+use Rattle.im_base_lock.specs.Machine.{keys_fit, barred_to, barred_to_rollback, or_else, fault_if}
 use Rattle.im_theory_steps.specs.Checks.{mark_at, checked_by}
 
 -- the row of a step's transaction
@@ -38,23 +38,27 @@ second_of : (a b : Option ℕ) → or_else a b ≡ None → b ≡ None
 second_of None b is = is
 second_of (Some n) b is = absurd (cc is)
 
+pub or_none : (o : Option ℕ) → or_else o None ≡ o
+or_none None = refl
+or_none (Some n) = refl
+
 -- of an access
-pub access_going : (rows : List Transaction) (t : ℕ) (a : Access) → checked_by rows (Do t a) ≡ None → IsGoing rows t
+pub access_going : (rows : List Transaction) (t : ℕ) (a : Access) → checked_by rows false (Do t a) ≡ None → IsGoing rows t
 access_going rows t a is = going_of rows t (find (is_of t) rows) refl (first_of (barred_to (mark_at (find (is_of t) rows))) (fault_if (not (keys_fit a)) key_length) is)
 
-pub access_fits : (rows : List Transaction) (t : ℕ) (a : Access) → checked_by rows (Do t a) ≡ None → keys_fit a ≡ true
+pub access_fits : (rows : List Transaction) (t : ℕ) (a : Access) → checked_by rows false (Do t a) ≡ None → keys_fit a ≡ true
 access_fits rows t a is = fits_by (keys_fit a) (second_of (barred_to (mark_at (find (is_of t) rows))) (fault_if (not (keys_fit a)) key_length) is)
 
 -- of a Commit
-pub commit_going : (rows : List Transaction) (t : ℕ) → checked_by rows (Commit t) ≡ None → IsGoing rows t
-commit_going rows t is = going_of rows t (find (is_of t) rows) refl is
+pub commit_going : (rows : List Transaction) (t : ℕ) → checked_by rows false (Commit t) ≡ None → IsGoing rows t
+commit_going rows t is = going_of rows t (find (is_of t) rows) refl (first_of (barred_to (mark_at (find (is_of t) rows))) None is)
 
 -- the row that was found is that row
-pub commit_mark : (rows : List Transaction) (t : ℕ) (row : Transaction) → find (is_of t) rows ≡ Some row → checked_by rows (Commit t) ≡ None → row.mark ≡ Going
-commit_mark rows t row found is = going_by row.mark row refl (sym (ap (λ (o : Option Transaction). barred_to (mark_at o)) found) ∙ is)
+pub commit_mark : (rows : List Transaction) (t : ℕ) (row : Transaction) → find (is_of t) rows ≡ Some row → checked_by rows false (Commit t) ≡ None → row.mark ≡ Going
+commit_mark rows t row found is = going_by row.mark row refl (sym (ap (λ (o : Option Transaction). barred_to (mark_at o)) found) ∙ first_of (barred_to (mark_at (find (is_of t) rows))) None is)
 
-pub commit_found : (rows : List Transaction) (t : ℕ) → find (is_of t) rows ≡ None → checked_by rows (Commit t) ≡ None → ⊥
-commit_found rows t none is = let never = sym (ap (λ (o : Option Transaction). barred_to (mark_at o)) none) ∙ is in cc never
+pub commit_found : (rows : List Transaction) (t : ℕ) → find (is_of t) rows ≡ None → checked_by rows false (Commit t) ≡ None → ⊥
+commit_found rows t none is = let never = sym (ap (λ (o : Option Transaction). barred_to (mark_at o)) none) ∙ first_of (barred_to (mark_at (find (is_of t) rows))) None is in cc never
 
 -- and of a Rollback
 back_by : (m : Mark) (row : Transaction) → row.mark ≡ m → barred_to_rollback (mark_at (Some row)) ≡ None → (row.mark ≡ Going) ⊎ (row.mark ≡ MustRollBack)
@@ -63,8 +67,8 @@ back_by MustRollBack row is none = inr is
 back_by RollingBack row is none = absurd (let never = sym (ap (λ (x : Mark). barred_to_rollback (mark_at (Some (record row { mark = x })))) is) ∙ none in cc never)
 back_by Committing row is none = absurd (let never = sym (ap (λ (x : Mark). barred_to_rollback (mark_at (Some (record row { mark = x })))) is) ∙ none in cc never)
 
-pub back_mark : (rows : List Transaction) (t : ℕ) (row : Transaction) → find (is_of t) rows ≡ Some row → checked_by rows (Rollback t) ≡ None → (row.mark ≡ Going) ⊎ (row.mark ≡ MustRollBack)
-back_mark rows t row found is = back_by row.mark row refl (sym (ap (λ (o : Option Transaction). barred_to_rollback (mark_at o)) found) ∙ is)
+pub back_mark : (rows : List Transaction) (t : ℕ) (row : Transaction) → find (is_of t) rows ≡ Some row → checked_by rows false (Rollback t) ≡ None → (row.mark ≡ Going) ⊎ (row.mark ≡ MustRollBack)
+back_mark rows t row found is = back_by row.mark row refl (sym (ap (λ (o : Option Transaction). barred_to_rollback (mark_at o)) found) ∙ first_of (barred_to_rollback (mark_at (find (is_of t) rows))) None is)
 
-pub back_found : (rows : List Transaction) (t : ℕ) → find (is_of t) rows ≡ None → checked_by rows (Rollback t) ≡ None → ⊥
-back_found rows t none is = let never = sym (ap (λ (o : Option Transaction). barred_to_rollback (mark_at o)) none) ∙ is in cc never
+pub back_found : (rows : List Transaction) (t : ℕ) → find (is_of t) rows ≡ None → checked_by rows false (Rollback t) ≡ None → ⊥
+back_found rows t none is = let never = sym (ap (λ (o : Option Transaction). barred_to_rollback (mark_at o)) none) ∙ first_of (barred_to_rollback (mark_at (find (is_of t) rows))) None is in cc never

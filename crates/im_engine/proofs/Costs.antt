@@ -3,7 +3,7 @@ use Rattle.std.proofs.Common.{◌≡◌, ◌≤◌, ◌+◌, ℕ, subst}
 use Rattle.im_base_disk.specs.declared.disk.Disk.{Ghosts}
 use Rattle.im_base_disk.specs.Runs.{Costs, CostsAtMost, Forces}
 use Rattle.im_base_disk.proofs.Costs.{forces_then, most_then}
-use Rattle.im_front.specs.declared.reply.Reply.{Reply}
+use Rattle.im_base_steps.specs.declared.reply.Reply.{Reply}
 use Rattle.im_engine.specs.Costs.{CommitCosts}
 
 pub commit_costs : {D : Type 0} (d : Ghosts D) (used : ℕ) (HasRecords : Type 0) (reply : Reply) (old mid new : D) → CostsAtMost d 2 2 old mid → CostsAtMost d 2 2 mid new → Forces d 1 old mid → Forces d 1 mid new

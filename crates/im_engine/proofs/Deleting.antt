@@ -17,17 +17,18 @@ use Rattle.im_base_disk.specs.declared.disk.Disk.{Ghosts}
 use Rattle.im_base_disk.specs.Disk.{Files}
 use Rattle.im_page_writer.specs.declared.page_writer.PageWriter.{PageWriter}
 use Rattle.im_page_writer.specs.Outcome.{LogEnds, mild}
-use Rattle.im_engine_txn.specs.declared.transaction.Mark.TheVariants.{Going, MustRollBack}
-use Rattle.im_engine_txn.specs.declared.transaction.Transaction.{Transaction}
-use Rattle.im_engine_txn.specs.Rows.{is_of, changed, with_mark, with_record}
-use Rattle.im_engine_txn.proofs.LookUps.{look_ups_follow}
-use Rattle.im_engine_lock.specs.Table.{SameTable, Table}
-use Rattle.im_engine_lock.specs.View.{View}
-use Rattle.im_engine_lock.specs.Machine.{keys_fit}
-use Rattle.im_front.specs.declared.fault.Fault.{Fault as Refusal}
-use Rattle.im_front.specs.declared.fault.Fault.TheVariants as above
-use Rattle.im_front.specs.declared.reply.Reply.TheVariants as replies
-use Rattle.im_front.specs.Calls.{number_of}
+use Rattle.im_base_txn.specs.declared.transaction.Mark.TheVariants.{Going, MustRollBack}
+use Rattle.im_base_txn.specs.declared.transaction.Transaction.{Transaction}
+use Rattle.im_base_txn.specs.Rows.{is_of, changed, with_mark, with_record}
+use Rattle.im_base_txn.proofs.LookUps.{look_ups_follow}
+use Rattle.im_base_lock.specs.Locks.{IsFree}
+use Rattle.im_base_lock.specs.Rows.{asked}
+use Rattle.im_base_lock.specs.Table.{SameTable, Table, locks_of}
+use Rattle.im_base_lock.specs.View.{View}
+use Rattle.im_base_lock.specs.Machine.{keys_fit}
+use Rattle.im_base_types.specs.declared.fault.Fault.TheVariants as faults
+use Rattle.im_base_steps.specs.declared.reply.Reply.TheVariants as replies
+use Rattle.im_base_types.specs.Faults.{number_of}
 use Rattle.im_theory_steps.specs.Checks.{checked_by}
 use Rattle.im_engine_index.specs.declared.noted.Taken.{Taken}
 use Rattle.im_engine_index.specs.declared.outcome.Outcome.{Outcome}
@@ -42,14 +43,14 @@ use Rattle.im_engine.proofs.Checked.{access_fits, access_going}
 use Rattle.im_engine.proofs.Edited.{blocked, deleted, died, edit_refused, edit_stops, failed_as, may_edit, unchanged}
 
 -- the row that was found is the row of the step
-pub access_mark : (rows : List Transaction) (t : ℕ) (a : answers.Access) (row : Transaction) → find (is_of t) rows ≡ Some row → checked_by rows (Do t a) ≡ None → row.mark ≡ Going
+pub access_mark : (rows : List Transaction) (t : ℕ) (a : answers.Access) (row : Transaction) → find (is_of t) rows ≡ Some row → checked_by rows false (Do t a) ≡ None → row.mark ≡ Going
 access_mark rows t a row found checked =
     let going = access_going rows t a checked in
     let both : Some going.row ≡ Some row = sym going.found ∙ found in
     let same : going.row ≡ row = cc both in
     subst (λ (x : Transaction). x.mark ≡ Going) same going.mark
 
-module _ {D : Type 0} (d : Ghosts D) (old : Engine D d) (t : ℕ) (key : Key) (row : Transaction) (found : find (is_of t) old.txns.rows ≡ Some row) (checked : checked_by old.txns.rows (Do t (Delete key)) ≡ None) where
+module _ {D : Type 0} (d : Ghosts D) (old : Engine D d) (t : ℕ) (key : Key) (row : Transaction) (found : find (is_of t) old.txns.rows ≡ Some row) (checked : checked_by old.txns.rows false (Do t (Delete key)) ≡ None) where
   mark : row.mark ≡ Going
   mark = access_mark old.txns.rows t (Delete key) row found checked
 
@@ -73,11 +74,12 @@ module _ {D : Type 0} (d : Ghosts D) (old : Engine D d) (t : ℕ) (key : Key) (r
           subst (λ (n : ℕ). DeleteKept d b r.base r.now r.redo_end n row.last key old.locks locks old.disk w disk result) number
           (below b r.base r.now r.redo_end (subst (λ (n : ℕ). MayEdit d b r.base r.now r.redo_end n row.last row.undo_next (Delete key) old.locks old.writer old.disk) (sym number) (may_edit d before s v old r t row found mark (Delete key))))
 
-      -- it fails late only where the key is there
-      pub delete_wants : (f : Fault) → Below (Err f) → LogEnds d true mild old.writer old.disk w disk (Some f) → (told : Refusal) → told ≡ told_as f → replies.Refused told ≡ replies.Refused above.Failed → get v.walk key ≢ None
+      -- it fails late only where the key is there, with its locks granted
+      pub delete_wants : (f : Fault) → Below (Err f) → LogEnds d true mild old.writer old.disk w disk (Some f) → (told : Fault) → told ≡ told_as f → replies.Refused told ≡ replies.Refused faults.Failed → (get v.walk key ≢ None) × IsFree (locks_of old.locks) t (asked (Delete key) v.walk)
       delete_wants f below ends told is failed =
-          let late : f ≡ Failed = failed_as d old.writer old.disk w disk f ends (sym is ∙ refused_inj told above.Failed failed) in
-          subst (λ (m : IndexMap). get m key ≢ None) (sym r.serving.seen_by.walk) ((kept_here (Err f) below).begun late).0
+          let late : f ≡ Failed = failed_as d old.writer old.disk w disk f ends (sym is ∙ refused_inj told faults.Failed failed) in
+          let begun = (kept_here (Err f) below).begun late in
+          subst (λ (m : IndexMap). (get m key ≢ None) × IsFree (locks_of old.locks) t (asked (Delete key) m)) (sym r.serving.seen_by.walk) (begun.0, begun.1.0)
 
   module _ (new : Engine D d) where
     abbrev Of : Result (Outcome (Option Taken)) Fault → Type 0
@@ -116,7 +118,7 @@ module _ {D : Type 0} (d : Ghosts D) (old : Engine D d) (t : ℕ) (key : Key) (r
 
     -- a call below refused it
     pub delete_refused : (before : List Effect) (s : Shown) (v : View) (life : IsLife d before s v old) (works : old.failed ≡ false) → ((u : ℕ) (c : Files) → u ≤ d.moment new.disk → d.may_leave new.disk c → d.left_since new.disk u c) → (f : Fault) → Of (Err f)
-        → LogEnds d true mild old.writer old.disk new.writer new.disk (Some f) → new.failed ≡ ends_engine f → new.txns ≡ old.txns → (f ≡ Memory → SameTable old.locks new.locks) → (told : Refusal) → told ≡ told_as f
+        → LogEnds d true mild old.writer old.disk new.writer new.disk (Some f) → new.failed ≡ ends_engine f → new.txns ≡ old.txns → (f ≡ Memory → SameTable old.locks new.locks) → (told : Fault) → told ≡ told_as f
         → StepKept d before s v (Do t (Delete key)) (Refused (number_of told)) old new
     delete_refused before s v life works counts_now f below ends fails table same told is =
         let r = (life.running works).1 in

@@ -32,34 +32,33 @@ use Rattle.im_theory_tree.specs.Theory.{page_tree}
 use Rattle.im_theory_tree.proofs.TheoryLaws.{page_tree_laws}
 use Rattle.im_smo_log.specs.Changes.{IsOfChange, GrowsByChange}
 use Rattle.im_smo_actions.specs.Structure.{IsUnfinished}
-use Rattle.im_engine_txn.specs.declared.transaction.Mark.TheVariants.{Going, MustRollBack}
-use Rattle.im_engine_txn.specs.declared.transaction.Transaction.{Transaction}
-use Rattle.im_engine_txn.specs.Rows.{is_of, changed, with_mark, with_record}
-use Rattle.im_engine_txn.proofs.LookUps.{look_ups_follow}
-use Rattle.im_engine_lock.specs.Locks.{Lock, Request, Holds}
-use Rattle.im_engine_lock.specs.Locks as locks
-use Rattle.im_engine_lock.specs.Rows.{asked}
-use Rattle.im_engine_lock.specs.Serving.{Matches}
-use Rattle.im_engine_lock.specs.Table.{Table, Decides, SameTable, locks_of}
-use Rattle.im_engine_lock.specs.declared.verdict.Verdict.{Verdict}
-use Rattle.im_engine_lock.specs.declared.verdict.Verdict.TheVariants.{Granted, Wait, Die as MustDie}
-use Rattle.im_engine_lock.specs.View.{View, did, locks_in, marked}
-use Rattle.im_engine_lock.specs.Machine.{Wants, barred, keys_fit}
-use Rattle.im_front.specs.declared.fault.Fault.{Fault as Refusal}
-use Rattle.im_front.specs.declared.fault.Fault.TheVariants as above
-use Rattle.im_front.specs.Calls.{number_of}
+use Rattle.im_base_txn.specs.declared.transaction.Mark.TheVariants.{Going, MustRollBack}
+use Rattle.im_base_txn.specs.declared.transaction.Transaction.{Transaction}
+use Rattle.im_base_txn.specs.Rows.{is_of, changed, with_mark, with_record}
+use Rattle.im_base_txn.proofs.LookUps.{look_ups_follow}
+use Rattle.im_base_lock.specs.Locks.{Lock, Request, Holds}
+use Rattle.im_base_lock.specs.Locks as locks
+use Rattle.im_base_lock.specs.Rows.{asked}
+use Rattle.im_base_lock.specs.Serving.{Matches}
+use Rattle.im_base_lock.specs.Table.{Table, Decides, SameTable, locks_of}
+use Rattle.im_base_lock.specs.declared.verdict.Verdict.{Verdict}
+use Rattle.im_base_lock.specs.declared.verdict.Verdict.TheVariants.{Granted, Wait, Die as MustDie}
+use Rattle.im_base_lock.specs.View.{View, did, locks_in, marked, owner_in}
+use Rattle.im_base_lock.specs.Machine.{Wants, barred, keys_fit}
+use Rattle.im_base_types.specs.declared.fault.Fault.TheVariants as faults
+use Rattle.im_base_types.specs.Faults.{number_of}
 use Rattle.im_theory_steps.specs.Checks.{checked_by}
 use Rattle.im_theory_steps.specs.Growth.{AreBelow, AreStructural, AreWithin, GrowsByStructure, GrowsWithin, IsStructural, IsOfAll, Stays, is_structural}
-use Rattle.im_theory_steps.specs.Serving.{IsAt, IsServing, IsServed, mark_of}
+use Rattle.im_theory_steps.specs.Serving.{IsRow, IsServing, IsServed, mark_of}
 use Rattle.im_theory_steps.specs.Steps.{IsOnTheWay, key_record}
 use Rattle.im_theory_steps.specs.Durable.{AreCommitted}
 use Rattle.im_theory_steps.proofs.Asking.{asks_nothing, dies_ask_nothing, waits_ask_nothing}
 use Rattle.im_theory_steps.proofs.Durable.{commits_stand}
 use Rattle.im_theory_steps.proofs.Growth.{copies_are_images, images_change_nothing, numbers_stay_new, within_leaves_others}
-use Rattle.im_theory_steps.proofs.Lived.{rows_tell}
+use Rattle.im_base_lock.proofs.Serving.{all_held}
 use Rattle.im_theory_steps.proofs.Logging.{deletes_served}
 use Rattle.im_theory_steps.proofs.Promises.{granted_keys_free}
-use Rattle.im_theory_steps.proofs.Steps.{dies_served, reads_served, structure_keeps, waits_served, ways_lead_on}
+use Rattle.im_theory_steps.proofs.Steps.{at, dies_served, mark_free, reads_served, structure_keeps, waits_served, ways_lead_on}
 use Rattle.im_engine_index.specs.KeyLogs.{LeftByEdit, LeavesEdit}
 use Rattle.im_engine_index.specs.Edits.{MayEdit, Deleted}
 use Rattle.im_engine_index.specs.declared.noted.Taken.{Taken}
@@ -72,7 +71,7 @@ use Rattle.im_engine.specs.Stands.{Allowed}
 use Rattle.im_engine.specs.Running.{IsRunning, IsLife}
 use Rattle.im_engine.specs.Kept.{StepKept}
 use Rattle.im_engine.specs.Faults.{told_as, ends_engine}
-use Rattle.im_engine.proofs.Running.{left_on, read_on}
+use Rattle.im_engine.proofs.Running.{outside, not_in, not_owner, checks_tell, left_on, read_on}
 use Rattle.im_engine.proofs.Made.{grown_made, leaves_as, step_made}
 use Rattle.im_engine.proofs.Refused.{breaks_with, lacks_with}
 
@@ -127,7 +126,7 @@ free_in v table t row h free s p = free s (record {
   theirs = p.theirs;
   other = p.other;
   ask = p.ask;
-  held = subst (λ (ls : List Lock). Holds ls p.name p.theirs) (h s) p.held;
+  held = subst (λ (ls : List Lock). Holds ls p.name p.theirs) (all_held v table h s) p.held;
   exclusive = p.exclusive;
 })
 
@@ -135,8 +134,8 @@ module _ {D : Type 0} (d : Ghosts D) {b : Base} (before : List Effect) (s : Show
   way : IsOnTheWay b t row.last r.now.log r.now.log
   way = ways_lead_on.begins b r.earlier before s v r.now.log old.txns.rows old.txns.next old.locks t row r.serving found mark
 
-  is_at : IsAt t (Some row) old.txns.next r.now.log (v.txns t)
-  is_at = subst (λ (o : Option Transaction). IsAt t o old.txns.next r.now.log (v.txns t)) found (r.serving.table.each t)
+  is_at : (row.number ≡ t) × IsRow row old.txns.next r.now.log (owner_in v) × ((v.txns t).mark ≡ mark_of row.mark)
+  is_at = at b r.earlier before s v r.now.log old.txns.rows old.txns.next old.locks r.serving t row found (mark_free row.mark Going mark (λ x. cc x))
 
   walk_of : v.walk ≡ contents b r.now.log
   walk_of = r.serving.seen_by.walk
@@ -190,7 +189,7 @@ module _ {D : Type 0} (d : Ghosts D) {b : Base} (before : List Effect) (s : Show
   -- ---- the engine behind a change
 
   module _ (a : Access) (new : Engine D d) (now : Writer) (e last undo_next : ℕ) (is : IsUnfinished d b r.base now e t last undo_next new.writer new.disk) (durable : IsFront r.now.durable now.durable) (grows : GrowsWithin t r.now.log now.log)
-      (rows : List Transaction) (table : new.txns ≡ record old.txns { rows = rows }) (w : View) (served : IsServed b r.earlier before s v (Do t a) (answer a v.walk) w now.log rows old.txns.next new.locks) where
+      (rows : List Transaction) (table : new.txns ≡ record old.txns { rows = rows }) (w : View) (served : IsServed b r.earlier before s v (Do t a) (answer a v.walk) w now.log rows old.txns.next new.locks) (alone : w.queue ≡ []) (unowned : w.under ≡ None) where
     pub edited_runs : IsRunning d b before (shows s (Do t a) (Some (answer a v.walk))) w new
     edited_runs =
         let same = (within_leaves_others t r.now.log now.log grows).1 in
@@ -200,6 +199,7 @@ module _ {D : Type 0} (d : Ghosts D) {b : Base} (before : List Effect) (s : Show
         record {
           base = r.base;
           start = r.start;
+          counted = r.counted;
           earlier = r.earlier;
           now = now;
           stands = is.stands;
@@ -211,6 +211,8 @@ module _ {D : Type 0} (d : Ghosts D) {b : Base} (before : List Effect) (s : Show
           commits = subst (λ (l : List Asked). AreCommitted r.earlier before l now.durable now.log) (sym (asks_nothing s t a v)) commits;
           numbered = subst (λ (n : ℕ). n ≤ 2 ^ 62 → AreBelow n now.log) (sym (ap (λ (x : Numbered). x.next) table))
               (λ le. numbers_stay_new.within old.txns.next t r.now.log now.log number_below (r.numbered le) grows);
+          alone = alone;
+          unowned = unowned;
         }
 
     pub edited : LeavesEdit d b r.base r.now t old.disk new.disk → new.failed ≡ false → StepKept d before s v (Do t a) (answer a v.walk) old new
@@ -227,6 +229,9 @@ module _ {D : Type 0} (d : Ghosts D) {b : Base} (before : List Effect) (s : Show
     law : IsLawful b page_tree mid
     law = lawful_front b page_tree is.change.more mid (subst (λ (l : History). IsLawful b page_tree l) is.change.is is.stands.lawful)
 
+    closed_before : open_smo is.before ≡ []
+    closed_before = (copies_are_images page_tree b r.now.log is.before is.images).opened ∙ r.closed
+
     may : lawful.MayDelete b page_tree newest is.before key is.rid
     may = law.1.may
 
@@ -234,8 +239,8 @@ module _ {D : Type 0} (d : Ghosts D) {b : Base} (before : List Effect) (s : Show
     record_rows = map (changed t (with_record taken.undo_next taken.undo_next)) old.txns.rows
 
     after_record : IsServed b r.earlier before s v (Do t (Delete key)) answers.Deleted (did v t (Delete key) (locks_of new.locks t)) mid record_rows old.txns.next new.locks
-    after_record = (deletes_served page_tree page_tree_laws b r.earlier before s v r.now.log is.before old.txns.rows old.txns.next old.locks new.locks t row.last taken.undo_next is.page row key is.rid r.serving found mark fits
-        (way_by_images is.before is.images) law.0 ((copies_are_images page_tree b r.now.log is.before is.images).opened ∙ r.closed) is.there (decided_here (Delete key) Granted new.locks decides) may.can_drop law.1.rises).served
+    after_record = (deletes_served page_tree page_tree_laws b r.earlier before s v r.now.log is.before old.txns.rows old.txns.next old.locks new.locks t row.last taken.undo_next is.page row key is.rid r.serving found mark (not_owner d before s v old r t) fits
+        (way_by_images is.before is.images) law.0 (outside t (open_smo is.before) closed_before) (not_in is.page (open_smo is.before) closed_before) is.there (decided_here (Delete key) Granted new.locks decides) may.can_drop law.1.rises).served
 
     says : answer (Delete key) v.walk ≡ answers.Deleted
     says = ap (λ (m : IndexMap). answer (Delete key) m) walk_of ∙ ap (λ (o : Option ℕ). cond (is_some o) answers.Deleted answers.Absent) is.there
@@ -252,7 +257,7 @@ module _ {D : Type 0} (d : Ghosts D) {b : Base} (before : List Effect) (s : Show
     in_full : IsServing b r.earlier before (shows s (Do t (Delete key)) (Some answers.Deleted)) (did v t (Delete key) (locks_of new.locks t)) is.now.log (map (changed t (with_record taken.last taken.undo_next)) old.txns.rows) old.txns.next new.locks
     in_full = subst (λ (rows : List Transaction). IsServing b r.earlier before (shows s (Do t (Delete key)) (Some answers.Deleted)) (did v t (Delete key) (locks_of new.locks t)) is.now.log rows old.txns.next new.locks) rows_now
         (structure_keeps b r.earlier before (shows s (Do t (Delete key)) (Some answers.Deleted)) (did v t (Delete key) (locks_of new.locks t)) mid is.now.log record_rows old.txns.next new.locks t (with_record taken.undo_next taken.undo_next row) after_record.1
-        (look_ups_follow.changed_own t (with_record taken.undo_next taken.undo_next) (λ x. refl) old.txns.rows row found) some_record (by_structure t mid is.now.log is.change))
+        (look_ups_follow.changed_own t (with_record taken.undo_next taken.undo_next) (λ x. refl) old.txns.rows row found) (mark_free row.mark Going mark (λ x. cc x)) (inl some_record) (by_structure t mid is.now.log is.change))
 
     grown : GrowsWithin t r.now.log is.now.log
     grown =
@@ -267,7 +272,7 @@ module _ {D : Type 0} (d : Ghosts D) {b : Base} (before : List Effect) (s : Show
         let rows = map (changed t (with_record taken.last taken.undo_next)) old.txns.rows in
         subst (λ (reply : Reply). StepKept d before s v (Do t (Delete key)) reply old new) says
         (edited (Delete key) new is.now r.redo_end taken.last taken.undo_next is.stands is.durable grown rows table w
-        (subst (λ (reply : Reply). IsServed b r.earlier before s v (Do t (Delete key)) reply w is.now.log rows old.txns.next new.locks) (sym says) (after_record.0, in_full)) stops works)
+        (subst (λ (reply : Reply). IsServed b r.earlier before s v (Do t (Delete key)) reply w is.now.log rows old.txns.next new.locks) (sym says) (after_record.0, in_full)) r.alone r.unowned stops works)
 
   -- ---- a change that was not made
 
@@ -277,23 +282,23 @@ module _ {D : Type 0} (d : Ghosts D) {b : Base} (before : List Effect) (s : Show
         → new.txns ≡ old.txns → new.failed ≡ false → StepKept d before s v (Do t a) reply old new
     unchanged none decides ev reply says table works =
         subst (λ (y : Reply). StepKept d before s v (Do t a) y old new) (ap (answer a) walk_of ∙ says)
-        (grown_made d before s v (did v t a (locks_of new.locks t)) (Do t a) (answer a v.walk) old new r old.txns ev
-        (λ longer stays all. reads_served b r.earlier before s v r.now.log longer old.txns.rows old.txns.next old.locks new.locks t row a r.serving found mark fits (ap (changes a) walk_of ∙ none) (decided_here a Granted new.locks decides) stays all)
+        (grown_made d before s v (did v t a (locks_of new.locks t)) (Do t a) (answer a v.walk) old new r old.txns r.alone r.unowned ev
+        (λ longer stays all. reads_served b r.earlier before s v r.now.log longer old.txns.rows old.txns.next old.locks new.locks t row a r.serving found mark (not_owner d before s v old r t) fits (ap (changes a) walk_of ∙ none) (decided_here a Granted new.locks decides) stays all)
         (asks_nothing s t a v) refl table refl (edit_stops new.disk stops) works tt)
 
     -- it has to wait
     pub blocked : (holder : ℕ) → Decides old.locks t (asked a (contents b r.now.log)) (Wait holder) new.locks → Evicted d b r.base r.now old.disk new.writer new.disk → new.txns ≡ old.txns → new.failed ≡ false → StepKept d before s v (Do t a) (Blocked holder) old new
     blocked holder decides ev table works =
-        grown_made d before s v v (Do t a) (Blocked holder) old new r old.txns ev
-        (λ longer stays all. waits_served b r.earlier before s v r.now.log longer old.txns.rows old.txns.next old.locks new.locks t holder row a r.serving found mark fits (decided_here a (Wait holder) new.locks decides) stays all)
+        grown_made d before s v v (Do t a) (Blocked holder) old new r old.txns r.alone r.unowned ev
+        (λ longer stays all. waits_served b r.earlier before s v r.now.log longer old.txns.rows old.txns.next old.locks new.locks t holder row a r.serving found mark (not_owner d before s v old r t) fits (decided_here a (Wait holder) new.locks decides) stays all)
         (waits_ask_nothing s t holder a) refl table refl (edit_stops new.disk stops) works tt
 
     -- its transaction must die
     pub died : Decides old.locks t (asked a (contents b r.now.log)) MustDie new.locks → Evicted d b r.base r.now old.disk new.writer new.disk → new.txns ≡ record old.txns { rows = map (changed t (with_mark MustRollBack)) old.txns.rows } → new.failed ≡ false
         → StepKept d before s v (Do t a) Die old new
     died decides ev table works =
-        grown_made d before s v (marked v t answers.MustRollBack) (Do t a) Die old new r (record old.txns { rows = map (changed t (with_mark MustRollBack)) old.txns.rows }) ev
-        (λ longer stays all. dies_served b r.earlier before s v r.now.log longer old.txns.rows old.txns.next old.locks new.locks t row a r.serving found mark fits (decided_here a MustDie new.locks decides) stays all)
+        grown_made d before s v (marked v t answers.MustRollBack) (Do t a) Die old new r (record old.txns { rows = map (changed t (with_mark MustRollBack)) old.txns.rows }) r.alone r.unowned ev
+        (λ longer stays all. dies_served b r.earlier before s v r.now.log longer old.txns.rows old.txns.next old.locks new.locks t row a r.serving found mark (not_owner d before s v old r t) fits (decided_here a MustDie new.locks decides) stays all)
         (dies_ask_nothing s t a) refl table refl (edit_stops new.disk stops) works tt
 
 -- ---- refusals
@@ -301,18 +306,18 @@ module _ {D : Type 0} (d : Ghosts D) {b : Base} (before : List Effect) (s : Show
 no_commit : (t : ℕ) (a : Access) (u : ℕ) → Do t a ≡ Commit u → ⊥
 no_commit t a u is = cc is
 
-module _ {D : Type 0} (d : Ghosts D) (before : List Effect) (s : Shown) (v : View) (t : ℕ) (a : Access) (old new : Engine D d) (life : IsLife d before s v old) (works : old.failed ≡ false) (checked : checked_by old.txns.rows (Do t a) ≡ None)
+module _ {D : Type 0} (d : Ghosts D) (before : List Effect) (s : Shown) (v : View) (t : ℕ) (a : Access) (old new : Engine D d) (life : IsLife d before s v old) (works : old.failed ≡ false) (checked : checked_by old.txns.rows false (Do t a) ≡ None)
     (counts_now : (u : ℕ) (c : Files) → u ≤ d.moment new.disk → d.may_leave new.disk c → d.left_since new.disk u c) where
   abbrev run : (b : Base) × IsRunning d b before s v old
   run = life.running works
 
   bars : barred v (Do t a) ≡ None
-  bars = rows_tell run.0 run.1.earlier before s v run.1.now.log old.txns.rows old.txns.next old.locks (Do t a) run.1.serving ∙ checked
+  bars = checks_tell d before s v old run.1 (Do t a) ∙ checked
 
   -- a change that a call refused which may be refused late
   pub edit_refused : (f : Fault) → Wants (Do t a) memory → LogEnds d true mild old.writer old.disk new.writer new.disk (Some f) → LeavesOnly d old.disk new.disk (Allowed before s) → f ≢ NotAStore → new.failed ≡ ends_engine f → new.txns ≡ old.txns
-      → (f ≡ Memory → SameTable old.locks new.locks) → (told : Refusal) → told ≡ told_as f → StepKept d before s v (Do t a) (Refused (number_of told)) old new
-  edit_refused f wants ends leaves sound fails table same told is = subst (λ (y : Refusal). StepKept d before s v (Do t a) (Refused (number_of y)) old new) (sym is) (by f ends sound fails same)
+      → (f ≡ Memory → SameTable old.locks new.locks) → (told : Fault) → told ≡ told_as f → StepKept d before s v (Do t a) (Refused (number_of told)) old new
+  edit_refused f wants ends leaves sound fails table same told is = subst (λ (y : Fault). StepKept d before s v (Do t a) (Refused (number_of y)) old new) (sym is) (by f ends sound fails same)
     where
       by : (g : Fault) → LogEnds d true mild old.writer old.disk new.writer new.disk (Some g) → g ≢ NotAStore → new.failed ≡ ends_engine g → (g ≡ Memory → SameTable old.locks new.locks) → StepKept d before s v (Do t a) (Refused (number_of (told_as g))) old new
       by Memory x other on same_locks = lacks_with d before s v (Do t a) (no_commit t a) bars old new life works counts_now wants (read_on d before s v old run.1 new.writer new.disk x.1) leaves table (same_locks refl) on
@@ -323,7 +328,7 @@ module _ {D : Type 0} (d : Ghosts D) (before : List Effect) (s : Shown) (v : Vie
       by g x other on same_locks = absurd (let never = x.0 in cc never)
 
 -- it is told that it failed only where it did
-pub failed_as : {D : Type 0} (d : Ghosts D) (v : PageWriter) (old : D) (w : PageWriter) (new : D) (f : Fault) → LogEnds d true mild v old w new (Some f) → told_as f ≡ above.Failed → f ≡ Failed
+pub failed_as : {D : Type 0} (d : Ghosts D) (v : PageWriter) (old : D) (w : PageWriter) (new : D) (f : Fault) → LogEnds d true mild v old w new (Some f) → told_as f ≡ faults.Failed → f ≡ Failed
 failed_as d v old w new Failed x is = refl
 failed_as d v old w new Memory x is = absurd (cc is)
 failed_as d v old w new LogFull x is = absurd (cc is)

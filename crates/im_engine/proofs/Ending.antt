@@ -2,8 +2,8 @@
 use Rattle.std.proofs.Common.{◌≡◌, ◌⊎◌, inl, inr, ℕ, suc, ◌+◌, ◌≤◌, ◌<◌, ◌^◌, List, [], ◌∷◌, ◌++◌, append-nil, Bool, true, false, Option, Some, None, Result, Ok, length, refl, sym, ap, subst, ◌∙◌, arith}
 use Rattle.std.specs.Prelude.{find, map, nat_lt, not}
 use Rattle.std.proofs.lemmas.Bool.{ltb-true}
-use Rattle.im_front.specs.Calls.{number_of}
-use Rattle.im_front.specs.declared.fault.Fault.{Fault as Refusal}
+use Rattle.im_base_types.specs.Faults.{number_of}
+use Rattle.im_base_types.specs.declared.fault.Fault.{Fault}
 use Rattle.im_page_writer.specs.Outcome.{LogEnds, Ends, Flushes, AsksNothing, none_mild}
 use Rattle.im_page_writer.proofs.Outcomes.{flush_asks}
 use Rattle.im_base_types.specs.Pages.{Page}
@@ -14,12 +14,11 @@ use Rattle.im_base_types.specs.Answers as answers
 use Rattle.im_base_types.specs.Answers.{Begin, Started, Commit, Committed, Rollback, RolledBack, More, Force, FlushPage, Done, Refused}
 use Rattle.im_base_types.specs.Changes.{Effect, apply_all, seen, seen_effect}
 use Rattle.im_theory_log.specs.Histories.{Base, History, Rises, end_of}
-use Rattle.im_theory_log.specs.Lawful.{IsLawful, Follows, IsOutside}
+use Rattle.im_theory_log.specs.Lawful.{IsLawful, Follows}
 use Rattle.im_theory_log.specs.Structure.{open_smo}
 use Rattle.im_theory_log.proofs.LogLaws.{logs_stay_lawful}
 use Rattle.im_theory_log.specs.Transactions.{committed, last_of, to_undo, net, changes_of, is_finished, is_rolling_back}
 use Rattle.im_base_types.specs.Refusals.{memory, unfinished, too_many}
-use Rattle.im_base_types.specs.declared.fault.Fault.{Fault}
 use Rattle.im_base_types.specs.declared.fault.Fault.TheVariants.{Failed, LogFull, Device, NotAStore}
 use Rattle.im_theory_log.specs.Writer.{Writer}
 use Rattle.im_theory_log.specs.WriterSteps.{appended, forced}
@@ -38,46 +37,39 @@ use Rattle.im_page_writer.specs.PageWriter.{StandsAs, GoesOn, FlushedOne, Logged
 use Rattle.im_page_writer.proofs.Writers.{goes_on_start}
 use Rattle.im_theory_tree.specs.Theory.{page_tree}
 use Rattle.im_theory_tree.proofs.TheoryLaws.{page_tree_laws}
-use Rattle.im_engine_txn.specs.Rows.{begun as row_begun, is_of, changed, with_mark}
-use Rattle.im_engine_txn.specs.LookUps.{without}
-use Rattle.im_engine_txn.specs.declared.transaction.Mark.TheVariants.{Going, MustRollBack, RollingBack}
-use Rattle.im_engine_txn.specs.declared.transaction.Transaction.{Transaction}
-use Rattle.im_engine_lock.specs.Table.{Table, IsReleased, locks_of}
-use Rattle.im_engine_lock.specs.View.{View, begun, marked, committed_by, dropped_by}
-use Rattle.im_engine_lock.specs.Machine.{Breaks, barred, fault_if}
+use Rattle.im_base_txn.specs.Rows.{begun as row_begun, is_of, changed, with_mark}
+use Rattle.im_base_txn.specs.LookUps.{without}
+use Rattle.im_base_txn.specs.declared.transaction.Mark.TheVariants.{Going, MustRollBack, RollingBack}
+use Rattle.im_base_txn.specs.declared.transaction.Transaction.{Transaction}
+use Rattle.im_base_lock.specs.Table.{Table, IsReleased, locks_of}
+use Rattle.im_base_lock.specs.View.{View, begun, marked, committed_by, dropped_by, forced_by, is_among}
+use Rattle.im_base_lock.specs.Machine.{Breaks, barred, fault_if}
 use Rattle.im_theory_steps.specs.Checks.{checked_by}
 use Rattle.im_theory_steps.specs.Durable.{AreCommitted}
 use Rattle.im_theory_steps.specs.Growth.{AreBelow, Stays, IsOfAll}
-use Rattle.im_theory_steps.specs.Serving.{IsServing, IsServed}
+use Rattle.im_theory_steps.specs.Serving.{IsServing, IsServed, mark_of}
 use Rattle.im_theory_steps.proofs.Asking.{empty_asked, effects_acked}
-use Rattle.im_theory_steps.proofs.Growth.{copies_are_images, images_change_nothing, numbers_stay_new, same_here}
-use Rattle.im_theory_steps.proofs.Durable.{commits_stand, others_ask_nothing}
-use Rattle.im_theory_steps.proofs.Lived.{rows_tell}
-use Rattle.im_theory_steps.specs.Serving.{mark_of}
-use Rattle.im_theory_steps.specs.Steps.{commit_record}
-use Rattle.im_theory_steps.proofs.Growth.{unlogged}
+use Rattle.im_theory_steps.proofs.Growth.{copies_are_images, images_change_nothing, numbers_stay_new, same_here, unlogged}
+use Rattle.im_theory_steps.proofs.Durable.{commits_stand, others_ask_nothing, cut_commits_stand}
+use Rattle.im_theory_steps.specs.Steps.{commit_record, without_all}
 use Rattle.im_theory_steps.proofs.Records.{commit_commits}
-use Rattle.im_theory_steps.proofs.Durable.{cut_commits_stand}
 use Rattle.im_theory_steps.proofs.Logging.{logged_commits_served}
-use Rattle.im_theory_steps.proofs.Steps.{at, unlogged_commits_served, begins_served, drops_served, turns_served, flushes_served, forces_served, barred_served}
+use Rattle.im_theory_steps.proofs.Showing.{effect_shown}
+use Rattle.im_theory_steps.proofs.Steps.{at, mark_free, unlogged_commits_served, begins_served, drops_served, turns_served, flushes_served, forces_served, barred_served}
 use Rattle.im_engine.specs.declared.engine.Engine.{Engine}
 use Rattle.im_engine.specs.Numbered.{Numbered}
 use Rattle.im_engine.specs.Stands.{StandsFor, Allowed}
 use Rattle.im_engine.specs.Running.{IsRunning, IsLife}
 use Rattle.im_engine.specs.Kept.{StepKept, IsDurable}
 use Rattle.im_engine.proofs.Stands.{covered_allowed}
-use Rattle.im_engine.proofs.Running.{allowed_as, tells, none_waits, page_is, read_stops, covered_stops, idle_stops, runs_on}
+use Rattle.im_engine.proofs.Running.{outside, not_owner, nothing_pending, checks_tell, allowed_as, tells, none_waits, page_is, read_stops, covered_stops, idle_stops, runs_on}
 use Rattle.im_engine.proofs.Made.{step_made, step_broke, leaves_as}
-
--- outside structure changes
-outside : (t : ℕ) (l : History) → l ≡ [] → IsOutside t l
-outside t l closed = subst (λ (x : History). IsOutside t x) (sym closed) tt
 
 -- the record of a Commit leaves a lawful log
 commit_lawful : (b : Base) (earlier before : List Effect) (s : Shown) (v : View) (older : History) (rows : List Transaction) (next : ℕ) (held : Table) (t lsn : ℕ) (row : Transaction) → IsServing b earlier before s v older rows next held
     → find (is_of t) rows ≡ Some row → row.mark ≡ Going → IsLawful b page_tree older → open_smo older ≡ [] → end_of b older < lsn → IsLawful b page_tree (commit_record t row.last lsn ∷ older)
 commit_lawful b earlier before s v older rows next held t lsn row h found mark law closed rises =
-    let is = at b earlier before s v older rows next held h t row found in
+    let is = at b earlier before s v older rows next held h t row found (mark_free row.mark Going mark (λ x. cc x)) in
     let newest = commit_record t row.last lsn in
     let follows : Follows b page_tree newest older = record {
       rises = rises;
@@ -132,8 +124,11 @@ few_of n is = by (nat_lt n 64) refl is
     by false here none = absurd (cc none)
 
 -- a Begin finds room in the table
-pub begin_few : (rows : List Transaction) → checked_by rows Begin ≡ None → length rows < 64
+pub begin_few : (rows : List Transaction) → checked_by rows false Begin ≡ None → length rows < 64
 begin_few rows is = few_of (length rows) is
+
+nobody_leaves : (queue : List ℕ) (rows : List Transaction) → queue ≡ [] → length rows ≡ length (without_all queue rows) + length queue
+nobody_leaves queue rows none = sym (ap (λ (q : List ℕ). length (without_all q rows) + length q) none ∙ omega arith)
 
 module _ {D : Type 0} (d : Ghosts D) (before : List Effect) (s : Shown) (v : View) (old new : Engine D d) (life : IsLife d before s v old) (works : old.failed ≡ false) where
   abbrev run : (b : Base) × IsRunning d b before s v old
@@ -165,7 +160,7 @@ module _ {D : Type 0} (d : Ghosts D) (before : List Effect) (s : Shown) (v : Vie
         subst (λ (x : Numbered). IsServing run.0 r.earlier before t w r.now.log x.rows x.next new.locks) (sym table_is)
         (subst (λ (l : _). IsServing run.0 r.earlier before t w r.now.log after.rows after.next l) (sym locks) served.1) in
         let running = runs_on d before s v old r t w new r.now on_here serving r.commits
-        (subst (λ (n : ℕ). n ≤ 2 ^ 62 → AreBelow n r.now.log) (sym (ap (λ (x : Numbered). x.next) table_is)) (λ le_new. numbers_stay_new.more old.txns.next (suc old.txns.next) r.now.log (omega arith) below)) in
+        (subst (λ (n : ℕ). n ≤ 2 ^ 62 → AreBelow n r.now.log) (sym (ap (λ (x : Numbered). x.next) table_is)) (λ le_new. numbers_stay_new.more old.txns.next (suc old.txns.next) r.now.log (omega arith) below)) r.alone r.unowned in
         subst (λ (n : ℕ). StepKept d before s v Begin (Started n) old new) (sym is) (step_made d before s v Begin (Started old.txns.next) old new w served.0 running works_on (stops_here (shows s Begin None) refl) tt)
 
     module _ (t : ℕ) (row : Transaction) (found : find (is_of t) old.txns.rows ≡ Some row) (mark : (row.mark ≡ Going) ⊎ (row.mark ≡ MustRollBack)) where
@@ -176,27 +171,27 @@ module _ {D : Type 0} (d : Ghosts D) (before : List Effect) (s : Shown) (v : Vie
       pub dropped : row.last ≡ 0 → IsReleased old.locks t new.locks → length old.txns.rows ≡ length (without t old.txns.rows) + 1 → new.txns ≡ record old.txns { rows = without t old.txns.rows } → new.failed ≡ false → StepKept d before s v (Rollback t) RolledBack old new
       dropped none released once table works_on =
           let r = run.1 in
-          let served = drops_served run.0 r.earlier before s v r.now.log old.txns.rows old.txns.next old.locks new.locks t row r.serving rises found mark none released once in
+          let served = drops_served run.0 r.earlier before s v r.now.log old.txns.rows old.txns.next old.locks new.locks t row r.serving rises found mark (not_owner d before s v old r t) none released once in
           let after : Numbered = record old.txns { rows = without t old.txns.rows } in
           let shown = shows s (Rollback t) (Some RolledBack) in
           let w = dropped_by v t in
           let running = runs_on d before s v old r shown w new r.now on_here
           (subst (λ (x : Numbered). IsServing run.0 r.earlier before shown w r.now.log x.rows x.next new.locks) (sym table) served.1) r.commits
-          (subst (λ (n : ℕ). n ≤ 2 ^ 62 → AreBelow n r.now.log) (sym (ap (λ (x : Numbered). x.next) table)) r.numbered) in
+          (subst (λ (n : ℕ). n ≤ 2 ^ 62 → AreBelow n r.now.log) (sym (ap (λ (x : Numbered). x.next) table)) r.numbered) r.alone r.unowned in
           step_made d before s v (Rollback t) RolledBack old new w served.0 running works_on (stops_here (shows s (Rollback t) None) refl) tt
 
       -- it has one, and is marked
       pub turned : 1 ≤ row.last → new.locks ≡ old.locks → new.txns ≡ record old.txns { rows = map (changed t (with_mark RollingBack)) old.txns.rows } → new.failed ≡ false → StepKept d before s v (Rollback t) More old new
       turned some locks table works_on =
           let r = run.1 in
-          let served = turns_served run.0 r.earlier before s v r.now.log old.txns.rows old.txns.next old.locks t row r.serving found mark some in
+          let served = turns_served run.0 r.earlier before s v r.now.log old.txns.rows old.txns.next old.locks t row r.serving found mark some (not_owner d before s v old r t) in
           let after : Numbered = record old.txns { rows = map (changed t (with_mark RollingBack)) old.txns.rows } in
           let shown = shows s (Rollback t) (Some More) in
           let w = marked v t answers.RollingBack in
           let running = runs_on d before s v old r shown w new r.now on_here
           (subst (λ (x : Numbered). IsServing run.0 r.earlier before shown w r.now.log x.rows x.next new.locks) (sym table)
           (subst (λ (l : _). IsServing run.0 r.earlier before shown w r.now.log after.rows after.next l) (sym locks) served.1)) r.commits
-          (subst (λ (n : ℕ). n ≤ 2 ^ 62 → AreBelow n r.now.log) (sym (ap (λ (x : Numbered). x.next) table)) r.numbered) in
+          (subst (λ (n : ℕ). n ≤ 2 ^ 62 → AreBelow n r.now.log) (sym (ap (λ (x : Numbered). x.next) table)) r.numbered) r.alone r.unowned in
           step_made d before s v (Rollback t) More old new w served.0 running works_on (stops_here (shows s (Rollback t) None) refl) tt
 
   -- the log was forced
@@ -206,14 +201,16 @@ module _ {D : Type 0} (d : Ghosts D) (before : List Effect) (s : Shown) (v : Vie
   log_forced on run_stops table locks works_on =
       let r = run.1 in
       let same = stays_here run.0 r.now.log in
-      let served = forces_served run.0 r.earlier before s v r.now.log r.now.log old.txns.rows old.txns.next old.locks r.serving same.0 same.1 in
+      let served = forces_served run.0 r.earlier before s v r.now.log r.now.log old.txns.rows old.txns.next old.locks old.locks r.serving same.0 same.1 (record { none = λ u some. absurd (let never : true ≡ false = sym some ∙ ap (is_among u) r.alone in cc never); others = λ u none. refl }) (nobody_leaves v.queue old.txns.rows r.alone) in
       let shown = shows s Force (Some Done) in
-      let running = runs_on d before s v old r shown v new (forced r.now) on
-      (subst (λ (x : Numbered). IsServing run.0 r.earlier before shown v r.now.log x.rows x.next new.locks) (sym table)
-      (subst (λ (l : _). IsServing run.0 r.earlier before shown v r.now.log old.txns.rows old.txns.next l) (sym locks) served.1))
+      let w = forced_by v in
+      let running = runs_on d before s v old r shown w new (forced r.now) on
+      (subst (λ (x : Numbered). IsServing run.0 r.earlier before shown w r.now.log x.rows x.next new.locks) (sym table)
+      (subst (λ (l : _). IsServing run.0 r.earlier before shown w r.now.log old.txns.rows old.txns.next l) (sym locks)
+      (subst (λ (rows : List Transaction). IsServing run.0 r.earlier before shown w r.now.log rows old.txns.next old.locks) (ap (λ (q : List ℕ). without_all q old.txns.rows) r.alone) served.1)))
       (commits_stand.all r.earlier before shown.asked r.now.log served.1.says)
-      (subst (λ (n : ℕ). n ≤ 2 ^ 62 → AreBelow n r.now.log) (sym (ap (λ (x : Numbered). x.next) table)) r.numbered) in
-      step_made d before s v Force Done old new v served.0 running works_on (covered_stops d before s v old r new.disk run_stops) (record { b = run.0; running = running; all = refl })
+      (subst (λ (n : ℕ). n ≤ 2 ^ 62 → AreBelow n r.now.log) (sym (ap (λ (x : Numbered). x.next) table)) r.numbered) refl r.unowned in
+      step_made d before s v Force Done old new w served.0 running works_on (covered_stops d before s v old r new.disk run_stops) (record { b = run.0; running = running; all = refl })
 
   -- what a Commit asks, of a transaction that logged nothing
   module _ (t : ℕ) (row : Transaction) (found : find (is_of t) old.txns.rows ≡ Some row) (mark : row.mark ≡ Going) (released : IsReleased old.locks t new.locks) (once : length old.txns.rows ≡ length (without t old.txns.rows) + 1)
@@ -226,18 +223,18 @@ module _ {D : Type 0} (d : Ghosts D) (before : List Effect) (s : Shown) (v : Vie
     ended none writer disk only_now =
         let r = run.1 in
         let rises = rises_of run.0 page_tree r.now.log r.lawful in
-        let served = unlogged_commits_served run.0 r.earlier before s v r.now.log old.txns.rows old.txns.next old.locks new.locks t row r.serving rises found mark none released once in
+        let served = unlogged_commits_served run.0 r.earlier before s v r.now.log old.txns.rows old.txns.next old.locks new.locks t row r.serving rises found mark (not_owner d before s v old r t) none released once in
         let shown = shows s (Commit t) (Some Committed) in
         let w = committed_by v t in
-        let is = at run.0 r.earlier before s v r.now.log old.txns.rows old.txns.next old.locks r.serving t row found in
+        let is = at run.0 r.earlier before s v r.now.log old.txns.rows old.txns.next old.locks r.serving t row found (mark_free row.mark Going mark (λ x. cc x)) in
         let last_is : last_of t r.now.log ≡ 0 = sym (is.1.last ∙ ap (λ (n : ℕ). last_of n r.now.log) is.0) ∙ none in
         let empty : net t r.now.log ≡ [] = ap changes_of (unlogged run.0 t r.now.log rises last_is) in
-        let effect_is : (s.running t).effect ≡ [] = r.serving.shows.shown.effects t (inl (is.2 ∙ ap mark_of mark)) ∙ ap seen_effect (r.serving.seen_by.nets t ∙ empty) in
+        let effect_is : (s.running t).effect ≡ [] = effect_shown s v r.serving.shows.shown t (nothing_pending d before s v old r t) (inl (is.2 ∙ ap mark_of mark)) ∙ ap seen_effect (r.serving.seen_by.nets t (ap (is_among t) r.alone) ∙ empty) in
         let asks : shown.asked ≡ s.asked = ap (λ (l : List Asked). s.asked ++ l) (empty_asked t true (s.running t).mark (s.running t).effect effect_is) ∙ append-nil s.asked in
         let running = runs_on d before s v old r shown w new r.now (on_here writer disk only_now)
         (subst (λ (x : Numbered). IsServing run.0 r.earlier before shown w r.now.log x.rows x.next new.locks) (sym table) served.1)
         (subst (λ (l : List Asked). AreCommitted r.earlier before l r.now.durable r.now.log) (sym asks) r.commits)
-        (subst (λ (n : ℕ). n ≤ 2 ^ 62 → AreBelow n r.now.log) (sym (ap (λ (x : Numbered). x.next) table)) r.numbered) in
+        (subst (λ (n : ℕ). n ≤ 2 ^ 62 → AreBelow n r.now.log) (sym (ap (λ (x : Numbered). x.next) table)) r.numbered) r.alone r.unowned in
         step_made d before s v (Commit t) Committed old new w served.0 running works_on (cut_leaves d before s t old.disk new.disk (stops_here writer disk only_now s refl)) tt
 
   -- a Commit that was logged
@@ -257,7 +254,7 @@ module _ {D : Type 0} (d : Ghosts D) (before : List Effect) (s : Shown) (v : Vie
     asked_on : AreCommitted run.1.earlier before (shows s (Commit t) None).asked logged.durable longer
     asked_on =
         let r = run.1 in
-        let cut = cut_commits_stand run.0 r.earlier before s v r.now.log longer r.now.durable old.txns.rows old.txns.next old.locks t row r.serving found mark some
+        let cut = cut_commits_stand run.0 r.earlier before s v r.now.log longer r.now.durable old.txns.rows old.txns.next old.locks t row r.serving found mark some (not_owner d before s v old r t)
         (commit_commits run.0 r.now.log (commit_record t row.last lsn) t refl refl) r.commits in
         commits_stand.more r.earlier before (shows s (Commit t) None).asked r.now.durable longer logged.durable cut (record { from = logged.grows; upto = logged.stands.writing.stands.kept.front })
 
@@ -266,20 +263,21 @@ module _ {D : Type 0} (d : Ghosts D) (before : List Effect) (s : Shown) (v : Vie
     commit_stops last first second =
         let r = run.1 in
         then_on d old.disk mid last (Allowed before (shows s (Commit t) None)) (IsCovered run.0 r.base logged.durable longer) (cut_leaves d before s t old.disk mid (covered_stops d before s v old r mid first)) second
-        (λ told c is. covered_allowed run.0 r.base r.earlier before (shows s (Commit t) None) logged.durable longer r.start r.serving.made lawful_on asked_on c is)
+        (λ told c is. covered_allowed run.0 r.base r.earlier before (shows s (Commit t) None) logged.durable longer r.start r.counted r.serving.made lawful_on asked_on c is)
 
     -- behind them
     pub committed_on : GoesOn d run.0 run.1.base with_commit mid (forced with_commit) new.writer new.disk → LeavesOnly d old.disk new.disk (Allowed before (shows s (Commit t) None))
         → IsReleased old.locks t new.locks → length old.txns.rows ≡ length (without t old.txns.rows) + 1 → new.txns ≡ record old.txns { rows = without t old.txns.rows } → new.failed ≡ false → StepKept d before s v (Commit t) Committed old new
     committed_on on stops released once table works_on =
         let r = run.1 in
-        let law = logged_commits_served page_tree page_tree_laws run.0 r.earlier before s v r.now.log old.txns.rows old.txns.next old.locks new.locks t lsn row r.serving found mark some r.lawful r.closed logged.high released once in
+        let law = logged_commits_served page_tree page_tree_laws run.0 r.earlier before s v r.now.log old.txns.rows old.txns.next old.locks new.locks t lsn row r.serving found mark some (not_owner d before s v old r t) r.lawful (outside t (open_smo r.now.log) r.closed) logged.high r.alone released once in
         let shown = shows s (Commit t) (Some Committed) in
         let w = committed_by v t in
-        let is = at run.0 r.earlier before s v r.now.log old.txns.rows old.txns.next old.locks r.serving t row found in
+        let is = at run.0 r.earlier before s v r.now.log old.txns.rows old.txns.next old.locks r.serving t row found (mark_free row.mark Going mark (λ x. cc x)) in
         let running : IsRunning d run.0 before shown w new = record {
           base = r.base;
           start = r.start;
+          counted = r.counted;
           earlier = r.earlier;
           now = forced with_commit;
           stands = record { working = on.working; writing = on.goes.writing; known = on.known };
@@ -290,6 +288,8 @@ module _ {D : Type 0} (d : Ghosts D) (before : List Effect) (s : Shown) (v : Vie
           serving = subst (λ (x : Numbered). IsServing run.0 r.earlier before shown w longer x.rows x.next new.locks) (sym table) law.served.1;
           commits = commits_stand.all r.earlier before shown.asked longer law.served.1.says;
           numbered = subst (λ (n : ℕ). n ≤ 2 ^ 62 → AreBelow n longer) (sym (ap (λ (x : Numbered). x.next) table)) (λ le. (subst (λ (n : ℕ). n < old.txns.next) is.0 is.1.below, r.numbered le));
+          alone = r.alone;
+          unowned = r.unowned;
         } in
         step_made d before s v (Commit t) Committed old new w law.served.0 running works_on stops tt
 
@@ -303,25 +303,25 @@ module _ {D : Type 0} (d : Ghosts D) (before : List Effect) (s : Shown) (v : Vie
       tt
 
   -- a Commit that an append or the force refused
-  pub commit_refused : (t : ℕ) → checked_by old.txns.rows (Commit t) ≡ None → (f : Fault) → IsOfLog f → (told : Refusal) → told ≡ told_as f → new.failed ≡ true → LeavesOnly d old.disk new.disk (Allowed before (shows s (Commit t) None))
+  pub commit_refused : (t : ℕ) → checked_by old.txns.rows false (Commit t) ≡ None → (f : Fault) → IsOfLog f → (told : Fault) → told ≡ told_as f → new.failed ≡ true → LeavesOnly d old.disk new.disk (Allowed before (shows s (Commit t) None))
       → ((u : ℕ) (c : Files) → u ≤ d.moment new.disk → d.may_leave new.disk c → d.left_since new.disk u c) → StepKept d before s v (Commit t) (Refused (number_of told)) old new
   commit_refused t checked f of told is fails leaves counts_now =
-      subst (λ (y : Refusal). StepKept d before s v (Commit t) (Refused (number_of y)) old new) (sym is)
-      (commit_broke t (number_of (told_as f)) (rows_tell run.0 run.1.earlier before s v run.1.now.log old.txns.rows old.txns.next old.locks (Commit t) run.1.serving ∙ checked) of.broken of.no_memory of.no_structure fails leaves counts_now)
+      subst (λ (y : Fault). StepKept d before s v (Commit t) (Refused (number_of y)) old new) (sym is)
+      (commit_broke t (number_of (told_as f)) (checks_tell d before s v old run.1 (Commit t) ∙ checked) of.broken of.no_memory of.no_structure fails leaves counts_now)
 
   -- a force that the disk refused
-  pub force_refused : (f : Fault) → IsOfLog f → (told : Refusal) → told ≡ told_as f → new.failed ≡ true → LeavesCovered d run.0 run.1.base run.1.now.durable run.1.now.log old.disk new.disk
+  pub force_refused : (f : Fault) → IsOfLog f → (told : Fault) → told ≡ told_as f → new.failed ≡ true → LeavesCovered d run.0 run.1.base run.1.now.durable run.1.now.log old.disk new.disk
       → ((u : ℕ) (c : Files) → u ≤ d.moment new.disk → d.may_leave new.disk c → d.left_since new.disk u c) → StepKept d before s v Force (Refused (number_of told)) old new
   force_refused f of told is fails run_stops counts_now =
-      subst (λ (y : Refusal). StepKept d before s v Force (Refused (number_of y)) old new) (sym is)
-      (breaks_with d before s v Force (λ u e. cc e) (rows_tell run.0 run.1.earlier before s v run.1.now.log old.txns.rows old.txns.next old.locks Force run.1.serving) old new life works counts_now (number_of (told_as f)) of.broken fails
+      subst (λ (y : Fault). StepKept d before s v Force (Refused (number_of y)) old new) (sym is)
+      (breaks_with d before s v Force (λ u e. cc e) (checks_tell d before s v old run.1 Force) old new life works counts_now (number_of (told_as f)) of.broken fails
       (covered_stops d before s v old run.1 new.disk run_stops))
 
   -- numbers are used up
-  pub numbers_end : checked_by old.txns.rows Begin ≡ None → new.failed ≡ true → new.disk ≡ old.disk → ((c : Files) → d.left_since old.disk (d.moment old.disk) c → d.may_leave old.disk c)
+  pub numbers_end : checked_by old.txns.rows false Begin ≡ None → new.failed ≡ true → new.disk ≡ old.disk → ((c : Files) → d.left_since old.disk (d.moment old.disk) c → d.may_leave old.disk c)
       → ((u : ℕ) (c : Files) → u ≤ d.moment new.disk → d.may_leave new.disk c → d.left_since new.disk u c) → StepKept d before s v Begin (Refused 6) old new
   numbers_end checked fails disk only_now counts_now =
-      breaks_with d before s v Begin (λ u e. cc e) (rows_tell run.0 run.1.earlier before s v run.1.now.log old.txns.rows old.txns.next old.locks Begin run.1.serving ∙ checked) old new life works counts_now 6 (inl refl) fails
+      breaks_with d before s v Begin (λ u e. cc e) (checks_tell d before s v old run.1 Begin ∙ checked) old new life works counts_now 6 (inl refl) fails
       (subst (λ (x : D). LeavesOnly d old.disk x (Allowed before s)) (sym disk) (idle_stops d before s v old run.1 only_now))
 
   -- a page was written, behind Images
@@ -339,14 +339,14 @@ module _ {D : Type 0} (d : Ghosts D) (before : List Effect) (s : Shown) (v : Vie
       let running = runs_on d before s v old r s v new f.now f.on
       (subst (λ (x : Numbered). IsServing b r.earlier before s v f.now.log x.rows x.next new.locks) (sym table)
       (subst (λ (l : _). IsServing b r.earlier before s v f.now.log old.txns.rows old.txns.next l) (sym locks) served.1)) commits
-      (subst (λ (n : ℕ). n ≤ 2 ^ 62 → AreBelow n f.now.log) (sym (ap (λ (x : Numbered). x.next) table)) (λ le. same.below old.txns.next old.first (r.numbered le))) in
+      (subst (λ (n : ℕ). n ≤ 2 ^ 62 → AreBelow n f.now.log) (sym (ap (λ (x : Numbered). x.next) table)) (λ le. same.below old.txns.next old.first (r.numbered le))) r.alone r.unowned in
       let reads = f.on.goes.writing.stands.file.reads p ∙ f.in_file ((f.on.goes.keeps.pages p).waits ∙ none_waits d before s v old r p) ∙ ap (λ (g : Page). Some g) (page_is d before s v new running p) in
       step_made d before s v (FlushPage p) Done old new v served.0 running works_on (read_stops d before s v old r new.writer new.disk (flush_asks d one)) (record { b = b; running = running; reads = reads })
 
   -- a flush that was refused
-  pub flush_refused : (p : ℕ) (f : Fault) → Flushes d old.writer old.disk new.writer new.disk (Some f) → (told : Refusal) → told ≡ told_as f → new.failed ≡ true
+  pub flush_refused : (p : ℕ) (f : Fault) → Flushes d old.writer old.disk new.writer new.disk (Some f) → (told : Fault) → told ≡ told_as f → new.failed ≡ true
       → ((u : ℕ) (c : Files) → u ≤ d.moment new.disk → d.may_leave new.disk c → d.left_since new.disk u c) → StepKept d before s v (FlushPage p) (Refused (number_of told)) old new
   flush_refused p f one told is fails counts_now =
-      subst (λ (y : Refusal). StepKept d before s v (FlushPage p) (Refused (number_of y)) old new) (sym is)
-      (breaks_with d before s v (FlushPage p) (λ u e. cc e) (rows_tell run.0 run.1.earlier before s v run.1.now.log old.txns.rows old.txns.next old.locks (FlushPage p) run.1.serving) old new life works counts_now (number_of (told_as f))
+      subst (λ (y : Fault). StepKept d before s v (FlushPage p) (Refused (number_of y)) old new) (sym is)
+      (breaks_with d before s v (FlushPage p) (λ u e. cc e) (checks_tell d before s v old run.1 (FlushPage p)) old new life works counts_now (number_of (told_as f))
       (of_flush d old.writer old.disk new.writer new.disk (old.working works) f one.ends).broken fails (read_stops d before s v old run.1 new.writer new.disk (flush_asks d one)))

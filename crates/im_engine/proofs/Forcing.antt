@@ -20,14 +20,12 @@ use Rattle.im_page_writer.specs.Checkpoints.{checkpoint_at, Checkpointed, HasChe
 use Rattle.im_page_file.specs.Stands.{IsCovered}
 use Rattle.im_theory_tree.specs.Theory.{page_tree}
 use Rattle.im_engine_checkpoint.specs.Rows.{listed}
-use Rattle.im_front.specs.Calls.{number_of}
-use Rattle.im_front.specs.declared.fault.Fault.{Fault as Refusal}
-use Rattle.im_engine_lock.specs.View.{View}
+use Rattle.im_base_types.specs.Faults.{number_of}
+use Rattle.im_base_lock.specs.View.{View}
 use Rattle.im_theory_steps.specs.Growth.{AreBelow, IsCheckpointed}
 use Rattle.im_theory_steps.specs.Serving.{IsServing}
 use Rattle.im_theory_steps.proofs.Growth.{checkpoints_change_nothing}
 use Rattle.im_theory_steps.proofs.Durable.{commits_stand}
-use Rattle.im_theory_steps.proofs.Lived.{rows_tell}
 use Rattle.im_theory_steps.proofs.Logging.{logged_checkpoints_served}
 use Rattle.im_engine.specs.declared.engine.Engine.{Engine}
 use Rattle.im_engine.specs.Faults.{told_as}
@@ -35,7 +33,7 @@ use Rattle.im_engine.specs.Numbered.{Numbered}
 use Rattle.im_engine.specs.Stands.{Allowed}
 use Rattle.im_engine.specs.Running.{IsRunning, IsLife}
 use Rattle.im_engine.specs.Kept.{StepKept}
-use Rattle.im_engine.proofs.Running.{left_on}
+use Rattle.im_engine.proofs.Running.{checks_tell, left_on}
 use Rattle.im_engine.proofs.Made.{step_made}
 use Rattle.im_engine.proofs.Refused.{breaks_with}
 use Rattle.im_engine.proofs.Ending.{IsOfLog}
@@ -97,6 +95,7 @@ module _ {D : Type 0} (d : Ghosts D) (before : List Effect) (s : Shown) (v : Vie
       let running : IsRunning d run.0 before s v new = record {
         base = r.base;
         start = r.start;
+        counted = r.counted;
         earlier = r.earlier;
         now = forced (appended newest (forgotten (synced r.now)));
         stands = taken.stands;
@@ -108,6 +107,8 @@ module _ {D : Type 0} (d : Ghosts D) (before : List Effect) (s : Shown) (v : Vie
             (subst (λ (l : _). IsServing run.0 r.earlier before s v longer old.txns.rows old.txns.next l) (sym locks) law.served.1);
         commits = commits_stand.all r.earlier before s.asked longer law.served.1.says;
         numbered = subst (λ (n : ℕ). n ≤ 2 ^ 62 → AreBelow n longer) (sym (ap (λ (x : Numbered). x.next) table)) (λ le. on.below old.txns.next old.first (r.numbered le));
+        alone = r.alone;
+        unowned = r.unowned;
       } in
       step_made d before s v Checkpoint Done old new v law.served.0 running works_on (taken_stops leaves) (record {
         b = run.0;
@@ -122,9 +123,9 @@ module _ {D : Type 0} (d : Ghosts D) (before : List Effect) (s : Shown) (v : Vie
       })
 
   -- a call within it was refused
-  pub checkpoint_refused : (f : Fault) → IsOfLog f → (told : Refusal) → told ≡ told_as f → new.failed ≡ true → Leaves → ((u : ℕ) (c : Files) → u ≤ d.moment new.disk → d.may_leave new.disk c → d.left_since new.disk u c)
+  pub checkpoint_refused : (f : Fault) → IsOfLog f → (told : Fault) → told ≡ told_as f → new.failed ≡ true → Leaves → ((u : ℕ) (c : Files) → u ≤ d.moment new.disk → d.may_leave new.disk c → d.left_since new.disk u c)
       → StepKept d before s v Checkpoint (Refused (number_of told)) old new
   checkpoint_refused f of told is fails leaves counts_now =
-      subst (λ (y : Refusal). StepKept d before s v Checkpoint (Refused (number_of y)) old new) (sym is)
-      (breaks_with d before s v Checkpoint (λ u e. cc e) (rows_tell run.0 run.1.earlier before s v run.1.now.log old.txns.rows old.txns.next old.locks Checkpoint run.1.serving) old new life works counts_now (number_of (told_as f)) of.broken fails
+      subst (λ (y : Fault). StepKept d before s v Checkpoint (Refused (number_of y)) old new) (sym is)
+      (breaks_with d before s v Checkpoint (λ u e. cc e) (checks_tell d before s v old run.1 Checkpoint) old new life works counts_now (number_of (told_as f)) of.broken fails
       (taken_stops leaves))

@@ -14,9 +14,9 @@ use Rattle.im_theory_log.specs.Lawful.{IsLawful}
 use Rattle.im_theory_log.proofs.RedoPoints.{covers_base}
 use Rattle.im_base_disk.specs.Disk.{Files}
 use Rattle.im_log_gate.specs.Header.{base_of}
-use Rattle.im_page_form.specs.Header.{initial}
-use Rattle.im_page_form.specs.PageFile.{file_page}
-use Rattle.im_page_form.proofs.PageFileLemmas.{page_past}
+use Rattle.im_theory_page.specs.Header.{initial}
+use Rattle.im_theory_page.specs.PageFile.{file_page}
+use Rattle.im_theory_page.proofs.PageFileLemmas.{page_past}
 use Rattle.im_restart.specs.Restart.{IsFresh, HasStore}
 use Rattle.im_theory_tree.specs.Good.{times, IsGoodTree}
 use Rattle.im_theory_tree.specs.Theory.{page_tree}
@@ -72,7 +72,7 @@ lsn_low start p = elim (cases_eq p 0) [
 ]
 
 empty_log : (start : ℕ) → IsLawful (new_from start) page_tree []
-empty_log start = record { lsns = λ p. lsn_low start p; count = omega arith; stands = record { good = first_good start; walk = sym (none_in_empty start) } }
+empty_log start = record { lsns = λ p. lsn_low start p; stands = record { good = first_good start; walk = sym (none_in_empty start); named = omega arith } }
 
 -- files without a log and without pages hold it: past the end of the file a page is as a new store finds it
 first_is : (p : ℕ) → initial p ≡ first_pages p
@@ -97,6 +97,7 @@ fresh_stands files fresh = record {
   b = new_from (base_of (files Log));
   base = base_of (files Log);
   start = omega arith;
+  counted = omega arith;
   log = [];
   has = fresh_store files fresh;
   lawful = empty_log (base_of (files Log));

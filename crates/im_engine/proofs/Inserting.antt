@@ -1,5 +1,5 @@
 -- An insert of a key, from how the call below ended.
-use Rattle.std.proofs.Common.{◌≡◌, ◌≢◌, ◌⊎◌, inl, inr, ℕ, ◌≤◌, List, [], ◌∷◌, ◌++◌, true, false, cond, is_some, Option, Some, None, Result, Ok, Err, map, refl, sym, ap, subst, ◌∙◌}
+use Rattle.std.proofs.Common.{◌≡◌, ◌≢◌, ◌⊎◌, inl, inr, ⊎_elim, ℕ, ◌≤◌, List, [], ◌∷◌, ◌++◌, true, false, cond, is_some, Option, Some, None, Result, Ok, Err, map, refl, sym, ap, subst, ◌∙◌}
 use Rattle.std.specs.Prelude.{find}
 use Rattle.std.specs.FinMap.{get}
 use Rattle.im_base_types.specs.Answers as answers
@@ -33,31 +33,30 @@ use Rattle.im_smo_split.specs.Kept.{mild_to_split}
 use Rattle.im_smo_split.specs.Plan.{IsOver, IsWithin}
 use Rattle.im_smo_split.specs.Tops.{LacksRoomFor}
 use Rattle.im_smo_actions.specs.Structure.{IsUsedUp}
-use Rattle.im_engine_txn.specs.declared.transaction.Mark.TheVariants.{Going, MustRollBack}
-use Rattle.im_engine_txn.specs.declared.transaction.Transaction.{Transaction}
-use Rattle.im_engine_txn.specs.Rows.{is_of, changed, with_mark, with_record}
-use Rattle.im_engine_txn.proofs.LookUps.{look_ups_follow}
-use Rattle.im_engine_lock.specs.Rows.{asked}
-use Rattle.im_engine_lock.specs.Table.{Table, Decides, SameTable, locks_of}
-use Rattle.im_engine_lock.specs.declared.verdict.Verdict.TheVariants.{Granted as GrantedAll}
-use Rattle.im_engine_lock.specs.View.{View, did}
-use Rattle.im_engine_lock.specs.Machine.{Breaks, barred, keys_fit}
-use Rattle.im_front.specs.declared.fault.Fault.{Fault as Refusal}
-use Rattle.im_front.specs.declared.fault.Fault.TheVariants as above
-use Rattle.im_front.specs.declared.reply.Reply as said
-use Rattle.im_front.specs.declared.reply.Reply.TheVariants as replies
-use Rattle.im_front.specs.Calls.{number_of}
+use Rattle.im_base_txn.specs.declared.transaction.Mark.TheVariants.{Going, MustRollBack}
+use Rattle.im_base_txn.specs.declared.transaction.Transaction.{Transaction}
+use Rattle.im_base_txn.specs.Rows.{is_of, changed, with_mark, with_record}
+use Rattle.im_base_txn.proofs.LookUps.{look_ups_follow}
+use Rattle.im_base_lock.specs.Locks.{Lock, IsFree}
+use Rattle.im_base_lock.specs.Rows.{asked}
+use Rattle.im_base_lock.specs.Table.{Table, Decides, SameTable, locks_of}
+use Rattle.im_base_lock.specs.declared.verdict.Verdict.TheVariants.{Granted as GrantedAll}
+use Rattle.im_base_lock.specs.View.{View, did}
+use Rattle.im_base_lock.specs.Machine.{Breaks, barred, keys_fit}
+use Rattle.im_base_types.specs.declared.fault.Fault.TheVariants as faults
+use Rattle.im_base_steps.specs.declared.reply.Reply as said
+use Rattle.im_base_steps.specs.declared.reply.Reply.TheVariants as replies
+use Rattle.im_base_types.specs.Faults.{number_of}
 use Rattle.im_theory_steps.specs.Checks.{checked_by}
 use Rattle.im_theory_steps.specs.Growth.{GrowsWithin}
 use Rattle.im_theory_steps.specs.Serving.{IsServed}
 use Rattle.im_theory_steps.specs.Steps.{IsOnTheWay, key_record}
-use Rattle.im_theory_steps.proofs.Lived.{rows_tell}
 use Rattle.im_theory_steps.proofs.Logging.{inserts_served}
 use Rattle.im_theory_steps.proofs.Steps.{lacks_served, ways_lead_on}
 use Rattle.im_engine_index.specs.declared.noted.Noted.{Noted}
 use Rattle.im_engine_index.specs.declared.outcome.Outcome.{Outcome}
 use Rattle.im_engine_index.specs.declared.outcome.Outcome.TheVariants.{Granted, Wait, Die}
-use Rattle.im_engine_index.specs.Edits.{MayEdit, Inserted, InsertKept}
+use Rattle.im_engine_index.specs.Edits.{MayEdit, Inserted, InsertKept, IsLimited}
 use Rattle.im_engine_index.specs.KeyLogs.{LeavesEdit}
 use Rattle.im_engine_index.proofs.KeyLogs.{grows_within}
 use Rattle.im_engine.specs.declared.engine.Engine.{Engine}
@@ -72,7 +71,7 @@ use Rattle.im_engine.proofs.Deleting.{access_mark}
 use Rattle.im_engine.proofs.Edited.{blocked, by_structure, died, edit_stops, edited, may_edit, unchanged}
 use Rattle.im_engine.proofs.Made.{grown_made}
 use Rattle.im_engine.proofs.Refused.{breaks_with, lacks_with, serving_with}
-use Rattle.im_engine.proofs.Running.{bodies_are, read_on}
+use Rattle.im_engine.proofs.Running.{outside, not_in, not_owner, checks_tell, bodies_are, read_on}
 
 -- ---- a key that came
 
@@ -109,8 +108,8 @@ module _ {D : Type 0} (d : Ghosts D) {b : Base} (before : List Effect) (s : Show
     after_record =
         subst (λ (n : ℕ). IsServed b r.earlier before s v (Do t (Insert key rid)) answers.Inserted (did v t (Insert key rid) (locks_of new.locks t)) is.now.log (map (changed t (with_record noted.last n)) old.txns.rows) old.txns.next new.locks) (sym is.same)
         (subst (λ (l : History). IsServed b r.earlier before s v (Do t (Insert key rid)) answers.Inserted (did v t (Insert key rid) (locks_of new.locks t)) l (map (changed t (with_record noted.last noted.last)) old.txns.rows) old.txns.next new.locks) (sym is.is)
-        (inserts_served page_tree page_tree_laws b r.earlier before s v r.now.log is.between old.txns.rows old.txns.next old.locks new.locks t is.newest noted.last is.page row key rid r.serving found mark fits
-        way law.0 closed is.absent decided may.can_put law.1.rises).served)
+        (inserts_served page_tree page_tree_laws b r.earlier before s v r.now.log is.between old.txns.rows old.txns.next old.locks new.locks t is.newest noted.last is.page row key rid r.serving found mark (not_owner d before s v old r t) fits
+        way law.0 (outside t (open_smo is.between) closed) (not_in is.page (open_smo is.between) closed) is.absent decided may.can_put law.1.rises).served)
 
     says : answer (Insert key rid) v.walk ≡ answers.Inserted
     says = ap (λ (m : IndexMap). answer (Insert key rid) m) walk_of ∙ ap (λ (o : Option ℕ). cond (is_some o) answers.Duplicate answers.Inserted) is.absent
@@ -125,32 +124,32 @@ module _ {D : Type 0} (d : Ghosts D) {b : Base} (before : List Effect) (s : Show
         let w = did v t (Insert key rid) (locks_of new.locks t) in
         subst (λ (reply : Reply). StepKept d before s v (Do t (Insert key rid)) reply old new) says
         (edited d before s v old r t row found mark (Insert key rid) new is.now r.redo_end noted.last noted.undo_next is.stands is.durable grown rows table w
-        (subst (λ (reply : Reply). IsServed b r.earlier before s v (Do t (Insert key rid)) reply w is.now.log rows old.txns.next new.locks) (sym says) after_record) stops works)
+        (subst (λ (reply : Reply). IsServed b r.earlier before s v (Do t (Insert key rid)) reply w is.now.log rows old.txns.next new.locks) (sym says) after_record) r.alone r.unowned stops works)
 
 -- ---- refusals
 
 no_commit : (t : ℕ) (a : answers.Access) (u : ℕ) → Do t a ≡ answers.Commit u → ⊥
 no_commit t a u is = cc is
 
-module _ {D : Type 0} (d : Ghosts D) (before : List Effect) (s : Shown) (v : View) (t : ℕ) (key : Key) (rid : ℕ) (old new : Engine D d) (life : IsLife d before s v old) (works : old.failed ≡ false) (checked : checked_by old.txns.rows (Do t (Insert key rid)) ≡ None)
+module _ {D : Type 0} (d : Ghosts D) (before : List Effect) (s : Shown) (v : View) (t : ℕ) (key : Key) (rid : ℕ) (old new : Engine D d) (life : IsLife d before s v old) (works : old.failed ≡ false) (checked : checked_by old.txns.rows false (Do t (Insert key rid)) ≡ None)
     (counts_now : (u : ℕ) (c : Files) → u ≤ d.moment new.disk → d.may_leave new.disk c → d.left_since new.disk u c) where
   abbrev run : (b : Base) × IsRunning d b before s v old
   run = life.running works
 
   bars : barred v (Do t (Insert key rid)) ≡ None
-  bars = rows_tell run.0 run.1.earlier before s v run.1.now.log old.txns.rows old.txns.next old.locks (Do t (Insert key rid)) run.1.serving ∙ checked
+  bars = checks_tell d before s v old run.1 (Do t (Insert key rid)) ∙ checked
 
   -- pages are wanting
   lacks_pages : Evicted d run.0 run.1.base run.1.now old.disk new.writer new.disk → LeavesOnly d old.disk new.disk (Allowed before s) → new.txns ≡ old.txns → SameTable old.locks new.locks → new.failed ≡ false → StepKept d before s v (Do t (Insert key rid)) (Refused pages_full) old new
   lacks_pages is leaves table same works_on =
-      grown_made d before s v v (Do t (Insert key rid)) (Refused pages_full) old new run.1 old.txns is
+      grown_made d before s v v (Do t (Insert key rid)) (Refused pages_full) old new run.1 old.txns run.1.alone run.1.unowned is
       (λ longer stays all. lacks_served run.0 run.1.earlier before s v run.1.now.log longer old.txns.rows old.txns.next new.locks (Do t (Insert key rid)) pages_full
       (serving_with run.0 run.1.earlier before s v run.1.now.log old.txns.rows old.txns.next old.locks new.locks same run.1.serving) bars (inl refl) stays all)
       refl refl table refl leaves works_on tt
 
   pub insert_stopped : (f : Fault) → LogEnds d true (mild_to_split (Some old.max_pages)) old.writer old.disk new.writer new.disk (Some f) → LeavesOnly d old.disk new.disk (Allowed before s) → f ≢ NotAStore → new.failed ≡ ends_engine f → new.txns ≡ old.txns
-      → ((f ≡ Memory) ⊎ (f ≡ PagesFull) → SameTable old.locks new.locks) → (told : Refusal) → told ≡ told_as f → StepKept d before s v (Do t (Insert key rid)) (Refused (number_of told)) old new
-  insert_stopped f ends leaves sound fails table same told is = subst (λ (y : Refusal). StepKept d before s v (Do t (Insert key rid)) (Refused (number_of y)) old new) (sym is) (by f ends sound fails same)
+      → ((f ≡ Memory) ⊎ (f ≡ PagesFull) → SameTable old.locks new.locks) → (told : Fault) → told ≡ told_as f → StepKept d before s v (Do t (Insert key rid)) (Refused (number_of told)) old new
+  insert_stopped f ends leaves sound fails table same told is = subst (λ (y : Fault). StepKept d before s v (Do t (Insert key rid)) (Refused (number_of y)) old new) (sym is) (by f ends sound fails same)
     where
       breaks_so : (fault : ℕ) → Breaks fault → new.failed ≡ true → StepKept d before s v (Do t (Insert key rid)) (Refused fault) old new
       breaks_so fault why on = breaks_with d before s v (Do t (Insert key rid)) (no_commit t (Insert key rid)) bars old new life works counts_now fault why on leaves
@@ -168,7 +167,7 @@ module _ {D : Type 0} (d : Ghosts D) (before : List Effect) (s : Shown) (v : Vie
 
 -- it is told so only where it is so
 module _ {D : Type 0} (d : Ghosts D) (max : ℕ) (v : PageWriter) (old : D) (w : PageWriter) (new : D) where
-  pub failed_is : (f : Fault) → LogEnds d true (mild_to_split (Some max)) v old w new (Some f) → told_as f ≡ above.Failed → f ≡ Failed
+  pub failed_is : (f : Fault) → LogEnds d true (mild_to_split (Some max)) v old w new (Some f) → told_as f ≡ faults.Failed → f ≡ Failed
   failed_is Failed x is = refl
   failed_is Memory x is = absurd (cc is)
   failed_is PagesFull x is = absurd (cc is)
@@ -178,7 +177,7 @@ module _ {D : Type 0} (d : Ghosts D) (max : ℕ) (v : PageWriter) (old : D) (w :
   failed_is NotAStore x is = absurd (cc is)
   failed_is g x is = absurd (let never = x.0 in cc never)
 
-pub full_is : (f : Fault) → told_as f ≡ above.PagesFull → f ≡ PagesFull
+pub full_is : (f : Fault) → told_as f ≡ faults.PagesFull → f ≡ PagesFull
 full_is PagesFull is = refl
 full_is Capacity is = absurd (cc is)
 full_is LogFull is = absurd (cc is)
@@ -187,7 +186,7 @@ full_is Memory is = absurd (cc is)
 full_is NotAStore is = absurd (cc is)
 full_is g is = absurd (cc is)
 
-pub used_up_is : (f : Fault) → told_as f ≡ above.Capacity → f ≡ Capacity
+pub used_up_is : (f : Fault) → told_as f ≡ faults.Capacity → f ≡ Capacity
 used_up_is Capacity is = refl
 used_up_is PagesFull is = absurd (cc is)
 used_up_is LogFull is = absurd (cc is)
@@ -198,36 +197,26 @@ used_up_is g is = absurd (cc is)
 
 -- ---- what an insert wants
 
--- one that was answered otherwise
-pub wants_none : (pages : Pages) (m : IndexMap) (max : ℕ) (key : Key) (reply : said.Reply) → reply ≢ replies.Inserted → ((x : Refusal) → reply ≢ replies.Refused x) → InsertWants pages m max key reply
-wants_none pages m max key reply no_insert not = record {
-  made = λ is lacks. absurd (no_insert is);
-  full = λ is. absurd (not above.PagesFull is);
-  used_up = λ is. absurd (not above.Capacity is);
+-- one that was not refused
+wants_answered : (pages : Pages) (m : IndexMap) (locks : ℕ → List Lock) (max t : ℕ) (key : Key) (rid : ℕ) (reply : said.Reply) → ((x : Fault) → reply ≢ replies.Refused x) → (get m key ≡ None → IsLimited pages key max) → (reply ≡ replies.Inserted → LacksRoomFor pages key → IsWithin pages key max)
+    → InsertWants pages m locks max t key rid reply
+wants_answered pages m locks max t key rid reply not limited within = record {
+  made = within;
+  limited = λ none. limited;
+  full = λ is. absurd (not faults.PagesFull is);
+  used_up = λ is. absurd (not faults.Capacity is);
+  granted = λ is. ⊎_elim (λ numbers. absurd (not faults.Capacity numbers)) (λ memory. absurd (not faults.Failed memory)) is;
   absent = asks;
 }
   where
     asks : AsksChange reply → get m key ≡ None
-    asks (wants_pages is) = absurd (not above.PagesFull is)
-    asks (wants_numbers is) = absurd (not above.Capacity is)
-    asks (wants_memory is) = absurd (not above.Failed is)
-
-pub wants_made : (pages : Pages) (m : IndexMap) (max : ℕ) (key : Key) → (LacksRoomFor pages key → IsWithin pages key max) → InsertWants pages m max key replies.Inserted
-wants_made pages m max key within = record {
-  made = λ is lacks. within lacks;
-  full = λ is. absurd (cc is);
-  used_up = λ is. absurd (cc is);
-  absent = asks;
-}
-  where
-    asks : AsksChange replies.Inserted → get m key ≡ None
-    asks (wants_pages is) = absurd (cc is)
-    asks (wants_numbers is) = absurd (cc is)
-    asks (wants_memory is) = absurd (cc is)
+    asks (wants_pages is) = absurd (not faults.PagesFull is)
+    asks (wants_numbers is) = absurd (not faults.Capacity is)
+    asks (wants_memory is) = absurd (not faults.Failed is)
 
 -- ---- by the call below
 
-module _ {D : Type 0} (d : Ghosts D) (old : Engine D d) (locks : Table) (writer : PageWriter) (disk : D) (t : ℕ) (key : Key) (rid : ℕ) (row : Transaction) (found : find (is_of t) old.txns.rows ≡ Some row) (checked : checked_by old.txns.rows (Do t (Insert key rid)) ≡ None) where
+module _ {D : Type 0} (d : Ghosts D) (old : Engine D d) (locks : Table) (writer : PageWriter) (disk : D) (t : ℕ) (key : Key) (rid : ℕ) (row : Transaction) (found : find (is_of t) old.txns.rows ≡ Some row) (checked : checked_by old.txns.rows false (Do t (Insert key rid)) ≡ None) where
   -- what the call below kept, whatever it stood on
   abbrev pub Below : Result (Outcome (Option Noted)) Fault → Type 0
   Below result = (b : Base) (base : ℕ) (s : Writer) (e : ℕ) → MayEdit d b base s e row.number row.last row.undo_next (Insert key rid) old.locks old.writer old.disk
@@ -248,23 +237,35 @@ module _ {D : Type 0} (d : Ghosts D) (old : Engine D d) (locks : Table) (writer 
         subst (λ (n : ℕ). InsertKept d b r.base r.now r.redo_end n key rid old.max_pages old.locks locks old.disk writer disk result) number
         (below b r.base r.now r.redo_end (subst (λ (n : ℕ). MayEdit d b r.base r.now r.redo_end n row.last row.undo_next (Insert key rid) old.locks old.writer old.disk) (sym number) (may_edit d before s v old r t row found mark (Insert key rid))))
 
+    pages_are : bodies_of (pages_of r.now) ≡ settled b r.now.log
+    pages_are = bodies_are d before s v old r
+
+    limits : (o : Outcome (Option Noted)) → Below (Ok o) → get v.walk key ≡ None → IsLimited (settled b r.now.log) key old.max_pages
+    limits o below none = subst (λ (pages : Pages). IsLimited pages key old.max_pages) pages_are ((kept_here (Ok o) below).limited (sym (ap (λ (m : IndexMap). get m key) r.serving.seen_by.walk) ∙ none))
+
     -- what is said of its pages
-    pub made_wants : (o : Outcome (Option Noted)) → Below (Ok o) → (x : Option Noted) → o ≡ Granted x → (noted : Noted) → x ≡ Some noted → InsertWants (settled b r.now.log) v.walk old.max_pages key replies.Inserted
+    pub made_wants : (o : Outcome (Option Noted)) → Below (Ok o) → (x : Option Noted) → o ≡ Granted x → (noted : Noted) → x ≡ Some noted → InsertWants (settled b r.now.log) v.walk (locks_of old.locks) old.max_pages t key rid replies.Inserted
     made_wants o below x granted noted some =
         let kept = subst (λ (y : Outcome (Option Noted)). Here (Ok y)) (granted ∙ ap Granted some) (kept_here (Ok o) below) in
-        wants_made (settled b r.now.log) v.walk old.max_pages key
-        (subst (λ (pages : Pages). LacksRoomFor pages key → IsWithin pages key old.max_pages) (bodies_are d before s v old r) kept.sound.1.within)
+        wants_answered (settled b r.now.log) v.walk (locks_of old.locks) old.max_pages t key rid replies.Inserted (λ x e. cc e) (limits o below)
+        (λ is. subst (λ (pages : Pages). LacksRoomFor pages key → IsWithin pages key old.max_pages) pages_are kept.sound.1.within)
+
+    -- answered otherwise
+    pub other_wants : (o : Outcome (Option Noted)) → Below (Ok o) → (reply : said.Reply) → reply ≢ replies.Inserted → ((x : Fault) → reply ≢ replies.Refused x) → InsertWants (settled b r.now.log) v.walk (locks_of old.locks) old.max_pages t key rid reply
+    other_wants o below reply no_insert not = wants_answered (settled b r.now.log) v.walk (locks_of old.locks) old.max_pages t key rid reply not (limits o below) (λ is. absurd (no_insert is))
 
     -- refused, and why
-    pub refused_wants : (f : Fault) → Below (Err f) → LogEnds d true (mild_to_split (Some old.max_pages)) old.writer old.disk writer disk (Some f) → (told : Refusal) → told ≡ told_as f → InsertWants (settled b r.now.log) v.walk old.max_pages key (replies.Refused told)
+    pub refused_wants : (f : Fault) → Below (Err f) → LogEnds d true (mild_to_split (Some old.max_pages)) old.writer old.disk writer disk (Some f) → (told : Fault) → told ≡ told_as f → InsertWants (settled b r.now.log) v.walk (locks_of old.locks) old.max_pages t key rid (replies.Refused told)
     refused_wants f below ends told is = record {
       made = λ clash lacks. absurd (cc clash);
+      limited = λ not. absurd (not told refl);
       full = λ full.
-          let why = kept.full (full_is f (sym is ∙ refused_inj told above.PagesFull full)) in
+          let why = kept.full (full_is f (sym is ∙ refused_inj told faults.PagesFull full)) in
           subst (λ (pages : Pages). LacksRoomFor pages key × IsOver pages key old.max_pages) same (why.1, why.2);
       used_up = λ full.
-          let why = kept.used_up (used_up_is f (sym is ∙ refused_inj told above.Capacity full)) in
+          let why = kept.used_up (used_up_is f (sym is ∙ refused_inj told faults.Capacity full)) in
           subst (λ (pages : Pages). LacksRoomFor pages key × IsUsedUp pages key) same (why.1, why.2);
+      granted = λ is_late. subst (λ (m : IndexMap). IsFree (locks_of old.locks) t (asked (Insert key rid) m)) (sym r.serving.seen_by.walk) (free is_late);
       absent = asks;
     }
       where
@@ -277,12 +278,16 @@ module _ {D : Type 0} (d : Ghosts D) (old : Engine D d) (locks : Table) (writer 
         lacks : get (contents b r.now.log) key ≡ None → get v.walk key ≡ None
         lacks none = ap (λ (m : IndexMap). get m key) r.serving.seen_by.walk ∙ none
 
-        asks : AsksChange (replies.Refused told) → get v.walk key ≡ None
-        asks (wants_pages why) = lacks (kept.full (full_is f (sym is ∙ refused_inj told above.PagesFull why))).0
-        asks (wants_numbers why) = lacks (kept.used_up (used_up_is f (sym is ∙ refused_inj told above.Capacity why))).0
-        asks (wants_memory why) = lacks (kept.begun (failed_is d old.max_pages old.writer old.disk writer disk f ends (sym is ∙ refused_inj told above.Failed why))).0
+        free : (replies.Refused told ≡ replies.Refused faults.Capacity) ⊎ (replies.Refused told ≡ replies.Refused faults.Failed) → IsFree (locks_of old.locks) t (asked (Insert key rid) (contents b r.now.log))
+        free (inl why) = (kept.used_up (used_up_is f (sym is ∙ refused_inj told faults.Capacity why))).3.0
+        free (inr why) = (kept.begun (failed_is d old.max_pages old.writer old.disk writer disk f ends (sym is ∙ refused_inj told faults.Failed why))).1.0
 
-module _ {D : Type 0} (d : Ghosts D) (old new : Engine D d) (t : ℕ) (key : Key) (rid : ℕ) (row : Transaction) (found : find (is_of t) old.txns.rows ≡ Some row) (checked : checked_by old.txns.rows (Do t (Insert key rid)) ≡ None) where
+        asks : AsksChange (replies.Refused told) → get v.walk key ≡ None
+        asks (wants_pages why) = lacks (kept.full (full_is f (sym is ∙ refused_inj told faults.PagesFull why))).0
+        asks (wants_numbers why) = lacks (kept.used_up (used_up_is f (sym is ∙ refused_inj told faults.Capacity why))).0
+        asks (wants_memory why) = lacks (kept.begun (failed_is d old.max_pages old.writer old.disk writer disk f ends (sym is ∙ refused_inj told faults.Failed why))).0
+
+module _ {D : Type 0} (d : Ghosts D) (old new : Engine D d) (t : ℕ) (key : Key) (rid : ℕ) (row : Transaction) (found : find (is_of t) old.txns.rows ≡ Some row) (checked : checked_by old.txns.rows false (Do t (Insert key rid)) ≡ None) where
   abbrev pub Under : Result (Outcome (Option Noted)) Fault → Type 0
   Under result = Below d old new.locks new.writer new.disk t key rid row found checked result
 
@@ -327,7 +332,7 @@ module _ {D : Type 0} (d : Ghosts D) (old new : Engine D d) (t : ℕ) (key : Key
 
   -- a call below refused it
   pub insert_refused : (before : List Effect) (s : Shown) (v : View) (life : IsLife d before s v old) (works : old.failed ≡ false) → ((u : ℕ) (c : Files) → u ≤ d.moment new.disk → d.may_leave new.disk c → d.left_since new.disk u c) → (f : Fault) → Under (Err f)
-      → LogEnds d true (mild_to_split (Some old.max_pages)) old.writer old.disk new.writer new.disk (Some f) → new.failed ≡ ends_engine f → new.txns ≡ old.txns → ((f ≡ Memory) ⊎ (f ≡ PagesFull) → SameTable old.locks new.locks) → (told : Refusal) → told ≡ told_as f
+      → LogEnds d true (mild_to_split (Some old.max_pages)) old.writer old.disk new.writer new.disk (Some f) → new.failed ≡ ends_engine f → new.txns ≡ old.txns → ((f ≡ Memory) ⊎ (f ≡ PagesFull) → SameTable old.locks new.locks) → (told : Fault) → told ≡ told_as f
       → StepKept d before s v (Do t (Insert key rid)) (Refused (number_of told)) old new
   insert_refused before s v life works counts_now f below ends fails table same told is =
       let r = (life.running works).1 in
@@ -336,9 +341,9 @@ module _ {D : Type 0} (d : Ghosts D) (old new : Engine D d) (t : ℕ) (key : Key
 
 -- ---- as `IsAnswered` has it
 
-module _ {D : Type 0} (d : Ghosts D) (old : Engine D d) (log : LogFile) (disk : D) (works : old.failed ≡ false) (t : ℕ) (key : Key) (rid : ℕ) (checked : checked_by old.txns.rows (Do t (Insert key rid)) ≡ None) where
-  pub insert_answered : (reply : said.Reply) → ((x : Refusal) → reply ≢ replies.Refused x) → Answers d old log disk (Do t (Insert key rid)) reply
+module _ {D : Type 0} (d : Ghosts D) (old : Engine D d) (log : LogFile) (disk : D) (works : old.failed ≡ false) (t : ℕ) (key : Key) (rid : ℕ) (checked : checked_by old.txns.rows false (Do t (Insert key rid)) ≡ None) where
+  pub insert_answered : (reply : said.Reply) → ((x : Fault) → reply ≢ replies.Refused x) → Answers d old log disk (Do t (Insert key rid)) reply
   insert_answered reply not = behind d old log disk works (Do t (Insert key rid)) reply checked (λ fault. not_refused_for d old log disk works (InsertCause d log disk) reply not fault)
 
-  pub insert_not_answered : (f : Fault) (told : Refusal) → told ≡ told_as f → InsertCause d log disk (told_as f) → Answers d old log disk (Do t (Insert key rid)) (replies.Refused told)
+  pub insert_not_answered : (f : Fault) (told : Fault) → told ≡ told_as f → InsertCause d log disk (told_as f) → Answers d old log disk (Do t (Insert key rid)) (replies.Refused told)
   insert_not_answered f told is cause = behind d old log disk works (Do t (Insert key rid)) (replies.Refused told) checked (λ fault. refused_for d old log disk works (InsertCause d log disk) f told is cause fault)

@@ -23,10 +23,13 @@ pub mod Acknowledging
 pub mod Stopping
 pub mod LivedLives
 pub mod OneLife
-pub mod BothFiles
+pub mod AllFiles
 pub mod Fresh
 pub mod Actives
 pub mod Replying
 pub mod Edited
 pub mod Deleting
 pub mod Inserting
+pub mod Promised
+pub mod AsAlone
+pub mod OneLook

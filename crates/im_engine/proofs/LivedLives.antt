@@ -1,21 +1,22 @@
 -- Lives one after another.
 use Rattle.std.proofs.Common.{inl, inr, ℕ, zero, suc, List, [], ◌∷◌, take, None, Some, Result, Ok, Err, IfOk, IfErr, OnErr, refl, sym, subst}
 use Rattle.im_base_types.specs.Changes.{Effect}
-use Rattle.im_base_types.specs.Lives.{Asked, Shown, StandsForMore, nothing_shown, shows, shown_by}
-use Rattle.im_front.specs.Calls.{asked_by, told_by}
-use Rattle.im_front.specs.declared.reply.Reply.{Reply}
-use Rattle.im_front.specs.declared.step.Step.{Step}
+use Rattle.im_base_types.specs.Lives.{Asked, Shown, NoneAcked, StandsForMore, nothing_shown, shows, shown_by}
+use Rattle.im_base_steps.specs.Calls.{asked_by, told_by}
+use Rattle.im_base_steps.specs.declared.reply.Reply.{Reply}
+use Rattle.im_base_steps.specs.declared.step.Step.{Step}
 use Rattle.im_base_disk.specs.Disk.{Files}
 use Rattle.im_engine.specs.Stands.{StandsFor, Allowed}
-use Rattle.im_engine.specs.Turns.{answered_by, IsCutOff, IsCutOffBehind}
-use Rattle.im_engine.specs.Lived.{Life, AreLives, AreKept, IsAskedBehind}
+use Rattle.im_engine.specs.Promise.{Life, HadAsked, IsKept, IsRunOn, answered_by}
+use Rattle.im_engine.specs.Turns.{IsCutOff, IsCutOffBehind}
+use Rattle.im_engine.specs.Lived.{TakesFiles, AreLives, AreKept}
 use Rattle.im_engine.proofs.Acknowledging.{StayAcked, all_stay, stay_then, answered_stays, stopped_stays, kept_of}
 use Rattle.im_engine.proofs.TurnLemmas.{allowed_within}
 
 -- what a stop left stands for what was asked up to it, in which is what was acknowledged
 record IsLeftBy (n : ℕ) (before : List Effect) (s : Shown) (steps : List Step) (replies : List Reply) (c : Files) : Type 0 where
   asked : List Asked
-  by : IsAskedBehind n s steps replies asked
+  by : HadAsked n s steps replies asked
   holds : StayAcked (shown_by s (take n (answered_by steps replies))).asked asked
   stands : StandsForMore StandsFor before asked c
 
@@ -49,22 +50,40 @@ pub on_err : {A E : Type 0} (r : Result A E) (P : Type 0) (Q R : E → Type 0) �
 on_err (Ok x) P Q R h k then = tt
 on_err (Err e) P Q R h k then = then h e k
 
-pub lives_in_turn : (old new : Files) (lives : List Life) (before : List Effect) → StandsFor before old → AreLives old lives new → (after : List Effect) × AreKept before lives after × StandsFor after new
+-- what a life keeps that was cut off so; none that was acknowledged is lost
+pub kept_by : (life : Life Files) (before : List Effect) → IsCutOffBehind life.answered before nothing_shown life.steps life.replies life.left
+    → (after : List Effect) × (kept : IsKept before life after) × NoneAcked kept.lost × StandsFor after life.left
+kept_by life before is =
+    let one = left_by life.answered before nothing_shown life.steps life.replies life.left is in
+    let survives = one.stands.1 in (
+      one.stands.0,
+      record {
+        asked = one.asked;
+        by = one.by;
+        kept = survives.kept;
+        lost = survives.lost;
+        front = survives.all;
+        is = survives.is;
+        acknowledged = λ a told acked. kept_of survives.kept survives.lost one.asked survives.all survives.no_ack_lost a (one.holds a told acked) acked;
+      },
+      survives.no_ack_lost,
+      one.stands.2,
+    )
+
+-- files that a life took to others stand for what it kept
+pub takes_on : (old : Files) (life : Life Files) → TakesFiles life.steps life.replies life.answered old life.left → (before : List Effect) → StandsFor before old → (after : List Effect) × IsKept before life after × StandsFor after life.left
+takes_on old life takes before stands = let kept = kept_by life before (takes before stands) in (kept.0, kept.1, kept.3)
+
+-- it is a life of those that the promise speaks of
+pub runs_on : (old : Files) (steps : List Step) (replies : List Reply) (n : ℕ) (c : Files) → TakesFiles steps replies n old c → IsRunOn StandsFor old (record { steps = steps; replies = replies; answered = n; shown = None; left = c })
+runs_on old steps replies n c takes = record {
+  takes = takes_on old (record { steps = steps; replies = replies; answered = n; shown = None; left = c }) takes;
+  shows = tt;
+}
+
+pub lives_in_turn : (old new : Files) (lives : List (Life Files)) (before : List Effect) → StandsFor before old → AreLives old lives new → (after : List Effect) × AreKept before lives after × StandsFor after new
 lives_in_turn old new [] before stands is = (before, refl, subst (λ (c : Files). StandsFor before c) (sym is) stands)
 lives_in_turn old new (life ∷ lives) before stands are =
-    let one = left_by life.answered before nothing_shown life.steps life.replies life.left (are.0 before stands) in
-    let survives = one.stands.1 in
-    let rest = lives_in_turn life.left new lives one.stands.0 one.stands.2 are.1 in (
-      rest.0,
-      (
-        one.stands.0,
-        record {
-          asked = one.asked;
-          by = one.by;
-          survives = survives;
-          acknowledged = λ a told acked. kept_of survives.kept survives.lost one.asked survives.all survives.no_ack_lost a (one.holds a told acked) acked;
-        },
-        rest.1,
-      ),
-      rest.2,
-    )
+    let one = kept_by life before (are.0 before stands) in
+    let rest = lives_in_turn life.left new lives one.0 one.3 are.1 in
+    (rest.0, (one.0, one.1, one.2, one.3, rest.1), rest.2)

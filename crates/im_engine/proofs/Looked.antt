@@ -20,9 +20,9 @@ use Rattle.im_page_writer.specs.declared.page_writer.PageWriter.{PageWriter}
 use Rattle.im_page_writer.specs.PageWriter.{Evicted}
 use Rattle.im_page_writer.specs.Outcome.{fault_of, AreLoaded, Ends, mild, no_page, Outcome}
 use Rattle.im_theory_tree.specs.Theory.{page_tree}
-use Rattle.im_engine_lock.specs.Locks.{Lock}
-use Rattle.im_engine_lock.specs.Table.{Table, locks_of}
-use Rattle.im_engine_lock.specs.View.{View, locks_in, broken}
+use Rattle.im_base_lock.specs.Locks.{Lock}
+use Rattle.im_base_lock.specs.Table.{Table, locks_of}
+use Rattle.im_base_lock.specs.View.{View, own_locks, broken}
 use Rattle.im_theory_steps.specs.Growth.{AreBelow}
 use Rattle.im_theory_steps.specs.Serving.{IsServing}
 use Rattle.im_theory_steps.proofs.Growth.{copies_are_images, images_change_nothing}
@@ -122,7 +122,7 @@ module _ {D : Type 0} (d : Ghosts D) (before : List Effect) (s : Shown) (v : Vie
       let told : s.failed ≡ true = life.lived.shows.shown.failed ∙ gone in
       let here : IsLife d before (record s { failed = true }) v e = subst (λ (b : Bool). IsLife d before (record s { failed = b }) v e) told life in
       record {
-        after = inr (locks_in v, subst (λ (b : Bool). IsLife d before (record s { failed = true }) (record v { failed = b }) e) gone here);
+        after = inr (own_locks v, subst (λ (b : Bool). IsLife d before (record s { failed = true }) (record v { failed = b }) e) gone here);
         stops = started d e.disk (Allowed before s) (λ on c left. life.stops c (only_now c left));
       }
 
@@ -144,7 +144,7 @@ module _ {D : Type 0} (d : Ghosts D) (before : List Effect) (s : Shown) (v : Vie
         runs_on d before s v old r s v new is.now is.on
         (subst (λ (held : Table). IsServing b r.earlier before s v is.now.log new.txns.rows new.txns.next held) (sym locks) (subst (λ (x : Numbered). IsServing b r.earlier before s v is.now.log x.rows x.next old.locks) (sym table) serves))
         commits
-        (subst (λ (n : ℕ). n ≤ 2 ^ 62 → AreBelow n is.now.log) (sym (ap (λ (x : Numbered). x.next) table)) (λ le. same.below old.txns.next old.first (r.numbered le)))
+        (subst (λ (n : ℕ). n ≤ 2 ^ 62 → AreBelow n is.now.log) (sym (ap (λ (x : Numbered). x.next) table)) (λ le. same.below old.txns.next old.first (r.numbered le))) r.alone r.unowned
 
     -- a look that was answered
     pub look_kept : Searched d None old new → LookKept d before s v old new
@@ -163,11 +163,11 @@ module _ {D : Type 0} (d : Ghosts D) (before : List Effect) (s : Shown) (v : Vie
         broke : new.failed ≡ true → LookKept d before s v old new
         broke fails = record {
           after = inr (
-            locks_in v,
+            own_locks v,
             record {
               stops = λ c left. left_now d old.disk new.disk (Allowed before s) counts_now leaves (tells d before s v old run.1) c left;
               failed = sym fails;
-              lived = lives_go_on.looks (apply_all empty before) s v (locks_in v) life.lived (life.failed ∙ works);
+              lived = lives_go_on.looks (apply_all empty before) s v (own_locks v) life.lived (life.failed ∙ works);
               running = λ on. absurd (not_true new.failed on fails);
             },
           );

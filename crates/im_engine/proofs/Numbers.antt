@@ -1,10 +1,10 @@
 -- Numbers of rows that are above another.
 use Rattle.std.proofs.Common.{◌≡◌, ◌≤◌, ◌<◌, ℕ, Bool, true, false, not, List, [], ◌∷◌, ◌++◌, Option, Some, None, IfSome, map, filter, refl, sym, ap, subst, ◌∙◌, arith}
 use Rattle.std.specs.Prelude.{find, ◌==◌, if◌then◌else◌}
-use Rattle.im_engine_txn.specs.declared.transaction.Transaction.{Transaction}
-use Rattle.im_engine_txn.specs.Rows.{AreAbove, begun, changed, is_of}
-use Rattle.im_engine_txn.specs.LookUps.{Keeps, without}
-use Rattle.im_engine_txn.proofs.LookUps.{look_ups_follow}
+use Rattle.im_base_txn.specs.declared.transaction.Transaction.{Transaction}
+use Rattle.im_base_txn.specs.Rows.{AreAbove, begun, changed, is_of}
+use Rattle.im_base_txn.specs.LookUps.{Keeps, without}
+use Rattle.im_base_txn.proofs.LookUps.{look_ups_follow}
 
 pub above_begun : (n number : ℕ) (rows : List Transaction) → n < number → AreAbove n rows → AreAbove n (rows ++ begun number ∷ [])
 above_begun n number [] le are = (le, tt)

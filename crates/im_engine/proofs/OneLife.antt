@@ -1,8 +1,8 @@
 -- One life, from its opening on.
 use Rattle.std.proofs.Common.{ℕ, zero, suc, ◌≤◌, List, [], length, take, Ok, refl, arith}
 use Rattle.im_base_types.specs.Lives.{nothing_shown}
-use Rattle.im_front.specs.declared.step.Step.{Step}
-use Rattle.im_front.specs.declared.reply.Reply.{Reply}
+use Rattle.im_base_steps.specs.declared.step.Step.{Step}
+use Rattle.im_base_steps.specs.declared.reply.Reply.{Reply}
 use Rattle.im_base_disk.specs.declared.disk.Disk.{Ghosts}
 use Rattle.im_base_disk.specs.Disk.{Files}
 use Rattle.im_base_disk.proofs.Runs.{weakened, then_on}
@@ -12,7 +12,7 @@ use Rattle.im_engine.specs.Opening.{IsOpening}
 use Rattle.im_engine.specs.Stands.{Allowed}
 use Rattle.im_engine.specs.Turns.{behind, AreSteps, IsCutOff}
 use Rattle.im_engine.specs.Lived.{TakesFiles, IsLived, disk_at}
-use Rattle.im_engine.proofs.LivedLives.{left_before}
+use Rattle.im_engine.proofs.LivedLives.{left_before, runs_on}
 use Rattle.im_engine.proofs.Stopping.{alive_at_end, cut_behind, cut_between, cut_at_end}
 
 module _ {D : Type 0} (d : Ghosts D) (only_now : (disk : D) (c : Files) → d.left_since disk (d.moment disk) c → d.may_leave disk c) where
@@ -48,6 +48,7 @@ module _ {D : Type 0} (d : Ghosts D) (only_now : (disk : D) (c : Files) → d.le
       turns = turns;
       disk = refl;
       since = stops_since;
+      run = λ told n le c left. runs_on (d.seen old) steps replies n c (stops_since told n le c left);
       within = stops_within;
       ends = λ told c left before stands. let kept = opening.kept before told stands in cut_at_end d only_now before steps replies nothing_shown _ opened last turns kept.ok.0 c left;
       alive = alive_at_end d steps replies opened last turns opening.opened.3;

@@ -18,10 +18,10 @@ use Rattle.im_page_writer.specs.PageWriter.{StandsAs}
 use Rattle.im_log_gate.specs.Header.{least_number}
 use Rattle.im_restart_analysis.specs.Numbers.{IsNextNumber}
 use Rattle.im_theory_tree.specs.Theory.{page_tree}
-use Rattle.im_engine_txn.specs.declared.transaction.Transaction.{Transaction}
-use Rattle.im_engine_lock.specs.View.{View}
-use Rattle.im_engine_lock.specs.Machine.{start}
-use Rattle.im_engine_lock.specs.Table.{Table}
+use Rattle.im_base_txn.specs.declared.transaction.Transaction.{Transaction}
+use Rattle.im_base_lock.specs.View.{View}
+use Rattle.im_base_lock.specs.Machine.{start}
+use Rattle.im_base_lock.specs.Table.{Table}
 use Rattle.im_theory_steps.specs.Growth.{AreBelow}
 use Rattle.im_theory_steps.specs.Serving.{IsServing}
 use Rattle.im_theory_steps.proofs.Durable.{commits_stand}
@@ -33,7 +33,7 @@ use Rattle.im_engine.proofs.Running.{stops_now}
 use Rattle.im_engine.proofs.Reopened.{leaves_logs, next_is_above, all_over, none_to_undo, all_closed}
 
 pub may_restart : (before : List Effect) (files : Files) (l : StandsFor before files) → MayRestart l.b l.base l.log files
-may_restart before files l = record { start = l.start; has = l.has; lawful = l.lawful }
+may_restart before files l = record { start = l.start; counted = l.counted; has = l.has; lawful = l.lawful }
 
 module _ {D : Type 0} (d : Ghosts D) (before : List Effect) where
   -- an engine that works, between two steps
@@ -57,6 +57,7 @@ module _ {D : Type 0} (d : Ghosts D) (before : List Effect) (old : D) (l : Stand
           b = l.b;
           base = l.base;
           start = l.start;
+          counted = l.counted;
           log = is.left;
           has = is.has;
           lawful = is.lawful;
@@ -81,6 +82,7 @@ module _ {D : Type 0} (d : Ghosts D) (before : List Effect) (old : D) (l : Stand
       lives_on d before nothing_shown (start (apply_all empty before) e.txns.next) e works (record {
         base = l.base;
         start = l.start;
+        counted = l.counted;
         earlier = l.earlier;
         now = is.now;
         stands = subst (λ (w : PageWriter). StandsAs d l.b l.base is.now w e.disk) (sym writer) is.stands;
@@ -93,4 +95,6 @@ module _ {D : Type 0} (d : Ghosts D) (before : List Effect) (old : D) (l : Stand
             (subst (λ (list : List Transaction). IsServing l.b l.earlier before nothing_shown (start (apply_all empty before) e.txns.next) is.now.log list e.txns.next []) (sym rows) serves);
         commits = commits_stand.begins l.earlier before is.now.durable is.now.log whole (ap committed is.durable);
         numbered = λ le. left.below e.txns.next e.first (subst (λ (n : ℕ). AreBelow n l.log) (sym next) (next_is_above (least_number (d.seen old Log)) r.next l.log number (omega (arith, le, next))));
+        alone = refl;
+        unowned = refl;
       })

@@ -11,8 +11,7 @@ use Rattle.im_base_types.specs.declared.fault.Fault.TheVariants.{NotAStore}
 use Rattle.im_base_types.specs.Lives.{Shown, shows}
 use Rattle.im_base_disk.specs.declared.disk.Disk.{Ghosts}
 use Rattle.im_base_disk.specs.Disk.{Files}
-use Rattle.im_front.specs.Calls.{number_of}
-use Rattle.im_front.specs.declared.fault.Fault.{Fault as Refusal}
+use Rattle.im_base_types.specs.Faults.{number_of}
 use Rattle.im_engine_index.specs.declared.outcome.Outcome.{Outcome}
 use Rattle.im_engine_index.specs.declared.outcome.Outcome.TheVariants.{Granted as OutcomeGranted, Wait as OutcomeWait, Die as OutcomeDie}
 use Rattle.im_engine_index.specs.Outcomes.{seek_at}
@@ -20,16 +19,15 @@ use Rattle.im_engine_index.specs.LockCalls.{AsksLocks}
 use Rattle.im_engine_index.specs.Reads.{IsRead}
 use Rattle.im_base_types.specs.Keys.{Key}
 use Rattle.im_base_types.specs.Maps.{IndexMap}
-use Rattle.im_engine_txn.specs.Rows.{changed, with_mark}
-use Rattle.im_engine_txn.specs.declared.transaction.Mark.TheVariants.{MustRollBack}
-use Rattle.im_engine_lock.specs.Rows.{asked}
-use Rattle.im_engine_lock.specs.Table.{SameTable, Decides, locks_of}
-use Rattle.im_engine_lock.specs.declared.verdict.Verdict.TheVariants.{Granted, Wait, Die as MustDie}
-use Rattle.im_engine_lock.specs.View.{View, did, marked}
-use Rattle.im_engine_lock.specs.Machine.{Wants, barred}
+use Rattle.im_base_txn.specs.Rows.{changed, with_mark}
+use Rattle.im_base_txn.specs.declared.transaction.Mark.TheVariants.{MustRollBack}
+use Rattle.im_base_lock.specs.Rows.{asked}
+use Rattle.im_base_lock.specs.Table.{SameTable, Decides, locks_of}
+use Rattle.im_base_lock.specs.declared.verdict.Verdict.TheVariants.{Granted, Wait, Die as MustDie}
+use Rattle.im_base_lock.specs.View.{View, did, marked}
+use Rattle.im_base_lock.specs.Machine.{Wants, barred}
 use Rattle.im_theory_steps.specs.Checks.{checked_by}
 use Rattle.im_theory_steps.proofs.Asking.{asks_nothing, waits_ask_nothing, dies_ask_nothing}
-use Rattle.im_theory_steps.proofs.Lived.{rows_tell}
 use Rattle.im_theory_steps.proofs.Steps.{reads_served, waits_served, dies_served}
 use Rattle.im_engine.specs.declared.engine.Engine.{Engine}
 use Rattle.im_engine.specs.Faults.{told_as, ends_engine}
@@ -37,7 +35,7 @@ use Rattle.im_engine.specs.Numbered.{Numbered}
 use Rattle.im_engine.specs.Running.{IsRunning, IsLife}
 use Rattle.im_engine.specs.Kept.{StepKept}
 use Rattle.im_engine.proofs.Checked.{IsGoing, access_going, access_fits}
-use Rattle.im_engine.proofs.Running.{read_on, read_stops}
+use Rattle.im_engine.proofs.Running.{not_owner, checks_tell, read_on, read_stops}
 use Rattle.im_engine.proofs.Made.{grown_made}
 use Rattle.im_engine.proofs.Refused.{search_refused}
 
@@ -50,7 +48,7 @@ pub seeks_want_memory : (t : ℕ) (inclusive : Bool) (key : Key) → Wants (Do t
 seeks_want_memory t true key = refl
 seeks_want_memory t false key = refl
 
-module _ {D : Type 0} (d : Ghosts D) (before : List Effect) (s : Shown) (v : View) (t : ℕ) (a : Access) (old new : Engine D d) (life : IsLife d before s v old) (works : old.failed ≡ false) (checked : checked_by old.txns.rows (Do t a) ≡ None) where
+module _ {D : Type 0} (d : Ghosts D) (before : List Effect) (s : Shown) (v : View) (t : ℕ) (a : Access) (old new : Engine D d) (life : IsLife d before s v old) (works : old.failed ≡ false) (checked : checked_by old.txns.rows false (Do t a) ≡ None) where
   abbrev run : (b : Base) × IsRunning d b before s v old
   run = life.running works
 
@@ -66,8 +64,8 @@ module _ {D : Type 0} (d : Ghosts D) (before : List Effect) (s : Shown) (v : Vie
   granted none {X} says o read x is reply told one table works_on =
       let now = subst (λ (y : Outcome X). IsRead says t a v.walk old.locks new.locks y) is read in
       subst (λ (y : Reply). StepKept d before s v (Do t a) y old new) (sym now.says ∙ told)
-      (grown_made d before s v (did v t a (locks_of new.locks t)) (Do t a) (answer a v.walk) old new run.1 old.txns (read_on d before s v old run.1 new.writer new.disk one.ends)
-      (λ longer stays all. reads_served run.0 run.1.earlier before s v run.1.now.log longer old.txns.rows old.txns.next old.locks new.locks t going.row a run.1.serving going.found going.mark (access_fits old.txns.rows t a checked) none now.decides stays all)
+      (grown_made d before s v (did v t a (locks_of new.locks t)) (Do t a) (answer a v.walk) old new run.1 old.txns run.1.alone run.1.unowned (read_on d before s v old run.1 new.writer new.disk one.ends)
+      (λ longer stays all. reads_served run.0 run.1.earlier before s v run.1.now.log longer old.txns.rows old.txns.next old.locks new.locks t going.row a run.1.serving going.found going.mark (not_owner d before s v old run.1 t) (access_fits old.txns.rows t a checked) none now.decides stays all)
       (asks_nothing s t a v) refl table refl (read_stops d before s v old run.1 new.writer new.disk one) works_on tt)
 
   -- it has to wait
@@ -75,8 +73,8 @@ module _ {D : Type 0} (d : Ghosts D) (before : List Effect) (s : Shown) (v : Vie
       → StepKept d before s v (Do t a) (Blocked holder) old new
   waits {X} says o read holder is one table works_on =
       let decides : Decides old.locks t (asked a v.walk) (Wait holder) new.locks = (subst (λ (y : Outcome X). IsRead says t a v.walk old.locks new.locks y) is read).decides in
-      grown_made d before s v v (Do t a) (Blocked holder) old new run.1 old.txns (read_on d before s v old run.1 new.writer new.disk one.ends)
-      (λ longer stays all. waits_served run.0 run.1.earlier before s v run.1.now.log longer old.txns.rows old.txns.next old.locks new.locks t holder going.row a run.1.serving going.found going.mark (access_fits old.txns.rows t a checked) decides stays all)
+      grown_made d before s v v (Do t a) (Blocked holder) old new run.1 old.txns run.1.alone run.1.unowned (read_on d before s v old run.1 new.writer new.disk one.ends)
+      (λ longer stays all. waits_served run.0 run.1.earlier before s v run.1.now.log longer old.txns.rows old.txns.next old.locks new.locks t holder going.row a run.1.serving going.found going.mark (not_owner d before s v old run.1 t) (access_fits old.txns.rows t a checked) decides stays all)
       (waits_ask_nothing s t holder a) refl table refl (read_stops d before s v old run.1 new.writer new.disk one) works_on tt
 
   -- its transaction must die
@@ -84,13 +82,13 @@ module _ {D : Type 0} (d : Ghosts D) (before : List Effect) (s : Shown) (v : Vie
       → StepKept d before s v (Do t a) Die old new
   dies {X} says o read is one table works_on =
       let decides : Decides old.locks t (asked a v.walk) MustDie new.locks = (subst (λ (y : Outcome X). IsRead says t a v.walk old.locks new.locks y) is read).decides in
-      grown_made d before s v (marked v t answers.MustRollBack) (Do t a) Die old new run.1 (record old.txns { rows = map (changed t (with_mark MustRollBack)) old.txns.rows }) (read_on d before s v old run.1 new.writer new.disk one.ends)
-      (λ longer stays all. dies_served run.0 run.1.earlier before s v run.1.now.log longer old.txns.rows old.txns.next old.locks new.locks t going.row a run.1.serving going.found going.mark (access_fits old.txns.rows t a checked) decides stays all)
+      grown_made d before s v (marked v t answers.MustRollBack) (Do t a) Die old new run.1 (record old.txns { rows = map (changed t (with_mark MustRollBack)) old.txns.rows }) run.1.alone run.1.unowned (read_on d before s v old run.1 new.writer new.disk one.ends)
+      (λ longer stays all. dies_served run.0 run.1.earlier before s v run.1.now.log longer old.txns.rows old.txns.next old.locks new.locks t going.row a run.1.serving going.found going.mark (not_owner d before s v old run.1 t) (access_fits old.txns.rows t a checked) decides stays all)
       (dies_ask_nothing s t a) refl table refl (read_stops d before s v old run.1 new.writer new.disk one) works_on tt
 
   -- a call below refused it
   pub refused : ((u : ℕ) (c : Files) → u ≤ d.moment new.disk → d.may_leave new.disk c → d.left_since new.disk u c) → (f : Fault) → Wants (Do t a) memory → AsksLocks d old.writer old.disk new.writer new.disk (Some f) → f ≢ NotAStore → new.failed ≡ ends_engine f
-      → new.txns ≡ old.txns → SameTable old.locks new.locks → (told : Refusal) → told ≡ told_as f → StepKept d before s v (Do t a) (Refused (number_of told)) old new
+      → new.txns ≡ old.txns → SameTable old.locks new.locks → (told : Fault) → told ≡ told_as f → StepKept d before s v (Do t a) (Refused (number_of told)) old new
   refused counts_now f wants one sound fails table same told is =
-      subst (λ (y : Refusal). StepKept d before s v (Do t a) (Refused (number_of y)) old new) (sym is) (search_refused d before s v (Do t a) no_commit
-      (rows_tell run.0 run.1.earlier before s v run.1.now.log old.txns.rows old.txns.next old.locks (Do t a) run.1.serving ∙ checked) old new life works counts_now f wants one sound fails table same)
+      subst (λ (y : Fault). StepKept d before s v (Do t a) (Refused (number_of y)) old new) (sym is) (search_refused d before s v (Do t a) no_commit
+      (checks_tell d before s v old run.1 (Do t a) ∙ checked) old new life works counts_now f wants one sound fails table same)

@@ -15,10 +15,10 @@ use Rattle.im_engine_index.specs.LockCalls.{AsksLocks}
 use Rattle.im_page_writer.specs.declared.page_writer.PageWriter.{PageWriter}
 use Rattle.im_page_writer.specs.PageWriter.{Evicted}
 use Rattle.im_page_writer.specs.Outcome.{AreLoaded, mild, Ends, none_mild, LogEnds}
-use Rattle.im_front.specs.Calls.{number_of}
-use Rattle.im_engine_lock.specs.Table.{Table, SameTable, locks_of}
-use Rattle.im_engine_lock.specs.View.{View}
-use Rattle.im_engine_lock.specs.Machine.{Breaks, Wants, barred}
+use Rattle.im_base_types.specs.Faults.{number_of}
+use Rattle.im_base_lock.specs.Table.{Table, SameTable, locks_of}
+use Rattle.im_base_lock.specs.View.{View}
+use Rattle.im_base_lock.specs.Machine.{Breaks, Wants, barred}
 use Rattle.im_theory_steps.specs.Serving.{IsServing}
 use Rattle.im_theory_steps.proofs.Asking.{refusals_ask_nothing}
 use Rattle.im_theory_steps.proofs.Durable.{others_ask_nothing}
@@ -55,7 +55,7 @@ serving_with b earlier before s v log rows next old new same is = record {
   reached = is.reached;
   says = is.says;
   table = is.table;
-  locks = λ u. is.locks u ∙ sym (same u);
+  locks = (λ u. is.locks.0 u ∙ sym (same u), is.locks.1);
 }
 
 module _ {D : Type 0} (d : Ghosts D) (before : List Effect) (s : Shown) (v : View) (step : Step) (other : (u : ℕ) → step ≡ Commit u → ⊥) (checked : barred v step ≡ None) (old new : Engine D d) (life : IsLife d before s v old)
@@ -76,7 +76,7 @@ module _ {D : Type 0} (d : Ghosts D) (before : List Effect) (s : Shown) (v : Vie
   pub lacks_with : Wants step memory → Evicted d run.0 run.1.base run.1.now old.disk new.writer new.disk → LeavesOnly d old.disk new.disk (Allowed before s) → new.txns ≡ old.txns → SameTable old.locks new.locks → new.failed ≡ false
       → StepKept d before s v step (Refused memory) old new
   lacks_with wants is leaves table same works_on =
-      grown_made d before s v v step (Refused memory) old new run.1 old.txns is
+      grown_made d before s v v step (Refused memory) old new run.1 old.txns run.1.alone run.1.unowned is
       (λ longer stays all. lacks_served run.0 run.1.earlier before s v run.1.now.log longer old.txns.rows old.txns.next new.locks step memory
       (serving_with run.0 run.1.earlier before s v run.1.now.log old.txns.rows old.txns.next old.locks new.locks same run.1.serving) checked wants stays all)
       (refusals_ask_nothing memory step s (λ t is. inl refl)) (others_ask_nothing.cut s step other) table refl leaves works_on (none_done d before (shows s step (Some (Refused memory))) v step memory new)

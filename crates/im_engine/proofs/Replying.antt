@@ -5,17 +5,19 @@ use Rattle.im_base_types.specs.Answers as answers
 use Rattle.im_base_types.specs.declared.fault.Fault as below
 use Rattle.im_base_disk.specs.declared.disk.Disk.{Ghosts}
 use Rattle.im_log.specs.declared.log_file.LogFile.{LogFile}
-use Rattle.im_engine_lock.specs.Machine.{first_check, mark_for}
+use Rattle.im_base_lock.specs.Machine.{first_check, mark_for}
 use Rattle.im_theory_steps.specs.Checks.{marks_in}
-use Rattle.im_engine_txn.specs.declared.transaction.Transaction.{Transaction}
-use Rattle.im_front.specs.declared.step.Step.{Step}
-use Rattle.im_front.specs.declared.fault.Fault.{Fault}
-use Rattle.im_front.specs.declared.fault.Fault.TheVariants as faults
-use Rattle.im_front.specs.declared.reply.Blocker.TheVariants as blockers
-use Rattle.im_front.specs.declared.reply.Reply.{Reply}
-use Rattle.im_front.specs.declared.reply.Reply.TheVariants as replies
-use Rattle.im_front.specs.Calls.{asked_by, told_by, number_of}
-use Rattle.im_front.specs.Replies.{is_commit, takes_back, is_full, Suits, IsReply, IsCounted}
+use Rattle.im_base_txn.specs.declared.transaction.Transaction.{Transaction}
+use Rattle.im_base_steps.specs.declared.step.Step.{Step}
+use Rattle.im_base_types.specs.declared.fault.Fault.{Fault}
+use Rattle.im_base_types.specs.declared.fault.Fault.TheVariants as faults
+use Rattle.im_base_steps.specs.declared.reply.Blocker.TheVariants as blockers
+use Rattle.im_base_steps.specs.declared.reply.Reply.{Reply}
+use Rattle.im_base_steps.specs.declared.reply.Reply.TheVariants as replies
+use Rattle.im_base_steps.specs.Calls.{asked_by, told_by}
+use Rattle.im_base_types.specs.Faults.{number_of}
+use Rattle.im_base_steps.proofs.AtOnce.{at_once}
+use Rattle.im_base_steps.specs.Replies.{is_commit, takes_back, is_full, SuitsAtOnce, IsReply, IsCounted}
 use Rattle.im_engine.specs.declared.engine.Engine.{Engine}
 use Rattle.im_engine.specs.Looking.{Looks}
 use Rattle.im_engine.specs.Numbered.{Numbered}
@@ -47,15 +49,15 @@ module _ {D : Type 0} (d : Ghosts D) (reply : Reply) (old : Engine D d) (log : L
 
 module _ {D : Type 0} (d : Ghosts D) (step : Step) (reply : Reply) (old new : Engine D d) (one : IsStep d step reply old new) where
   -- the first check, of an engine that works
-  checked_now : old.failed ≡ false → check_of d (asked_by step) old ≡ first_check false (length old.txns.rows) (mark_for (marks_in old.txns.rows) (asked_by step)) (asked_by step)
-  checked_now works = ap (λ (b : Bool). first_check b (length old.txns.rows) (mark_for (marks_in old.txns.rows) (asked_by step)) (asked_by step)) works
+  checked_now : old.failed ≡ false → check_of d (asked_by step) old ≡ first_check false (length old.txns.rows) (mark_for (marks_in old.txns.rows) (asked_by step)) false (asked_by step)
+  checked_now works = ap (λ (b : Bool). first_check b (length old.txns.rows) (mark_for (marks_in old.txns.rows) (asked_by step)) false (asked_by step)) works
 
   not_full : old.failed ≡ false → reply ≡ replies.Refused faults.TraceFull → ⊥
   not_full works is = by (check_of d (asked_by step) old) refl ((one.answered faults.TraceFull).0 is)
     where
       by : (o : Option ℕ) → check_of d (asked_by step) old ≡ o → Checked o faults.TraceFull (Refuses d reply old new.writer.log new.disk faults.TraceFull (asked_by step)) → ⊥
       by None none cause = no_cause d reply old new.writer.log new.disk (asked_by step) cause
-      by (Some n) some same = by_check (λ (k : ℕ). 14 ≡ k → ⊥) n (λ e. cc e) (λ e. cc e) (λ e. cc e) (λ e. cc e) (λ e. cc e) (length old.txns.rows) (mark_for (marks_in old.txns.rows) (asked_by step)) (asked_by step) (sym (checked_now works) ∙ some) same
+      by (Some n) some same = by_check (λ (k : ℕ). 14 ≡ k → ⊥) n (λ e. cc e) (λ e. cc e) (λ e. cc e) (λ e. cc e) (λ e. cc e) false (λ q. absurd (let never : false ≡ true = q in cc never)) (length old.txns.rows) (mark_for (marks_in old.txns.rows) (asked_by step)) (asked_by step) (sym (checked_now works) ∙ some) same
 
   never_full : (fault : Fault) → reply ≡ replies.Refused fault → is_full (told_by (replies.Refused fault)) ≡ false
   never_full faults.TraceFull is = absurd (elim (cases_Bool old.failed) [
@@ -74,7 +76,12 @@ module _ {D : Type 0} (d : Ghosts D) (step : Step) (reply : Reply) (old new : En
   never_full faults.Failed is = refl
   never_full faults.NotAStore is = refl
   never_full faults.TooMany is = refl
+  never_full faults.PoolSize is = refl
   never_full faults.Busy is = refl
+  never_full faults.BadScript is = refl
+  never_full faults.Unfinished is = refl
+  never_full faults.Workers is = refl
+  never_full faults.Locked is = refl
 
   has_room : (r : Reply) → reply ≡ r → is_full (told_by r) ≡ false
   has_room (replies.Refused fault) is = never_full fault is
@@ -97,12 +104,12 @@ module _ {D : Type 0} (d : Ghosts D) (step : Step) (reply : Reply) (old new : En
 
   -- a reply that the step may have, and no refusal of the front's own
   pub step_replies : IsReply (asked_by step) (told_by reply)
-  step_replies = record { suits = one.suits; room = has_room reply refl }
+  step_replies = record { suits = at_once (asked_by step) (told_by reply) one.suits; room = has_room reply refl }
 
 -- ---- who ends had begun
 
 -- a step that ends a transaction is refused where there is none
-no_row : (step : answers.Step) → ((is_commit step ≡ true) ⊎ (takes_back step ≡ true)) → first_check false 0 (mark_for (marks_in []) step) step ≡ Some (number_of faults.NoTransaction)
+no_row : (step : answers.Step) → ((is_commit step ≡ true) ⊎ (takes_back step ≡ true)) → first_check false 0 (mark_for (marks_in []) step) false step ≡ Some (number_of faults.NoTransaction)
 no_row (answers.Commit t) e = refl
 no_row (answers.Rollback t) e = refl
 no_row (answers.Continue t) e = refl
@@ -126,8 +133,8 @@ module _ {D : Type 0} (d : Ghosts D) (step : Step) (reply : Reply) (old new : En
       none empty = elim (cases_Bool old.failed) [
         | inl failed ↦ answered faults.Failed (one.told.failed failed)
         | inr works ↦
-            (let check : check_of d (asked_by step) old ≡ Some (number_of faults.NoTransaction) = ap (λ (b : Bool). first_check b (length old.txns.rows) (mark_for (marks_in old.txns.rows) (asked_by step)) (asked_by step)) works
-            ∙ ap (λ (rows : List Transaction). first_check false (length rows) (mark_for (marks_in rows) (asked_by step)) (asked_by step)) empty ∙ no_row (asked_by step) ends in
+            (let check : check_of d (asked_by step) old ≡ Some (number_of faults.NoTransaction) = ap (λ (b : Bool). first_check b (length old.txns.rows) (mark_for (marks_in old.txns.rows) (asked_by step)) false (asked_by step)) works
+            ∙ ap (λ (rows : List Transaction). first_check false (length rows) (mark_for (marks_in rows) (asked_by step)) false (asked_by step)) empty ∙ no_row (asked_by step) ends in
             answered faults.NoTransaction (one.checked faults.NoTransaction (sym check)).0)
       ]
 
@@ -145,12 +152,12 @@ module _ {D : Type 0} (d : Ghosts D) (step : Step) (reply : Reply) (old new : En
   counts (replies.Started n) is = let e : length new.txns.rows ≡ length old.txns.rows + 1 = now (replies.Started n) is in omega arith
   counts replies.Committed is =
       let e : length new.txns.rows ≡ length old.txns.rows - 1 = now replies.Committed is in
-      let suits : is_commit (asked_by step) ≡ true = subst (λ (r : Reply). Suits (asked_by step) (told_by r)) is one.suits in
+      let suits : is_commit (asked_by step) ≡ true = subst (λ (r : Reply). SuitsAtOnce (asked_by step) (told_by r)) is one.suits in
       let some = some_row (λ fault so. (let never = sym is ∙ so in cc never)) (inl suits) in
       omega (arith, e, some)
   counts replies.RolledBack is =
       let e : length new.txns.rows ≡ length old.txns.rows - 1 = now replies.RolledBack is in
-      let suits : takes_back (asked_by step) ≡ true = subst (λ (r : Reply). Suits (asked_by step) (told_by r)) is one.suits in
+      let suits : takes_back (asked_by step) ≡ true = subst (λ (r : Reply). SuitsAtOnce (asked_by step) (told_by r)) is one.suits in
       let some = some_row (λ fault so. (let never = sym is ∙ so in cc never)) (inr suits) in
       omega (arith, e, some)
   counts (replies.Refused fault) is = plain (now (replies.Refused fault) is)

@@ -1,5 +1,5 @@
 -- What is known of an engine that works, of its tree, of stops within calls that log nothing of their own, and of the engine behind them.
-use Rattle.std.proofs.Common.{◌≡◌, ℕ, ◌≤◌, ◌^◌, List, [], false, Option, refl, sym, ap, subst, ◌∙◌}
+use Rattle.std.proofs.Common.{◌≡◌, ◌≢◌, ℕ, ◌≤◌, ◌^◌, List, [], Bool, false, Option, None, Some, refl, sym, ap, subst, ◌∙◌}
 use Rattle.std.proofs.Math.Path.{fun_ext}
 use Rattle.std.specs.FinMap.{entries}
 use Rattle.im_base_types.specs.declared.fault.Fault.{Fault}
@@ -17,7 +17,7 @@ use Rattle.im_tree_search.specs.Found.{HasTree}
 use Rattle.im_tree_search.specs.Levels.{bodies_of}
 use Rattle.im_base_types.specs.Changes.{Effect}
 use Rattle.im_theory_log.specs.Histories.{Base, History, page_at}
-use Rattle.im_theory_log.specs.Lawful.{IsLawful}
+use Rattle.im_theory_log.specs.Lawful.{IsLawful, IsOutside, IsNotIn}
 use Rattle.im_theory_log.specs.Transactions.{committed}
 use Rattle.im_theory_log.specs.Writer.{Writer, WriterKept}
 use Rattle.im_base_types.specs.Lives.{Asked, Shown, StandsForMore, shows}
@@ -31,9 +31,13 @@ use Rattle.im_page_writer.specs.declared.page_writer.PageWriter.{PageWriter}
 use Rattle.im_page_writer.specs.PageWriter.{StandsAs, GoesOn, Evicted}
 use Rattle.im_page_file.proofs.Standing.{stop_now}
 use Rattle.im_theory_tree.specs.Theory.{page_tree}
-use Rattle.im_engine_txn.specs.declared.transaction.Transaction.{Transaction}
-use Rattle.im_engine_lock.specs.Table.{Table}
-use Rattle.im_engine_lock.specs.View.{View}
+use Rattle.im_base_txn.specs.declared.transaction.Transaction.{Transaction}
+use Rattle.im_base_lock.specs.Table.{Table}
+use Rattle.im_base_lock.specs.View.{View, Under, owner_of, owner_in, pending_of}
+use Rattle.im_base_lock.specs.Machine.{barred}
+use Rattle.im_base_lock.proofs.Under.{none_owned}
+use Rattle.im_theory_steps.specs.Checks.{checked_by}
+use Rattle.im_theory_steps.proofs.Lived.{rows_tell}
 use Rattle.im_theory_steps.specs.Growth.{AreBelow}
 use Rattle.im_theory_steps.specs.Serving.{IsServing}
 use Rattle.im_theory_steps.specs.Durable.{AreCommitted}
@@ -43,12 +47,32 @@ use Rattle.im_engine.specs.declared.engine.Engine.{Engine}
 use Rattle.im_engine.specs.Stands.{StandsFor, Allowed}
 use Rattle.im_engine.specs.Running.{IsRunning}
 use Rattle.im_engine.proofs.Stands.{covered_allowed}
+use Rattle.im_base_types.specs.Answers.{Step, Access}
 
 -- what may be left where the same is asked
 pub allowed_as : (before : List Effect) (s t : Shown) (c : Files) → t.asked ≡ s.asked → Allowed before s c → Allowed before t c
 allowed_as before s t c same h = subst (λ (l : List Asked). StandsForMore StandsFor before l c) (sym same) h
 
+-- outside structure changes, and on no page of one, where none is open
+pub outside : (t : ℕ) (l : History) → l ≡ [] → IsOutside t l
+outside t l closed = subst (λ (x : History). IsOutside t x) (sym closed) tt
+
+pub not_in : (page : ℕ) (l : History) → l ≡ [] → IsNotIn page l
+not_in page l closed = subst (λ (x : History). IsNotIn page x) (sym closed) tt
+
 module _ {D : Type 0} (d : Ghosts D) {b : Base} (before : List Effect) (s : Shown) (v : View) (e : Engine D d) (r : IsRunning d b before s v e) where
+  -- what the table tells of the checks
+  pub checks_tell : (step : Step) → barred v step ≡ checked_by e.txns.rows false step
+  checks_tell step = rows_tell b r.earlier before s v r.now.log e.txns.rows e.txns.next e.locks step r.serving ∙ ap (λ (o : Bool). checked_by e.txns.rows o step) (none_owned v.under r.unowned step)
+
+  -- nobody has an access that goes on
+  pub nothing_pending : (t : ℕ) → pending_of v.under t ≡ None
+  nothing_pending t = ap (λ (u : Option Under). pending_of u t) r.unowned
+
+  -- nobody has a structure change under way
+  pub not_owner : (t : ℕ) → owner_in v ≢ Some t
+  not_owner t is = let never : None ≡ Some t = sym (ap owner_of r.unowned) ∙ is in cc never
+
   pub writer_kept : WriterKept b r.now
   writer_kept = r.stands.writing.stands.kept
 
@@ -85,7 +109,7 @@ module _ {D : Type 0} (d : Ghosts D) {b : Base} (before : List Effect) (s : Show
   -- what a stop leaves of a longer log that committed no more
   pub left_on : (high : History) → IsLawful b page_tree high → committed high ≡ committed r.now.log → (c : Files) → IsCovered b r.base r.now.durable high c → Allowed before s c
   left_on high law same c is =
-      covered_allowed b r.base r.earlier before s r.now.durable high r.start r.serving.made law (commits_stand.stay r.earlier before s.asked r.now.durable r.now.log high r.commits same) c is
+      covered_allowed b r.base r.earlier before s r.now.durable high r.start r.counted r.serving.made law (commits_stand.stay r.earlier before s.asked r.now.durable r.now.log high r.commits same) c is
 
   -- a stop now
   pub stops_now : (c : Files) → d.may_leave e.disk c → Allowed before s c
@@ -116,12 +140,13 @@ module _ {D : Type 0} (d : Ghosts D) {b : Base} (before : List Effect) (s : Show
 
   -- the same engine, where its log has grown by Images, and table, locks and next number have gone on to what a step made of them
   unfoldable pub runs_on : (t : Shown) (w : View) (new : Engine D d) (now : Writer) (on : GoesOn d b r.base r.now e.disk now new.writer new.disk) → IsServing b r.earlier before t w now.log new.txns.rows new.txns.next new.locks
-      → AreCommitted r.earlier before t.asked now.durable now.log → (new.txns.next ≤ 2 ^ 62 → AreBelow new.txns.next now.log) → IsRunning d b before t w new
-  runs_on t w new now on serving commits numbered =
+      → AreCommitted r.earlier before t.asked now.durable now.log → (new.txns.next ≤ 2 ^ 62 → AreBelow new.txns.next now.log) → w.queue ≡ [] → w.under ≡ None → IsRunning d b before t w new
+  runs_on t w new now on serving commits numbered alone unowned =
       let same = copies_are_images page_tree b r.now.log now.log on.goes.keeps.log in
       record {
         base = r.base;
         start = r.start;
+        counted = r.counted;
         earlier = r.earlier;
         now = now;
         stands = record { working = on.working; writing = on.goes.writing; known = on.known };
@@ -132,4 +157,6 @@ module _ {D : Type 0} (d : Ghosts D) {b : Base} (before : List Effect) (s : Show
         serving = serving;
         commits = commits;
         numbered = numbered;
+        alone = alone;
+        unowned = unowned;
       }

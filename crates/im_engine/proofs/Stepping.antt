@@ -1,6 +1,6 @@
 -- A step behind its checks, and one that a check refuses.
-use Rattle.std.proofs.Common.{◌≡◌, ◌≢◌, ◌⊎◌, inl, inr, ℕ, Bool, true, false, List, length, Option, None, Some, refl, sym, ap, subst, ◌∙◌}
-use Rattle.std.specs.Prelude.{◌||◌, ◌==◌, if◌then◌else◌, ◌↔◌}
+use Rattle.std.proofs.Common.{◌≡◌, ◌≢◌, ◌⊎◌, inl, inr, ⊎_elim, ℕ, Bool, true, false, List, length, Option, None, Some, refl, sym, ap, subst, ◌∙◌, cond}
+use Rattle.std.specs.Prelude.{◌||◌, ◌==◌, if◌then◌else◌, ◌↔◌, not}
 use Rattle.im_base_types.specs.Answers as answers
 use Rattle.im_base_types.specs.Answers.{Step, Begin, Do, Commit, Rollback, Continue, FlushPage, Force, Checkpoint, Access, Mark, Idle, Going, MustRollBack, RollingBack, Committing}
 use Rattle.im_base_types.specs.Changes.{Effect}
@@ -8,21 +8,24 @@ use Rattle.im_theory_log.specs.Histories.{Base}
 use Rattle.im_base_types.specs.Keys.{Key}
 use Rattle.im_base_types.specs.Lives.{Shown, breaks}
 use Rattle.im_base_types.specs.Maps.{IndexMap}
-use Rattle.im_base_types.specs.Refusals.{failed as has_failed, not_a_store}
+use Rattle.im_base_types.specs.Refusals.{failed as has_failed, not_a_store, unfinished, key_length}
 use Rattle.im_base_disk.specs.declared.disk.Disk.{Ghosts}
 use Rattle.im_base_disk.specs.Disk.{Files}
 use Rattle.im_base_disk.proofs.Costs.{most_none}
 use Rattle.im_theory_tree.specs.Levels.{Pages}
-use Rattle.im_engine_lock.specs.View.{View}
-use Rattle.im_engine_lock.specs.Machine.{Moves, Answers, Goes, begins, does, waits, dies, commits, drops, turns, undoes, ends, flushes, forces, checkpoints, lacks, breaks as breaks_it, Breaks, Wants, barred, barred_to, barred_to_rollback, barred_to_continue, first_check, mark_for, or_else, fault_if, keys_fit}
-use Rattle.im_engine_lock.proofs.Runs.{reply_answers}
+use Rattle.im_base_lock.specs.Locks.{Lock}
+use Rattle.im_base_lock.specs.Table.{locks_of}
+use Rattle.im_base_lock.specs.View.{View, owns_in}
+use Rattle.im_base_lock.specs.Machine.{Moves, Answers, Goes, begins, does, waits, dies, commits, queues, drops, turns, undoes, ends, puts_later, puts, drops_first, drops_leaf, takes_later, takes_first, takes_leaf, takes_last, logs_page, tree_blocks, tree_halts, flushes, forces, checkpoints, lacks, breaks as breaks_it, Breaks, Wants, barred, barred_to, barred_to_rollback, barred_to_continue, first_check, mark_for, or_else, fault_if, keys_fit}
+use Rattle.im_base_lock.proofs.Runs.{reply_answers}
 use Rattle.im_theory_steps.specs.Checks.{marks_in}
-use Rattle.im_front.specs.declared.fault.Fault.{Fault}
-use Rattle.im_front.specs.declared.fault.Fault.TheVariants as faults
-use Rattle.im_front.specs.declared.reply.Reply.{Reply}
-use Rattle.im_front.specs.declared.reply.Reply.TheVariants.{Started, Committed, RolledBack, Refused}
-use Rattle.im_front.specs.declared.step.Step.{Step as Asked}
-use Rattle.im_front.specs.Calls.{asked_by, told_by, number_of}
+use Rattle.im_base_types.specs.declared.fault.Fault.{Fault}
+use Rattle.im_base_types.specs.declared.fault.Fault.TheVariants as faults
+use Rattle.im_base_steps.specs.declared.reply.Reply.{Reply}
+use Rattle.im_base_steps.specs.declared.reply.Reply.TheVariants.{Started, Committed, RolledBack, Refused}
+use Rattle.im_base_steps.specs.declared.step.Step.{Step as Asked}
+use Rattle.im_base_steps.specs.Calls.{asked_by, told_by}
+use Rattle.im_base_types.specs.Faults.{number_of}
 use Rattle.im_engine.specs.declared.engine.Engine.{Engine}
 use Rattle.im_engine.specs.Running.{IsLife}
 use Rattle.im_engine.specs.Kept.{StepKept}
@@ -38,7 +41,8 @@ use Rattle.im_engine.proofs.Telling.{alive_now, not_true}
 abbrev named_by : ℕ → Fault
 named_by n =
     if n == 1 then faults.NoTransaction else if n == 2 then faults.MustRollBack else if n == 3 then faults.KeyLength else if n == 4 then faults.RollingBack else if n == 5 then faults.PagesFull else if n == 6 then faults.Capacity
-    else if n == 7 then faults.LogFull else if n == 8 then faults.Device else if n == 9 then faults.Memory else if n == 10 then faults.Failed else if n == 11 then faults.NotAStore else if n == 12 then faults.TooMany else if n == 14 then faults.TraceFull else faults.Busy
+    else if n == 7 then faults.LogFull else if n == 8 then faults.Device else if n == 9 then faults.Memory else if n == 10 then faults.Failed else if n == 11 then faults.NotAStore else if n == 12 then faults.TooMany
+    else if n == 13 then faults.PoolSize else if n == 14 then faults.TraceFull else if n == 15 then faults.Busy else if n == 16 then faults.BadScript else if n == 17 then faults.Unfinished else if n == 18 then faults.Workers else faults.Locked
 
 is_named : (f : Fault) → named_by (number_of f) ≡ f
 is_named faults.NoTransaction = refl
@@ -53,8 +57,13 @@ is_named faults.Memory = refl
 is_named faults.Failed = refl
 is_named faults.NotAStore = refl
 is_named faults.TooMany = refl
+is_named faults.PoolSize = refl
 is_named faults.TraceFull = refl
 is_named faults.Busy = refl
+is_named faults.BadScript = refl
+is_named faults.Unfinished = refl
+is_named faults.Workers = refl
+is_named faults.Locked = refl
 
 -- different refusals have different numbers
 pub same_fault : (a b : Fault) → number_of a ≡ number_of b → a ≡ b
@@ -93,16 +102,25 @@ module _ (P : ℕ → Type 0) (n : ℕ) where
     by_continue RollingBack is = absurd (cc is)
     by_continue Committing is = let same : 1 ≡ n = cc is in subst P same one
 
-    -- a check of an engine that works gives one of five
-    pub by_check : P 3 → P 12 → (active : ℕ) (mark : Mark) (step : Step) → first_check false active mark step ≡ Some n → P n
-    by_check three twelve active mark Begin is = by_test _ 12 twelve is
-    by_check three twelve active mark (Do t a) is = by_or (barred_to mark) _ (by_mark mark) (by_test _ 3 three) is
-    by_check three twelve active mark (Commit t) is = by_mark mark is
-    by_check three twelve active mark (Rollback t) is = by_rollback mark is
-    by_check three twelve active mark (Continue t) is = by_continue mark is
-    by_check three twelve active mark (FlushPage p) is = absurd (cc is)
-    by_check three twelve active mark Force is = absurd (cc is)
-    by_check three twelve active mark Checkpoint is = absurd (cc is)
+    by_owned : (owns : Bool) → (owns ≡ true → P 17) → fault_if owns unfinished ≡ Some n → P n
+    by_owned true p is = let same : 17 ≡ n = cc is in subst P same (p refl)
+    by_owned false p is = absurd (cc is)
+
+    by_unowned : (owns : Bool) (m : Mark) → cond owns None (barred_to_continue m) ≡ Some n → P n
+    by_unowned true m is = absurd (cc is)
+    by_unowned false m is = by_continue m is
+
+    -- a check of an engine that works gives one of five, or of six where an access goes on
+    pub by_check : P 3 → P 12 → (owns : Bool) → (owns ≡ true → P 17) → (active : ℕ) (mark : Mark) (step : Step) → first_check false active mark owns step ≡ Some n → P n
+    by_check three twelve owns seventeen active mark Begin is = by_test _ 12 twelve is
+    by_check three twelve owns seventeen active mark (Do t a) is = by_or (barred_to mark) (or_else (fault_if owns unfinished) (fault_if (not (keys_fit a)) key_length)) (by_mark mark)
+        (by_or (fault_if owns unfinished) (fault_if (not (keys_fit a)) key_length) (by_owned owns seventeen) (by_test (not (keys_fit a)) 3 three)) is
+    by_check three twelve owns seventeen active mark (Commit t) is = by_or (barred_to mark) (fault_if owns unfinished) (by_mark mark) (by_owned owns seventeen) is
+    by_check three twelve owns seventeen active mark (Rollback t) is = by_or (barred_to_rollback mark) (fault_if owns unfinished) (by_rollback mark) (by_owned owns seventeen) is
+    by_check three twelve owns seventeen active mark (Continue t) is = by_unowned owns mark is
+    by_check three twelve owns seventeen active mark (FlushPage p) is = absurd (cc is)
+    by_check three twelve owns seventeen active mark Force is = absurd (cc is)
+    by_check three twelve owns seventeen active mark Checkpoint is = absurd (cc is)
 
 -- ---- the machine has no refusal for bytes that are no store's
 
@@ -137,11 +155,23 @@ goes_store v w step (begins a b is c) = cc is
 goes_store v w step (does t a ls x y z u is q) = let never : true ≡ false = sym (reply_answers a v.walk) ∙ ap answers.is_answer (sym is) in cc never
 goes_store v w step (waits t a h x y z is q) = cc is
 goes_store v w step (dies t a x y z is q) = cc is
-goes_store v w step (commits t x y is q) = cc is
+goes_store v w step (commits t x y some is q) = cc is
+goes_store v w step (queues t c cs x y some is q) = cc is
 goes_store v w step (drops t x y z is q) = cc is
 goes_store v w step (turns t c cs x y z is q) = cc is
 goes_store v w step (undoes t c e cs x y z is q) = cc is
 goes_store v w step (ends t c x y z is q) = cc is
+goes_store v w step (puts_later u k r ls b is none absent unheld same d e) = cc d
+goes_store v w step (puts u k r b is under d e) = cc d
+goes_store v w step (drops_first u k r ls b is none there unheld same d e) = cc d
+goes_store v w step (drops_leaf u k b is under d e) = cc d
+goes_store v w step (takes_later u c cs b is none net_is d e) = cc d
+goes_store v w step (takes_first u c cs b is none net_is d e) = cc d
+goes_store v w step (takes_leaf u c cs b is under net_is d e) = cc d
+goes_store v w step (takes_last u b is under empty d e) = cc d
+goes_store v w step (logs_page u x b under owner d e) = cc d
+goes_store v w step (tree_blocks u a x b under other d e) = cc d
+goes_store v w step (tree_halts u x b under other d e) = cc d
 goes_store v w step (flushes p x is q) = cc is
 goes_store v w step (forces x is q) = cc is
 goes_store v w step (checkpoints x is q) = cc is
@@ -155,8 +185,8 @@ moves_store v w step works m = by (barred v step) refl m
     by None is go = goes_store v w step go
     by (Some n) is go =
         let same : not_a_store ≡ n = ap number_in go.0 in
-        let checked : first_check false v.active (mark_for (λ t. (v.txns t).mark) step) step ≡ Some not_a_store = sym (ap (λ (b : Bool). first_check b v.active (mark_for (λ t. (v.txns t).mark) step) step) works) ∙ is ∙ ap (λ (k : ℕ). Some k) (sym same) in
-        by_check (λ (k : ℕ). k ≡ not_a_store → ⊥) not_a_store (λ e. cc e) (λ e. cc e) (λ e. cc e) (λ e. cc e) (λ e. cc e) v.active (mark_for (λ t. (v.txns t).mark) step) step checked refl
+        let checked : first_check false v.active (mark_for (λ t. (v.txns t).mark) step) (owns_in v.under step) step ≡ Some not_a_store = sym (ap (λ (b : Bool). first_check b v.active (mark_for (λ t. (v.txns t).mark) step) (owns_in v.under step) step) works) ∙ is ∙ ap (λ (k : ℕ). Some k) (sym same) in
+        by_check (λ (k : ℕ). k ≡ not_a_store → ⊥) not_a_store (λ e. cc e) (λ e. cc e) (λ e. cc e) (λ e. cc e) (λ e. cc e) (owns_in v.under step) (λ q e. cc e) v.active (mark_for (λ t. (v.txns t).mark) step) step checked refl
 
 -- ---- a step that was made
 
@@ -241,15 +271,15 @@ module _ {D : Type 0} (d : Ghosts D) (step : Asked) (e : Engine D d) (only_now :
   -- of an engine that has failed there is one
   fails_so : e.failed ≡ true → fault ≡ faults.Failed
   fails_so was =
-      let same : Some (number_of fault) ≡ Some has_failed = is ∙ ap (λ (b : Bool). first_check b (length e.txns.rows) (mark_for (marks_in e.txns.rows) (asked_by step)) (asked_by step)) was ∙ first_failed (length e.txns.rows) (mark_for (marks_in e.txns.rows) (asked_by step)) (asked_by step) in
+      let same : Some (number_of fault) ≡ Some has_failed = is ∙ ap (λ (b : Bool). first_check b (length e.txns.rows) (mark_for (marks_in e.txns.rows) (asked_by step)) false (asked_by step)) was ∙ first_failed (length e.txns.rows) (mark_for (marks_in e.txns.rows) (asked_by step)) false (asked_by step) in
       let number : number_of fault ≡ number_of faults.Failed = cc same in
       same_fault fault faults.Failed number
 
   -- and of one that works one of five
   works_so : (P : ℕ → Type 0) → P 1 → P 2 → P 3 → P 4 → P 12 → e.failed ≡ false → P (number_of fault)
   works_so P one two three four twelve works =
-      by_check P (number_of fault) one two four three twelve (length e.txns.rows) (mark_for (marks_in e.txns.rows) (asked_by step)) (asked_by step)
-      (sym (is ∙ ap (λ (b : Bool). first_check b (length e.txns.rows) (mark_for (marks_in e.txns.rows) (asked_by step)) (asked_by step)) works))
+      by_check P (number_of fault) one two four three twelve false (λ q. absurd (let never : false ≡ true = q in cc never)) (length e.txns.rows) (mark_for (marks_in e.txns.rows) (asked_by step)) (asked_by step)
+      (sym (is ∙ ap (λ (b : Bool). first_check b (length e.txns.rows) (mark_for (marks_in e.txns.rows) (asked_by step)) false (asked_by step)) works))
 
   stays_so : e.failed ≡ (e.failed || breaks (number_of fault))
   stays_so = by e.failed refl
@@ -266,25 +296,27 @@ module _ {D : Type 0} (d : Ghosts D) (step : Asked) (e : Engine D d) (only_now :
   memory_none : e.failed ≡ false → Refused fault ≡ Refused faults.Memory → ⊥
   memory_none works so = works_so (λ (n : ℕ). n ≡ 9 → ⊥) (λ e. cc e) (λ e. cc e) (λ e. cc e) (λ e. cc e) (λ e. cc e) works (ap number_of (refused_inj fault faults.Memory so))
 
-  wants_none : e.failed ≡ false → (pages : Pages) (map : IndexMap) (max : ℕ) (s : Step) → WantsOf pages map max s (Refused fault)
-  wants_none works pages map max (Do t (answers.Insert key rid)) = record {
+  wants_none : e.failed ≡ false → (pages : Pages) (map : IndexMap) (nets : ℕ → Effect) (locks : ℕ → List Lock) (max : ℕ) (s : Step) → WantsOf pages map nets locks max s (Refused fault)
+  wants_none works pages map nets locks max (Do t (answers.Insert key rid)) = record {
     made = λ so. absurd (cc so);
+    limited = λ not. absurd (not fault refl);
     full = λ so. absurd (asks_none works (wants_pages so));
     used_up = λ so. absurd (asks_none works (wants_numbers so));
+    granted = λ so. absurd (⊎_elim (λ numbers. asks_none works (wants_numbers numbers)) (λ memory. asks_none works (wants_memory memory)) so);
     absent = λ asks. absurd (asks_none works asks);
   }
-  wants_none works pages map max (Do t (answers.Delete key)) = λ so. absurd (asks_none works (wants_memory so))
-  wants_none works pages map max (Do t (answers.Fetch k)) = tt
-  wants_none works pages map max (Do t (answers.Seek k)) = tt
-  wants_none works pages map max (Do t (answers.Next k)) = tt
-  wants_none works pages map max (Do t (answers.Scan lo hi l)) = tt
-  wants_none works pages map max Begin = tt
-  wants_none works pages map max (Commit t) = tt
-  wants_none works pages map max (Rollback t) = tt
-  wants_none works pages map max (Continue t) = record { short = λ so. absurd (memory_none works so); used_up = λ so. absurd (asks_none works (wants_numbers so)) }
-  wants_none works pages map max (FlushPage p) = tt
-  wants_none works pages map max Force = tt
-  wants_none works pages map max Checkpoint = tt
+  wants_none works pages map nets locks max (Do t (answers.Delete key)) = λ so. absurd (asks_none works (wants_memory so))
+  wants_none works pages map nets locks max (Do t (answers.Fetch k)) = tt
+  wants_none works pages map nets locks max (Do t (answers.Seek k)) = tt
+  wants_none works pages map nets locks max (Do t (answers.Next k)) = tt
+  wants_none works pages map nets locks max (Do t (answers.Scan lo hi l)) = tt
+  wants_none works pages map nets locks max Begin = tt
+  wants_none works pages map nets locks max (Commit t) = tt
+  wants_none works pages map nets locks max (Rollback t) = tt
+  wants_none works pages map nets locks max (Continue t) = record { short = λ so. absurd (memory_none works so); used_up = λ so. absurd (asks_none works (wants_numbers so)) }
+  wants_none works pages map nets locks max (FlushPage p) = tt
+  wants_none works pages map nets locks max Force = tt
+  wants_none works pages map nets locks max Checkpoint = tt
 
   -- a refusal by a check costs nothing
   costs_none : (step : Step) → StepCosts d step (Refused fault) e e
@@ -303,6 +335,7 @@ module _ {D : Type 0} (d : Ghosts D) (step : Asked) (e : Engine D d) (only_now :
     number = tt;
     failed = λ was. ap (λ (f : Fault). Refused f) (fails_so was);
     same = λ _. refl;
+    mild = λ _. (refl, λ u. refl);
     device = λ works lost. absurd (not_true (d.failed e.disk) (alive_now d e works) lost);
   }
 
@@ -315,7 +348,7 @@ module _ {D : Type 0} (d : Ghosts D) (step : Asked) (e : Engine D d) (only_now :
     answered = λ other. subst (λ (o : Option ℕ). (Refused fault ≡ Refused other) ↔ Checked o other (Refuses d (Refused fault) e e.writer.log e.disk other (asked_by step))) is
         (λ so. ap number_of (sym (refused_inj fault other so)), λ so. ap (λ (f : Fault). Refused f) (same_fault fault other (sym so)));
     suits = tt;
-    wants = λ works b before s v r. wants_none works _ _ _ (asked_by step);
+    wants = λ works b before s v r. wants_none works _ _ (λ t. (v.txns t).net) (locks_of e.locks) _ (asked_by step);
     quiet = λ _. refl;
     costs = costs_none (asked_by step);
     works = told_works d (Refused fault) e e told_so;

@@ -1,5 +1,5 @@
 -- What a reply alone says of the engine, from how the calls within the step ended.
-use Rattle.std.proofs.Common.{◌≡◌, ◌≢◌, ℕ, ◌+◌, Bool, true, false, List, [], ◌∷◌, ◌++◌, length, length-append, Option, None, Some, refl, sym, ap, subst, ◌∙◌, arith}
+use Rattle.std.proofs.Common.{◌≡◌, ◌≢◌, ◌⊎◌, inl, inr, ℕ, ◌+◌, Bool, true, false, List, [], ◌∷◌, ◌++◌, length, length-append, Option, None, Some, refl, sym, ap, subst, ◌∙◌, arith}
 use Rattle.std.specs.Prelude.{◌||◌, ◌-◌}
 use Rattle.im_base_types.specs.declared.fault.Fault.{Fault}
 use Rattle.im_base_types.specs.declared.fault.Fault.TheVariants.{PagesFull, Capacity, LogFull, Device, Memory, Failed, NotAStore}
@@ -7,12 +7,12 @@ use Rattle.im_base_types.specs.Lives.{breaks}
 use Rattle.im_base_disk.specs.declared.disk.Disk.{Ghosts}
 use Rattle.im_page_writer.specs.declared.page_writer.PageWriter.{PageWriter}
 use Rattle.im_page_writer.specs.Outcome.{AreLoaded, AsksNothing, Ends, LogEnds, mild, none_mild}
-use Rattle.im_engine_txn.specs.Rows.{begun}
-use Rattle.im_front.specs.declared.fault.Fault.{Fault as Refusal}
-use Rattle.im_front.specs.declared.fault.Fault.TheVariants as above
-use Rattle.im_front.specs.declared.reply.Reply.{Reply}
-use Rattle.im_front.specs.declared.reply.Reply.TheVariants.{Started, Committed, RolledBack, Refused}
-use Rattle.im_front.specs.Calls.{number_of}
+use Rattle.im_base_txn.specs.Rows.{begun}
+use Rattle.im_base_lock.specs.Table.{Table, SameTable}
+use Rattle.im_base_types.specs.declared.fault.Fault.TheVariants as faults
+use Rattle.im_base_steps.specs.declared.reply.Reply.{Reply}
+use Rattle.im_base_steps.specs.declared.reply.Reply.TheVariants.{Started, Committed, RolledBack, Refused}
+use Rattle.im_base_types.specs.Faults.{number_of}
 use Rattle.im_engine.specs.declared.engine.Engine.{Engine}
 use Rattle.im_engine.specs.Faults.{told_as, ends_engine}
 use Rattle.im_engine.specs.Numbered.{Numbered}
@@ -42,8 +42,8 @@ never_early NotAStore = refl
 never_early e = refl
 
 -- a failed disk breaks the engine
-pub ends_as : (f : Fault) → told_as f ≡ above.Device → true ≡ ends_engine f
-ends_as f is = sym (sym (ends_breaks f) ∙ ap (λ (e : Refusal). breaks (number_of e)) is)
+pub ends_as : (f : Fault) → told_as f ≡ faults.Device → true ≡ ends_engine f
+ends_as f is = sym (sym (ends_breaks f) ∙ ap (λ (e : Fault). breaks (number_of e)) is)
 
 pub still_false : (b : Bool) → (b ≡ true → ⊥) → b ≡ false
 still_false true not = absurd (not refl)
@@ -53,21 +53,21 @@ still_false false not = refl
 
 module _ {D : Type 0} (d : Ghosts D) (v : PageWriter) (old : D) (w : PageWriter) (new : D) (lost : d.failed new ≡ true) where
   -- by a search
-  pub read_lost : (f : Fault) → Ends d AreLoaded mild v old w new (Some f) → v.failed ≡ false → told_as f ≡ above.Device
+  pub read_lost : (f : Fault) → Ends d AreLoaded mild v old w new (Some f) → v.failed ≡ false → told_as f ≡ faults.Device
   read_lost Device x works = refl
   read_lost LogFull x works = absurd (not_true (d.failed new) x.1 lost)
   read_lost Failed x works = absurd (not_true v.failed works x.0)
   read_lost e x works = absurd (not_true (d.failed new) x.1.alive lost)
 
   -- by a call that writes a page
-  pub flush_lost : (f : Fault) → Ends d AsksNothing none_mild v old w new (Some f) → v.failed ≡ false → told_as f ≡ above.Device
+  pub flush_lost : (f : Fault) → Ends d AsksNothing none_mild v old w new (Some f) → v.failed ≡ false → told_as f ≡ faults.Device
   flush_lost Device x works = refl
   flush_lost LogFull x works = absurd (not_true (d.failed new) x.1 lost)
   flush_lost Failed x works = absurd (not_true v.failed works x.0)
   flush_lost e x works = absurd (not_true (d.failed new) x.1.alive lost)
 
   -- by one that logs
-  pub log_lost : (goes_on : Fault → Bool) (f : Fault) → LogEnds d false goes_on v old w new (Some f) → v.failed ≡ false → told_as f ≡ above.Device
+  pub log_lost : (goes_on : Fault → Bool) (f : Fault) → LogEnds d false goes_on v old w new (Some f) → v.failed ≡ false → told_as f ≡ faults.Device
   log_lost goes_on Device x works = refl
   log_lost goes_on LogFull x works = absurd (not_true (d.failed new) x.1 lost)
   log_lost goes_on Failed x works = absurd (not_true v.failed works x.0)
@@ -75,12 +75,55 @@ module _ {D : Type 0} (d : Ghosts D) (v : PageWriter) (old : D) (w : PageWriter)
   log_lost goes_on e x works = absurd (not_true (d.failed new) x.1.alive lost)
 
   -- by one that logs and may be refused late
-  pub late_lost : (goes_on : Fault → Bool) (f : Fault) → LogEnds d true goes_on v old w new (Some f) → told_as f ≡ above.Device
+  pub late_lost : (goes_on : Fault → Bool) (f : Fault) → LogEnds d true goes_on v old w new (Some f) → told_as f ≡ faults.Device
   late_lost goes_on Device x = refl
   late_lost goes_on LogFull x = absurd (not_true (d.failed new) x.1 lost)
   late_lost goes_on Failed x = absurd (not_true (d.failed new) x.alive lost)
   late_lost goes_on NotAStore x = absurd (not_true (d.failed new) x.alive lost)
   late_lost goes_on e x = absurd (not_true (d.failed new) x.1.alive lost)
+
+-- ---- a want of memory or of pages
+
+memory_below : (f : Fault) → told_as f ≡ faults.Memory → f ≡ Memory
+memory_below PagesFull is = absurd (cc is)
+memory_below Capacity is = absurd (cc is)
+memory_below LogFull is = absurd (cc is)
+memory_below Device is = absurd (cc is)
+memory_below Memory is = refl
+memory_below NotAStore is = absurd (cc is)
+memory_below e is = absurd (cc is)
+
+pages_below : (f : Fault) → told_as f ≡ faults.PagesFull → f ≡ PagesFull
+pages_below PagesFull is = refl
+pages_below Capacity is = absurd (cc is)
+pages_below LogFull is = absurd (cc is)
+pages_below Device is = absurd (cc is)
+pages_below Memory is = absurd (cc is)
+pages_below NotAStore is = absurd (cc is)
+pages_below e is = absurd (cc is)
+
+abbrev pub is_refused : Reply → Bool
+is_refused (Refused fault) = true
+is_refused _ = false
+
+-- a reply that is no refusal is neither
+pub not_mild : {A : Type 0} (reply : Reply) → is_refused reply ≡ false → (reply ≡ Refused faults.Memory) ⊎ (reply ≡ Refused faults.PagesFull) → A
+not_mild reply not (inl is) = absurd (not_true (is_refused reply) not (ap is_refused is))
+not_mild reply not (inr is) = absurd (not_true (is_refused reply) not (ap is_refused is))
+
+abbrev fault_in : Fault → Reply → Fault
+fault_in other (Refused fault) = fault
+fault_in other _ = other
+
+-- the fault below that is told so
+mild_below : (f : Fault) (told : Fault) → told ≡ told_as f → (Refused told ≡ Refused faults.Memory) ⊎ (Refused told ≡ Refused faults.PagesFull) → (f ≡ Memory) ⊎ (f ≡ PagesFull)
+mild_below f told is (inl same) = inl (memory_below f (sym is ∙ ap (fault_in told) same))
+mild_below f told is (inr same) = inr (pages_below f (sym is ∙ ap (fault_in told) same))
+
+-- a delete, which wants no page
+pub delete_table : {D : Type 0} (d : Ghosts D) (v : PageWriter) (old : D) (w : PageWriter) (new : D) (f : Fault) → LogEnds d true mild v old w new (Some f) → (held now : Table) → (f ≡ Memory → SameTable held now) → (f ≡ Memory) ⊎ (f ≡ PagesFull) → SameTable held now
+delete_table d v old w new f one held now table (inl is) = table is
+delete_table d v old w new f one held now table (inr is) = absurd (let moved : LogEnds d true mild v old w new (Some PagesFull) = subst (λ (x : Fault). LogEnds d true mild v old w new (Some x)) is one in let never = moved.0 in cc never)
 
 -- ---- the exits of a step
 
@@ -119,53 +162,58 @@ module _ {D : Type 0} (d : Ghosts D) (old new : Engine D d) (works : old.failed 
     number = is;
     failed = λ was. absurd (not_true old.failed works was);
     same = fresh (Started number) refl;
+    mild = not_mild (Started number) refl;
     device = λ was broken. absurd (not_true (d.failed old.disk) (alive_now d old works) (subst (λ (x : D). d.failed x ≡ true) disk broken));
   }
 
   module _ (next : new.txns.next ≡ old.txns.next) (fixed : fixed_of d new ≡ fixed_of d old) where
     -- it was answered, and what is known of the engine stays
-    pub told_answered : (reply : Reply) → ((k : Known) → after reply k ≡ k) → is_early reply ≡ false → HasNext reply old.txns.next → new.failed ≡ false → length new.txns.rows ≡ length old.txns.rows → d.failed new.disk ≡ false → IsTold d reply old new
-    told_answered reply stays late number works_on rows alive = record {
+    pub told_answered : (reply : Reply) → ((k : Known) → after reply k ≡ k) → is_early reply ≡ false → is_refused reply ≡ false → HasNext reply old.txns.next → new.failed ≡ false → length new.txns.rows ≡ length old.txns.rows → d.failed new.disk ≡ false → IsTold d reply old new
+    told_answered reply stays late no_refusal number works_on rows alive = record {
       known = (λ j. record { failed = (works_on ∙ sym works) j; active = rows j; next = next j; fixed = fixed j }) ∙ sym (stays (known_of d old));
       number = number;
       failed = λ was. absurd (not_true old.failed works was);
       same = fresh reply late;
+      mild = not_mild reply no_refusal;
       device = λ was broken. absurd (not_true (d.failed new.disk) alive broken);
     }
 
     -- a call below refused it
-    pub told_refused : (f : Fault) (told : Refusal) → told ≡ told_as f → new.failed ≡ ends_engine f → length new.txns.rows ≡ length old.txns.rows → (d.failed new.disk ≡ true → told_as f ≡ above.Device) → IsTold d (Refused told) old new
-    told_refused f told is fails rows lost = record {
+    pub told_refused : (f : Fault) (told : Fault) → told ≡ told_as f → new.failed ≡ ends_engine f → new.txns ≡ old.txns → ((f ≡ Memory) ⊎ (f ≡ PagesFull) → SameTable old.locks new.locks) → (d.failed new.disk ≡ true → told_as f ≡ faults.Device) → IsTold d (Refused told) old new
+    told_refused f told is fails table locks lost = record {
       known = λ j. record {
-        failed = (fails ∙ sym (ends_breaks f) ∙ ap (λ (e : Refusal). breaks (number_of e)) (sym is) ∙ sym (ap (λ (b : Bool). b || breaks (number_of told)) works)) j;
-        active = rows j;
+        failed = (fails ∙ sym (ends_breaks f) ∙ ap (λ (e : Fault). breaks (number_of e)) (sym is) ∙ sym (ap (λ (b : Bool). b || breaks (number_of told)) works)) j;
+        active = length (table j).rows;
         next = next j;
         fixed = fixed j;
       };
       number = tt;
       failed = λ was. absurd (not_true old.failed works was);
-      same = fresh (Refused told) (ap (λ (e : Refusal). is_early (Refused e)) is ∙ never_early f);
-      device = λ was broken. ap (λ (e : Refusal). Refused e) (is ∙ lost broken);
+      mild = λ is_mild. (table, locks (mild_below f told is is_mild));
+      same = fresh (Refused told) (ap (λ (e : Fault). is_early (Refused e)) is ∙ never_early f);
+      device = λ was broken. ap (λ (e : Fault). Refused e) (is ∙ lost broken);
     }
 
     -- its transaction has ended
     fewer : length old.txns.rows ≡ length new.txns.rows + 1 → length new.txns.rows ≡ length old.txns.rows - 1
     fewer once = let is : length new.txns.rows ≡ length old.txns.rows - 1 = omega (arith, once) in is
 
-    pub told_committed : length old.txns.rows ≡ length new.txns.rows + 1 → new.failed ≡ false → (d.failed new.disk ≡ true → Committed ≡ Refused above.Device) → IsTold d Committed old new
+    pub told_committed : length old.txns.rows ≡ length new.txns.rows + 1 → new.failed ≡ false → (d.failed new.disk ≡ true → Committed ≡ Refused faults.Device) → IsTold d Committed old new
     told_committed once works_on lost = record {
       known = λ j. record { failed = (works_on ∙ sym works) j; active = fewer once j; next = next j; fixed = fixed j };
       number = tt;
       failed = λ was. absurd (not_true old.failed works was);
       same = fresh Committed refl;
+      mild = not_mild Committed refl;
       device = λ was broken. lost broken;
     }
 
-    pub told_rolled_back : length old.txns.rows ≡ length new.txns.rows + 1 → new.failed ≡ false → (d.failed new.disk ≡ true → RolledBack ≡ Refused above.Device) → IsTold d RolledBack old new
+    pub told_rolled_back : length old.txns.rows ≡ length new.txns.rows + 1 → new.failed ≡ false → (d.failed new.disk ≡ true → RolledBack ≡ Refused faults.Device) → IsTold d RolledBack old new
     told_rolled_back once works_on lost = record {
       known = λ j. record { failed = (works_on ∙ sym works) j; active = fewer once j; next = next j; fixed = fixed j };
       number = tt;
       failed = λ was. absurd (not_true old.failed works was);
       same = fresh RolledBack refl;
+      mild = not_mild RolledBack refl;
       device = λ was broken. lost broken;
     }

@@ -6,13 +6,13 @@ use Rattle.im_base_types.specs.Answers as answers
 use Rattle.im_base_types.specs.Answers.{Mark, Idle, Going, MustRollBack, RollingBack, Committing}
 use Rattle.im_base_types.specs.Changes.{Effect}
 use Rattle.im_base_types.specs.Lives.{Asked, Shown, StandsForMore, asks, effect_asked, shows, shown_by}
-use Rattle.im_engine_lock.specs.View.{View}
-use Rattle.im_engine_lock.specs.Machine.{Run, Moves}
-use Rattle.im_engine_lock.proofs.Callers.{Run-push}
+use Rattle.im_base_lock.specs.View.{View}
+use Rattle.im_base_lock.specs.Machine.{Run, Moves}
+use Rattle.im_base_lock.proofs.Callers.{Run-push}
 use Rattle.im_theory_steps.proofs.Durable.{commits_stand}
-use Rattle.im_front.specs.Calls.{asked_by, told_by}
-use Rattle.im_front.specs.declared.step.Step.{Step}
-use Rattle.im_front.specs.declared.reply.Reply.{Reply}
+use Rattle.im_base_steps.specs.Calls.{asked_by, told_by}
+use Rattle.im_base_steps.specs.declared.step.Step.{Step}
+use Rattle.im_base_steps.specs.declared.reply.Reply.{Reply}
 use Rattle.im_base_disk.specs.declared.disk.Disk.{Ghosts}
 use Rattle.im_base_disk.specs.Disk.{Files}
 use Rattle.im_base_disk.specs.Runs.{LeavesOnly}
@@ -21,7 +21,8 @@ use Rattle.im_engine.specs.declared.engine.Engine.{Engine}
 use Rattle.im_engine.specs.Stands.{StandsFor, Allowed}
 use Rattle.im_engine.specs.Running.{IsLife}
 use Rattle.im_engine.specs.Told.{IsStep}
-use Rattle.im_engine.specs.Turns.{answered_by, LivesOn, AreSteps, IsCutOff}
+use Rattle.im_engine.specs.Promise.{answered_by}
+use Rattle.im_engine.specs.Turns.{LivesOn, AreSteps, IsCutOff}
 
 module _ {D : Type 0} (d : Ghosts D) where
   behind : (steps : List Step) (replies : List Reply) (step : Step) (reply : Reply) (old mid new : Engine D d) → length replies ≡ length steps

@@ -1,6 +1,7 @@
 -- Changes that are taken back, one at a time.
-use Rattle.std.proofs.Common.{◌≡◌, ◌≢◌, inl, inr, ℕ, ◌+◌, ◌≤◌, ◌<◌, ◌^◌, List, [], ◌∷◌, Bool, true, false, Option, Some, None, Result, Ok, Err, length, map, refl, sym, ap, subst, ◌∙◌, arith}
+use Rattle.std.proofs.Common.{◌≡◌, ◌≢◌, inl, inr, ℕ, ◌+◌, ◌≤◌, ◌<◌, ◌^◌, List, [], ◌∷◌, ◌++◌, Bool, true, false, Option, Some, None, Result, Ok, Err, length, map, refl, sym, ap, subst, ◌∙◌, arith}
 use Rattle.std.specs.Prelude.{find}
+use Rattle.im_base_types.specs.Keys.{Key}
 use Rattle.im_base_types.specs.Maps.{IndexMap}
 use Rattle.im_base_types.specs.Changes.{Change, Put, Drop, Effect, undone}
 use Rattle.im_base_types.specs.Records.{What, InsertKey, DeleteKey, UndoInsert, UndoDelete, Smo, UndoSmo, DummyClr, Commit, End, Image, Checkpoint, Unreadable, Logged}
@@ -11,7 +12,7 @@ use Rattle.im_theory_log.specs.Histories.{Base, History, IsFront}
 use Rattle.im_theory_log.specs.LogLaws as logs
 use Rattle.im_theory_log.specs.Structure.{settled}
 use Rattle.std.specs.FinMap.{get}
-use Rattle.im_theory_log.specs.Transactions.{change_of, committed, contents, contents_after, net, is_end, is_finished, is_key, last_of, undo_next_of, to_undo}
+use Rattle.im_theory_log.specs.Transactions.{change_of, changes_of, committed, contents, contents_after, net, is_end, is_finished, is_key, last_of, undo_next_of, to_undo}
 use Rattle.im_base_types.specs.Lives.{Shown, shows}
 use Rattle.im_theory_log.specs.Writer.{Writer}
 use Rattle.im_base_disk.specs.declared.disk.Disk.{Ghosts}
@@ -19,7 +20,7 @@ use Rattle.im_base_disk.specs.Disk.{Files}
 use Rattle.im_base_disk.specs.Runs.{LeavesOnly}
 use Rattle.im_base_disk.proofs.Runs.{weakened}
 use Rattle.im_log_record.specs.Entry as entries
-use Rattle.im_log_record.specs.Entry.{prev_of}
+use Rattle.im_log_record.specs.Entry.{Entry, prev_of}
 use Rattle.im_log.specs.Whats.{what_of}
 use Rattle.im_log.specs.Spelled.{logged_at}
 use Rattle.im_log.specs.declared.log_file.LogFile.{LogFile}
@@ -36,25 +37,24 @@ use Rattle.im_restart_analysis.specs.Undo.{IsUndoable}
 use Rattle.im_restart_analysis.specs.Losers.{row_of}
 use Rattle.im_restart_analysis.specs.declared.rows.Loser.{Loser}
 use Rattle.im_restart_undo.specs.Records.{IsOfUndo, GrowsByUndo, inverse_of}
-use Rattle.im_restart_undo.specs.Undoing.{IsGoing, LeavesUndo, LeftByUndo, ShowsChange, UsesUp, WantsRoom}
+use Rattle.im_restart_undo.specs.Undoing.{IsGoing, IsToUndo, LeavesUndo, LeftByUndo, ShowsChange, UsesUp, WantsRoom}
 use Rattle.im_restart_undo.proofs.Shown.{get_is, shows_change}
 use Rattle.im_engine_rollback.specs.Ends.{TurnEnds, may_turn}
 use Rattle.im_engine_rollback.specs.declared.undone.Undone.{Undone}
 use Rattle.im_engine_rollback.specs.declared.undone.Undone.TheVariants as turns
 use Rattle.im_engine_rollback.specs.Turns.{Took, HasMore, HasEndedNow, LacksWayBack, Turned, LacksRoomBack}
-use Rattle.im_engine_txn.specs.Rows.{is_of, changed, with_record}
-use Rattle.im_engine_txn.specs.LookUps.{without}
-use Rattle.im_engine_txn.specs.declared.transaction.Mark.{Mark}
-use Rattle.im_engine_txn.specs.declared.transaction.Mark.TheVariants as marks
-use Rattle.im_engine_txn.specs.declared.transaction.Transaction.{Transaction}
-use Rattle.im_front.specs.declared.fault.Fault.{Fault as Refusal}
-use Rattle.im_front.specs.declared.fault.Fault.TheVariants as above
-use Rattle.im_front.specs.declared.reply.Reply.{Reply}
-use Rattle.im_front.specs.declared.reply.Reply.TheVariants as replies
-use Rattle.im_front.specs.Calls.{number_of}
-use Rattle.im_engine_lock.specs.Table.{Table, IsReleased, locks_of}
-use Rattle.im_engine_lock.specs.View.{View, undid_more, undid_last}
-use Rattle.im_engine_lock.specs.Machine.{barred, barred_to_continue}
+use Rattle.im_base_txn.specs.Rows.{is_of, changed, with_record}
+use Rattle.im_base_txn.specs.LookUps.{without}
+use Rattle.im_base_txn.specs.declared.transaction.Mark.{Mark}
+use Rattle.im_base_txn.specs.declared.transaction.Mark.TheVariants as marks
+use Rattle.im_base_txn.specs.declared.transaction.Transaction.{Transaction}
+use Rattle.im_base_types.specs.declared.fault.Fault.TheVariants as faults
+use Rattle.im_base_steps.specs.declared.reply.Reply.{Reply}
+use Rattle.im_base_steps.specs.declared.reply.Reply.TheVariants as replies
+use Rattle.im_base_types.specs.Faults.{number_of}
+use Rattle.im_base_lock.specs.Table.{Table, IsReleased, locks_of}
+use Rattle.im_base_lock.specs.View.{View, owner_in, is_among, of_others, undid_more, undid_last}
+use Rattle.im_base_lock.specs.Machine.{barred, barred_to_continue}
 use Rattle.im_theory_steps.specs.Checks.{checked_by, mark_at}
 use Rattle.im_theory_steps.specs.Growth.{AreBelow, AreWithin, GrowsWithin, IsWithin}
 use Rattle.im_theory_steps.specs.Undone.{UndoesNewest}
@@ -62,8 +62,7 @@ use Rattle.im_theory_steps.specs.Serving.{IsRow, IsServing, mark_of}
 use Rattle.im_theory_steps.specs.Durable.{AreCommitted}
 use Rattle.im_theory_steps.proofs.Growth.{numbers_stay_new, within_leaves_others}
 use Rattle.im_theory_steps.proofs.Durable.{commits_stand}
-use Rattle.im_theory_steps.proofs.Lived.{rows_tell}
-use Rattle.im_theory_steps.proofs.Steps.{at}
+use Rattle.im_theory_steps.proofs.Steps.{at, mark_free}
 use Rattle.im_theory_steps.proofs.Undone.{ends_leave_nothing, last_undone_served, rolling_has_more, undo_takes_back, undone_served}
 use Rattle.im_engine.specs.declared.engine.Engine.{Engine}
 use Rattle.im_engine.specs.Faults.{told_as, ends_engine}
@@ -71,8 +70,8 @@ use Rattle.im_engine.specs.Numbered.{Numbered}
 use Rattle.im_engine.specs.Stands.{Allowed}
 use Rattle.im_engine.specs.Running.{IsRunning, IsLife}
 use Rattle.im_engine.specs.Kept.{StepKept}
-use Rattle.im_engine.specs.Told.{LacksRoom, LacksWay, TurnCause}
-use Rattle.im_engine.proofs.Running.{bodies_are, left_on}
+use Rattle.im_engine.specs.Told.{LacksRoom, TurnCause}
+use Rattle.im_engine.proofs.Running.{not_owner, checks_tell, bodies_are, left_on}
 use Rattle.im_engine.proofs.Made.{step_made}
 use Rattle.im_engine.proofs.Refused.{breaks_with, lacks_with}
 use Rattle.im_engine.proofs.Telling.{not_true}
@@ -86,10 +85,10 @@ back_by marks.Going row is none = absurd (let never = sym (ap (λ (x : Mark). ba
 back_by marks.MustRollBack row is none = absurd (let never = sym (ap (λ (x : Mark). barred_to_continue (mark_at (Some (record row { mark = x })))) is) ∙ none in cc never)
 back_by marks.Committing row is none = absurd (let never = sym (ap (λ (x : Mark). barred_to_continue (mark_at (Some (record row { mark = x })))) is) ∙ none in cc never)
 
-pub continue_mark : (rows : List Transaction) (t : ℕ) (row : Transaction) → find (is_of t) rows ≡ Some row → checked_by rows (Continue t) ≡ None → row.mark ≡ marks.RollingBack
+pub continue_mark : (rows : List Transaction) (t : ℕ) (row : Transaction) → find (is_of t) rows ≡ Some row → checked_by rows false (Continue t) ≡ None → row.mark ≡ marks.RollingBack
 continue_mark rows t row found is = back_by row.mark row refl (sym (ap (λ (o : Option Transaction). barred_to_continue (mark_at o)) found) ∙ is)
 
-pub continue_found : (rows : List Transaction) (t : ℕ) → find (is_of t) rows ≡ None → checked_by rows (Continue t) ≡ None → ⊥
+pub continue_found : (rows : List Transaction) (t : ℕ) → find (is_of t) rows ≡ None → checked_by rows false (Continue t) ≡ None → ⊥
 continue_found rows t none is = let never = sym (ap (λ (o : Option Transaction). barred_to_continue (mark_at o)) none) ∙ is in cc never
 
 -- ---- what an undo adds to a log, in the words of steps
@@ -157,12 +156,12 @@ module _ {D : Type 0} (d : Ghosts D) (b : Base) (base : ℕ) (s : Writer) (e t l
 -- ---- a step
 
 module _ {D : Type 0} (d : Ghosts D) {b : Base} (before : List Effect) (s : Shown) (v : View) (t : ℕ) (row : Transaction) (old : Engine D d) (r : IsRunning d b before s v old)
-    (found : find (is_of t) old.txns.rows ≡ Some row) (checked : checked_by old.txns.rows (Continue t) ≡ None) where
+    (found : find (is_of t) old.txns.rows ≡ Some row) (checked : checked_by old.txns.rows false (Continue t) ≡ None) where
   mark : row.mark ≡ marks.RollingBack
   mark = continue_mark old.txns.rows t row found checked
 
-  its : (row.number ≡ t) × IsRow row old.txns.next r.now.log × ((v.txns t).mark ≡ mark_of row.mark)
-  its = at b r.earlier before s v r.now.log old.txns.rows old.txns.next old.locks r.serving t row found
+  its : (row.number ≡ t) × IsRow row old.txns.next r.now.log (owner_in v) × ((v.txns t).mark ≡ mark_of row.mark)
+  its = at b r.earlier before s v r.now.log old.txns.rows old.txns.next old.locks r.serving t row found (mark_free row.mark marks.RollingBack mark (λ x. cc x))
 
   -- how the transaction stands in front of it
   pub stands_going : IsGoing d b r.base r.now r.redo_end t row.last row.undo_next old.writer old.disk
@@ -178,61 +177,70 @@ module _ {D : Type 0} (d : Ghosts D) {b : Base} (before : List Effect) (s : Show
   }
 
   pub has_more_to_undo : to_undo t r.now.log ≢ []
-  has_more_to_undo = rolling_has_more b r.earlier before s v r.now.log old.txns.rows old.txns.next old.locks t row r.serving found mark
+  has_more_to_undo = rolling_has_more b r.earlier before s v r.now.log old.txns.rows old.txns.next old.locks t row r.serving found mark (not_owner d before s v old r t)
 
   -- numbers from the next one on stay new
   below_next : t < old.txns.next
   below_next = subst (λ (n : ℕ). n < old.txns.next) its.0 its.1.below
 
-  -- a key that comes back finds its leaf without room
-  pub lacks_room : LacksRoomBack d b r.base r.now t → LacksRoom (settled b r.now.log) v.walk
-  lacks_room is = by (what_of is.entry) (shows_change b r.now.log can t (logged_at is.next.lsn is.entry) is.next.next) is.lacks
-    where
-      can : IsUndoable b page_tree r.now.log
-      can = record { lawful = r.lawful; closed = r.closed }
+  -- what the machine has of it
+  net_now : (v.txns t).net ≡ net t r.now.log
+  net_now = r.serving.seen_by.nets t (ap (λ (queue : List ℕ). is_among t queue) r.alone)
 
-      by : (w : What) → ShowsChange (logs.bodies b r.now.log) w → WantsRoom (bodies r.now) w → LacksRoom (settled b r.now.log) v.walk
-      by (DeleteKey k i) shows wants =
-          let lacks = subst (λ (pages : Pages). LacksRoomFor pages k) (bodies_are d before s v old r) wants in
-          record { key = k; absent = ap (λ (m : IndexMap). get m k) r.serving.seen_by.walk ∙ get_is b r.now.log can k ∙ shows; lacks = lacks }
-      by (InsertKey k i) shows wants = absurd wants
-      by (UndoInsert k i) shows wants = absurd wants
-      by (UndoDelete k i) shows wants = absurd wants
-      by (Smo was now) shows wants = absurd wants
-      by (UndoSmo now) shows wants = absurd wants
-      by DummyClr shows wants = absurd wants
-      by Commit shows wants = absurd wants
-      by End shows wants = absurd wants
-      by (Image c) shows wants = absurd wants
-      by (Checkpoint n a dirty) shows wants = absurd wants
-      by Unreadable shows wants = absurd wants
+  -- the key of the record that is to undo next comes back, and finds its leaf without room
+  abbrev comes_back : (entry : Entry) (next : IsToUndo d b r.base r.now t entry) (k : Key) (i : ℕ) → what_of entry ≡ DeleteKey k i → LacksRoomFor (bodies r.now) k → LacksRoom (settled b r.now.log) v.walk ((v.txns t).net)
+  comes_back entry next k i is lacks =
+      let can : IsUndoable b page_tree r.now.log = record { lawful = r.lawful; closed = r.closed } in
+      let shows = subst (λ (w : What). ShowsChange (logs.bodies b r.now.log) w) is (shows_change b r.now.log can t (logged_at next.lsn entry) next.next) in
+      record {
+        key = k;
+        rid = i;
+        older = changes_of next.next.rest;
+        newest = net_now ∙ ap changes_of next.next.stack ∙ ap (λ (w : What). change_of w ++ changes_of next.next.rest) is;
+        absent = ap (λ (m : IndexMap). get m k) r.serving.seen_by.walk ∙ get_is b r.now.log can k ∙ shows;
+        lacks = subst (λ (pages : Pages). LacksRoomFor pages k) (bodies_are d before s v old r) lacks;
+      }
+
+  -- a key that comes back finds its leaf without room
+  pub lacks_room : LacksRoomBack d b r.base r.now t → LacksRoom (settled b r.now.log) v.walk ((v.txns t).net)
+  lacks_room is = by (what_of is.entry) refl is.lacks
+    where
+      by : (w : What) → what_of is.entry ≡ w → WantsRoom (bodies r.now) w → LacksRoom (settled b r.now.log) v.walk ((v.txns t).net)
+      by (DeleteKey k i) same wants = comes_back is.entry is.next k i same wants
+      by (InsertKey k i) same wants = absurd wants
+      by (UndoInsert k i) same wants = absurd wants
+      by (UndoDelete k i) same wants = absurd wants
+      by (Smo was now) same wants = absurd wants
+      by (UndoSmo now) same wants = absurd wants
+      by DummyClr same wants = absurd wants
+      by Commit same wants = absurd wants
+      by End same wants = absurd wants
+      by (Image c) same wants = absurd wants
+      by (Checkpoint n a dirty) same wants = absurd wants
+      by Unreadable same wants = absurd wants
 
   -- and its split is not to be had
-  pub lacks_way : LacksWayBack d b r.base r.now t → LacksWay (settled b r.now.log) v.walk
-  lacks_way is = by (what_of is.entry) (shows_change b r.now.log can t (logged_at is.next.lsn is.entry) is.next.next) is.used_up
+  pub lacks_way : LacksWayBack d b r.base r.now t → (wants : LacksRoom (settled b r.now.log) v.walk ((v.txns t).net)) × IsUsedUp (settled b r.now.log) wants.key
+  lacks_way is = by (what_of is.entry) refl is.used_up
     where
-      can : IsUndoable b page_tree r.now.log
-      can = record { lawful = r.lawful; closed = r.closed }
-
-      by : (w : What) → ShowsChange (logs.bodies b r.now.log) w → UsesUp (bodies r.now) w → LacksWay (settled b r.now.log) v.walk
-      by (DeleteKey k i) shows full =
-          let lacks = subst (λ (pages : Pages). LacksRoomFor pages k) (bodies_are d before s v old r) full.lacks in
-          let used_up = subst (λ (pages : Pages). IsUsedUp pages k) (bodies_are d before s v old r) full.used_up in
-          record { key = k; absent = ap (λ (m : IndexMap). get m k) r.serving.seen_by.walk ∙ get_is b r.now.log can k ∙ shows; lacks = lacks; used_up = used_up }
-      by (InsertKey k i) shows full = absurd full
-      by (UndoInsert k i) shows full = absurd full
-      by (UndoDelete k i) shows full = absurd full
-      by (Smo was now) shows full = absurd full
-      by (UndoSmo now) shows full = absurd full
-      by DummyClr shows full = absurd full
-      by Commit shows full = absurd full
-      by End shows full = absurd full
-      by (Image c) shows full = absurd full
-      by (Checkpoint n a dirty) shows full = absurd full
-      by Unreadable shows full = absurd full
+      by : (w : What) → what_of is.entry ≡ w → UsesUp (bodies r.now) w → (wants : LacksRoom (settled b r.now.log) v.walk ((v.txns t).net)) × IsUsedUp (settled b r.now.log) wants.key
+      by (DeleteKey k i) same full =
+          let used_up : IsUsedUp (settled b r.now.log) k = subst (λ (pages : Pages). IsUsedUp pages k) (bodies_are d before s v old r) full.used_up in
+          (comes_back is.entry is.next k i same full.lacks, used_up)
+      by (InsertKey k i) same full = absurd full
+      by (UndoInsert k i) same full = absurd full
+      by (UndoDelete k i) same full = absurd full
+      by (Smo was now) same full = absurd full
+      by (UndoSmo now) same full = absurd full
+      by DummyClr same full = absurd full
+      by Commit same full = absurd full
+      by End same full = absurd full
+      by (Image c) same full = absurd full
+      by (Checkpoint n a dirty) same full = absurd full
+      by Unreadable same full = absurd full
 
 module _ {D : Type 0} (d : Ghosts D) (before : List Effect) (s : Shown) (v : View) (t : ℕ) (row : Transaction) (old new : Engine D d) (life : IsLife d before s v old) (works : old.failed ≡ false)
-    (found : find (is_of t) old.txns.rows ≡ Some row) (checked : checked_by old.txns.rows (Continue t) ≡ None) where
+    (found : find (is_of t) old.txns.rows ≡ Some row) (checked : checked_by old.txns.rows false (Continue t) ≡ None) where
   abbrev run : (b : Base) × IsRunning d b before s v old
   run = life.running works
 
@@ -267,6 +275,7 @@ module _ {D : Type 0} (d : Ghosts D) (before : List Effect) (s : Shown) (v : Vie
         let running : IsRunning d b before s w new = record {
           base = r.base;
           start = r.start;
+          counted = r.counted;
           earlier = r.earlier;
           now = now;
           stands = going.stands;
@@ -280,6 +289,8 @@ module _ {D : Type 0} (d : Ghosts D) (before : List Effect) (s : Shown) (v : Vie
               (record { from = took.taken.goes.durable; upto = going.stands.writing.stands.kept.front });
           numbered = subst (λ (n : ℕ). n ≤ 2 ^ 62 → AreBelow n now.log) (sym (ap (λ (x : Numbered). x.next) table))
               (λ le. numbers_stay_new.within old.txns.next t r.now.log now.log below (r.numbered le) undoes.grows);
+          alone = r.alone;
+          unowned = ap (of_others t) r.unowned;
         } in
         step_made d before s v (Continue t) More old new w served.0 running works_on (undo_stops stops) tt
 
@@ -305,6 +316,7 @@ module _ {D : Type 0} (d : Ghosts D) (before : List Effect) (s : Shown) (v : Vie
         let running : IsRunning d b before shown w new = record {
           base = r.base;
           start = r.start;
+          counted = r.counted;
           earlier = r.earlier;
           now = now;
           stands = is.end.stands;
@@ -319,18 +331,20 @@ module _ {D : Type 0} (d : Ghosts D) (before : List Effect) (s : Shown) (v : Vie
               (record { from = front_then r.now.durable took.taken.now.durable now.durable took.taken.goes.durable is.end.durable; upto = is.end.stands.writing.stands.kept.front });
           numbered = subst (λ (n : ℕ). n ≤ 2 ^ 62 → AreBelow n now.log) (sym (ap (λ (x : Numbered). x.next) table))
               (λ le. subst (λ (l : History). AreBelow old.txns.next l) (sym is.end.log) (below, numbers_stay_new.within old.txns.next t r.now.log between below (r.numbered le) undoes.grows));
+          alone = r.alone;
+          unowned = ap (of_others t) r.unowned;
         } in
         step_made d before s v (Continue t) RolledBack old new w served.0 running works_on (undo_stops stops) tt
 
   -- it is refused: for want of memory all is as it was, and any other refusal breaks the engine
   pub turn_refused : (f : Fault) → TurnEnds d may_turn old.writer new.writer new.disk (Some f) → f ≢ NotAStore → (f ≡ Memory → Evicted d run.0 run.1.base run.1.now old.disk new.writer new.disk)
-      → LeavesUndo d run.0 run.1.base run.1.now t old.disk new.disk → new.failed ≡ ends_engine f → new.txns ≡ old.txns → new.locks ≡ old.locks → (told : Refusal) → told ≡ told_as f
+      → LeavesUndo d run.0 run.1.base run.1.now t old.disk new.disk → new.failed ≡ ends_engine f → new.txns ≡ old.txns → new.locks ≡ old.locks → (told : Fault) → told ≡ told_as f
       → ((u : ℕ) (c : Files) → u ≤ d.moment new.disk → d.may_leave new.disk c → d.left_since new.disk u c) → StepKept d before s v (Continue t) (Refused (number_of told)) old new
   turn_refused f one sound again stops fails table locks told is counts_now =
-      subst (λ (y : Refusal). StepKept d before s v (Continue t) (Refused (number_of y)) old new) (sym is) (by f one sound again fails)
+      subst (λ (y : Fault). StepKept d before s v (Continue t) (Refused (number_of y)) old new) (sym is) (by f one sound again fails)
     where
       let_pass : barred v (Continue t) ≡ None
-      let_pass = rows_tell run.0 run.1.earlier before s v run.1.now.log old.txns.rows old.txns.next old.locks (Continue t) run.1.serving ∙ checked
+      let_pass = checks_tell d before s v old run.1 (Continue t) ∙ checked
 
       by : (g : Fault) → TurnEnds d may_turn old.writer new.writer new.disk (Some g) → g ≢ NotAStore → (g ≡ Memory → Evicted d run.0 run.1.base run.1.now old.disk new.writer new.disk) → new.failed ≡ ends_engine g
           → StepKept d before s v (Continue t) (Refused (number_of (told_as g))) old new
@@ -354,7 +368,7 @@ module _ {D : Type 0} (d : Ghosts D) (v w : PageWriter) (new : D) where
   turn_cause e x = tt
 
   -- a disk that failed is told
-  pub turn_lost : d.failed new ≡ true → (f : Fault) → TurnEnds d may_turn v w new (Some f) → told_as f ≡ above.Device
+  pub turn_lost : d.failed new ≡ true → (f : Fault) → TurnEnds d may_turn v w new (Some f) → told_as f ≡ faults.Device
   turn_lost lost Device x = refl
   turn_lost lost LogFull x = absurd (not_true (d.failed new) x.2 lost)
   turn_lost lost NotAStore x = absurd (not_true (d.failed new) x.1 lost)
@@ -362,16 +376,16 @@ module _ {D : Type 0} (d : Ghosts D) (v w : PageWriter) (new : D) where
 
 -- ---- what a Continue says of its cause
 
-module _ {D : Type 0} (d : Ghosts D) (old : Engine D d) (works : old.failed ≡ false) (t : ℕ) (checked : checked_by old.txns.rows (Continue t) ≡ None) where
-  pub continue_made : (log : LogFile) (disk : D) (reply : Reply) → ((x : Refusal) → reply ≢ replies.Refused x) → Answers d old log disk (Continue t) reply
+module _ {D : Type 0} (d : Ghosts D) (old : Engine D d) (works : old.failed ≡ false) (t : ℕ) (checked : checked_by old.txns.rows false (Continue t) ≡ None) where
+  pub continue_made : (log : LogFile) (disk : D) (reply : Reply) → ((x : Fault) → reply ≢ replies.Refused x) → Answers d old log disk (Continue t) reply
   continue_made log disk reply not = behind d old log disk works (Continue t) reply checked (λ fault. not_refused_for d old log disk works (TurnCause d log disk) reply not fault)
 
-  pub continue_refused : (w : PageWriter) (disk : D) (f : Fault) (told : Refusal) → told ≡ told_as f → TurnEnds d may_turn old.writer w disk (Some f) → Answers d old w.log disk (Continue t) (replies.Refused told)
+  pub continue_refused : (w : PageWriter) (disk : D) (f : Fault) (told : Fault) → told ≡ told_as f → TurnEnds d may_turn old.writer w disk (Some f) → Answers d old w.log disk (Continue t) (replies.Refused told)
   continue_refused w disk f told is x =
       behind d old w.log disk works (Continue t) (replies.Refused told) checked (λ fault. refused_for d old w.log disk works (TurnCause d w.log disk) f told is (turn_cause d old.writer w disk f x) fault)
 
 -- a refusal that is told so was one
-pub told_memory : (f : Fault) → told_as f ≡ above.Memory → f ≡ Memory
+pub told_memory : (f : Fault) → told_as f ≡ faults.Memory → f ≡ Memory
 told_memory Capacity is = absurd (cc is)
 told_memory PagesFull is = absurd (cc is)
 told_memory LogFull is = absurd (cc is)
@@ -380,7 +394,7 @@ told_memory Memory is = refl
 told_memory NotAStore is = absurd (cc is)
 told_memory e is = absurd (cc is)
 
-pub told_capacity : (f : Fault) → told_as f ≡ above.Capacity → f ≡ Capacity
+pub told_capacity : (f : Fault) → told_as f ≡ faults.Capacity → f ≡ Capacity
 told_capacity Capacity is = refl
 told_capacity PagesFull is = absurd (cc is)
 told_capacity LogFull is = absurd (cc is)

@@ -2,8 +2,8 @@
 use Rattle.std.specs.Prelude.{◌≡◌, ◌≤◌, ◌+◌, ℕ}
 use Rattle.im_base_disk.specs.declared.disk.Disk.{Ghosts}
 use Rattle.im_base_disk.specs.Runs.{Costs, CostsAtMost, Forces}
-use Rattle.im_front.specs.declared.reply.Reply.{Reply}
-use Rattle.im_front.specs.declared.reply.Reply.TheVariants.{Committed, Done}
+use Rattle.im_base_steps.specs.declared.reply.Reply.{Reply}
+use Rattle.im_base_steps.specs.declared.reply.Reply.TheVariants.{Committed, Done}
 
 module _ {D : Type 0} (d : Ghosts D) where
   -- A Commit, over a log in whose buffer so many bytes wait: at most two forces, and just one where its record, of 33 bytes, fits into the buffer; however it ends, at most four writes and four syncs.

@@ -15,21 +15,20 @@ use Rattle.im_base_disk.specs.declared.disk.Disk.{Ghosts}
 use Rattle.im_base_disk.specs.Runs.{LeavesOnly}
 use Rattle.im_log_gate.specs.Header.{least_number}
 use Rattle.im_restart_analysis.specs.Numbers.{IsNextNumber}
-use Rattle.im_page_form.specs.PageFile.{file_page}
+use Rattle.im_theory_page.specs.PageFile.{file_page}
 use Rattle.im_page_writer.specs.Checkpoints.{checkpoint_at}
 use Rattle.im_engine_checkpoint.specs.Rows.{listed}
-use Rattle.im_engine_lock.specs.Locks.{Lock}
-use Rattle.im_engine_lock.specs.View.{View, broken}
-use Rattle.im_engine_lock.specs.Machine.{Moves, start}
-use Rattle.im_front.specs.declared.fault.Fault.{Fault as Refusal}
-use Rattle.im_front.specs.Calls.{number_of}
+use Rattle.im_base_lock.specs.Locks.{Lock}
+use Rattle.im_base_lock.specs.View.{View, broken}
+use Rattle.im_base_lock.specs.Machine.{Moves, start}
+use Rattle.im_base_types.specs.Faults.{number_of}
 use Rattle.im_restart.specs.Restart.{IsReport}
 use Rattle.im_engine.specs.declared.engine.Engine.{Engine}
 use Rattle.im_engine.specs.Stands.{StandsFor, Allowed}
 use Rattle.im_engine.specs.Running.{IsRunning, IsLife}
 
 -- the number of a refusal, if there is one
-abbrev pub numbered : Option Refusal → Option ℕ
+abbrev pub numbered : Option Fault → Option ℕ
 numbered None = None
 numbered (Some fault) = Some (number_of fault)
 

@@ -1,6 +1,7 @@
 pub mod Numbered
 pub mod Faults
 pub mod Stands
+pub mod Promise
 pub mod Running
 pub mod Kept
 pub mod Looking
@@ -9,5 +10,6 @@ pub mod Told
 pub mod Counted
 pub mod Turns
 pub mod Opening
+pub mod Listing
 pub mod Lived
 pub mod Serves

@@ -1,19 +1,19 @@
 -- Lives of a store, each an opening with steps of many transactions, which may stop at any moment.
-use Rattle.std.specs.Prelude.{◌≡◌, ◌⊎◌, ◌≤◌, ℕ, zero, suc, true, false, List, [], ◌∷◌, length, take, Contains, None, Some, Result, Ok, Err}
+use Rattle.std.specs.Prelude.{◌≡◌, ◌≤◌, ℕ, zero, suc, false, List, [], ◌∷◌, length, take, None, Result, Ok, Err}
 use Rattle.im_base_types.specs.Changes.{Effect}
-use Rattle.im_base_types.specs.Lives.{Asked, Shown, Survives, nothing_shown, shows, shown_by}
+use Rattle.im_base_types.specs.Lives.{NoneAcked, nothing_shown}
 use Rattle.im_base_types.specs.declared.fault.Fault.{Fault}
 use Rattle.im_base_types.specs.declared.fault.Fault.TheVariants.{Memory}
-use Rattle.im_front.specs.Calls.{asked_by, told_by}
-use Rattle.im_front.specs.declared.reply.Reply.{Reply}
-use Rattle.im_front.specs.declared.step.Step.{Step}
+use Rattle.im_base_steps.specs.declared.reply.Reply.{Reply}
+use Rattle.im_base_steps.specs.declared.step.Step.{Step}
 use Rattle.im_base_disk.specs.declared.disk.Disk.{Ghosts}
 use Rattle.im_base_disk.specs.Disk.{Files}
 use Rattle.im_engine.specs.declared.config.Config.{Config}
 use Rattle.im_engine.specs.declared.engine.Engine.{Engine}
 use Rattle.im_engine.specs.Opening.{IsOpening}
 use Rattle.im_engine.specs.Stands.{StandsFor}
-use Rattle.im_engine.specs.Turns.{answered_by, behind, AreSteps, IsCutOffBehind, NoneIsLost}
+use Rattle.im_engine.specs.Promise.{Life, IsKept, IsRunOn}
+use Rattle.im_engine.specs.Turns.{behind, AreSteps, IsCutOffBehind, NoneIsLost}
 
 -- A stop when the first `answered` of these replies had been handed out took the files to others: whatever effects the first stand for, the others stand for what a life may make of them that was cut off there or later.
 abbrev pub TakesFiles : List Step → List Reply → ℕ → Files → Files → Type 0
@@ -21,44 +21,15 @@ TakesFiles steps replies answered old new = (before : List Effect) → StandsFor
 
 -- ---- lists of lives
 
--- a life: its steps, their replies, how many of these had been handed out when it stopped, and the files that the stop left
-pub record Life : Type 0 where
-  pub steps : List Step
-  pub replies : List Reply
-  pub answered : ℕ
-  pub left : Files
-
 -- lives in turn, each on the files that the stop of the one before left
-abbrev pub AreLives : Files → List Life → Files → Type 0
+abbrev pub AreLives : Files → List (Life Files) → Files → Type 0
 AreLives old [] new = new ≡ old
 AreLives old (life ∷ lives) new = TakesFiles life.steps life.replies life.answered old life.left × AreLives life.left lives new
 
--- what steps with these replies asked, where the stop fell within one of them or behind the last
-abbrev pub IsAskedBy : Shown → List Step → List Reply → List Asked → Type 0
-IsAskedBy s (step ∷ steps) (reply ∷ replies) asked = (asked ≡ (shows s (asked_by step) None).asked) ⊎ IsAskedBy (shows s (asked_by step) (Some (told_by reply))) steps replies asked
-IsAskedBy s _ _ asked = asked ≡ s.asked
-
--- the same, where the first n replies had been handed out
-abbrev pub IsAskedBehind : ℕ → Shown → List Step → List Reply → List Asked → Type 0
-IsAskedBehind zero s steps replies asked = IsAskedBy s steps replies asked
-IsAskedBehind (suc n) s (step ∷ steps) (reply ∷ replies) asked = IsAskedBehind n (shows s (asked_by step) (Some (told_by reply))) steps replies asked
-IsAskedBehind (suc n) s steps replies asked = asked ≡ s.asked
-
--- the effects whose Commit was asked in the steps whose replies had been handed out when the life stopped, each with whether it was acknowledged
-abbrev pub told_of : Life → List Asked
-told_of life = (shown_by nothing_shown (take life.answered (answered_by life.steps life.replies))).asked
-
--- What a life leaves: the effects from before it and a front, in commit order, of those that it had asked when it stopped. Each whose Commit was acknowledged before the stop is among them.
-pub record IsKept (before : List Effect) (life : Life) (after : List Effect) : Type 0 where
-  pub asked : List Asked
-  pub by : IsAskedBehind life.answered nothing_shown life.steps life.replies asked
-  pub survives : Survives before asked after
-  pub acknowledged : (a : Asked) → Contains (told_of life) a → a.acked ≡ true → Contains survives.kept a
-
--- and what several leave, one after another
-abbrev pub AreKept : List Effect → List Life → List Effect → Type 0
+-- What they leave, one after another: the files between two lives stand for what is kept up to there. Where the stop fell later than the last reply that had been handed out, none is lost either whose Commit was acknowledged up to it.
+abbrev pub AreKept : List Effect → List (Life Files) → List Effect → Type 0
 AreKept before [] after = after ≡ before
-AreKept before (life ∷ lives) after = (between : List Effect) × IsKept before life between × AreKept between lives after
+AreKept before (life ∷ lives) after = (between : List Effect) × (kept : IsKept before life between) × NoneAcked kept.lost × StandsFor between life.left × AreKept between lives after
 
 -- ---- one life
 
@@ -77,6 +48,8 @@ module _ {D : Type 0} (d : Ghosts D) where
     pub disk : new ≡ last.disk
     -- what a stop leaves that falls when the first n replies have been handed out, at any moment since
     pub since : d.tells → (n : ℕ) → n ≤ length replies → (c : Files) → d.left_since new (d.moment (disk_at old n steps replies opened last turns)) c → TakesFiles steps replies n (d.seen old) c
+    -- with it, it is a life of those that the promise speaks of
+    pub run : d.tells → (n : ℕ) → n ≤ length replies → (c : Files) → d.left_since new (d.moment (disk_at old n steps replies opened last turns)) c → IsRunOn StandsFor (d.seen old) (record { steps = steps; replies = replies; answered = n; shown = None; left = c })
     -- and what one leaves that falls no later than the reply to the m-th step
     pub within : d.tells → (n m : ℕ) → n ≤ m → m ≤ length replies → (c : Files) → d.left_since (behind d m steps replies opened last turns).disk (d.moment (disk_at old n steps replies opened last turns)) c
         → TakesFiles (take m steps) (take m replies) n (d.seen old) c
@@ -96,3 +69,4 @@ module _ {D : Type 0} (d : Ghosts D) where
     pub opening : IsOpening d config old result
     pub refused : IsRefusedBy result fault new
     pub since : d.tells → (c : Files) → d.left_since new (d.moment old) c → TakesFiles [] [] 0 (d.seen old) c
+    pub run : d.tells → (c : Files) → d.left_since new (d.moment old) c → IsRunOn StandsFor (d.seen old) (record { steps = []; replies = []; answered = 0; shown = None; left = c })

@@ -1,6 +1,6 @@
 -- Active transactions, and the number that is given next.
 use Rattle.std.specs.Prelude.{ℕ, List}
-use Rattle.im_engine_txn.specs.declared.transaction.Transaction.{Transaction}
+use Rattle.im_base_txn.specs.declared.transaction.Transaction.{Transaction}
 
 pub record Numbered : Type 0 where
   pub rows : List Transaction

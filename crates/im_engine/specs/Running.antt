@@ -1,9 +1,10 @@
 -- An engine of many transactions between two steps.
-use Rattle.std.specs.Prelude.{◌≡◌, ◌≤◌, ◌^◌, ℕ, List, [], false, Some}
+use Rattle.std.specs.Prelude.{◌≡◌, ◌≤◌, ◌^◌, ℕ, List, [], false, None, Some}
 use Rattle.std.specs.FinMap.{empty}
 use Rattle.im_base_types.specs.Changes.{Effect, apply_all}
 use Rattle.im_theory_log.specs.Histories.{Base}
 use Rattle.im_theory_log.specs.Lawful.{IsLawful}
+use Rattle.im_theory_log.specs.PageCounts.{count_of, first_count}
 use Rattle.im_theory_log.specs.Structure.{open_smo}
 use Rattle.im_theory_log.specs.Writer.{Writer}
 use Rattle.im_base_types.specs.Lives.{Shown}
@@ -11,7 +12,7 @@ use Rattle.im_base_disk.specs.declared.disk.Disk.{Ghosts}
 use Rattle.im_base_disk.specs.Disk.{Files}
 use Rattle.im_page_writer.specs.PageWriter.{StandsAs}
 use Rattle.im_theory_tree.specs.Theory.{page_tree}
-use Rattle.im_engine_lock.specs.View.{View}
+use Rattle.im_base_lock.specs.View.{View}
 use Rattle.im_theory_steps.specs.Growth.{AreBelow}
 use Rattle.im_theory_steps.specs.Serving.{IsServing}
 use Rattle.im_theory_steps.specs.Durable.{AreCommitted}
@@ -25,6 +26,7 @@ module _ {D : Type 0} (d : Ghosts D) where
   pub record IsRunning (b : Base) (before : List Effect) (s : Shown) (v : View) (e : Engine D d) : Type 0 where
     pub base : ℕ
     pub start : b.start ≤ base
+    pub counted : count_of b ≤ first_count
     pub earlier : List Effect
     pub now : Writer
     pub stands : StandsAs d b base now e.writer e.disk
@@ -36,6 +38,10 @@ module _ {D : Type 0} (d : Ghosts D) where
     pub commits : AreCommitted earlier before s.asked now.durable now.log
     -- numbers from the next one on are new, as long as there are any
     pub numbered : e.txns.next ≤ 2 ^ 62 → AreBelow e.txns.next now.log
+    -- nobody waits for a force
+    pub alone : v.queue ≡ []
+    -- each structure change is made within its step
+    pub unowned : v.under ≡ None
 
   -- Between two steps of a life that has shown this and come to this machine: what a stop leaves is allowed, and the engine works unless it has failed.
   pub record IsLife (before : List Effect) (s : Shown) (v : View) (e : Engine D d) : Type 0 where

@@ -1,16 +1,16 @@
 -- An engine as a store that a front shares among threads.
 use Rattle.std.specs.Prelude.{◌≡◌, ℕ, false, List, ◌++◌, [], length, Some}
-use Rattle.std.proofs.Common.{sym, ◌∙◌}
+use Rattle.std.proofs.Common.{refl, sym, ◌∙◌}
 use Rattle.std.specs.FinMap.{empty}
 use Rattle.im_base_types.specs.Changes.{Effect, apply_all}
 use Rattle.im_base_types.specs.Lives.{Shown, Survives, effects, nothing_shown}
 use Rattle.im_base_types.specs.declared.fault.Fault as below
 use Rattle.im_base_disk.specs.declared.disk.Disk.{Ghosts}
 use Rattle.im_base_disk.specs.Disk.{Files}
-use Rattle.im_engine_lock.specs.View.{View}
-use Rattle.im_engine_lock.specs.Machine.{start}
+use Rattle.im_base_lock.specs.View.{View}
+use Rattle.im_base_lock.specs.Machine.{start}
 use Rattle.im_theory_steps.proofs.Durable.{quiet_lives_settle}
-use Rattle.im_front.specs.declared.fault.Fault.{Fault}
+use Rattle.im_base_types.specs.declared.fault.Fault.{Fault}
 use Rattle.im_engine.specs.declared.engine.Engine.{Engine}
 use Rattle.im_engine.specs.Faults.{told_as}
 use Rattle.im_engine.specs.Stands.{StandsFor, Allowed}
@@ -56,6 +56,7 @@ module _ {D : Type 0} {d : Ghosts D} where
               record {
                 base = r.base;
                 start = r.start;
+                counted = r.counted;
                 earlier = r.earlier;
                 now = r.now;
                 stands = r.stands;
@@ -66,6 +67,8 @@ module _ {D : Type 0} {d : Ghosts D} where
                 serving = on.serving;
                 commits = on.commits;
                 numbered = r.numbered;
+                alone = refl;
+                unowned = refl;
               },
             );
           };

@@ -2,7 +2,7 @@
 use Rattle.std.specs.Prelude.{◌≡◌, ◌≢◌, ◌⊎◌, ◌↔◌, ◌||◌, ◌+◌, ◌-◌, ◌++◌, ◌∷◌, [], ◌≤◌, ◌<◌, ◌^◌, ℕ, Bool, true, false, List, Option, None, Some, find, length}
 use Rattle.std.specs.FinMap.{empty, get}
 use Rattle.im_base_types.specs.Answers as answers
-use Rattle.im_base_types.specs.Changes.{Effect, apply_all}
+use Rattle.im_base_types.specs.Changes.{Drop, Effect, apply_all}
 use Rattle.im_theory_log.specs.Histories.{Base}
 use Rattle.im_base_types.specs.Keys.{Key}
 use Rattle.im_base_types.specs.Lives.{Shown, breaks, effects}
@@ -16,7 +16,7 @@ use Rattle.im_log_record.specs.Entry.{Entry}
 use Rattle.im_log_record.specs.Spelling.{size_of}
 use Rattle.im_log.specs.declared.log_file.LogFile.{LogFile}
 use Rattle.im_log.specs.LogFile.{HasNoRoom, end_with}
-use Rattle.im_page_form.specs.PageFile.{page_count}
+use Rattle.im_theory_page.specs.PageFile.{page_count}
 use Rattle.im_page_pool.specs.Pool.{is_changed}
 use Rattle.im_page_writer.specs.Costs.{PageCosts}
 use Rattle.im_page_table.specs.DirtyTable.{dirty_pages, has_room, synced_entries}
@@ -25,19 +25,23 @@ use Rattle.im_theory_tree.specs.Levels.{Pages}
 use Rattle.im_smo_split.specs.Plan.{IsWithin, IsOver}
 use Rattle.im_smo_split.specs.Tops.{LacksRoomFor}
 use Rattle.im_smo_actions.specs.Structure.{IsUsedUp}
-use Rattle.im_engine_txn.specs.declared.transaction.Transaction.{Transaction}
-use Rattle.im_engine_txn.specs.Rows.{is_of}
-use Rattle.im_engine_lock.specs.View.{View}
-use Rattle.im_engine_lock.specs.Machine.{first_check, mark_for}
+use Rattle.im_base_txn.specs.declared.transaction.Transaction.{Transaction}
+use Rattle.im_base_txn.specs.Rows.{is_of}
+use Rattle.im_base_lock.specs.Locks.{Lock, IsFree}
+use Rattle.im_base_lock.specs.Rows.{asked}
+use Rattle.im_base_lock.specs.Table.{SameTable, locks_of}
+use Rattle.im_base_lock.specs.View.{View}
+use Rattle.im_base_lock.specs.Machine.{first_check, mark_for}
 use Rattle.im_theory_steps.specs.Checks.{marks_in}
 use Rattle.im_restart.specs.declared.redo_report.RedoReport.{RedoReport}
-use Rattle.im_front.specs.declared.fault.Fault.{Fault}
-use Rattle.im_front.specs.declared.fault.Fault.TheVariants.{NoTransaction, MustRollBack, KeyLength, RollingBack, PagesFull, Capacity, LogFull, Device, Memory, Failed, NotAStore, TooMany}
-use Rattle.im_front.specs.declared.step.Step.{Step}
-use Rattle.im_front.specs.declared.reply.Reply.{Reply}
-use Rattle.im_front.specs.declared.reply.Reply.TheVariants.{Started, Inserted, Committed, RolledBack, Done, Refused}
-use Rattle.im_front.specs.Calls.{asked_by, told_by, number_of}
-use Rattle.im_front.specs.Replies.{Suits}
+use Rattle.im_base_types.specs.declared.fault.Fault.{Fault}
+use Rattle.im_base_types.specs.declared.fault.Fault.TheVariants.{NoTransaction, MustRollBack, KeyLength, RollingBack, PagesFull, Capacity, LogFull, Device, Memory, Failed, NotAStore, TooMany}
+use Rattle.im_base_steps.specs.declared.step.Step.{Step}
+use Rattle.im_base_steps.specs.declared.reply.Reply.{Reply}
+use Rattle.im_base_steps.specs.declared.reply.Reply.TheVariants.{Started, Inserted, Committed, RolledBack, Done, Refused}
+use Rattle.im_base_steps.specs.Calls.{asked_by, told_by}
+use Rattle.im_base_types.specs.Faults.{number_of}
+use Rattle.im_base_steps.specs.Replies.{SuitsAtOnce}
 use Rattle.im_engine.specs.declared.engine.Engine.{Engine}
 use Rattle.im_engine.specs.Costs.{CommitCosts, ForceCosts}
 use Rattle.im_engine.specs.Running.{IsRunning, IsLife}
@@ -99,6 +103,8 @@ module _ {D : Type 0} (d : Ghosts D) where
     pub failed : old.failed ≡ true → reply ≡ Refused Failed
     -- the whole engine is as it was where it had failed, or was asked what no page had to be read to refuse
     pub same : (old.failed || is_early reply) ≡ true → new ≡ old
+    -- behind a want of memory or of pages every transaction has the mark and the records that it had, and holds the locks that it held
+    pub mild : (reply ≡ Refused Memory) ⊎ (reply ≡ Refused PagesFull) → (new.txns ≡ old.txns) × SameTable old.locks new.locks
     -- a disk that fails is told, whatever else would refuse the step
     pub device : old.failed ≡ false → d.failed new.disk ≡ true → reply ≡ Refused Device
 
@@ -176,7 +182,7 @@ module _ {D : Type 0} (d : Ghosts D) where
 
   -- the first check that a step fails, by what the engine knows without any page or lock
   abbrev pub check_of : answers.Step → Engine D d → Option ℕ
-  check_of step e = first_check e.failed (length e.txns.rows) (mark_for (marks_in e.txns.rows) step) step
+  check_of step e = first_check e.failed (length e.txns.rows) (mark_for (marks_in e.txns.rows) step) false step
 
   module _ (reply : Reply) (old : Engine D d) (log : LogFile) (disk : D) (fault : Fault) where
     -- refused for a cause of this kind
@@ -216,37 +222,36 @@ pub data AsksChange (reply : Reply) : Type 0 where
   wants_memory : reply ≡ Refused Failed → AsksChange reply
 
 module _ (pages : Pages) (map : IndexMap) where
-  -- An insert meets the limit of pages: where the key's leaf lacks room it is made only within it, and refused `PagesFull` only over it, and `Capacity` only where page numbers or levels are used up. A key that is there is a Duplicate, and none of these.
-  pub record InsertWants (max_pages : ℕ) (key : Key) (reply : Reply) : Type 0 where
+  -- An insert meets the limit of pages first, then its locks, then the end of page numbers and levels. Where the key is absent and its leaf lacks room it is made only within the limit, waits or dies only within it or where the end is reached, and is refused `PagesFull` only over it, and `Capacity` only
+  -- at the end; its locks were granted where that is answered, or `Failed`. A key that is there is a Duplicate, and none of these.
+  pub record InsertWants (locks : ℕ → List Lock) (max_pages t : ℕ) (key : Key) (rid : ℕ) (reply : Reply) : Type 0 where
     pub made : reply ≡ Inserted → LacksRoomFor pages key → IsWithin pages key max_pages
+    pub limited : ((fault : Fault) → reply ≢ Refused fault) → get map key ≡ None → LacksRoomFor pages key → IsWithin pages key max_pages ⊎ IsUsedUp pages key
     pub full : reply ≡ Refused PagesFull → LacksRoomFor pages key × IsOver pages key max_pages
     pub used_up : reply ≡ Refused Capacity → LacksRoomFor pages key × IsUsedUp pages key
+    pub granted : (reply ≡ Refused Capacity) ⊎ (reply ≡ Refused Failed) → IsFree locks t (asked (answers.Insert key rid) map)
     pub absent : AsksChange reply → get map key ≡ None
 
-  -- A key that the tree lacks finds its leaf without room, and page numbers or levels are used up.
-  pub record LacksWay : Type 0 where
+  -- The newest of these changes dropped a key, which the tree lacks and whose leaf is without room for it now.
+  pub record LacksRoom (net : Effect) : Type 0 where
     pub key : Key
-    pub absent : get map key ≡ None
-    pub lacks : LacksRoomFor pages key
-    pub used_up : IsUsedUp pages key
-
-  -- A key that the tree lacks finds its leaf without room.
-  pub record LacksRoom : Type 0 where
-    pub key : Key
+    pub rid : ℕ
+    pub older : Effect
+    pub newest : net ≡ Drop key rid ∷ older
     pub absent : get map key ≡ None
     pub lacks : LacksRoomFor pages key
 
-  -- A change that is taken back is refused `Memory` only where a key that comes back finds its leaf without room, so that its split is planned, and `Capacity` only where that can't be had.
-  pub record TurnWants (reply : Reply) : Type 0 where
-    pub short : reply ≡ Refused Memory → LacksRoom
-    pub used_up : reply ≡ Refused Capacity → LacksWay
+  -- A change that is taken back is refused `Memory` only where a key comes back that finds its leaf without room, so that its split is planned, and `Capacity` only where that can't be had.
+  pub record TurnWants (net : Effect) (reply : Reply) : Type 0 where
+    pub short : reply ≡ Refused Memory → LacksRoom net
+    pub used_up : reply ≡ Refused Capacity → (wants : LacksRoom net) × IsUsedUp pages wants.key
 
-  -- of the steps inserts and deletes are asked that: a key that is not there is Absent, and no delete of it fails late. Of a change that is taken back it is asked what it wants room for
-  abbrev pub WantsOf : ℕ → answers.Step → Reply → Type 0
-  WantsOf max_pages (answers.Do t (answers.Insert key rid)) reply = InsertWants max_pages key reply
-  WantsOf max_pages (answers.Do t (answers.Delete key)) reply = reply ≡ Refused Failed → get map key ≢ None
-  WantsOf max_pages (answers.Continue t) reply = TurnWants reply
-  WantsOf max_pages _ reply = Unit {0}
+  -- of the steps inserts and deletes are asked that: a key that is not there is Absent, and no delete of it fails late, nor one before its locks are granted. Of a change that is taken back it is asked what it wants room for, by the net of its transaction
+  abbrev pub WantsOf : (ℕ → Effect) → (ℕ → List Lock) → ℕ → answers.Step → Reply → Type 0
+  WantsOf nets locks max_pages (answers.Do t (answers.Insert key rid)) reply = InsertWants locks max_pages t key rid reply
+  WantsOf nets locks max_pages (answers.Do t (answers.Delete key)) reply = reply ≡ Refused Failed → (get map key ≢ None) × IsFree locks t (asked (answers.Delete key) map)
+  WantsOf nets locks max_pages (answers.Continue t) reply = TurnWants (nets t) reply
+  WantsOf nets locks max_pages _ reply = Unit {0}
 
 -- An access that is answered has the answer of one user alone on the map of all that was committed, with what its transaction did on top.
 abbrev pub AnswersAlone : List Effect → Shown → answers.Step → answers.Reply → Type 0
@@ -261,9 +266,9 @@ module _ {D : Type 0} (d : Ghosts D) where
     pub kept : (before : List Effect) (s : Shown) (v : View) → IsLife d before s v old → StepKept d before s v step (told_by reply) old new
     pub told : IsTold d reply old new
     pub answered : IsAnswered d step reply old new
-    pub suits : Suits step (told_by reply)
+    pub suits : SuitsAtOnce step (told_by reply)
     pub frames : new.writer.pool.frames ≡ old.writer.pool.frames
-    pub wants : (b : Base) (before : List Effect) (s : Shown) (v : View) (r : IsRunning d b before s v old) → WantsOf (settled b r.now.log) v.walk old.max_pages step reply
+    pub wants : (b : Base) (before : List Effect) (s : Shown) (v : View) (r : IsRunning d b before s v old) → WantsOf (settled b r.now.log) v.walk (λ t. (v.txns t).net) (locks_of old.locks) old.max_pages step reply
     pub quiet : (CallsDevice d step old → ⊥) → new.disk ≡ old.disk
     pub costs : StepCosts d step reply old new
 
@@ -276,8 +281,8 @@ module _ {D : Type 0} (d : Ghosts D) where
     pub checked : (fault : Fault) → Some (number_of fault) ≡ check_of d (asked_by step) old → (reply ≡ Refused fault) × (new ≡ old)
     pub answered : IsAnswered d (asked_by step) reply old new
     -- over any disk, a reply is of those that its step may have
-    pub suits : Suits (asked_by step) (told_by reply)
-    pub wants : old.failed ≡ false → (b : Base) (before : List Effect) (s : Shown) (v : View) (r : IsRunning d b before s v old) → WantsOf (settled b r.now.log) v.walk old.max_pages (asked_by step) reply
+    pub suits : SuitsAtOnce (asked_by step) (told_by reply)
+    pub wants : old.failed ≡ false → (b : Base) (before : List Effect) (s : Shown) (v : View) (r : IsRunning d b before s v old) → WantsOf (settled b r.now.log) v.walk (λ t. (v.txns t).net) (locks_of old.locks) old.max_pages (asked_by step) reply
     pub quiet : (CallsDevice d (asked_by step) old → ⊥) → new.disk ≡ old.disk
     pub costs : StepCosts d (asked_by step) reply old new
     pub works : d.failed new.disk ≡ true → new.failed ≡ true

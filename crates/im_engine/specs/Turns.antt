@@ -6,22 +6,17 @@ use Rattle.im_base_types.specs.Changes.{Effect}
 use Rattle.im_base_types.specs.Lives.{Shown, shows, shown_by}
 use Rattle.im_base_disk.specs.declared.disk.Disk.{Ghosts}
 use Rattle.im_base_disk.specs.Disk.{Files}
-use Rattle.im_engine_lock.specs.View.{View}
-use Rattle.im_engine_lock.specs.Machine.{Run, start}
-use Rattle.im_front.specs.declared.step.Step.{Step}
-use Rattle.im_front.specs.declared.fault.Fault.TheVariants.{Device}
-use Rattle.im_front.specs.declared.reply.Reply.{Reply}
-use Rattle.im_front.specs.declared.reply.Reply.TheVariants.{Refused}
-use Rattle.im_front.specs.Calls.{asked_by, told_by}
+use Rattle.im_base_lock.specs.View.{View}
+use Rattle.im_base_lock.specs.Machine.{Run, start}
+use Rattle.im_base_steps.specs.declared.step.Step.{Step}
+use Rattle.im_base_types.specs.declared.fault.Fault.TheVariants.{Device}
+use Rattle.im_base_steps.specs.declared.reply.Reply.{Reply}
+use Rattle.im_base_steps.specs.declared.reply.Reply.TheVariants.{Refused}
+use Rattle.im_base_steps.specs.Calls.{asked_by, told_by}
 use Rattle.im_engine.specs.declared.engine.Engine.{Engine}
 use Rattle.im_engine.specs.Stands.{Allowed}
 use Rattle.im_engine.specs.Running.{IsLife}
 use Rattle.im_engine.specs.Told.{IsStep}
-
--- steps with their replies
-abbrev pub answered_by : List Step → List Reply → List (answers.Step × answers.Reply)
-answered_by (step ∷ steps) (reply ∷ replies) = (asked_by step, told_by reply) ∷ answered_by steps replies
-answered_by _ _ = []
 
 -- Steps with these replies are a run of the machine from this map: what `isolation` speaks of.
 pub record IsRunFrom (base : IndexMap) (trace : List (answers.Step × answers.Reply)) : Type 0 where

@@ -5,34 +5,31 @@ ghost use Rattle.im_engine.specs.Faults.{told_as, ends_engine};
 
 use crate::engine::Engine;
 use im_base_disk::Disk;
-use im_base_types::TxnId;
+use im_base_steps::{Blocker, Reply};
+use im_base_txn::Mark;
+use im_base_types::{Fault, TxnId};
 use im_engine_index::Outcome;
-use im_engine_txn::Mark;
-use im_front::{Blocker, Fault, Reply};
 
 // A refusal of the calls below, as a store answers it.
-pub(crate) fn told(fault: im_base_types::Fault) -> Fault
+pub(crate) fn told(fault: Fault) -> Fault
     ensures { result ≡ told_as fault }
 {
     match fault {
-        im_base_types::Fault::PagesFull => Fault::PagesFull,
-        im_base_types::Fault::Capacity => Fault::Capacity,
-        im_base_types::Fault::LogFull => Fault::LogFull,
-        im_base_types::Fault::Device => Fault::Device,
-        im_base_types::Fault::Memory => Fault::Memory,
-        im_base_types::Fault::NotAStore => Fault::NotAStore,
+        Fault::PagesFull => Fault::PagesFull,
+        Fault::Capacity => Fault::Capacity,
+        Fault::LogFull => Fault::LogFull,
+        Fault::Device => Fault::Device,
+        Fault::Memory => Fault::Memory,
+        Fault::NotAStore => Fault::NotAStore,
         _ => Fault::Failed,
     }
 }
 
 // Whether the engine has failed behind it.
-pub(crate) fn breaks(fault: im_base_types::Fault) -> bool
+pub(crate) fn breaks(fault: Fault) -> bool
     ensures { result ≡ ends_engine fault }
 {
-    !matches!(
-        fault,
-        im_base_types::Fault::PagesFull | im_base_types::Fault::Memory
-    )
+    !matches!(fault, Fault::PagesFull | Fault::Memory)
 }
 
 impl<D: Disk> Engine<D> {
@@ -45,7 +42,7 @@ impl<D: Disk> Engine<D> {
     // refusal `lacks_are_served` or, where it broke the engine, `lives_go_on`.
     pub(crate) fn fetch(&mut self, t: TxnId, key: &[u8]) -> Reply
         requires works { self.old.failed ≡ false }
-        requires checked { checked_by self.old.txns.rows (answers.Do t (answers.Fetch key.now)) ≡ None }
+        requires checked { checked_by self.old.txns.rows false (answers.Do t (answers.Fetch key.now)) ≡ None }
         ensures { IsMade D.Disk (answers.Do t (answers.Fetch key.now)) result self.old self.new }
     {
         self.failed = true;
@@ -76,7 +73,7 @@ impl<D: Disk> Engine<D> {
     // The first entry at or above a key (`inclusive`), or above it.
     pub(crate) fn seek(&mut self, t: TxnId, key: &[u8], inclusive: bool) -> Reply
         requires works { self.old.failed ≡ false }
-        requires checked { checked_by self.old.txns.rows (answers.Do t (seek_at inclusive key.now)) ≡ None }
+        requires checked { checked_by self.old.txns.rows false (answers.Do t (seek_at inclusive key.now)) ≡ None }
         ensures { IsMade D.Disk (answers.Do t (seek_at inclusive key.now)) result self.old self.new }
     {
         self.failed = true;
@@ -114,7 +111,7 @@ impl<D: Disk> Engine<D> {
     // The first entries of a range, up to a limit.
     pub(crate) fn scan(&mut self, t: TxnId, lo: &[u8], hi: &[u8], limit: u64) -> Reply
         requires works { self.old.failed ≡ false }
-        requires checked { checked_by self.old.txns.rows (answers.Do t (answers.Scan lo.now hi.now limit)) ≡ None }
+        requires checked { checked_by self.old.txns.rows false (answers.Do t (answers.Scan lo.now hi.now limit)) ≡ None }
         ensures { IsMade D.Disk (answers.Do t (answers.Scan lo.now hi.now limit)) result self.old self.new }
     {
         self.failed = true;

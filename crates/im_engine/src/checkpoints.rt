@@ -5,7 +5,7 @@ ghost use Rattle.std.specs.Prelude.{◌≡◌, false};
 use crate::accesses::told;
 use crate::engine::Engine;
 use im_base_disk::Disk;
-use im_front::Reply;
+use im_base_steps::Reply;
 
 impl<D: Disk> Engine<D> {
     ghost use Rattle.im_base_types.specs.Answers as answers;

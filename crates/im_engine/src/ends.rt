@@ -5,9 +5,9 @@ ghost use Rattle.std.specs.Prelude.{◌≡◌, None, false};
 use crate::accesses::told;
 use crate::engine::Engine;
 use im_base_disk::Disk;
-use im_base_types::{PageNo, TxnId};
-use im_engine_txn::Mark;
-use im_front::{Fault, Reply};
+use im_base_steps::Reply;
+use im_base_txn::Mark;
+use im_base_types::{Fault, PageNo, TxnId};
 use im_log_record::Record;
 
 impl<D: Disk> Engine<D> {
@@ -18,7 +18,7 @@ impl<D: Disk> Engine<D> {
     // Begins a transaction (`begins_are_served`; numbers that are used up break the engine).
     pub(crate) fn begin(&mut self) -> Reply
         requires works { self.old.failed ≡ false }
-        requires checked { checked_by self.old.txns.rows answers.Begin ≡ None }
+        requires checked { checked_by self.old.txns.rows false answers.Begin ≡ None }
         ensures { IsMade D.Disk answers.Begin result self.old self.new }
     {
         match self.txns.begin() {
@@ -33,7 +33,7 @@ impl<D: Disk> Engine<D> {
     // Ends a transaction, all of which is then durable. Its locks go behind the force, and not before.
     pub(crate) fn commit(&mut self, t: TxnId) -> Reply
         requires works { self.old.failed ≡ false }
-        requires checked { checked_by self.old.txns.rows (answers.Commit t) ≡ None }
+        requires checked { checked_by self.old.txns.rows false (answers.Commit t) ≡ None }
         ensures { IsMade D.Disk (answers.Commit t) result self.old self.new }
     {
         let Some(row) = self.txns.find(t) else {
@@ -64,7 +64,7 @@ impl<D: Disk> Engine<D> {
     // Begins to take a transaction back (`turns_are_served`), or ends one that has no record (`drops_are_served`).
     pub(crate) fn roll_back(&mut self, t: TxnId) -> Reply
         requires works { self.old.failed ≡ false }
-        requires checked { checked_by self.old.txns.rows (answers.Rollback t) ≡ None }
+        requires checked { checked_by self.old.txns.rows false (answers.Rollback t) ≡ None }
         ensures { IsMade D.Disk (answers.Rollback t) result self.old self.new }
     {
         let Some(row) = self.txns.find(t) else {

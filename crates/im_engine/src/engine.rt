@@ -4,14 +4,16 @@ ghost use Rattle.std.specs.Prelude.{◌≡◌, ◌≤◌, length, false, None, S
 ghost use Rattle.std.specs.FinMap.{entries as entries_of};
 ghost use Rattle.im_base_types.specs.Changes.{Effect};
 ghost use Rattle.im_base_types.specs.Lives.{Shown};
+ghost use Rattle.std.proofs.Props.{props};
+ghost use Rattle.im_log.proofs.Waiting.{sealed_prop};
 ghost use Rattle.im_page_writer.specs.PageWriter.{IsReadyWriter};
 
 use crate::engine::checks::{has_length, to_access, to_commit, to_continue, to_rollback};
 use crate::transactions::Transactions;
 use im_base_disk::Disk;
-use im_base_types::PageNo;
-use im_engine_lock::LockTable;
-use im_front::{Fault, Reply, Step};
+use im_base_lock::LockTable;
+use im_base_steps::{Reply, Step};
+use im_base_types::{Fault, PageNo};
 use im_page_writer::PageWriter;
 use im_restart::RedoReport;
 use std::alloc::Global;
@@ -32,22 +34,22 @@ pub struct Engine<D: Disk> {
     // where records are read again for a rollback
     pub(crate) room: Vec<u8>,
     pub(crate) failed: bool,
-    ghost ready: { IsReadyWriter D.Disk writer disk },
+    ghost ready: { IsReadyWriter D.Disk writer disk } by { Prim.hlevel (props, sealed_prop) },
     ghost working: { failed ≡ false → writer.failed ≡ false },
     ghost first: { 1 ≤ txns.next },
     ghost sized: { length room.items ≡ 16384 },
 }
 
 impl<D: Disk> Engine<D> {
-    ghost use Rattle.im_engine_lock.specs.Machine.{first_check, mark_for};
-    ghost use Rattle.im_front.specs.Calls.{asked_by};
+    ghost use Rattle.im_base_lock.specs.Machine.{first_check, mark_for};
+    ghost use Rattle.im_base_steps.specs.Calls.{asked_by};
     ghost use Rattle.im_theory_steps.specs.Checks.{marks_in};
     ghost use Rattle.im_engine.specs.Kept.{numbered};
     ghost use Rattle.im_engine.specs.Told.{IsStep};
 
     // The first refusal that a check gives to a step.
     fn refusal(&self, step: &Step) -> Option<Fault>
-        ensures { numbered result ≡ first_check self.now.failed (length self.now.txns.rows) (mark_for (marks_in self.now.txns.rows) (asked_by step.now)) (asked_by step.now) }
+        ensures { numbered result ≡ first_check self.now.failed (length self.now.txns.rows) (mark_for (marks_in self.now.txns.rows) (asked_by step.now)) false (asked_by step.now) }
     {
         if self.failed {
             return Some(Fault::Failed);

@@ -5,10 +5,10 @@ ghost use Rattle.std.specs.Prelude.{◌≡◌, None, false};
 use crate::accesses::{breaks, told};
 use crate::engine::Engine;
 use im_base_disk::Disk;
-use im_base_types::{Rid, TxnId};
+use im_base_steps::{Blocker, Reply};
+use im_base_txn::Mark;
+use im_base_types::{Fault, Rid, TxnId};
 use im_engine_index::Outcome;
-use im_engine_txn::Mark;
-use im_front::{Blocker, Fault, Reply};
 
 impl<D: Disk> Engine<D> {
     ghost use Rattle.im_base_types.specs.Answers as answers;
@@ -19,7 +19,7 @@ impl<D: Disk> Engine<D> {
     // before its locks are granted, all is as it was; for want of page numbers or levels, or of memory behind the grant, the engine fails.
     pub(crate) fn insert(&mut self, t: TxnId, key: &[u8], rid: Rid) -> Reply
         requires works { self.old.failed ≡ false }
-        requires checked { checked_by self.old.txns.rows (answers.Do t (answers.Insert key.now rid)) ≡ None }
+        requires checked { checked_by self.old.txns.rows false (answers.Do t (answers.Insert key.now rid)) ≡ None }
         ensures { IsMade D.Disk (answers.Do t (answers.Insert key.now rid)) result self.old self.new }
     {
         let Some(row) = self.txns.find(t) else {

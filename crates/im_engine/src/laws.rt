@@ -5,7 +5,8 @@ ghost use Rattle.im_base_types.specs.Changes.{Effect};
 ghost use Rattle.im_base_disk.specs.Disk.{Files, both};
 ghost use Rattle.im_engine.specs.Stands.{StandsFor};
 ghost use Rattle.im_engine.specs.Counted.{FilesAreCounted, LivesAreCounted, OpeningsAreCounted, StepsAreCounted};
-ghost use Rattle.im_engine.specs.Lived.{Life, AreLives, AreKept};
+ghost use Rattle.im_engine.specs.Promise.{Life, Promise};
+ghost use Rattle.im_engine.specs.Lived.{AreLives, AreKept};
 
 use im_base_disk::Disk;
 
@@ -19,11 +20,19 @@ pub fn changes_are_taken_back_once<D: Disk>()
     ensures openings { OpeningsAreCounted D.Disk }
 {}
 
+/// The promise. From two new files, whatever lives are run, and wherever each stops, there is one list of effects, which only grows. What an
+/// opening hands out is what the list makes of an empty index. Each life adds to its end a front of the commits that it had asked when it
+/// stopped, in their order, each whole, with every acknowledged one in it. `live` and `look` say of each life what it asks (`IsRunOn`). A law,
+/// and nothing that runs.
+pub fn the_promise()
+    ensures { Promise StandsFor (both [] []) }
+{}
+
 /// Over every list of lives, one after another, each an opening with steps of many transactions as `live` makes it, stopped at any
 /// moment: files that stood for some effects stand in the end for those and, of each life, a front in commit order of the effects whose
 /// Commit it had asked when it stopped, each whole, with every effect in it whose Commit had been acknowledged by then, and nothing else.
-/// The two empty files stand for no effect. A law, and nothing that runs.
+/// The files between two lives stand for what was kept up to there. The two empty files stand for no effect. A law, and nothing that runs.
 pub fn every_list_of_lives()
-    ensures lives { (old new : Files) (lives : List Life) (before : List Effect) → StandsFor before old → AreLives old lives new → (after : List Effect) × AreKept before lives after × StandsFor after new }
+    ensures lives { (old new : Files) (lives : List (Life Files)) (before : List Effect) → StandsFor before old → AreLives old lives new → (after : List Effect) × AreKept before lives after × StandsFor after new }
     ensures first { StandsFor [] (both [] []) }
 {}

@@ -6,14 +6,15 @@ ghost use Rattle.im_base_types.specs.Changes.{Effect, apply_all};
 ghost use Rattle.im_base_types.specs.declared.fault.Fault.TheVariants.{NotAStore};
 ghost use Rattle.im_base_disk.specs.Runs.{IsSynced};
 ghost use Rattle.im_engine.specs.Stands.{StandsFor};
-ghost use Rattle.im_engine.specs.Turns.{answered_by, IsRunFrom};
+ghost use Rattle.im_engine.specs.Promise.{IsAsAlone, answered_by};
+ghost use Rattle.im_engine.specs.Turns.{IsRunFrom};
 ghost use Rattle.im_engine.specs.Lived.{IsLived, IsUnlived};
 
 use crate::config::Config;
 use crate::engine::Engine;
 use im_base_disk::Disk;
+use im_base_steps::{Reply, Step};
 use im_base_types::Fault;
-use im_front::{Reply, Step};
 use std::alloc::Global;
 
 impl<D: Disk> Engine<D> {
@@ -22,9 +23,10 @@ impl<D: Disk> Engine<D> {
     ghost use Rattle.im_base_types.specs.Lives.{Shown};
     ghost use Rattle.im_base_types.specs.declared.fault.Fault.TheVariants.{Memory};
     ghost use Rattle.im_base_disk.specs.Runs.{LeavesOnly};
-    ghost use Rattle.im_engine_lock.specs.View.{View};
+    ghost use Rattle.im_base_lock.specs.View.{View};
     ghost use Rattle.im_engine.specs.Running.{IsLife};
-    ghost use Rattle.im_engine.specs.Turns.{answered_by, LivesOn, AreSteps, IsCutOff};
+    ghost use Rattle.im_engine.specs.Promise.{answered_by};
+    ghost use Rattle.im_engine.specs.Turns.{LivesOn, AreSteps, IsCutOff};
 
     /// Makes steps in turn, of any transactions in any order, and answers their replies: they are a run of the machine of transactions.
     /// Refused `Memory`, with no step made, where there is no room for the replies.
@@ -53,9 +55,9 @@ impl<D: Disk> Engine<D> {
 /// One life: opens the store of a disk, makes the steps in turn, and hands the disk on with their replies. A stop that falls when the first
 /// n replies have been handed out takes the files to what a life may make of them that was cut off there or later (`since`), for every n;
 /// and where it falls no later than the reply to the m-th step, nothing is there of what was asked only behind that (`within`). That is
-/// what a list of lives is made of (`every_list_of_lives`). The steps with their replies are a run of the machine of transactions from the
-/// map of the effects that the files stood for: each transaction is as good as alone at its place in the order of Commits
-/// (`im_engine_lock::isolation`).
+/// what a list of lives is made of (`every_list_of_lives`), and what the promise asks of a life (`run`, `the_promise`). The steps with their
+/// replies are a run of the machine of transactions from the map of the effects that the files stood for (`isolated`): each transaction has the
+/// replies that it would get alone (`alone`).
 ///
 /// Refused as an opening is, and for its causes, with no step made, and `Memory` where there is no room for the replies: then the files
 /// stand for what they stood for.
@@ -70,6 +72,7 @@ pub fn live<D: Disk>(
     ensures lived { IfOk result.0 (λ replies. IsLived D.Disk config steps.now replies.items disk result.1) }
     ensures refused { IfErr result.0 (λ e. IsUnlived D.Disk config disk e result.1) }
     ensures isolated { IfOk result.0 (λ replies. (before : List Effect) → D.tells → StandsFor before (D.seen disk) → IsRunFrom (apply_all empty before) (answered_by steps.now replies.items)) }
+    ensures alone { IfOk result.0 (λ replies. (before : List Effect) → D.tells → StandsFor before (D.seen disk) → IsAsAlone (apply_all empty before) (answered_by steps.now replies.items)) }
     ensures each { IfOk result.0 (λ replies. length replies.items ≡ length steps.now) }
     ensures never { IfErr result.0 (λ e. (before : List Effect) → D.tells → StandsFor before (D.seen disk) → e ≢ NotAStore) }
 {

@@ -9,18 +9,16 @@ use crate::engine::Engine;
 use crate::syncing::sync_files;
 use crate::transactions::Transactions;
 use im_base_disk::Disk;
-use im_base_types::Fault;
-use im_engine_lock::LockTable;
+use im_base_lock::LockTable;
+use im_base_types::{Fault, LEAST_FRAMES, LONGEST_BATCH, MOST_FRAMES};
 use std::alloc::Global;
-
-const ROOM: usize = 16_384;
 
 // The room in which records are read again.
 fn make_room(alloc: Global) -> Result<Vec<u8>, Fault>
     ensures size { IfOk result (λ room. length room.items ≡ 16384) }
     ensures causes { IfErr result (λ e. e ≡ Memory) }
 {
-    vec![in alloc; 0; ROOM].map_err(|_| Fault::Memory)
+    vec![in alloc; 0; LONGEST_BATCH].map_err(|_| Fault::Memory)
 }
 
 impl<D: Disk> Engine<D> {
@@ -59,7 +57,7 @@ impl<D: Disk> Engine<D> {
         ensures full { IfErr result (λ x. x.0 ≡ LogFull → D.tells → IsFullLog (D.seen x.1)) }
         ensures device { IsErrAnd result (λ x. x.0 ≡ Device) ↔ (D.failed (disk_of D.Disk result) ≡ true) }
     {
-        if config.frames < 8 || config.frames > 1024 {
+        if config.frames < LEAST_FRAMES || config.frames > MOST_FRAMES {
             return Err((Fault::PoolSize, disk));
         }
         let room = match make_room(alloc) {

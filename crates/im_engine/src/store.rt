@@ -4,12 +4,13 @@
 use crate::accesses::told;
 use crate::engine::Engine;
 use im_base_disk::Disk;
-use im_base_types::{Key, Rid};
-use im_front::{Fault, Reply, Step, Store};
+use im_base_steps::{Reply, Step, Store};
+use im_base_types::{Fault, Key, Rid};
 use std::alloc::Global;
 
 impl<D: Disk + Drop> Store for Engine<D> {
     ghost use Rattle.std.specs.Prelude.{length};
+    ghost use Rattle.im_engine.specs.Told.{IsStep};
     ghost use Rattle.im_engine.specs.Serves.{IsStoreLife, Leaves, IsRefused, stops_keep, settled};
 
     ghost tells = { D.tells };
@@ -21,6 +22,8 @@ impl<D: Disk + Drop> Store for Engine<D> {
     ghost actives = { λ e. length e.txns.rows };
 
     ghost refuses = { λ old new fault. IsRefused D.Disk old new fault };
+
+    ghost made = { λ old step reply new. IsStep D.Disk step reply old new };
 
     fn step(&mut self, step: &Step) -> Reply {
         Engine::step(self, step)

@@ -1,15 +1,12 @@
 //! Active transactions, and the number that is given next.
 
 ghost use Rattle.std.specs.Prelude.{◌≡◌, ◌<◌, ◌≤◌, ◌^◌, ◌+◌, ◌++◌, [], ◌∷◌, not, filter, find, length, map, nat_lt, true, IfSome, IfNone, Some};
-ghost use Rattle.im_engine_txn.specs.Rows.{begun, changed, is_of, with_mark, with_record};
-ghost use Rattle.im_engine_txn.specs.declared.transaction.Transaction.{Transaction as Row};
+ghost use Rattle.im_base_txn.specs.Rows.{begun, changed, is_of, with_mark, with_record};
+ghost use Rattle.im_base_txn.specs.declared.transaction.Transaction.{Transaction as Row};
 
-use im_base_types::{Lsn, TxnId};
-use im_engine_txn::{Mark, Table, Transaction, numbers_stay_below};
+use im_base_txn::{Mark, Table, Transaction, numbers_stay_below};
+use im_base_types::{LAST_TRANSACTION, Lsn, TxnId};
 use std::marker::Model;
-
-/// The greatest number of a transaction.
-const NUMBERS: u64 = 1 << 62;
 
 /// The active transactions, and the number that is given next, which is above all of theirs.
 #[derive(Drop)]
@@ -20,7 +17,7 @@ pub struct Transactions {
 
 impl Model for Transactions {
     ghost use Rattle.im_engine.specs.Numbered.{Numbered};
-    ghost use Rattle.im_engine_txn.specs.Rows.{AreAbove, AreBelow};
+    ghost use Rattle.im_base_txn.specs.Rows.{AreAbove, AreBelow};
     ghost use Rattle.std.specs.Prelude.{length, ◌≤◌};
 
     ghost Value = { Numbered };
@@ -81,7 +78,7 @@ impl Transactions {
     {
         let Transactions { table, next } = self;
         let number = *next;
-        if number > NUMBERS {
+        if number > LAST_TRANSACTION {
             return None;
         }
         numbers_stay_below();

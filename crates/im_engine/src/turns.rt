@@ -5,9 +5,9 @@ ghost use Rattle.std.specs.Prelude.{◌≡◌, None, false};
 use crate::accesses::{breaks, told};
 use crate::engine::Engine;
 use im_base_disk::Disk;
-use im_base_types::TxnId;
+use im_base_steps::Reply;
+use im_base_types::{Fault, TxnId};
 use im_engine_rollback::{Undone, undo_next};
-use im_front::{Fault, Reply};
 
 impl<D: Disk> Engine<D> {
     ghost use Rattle.im_base_types.specs.Answers as answers;
@@ -18,7 +18,7 @@ impl<D: Disk> Engine<D> {
     // (`last_undone_changes_are_served`). Its locks stay up to the End. For want of memory in front of the first record all is as it was.
     pub(crate) fn go_on(&mut self, t: TxnId) -> Reply
         requires works { self.old.failed ≡ false }
-        requires checked { checked_by self.old.txns.rows (answers.Continue t) ≡ None }
+        requires checked { checked_by self.old.txns.rows false (answers.Continue t) ≡ None }
         ensures { IsMade D.Disk (answers.Continue t) result self.old self.new }
     {
         let Some(row) = self.txns.find(t) else {

@@ -5,10 +5,10 @@ ghost use Rattle.std.specs.Prelude.{◌≡◌, None, false};
 use crate::accesses::{breaks, told};
 use crate::engine::Engine;
 use im_base_disk::Disk;
-use im_base_types::TxnId;
+use im_base_steps::{Blocker, Reply};
+use im_base_txn::Mark;
+use im_base_types::{Fault, TxnId};
 use im_engine_index::Outcome;
-use im_engine_txn::Mark;
-use im_front::{Blocker, Fault, Reply};
 
 impl<D: Disk> Engine<D> {
     ghost use Rattle.im_base_types.specs.Answers as answers;
@@ -19,7 +19,7 @@ impl<D: Disk> Engine<D> {
     // granted all is as it was; behind the grant the engine fails.
     pub(crate) fn delete(&mut self, t: TxnId, key: &[u8]) -> Reply
         requires works { self.old.failed ≡ false }
-        requires checked { checked_by self.old.txns.rows (answers.Do t (answers.Delete key.now)) ≡ None }
+        requires checked { checked_by self.old.txns.rows false (answers.Do t (answers.Delete key.now)) ≡ None }
         ensures { IsMade D.Disk (answers.Do t (answers.Delete key.now)) result self.old self.new }
     {
         let Some(row) = self.txns.find(t) else {

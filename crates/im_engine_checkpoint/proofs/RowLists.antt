@@ -2,8 +2,8 @@
 use Rattle.std.proofs.Common.{ℕ, List, [], ◌∷◌, Bool, true, false, map, filter, None, Some, if◌then◌else◌}
 use Rattle.im_base_types.specs.declared.tables.ActiveTransaction.{ActiveTransaction}
 use Rattle.im_log_record.specs.Spelling.{Rise}
-use Rattle.im_engine_txn.specs.declared.transaction.Transaction.{Transaction}
-use Rattle.im_engine_txn.specs.Rows.{AreAbove, AreRising}
+use Rattle.im_base_txn.specs.declared.transaction.Transaction.{Transaction}
+use Rattle.im_base_txn.specs.Rows.{AreAbove, AreRising}
 use Rattle.im_engine_checkpoint.specs.Rows.{as_listed, is_listed, listed}
 
 rise_above : (n : ℕ) (rows : List Transaction) → AreAbove n rows → AreRising rows → Rise (λ (a : ActiveTransaction). a.transaction) (Some n) (listed rows)

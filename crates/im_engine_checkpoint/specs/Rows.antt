@@ -1,9 +1,9 @@
 -- The rows of the table of transactions that a Checkpoint lists.
 use Rattle.std.specs.Prelude.{◌==◌, ◌&&◌, Bool, false, true, not, List, map, filter}
 use Rattle.im_base_types.specs.declared.tables.ActiveTransaction.{ActiveTransaction}
-use Rattle.im_engine_txn.specs.declared.transaction.Mark.{Mark}
-use Rattle.im_engine_txn.specs.declared.transaction.Mark.TheVariants.{Committing, Going, MustRollBack, RollingBack}
-use Rattle.im_engine_txn.specs.declared.transaction.Transaction.{Transaction}
+use Rattle.im_base_txn.specs.declared.transaction.Mark.{Mark}
+use Rattle.im_base_txn.specs.declared.transaction.Mark.TheVariants.{Committing, Going, MustRollBack, RollingBack}
+use Rattle.im_base_txn.specs.declared.transaction.Transaction.{Transaction}
 
 -- its Commit is logged, and waits for a force
 abbrev pub is_committing : Mark → Bool

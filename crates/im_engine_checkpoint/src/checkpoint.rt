@@ -16,8 +16,8 @@ ghost use Rattle.im_engine_checkpoint.specs.Rows.{listed};
 
 use crate::rows::rows_of;
 use im_base_disk::Disk;
-use im_base_types::{ActiveTransaction, Fault, Lsn, TxnId};
-use im_engine_txn::Table;
+use im_base_txn::Table;
+use im_base_types::{ActiveTransaction, Fault, Lsn, MOST_ACTIVE, TxnId};
 use im_page_writer::PageWriter;
 
 // A row of a buffer that nothing was written to.
@@ -50,7 +50,7 @@ pub fn take<D: Disk>(
     ensures pool { writer.new.pool ≡ writer.old.pool }
     ensures few { CostsAtMost D.Disk 4 5 disk.old disk.new }
 {
-    let mut rows = [NO_TRANSACTION; 64];
+    let mut rows = [NO_TRANSACTION; MOST_ACTIVE];
     let count = rows_of(table, &mut rows);
     writer.log_checkpoint(disk, next, &rows[..count])
 }

@@ -9,8 +9,8 @@
 //! point makes of each page what redo of every record makes of the page that the log began with. So redo needs nothing before it. Behind a
 //! Checkpoint the redo point is the least of its LSN and the rec_lsns that it lists.
 //!
-//! It stands on `im_page_writer` for the writer of pages, on `im_engine_txn` for the table, on `im_log_record` for what a list of rows has to be, and on the
-//! theory of redo in `im_base_types`.
+//! It stands on `im_page_writer` for the writer of pages, on `im_base_txn` for the table, on `im_log_record` for what a list of rows has to be, and on the
+//! theory of redo in `im_theory_log`.
 #![tactic(auto)]
 
 mod checkpoint;

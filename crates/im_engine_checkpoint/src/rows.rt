@@ -4,8 +4,8 @@ ghost use Rattle.std.specs.Prelude.{◌≡◌, ◌≤◌, length, take, None};
 ghost use Rattle.im_log_record.specs.Spelling.{Rise};
 ghost use Rattle.im_engine_checkpoint.specs.Rows.{as_listed, is_listed, listed};
 
+use im_base_txn::{Mark, Table, Transaction};
 use im_base_types::ActiveTransaction;
-use im_engine_txn::{Mark, Table, Transaction};
 
 // Whether a Checkpoint lists the transaction.
 fn is_listed(row: &Transaction) -> bool

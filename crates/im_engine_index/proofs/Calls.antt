@@ -3,9 +3,9 @@ use Rattle.std.proofs.Common.{◌≡◌, ◌≢◌, ℕ, List, sym, ◌∙◌, a
 use Rattle.im_base_types.specs.declared.fault.Fault.{Fault}
 use Rattle.im_base_types.specs.declared.fault.Fault.TheVariants.{Memory, NotAStore}
 use Rattle.im_base_types.specs.Answers.{Reply}
-use Rattle.im_engine_lock.specs.Locks.{Request}
-use Rattle.im_engine_lock.specs.Table.{Table, Decides}
-use Rattle.im_engine_lock.specs.declared.verdict.Verdict.{Verdict}
+use Rattle.im_base_lock.specs.Locks.{Request}
+use Rattle.im_base_lock.specs.Table.{Table, Decides}
+use Rattle.im_base_lock.specs.declared.verdict.Verdict.{Verdict}
 use Rattle.im_engine_index.specs.declared.outcome.Outcome.{Outcome}
 use Rattle.im_engine_index.specs.declared.outcome.Outcome.TheVariants.{Granted, Wait, Die}
 use Rattle.im_engine_index.specs.Outcomes.{verdict_of, IfGranted}

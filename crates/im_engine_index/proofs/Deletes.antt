@@ -42,9 +42,9 @@ use Rattle.im_smo_actions.proofs.Growth.{images_as_change, no_images_of}
 use Rattle.im_smo_actions.proofs.Standing.{images_made, left_images, pages_stay, still_ready, unfinished_good, unfinished_images, unfinished_pages}
 use Rattle.im_theory_steps.specs.Growth.{AreWithin, GrowsWithin}
 use Rattle.im_theory_steps.specs.Steps.{key_record}
-use Rattle.im_engine_lock.specs.Rows.{asked}
-use Rattle.im_engine_lock.specs.Table.{Table, Decides}
-use Rattle.im_engine_lock.specs.declared.verdict.Verdict.TheVariants.{Granted as GrantedAll}
+use Rattle.im_base_lock.specs.Rows.{asked}
+use Rattle.im_base_lock.specs.Table.{Table, Decides}
+use Rattle.im_base_lock.specs.declared.verdict.Verdict.TheVariants.{Granted as GrantedAll}
 use Rattle.im_engine_index.specs.declared.noted.Taken.{Taken}
 use Rattle.im_engine_index.specs.declared.outcome.Outcome.{Outcome}
 use Rattle.im_engine_index.specs.declared.outcome.Outcome.TheVariants.{Granted, Wait, Die}

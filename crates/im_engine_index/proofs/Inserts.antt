@@ -26,7 +26,7 @@ use Rattle.im_page_table.specs.Growth.{Keeps}
 use Rattle.im_page_writer.specs.PageWriter.{Evicted}
 use Rattle.im_page_writer.proofs.Outcomes.{leaves_of_end, pages_here}
 use Rattle.im_page_file.proofs.Standing.{wider_covered}
-use Rattle.im_page_form.specs.Split.{HasRoom}
+use Rattle.im_theory_page.specs.Split.{HasRoom}
 use Rattle.im_theory_tree.specs.Good.{AllOf, IsGoodTree}
 use Rattle.im_theory_tree.specs.Levels.{Pages, walk}
 use Rattle.im_theory_tree.specs.Search.{IsOnWay}

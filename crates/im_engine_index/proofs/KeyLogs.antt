@@ -33,7 +33,7 @@ use Rattle.im_page_leaf.specs.LeafChange.{CanPutKey, CanTakeKey}
 use Rattle.im_page_writer.specs.LoggedChange.{ChangedFrom, ChangeKept}
 use Rattle.im_page_writer.specs.Writing.{LeavesGrown}
 use Rattle.im_page_writer.proofs.Outcomes.{sound_own}
-use Rattle.im_page_form.specs.Split.{HasRoom}
+use Rattle.im_theory_page.specs.Split.{HasRoom}
 use Rattle.im_theory_tree.specs.Levels.{Pages, walk}
 use Rattle.im_theory_tree.specs.Good.{AllOf, IsGoodTree}
 use Rattle.im_theory_tree.specs.Search.{IsOnWay}

@@ -16,14 +16,14 @@ use Rattle.im_theory_tree.specs.Levels.{walk}
 use Rattle.im_theory_tree.proofs.LookupLemmas.{leaf_value}
 use Rattle.im_tree_search.specs.declared.next_key.NextKey.{NextKey}
 use Rattle.im_tree_search.specs.declared.next_key.NextKey.TheVariants.{Here, There, End}
-use Rattle.im_page_form.specs.Entry.{entry_at}
+use Rattle.im_theory_page.specs.Entry.{entry_at}
 use Rattle.im_tree_search.specs.declared.entry_place.EntryPlace.{EntryPlace}
 use Rattle.im_tree_search.specs.Found.{IsReached, entries_of, entry_of}
 use Rattle.im_tree_search.specs.NextKeys.{next_name as next_key_name, far_name, IsFar}
 use Rattle.im_tree_search.specs.Ranges.{IsRange, key_if, within}
-use Rattle.im_engine_lock.specs.Locks.{Name, Request}
-use Rattle.im_engine_lock.specs.Rows.{asked, name_of, next_name}
-use Rattle.im_engine_lock.specs.Found.{Finds, FindsNext, IsScanOf}
+use Rattle.im_base_lock.specs.Locks.{Name, Request}
+use Rattle.im_base_lock.specs.Rows.{asked, name_of, next_name}
+use Rattle.im_base_lock.specs.Found.{Finds, FindsNext, IsScanOf}
 use Rattle.im_tree_search.specs.Levels.{bodies_of, start_at}
 use Rattle.im_engine_index.specs.Asks.{IsPlace}
 use Rattle.im_engine_index.specs.Outcomes.{name_in, name_behind, seek_at}

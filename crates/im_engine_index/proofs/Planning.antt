@@ -1,5 +1,5 @@
 -- The plan of an insert, and the grant of its locks behind it.
-use Rattle.std.proofs.Common.{◌≡◌, ◌≢◌, ◌⊎◌, inl, inr, ⊎_elim, ◌∷◌, ◌≤◌, ℕ, Bool, true, false, [], List, length, is_some, Option, None, Some, Result, Ok, Err, refl, sym, ◌∙◌, ap, subst, cond}
+use Rattle.std.proofs.Common.{◌≡◌, ◌≢◌, ◌⊎◌, inl, inr, ⊎_elim, ◌∷◌, ◌≤◌, ℕ, Bool, true, false, [], List, length, is_some, Option, None, Some, Result, Ok, Err, refl, sym, ◌∙◌, ap, subst, cond, arith}
 use Rattle.std.specs.Prelude.{IsErrAnd, IfOk, IfErr, OnErr}
 use Rattle.std.specs.FinMap.{entries, get}
 use Rattle.std.specs.FinMap.Entries.{find}
@@ -20,7 +20,7 @@ use Rattle.im_page_writer.specs.Outcome.{fault_of, want_of_memory, pages_of, All
 use Rattle.im_engine_index.specs.LockCalls.{AsksLocks}
 use Rattle.im_page_writer.specs.PageWriter.{Evicted}
 use Rattle.im_page_writer.proofs.Outcomes.{stays_then}
-use Rattle.im_page_form.specs.Split.{HasRoom}
+use Rattle.im_theory_page.specs.Split.{HasRoom}
 use Rattle.im_theory_tree.specs.Good.{IsGoodTree}
 use Rattle.im_theory_tree.specs.Levels.{Pages, walk}
 use Rattle.im_theory_tree.specs.Search.{IsOnWay}
@@ -28,11 +28,13 @@ use Rattle.im_theory_tree.proofs.LookupLemmas.{leaf_value}
 use Rattle.im_tree_search.specs.Levels.{bodies, bodies_of}
 use Rattle.im_smo_split.specs.Kept.{mild_to_split}
 use Rattle.im_smo_split.proofs.Reasons.{never_capacity, never_pages_full}
-use Rattle.im_smo_split.specs.Plan.{IsOver, Planned, WantsPages}
+use Rattle.im_smo_split.specs.Plan.{IsOver, IsWithin, Planned, WantsPages}
 use Rattle.im_smo_split.specs.Tops.{LacksRoomFor}
-use Rattle.im_engine_lock.specs.Rows.{asked}
-use Rattle.im_engine_lock.specs.Table.{Table, Decides}
-use Rattle.im_engine_lock.specs.declared.verdict.Verdict.TheVariants.{Granted as GrantedAll}
+use Rattle.im_smo_split.proofs.OneLeaf.{one_leaf}
+use Rattle.im_smo_pages.specs.Images.{Numbered}
+use Rattle.im_base_lock.specs.Rows.{asked}
+use Rattle.im_base_lock.specs.Table.{Table, Decides}
+use Rattle.im_base_lock.specs.declared.verdict.Verdict.TheVariants.{Granted as GrantedAll}
 use Rattle.im_smo_actions.proofs.Changes.{never_failed}
 use Rattle.im_smo_actions.proofs.Standing.{unfinished_good, unfinished_pages}
 use Rattle.im_engine_index.specs.declared.noted.Noted.{Noted}
@@ -43,7 +45,7 @@ use Rattle.im_engine_index.specs.declared.plan.Plan.{Plan}
 use Rattle.im_engine_index.specs.declared.plan.Plan.TheVariants.{Fits, Split, UsedUp}
 use Rattle.im_engine_index.specs.declared.plan.Prepared.{Prepared}
 use Rattle.im_engine_index.specs.Asks.{IsAsked, IsPlace}
-use Rattle.im_engine_index.specs.Edits.{MayEdit, InsertKept}
+use Rattle.im_engine_index.specs.Edits.{MayEdit, InsertKept, IsLimited}
 use Rattle.im_engine_index.specs.KeyLogs.{LeavesEdit}
 use Rattle.im_engine_index.specs.InsertPlans.{IsFull, HasNoneLeft, IsInsertPlan, PlanKept, prepared_with, IsPrepared, PreparedKept, MayInsert, PutKept}
 use Rattle.im_engine_index.specs.Outcomes.{verdict_of, IfGranted}
@@ -110,11 +112,20 @@ never_so {A} (Err y) f is = is.1
 
 -- ---- its locks
 
-pub prepared_is : (pages : AllPages) (t : ℕ) (key : Key) (rid max : ℕ) (m : IndexMap) (old new : Table) (pool : PoolView) (plan : Plan) (outcome : Outcome Place) → IsAsked pages t (Insert key rid) key m old new pool outcome → IsInsertPlan pages key max plan
-    → IsPrepared pages t key rid max m old new pool (prepared_with plan outcome)
-prepared_is pages t key rid max m old new pool plan (Granted place) is planned = record { decides = is.decides; ready = (is.place, planned) }
-prepared_is pages t key rid max m old new pool plan (Wait holder) is planned = record { decides = is.decides; ready = tt }
-prepared_is pages t key rid max m old new pool plan Die is planned = record { decides = is.decides; ready = tt }
+-- a plan keeps the limit of pages, or is told that page numbers or levels are used up
+limited_by : (pages : AllPages) (key : Key) (max : ℕ) (spare : List ℕ) → IsGoodTree (bodies_of pages) spare → (plan : Plan) → IsInsertPlan pages key max plan → find key_order key (walk (bodies_of pages)) ≡ None → IsLimited (bodies_of pages) key max
+limited_by pages key max spare good Fits (inl there) none lacks = absurd (there none)
+limited_by pages key max spare good Fits (inr fits) none lacks = absurd (lacks.lacks (subst (λ (p : ℕ). HasRoom true (bodies_of pages p).entries (key, 0)) (one_leaf (bodies_of pages) spare key fits.page lacks.page good fits.way lacks.way) fits.room))
+limited_by pages key max spare good (Split plan) planned none lacks =
+    ⊎_elim (λ (no_image : plan.images ≡ []). absurd (let some : 1 ≤ length plan.images = planned.0 in let zero_is : length plan.images ≡ 0 = ap (λ (l : List Numbered). length l) no_image in omega (arith, some, zero_is)))
+    (λ (within : IsWithin (bodies_of pages) key max). inl within) (planned.1.within max refl)
+limited_by pages key max spare good UsedUp left none lacks = inr left.used_up
+
+pub prepared_is : (pages : AllPages) (t : ℕ) (key : Key) (rid max : ℕ) (m : IndexMap) (old new : Table) (pool : PoolView) (plan : Plan) (outcome : Outcome Place) (spare : List ℕ) → IsGoodTree (bodies_of pages) spare → IsAsked pages t (Insert key rid) key m old new pool outcome
+    → IsInsertPlan pages key max plan → IsPrepared pages t key rid max m old new pool (prepared_with plan outcome)
+prepared_is pages t key rid max m old new pool plan (Granted place) spare good is planned = record { decides = is.decides; ready = (is.place, planned); limited = limited_by pages key max spare good plan planned }
+prepared_is pages t key rid max m old new pool plan (Wait holder) spare good is planned = record { decides = is.decides; ready = tt; limited = limited_by pages key max spare good plan planned }
+prepared_is pages t key rid max m old new pool plan Die spare good is planned = record { decides = is.decides; ready = tt; limited = limited_by pages key max spare good plan planned }
 
 pub prepare_refused : (pages : AllPages) (t : ℕ) (key : Key) (rid max : ℕ) (m : IndexMap) (old new : Table) (pool : PoolView) (f : Fault) (r : Result (Outcome Prepared) Fault) → IsErrAnd r (λ y. y ≡ f) → f ≢ NotAStore → (f ≡ PagesFull → IsFull pages key max)
     → PreparedKept pages t key rid max m old new pool r
@@ -171,6 +182,7 @@ module _ {D : Type 0} (d : Ghosts D) (b : Base) (base : ℕ) (s : Writer) (e t l
         stops = calls_left d b base s e t last undo_next v old may.unfinished one;
         full = λ same. (tree_lacks (full same).absent, (full same).lacks, (full same).over);
         used_up = λ same. absurd (never same);
+        limited = tt;
         begun = λ same. absurd (never_failed d f may.unfinished.stands.working one same);
       })
 
@@ -178,12 +190,16 @@ module _ {D : Type 0} (d : Ghosts D) (b : Base) (base : ℕ) (s : Writer) (e t l
     pub left : LeavesEdit d b base s t old disk
     left = calls_left d b base s e t last undo_next v old may.unfinished one
 
+    within : get (contents b s.log) key ≡ None → IsLimited (bodies s) key max
+    within none lacks = is.limited (walk_says d b base s e t last undo_next v old may.unfinished owner key ∙ none) lacks
+
     pub insert_waits : (holder : ℕ) → outcome ≡ Wait holder → InsertKept d b base s e t key rid max held new old w disk (Ok (Wait holder))
     insert_waits holder same = record {
       sound = (subst (λ (o : Outcome Prepared). Decides held t (asked (Insert key rid) (contents b s.log)) (verdict_of o) new) same is.decides, stands_behind d b base s e t last undo_next v old may.unfinished one);
       stops = left;
       full = tt;
       used_up = tt;
+      limited = within;
       begun = tt;
     }
 
@@ -193,6 +209,7 @@ module _ {D : Type 0} (d : Ghosts D) (b : Base) (base : ℕ) (s : Writer) (e t l
       stops = left;
       full = tt;
       used_up = tt;
+      limited = within;
       begun = tt;
     }
 
@@ -212,6 +229,7 @@ module _ {D : Type 0} (d : Ghosts D) (b : Base) (base : ℕ) (s : Writer) (e t l
             stops = left;
             full = tt;
             used_up = tt;
+            limited = within;
             begun = tt;
           }
 
@@ -237,7 +255,7 @@ module _ {D : Type 0} (d : Ghosts D) (b : Base) (base : ℕ) (s : Writer) (e t l
         }
 
         pub insert_put : (noted : Noted) (y : PageWriter) (end : D) → PutKept d b base s e t key rid max old y end (Ok noted) → InsertKept d b base s e t key rid max held new old y end (Ok (Granted (Some noted)))
-        insert_put noted y end kept = record { sound = (decided, kept.sound); stops = kept.stops; full = tt; used_up = tt; begun = tt }
+        insert_put noted y end kept = record { sound = (decided, kept.sound); stops = kept.stops; full = tt; used_up = tt; limited = within; begun = tt }
 
         -- its leaf lacks room, or nothing but Images joined
         lacks_or_none : (y : PageWriter) (end : D) (plan : Plan) → x.plan ≡ plan → (x.plan ≡ Fits → Stays d AreLoaded w disk y end) → LacksRoomFor (bodies s) key ⊎ Evicted d b base s old y end
@@ -254,7 +272,8 @@ module _ {D : Type 0} (d : Ghosts D) (b : Base) (base : ℕ) (s : Writer) (e t l
               sound = late_sound f g memory other kept.sound;
               stops = kept.stops;
               full = λ is_full. absurd (never (late_is f g PagesFull memory other (λ clash. let no_such : ⊥ = cc clash in no_such) is_full));
-              used_up = λ is_capacity. (absent, (none_left is_capacity).lacks, (none_left is_capacity).used_up);
+              used_up = λ is_capacity. (absent, (none_left is_capacity).lacks, (none_left is_capacity).used_up, decided);
+              limited = tt;
               begun = λ failed. (absent, decided, lacks_or_none y end x.plan refl (none (late_why f g memory other failed)));
             }
 

@@ -7,8 +7,8 @@ use Rattle.im_base_types.specs.Answers.{Access}
 use Rattle.im_page_pool.specs.Pool.{PoolView}
 use Rattle.im_page_writer.specs.Outcome.{AllPages}
 use Rattle.im_tree_search.specs.Found.{IsReached}
-use Rattle.im_engine_lock.specs.Rows.{asked}
-use Rattle.im_engine_lock.specs.Table.{Table, Decides}
+use Rattle.im_base_lock.specs.Rows.{asked}
+use Rattle.im_base_lock.specs.Table.{Table, Decides}
 use Rattle.im_engine_index.specs.declared.outcome.Outcome.{Outcome}
 use Rattle.im_engine_index.specs.declared.place.Place.{Place}
 use Rattle.im_engine_index.specs.Outcomes.{verdict_of, IfGranted}

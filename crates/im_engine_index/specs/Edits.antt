@@ -1,5 +1,5 @@
 -- What an insert or a delete of a transaction among many keeps.
-use Rattle.std.specs.Prelude.{◌≡◌, ◌≢◌, ◌⊎◌, ℕ, true, false, [], ◌∷◌, length, Option, None, Some, Result, IfErr}
+use Rattle.std.specs.Prelude.{◌≡◌, ◌≢◌, ◌⊎◌, ℕ, true, false, [], ◌∷◌, length, Option, None, Some, Result, IfOk, IfErr}
 use Rattle.std.specs.FinMap.{get}
 use Rattle.im_base_types.specs.declared.fault.Fault.{Fault}
 use Rattle.im_base_types.specs.declared.fault.Fault.TheVariants.{Capacity, Failed, PagesFull}
@@ -25,10 +25,10 @@ use Rattle.im_smo_split.specs.Tops.{LacksRoomFor}
 use Rattle.im_smo_split.specs.Plan.{IsOver, IsWithin}
 use Rattle.im_smo_actions.specs.DropPlan.{IsSpare, IsKept}
 use Rattle.im_smo_actions.specs.Structure.{IsUnfinished, IsUsedUp}
-use Rattle.im_engine_lock.specs.Locks.{IsFree}
-use Rattle.im_engine_lock.specs.Rows.{asked}
-use Rattle.im_engine_lock.specs.Table.{Table, Decides, locks_of}
-use Rattle.im_engine_lock.specs.declared.verdict.Verdict.TheVariants.{Granted as GrantedAll}
+use Rattle.im_base_lock.specs.Locks.{IsFree}
+use Rattle.im_base_lock.specs.Rows.{asked}
+use Rattle.im_base_lock.specs.Table.{Table, Decides, locks_of}
+use Rattle.im_base_lock.specs.declared.verdict.Verdict.TheVariants.{Granted as GrantedAll}
 use Rattle.im_theory_steps.specs.Steps.{key_record}
 use Rattle.im_engine_index.specs.declared.outcome.Outcome.{Outcome}
 use Rattle.im_engine_index.specs.declared.outcome.Outcome.TheVariants.{Granted, Wait, Die}
@@ -51,6 +51,12 @@ pub record HasOne (pages : Pages) (key : Key) : Type 0 where
   pub way : IsOnWay pages 0 key page
   pub under : page ≢ 1
   pub one : length (pages page).entries ≡ 1
+
+-- ---- the leaf of a key that comes
+
+-- Where it lacks room, its split takes no page over the limit, or page numbers or levels are used up.
+abbrev pub IsLimited : Pages → Key → ℕ → Type 0
+IsLimited pages key max = LacksRoomFor pages key → IsWithin pages key max ⊎ IsUsedUp pages key
 
 module _ {D : Type 0} (d : Ghosts D) (b : Base) (base : ℕ) where
   -- The transaction may log a change: it is not finished, and takes nothing back; and where it is granted the locks of this access, no other net has the key.
@@ -85,13 +91,14 @@ module _ {D : Type 0} (d : Ghosts D) (b : Base) (base : ℕ) where
   IsInsert s e t key rid max old w disk (Wait holder) = Evicted d b base s old w disk
   IsInsert s e t key rid max old w disk Die = Evicted d b base s old w disk
 
-  -- What an insert keeps. Pages are wanted before a lock is asked, page numbers behind that, both only where the key is absent and its leaf lacks room for it. `Failed` comes behind the grant of
+  -- What an insert keeps. Pages are wanted before a lock is asked, page numbers behind the grant, both only where the key is absent and its leaf lacks room for it: so an absent key has an answer, a lock that stands in the way included, only within the limit of pages. `Failed` comes behind the grant of
   -- the locks of a key that is absent, where its leaf lacks room or nothing but Images joined the log.
   pub record InsertKept (s : Writer) (e t : ℕ) (key : Key) (rid max : ℕ) (held new : Table) (old : D) (w : PageWriter) (disk : D) (result : Result (Outcome (Option Noted)) Fault) : Type 0 where
     pub sound : IsSound result (λ outcome. Decides held t (asked (Insert key rid) (contents b s.log)) (verdict_of outcome) new × IsInsert s e t key rid max old w disk outcome)
     pub stops : LeavesEdit d b base s t old disk
     pub full : IfErr result (λ e. e ≡ PagesFull → (get (contents b s.log) key ≡ None) × LacksRoomFor (bodies s) key × IsOver (bodies s) key max)
-    pub used_up : IfErr result (λ e. e ≡ Capacity → (get (contents b s.log) key ≡ None) × LacksRoomFor (bodies s) key × IsUsedUp (bodies s) key)
+    pub used_up : IfErr result (λ e. e ≡ Capacity → (get (contents b s.log) key ≡ None) × LacksRoomFor (bodies s) key × IsUsedUp (bodies s) key × Decides held t (asked (Insert key rid) (contents b s.log)) GrantedAll new)
+    pub limited : IfOk result (λ _. get (contents b s.log) key ≡ None → IsLimited (bodies s) key max)
     pub begun : IfErr result (λ e. e ≡ Failed → (get (contents b s.log) key ≡ None) × Decides held t (asked (Insert key rid) (contents b s.log)) GrantedAll new × (LacksRoomFor (bodies s) key ⊎ Evicted d b base s old w disk))
 
   -- ---- a key that goes

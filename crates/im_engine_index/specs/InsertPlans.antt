@@ -23,8 +23,8 @@ use Rattle.im_smo_split.specs.Kept.{mild_to_split}
 use Rattle.im_smo_split.specs.Plan.{IsOver, IsWithin, Planned}
 use Rattle.im_smo_split.specs.Tops.{HasRoomFor, LacksRoomFor}
 use Rattle.im_smo_actions.specs.Structure.{IsUnfinished, IsUsedUp, Restructured}
-use Rattle.im_engine_lock.specs.Rows.{asked}
-use Rattle.im_engine_lock.specs.Table.{Table, Decides}
+use Rattle.im_base_lock.specs.Rows.{asked}
+use Rattle.im_base_lock.specs.Table.{Table, Decides}
 use Rattle.im_engine_index.specs.declared.noted.Noted.{Noted}
 use Rattle.im_engine_index.specs.declared.outcome.Outcome.{Outcome}
 use Rattle.im_engine_index.specs.declared.outcome.Outcome.TheVariants.{Granted, Wait, Die}
@@ -33,7 +33,7 @@ use Rattle.im_engine_index.specs.declared.plan.Plan.{Plan}
 use Rattle.im_engine_index.specs.declared.plan.Plan.TheVariants.{Fits, Split, UsedUp}
 use Rattle.im_engine_index.specs.declared.plan.Prepared.{Prepared}
 use Rattle.im_engine_index.specs.Asks.{IsPlace}
-use Rattle.im_engine_index.specs.Edits.{Inserted}
+use Rattle.im_engine_index.specs.Edits.{Inserted, IsLimited}
 use Rattle.im_engine_index.specs.KeyLogs.{LeavesEdit}
 use Rattle.im_engine_index.specs.Outcomes.{verdict_of, IfGranted}
 
@@ -72,6 +72,8 @@ prepared_with plan Die = Die
 pub record IsPrepared (pages : AllPages) (t : ℕ) (key : Key) (rid max : ℕ) (m : IndexMap) (old new : Table) (pool : PoolView) (outcome : Outcome Prepared) : Type 0 where
   pub decides : Decides old t (asked (Insert key rid) m) (verdict_of outcome) new
   pub ready : IfGranted outcome (λ x. IsPlace pages key m pool x.place × IsInsertPlan pages key max x.plan)
+  -- whatever was decided: a plan over the limit has asked no lock
+  pub limited : find key_order key (walk (bodies_of pages)) ≡ None → IsLimited (bodies_of pages) key max
 
 -- what that keeps
 pub record PreparedKept (pages : AllPages) (t : ℕ) (key : Key) (rid max : ℕ) (m : IndexMap) (old new : Table) (pool : PoolView) (result : Result (Outcome Prepared) Fault) : Type 0 where

@@ -3,10 +3,10 @@ use Rattle.std.specs.Prelude.{Bool, true, false, ℕ, List, [], Option, None, So
 use Rattle.im_base_types.specs.Keys.{Key}
 use Rattle.im_base_types.specs.Pages.{Entry}
 use Rattle.im_base_types.specs.Answers.{Access, Seek, Next, Reply, Entries}
-use Rattle.im_page_form.specs.Entry.{entry_at}
-use Rattle.im_engine_lock.specs.Locks.{Name, At, PastAll}
-use Rattle.im_engine_lock.specs.declared.verdict.Verdict.{Verdict}
-use Rattle.im_engine_lock.specs.declared.verdict.Verdict.TheVariants.{Granted as GrantedAll, Wait as MustWait, Die as MustDie}
+use Rattle.im_theory_page.specs.Entry.{entry_at}
+use Rattle.im_base_lock.specs.Locks.{Name, At, PastAll}
+use Rattle.im_base_lock.specs.declared.verdict.Verdict.{Verdict}
+use Rattle.im_base_lock.specs.declared.verdict.Verdict.TheVariants.{Granted as GrantedAll, Wait as MustWait, Die as MustDie}
 use Rattle.im_tree_search.specs.declared.next_key.NextKey.{NextKey}
 use Rattle.im_tree_search.specs.declared.next_key.NextKey.TheVariants.{Here, There, End}
 use Rattle.im_engine_index.specs.declared.outcome.Outcome.{Outcome}

@@ -1,12 +1,12 @@
 //! What was found, asked of the lock table.
 
 ghost use Rattle.std.specs.Prelude.{◌≡◌};
-ghost use Rattle.im_engine_lock.specs.Table.{named};
+ghost use Rattle.im_base_lock.specs.Table.{named};
 ghost use Rattle.im_tree_search.specs.NextKeys.{IsWithin};
 ghost use Rattle.im_engine_index.specs.Outcomes.{verdict_of, IfGranted, name_in as name_among};
 
 use crate::outcome::Outcome;
-use im_engine_lock::{Name, Verdict};
+use im_base_lock::{Name, Verdict};
 use im_page::Page;
 use im_tree_search::NextKey;
 

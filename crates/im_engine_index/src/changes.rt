@@ -13,7 +13,7 @@ ghost use Rattle.im_engine_index.specs.LockCalls.{AsksLocks};
 ghost use Rattle.im_theory_tree.specs.Levels.{walk};
 ghost use Rattle.im_tree_search.specs.Levels.{HasLevel, bodies_of};
 ghost use Rattle.im_tree_search.specs.Found.{HasTree};
-ghost use Rattle.im_engine_lock.specs.Table.{SameTable};
+ghost use Rattle.im_base_lock.specs.Table.{SameTable};
 ghost use Rattle.im_engine_index.specs.Outcomes.{IfGranted};
 ghost use Rattle.im_engine_index.specs.Asks.{IsAsked, IsPlace};
 
@@ -21,8 +21,8 @@ use crate::asking::{name_in, outcome_of};
 use crate::outcome::Outcome;
 use crate::place::Place;
 use im_base_disk::Disk;
+use im_base_lock::{LockTable, delete_row, insert_row};
 use im_base_types::{Fault, Rid, TxnId};
-use im_engine_lock::{LockTable, delete_row, insert_row};
 use im_page::Page;
 use im_page_writer::PageWriter;
 use im_tree_search::{leaf_and_next, leaf_for, next_in_leaf};

@@ -14,18 +14,18 @@ ghost use Rattle.im_theory_tree.specs.Levels.{walk};
 ghost use Rattle.im_tree_search.specs.Levels.{bodies_of};
 ghost use Rattle.im_tree_search.specs.Found.{HasTree};
 ghost use Rattle.im_tree_search.specs.NextKeys.{IsFar};
-ghost use Rattle.im_engine_lock.specs.Locks.{IsFree};
-ghost use Rattle.im_engine_lock.specs.Rows.{asked};
-ghost use Rattle.im_engine_lock.specs.Found.{IsScanOf, named_if};
-ghost use Rattle.im_engine_lock.specs.Table.{Decides, SameTable, locks_of};
+ghost use Rattle.im_base_lock.specs.Locks.{IsFree};
+ghost use Rattle.im_base_lock.specs.Rows.{asked};
+ghost use Rattle.im_base_lock.specs.Found.{IsScanOf, named_if};
+ghost use Rattle.im_base_lock.specs.Table.{Decides, SameTable, locks_of};
 ghost use Rattle.im_engine_index.specs.Outcomes.{name_behind, entries_found, IfGranted};
 ghost use Rattle.im_engine_index.specs.Reads.{IsRead};
 
 use crate::asking::outcome_of;
 use crate::outcome::Outcome;
 use im_base_disk::Disk;
-use im_base_types::{Fault, Key, Rid, TxnId};
-use im_engine_lock::{LockTable, Name, Verdict, scan_row};
+use im_base_lock::{LockTable, Name, Verdict, scan_row};
+use im_base_types::{Fault, Key, MOST_ENTRIES, Rid, TxnId};
 use im_page_writer::PageWriter;
 use im_tree_search::{NextKey, entries_between};
 use std::alloc::Global;
@@ -37,8 +37,8 @@ fn bounded(limit: usize) -> usize
     if limit == 0 {
         return 1;
     }
-    if 256 < limit {
-        return 256;
+    if MOST_ENTRIES < limit {
+        return MOST_ENTRIES;
     }
     limit
 }

@@ -1,15 +1,18 @@
 -- In a run of the machine, what was started has ended or is active.
-use Rattle.std.proofs.Common.{◌≡◌, ◌≢◌, ℕ, zero, suc, ◌+◌, ◌-◌, ◌≤◌, ◌<◌, Bool, true, false, true≢false, List, [], ◌∷◌, Option, Some, None, ◌⊎◌, refl, ap, sym, subst, ◌∙◌, inl, inr, arith}
+use Rattle.std.proofs.Common.{◌≡◌, ◌≢◌, ℕ, zero, suc, ◌+◌, ◌-◌, ◌≤◌, ◌<◌, Bool, true, false, true≢false, List, [], ◌∷◌, ◌++◌, length, Option, Some, None, ◌⊎◌, refl, ap, sym, subst, ◌∙◌, inl, inr, arith}
 use Rattle.std.proofs.lemmas.Bool.{cases_lt, eq-eqb, ne_eqb}
-use Rattle.std.specs.Prelude.{cond, is_some}
+use Rattle.std.specs.Prelude.{cond, is_some, ◌==◌}
 use Rattle.std.specs.FinMap.{get}
 use Rattle.im_base_types.specs.Keys.{Key}
 use Rattle.im_base_types.specs.Maps.{IndexMap, From, Above, first}
-use Rattle.im_base_types.specs.Answers.{Access, Fetch, Seek, Next, Scan, Insert, Delete, Step, Reply, Started, Committed, RolledBack, More, Blocked, Die, Done, Refused, Absent, Inserted, Duplicate, Deleted, Mark, Idle, Going, MustRollBack, RollingBack, Committing, found, entry, answer}
-use Rattle.im_engine_lock.specs.Locks.{Lock}
-use Rattle.im_engine_lock.specs.View.{Txn, View, idle, set_txn, begun, did, did_txn, marked, committed_by, dropped_by, undid_more, undid_last, broken, MayRollBack}
-use Rattle.im_engine_lock.specs.Machine.{barred, Answers, Goes, Moves, begins, does, waits, dies, commits, drops, turns, undoes, ends, flushes, forces, checkpoints, lacks, breaks, start}
-use Rattle.im_front.specs.Replies.{started_in, committed_in, rolled_back_in, IsCounted}
+use Rattle.im_base_types.specs.Answers.{Access, Fetch, Seek, Next, Scan, Insert, Delete, Step, Reply, Started, Committed, RolledBack, More, Blocked, BlockedTree, Die, Done, Refused, Absent, Inserted, Duplicate, Deleted, Mark, Idle, Going, MustRollBack, RollingBack, Committing, found, entry, answer}
+use Rattle.im_base_lock.specs.Locks.{Lock}
+use Rattle.im_base_lock.specs.View.{Txn, View, Puts, Drops, TakesBack, TookBack, locked, with_change, change_made, idle, set_txn, begun, did, did_txn, marked, committed_by, dropped_by, undid_more, undid_last, broken, queued, forced_by, is_among, idle_all, AreDifferent, MayRollBack}
+use Rattle.im_base_lock.proofs.Bools.{or_true}
+use Rattle.im_base_lock.proofs.Queue.{among_one}
+use Rattle.im_base_lock.proofs.Runs.{IsQueue, queue_goes, queue_breaks}
+use Rattle.im_base_lock.specs.Machine.{barred, Answers, Goes, Moves, begins, does, waits, dies, commits, queues, drops, turns, undoes, ends, puts_later, puts, drops_first, drops_leaf, takes_later, takes_first, takes_leaf, takes_last, logs_page, tree_blocks, tree_halts, flushes, forces, checkpoints, lacks, breaks, start}
+use Rattle.im_base_steps.specs.Replies.{started_in, committed_in, rolled_back_in, IsCounted}
 use Rattle.im_front.specs.Events.{Event, Made, Broke, Runs}
 
 pub cases_number : (s t : ℕ) → (s ≡ t) ⊎ (s ≢ t)
@@ -66,7 +69,7 @@ pub record Busy (txns : ℕ → Txn) (next active : ℕ) (failed : Bool) : Type 
   pub rest : failed ≡ false → (s : ℕ) → (txns s).mark ≡ Idle → txns s ≡ idle
 
 abbrev pub IsBusy : View → Type 0
-IsBusy v = Busy v.txns v.next v.active v.failed
+IsBusy v = Busy v.txns v.next v.active v.failed × IsQueue v.queue v.txns
 
 idle_free : (m : Mark) → busy m ≡ 1 → m ≡ Idle → ⊥
 idle_free m b e = let z : busy m ≡ 0 = ap busy e in absurd (omega arith)
@@ -122,6 +125,10 @@ module _ (txns : ℕ → Txn) (next active : ℕ) (failed : Bool) (h : Busy txns
             ];
       }
 
+  -- as many as this
+  of_active : (n : ℕ) → active ≡ n → Busy txns next n failed
+  of_active n e = record { active_is = sym e ∙ h.active_is; fresh = h.fresh; rest = h.rest }
+
   begin_busy : (x : Txn) → busy x.mark ≡ 1 → Busy (set_txn txns next x) (suc next) (suc active) failed
   begin_busy x now =
       let here : busy ((set_txn txns next x next).mark) ≡ busy x.mark = ap (λ (y : Txn). busy y.mark) (set_txn-same txns next x next refl) in
@@ -136,6 +143,18 @@ module _ (txns : ℕ → Txn) (next active : ℕ) (failed : Bool) (h : Busy txns
               | inr ne ↦ set_txn-other txns next x s ne ∙ h.rest f s (sym (ap (λ (y : Txn). y.mark) (set_txn-other txns next x s ne)) ∙ e)
             ];
       }
+
+-- each of these ends
+force_busy : (queue : List ℕ) (txns : ℕ → Txn) (next active : ℕ) (failed : Bool) → Busy txns next active failed → AreDifferent queue → ((t : ℕ) → is_among t queue ≡ true → busy ((txns t).mark) ≡ 1)
+    → Busy (idle_all txns queue) next (active - length queue) failed × (length queue ≤ active)
+force_busy [] txns next active failed h each some = (of_active txns next active failed h (active - 0) (omega arith), omega arith)
+force_busy (t ∷ ts) txns next active failed h each some =
+    let first = some t (among_one t t ts refl) in
+    let one : 0 < active = some_active txns next active failed h t first in
+    let rest = force_busy ts (set_txn txns t idle) next (active - 1) failed (set_idle txns next active failed h t first) each.1
+    (λ s among. ap (λ (y : Txn). busy y.mark) (set_txn-other txns t idle s (λ e. let here : is_among t ts ≡ true = subst (λ (n : ℕ). is_among n ts ≡ true) e among in absurd (true≢false (sym here ∙ each.0)))) ∙ some s (or_true (s == t) (is_among s ts) among)) in
+    let few : length ts ≤ active - 1 = rest.1 in
+    (of_active (idle_all (set_txn txns t idle) ts) next (active - 1 - length ts) failed rest.0 (active - suc (length ts)) (omega arith), omega arith)
 
 -- a reply that begins and ends nothing
 abbrev IsPlain : Reply → Type 0
@@ -165,17 +184,17 @@ answer_plain (Scan lo hi n) m = (refl, refl, refl)
 answer_plain (Insert k r) m = plain_insert (is_some (get m k))
 answer_plain (Delete k) m = plain_delete (is_some (get m k))
 
--- what a step leaves, and what its reply began and ended
+-- what a step leaves, and, where nobody waits for a force, what its reply began and ended
 abbrev pub Leaves : View → Reply → View → Type 0
-Leaves v r w = IsBusy w × IsCounted r v.active w.active
+Leaves v r w = Busy w.txns w.next w.active w.failed × (v.queue ≡ [] → IsCounted r v.active w.active)
 
 leaves_at : (v w w' : View) (r r' : Reply) → r ≡ r' → w ≡ w' → Leaves v r' w' → Leaves v r w
 leaves_at v w w' r r' e is h = subst (λ (x : Reply × View). Leaves v x.0 x.1) (λ i. (sym e i, sym is i)) h
 
-plain_leaves : (v w : View) (r : Reply) → IsPlain r → IsBusy w → w.active ≡ v.active → Leaves v r w
-plain_leaves v w r p h e = let a = p.0 in let b = p.1 in let c = p.2 in (h, omega arith)
+plain_leaves : (v w : View) (r : Reply) → IsPlain r → Busy w.txns w.next w.active w.failed → w.active ≡ v.active → Leaves v r w
+plain_leaves v w r p h e = let a = p.0 in let b = p.1 in let c = p.2 in (h, λ alone. omega arith)
 
-pub broken_busy : (v : View) (ls : ℕ → List Lock) → IsBusy v → IsBusy (broken v ls)
+pub broken_busy : (v : View) (ls : ℕ → List Lock) → Busy v.txns v.next v.active v.failed → Busy (broken v ls).txns v.next v.active true
 broken_busy v ls h = record {
   active_is = h.active_is ∙ busy_below-same v.txns (λ s. record (v.txns s) { locks = ls s }) v.next (λ s l. refl);
   fresh = h.fresh;
@@ -183,49 +202,72 @@ broken_busy v ls h = record {
 }
 
 goes_leaves : (v w : View) (s : Step) (r : Reply) → IsBusy v → Goes v s r w → Leaves v r w
-goes_leaves v w s r h (begins a limit b c) = leaves_at v w (begun v) r (Started v.next) b c (begin_busy v.txns v.next v.active v.failed h (record idle { mark = Going }) refl, omega arith)
-goes_leaves v w s r h (does t a ls b going free same d e) =
-    leaves_at v w (did v t a ls) r (answer a v.walk) d e (plain_leaves v (did v t a ls) (answer a v.walk) (answer_plain a v.walk) (set_busy v.txns v.next v.active v.failed h t (did_txn (v.txns t) a v.walk ls) (ap busy going) refl) refl)
-goes_leaves v w s r h (waits t a holder b going wait d e) = leaves_at v w v r (Blocked holder) d e (h, refl)
-goes_leaves v w s r h (dies t a b going die d e) =
-    leaves_at v w (marked v t MustRollBack) r Die d e (set_busy v.txns v.next v.active v.failed h t (record (v.txns t) { mark = MustRollBack }) (ap busy going) refl, refl)
-goes_leaves v w s r h (commits t b going d e) =
-    let some = some_active v.txns v.next v.active v.failed h t (ap busy going) in
-    leaves_at v w (committed_by v t) r Committed d e (set_idle v.txns v.next v.active v.failed h t (ap busy going), omega arith)
-goes_leaves v w s r h (drops t b may none d e) =
-    let some = some_active v.txns v.next v.active v.failed h t (busy_may ((v.txns t).mark) may) in
-    leaves_at v w (dropped_by v t) r RolledBack d e (set_idle v.txns v.next v.active v.failed h t (busy_may ((v.txns t).mark) may), omega arith)
-goes_leaves v w s r h (turns t x xs b may net d e) =
-    leaves_at v w (marked v t RollingBack) r More d e (set_busy v.txns v.next v.active v.failed h t (record (v.txns t) { mark = RollingBack }) (busy_may ((v.txns t).mark) may) refl, refl)
-goes_leaves v w s r h (undoes t x y xs b rolling net d e) =
-    leaves_at v w (undid_more v t x (y ∷ xs)) r More d e (set_busy v.txns v.next v.active v.failed h t (record (v.txns t) { net = y ∷ xs }) (ap busy rolling) (ap busy rolling), refl)
-goes_leaves v w s r h (ends t x b rolling net d e) =
-    let some = some_active v.txns v.next v.active v.failed h t (ap busy rolling) in
-    leaves_at v w (undid_last v t x) r RolledBack d e (set_idle v.txns v.next v.active v.failed h t (ap busy rolling), omega arith)
-goes_leaves v w s r h (flushes p b d e) = leaves_at v w v r Done d e (h, refl)
-goes_leaves v w s r h (forces b d e) = leaves_at v w v r Done d e (h, refl)
-goes_leaves v w s r h (checkpoints b d e) = leaves_at v w v r Done d e (h, refl)
-goes_leaves v w s r h (lacks fault want d e) = leaves_at v w v r (Refused fault) d e (h, refl)
-goes_leaves v w s r h (breaks fault ls break d e) = leaves_at v w (broken v ls) r (Refused fault) d e (broken_busy v ls h, refl)
+goes_leaves v w s r b (begins a limit x c) = leaves_at v w (begun v) r (Started v.next) x c (begin_busy v.txns v.next v.active v.failed b.0 (record idle { mark = Going }) refl, λ alone. omega arith)
+goes_leaves v w s r b (does t a ls x going free same d e) =
+    leaves_at v w (did v t a ls) r (answer a v.walk) d e (plain_leaves v (did v t a ls) (answer a v.walk) (answer_plain a v.walk) (set_busy v.txns v.next v.active v.failed b.0 t (did_txn (v.txns t) a v.walk ls) (ap busy going) refl) refl)
+goes_leaves v w s r b (waits t a holder x going wait d e) = leaves_at v w v r (Blocked holder) d e (b.0, λ alone. refl)
+goes_leaves v w s r b (dies t a x going die d e) =
+    leaves_at v w (marked v t MustRollBack) r Die d e (set_busy v.txns v.next v.active v.failed b.0 t (record (v.txns t) { mark = MustRollBack }) (ap busy going) refl, λ alone. refl)
+goes_leaves v w s r b (commits t x going some_wait d e) =
+    let some = some_active v.txns v.next v.active v.failed b.0 t (ap busy going) in
+    leaves_at v w (committed_by v t) r Committed d e (set_idle v.txns v.next v.active v.failed b.0 t (ap busy going), λ alone. omega arith)
+goes_leaves v w s r b (queues t c cs x going some d e) =
+    leaves_at v w (queued v t) r More d e (set_busy v.txns v.next v.active v.failed b.0 t (record (v.txns t) { mark = Committing }) (ap busy going) refl, λ alone. refl)
+goes_leaves v w s r b (drops t x may none d e) =
+    let some = some_active v.txns v.next v.active v.failed b.0 t (busy_may ((v.txns t).mark) may) in
+    leaves_at v w (dropped_by v t) r RolledBack d e (set_idle v.txns v.next v.active v.failed b.0 t (busy_may ((v.txns t).mark) may), λ alone. omega arith)
+goes_leaves v w s r b (turns t x xs y may net d e) =
+    leaves_at v w (marked v t RollingBack) r More d e (set_busy v.txns v.next v.active v.failed b.0 t (record (v.txns t) { mark = RollingBack }) (busy_may ((v.txns t).mark) may) refl, λ alone. refl)
+goes_leaves v w s r b (undoes t x y xs z rolling net d e) =
+    leaves_at v w (undid_more v t x (y ∷ xs)) r More d e (set_busy v.txns v.next v.active v.failed b.0 t (record (v.txns t) { net = y ∷ xs }) (ap busy rolling) (ap busy rolling), λ alone. refl)
+goes_leaves v w s r b (ends t x y rolling net d e) =
+    let some = some_active v.txns v.next v.active v.failed b.0 t (ap busy rolling) in
+    leaves_at v w (undid_last v t x) r RolledBack d e (set_idle v.txns v.next v.active v.failed b.0 t (ap busy rolling), λ alone. omega arith)
+goes_leaves v w s r b (puts_later t k i ls x going none absent free same d e) =
+    leaves_at v w (with_change (locked v t ls) t (Puts k i)) r More d e (set_busy v.txns v.next v.active v.failed b.0 t (record (v.txns t) { locks = ls }) (ap busy going) (ap busy going), λ alone. refl)
+goes_leaves v w s r b (puts t k i x going under d e) =
+    leaves_at v w (change_made (did v t (Insert k i) ((v.txns t).locks))) r Inserted d e (set_busy v.txns v.next v.active v.failed b.0 t (did_txn (v.txns t) (Insert k i) v.walk ((v.txns t).locks)) (ap busy going) refl, λ alone. refl)
+goes_leaves v w s r b (drops_first t k i ls x going none there free same d e) =
+    leaves_at v w (with_change (did v t (Delete k) ls) t (Drops k)) r More d e (set_busy v.txns v.next v.active v.failed b.0 t (did_txn (v.txns t) (Delete k) v.walk ls) (ap busy going) refl, λ alone. refl)
+goes_leaves v w s r b (drops_leaf t k x going under d e) = leaves_at v w (change_made v) r Deleted d e (b.0, λ alone. refl)
+goes_leaves v w s r b (takes_later t c cs x rolling none net d e) = leaves_at v w (with_change v t TakesBack) r More d e (b.0, λ alone. refl)
+goes_leaves v w s r b (takes_first t c cs x rolling none net d e) =
+    leaves_at v w (with_change (undid_more v t c cs) t TookBack) r More d e (set_busy v.txns v.next v.active v.failed b.0 t (record (v.txns t) { net = cs }) (ap busy rolling) (ap busy rolling), λ alone. refl)
+goes_leaves v w s r b (takes_leaf t c cs x rolling under net d e) = leaves_at v w (change_made v) r More d e (b.0, λ alone. refl)
+goes_leaves v w s r b (takes_last t x rolling under none d e) =
+    let some = some_active v.txns v.next v.active v.failed b.0 t (ap busy rolling) in
+    leaves_at v w (change_made (dropped_by v t)) r RolledBack d e (set_idle v.txns v.next v.active v.failed b.0 t (ap busy rolling), λ alone. omega arith)
+goes_leaves v w s r b (logs_page t u x under owner d e) = leaves_at v w v r More d e (b.0, λ alone. refl)
+goes_leaves v w s r b (tree_blocks t a u x under other d e) = leaves_at v w v r BlockedTree d e (b.0, λ alone. refl)
+goes_leaves v w s r b (tree_halts t u x under other d e) = leaves_at v w v r BlockedTree d e (b.0, λ alone. refl)
+goes_leaves v w s r b (flushes p x d e) = leaves_at v w v r Done d e (b.0, λ alone. refl)
+goes_leaves v w s r b (forces x d e) =
+    leaves_at v w (forced_by v) r Done d e (
+      (force_busy v.queue v.txns v.next v.active v.failed b.0 b.1.each (λ t some. ap busy (b.1.waits t some))).0,
+      λ alone. let none : length v.queue ≡ 0 = ap length alone in omega arith,
+    )
+goes_leaves v w s r b (checkpoints x d e) = leaves_at v w v r Done d e (b.0, λ alone. refl)
+goes_leaves v w s r b (lacks fault want d e) = leaves_at v w v r (Refused fault) d e (b.0, λ alone. refl)
+goes_leaves v w s r b (breaks fault ls break d e) = leaves_at v w (broken v ls) r (Refused fault) d e (broken_busy v ls b.0, λ alone. refl)
 
-answers_leaves : (v w : View) (s : Step) (r : Reply) → IsBusy v → (o : Option ℕ) → Answers v s r w o → Leaves v r w
-answers_leaves v w s r h None a = goes_leaves v w s r h a
-answers_leaves v w s r h (Some f) a = leaves_at v w v r (Refused f) a.0 a.1 (h, refl)
+answers_leaves : (v w : View) (s : Step) (r : Reply) → IsBusy v → (o : Option ℕ) → Answers v s r w o → IsBusy w × (v.queue ≡ [] → IsCounted r v.active w.active)
+answers_leaves v w s r b None a = let on = goes_leaves v w s r b a in ((on.0, queue_goes v w s r b.1 (b.0.fresh v.next (omega arith)) a), on.1)
+answers_leaves v w s r b (Some f) a = let on = leaves_at v w v r (Refused f) a.0 a.1 (b.0, λ alone. refl) in ((on.0, subst (λ (u : View). IsQueue u.queue u.txns) (sym a.1) b.1), on.1)
 
-pub moves_leaves : (v w : View) (s : Step) (r : Reply) → IsBusy v → Moves v s r w → Leaves v r w
-moves_leaves v w s r h m = answers_leaves v w s r h (barred v s) m
+pub moves_leaves : (v w : View) (s : Step) (r : Reply) → IsBusy v → Moves v s r w → IsBusy w × (v.queue ≡ [] → IsCounted r v.active w.active)
+moves_leaves v w s r b m = answers_leaves v w s r b (barred v s) m
 
 pub runs_busy : (v w : View) (events : List Event) → IsBusy v → Runs v events w → IsBusy w
 runs_busy v w [] h run = subst IsBusy (sym run) h
 runs_busy v w (Made step reply ∷ events) h run = runs_busy run.0 w events ((moves_leaves v run.0 step reply h run.1).0) run.2
-runs_busy v w (Broke locks ∷ events) h run = runs_busy (broken v locks) w events (broken_busy v locks h) run
+runs_busy v w (Broke locks ∷ events) h run = runs_busy (broken v locks) w events (broken_busy v locks h.0, queue_breaks v locks h.1) run
 
 none_busy : (n : ℕ) → 0 ≡ busy_below (λ t. idle) n
 none_busy zero = refl
 none_busy (suc n) = let e = none_busy n in omega arith
 
 pub start_busy : (base : IndexMap) (n : ℕ) → IsBusy (start base n)
-start_busy base n = record { active_is = none_busy n; fresh = λ s l. refl; rest = λ f s e. refl }
+start_busy base n = (record { active_is = none_busy n; fresh = λ s l. refl; rest = λ f s e. refl }, record { each = tt; waits = λ t some. absurd (cc some); all = λ t is. cc is })
 
 idle_at : (m : Mark) → busy m ≡ 0 → m ≡ Idle
 idle_at Idle e = refl
@@ -244,7 +286,7 @@ idle_below txns (suc n) t none l =
 
 -- where nothing is active, every transaction is as if it never was
 pub all_idle : (v : View) → IsBusy v → v.failed ≡ false → v.active ≡ 0 → (t : ℕ) → v.txns t ≡ idle
-all_idle v h f none t = h.rest f t (elim (cases_lt t v.next) [
-  | inl l ↦ idle_below v.txns v.next t (sym h.active_is ∙ none) l
-  | inr l ↦ h.fresh t l
+all_idle v h f none t = h.0.rest f t (elim (cases_lt t v.next) [
+  | inl l ↦ idle_below v.txns v.next t (sym h.0.active_is ∙ none) l
+  | inr l ↦ h.0.fresh t l
 ])

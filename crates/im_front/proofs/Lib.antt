@@ -1,3 +1,4 @@
 pub mod Balance
+pub mod Growing
 pub mod Replies
 pub mod Steps

@@ -1,16 +1,16 @@
 -- What the machine answers, a store may: a reply that suits its step, and no full trace. And a machine that has failed stays so.
 use Rattle.std.proofs.Common.{◌≡◌, ℕ, zero, suc, ◌≤◌, Bool, true, false, true≢false, List, [], ◌∷◌, length, take, Option, Some, None, refl, ap, sym, subst, ◌∙◌, inl, inr, arith}
-use Rattle.std.specs.Prelude.{◌==◌, cond, is_some}
+use Rattle.std.specs.Prelude.{◌==◌, cond, is_some, not}
 use Rattle.std.specs.FinMap.{get}
 use Rattle.im_base_types.specs.Pages as pages
 use Rattle.im_base_types.specs.Maps.{IndexMap, From, Above, first}
 use Rattle.im_base_types.specs.Refusals.{failed as has_failed}
 use Rattle.im_base_types.specs.Answers.{Access, Fetch, Seek, Next, Scan, Insert, Delete, Step, Begin, Do, Commit, Rollback, Continue, FlushPage, Force, Checkpoint, Reply, Started, Found, Absent, Entry, End, Entries, Inserted, Duplicate, Deleted, Committed, RolledBack, More, Blocked, BlockedTree, Die, Done, Refused, Mark, Idle, Going, MustRollBack, RollingBack, Committing, found, entry, answer, limit_of}
 use Rattle.im_base_types.specs.Lives.{Shown, shows, accessed}
-use Rattle.im_engine_lock.specs.View.{View}
-use Rattle.im_engine_lock.specs.Machine.{barred, barred_to, barred_to_rollback, barred_to_continue, or_else, fault_if, Answers, Goes, Moves, Wants, Breaks, begins, does, waits, dies, commits, drops, turns, undoes, ends, flushes, forces, checkpoints, lacks, breaks}
-use Rattle.im_front.specs.Calls.{most_entries, entries_in, most_key, has_entry, is_blocked}
-use Rattle.im_front.specs.Replies.{is_full, is_search, Suits, IsReply, IsCounted}
+use Rattle.im_base_lock.specs.View.{View, pending_of}
+use Rattle.im_base_lock.specs.Machine.{keys_fit, barred, barred_to, barred_to_rollback, barred_to_continue, or_else, fault_if, Answers, Goes, Moves, Wants, Breaks, begins, does, waits, dies, commits, queues, drops, turns, undoes, ends, puts_later, puts, drops_first, drops_leaf, takes_later, takes_first, takes_leaf, takes_last, logs_page, tree_blocks, tree_halts, flushes, forces, checkpoints, lacks, breaks}
+use Rattle.im_base_steps.specs.Calls.{most_entries, entries_in, most_key, has_entry, is_blocked}
+use Rattle.im_base_steps.specs.Replies.{is_full, is_search, Suits, IsReply, IsCounted}
 
 -- ---- no reply is a full trace
 
@@ -26,6 +26,10 @@ fault_if-full : (b : Bool) (f : ℕ) → (f == 14) ≡ false → NotFull (fault_
 fault_if-full true f e = e
 fault_if-full false f e = tt
 
+unless-full : (b : Bool) (o : Option ℕ) → NotFull o → NotFull (cond b None o)
+unless-full true o e = tt
+unless-full false o e = e
+
 mark-full : (m : Mark) → NotFull (barred_to m) × NotFull (barred_to_rollback m) × NotFull (barred_to_continue m)
 mark-full Idle = (refl, refl, refl)
 mark-full Going = (tt, tt, refl)
@@ -35,10 +39,11 @@ mark-full Committing = (refl, refl, refl)
 
 barred-full : (v : View) (s : Step) → NotFull (barred v s)
 barred-full v Begin = or_else-full _ _ (fault_if-full v.failed 10 refl) (fault_if-full _ 12 refl)
-barred-full v (Do t a) = or_else-full _ _ (fault_if-full v.failed 10 refl) (or_else-full _ _ ((mark-full ((v.txns t).mark)).0) (fault_if-full _ 3 refl))
-barred-full v (Commit t) = or_else-full _ _ (fault_if-full v.failed 10 refl) ((mark-full ((v.txns t).mark)).0)
-barred-full v (Rollback t) = or_else-full _ _ (fault_if-full v.failed 10 refl) ((mark-full ((v.txns t).mark)).1)
-barred-full v (Continue t) = or_else-full _ _ (fault_if-full v.failed 10 refl) ((mark-full ((v.txns t).mark)).2)
+barred-full v (Do t a) = or_else-full _ _ (fault_if-full v.failed 10 refl) (or_else-full (barred_to ((v.txns t).mark)) (or_else (fault_if (is_some (pending_of v.under t)) 17) (fault_if (not (keys_fit a)) 3)) ((mark-full ((v.txns t).mark)).0)
+    (or_else-full (fault_if (is_some (pending_of v.under t)) 17) (fault_if (not (keys_fit a)) 3) (fault_if-full (is_some (pending_of v.under t)) 17 refl) (fault_if-full (not (keys_fit a)) 3 refl)))
+barred-full v (Commit t) = or_else-full _ _ (fault_if-full v.failed 10 refl) (or_else-full _ _ ((mark-full ((v.txns t).mark)).0) (fault_if-full _ 17 refl))
+barred-full v (Rollback t) = or_else-full _ _ (fault_if-full v.failed 10 refl) (or_else-full _ _ ((mark-full ((v.txns t).mark)).1) (fault_if-full _ 17 refl))
+barred-full v (Continue t) = or_else-full _ _ (fault_if-full v.failed 10 refl) (unless-full _ _ ((mark-full ((v.txns t).mark)).2))
 barred-full v (FlushPage p) = fault_if-full v.failed 10 refl
 barred-full v Force = fault_if-full v.failed 10 refl
 barred-full v Checkpoint = fault_if-full v.failed 10 refl
@@ -94,11 +99,23 @@ goes-full v w s r (begins a limit b c) = ap is_full b
 goes-full v w s r (does t a ls b going free same d e) = ap is_full d ∙ answer-full a v.walk
 goes-full v w s r (waits t a holder b going wait d e) = ap is_full d
 goes-full v w s r (dies t a b going die d e) = ap is_full d
-goes-full v w s r (commits t b going d e) = ap is_full d
+goes-full v w s r (commits t b going some d e) = ap is_full d
+goes-full v w s r (queues t c cs b going some d e) = ap is_full d
 goes-full v w s r (drops t b may none d e) = ap is_full d
 goes-full v w s r (turns t x xs b may net d e) = ap is_full d
 goes-full v w s r (undoes t x y xs b rolling net d e) = ap is_full d
 goes-full v w s r (ends t x b rolling net d e) = ap is_full d
+goes-full v w s r (puts_later u k i ls b is none absent unheld same d e) = ap is_full d
+goes-full v w s r (puts u k i b is under d e) = ap is_full d
+goes-full v w s r (drops_first u k i ls b is none there unheld same d e) = ap is_full d
+goes-full v w s r (drops_leaf u k b is under d e) = ap is_full d
+goes-full v w s r (takes_later u c cs b is none net_is d e) = ap is_full d
+goes-full v w s r (takes_first u c cs b is none net_is d e) = ap is_full d
+goes-full v w s r (takes_leaf u c cs b is under net_is d e) = ap is_full d
+goes-full v w s r (takes_last u b is under empty d e) = ap is_full d
+goes-full v w s r (logs_page u x b under owner d e) = ap is_full d
+goes-full v w s r (tree_blocks u a x b under other d e) = ap is_full d
+goes-full v w s r (tree_halts u x b under other d e) = ap is_full d
 goes-full v w s r (flushes p b d e) = ap is_full d
 goes-full v w s r (forces b d e) = ap is_full d
 goes-full v w s r (checkpoints b d e) = ap is_full d
@@ -151,11 +168,23 @@ goes_suits v w s r (begins a limit b c) = suits_at s Begin r _ a b refl
 goes_suits v w s r (does t a ls b going free same d e) = suits_at s (Do t a) r _ b d (answer_suits t a v.walk)
 goes_suits v w s r (waits t a holder b going wait d e) = suits_at s (Do t a) r (Blocked holder) b d refl
 goes_suits v w s r (dies t a b going die d e) = suits_at s (Do t a) r Die b d refl
-goes_suits v w s r (commits t b going d e) = suits_at s (Commit t) r Committed b d refl
+goes_suits v w s r (commits t b going some d e) = suits_at s (Commit t) r Committed b d refl
+goes_suits v w s r (queues t c cs b going some d e) = suits_at s (Commit t) r More b d refl
 goes_suits v w s r (drops t b may none d e) = suits_at s (Rollback t) r RolledBack b d refl
 goes_suits v w s r (turns t x xs b may net d e) = suits_at s (Rollback t) r More b d refl
 goes_suits v w s r (undoes t x y xs b rolling net d e) = suits_at s (Continue t) r More b d refl
 goes_suits v w s r (ends t x b rolling net d e) = suits_at s (Continue t) r RolledBack b d refl
+goes_suits v w s r (puts_later u k i ls b is none absent unheld same d e) = suits_at s (Do u (Insert k i)) r More b d refl
+goes_suits v w s r (puts u k i b is under d e) = suits_at s (Continue u) r Inserted b d refl
+goes_suits v w s r (drops_first u k i ls b is none there unheld same d e) = suits_at s (Do u (Delete k)) r More b d refl
+goes_suits v w s r (drops_leaf u k b is under d e) = suits_at s (Continue u) r Deleted b d refl
+goes_suits v w s r (takes_later u c cs b is none net_is d e) = suits_at s (Continue u) r More b d refl
+goes_suits v w s r (takes_first u c cs b is none net_is d e) = suits_at s (Continue u) r More b d refl
+goes_suits v w s r (takes_leaf u c cs b is under net_is d e) = suits_at s (Continue u) r More b d refl
+goes_suits v w s r (takes_last u b is under empty d e) = suits_at s (Continue u) r RolledBack b d refl
+goes_suits v w s r (logs_page u x b under owner d e) = suits_at s (Continue u) r More b d refl
+goes_suits v w s r (tree_blocks u a x b under other d e) = suits_at s (Do u a) r BlockedTree b d refl
+goes_suits v w s r (tree_halts u x b under other d e) = suits_at s (Continue u) r BlockedTree b d refl
 goes_suits v w s r (flushes p b d e) = suits_at s (FlushPage p) r Done b d refl
 goes_suits v w s r (forces b d e) = suits_at s Force r Done b d refl
 goes_suits v w s r (checkpoints b d e) = suits_at s Checkpoint r Done b d refl
@@ -285,13 +314,25 @@ goes-blocked v w s r (begins a limit b c) = unblocked v w r _ b refl
 goes-blocked v w s r (does t a ls b going free same d e) = unblocked v w r (answer a v.walk) d (answer-unblocked a v.walk)
 goes-blocked v w s r (waits t a holder b going wait d e) = λ q. e
 goes-blocked v w s r (dies t a b going die d e) = unblocked v w r _ d refl
-goes-blocked v w s r (commits t b going d e) = unblocked v w r _ d refl
+goes-blocked v w s r (commits t b going some d e) = unblocked v w r _ d refl
+goes-blocked v w s r (queues t c cs b going some d e) = unblocked v w r _ d refl
 goes-blocked v w s r (drops t b may none d e) = unblocked v w r _ d refl
 goes-blocked v w s r (turns t x xs b may net d e) = unblocked v w r _ d refl
 goes-blocked v w s r (undoes t x y xs b rolling net d e) = unblocked v w r _ d refl
 goes-blocked v w s r (ends t x b rolling net d e) = unblocked v w r _ d refl
+goes-blocked v w s r (puts_later u k i ls b is none absent unheld same d e) = unblocked v w r _ d refl
+goes-blocked v w s r (puts u k i b is under d e) = unblocked v w r _ d refl
+goes-blocked v w s r (drops_first u k i ls b is none there unheld same d e) = unblocked v w r _ d refl
+goes-blocked v w s r (drops_leaf u k b is under d e) = unblocked v w r _ d refl
+goes-blocked v w s r (takes_later u c cs b is none net_is d e) = unblocked v w r _ d refl
+goes-blocked v w s r (takes_first u c cs b is none net_is d e) = unblocked v w r _ d refl
+goes-blocked v w s r (takes_leaf u c cs b is under net_is d e) = unblocked v w r _ d refl
+goes-blocked v w s r (takes_last u b is under empty d e) = unblocked v w r _ d refl
+goes-blocked v w s r (logs_page u x b under owner d e) = unblocked v w r _ d refl
+goes-blocked v w s r (tree_blocks u a x b under other d e) = λ q. e
+goes-blocked v w s r (tree_halts u x b under other d e) = λ q. e
 goes-blocked v w s r (flushes p b d e) = λ q. e
-goes-blocked v w s r (forces b d e) = λ q. e
+goes-blocked v w s r (forces b d e) = unblocked v w r _ d refl
 goes-blocked v w s r (checkpoints b d e) = λ q. e
 goes-blocked v w s r (lacks fault want d e) = λ q. e
 goes-blocked v w s r (breaks fault ls break d e) = unblocked v w r (Refused fault) d refl

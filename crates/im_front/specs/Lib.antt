@@ -1,5 +1,4 @@
-pub mod Calls
 pub mod Events
 pub mod Held
-pub mod Replies
-pub mod Store
+pub mod Plain
+pub mod Traces

@@ -4,21 +4,20 @@ ghost use Rattle.std.specs.Prelude.{◌≡◌, ◌≤◌, ◌+◌, ◌⊎◌, Li
 ghost use Rattle.std.specs.List.{sum_by, All};
 ghost use Rattle.im_base_types.specs.Changes.{Effect};
 ghost use Rattle.im_base_types.specs.Lives.{Shown};
-ghost use Rattle.im_engine_lock.specs.View.{View};
+ghost use Rattle.im_base_lock.specs.View.{View};
 ghost use Rattle.im_front_stats.specs.Counts.{NoLess};
-ghost use Rattle.im_front.specs.declared.fault.Fault.TheVariants.{Memory};
-ghost use Rattle.im_front.specs.Calls.{told_by, trace_of, is_blocked, counts_of};
-ghost use Rattle.im_front.specs.Replies.{is_full, lacks_memory, IsReply};
-ghost use Rattle.im_front.specs.Store.{LookKept};
+ghost use Rattle.im_base_types.specs.declared.fault.Fault.TheVariants.{Busy, Failed, Memory, TooMany, TraceFull};
+ghost use Rattle.im_base_steps.specs.Calls.{told_by, is_blocked};
+ghost use Rattle.im_front.specs.Traces.{trace_of, counts_of};
+ghost use Rattle.im_base_steps.specs.Replies.{is_full, lacks_memory, IsReply};
+ghost use Rattle.im_base_steps.specs.Store.{LookKept};
 ghost use Rattle.im_front.specs.Held.{IsResting, IsRun, StopKeeps};
 
-use crate::fault::Fault;
 use crate::held::{Closed, Held};
-use crate::reply::Reply;
 use crate::share::Share;
 use crate::stats::Stats;
-use crate::step::Step;
-use crate::store::Store;
+use im_base_steps::{Reply, Step, Store};
+use im_base_types::Fault;
 use std::alloc::Global;
 use std::sync::ledger::{Blank, Ledger};
 use std::sync::{Condvar, Mutex, Wait};
@@ -49,7 +48,8 @@ impl<E: Store, L: Ledger> Front<E, L> {
 
     /// A share, which has made no step: one for each thread. Refused `TooMany` after the 1,024th, and `Memory`.
     pub fn share<R: Wait>(&self, rt: &R) -> Result<Share<L>, Fault>
-        ensures { IfOk result (λ s. s.made.amount ≡ 0) }
+        ensures none { IfOk result (λ s. s.made.amount ≡ 0) }
+        ensures causes { IfErr result (λ fault. (fault ≡ TooMany) ⊎ (fault ≡ Memory)) }
     {
         self.held.lock(rt).share()
     }
@@ -78,7 +78,9 @@ impl<E: Store, L: Ledger> Front<E, L> {
 
     /// Makes what is committed the base of the trace, and empties it. Refused `Failed`, then `Busy` while a transaction is active,
     /// then `TraceFull` where the steps cut would pass 2^62, then as `entries` is.
-    pub fn cut_trace<R: Wait>(&self, rt: &R) -> Result<(), Fault> {
+    pub fn cut_trace<R: Wait>(&self, rt: &R) -> Result<(), Fault>
+        ensures causes { IfErr result (λ fault. (fault ≡ Failed) ⊎ ((fault ≡ Busy) ⊎ ((fault ≡ TraceFull) ⊎ ((old new : E) × E.refuses old new fault)))) }
+    {
         self.held.lock(rt).cut_trace()
     }
 

@@ -7,23 +7,21 @@ ghost use Rattle.std.specs.FinMap.{entries};
 ghost use Rattle.crossbeam_utils.specs.Seq.{cell_view};
 ghost use Rattle.im_base_types.specs.Changes.{Effect};
 ghost use Rattle.im_base_types.specs.Lives.{Shown};
-ghost use Rattle.im_engine_lock.specs.View.{View};
+ghost use Rattle.im_base_lock.specs.View.{View};
 ghost use Rattle.im_front_stats.specs.Counts.{nothing, writer, started, committed, rolled_back, IsSound, NoLess};
-ghost use Rattle.im_front.specs.declared.fault.Fault.TheVariants.{Failed, Busy, TooMany, TraceFull, Memory};
-ghost use Rattle.im_front.specs.Calls.{asked_by, told_by, trace_of, is_blocked, may_end, most_entries, most_key};
-ghost use Rattle.im_front.specs.Replies.{is_full, IsReply};
-ghost use Rattle.im_front.specs.Store.{LookKept};
+ghost use Rattle.im_base_types.specs.declared.fault.Fault.TheVariants.{Failed, Busy, TooMany, TraceFull, Memory};
+ghost use Rattle.im_base_steps.specs.Calls.{asked_by, told_by, is_blocked, may_end, most_entries, most_key};
+ghost use Rattle.im_front.specs.Traces.{trace_of};
+ghost use Rattle.im_base_steps.specs.Replies.{is_full, lacks_memory, IsReply};
+ghost use Rattle.im_base_steps.specs.Store.{LookKept};
 ghost use Rattle.im_front.specs.Held.{IsResting, Records, IsRun, StopKeeps, IsCut, WhyNotCut, after_reply, after_trace};
 
-use crate::fault::Fault;
 use crate::recorded::Recorded;
-use crate::reply::Reply;
 use crate::share::Share;
-use crate::step::Step;
-use crate::store::Store;
 use crate::told::{Room, Told};
-use im_base_types::{Key, Rid};
-use im_engine_lock::isolation;
+use im_base_lock::isolation;
+use im_base_steps::{Reply, Step, Store};
+use im_base_types::{Fault, Key, Rid};
 use im_front_stats::{Pass, StatsCell};
 use std::alloc::Global;
 use std::marker::Model;
@@ -37,7 +35,7 @@ const FULL: usize = 65_536;
 const MOST_CUT: u64 = 1 << 62;
 
 /// How many shares there are.
-const SHARES: u64 = 1024;
+pub(crate) const SHARES: u64 = 1024;
 
 /// The value behind the lock: an engine, and the trace of its steps from the base entries on.
 #[derive(Drop)]
@@ -61,7 +59,7 @@ impl<E: Store, L: Ledger> Model for Held<E, L> {
     ghost use Rattle.std.specs.Arc.{arc_value};
     ghost use Rattle.crossbeam_utils.specs.Seq.{cell_view};
     ghost use Rattle.im_front_stats.specs.Counts.{writer};
-    ghost use Rattle.im_front.specs.Calls.{trace_of};
+    ghost use Rattle.im_front.specs.Traces.{trace_of};
     ghost use Rattle.im_front.specs.Held.{State, IsTallied, Stands};
 
     ghost Value = { State E };
@@ -254,6 +252,7 @@ impl<E: Store, L: Ledger> Held<E, L> {
     pub fn step<R: Wait>(&mut self, rt: &R, mine: &mut Share<L>, step: &Step) -> Reply
         ensures records { Records (asked_by step.now) (told_by result) self.old self.new mine.old.made.amount mine.new.made.amount }
         ensures full { is_full (told_by result) ≡ true ↔ ((65536 ≤ length self.old.trace) × (may_end (asked_by step.now) ≡ false)) }
+        ensures made { is_full (told_by result) ≡ false → lacks_memory (told_by result) ≡ false → E.made self.old.engine step.now result self.new.engine }
     {
         if is_refused(self.trace.len(), step) {
             return Reply::Refused(Fault::TraceFull);
@@ -289,7 +288,7 @@ impl<E: Store, L: Ledger> Held<E, L> {
 }
 
 // Writes the counts to the cell of statistics, where they are not those that it has.
-fn publish<R: Wait>(
+pub(crate) fn publish<R: Wait>(
     rt: &R,
     cell: &Arc<StatsCell, Global>,
     pass: &mut Pass,
@@ -339,7 +338,7 @@ fn room_for(alloc: Global, trace: &mut Vec<Recorded>, step: &Step) -> Option<(St
 }
 
 // Puts the shares together, and says how many there were.
-fn gather<L: Ledger>(rest: &mut Part<L>, shares: Vec<Share<L>>) -> u64
+pub(crate) fn gather<L: Ledger>(rest: &mut Part<L>, shares: Vec<Share<L>>) -> u64
     ensures count { result ≡ length shares.items }
     ensures parts { rest.new.parts ≡ rest.old.parts + length shares.items }
     ensures amount { rest.new.amount ≡ rest.old.amount + sum_by (λ s. s.made.amount) shares.items }
@@ -353,7 +352,7 @@ fn gather<L: Ledger>(rest: &mut Part<L>, shares: Vec<Share<L>>) -> u64
 }
 
 // The counts after a step with this reply.
-fn counted(counts: [u64; 3], reply: &Reply) -> [u64; 3]
+pub(crate) fn counted(counts: [u64; 3], reply: &Reply) -> [u64; 3]
     requires { (slice_index counts 0 < 2 ^ 63) × (slice_index counts 1 < 2 ^ 63) × (slice_index counts 2 < 2 ^ 63) × (length counts ≡ 3) }
     ensures { result ≡ after_reply counts (told_by reply.now) }
 {

@@ -3,7 +3,7 @@
 //! **What lies under the lock** (`Held`): an engine, the entries from which the trace begins, the steps with their replies, and
 //! three counts. What holds each time that the lock is free is the invariant of the type, and `holds_always` says what follows.
 //! Over any engine (`IsTallied`) each reply of the trace suits its step, the counts are those of the trace, and what was started
-//! has ended or is active. Over an engine that tells what it holds (`Stands`) the trace is a run of the machine of `im_engine_lock`, from
+//! has ended or is active. Over an engine that tells what it holds (`Stands`) the trace is a run of the machine of `im_base_lock`, from
 //! the map of the base entries to a view of the engine: a stop then leaves the base entries with a front of what the trace asked,
 //! each acknowledged commit in it. `Held::step` adds to the trace exactly the step and the reply that it answers.
 //!
@@ -14,34 +14,33 @@
 //! **The lock** (`Front`): `call` takes it, makes the step, and while the reply is `Blocked` waits until a transaction has
 //! ended, and makes it again. Nothing is claimed of who comes first, nor that a waiting call returns.
 //!
-//! **The engine** is any `Store`: its replies suit their steps, and it counts its transactions; where it tells what it holds its
-//! steps are the machine's, a stop keeps what it acknowledged, and where nothing is active a new life begins with what was
-//! committed. A store over real files tells nothing, and threads share it all the same. `Step`, `Reply` and `Fault` are those of a
-//! store of many transactions.
+//! **The engine** is any `Store` of `im_base_steps`: its replies suit their steps, and it counts its transactions; where it tells
+//! what it holds its steps are the machine's, a stop keeps what it acknowledged, and where nothing is active a new life begins with
+//! what was committed. A store over real files tells nothing, and threads share it all the same.
 #![tactic(auto)]
 
-mod fault;
 mod front;
 mod held;
 mod load_args;
+mod open;
+mod plain;
 mod recorded;
-mod reply;
+mod scoped;
+mod seat;
 mod share;
 mod stats;
-mod step;
-mod store;
 mod told;
-mod turn;
+mod trace;
 
-pub use fault::Fault;
 pub use front::Front;
 pub use held::{Closed, Held};
 pub use load_args::LoadArgs;
+pub use open::{Kept, Left, Open};
+pub use plain::{Ended, Plain, Shared};
 pub use recorded::Recorded;
-pub use reply::{Blocker, Reply};
+pub use scoped::{Work, serve};
+pub use seat::{Rested, Seat};
 pub use share::Share;
 pub use stats::Stats;
-pub use step::Step;
-pub use store::Store;
 pub use told::Told;
-pub use turn::{NoTurn, Turn};
+pub use trace::Trace;

@@ -1,7 +1,7 @@
 //! A step of the trace.
 
-use crate::step::Step;
 use crate::told::Told;
+use im_base_steps::Step;
 
 /// A step that was made, and the reply that it was answered.
 #[derive(Drop)]

@@ -4,7 +4,7 @@ ghost use Rattle.std.specs.Prelude.{◌≡◌, ◌+◌, ◌≤◌, length};
 ghost use Rattle.std.specs.Arc.{arc_value};
 ghost use Rattle.crossbeam_utils.specs.Seq.{cell_view};
 ghost use Rattle.im_front_stats.specs.Counts.{reader, IsSound, NoLess};
-ghost use Rattle.im_front.specs.Calls.{counts_of};
+ghost use Rattle.im_front.specs.Traces.{counts_of};
 
 use crate::stats::Stats;
 use im_front_stats::{Pass, StatsCell};

@@ -1,12 +1,11 @@
 //! Replies as the trace keeps them.
 
 ghost use Rattle.std.specs.Prelude.{◌≡◌, ◌≤◌, ◌+◌, ◌++◌, true, [], length, vec_len, vec_capacity, IfSome};
-ghost use Rattle.im_front.specs.Calls.{asked_by, told_by, said_by, has_entry, entries_in, most_entries, most_key};
+ghost use Rattle.im_base_steps.specs.Calls.{asked_by, told_by, has_entry, entries_in, most_entries, most_key};
+ghost use Rattle.im_front.specs.Traces.{said_by};
 
-use crate::fault::Fault;
-use crate::reply::{Blocker, Reply};
-use crate::step::Step;
-use im_base_types::{Key, Rid, TxnId};
+use im_base_steps::{Blocker, Reply, Step};
+use im_base_types::{Fault, Key, Rid, TxnId};
 use std::alloc::Global;
 
 /// A reply as the trace keeps it: it says what the `Reply` said. The key of an entry lies on the heap, so that a step of the trace

@@ -3,7 +3,9 @@
 ghost use Rattle.std.specs.Prelude.{◌≡◌, ◌+◌, ◌*◌, OnOk};
 
 use crate::stepping::made;
-use im_front::{Fault, Front, Share, Step, Store};
+use im_base_steps::{Step, Store};
+use im_base_types::Fault;
+use im_front::{Front, Share};
 use std::sync::Wait;
 use std::sync::ledger::Ledger;
 

@@ -1,6 +1,7 @@
 //! What one thread of a load does.
 
-use im_front::{Fault, Share};
+use im_base_types::Fault;
+use im_front::Share;
 use std::sync::ledger::Ledger;
 
 /// Which of the threads of a load it is.

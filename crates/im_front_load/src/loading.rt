@@ -2,14 +2,16 @@
 
 ghost use Rattle.std.specs.Prelude.{◌≡◌, ◌≤◌, ◌+◌, ◌*◌, ℕ, All, List, IfOk, IfSome, length};
 ghost use Rattle.std.specs.List.{sum_by};
-ghost use Rattle.im_front.specs.Calls.{trace_of};
+ghost use Rattle.im_front.specs.Traces.{trace_of};
 ghost use Rattle.im_front.specs.Held.{IsResting, IsRun, StopKeeps};
 ghost use Rattle.im_front_load.specs.Counting.{least_of, IsDone};
 
 use crate::flusher::flush_rounds;
 use crate::job::{Ended, Job, Task};
 use crate::worker::work;
-use im_front::{Closed, Fault, Front, LoadArgs, Share, Stats, Store, Turn};
+use im_base_steps::{Store, Turn};
+use im_base_types::Fault;
+use im_front::{Closed, Front, LoadArgs, Share, Stats};
 use std::alloc::Global;
 use std::sync::Wait;
 use std::sync::ledger::{Blank, Ledger};

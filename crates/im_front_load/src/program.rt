@@ -3,7 +3,9 @@
 ghost use Rattle.std.specs.Prelude.{◌≤◌, IfOk};
 
 use crate::loading::{Loaded, load};
-use im_front::{Fault, LoadArgs, Store, Turn};
+use im_base_steps::{Store, Turn};
+use im_base_types::Fault;
+use im_front::LoadArgs;
 use im_front_memory::MemoryStore;
 use std::alloc::Global;
 use std::io;

@@ -1,10 +1,12 @@
 //! One step of a load.
 
 ghost use Rattle.std.specs.Prelude.{◌≡◌, ◌+◌, false, OnOk, OnErr, IfOk};
-ghost use Rattle.im_front.specs.Calls.{told_by};
-ghost use Rattle.im_front.specs.Replies.{is_full, lacks_memory};
+ghost use Rattle.im_base_steps.specs.Calls.{told_by};
+ghost use Rattle.im_base_steps.specs.Replies.{is_full, lacks_memory};
 
-use im_front::{Fault, Front, Reply, Share, Step, Store};
+use im_base_steps::{Reply, Step, Store};
+use im_base_types::Fault;
+use im_front::{Front, Share};
 use std::sync::Wait;
 use std::sync::ledger::Ledger;
 

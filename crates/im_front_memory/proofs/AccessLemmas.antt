@@ -11,21 +11,20 @@ use Rattle.im_base_types.specs.Changes.{Change, Put, Drop, Effect, apply}
 use Rattle.im_base_types.specs.Answers.{Access, Fetch, Seek, Next, Scan, Insert, Delete, Reply, Mark, Idle, Going, MustRollBack, RollingBack, Committing, Do, Blocked, Die, Absent, Entries, Inserted, Duplicate, Deleted, answer, changes, map_after, found, entry, dropped, limit_of, scan}
 use Rattle.im_base_types.specs.Lives.{Shown, effects}
 use Rattle.im_base_types.specs.Refusals.{failed as has_failed}
-use Rattle.im_engine_txn.specs.declared.transaction.Mark.TheVariants as marks
-use Rattle.im_engine_txn.specs.declared.transaction.Transaction.{Transaction}
-use Rattle.im_engine_txn.specs.Rows.{is_of, changed, with_mark}
-use Rattle.im_engine_txn.proofs.LookUps.{look_ups_follow}
-use Rattle.im_engine_lock.specs.Locks.{Request}
-use Rattle.im_engine_lock.specs.Table.{locks_of, Decides}
-use Rattle.im_engine_lock.specs.Rows.{asked, name_of, next_name}
-use Rattle.im_engine_lock.specs.Found.{Finds, FindsNext, IsScanOf}
-use Rattle.im_engine_lock.specs.Locks.{Name}
-use Rattle.im_engine_lock.specs.declared.verdict.Verdict.TheVariants.{Granted, Wait, Die as MustDie}
-use Rattle.im_engine_lock.specs.View.{View, did, did_txn, marked}
-use Rattle.im_engine_lock.specs.Machine.{barred, barred_to, or_else, fault_if}
-use Rattle.im_engine_lock.proofs.Serving.{table-serves}
-use Rattle.im_engine_lock.proofs.Invariant.{by_txn}
-use Rattle.im_engine_lock.proofs.Bools.{cases_number}
+use Rattle.im_base_txn.specs.declared.transaction.Mark.TheVariants as marks
+use Rattle.im_base_txn.specs.declared.transaction.Transaction.{Transaction}
+use Rattle.im_base_txn.specs.Rows.{is_of, changed, with_mark}
+use Rattle.im_base_txn.proofs.LookUps.{look_ups_follow}
+use Rattle.im_base_lock.specs.Locks.{Request, Name}
+use Rattle.im_base_lock.specs.Table.{locks_of, Decides}
+use Rattle.im_base_lock.specs.Rows.{asked, name_of, next_name}
+use Rattle.im_base_lock.specs.Found.{Finds, FindsNext, IsScanOf}
+use Rattle.im_base_lock.specs.declared.verdict.Verdict.TheVariants.{Granted, Wait, Die as MustDie}
+use Rattle.im_base_lock.specs.View.{View, did, did_txn, marked}
+use Rattle.im_base_lock.specs.Machine.{barred, barred_to, or_else, fault_if}
+use Rattle.im_base_lock.proofs.Serving.{table-serves}
+use Rattle.im_base_lock.proofs.Invariant.{by_txn}
+use Rattle.im_base_lock.proofs.Bools.{cases_number}
 use Rattle.im_theory_steps.proofs.Rows.{length_map}
 use Rattle.im_theory_steps.proofs.Asking.{asks_nothing, waits_ask_nothing, dies_ask_nothing}
 use Rattle.im_front_memory.specs.declared.change.Change as code
@@ -66,7 +65,7 @@ module _ (before : List Effect) (s : Shown) (v : View) (st : State) (h : IsStore
       let x = did_txn (v.txns t) a v.walk (locks_of new.table t) in
       let same : (u : ℕ) → marks_of st u ≡ marks_of new u = λ u. ap (λ (l : List Transaction). mark_at (find (is_of u) l)) (sym rows) in
       subst (λ (r : Reply). Kept before s v (Do t a) r new) (sym told)
-      (moved before s v st h (Do t a) (answer a v.walk) (did v t a (locks_of new.table t)) new
+      (moved before s v st h (Do t a) (answer a v.walk) (did v t a (locks_of new.table t)) new refl h.unowned
       (moves_by v (did v t a (locks_of new.table t)) (Do t a) (answer a v.walk) frees goes.0)
       list
       (by_txn (λ u y. y.mark ≡ marks_of new u) v.txns t x (sym is_going ∙ same t) (λ u ne. h.marks u ∙ same u))
@@ -89,7 +88,7 @@ module _ (before : List Effect) (s : Shown) (v : View) (st : State) (h : IsStore
         let decides : Decides st.table t (asked a v.walk) (Wait w.holder) new.table = subst (λ (q : List Request). Decides st.table t q (Wait w.holder) new.table) asks w.decided in
         let goes = table-serves.decided v st.table new.table h.locks t a (Wait w.holder) going decides in
         subst (λ (r : Reply). Kept before s v (Do t a) r new) (sym w.told)
-        (moved before s v st h (Do t a) (Blocked w.holder) v new
+        (moved before s v st h (Do t a) (Blocked w.holder) v new refl h.unowned
         (moves_by v v (Do t a) (Blocked w.holder) frees goes.0)
         (h.walk ∙ sym list)
         (λ u. h.marks u ∙ ap (λ (l : List Transaction). mark_at (find (is_of u) l)) (sym w.same))
@@ -109,7 +108,7 @@ module _ (before : List Effect) (s : Shown) (v : View) (st : State) (h : IsStore
         let f = with_mark marks.MustRollBack in
         let after : (u : ℕ) → mark_at (find (is_of u) (map (changed t f) st.rows)) ≡ marks_of new u = λ u. ap (λ (l : List Transaction). mark_at (find (is_of u) l)) (sym w.marked) in
         subst (λ (r : Reply). Kept before s v (Do t a) r new) (sym w.told)
-        (moved before s v st h (Do t a) Die (marked v t MustRollBack) new
+        (moved before s v st h (Do t a) Die (marked v t MustRollBack) new refl h.unowned
         (moves_by v (marked v t MustRollBack) (Do t a) Die frees goes.0)
         (h.walk ∙ sym list)
         (by_txn (λ u y. y.mark ≡ marks_of new u) v.txns t x

@@ -9,17 +9,18 @@ use Rattle.im_base_types.specs.Changes.{Change, Put, Drop, Effect, seen_effect, 
 use Rattle.im_base_types.specs.Answers.{Mark, Idle, Going, MustRollBack, RollingBack, Committing, Begin, Started, Commit, Committed, Rollback, RolledBack, Continue, More, FlushPage, Force, Checkpoint, Done, Refused}
 use Rattle.im_base_types.specs.Lives.{Shown, effects, effect_asked}
 use Rattle.im_base_types.specs.Refusals.{failed as has_failed, capacity}
-use Rattle.im_engine_txn.specs.declared.transaction.Mark as code
-use Rattle.im_engine_txn.specs.declared.transaction.Mark.TheVariants as marks
-use Rattle.im_engine_txn.specs.declared.transaction.Transaction.{Transaction}
-use Rattle.im_engine_txn.specs.Rows.{begun as row_begun, is_of, changed, with_mark}
-use Rattle.im_engine_txn.specs.LookUps.{without}
-use Rattle.im_engine_txn.proofs.LookUps.{look_ups_follow}
-use Rattle.im_engine_lock.specs.Table.{Table, locks_of, IsReleased}
-use Rattle.im_engine_lock.specs.View.{View, Txn, idle, set_txn, begun, marked, committed_by, dropped_by, undid_more, undid_last, broken, locks_in, MayRollBack}
-use Rattle.im_engine_lock.specs.Machine.{begins, commits, drops, turns, undoes, ends, flushes, forces, checkpoints, breaks, barred_to, barred_to_rollback, barred_to_continue, or_else, fault_if}
-use Rattle.im_engine_lock.proofs.Serving.{table-serves}
-use Rattle.im_engine_lock.proofs.Invariant.{by_txn}
+use Rattle.im_base_txn.specs.declared.transaction.Mark as code
+use Rattle.im_base_txn.specs.declared.transaction.Mark.TheVariants as marks
+use Rattle.im_base_txn.specs.declared.transaction.Transaction.{Transaction}
+use Rattle.im_base_txn.specs.Rows.{begun as row_begun, is_of, changed, with_mark}
+use Rattle.im_base_txn.specs.LookUps.{without}
+use Rattle.im_base_txn.proofs.LookUps.{look_ups_follow}
+use Rattle.im_base_lock.specs.Table.{Table, locks_of, IsReleased}
+use Rattle.im_theory_steps.proofs.Showing.{shown_is as is_as_shown, effect_shown}
+use Rattle.im_base_lock.specs.View.{View, Under, pending_of, Txn, idle, set_txn, forced_by, idle_all, map_behind, begun, marked, committed_by, dropped_by, undid_more, undid_last, broken, own_locks, of_others, MayRollBack}
+use Rattle.im_base_lock.specs.Machine.{begins, commits, drops, turns, undoes, ends, flushes, forces, checkpoints, breaks, barred_to, barred_to_rollback, barred_to_continue, or_else, fault_if}
+use Rattle.im_base_lock.proofs.Serving.{keeps_none, table-serves}
+use Rattle.im_base_lock.proofs.Invariant.{by_txn}
 use Rattle.im_theory_steps.specs.Serving.{mark_of}
 use Rattle.im_theory_steps.proofs.Rows.{length_map, one_fewer}
 use Rattle.im_theory_steps.proofs.Asking.{effects_append, effects_acked}
@@ -30,24 +31,32 @@ use Rattle.im_front_memory.specs.Stored.{State, mark_at, marks_of, checked, IsSt
 use Rattle.im_front_memory.proofs.Moving.{moved, barred_is, moves_by, shown_is}
 use Rattle.im_front_memory.proofs.Rolling.{rolling_is}
 
+-- where nobody waits a force changes nothing
+forced_is : (v : View) → v.queue ≡ [] → forced_by v ≡ v
+forced_is v alone =
+    let same : v.active - 0 ≡ v.active = omega arith in
+    ap (λ (q : List ℕ). record v { committed = map_behind v.committed v.txns q; active = v.active - length q; txns = idle_all v.txns q; queue = [] }) alone
+    ∙ ap (λ (n : ℕ). record v { active = n; queue = [] }) same
+    ∙ ap (λ (q : List ℕ). record v { queue = q }) (sym alone)
+
 -- what checks that pass say
 no_fail : (f : Bool) (o : Option ℕ) → or_else (fault_if f has_failed) o ≡ None → (f ≡ false) × (o ≡ None)
 no_fail true o e = absurd cc
 no_fail false o e = (refl, e)
 
-commit_passed : (m : Mark) → barred_to m ≡ None → m ≡ Going
-commit_passed Idle e = absurd cc
-commit_passed Going e = refl
-commit_passed MustRollBack e = absurd cc
-commit_passed RollingBack e = absurd cc
-commit_passed Committing e = absurd cc
+commit_passed : (m : Mark) (o : Option ℕ) → or_else (barred_to m) o ≡ None → m ≡ Going
+commit_passed Idle o e = absurd cc
+commit_passed Going o e = refl
+commit_passed MustRollBack o e = absurd cc
+commit_passed RollingBack o e = absurd cc
+commit_passed Committing o e = absurd cc
 
-rollback_passed : (m : Mark) → barred_to_rollback m ≡ None → MayRollBack m
-rollback_passed Idle e = absurd cc
-rollback_passed Going e = inl refl
-rollback_passed MustRollBack e = inr refl
-rollback_passed RollingBack e = absurd cc
-rollback_passed Committing e = absurd cc
+rollback_passed : (m : Mark) (o : Option ℕ) → or_else (barred_to_rollback m) o ≡ None → MayRollBack m
+rollback_passed Idle o e = absurd cc
+rollback_passed Going o e = inl refl
+rollback_passed MustRollBack o e = inr refl
+rollback_passed RollingBack o e = absurd cc
+rollback_passed Committing o e = absurd cc
 
 continue_passed : (m : Mark) → barred_to_continue m ≡ None → m ≡ RollingBack
 continue_passed Idle e = absurd cc
@@ -86,7 +95,7 @@ module _ (before : List Effect) (s : Shown) (v : View) (st : State) (h : IsStore
     works_at_begin = h.failing ∙ (no_fail st.failed _ passes).0
 
     fresh : v.txns v.next ≡ idle
-    fresh = (busy_is before s v h.reached).rest works_at_begin v.next ((busy_is before s v h.reached).fresh v.next (omega arith))
+    fresh = (busy_is before s v h.reached).0.rest works_at_begin v.next ((busy_is before s v h.reached).0.fresh v.next (omega arith))
 
     none_there : find (is_of v.next) st.rows ≡ None
     none_there = no_row (find (is_of v.next) st.rows) (sym (h.marks v.next) ∙ ap (λ (x : Txn). x.mark) fresh)
@@ -98,7 +107,7 @@ module _ (before : List Effect) (s : Shown) (v : View) (st : State) (h : IsStore
         let x = record idle { mark = Going } in
         let found : (u : ℕ) → find (is_of u) new.rows ≡ find (is_of u) (st.rows ++ row_begun v.next ∷ []) = λ u. ap (find (is_of u)) (rows ∙ ap (λ (k : ℕ). st.rows ++ row_begun k ∷ []) here) in
         subst (λ (k : ℕ). Kept before s v Begin (Started k) new) (sym here)
-        (moved before s v st h Begin (Started v.next) (begun v) new
+        (moved before s v st h Begin (Started v.next) (begun v) new refl h.unowned
         (moves_by v (begun v) Begin (Started v.next) (barred_is before s v st h Begin ∙ passes) (begins refl (subst (λ (k : ℕ). k ≤ 2 ^ 62) here small) refl refl))
         (h.walk ∙ sym list)
         (by_txn (λ u y. y.mark ≡ marks_of new u) v.txns v.next x
@@ -106,10 +115,12 @@ module _ (before : List Effect) (s : Shown) (v : View) (st : State) (h : IsStore
         (λ u ne. h.marks u ∙ sym (ap mark_at (found u ∙ look_ups_follow.begun_other u v.next st.rows ne))))
         (by_txn (λ u y. y.net ≡ new.net u) v.txns v.next x
         (sym (ap (λ (y : Txn). y.net) fresh) ∙ h.nets v.next ∙ sym (net v.next))
-        (λ u ne. h.nets u ∙ sym (net u)))
-        (by_txn (λ u y. y.locks ≡ locks_of new.table u) v.txns v.next x
-        (sym (ap (λ (y : Txn). y.locks) fresh) ∙ h.locks v.next ∙ ap (λ (k : Table). locks_of k v.next) (sym table))
-        (λ u ne. h.locks u ∙ ap (λ (k : Table). locks_of k u) (sym table)))
+        (λ u ne. h.nets u ∙ sym (net u))) (
+          by_txn (λ u y. y.locks ≡ locks_of new.table u) v.txns v.next x
+              (sym (ap (λ (y : Txn). y.locks) fresh) ∙ h.locks.0 v.next ∙ ap (λ (k : Table). locks_of k v.next) (sym table))
+              (λ u ne. h.locks.0 u ∙ ap (λ (k : Table). locks_of k u) (sym table)),
+          h.locks.1,
+        )
         (let long = ap length rows ∙ length-append st.rows (row_begun n ∷ []) in let a = h.active in omega arith)
         (let k = h.numbers in omega arith)
         (h.failing ∙ sym failed)
@@ -118,12 +129,12 @@ module _ (before : List Effect) (s : Shown) (v : View) (st : State) (h : IsStore
     -- numbers are used up
     pub spent_kept : (new : State) → new.failed ≡ true → new.rows ≡ st.rows → new.next ≡ st.next → new.list ≡ st.list → new.table ≡ st.table → ((u : ℕ) → new.net u ≡ st.net u) → new.journal ≡ st.journal → Kept before s v Begin (Refused capacity) new
     spent_kept new failed rows next list table net journal =
-        moved before s v st h Begin (Refused capacity) (broken v (locks_in v)) new
-        (moves_by v (broken v (locks_in v)) Begin (Refused capacity) (barred_is before s v st h Begin ∙ passes) (breaks capacity (locks_in v) (inl refl) refl refl))
+        moved before s v st h Begin (Refused capacity) (broken v (own_locks v)) new refl h.unowned
+        (moves_by v (broken v (own_locks v)) Begin (Refused capacity) (barred_is before s v st h Begin ∙ passes) (breaks capacity (own_locks v) (inl refl) refl refl))
         (h.walk ∙ sym list)
         (λ u. h.marks u ∙ ap (λ (l : List Transaction). mark_at (find (is_of u) l)) (sym rows))
         (λ u. h.nets u ∙ sym (net u))
-        (λ u. h.locks u ∙ ap (λ (k : Table). locks_of k u) (sym table))
+        ((λ u. h.locks.0 u ∙ ap (λ (k : Table). locks_of k u) (sym table)), h.locks.1)
         (h.active ∙ ap length (sym rows))
         (h.numbers ∙ sym next)
         (sym failed)
@@ -155,14 +166,14 @@ module _ (before : List Effect) (s : Shown) (v : View) (st : State) (h : IsStore
   pub committed_kept : (t : ℕ) → checked st (Commit t) ≡ None → (new : State) → new.rows ≡ without t st.rows → ((row : Transaction) → find (is_of t) st.rows ≡ Some row → length st.rows ≡ length new.rows + 1)
       → IsReleased st.table t new.table → new.net t ≡ [] → ((u : ℕ) → u ≢ t → new.net u ≡ st.net u) → new.list ≡ st.list → new.next ≡ st.next → new.failed ≡ st.failed → new.journal ≡ st.journal ++ noted (st.net t) → Kept before s v (Commit t) Committed new
   committed_kept t passes new rows once released gone others list next failed journal =
-      let is : marks_of st t ≡ Going = commit_passed (marks_of st t) (no_fail st.failed _ passes).1 in
+      let is : marks_of st t ≡ Going = commit_passed (marks_of st t) _ (no_fail st.failed _ passes).1 in
       let going : (v.txns t).mark ≡ Going = h.marks t ∙ is in
       let busy : marks_of st t ≡ Idle → ⊥ = busy_mark (marks_of st t) (inl is) in
       let shown = shown_is before s v st h in
       let more : effects (effect_asked t true (s.running t).mark (s.running t).effect) ≡ noted (st.net t) =
-      asked_noted t (s.running t).mark (s.running t).effect (st.net t) (shown.marks t ∙ going) (shown.effects t (inl going) ∙ ap seen_effect (h.nets t)) in
-      moved before s v st h (Commit t) Committed (committed_by v t) new
-      (moves_by v (committed_by v t) (Commit t) Committed (barred_is before s v st h (Commit t) ∙ passes) (commits t refl going refl refl))
+      asked_noted t (s.running t).mark (s.running t).effect (st.net t) (is_as_shown ((s.running t).mark) ((v.txns t).mark) Going (shown.marks t) going (λ x. cc x)) (effect_shown s v shown t (ap (λ (u : Option Under). pending_of u t) h.unowned) (inl going) ∙ ap seen_effect (h.nets t)) in
+      moved before s v st h (Commit t) Committed (committed_by v t) new refl h.unowned
+      (moves_by v (committed_by v t) (Commit t) Committed (barred_is before s v st h (Commit t) ∙ passes) (commits t refl going (inl h.alone) refl refl))
       (h.walk ∙ sym list)
       (ended_marks t busy new rows once released gone others)
       (ended_nets t busy new rows once released gone others)
@@ -176,9 +187,9 @@ module _ (before : List Effect) (s : Shown) (v : View) (st : State) (h : IsStore
   pub dropped_kept : (t : ℕ) → checked st (Rollback t) ≡ None → st.net t ≡ [] → (new : State) → new.rows ≡ without t st.rows → ((row : Transaction) → find (is_of t) st.rows ≡ Some row → length st.rows ≡ length new.rows + 1)
       → IsReleased st.table t new.table → ((u : ℕ) → new.net u ≡ st.net u) → new.list ≡ st.list → new.next ≡ st.next → new.failed ≡ st.failed → new.journal ≡ st.journal → Kept before s v (Rollback t) RolledBack new
   dropped_kept t passes clean new rows once released net list next failed journal =
-      let may = rollback_passed (marks_of st t) (no_fail st.failed _ passes).1 in
+      let may = rollback_passed (marks_of st t) _ (no_fail st.failed _ passes).1 in
       let busy : marks_of st t ≡ Idle → ⊥ = busy_mark (marks_of st t) may in
-      moved before s v st h (Rollback t) RolledBack (dropped_by v t) new
+      moved before s v st h (Rollback t) RolledBack (dropped_by v t) new refl h.unowned
       (moves_by v (dropped_by v t) (Rollback t) RolledBack (barred_is before s v st h (Rollback t) ∙ passes) (drops t refl (subst MayRollBack (sym (h.marks t)) may) (h.nets t ∙ clean) refl refl))
       (h.walk ∙ sym list)
       (ended_marks t busy new rows once released (net t ∙ clean) (λ u ne. net u))
@@ -196,19 +207,19 @@ module _ (before : List Effect) (s : Shown) (v : View) (st : State) (h : IsStore
   pub turned_back_kept : (t : ℕ) → checked st (Rollback t) ≡ None → (st.net t ≡ [] → ⊥) → (new : State) → new.rows ≡ map (changed t (with_mark marks.RollingBack)) st.rows → new.table ≡ st.table → ((u : ℕ) → new.net u ≡ st.net u)
       → new.list ≡ st.list → new.next ≡ st.next → new.failed ≡ st.failed → new.journal ≡ st.journal → Kept before s v (Rollback t) More new
   turned_back_kept t passes some new rows table net list next failed journal =
-      let may = rollback_passed (marks_of st t) (no_fail st.failed _ passes).1 in
+      let may = rollback_passed (marks_of st t) _ (no_fail st.failed _ passes).1 in
       let found = row_there (find (is_of t) st.rows) (busy_mark (marks_of st t) may) in
       let f = with_mark marks.RollingBack in
       let x = record (v.txns t) { mark = RollingBack } in
       let left = some_net (st.net t) some in
-      moved before s v st h (Rollback t) More (marked v t RollingBack) new
+      moved before s v st h (Rollback t) More (marked v t RollingBack) new refl h.unowned
       (moves_by v (marked v t RollingBack) (Rollback t) More (barred_is before s v st h (Rollback t) ∙ passes) (turns t left.0 left.1 refl (subst MayRollBack (sym (h.marks t)) may) (h.nets t ∙ left.2) refl refl))
       (h.walk ∙ sym list)
       (by_txn (λ u y. y.mark ≡ marks_of new u) v.txns t x
       (sym (ap mark_at (ap (find (is_of t)) rows ∙ look_ups_follow.changed_own t f (λ r. refl) st.rows found.0 found.1)))
       (λ u ne. h.marks u ∙ sym (ap mark_at (ap (find (is_of u)) rows ∙ look_ups_follow.changed_other u t f (λ r. refl) st.rows ne))))
       (by_txn (λ u y. y.net ≡ new.net u) v.txns t x (h.nets t ∙ sym (net t)) (λ u ne. h.nets u ∙ sym (net u)))
-      (by_txn (λ u y. y.locks ≡ locks_of new.table u) v.txns t x (h.locks t ∙ ap (λ (k : Table). locks_of k t) (sym table)) (λ u ne. h.locks u ∙ ap (λ (k : Table). locks_of k u) (sym table)))
+      (by_txn (λ u y. y.locks ≡ locks_of new.table u) v.txns t x (h.locks.0 t ∙ ap (λ (k : Table). locks_of k t) (sym table)) (λ u ne. h.locks.0 u ∙ ap (λ (k : Table). locks_of k u) (sym table)), h.locks.1)
       (h.active ∙ sym (length_map (changed t f) st.rows) ∙ ap length (sym rows))
       (h.numbers ∙ sym next)
       (h.failing ∙ sym failed)
@@ -229,19 +240,19 @@ module _ (before : List Effect) (s : Shown) (v : View) (st : State) (h : IsStore
 
     -- it has a change to take back
     pub newest : (c : Change) × (cs : Effect) × (st.net t ≡ c ∷ cs)
-    newest = some_net (st.net t) (λ none. rolling_is before s v h.reached t rolling (h.nets t ∙ none))
+    newest = some_net (st.net t) (λ none. rolling_is before s v h.reached h.unowned t rolling (h.nets t ∙ none))
 
     pub undone_kept : (c : Change) (cs : Effect) → st.net t ≡ c ∷ cs → (cs ≡ [] → ⊥) → (new : State) → new.net t ≡ cs → ((u : ℕ) → u ≢ t → new.net u ≡ st.net u) → new.list ≡ taken_back c st.list → new.rows ≡ st.rows → new.table ≡ st.table
         → new.next ≡ st.next → new.failed ≡ st.failed → new.journal ≡ st.journal → Kept before s v (Continue t) More new
     undone_kept c cs net some new own others list rows table next failed journal =
         let left = some_net cs some in
         let x = record (v.txns t) { net = left.0 ∷ left.1 } in
-        moved before s v st h (Continue t) More (undid_more v t c (left.0 ∷ left.1)) new
+        moved before s v st h (Continue t) More (undid_more v t c (left.0 ∷ left.1)) new refl (ap (of_others t) h.unowned)
         (moves_by v (undid_more v t c (left.0 ∷ left.1)) (Continue t) More (barred_is before s v st h (Continue t) ∙ passes) (undoes t c left.0 left.1 refl rolling (h.nets t ∙ net ∙ ap (λ (e : Effect). c ∷ e) left.2) refl refl))
         (undone_list c ∙ sym list)
         (by_txn (λ u y. y.mark ≡ marks_of new u) v.txns t x (h.marks t ∙ ap (λ (l : List Transaction). mark_at (find (is_of t) l)) (sym rows)) (λ u ne. h.marks u ∙ ap (λ (l : List Transaction). mark_at (find (is_of u) l)) (sym rows)))
         (by_txn (λ u y. y.net ≡ new.net u) v.txns t x (sym left.2 ∙ sym own) (λ u ne. h.nets u ∙ sym (others u ne)))
-        (by_txn (λ u y. y.locks ≡ locks_of new.table u) v.txns t x (h.locks t ∙ ap (λ (k : Table). locks_of k t) (sym table)) (λ u ne. h.locks u ∙ ap (λ (k : Table). locks_of k u) (sym table)))
+        (by_txn (λ u y. y.locks ≡ locks_of new.table u) v.txns t x (h.locks.0 t ∙ ap (λ (k : Table). locks_of k t) (sym table)) (λ u ne. h.locks.0 u ∙ ap (λ (k : Table). locks_of k u) (sym table)), keeps_none v.under t h.locks.1)
         (h.active ∙ ap length (sym rows))
         (h.numbers ∙ sym next)
         (h.failing ∙ sym failed)
@@ -251,7 +262,7 @@ module _ (before : List Effect) (s : Shown) (v : View) (st : State) (h : IsStore
         → ((row : Transaction) → find (is_of t) st.rows ≡ Some row → length st.rows ≡ length new.rows + 1) → IsReleased st.table t new.table → new.next ≡ st.next → new.failed ≡ st.failed → new.journal ≡ st.journal → Kept before s v (Continue t) RolledBack new
     undone_last_kept c cs net none new own others list rows once released next failed journal =
         let busy : marks_of st t ≡ Idle → ⊥ = rolling_mark (marks_of st t) is_rolling in
-        moved before s v st h (Continue t) RolledBack (undid_last v t c) new
+        moved before s v st h (Continue t) RolledBack (undid_last v t c) new refl (ap (of_others t) h.unowned)
         (moves_by v (undid_last v t c) (Continue t) RolledBack (barred_is before s v st h (Continue t) ∙ passes) (ends t c refl rolling (h.nets t ∙ net ∙ ap (λ (e : Effect). c ∷ e) none) refl refl))
         (undone_list c ∙ sym list)
         (ended_marks t busy new rows once released (own ∙ none) others)
@@ -266,13 +277,13 @@ module _ (before : List Effect) (s : Shown) (v : View) (st : State) (h : IsStore
 
   pub flushed_kept : (p : ℕ) → checked st (FlushPage p) ≡ None → Kept before s v (FlushPage p) Done st
   flushed_kept p passes =
-      moved before s v st h (FlushPage p) Done v st (moves_by v v (FlushPage p) Done (barred_is before s v st h (FlushPage p) ∙ passes) (flushes p refl refl refl)) h.walk h.marks h.nets h.locks h.active h.numbers h.failing h.kept
+      moved before s v st h (FlushPage p) Done v st refl h.unowned (moves_by v v (FlushPage p) Done (barred_is before s v st h (FlushPage p) ∙ passes) (flushes p refl refl refl)) h.walk h.marks h.nets h.locks h.active h.numbers h.failing h.kept
 
   pub forced_kept : checked st Force ≡ None → Kept before s v Force Done st
   forced_kept passes =
-      moved before s v st h Force Done v st (moves_by v v Force Done (barred_is before s v st h Force ∙ passes) (forces refl refl refl)) h.walk h.marks h.nets h.locks h.active h.numbers h.failing
+      moved before s v st h Force Done v st refl h.unowned (moves_by v v Force Done (barred_is before s v st h Force ∙ passes) (forces refl refl (sym (forced_is v h.alone)))) h.walk h.marks h.nets h.locks h.active h.numbers h.failing
       (h.kept ∙ ap (λ (l : List Effect). before ++ l) (sym (effects_acked s.asked)))
 
   pub checkpointed_kept : checked st Checkpoint ≡ None → Kept before s v Checkpoint Done st
   checkpointed_kept passes =
-      moved before s v st h Checkpoint Done v st (moves_by v v Checkpoint Done (barred_is before s v st h Checkpoint ∙ passes) (checkpoints refl refl refl)) h.walk h.marks h.nets h.locks h.active h.numbers h.failing h.kept
+      moved before s v st h Checkpoint Done v st refl h.unowned (moves_by v v Checkpoint Done (barred_is before s v st h Checkpoint ∙ passes) (checkpoints refl refl refl)) h.walk h.marks h.nets h.locks h.active h.numbers h.failing h.kept

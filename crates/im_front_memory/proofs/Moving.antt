@@ -1,25 +1,23 @@
 -- Each step of the store is a step of the machine.
 use Rattle.std.proofs.Common.{◌≡◌, inl, inr, ℕ, List, ◌++◌, [], ◌∷◌, length, refl, sym, ◌∙◌, ap, subst, true, false, Bool, Option, None, Some}
-use Rattle.std.specs.Prelude.{find}
+use Rattle.std.specs.Prelude.{find, if◌then◌else◌, ◌==◌, ◌||◌}
 use Rattle.std.specs.FinMap.{entries, empty}
 use Rattle.im_base_types.specs.Changes.{Effect, apply_all}
-use Rattle.im_base_types.specs.Answers.{Step, Reply, Mark, Going, Begin, Do, Commit, Rollback, Continue, FlushPage, Force, Checkpoint, Refused}
-use Rattle.std.specs.Prelude.{if◌then◌else◌, ◌==◌, ◌||◌}
-use Rattle.im_base_types.specs.Answers.{Fetch, Seek, Next, Scan, Insert, Delete}
-use Rattle.im_base_types.specs.Refusals.{unfinished}
-use Rattle.im_base_types.specs.Lives.{asks, breaks as breaking}
-use Rattle.im_base_types.specs.Lives.{Shown, effects, nothing_shown, shown_by, shows, refused}
-use Rattle.im_base_types.specs.Refusals.{failed as has_failed, memory}
-use Rattle.im_engine_txn.specs.declared.transaction.Transaction.{Transaction}
-use Rattle.im_engine_txn.specs.Rows.{is_of}
-use Rattle.im_engine_lock.specs.Table.{SameTable}
-use Rattle.im_engine_lock.specs.Serving.{Matches}
-use Rattle.im_engine_lock.specs.View.{View}
-use Rattle.im_engine_lock.specs.Machine.{Moves, Answers, Goes, lacks, barred, barred_to, or_else, fault_if, start, first_check, mark_for, Wants}
-use Rattle.im_engine_lock.proofs.Callers.{Run-push}
+use Rattle.im_base_types.specs.Answers.{Step, Reply, Mark, Going, Begin, Do, Commit, Rollback, Continue, FlushPage, Force, Checkpoint, Refused, Fetch, Seek, Next, Scan, Insert, Delete}
+use Rattle.im_base_types.specs.Refusals.{unfinished, failed as has_failed, memory}
+use Rattle.im_base_types.specs.Lives.{asks, breaks as breaking, Shown, effects, nothing_shown, shown_by, shows, refused}
+use Rattle.im_base_txn.specs.declared.transaction.Transaction.{Transaction}
+use Rattle.im_base_txn.specs.Rows.{is_of}
+use Rattle.im_base_lock.specs.Table.{SameTable}
+use Rattle.im_base_lock.specs.Serving.{Matches}
+use Rattle.im_base_lock.specs.View.{View, owns_in}
+use Rattle.im_base_lock.specs.Machine.{Moves, Answers, Goes, lacks, barred, barred_to, or_else, fault_if, start, first_check, mark_for, Wants}
+use Rattle.im_base_lock.proofs.Callers.{Run-push}
 use Rattle.im_theory_steps.specs.Seen.{IsShownBy}
+use Rattle.im_theory_steps.proofs.Showing.{is_shown_so}
 use Rattle.im_theory_steps.proofs.Asking.{refusals_ask_nothing}
-use Rattle.im_theory_steps.proofs.Acknowledged.{runs_commit}
+use Rattle.im_theory_steps.proofs.Acknowledged.{going_free, runs_commit}
+use Rattle.im_base_lock.proofs.Under.{none_owned}
 use Rattle.im_front_memory.specs.Stored.{State, mark_at, marks_of, checked, IsStored, Kept}
 
 -- what is shown by one step more
@@ -47,14 +45,15 @@ module _ (before : List Effect) (s : Shown) (v : View) (st : State) (h : IsStore
 
   pub barred_is : (step : Step) → barred v step ≡ checked st step
   barred_is step =
-      ap (λ (b : Bool). first_check b v.active (mark_for (λ t. (v.txns t).mark) step) step) h.failing
-      ∙ ap (λ (n : ℕ). first_check st.failed n (mark_for (λ t. (v.txns t).mark) step) step) h.active
-      ∙ ap (λ (m : Mark). first_check st.failed (length st.rows) m step) (mark_for-same (λ t. (v.txns t).mark) (marks_of st) h.marks step)
+      ap (λ (b : Bool). first_check b v.active (mark_for (λ t. (v.txns t).mark) step) (owns_in v.under step) step) h.failing
+      ∙ ap (λ (n : ℕ). first_check st.failed n (mark_for (λ t. (v.txns t).mark) step) (owns_in v.under step) step) h.active
+      ∙ ap (λ (m : Mark). first_check st.failed (length st.rows) m (owns_in v.under step) step) (mark_for-same (λ t. (v.txns t).mark) (marks_of st) h.marks step)
+      ∙ ap (λ (b : Bool). first_check st.failed (length st.rows) (mark_for (marks_of st) step) b step) (none_owned v.under h.unowned step)
 
   -- a step of the machine that asks nothing
-  pub moved : (step : Step) (reply : Reply) (w : View) (new : State) → Moves v step reply w → entries w.walk ≡ new.list → ((t : ℕ) → (w.txns t).mark ≡ marks_of new t) → ((t : ℕ) → (w.txns t).net ≡ new.net t) → Matches w new.table
+  pub moved : (step : Step) (reply : Reply) (w : View) (new : State) → w.queue ≡ v.queue → w.under ≡ None → Moves v step reply w → entries w.walk ≡ new.list → ((t : ℕ) → (w.txns t).mark ≡ marks_of new t) → ((t : ℕ) → (w.txns t).net ≡ new.net t) → Matches w new.table
       → w.active ≡ length new.rows → w.next ≡ new.next → w.failed ≡ new.failed → new.journal ≡ before ++ effects (shows s step (Some reply)).asked → Kept before s v step reply new
-  moved step reply w new moves walk mark net lock active next failing kept = (
+  moved step reply w new queue under moves walk mark net lock active next failing kept = (
     w,
     moves,
     record {
@@ -72,21 +71,17 @@ module _ (before : List Effect) (s : Shown) (v : View) (st : State) (h : IsStore
       numbers = next;
       failing = failing;
       kept = kept;
+      alone = queue ∙ h.alone;
+      unowned = under;
     },
   )
 
   -- one that changes nothing
   pub same_kept : (step : Step) (reply : Reply) → Moves v step reply v → effects (shows s step (Some reply)).asked ≡ effects s.asked → Kept before s v step reply st
   same_kept step reply moves asks =
-      moved step reply v st moves h.walk h.marks h.nets h.locks h.active h.numbers h.failing (h.kept ∙ ap (λ (l : List Effect). before ++ l) (sym asks))
+      moved step reply v st refl h.unowned moves h.walk h.marks h.nets h.locks h.active h.numbers h.failing (h.kept ∙ ap (λ (l : List Effect). before ++ l) (sym asks))
 
 -- ---- refusals
-
-free_mark : (m : Mark) (n : ℕ) → barred_to m ≡ Some n → m ≡ Going → ⊥
-free_mark m n e going = absurd (none_some n (sym (ap barred_to going) ∙ e))
-  where
-    none_some : (n : ℕ) → None ≡ Some n → ⊥
-    none_some n e = cc
 
 abbrev number_in : Step → ℕ
 number_in (Commit k) = k
@@ -103,8 +98,10 @@ barred_asks before s v st h (Commit t) n e = by s.failed refl
     by true is = ap (λ (b : Bool). effects (if b || n == memory || n == unfinished then s else record (asks t false s) { failed = breaking n }).asked) is
     by false is =
         let failing : st.failed ≡ false = sym h.failing ∙ sym (shown_is before s v st h).failed ∙ is in
-        let mark : barred_to (marks_of st t) ≡ Some n = sym (ap (λ (b : Bool). or_else (fault_if b has_failed) (barred_to (marks_of st t))) failing) ∙ e in
-        ap effects (refusals_ask_nothing n (Commit t) s (λ u q. inr (λ going. free_mark (marks_of st t) n mark (sym (h.marks t) ∙ sym ((shown_is before s v st h).marks t) ∙ ap (λ (k : ℕ). (s.running k).mark) (commit_number t u q) ∙ going))))
+        ap effects (refusals_ask_nothing n (Commit t) s (λ u q. elim (going_free st.failed false n (marks_of st t) failing e) [
+          | inl quiet ↦ inl quiet
+          | inr still ↦ inr (λ going. still (sym (h.marks t) ∙ is_shown_so ((s.running t).mark) ((v.txns t).mark) Going ((shown_is before s v st h).marks t) (ap (λ (k : ℕ). (s.running k).mark) (commit_number t u q) ∙ going) (λ x. cc x)))
+        ]))
 barred_asks before s v st h Begin n e = refl
 barred_asks before s v st h (Do t a) n e = refl
 barred_asks before s v st h (Rollback t) n e = refl
@@ -141,12 +138,12 @@ pub lacking_kept : (before : List Effect) (s : Shown) (v : View) (st new : State
     → new.list ≡ st.list → new.rows ≡ st.rows → new.next ≡ st.next → new.failed ≡ st.failed → new.journal ≡ st.journal → ((t : ℕ) → new.net t ≡ st.net t) → SameTable st.table new.table → Kept before s v step reply new
 lacking_kept before s v st new h step reply passes told list rows next failed journal net table =
     subst (λ (r : Reply). Kept before s v step r new) (sym told)
-    (moved before s v st h step (Refused memory) v new
+    (moved before s v st h step (Refused memory) v new refl h.unowned
     (moves_by v v step (Refused memory) (barred_is before s v st h step ∙ passes) (lacks memory (wants_memory step) refl refl))
     (h.walk ∙ sym list)
     (λ t. h.marks t ∙ ap (λ (l : List Transaction). mark_at (find (is_of t) l)) (sym rows))
     (λ t. h.nets t ∙ sym (net t))
-    (λ t. h.locks t ∙ sym (table t))
+    ((λ t. h.locks.0 t ∙ sym (table t)), h.locks.1)
     (h.active ∙ ap length (sym rows))
     (h.numbers ∙ sym next)
     (h.failing ∙ sym failed)

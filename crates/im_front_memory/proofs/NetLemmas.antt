@@ -1,10 +1,9 @@
 -- What a change of one transaction's list leaves of the nets.
-use Rattle.std.proofs.Common.{◌≡◌, ◌≢◌, ℕ, nat_eq, cond, List, [], ◌∷◌, ◌++◌, ◌↔◌, Bool, true, false, Option, None, Some, is_some, IfSome, option_to_list, Vec, refl, ap, sym, ◌∙◌, inl, inr, subst}
+use Rattle.std.proofs.Common.{◌≡◌, ◌≢◌, ℕ, nat_eq, cond, List, [], ◌∷◌, ◌++◌, ◌↔◌, Bool, true, false, Option, None, Some, is_some, IfSome, option_to_list, Vec, refl, ap, sym, ◌∙◌, inl, inr, subst, length, suc, arith}
 use Rattle.std.proofs.lemmas.Bool.{ne_eqb, eqb-true}
 use Rattle.std.specs.Prelude.{◌==◌}
-use Rattle.std.proofs.Common.{length, suc, arith}
 use Rattle.std.specs.HashMap.{HashMap, UpdatesBy, get}
-use Rattle.im_engine_lock.proofs.Bools.{cases_number}
+use Rattle.im_base_lock.proofs.Bools.{cases_number}
 use Rattle.std.proofs.lemmas.List.{map-append}
 use Rattle.im_base_types.specs.Changes.{Change, Effect, seen_effect}
 use Rattle.im_front_memory.specs.declared.change.Change as code

@@ -6,11 +6,11 @@ use Rattle.im_base_types.specs.Changes.{Effect, apply, apply_all}
 use Rattle.im_base_types.specs.Maps.{IndexMap}
 use Rattle.im_base_types.specs.Answers.{Step, Reply}
 use Rattle.im_base_types.specs.Lives.{Shown, Asked, Survives, effects, nothing_shown}
-use Rattle.im_engine_lock.specs.View.{View, Txn, idle}
-use Rattle.im_engine_lock.specs.Machine.{start, Run}
-use Rattle.im_engine_lock.proofs.Isolates.{isolates}
-use Rattle.im_theory_steps.specs.Acknowledged.{acked_effects, AllAcked, Shows}
-use Rattle.im_theory_steps.proofs.Acknowledged.{runs_commit}
+use Rattle.im_base_lock.specs.View.{View, Txn, idle, nets_of}
+use Rattle.im_base_lock.specs.Machine.{start, Run}
+use Rattle.im_base_lock.proofs.Isolates.{isolates}
+use Rattle.im_theory_steps.specs.Acknowledged.{acked_effects, AllAcked, IsCleanBut, Shows}
+use Rattle.im_theory_steps.proofs.Acknowledged.{no_effects, runs_commit}
 use Rattle.im_front.proofs.Balance.{IsBusy, moves_leaves, start_busy, all_idle}
 use Rattle.im_front_memory.specs.Stored.{State, IsStored, IsReachedBy}
 
@@ -29,12 +29,19 @@ all_are : (asked : List Asked) → AllAcked asked → acked_effects asked ≡ ef
 all_are [] h = refl
 all_are (a ∷ more) h = ap (λ (b : Bool). if b then a.effect ∷ acked_effects more else acked_effects more) h.0 ∙ ap (λ (l : List Effect). a.effect ∷ l) (all_are more h.1)
 
+-- where nothing waits all that was asked was acknowledged
+all_acked_in : (l : List Asked) → IsCleanBut [] l → AllAcked l
+all_acked_in l c =
+    let none : c.waiting ≡ [] = no_effects c.waiting c.are in
+    let all : c.done ≡ l = sym (append-nil c.done) ∙ ap (λ (more : List Asked). c.done ++ more) (sym none) ∙ c.all in
+    subst AllAcked all c.acked
+
 module _ (before : List Effect) (s : Shown) (v : View) (st : State) (h : IsStored before s v st) (works : v.failed ≡ false) (none : v.active ≡ 0) where
   shows : Shows (apply_all empty before) s v
   shows = subst (λ (x : Shown). Shows (apply_all empty before) x v) (sym h.reached.shown) (runs_commit (apply_all empty before) h.reached.first h.reached.trace v h.reached.run)
 
   committed : v.committed ≡ apply_all empty (before ++ effects s.asked)
-  committed = shows.commits ∙ ap (apply_all (apply_all empty before)) (all_are s.asked (shows.clean works)) ∙ sym (apply_more empty before (effects s.asked))
+  committed = shows.commits ∙ ap (apply_all (apply_all empty before)) (all_are s.asked (all_acked_in s.asked (subst (λ (q : List ℕ). IsCleanBut (nets_of v.txns q) s.asked) h.alone (shows.clean works)))) ∙ sym (apply_more empty before (effects s.asked))
 
   quiet : (t : ℕ) → v.txns t ≡ idle
   quiet = all_idle v (busy_is before s v h.reached) works none
@@ -50,11 +57,13 @@ module _ (before : List Effect) (s : Shown) (v : View) (st : State) (h : IsStore
       walk = ap entries (sym walk_is) ∙ h.walk;
       marks = λ t. ap (λ (x : Txn). x.mark) (sym (quiet t)) ∙ h.marks t;
       nets = λ t. ap (λ (x : Txn). x.net) (sym (quiet t)) ∙ h.nets t;
-      locks = λ t. ap (λ (x : Txn). x.locks) (sym (quiet t)) ∙ h.locks t;
+      locks = ((λ t. ap (λ (x : Txn). x.locks) (sym (quiet t)) ∙ h.locks.0 t), λ w s. refl);
       active = sym none ∙ h.active;
       numbers = h.numbers;
       failing = sym works ∙ h.failing;
       kept = h.kept ∙ sym (append-nil (before ++ effects s.asked));
+      alone = refl;
+      unowned = refl;
     },
   )
 

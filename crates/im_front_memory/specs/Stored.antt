@@ -1,23 +1,23 @@
 -- What a store in memory is, as the machine of transactions sees it.
-use Rattle.std.specs.Prelude.{◌≡◌, ℕ, ◌⊎◌, Bool, List, ◌++◌, Option, None, Some, length, map, find}
+use Rattle.std.specs.Prelude.{◌≡◌, ℕ, ◌⊎◌, Bool, false, List, [], ◌++◌, Option, None, Some, length, map, find}
 use Rattle.std.specs.FinMap.{empty, entries}
 use Rattle.im_base_types.specs.Pages.{Entry}
 use Rattle.im_base_types.specs.Changes.{Effect, apply_all}
 use Rattle.im_base_types.specs.Answers.{Step, Reply, Mark, Idle, Blocked, Die, Refused}
 use Rattle.im_base_types.specs.Lives.{Shown, effects, nothing_shown, shown_by, shows}
 use Rattle.im_base_types.specs.Refusals.{memory}
-use Rattle.im_engine_txn.specs.declared.transaction.Transaction.{Transaction}
-use Rattle.im_engine_txn.specs.declared.transaction.Mark.TheVariants as marks
-use Rattle.im_engine_txn.specs.Rows.{is_of, changed, with_mark}
-use Rattle.im_engine_lock.specs.Table.{Table, Decides, SameTable}
-use Rattle.im_engine_lock.specs.Locks.{Request}
-use Rattle.im_engine_lock.specs.declared.verdict.Verdict.TheVariants.{Wait, Die as MustDie}
-use Rattle.im_engine_lock.specs.Serving.{Matches}
-use Rattle.im_engine_lock.specs.View.{View}
-use Rattle.im_engine_lock.specs.Machine.{Moves, Run, start, first_check, mark_for}
+use Rattle.im_base_txn.specs.declared.transaction.Transaction.{Transaction}
+use Rattle.im_base_txn.specs.declared.transaction.Mark.TheVariants as marks
+use Rattle.im_base_txn.specs.Rows.{is_of, changed, with_mark}
+use Rattle.im_base_lock.specs.Table.{Table, Decides, SameTable}
+use Rattle.im_base_lock.specs.Locks.{Request}
+use Rattle.im_base_lock.specs.declared.verdict.Verdict.TheVariants.{Wait, Die as MustDie}
+use Rattle.im_base_lock.specs.Serving.{Matches}
+use Rattle.im_base_lock.specs.View.{View}
+use Rattle.im_base_lock.specs.Machine.{Moves, Run, start, first_check, mark_for}
 use Rattle.im_theory_steps.specs.Serving.{mark_of}
-use Rattle.im_front.specs.declared.fault.Fault.{Fault}
-use Rattle.im_front.specs.Calls.{number_of}
+use Rattle.im_base_types.specs.declared.fault.Fault.{Fault}
+use Rattle.im_base_types.specs.Faults.{number_of}
 use Rattle.im_front_memory.specs.Changed.{net_at, effects_of}
 use Rattle.im_front_memory.specs.declared.memory_store.MemoryStore.{MemoryStore}
 
@@ -42,9 +42,9 @@ mark_at (Some row) = mark_of row.mark
 abbrev pub marks_of : State → ℕ → Mark
 marks_of st t = mark_at (find (is_of t) st.rows)
 
--- the first refusal that a check gives to a step
+-- the first refusal that a check gives to a step: no Insert or Delete goes on, since each is answered in its step
 abbrev pub checked : State → Step → Option ℕ
-checked st step = first_check st.failed (length st.rows) (mark_for (marks_of st) step) step
+checked st step = first_check st.failed (length st.rows) (mark_for (marks_of st) step) false step
 
 -- the same, as the code has it
 abbrev pub numbered : Option Fault → Option ℕ
@@ -69,6 +69,10 @@ pub record IsStored (before : List Effect) (s : Shown) (v : View) (st : State) :
   pub numbers : v.next ≡ st.next
   pub failing : v.failed ≡ st.failed
   pub kept : st.journal ≡ before ++ effects s.asked
+  -- nobody waits for a force
+  pub alone : v.queue ≡ []
+  -- there are no structure changes
+  pub unowned : v.under ≡ None
 
 -- a step of the machine, and what the store is then
 abbrev pub Kept : List Effect → Shown → View → Step → Reply → State → Type 0

@@ -4,7 +4,7 @@ ghost use Rattle.std.specs.Prelude.{◌≡◌, ◌<◌, true, false, length, Non
 ghost use Rattle.im_base_types.specs.Maps.{is_below};
 ghost use Rattle.im_base_types.specs.Answers as answers;
 ghost use Rattle.im_base_types.specs.Answers.{entry, found, limit_of};
-ghost use Rattle.im_front.specs.Calls.{told_by};
+ghost use Rattle.im_base_steps.specs.Calls.{told_by};
 ghost use Rattle.im_front_memory.specs.Listed.{value_at};
 ghost use Rattle.im_front_memory.specs.Stored.{checked, Serves, state_of};
 
@@ -12,9 +12,9 @@ use crate::change::Change;
 use crate::locking::{ask, ask_range};
 use crate::memory_store::MemoryStore;
 use crate::{nets, sorted};
-use im_base_types::{Key, Rid, TxnId};
-use im_engine_lock::{delete_row, fetch_row, insert_row, seek_row};
-use im_front::{Fault, Reply};
+use im_base_lock::{delete_row, fetch_row, insert_row, seek_row};
+use im_base_steps::Reply;
+use im_base_types::{Fault, Key, MOST_ENTRIES, Rid, TxnId};
 
 impl MemoryStore {
     pub(crate) fn fetch(&mut self, t: TxnId, key: &[u8]) -> Reply
@@ -181,7 +181,7 @@ fn told_entry(found: Option<&(Key, Rid)>) -> Reply
 fn most_of(limit: u64) -> usize
     ensures { result ≡ limit_of limit }
 {
-    limit.clamp(1, 256) as usize
+    limit.clamp(1, MOST_ENTRIES as u64) as usize
 }
 
 // The key past which a scan with this list looks for one key more: where it is not at its limit, and its range is not upside down.

@@ -2,15 +2,15 @@
 
 ghost use Rattle.std.specs.Prelude.{◌≡◌, not, nat_lt, length};
 ghost use Rattle.im_base_types.specs.Refusals.{key_length, too_many};
-ghost use Rattle.im_engine_lock.specs.Machine.{barred_to, barred_to_rollback, barred_to_continue, fits, or_else, fault_if};
+ghost use Rattle.im_base_lock.specs.Machine.{barred_to, barred_to_rollback, barred_to_continue, fits, or_else, fault_if};
 ghost use Rattle.im_theory_steps.specs.Serving.{mark_of};
-ghost use Rattle.im_front.specs.Calls.{asked_by};
+ghost use Rattle.im_base_steps.specs.Calls.{asked_by};
 ghost use Rattle.im_front_memory.specs.Stored.{checked, marks_of, numbered, state_of};
 
 use crate::memory_store::MemoryStore;
-use im_base_types::TxnId;
-use im_engine_txn::Mark;
-use im_front::{Fault, Step};
+use im_base_steps::Step;
+use im_base_txn::Mark;
+use im_base_types::{Fault, LONGEST_KEY, TxnId};
 
 impl MemoryStore {
     /// The first refusal that a check gives to a step.
@@ -127,5 +127,5 @@ fn to_continue(mark: Mark) -> Option<Fault>
 fn has_length(key: &Vec<u8>) -> bool
     ensures { result ≡ fits key.now.items }
 {
-    !key.is_empty() && key.len() < 256
+    !key.is_empty() && key.len() <= LONGEST_KEY
 }

@@ -2,7 +2,7 @@
 
 ghost use Rattle.std.specs.Prelude.{◌≡◌, ◌≢◌, ℕ, ◌<◌, ◌++◌, ◌∷◌, None, vec_len, vec_capacity};
 ghost use Rattle.im_base_types.specs.Answers as answers;
-ghost use Rattle.im_front.specs.Calls.{told_by};
+ghost use Rattle.im_base_steps.specs.Calls.{told_by};
 ghost use Rattle.im_front_memory.specs.Changed.{effects_of, net_at, net_in, noted};
 ghost use Rattle.im_front_memory.specs.Listed.{taken_back};
 ghost use Rattle.im_base_types.specs.Changes.{Change as ChangeMade, Effect};
@@ -11,9 +11,9 @@ ghost use Rattle.im_front_memory.specs.Stored.{checked, Serves, state_of};
 use crate::change::Change;
 use crate::memory_store::MemoryStore;
 use crate::{nets, sorted};
-use im_base_types::{Key, Rid, TxnId};
-use im_engine_txn::Mark;
-use im_front::{Fault, Reply};
+use im_base_steps::Reply;
+use im_base_txn::Mark;
+use im_base_types::{Fault, Key, Rid, TxnId};
 use std::collections::HashMap;
 
 impl MemoryStore {

@@ -1,7 +1,6 @@
 //! What each transaction changed.
 
-ghost use Rattle.std.specs.Prelude.{◌≡◌, ◌≢◌, ℕ, ◌↔◌, ◌∷◌, [], true, OnOk, OnErr, IfSome, IfNone};
-ghost use Rattle.std.specs.Prelude.{nat_eq};
+ghost use Rattle.std.specs.Prelude.{◌≡◌, ◌≢◌, ℕ, ◌↔◌, ◌∷◌, [], true, OnOk, OnErr, IfSome, IfNone, nat_eq};
 ghost use Rattle.std.specs.HashMap.{ContainsKey};
 ghost use Rattle.im_front_memory.specs.Changed.{change_of, net_at, net_in};
 

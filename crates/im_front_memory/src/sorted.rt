@@ -3,12 +3,12 @@
 ghost use Rattle.std.specs.Prelude.{◌≡◌, ◌<◌, ◌↔◌, ◌&&◌, true, not, take, vec_len, vec_capacity, IfOk, option_copied};
 ghost use Rattle.std.specs.List.{filter};
 ghost use Rattle.im_base_types.specs.Maps.{From, Above, first_in, is_below, with_key, without_key};
-ghost use Rattle.im_engine_lock.specs.Rows.{name_of as named_by};
-ghost use Rattle.im_engine_lock.specs.Table.{named};
+ghost use Rattle.im_base_lock.specs.Rows.{name_of as named_by};
+ghost use Rattle.im_base_lock.specs.Table.{named};
 ghost use Rattle.im_front_memory.specs.Listed.{value_at};
 
+use im_base_lock::Name;
 use im_base_types::{Key, Rid, compare};
-use im_engine_lock::Name;
 use std::alloc::{AllocError, Global};
 use std::cmp::Ordering;
 

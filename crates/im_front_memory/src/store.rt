@@ -1,16 +1,16 @@
 //! A store in memory is a store.
 
 ghost use Rattle.std.specs.Prelude.{◌≡◌};
-ghost use Rattle.im_front.specs.Calls.{asked_by, told_by};
+ghost use Rattle.im_base_steps.specs.Calls.{asked_by, told_by};
 ghost use Rattle.im_front.specs.Held.{IsResting};
 ghost use Rattle.im_front_memory.specs.Stored.{Serves, state_of};
 
 use crate::memory_store::MemoryStore;
 use crate::sorted;
 use crate::transactions::Transactions;
-use im_base_types::{Key, Rid};
-use im_engine_lock::LockTable;
-use im_front::{Fault, Reply, Step, Store};
+use im_base_lock::LockTable;
+use im_base_steps::{Reply, Step, Store};
+use im_base_types::{Fault, Key, Rid};
 use std::alloc::Global;
 use std::collections::HashMap;
 
@@ -57,8 +57,9 @@ impl MemoryStore {
 
 impl Store for MemoryStore {
     ghost use Rattle.std.specs.Prelude.{◌≡◌, length};
-    ghost use Rattle.im_front.specs.declared.fault.Fault.TheVariants.{Memory};
-    ghost use Rattle.im_front_memory.specs.Stored.{IsStored, state_of};
+    ghost use Rattle.im_base_types.specs.declared.fault.Fault.TheVariants.{Memory};
+    ghost use Rattle.im_base_steps.specs.Calls.{asked_by, told_by};
+    ghost use Rattle.im_front_memory.specs.Stored.{IsStored, Serves, state_of};
     ghost use Rattle.im_front_memory.specs.Laws.{stops_whole, settled};
 
     ghost tells = { Unit {0} };
@@ -70,6 +71,8 @@ impl Store for MemoryStore {
     ghost actives = { λ e. length (state_of e).rows };
 
     ghost refuses = { λ old new fault. (new ≡ old) × (fault ≡ Memory) };
+
+    ghost made = { λ old step reply new. Serves (state_of old) (asked_by step) (told_by reply) (state_of new) };
 
     fn step(&mut self, step: &Step) -> Reply {
         self.make(step)

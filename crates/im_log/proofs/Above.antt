@@ -120,6 +120,9 @@ module _ {D : Type 0} (d : Ghosts D) where
     made = subst IsMade (sym spares.seen) h.made;
     starts = ap base_of spares.seen ∙ h.starts;
     on_disk = ap (log_of base) spares.seen ∙ h.on_disk;
+    sealed = h.sealed;
+    mid = h.mid;
+    in_sealed = h.in_sealed;
     in_buffer = h.in_buffer;
     front = h.front;
     below = h.below;
@@ -132,6 +135,8 @@ module _ {D : Type 0} (d : Ghosts D) where
     working = is_open.working;
     placed = is_open.placed;
     room = is_open.room;
+    sealed = is_open.sealed;
+    filling = is_open.filling;
   }
 
   -- a run on the other file leaves of the log what stood there

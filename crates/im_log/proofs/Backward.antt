@@ -1,12 +1,12 @@
 -- Records that were read, and whatever the rest spells behind them.
-use Rattle.std.proofs.Common.{◌≡◌, ℕ, zero, suc, ◌+◌, ◌-◌, ◌<◌, ◌≤◌, ◌^◌, false, List, [], ◌∷◌, length, take, drop, Option, Some, None, MatchOption, Ok, refl, sym, ◌∙◌, ap, subst, arith}
+use Rattle.std.proofs.Common.{◌≡◌, ℕ, zero, suc, ◌+◌, ◌-◌, ◌≤◌, false, List, [], ◌∷◌, length, take, drop, Option, Some, None, MatchOption, Ok, refl, sym, ◌∙◌, ap, subst, arith}
 use Rattle.im_base_types.specs.declared.file_id.FileId.{FileId}
 use Rattle.im_base_types.specs.declared.file_id.FileId.TheVariants.{Log}
 use Rattle.im_base_types.specs.Records.{Logged}
 use Rattle.im_base_disk.specs.declared.disk.Disk.{Ghosts}
 use Rattle.im_base_disk.specs.Disk.{Files}
 use Rattle.im_log_gate.specs.declared.gate.Gate.{Gate}
-use Rattle.im_log_gate.specs.Batches.{batches, batches_from, in_front, size_of}
+use Rattle.im_log_gate.specs.Batches.{batches, batches_from, in_front}
 use Rattle.im_log_gate.specs.Gate.{base_at, first_of, place_of, unread, StartsAs}
 use Rattle.im_log_gate.specs.Header.{base_of, first_gate, IsMade}
 use Rattle.im_log_record.specs.Entry.{Entry}

@@ -6,3 +6,4 @@ pub mod Passes
 pub mod Places
 pub mod Runs
 pub mod Spells
+pub mod Waiting

@@ -18,7 +18,7 @@ use Rattle.im_log.specs.declared.log_file.LogFile.{LogFile}
 use Rattle.im_log.specs.Gates.{IsOfLog}
 use Rattle.im_log.specs.Kept.{HasLog}
 use Rattle.im_log.specs.LogFile.{batch_lsn, IsLog}
-use Rattle.im_log.proofs.Runs.{placed}
+use Rattle.im_log.proofs.Runs.{placed, nothing_sealed, nothing_buffered}
 use Rattle.im_log.proofs.Spells.{first_is, log_end, log_room, log_records}
 use Rattle.im_log.proofs.Passes.{taken, records_front, batch_taken, batches_front, fronts_then}
 
@@ -141,21 +141,24 @@ module _ {D : Type 0} (d : Ghosts D) (base : ℕ) (all older : List Logged) wher
 
 -- behind the last batch, with nothing in the buffer
 pub opened : {D : Type 0} (d : Ghosts D) (base : ℕ) (all older : List Logged) (opening : Opening) (log : LogFile) (disk : D) → StartsAs opening.gate (d.seen disk Log) → IsReady d opening.gate disk → has_failed opening.gate ≡ false → Ended d base all older opening disk
-    → (log.gate ≡ opening.gate) × (log.base ≡ opening.base) × (log.used ≡ 0) × (log.failed ≡ false) → IsLog d base all all log disk
+    → (log.gate ≡ opening.gate) × (log.base ≡ opening.base) × (log.start ≡ 0) × (log.used ≡ 0) × (log.failed ≡ false) → IsLog d base all all log disk
 opened d base all older opening log disk starts ready usable e is =
     let at = placed d opening.gate disk opening.of_log starts ready usable e.tells in
     let place : place_of log.gate ≡ place_of opening.gate = ap place_of is.0 in
     let below = log_end base (d.seen disk Log) at.before all at.is e.spells in
     record {
       tells = e.tells;
-      working = is.3;
+      working = is.4;
       based = is.1 ∙ e.based;
       made = e.made;
       starts = e.starts;
       on_disk = e.spells;
-      in_buffer = ap (λ (k : ℕ). records_from 0 (batch_lsn log) (take k log.buffer.items) all) is.2;
+      sealed = nothing_sealed log is.2;
+      mid = all;
+      in_sealed = refl;
+      in_buffer = nothing_buffered (batch_lsn log) log all is.3;
       front = record { newer = []; is = refl };
-      below = omega (arith, below, at.place, place, is.1, is.2, e.based);
+      below = omega (arith, below, at.place, place, is.1, is.2, is.3, e.based);
     }
 
 -- the batches of a file that has a list

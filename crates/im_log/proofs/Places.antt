@@ -1,14 +1,15 @@
 -- Where the records of a log stand in its file and in its buffer.
-use Rattle.std.proofs.Common.{◌≡◌, ◌⊎◌, inl, inr, ⊎_elim, ℕ, zero, suc, ◌+◌, ◌-◌, ◌<◌, ◌≤◌, true, false, Bool, List, [], ◌∷◌, ◌++◌, length, take, drop, Option, Some, None, refl, sym, ◌∙◌, ap, subst, arith, length-drop, take-append-drop}
+use Rattle.std.proofs.Common.{◌≡◌, ◌⊎◌, inl, inr, ⊎_elim, ℕ, zero, suc, ◌+◌, ◌-◌, ◌<◌, ◌≤◌, true, false, Bool, List, [], ◌∷◌, ◌++◌, length, take, drop, Option, Some, None, refl, sym, ◌∙◌, ap, subst, arith, length-drop, take-append-drop, append_assoc, append-nil}
 use Rattle.std.proofs.lemmas.Bool.{cases_eq}
-use Rattle.std.proofs.lemmas.List.{drop-append-le, drop-drop, drop-take}
+use Rattle.std.proofs.lemmas.List.{length-take-le, take-append-le, take-take, drop-append-le, drop-drop, drop-take}
 use Rattle.byteorder.specs.Endian.{big_number}
 use Rattle.byteorder.specs.Numbers.{big_from-take}
 use Rattle.im_base_types.specs.declared.file_id.FileId.TheVariants.{Log}
 use Rattle.im_base_types.specs.Records.{Logged}
 use Rattle.im_theory_log.specs.Histories.{IsRecordOf}
 use Rattle.im_base_disk.specs.declared.disk.Disk.{Ghosts}
-use Rattle.im_log_gate.specs.Batches.{batches_from, batch, batch_length, is_whole, size_of}
+use Rattle.im_log_gate.specs.Batches.{gated, batches_from, batch, batch_length, is_whole, size_of}
+use Rattle.im_log_gate.proofs.Several.{all_count, gated_long}
 use Rattle.im_log_gate.specs.Gate.{place_of}
 use Rattle.im_log_gate.specs.Header.{first_gate}
 use Rattle.im_log_gate.proofs.BatchLemmas.{Sizes, sizes, from_drop, opened, refused, shut, batch_long}
@@ -16,13 +17,13 @@ use Rattle.im_log_record.specs.Entry.{Entry}
 use Rattle.im_log_record.specs.Reading.{entry_of}
 use Rattle.im_log.specs.declared.log_file.LogFile.{LogFile}
 use Rattle.im_log.specs.Spelled.{logged_at, record_size, first_record, records_from, batches_records}
-use Rattle.im_log.specs.LogFile.{buffered, batch_lsn, IsOpen, IsLog}
+use Rattle.im_log.specs.LogFile.{buffered, first_lsn, batch_lsn, next_lsn, IsOpen, IsLog, Sealed}
 use Rattle.im_log.specs.Reading.{FitsFront, IsFrontOf, SpellsRecord}
 use Rattle.im_log.specs.Scan.{AllBelow}
 use Rattle.im_log.proofs.Spells.{First, first, first_more, size_more, step, none, log_records}
 use Rattle.im_log.proofs.Passes.{batch_taken}
 use Rattle.im_log.proofs.Openings.{in_front_some}
-use Rattle.im_log.proofs.Runs.{placed, waiting}
+use Rattle.im_log.proofs.Runs.{placed, waiting, sealed_size}
 
 -- a record of some bytes, the first of which is at this LSN
 pub record InBytes (lsn : ℕ) (bytes : List ℕ) (r : Logged) : Type 0 where
@@ -110,7 +111,9 @@ pub record InFile (base : ℕ) (file : List ℕ) (end : ℕ) (r : Logged) : Type
   pub short : record_size (drop at file) ≤ 16384
   pub lsn_is : r.lsn ≡ base + at
   pub is : logged_at r.lsn entry ≡ r
+  pub behind : 5 ≤ at
   pub before : at < end
+  pub whole : at + record_size (drop at file) ≤ end
 
 -- one of a batch is one of its file
 of_batch : (base place : ℕ) (file b : List ℕ) (bs : List (List ℕ)) (end : ℕ) (r : Logged) → Split place file b bs → place + (5 + length b) ≤ end → InBytes (base + place + 5) b r → InFile base file end r
@@ -134,7 +137,9 @@ of_batch base place file b bs end r s le i =
       short = omega (arith, size_there, within, long, s.sizes.most);
       lsn_is = omega (arith, i.lsn_is);
       is = ap (λ (k : ℕ). logged_at k i.entry) i.lsn_is ∙ i.is;
+      behind = omega arith;
       before = omega (arith, inside, le);
+      whole = omega (arith, inside, le, size_there, within);
     }
 
 -- each record that batches bring to a log stands in the file
@@ -150,16 +155,101 @@ found_in base place file (b ∷ bs) end older log r there le is has =
     (λ (i : InFile base file end r). inr i)
     (found_in base (place + (5 + length b)) file bs end t.mid log r s.onward (omega (arith, le)) (ap (λ (k : ℕ). batches_records k bs t.mid) at ∙ t.onward) has)
 
+-- a first record that lies in the bytes in front of others is theirs alone
+first_less : (bytes more : List ℕ) (entry : Entry) → First (bytes ++ more) entry → record_size (bytes ++ more) ≤ length bytes → First bytes entry
+first_less bytes more entry f le =
+    let size = size_more bytes more (omega (arith, f.least, le)) in
+    record {
+      least = omega (arith, size, f.least);
+      most = omega (arith, size, le);
+      is = ap entry_of (sym (take-append-le (record_size bytes) bytes more (omega (arith, size, le)))) ∙ sym (ap (λ (n : ℕ). entry_of (take n (bytes ++ more))) size) ∙ f.is;
+    }
+
+-- all that waits, as it stands in the buffer
+abbrev pub shown : LogFile → List ℕ
+shown log = take (log.start + 4 + log.used) log.buffer.items
+
+pub shown_long : (log : LogFile) → length (shown log) ≡ log.start + 4 + log.used
+shown_long log = length-take-le (log.start + 4 + log.used) log.buffer.items (omega (arith, log.sized, log.within))
+
+-- a record of the buffer, whose first byte has this LSN
+pub record InBuffer (lsn : ℕ) (bytes : List ℕ) (r : Logged) : Type 0 where
+  pub at : ℕ
+  pub entry : Entry
+  pub first : First (drop at bytes) entry
+  pub short : record_size (drop at bytes) ≤ 16384
+  pub lsn_is : r.lsn ≡ lsn + at
+  pub is : logged_at r.lsn entry ≡ r
+  pub behind : 4 ≤ at
+  pub before : at < length bytes
+
+-- one of the batch that is being filled
+of_filled : (log : LogFile) (r : Logged) → InBytes (batch_lsn log) (buffered log) r → InBuffer (log.base + (place_of log.gate + 1)) (shown log) r
+of_filled log r i =
+    let there : drop (log.start + 4 + i.at) (shown log) ≡ drop i.at (buffered log) = sym (drop-drop i.at (log.start + 4) (shown log)) in
+    let long : length (drop i.at (buffered log)) ≡ log.used - i.at = omega (arith, length-drop i.at (buffered log), waiting log) in
+    let size : record_size (drop (log.start + 4 + i.at) (shown log)) ≡ record_size (drop i.at (buffered log)) = ap record_size there in
+    record {
+      at = log.start + 4 + i.at;
+      entry = i.entry;
+      first = subst (λ (l : List ℕ). First l i.entry) (sym there) i.first;
+      short = omega (arith, size, i.first.most, long, log.within);
+      lsn_is = omega (arith, i.lsn_is);
+      is = ap (λ (k : ℕ). logged_at k i.entry) i.lsn_is ∙ i.is;
+      behind = omega arith;
+      before = omega (arith, shown_long log, i.first.least, i.first.most, long);
+    }
+
+-- and of a batch in front of it
+of_sealed : (log : LogFile) (s : Sealed log) (r : Logged) → InFile (log.base + place_of log.gate) (gated s.batches ++ 0 ∷ []) log.start r → InBuffer (log.base + (place_of log.gate + 1)) (shown log) r
+of_sealed log s r i =
+    let a : ℕ = i.at in
+    let k : ℕ = i.at - 1 in
+    let front : List ℕ = gated s.batches in
+    let x : List ℕ = drop a front in
+    let front_long : length front ≡ log.start = omega (arith, gated_long s.batches, sealed_size log s) in
+    let x_long : length x ≡ log.start - a = omega (arith, length-drop a front, front_long) in
+    let behind : List ℕ = drop log.start (shown log) in
+    let cut : drop a (front ++ 0 ∷ []) ≡ x ++ 0 ∷ [] = drop-append-le a front (0 ∷ []) (omega (arith, front_long, i.before)) in
+    let cut_size : record_size (drop a (front ++ 0 ∷ [])) ≡ record_size (x ++ 0 ∷ []) = ap record_size cut in
+    let first_x : First x i.entry = first_less x (0 ∷ []) i.entry (subst (λ (l : List ℕ). First l i.entry) cut i.first) (omega (arith, cut_size, i.whole, x_long, i.before)) in
+    let size_x : record_size (x ++ 0 ∷ []) ≡ record_size x = size_more x (0 ∷ []) (omega (arith, first_x.least, first_x.most)) in
+    let start_is : take log.start (shown log) ≡ take log.start log.buffer.items = take-take log.start (log.start + 4 + log.used) log.buffer.items (omega arith) in
+    let opened : drop k (take log.start log.buffer.items) ≡ x ++ 1 ∷ [] =
+    ap (λ (n : ℕ). drop n (1 ∷ take log.start log.buffer.items)) (let e : suc k ≡ a = omega (arith, i.behind) in e) ∙ ap (λ (l : List ℕ). drop a l) s.filled.is ∙ drop-append-le a front (1 ∷ []) (omega (arith, front_long, i.before)) in
+    let there : drop k (shown log) ≡ x ++ (1 ∷ behind) =
+    ap (λ (l : List ℕ). drop k l) (sym (take-append-drop log.start (shown log)))
+    ∙ drop-append-le k (take log.start (shown log)) behind (omega (arith, length-take-le log.start (shown log) (omega (arith, shown_long log)), i.before))
+    ∙ ap (λ (l : List ℕ). drop k l ++ behind) start_is
+    ∙ ap (λ (l : List ℕ). l ++ behind) opened
+    ∙ append_assoc x (1 ∷ []) behind in
+    let size : record_size (drop k (shown log)) ≡ record_size x = ap record_size there ∙ size_more x (1 ∷ behind) (omega (arith, first_x.least, first_x.most)) in
+    record {
+      at = k;
+      entry = i.entry;
+      first = subst (λ (l : List ℕ). First l i.entry) (sym there) (first_more x (1 ∷ behind) i.entry first_x);
+      short = omega (arith, size, size_x, cut_size, i.short);
+      lsn_is = omega (arith, i.lsn_is, i.behind);
+      is = i.is;
+      behind = omega (arith, i.behind);
+      before = omega (arith, shown_long log, i.before);
+    }
+
 -- each record of a log stands in front of its gate or in the buffer
 pub stands : {D : Type 0} (d : Ghosts D) (base : ℕ) (all durable : List Logged) (log : LogFile) (disk : D) (r : Logged) → IsOpen d log disk → IsLog d base all durable log disk → IsRecordOf r all
-    → InFile base (d.seen disk Log) (place_of log.gate) r ⊎ InBytes (batch_lsn log) (buffered log) r
+    → InFile base (d.seen disk Log) (place_of log.gate) r ⊎ InBuffer (log.base + (place_of log.gate + 1)) (shown log) r
 stands d base all durable log disk r is_open h has =
     let at = placed d log.gate disk log.of_log (is_open.starts h.tells) is_open.ready (is_open.working h.working) h.tells in
+    let bs : List (List ℕ) = h.sealed.batches in
     ⊎_elim
+    (λ (waited : IsRecordOf r h.mid). ⊎_elim
     (λ (was : IsRecordOf r durable). ⊎_elim (λ (never : ⊥). absurd never) (λ (i : InFile base (d.seen disk Log) (place_of log.gate) r). inl i)
     (found_in base (first_gate (d.seen disk Log)) (d.seen disk Log) at.before (place_of log.gate) [] durable r at.is (omega (arith, at.place)) (log_records base (d.seen disk Log) at.before durable at.is h.on_disk) was))
-    (λ (i : InBytes (batch_lsn log) (buffered log) r). inr i)
-    (found 0 (batch_lsn log) (buffered log) durable all r h.in_buffer has)
+    (λ (i : InFile (log.base + place_of log.gate) (gated bs ++ 0 ∷ []) log.start r). inr (of_sealed log h.sealed r i))
+    (found_in (log.base + place_of log.gate) 0 (gated bs ++ 0 ∷ []) bs log.start durable h.mid r (all_count bs h.sealed.filled.fit (0 ∷ []) ∙ ap Some (append-nil bs)) (omega (arith, sealed_size log h.sealed))
+    (ap (λ (k : ℕ). batches_records k bs durable) (let e : log.base + place_of log.gate + 0 ≡ log.base + place_of log.gate = omega arith in e) ∙ h.in_sealed) waited))
+    (λ (i : InBytes (batch_lsn log) (buffered log) r). inr (of_filled log r i))
+    (found 0 (batch_lsn log) (buffered log) h.mid all r h.in_buffer has)
 
 -- the record is what was brought to the room
 pub brought : (bytes room : List ℕ) (size : ℕ) (entry : Entry) (r : Logged) → First bytes entry → IsFrontOf size bytes room → logged_at r.lsn entry ≡ r → SpellsRecord r (take size room)
@@ -175,21 +265,21 @@ pub record There (bytes : List ℕ) (at : ℕ) (r : Logged) : Type 0 where
 module _ {D : Type 0} (d : Ghosts D) (base : ℕ) (all durable : List Logged) (log : LogFile) (disk : D) (r : Logged) (is_open : IsOpen d log disk) (h : IsLog d base all durable log disk) (has : IsRecordOf r all) where
   in_file : r.lsn < log.base + place_of log.gate → InFile base (d.seen disk Log) (place_of log.gate) r
   in_file below =
-      ⊎_elim (λ (i : InFile base (d.seen disk Log) (place_of log.gate) r). i) (λ (i : InBytes (batch_lsn log) (buffered log) r). absurd (omega (arith, below, i.lsn_is))) (stands d base all durable log disk r is_open h has)
+      ⊎_elim (λ (i : InFile base (d.seen disk Log) (place_of log.gate) r). i) (λ (i : InBuffer (log.base + (place_of log.gate + 1)) (shown log) r). absurd (omega (arith, below, i.lsn_is))) (stands d base all durable log disk r is_open h has)
 
-  in_buffer : log.base + place_of log.gate ≤ r.lsn → InBytes (batch_lsn log) (buffered log) r
+  in_buffer : log.base + place_of log.gate ≤ r.lsn → InBuffer (log.base + (place_of log.gate + 1)) (shown log) r
   in_buffer above =
-      ⊎_elim (λ (i : InFile base (d.seen disk Log) (place_of log.gate) r). absurd (omega (arith, above, i.lsn_is, i.before, h.based))) (λ (i : InBytes (batch_lsn log) (buffered log) r). i) (stands d base all durable log disk r is_open h has)
+      ⊎_elim (λ (i : InFile base (d.seen disk Log) (place_of log.gate) r). absurd (omega (arith, above, i.lsn_is, i.before, h.based))) (λ (i : InBuffer (log.base + (place_of log.gate + 1)) (shown log) r). i) (stands d base all durable log disk r is_open h has)
 
   -- none stands below the base
   pub none_below : r.lsn < log.base → ⊥
   none_below below = let i = in_file (omega (arith, below)) in omega (arith, below, i.lsn_is, h.based)
 
   -- one behind the gate stands in the buffer
-  pub buffer_bounds : log.base + place_of log.gate ≤ r.lsn → (batch_lsn log ≤ r.lsn) × (r.lsn < batch_lsn log + log.used)
+  pub buffer_bounds : log.base + place_of log.gate ≤ r.lsn → (first_lsn log ≤ r.lsn) × (r.lsn < next_lsn log)
   buffer_bounds above =
       let i = in_buffer above in
-      (omega (arith, i.lsn_is), omega (arith, i.lsn_is, i.first.least, i.first.most, length-drop i.at (buffered log), waiting log))
+      (omega (arith, i.lsn_is, i.behind), omega (arith, i.lsn_is, i.before, shown_long log))
 
   pub there_in_file : (at : ℕ) → r.lsn ≡ log.base + at → at < place_of log.gate → There (d.seen disk Log) at r
   there_in_file at is below =
@@ -197,16 +287,11 @@ module _ {D : Type 0} (d : Ghosts D) (base : ℕ) (all durable : List Logged) (l
       subst (λ (k : ℕ). There (d.seen disk Log) k r) (let e : i.at ≡ at = omega (arith, is, i.lsn_is, h.based) in e)
       (record { entry = i.entry; first = i.first; fits = record { least = i.first.least; most = i.first.most; room = i.short }; is = i.is })
 
-  pub there_in_buffer : (at : ℕ) → r.lsn ≡ batch_lsn log + at → There (buffered log) at r
+  pub there_in_buffer : (at : ℕ) → r.lsn ≡ log.base + (place_of log.gate + 1) + at → There (shown log) at r
   there_in_buffer at is =
       let i = in_buffer (omega (arith, is)) in
-      subst (λ (k : ℕ). There (buffered log) k r) (let e : i.at ≡ at = omega (arith, is, i.lsn_is) in e)
-      (record {
-        entry = i.entry;
-        first = i.first;
-        fits = record { least = i.first.least; most = i.first.most; room = omega (arith, i.first.most, length-drop i.at (buffered log), waiting log, log.within) };
-        is = ap (λ (k : ℕ). logged_at k i.entry) i.lsn_is ∙ i.is;
-      })
+      subst (λ (k : ℕ). There (shown log) k r) (let e : i.at ≡ at = omega (arith, is, i.lsn_is) in e)
+      (record { entry = i.entry; first = i.first; fits = record { least = i.first.least; most = i.first.most; room = i.short }; is = i.is })
 
 -- the length in the first four bytes, as the kit reads it
 size_read : (bytes : List ℕ) → big_number 4 (take 4 bytes) ≡ record_size bytes
@@ -222,6 +307,17 @@ size_is size front bytes is front_is = is ∙ ap (big_number 4) front_is ∙ siz
 -- the bytes from a place on to the end of a front
 pub slice_is : (items : List ℕ) (at end : ℕ) → at ≤ end → take (end - at) (drop at items) ≡ drop at (take end items)
 slice_is items at end le = let e : end ≡ at + (end - at) = omega (arith, le) in sym (ap (λ (k : ℕ). drop at (take k items)) e ∙ drop-take at (end - at) items)
+
+-- a first record of them, of those that are cut off behind it
+pub cut_first : (items : List ℕ) (at end n : ℕ) (entry : Entry) → at ≤ end → end ≤ length items → n ≤ end - at → First (drop at (take end items)) entry → record_size (drop at (take end items)) ≤ n → First (take n (drop at items)) entry
+cut_first items at end n entry le within few f fits =
+    let y : List ℕ = drop at (take end items) in
+    let split_is : take n y ++ drop n y ≡ y = take-append-drop n y in
+    let long : length y ≡ end - at = omega (arith, length-drop at (take end items), length-take-le end items within) in
+    let size : record_size (take n y ++ drop n y) ≡ record_size y = ap record_size split_is in
+    let same : take n y ≡ take n (drop at items) = ap (λ (l : List ℕ). take n l) (sym (slice_is items at end le)) ∙ take-take n (end - at) (drop at items) few in
+    subst (λ (l : List ℕ). First l entry) same
+    (first_less (take n y) (drop n y) entry (subst (λ (l : List ℕ). First l entry) (sym split_is) f) (omega (arith, size, fits, length-take-le n y (omega (arith, long, few)))))
 
 -- one record more below a bound
 pub one_more_below : (from : ℕ) (x : Logged) (passed : List Logged) → x.lsn < from → AllBelow from passed → AllBelow from (x ∷ passed)

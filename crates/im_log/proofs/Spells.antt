@@ -3,9 +3,10 @@ use Rattle.std.proofs.Common.{◌≡◌, ◌^◌, ℕ, zero, suc, ◌+◌, ◌-�
 use Rattle.std.proofs.lemmas.Bool.Decides.{nat_tests}
 use Rattle.std.proofs.lemmas.List.{take_all, take-append-le}
 use Rattle.std.specs.Int.{w32, from_be_bytes}
-use Rattle.im_log_gate.specs.Batches.{batches, size_of, with_batch}
+use Rattle.im_log_gate.specs.Batches.{batches, size_of, with_batch, with_batches}
 use Rattle.im_log_gate.specs.Header.{first_gate}
 use Rattle.im_log_gate.proofs.BatchLemmas.{size_of-push}
+use Rattle.im_log_gate.proofs.Several.{size_of-append}
 use Rattle.im_log_gate.proofs.Starts.{gate_behind}
 use Rattle.im_base_types.specs.Records.{Logged}
 use Rattle.im_log_record.specs.Entry.{Entry}
@@ -119,6 +120,27 @@ batch_push lsn at [] last older log all is place more =
 batch_push lsn at (b ∷ bs) last older log all is place more =
     by_first lsn b bs last older log all (records_from 0 (lsn + 5) b older) refl is (λ mid here. batch_push (lsn + (5 + length b)) at bs last mid log all here (omega (arith, place)) more)
 
+append_by : (lsn : ℕ) (b : List ℕ) (bs more : List (List ℕ)) (older log : List Logged) (o : Option (List Logged)) → records_from 0 (lsn + 5) b older ≡ o
+    → batches_records lsn (b ∷ bs) older ≡ Some log
+    → ((mid : List Logged) → batches_records (lsn + (5 + length b)) bs mid ≡ Some log → batches_records (lsn + (5 + length b)) (bs ++ more) mid ≡ batches_records (lsn + (5 + length b) + size_of bs) more log)
+    → batches_records lsn (b ∷ bs ++ more) older ≡ batches_records (lsn + (5 + length b) + size_of bs) more log
+append_by lsn b bs more older log None here is onward = let never : None ≡ Some log = sym (batch_none lsn b bs older here) ∙ is in cc
+append_by lsn b bs more older log (Some mid) here is onward = batch_step lsn b (bs ++ more) older mid here ∙ onward mid (sym (batch_step lsn b bs older mid here) ∙ is)
+
+-- batches behind batches
+pub batches_append : (lsn : ℕ) (bs more : List (List ℕ)) (older log : List Logged) → batches_records lsn bs older ≡ Some log → batches_records lsn (bs ++ more) older ≡ batches_records (lsn + size_of bs) more log
+batches_append lsn [] more older log is =
+    let e : older ≡ log = cc in let p : lsn ≡ lsn + 0 = omega arith in
+    ap (λ (l : List Logged). batches_records lsn more l) e ∙ ap (λ (k : ℕ). batches_records k more log) p
+batches_append lsn (b ∷ bs) more older log is =
+    let p : lsn + (5 + length b) + size_of bs ≡ lsn + (5 + length b + size_of bs) = omega arith in
+    append_by lsn b bs more older log (records_from 0 (lsn + 5) b older) refl is (λ mid here. batches_append (lsn + (5 + length b)) bs more mid log here)
+    ∙ ap (λ (k : ℕ). batches_records k more log) p
+
+-- these batches and one more
+pub batches_push : (lsn : ℕ) (bs : List (List ℕ)) (last : List ℕ) (older mid all : List Logged) → batches_records lsn bs older ≡ Some mid → records_from 0 (lsn + size_of bs + 5) last mid ≡ Some all → batches_records lsn (bs ++ last ∷ []) older ≡ Some all
+batches_push lsn bs last older mid all is more = batches_append lsn bs (last ∷ []) older mid is ∙ batch_step (lsn + size_of bs) last [] mid all more
+
 -- the last gate lies at 2^62 or below
 spelled_room : (base place : ℕ) (bs : List (List ℕ)) (log : List Logged) → spelled_by base place (Some bs) ≡ Some log → base + (place + size_of bs) ≤ 2 ^ 62
 spelled_room base place bs log is = grind (arith, nat_tests)
@@ -151,6 +173,15 @@ log_with base place file new last before durable all same is placed room spells 
     log_is base new (before ++ last ∷ []) all (put ∙ ap (with_batch last) is) (omega (arith, room, placed, same, size_of-push before last))
     (batch_push (base + first_gate new) (base + (place + 5)) before last [] durable all
     (ap (λ (n : ℕ). batches_records (base + n) before []) same ∙ log_records base file before durable is spells) (omega (arith, placed, same)) more)
+
+-- several batches more
+pub log_with_all : (base place : ℕ) (file new : List ℕ) (more before : List (List ℕ)) (durable all : List Logged) → first_gate new ≡ first_gate file → batches (first_gate file) file ≡ Some before → place ≡ first_gate file + size_of before
+    → base + place + size_of more ≤ 2 ^ 62 → log_of base file ≡ Some durable → batches_records (base + place) more durable ≡ Some all → batches (first_gate new) new ≡ with_batches more (batches (first_gate file) file) → log_of base new ≡ Some all
+log_with_all base place file new more before durable all same is placed room spells records put =
+    log_is base new (before ++ more) all (put ∙ ap (with_batches more) is) (omega (arith, room, placed, same, size_of-append before more))
+    (batches_append (base + first_gate new) before more [] durable (ap (λ (n : ℕ). batches_records (base + n) before []) same ∙ log_records base file before durable is spells)
+    ∙ ap (λ (k : ℕ). batches_records k more durable) (let e : base + first_gate new + size_of before ≡ base + place = omega (arith, placed, same) in e)
+    ∙ records)
 
 ends_at : (base : ℕ) (o : Option Entry) (lsn byte : ℕ) (bytes : List ℕ) (older log : List Logged) → first_record (byte ∷ bytes) ≡ o → records_from 0 lsn (byte ∷ bytes) older ≡ Some log
     → ((now : List Logged) → last_lsn base now < suc lsn → records_from (record_size (byte ∷ bytes) - 1) (suc lsn) bytes now ≡ Some log → last_lsn base log < suc lsn + length bytes) → last_lsn base log < suc lsn + length bytes

@@ -1,21 +1,31 @@
 -- What a log file knows of its disk.
-use Rattle.std.specs.Prelude.{◌≡◌, ℕ, ◌+◌, ◌^◌, ◌<◌, ◌≤◌, nat_le, if◌then◌else◌, false, List, take, Some}
+use Rattle.std.specs.Prelude.{drop, ◌≡◌, ℕ, ◌+◌, ◌^◌, ◌<◌, ◌≤◌, nat_le, if◌then◌else◌, false, List, length, take, Some}
 use Rattle.im_base_types.specs.declared.file_id.FileId.TheVariants.{Log}
 use Rattle.im_base_types.specs.Records.{Logged}
 use Rattle.im_theory_log.specs.Histories.{IsFront}
 use Rattle.im_base_disk.specs.declared.disk.Disk.{Ghosts}
+use Rattle.im_log_gate.specs.Batches.{IsFilled}
 use Rattle.im_log_gate.specs.Gate.{IsReady, StartsAs, place_of, has_failed}
 use Rattle.im_log_gate.specs.Header.{base_of, IsMade}
 use Rattle.im_log.specs.declared.log_file.LogFile.{LogFile}
-use Rattle.im_log.specs.Spelled.{records_from, log_of, last_lsn}
+use Rattle.im_log.specs.Spelled.{records_from, batches_records, log_of, last_lsn}
 
--- The bytes that wait for a force.
+-- The records of the batch that is being filled.
 abbrev pub buffered : LogFile → List ℕ
-buffered log = take log.used log.buffer.items
+buffered log = drop (log.start + 4) (take (log.start + 4 + log.used) log.buffer.items)
 
--- The LSN of the first record of the next batch.
+-- The batches that wait in front of it, each laid out behind an open gate.
+pub record Sealed (log : LogFile) : Type 0 where
+  pub batches : List (List ℕ)
+  pub filled : IsFilled batches (take log.start log.buffer.items)
+
+-- The LSN of the first record that waits.
+abbrev pub first_lsn : LogFile → ℕ
+first_lsn log = log.base + (place_of log.gate + 5)
+
+-- That of the first record of the batch that is being filled.
 abbrev pub batch_lsn : LogFile → ℕ
-batch_lsn log = log.base + (place_of log.gate + 5)
+batch_lsn log = log.base + (place_of log.gate + log.start + 5)
 
 -- The LSN of the next record, where it needs no force.
 abbrev pub next_lsn : LogFile → ℕ
@@ -25,12 +35,21 @@ next_lsn log = batch_lsn log + log.used
 abbrev pub end_with : LogFile → ℕ → ℕ
 end_with log size = if nat_le (log.used + size) 16384 then next_lsn log + size else next_lsn log + 5 + size
 
--- A record of some length would end above LSN 2^62; the gate works still.
+-- A buffer full of batches, and a record more, would end at LSN 2^62 or below.
+abbrev pub IsAhead : LogFile → Type 0
+IsAhead log = log.base + (place_of log.gate + 1) + (length log.buffer.items + 16388) ≤ 2 ^ 62
+
+-- Behind the batch that is being filled a whole one more finds room in the buffer, and its records below LSN 2^62.
+abbrev pub HasNextRoom : LogFile → Type 0
+HasNextRoom log = (log.start + log.used + 16394 ≤ length log.buffer.items) × IsAhead log
+
+-- A record of some length would end above LSN 2^62; the gate works still, and at most one batch waits.
 pub record HasNoRoom (log : LogFile) : Type 0 where
   pub gate : has_failed log.gate ≡ false
   pub size : ℕ
   pub most : size ≤ 16384
   pub above : 2 ^ 62 < end_with log size
+  pub one : log.start ≡ 0
 
 module _ {D : Type 0} (d : Ghosts D) where
   -- On any bytes: the gate is the last and says where the log starts, and what is buffered ends at LSN 2^62 or below. After a failure it
@@ -41,6 +60,8 @@ module _ {D : Type 0} (d : Ghosts D) where
     pub working : log.failed ≡ false → has_failed log.gate ≡ false
     pub placed : log.failed ≡ false → log.base + place_of log.gate ≤ 2 ^ 62
     pub room : log.failed ≡ false → 1 ≤ log.used → next_lsn log ≤ 2 ^ 62
+    pub sealed : log.failed ≡ false → Sealed log
+    pub filling : log.failed ≡ false → 1 ≤ log.start → 1 ≤ log.used
 
   -- The disk tells its bytes, the made file spells the durable records, and the buffer those that come on top.
   pub record IsLog (base : ℕ) (all durable : List Logged) (log : LogFile) (disk : D) : Type 0 where
@@ -50,6 +71,9 @@ module _ {D : Type 0} (d : Ghosts D) where
     pub made : IsMade (d.seen disk Log)
     pub starts : base_of (d.seen disk Log) ≡ base
     pub on_disk : log_of base (d.seen disk Log) ≡ Some durable
-    pub in_buffer : records_from 0 (batch_lsn log) (buffered log) durable ≡ Some all
+    pub sealed : Sealed log
+    pub mid : List Logged
+    pub in_sealed : batches_records (log.base + place_of log.gate) sealed.batches durable ≡ Some mid
+    pub in_buffer : records_from 0 (batch_lsn log) (buffered log) mid ≡ Some all
     pub front : IsFront durable all
     pub below : last_lsn base all < next_lsn log

@@ -3,7 +3,7 @@ use Rattle.std.specs.Prelude.{ℕ, List, ◌++◌, replicate, Option, Some, None
 use Rattle.im_base_types.specs.Pages.{Page}
 use Rattle.im_base_types.specs.Records as whats
 use Rattle.im_base_types.specs.Records.{What, Unreadable}
-use Rattle.im_page_form.specs.Page.{page_of}
+use Rattle.im_theory_page.specs.Page.{page_of}
 use Rattle.im_log_record.specs.Entry.{Entry, InsertKey, DeleteKey, UndoInsert, UndoDelete, Smo, UndoSmo, DummyClr, Commit, End, Image, Checkpoint}
 
 -- The page whose bytes these are behind an LSN of zero.

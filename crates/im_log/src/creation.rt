@@ -1,6 +1,6 @@
 //! A log is made where there is none yet.
 
-ghost use Rattle.std.specs.Prelude.{◌≡◌, ◌⊎◌, ◌↔◌, true, false, length, IfErr, IfOk, List, ℕ};
+ghost use Rattle.std.specs.Prelude.{◌≤◌, ◌≡◌, ◌⊎◌, ◌↔◌, true, false, length, IfErr, IfOk, List, ℕ};
 ghost use Rattle.im_base_types.specs.declared.fault.Fault.TheVariants.{Device, Memory, NotAStore};
 ghost use Rattle.im_base_types.specs.declared.file_id.FileId.TheVariants.{Log, Pages};
 ghost use Rattle.im_base_types.specs.Records.{Logged};
@@ -20,7 +20,12 @@ use std::alloc::Global;
 /// first byte has the LSN that the file says.
 ///
 /// Refused `NotAStore` where the files' bytes are no store, with no device call made; `Device`; `Memory`.
-pub fn open_or_create<D: Disk>(alloc: Global, disk: &mut D) -> Result<LogFile, Fault>
+pub fn open_or_create<D: Disk>(
+    alloc: Global,
+    disk: &mut D,
+    batches: usize,
+) -> Result<LogFile, Fault>
+    requires few { (1 ≤ batches) × (batches ≤ 64) }
     requires working { D.failed disk.old ≡ false }
     requires durable { Only Log (D.seen disk.old) (D.may_leave disk.old) }
     ensures ready { IfOk result (λ log. IsOpen D.Disk log disk.new) }
@@ -34,10 +39,10 @@ pub fn open_or_create<D: Disk>(alloc: Global, disk: &mut D) -> Result<LogFile, F
     ensures device { result ≡ Err Device ↔ (D.failed disk.new ≡ true) }
 {
     match Gate::open(alloc, disk, FileId::Log)? {
-        Some(gate) => open_log(alloc, disk, gate),
+        Some(gate) => open_log(alloc, disk, gate, batches),
         None => {
             let gate = Gate::create(alloc, disk, FileId::Log)?;
-            open_log(alloc, disk, gate)
+            open_log(alloc, disk, gate, batches)
         }
     }
 }

@@ -1,36 +1,33 @@
 //! The log file with its buffer. A record's LSN is the base and its place in the file.
 
-ghost use Rattle.std.specs.Prelude.{◌≡◌, ◌≢◌, ◌+◌, ◌*◌, ◌^◌, ◌<◌, ◌≤◌, ◌↔◌, ◌⊎◌, ◌++◌, false, true, not, is_ok, length, take, min, ◌-◌, IfErr, IfOk, OnOk, List, ℕ, Some};
-ghost use Rattle.im_log_gate.specs.Gate.{base_at};
+ghost use Rattle.std.specs.Prelude.{[], ◌∷◌, drop, ◌≡◌, ◌≢◌, ◌+◌, ◌*◌, ◌^◌, ◌<◌, ◌≤◌, ◌↔◌, ◌⊎◌, ◌++◌, false, true, not, is_ok, length, take, min, ◌-◌, IfErr, IfOk, OnOk, List, ℕ, Some};
+ghost use Rattle.im_log_gate.specs.Gate.{base_at, place_of};
 ghost use Rattle.im_log.specs.Gates.{IsOfLog};
 
 use crate::reading::{copy_front, read_front};
 use crate::{Opening, Scan};
 use im_base_disk::Disk;
-use im_base_types::{Fault, FileId, Lsn};
-use im_log_gate::Gate;
+use im_base_types::{BATCH_ROOM, Fault, FileId, LAST_LSN, LONGEST_BATCH, Lsn};
+use im_log_gate::{Gate, seal};
 use im_log_record::{Record, spellings};
 use std::alloc::Global;
 
-/// No record ends above this LSN.
-pub(crate) const LSNS: u64 = 1 << 62;
-
-/// The bytes of the buffer, and of the longest batch.
-pub(crate) const BUFFER: usize = 16_384;
-
-/// The log: records in turn, of which the last may wait in a buffer for a force.
+/// The log: records in turn, of which the last may wait in a buffer for a force, laid out as they will stand in the file.
 #[derive(Drop)]
 pub struct LogFile {
     gate: Gate,
     /// The LSN of the file's first byte.
     base: u64,
-    /// Records that wait for a force stand at its front.
+    /// What waits for a force stands at its front as it will behind the gate: whole batches, each behind an open gate, and the one that is filled.
     buffer: Vec<u8>,
-    /// How many bytes they have.
+    /// Where the length of that one will stand.
+    start: usize,
+    /// How many bytes its records have: none where nothing waits.
     used: usize,
     failed: bool,
     ghost of_log: { IsOfLog gate },
-    ghost sized: { length buffer.items ≡ 16384 },
+    ghost sized: { start + 16389 ≤ length buffer.items },
+    ghost ahead: { failed ≡ false → 1 ≤ start → base + (place_of gate + 1) + (length buffer.items + 16388) ≤ 2 ^ 62 },
     ghost within: { used ≤ 16384 },
     ghost based: { base ≤ 2 ^ 62 },
     ghost of_gate: { base ≡ base_at gate },
@@ -42,10 +39,10 @@ impl LogFile {
     ghost use Rattle.im_base_types.specs.declared.file_id.FileId.TheVariants.{Log};
     ghost use Rattle.im_base_types.specs.Records.{Logged};
     ghost use Rattle.im_theory_log.specs.Histories.{IsRecordOf};
-    ghost use Rattle.im_log_gate.specs.Gate.{place_of};
     ghost use Rattle.im_log_record.specs.Entry.{view};
     ghost use Rattle.im_log_record.specs.Spelling.{IsEntry, size_of, spelling};
-    ghost use Rattle.im_log.specs.LogFile.{buffered, batch_lsn, next_lsn, end_with, HasNoRoom, IsOpen, IsLog};
+    ghost use Rattle.im_log.specs.LogFile.{buffered, first_lsn, batch_lsn, next_lsn, end_with, HasNoRoom, IsAhead, HasNextRoom, IsOpen, IsLog, Sealed};
+    ghost use Rattle.im_log_gate.specs.Batches.{IsFilled};
     ghost use Rattle.im_log.specs.Kept.{AppendKept, ForceKept};
     ghost use Rattle.im_log.specs.Reading.{FoundKept};
     ghost use Rattle.im_log.specs.Scan.{place_of_scan, bound_of, IsScanning, ScanBegun};
@@ -53,14 +50,15 @@ impl LogFile {
     // A log with nothing buffered, behind this gate.
     pub(crate) fn at_end(gate: Gate, buffer: Vec<u8>) -> LogFile
         requires of_log { IsOfLog gate }
-        requires room { length buffer.items ≡ 16384 }
-        ensures log { (result.gate ≡ gate) × (result.base ≡ base_at gate) × (result.used ≡ 0) × (result.failed ≡ false) }
+        requires room { 16389 ≤ length buffer.items }
+        ensures log { (result.gate ≡ gate) × (result.base ≡ base_at gate) × (result.start ≡ 0) × (result.used ≡ 0) × (result.failed ≡ false) }
     {
         let base = gate.base();
         LogFile {
             gate,
             base,
             buffer,
+            start: 0,
             used: 0,
             failed: false,
         }
@@ -68,9 +66,9 @@ impl LogFile {
 
     /// How many bytes wait for a force.
     pub fn waiting(&self) -> usize
-        ensures { result ≡ self.now.used }
+        ensures { result ≡ self.now.start + self.now.used }
     {
-        self.used
+        self.start + self.used
     }
 
     /// The LSN of the gate: each record below it is durable. A failed log answers any number.
@@ -80,16 +78,36 @@ impl LogFile {
         self.base.saturating_add(self.gate.place())
     }
 
+    /// An append of a record of this length makes no device call.
+    pub fn takes(&self, size: usize) -> bool
+        requires { size ≤ 16384 }
+        ensures { result ≡ true → (self.now.used + size ≤ 16384) ⊎ HasNextRoom self.now }
+    {
+        self.used + size <= LONGEST_BATCH || self.begins_next()
+    }
+
+    // A whole batch more finds room in the buffer. Near the end of the log none is begun there, so that a log is full only where little of it waits.
+    fn begins_next(&self) -> bool
+        ensures { result ≡ true ↔ HasNextRoom self.now }
+    {
+        let space = LAST_LSN - self.base;
+        let place = self.gate.place();
+        let most = (self.buffer.len() + BATCH_ROOM) as u64;
+        self.start + self.used + 5 + BATCH_ROOM <= self.buffer.len()
+            && place <= space
+            && most <= space - place
+    }
+
     // A record of this length would end above the greatest LSN.
     fn is_full(&self, size: usize) -> bool
         requires { size ≤ 16384 }
         ensures full { result ≡ true → 2 ^ 62 < end_with self.now size }
         ensures room { result ≡ false → end_with self.now size ≤ 2 ^ 62 }
     {
-        let space = LSNS - self.base;
+        let space = LAST_LSN - self.base;
         let place = self.gate.place();
-        let waiting = self.used + size;
-        let wanted = if waiting <= BUFFER {
+        let waiting = self.start + self.used + size;
+        let wanted = if self.used + size <= LONGEST_BATCH {
             waiting + 5
         } else {
             waiting + 10
@@ -105,13 +123,34 @@ impl LogFile {
         ensures lsn { result ≡ next_lsn self.old }
         ensures buffered { buffered self.new ≡ buffered self.old ++ spelling (view record.now) }
         ensures used { self.new.used ≡ self.old.used + size_of (view record.now) }
+        ensures sealed { (self.new.start ≡ self.old.start) × (take self.old.start self.new.buffer.items ≡ take self.old.start self.old.buffer.items) }
         ensures base { self.new.base ≡ self.old.base }
         ensures gate { self.new.gate ≡ self.old.gate }
         ensures failed { self.new.failed ≡ self.old.failed }
     {
-        let lsn = self.base + (self.gate.place() + 5) + self.used as u64;
-        self.used = record.encode(&mut self.buffer, self.used);
+        let at = self.start + 4 + self.used;
+        let lsn = self.base + (self.gate.place() + 1) + at as u64;
+        let end = record.encode(&mut self.buffer, at);
+        self.used += end - at;
         lsn
+    }
+
+    // Ends the batch that is being filled, and begins the next one.
+    fn begin_batch(&mut self)
+        requires some { 1 ≤ self.old.used }
+        requires room { HasNextRoom self.old }
+        ensures sealed { (bs : List (List ℕ)) → IsFilled bs (take self.old.start self.old.buffer.items) → IsFilled (bs ++ buffered self.old ∷ []) (take self.new.start self.new.buffer.items) }
+        ensures start { self.new.start ≡ self.old.start + (self.old.used + 5) }
+        ensures used { self.new.used ≡ 0 }
+        ensures room { length self.new.buffer.items ≡ length self.old.buffer.items }
+        ensures base { self.new.base ≡ self.old.base }
+        ensures gate { self.new.gate ≡ self.old.gate }
+        ensures failed { self.new.failed ≡ self.old.failed }
+    {
+        let end = self.start + 4 + self.used;
+        seal(&mut self.buffer, self.start, end, true);
+        self.start = end + 1;
+        self.used = 0;
     }
 
     /// Makes the buffered records durable, by two writes and two syncs; none where nothing is buffered.
@@ -142,7 +181,16 @@ impl LogFile {
             return Ok(());
         }
         self.failed = true;
-        self.gate.put_batch(disk, &self.buffer[..self.used])?;
+        let end = self.start + 4 + self.used;
+        seal(&mut self.buffer, self.start, end, false);
+        let room = if end < BATCH_ROOM {
+            BATCH_ROOM
+        } else {
+            end + 1
+        };
+        self.gate
+            .put_batches(disk, &mut self.buffer, end + 1, room)?;
+        self.start = 0;
         self.used = 0;
         self.failed = false;
         Ok(())
@@ -161,6 +209,7 @@ impl LogFile {
             → AppendKept D.Disk base all durable (view record.now) disk.old self.new disk.new result }
         ensures changes { ChangesOnly D.Disk Log disk.old disk.new }
         ensures fits { self.old.used + size_of (view record.now) ≤ 16384 → disk.new ≡ disk.old }
+        ensures later { HasNextRoom self.old → disk.new ≡ disk.old }
         ensures forces { OnOk result (Forces D.Disk 1 disk.old disk.new) }
         ensures few { CostsAtMost D.Disk 2 2 disk.old disk.new }
         ensures used { IfOk result (λ lsn. self.old.used + size_of (view record.now) ≤ 16384 → self.new.used ≡ self.old.used + size_of (view record.now)) }
@@ -183,7 +232,11 @@ impl LogFile {
             self.failed = true;
             return Err(Fault::LogFull);
         }
-        if self.used + size <= BUFFER {
+        if self.used + size <= LONGEST_BATCH {
+            return Ok(self.put_in(record));
+        }
+        if self.begins_next() {
+            self.begin_batch();
             return Ok(self.put_in(record));
         }
         self.force(disk)?;
@@ -205,9 +258,9 @@ impl LogFile {
         ensures reads { Reads D.Disk disk.old disk.new }
         ensures room { length room.new ≡ length room.old }
         ensures size { IfOk result (λ size. (4 ≤ size) × (size ≤ 16384)) }
-        ensures buffered { batch_lsn self.now ≤ lsn → disk.new ≡ disk.old }
+        ensures buffered { first_lsn self.now ≤ lsn → disk.new ≡ disk.old }
         ensures below { self.now.failed ≡ false → lsn < self.now.base → result ≡ Err NotAStore }
-        ensures gate { self.now.failed ≡ false → self.now.base + place_of self.now.gate ≤ lsn → lsn < batch_lsn self.now → result ≡ Err NotAStore }
+        ensures gate { self.now.failed ≡ false → self.now.base + place_of self.now.gate ≤ lsn → lsn < first_lsn self.now → result ≡ Err NotAStore }
         ensures above { self.now.failed ≡ false → next_lsn self.now ≤ lsn → result ≡ Err NotAStore }
         ensures causes { IfErr result (λ e. (e ≡ Failed) ⊎ (e ≡ NotAStore) ⊎ (e ≡ Device)) }
         ensures already { result ≡ Err Failed ↔ (self.now.failed ≡ true) }
@@ -226,11 +279,12 @@ impl LogFile {
             return Ok(size);
         }
         let behind = at - place;
-        if behind < 5 || behind - 5 >= self.used as u64 {
+        if behind < 5 || behind - 5 >= (self.start + self.used) as u64 {
             return Err(Fault::NotAStore);
         }
-        let waiting = (behind - 5) as usize;
-        let size = copy_front(&self.buffer[waiting..self.used], room)?;
+        let waiting = (behind - 1) as usize;
+        let end = (self.start + 4 + self.used).min(waiting + LONGEST_BATCH);
+        let size = copy_front(&self.buffer[waiting..end], room)?;
         Ok(size)
     }
 
@@ -258,7 +312,7 @@ impl LogFile {
         match Gate::open(alloc, disk, FileId::Log)? {
             None => Err(Fault::NotAStore),
             Some(gate) => {
-                let opening = Opening::start(alloc, gate)?;
+                let opening = Opening::start(alloc, gate, 1)?;
                 Ok(Scan::start(opening, from))
             }
         }

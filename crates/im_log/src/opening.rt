@@ -1,6 +1,6 @@
 //! A log is opened behind the last batch of its file, which is read once.
 
-ghost use Rattle.std.specs.Prelude.{◌≡◌, ◌+◌, ◌-◌, ◌^◌, ◌<◌, ◌≤◌, ◌⊎◌, ◌↔◌, true, false, not, is_ok, length, IfErr, IfOk, OnOk, List, ℕ, Some};
+ghost use Rattle.std.specs.Prelude.{◌*◌, ◌≡◌, ◌+◌, ◌-◌, ◌^◌, ◌<◌, ◌≤◌, ◌⊎◌, ◌↔◌, true, false, not, is_ok, length, IfErr, IfOk, OnOk, List, ℕ, Some};
 ghost use Rattle.im_log.specs.Gates.{IsOfLog};
 ghost use Rattle.im_base_types.specs.declared.fault.Fault.TheVariants.{Device, Memory, NotAStore};
 ghost use Rattle.im_base_types.specs.declared.file_id.FileId.TheVariants.{Log};
@@ -13,9 +13,8 @@ ghost use Rattle.im_log.specs.Kept.{HasLog, ReadKept};
 
 use crate::LogFile;
 use crate::front::front_size;
-use crate::log_file::{BUFFER, LSNS};
 use im_base_disk::Disk;
-use im_base_types::{Fault, Lsn};
+use im_base_types::{BATCH_ROOM, Fault, LAST_LSN, Lsn};
 use im_log_gate::Gate;
 use im_log_record::{Record, decode};
 use std::alloc::Global;
@@ -38,7 +37,7 @@ pub struct Opening {
     behind: u64,
     failed: bool,
     ghost of_log: { IsOfLog gate },
-    ghost sized: { length bytes.items ≡ 16384 },
+    ghost sized: { 16389 ≤ length bytes.items },
     ghost ordered: { from ≤ at },
     ghost within: { at ≤ end },
     ghost ends: { end ≤ 16384 },
@@ -47,12 +46,13 @@ pub struct Opening {
     ghost of_gate: { base ≡ base_at gate },
 }
 
-// The room for a batch.
-fn make_room(alloc: Global) -> Result<Vec<u8>, Fault>
-    ensures size { IfOk result (λ room. length room.items ≡ 16384) }
+// The room for so many batches.
+fn make_room(alloc: Global, batches: usize) -> Result<Vec<u8>, Fault>
+    requires few { (1 ≤ batches) × (batches ≤ 64) }
+    ensures size { IfOk result (λ room. length room.items ≡ 16389 * batches) }
     ensures causes { IfErr result (λ e. e ≡ Fault.Memory) }
 {
-    vec![in alloc; 0; BUFFER].map_err(|_| Fault::Memory)
+    vec![in alloc; 0; BATCH_ROOM * batches].map_err(|_| Fault::Memory)
 }
 
 impl Opening {
@@ -71,7 +71,8 @@ impl Opening {
     /// Begins to read a log at its first gate. It takes the room for a batch, in which the log's records will wait.
     ///
     /// Refused `Memory`.
-    pub fn start(alloc: Global, gate: Gate) -> Result<Opening, Fault>
+    pub fn start(alloc: Global, gate: Gate, batches: usize) -> Result<Opening, Fault>
+        requires few { (1 ≤ batches) × (batches ≤ 64) }
         requires of_log { IsOfLog gate }
         requires first { place_of gate ≡ first_of gate }
         ensures opening { IfOk result (λ opening. (opening.gate ≡ gate) × (opening.base ≡ base_at gate) × (opening.at ≡ 0) × (opening.end ≡ 0) × (opening.behind ≡ place_of gate) × (opening.failed ≡ false)) }
@@ -82,7 +83,7 @@ impl Opening {
         Ok(Opening {
             gate,
             base,
-            bytes: make_room(alloc)?,
+            bytes: make_room(alloc, batches)?,
             from: 0,
             at: 0,
             end: 0,
@@ -112,7 +113,7 @@ impl Opening {
         let next = self.gate.read_into(disk, &mut self.bytes)?;
         if let Some(size) = next {
             let behind = self.gate.place();
-            if behind > LSNS - self.base {
+            if behind > LAST_LSN - self.base {
                 return Err(Fault::NotAStore);
             }
             self.behind = behind;
@@ -201,7 +202,13 @@ impl Opening {
 /// Opens a log at its first gate: reads its records to the last, and checks each. The file is read once.
 ///
 /// Refused `NotAStore` where the bytes are no log; `Device`; `Memory`.
-pub fn open_log<D: Disk>(alloc: Global, disk: &mut D, gate: Gate) -> Result<LogFile, Fault>
+pub fn open_log<D: Disk>(
+    alloc: Global,
+    disk: &mut D,
+    gate: Gate,
+    batches: usize,
+) -> Result<LogFile, Fault>
+    requires few { (1 ≤ batches) × (batches ≤ 64) }
     requires of_log { IsOfLog gate }
     requires first { place_of gate ≡ first_of gate }
     requires starts { D.tells → StartsAs gate (D.seen disk.old Log) }
@@ -216,7 +223,7 @@ pub fn open_log<D: Disk>(alloc: Global, disk: &mut D, gate: Gate) -> Result<LogF
     ensures causes { IfErr result (λ e. (e ≡ Memory) ⊎ (e ≡ Device) ⊎ (e ≡ NotAStore)) }
     ensures device { result ≡ Err Device ↔ (D.failed disk.new ≡ true) }
 {
-    let mut opening = Opening::start(alloc, gate)?;
+    let mut opening = Opening::start(alloc, gate, batches)?;
     loop {
         match opening.next(disk)? {
             None => return Ok(opening.finish(disk)),

@@ -10,9 +10,9 @@ ghost use Rattle.im_log.specs.Spelled.{first_record};
 use crate::front::front_size;
 use byteorder::{BigEndian, ByteOrder};
 use im_base_disk::Disk;
-use im_base_types::{Fault, FileId};
+use im_base_types::{Fault, FileId, LONGEST_BATCH};
 
-const LONGEST: u64 = 16_384;
+const LONGEST: u64 = LONGEST_BATCH as u64;
 
 // Reads the record at this place of the file to the front of the room, and answers its length. It reads the length, and then
 // the record.

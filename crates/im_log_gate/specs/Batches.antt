@@ -1,6 +1,6 @@
 -- What the bytes of a log file stand for. A gate is a byte; behind it stand four bytes of length, the records of its batch
 -- and the next gate.
-use Rattle.std.specs.Prelude.{◌≡◌, ◌⊎◌, ℕ, zero, suc, ◌+◌, ◌<◌, ◌==◌, nat_le, nat_lt, Bool, ◌&&◌, if◌then◌else◌, List, [], ◌∷◌, ◌++◌, length, take, drop, Option, Some, None}
+use Rattle.std.specs.Prelude.{All, ◌≤◌, ◌≡◌, ◌⊎◌, ℕ, zero, suc, ◌+◌, ◌<◌, ◌==◌, nat_le, nat_lt, Bool, ◌&&◌, if◌then◌else◌, List, [], ◌∷◌, ◌++◌, length, take, drop, Option, Some, None}
 use Rattle.std.specs.Int.{w32, from_be_bytes, to_be_bytes}
 
 -- The length that the four bytes behind a gate give. Here and below, `behind` is all that stands behind the gate.
@@ -65,3 +65,47 @@ pub record Reaches (first : ℕ) (file : List ℕ) (place : ℕ) : Type 0 where
   pub within : place < length file
   pub placed : place ≡ first + size_of (in_front_of first place file)
   pub front : (rest : List ℕ) → batches first (take place file ++ rest) ≡ in_front (in_front_of first place file) (batches_from 0 rest)
+
+-- ---- several batches behind one gate
+
+-- As many records as one batch may have.
+pub record Fits (records : List ℕ) : Type 0 where
+  pub some : 1 ≤ length records
+  pub most : length records ≤ 16384
+
+-- Batches as they stand in a file, each behind an open gate.
+abbrev pub gated : List (List ℕ) → List ℕ
+gated [] = []
+gated (records ∷ rest) = 1 ∷ to_be_bytes w32 (length records) ++ records ++ gated rest
+
+-- What is written behind a closed gate so that these stand behind it once it is open: all but the first gate, and the closed gate
+-- behind the last. Of one batch it is what `spelled` says.
+abbrev pub laid : List (List ℕ) → List ℕ
+laid bs = drop 1 (gated bs) ++ 0 ∷ []
+
+-- These bytes are the batches laid out, with an open gate behind the last; no bytes are no batches.
+pub record IsFilled (bs : List (List ℕ)) (bytes : List ℕ) : Type 0 where
+  pub fit : All Fits bs
+  pub is : 1 ∷ bytes ≡ gated bs ++ 1 ∷ []
+
+-- These bytes are the batches, laid out.
+pub record IsLaid (bs : List (List ℕ)) (bytes : List ℕ) : Type 0 where
+  pub some : 1 ≤ length bs
+  pub fit : All Fits bs
+  pub is : bytes ≡ laid bs
+
+-- They begin with them.
+pub record Lays (bs : List (List ℕ)) (bytes : List ℕ) : Type 0 where
+  pub some : 1 ≤ length bs
+  pub fit : All Fits bs
+  pub rest : List ℕ
+  pub is : bytes ≡ laid bs ++ rest
+
+-- The same batches with these at the end.
+abbrev pub with_batches : List (List ℕ) → Option (List (List ℕ)) → Option (List (List ℕ))
+with_batches more None = None
+with_batches more (Some before) = Some (before ++ more)
+
+-- A file has the batches from before, with all of these or without any.
+abbrev pub IsBeforeOrWithAll : ℕ → List (List ℕ) → Option (List (List ℕ)) → List ℕ → Type 0
+IsBeforeOrWithAll first more before file = (batches first file ≡ before) ⊎ (batches first file ≡ with_batches more before)

@@ -4,17 +4,11 @@ ghost use Rattle.std.specs.Prelude.{◌≡◌, ◌+◌, ◌*◌, ◌^◌, ◌<�
 
 use crate::creation::{close_made, make};
 use crate::opening::{has_header, is_made};
-use crate::put::put_behind;
+use crate::put::{clear, put_behind, put_laid};
 use crate::size::batch_size;
 use im_base_disk::{Disk, read_vec};
-use im_base_types::{Fault, FileId, TxnId};
+use im_base_types::{BATCH_ROOM, Fault, FileId, LAST_LSN, TxnId};
 use std::alloc::Global;
-
-// No record ends past this place.
-const PLACES: u64 = 1 << 62;
-
-// The most that stands behind a gate and is written with a batch: a length, 16,384 bytes of records and the next gate.
-const ROOM: usize = 16_389;
 
 /// Where a log file has its first gate, in bytes from its start: behind the header.
 pub const FIRST_GATE: u64 = 31;
@@ -47,7 +41,7 @@ fn make_room(alloc: Global) -> Result<Vec<u8>, Fault>
     ensures size { IfOk result (λ room. length room.items ≡ 16389) }
     ensures causes { IfErr result (λ e. e ≡ Fault.Memory) }
 {
-    vec![in alloc; 0; ROOM].map_err(|_| Fault::Memory)
+    vec![in alloc; 0; BATCH_ROOM].map_err(|_| Fault::Memory)
 }
 
 impl Gate {
@@ -55,7 +49,7 @@ impl Gate {
     ghost use Rattle.im_base_disk.specs.Disk.{Only};
     ghost use Rattle.im_base_types.specs.declared.file_id.FileId.TheVariants.{Pages};
     ghost use Rattle.im_base_types.specs.declared.fault.Fault.TheVariants.{Device, Failed, LogFull, Memory, NotAStore};
-    ghost use Rattle.im_log_gate.specs.Batches.{with_batch, in_front, IsBeforeOrWith};
+    ghost use Rattle.im_log_gate.specs.Batches.{with_batch, with_batches, in_front, IsBeforeOrWith, IsBeforeOrWithAll, IsLaid};
     ghost use Rattle.im_log_gate.specs.Header.{IsUnmade, IsMade, IsBlank};
     ghost use Rattle.im_log_gate.specs.Gate.{file_of, first_of, base_at, least_at, place_of, has_failed, InOneFile, StartsAs, logged, unread, IsReading, IsReady};
 
@@ -290,12 +284,16 @@ impl Gate {
         }
         self.failed = true;
         let size = records.len() as u64 + 5;
-        if self.place > PLACES || size > PLACES - self.place {
+        if self.place > LAST_LSN || size > LAST_LSN - self.place {
             return Err(Fault::LogFull);
         }
         // A file is longer by a whole room, so that most syncs have no new length to write.
         let is_within = self.place + size < self.long;
-        let written = if is_within { records.len() + 5 } else { ROOM };
+        let written = if is_within {
+            records.len() + 5
+        } else {
+            BATCH_ROOM
+        };
         put_behind(
             disk,
             self.file,
@@ -305,7 +303,65 @@ impl Gate {
             records,
         )?;
         if !is_within {
-            self.long = self.place + 1 + ROOM as u64;
+            self.long = self.place + 1 + BATCH_ROOM as u64;
+        }
+        self.place += size;
+        self.failed = false;
+        Ok(())
+    }
+
+    /// Puts several batches behind the closed gate and opens it, by two writes and two syncs: a stop leaves none of them or all. They stand at
+    /// the front of `room`, so many bytes of it, as they will in the file: length, records and an open gate, and so on, and a closed gate
+    /// behind the last. Where the file may end before they do, zeros follow, `most` bytes in all behind the gate that is opened. It takes no memory.
+    ///
+    /// Refused `LogFull`, with no device call made, where the last gate would stand above place 2^62; `Device`. After a refusal every
+    /// later call answers `Failed` until the file is opened again.
+    pub fn put_batches<D: Disk>(
+        &mut self,
+        disk: &mut D,
+        room: &mut [u8],
+        used: usize,
+        most: usize,
+    ) -> Result<(), Fault>
+        requires used { used ≤ most }
+        requires most { most ≤ length room.old }
+        requires laid { (bs : List (List ℕ)) × IsLaid bs (take used room.old) }
+        requires ready { IsReady D.Disk self.old disk.old }
+        ensures ready { IsReady D.Disk self.new disk.new }
+        ensures same { InOneFile self.old self.new }
+        ensures put { OnOk result ((bs : List (List ℕ)) → IsLaid bs (take used room.old)
+            → D.tells → logged D.Disk self.new disk.new ≡ with_batches bs (logged D.Disk self.old disk.old)) }
+        ensures any_moment { has_failed self.old ≡ false → (bs : List (List ℕ)) → IsLaid bs (take used room.old)
+            → LeavesIn D.Disk (file_of self.old) disk.old disk.new (IsBeforeOrWithAll (first_of self.old) bs (logged D.Disk self.old disk.old)) }
+        ensures front { has_failed self.old ≡ false
+            → LeavesIn D.Disk (file_of self.old) disk.old disk.new (λ c. take (first_of self.old) c ≡ take (first_of self.old) (D.seen disk.old (file_of self.old))) }
+        ensures room { (length room.new ≡ length room.old) × (take used room.new ≡ take used room.old) }
+        ensures untouched { result ≡ Err Failed → disk.new ≡ disk.old }
+        ensures changes { ChangesOnly D.Disk (file_of self.old) disk.old disk.new }
+        ensures costs { OnOk result (Costs D.Disk 2 2 disk.old disk.new) }
+        ensures few { CostsAtMost D.Disk 2 2 disk.old disk.new }
+        ensures place { OnOk result (place_of self.new ≡ place_of self.old + used) }
+        ensures failed { has_failed self.new ≡ not (is_ok result) }
+        ensures causes { IfErr result (λ e. (e ≡ Failed) ⊎ (e ≡ LogFull) ⊎ (e ≡ Device)) }
+        ensures already { result ≡ Err Failed ↔ (has_failed self.old ≡ true) }
+        ensures full { result ≡ Err LogFull ↔ ((has_failed self.old ≡ false) × (2 ^ 62 < place_of self.old + used)) }
+        ensures device { has_failed self.old ≡ false → result ≡ Err Device ↔ (D.failed disk.new ≡ true) }
+    {
+        if self.failed {
+            return Err(Fault::Failed);
+        }
+        self.failed = true;
+        let size = used as u64;
+        if self.place > LAST_LSN || size > LAST_LSN - self.place {
+            return Err(Fault::LogFull);
+        }
+        // A file is longer by a whole room, so that most syncs have no new length to write.
+        let is_within = self.place + size < self.long;
+        let written = if is_within { used } else { most };
+        clear(room, used, written);
+        put_laid(disk, self.file, self.place, &room[..written])?;
+        if !is_within {
+            self.long = self.place.saturating_add(written as u64).saturating_add(1);
         }
         self.place += size;
         self.failed = false;

@@ -41,3 +41,4 @@ mod put;
 mod size;
 
 pub use gate::{FIRST_GATE, Gate};
+pub use put::seal;

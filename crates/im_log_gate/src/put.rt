@@ -1,9 +1,10 @@
 //! The four device calls of a put.
 
-ghost use Rattle.std.specs.Prelude.{◌≡◌, ◌≢◌, ℕ, ◌+◌, ◌*◌, ◌^◌, ◌<◌, ◌≤◌, ◌++◌, false, length, take, slice_index, OnOk};
+ghost use Rattle.std.specs.Prelude.{◌≡◌, ◌≢◌, ℕ, List, ◌+◌, ◌*◌, ◌^◌, ◌<◌, ◌≤◌, ◌++◌, true, false, [], ◌∷◌, length, take, drop, slice_index, OnOk};
+ghost use Rattle.std.specs.Int.{w32, to_be_bytes};
 ghost use Rattle.im_base_disk.specs.Disk.{Only, Answers};
 ghost use Rattle.im_base_disk.specs.Runs.{LeavesIn, ChangesOnly, Costs, CostsAtMost};
-ghost use Rattle.im_log_gate.specs.Batches.{batches, spelled, with_batch, IsBeforeOrWith, Reaches};
+ghost use Rattle.im_log_gate.specs.Batches.{batches, size_of, spelled, with_batch, with_batches, IsBeforeOrWith, IsBeforeOrWithAll, IsFilled, IsLaid, Lays, Reaches};
 
 use byteorder::{BigEndian, ByteOrder};
 use im_base_disk::{Disk, write_synced};
@@ -22,12 +23,45 @@ fn spell(room: &mut [u8], records: &[u8])
 }
 
 // Puts zeros into the room, from one place up to another.
-fn clear(room: &mut [u8], from: usize, to: usize)
+pub(crate) fn clear(room: &mut [u8], from: usize, to: usize)
     requires order { from ≤ to }
     requires room { to ≤ length room.old }
     ensures front { take from room.new ≡ take from room.old }
 {
     room[from..to].fill(0);
+}
+
+// Writes these bytes behind the closed gate at this place, and opens it: whichever first gate this one is reached from. They begin with batches
+// whose inner gates are open, and with a closed gate behind the last; so all of these batches come to stand behind the gate, or none.
+pub(crate) fn put_laid<D: Disk>(
+    disk: &mut D,
+    file: FileId,
+    place: u64,
+    bytes: &[u8],
+) -> Result<(), Fault>
+    requires place { place ≤ 2 ^ 62 }
+    requires working { D.failed disk.old ≡ false }
+    requires within { D.tells → place < length (D.seen disk.old file) }
+    requires closed { D.tells → slice_index (D.seen disk.old file) place ≢ 1 }
+    requires durable { Only file (D.seen disk.old) (D.may_leave disk.old) }
+    ensures put { OnOk result ((first : ℕ) (bs : List (List ℕ)) → Lays bs bytes.now → (D.tells → Reaches first (D.seen disk.old file) place) → D.tells
+        → batches first (D.seen disk.new file) ≡ with_batches bs (batches first (D.seen disk.old file))) }
+    ensures reaches { OnOk result ((first : ℕ) (bs : List (List ℕ)) → Lays bs bytes.now → (D.tells → Reaches first (D.seen disk.old file) place) → D.tells
+        → Reaches first (D.seen disk.new file) (place + size_of bs)) }
+    ensures closed { OnOk result ((first : ℕ) (bs : List (List ℕ)) → Lays bs bytes.now → (D.tells → Reaches first (D.seen disk.old file) place) → D.tells
+        → slice_index (D.seen disk.new file) (place + size_of bs) ≢ 1) }
+    ensures durable { OnOk result (Only file (D.seen disk.new) (D.may_leave disk.new)) }
+    ensures any_moment { (first : ℕ) (bs : List (List ℕ)) → Lays bs bytes.now → (D.tells → Reaches first (D.seen disk.old file) place)
+        → LeavesIn D.Disk file disk.old disk.new (IsBeforeOrWithAll first bs (batches first (D.seen disk.old file))) }
+    ensures front { (n : ℕ) → (D.tells → n ≤ place) → LeavesIn D.Disk file disk.old disk.new (λ c. take n c ≡ take n (D.seen disk.old file)) }
+    ensures changes { ChangesOnly D.Disk file disk.old disk.new }
+    ensures costs { OnOk result (Costs D.Disk 2 2 disk.old disk.new) }
+    ensures few { CostsAtMost D.Disk 2 2 disk.old disk.new }
+    ensures answers { Answers (D.failed disk.new) result }
+{
+    write_synced(disk, file, place + 1, bytes)?;
+    write_synced(disk, file, place, &[1])?;
+    Ok(())
 }
 
 // Puts a batch behind the closed gate at this place, and opens it: whichever first gate this one is reached from. So many bytes are
@@ -66,7 +100,29 @@ pub(crate) fn put_behind<D: Disk>(
 {
     spell(room, records);
     clear(room, records.len() + 5, size);
-    write_synced(disk, file, place + 1, &room[..size])?;
-    write_synced(disk, file, place, &[1])?;
+    put_laid(disk, file, place, &room[..size])?;
     Ok(())
+}
+
+/// Ends a batch of a room in which several are laid out: its length comes to stand in front of its records, which lie four bytes behind `start` and up
+/// to `end`, and a gate behind them, open where another batch is to follow. In front of it stand whole batches, each behind an open gate.
+pub fn seal(room: &mut [u8], start: usize, end: usize, more: bool)
+    requires some { start + 5 ≤ end }
+    requires most { end ≤ start + 16388 }
+    requires room { end < length room.old }
+    ensures room { length room.new ≡ length room.old }
+    ensures closed { more ≡ false → (bs : List (List ℕ)) → IsFilled bs (take start room.old) → IsLaid (bs ++ drop (start + 4) (take end room.old) ∷ []) (take (end + 1) room.new) }
+    ensures open { more ≡ true → (bs : List (List ℕ)) → IsFilled bs (take start room.old) → IsFilled (bs ++ drop (start + 4) (take end room.old) ∷ []) (take (end + 1) room.new) }
+{
+    write_length(room, start, (end - start - 4) as u32);
+    room[end] = u8::from(more);
+}
+
+// Writes a length at a place of the room.
+fn write_length(room: &mut [u8], at: usize, size: u32)
+    requires room { at + 4 ≤ length room.old }
+    ensures room { length room.new ≡ length room.old }
+    ensures written { room.new ≡ take at room.old ++ to_be_bytes w32 size ++ drop (at + 4) room.old }
+{
+    room[at..at + 4].copy_from_slice(&size.to_be_bytes());
 }

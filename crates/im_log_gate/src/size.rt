@@ -7,9 +7,9 @@ ghost use Rattle.im_log_gate.specs.Batches.{batch_length, is_whole, batches_from
 
 use byteorder::{BigEndian, ByteOrder};
 use im_base_disk::Disk;
-use im_base_types::{Fault, FileId};
+use im_base_types::{Fault, FileId, LONGEST_BATCH};
 
-const BATCH: u64 = 16_384;
+const BATCH: u64 = LONGEST_BATCH as u64;
 
 // How many bytes the batch behind the gate at this place has; none behind a closed gate.
 pub(crate) fn batch_size<D: Disk>(

@@ -8,9 +8,7 @@ use crate::fields::Head;
 use crate::kind::Kind;
 use crate::payloads::{bodies_of, keyed_of, last_body_of, tables_of};
 use crate::record::Record;
-
-// A page in a file.
-const PAGE: usize = 4_096;
+use im_base_types::PAGE_SIZE;
 
 // The record has no page and no payload.
 #[inline]
@@ -178,7 +176,7 @@ fn end_of(head: Head, payload: &[u8]) -> Option<Record<'_>>
 fn image_of(head: Head, payload: &[u8]) -> Option<Record<'_>>
     ensures { Reads view result (entry_at head kinds.Image payload.now) }
 {
-    if !head.has_none() || payload.len() != PAGE {
+    if !head.has_none() || payload.len() != PAGE_SIZE {
         return None;
     }
     Some(Record::Image {

@@ -6,14 +6,12 @@ ghost use Rattle.im_log_record.specs.Reading.{Reads, keyed_at, body_at, bodies_a
 use crate::active_list::{ActiveList, transactions_rise};
 use crate::dirty_list::{DirtyList, pages_rise};
 use crate::fields::{byte_of, part_of, word16_of, word64_of};
-
-// The bytes of a page after its LSN.
-const BODY: usize = 4_088;
+use im_base_types::{MOST_ACTIVE, MOST_DIRTY, PAGE_BODY};
 
 // The most entries in the two lists of a checkpoint.
-const ACTIVE: u16 = 64;
+const ACTIVE: u16 = MOST_ACTIVE as u16;
 
-const DIRTY: u16 = 1_024;
+const DIRTY: u16 = MOST_DIRTY as u16;
 
 #[inline(always)]
 #[tactic(auto, unfolding(crate::specs::Reading::keyed_at))]
@@ -34,7 +32,7 @@ fn body_of(bytes: &[u8]) -> Option<(&[u8], &[u8])>
     ensures { Reads (λ x. (x.0.now, x.1.now)) result (body_at bytes.now) }
 {
     let (lsn, rest) = word64_of(bytes)?;
-    let (body, rest) = part_of(rest, BODY)?;
+    let (body, rest) = part_of(rest, PAGE_BODY)?;
     if lsn == 0 { Some((body, rest)) } else { None }
 }
 

@@ -1,9 +1,9 @@
 -- A cell is the same wherever its bytes are the same.
 use Rattle.std.proofs.Common.{◌≡◌, ℕ, ◌+◌, ◌-◌, ◌*◌, ◌<◌, ◌≤◌, Bool, true, false, List, length, take, drop, slice_index, slice_range, sym, ap, ap₂, ◌∙◌, refl, arith, length-take, length-drop}
 use Rattle.std.proofs.lemmas.List.{ext_get_or, get_or-take, get_or-drop}
-use Rattle.im_page_form.specs.Number.{u16_at, u32_at, SameOutside}
-use Rattle.im_page_form.specs.Entry.{width}
-use Rattle.im_page_form.specs.Form.{cell_size, key_from, number_at, entry_from}
+use Rattle.im_theory_page.specs.Number.{u16_at, u32_at, SameOutside}
+use Rattle.im_theory_page.specs.Entry.{width}
+use Rattle.im_theory_page.specs.Form.{cell_size, key_from, number_at, entry_from}
 
 -- the n bytes at t in ys are those at s in xs
 pub record SameBytes (xs ys : List ℕ) (s t n : ℕ) : Type 0 where

@@ -4,11 +4,11 @@ use Rattle.std.proofs.lemmas.Bool.{cases_lt}
 use Rattle.im_base_types.specs.declared.page_kind.PageKind.{PageKind}
 use Rattle.im_base_types.specs.declared.page_kind.PageKind.TheVariants.{Free, Meta, Leaf, Inner}
 use Rattle.im_base_types.specs.Pages.{Entry}
-use Rattle.im_page_form.specs.Number.{u32_at, u64_at, SameOutside}
-use Rattle.im_page_form.specs.Entry.{no_entry, size}
-use Rattle.im_page_form.specs.Form.{count_of, start_of, slot_at, key_from, cell_size, entry_from, entries_of, IsPacked}
-use Rattle.im_page_form.specs.Header.{FitsKind, HasPrev, HasNext, HasLeftmost}
-use Rattle.im_page_form.specs.Page.{kind_of, is_leaf, said_by, IsHeader, IsForm, HoldsEntries, with_entries}
+use Rattle.im_theory_page.specs.Number.{u32_at, u64_at, SameOutside}
+use Rattle.im_theory_page.specs.Entry.{no_entry, size}
+use Rattle.im_theory_page.specs.Form.{count_of, start_of, slot_at, key_from, cell_size, entry_from, entries_of, IsPacked}
+use Rattle.im_theory_page.specs.Header.{FitsKind, HasPrev, HasNext, HasLeftmost}
+use Rattle.im_theory_page.specs.Page.{kind_of, is_leaf, said_by, IsHeader, IsForm, HoldsEntries, with_entries}
 use Rattle.im_page.proofs.CellLemmas.{SameBytes, same_entry, same_u32, same_number}
 use Rattle.im_page.proofs.HeaderLemmas.{same_page}
 use Rattle.im_page.proofs.ListLemmas.{made, made_same}

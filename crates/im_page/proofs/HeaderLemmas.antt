@@ -3,11 +3,11 @@ use Rattle.std.proofs.Common.{◌≡◌, ℕ, ◌+◌, ◌*◌, ◌<◌, ◌≤�
 use Rattle.std.specs.List.{range_with_len}
 use Rattle.im_base_types.specs.declared.page_kind.PageKind.{PageKind}
 use Rattle.im_base_types.specs.Pages.{Page}
-use Rattle.im_page_form.specs.Number.{u64_at}
-use Rattle.im_page_form.specs.Entry.{size}
-use Rattle.im_page_form.specs.Form.{count_of, start_of, slot_at, entry_from, entries_of, IsPacked}
-use Rattle.im_page_form.specs.Header.{FitsKind, empty_body}
-use Rattle.im_page_form.specs.Page.{kind_of, is_leaf, said_by, IsForm}
+use Rattle.im_theory_page.specs.Number.{u64_at}
+use Rattle.im_theory_page.specs.Entry.{size}
+use Rattle.im_theory_page.specs.Form.{count_of, start_of, slot_at, entry_from, entries_of, IsPacked}
+use Rattle.im_theory_page.specs.Header.{FitsKind, empty_body}
+use Rattle.im_theory_page.specs.Page.{kind_of, is_leaf, said_by, IsForm}
 use Rattle.im_page.specs.Edit.{IsErased, HasHeader}
 use Rattle.im_page.proofs.CellLemmas.{same_number}
 

@@ -2,11 +2,11 @@
 use Rattle.std.proofs.Common.{◌≡◌, ◌≢◌, ◌⊎◌, ℕ, ◌+◌, ◌-◌, ◌*◌, ◌<◌, ◌≤◌, Bool, List, length, insert, slice_index, sum_by, sym, ap, ap₂, ◌∙◌, refl, ⊎_elim, inl, inr, subst, arith}
 use Rattle.std.proofs.lemmas.Bool.{cases_lt}
 use Rattle.std.proofs.lemmas.List.Sums.{sum_by-insert}
-use Rattle.im_page_form.specs.Number.{SameOutside}
-use Rattle.im_page_form.specs.Entry.{no_entry, width, size}
+use Rattle.im_theory_page.specs.Number.{SameOutside}
+use Rattle.im_theory_page.specs.Entry.{no_entry, width, size}
 use Rattle.im_base_types.specs.Pages.{Entry}
-use Rattle.im_page_form.specs.Form.{count_of, start_of, slot_at, cell_size, key_from, entry_from, entries_of, KeysRise, AreApart, IsPacked}
-use Rattle.im_page_form.specs.Found.{Parts}
+use Rattle.im_theory_page.specs.Form.{count_of, start_of, slot_at, cell_size, key_from, entry_from, entries_of, KeysRise, AreApart, IsPacked}
+use Rattle.im_theory_page.specs.Found.{Parts}
 use Rattle.im_page.specs.Edit.{AddsSlot}
 use Rattle.im_page.proofs.CellLemmas.{SameBytes, same_entry}
 use Rattle.im_page.proofs.ListLemmas.{made, made_insert}

@@ -2,13 +2,13 @@
 use Rattle.std.proofs.Common.{◌≡◌, ◌≢◌, ◌⊎◌, ℕ, ◌+◌, ◌*◌, ◌<◌, ◌≤◌, Bool, List, length, remove, slice_index, sum_by, sym, ap, ap₂, ◌∙◌, refl, ⊎_elim, inl, inr, arith, if◌then◌else◌}
 use Rattle.std.proofs.lemmas.Bool.{cases_lt, lt-ltb, le-ltb}
 use Rattle.std.proofs.lemmas.List.Sums.{sum_by-remove}
-use Rattle.im_page_form.specs.Entry.{no_entry, entry_at, width, size}
+use Rattle.im_theory_page.specs.Entry.{no_entry, entry_at, width, size}
 use Rattle.im_base_types.specs.Pages.{Entry}
-use Rattle.im_page_form.specs.Form.{count_of, start_of, slot_at, cell_size, key_from, entry_from, entries_of, KeysRise, AreApart, IsPacked}
+use Rattle.im_theory_page.specs.Form.{count_of, start_of, slot_at, cell_size, key_from, entry_from, entries_of, KeysRise, AreApart, IsPacked}
 use Rattle.im_page.specs.Edit.{moved_up, MovesCells, DropsSlot}
 use Rattle.im_page.proofs.CellLemmas.{SameBytes, same_entry, same_at}
 use Rattle.im_page.proofs.ListLemmas.{made, made_remove}
-use Rattle.im_page_form.proofs.EntryLemmas.{length-entries_of, entry_at-entries_of, key_len}
+use Rattle.im_theory_page.proofs.EntryLemmas.{length-entries_of, entry_at-entries_of, key_len}
 
 -- What a removal does: the cells below the one that goes move up, and then its slot goes.
 pub record Removed (leaf : Bool) (old mid new : List ℕ) (i at n : ℕ) : Type 0 where

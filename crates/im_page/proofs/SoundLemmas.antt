@@ -3,13 +3,13 @@ use Rattle.std.proofs.Common.{zero, suc, ◌≡◌, ◌≢◌, ◌⊎◌, ℕ, �
 use Rattle.std.proofs.lemmas.Bool.{cases_eq, cases_lt, true≢false}
 use Rattle.std.proofs.lemmas.List.{get_or-set_other, get_or-set_same, length-set}
 use Rattle.std.proofs.lemmas.List.FromFn.{sum_by-map-range_with_len_more}
-use Rattle.im_page_form.specs.Entry.{size}
+use Rattle.im_theory_page.specs.Entry.{size}
 use Rattle.im_base_types.specs.Keys.{IsBelow}
-use Rattle.im_page_form.specs.Form.{count_of, start_of, slot_at, cell_size, key_from, entry_from, entries_of, IsPacked}
+use Rattle.im_theory_page.specs.Form.{count_of, start_of, slot_at, cell_size, key_from, entry_from, entries_of, IsPacked}
 use Rattle.im_page.specs.Sound.{is_taken, AreEnds, AreSound, HasSlots, IsRun, MarksOne, SlotsSound, total_of}
-use Rattle.im_page_form.proofs.Order.{below_irrefl, below_trans}
+use Rattle.im_theory_page.proofs.Order.{below_irrefl, below_trans}
 use Rattle.im_page.proofs.CoverLemmas.{ended_at, follow_all, follow_apart, full, none_below, spans}
-use Rattle.im_page_form.proofs.EntryLemmas.{key_len}
+use Rattle.im_theory_page.proofs.EntryLemmas.{key_len}
 
 pub all_false : (n k : ℕ) → is_taken (replicate n false) k ≡ false
 all_false zero k = refl

@@ -4,7 +4,7 @@ use Rattle.std.proofs.Math.Nat.{mod-lt}
 use Rattle.std.proofs.lemmas.Bool.{cases_lt}
 use Rattle.std.proofs.lemmas.Nat.{div-add-mod', mod-mul-add, mul-le}
 use Rattle.im_base_types.specs.Keys.{IsBelow}
-use Rattle.im_page_form.specs.Form.{count_of, start_of, slot_at, cell_size, key_from}
+use Rattle.im_theory_page.specs.Form.{count_of, start_of, slot_at, cell_size, key_from}
 use Rattle.im_page.specs.Sound.{ArePlaces, AreUniform, IsPlace, SlotsSound}
 use Rattle.im_page.proofs.SoundLemmas.{rise_all, rise_distinct, total_more}
 

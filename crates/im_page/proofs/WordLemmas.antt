@@ -6,7 +6,7 @@ use Rattle.std.specs.Cmp.{nat_cmp_is}
 use Rattle.std.proofs.lemmas.Bool.{cases_lt}
 use Rattle.im_base_types.specs.Keys.{Key, IsBelow}
 use Rattle.im_base_types.proofs.Words.{IsBytes, IsBytes-drop, IsBytes-take, words}
-use Rattle.im_page_form.specs.Form.{key_from}
+use Rattle.im_theory_page.specs.Form.{key_from}
 use Rattle.im_page.specs.Sound.{IsTopOf, IsFootOf}
 
 -- a key is of bytes

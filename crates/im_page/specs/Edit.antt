@@ -1,7 +1,7 @@
 -- What the edits of a page's bytes leave.
 use Rattle.std.specs.Prelude.{◌≡◌, ℕ, ◌+◌, ◌*◌, ◌<◌, ◌≤◌, List, length, slice_index, nat_lt, if◌then◌else◌}
-use Rattle.im_page_form.specs.Number.{u32_at}
-use Rattle.im_page_form.specs.Form.{count_of, start_of, slot_at}
+use Rattle.im_theory_page.specs.Number.{u32_at}
+use Rattle.im_theory_page.specs.Form.{count_of, start_of, slot_at}
 
 -- one more slot, at place i, which points to `start`, where the cells now begin
 pub record AddsSlot (old new : List ℕ) (count i start : ℕ) : Type 0 where

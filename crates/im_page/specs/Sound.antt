@@ -2,9 +2,9 @@
 use Rattle.std.specs.Prelude.{◌≡◌, ◌≢◌, ◌⊎◌, ℕ, ◌+◌, ◌-◌, ◌*◌, ◌^◌, ◌<◌, ◌≤◌, Bool, true, false, List, length, map, sum_by, slice_index, slice_index_or, take}
 use Rattle.std.specs.Int.{w64, from_be_bytes}
 use Rattle.std.specs.List.{range_with_len}
-use Rattle.im_page_form.specs.Entry.{size}
+use Rattle.im_theory_page.specs.Entry.{size}
 use Rattle.im_base_types.specs.Keys.{Key, IsBelow}
-use Rattle.im_page_form.specs.Form.{count_of, start_of, slot_at, cell_size, key_from, entry_from}
+use Rattle.im_theory_page.specs.Form.{count_of, start_of, slot_at, cell_size, key_from, entry_from}
 
 abbrev pub is_taken : List Bool → ℕ → Bool
 is_taken flags k = slice_index_or flags k false

@@ -1,9 +1,9 @@
 //! Cells and slots of a page's bytes, as they are read.
 
 ghost use Rattle.std.specs.Prelude.{◌≡◌, ℕ, ◌+◌, ◌*◌, ◌^◌, ◌<◌, ◌≤◌, length, slice_index, false};
-ghost use Rattle.im_page_form.specs.Entry.{entry_at, width};
-ghost use Rattle.im_page_form.specs.Form.{count_of, start_of, slot_at, key_from, entry_from, entries_of, IsPacked};
-ghost use Rattle.im_page_form.specs.Found.{IsPlace};
+ghost use Rattle.im_theory_page.specs.Entry.{entry_at, width};
+ghost use Rattle.im_theory_page.specs.Form.{count_of, start_of, slot_at, key_from, entry_from, entries_of, IsPacked};
+ghost use Rattle.im_theory_page.specs.Found.{IsPlace};
 
 use crate::number::{get_u16, get_u32, get_u64};
 use im_base_types::compare;

@@ -2,15 +2,15 @@
 
 ghost use Rattle.std.specs.Prelude.{◌≡◌, ◌↔◌, IsTrue, ℕ, ◌+◌, ◌*◌, ◌/◌, ◌<◌, ◌≤◌, false, true, length, slice_index, replicate};
 ghost use Rattle.im_base_types.specs.Keys.{IsBelow};
-ghost use Rattle.im_page_form.specs.Form.{count_of, start_of, slot_at, key_from, cell_size, IsPacked};
-ghost use Rattle.im_page_form.specs.Entry.{width};
-ghost use Rattle.im_page_form.specs.Page.{IsHeader, IsForm};
+ghost use Rattle.im_theory_page.specs.Form.{count_of, start_of, slot_at, key_from, cell_size, IsPacked};
+ghost use Rattle.im_theory_page.specs.Entry.{width};
+ghost use Rattle.im_theory_page.specs.Page.{IsHeader, IsForm};
 ghost use Rattle.im_page.specs.Sound.{HasSlots, IsTopOf, IsFootOf, IsPlace, ArePlaces, AreUniform, SlotsSound};
 
 use crate::cells::{cell_len, key_at};
 use crate::number::{get_u16, get_u32};
 use byteorder::{BigEndian, ByteOrder};
-use im_base_types::compare;
+use im_base_types::{PAGE_SIZE, compare};
 use std::cmp::Ordering;
 
 /// The first eight bytes of a key as a number, the greatest one where it has fewer: a key whose first word is above it is above the key.
@@ -81,11 +81,11 @@ fn are_slots_sound(leaf: bool, bytes: &[u8], flags: &mut [bool]) -> bool
     let mut top = 0u64;
     for i in 0..get_u16(bytes, 12) {
         let at = get_u16(bytes, 32 + 2 * i);
-        if 4096 <= at {
+        if PAGE_SIZE <= at {
             return false;
         }
         let end = at + cell_len(leaf, bytes[at] as usize);
-        if 4096 < end {
+        if PAGE_SIZE < end {
             return false;
         }
         flags[end] = true;
@@ -96,7 +96,7 @@ fn are_slots_sound(leaf: bool, bytes: &[u8], flags: &mut [bool]) -> bool
         top = top_of(key);
         before = at;
     }
-    flags[4096] && has_slots(bytes, flags)
+    flags[PAGE_SIZE] && has_slots(bytes, flags)
 }
 
 /// Whether the cells lie as where a page is filled in order: the first slot's at the page's end, each other one right in front of that of
@@ -114,7 +114,7 @@ fn is_run(leaf: bool, bytes: &[u8]) -> bool
     if 1 <= count && get_u16(bytes, 30 + 2 * count) != start {
         return false;
     }
-    let mut before = 4096usize;
+    let mut before = PAGE_SIZE;
     let mut top = 0u64;
     for i in 0..count {
         let at = get_u16(bytes, 32 + 2 * i);
@@ -149,7 +149,7 @@ fn is_place(at: u32, start: u32, size: u32, inverse: u32) -> bool
     ensures { IsTrue result → IsPlace start size at }
 {
     let behind = at.wrapping_sub(start);
-    (behind <= 4096 - size - start) & (behind.wrapping_mul(inverse) < inverse)
+    (behind <= PAGE_SIZE as u32 - size - start) & (behind.wrapping_mul(inverse) < inverse)
 }
 
 /// Whether each slot is the place of a cell of this size. It has no branches, so that it goes by some slots at a time.
@@ -205,12 +205,12 @@ fn is_uniform(leaf: bool, bytes: &[u8]) -> bool
 {
     let count = get_u16(bytes, 12);
     let first = get_u16(bytes, 32);
-    if count == 0 || 4096 <= first {
+    if count == 0 || PAGE_SIZE <= first {
         return false;
     }
     let key_len = bytes[first];
     let size = cell_len(leaf, key_len as usize);
-    if get_u16(bytes, 14) + count * size != 4096 {
+    if get_u16(bytes, 14) + count * size != PAGE_SIZE {
         return false;
     }
     are_places(bytes, size as u32) && do_keys_rise(leaf, bytes, key_len)
@@ -224,7 +224,7 @@ fn are_any_sound(leaf: bool, bytes: &[u8]) -> bool
     requires start { start_of bytes.now ≤ 4096 }
     ensures { IsTrue result ↔ SlotsSound leaf bytes.now }
 {
-    let mut flags = [false; 4097];
+    let mut flags = [false; PAGE_SIZE + 1];
     are_slots_sound(leaf, bytes, &mut flags)
 }
 
@@ -248,7 +248,7 @@ pub fn is_packed(leaf: bool, bytes: &[u8]) -> bool
 {
     let front = 32 + 2 * get_u16(bytes, 12);
     let start = get_u16(bytes, 14);
-    if start < front || 4096 < start || !is_zero(bytes, front, start) {
+    if start < front || PAGE_SIZE < start || !is_zero(bytes, front, start) {
         return false;
     }
     is_run(leaf, bytes) || is_uniform(leaf, bytes) || are_any_sound(leaf, bytes)

@@ -1,14 +1,14 @@
 //! The header of a page: what it says, and how its bytes are written.
 
 ghost use Rattle.std.specs.Prelude.{◌≡◌, ℕ, ◌+◌, ◌≤◌, ◌<◌, ◌==◌, length, if◌then◌else◌};
-ghost use Rattle.im_page_form.specs.Number.{u16_at, u32_at, u64_at, SameOutside};
-ghost use Rattle.im_page_form.specs.Page.{kind_of, said_by, IsForm};
-ghost use Rattle.im_page_form.specs.Header.{FitsKind, empty_body, initial};
+ghost use Rattle.im_theory_page.specs.Number.{u16_at, u32_at, u64_at, SameOutside};
+ghost use Rattle.im_theory_page.specs.Page.{kind_of, said_by, IsForm};
+ghost use Rattle.im_theory_page.specs.Header.{FitsKind, empty_body, initial};
 ghost use Rattle.im_page.specs.Edit.{IsErased, HasHeader};
 
 use crate::number::{put_u8, put_u16, put_u32, put_u64};
 use crate::removal::clear;
-use im_base_types::PageKind;
+use im_base_types::{PAGE_SIZE, PageKind};
 
 /// What a page is for: its kind, its level, 0 for a leaf, and how many entries it has.
 #[derive(Clone, Copy, Debug, PartialEq, Eq)]
@@ -43,8 +43,8 @@ fn erase(bytes: &mut [u8])
     requires { length bytes.old ≡ 4096 }
     ensures { IsErased bytes.old bytes.new }
 {
-    clear(bytes, 8, 4096);
-    put_u16(bytes, 14, 4096);
+    clear(bytes, 8, PAGE_SIZE);
+    put_u16(bytes, 14, PAGE_SIZE);
 }
 
 /// Writes the fields of a header but its LSN and mark.

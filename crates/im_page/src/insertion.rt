@@ -1,10 +1,10 @@
 //! An entry put among the cells and slots of a page's bytes.
 
 ghost use Rattle.std.specs.Prelude.{◌≡◌, ℕ, ◌+◌, ◌*◌, ◌^◌, ◌<◌, ◌≤◌, length, slice_index, insert, false};
-ghost use Rattle.im_page_form.specs.Number.{SameOutside};
-ghost use Rattle.im_page_form.specs.Entry.{width};
-ghost use Rattle.im_page_form.specs.Form.{count_of, start_of, key_from, number_at, entry_from, entries_of, IsPacked};
-ghost use Rattle.im_page_form.specs.Found.{Parts};
+ghost use Rattle.im_theory_page.specs.Number.{SameOutside};
+ghost use Rattle.im_theory_page.specs.Entry.{width};
+ghost use Rattle.im_theory_page.specs.Form.{count_of, start_of, key_from, number_at, entry_from, entries_of, IsPacked};
+ghost use Rattle.im_theory_page.specs.Found.{Parts};
 ghost use Rattle.im_page.specs.Edit.{AddsSlot};
 
 use crate::cells::cell_len;

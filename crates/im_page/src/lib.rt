@@ -26,7 +26,7 @@
 //!
 //! # The contract
 //!
-//! - `page_of` (in `specs/Page.antt`) is the page that bytes are, or none: `IsForm` says when. `Page::read` and
+//! - `page_of` (in im_theory_page's `specs/Page.antt`) is the page that bytes are, or none: `IsForm` says when. `Page::read` and
 //!   `Page::load` answer it, both ways, and `Page::read_from` does of bytes of a disk, which it reads in place;
 //!   `Page::bytes` gives bytes whose page is this one.
 //! - `insert` and `remove` are those of the sorted list. `insert` is refused `Full` exactly where cells and slots with

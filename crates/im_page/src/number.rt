@@ -1,7 +1,7 @@
 //! Big-endian numbers in a page.
 
 ghost use Rattle.std.specs.Prelude.{slice_index, ◌≡◌, ◌+◌, ◌^◌, ◌<◌, ◌≤◌, length};
-ghost use Rattle.im_page_form.specs.Number.{u16_at, u32_at, u64_at, SameOutside};
+ghost use Rattle.im_theory_page.specs.Number.{u16_at, u32_at, u64_at, SameOutside};
 
 use byteorder::{BigEndian, ByteOrder};
 

@@ -5,12 +5,12 @@ ghost use Rattle.im_base_types.specs.declared.page_kind.PageKind.TheVariants.{Fr
 ghost use Rattle.im_base_types.specs.declared.fault.Fault.TheVariants.{Device, NotAStore};
 ghost use Rattle.im_base_types.specs.declared.file_id.FileId.TheVariants.{Pages};
 ghost use Rattle.im_base_disk.specs.Runs.{Reads};
-ghost use Rattle.im_page_form.specs.Entry.{entry_at, Parts, IsPlace, taken, size, width};
-ghost use Rattle.im_page_form.specs.Page.{HoldsEntries, is_leaf_kind, page_of, with_entries};
-ghost use Rattle.im_page_form.specs.Header.{HasPrev, HasNext, HasLeftmost, empty_body, initial};
-ghost use Rattle.im_page_form.specs.Content.{IsContent};
-ghost use Rattle.im_page_form.specs.Split.{IsSplitPoint, HasRoomForAny, LacksRoom};
-ghost use Rattle.im_page_form.specs.Child.{IsChild};
+ghost use Rattle.im_theory_page.specs.Entry.{entry_at, Parts, IsPlace, taken, size, width};
+ghost use Rattle.im_theory_page.specs.Page.{HoldsEntries, is_leaf_kind, page_of, with_entries};
+ghost use Rattle.im_theory_page.specs.Header.{HasPrev, HasNext, HasLeftmost, empty_body, initial};
+ghost use Rattle.im_theory_page.specs.Content.{IsContent};
+ghost use Rattle.im_theory_page.specs.Split.{IsSplitPoint, HasRoomForAny, LacksRoom};
+ghost use Rattle.im_theory_page.specs.Child.{IsChild};
 
 use crate::cells;
 use crate::form::is_form;
@@ -21,7 +21,7 @@ use crate::reading::read_form;
 use crate::removal::remove_cell;
 use crate::split::{copy_cells, split_point};
 use im_base_disk::Disk;
-use im_base_types::{Fault, PageKind, PageNo};
+use im_base_types::{Fault, PAGE_SIZE, PageKind, PageNo};
 use std::marker::Model;
 use thiserror::Error;
 
@@ -33,12 +33,12 @@ pub struct Full;
 /// A page of 4,096 bytes. Contracts see its LSN, its header and the list of its entries.
 #[derive(Drop)]
 pub struct Page {
-    bytes: [u8; 4096],
+    bytes: [u8; PAGE_SIZE],
 }
 
 impl Model for Page {
     ghost use Rattle.im_base_types.specs.Pages.{Page};
-    ghost use Rattle.im_page_form.specs.Page.{said_by, IsForm};
+    ghost use Rattle.im_theory_page.specs.Page.{said_by, IsForm};
 
     ghost Value = { Page };
 
@@ -52,7 +52,7 @@ impl Page {
     pub fn initial(number: PageNo) -> Self
         ensures { result ≡ initial number }
     {
-        let mut bytes = [0; 4096];
+        let mut bytes = [0; PAGE_SIZE];
         make_initial(&mut bytes, number);
         Page { bytes }
     }
@@ -70,10 +70,10 @@ impl Page {
         ensures none { OnErr result (page_of bytes.now ≡ None) }
         ensures refused { IfErr result (λ e. e ≡ NotAStore) }
     {
-        if bytes.len() != 4096 || !is_form(bytes) {
+        if bytes.len() != PAGE_SIZE || !is_form(bytes) {
             return Err(Fault::NotAStore);
         }
-        let mut page = [0; 4096];
+        let mut page = [0; PAGE_SIZE];
         page.copy_from_slice(bytes);
         Ok(Page { bytes: page })
     }
@@ -86,7 +86,7 @@ impl Page {
         ensures same { OnErr result (self.new ≡ self.old) }
         ensures refused { IfErr result (λ e. e ≡ NotAStore) }
     {
-        if bytes.len() != 4096 || !is_form(bytes) {
+        if bytes.len() != PAGE_SIZE || !is_form(bytes) {
             return Err(Fault::NotAStore);
         }
         self.bytes.copy_from_slice(bytes);

@@ -4,7 +4,7 @@ ghost use Rattle.std.specs.Prelude.{◌≡◌, ◌↔◌, ◌⊎◌, ◌+◌, �
 ghost use Rattle.im_base_types.specs.declared.fault.Fault.TheVariants.{Device, NotAStore};
 ghost use Rattle.im_base_types.specs.declared.file_id.FileId.TheVariants.{Pages};
 ghost use Rattle.im_base_disk.specs.Runs.{Reads};
-ghost use Rattle.im_page_form.specs.Page.{IsForm, page_of, said_by};
+ghost use Rattle.im_theory_page.specs.Page.{IsForm, page_of, said_by};
 
 use crate::form::is_form;
 use im_base_disk::Disk;

@@ -1,8 +1,8 @@
 //! An entry taken from among the cells and slots of a page's bytes.
 
 ghost use Rattle.std.specs.Prelude.{◌≡◌, ℕ, ◌+◌, ◌*◌, ◌^◌, ◌<◌, ◌≤◌, length, slice_index, remove};
-ghost use Rattle.im_page_form.specs.Number.{u16_at, SameOutside};
-ghost use Rattle.im_page_form.specs.Form.{count_of, entries_of, IsPacked};
+ghost use Rattle.im_theory_page.specs.Number.{u16_at, SameOutside};
+ghost use Rattle.im_theory_page.specs.Form.{count_of, entries_of, IsPacked};
 ghost use Rattle.im_page.specs.Edit.{moved_up, MovesCells, MovesSlots, DropsSlot};
 
 use crate::cells::cell_len;

@@ -1,13 +1,14 @@
 //! Where a page's entries are split, and a range of them copied.
 
 ghost use Rattle.std.specs.Prelude.{◌≡◌, ℕ, ◌<◌, ◌≤◌, [], length, slice_index, slice_range};
-ghost use Rattle.im_page_form.specs.Form.{count_of, entries_of, IsPacked};
-ghost use Rattle.im_page_form.specs.Split.{IsSplitPoint};
+ghost use Rattle.im_theory_page.specs.Form.{count_of, entries_of, IsPacked};
+ghost use Rattle.im_theory_page.specs.Split.{IsSplitPoint};
 
 use crate::cells::{cell_len, key, value};
 use crate::insertion::insert_cell;
 use crate::number::{get_u16, put_u16};
 use crate::removal::clear;
+use im_base_types::PAGE_SIZE;
 
 /// How many entries the longest front has whose cells and slots take at most 2,032 bytes.
 pub fn split_point(leaf: bool, bytes: &[u8]) -> usize
@@ -34,9 +35,9 @@ pub fn empty_cells(bytes: &mut [u8], leaf: bool)
     ensures head { (k : ℕ) → k < 12 → slice_index bytes.new k ≡ slice_index bytes.old k }
     ensures links { (k : ℕ) → 16 ≤ k → k < 32 → slice_index bytes.new k ≡ slice_index bytes.old k }
 {
-    clear(bytes, 32, 4096);
+    clear(bytes, 32, PAGE_SIZE);
     put_u16(bytes, 12, 0);
-    put_u16(bytes, 14, 4096);
+    put_u16(bytes, 14, PAGE_SIZE);
 }
 
 /// Leaves the entries that another page has from place `low` up to `high`.

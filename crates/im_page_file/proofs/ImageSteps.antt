@@ -25,7 +25,7 @@ use Rattle.im_log.specs.LogFile.{IsOpen, IsLog}
 use Rattle.im_log.specs.Spelled.{logged_at}
 use Rattle.im_log.specs.Kept.{Appended, AppendKept}
 use Rattle.im_log.specs.Whats.{image_of}
-use Rattle.im_page_form.specs.Page.{page_of}
+use Rattle.im_theory_page.specs.Page.{page_of}
 use Rattle.im_page_table.specs.declared.table_entry.TableEntry.{TableEntry}
 use Rattle.im_page_table.specs.DirtyTable.{entry_in, IsTied}
 use Rattle.im_page_file.specs.PageFile.{IsPageFile}

@@ -10,7 +10,7 @@ use Rattle.im_base_disk.specs.declared.disk.Disk.{Ghosts}
 use Rattle.im_base_disk.specs.Disk.{Only}
 use Rattle.im_log.specs.declared.log_file.LogFile.{LogFile}
 use Rattle.im_log.specs.LogFile.{IsOpen, IsLog}
-use Rattle.im_page_form.specs.PageFile.{file_page}
+use Rattle.im_theory_page.specs.PageFile.{file_page}
 use Rattle.im_page_file.specs.PageFile.{IsPageFile}
 use Rattle.im_page_file.specs.Stands.{Stands}
 use Rattle.im_page_table.proofs.KnownCopies.{knows_redoing}

@@ -7,9 +7,9 @@ use Rattle.im_theory_log.specs.WriterSteps.{only, synced_page, written_page}
 use Rattle.im_base_disk.specs.declared.disk.Disk.{Ghosts}
 use Rattle.im_base_disk.specs.Disk.{Files, Only, Holds, Torn, InFile, Stepped, Follows}
 use Rattle.im_base_disk.specs.Runs.{Spares}
-use Rattle.im_page_form.specs.Page.{page_of}
-use Rattle.im_page_form.specs.PageFile.{file_page}
-use Rattle.im_page_form.proofs.PageFileLemmas.{same_before, same_behind, written_here, written_before, written_behind}
+use Rattle.im_theory_page.specs.Page.{page_of}
+use Rattle.im_theory_page.specs.PageFile.{file_page}
+use Rattle.im_theory_page.proofs.PageFileLemmas.{same_before, same_behind, written_here, written_before, written_behind}
 use Rattle.im_page_table.proofs.OnePage.{only_here, only_other}
 use Rattle.im_page_file.specs.PageFile.{KeepsSynced, IsPageFile}
 

@@ -18,7 +18,7 @@ use Rattle.im_log.specs.LogFile.{IsOpen, IsLog}
 use Rattle.im_log.specs.Spelled.{log_of}
 use Rattle.im_log.specs.Kept.{HasLog, SpellsEither}
 use Rattle.im_log.proofs.Above.{front_then, log_spared, open_spared}
-use Rattle.im_page_form.specs.PageFile.{file_page}
+use Rattle.im_theory_page.specs.PageFile.{file_page}
 use Rattle.im_page_table.specs.declared.table_entry.TableEntry.{TableEntry}
 use Rattle.im_page_table.specs.DirtyTable.{entry_in, has_room, written_in, ChangesEntry}
 use Rattle.im_page_file.specs.PageFile.{KeepsSynced}

@@ -5,7 +5,7 @@ use Rattle.im_theory_log.specs.Histories.{Base, History, IsFront}
 use Rattle.im_theory_log.specs.Writer.{Writer}
 use Rattle.im_base_disk.specs.declared.disk.Disk.{Ghosts}
 use Rattle.im_log.specs.declared.log_file.LogFile.{LogFile}
-use Rattle.im_page_form.specs.Page.{page_of}
+use Rattle.im_theory_page.specs.Page.{page_of}
 use Rattle.im_page_table.specs.declared.table_entry.TableEntry.{TableEntry}
 use Rattle.im_page_table.specs.Growth.{with_image}
 use Rattle.im_page_file.specs.Stands.{Stands, LeavesCovered}

@@ -4,7 +4,7 @@ use Rattle.im_base_types.specs.declared.file_id.FileId.TheVariants.{Pages}
 use Rattle.im_theory_log.specs.Writer.{PageState}
 use Rattle.im_base_disk.specs.declared.disk.Disk.{Ghosts}
 use Rattle.im_base_disk.specs.Disk.{Files}
-use Rattle.im_page_form.specs.PageFile.{file_page}
+use Rattle.im_theory_page.specs.PageFile.{file_page}
 
 -- Each page that was not written since the last sync is in these bytes as it then was.
 abbrev pub KeepsSynced : (ℕ → PageState) → List ℕ → Type 0

@@ -12,8 +12,8 @@ use Rattle.im_base_disk.specs.Runs.{LeavesOnly}
 use Rattle.im_log.specs.declared.log_file.LogFile.{LogFile}
 use Rattle.im_log.specs.LogFile.{IsOpen, IsLog}
 use Rattle.im_log.specs.Kept.{SpellsBetween}
-use Rattle.im_page_form.specs.Page.{page_of}
-use Rattle.im_page_form.specs.PageFile.{file_page}
+use Rattle.im_theory_page.specs.Page.{page_of}
+use Rattle.im_theory_page.specs.PageFile.{file_page}
 use Rattle.im_page_table.specs.declared.table_entry.TableEntry.{TableEntry}
 use Rattle.im_page_table.specs.DirtyTable.{entry_in, HasEntries, IsTied}
 use Rattle.im_page_file.specs.PageFile.{IsPageFile}

@@ -3,7 +3,7 @@
 //! # The file of pages
 //!
 //! Page p stands at byte p * 4,096. From the page count on, the length divided by 4,096 and rounded down, each page is as it was
-//! before anything was put (`file_page`, in im_page's specs). `write_page` enters the page into the dirty table and writes it, one
+//! before anything was put (`file_page`, in im_theory_page's specs). `write_page` enters the page into the dirty table and writes it, one
 //! device call; `sync_pages` syncs the file, one device call, and then the table. A write goes to a page that the file has or by
 //! which it grows. So a stop leaves each other page as it would have been left before, however long it leaves the file.
 //!

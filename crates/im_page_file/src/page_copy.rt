@@ -6,7 +6,7 @@ ghost use Rattle.im_log_record.specs.Spelling.{IsEntry};
 ghost use Rattle.im_log.specs.Whats.{page_behind, what_of};
 ghost use Rattle.im_page_file.specs.PageCopy.{after_in};
 
-use im_base_types::Lsn;
+use im_base_types::{Lsn, PAGE_SIZE};
 use im_log_record::Record;
 use im_page::Page;
 
@@ -25,7 +25,7 @@ fn read_behind(page: &mut Page, body: &[u8]) -> bool
     ensures is { result ≡ true → page_behind body.now ≡ Some page.new }
     ensures none { result ≡ false → page_behind body.now ≡ None }
 {
-    let mut bytes = [0; 4096];
+    let mut bytes = [0; PAGE_SIZE];
     put_behind(&mut bytes, body);
     page.load(&bytes).is_ok()
 }

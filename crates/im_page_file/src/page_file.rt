@@ -7,16 +7,16 @@ ghost use Rattle.im_base_disk.specs.Disk.{Files, Only, Answers};
 ghost use Rattle.im_base_disk.specs.Runs.{ChangesOnly, Reads, Costs};
 ghost use Rattle.im_log.specs.declared.log_file.LogFile.{LogFile};
 ghost use Rattle.im_log.specs.LogFile.{IsOpen};
-ghost use Rattle.im_page_form.specs.PageFile.{page_count};
+ghost use Rattle.im_theory_page.specs.PageFile.{page_count};
 ghost use Rattle.im_page_table.specs.DirtyTable.{has_room, written_in, synced_entries};
 ghost use Rattle.im_page_file.specs.Stands.{Stands, MayWritePage, WriteKept, SyncKept};
 
 use im_base_disk::{Disk, sync, write};
-use im_base_types::{Fault, FileId, Lsn, PageNo};
+use im_base_types::{Fault, FileId, Lsn, PAGE_SIZE, PageNo};
 use im_page_table::DirtyTable;
 
 /// The bytes of a page.
-const PAGE: u64 = 4_096;
+const PAGE: u64 = PAGE_SIZE as u64;
 
 /// How many pages the file has: bytes behind the last whole one do not count. No device call. Refused `Device`.
 pub fn count_pages<D: Disk>(disk: &mut D) -> Result<u64, Fault>

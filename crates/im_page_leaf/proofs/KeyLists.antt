@@ -6,7 +6,7 @@ use Rattle.std.specs.FinMap.Entries.{put, find, where_key}
 use Rattle.std.proofs.lemmas.Cmp.{nat_list_cmp_total, tied_itself}
 use Rattle.im_base_types.specs.Keys.{Key, key_order, IsBelow}
 use Rattle.im_base_types.specs.Pages.{Entry}
-use Rattle.im_page_form.specs.Entry.{entry_at, Rises, Parts}
+use Rattle.im_theory_page.specs.Entry.{entry_at, Rises, Parts}
 
 -- ---- the parts of a list without its first entry
 

@@ -5,8 +5,8 @@ use Rattle.im_base_types.specs.Keys.{Key, key_order}
 use Rattle.im_base_types.specs.declared.page_kind.PageKind.TheVariants.{Leaf}
 use Rattle.im_base_types.specs.Pages.{Page}
 use Rattle.im_base_types.specs.Records.{What, InsertKey, DeleteKey, UndoInsert, UndoDelete}
-use Rattle.im_page_form.specs.Entry.{Parts, Rises, entry_at, taken, width}
-use Rattle.im_page_form.specs.Page.{is_leaf_kind}
+use Rattle.im_theory_page.specs.Entry.{Parts, Rises, entry_at, taken, width}
+use Rattle.im_theory_page.specs.Page.{is_leaf_kind}
 
 -- The leaf lacks the key, which would stand at this place, and has room for it.
 pub record HasPlaceFor (page : Page) (key : List ℕ) (i : ℕ) : Type 0 where

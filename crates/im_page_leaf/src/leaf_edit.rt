@@ -4,7 +4,7 @@ ghost use Rattle.im_base_types.specs.declared.fault.Fault.TheVariants.{NotAStore
 ghost use Rattle.im_page_leaf.specs.LeafChange.{HasPlaceFor, HasKey, CanPutKey, CanTakeKey};
 ghost use Rattle.im_page_leaf.specs.LeafEdits.{HasPlace, MayEdit};
 
-use im_base_types::{Fault, PageKind};
+use im_base_types::{Fault, LONGEST_KEY, PageKind};
 use im_page::Page;
 
 /// What a record does with a key of a leaf: it is put in, or taken out.
@@ -20,7 +20,7 @@ fn place_for(page: &Page, key: &[u8]) -> Result<usize, Fault>
     ensures refused { IfErr result (λ e. (e ≡ NotAStore) × ¬ (CanPutKey page.now key.now)) }
 {
     page.content();
-    if page.kind() != PageKind::Leaf || key.is_empty() || key.len() > 255 {
+    if page.kind() != PageKind::Leaf || key.is_empty() || key.len() > LONGEST_KEY {
         return Err(Fault::NotAStore);
     }
     match page.find(key) {

@@ -5,10 +5,10 @@ use Rattle.std.proofs.lemmas.Bool.Decides.{nat_tests}
 use Rattle.std.proofs.lemmas.List.{take-take, drop-drop, drop-take, take_at, drop_at, append_assoc, length-take-le}
 use Rattle.im_base_types.specs.Pages.{Page}
 use Rattle.im_base_types.specs.declared.file_id.FileId.TheVariants.{Pages}
-use Rattle.im_page_form.specs.Header.{initial}
-use Rattle.im_page_form.specs.Page.{page_of}
+use Rattle.im_theory_page.specs.Header.{initial}
+use Rattle.im_theory_page.specs.Page.{page_of}
 use Rattle.im_base_disk.specs.Disk.{Files, Holds, Torn, InFile, Stepped, Follows}
-use Rattle.im_page_form.specs.PageFile.{page_count, page_bytes, file_page}
+use Rattle.im_theory_page.specs.PageFile.{page_count, page_bytes, file_page}
 use Rattle.im_page_pool.specs.Writes.{WritesPage, TearsPage}
 
 pub file_page_within : (file : List ℕ) (p : ℕ) → p < page_count file → file_page file p ≡ page_of (page_bytes file p)

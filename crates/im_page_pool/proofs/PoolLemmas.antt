@@ -7,8 +7,8 @@ use Rattle.std.specs.Option.{option_map_or}
 use Rattle.std.specs.Map.{keys_of, values_of, lookup, lookup_entry, remove_entry}
 use Rattle.lru.specs.LruCache.{promoted, last_entry}
 use Rattle.im_base_types.specs.Pages.{Page}
-use Rattle.im_page_form.specs.Header.{initial}
-use Rattle.im_page_form.specs.PageFile.{file_page}
+use Rattle.im_theory_page.specs.Header.{initial}
+use Rattle.im_theory_page.specs.PageFile.{file_page}
 use Rattle.im_page_pool.specs.Frames.{Stored, no_page, stored_at}
 use Rattle.im_page_places.specs.Places.{PlacesView, times, frame_count}
 use Rattle.im_page_pool.specs.Inside.{held_at, held_in, IsWhole}

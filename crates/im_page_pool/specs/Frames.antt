@@ -1,7 +1,7 @@
 -- What the frames have.
 use Rattle.std.specs.Prelude.{◌≡◌, ℕ, Bool, true, false, List, slice_index_or, slice_set}
 use Rattle.im_base_types.specs.Pages.{Page}
-use Rattle.im_page_form.specs.Header.{initial}
+use Rattle.im_theory_page.specs.Header.{initial}
 
 -- a page, and whether it was changed since it was read or written
 pub record Stored : Type 0 where

@@ -3,8 +3,8 @@ use Rattle.std.specs.Prelude.{◌≡◌, ◌≢◌, ℕ, ◌+◌, Bool, true, fa
 use Rattle.std.specs.Option.{option_map_or}
 use Rattle.std.specs.Map.{keys_of, lookup, remove_entry}
 use Rattle.im_base_types.specs.Pages.{Page}
-use Rattle.im_page_form.specs.Header.{initial}
-use Rattle.im_page_form.specs.PageFile.{file_page}
+use Rattle.im_theory_page.specs.Header.{initial}
+use Rattle.im_theory_page.specs.PageFile.{file_page}
 use Rattle.im_page_pool.specs.declared.frame.Frame.{Frame}
 
 -- a held page: the place of its frame, the page, and whether it was changed since it was read or written

@@ -2,7 +2,7 @@
 use Rattle.std.specs.Prelude.{◌≡◌, ◌≢◌, ℕ, ◌+◌, ◌*◌, max, List, Some}
 use Rattle.im_base_types.specs.Pages.{Page}
 use Rattle.im_base_disk.specs.Disk.{Torn}
-use Rattle.im_page_form.specs.PageFile.{page_count, file_page}
+use Rattle.im_theory_page.specs.PageFile.{page_count, file_page}
 
 -- The page of this number is this one, and each other is as it was.
 pub record WritesPage (p : ℕ) (page : Page) (old new : List ℕ) : Type 0 where

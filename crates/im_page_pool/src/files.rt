@@ -5,12 +5,14 @@ ghost use Rattle.im_base_types.specs.declared.fault.Fault.TheVariants.{Device, N
 ghost use Rattle.im_base_types.specs.declared.file_id.FileId.TheVariants.{Pages};
 ghost use Rattle.im_base_disk.specs.Disk.{Stepped, Follows, InFile, Answers};
 ghost use Rattle.im_base_disk.specs.Runs.{LeavesOnly, ChangesOnly, Reads, Costs};
-ghost use Rattle.im_page_form.specs.PageFile.{page_count, file_page};
+ghost use Rattle.im_theory_page.specs.PageFile.{page_count, file_page};
 ghost use Rattle.im_page_pool.specs.Writes.{WritesPage, TearsPage};
 
 use im_base_disk::{Disk, write};
-use im_base_types::{Fault, FileId, PageNo};
+use im_base_types::{Fault, FileId, PAGE_SIZE, PageNo};
 use im_page::Page;
+
+const PAGE: u64 = PAGE_SIZE as u64;
 
 /// Reads the page of a number. Past the last whole page of the file it is the initial one. Refused `Device` or, exactly where its bytes
 /// are no page, `NotAStore`; what was read into is then some page.
@@ -23,11 +25,11 @@ pub(crate) fn read_page<D: Disk>(disk: &mut D, p: PageNo, page: &mut Page) -> Re
     ensures reads { Reads D.Disk disk.old disk.new }
 {
     let len = disk.len(FileId::Pages)?;
-    if len / 4096 <= p as u64 {
+    if len / PAGE <= p as u64 {
         page.reset(p);
         return Ok(());
     }
-    page.read_from(disk, p as u64 * 4096)
+    page.read_from(disk, p as u64 * PAGE)
 }
 
 /// Writes a page at its place, one device call. Its number is at most the file's page count, so that no page is left
@@ -42,5 +44,5 @@ pub fn write_page<D: Disk>(disk: &mut D, p: PageNo, page: &Page) -> Result<(), F
     ensures costs { Costs D.Disk 1 0 disk.old disk.new }
     ensures answers { Answers (D.failed disk.new) result }
 {
-    write(disk, FileId::Pages, p as u64 * 4096, page.bytes())
+    write(disk, FileId::Pages, p as u64 * PAGE, page.bytes())
 }

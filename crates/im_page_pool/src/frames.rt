@@ -5,10 +5,10 @@ ghost use Rattle.im_base_types.specs.declared.fault.Fault.TheVariants.{Device, M
 ghost use Rattle.im_base_types.specs.declared.file_id.FileId.TheVariants.{Pages};
 ghost use Rattle.im_base_types.specs.declared.page_kind.PageKind.TheVariants.{Free, Leaf, Inner};
 ghost use Rattle.im_base_disk.specs.Runs.{Reads};
-ghost use Rattle.im_page_form.specs.Entry.{Parts, taken, size};
-ghost use Rattle.im_page_form.specs.Page.{HoldsEntries, is_leaf_kind, page_of, with_entries};
-ghost use Rattle.im_page_form.specs.Header.{empty_body, HasPrev, HasNext, HasLeftmost};
-ghost use Rattle.im_page_form.specs.PageFile.{file_page};
+ghost use Rattle.im_theory_page.specs.Entry.{Parts, taken, size};
+ghost use Rattle.im_theory_page.specs.Page.{HoldsEntries, is_leaf_kind, page_of, with_entries};
+ghost use Rattle.im_theory_page.specs.Header.{empty_body, HasPrev, HasNext, HasLeftmost};
+ghost use Rattle.im_theory_page.specs.PageFile.{file_page};
 ghost use Rattle.im_page_pool.specs.Frames.{stored_at, Puts};
 
 use crate::files::read_page;

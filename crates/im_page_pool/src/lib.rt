@@ -7,7 +7,7 @@
 //! count of gets. Numbers differ, and at most as many pages are held as there are frames.
 //!
 //! - `page_seen` (in `specs/Pool.antt`) is what the pool is about: a function from page number to page. It is the held
-//!   page, else the page in the bytes of the file (`file_page`, in the specs of `im_page_form`): the initial page from the
+//!   page, else the page in the bytes of the file (`file_page`, in the specs of `im_theory_page`): the initial page from the
 //!   file's page count on, and none where the bytes are no page.
 //! - `get` leaves that function as it is, and answers the frame at which the page is held. A page that is held costs a
 //!   look-up of its number, and one of its frame, which moves in the order of use; any other one length call, one read and one check.

@@ -8,10 +8,10 @@ ghost use Rattle.im_base_types.specs.declared.file_id.FileId.TheVariants.{Pages}
 ghost use Rattle.im_base_types.specs.declared.page_kind.PageKind.TheVariants.{Free, Leaf, Inner};
 ghost use Rattle.im_base_disk.specs.Disk.{Stepped, Follows, InFile, Answers};
 ghost use Rattle.im_base_disk.specs.Runs.{LeavesOnly, ChangesOnly, Reads, Costs};
-ghost use Rattle.im_page_form.specs.Entry.{Parts, taken, size};
-ghost use Rattle.im_page_form.specs.Page.{HoldsEntries, is_leaf_kind, page_of, with_entries};
-ghost use Rattle.im_page_form.specs.Header.{empty_body, HasPrev, HasNext, HasLeftmost};
-ghost use Rattle.im_page_form.specs.PageFile.{page_count, file_page};
+ghost use Rattle.im_theory_page.specs.Entry.{Parts, taken, size};
+ghost use Rattle.im_theory_page.specs.Page.{HoldsEntries, is_leaf_kind, page_of, with_entries};
+ghost use Rattle.im_theory_page.specs.Header.{empty_body, HasPrev, HasNext, HasLeftmost};
+ghost use Rattle.im_theory_page.specs.PageFile.{page_count, file_page};
 ghost use Rattle.im_page_pool.specs.Writes.{WritesPage, TearsPage};
 ghost use Rattle.im_page_pool.specs.Pool.{held_of, Holds, IsAt, page_at, is_changed, page_seen, frame_of, Sets, Changes, Takes, MovesFirst, Evicts, changed_numbers, last_changed};
 ghost use Rattle.im_page_pool.specs.Inside.{last_marked, marked_numbers};

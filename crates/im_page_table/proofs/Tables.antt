@@ -6,7 +6,7 @@ use Rattle.std.specs.Option.{is_some}
 use Rattle.std.proofs.Math.ListN.{set}
 use Rattle.std.proofs.lemmas.Bool.{cases_eq, cases_order, cond-true, cond-false, eq-eqb, ne_eqb, lt-ltb, le-ltb}
 use Rattle.im_theory_log.specs.Writer.{DirtyEntry}
-use Rattle.im_page_table.specs.declared.dirty_table.TheConstants.{MOST}
+use Rattle.im_base_types.specs.declared.sizes.TheConstants.{MOST_DIRTY}
 use Rattle.im_page_table.specs.declared.table_entry.TableEntry.{TableEntry}
 use Rattle.im_page_table.specs.DirtyTable.{table_entry, dirty_entry, entry_in, has_room, written_in, ChangesEntry, IsFound, IsAbsent, IsAbove, IsRising, put, synced_onto, synced_entries, forgotten_entries}
 use Rattle.im_theory_log.specs.WriterSteps.{forgotten_entry, synced_entry, entry_since, written_entry}
@@ -329,7 +329,7 @@ put_some f p (x ∷ xs) = elim (cases_order x.page p) [
 
 -- a page that has its entry has room, and keeps an entry when it is written
 pub room_there : (p : ℕ) (xs : List TableEntry) → is_some (entry_in xs p) ≡ true → has_room p xs ≡ true
-room_there p xs some = ap (λ (t : Bool). t || nat_lt (length xs) MOST) some
+room_there p xs some = ap (λ (t : Bool). t || nat_lt (length xs) MOST_DIRTY) some
 
 pub written_stays : (p l : ℕ) (old new : List TableEntry) → new ≡ written_in p l old → is_some (entry_in old p) ≡ true → is_some (entry_in new p) ≡ true
 written_stays p l old new is some =
@@ -337,13 +337,13 @@ written_stays p l old new is some =
 
 -- whether there is room
 pub room_found : (xs : List TableEntry) (p : ℕ) (e : DirtyEntry) → entry_in xs p ≡ Some e → has_room p xs ≡ true
-room_found xs p e is = ap (λ (o : Option DirtyEntry). is_some o || nat_lt (length xs) MOST) is
+room_found xs p e is = ap (λ (o : Option DirtyEntry). is_some o || nat_lt (length xs) MOST_DIRTY) is
 
-pub room_free : (xs : List TableEntry) (p : ℕ) → entry_in xs p ≡ None → length xs < MOST → has_room p xs ≡ true
-room_free xs p none less = ap (λ (o : Option DirtyEntry). is_some o || nat_lt (length xs) MOST) none ∙ lt-ltb (length xs) MOST less
+pub room_free : (xs : List TableEntry) (p : ℕ) → entry_in xs p ≡ None → length xs < MOST_DIRTY → has_room p xs ≡ true
+room_free xs p none less = ap (λ (o : Option DirtyEntry). is_some o || nat_lt (length xs) MOST_DIRTY) none ∙ lt-ltb (length xs) MOST_DIRTY less
 
-pub room_none : (xs : List TableEntry) (p : ℕ) → entry_in xs p ≡ None → length xs ≡ MOST → has_room p xs ≡ false
-room_none xs p none full = ap (λ (o : Option DirtyEntry). is_some o || nat_lt (length xs) MOST) none ∙ le-ltb (length xs) MOST (omega (arith, full))
+pub room_none : (xs : List TableEntry) (p : ℕ) → entry_in xs p ≡ None → length xs ≡ MOST_DIRTY → has_room p xs ≡ false
+room_none xs p none full = ap (λ (o : Option DirtyEntry). is_some o || nat_lt (length xs) MOST_DIRTY) none ∙ le-ltb (length xs) MOST_DIRTY (omega (arith, full))
 
 -- what a write leaves
 pub written_with : (l p : ℕ) (old new : List TableEntry) → has_room p old ≡ true → new ≡ put p (written_entry l) old → new ≡ written_in p l old

@@ -4,7 +4,7 @@ use Rattle.std.specs.Option.{is_some}
 use Rattle.im_theory_log.specs.Writer.{DirtyEntry, IsWritten, PageState}
 use Rattle.im_base_types.specs.declared.tables.DirtyPage.{DirtyPage}
 use Rattle.im_theory_log.specs.WriterSteps.{written_entry}
-use Rattle.im_page_table.specs.declared.dirty_table.TheConstants.{MOST}
+use Rattle.im_base_types.specs.declared.sizes.TheConstants.{MOST_DIRTY}
 use Rattle.im_page_table.specs.declared.table_entry.TableEntry.{TableEntry}
 
 -- the entry of a page
@@ -37,7 +37,7 @@ put p f (x ∷ xs) = if nat_lt x.page p then x ∷ put p f xs else (if x.page ==
 
 -- the page has its entry, or there is room for it
 abbrev pub has_room : ℕ → List TableEntry → Bool
-has_room p xs = is_some (entry_in xs p) || nat_lt (length xs) MOST
+has_room p xs = is_some (entry_in xs p) || nat_lt (length xs) MOST_DIRTY
 
 -- the page is written: where it has no room, the table stays as it was
 abbrev pub written_in : ℕ → ℕ → List TableEntry → List TableEntry

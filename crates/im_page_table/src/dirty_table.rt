@@ -4,16 +4,13 @@ ghost use Rattle.im_theory_log.specs.Writer.{PageState};
 ghost use Rattle.im_log_record.specs.Spelling.{Rise};
 ghost use Rattle.im_theory_log.specs.WriterSteps.{changed_entry, written_entry, synced_entry, forgotten_entry, at_point, is_copied, Lists};
 ghost use Rattle.im_page_table.specs.declared.table_entry.TableEntry.{TableEntry};
-ghost use Rattle.im_page_table.specs.declared.dirty_table.TheConstants.{MOST};
+ghost use Rattle.im_base_types.specs.declared.sizes.TheConstants.{MOST_DIRTY};
 ghost use Rattle.im_page_table.specs.DirtyTable.{entry_in, table_entry, dirty_entry, dirty_pages, put, has_room, written_in, synced_entries, forgotten_entries, changed_page, older, oldest, ChangesEntry, IsRising, IsCopied, IsFound, IsAbsent};
 
 use crate::TableEntry;
-use im_base_types::{DirtyPage, Lsn, PageNo};
+use im_base_types::{DirtyPage, Lsn, MOST_DIRTY, PageNo};
 use std::alloc::{AllocError, Global};
 use std::marker::Model;
-
-/// How many entries there may be.
-pub const MOST: usize = 1_024;
 
 /// The pages that may lack changes in their file, each once, in rising order. Contracts see the list of the entries. With room
 /// for all of them made once, no later call takes memory, and none is refused.
@@ -27,16 +24,16 @@ impl Model for DirtyTable {
 
     ghost view = { λ t. t.entries.items };
 
-    ghost invariant = { λ t. IsRising t.entries.items × (vec_len t.entries ≤ MOST) × (MOST ≤ vec_capacity t.entries) };
+    ghost invariant = { λ t. IsRising t.entries.items × (vec_len t.entries ≤ MOST_DIRTY) × (MOST_DIRTY ≤ vec_capacity t.entries) };
 }
 
 impl DirtyTable {
-    /// With no entry, and room for `MOST`.
+    /// With no entry, and room for `MOST_DIRTY`.
     pub fn new(alloc: Global) -> Result<Self, AllocError>
         ensures { IfOk result (λ t. t ≡ []) }
     {
         Ok(DirtyTable {
-            entries: Vec::with_capacity(alloc, MOST)?,
+            entries: Vec::with_capacity(alloc, MOST_DIRTY)?,
         })
     }
 
@@ -49,10 +46,10 @@ impl DirtyTable {
 
     /// Whether no further page can come in.
     pub fn is_full(&self) -> bool
-        ensures full { IsTrue result ↔ (length self.now ≡ MOST) }
-        ensures within { length self.now ≤ MOST }
+        ensures full { IsTrue result ↔ (length self.now ≡ MOST_DIRTY) }
+        ensures within { length self.now ≤ MOST_DIRTY }
     {
-        self.entries.len() == MOST
+        self.entries.len() == MOST_DIRTY
     }
 
     /// The pages rise: a law, and nothing that runs.
@@ -129,7 +126,7 @@ impl DirtyTable {
     /// The page is changed by the record at an LSN, which holds a full copy of it or does not. An entry that is there keeps its rec_lsn,
     /// and a copy that is known.
     pub fn enter(&mut self, page: PageNo, lsn: Lsn, copied: bool)
-        requires room { entry_in self.old page ≡ None → length self.old < MOST }
+        requires room { entry_in self.old page ≡ None → length self.old < MOST_DIRTY }
         ensures table { self.new ≡ put page (changed_entry copied lsn) self.old }
         ensures entry { ChangesEntry page (changed_entry copied lsn) self.old self.new }
     {
@@ -164,7 +161,7 @@ impl DirtyTable {
                 true
             },
             Err(at) => {
-                if self.entries.len() == MOST {
+                if self.entries.len() == MOST_DIRTY {
                     return false;
                 }
                 let entry = TableEntry {
@@ -182,7 +179,7 @@ impl DirtyTable {
     /// The page is changed by redo, or loaded from its copy, which then is known: it counts as changed since the redo point, whatever its
     /// entry was. A copy that was known stays so.
     pub fn enter_at_point(&mut self, page: PageNo, point: Lsn, copied: bool)
-        requires room { entry_in self.old page ≡ None → length self.old < MOST }
+        requires room { entry_in self.old page ≡ None → length self.old < MOST_DIRTY }
         ensures table { self.new ≡ put page (λ o. at_point (copied || is_copied o) point) self.old }
         ensures entry { ChangesEntry page (λ o. at_point (copied || is_copied o) point) self.old self.new }
     {
@@ -261,13 +258,13 @@ impl DirtyTable {
         found
     }
 
-    /// Makes `rows`, which has room for `MOST`, a Checkpoint's list: each page with its rec_lsn, in rising order.
+    /// Makes `rows`, which has room for `MOST_DIRTY`, a Checkpoint's list: each page with its rec_lsn, in rising order.
     pub fn copy_rows(&self, rows: &mut Vec<DirtyPage>)
-        requires room { MOST ≤ vec_capacity rows.old }
+        requires room { MOST_DIRTY ≤ vec_capacity rows.old }
         ensures rows { rows.new.items ≡ dirty_pages self.now }
         ensures lists { (pages : ℕ → PageState) → ((p : ℕ) → entry_in self.now p ≡ (pages p).entry) → Lists pages rows.new.items }
-        ensures room { MOST ≤ vec_capacity rows.new }
-        ensures few { length rows.new.items ≤ MOST }
+        ensures room { MOST_DIRTY ≤ vec_capacity rows.new }
+        ensures few { length rows.new.items ≤ MOST_DIRTY }
         ensures rise { Rise (λ r. r.page) None rows.new.items }
     {
         rows.clear();

@@ -27,5 +27,5 @@
 mod dirty_table;
 mod table_entry;
 
-pub use dirty_table::{DirtyTable, MOST};
+pub use dirty_table::DirtyTable;
 pub use table_entry::TableEntry;

@@ -18,7 +18,7 @@ use Rattle.im_base_disk.specs.declared.disk.Disk.{Ghosts}
 use Rattle.im_base_disk.specs.Runs.{ChangesOnly}
 use Rattle.im_base_disk.proofs.Runs.{spared}
 use Rattle.im_log_record.specs.Entry.{Entry}
-use Rattle.im_page_form.specs.Header.{initial}
+use Rattle.im_theory_page.specs.Header.{initial}
 use Rattle.im_log.specs.declared.log_file.LogFile.{LogFile}
 use Rattle.im_log.specs.LogFile.{IsOpen}
 use Rattle.im_log.specs.Spelled.{logged_at}

@@ -10,7 +10,7 @@ use Rattle.im_base_disk.specs.Disk.{Files}
 use Rattle.im_base_disk.specs.Runs.{Reads}
 use Rattle.im_base_disk.proofs.Runs.{reads_on}
 use Rattle.im_log.specs.declared.log_file.LogFile.{LogFile}
-use Rattle.im_page_form.specs.PageFile.{page_count}
+use Rattle.im_theory_page.specs.PageFile.{page_count}
 use Rattle.im_page_pool.specs.Pool.{Held, PoolView, held_of}
 use Rattle.im_page_pool.specs.Pool as pools
 use Rattle.im_page_table.specs.declared.table_entry.TableEntry.{TableEntry}

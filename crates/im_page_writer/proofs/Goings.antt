@@ -9,8 +9,8 @@ use Rattle.im_theory_log.proofs.Histories.{front_self}
 use Rattle.im_base_disk.specs.declared.disk.Disk.{Ghosts}
 use Rattle.im_base_disk.specs.Disk.{Files}
 use Rattle.im_log.specs.declared.log_file.LogFile.{LogFile}
-use Rattle.im_page_form.specs.Header.{initial}
-use Rattle.im_page_form.specs.Page.{page_of}
+use Rattle.im_theory_page.specs.Header.{initial}
+use Rattle.im_theory_page.specs.Page.{page_of}
 use Rattle.im_page_pool.specs.declared.frame.Frame.{Frame}
 use Rattle.im_page_pool.specs.Pool.{Held, PoolView, held_of, frame_of, page_at}
 use Rattle.im_page_table.specs.declared.table_entry.TableEntry.{TableEntry}

@@ -6,9 +6,9 @@ use Rattle.im_base_types.specs.Keys.{Key}
 use Rattle.im_base_types.specs.Pages.{Entry, Page}
 use Rattle.im_base_types.specs.Records.{InsertKey, DeleteKey}
 use Rattle.im_theory_log.specs.Histories.{page_after}
-use Rattle.im_page_form.specs.Entry.{Parts, Rises, entry_at}
-use Rattle.im_page_form.specs.Page as pages
-use Rattle.im_page_form.specs.Header.{initial}
+use Rattle.im_theory_page.specs.Entry.{Parts, Rises, entry_at}
+use Rattle.im_theory_page.specs.Page as pages
+use Rattle.im_theory_page.specs.Header.{initial}
 use Rattle.im_page_pool.specs.declared.frame.Frame.{Frame}
 use Rattle.im_page_pool.specs.Pool.{Held, PoolView, IsAt, page_at, Sets}
 use Rattle.im_page_leaf.specs.declared.leaf_edit.LeafEdit.{LeafEdit}

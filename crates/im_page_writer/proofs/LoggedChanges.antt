@@ -1,8 +1,7 @@
 -- A page in its frame is the writer's.
-use Rattle.std.proofs.Common.{◌≡◌, ◌≢◌, ◌⊎◌, inl, inr, ◌<◌, true, false, Option, None, Some, sym, ◌∙◌, ap, subst, arith}
+use Rattle.std.proofs.Common.{◌≡◌, ◌≢◌, ◌⊎◌, inl, inr, ◌<◌, true, false, Option, None, Some, sym, ◌∙◌, ap, subst, arith, ℕ, List, Bor, refl}
 use Rattle.std.specs.Prelude.{is_some, is_ok, option_map, Result, Ok, Err, IsErrAnd, IfErr, IfOk, OnOk}
 use Rattle.std.specs.Option.{option_map_or}
-use Rattle.std.proofs.Common.{ℕ, List, Bor, refl}
 use Rattle.im_base_types.specs.declared.fault.Fault.{Fault}
 use Rattle.im_base_types.specs.declared.fault.Fault.TheVariants.{Device, Failed, LogFull, Memory, NotAStore}
 use Rattle.im_base_types.specs.Pages.{Page}
@@ -10,7 +9,7 @@ use Rattle.im_theory_log.specs.Writer.{PageState}
 use Rattle.im_log_record.specs.declared.record.Record.{Record}
 use Rattle.im_log_record.specs.declared.record.Record.TheVariants as records
 use Rattle.im_log_record.specs.Entry.{view}
-use Rattle.im_page_form.specs.Page.{page_of}
+use Rattle.im_theory_page.specs.Page.{page_of}
 use Rattle.im_log.specs.Whats.{image_of, page_behind, smo_of, undo_smo_of, what_of}
 use Rattle.im_page_pool.specs.Pool.{Held}
 use Rattle.im_page_leaf.specs.LeafChange.{LeafTakes}

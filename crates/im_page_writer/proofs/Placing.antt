@@ -15,9 +15,9 @@ use Rattle.im_base_disk.specs.Runs.{ChangesOnly, LeavesOnly, Spares}
 use Rattle.im_base_disk.proofs.Runs.{spared, weakened}
 use Rattle.im_log.specs.declared.log_file.LogFile.{LogFile}
 use Rattle.im_log.proofs.Above.{log_spared, open_spared}
-use Rattle.im_page_form.specs.Header.{initial}
-use Rattle.im_page_form.specs.PageFile.{file_page, page_count}
-use Rattle.im_page_form.proofs.PageFileLemmas.{page_past}
+use Rattle.im_theory_page.specs.Header.{initial}
+use Rattle.im_theory_page.specs.PageFile.{file_page, page_count}
+use Rattle.im_theory_page.proofs.PageFileLemmas.{page_past}
 use Rattle.im_page_pool.specs.Pool.{Held, PoolView, held_of}
 use Rattle.im_page_pool.specs.Writes.{TearsPage, WritesPage}
 use Rattle.im_page_table.specs.declared.table_entry.TableEntry.{TableEntry}

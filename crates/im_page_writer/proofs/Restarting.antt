@@ -11,7 +11,7 @@ use Rattle.im_theory_log.proofs.WriterOpenings.{redo_ends}
 use Rattle.im_base_disk.specs.declared.disk.Disk.{Ghosts}
 use Rattle.im_base_disk.specs.Disk.{Only}
 use Rattle.im_log.specs.LogFile.{IsOpen, IsLog}
-use Rattle.im_page_form.specs.PageFile.{file_page}
+use Rattle.im_theory_page.specs.PageFile.{file_page}
 use Rattle.im_page_pool.specs.Pool.{PoolView}
 use Rattle.im_page_table.specs.declared.table_entry.TableEntry.{TableEntry}
 use Rattle.im_page_writer.specs.declared.page_writer.PageWriter.{PageWriter}

@@ -20,7 +20,7 @@ use Rattle.im_base_disk.specs.Runs.{ChangesOnly}
 use Rattle.im_log_record.specs.declared.record.Record.{Record}
 use Rattle.im_log_record.specs.declared.record.Record.TheVariants as records
 use Rattle.im_log_record.specs.Entry.{Entry, page_of, view}
-use Rattle.im_page_form.specs.Page as pages
+use Rattle.im_theory_page.specs.Page as pages
 use Rattle.im_log.specs.declared.log_file.LogFile.{LogFile}
 use Rattle.im_log.specs.LogFile.{IsOpen}
 use Rattle.im_log.specs.Spelled.{logged_at}

@@ -15,7 +15,7 @@ use Rattle.im_base_disk.specs.declared.disk.Disk.{Ghosts}
 use Rattle.im_base_disk.specs.Disk.{Files}
 use Rattle.im_base_disk.specs.Runs.{Reads}
 use Rattle.im_log.specs.declared.log_file.LogFile.{LogFile}
-use Rattle.im_page_form.specs.PageFile.{file_page}
+use Rattle.im_theory_page.specs.PageFile.{file_page}
 use Rattle.im_page_pool.specs.declared.frame.Frame.{Frame}
 use Rattle.im_page_pool.specs.Pool.{Held, PoolView, held_of, page_at, page_seen, Evicts, MovesFirst, Takes}
 use Rattle.im_page_pool.specs.Pool as pools

@@ -11,7 +11,7 @@ use Rattle.im_theory_log.specs.Writer.{PageState, Writer, IsWritten}
 use Rattle.im_theory_log.specs.WriterSteps.{MayWrite, forced, written}
 use Rattle.im_base_disk.specs.declared.disk.Disk.{Ghosts}
 use Rattle.im_log.specs.declared.log_file.LogFile.{LogFile}
-use Rattle.im_page_form.specs.Header.{initial}
+use Rattle.im_theory_page.specs.Header.{initial}
 use Rattle.im_page_pool.specs.Pool.{Held, PoolView, held_of, Holds}
 use Rattle.im_page_table.specs.declared.table_entry.TableEntry.{TableEntry}
 use Rattle.im_page_table.specs.DirtyTable.{entry_in, HasEntries, is_changed}

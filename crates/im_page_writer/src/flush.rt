@@ -7,7 +7,7 @@ ghost use Rattle.im_theory_log.specs.Writer.{Writer};
 ghost use Rattle.im_base_disk.specs.Disk.{Answers};
 ghost use Rattle.im_log.specs.declared.log_file.LogFile.{LogFile};
 ghost use Rattle.im_log.specs.LogFile.{HasNoRoom, end_with, IsOpen};
-ghost use Rattle.im_page_form.specs.PageFile.{page_count};
+ghost use Rattle.im_theory_page.specs.PageFile.{page_count};
 ghost use Rattle.im_page_pool.specs.Pool.{held_of, is_changed};
 ghost use Rattle.im_page_writer.specs.Costs.{FlushCosts, PageCosts, WriteCosts};
 ghost use Rattle.im_page_table.specs.DirtyTable.{entry_in, has_room};

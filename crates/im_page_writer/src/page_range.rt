@@ -7,7 +7,7 @@ ghost use Rattle.im_theory_log.specs.Writer.{Writer};
 ghost use Rattle.im_base_disk.specs.Disk.{Stepped, Follows, InFile, Answers};
 ghost use Rattle.im_base_disk.specs.Runs.{ChangesOnly, LeavesOnly, Costs};
 ghost use Rattle.im_log.specs.declared.log_file.LogFile.{LogFile};
-ghost use Rattle.im_page_form.specs.PageFile.{page_count};
+ghost use Rattle.im_theory_page.specs.PageFile.{page_count};
 ghost use Rattle.im_page_pool.specs.Writes.{WritesPage, TearsPage};
 ghost use Rattle.im_page_table.specs.DirtyTable.{entry_in, has_room, written_in};
 ghost use Rattle.im_page_file.specs.Stands.{Stands};

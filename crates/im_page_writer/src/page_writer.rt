@@ -8,13 +8,13 @@ ghost use Rattle.im_log.specs.LogFile.{end_with};
 
 use crate::flush::flush_page;
 use im_base_disk::Disk;
-use im_base_types::{DirtyPage, Fault, Lsn, PageNo};
+use im_base_types::{DirtyPage, Fault, Lsn, MOST_DIRTY, MOST_FRAMES, PageNo};
 use im_log::LogFile;
 use im_log_record::Record;
 use im_page::Page;
 use im_page_file::sync_pages;
 use im_page_pool::{Frame, Pool};
-use im_page_table::{DirtyTable, MOST};
+use im_page_table::DirtyTable;
 use std::alloc::Global;
 
 mod changes;
@@ -56,7 +56,7 @@ fn lsn_room(alloc: Global) -> Result<Vec<Lsn>, Fault>
     ensures room { IfOk result (λ lsns. 1024 ≤ vec_capacity lsns) }
     ensures refused { IfErr result (λ e. e ≡ Memory) }
 {
-    Vec::with_capacity(alloc, 1_024).map_err(|_| Fault::Memory)
+    Vec::with_capacity(alloc, MOST_FRAMES).map_err(|_| Fault::Memory)
 }
 
 // Room for the rows of the dirty table.
@@ -64,7 +64,7 @@ fn row_room(alloc: Global) -> Result<Vec<DirtyPage>, Fault>
     ensures room { IfOk result (λ rows. 1024 ≤ vec_capacity rows) }
     ensures refused { IfErr result (λ e. e ≡ Memory) }
 {
-    Vec::with_capacity(alloc, MOST).map_err(|_| Fault::Memory)
+    Vec::with_capacity(alloc, MOST_DIRTY).map_err(|_| Fault::Memory)
 }
 
 // A page as it is before anything was put.
@@ -75,7 +75,7 @@ fn spare_page(alloc: Global) -> Result<Box<Page>, Fault>
 }
 
 impl PageWriter {
-    ghost use Rattle.im_page_form.specs.PageFile.{file_page, page_count};
+    ghost use Rattle.im_theory_page.specs.PageFile.{file_page, page_count};
     ghost use Rattle.im_page_pool.specs.Pool.{held_of, is_changed, page_at, Evicts, Holds, IsAt, MovesFirst};
     ghost use Rattle.im_theory_log.specs.WriterSteps.{forced, synced};
     ghost use Rattle.im_base_disk.specs.Runs.{Costs, CostsAtMost, Forces};

@@ -1,7 +1,7 @@
 -- Records by their kinds.
 use Rattle.std.proofs.Common.{◌≡◌, ℕ, Bor, List, Option, None, Some, true}
 use Rattle.im_theory_log.specs.Transactions.{is_smo}
-use Rattle.im_page_form.specs.Page.{page_of}
+use Rattle.im_theory_page.specs.Page.{page_of}
 use Rattle.im_base_types.specs.Pages.{Page}
 use Rattle.im_log_record.specs.declared.record.Record.{Record}
 use Rattle.im_log_record.specs.declared.record.Record.TheVariants as records

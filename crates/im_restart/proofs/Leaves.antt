@@ -3,7 +3,7 @@ use Rattle.std.proofs.Common.{◌≡◌, true, None, Some, ap, subst, ◌∙◌,
 use Rattle.std.specs.FinMap.Entries.{find}
 use Rattle.im_base_types.specs.Keys.{key_order}
 use Rattle.im_base_types.specs.Pages.{Body}
-use Rattle.im_page_form.specs.Split.{HasRoom}
+use Rattle.im_theory_page.specs.Split.{HasRoom}
 use Rattle.im_restart_redo.specs.Redo.{IsOnLeaves}
 use Rattle.im_theory_tree.specs.Theory.{page_tree}
 use Rattle.im_theory_tree.proofs.LookupLemmas.{way_leaf}

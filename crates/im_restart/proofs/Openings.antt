@@ -1,5 +1,5 @@
 -- The log at an opening: its first gate, and its records in turn.
-use Rattle.std.proofs.Common.{◌≡◌, ◌⊎◌, inl, inr, ℕ, List, [], ◌∷◌, Some, Option, Result, Ok, Err, sym, ◌∙◌, ap, subst}
+use Rattle.std.proofs.Common.{◌≡◌, ◌≤◌, ◌⊎◌, inl, inr, ℕ, List, [], ◌∷◌, Some, Option, Result, Ok, Err, sym, ◌∙◌, ap, subst}
 use Rattle.std.specs.Prelude.{IfOk, OnOk}
 use Rattle.im_base_types.specs.declared.fault.Fault.{Fault}
 use Rattle.im_base_types.specs.declared.file_id.FileId.{FileId}
@@ -8,6 +8,7 @@ use Rattle.im_base_types.specs.Records.{Logged}
 use Rattle.im_theory_log.specs.Tree.{Tree, TreeLaws}
 use Rattle.im_theory_log.specs.Histories.{Base, History, IsFront}
 use Rattle.im_theory_log.specs.Lawful.{IsLawful}
+use Rattle.im_theory_log.specs.PageCounts.{count_of, first_count}
 use Rattle.im_theory_log.proofs.Histories.{at_front}
 use Rattle.im_base_disk.specs.declared.disk.Disk.{Ghosts}
 use Rattle.im_base_disk.specs.Disk.{Files}
@@ -62,21 +63,21 @@ pub same_entry : (read : Option Entry) (some other : Entry) → read ≡ Some so
 same_entry read some other first second = let e : Some some ≡ Some other = sym first ∙ second in cc e
 
 -- each record of a lawful log is taken
-pub lawful_taken : (b : Base) (tree : Tree) → TreeLaws tree → (log : History) → IsLawful b tree log → AreTaken log
-lawful_taken b tree laws [] law = tt
-lawful_taken b tree laws (r ∷ older) law = let this = logs_are_taken tree laws b older r law in (this.0, this.1, lawful_taken b tree laws older law.0)
+pub lawful_taken : (b : Base) (tree : Tree) (n : ℕ) → TreeLaws tree → count_of b ≤ n → (log : History) → IsLawful b tree log → AreTaken n log
+lawful_taken b tree n laws first [] law = tt
+lawful_taken b tree n laws first (r ∷ older) law = let this = logs_are_taken tree laws b n older r first law in (this.0, this.1, lawful_taken b tree n laws first older law.0)
 
 -- a record of a log that is taken
-continues : (all older : History) (r : Logged) → AreTaken all → IsFront (r ∷ older) all → Continues r older × FitsBehind r older
-continues all older r taken front = let front_taken = at_front (λ (l : History). AreTaken l) (λ s rest is. is.2) (r ∷ older) all front taken in (front_taken.0, front_taken.1)
+continues : (n : ℕ) (all older : History) (r : Logged) → AreTaken n all → IsFront (r ∷ older) all → Continues r older × FitsBehind n r older
+continues n all older r taken front = let front_taken = at_front (λ (l : History). AreTaken n l) (λ s rest is. is.2) (r ∷ older) all front taken in (front_taken.0, front_taken.1)
 
 -- the next record of a log that is taken, as it was decoded
-pub next_read : {D : Type 0} (d : Ghosts D) (base : ℕ) (all older : History) (lsn : ℕ) (entry said : Entry) (new : Opening) (disk : D) → entry ≡ said → AreTaken all → IsFront (logged_at lsn entry ∷ older) all
+pub next_read : {D : Type 0} (d : Ghosts D) (n base : ℕ) (all older : History) (lsn : ℕ) (entry said : Entry) (new : Opening) (disk : D) → entry ≡ said → AreTaken n all → IsFront (logged_at lsn entry ∷ older) all
     → IsOpening d base all (logged_at lsn entry ∷ older) new disk
-    → Continues (logged_at lsn said) older × FitsBehind (logged_at lsn said) older × IsOpening d base all (logged_at lsn said ∷ older) new disk
-next_read d base all older lsn entry said new disk same taken front opening =
+    → Continues (logged_at lsn said) older × FitsBehind n (logged_at lsn said) older × IsOpening d base all (logged_at lsn said ∷ older) new disk
+next_read d n base all older lsn entry said new disk same taken front opening =
     let is = subst (λ (e : Entry). IsFront (logged_at lsn e ∷ older) all × IsOpening d base all (logged_at lsn e ∷ older) new disk) same (front, opening) in
-    let next = continues all older (logged_at lsn said) taken is.0 in
+    let next = continues n all older (logged_at lsn said) taken is.0 in
     (next.0, next.1, is.1)
 
 pub holds_if_ok : {T : Type 0} {P : Type 0} (result : Result T Fault) → P → IfOk result (λ _. P)
@@ -90,7 +91,7 @@ made_known files made fresh = not_both (files Log) made fresh.0
 
 -- an opening that did not make the log read all of it
 pub spelled_so : {D T : Type 0} (d : Ghosts D) (old mid : D) (opening : Opening) (result : Result T Fault) → (d.tells → IsFresh (d.seen old) ⊎ IsMade (d.seen old Log)) → (d.tells → ¬ (IsFresh (d.seen old)) → Reads d old mid)
-    → (d.tells → HasRead d (base_of (d.seen mid Log)) [] opening mid) → IfOk result (λ _. (base : ℕ) → HasRead d base [] opening mid → (found : History) × HasLog base found (d.seen mid Log) × (IsReadable found → IsOrderly found))
+    → (d.tells → HasRead d (base_of (d.seen mid Log)) [] opening mid) → IfOk result (λ _. (base : ℕ) → HasRead d base [] opening mid → (found : History) × HasLog base found (d.seen mid Log) × (IsReadable found → IsOrderly first_count found))
     → IfOk result (λ _. d.tells → SpellsLog (d.seen old))
 spelled_so d old mid opening (Err e) store reads start spelled = tt
 spelled_so d old mid opening (Ok x) store reads start spelled = λ told. elim (store told) [

@@ -19,7 +19,7 @@ use Rattle.im_base_disk.specs.Disk.{Files, Only}
 use Rattle.im_base_disk.specs.Runs.{ChangesOnly, LeavesIn, LeavesOnly, Reads}
 use Rattle.im_base_disk.proofs.Runs.{reads_on, started, weakened}
 use Rattle.im_log_gate.specs.Header.{IsUnmade, least_number}
-use Rattle.im_page_form.specs.PageFile.{file_page}
+use Rattle.im_theory_page.specs.PageFile.{file_page}
 use Rattle.im_log.specs.Kept.{IsLogOf}
 use Rattle.im_log.specs.LogFile.{IsOpen, IsLog}
 use Rattle.im_log.proofs.Above.{front_none}
@@ -101,7 +101,7 @@ module _ {D : Type 0} (d : Ghosts D) (b : Base) (base : ℕ) (all : History) whe
   }
 
   pub may_behind : (old mid : D) (file : LogFile) → MayRestart b base all (d.seen old) → ChangesOnly d Log old mid → IsLog d base all all file mid → MayRestart b base all (d.seen mid)
-  may_behind old mid file may changes log = record { start = may.start; has = has_behind old mid file may.has changes log; lawful = may.lawful }
+  may_behind old mid file may changes log = record { start = may.start; counted = may.counted; has = has_behind old mid file may.has changes log; lawful = may.lawful }
 
   pub redo_behind : (old mid : D) (file : LogFile) → MayRedo b base all (d.seen old) → ChangesOnly d Log old mid → IsLog d base all all file mid → MayRedo b base all (d.seen mid)
   redo_behind old mid file may changes log =
@@ -186,4 +186,4 @@ opened_behind d b base all old mid new r number file is = record {
 
 -- what a stop within a restart leaves, a restart can start from again
 pub may_again : (b : Base) (base : ℕ) (all : History) (files left : Files) → MayRestart b base all files → (is : IsLeftUndoing b base all left) → MayRestart b base is.left left
-may_again b base all files left may is = record { start = may.start; has = is.has; lawful = is.lawful }
+may_again b base all files left may is = record { start = may.start; counted = may.counted; has = is.has; lawful = is.lawful }

@@ -6,8 +6,7 @@ use Rattle.im_base_types.specs.declared.fault.Fault.{Fault}
 use Rattle.im_base_types.specs.Records.{What, Unreadable}
 use Rattle.im_theory_log.specs.Histories.{History}
 use Rattle.im_theory_log.specs.Transactions.{last_of, undo_next_of, undo_reads, is_key}
-use Rattle.im_log_record.specs.Entry.{Entry, prev_of}
-use Rattle.im_log_record.specs.Entry.{undo_next_of as named_next}
+use Rattle.im_log_record.specs.Entry.{Entry, prev_of, undo_next_of as named_next}
 use Rattle.im_log.specs.Whats.{what_of}
 use Rattle.im_log.specs.Spelled.{logged_at}
 use Rattle.im_page_writer.specs.Outcome.{IsSound}

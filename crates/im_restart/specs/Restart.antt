@@ -3,6 +3,7 @@ use Rattle.std.specs.Prelude.{◌≡◌, ◌⊎◌, ◌+◌, ◌<◌, ◌≤◌,
 use Rattle.im_base_types.specs.declared.fault.Fault.{Fault}
 use Rattle.im_base_types.specs.declared.file_id.FileId.TheVariants.{Log, Pages}
 use Rattle.im_theory_log.specs.Histories.{Base, History, Rises, page_at}
+use Rattle.im_theory_log.specs.PageCounts.{count_of, first_count}
 use Rattle.im_theory_log.specs.Structure.{open_smo}
 use Rattle.im_base_types.specs.Pages.{Page}
 use Rattle.im_theory_log.specs.RedoPoints.{Covers, redo_point}
@@ -13,7 +14,7 @@ use Rattle.im_base_disk.specs.Disk.{Files}
 use Rattle.im_base_disk.specs.Runs.{LeavesOnly}
 use Rattle.im_log_gate.specs.Header.{base_of, least_number, IsUnmade}
 use Rattle.im_log.specs.Kept.{HasLog, IsLogOf}
-use Rattle.im_page_form.specs.PageFile.{file_page}
+use Rattle.im_theory_page.specs.PageFile.{file_page}
 use Rattle.im_page_writer.specs.declared.page_writer.PageWriter.{PageWriter}
 use Rattle.im_page_writer.specs.PageWriter.{StandsAs}
 use Rattle.im_page_writer.specs.Outcome.{IsSound}
@@ -40,12 +41,12 @@ IsFresh files = IsUnmade (files Log) × (length (files Pages) ≡ 0)
 -- No store was made yet, or the log's bytes spell a list of records to the last: a damaged log spells none. Where each page image in it
 -- is a page, no record leads up, none opens a structure change beside another's, and none names a page that no page count said before it has.
 abbrev pub SpellsLog : Files → Type 0
-SpellsLog files = IsFresh files ⊎ ((found : History) × HasLog (base_of (files Log)) found (files Log) × (IsReadable found → IsOrderly found))
+SpellsLog files = IsFresh files ⊎ ((found : History) × HasLog (base_of (files Log)) found (files Log) × (IsReadable found → IsOrderly first_count found))
 
--- Analysis takes each record of the log: its LSN is above those before it, its page images are pages, nothing of its transaction has ended, it leads to earlier records alone, it opens no structure change beside another's, and a page that it names is below a page count that was said before it.
-abbrev pub AreTaken : History → Type 0
-AreTaken [] = Unit {0}
-AreTaken (r ∷ older) = Continues r older × FitsBehind r older × AreTaken older
+-- Analysis takes each record of the log: its LSN is above those before it, its page images are pages, nothing of its transaction has ended, it leads to earlier records alone, it opens no structure change beside another's, and a page that it names is below a page count that was said before it, or the count n that the log begins with.
+abbrev pub AreTaken : ℕ → History → Type 0
+AreTaken n [] = Unit {0}
+AreTaken n (r ∷ older) = Continues r older × FitsBehind n r older × AreTaken n older
 
 -- No transaction of the log is unfinished, and no structure change is open.
 pub record LeavesNoUndo (log : History) : Type 0 where
@@ -62,9 +63,10 @@ pub record HasStore (b : Base) (base : ℕ) (all : History) (files : Files) : Ty
   pub bare : IsUnmade (files Log) → length (files Pages) ≡ 0
   pub covers : Covers b all (file_page (files Pages))
 
--- What a restart can start from: a lawful log that covers the pages. What the log is over has no LSN above its first byte.
+-- What a restart can start from: a lawful log that covers the pages. What the log is over has no LSN above its first byte, and says no more pages than a first log finds.
 pub record MayRestart (b : Base) (base : ℕ) (all : History) (files : Files) : Type 0 where
   pub start : b.start ≤ base
+  pub counted : count_of b ≤ first_count
   pub has : HasStore b base all files
   pub lawful : IsLawful b page_tree all
 
@@ -73,7 +75,7 @@ pub record MayRedo (b : Base) (base : ℕ) (all : History) (files : Files) : Typ
   pub start : b.start ≤ base
   pub has : HasStore b base all files
   pub rises : Rises b all
-  pub taken : AreTaken all
+  pub taken : AreTaken first_count all
   pub can : AreApplicable b all
   pub done : LeavesNoUndo all
 

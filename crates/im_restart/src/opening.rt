@@ -10,7 +10,7 @@ ghost use Rattle.im_theory_log.specs.WriterSteps.{opened};
 ghost use Rattle.im_base_disk.specs.Disk.{Only};
 ghost use Rattle.im_base_disk.specs.Runs.{IsSynced, Reads};
 ghost use Rattle.im_log_gate.specs.Header.{IsMade};
-ghost use Rattle.im_page_form.specs.PageFile.{file_page};
+ghost use Rattle.im_theory_page.specs.PageFile.{file_page};
 ghost use Rattle.im_log.specs.LogFile.{IsOpen};
 ghost use Rattle.im_restart_analysis.specs.Analysis.{IsAnalysis};
 ghost use Rattle.im_restart_analysis.specs.Losers.{AreLosers};
@@ -33,21 +33,19 @@ use crate::restarted::Restarted;
 use crate::structure_change::undo_change;
 use crate::undo::undo;
 use im_base_disk::Disk;
-use im_base_types::{Fault, Lsn, TxnId};
+use im_base_types::{Fault, LONGEST_BATCH, Lsn, TxnId};
 use im_page_writer::PageWriter;
 use im_restart_analysis::Analysed;
 use im_restart_redo::redo;
 use std::alloc::Global;
 use std::cmp::max;
 
-const ROOM: usize = 16_384;
-
 // The room in which records are read again.
 fn make_room(alloc: Global) -> Result<Vec<u8>, Fault>
     ensures size { IfOk result (λ room. length room.items ≡ 16384) }
     ensures causes { IfErr result (λ e. e ≡ Memory) }
 {
-    vec![in alloc; 0; ROOM].map_err(|_| Fault::Memory)
+    vec![in alloc; 0; LONGEST_BATCH].map_err(|_| Fault::Memory)
 }
 
 // The number of the next transaction, from 1 on.

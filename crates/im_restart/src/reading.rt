@@ -5,6 +5,7 @@ ghost use Rattle.im_base_types.specs.declared.fault.Fault.TheVariants.{Device, M
 ghost use Rattle.im_base_types.specs.declared.file_id.FileId.TheVariants.{Log, Pages};
 ghost use Rattle.im_base_types.specs.Records.{Unreadable};
 ghost use Rattle.im_theory_log.specs.Histories.{History, changes_page};
+ghost use Rattle.im_theory_log.specs.PageCounts.{first_count};
 ghost use Rattle.im_base_disk.specs.Disk.{Only};
 ghost use Rattle.im_base_disk.specs.Runs.{ChangesOnly, Reads};
 ghost use Rattle.im_log_gate.specs.Gate.{first_of, place_of, has_failed, StartsAs, IsReading};
@@ -111,9 +112,9 @@ fn read_all<D: Disk>(
     ensures reads { Reads D.Disk disk.old disk.new }
     ensures ready { IfOk result (λ found. IsOpen D.Disk found.log disk.new) }
     ensures usable { IfOk result (λ found. found.log.failed ≡ false) }
-    ensures kept { (base : ℕ) (all : History) → IsOpening D.Disk base all [] opening disk.old → AreTaken all → least ≡ least_number (D.seen disk.old Log) → 1 ≤ least
+    ensures kept { (base : ℕ) (all : History) → IsOpening D.Disk base all [] opening disk.old → AreTaken first_count all → least ≡ least_number (D.seen disk.old Log) → 1 ≤ least
         → ReadKept D.Disk base all disk.new result }
-    ensures spelled { IfOk result (λ _. (base : ℕ) → HasRead D.Disk base [] opening disk.old → (found : History) × HasLog base found (D.seen disk.old Log) × (IsReadable found → IsOrderly found)) }
+    ensures spelled { IfOk result (λ _. (base : ℕ) → HasRead D.Disk base [] opening disk.old → (found : History) × HasLog base found (D.seen disk.old Log) × (IsReadable found → IsOrderly first_count found)) }
     ensures causes { IfErr result (λ e. (e ≡ Memory) ⊎ (e ≡ Device) ⊎ (e ≡ NotAStore)) }
     ensures device { result ≡ Err Device ↔ (D.failed disk.new ≡ true) }
 {
@@ -149,7 +150,7 @@ pub(crate) fn open_log<D: Disk>(alloc: Global, disk: &mut D) -> Result<Found, Fa
     requires durable { Only Log (D.seen disk.old) (D.may_leave disk.old) }
     ensures ready { IfOk result (λ found. IsOpen D.Disk found.log disk.new) }
     ensures usable { IfOk result (λ found. found.log.failed ≡ false) }
-    ensures kept { (base : ℕ) (all : History) → D.tells → IsLogOf base all (D.seen disk.old Log) → (IsUnmade (D.seen disk.old Log) → length (D.seen disk.old Pages) ≡ 0) → AreTaken all
+    ensures kept { (base : ℕ) (all : History) → D.tells → IsLogOf base all (D.seen disk.old Log) → (IsUnmade (D.seen disk.old Log) → length (D.seen disk.old Pages) ≡ 0) → AreTaken first_count all
         → OpenKept D.Disk base all disk.old disk.new result }
     ensures spelled { IfOk result (λ _. D.tells → SpellsLog (D.seen disk.old)) }
     ensures alike { IfOk result (λ _. D.tells → StartsAlike (D.seen disk.old Log) (D.seen disk.new Log)) }
@@ -161,6 +162,6 @@ pub(crate) fn open_log<D: Disk>(alloc: Global, disk: &mut D) -> Result<Found, Fa
 {
     let gate = first_gate(alloc, disk)?;
     let least = gate.least_number();
-    let opening = Opening::start(alloc, gate)?;
+    let opening = Opening::start(alloc, gate, 1)?;
     read_all(alloc, disk, opening, least)
 }

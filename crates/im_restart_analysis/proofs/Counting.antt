@@ -4,8 +4,8 @@ use Rattle.std.proofs.lemmas.List.{get_or-append-add}
 use Rattle.im_base_types.specs.Pages.{Page}
 use Rattle.im_base_types.specs.Records.{Unreadable}
 use Rattle.im_theory_log.specs.PageCounts.{count_in}
-use Rattle.im_page_form.specs.Number.{u32_at}
-use Rattle.im_page_form.specs.Page.{is_form, page_of, said_by}
+use Rattle.im_theory_page.specs.Number.{u32_at}
+use Rattle.im_theory_page.specs.Page.{is_form, page_of, said_by}
 use Rattle.im_log_record.specs.Entry as entries
 use Rattle.im_log_record.specs.Entry.{Entry}
 use Rattle.im_log.specs.Whats.{page_behind, smo_of, undo_smo_of, what_of}

@@ -5,10 +5,11 @@ use Rattle.std.proofs.lemmas.Bool.{cases_eq, cond-true, cond-false, eq-eqb, ne_e
 use Rattle.im_base_types.specs.Records.{What, InsertKey, DeleteKey, UndoInsert, UndoDelete, Smo, UndoSmo, DummyClr, Commit, End, Image, Checkpoint, Unreadable, Logged}
 use Rattle.im_theory_log.specs.Tree.{Tree, TreeLaws}
 use Rattle.im_theory_log.specs.Histories.{Base, History, Rises, end_of}
+use Rattle.im_theory_log.specs.PageCounts.{count_of}
 use Rattle.im_theory_log.specs.Transactions.{last_of}
 use Rattle.im_theory_log.specs.Lawful.{IsLawful, MayCome, has_owner}
 use Rattle.im_theory_log.proofs.Fronts.{rises}
-use Rattle.im_theory_log.proofs.PageCounts.{record_within}
+use Rattle.im_theory_log.proofs.PageCounts.{count_grows, record_within}
 use Rattle.im_restart_analysis.specs.Orderly.{IsEarlier, LeadsDown}
 use Rattle.im_restart_analysis.specs.Undo.{LawfulLogsAreTaken}
 use Rattle.im_restart_analysis.proofs.LawfulLogs.{taken_when_lawful}
@@ -68,6 +69,12 @@ module _ (b : Base) (tree : Tree) (r : Logged) (older : History) (law : IsLawful
 
 -- so analysis takes it
 pub logs_are_taken : (tree : Tree) → TreeLaws tree → LawfulLogsAreTaken tree
-logs_are_taken tree laws b older r law =
-    let taken = taken_when_lawful tree b older r law in
-    (taken.0, record { leads = lawful_leads_down b tree r older law; alone = taken.1; counted = record_within b tree laws r older law })
+logs_are_taken tree laws b n older r first law =
+    let taken = taken_when_lawful tree b older r law in (
+      taken.0,
+      record {
+        leads = lawful_leads_down b tree r older law;
+        alone = taken.1;
+        counted = λ names. (let within = record_within b tree laws r older law names in let grows = count_grows (count_of b) n older first in omega (arith, within, grows));
+      },
+    )

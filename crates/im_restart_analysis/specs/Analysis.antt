@@ -20,18 +20,18 @@ pub record Continues (r : Logged) (older : History) : Type 0 where
   pub readable : r.what ≢ Unreadable
   pub unfinished : 1 ≤ r.txn → is_finished r.txn older ≡ false
 
--- Behind these records of a log whose transaction numbers begin at the lowest.
-pub record IsAnalysed (lowest : ℕ) (log : History) (a : Analysis) : Type 0 where
+-- Behind these records of a log whose transaction numbers begin at the lowest, and whose page counts begin at n.
+pub record IsAnalysed (lowest n : ℕ) (log : History) (a : Analysis) : Type 0 where
   pub rises : LsnsRise log
   pub next : IsNextNumber lowest a.next log
   pub point : a.point ≡ point_of log
   pub losers : AreLosers a.losers log
   pub copies : AreCopies 0 a.copies log
-  pub known : Knows log a
+  pub known : Knows n log a
 
 -- The record is taken, or refused where it opens a structure change beside another's.
-pub record TakeKept (lowest : ℕ) (older : History) (r : Logged) (new : Analysis) (result : Result Unit Fault) : Type 0 where
-  pub ok : OnOk result (IsAnalysed lowest (r ∷ older) new)
+pub record TakeKept (lowest n : ℕ) (older : History) (r : Logged) (new : Analysis) (result : Result Unit Fault) : Type 0 where
+  pub ok : OnOk result (IsAnalysed lowest n (r ∷ older) new)
   pub refused : (result ≡ Err NotAStore) ↔ OpensAnother r older
 
 -- nothing is changed

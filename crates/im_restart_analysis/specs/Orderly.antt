@@ -1,5 +1,5 @@
 -- What the records of a log have to be for analysis to take them all: chains lead down, one structure change is open at a time, and the pages
--- that they name are below a page count that the log has said.
+-- that they name are below a page count that the log has said, or the count n that it begins with.
 use Rattle.std.specs.Prelude.{◌≡◌, ◌≢◌, ◌≤◌, ◌<◌, ◌⊎◌, ℕ, true, [], ◌∷◌, Result, Err, OnOk}
 use Rattle.im_base_types.specs.declared.fault.Fault.{Fault}
 use Rattle.im_base_types.specs.declared.fault.Fault.TheVariants.{NotAStore}
@@ -18,19 +18,19 @@ abbrev pub LeadsDown : Logged → Type 0
 LeadsDown r = 1 ≤ r.txn → IsEarlier r.prev r.lsn × IsEarlier r.undo_next r.lsn
 
 -- A record that names a page names one below a page count that was said before it.
-abbrev pub NamesCounted : Logged → History → Type 0
-NamesCounted r older = names_page r.what ≡ true → r.page < greatest_count older
+abbrev pub NamesCounted : ℕ → Logged → History → Type 0
+NamesCounted n r older = names_page r.what ≡ true → r.page < greatest_count n older
 
 -- The record leads down, opens no structure change beside another transaction's, and names no page that no page count has.
-pub record FitsBehind (r : Logged) (older : History) : Type 0 where
+pub record FitsBehind (n : ℕ) (r : Logged) (older : History) : Type 0 where
   pub leads : LeadsDown r
   pub alone : OpensAnother r older → ⊥
-  pub counted : NamesCounted r older
+  pub counted : NamesCounted n r older
 
 -- So does each record.
-abbrev pub IsOrderly : History → Type 0
-IsOrderly [] = Unit {0}
-IsOrderly (r ∷ older) = FitsBehind r older × IsOrderly older
+abbrev pub IsOrderly : ℕ → History → Type 0
+IsOrderly n [] = Unit {0}
+IsOrderly n (r ∷ older) = FitsBehind n r older × IsOrderly n older
 
 -- The bytes of each page image are a page's.
 abbrev pub IsReadable : History → Type 0
@@ -38,11 +38,11 @@ IsReadable [] = Unit {0}
 IsReadable (r ∷ older) = (r.what ≢ Unreadable) × IsReadable older
 
 -- What is known behind records of any log: the structure change that is open, and the greatest page count.
-pub record Knows (log : History) (a : Analysis) : Type 0 where
+pub record Knows (n : ℕ) (log : History) (a : Analysis) : Type 0 where
   pub open_change : IsOpenChange a.open_change.items log
-  pub count : a.count ≡ greatest_count log
+  pub count : a.count ≡ greatest_count n log
 
 -- On any records: one is taken only where it fits, with what is known behind it, and refused as no store only where it does not fit.
-pub record FitKept (older : History) (r : Logged) (new : Analysis) (result : Result Unit Fault) : Type 0 where
-  pub ok : OnOk result (FitsBehind r older × Knows (r ∷ older) new)
-  pub refused : result ≡ Err NotAStore → FitsBehind r older → ⊥
+pub record FitKept (n : ℕ) (older : History) (r : Logged) (new : Analysis) (result : Result Unit Fault) : Type 0 where
+  pub ok : OnOk result (FitsBehind n r older × Knows n (r ∷ older) new)
+  pub refused : result ≡ Err NotAStore → FitsBehind n r older → ⊥

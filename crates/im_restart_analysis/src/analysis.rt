@@ -19,7 +19,7 @@ pub struct Analysis {
     losers: BTreeMap<TxnId, Loser>,
     copies: BTreeMap<PageNo, Lsn>,
     open_change: Vec<OpenRecord>,
-    // the greatest page count that a record of page 0 said
+    // the greatest page count that a record of page 0 said, or the pages before the first one
     count: PageNo,
 }
 
@@ -43,6 +43,7 @@ impl Analysis {
     ghost use Rattle.im_base_types.specs.declared.fault.Fault.TheVariants.{Memory, NotAStore};
     ghost use Rattle.im_base_types.specs.Records.{Unreadable};
     ghost use Rattle.im_theory_log.specs.Histories.{History};
+    ghost use Rattle.im_theory_log.specs.PageCounts.{first_count};
     ghost use Rattle.im_theory_log.specs.RedoPoints.{redo_point};
     ghost use Rattle.im_log_record.specs.Entry.{view};
     ghost use Rattle.im_log.specs.Spelled.{logged_at};
@@ -51,9 +52,9 @@ impl Analysis {
     ghost use Rattle.im_restart_analysis.specs.Analysis.{Continues, IsAnalysed, TakeKept, IsUnchanged, IsAnalysis};
     ghost use Rattle.im_restart_analysis.specs.Orderly.{FitKept, Knows, LeadsDown, NamesCounted};
 
-    /// Before the first record of a log whose transaction numbers begin at this one.
+    /// Before the first record of a log whose transaction numbers begin at this one, over the two pages that a first log finds.
     pub fn new(alloc: Global, least: TxnId) -> Self
-        ensures { IsAnalysed least [] result }
+        ensures { IsAnalysed least first_count [] result }
     {
         Analysis {
             next: least,
@@ -68,14 +69,14 @@ impl Analysis {
     /// The number of the next transaction: the least from the log's first on that is above every transaction number in the records
     /// and not below the next number of any of their Checkpoints, or 2^64 - 1 where that is no u64.
     pub fn next(&self) -> TxnId
-        ensures { (least : ℕ) (log : History) → IsAnalysed least log self.now → IsNextNumber least result log }
+        ensures { (least n : ℕ) (log : History) → IsAnalysed least n log self.now → IsNextNumber least result log }
     {
         self.next
     }
 
     /// The LSN from which redo begins, 0 without records.
     pub fn redo_point(&self) -> Lsn
-        ensures { (least : ℕ) (log : History) → IsAnalysed least log self.now → result ≡ redo_point log }
+        ensures { (least n : ℕ) (log : History) → IsAnalysed least n log self.now → result ≡ redo_point log }
     {
         match self.point {
             None => 0,
@@ -88,10 +89,10 @@ impl Analysis {
     /// Refused `NotAStore` where a structure change opens while another transaction's is open, the record names its own LSN or a later
     /// one as its transaction's, or a page at or above each page count that was said before it, and `Memory`; then nothing is changed.
     pub fn take(&mut self, lsn: Lsn, record: &Record) -> Result<(), Fault>
-        ensures kept { (least : ℕ) (older : History) → IsAnalysed least older self.old → Continues (logged_at lsn (view record.now)) older → LeadsDown (logged_at lsn (view record.now))
-            → NamesCounted (logged_at lsn (view record.now)) older → TakeKept least older (logged_at lsn (view record.now)) self.new result }
-        ensures fits { (older : History) → Knows older self.old → what_of (view record.now) ≢ Unreadable
-            → FitKept older (logged_at lsn (view record.now)) self.new result }
+        ensures kept { (least n : ℕ) (older : History) → IsAnalysed least n older self.old → Continues (logged_at lsn (view record.now)) older → LeadsDown (logged_at lsn (view record.now))
+            → NamesCounted n (logged_at lsn (view record.now)) older → TakeKept least n older (logged_at lsn (view record.now)) self.new result }
+        ensures fits { (n : ℕ) (older : History) → Knows n older self.old → what_of (view record.now) ≢ Unreadable
+            → FitKept n older (logged_at lsn (view record.now)) self.new result }
         ensures same { OnErr result (IsUnchanged self.old self.new) }
         ensures causes { IfErr result (λ e. (e ≡ Memory) ⊎ (e ≡ NotAStore)) }
     {
@@ -115,7 +116,7 @@ impl Analysis {
 
     /// What is known behind the last record.
     pub fn finish(self) -> Analysed
-        ensures { (least : ℕ) (log : History) → IsAnalysed least log self → IsAnalysis least log result }
+        ensures { (least n : ℕ) (log : History) → IsAnalysed least n log self → IsAnalysis least log result }
     {
         let redo_point = self.redo_point();
         let Analysis {

@@ -13,7 +13,7 @@
 //! `laws` has what undo lives by, for every tree of pages: what the losers' chains lead to, which records may come
 //! next and what they leave, and that the tree holds the committed map alone once no loser is left.
 //!
-//! It stands on `im_log_record` for records and on the definitions of `im_log` and `im_base_types`.
+//! It stands on `im_log_record` for records and on the definitions of `im_log` and `im_theory_log`.
 #![tactic(auto)]
 
 mod analysis;

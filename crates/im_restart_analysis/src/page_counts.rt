@@ -4,7 +4,7 @@ ghost use Rattle.std.specs.Prelude.{◌≡◌, ◌≢◌, ◌<◌, ◌↔◌, �
 ghost use Rattle.im_base_types.specs.Records.{Unreadable};
 ghost use Rattle.im_theory_log.specs.Histories.{History};
 ghost use Rattle.im_theory_log.specs.PageCounts.{count_in, greatest_count, names_page};
-ghost use Rattle.im_page_form.specs.Number.{u32_at};
+ghost use Rattle.im_theory_page.specs.Number.{u32_at};
 ghost use Rattle.im_log_record.specs.Entry.{view, page_of};
 ghost use Rattle.im_log.specs.Whats.{what_of};
 ghost use Rattle.im_log.specs.Spelled.{logged_at};
@@ -63,8 +63,8 @@ fn said_count(record: &Record) -> PageNo
 
 /// The greatest page count once this record is taken.
 pub fn count_after(count: PageNo, record: &Record) -> PageNo
-    ensures { (lsn : ℕ) (older : History) → count ≡ greatest_count older → what_of (view record.now) ≢ Unreadable
-        → result ≡ greatest_count (logged_at lsn (view record.now) ∷ older) }
+    ensures { (n lsn : ℕ) (older : History) → count ≡ greatest_count n older → what_of (view record.now) ≢ Unreadable
+        → result ≡ greatest_count n (logged_at lsn (view record.now) ∷ older) }
 {
     max(count, said_count(record))
 }
@@ -90,8 +90,8 @@ fn named_page(record: &Record) -> Option<PageNo>
 
 /// Whether the page that the record names, if it names one, is below the page count.
 pub fn names_counted(count: PageNo, record: &Record) -> bool
-    ensures { (lsn : ℕ) (older : History) → count ≡ greatest_count older → what_of (view record.now) ≢ Unreadable
-        → IsTrue result ↔ NamesCounted (logged_at lsn (view record.now)) older }
+    ensures { (n lsn : ℕ) (older : History) → count ≡ greatest_count n older → what_of (view record.now) ≢ Unreadable
+        → IsTrue result ↔ NamesCounted n (logged_at lsn (view record.now)) older }
 {
     match named_page(record) {
         None => true,

@@ -31,7 +31,7 @@ use Rattle.im_theory_tree.specs.Search.{IsOnWay}
 use Rattle.im_theory_tree.specs.Theory.{page_tree, CanDropFrom, CanPutInto}
 use Rattle.im_theory_tree.proofs.LookupLemmas.{way_leaf}
 use Rattle.im_theory_tree.proofs.TheoryLaws.{page_tree_laws}
-use Rattle.im_page_form.specs.Split.{HasRoom}
+use Rattle.im_theory_page.specs.Split.{HasRoom}
 use Rattle.im_restart_analysis.specs.declared.rows.Loser.{Loser}
 use Rattle.im_restart_analysis.specs.Losers.{is_loser}
 use Rattle.im_restart_analysis.specs.Undo.{Compensates, IsNext, IsUndoable, TakesBack, TakesOff}

@@ -16,7 +16,7 @@ use Rattle.im_base_disk.specs.declared.disk.Disk.{Ghosts}
 use Rattle.im_log_record.specs.Entry.{Entry, prev_of}
 use Rattle.im_log.specs.Spelled.{logged_at}
 use Rattle.im_log.specs.Whats.{what_of}
-use Rattle.im_page_form.specs.Split.{HasRoom}
+use Rattle.im_theory_page.specs.Split.{HasRoom}
 use Rattle.im_page_pool.specs.Pool.{page_at}
 use Rattle.im_page_writer.specs.declared.page_writer.PageWriter.{PageWriter}
 use Rattle.im_page_table.specs.Growth.{Keeps}

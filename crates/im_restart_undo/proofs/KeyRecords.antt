@@ -2,7 +2,7 @@
 use Rattle.std.proofs.Common.{◌≡◌, ℕ, Bor, List, Option, None, Some, true}
 use Rattle.im_base_types.specs.Pages.{Page}
 use Rattle.im_theory_log.specs.Transactions.{is_key}
-use Rattle.im_page_form.specs.Page.{page_of}
+use Rattle.im_theory_page.specs.Page.{page_of}
 use Rattle.im_log_record.specs.declared.record.Record.{Record}
 use Rattle.im_log_record.specs.declared.record.Record.TheVariants as records
 use Rattle.im_log_record.specs.Entry.{view}

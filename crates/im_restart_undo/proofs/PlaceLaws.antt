@@ -4,10 +4,10 @@ use Rattle.std.proofs.lemmas.Bool.{cases_lt, lt-ltb, ltb-true}
 use Rattle.std.specs.Bool.{IsTrue}
 use Rattle.im_base_types.specs.Keys.{Key, IsBelow}
 use Rattle.im_base_types.specs.Pages.{Body, Entry}
-use Rattle.im_page_form.specs.Entry.{entry_at, IsPlace}
-use Rattle.im_page_form.specs.Page.{is_leaf_kind}
-use Rattle.im_page_form.specs.Split.{HasRoom}
-use Rattle.im_page_form.proofs.Order.{below_trans, below_irrefl}
+use Rattle.im_theory_page.specs.Entry.{entry_at, IsPlace}
+use Rattle.im_theory_page.specs.Page.{is_leaf_kind}
+use Rattle.im_theory_page.specs.Split.{HasRoom}
+use Rattle.im_theory_page.proofs.Order.{below_trans, below_irrefl}
 use Rattle.im_theory_tree.specs.Levels.{Pages}
 use Rattle.im_theory_tree.specs.Good.{IsGoodTree}
 use Rattle.im_theory_tree.specs.Search.{IsOnWay}

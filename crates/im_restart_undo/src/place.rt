@@ -10,7 +10,7 @@ ghost use Rattle.im_tree_search.specs.Found.{IsReached};
 ghost use Rattle.im_restart_undo.specs.Place.{CountsPage, HasKey, HasGap, HasWholeTree, IsKnownLeaf, FindsPage};
 
 use im_base_disk::Disk;
-use im_base_types::{Fault, PageKind, PageNo};
+use im_base_types::{Fault, LONGEST_KEY, PageKind, PageNo};
 use im_page::Page;
 use im_page_pool::Frame;
 use im_page_writer::PageWriter;
@@ -40,7 +40,7 @@ fn has_key(page: &Page, key: &[u8]) -> bool
 fn has_gap(page: &Page, key: &[u8]) -> bool
     ensures { IsTrue result ↔ HasGap page.now.body key.now }
 {
-    if 255 < key.len() || !page.has_room(key.len()) {
+    if LONGEST_KEY < key.len() || !page.has_room(key.len()) {
         return false;
     }
     match page.find(key) {

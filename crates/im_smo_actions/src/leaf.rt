@@ -2,7 +2,7 @@
 
 ghost use Rattle.std.specs.Prelude.{◌≡◌, ◌≢◌, ◌≤◌, ◌⊎◌, true, false, length};
 ghost use Rattle.im_base_types.specs.declared.page_kind.PageKind.TheVariants.{Leaf};
-ghost use Rattle.im_page_form.specs.Split.{HasRoom};
+ghost use Rattle.im_theory_page.specs.Split.{HasRoom};
 ghost use Rattle.im_page_pool.specs.Pool.{page_at, IsAt};
 
 use im_page_pool::Frame;

@@ -5,7 +5,7 @@ use Rattle.std.proofs.lemmas.Bool.{cases_eq}
 use Rattle.im_base_types.specs.Pages.{Body, Page}
 use Rattle.im_theory_log.specs.Tree.{with_body}
 use Rattle.im_page_writer.specs.Outcome.{AllPages}
-use Rattle.im_page_form.specs.Header.{initial}
+use Rattle.im_theory_page.specs.Header.{initial}
 use Rattle.im_smo_pages.specs.Images.{Numbered, IsRising, image_of, put_image, without_image}
 use Rattle.im_smo_pages.specs.Changed.{SamePages}
 use Rattle.im_smo_pages.proofs.ImageLemmas.{body_or, applied_image, applied_put, image_put, image_put_other, put_rising, put_without, without_rising}

@@ -6,7 +6,7 @@ use Rattle.im_base_types.specs.Pages.{Body, Page}
 use Rattle.im_theory_log.specs.Tree.{with_body}
 use Rattle.im_page_writer.specs.Outcome.{AllPages}
 use Rattle.im_base_types.specs.declared.page_kind.PageKind.TheVariants.{Free, Meta}
-use Rattle.im_page_form.specs.Header.{empty_body}
+use Rattle.im_theory_page.specs.Header.{empty_body}
 use Rattle.im_theory_tree.specs.Levels.{Pages, height, pages_under, the_root, walk}
 use Rattle.im_theory_tree.specs.Good.{IsGoodTree, free_from, times}
 use Rattle.im_theory_tree.proofs.Counting.{pages_counted}

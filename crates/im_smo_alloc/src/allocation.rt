@@ -3,7 +3,7 @@
 ghost use Rattle.std.specs.Prelude.{◌≡◌, ◌≢◌, ◌⊎◌, ◌∷◌, ◌+◌, ◌^◌, ◌≤◌, ◌<◌, ◌↔◌, ℕ, List, false, IfErr, IfOk, IsOk, OnOk};
 ghost use Rattle.im_base_types.specs.declared.fault.Fault.TheVariants.{Capacity, Memory, NotAStore};
 ghost use Rattle.im_base_types.specs.declared.page_kind.PageKind.TheVariants.{Free, Meta};
-ghost use Rattle.im_page_form.specs.Header.{empty_body};
+ghost use Rattle.im_theory_page.specs.Header.{empty_body};
 ghost use Rattle.im_page_writer.specs.PageWriter.{IsReadyWriter};
 ghost use Rattle.im_page_writer.specs.Outcome.{fault_of, AllPages, AreLoaded, IsSound, Outcome};
 ghost use Rattle.im_smo_pages.specs.Bodies.{says, meta_with_first};

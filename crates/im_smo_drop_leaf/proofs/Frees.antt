@@ -7,7 +7,7 @@ use Rattle.im_base_types.specs.Pages.{Body}
 use Rattle.im_theory_log.specs.Tree.{with_body}
 use Rattle.im_base_types.specs.declared.page_kind.PageKind.TheVariants.{Free}
 use Rattle.im_base_disk.specs.declared.disk.Disk.{Ghosts}
-use Rattle.im_page_form.specs.Header.{empty_body}
+use Rattle.im_theory_page.specs.Header.{empty_body}
 use Rattle.im_page_writer.specs.declared.page_writer.PageWriter.{PageWriter}
 use Rattle.im_page_writer.specs.Outcome.{AllPages}
 use Rattle.im_page_writer.proofs.Outcomes.{pages_still}

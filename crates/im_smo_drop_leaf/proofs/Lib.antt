@@ -3,4 +3,5 @@ pub mod OneLeaf
 pub mod Leaving
 pub mod Frees
 pub mod Plans
+pub mod PlanWays
 mod Results

@@ -1,7 +1,7 @@
 -- A key has one leaf.
 use Rattle.std.proofs.Common.{◌≡◌, ℕ, List, [], ◌∷◌, ◌++◌, Option, Some, None, ⊎_elim, sym, ap, subst, ◌∙◌}
 use Rattle.im_base_types.specs.Keys.{Key, IsBelow}
-use Rattle.im_page_form.proofs.Order.{below_trans, below_irrefl}
+use Rattle.im_theory_page.proofs.Order.{below_trans, below_irrefl}
 use Rattle.im_theory_tree.specs.Levels.{Pages, Node}
 use Rattle.im_theory_tree.specs.Good.{AtOrAbove, IsUnder, IsAfter, next_bound, AreOrdered, IsGoodTree}
 use Rattle.im_theory_tree.specs.Search.{IsOnWay}

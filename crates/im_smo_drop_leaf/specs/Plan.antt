@@ -5,8 +5,10 @@ use Rattle.im_page_writer.specs.Outcome.{AllPages}
 use Rattle.im_theory_tree.specs.Levels.{Pages, walk}
 use Rattle.im_theory_tree.specs.Good.{IsGoodTree}
 use Rattle.im_theory_tree.specs.Steps.{DropsChain}
+use Rattle.im_theory_tree.specs.Ways.{KeepsWays}
 use Rattle.im_smo_pages.specs.Images.{Numbered}
 use Rattle.im_smo_pages.specs.Changed.{SamePages}
+use Rattle.im_smo_pages.specs.OnWay.{IsApart}
 use Rattle.im_smo_alloc.specs.Seen.{bodies, seen}
 use Rattle.im_smo_drop_leaf.specs.Given.{given_pages}
 
@@ -24,3 +26,7 @@ pub record IsPlan (pages : AllPages) (p : ℕ) (images : List Numbered) : Type 0
   pub some : 1 ≤ length images
   pub gone : (seen pages images p).kind ≡ Free
   pub by : DeletesChain (bodies pages) (seen pages images) p
+
+-- A plan of a deletion keeps the ways of keys whose leaf is none of its images: no more is asked of it than what it is.
+abbrev pub DeletionPlansKeepWays : Type 0
+DeletionPlansKeepWays = (pages : AllPages) (p : ℕ) (images : List Numbered) → IsGoodTree (bodies pages) [] → IsPlan pages p images → KeepsWays (bodies pages) (seen pages images) (IsApart images)

@@ -23,8 +23,10 @@
 
 mod dropping;
 mod giving;
+mod laws;
 mod plan;
 mod reading;
 mod way;
 
+pub use laws::deletion_plans_keep_ways;
 pub use plan::plan_delete;

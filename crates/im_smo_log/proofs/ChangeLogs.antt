@@ -1,18 +1,20 @@
 -- A log through a structure change.
 use Rattle.std.proofs.Common.{◌≡◌, ◌≢◌, ⊎_elim, ℕ, zero, suc, ◌+◌, ◌-◌, ◌<◌, ◌≤◌, List, [], ◌∷◌, ◌++◌, length, Option, Some, refl, sym, ap, subst, ◌∙◌, append_assoc, arith, ◌==◌}
-use Rattle.std.specs.Prelude.{◌||◌}
+use Rattle.std.specs.Prelude.{◌||◌, max}
 use Rattle.std.proofs.lemmas.Bool.{cases_lt, cond-true, cond-false, eq-eqb, ne_eqb}
 use Rattle.im_base_types.specs.Pages.{Body}
 use Rattle.im_base_types.specs.Records.{What, Logged}
 use Rattle.im_theory_log.specs.Histories.{Base, History, below, end_of, page_at}
 use Rattle.im_theory_log.specs.Copies.{AreImages, GrowsByImages}
 use Rattle.im_theory_log.specs.Lawful.{Follows, IsLawful, IsNewIn, resumes}
-use Rattle.im_theory_log.specs.PageCounts.{greatest_count}
-use Rattle.im_theory_log.specs.Structure.{open_smo}
+use Rattle.im_theory_log.specs.PageCounts.{count_of, greatest_count, named_to}
+use Rattle.im_theory_log.specs.Structure.{open_smo, settled, taken_back}
 use Rattle.im_theory_log.specs.Transactions.{is_end, is_finished, last_of, undo_next_of}
 use Rattle.im_theory_log.proofs.Appends.{append_smo}
+use Rattle.im_theory_log.proofs.Fronts.{has_tree}
 use Rattle.im_theory_log.proofs.Histories.{below_older, whole_below}
 use Rattle.im_theory_log.proofs.Images.{images_last, images_open, images_undo_next, lawful_images}
+use Rattle.im_theory_log.proofs.Named.{named_up}
 use Rattle.im_theory_log.proofs.PageCounts.{count_front, count_low, count_more, count_said}
 use Rattle.im_theory_tree.specs.Good.{AllOf}
 use Rattle.im_theory_tree.specs.Theory.{page_tree}
@@ -60,6 +62,23 @@ open_wider t m l (u ∷ rest) n k low up is =
 new_in : (t m l : ℕ) (going : History) (p : ℕ) → m ≤ p → IsOpenBelow t m l going → IsNewIn t p going
 new_in t m l [] p le is = tt
 new_in t m l (u ∷ rest) p le is = let page : u.page < m = is.0.1 in (is.0.0, (λ e. omega (arith, page, le, e)), new_in t m l rest p le is.1)
+
+-- ---- what the log has named, and page counts
+
+named_behind : (newer log : History) → named_to log ≤ named_to (newer ++ log)
+named_behind [] log = omega arith
+named_behind (r ∷ newer) log = let rest = named_behind newer log in let here = named_up r (newer ++ log) in omega (arith, rest, here)
+
+none_open : (going : History) → length going ≡ 0 → going ≡ []
+none_open [] none = refl
+none_open (u ∷ rest) none = absurd (omega (arith, none))
+
+-- where no structure change is open, page 0 says a page count that the base said, or no more than behind all that the log has named
+count_named : (b : Base) (log : History) → IsLawful b page_tree log → open_smo log ≡ [] → (page_at b log 0).body.leftmost ≤ max (count_of b) (named_to log)
+count_named b log law closed =
+    let same : (settled b log 0).leftmost ≡ (page_at b log 0).body.leftmost = ap (λ (l : History). (taken_back l 0 (page_at b log 0).body).leftmost) closed in
+    let low = (has_tree b page_tree log law).named in
+    omega (arith, same, low)
 
 -- ---- Images
 
@@ -127,7 +146,10 @@ module _ (b : Base) (t undo_next : ℕ) (xs : List Numbered) (older : History) (
         (open_wider t w.bound (end_of b log) (open_smo log) w.bound (end_of b (images.images ++ log)) (omega arith) (images_end b images.images log images.all) w.opened);
     above = w.above;
     resume = ap (resumes (images.images ++ log) t) going ∙ images_resume b t w.bound images.images log (open_smo log) some images.all w.opened ∙ w.resume;
-    counted = λ any. (let up = count_front log (images.images ++ log) (record { newer = images.images; is = refl }) in let old = w.counted any in omega (arith, up, old));
+    counted = λ any. (let up = count_front (count_of b) log (images.images ++ log) (record { newer = images.images; is = refl }) in let old = w.counted any in omega (arith, up, old));
+    zeroth = w.zeroth;
+    named = λ k lt. (let up = named_behind images.images log in let old = w.named k lt in omega (arith, up, old));
+    bounded = λ any. (let up = named_behind images.images log in let old = w.bounded any in omega (arith, up, old));
   })
     where
       going : open_smo (images.images ++ log) ≡ open_smo log
@@ -141,9 +163,10 @@ module _ (b : Base) (t undo_next : ℕ) (xs : List Numbered) (older : History) (
   resumes_smo r m log [] high is = ap (undo_next_of t) (below_older r.lsn r log (omega arith) ∙ whole_below b r.lsn log high)
   resumes_smo r m log (s ∷ rest) high is = resumes_newer r m log s rest high is
 
-  pub smo_under_way : (i prev lsn : ℕ) (was now : Body) (log : History) → IsRising xs → AreCounted xs → i < length xs → now ≡ (image_at xs i).1.body → end_of b log < lsn → was ≡ (page_at b log (image_at xs i).0).body → IsUnderWay b t undo_next xs older i prev log
+  pub smo_under_way : (i prev lsn : ℕ) (was now : Body) (log : History) → IsRising xs → AreCounted xs → i < length xs → now ≡ (image_at xs i).1.body → end_of b log < lsn → was ≡ (page_at b log (image_at xs i).0).body
+      → ((image_at xs i).0 ≡ 0 → now.leftmost ≤ max was.leftmost ((image_at xs (length xs - 1)).0 + 1)) → IsUnderWay b t undo_next xs older i prev log
       → IsUnderWay b t undo_next xs older (i + 1) lsn (smo_at lsn t prev (image_at xs i).0 was now ∷ log)
-  smo_under_way i prev lsn was now log up all within made high before w =
+  smo_under_way i prev lsn was now log up all within made high before said w =
       let p = (image_at xs i).0 in
       let r = smo_at lsn t prev p was now in
       let low : w.bound ≤ p = w.above i (omega arith) within in
@@ -164,6 +187,9 @@ module _ (b : Base) (t undo_next : ℕ) (xs : List Numbered) (older : History) (
         above = λ k le lt. let less = rising_lt xs i k up (omega arith) lt in omega (arith, less);
         resume = resumes_smo r w.bound log (open_smo log) high w.opened ∙ w.resume;
         counted = λ any. counted_now;
+        zeroth = λ any. all.1;
+        named = named_now;
+        bounded = λ any. bounded_now;
       }
     where
       one_of : (n : ℕ) → n ≢ 0 → 1 ≤ n
@@ -173,19 +199,49 @@ module _ (b : Base) (t undo_next : ℕ) (xs : List Numbered) (older : History) (
       one_more n = omega arith
 
       -- page 0 is the first of them; each other one is below the count that it says, which the log has said
-      counted_here : (image_at xs i).0 < greatest_count log
+      counted_here : (image_at xs i).0 < greatest_count (count_of b) log
       counted_here = ⊎_elim
           (λ (some : 0 < i). let said = w.counted (omega (arith, some)) in omega (arith, said, last_most xs i up within, all.2))
-          (λ (none : i ≤ 0). let zero_is : i ≡ 0 = omega (arith, none) in omega (arith, ap (λ (k : ℕ). (image_at xs k).0) zero_is, all.1, count_low log))
+          (λ (none : i ≤ 0). let zero_is : i ≡ 0 = omega (arith, none) in omega (arith, ap (λ (k : ℕ). (image_at xs k).0) zero_is, all.1, count_low b log))
           (cases_lt 0 i)
 
-      counted_now : (image_at xs 0).1.body.leftmost ≤ greatest_count (smo_at lsn t prev (image_at xs i).0 was now ∷ log)
+      counted_now : (image_at xs 0).1.body.leftmost ≤ greatest_count (count_of b) (smo_at lsn t prev (image_at xs i).0 was now ∷ log)
       counted_now = ⊎_elim
-          (λ (some : 0 < i). let said = w.counted (omega (arith, some)) in omega (arith, said, count_more (smo_at lsn t prev (image_at xs i).0 was now) log))
+          (λ (some : 0 < i). let said = w.counted (omega (arith, some)) in omega (arith, said, count_more (count_of b) (smo_at lsn t prev (image_at xs i).0 was now) log))
           (λ (none : i ≤ 0).
           let zero_is : i ≡ 0 = omega (arith, none) in
           let page : (image_at xs i).0 ≡ 0 = ap (λ (k : ℕ). (image_at xs k).0) zero_is ∙ all.1 in
           let body : now.leftmost ≡ (image_at xs 0).1.body.leftmost = ap (λ (x : Body). x.leftmost) made ∙ ap (λ (k : ℕ). (image_at xs k).1.body.leftmost) zero_is in
-          let said : now.leftmost ≤ greatest_count (smo_at lsn t prev (image_at xs i).0 was now ∷ log) = count_said (smo_at lsn t prev (image_at xs i).0 was now) log page in
+          let said : now.leftmost ≤ greatest_count (count_of b) (smo_at lsn t prev (image_at xs i).0 was now ∷ log) = count_said (count_of b) (smo_at lsn t prev (image_at xs i).0 was now) log page in
           omega (arith, body, said))
+          (cases_lt 0 i)
+
+      named_log : named_to log ≤ named_to (smo_at lsn t prev (image_at xs i).0 was now ∷ log)
+      named_log = named_up (smo_at lsn t prev (image_at xs i).0 was now) log
+
+      named_here : (image_at xs i).0 < named_to (smo_at lsn t prev (image_at xs i).0 was now ∷ log)
+      named_here = omega arith
+
+      named_now : (k : ℕ) → k < i + 1 → (image_at xs k).0 < named_to (smo_at lsn t prev (image_at xs i).0 was now ∷ log)
+      named_now k lt = ⊎_elim
+          (λ (less : k < i). let old = w.named k less in let more = named_log in omega (arith, old, more))
+          (λ (most : i ≤ k).
+          let same : k ≡ i = omega (arith, lt, most) in
+          let page : (image_at xs k).0 ≡ (image_at xs i).0 = ap (λ (n : ℕ). (image_at xs n).0) same in
+          let here = named_here in
+          omega (arith, page, here))
+          (cases_lt k i)
+
+      bounded_now : (image_at xs 0).1.body.leftmost ≤ max (count_of b) (max (named_to (smo_at lsn t prev (image_at xs i).0 was now ∷ log)) ((image_at xs (length xs - 1)).0 + 1))
+      bounded_now = ⊎_elim
+          (λ (some : 0 < i). let old = w.bounded (omega (arith, some)) in let more = named_log in omega (arith, old, more))
+          (λ (none : i ≤ 0).
+          let zero_is : i ≡ 0 = omega (arith, none) in
+          let page : (image_at xs i).0 ≡ 0 = ap (λ (k : ℕ). (image_at xs k).0) zero_is ∙ all.1 in
+          let body : now.leftmost ≡ (image_at xs 0).1.body.leftmost = ap (λ (x : Body). x.leftmost) made ∙ ap (λ (k : ℕ). (image_at xs k).1.body.leftmost) zero_is in
+          let was_is : was.leftmost ≡ (page_at b log 0).body.leftmost = ap (λ (x : Body). x.leftmost) before ∙ ap (λ (p : ℕ). (page_at b log p).body.leftmost) page in
+          let low = count_named b log w.lawful (none_open (open_smo log) (w.count ∙ zero_is)) in
+          let high_bound = said page in
+          let more = named_log in
+          omega (arith, body, was_is, low, high_bound, more))
           (cases_lt 0 i)

@@ -1,6 +1,6 @@
 -- A structure change that is closed.
 use Rattle.std.proofs.Common.{◌≡◌, ◌≢◌, ℕ, ◌<◌, ◌≤◌, false, List, [], ◌∷◌, ◌++◌, length, Option, None, refl, sym, ap, subst, ◌∙◌, arith, ◌==◌}
-use Rattle.std.specs.Prelude.{◌||◌}
+use Rattle.std.specs.Prelude.{◌||◌, ◌-◌, max}
 use Rattle.std.proofs.Math.Path.{fun_ext}
 use Rattle.std.proofs.lemmas.Bool.{cond-true, cond-false, eq-eqb, ne_eqb}
 use Rattle.std.specs.FinMap.{entries}
@@ -8,6 +8,7 @@ use Rattle.im_base_types.specs.Changes.{Effect}
 use Rattle.im_base_types.specs.Maps.{IndexMap}
 use Rattle.im_base_types.specs.Records.{What, InsertKey, DeleteKey, UndoInsert, UndoDelete, Smo, UndoSmo, DummyClr, Commit, End, Image, Checkpoint, Unreadable, Logged}
 use Rattle.im_theory_log.specs.Histories.{Base, History, end_of, page_at}
+use Rattle.im_theory_log.specs.PageCounts.{count_of, named_to}
 use Rattle.im_theory_log.specs.Lawful.{Follows, IsLawful, MayDummyClr, resumes}
 use Rattle.im_theory_log.specs.Structure.{open_smo, settled, taken_back}
 use Rattle.im_theory_log.specs.Transactions.{committed, committed_after, contents, contents_after, is_end, is_finished, last_of, net, stack_after, to_undo, undo_from, undo_next_of}
@@ -16,7 +17,7 @@ use Rattle.im_theory_log.proofs.Fronts.{has_tree}
 use Rattle.im_theory_tree.specs.Levels.{Pages, walk}
 use Rattle.im_theory_tree.specs.Good.{AllOf, IsGoodTree}
 use Rattle.im_theory_tree.specs.Theory.{page_tree}
-use Rattle.im_smo_pages.specs.Images.{Numbered}
+use Rattle.im_smo_pages.specs.Images.{Numbered, image_at}
 use Rattle.im_smo_log.specs.Logged.{dummy_at}
 use Rattle.im_smo_log.specs.Changes.{IsOfChange, GrowsByChange, marks, image_marks, IsOpenBelow, IsUnderWay, IsSameOf}
 
@@ -68,9 +69,9 @@ pub record IsClosed (b : Base) (t undo_next lsn : ℕ) (xs : List Numbered) (i :
 
 pub closes : (b : Base) (t undo_next : ℕ) (xs : List Numbered) (older : History) (i prev lsn : ℕ) (log : History) → t ≢ 0 → 1 ≤ i → IsUnderWay b t undo_next xs older i prev log → end_of b log < lsn
     → IsLawful b page_tree older → open_smo older ≡ [] → IsGoodTree (logged_bodies b log) [] → walk (logged_bodies b log) ≡ walk (logged_bodies b older)
-    → IsClosed b t undo_next lsn xs i older (dummy_at lsn t prev undo_next ∷ log)
-closes b t undo_next xs older i prev lsn log some any w high was closed good same = record {
-  lawful = append_dummy b page_tree log r w.lawful follows refl good (same ∙ sym (settled_walk b t older log was closed w.lawful w.grows));
+    → i ≡ length xs → (page_at b log 0).body.leftmost ≡ (image_at xs 0).1.body.leftmost → IsClosed b t undo_next lsn xs i older (dummy_at lsn t prev undo_next ∷ log)
+closes b t undo_next xs older i prev lsn log some any w high was closed good same whole first = record {
+  lawful = append_dummy b page_tree log r w.lawful follows refl good (same ∙ sym (settled_walk b t older log was closed w.lawful w.grows)) named;
   grows = record { more = r ∷ w.grows.more; is = ap (λ (l : History). r ∷ l) w.grows.is; all = (refl, w.grows.all) };
   order = ap (λ (ms : List (Option ℕ)). None ∷ ms) w.order;
   last = cond-true (t == t) lsn (last_of t log) (eq-eqb t t refl);
@@ -81,6 +82,13 @@ closes b t undo_next xs older i prev lsn log some any w high was closed good sam
   where
     r : Logged
     r = dummy_at lsn t prev undo_next
+
+    -- the last page is logged, so that the page count is no more than behind all that the log has named
+    named : (page_at b log 0).body.leftmost ≤ max (count_of b) (named_to log)
+    named =
+        let last_named = w.named (length xs - 1) (omega (arith, any, whole)) in
+        let bounded = w.bounded any in
+        omega (arith, first, last_named, bounded)
 
     may : (going : History) → open_smo log ≡ going → IsOpenBelow t w.bound (end_of b log) going → length going ≡ i → resumes log t going ≡ undo_next → MayDummyClr r log
     may [] going is count resume = absurd (omega (arith, count, any))

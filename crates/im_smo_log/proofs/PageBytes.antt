@@ -3,10 +3,10 @@ use Rattle.std.proofs.Common.{◌≡◌, ℕ, ◌+◌, ◌-◌, Bool, true, fals
 use Rattle.std.specs.Bool.{Decides}
 use Rattle.std.proofs.lemmas.List.{get_or-append-add, get_or-drop, length-drop, length-append, take_all}
 use Rattle.im_base_types.specs.Pages.{Page}
-use Rattle.im_page_form.specs.Number.{SameOutside}
-use Rattle.im_page_form.specs.Page.{IsForm, said_by, is_form, page_of}
+use Rattle.im_theory_page.specs.Number.{SameOutside}
+use Rattle.im_theory_page.specs.Page.{IsForm, said_by, is_form, page_of}
 use Rattle.im_page.proofs.FieldLemmas.{lsn_written}
-use Rattle.im_page_form.proofs.FormLemmas.{form_decided, page_of_form}
+use Rattle.im_theory_page.proofs.FormLemmas.{form_decided, page_of_form}
 use Rattle.im_log.specs.Whats.{page_behind}
 
 form_of : (bytes : List ℕ) (p : Page) → page_of bytes ≡ Some p → IsForm bytes × (said_by bytes ≡ p)

@@ -1,5 +1,6 @@
 -- The record of one page.
-use Rattle.std.proofs.Common.{◌≡◌, ◌≢◌, ℕ, List, Option, Some, None, sym, ap, subst, ◌∙◌}
+use Rattle.std.proofs.Common.{◌≡◌, ◌≢◌, ◌≤◌, ◌+◌, ℕ, List, Option, Some, None, sym, ap, subst, ◌∙◌}
+use Rattle.std.specs.Prelude.{max}
 use Rattle.im_base_types.specs.Pages.{Body, Page}
 use Rattle.im_base_types.specs.Records as whats
 use Rattle.im_base_types.specs.Records.{What, Logged}
@@ -29,14 +30,15 @@ pub smo_leaves : (w : What) (was now : Body) → w ≡ whats.Smo was now → aft
 smo_leaves w was now is none = let clash : Some now ≡ None = ap after_in (sym is) ∙ none in cc clash
 
 module _ {D : Type 0} (d : Ghosts D) (b : Base) (base : ℕ) where
-  pub page_logged : (s t : Writer) (n prev p : ℕ) (before after : List ℕ) (now : Body) (lsn : ℕ) (old : D) (w : PageWriter) (disk : D) → Keeps b s t → what_of (Smo n prev p before after) ≡ whats.Smo (s.pages p).page.body now
-      → ChangedFrom d b base t (Smo n prev p before after) lsn old w disk → PageLogged d b base s n prev p now lsn w disk
-  page_logged s t n prev p before after now lsn old w disk keeps what done = record {
+  pub page_logged : (s t : Writer) (n prev p highest : ℕ) (before after : List ℕ) (now : Body) (lsn : ℕ) (old : D) (w : PageWriter) (disk : D) → (p ≡ 0 → now.leftmost ≤ max (s.pages p).page.body.leftmost (highest + 1)) → Keeps b s t → what_of (Smo n prev p before after) ≡ whats.Smo (s.pages p).page.body now
+      → ChangedFrom d b base t (Smo n prev p before after) lsn old w disk → PageLogged d b base s n prev p highest now lsn w disk
+  page_logged s t n prev p highest before after now lsn old w disk counted keeps what done = record {
     before = done.before;
     keeps = keeps_then b s t done.before keeps done.keeps;
     durable = done.logged.durable;
     grows = done.logged.grows;
     high = done.logged.high;
+    counted = counted;
     known = done.logged.known;
     stands = subst (λ (v : What). StandsAs d b base (record (changed_as done.logged.known (record (logged_at lsn (Smo n prev p before after)) { what = v }) done.before) { durable = done.logged.durable }) w disk) what done.logged.stands;
   }

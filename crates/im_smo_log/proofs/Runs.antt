@@ -1,5 +1,5 @@
 -- A writer of pages through a structure change.
-use Rattle.std.proofs.Common.{◌≡◌, ◌≢◌, ◌⊎◌, ℕ, zero, suc, ◌+◌, ◌<◌, ◌≤◌, Bool, true, false, List, [], ◌∷◌, length, drop, Option, Some, None, inl, inr, refl, sym, ap, subst, ◌∙◌, arith, ◌==◌, if◌then◌else◌}
+use Rattle.std.proofs.Common.{◌≡◌, ◌≢◌, ◌⊎◌, ℕ, zero, suc, ◌+◌, ◌<◌, ◌≤◌, ◌-◌, Bool, true, false, List, [], ◌∷◌, length, drop, Option, Some, None, inl, inr, refl, sym, ap, subst, ◌∙◌, arith, ◌==◌, if◌then◌else◌}
 use Rattle.std.proofs.Math.Path.{fun_ext}
 use Rattle.std.proofs.lemmas.Bool.{cases_eq, cond-true, cond-false, eq-eqb, ne_eqb}
 use Rattle.std.proofs.lemmas.List.{drop_more, drop_all}
@@ -18,7 +18,7 @@ use Rattle.im_base_disk.specs.declared.disk.Disk.{Ghosts}
 use Rattle.im_base_disk.specs.Disk.{Files}
 use Rattle.im_base_disk.proofs.Runs.{then_on, weakened}
 use Rattle.im_log.proofs.Above.{front_then}
-use Rattle.im_page_form.specs.Header.{initial}
+use Rattle.im_theory_page.specs.Header.{initial}
 use Rattle.im_log_record.specs.Entry as entries
 use Rattle.im_page_writer.specs.declared.page_writer.PageWriter.{PageWriter}
 use Rattle.im_page_file.specs.Stands.{IsCovered}
@@ -31,7 +31,8 @@ use Rattle.im_page_writer.proofs.Writers.{goes_on_start}
 use Rattle.im_theory_tree.specs.Levels.{Pages, walk}
 use Rattle.im_theory_tree.specs.Good.{AllOf, IsGoodTree}
 use Rattle.im_theory_tree.specs.Theory.{page_tree}
-use Rattle.im_smo_pages.specs.Images.{Numbered, IsAbove, IsRising, image_of, image_at}
+use Rattle.im_theory_tree.specs.Plans.{applied}
+use Rattle.im_smo_pages.specs.Images.{Numbered, IsAbove, IsRising, image_of, image_at, plan_of}
 use Rattle.im_smo_pages.specs.Changed.{SamePages}
 use Rattle.im_smo_pages.proofs.ImageLemmas.{body_or, applied_image}
 use Rattle.im_smo_pages.proofs.Updates.{at_other}
@@ -109,6 +110,13 @@ changed_bodies known lsn t prev p was now s q = by (p == q) refl
         ap (λ (x : PageState). x.page.body) (cond-false (p == q) (changed_page_as known (smo_at lsn t prev p was now) (s.pages q)) (s.pages q) is)
         ∙ sym (cond-false (p == q) now (bodies (pages_of s) q) is)
 
+-- the first of them, page 0, is what is seen of it
+first_leftmost : (xs : List Numbered) (pages : Pages) → 1 ≤ length xs → (image_at xs 0).0 ≡ 0 → (applied pages (plan_of pages xs) 0).leftmost ≡ (image_at xs 0).1.body.leftmost
+first_leftmost [] pages some zeroth = absurd (omega (arith, some))
+first_leftmost (x ∷ rest) pages some zeroth =
+    ap (λ (c : Body). c.leftmost) (applied_image pages (x ∷ rest) 0)
+    ∙ ap (λ (o : Option Page). (body_or o (pages 0)).leftmost) (cond-true (x.0 == 0) (Some x.1) (image_of rest 0) (eq-eqb x.0 0 zeroth))
+
 module _ {D : Type 0} (d : Ghosts D) (b : Base) (base : ℕ) where
   -- the writer's pages are those of its log
   page_is : (s : Writer) (e : ℕ) (w : PageWriter) (disk : D) → StandsAs d b base s w disk → s.redo_end ≡ Some e → (p : ℕ) → (s.pages p).page ≡ page_at b s.log p
@@ -157,6 +165,9 @@ module _ {D : Type 0} (d : Ghosts D) (b : Base) (base : ℕ) where
             above = λ k le lt. omega arith;
             resume = ap (λ (l : History). resumes s.log t l) may.closed ∙ may.undo;
             counted = λ any. absurd (omega (arith, any));
+            zeroth = λ any. absurd (omega (arith, any));
+            named = λ k lt. absurd (omega (arith, lt));
+            bounded = λ any. absurd (omega (arith, any));
           };
           pages = λ p. refl;
           stops = left_grown s t s disk disk (front_self s.durable) may.lawful grows
@@ -167,7 +178,7 @@ module _ {D : Type 0} (d : Ghosts D) (b : Base) (base : ℕ) where
     pages_stops i prev old w mid new so stops = stops_then s t old mid new so.stops (left_grown s t so.now mid new so.durable so.log.lawful so.log.grows stops)
 
     pub pages_next : (i prev lsn : ℕ) (old : D) (w : PageWriter) (mid : D) (v : PageWriter) (new : D) → t ≢ 0 → IsRising xs → AreCounted xs → i < length xs → (so : PagesLogged d b base s e xs t undo_next i prev old w mid)
-        → PageLogged d b base so.now t prev (image_at xs i).0 (image_at xs i).1.body lsn v new → LeavesGrown d b base so.now mid new → PagesLogged d b base s e xs t undo_next (i + 1) lsn old v new
+        → PageLogged d b base so.now t prev (image_at xs i).0 (image_at xs (length xs - 1)).0 (image_at xs i).1.body lsn v new → LeavesGrown d b base so.now mid new → PagesLogged d b base s e xs t undo_next (i + 1) lsn old v new
     pages_next i prev lsn old w mid v new some up all within so done stops = record {
       now = after;
       stands = done.stands;
@@ -175,7 +186,7 @@ module _ {D : Type 0} (d : Ghosts D) (b : Base) (base : ℕ) where
       point = done.keeps.point ∙ so.point;
       durable = front_then s.durable now.durable done.durable so.durable (front_then now.durable done.before.durable done.durable done.keeps.durable done.grows);
       log = smo_under_way b t undo_next xs s.log some i prev lsn (now.pages p).page.body x.1.body done.before.log up all within refl done.high
-          (ap (λ (g : Page). g.body) (page_is now e w mid so.stands so.over p ∙ same_page))
+          (ap (λ (g : Page). g.body) (page_is now e w mid so.stands so.over p ∙ same_page)) done.counted
           (images_under_way b t undo_next xs s.log some i prev now.log done.before.log done.keeps.log so.log);
       pages = λ q. seen_step now after x (drop (i + 1) xs) above step q ∙ ap (λ (l : List Numbered). seen (pages_of now) l q) (sym front) ∙ so.pages q;
       stops = pages_stops i prev old w mid new so stops;
@@ -226,7 +237,8 @@ module _ {D : Type 0} (d : Ghosts D) (b : Base) (base : ℕ) where
     change_done last prev lsn start old w mid v new some may so done =
         let log = closes b t undo_next xs s.log (length xs) prev lsn now.log some may.some so.log done.high may.lawful may.closed
         (subst (λ (pages : Pages). IsGoodTree pages []) (sym logged) may.good)
-        (ap walk logged ∙ may.same ∙ sym (ap walk was)) in
+        (ap walk logged ∙ may.same ∙ sym (ap walk was)) refl
+        (ap (λ (f : Pages). (f 0).leftmost) logged ∙ first_leftmost xs (bodies (pages_of s)) may.some (so.log.zeroth may.some)) in
         record {
           now = record (appended (dummy_at lsn t prev undo_next) now) { durable = done.durable };
           stands = done.stands;

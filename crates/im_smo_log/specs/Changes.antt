@@ -1,11 +1,11 @@
 -- What a structure change asks, how it stands on its way, and what it keeps.
-use Rattle.std.specs.Prelude.{◌≡◌, ◌≤◌, ◌<◌, ◌⊎◌, ◌-◌, ℕ, zero, suc, false, List, [], ◌∷◌, ◌++◌, length, drop, Option, Some, None, Result, IfErr}
+use Rattle.std.specs.Prelude.{◌≡◌, ◌≤◌, ◌<◌, ◌⊎◌, ◌+◌, ◌-◌, max, ℕ, zero, suc, false, List, [], ◌∷◌, ◌++◌, length, drop, Option, Some, None, Result, IfErr}
 use Rattle.im_base_types.specs.declared.fault.Fault.{Fault}
 use Rattle.im_base_types.specs.declared.fault.Fault.TheVariants.{Failed}
 use Rattle.im_base_types.specs.Records.{What, InsertKey, DeleteKey, UndoInsert, UndoDelete, Smo, UndoSmo, DummyClr, Commit, End, Image, Checkpoint, Unreadable, Logged}
 use Rattle.im_theory_log.specs.Histories.{Base, History, IsFront, end_of}
 use Rattle.im_theory_log.specs.Lawful.{IsLawful, resumes}
-use Rattle.im_theory_log.specs.PageCounts.{greatest_count}
+use Rattle.im_theory_log.specs.PageCounts.{count_of, greatest_count, named_to}
 use Rattle.im_theory_log.specs.Structure.{open_smo}
 use Rattle.im_theory_log.specs.Transactions.{last_of, undo_next_of, to_undo, is_finished}
 use Rattle.im_theory_log.specs.Writer.{Writer}
@@ -94,7 +94,11 @@ pub record IsUnderWay (b : Base) (t undo_next : ℕ) (images : List Numbered) (o
   pub above : (k : ℕ) → i ≤ k → k < length images → bound ≤ (image_at images k).0
   pub resume : resumes log t (open_smo log) ≡ undo_next
   -- the first of them is logged, and the log has said its page count
-  pub counted : 1 ≤ i → (image_at images 0).1.body.leftmost ≤ greatest_count log
+  pub counted : 1 ≤ i → (image_at images 0).1.body.leftmost ≤ greatest_count (count_of b) log
+  -- it is page 0, with a page count that the base said, or that is no more than behind all that the log has named, or will
+  pub zeroth : 1 ≤ i → (image_at images 0).0 ≡ 0
+  pub named : (k : ℕ) → k < i → (image_at images k).0 < named_to log
+  pub bounded : 1 ≤ i → (image_at images 0).1.body.leftmost ≤ max (count_of b) (max (named_to log) ((image_at images (length images - 1)).0 + 1))
 
 -- ---- a writer
 

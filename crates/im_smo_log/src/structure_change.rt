@@ -1,6 +1,6 @@
 //! A structure change, logged page by page and closed.
 
-ghost use Rattle.std.specs.Prelude.{◌≡◌, ◌≢◌, ◌<◌, ◌≤◌, ◌↔◌, ℕ, true, false, Some, length, IfErr, IsTrue};
+ghost use Rattle.std.specs.Prelude.{◌≡◌, ◌≢◌, ◌<◌, ◌≤◌, ◌↔◌, ◌-◌, ℕ, true, false, Some, length, IfErr, IsTrue};
 ghost use Rattle.im_base_types.specs.declared.fault.Fault.TheVariants.{Failed, Memory};
 ghost use Rattle.im_theory_log.specs.Histories.{Base};
 ghost use Rattle.im_theory_log.specs.Writer.{Writer};
@@ -56,10 +56,11 @@ fn log_at<D: Disk>(
     requires within { i < length images.now }
     ensures outcome { Logs D.Disk true mild writer.old disk.old writer.new disk.new (fault_of result) }
     ensures kept { (b : Base) (base : ℕ) (s : Writer) (e : ℕ) → StandsAs D.Disk b base s writer.old disk.old → s.redo_end ≡ Some e
-        → ImageLogKept D.Disk b base s transaction prev (image_at images.now i).0 (image_at images.now i).1.body disk.old writer.new disk.new result }
+        → ImageLogKept D.Disk b base s transaction prev (image_at images.now i).0 (image_at images.now (length images.now - 1)).0 (image_at images.now i).1.body disk.old writer.new disk.new result }
     ensures first { IfErr result (λ e. e ≡ Memory → i ≡ 0) }
     ensures later { IfErr result (λ e. e ≡ Failed → 1 ≤ i) }
 {
+    let highest = images.number(images.len() - 1);
     match log_page(
         writer,
         disk,
@@ -67,6 +68,7 @@ fn log_at<D: Disk>(
         prev,
         images.number(i),
         images.page(i),
+        highest,
     ) {
         Ok(lsn) => Ok(lsn),
         Err(fault) => Err(refused_at(i, fault)),
@@ -104,7 +106,8 @@ fn log_pages<D: Disk>(
 ///
 /// Refused `Memory` with all as it was, and `Failed` where memory is wanted behind the first record; `LogFull`, `Device`, or
 /// `NotAStore` where a page's bytes are none. Images that are none of a plan are refused `Memory` too: each plan takes pages or gives some
-/// back, so that page 0 is among its images, and names no page past the page count that it says there. Behind a refusal other than `Memory` the structure change may be open in the log, so that
+/// back, so that page 0 is among its images, names no page past the page count that it says there, and where that count grows has an image of
+/// the page below it. Behind a refusal other than `Memory` the structure change may be open in the log, so that
 /// the transaction can do nothing but be undone by a restart.
 pub fn run<D: Disk>(
     writer: &mut PageWriter,

@@ -3,7 +3,7 @@ use Rattle.std.proofs.Common.{◌≡◌, ℕ, zero, suc, ◌≤◌, List, Some, 
 use Rattle.im_base_types.specs.Pages.{Body, Page}
 use Rattle.im_theory_log.specs.Tree.{with_body}
 use Rattle.im_base_types.specs.declared.page_kind.PageKind.TheVariants.{Free}
-use Rattle.im_page_form.specs.Header.{empty_body}
+use Rattle.im_theory_page.specs.Header.{empty_body}
 use Rattle.im_theory_tree.specs.Levels.{Pages}
 use Rattle.im_smo_pages.specs.Bodies.{with_prev, with_next, meta_without_first, meta_with_count, meta_with_first}
 use Rattle.im_smo_pages.specs.Images.{Numbered, IsRising, image_of, put_image, held, KeepsAll}

@@ -5,7 +5,7 @@ use Rattle.im_base_types.specs.Keys.{Key}
 use Rattle.im_base_types.specs.Pages.{Entry, Body}
 use Rattle.im_theory_log.specs.Tree.{with_body}
 use Rattle.im_base_types.specs.declared.page_kind.PageKind.TheVariants.{Leaf, Inner}
-use Rattle.im_page_form.specs.Entry.{entry_at}
+use Rattle.im_theory_page.specs.Entry.{entry_at}
 use Rattle.im_theory_tree.specs.Levels.{Pages, Node, child_of, children, below, leaves_under, height}
 use Rattle.im_theory_tree.specs.Same.{SameTree, SameLinks}
 use Rattle.im_theory_tree.specs.Good.{times, IsGoodTree}

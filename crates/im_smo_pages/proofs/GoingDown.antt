@@ -1,12 +1,12 @@
 -- Behind a split of a key's leaf among the images: its way leads to a leaf with room.
-use Rattle.std.proofs.Common.{◌≡◌, ℕ, zero, suc, ◌≤◌, true, List, ◌∷◌, take, drop, Some, refl, sym, ap, subst, ◌∙◌, ⊎_elim}
+use Rattle.std.proofs.Common.{◌≡◌, ◌≢◌, ℕ, zero, suc, ◌≤◌, true, List, ◌∷◌, take, drop, Some, refl, sym, ap, subst, ◌∙◌, ⊎_elim}
 use Rattle.im_base_types.specs.Keys.{Key, IsBelow}
 use Rattle.im_base_types.specs.Pages.{Entry, Body}
 use Rattle.im_theory_log.specs.Tree.{with_body}
 use Rattle.im_base_types.specs.declared.page_kind.PageKind.TheVariants.{Leaf}
-use Rattle.im_page_form.specs.Entry.{entry_at, Rises}
-use Rattle.im_page_form.specs.Child.{IsChild}
-use Rattle.im_page_form.specs.Split.{HasRoomForAny}
+use Rattle.im_theory_page.specs.Entry.{entry_at, Rises}
+use Rattle.im_theory_page.specs.Child.{IsChild}
+use Rattle.im_theory_page.specs.Split.{HasRoomForAny}
 use Rattle.im_theory_tree.specs.Levels.{Pages, height}
 use Rattle.im_theory_tree.specs.Good.{AtOrAbove, IsGoodTree}
 use Rattle.im_theory_tree.specs.Search.{IsOnWay}
@@ -15,9 +15,11 @@ use Rattle.im_theory_tree.specs.KeySplits.{KeepsWay}
 use Rattle.im_theory_tree.proofs.LeafSplitWay.{key_leaf_split}
 use Rattle.im_theory_tree.proofs.RootSplitWay.{key_root_leaf_split}
 use Rattle.im_smo_pages.specs.Bodies.{leaf_body, with_separator}
-use Rattle.im_smo_pages.specs.Images.{Numbered, held}
+use Rattle.im_smo_pages.specs.Images.{Numbered, Has, held}
 use Rattle.im_smo_pages.specs.Changed.{linked_prev}
 use Rattle.im_smo_pages.specs.OnImages.{PartsLeaf, PartsRootLeaf, Becomes}
+use Rattle.im_theory_tree.specs.Ways.{KeepsWays}
+use Rattle.im_theory_tree.proofs.KeyWays.{key_leaf_ways, key_root_leaf_ways}
 use Rattle.im_smo_pages.specs.OnWay.{IsHalf, HasRoomIn}
 use Rattle.im_smo_pages.proofs.Updates.{at_other}
 use Rattle.im_smo_pages.proofs.LeafSplitSteps.{leaf_apart, leaf_step}
@@ -26,19 +28,25 @@ use Rattle.im_theory_tree.proofs.Way.{step_way}
 use Rattle.im_smo_pages.proofs.RootSplitSteps.{root_leaf_step}
 use Rattle.im_smo_pages.proofs.Becoming.{leaf_then_link}
 
+-- both parts are among the images, so the one is in whose range the key lies
+pub has_half : (new : List Numbered) (p q : ℕ) {s key : Key} {m : ℕ} → Has new p → Has new q → IsHalf s key p q m → Has new m
+has_half new p q {s} {key} {m} left right half = ⊎_elim (λ (x : (m ≡ p) × IsBelow key s). subst (Has new) (sym x.0) left) (λ (x : (m ≡ q) × AtOrAbove (Some s) key). subst (Has new) (sym x.0) right) half
+
 room_at : (old new : Pages) (spare : List ℕ) (key : Key) (es : List Entry) (p q n m : ℕ) → (new p).entries ≡ take n es → (new q).entries ≡ drop n es → SplitsWell true es n
-    → KeepsWay old new spare zero key p q (entry_at es n).0 → IsHalf (entry_at es n).0 key p q m → HasRoomIn old new spare key m
-room_at old new spare key es p q n m left right well keeps half =
+    → KeepsWay old new spare zero key p q (entry_at es n).0 → (g : ℕ) → KeepsWays old new (λ x. x ≢ g) → IsHalf (entry_at es n).0 key p q m → HasRoomIn old new spare key g m
+room_at old new spare key es p q n m left right well keeps g ways half =
     ⊎_elim
-    (λ (x : (m ≡ p) × IsBelow key (entry_at es n).0). subst (HasRoomIn old new spare key) (sym x.0) (record {
+    (λ (x : (m ≡ p) × IsBelow key (entry_at es n).0). subst (HasRoomIn old new spare key g) (sym x.0) (record {
       good = keeps.good;
       walks = keeps.walks;
+      ways = ways;
       way = keeps.low x.1;
       room = subst (HasRoomForAny true) (sym left) well.left_room;
     }))
-    (λ (x : (m ≡ q) × AtOrAbove (Some (entry_at es n).0) key). subst (HasRoomIn old new spare key) (sym x.0) (record {
+    (λ (x : (m ≡ q) × AtOrAbove (Some (entry_at es n).0) key). subst (HasRoomIn old new spare key g) (sym x.0) (record {
       good = keeps.good;
       walks = keeps.walks;
+      ways = ways;
       way = keeps.high x.1;
       room = subst (HasRoomForAny true) (sym right) well.right_room;
     }))
@@ -47,28 +55,28 @@ room_at old new spare key es p q n m left right well keeps half =
 pub leaf_has_room : (a b c : List Numbered) (page : Body) (parent p q n m : ℕ) (key : Key) (pages : Pages) (spare : List ℕ) → PartsLeaf a b page parent p q n
     → Becomes b c (λ h. linked_prev h page.next q) → Rises page.entries → IsHalf (entry_at page.entries n).0 key p q m
     → IsGoodTree (held pages a) (q ∷ spare) → IsOnWay (held pages a) (suc zero) key parent → IsChild (held pages a parent) key p → held pages a p ≡ page
-    → HasRoomIn (held pages a) (held pages c) spare key m
+    → HasRoomIn (held pages a) (held pages c) spare key p m
 leaf_has_room a b c page parent p q n m key pages spare parts linked rises half good way goes page_is =
     subst (λ (y : Body). PartsLeaf a b y parent p q n → Becomes b c (λ h. linked_prev h y.next q) → Rises y.entries → IsHalf (entry_at y.entries n).0 key p q m
-    → HasRoomIn (held pages a) (held pages c) spare key m) page_is
+    → HasRoomIn (held pages a) (held pages c) spare key p m) page_is
     (λ parts0 linked0 rises0 half0.
     let new_is = leaf_then_link a b c (held pages a p) parent p q n pages parts0 linked0 refl in
     let split = leaf_step (held pages a) (held pages c) spare key parent p q n good way goes (parts0.rises pages) rises0 parts0.at new_is in
     let f = split.pages_split in
     room_at (held pages a) (held pages c) spare key (held pages a p).entries p q n m f.left_entries f.right_entries parts0.at.well
-    (key_leaf_split (held pages a) (held pages c) spare key parent p q n split) half0)
+    (key_leaf_split (held pages a) (held pages c) spare key parent p q n split) p (key_leaf_ways (held pages a) (held pages c) spare key parent p q n split) half0)
     parts linked rises half
 
 pub root_has_room : (a b : List Numbered) (page : Body) (l r n m : ℕ) (key : Key) (pages : Pages) (spare : List ℕ) → PartsRootLeaf a b page l r n → Rises page.entries
     → IsHalf (entry_at page.entries n).0 key l r m → IsGoodTree (held pages a) (l ∷ r ∷ spare) → height (held pages a) ≡ zero → held pages a 1 ≡ page
-    → HasRoomIn (held pages a) (held pages b) spare key m
+    → HasRoomIn (held pages a) (held pages b) spare key 1 m
 root_has_room a b page l r n m key pages spare parts rises half good tall page_is =
-    subst (λ (y : Body). PartsRootLeaf a b y l r n → Rises y.entries → IsHalf (entry_at y.entries n).0 key l r m → HasRoomIn (held pages a) (held pages b) spare key m) page_is
+    subst (λ (y : Body). PartsRootLeaf a b y l r n → Rises y.entries → IsHalf (entry_at y.entries n).0 key l r m → HasRoomIn (held pages a) (held pages b) spare key 1 m) page_is
     (λ parts0 rises0 half0.
     let split = root_leaf_step (held pages a) (held pages b) spare l r n good tall rises0 parts0.at (parts0.pages pages refl) in
     let f = split.pages_split in
     room_at (held pages a) (held pages b) spare key (held pages a 1).entries l r n m f.left_entries f.right_entries parts0.at.well
-    (key_root_leaf_split (held pages a) (held pages b) spare key l r n split) half0)
+    (key_root_leaf_split (held pages a) (held pages b) spare key l r n split) 1 (key_root_leaf_ways (held pages a) (held pages b) spare l r n split) half0)
     parts rises half
 
 -- the leaf behind a leaf that is split is a leaf still

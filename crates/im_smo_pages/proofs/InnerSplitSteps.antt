@@ -4,8 +4,8 @@ use Rattle.im_base_types.specs.Keys.{Key}
 use Rattle.im_base_types.specs.Pages.{Body}
 use Rattle.im_theory_log.specs.Tree.{with_body, with_entries}
 use Rattle.im_base_types.specs.declared.page_kind.PageKind.TheVariants.{Inner}
-use Rattle.im_page_form.specs.Entry.{entry_at, Rises}
-use Rattle.im_page_form.specs.Child.{IsChild}
+use Rattle.im_theory_page.specs.Entry.{entry_at, Rises}
+use Rattle.im_theory_page.specs.Child.{IsChild}
 use Rattle.im_theory_tree.specs.Levels.{Pages}
 use Rattle.im_theory_tree.specs.Good.{IsGoodTree}
 use Rattle.im_theory_tree.specs.Search.{IsOnWay}

@@ -13,3 +13,4 @@ pub mod Parting
 pub mod Becoming
 pub mod GoingDown
 pub mod KeepingTrees
+pub mod PlanWays

@@ -6,11 +6,11 @@ use Rattle.im_base_types.specs.Keys.{Key, IsBelow}
 use Rattle.im_base_types.specs.Pages.{Entry, Body, Page}
 use Rattle.im_base_types.specs.declared.page_kind.PageKind.{PageKind}
 use Rattle.im_base_types.specs.declared.page_kind.PageKind.TheVariants.{Inner}
-use Rattle.im_page_form.specs.Entry.{entry_at, no_entry, Parts, size, taken}
-use Rattle.im_page_form.specs.Header.{FitsKind}
-use Rattle.im_page_form.specs.Page.{is_leaf_kind, with_entries}
-use Rattle.im_page_form.specs.Split.{IsSplitPoint, HasRoomForAny}
-use Rattle.im_page_form.proofs.Order.{below_irrefl}
+use Rattle.im_theory_page.specs.Entry.{entry_at, no_entry, Parts, size, taken}
+use Rattle.im_theory_page.specs.Header.{FitsKind}
+use Rattle.im_theory_page.specs.Page.{is_leaf_kind, with_entries}
+use Rattle.im_theory_page.specs.Split.{IsSplitPoint, HasRoomForAny}
+use Rattle.im_theory_page.proofs.Order.{below_irrefl}
 use Rattle.im_theory_tree.proofs.LookupLemmas.{put_at}
 use Rattle.im_smo_pages.specs.Bodies.{says, inner_body, with_separator, HasNoKey}
 use Rattle.im_smo_pages.specs.Parts.{SplitsAt, TakesSeparator}

@@ -2,7 +2,7 @@
 use Rattle.std.proofs.Common.{◌≡◌, ℕ, ◌+◌, List, [], ◌∷◌, take, drop, Some, sym, ap, subst, ◌∙◌}
 use Rattle.im_base_types.specs.Pages.{Body, Page}
 use Rattle.im_theory_log.specs.Tree.{with_body, with_entries}
-use Rattle.im_page_form.specs.Entry.{entry_at, Rises}
+use Rattle.im_theory_page.specs.Entry.{entry_at, Rises}
 use Rattle.im_theory_tree.specs.Levels.{Pages}
 use Rattle.im_smo_pages.specs.Bodies.{leaf_body, inner_body, raised, with_separator}
 use Rattle.im_smo_pages.specs.Parts.{LeafSplit, InnerSplit, RootLeafSplit, RootInnerSplit}

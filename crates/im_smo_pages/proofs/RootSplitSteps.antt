@@ -3,7 +3,7 @@ use Rattle.std.proofs.Common.{◌≡◌, ℕ, zero, suc, ◌+◌, ◌≤◌, Lis
 use Rattle.im_base_types.specs.Pages.{Body}
 use Rattle.im_theory_log.specs.Tree.{with_body, with_entries}
 use Rattle.im_base_types.specs.declared.page_kind.PageKind.TheVariants.{Leaf, Inner}
-use Rattle.im_page_form.specs.Entry.{entry_at, Rises}
+use Rattle.im_theory_page.specs.Entry.{entry_at, Rises}
 use Rattle.im_theory_tree.specs.Levels.{Pages, height}
 use Rattle.im_theory_tree.specs.Good.{times, IsGoodTree}
 use Rattle.im_theory_tree.specs.KeySplits.{SplitsRootLeafPages, SplitsRootInnerPages, SplitsKeyRootLeaf, SplitsKeyRootInner}

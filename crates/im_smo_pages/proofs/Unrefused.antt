@@ -3,10 +3,10 @@ use Rattle.std.proofs.Common.{◌≡◌, ℕ, zero, suc, ◌+◌, ◌<◌, ◌�
 use Rattle.im_base_types.specs.Keys.{Key, IsBelow}
 use Rattle.im_base_types.specs.Pages.{Entry}
 use Rattle.im_base_types.specs.declared.page_kind.PageKind.TheVariants.{Leaf, Inner}
-use Rattle.im_page_form.specs.Entry.{entry_at, Rises}
-use Rattle.im_page_form.specs.Child.{IsChild}
-use Rattle.im_page_form.specs.Split.{IsSplitPoint, HasRoom}
-use Rattle.im_page_form.proofs.Order.{below_irrefl}
+use Rattle.im_theory_page.specs.Entry.{entry_at, Rises}
+use Rattle.im_theory_page.specs.Child.{IsChild}
+use Rattle.im_theory_page.specs.Split.{IsSplitPoint, HasRoom}
+use Rattle.im_theory_page.proofs.Order.{below_irrefl}
 use Rattle.im_theory_tree.specs.Levels.{Pages, Node, child_of, below, leaves_under, height, the_root}
 use Rattle.im_theory_tree.specs.Good.{AllOf, AtOrAbove, IsUnder, InRange, next_bound, IsAfter, AreOrdered, IsGoodTree}
 use Rattle.im_theory_tree.specs.Search.{IsOnWay}

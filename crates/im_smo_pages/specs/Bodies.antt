@@ -4,8 +4,8 @@ use Rattle.im_base_types.specs.Keys.{Key}
 use Rattle.im_base_types.specs.Pages.{Entry, Body, Page}
 use Rattle.im_base_types.specs.Maps.{with_key}
 use Rattle.im_base_types.specs.declared.page_kind.PageKind.TheVariants.{Leaf, Inner}
-use Rattle.im_page_form.specs.Entry.{entry_at}
-use Rattle.im_page_form.specs.Header.{empty_body}
+use Rattle.im_theory_page.specs.Entry.{entry_at}
+use Rattle.im_theory_page.specs.Header.{empty_body}
 
 -- the page, saying something else: the LSN stays
 abbrev pub says : Page → Body → Page

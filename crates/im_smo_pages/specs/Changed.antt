@@ -2,8 +2,8 @@
 use Rattle.std.specs.Prelude.{◌≡◌, ℕ, zero, suc, ◌+◌, [], ◌∷◌, take, drop}
 use Rattle.im_theory_log.specs.Tree.{with_body, with_entries}
 use Rattle.im_base_types.specs.declared.page_kind.PageKind.TheVariants.{Free}
-use Rattle.im_page_form.specs.Entry.{entry_at}
-use Rattle.im_page_form.specs.Header.{empty_body}
+use Rattle.im_theory_page.specs.Entry.{entry_at}
+use Rattle.im_theory_page.specs.Header.{empty_body}
 use Rattle.im_theory_tree.specs.Levels.{Pages}
 use Rattle.im_smo_pages.specs.Bodies.{leaf_body, inner_body, raised, with_separator, with_prev, with_next, without_entry, without_leftmost, meta_without_first, meta_with_count, meta_with_first}
 

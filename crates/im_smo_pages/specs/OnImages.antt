@@ -2,7 +2,7 @@
 use Rattle.std.specs.Prelude.{◌≡◌, ℕ, ◌≤◌, List}
 use Rattle.im_base_types.specs.Pages.{Body}
 use Rattle.im_base_types.specs.declared.page_kind.PageKind.TheVariants.{Leaf, Inner}
-use Rattle.im_page_form.specs.Entry.{Rises}
+use Rattle.im_theory_page.specs.Entry.{Rises}
 use Rattle.im_theory_tree.specs.Levels.{Pages}
 use Rattle.im_smo_pages.specs.Parts.{SplitsAt}
 use Rattle.im_smo_pages.specs.Images.{Numbered, held, Has, KeepsAll}

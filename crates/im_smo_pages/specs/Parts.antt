@@ -4,9 +4,9 @@ use Rattle.im_base_types.specs.Pages.{Body, Page}
 use Rattle.im_theory_log.specs.Tree.{with_entries}
 use Rattle.im_base_types.specs.declared.page_kind.PageKind.{PageKind}
 use Rattle.im_base_types.specs.declared.page_kind.PageKind.TheVariants.{Leaf, Inner}
-use Rattle.im_page_form.specs.Entry.{entry_at}
-use Rattle.im_page_form.specs.Page.{is_leaf_kind}
-use Rattle.im_page_form.specs.Split.{IsSplitPoint, HasRoom}
+use Rattle.im_theory_page.specs.Entry.{entry_at}
+use Rattle.im_theory_page.specs.Page.{is_leaf_kind}
+use Rattle.im_theory_page.specs.Split.{IsSplitPoint, HasRoom}
 use Rattle.im_theory_tree.specs.Halves.{SplitsWell}
 use Rattle.im_smo_pages.specs.Bodies.{says, leaf_body, inner_body, raised, with_separator, HasNoKey}
 

@@ -3,7 +3,7 @@
 ghost use Rattle.std.specs.Prelude.{◌≡◌, ◌⊎◌, ◌↔◌, ◌+◌, ◌<◌, ◌≤◌, ◌^◌, OnOk, OnErr, IfOk, IfErr, IsOk};
 ghost use Rattle.im_base_types.specs.declared.fault.Fault.TheVariants.{Capacity, NotAStore};
 ghost use Rattle.im_base_types.specs.declared.page_kind.PageKind.TheVariants.{Meta, Free};
-ghost use Rattle.im_page_form.specs.Header.{empty_body};
+ghost use Rattle.im_theory_page.specs.Header.{empty_body};
 ghost use Rattle.im_smo_pages.specs.Bodies.{says, meta_without_first, meta_with_count, meta_with_first};
 
 use im_base_types::{Fault, PageKind, PageNo};

@@ -5,9 +5,9 @@ ghost use Rattle.im_base_types.specs.Keys.{Key};
 ghost use Rattle.im_base_types.specs.Pages.{Entry, Body, Page};
 ghost use Rattle.im_theory_log.specs.Tree.{with_body};
 ghost use Rattle.im_base_types.specs.declared.page_kind.PageKind.TheVariants.{Free, Leaf, Inner};
-ghost use Rattle.im_page_form.specs.Entry.{entry_at, Rises};
-ghost use Rattle.im_page_form.specs.Child.{IsChild};
-ghost use Rattle.im_page_form.specs.Split.{IsSplitPoint, HasRoom};
+ghost use Rattle.im_theory_page.specs.Entry.{entry_at, Rises};
+ghost use Rattle.im_theory_page.specs.Child.{IsChild};
+ghost use Rattle.im_theory_page.specs.Split.{IsSplitPoint, HasRoom};
 ghost use Rattle.im_theory_tree.specs.Levels.{Pages, height, walk};
 ghost use Rattle.im_theory_tree.specs.Good.{IsGoodTree};
 ghost use Rattle.im_theory_tree.specs.Search.{IsOnWay};
@@ -18,7 +18,7 @@ ghost use Rattle.im_theory_tree.specs.Allocations.{TakesFree, TakesCount, GivesF
 ghost use Rattle.im_theory_tree.specs.Plans.{applied, KnowsPages, PagesAscend};
 ghost use Rattle.im_smo_pages.specs.Bodies.{without_entry, without_leftmost};
 ghost use Rattle.im_smo_pages.specs.OnImages.{PartsLeaf, Becomes, TakesFirst, TakesNext};
-ghost use Rattle.im_smo_pages.specs.OnWay.{KeepsTree};
+ghost use Rattle.im_smo_pages.specs.OnWay.{KeepsTree, PlansKeepWays};
 ghost use Rattle.im_smo_pages.specs.Parts.{SplitsAt, CanHalve, CanSplit};
 ghost use Rattle.im_smo_pages.specs.Images.{Numbered, IsRising, image_of, put_image, without_image, plan_of, held};
 ghost use Rattle.im_smo_pages.specs.Changed.{SamePages, linked_prev, unlinked_pages, leaf_split_pages, inner_split_pages, root_leaf_split_pages, root_inner_split_pages, entry_dropped_pages, leftmost_dropped_pages, root_emptied_pages, free_taken_pages, count_taken_pages, free_given_pages};
@@ -124,4 +124,9 @@ pub fn deletions_keep_the_tree()
         → IsGoodTree (held pages b) (chain_down (held pages a) h (held pages a 1).leftmost ++ spare) × (walk (held pages b) ≡ walk (held pages a)) }
     ensures given { (a b : List Numbered) (pages : Pages) (spare : List ℕ) (q : ℕ) → Becomes a b (λ f. free_given_pages f q) → IsGoodTree (held pages a) (q ∷ spare)
         → IsGoodTree (held pages b) spare × (walk (held pages b) ≡ walk (held pages a)) }
+{}
+
+/// Steps of a plan in a row keep the ways of keys whose leaf is none of its images.
+pub fn plans_keep_ways()
+    ensures { PlansKeepWays }
 {}

@@ -4,7 +4,7 @@ ghost use Rattle.std.specs.Prelude.{◌≡◌, ◌⊎◌, ℕ, ◌+◌, ◌<◌,
 ghost use Rattle.im_base_types.specs.declared.fault.Fault.TheVariants.{Capacity, NotAStore};
 ghost use Rattle.im_base_types.specs.declared.page_kind.PageKind.TheVariants.{Leaf, Inner};
 ghost use Rattle.im_theory_log.specs.Tree.{with_entries};
-ghost use Rattle.im_page_form.specs.Entry.{entry_at};
+ghost use Rattle.im_theory_page.specs.Entry.{entry_at};
 ghost use Rattle.im_smo_pages.specs.Bodies.{says, inner_body, with_separator};
 ghost use Rattle.im_smo_pages.specs.Parts.{SplitsAt, TakesSeparator, CanHalve, CanSplit, LeafSplit, InnerSplit, RootLeafSplit, RootInnerSplit};
 

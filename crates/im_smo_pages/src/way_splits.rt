@@ -4,8 +4,8 @@ ghost use Rattle.std.specs.Prelude.{◌≡◌, ◌⊎◌, ◌<◌, ◌≤◌, �
 ghost use Rattle.im_base_types.specs.Keys.{Key};
 ghost use Rattle.im_base_types.specs.declared.fault.Fault.TheVariants.{Memory, NotAStore};
 ghost use Rattle.im_base_types.specs.declared.page_kind.PageKind.TheVariants.{Leaf};
-ghost use Rattle.im_page_form.specs.Entry.{entry_at};
-ghost use Rattle.im_page_form.specs.Child.{IsChild};
+ghost use Rattle.im_theory_page.specs.Entry.{entry_at};
+ghost use Rattle.im_theory_page.specs.Child.{IsChild};
 ghost use Rattle.im_theory_tree.specs.Levels.{Pages, height};
 ghost use Rattle.im_theory_tree.specs.Good.{IsGoodTree};
 ghost use Rattle.im_theory_tree.specs.Search.{IsOnWay};
@@ -49,8 +49,9 @@ impl Images {
         ensures kept { IfOk result (λ _. KeepsAll self.old self.new) }
         ensures goes { IfOk result (λ m. (pages : Pages) (spare : List ℕ) → IsGoodTree (held pages self.old) (q ∷ spare) → IsOnWay (held pages self.old) (suc zero) key.now parent
             → IsChild (held pages self.old parent) key.now p → held pages self.old p ≡ page.now.body
-            → HasRoomIn (held pages self.old) (held pages self.new) spare key.now m) }
+            → HasRoomIn (held pages self.old) (held pages self.new) spare key.now p m) }
         ensures there { IfOk result (λ _. Has self.new p) }
+        ensures half { IfOk result (Has self.new) }
         ensures sound { (pages : Pages) (spare : List ℕ) → IsGoodTree (held pages self.old) (q ∷ spare) → IsOnWay (held pages self.old) (suc zero) key.now parent
             → IsChild (held pages self.old parent) key.now p → held pages self.old p ≡ page.now.body → Has self.old parent → (1 ≤ page.now.body.next → Has self.old page.now.body.next)
             → CanSplit Leaf page.now.body (held pages self.old parent) q → result ≡ Err NotAStore → ⊥ }
@@ -77,8 +78,9 @@ impl Images {
         ensures kept { IfOk result (λ _. KeepsAll self.old self.new) }
         ensures goes { IfOk result (λ m. (pages : Pages) (spare : List ℕ) → IsGoodTree (held pages self.old) (l ∷ r ∷ spare) → height (held pages self.old) ≡ zero
             → held pages self.old 1 ≡ page.now.body
-            → HasRoomIn (held pages self.old) (held pages self.new) spare key.now m) }
+            → HasRoomIn (held pages self.old) (held pages self.new) spare key.now 1 m) }
         ensures there { IfOk result (λ _. Has self.new 1) }
+        ensures half { IfOk result (Has self.new) }
         ensures sound { CanHalve Leaf page.now.body → result ≡ Err NotAStore → ⊥ }
         ensures causes { IfErr result (λ e. (e ≡ Memory) ⊎ (e ≡ NotAStore)) }
     {

@@ -1,22 +1,31 @@
 -- One split after another, down to the leaf.
-use Rattle.std.proofs.Common.{ℕ, ◌≤◌, List, length, ◌∙◌}
+use Rattle.std.proofs.Common.{◌≡◌, ℕ, ◌≤◌, List, length, None, subst, ◌∙◌}
 use Rattle.im_base_types.specs.Keys.{Key}
 use Rattle.im_base_disk.specs.declared.disk.Disk.{Ghosts}
 use Rattle.im_page_writer.specs.declared.page_writer.PageWriter.{PageWriter}
 use Rattle.im_page_writer.specs.Outcome.{AllPages, AreLoaded, HasPages}
-use Rattle.im_smo_pages.specs.Images.{Numbered}
+use Rattle.im_smo_pages.specs.Images.{Numbered, image_of, Has}
 use Rattle.im_smo_alloc.specs.Seen.{seen}
 use Rattle.im_smo_alloc.specs.Kept.{HasImages}
 use Rattle.im_smo_split.specs.Pages.{newest_first}
 use Rattle.im_smo_split.specs.Steps.{Turned}
 use Rattle.im_smo_split.specs.Ends.{Ended}
 use Rattle.im_smo_split.specs.declared.turns.Turn.{Turn}
+use Rattle.im_smo_pages.proofs.PlanWays.{has_none}
 use Rattle.im_smo_split.proofs.Ends.{IsEnd}
 
 module _ (s : AllPages) (key : Key) (images : List Numbered) where
   -- the split of the leaf among the images
-  pub ended : (new : List Numbered) (leaf : ℕ) → IsEnd (seen s images) (seen s new) key leaf × (1 ≤ length new) → Ended s key images new leaf
-  ended new leaf end = record { good = end.0.good; same = end.0.same; room = end.0.room; way = end.0.way; some = end.1 }
+  pub ended : (new : List Numbered) (leaf g : ℕ) → IsEnd (seen s images) (seen s new) key g leaf × (1 ≤ length new) × Has new g × Has new leaf → Ended s key images new leaf
+  ended new leaf g end = record {
+    good = end.0.good;
+    same = end.0.same;
+    room = end.0.room;
+    way = end.0.way;
+    ways = λ k q way apart. end.0.ways k q way (λ e. has_none (image_of new g) end.2 (subst (λ x. image_of new x ≡ None) e apart));
+    some = end.1;
+    has = end.3;
+  }
 
   module _ (turn : Turn) (mid : List Numbered) (numbers : List ℕ) (one : Turned s key images turn mid numbers) where
     pub has_turned : {D : Type 0} (d : Ghosts D) {w : PageWriter} {disk : D} → HasPages d AreLoaded s w disk → HasImages d s mid (newest_first numbers) w disk
@@ -24,8 +33,8 @@ module _ (s : AllPages) (key : Key) (images : List Numbered) where
 
     -- the next turn
     pub turned_then : (next : Turn) (new : List Numbered) (left : List ℕ) → Turned s key mid next new left → Turned s key images next new left
-    turned_then next new left two = record { turn_is = two.turn_is; parent = two.parent; same = two.same ∙ one.same }
+    turned_then next new left two = record { turn_is = two.turn_is; parent = two.parent; same = two.same ∙ one.same; ways = λ k q way all. two.ways k q (one.ways k q way tt) tt }
 
     -- the end
     pub end_then : (new : List Numbered) (leaf : ℕ) → Ended s key mid new leaf → Ended s key images new leaf
-    end_then new leaf two = record { good = two.good; same = two.same ∙ one.same; room = two.room; way = two.way; some = two.some }
+    end_then new leaf two = record { good = two.good; same = two.same ∙ one.same; room = two.room; way = two.way; ways = λ k q way apart. two.ways k q (one.ways k q way tt) apart; some = two.some; has = two.has }

@@ -1,13 +1,13 @@
 -- The key's leaf split, the last step: what is seen behind it.
-use Rattle.std.proofs.Common.{◌≡◌, ℕ, zero, suc, ◌≤◌, ◌<◌, true, List, [], ◌∷◌, ◌++◌, length, refl, sym, ap, subst, ◌∙◌, arith, length-append}
+use Rattle.std.proofs.Common.{◌≡◌, ◌≢◌, ℕ, zero, suc, ◌≤◌, ◌<◌, true, List, [], ◌∷◌, ◌++◌, length, refl, sym, ap, subst, ◌∙◌, arith, length-append}
 use Rattle.im_base_types.specs.Keys.{Key}
 use Rattle.im_base_types.specs.Pages.{Body, Page}
 use Rattle.im_page_writer.specs.Outcome.{AllPages}
 use Rattle.im_base_types.specs.declared.page_kind.PageKind.{PageKind}
 use Rattle.im_base_types.specs.declared.page_kind.PageKind.TheVariants.{Leaf}
-use Rattle.im_page_form.specs.Entry.{entry_at, taken, Rises}
-use Rattle.im_page_form.specs.Child.{IsChild}
-use Rattle.im_page_form.specs.Page.{is_leaf_kind}
+use Rattle.im_theory_page.specs.Entry.{entry_at, taken, Rises}
+use Rattle.im_theory_page.specs.Child.{IsChild}
+use Rattle.im_theory_page.specs.Page.{is_leaf_kind}
 use Rattle.im_theory_tree.specs.Levels.{Pages, walk}
 use Rattle.im_theory_tree.specs.Good.{IsGoodTree}
 use Rattle.im_theory_tree.specs.Search.{IsOnWay}
@@ -17,6 +17,7 @@ use Rattle.im_theory_tree.proofs.StepLemmas.{relisted}
 use Rattle.im_theory_tree.proofs.Way.{step_way, way_begins}
 use Rattle.im_theory_tree.proofs.LookupLemmas.{way_leaf}
 use Rattle.im_smo_pages.specs.Images.{Numbered, IsRising, without_image, held, Has}
+use Rattle.im_theory_tree.specs.Ways.{KeepsWays}
 use Rattle.im_smo_pages.specs.OnWay.{HasRoomIn}
 use Rattle.im_smo_pages.specs.Parts.{CanHalve, CanSplit}
 use Rattle.im_smo_pages.proofs.LeafSplitSteps.{leaf_apart}
@@ -50,14 +51,15 @@ last_two ns mid new l r is more two =
 -- ---- a leaf
 
 -- what is seen behind the leaf's split
-pub record IsEnd (old new : Pages) (key : Key) (leaf : ℕ) : Type 0 where
+pub record IsEnd (old new : Pages) (key : Key) (split leaf : ℕ) : Type 0 where
   pub good : IsGoodTree new []
   pub same : walk new ≡ walk old
+  pub ways : KeepsWays old new (λ x. x ≢ split)
   pub room : HasRoomOnWay new zero key
   pub way : IsOnWay new zero key leaf
 
-end_of : (old new : Pages) (key : Key) (m : ℕ) → HasRoomIn old new [] key m → IsEnd old new key m
-end_of old new key m is = record { good = is.good; same = is.walks; room = record { page = m; way = is.way; room = is.room }; way = is.way }
+end_of : (old new : Pages) (key : Key) (g m : ℕ) → HasRoomIn old new [] key g m → IsEnd old new key g m
+end_of old new key g m is = record { good = is.good; same = is.walks; ways = is.ways; room = record { page = m; way = is.way; room = is.room }; way = is.way }
 
 pub fits_leaf : (b : Body) → b.kind ≡ Leaf → ((i : ℕ) → i < length b.entries → length (entry_at b.entries i).0 ≤ 255) → taken (is_leaf_kind b.kind) b.entries ≤ 4064 → FitsPage true b.entries
 fits_leaf b leaf short fits = record { short = short; fits = subst (λ (k : PageKind). taken (is_leaf_kind k) b.entries ≤ 4064) leaf fits }
@@ -81,14 +83,16 @@ module _ (s : AllPages) (key : Key) (old : Pages) (xs : List Numbered) (up : IsR
   turn_out : IsTurn (held (beneath s xs p g up page) (without_image p xs)) (q ∷ []) key zero parent p
   turn_out = subst (λ (pages : Pages). IsTurn pages (q ∷ []) key zero parent p) (sym was) turn
 
-  pub leaf_ended : (out new : List Numbered) (half : ℕ) → out ≡ without_image p xs → HalvesLeaf out new g.body key parent p q half → IsEnd old (seen s new) key half × (1 ≤ length new)
+  pub leaf_ended : (out new : List Numbered) (half : ℕ) → out ≡ without_image p xs → HalvesLeaf out new g.body key parent p q half → IsEnd old (seen s new) key p half × (1 ≤ length new) × Has new p × Has new half
   leaf_ended out new half out_is parts =
       let halves : HalvesLeaf (without_image p xs) new g.body key parent p q half = subst (λ (l : List Numbered). HalvesLeaf l new g.body key parent p q half) out_is parts in
       let is = halves.goes (beneath s xs p g up page) [] turn_out.good turn_out.way turn_out.child (out_at s xs p g up page) in (
-        subst (λ (pages : Pages). IsEnd pages (seen s new) key half) was
-            (subst (λ (pages : Pages). IsEnd (held (beneath s xs p g up page) (without_image p xs)) pages key half) (in_same s xs p g up page new halves.there)
-            (end_of (held (beneath s xs p g up page) (without_image p xs)) (held (beneath s xs p g up page) new) key half is)),
+        subst (λ (pages : Pages). IsEnd pages (seen s new) key p half) was
+            (subst (λ (pages : Pages). IsEnd (held (beneath s xs p g up page) (without_image p xs)) pages key p half) (in_same s xs p g up page new halves.there)
+            (end_of (held (beneath s xs p g up page) (without_image p xs)) (held (beneath s xs p g up page) new) key p half is)),
         some_long new p halves.there,
+        halves.there,
+        halves.part,
       )
 
   body_was : g.body ≡ old p
@@ -131,14 +135,16 @@ module _ (s : AllPages) (key : Key) (xs : List Numbered) (up : IsRising xs) (l r
   root_out : IsRootTurn (held (beneath s xs 1 g up page) (without_image 1 xs)) (r ∷ l ∷ []) key zero
   root_out = subst (λ (pages : Pages). IsRootTurn pages (r ∷ l ∷ []) key zero) (sym root_was) turn
 
-  pub root_ended : (out new : List Numbered) (half : ℕ) → out ≡ without_image 1 xs → HalvesRootLeaf out new g.body key l r half → IsEnd (seen s xs) (seen s new) key half × (1 ≤ length new)
+  pub root_ended : (out new : List Numbered) (half : ℕ) → out ≡ without_image 1 xs → HalvesRootLeaf out new g.body key l r half → IsEnd (seen s xs) (seen s new) key 1 half × (1 ≤ length new) × Has new 1 × Has new half
   root_ended out new half out_is parts =
       let halves : HalvesRootLeaf (without_image 1 xs) new g.body key l r half = subst (λ (m : List Numbered). HalvesRootLeaf m new g.body key l r half) out_is parts in
       let now = held (beneath s xs 1 g up page) (without_image 1 xs) in
       let is = halves.goes (beneath s xs 1 g up page) [] (relisted now (r ∷ l ∷ []) (l ∷ r ∷ []) (λ x. omega arith) root_out.good) root_out.tall (out_at s xs 1 g up page) in (
-        subst (λ (pages : Pages). IsEnd pages (seen s new) key half) root_was
-            (subst (λ (pages : Pages). IsEnd now pages key half) (in_same s xs 1 g up page new halves.there) (end_of now (held (beneath s xs 1 g up page) new) key half is)),
+        subst (λ (pages : Pages). IsEnd pages (seen s new) key 1 half) root_was
+            (subst (λ (pages : Pages). IsEnd now pages key 1 half) (in_same s xs 1 g up page new halves.there) (end_of now (held (beneath s xs 1 g up page) new) key 1 half is)),
         some_long new 1 halves.there,
+        halves.there,
+        halves.part,
       )
 
   pub root_leaf : g.body.kind ≡ Leaf

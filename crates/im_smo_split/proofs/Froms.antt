@@ -1,5 +1,5 @@
 -- A split over pages that are taken for it.
-use Rattle.std.proofs.Common.{◌≡◌, ◌≢◌, ◌+◌, ◌-◌, ◌^◌, ◌<◌, ℕ, true, false, List, [], refl, sym, ap, subst, ◌∙◌}
+use Rattle.std.proofs.Common.{◌≡◌, ◌≢◌, ◌+◌, ◌-◌, ◌^◌, ◌<◌, ℕ, zero, true, false, List, [], refl, sym, ap, subst, ◌∙◌}
 use Rattle.std.proofs.Math.Path.{fun_ext}
 use Rattle.im_base_types.specs.Keys.{Key}
 use Rattle.im_base_disk.specs.declared.disk.Disk.{Ghosts}
@@ -7,6 +7,7 @@ use Rattle.im_page_writer.specs.declared.page_writer.PageWriter.{PageWriter}
 use Rattle.im_page_writer.specs.Outcome.{AllPages, AreLoaded, HasPages}
 use Rattle.im_theory_tree.specs.Levels.{Pages, walk}
 use Rattle.im_theory_tree.specs.Good.{IsGoodTree}
+use Rattle.im_theory_tree.specs.Search.{IsOnWay}
 use Rattle.im_smo_pages.specs.Images.{Numbered}
 use Rattle.im_smo_alloc.specs.Seen.{bodies, seen}
 use Rattle.im_smo_alloc.specs.Kept.{HasImages}
@@ -15,7 +16,7 @@ use Rattle.im_smo_split.specs.Tops.{IsTop}
 use Rattle.im_smo_split.specs.Turns.{IsTurn, IsRootTurn}
 use Rattle.im_smo_split.specs.Ends.{Ended}
 use Rattle.im_smo_split.specs.declared.top.Top.{Top}
-use Rattle.im_smo_split.proofs.Turning.{turn_stays, root_turn_stays}
+use Rattle.im_smo_split.proofs.Turning.{turn_stays, root_turn_stays, way_on}
 
 -- without images the pages are seen as they are
 pub seen_none : (s : AllPages) (images : List Numbered) → images ≡ [] → seen s images ≡ bodies s
@@ -43,5 +44,15 @@ module _ (s : AllPages) (first : List Numbered) (none : first ≡ []) where
     under_on e = turn_stays (bodies s) (seen s mid) [] (newest_first numbers) key top.level top.parent top.page (is_top.under e) one.good rest
 
     -- the split
-    pub down_done : (new : List Numbered) (leaf : ℕ) → Ended s key mid new leaf → Ended s key [] new leaf
-    down_done new leaf end = record { good = end.good; same = end.same ∙ one.same ∙ ap (λ (l : List Numbered). walk (seen s l)) none; room = end.room; way = end.way; some = end.some }
+    pub down_done : (new : List Numbered) (leaf : ℕ) → IsGoodTree (bodies s) [] → Ended s key mid new leaf → Ended s key [] new leaf
+    down_done new leaf good end = record {
+      good = end.good;
+      same = end.same ∙ one.same ∙ ap (λ (l : List Numbered). walk (seen s l)) none;
+      room = end.room;
+      way = end.way;
+      ways = λ k q to apart.
+          let from : IsOnWay (bodies s) zero k q = subst (λ (pages : Pages). IsOnWay pages zero k q) (seen_none s [] refl) to in
+          end.ways k q (way_on (bodies s) (seen s mid) [] (newest_first numbers) good one.good rest k zero q from) apart;
+      some = end.some;
+      has = end.has;
+    }

@@ -4,10 +4,10 @@ use Rattle.std.proofs.lemmas.Bool.{cases_lt, cases_Bool}
 use Rattle.std.specs.Bool.{IsTrue}
 use Rattle.im_base_types.specs.Keys.{Key, IsBelow}
 use Rattle.im_base_types.specs.Pages.{Entry, Body}
-use Rattle.im_page_form.specs.Entry.{entry_at, taken, size, width, Rises}
-use Rattle.im_page_form.specs.Child.{StartAbove, IsChild}
-use Rattle.im_page_form.specs.Page.{is_leaf_kind}
-use Rattle.im_page_form.proofs.Order.{below_trans, below_irrefl}
+use Rattle.im_theory_page.specs.Entry.{entry_at, taken, size, width, Rises}
+use Rattle.im_theory_page.specs.Child.{StartAbove, IsChild}
+use Rattle.im_theory_page.specs.Page.{is_leaf_kind}
+use Rattle.im_theory_page.proofs.Order.{below_trans, below_irrefl}
 use Rattle.im_theory_tree.specs.Levels.{Pages, height}
 use Rattle.im_theory_tree.specs.Good.{IsGoodTree}
 use Rattle.im_theory_tree.specs.Search.{IsOnWay}

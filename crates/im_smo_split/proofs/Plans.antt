@@ -5,8 +5,9 @@ use Rattle.im_base_types.specs.declared.fault.Fault.{Fault}
 use Rattle.im_base_types.specs.declared.fault.Fault.TheVariants.{Capacity, PagesFull}
 use Rattle.im_base_types.specs.Keys.{Key}
 use Rattle.im_page_writer.specs.Outcome.{AllPages}
-use Rattle.im_page_form.specs.Split.{HasRoom}
+use Rattle.im_theory_page.specs.Split.{HasRoom}
 use Rattle.im_theory_tree.specs.Levels.{Pages, walk}
+use Rattle.im_theory_tree.specs.Search.{IsOnWay}
 use Rattle.im_theory_tree.specs.Good.{IsGoodTree}
 use Rattle.im_theory_tree.specs.KeySplits.{HasRoomOnWay}
 use Rattle.im_smo_pages.specs.Images.{Numbered}
@@ -40,9 +41,11 @@ module _ (s : AllPages) (key : Key) (max : Option ℕ) (images : List Numbered) 
       record {
         good = subst (λ (pages : Pages). IsGoodTree pages []) same good;
         same = sym (ap walk same);
+        ways = λ k q to apart. subst (λ (pages : Pages). IsOnWay pages zero k q) same to;
         room = subst (λ (pages : Pages). HasRoomFor pages key) same room;
         fits = subst (λ (pages : Pages). FitsInLeaf pages key) same (fits_in_leaf (bodies s) key good room);
         way = λ some. absurd (none_is images some none);
+        has = λ some. absurd (none_is images some none);
         any = inl none;
         none = λ is. room;
         some = λ p way lacks. absurd (lacks (fits_in_leaf (bodies s) key good room p way));
@@ -57,9 +60,11 @@ module _ (s : AllPages) (key : Key) (max : Option ℕ) (images : List Numbered) 
       record {
         good = end.good;
         same = end.same ∙ ap walk (seen_none s [] refl);
+        ways = λ k q to apart. end.ways k q (subst (λ (pages : Pages). IsOnWay pages zero k q) (sym (seen_none s [] refl)) to) apart;
         room = here;
         fits = fits_in_leaf (seen s images) key end.good here;
         way = λ some. end.way;
+        has = λ some. end.has;
         any = inr end.room;
         none = λ is. absurd (none_is images end.some is);
         some = λ p way lacks. end.some;

@@ -3,8 +3,8 @@ use Rattle.std.proofs.Common.{◌≡◌, ℕ, zero, suc, ◌+◌, ◌<◌, ◌�
 use Rattle.std.proofs.lemmas.Bool.{cases_lt}
 use Rattle.std.proofs.lemmas.List.Sums.{sum_by-cons}
 use Rattle.im_base_types.specs.Pages.{Entry}
-use Rattle.im_page_form.specs.Entry.{size, taken}
-use Rattle.im_page_form.specs.Split.{IsSplitPoint}
+use Rattle.im_theory_page.specs.Entry.{size, taken}
+use Rattle.im_theory_page.specs.Split.{IsSplitPoint}
 
 -- a longer front takes no less
 pub front_grows : (leaf : Bool) (es : List Entry) (i m : ℕ) → i ≤ m → taken leaf (take i es) ≤ taken leaf (take m es)

@@ -4,8 +4,8 @@ use Rattle.im_base_types.specs.Keys.{Key, IsBelow}
 use Rattle.im_base_types.specs.Pages.{Body, Page}
 use Rattle.im_page_writer.specs.Outcome.{AllPages}
 use Rattle.im_base_types.specs.declared.page_kind.PageKind.TheVariants.{Inner}
-use Rattle.im_page_form.specs.Entry.{entry_at}
-use Rattle.im_page_form.specs.Child.{IsChild}
+use Rattle.im_theory_page.specs.Entry.{entry_at}
+use Rattle.im_theory_page.specs.Child.{IsChild}
 use Rattle.im_theory_tree.specs.Levels.{Pages, walk}
 use Rattle.im_theory_tree.specs.Good.{AtOrAbove}
 use Rattle.im_theory_tree.specs.Halves.{FitsPage}
@@ -20,12 +20,13 @@ use Rattle.im_smo_pages.specs.Parts.{CanHalve, CanSplit}
 use Rattle.im_smo_alloc.specs.Seen.{seen, page_in}
 use Rattle.im_smo_split.specs.Steps.{HalvesInner, HalvesRoot}
 use Rattle.im_smo_split.specs.Turns.{IsTurn, IsRootTurn}
-use Rattle.im_smo_split.proofs.Turning.{other_level, inner_low, inner_high, root_low, root_high, inner_can, root_inner_can}
+use Rattle.im_theory_tree.specs.Ways.{KeepsAllWays}
+use Rattle.im_smo_split.proofs.Turning.{other_level, inner_low, inner_high, inner_ways, root_low, root_high, root_ways, inner_can, root_inner_can}
 use Rattle.im_smo_split.proofs.TakenOut.{beneath, body_is, out_has, out_same, out_at, in_same}
 
 -- it is the turn of a child under a part that is among the images, and the walk stays
 abbrev pub GoesOnTo : Pages → Pages → List Numbered → List ℕ → Key → (k half child : ℕ) → Type 0
-GoesOnTo pages new images spare key k half child = IsTurn new spare key k half child × (walk new ≡ walk pages) × Has images half
+GoesOnTo pages new images spare key k half child = IsTurn new spare key k half child × (walk new ≡ walk pages) × Has images half × KeepsAllWays pages new
 
 -- ---- an inner page
 
@@ -64,10 +65,10 @@ module _ (s : AllPages) (xs : List Numbered) (up : IsRising xs) (spare : List �
       ⊎_elim
       (λ (x : (half ≡ p) × IsBelow key (entry_at (seen s xs p).entries n).0).
       subst (λ (m : ℕ). GoesOnTo (seen s xs) (seen s new) new spare key k m child) (sym x.0)
-      (let t = inner_low (seen s xs) (seen s new) spare key k parent p q n child turn h.rises h.parts.at split h.child_is x.1 in (t.0, t.1, h.parts.left)))
+      (let t = inner_low (seen s xs) (seen s new) spare key k parent p q n child turn h.rises h.parts.at split h.child_is x.1 in (t.0, t.1, h.parts.left, inner_ways (seen s xs) (seen s new) spare key k parent p q n child turn h.rises h.parts.at split h.child_is)))
       (λ (x : (half ≡ q) × AtOrAbove (Some (entry_at (seen s xs p).entries n).0) key).
       subst (λ (m : ℕ). GoesOnTo (seen s xs) (seen s new) new spare key k m child) (sym x.0)
-      (let t = inner_high (seen s xs) (seen s new) spare key k parent p q n child turn h.rises h.parts.at split h.child_is x.1 in (t.0, t.1, h.parts.right)))
+      (let t = inner_high (seen s xs) (seen s new) spare key k parent p q n child turn h.rises h.parts.at split h.child_is x.1 in (t.0, t.1, h.parts.right, inner_ways (seen s xs) (seen s new) spare key k parent p q n child turn h.rises h.parts.at split h.child_is)))
       h.half_is
 
 -- ---- the root
@@ -105,8 +106,8 @@ module _ (s : AllPages) (xs : List Numbered) (up : IsRising xs) (spare : List �
       ⊎_elim
       (λ (x : (half ≡ l) × IsBelow key (entry_at (seen s xs 1).entries n).0).
       subst (λ (m : ℕ). GoesOnTo (seen s xs) (seen s new) new spare key k m child) (sym x.0)
-      (let t = root_low (seen s xs) (seen s new) spare key k l r n child turn h.rises h.parts.at split h.child_is x.1 in (t.0, t.1, h.parts.left)))
+      (let t = root_low (seen s xs) (seen s new) spare key k l r n child turn h.rises h.parts.at split h.child_is x.1 in (t.0, t.1, h.parts.left, root_ways (seen s xs) (seen s new) spare key k l r n child turn h.rises h.parts.at split h.child_is)))
       (λ (x : (half ≡ r) × AtOrAbove (Some (entry_at (seen s xs 1).entries n).0) key).
       subst (λ (m : ℕ). GoesOnTo (seen s xs) (seen s new) new spare key k m child) (sym x.0)
-      (let t = root_high (seen s xs) (seen s new) spare key k l r n child turn h.rises h.parts.at split h.child_is x.1 in (t.0, t.1, h.parts.right)))
+      (let t = root_high (seen s xs) (seen s new) spare key k l r n child turn h.rises h.parts.at split h.child_is x.1 in (t.0, t.1, h.parts.right, root_ways (seen s xs) (seen s new) spare key k l r n child turn h.rises h.parts.at split h.child_is)))
       h.half_is

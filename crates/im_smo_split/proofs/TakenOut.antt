@@ -6,7 +6,7 @@ use Rattle.std.specs.Prelude.{IsSome}
 use Rattle.im_base_types.specs.Pages.{Body, Page}
 use Rattle.im_theory_log.specs.Tree.{with_body}
 use Rattle.im_page_writer.specs.Outcome.{AllPages}
-use Rattle.im_page_form.specs.Header.{initial}
+use Rattle.im_theory_page.specs.Header.{initial}
 use Rattle.im_theory_tree.specs.Levels.{Pages}
 use Rattle.im_smo_pages.specs.Images.{Numbered, Has, KeepsAll, IsRising, held, image_of, put_image, without_image}
 use Rattle.im_smo_pages.proofs.Holding.{has_put, put_keeps}

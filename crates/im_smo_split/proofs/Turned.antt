@@ -6,10 +6,10 @@ use Rattle.im_base_types.specs.declared.fault.Fault.TheVariants.{NotAStore}
 use Rattle.im_base_types.specs.Keys.{Key}
 use Rattle.im_base_types.specs.Pages.{Page}
 use Rattle.im_base_types.specs.declared.page_kind.PageKind.TheVariants.{Inner}
-use Rattle.im_page_form.specs.Entry.{taken}
-use Rattle.im_page_form.specs.Child.{IsChild}
-use Rattle.im_page_form.specs.Content.{IsContent}
-use Rattle.im_page_form.specs.Page.{is_leaf_kind}
+use Rattle.im_theory_page.specs.Entry.{taken}
+use Rattle.im_theory_page.specs.Child.{IsChild}
+use Rattle.im_theory_page.specs.Content.{IsContent}
+use Rattle.im_theory_page.specs.Page.{is_leaf_kind}
 use Rattle.im_page_writer.specs.Outcome.{AllPages, IsSound}
 use Rattle.im_page_writer.proofs.Outcomes.{sound_own}
 use Rattle.im_theory_tree.specs.Levels.{Pages}
@@ -47,7 +47,7 @@ module _ (s : AllPages) (key : Key) (images new : List Numbered) (numbers : List
   -- a step on the images
   pub turn_kept : (r : Result Turn Fault) → IfOk r (λ turn. GoesOnTo (seen s images) (seen s new) new (newest_first numbers) key turn.level turn.parent turn.page) → (r ≡ Err NotAStore → ⊥)
       → IsSound r (λ turn. Turned s key images turn new numbers)
-  turn_kept r is never = sound_own r _ _ is (not_refused r never) (λ turn goes. record { turn_is = goes.0; parent = goes.2; same = goes.1 })
+  turn_kept r is never = sound_own r _ _ is (not_refused r never) (λ turn goes. record { turn_is = goes.0; parent = goes.2; same = goes.1; ways = goes.3 })
 
   module _ (up : IsRising images) (out : List Numbered) (page : Page) (r : Result Turn Fault) where
     inner_at : (k parent p q : ℕ) → IsTurn (seen s images) (q ∷ newest_first numbers) key (suc k) parent p → Has images parent → page ≡ page_in s images p → out ≡ without_image p images

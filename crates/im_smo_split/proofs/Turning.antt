@@ -4,9 +4,9 @@ use Rattle.im_base_types.specs.Keys.{Key, IsBelow}
 use Rattle.im_base_types.specs.Pages.{Entry, Body}
 use Rattle.im_theory_log.specs.Tree.{with_body, with_entries}
 use Rattle.im_base_types.specs.declared.page_kind.PageKind.TheVariants.{Leaf, Inner}
-use Rattle.im_page_form.specs.Entry.{entry_at, Rises}
-use Rattle.im_page_form.specs.Child.{IsChild}
-use Rattle.im_page_form.specs.Split.{IsSplitPoint, HasRoom, HasRoomForAny}
+use Rattle.im_theory_page.specs.Entry.{entry_at, Rises}
+use Rattle.im_theory_page.specs.Child.{IsChild}
+use Rattle.im_theory_page.specs.Split.{IsSplitPoint, HasRoom, HasRoomForAny}
 use Rattle.im_theory_tree.specs.Levels.{Pages, walk}
 use Rattle.im_theory_tree.specs.Same.{SameTree}
 use Rattle.im_theory_tree.specs.Good.{AtOrAbove, times, IsGoodTree}
@@ -22,6 +22,8 @@ use Rattle.im_theory_tree.proofs.StepLemmas.{below_or_not}
 use Rattle.im_theory_tree.proofs.LeafSplitWay.{key_leaf_split}
 use Rattle.im_theory_tree.proofs.ChildStays.{child_in_left, child_in_right}
 use Rattle.im_smo_pages.specs.Bodies.{inner_body, with_separator, raised}
+use Rattle.im_theory_tree.specs.Ways.{KeepsAllWays}
+use Rattle.im_theory_tree.proofs.KeyWays.{key_inner_ways, key_root_inner_ways}
 use Rattle.im_smo_pages.specs.Parts.{SplitsAt, CanHalve, CanSplit}
 use Rattle.im_smo_pages.specs.Changed.{SamePages, leaf_split_pages, inner_split_pages, root_leaf_split_pages, root_inner_split_pages}
 use Rattle.im_smo_pages.proofs.Updates.{at_other, tree_of, not_first, not_later}
@@ -49,6 +51,10 @@ module _ (pages new : Pages) (spare : List ℕ) (key : Key) (k parent p q n c : 
 
   keeps : KeepsWay pages new spare (suc k) key p q (entry_at (pages p).entries n).0
   keeps = key_inner_split pages new spare k key parent p q n step
+
+  -- all ways to leaves stay
+  pub inner_ways : KeepsAllWays pages new
+  inner_ways = key_inner_ways pages new spare k key parent p q n step
 
   -- the pages under it stay
   stays : (j x : ℕ) → j ≤ k → IsOnWay pages j key x → new x ≡ pages x
@@ -110,6 +116,9 @@ module _ (pages new : Pages) (spare : List ℕ) (key : Key) (k l r n c : ℕ) (t
 
   root_keeps : KeepsWay pages new spare (suc k) key l r (entry_at (pages 1).entries n).0
   root_keeps = key_root_inner_split pages new spare k key l r n root_step
+
+  pub root_ways : KeepsAllWays pages new
+  root_ways = key_root_inner_ways pages new spare k l r n root_step
 
   root_stays : (j x : ℕ) → j ≤ k → IsOnWay pages j key x → new x ≡ pages x
   root_stays j x le way =

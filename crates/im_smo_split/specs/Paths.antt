@@ -1,9 +1,9 @@
 -- How many pages a split takes.
 use Rattle.std.specs.Prelude.{◌≡◌, ℕ, suc, ◌+◌, Bool, true, false, List, [], ◌∷◌, nat_le, if◌then◌else◌}
 use Rattle.im_base_types.specs.Keys.{Key}
-use Rattle.im_page_form.specs.Entry.{entry_at, taken, size}
-use Rattle.im_page_form.specs.Child.{IsChild}
-use Rattle.im_page_form.specs.Split.{IsSplitPoint}
+use Rattle.im_theory_page.specs.Entry.{entry_at, taken, size}
+use Rattle.im_theory_page.specs.Child.{IsChild}
+use Rattle.im_theory_page.specs.Split.{IsSplitPoint}
 use Rattle.im_theory_tree.specs.Levels.{Pages, height}
 use Rattle.im_theory_tree.specs.KeySplits.{is_leaf_level}
 

@@ -4,12 +4,14 @@ use Rattle.im_base_types.specs.declared.fault.Fault.{Fault}
 use Rattle.im_base_types.specs.declared.fault.Fault.TheVariants.{Capacity, PagesFull}
 use Rattle.im_base_types.specs.Keys.{Key}
 use Rattle.im_page_writer.specs.Outcome.{AllPages}
-use Rattle.im_page_form.specs.Split.{HasRoom}
+use Rattle.im_theory_page.specs.Split.{HasRoom}
 use Rattle.im_theory_tree.specs.Levels.{Pages, height, walk}
 use Rattle.im_theory_tree.specs.Good.{IsGoodTree}
 use Rattle.im_theory_tree.specs.Search.{IsOnWay}
 use Rattle.im_theory_tree.specs.KeySplits.{HasRoomOnWay}
-use Rattle.im_smo_pages.specs.Images.{Numbered}
+use Rattle.im_smo_pages.specs.Images.{Numbered, Has}
+use Rattle.im_theory_tree.specs.Ways.{KeepsWays}
+use Rattle.im_smo_pages.specs.OnWay.{IsApart}
 use Rattle.im_smo_alloc.specs.Seen.{bodies, seen}
 use Rattle.im_smo_split.specs.Paths.{OnPath, IsPath, new_pages}
 use Rattle.im_smo_split.specs.Tops.{HasRoomFor, LacksRoomFor}
@@ -31,13 +33,15 @@ pub record IsOver (pages : Pages) (key : Key) (max : ℕ) : Type 0 where
 abbrev pub FitsInLeaf : Pages → Key → Type 0
 FitsInLeaf pages key = (p : ℕ) → IsOnWay pages zero key p → HasRoom true (pages p).entries (key, 0)
 
--- The images, put in the place of the pages, are a good tree with the same walk and no page spare, in which the key's leaf has room for its entry. There are none only where it had that room already, and some where it had not; then this page is that leaf.
+-- The images, put in the place of the pages, are a good tree with the same walk and no page spare, in which the key's leaf has room for its entry. There are none only where it had that room already, and some where it had not; then this page, one of them, is that leaf. Each leaf that is none of them keeps its keys.
 pub record Planned (store : AllPages) (key : Key) (max : Option ℕ) (images : List Numbered) (leaf : ℕ) : Type 0 where
   pub good : IsGoodTree (seen store images) []
   pub same : walk (seen store images) ≡ walk (bodies store)
+  pub ways : KeepsWays (bodies store) (seen store images) (IsApart images)
   pub room : HasRoomFor (seen store images) key
   pub fits : FitsInLeaf (seen store images) key
   pub way : 1 ≤ length images → IsOnWay (seen store images) zero key leaf
+  pub has : 1 ≤ length images → Has images leaf
   pub any : (images ≡ []) ⊎ HasRoomOnWay (seen store images) zero key
   pub none : images ≡ [] → HasRoomFor (bodies store) key
   pub some : (p : ℕ) → IsOnWay (bodies store) zero key p → (HasRoom true (bodies store p).entries (key, 0) → ⊥) → 1 ≤ length images

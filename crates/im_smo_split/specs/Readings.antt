@@ -2,8 +2,8 @@
 use Rattle.std.specs.Prelude.{◌≡◌, ◌↔◌, ◌+◌, ◌≤◌, ◌<◌, ℕ, Bool, length}
 use Rattle.std.specs.Bool.{IsTrue}
 use Rattle.im_base_types.specs.Pages.{Body}
-use Rattle.im_page_form.specs.Entry.{entry_at, taken, width, Rises}
-use Rattle.im_page_form.specs.Split.{IsSplitPoint}
+use Rattle.im_theory_page.specs.Entry.{entry_at, taken, width, Rises}
+use Rattle.im_theory_page.specs.Split.{IsSplitPoint}
 
 -- the key that would move up to the parent has so many bytes
 pub record HasUp (leaf : Bool) (page : Body) (bytes : ℕ) : Type 0 where

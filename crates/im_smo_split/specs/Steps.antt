@@ -2,12 +2,13 @@
 use Rattle.std.specs.Prelude.{◌≡◌, ℕ, List}
 use Rattle.im_base_types.specs.Keys.{Key}
 use Rattle.im_base_types.specs.Pages.{Body}
-use Rattle.im_page_form.specs.Entry.{entry_at, Rises}
-use Rattle.im_page_form.specs.Child.{IsChild}
+use Rattle.im_theory_page.specs.Entry.{entry_at, Rises}
+use Rattle.im_theory_page.specs.Child.{IsChild}
 use Rattle.im_page_writer.specs.Outcome.{AllPages}
 use Rattle.im_theory_tree.specs.Levels.{walk}
 use Rattle.im_smo_pages.specs.Images.{Numbered, Has, KeepsAll}
 use Rattle.im_smo_pages.specs.OnImages.{PartsInner, PartsRootInner}
+use Rattle.im_theory_tree.specs.Ways.{KeepsAllWays}
 use Rattle.im_smo_pages.specs.OnWay.{IsHalf}
 use Rattle.im_smo_alloc.specs.Seen.{seen}
 use Rattle.im_smo_split.specs.Pages.{newest_first}
@@ -41,3 +42,4 @@ pub record Turned (store : AllPages) (key : Key) (images : List Numbered) (turn 
   pub turn_is : IsTurn (seen store new) (newest_first numbers) key turn.level turn.parent turn.page
   pub parent : Has new turn.parent
   pub same : walk (seen store new) ≡ walk (seen store images)
+  pub ways : KeepsAllWays (seen store images) (seen store new)

@@ -1,7 +1,7 @@
 -- Where a split begins: the highest page that splits.
 use Rattle.std.specs.Prelude.{◌≡◌, ◌+◌, ℕ, true, false, List, [], ◌∷◌, Option, None, IfSome}
 use Rattle.im_base_types.specs.Keys.{Key}
-use Rattle.im_page_form.specs.Split.{HasRoom}
+use Rattle.im_theory_page.specs.Split.{HasRoom}
 use Rattle.im_theory_tree.specs.Levels.{Pages}
 use Rattle.im_theory_tree.specs.Search.{IsOnWay}
 use Rattle.im_smo_split.specs.declared.top.Top.{Top}

@@ -1,9 +1,9 @@
 -- The pages that split on the way of a key, from the top down.
 use Rattle.std.specs.Prelude.{◌≡◌, ℕ, zero, suc, Bool, true, false, List}
 use Rattle.im_base_types.specs.Keys.{Key}
-use Rattle.im_page_form.specs.Entry.{entry_at, Rises}
-use Rattle.im_page_form.specs.Child.{IsChild}
-use Rattle.im_page_form.specs.Split.{IsSplitPoint, HasRoom}
+use Rattle.im_theory_page.specs.Entry.{entry_at, Rises}
+use Rattle.im_theory_page.specs.Child.{IsChild}
+use Rattle.im_theory_page.specs.Split.{IsSplitPoint, HasRoom}
 use Rattle.im_theory_tree.specs.Levels.{Pages, height}
 use Rattle.im_theory_tree.specs.Good.{IsGoodTree}
 use Rattle.im_theory_tree.specs.Search.{IsOnWay}

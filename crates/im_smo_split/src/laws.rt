@@ -3,9 +3,9 @@
 ghost use Rattle.std.specs.Prelude.{◌≡◌, ◌≢◌, ℕ, zero, suc, true, false, List, [], ◌∷◌, Option, Some};
 ghost use Rattle.im_base_types.specs.Keys.{Key, IsBelow};
 ghost use Rattle.im_base_types.specs.declared.page_kind.PageKind.TheVariants.{Leaf, Inner};
-ghost use Rattle.im_page_form.specs.Entry.{entry_at, Rises};
-ghost use Rattle.im_page_form.specs.Child.{IsChild};
-ghost use Rattle.im_page_form.specs.Split.{HasRoom};
+ghost use Rattle.im_theory_page.specs.Entry.{entry_at, Rises};
+ghost use Rattle.im_theory_page.specs.Child.{IsChild};
+ghost use Rattle.im_theory_page.specs.Split.{HasRoom};
 ghost use Rattle.im_page_writer.specs.Outcome.{AllPages};
 ghost use Rattle.im_theory_tree.specs.Levels.{Pages, walk};
 ghost use Rattle.im_theory_tree.specs.Good.{AtOrAbove, IsGoodTree};

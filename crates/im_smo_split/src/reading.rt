@@ -4,8 +4,8 @@ ghost use Rattle.std.specs.Prelude.{◌≡◌, ◌≤◌, ◌+◌, Bool, false, 
 ghost use Rattle.im_base_types.specs.Pages.{Body};
 ghost use Rattle.im_base_types.specs.declared.fault.Fault.TheVariants.{NotAStore};
 ghost use Rattle.im_base_types.specs.declared.page_kind.PageKind.TheVariants.{Meta};
-ghost use Rattle.im_page_form.specs.Child.{IsChild};
-ghost use Rattle.im_page_form.specs.Page.{is_leaf_kind};
+ghost use Rattle.im_theory_page.specs.Child.{IsChild};
+ghost use Rattle.im_theory_page.specs.Page.{is_leaf_kind};
 ghost use Rattle.im_page_writer.specs.PageWriter.{IsReadyWriter};
 ghost use Rattle.im_page_writer.specs.Outcome.{fault_of, AllPages, AreLoaded, HasPages, IsSound, Reads};
 ghost use Rattle.im_tree_search.specs.Levels.{HasLevel, kind_at};

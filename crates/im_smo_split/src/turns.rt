@@ -3,8 +3,8 @@
 ghost use Rattle.std.specs.Prelude.{◌≡◌, ◌≤◌, ◌<◌, ◌⊎◌, ◌+◌, ℕ, true, false, Ok, Err, IfErr, IfOk, length};
 ghost use Rattle.im_base_types.specs.declared.fault.Fault.TheVariants.{Memory, NotAStore};
 ghost use Rattle.im_base_types.specs.declared.page_kind.PageKind.TheVariants.{Inner};
-ghost use Rattle.im_page_form.specs.Entry.{entry_at};
-ghost use Rattle.im_page_form.specs.Child.{IsChild};
+ghost use Rattle.im_theory_page.specs.Entry.{entry_at};
+ghost use Rattle.im_theory_page.specs.Child.{IsChild};
 ghost use Rattle.im_page_writer.specs.PageWriter.{IsReadyWriter};
 ghost use Rattle.im_page_writer.specs.Outcome.{fault_of, AllPages, AreLoaded, HasPages, IsSound};
 ghost use Rattle.im_theory_tree.specs.Levels.{Pages};

@@ -55,12 +55,19 @@ fn other_files_are_left_as_they_are(rt: HostRuntime) -> Result<(), Fail> {
     let pages = "im_disk_other/pages";
     let _ = fs::remove_dir_all(&rt, dir);
     fs::create_dir(&rt, dir)?;
-    fs::write(&rt, log, "the quick brown fox jumps over it")?;
+    fs::write(
+        &rt,
+        log,
+        "the lazy dog sleeps while the quick brown fox run",
+    )?;
     assert!(rt; refused(&rt, dir) == Some(Fault::NotAStore));
-    assert!(rt; fs::read(&rt, log)?.as_slice() == b"the quick brown fox jumps over it".as_slice());
+    assert!(rt;
+        fs::read(&rt, log)?.as_slice()
+            == b"the lazy dog sleeps while the quick brown fox run".as_slice()
+    );
     assert!(rt; !fs::exists(&rt, pages)?);
     // One byte less is what a stop may leave of a log before it is made.
-    fs::write(&rt, log, "the quick brown fox jumps over i")?;
+    fs::write(&rt, log, "the lazy dog sleeps while the quick brown fox ru")?;
     assert!(rt; refused(&rt, dir).is_none());
     fs::remove_file(&rt, pages)?;
     fs::create_dir(&rt, pages)?;

@@ -1,9 +1,10 @@
 //! The bytes of a page.
 
+use im_base_types::PAGE_SIZE;
 use im_page::Page;
 
 /// The bytes of a leaf with LSN 36 and the one entry of the key `a` and the row id 7.
-fn one_entry(bytes: &mut [u8; 4096]) {
+fn one_entry(bytes: &mut [u8; PAGE_SIZE]) {
     bytes[7] = 0x24;
     bytes[8] = 0x02;
     bytes[13] = 0x01;
@@ -18,7 +19,7 @@ fn one_entry(bytes: &mut [u8; 4096]) {
 
 #[test]
 fn a_leaf_of_one_entry_has_these_bytes(rt: HostRuntime) {
-    let mut want = [0; 4096];
+    let mut want = [0; PAGE_SIZE];
     one_entry(&mut want);
     let mut page = Page::initial(1);
     match page.find(b"a") {

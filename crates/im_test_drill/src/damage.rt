@@ -5,9 +5,9 @@ ghost use Rattle.im_base_disk.specs.Runs.{IsSynced};
 
 use im_base_disk::Disk;
 use im_base_model_disk::ModelDisk;
+use im_base_steps::{Reply, Step};
 use im_base_types::Fault;
 use im_engine::{Config, Engine};
-use im_front::{Reply, Step};
 use im_tool_lines::StoreScript;
 use std::alloc::{AllocError, Global};
 use std::test::Fail;
@@ -21,6 +21,7 @@ fn whole_log(alloc: Global) -> Vec<u8> {
             let StoreScript {
                 log,
                 pages: _pages,
+                log2: _log2,
                 lives: _lives,
             } = script;
             log

@@ -128,6 +128,7 @@ fn failures(alloc: Global, script: &[u8]) -> Result<Counts, AllocError> {
     let StoreScript {
         log: _log,
         pages: _pages,
+        log2: _log2,
         mut lives,
     } = script;
     match lives.pop() {

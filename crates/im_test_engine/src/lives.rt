@@ -3,9 +3,9 @@
 use crate::said::{Said, are_said, created, end, make};
 use im_base_disk::Disk;
 use im_base_model_disk::ModelDisk;
+use im_base_steps::Step;
 use im_base_types::{FileId, PageKind, PageNo};
 use im_engine::{Config, Engine, live};
-use im_front::Step;
 use std::alloc::Global;
 use std::process::Abort;
 use std::test::Fail;

@@ -3,8 +3,8 @@
 use crate::said::{Said, created, end, make, opened_after_stop};
 use im_base_disk::Disk;
 use im_base_model_disk::ModelDisk;
+use im_base_steps::Step;
 use im_engine::{Config, Engine};
-use im_front::Step;
 use std::alloc::Global;
 use std::process::Abort;
 use std::test::Fail;

@@ -3,8 +3,9 @@
 use crate::said::{Said, created, end, make, opened, opened_after_stop};
 use im_base_disk::Disk;
 use im_base_model_disk::ModelDisk;
+use im_base_steps::Step;
+use im_base_types::LONGEST_KEY;
 use im_engine::{Config, Engine};
-use im_front::Step;
 use std::alloc::Global;
 use std::test::Fail;
 
@@ -16,7 +17,7 @@ fn key_of(alloc: Global, number: u64) -> Result<Vec<u8>, Fail> {
     let mut key = Vec::new(alloc);
     key.push(b'0' + (number / 10 % 10) as u8)?;
     key.push(b'0' + (number % 10) as u8)?;
-    key.resize(255, b'z')?;
+    key.resize(LONGEST_KEY, b'z')?;
     Ok(key)
 }
 

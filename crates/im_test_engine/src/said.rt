@@ -6,9 +6,9 @@ ghost use Rattle.im_base_disk.specs.Runs.{IsSynced};
 
 use im_base_disk::Disk;
 use im_base_model_disk::ModelDisk;
+use im_base_steps::{Blocker, Reply, Step};
 use im_base_types::Fault;
 use im_engine::{Config, Engine};
-use im_front::{Blocker, Reply, Step};
 use std::alloc::Global;
 use std::test::Fail;
 

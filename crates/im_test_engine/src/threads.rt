@@ -2,7 +2,9 @@
 
 ghost use Rattle.std.specs.Prelude.{◌≡◌};
 
-use im_front::{Closed, Fault, Front, LoadArgs, Reply, Share, Stats, Step, Store, Turn};
+use im_base_steps::{Reply, Step, Store, Turn};
+use im_base_types::Fault;
+use im_front::{Closed, Front, LoadArgs, Share, Stats};
 use im_front_load::load_text;
 use im_front_memory::MemoryStore;
 use std::alloc::Global;

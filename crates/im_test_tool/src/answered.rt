@@ -95,7 +95,7 @@ static RUNS: [Run; 7] = [
         bound: 16_777_216,
         manner: BY_NUMBERS,
         lines: "begin\ninsert 1 a 7\ncommit 1\n",
-        end: StoreEnd::RefusedClose(im_front::Fault::Device),
+        end: StoreEnd::RefusedClose(Fault::Device),
         printed: "started 1\ninserted\ncommitted\nclose refused 8\n",
     },
     Run {

@@ -1,8 +1,9 @@
 //! What an opening redoes, within a bound.
 
 use im_base_model_disk::ModelDisk;
+use im_base_steps::{Reply, Step};
+use im_base_types::LONGEST_KEY;
 use im_engine::{Config, Engine};
-use im_front::{Reply, Step};
 use im_tool::{Checkpoints, RedoBound};
 use std::alloc::Global;
 use std::process::Abort;
@@ -41,7 +42,7 @@ fn is_put(
     let Reply::Started(txn) = engine.step(&Step::Begin) else {
         return Ok(false);
     };
-    let mut key = vec![in alloc; b'z'; 255]?;
+    let mut key = vec![in alloc; b'z'; LONGEST_KEY]?;
     key[0] = (n % 90 * 37 % 90) as u8;
     let insert = made(engine, checkpoints, &Step::Insert(txn, key, n));
     let commit = made(engine, checkpoints, &Step::Commit(txn));

@@ -1,6 +1,6 @@
 //! Pages that are made by hand, as the bytes of a file, and pages among the images of a structure change.
 ghost use Rattle.std.specs.Prelude.{◌≡◌, ◌≤◌, ◌<◌, ◌^◌, length};
-ghost use Rattle.im_page_form.specs.Page.{HoldsEntries};
+ghost use Rattle.im_theory_page.specs.Page.{HoldsEntries};
 
 use im_base_types::PageNo;
 use im_page::Page;

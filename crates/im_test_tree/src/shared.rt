@@ -16,7 +16,7 @@ fn new_log<D: Disk>(alloc: Global, disk: &mut D) -> Result<Vec<u8>, Fault>
     requires working { D.failed disk.old ≡ false }
     requires synced { IsSynced D.Disk disk.old }
 {
-    open_or_create(alloc, disk)?;
+    open_or_create(alloc, disk, 1)?;
     let size = disk.len(FileId::Log)?;
     read_vec(alloc, disk, FileId::Log, 0, size as usize)
 }
@@ -38,7 +38,7 @@ fn open<D: Disk>(alloc: Global, disk: &mut D) -> Result<PageWriter, Fault>
     ensures ready { IfOk result (λ w. IsReadyWriter D.Disk w disk.new) }
     ensures works { IfOk result (λ w. w.failed ≡ false) }
 {
-    let log = open_or_create(alloc, disk)?;
+    let log = open_or_create(alloc, disk, 1)?;
     PageWriter::new(alloc, log, 8)
 }
 

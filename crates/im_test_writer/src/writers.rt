@@ -32,7 +32,7 @@ pub fn open<D: Disk>(alloc: Global, disk: &mut D) -> Result<PageWriter, Fault>
     ensures ready { IfOk result (λ w. IsReadyWriter D.Disk w disk.new) }
 {
     disk.sync(FileId::Log)?;
-    let log = open_or_create(alloc, disk)?;
+    let log = open_or_create(alloc, disk, 1)?;
     PageWriter::new(alloc, log, 8)
 }
 
@@ -42,7 +42,7 @@ pub fn open_over<D: Disk>(alloc: Global, disk: &mut D, pages: &[u8]) -> Result<P
     requires synced { IsSynced D.Disk disk.old }
     ensures ready { IfOk result (λ w. IsReadyWriter D.Disk w disk.new) }
 {
-    open_or_create(alloc, disk)?;
+    open_or_create(alloc, disk, 1)?;
     disk.write_at(FileId::Pages, 0, pages)?;
     open(alloc, disk)
 }

@@ -1,6 +1,6 @@
 -- A lawful log with one record more.
 use Rattle.std.proofs.Common.{◌≡◌, inl, inr, ℕ, List, [], ◌∷◌, refl, sym, ◌∙◌, ap, subst}
-use Rattle.std.specs.Prelude.{◌==◌}
+use Rattle.std.specs.Prelude.{◌==◌, ◌≤◌, max}
 use Rattle.std.specs.Cmp.Lexicographic.{nat_list_cmp_total}
 use Rattle.std.specs.FinMap.{insert, remove, entries, entries-insert}
 use Rattle.std.proofs.lemmas.Bool.{cases_eq, eq-eqb, ne_eqb, cond-true, cond-false}
@@ -12,12 +12,14 @@ use Rattle.im_theory_log.specs.Lawful.{Follows, HasTree, IsLawful, IsNotIn, MayC
 use Rattle.im_base_types.specs.Maps.{IndexMap, with_key, without_key}
 use Rattle.im_base_types.specs.Pages.{Body, Entry, Page}
 use Rattle.im_base_types.specs.Records.{Checkpoint, Commit, DeleteKey, DummyClr, End, Image, InsertKey, Logged, Smo, UndoDelete, UndoInsert, UndoSmo, What}
+use Rattle.im_theory_log.specs.PageCounts.{count_of, named_to}
 use Rattle.im_theory_log.specs.Structure.{body_before, open_after, open_smo, settled, taken_back}
 use Rattle.im_theory_log.specs.Transactions.{contents, contents_after}
 use Rattle.im_theory_log.specs.Tree.{Tree, TreeLaws, with_body, with_entries}
 use Rattle.im_theory_log.proofs.Fronts.{has_tree}
 use Rattle.im_theory_log.proofs.Histories.{page_same}
 use Rattle.im_base_types.proofs.Maps.{entries_drop}
+use Rattle.im_theory_log.proofs.Named.{still_named}
 use Rattle.im_theory_log.proofs.OpenSmo.{IsOpenSmo, is_open_smo}
 use Rattle.im_theory_log.proofs.Settled.{settled_smo, settled_undo_smo, tree_same}
 
@@ -56,8 +58,9 @@ module _ (b : Base) (tree : Tree) (older : History) (r : Logged) (law : IsLawful
       lawful_more (tree_same b tree r older (settled_smo b r older was now is may.new_in may.before) (ap (λ (w : What). contents_after w (contents b older)) is) (has_tree b tree older law))
 
   -- the record that closes a structure change: the tree that the pages now are is good, and has the same walk
-  pub append_dummy : r.what ≡ DummyClr → tree.Good (λ p. (page_at b older p).body) → tree.walk (λ p. (page_at b older p).body) ≡ tree.walk (settled b older) → IsLawful b tree (r ∷ older)
-  append_dummy is good walk =
+  pub append_dummy : r.what ≡ DummyClr → tree.Good (λ p. (page_at b older p).body) → tree.walk (λ p. (page_at b older p).body) ≡ tree.walk (settled b older)
+      → (page_at b older 0).body.leftmost ≤ max (count_of b) (named_to older) → IsLawful b tree (r ∷ older)
+  append_dummy is good walk named =
       let shut : open_smo (r ∷ older) ≡ [] = ap (λ (w : What). open_after r w (open_smo older)) is in
       let same : (p : ℕ) → settled b (r ∷ older) p ≡ (page_at b older p).body = λ p.
       ap (λ (l : History). taken_back l p (page_at b (r ∷ older) p).body) shut ∙ ap (λ (g : Page). g.body) (page_same b r older (λ g. ap (λ (w : What). page_after r.lsn w g) is) p) in
@@ -65,6 +68,7 @@ module _ (b : Base) (tree : Tree) (older : History) (r : Logged) (law : IsLawful
       lawful_more (record {
         good = subst (λ (f : ℕ → Body). tree.Good f) as_pages good;
         walk = ap (λ (f : ℕ → Body). tree.walk f) (sym as_pages) ∙ walk ∙ (has_tree b tree older law).walk ∙ sym (ap (λ (w : What). entries (contents_after w (contents b older))) is);
+        named = still_named b r older (settled b (r ∷ older) 0).leftmost (page_at b older 0).body.leftmost (ap (λ (x : Body). x.leftmost) (same 0)) named;
       })
 
   pub append_checkpoint : (n : ℕ) (a : List ActiveTransaction) (d : List DirtyPage) → r.what ≡ Checkpoint n a d → IsLawful b tree (r ∷ older)
@@ -104,6 +108,14 @@ module _ (b : Base) (tree : Tree) (older : History) (r : Logged) (law : IsLawful
             ∙ sym (cond-false (r.page == p) _ _ (ne_eqb r.page p other))
       ]
 
+  -- a key record leaves the count that page 0 says
+  entries_count : (f : List Entry → List Entry) → with_body (settled b older) r.page (with_entries (settled b older r.page) (f (settled b older r.page).entries)) ≡ settled b (r ∷ older)
+      → (settled b (r ∷ older) 0).leftmost ≡ (settled b older 0).leftmost
+  entries_count f pages = ap (λ (g : ℕ → Body). (g 0).leftmost) (sym pages) ∙ elim (cases_eq r.page 0) [
+    | inl here ↦ ap (λ (x : Body). x.leftmost) (cond-true (r.page == 0) (with_entries (settled b older r.page) (f (settled b older r.page).entries)) (settled b older 0) (eq-eqb r.page 0 here)) ∙ ap (λ (q : ℕ). (settled b older q).leftmost) here
+    | inr other ↦ ap (λ (x : Body). x.leftmost) (cond-false (r.page == 0) (with_entries (settled b older r.page) (f (settled b older r.page).entries)) (settled b older 0) (ne_eqb r.page 0 other))
+  ]
+
   puts : TreeLaws tree → (k : Key) (i : ℕ) (w : What) → ((l : ℕ) (g : Page) → page_after l w g ≡ record { lsn = l; body = with_entries g.body (with_key k i g.body.entries) })
       → ((going : History) → open_after r w going ≡ going) → contents_after w (contents b older) ≡ insert (contents b older) k i → r.what ≡ w → IsNotIn r.page (open_smo older) → tree.CanPut (settled b older) r.page k i → IsLawful b tree (r ∷ older)
   puts laws k i w new smo map is out can =
@@ -114,6 +126,7 @@ module _ (b : Base) (tree : Tree) (older : History) (r : Logged) (law : IsLawful
         walk = ap (λ (f : ℕ → Body). tree.walk f) (sym pages) ∙ laws.put_walk (settled b older) r.page k i old.good can
             ∙ ap (λ (es : List Entry). with_key k i es) old.walk ∙ sym (entries-insert nat_list_cmp_total (contents b older) k i)
             ∙ sym (ap (λ (m : IndexMap). entries m) (ap (λ (v : What). contents_after v (contents b older)) is ∙ map));
+        named = still_named b r older (settled b (r ∷ older) 0).leftmost (settled b older 0).leftmost (entries_count (λ es. with_key k i es) pages) old.named;
       })
 
   drops : TreeLaws tree → (k : Key) (i : ℕ) (w : What) → ((l : ℕ) (g : Page) → page_after l w g ≡ record { lsn = l; body = with_entries g.body (without_key k g.body.entries) })
@@ -126,6 +139,7 @@ module _ (b : Base) (tree : Tree) (older : History) (r : Logged) (law : IsLawful
         walk = ap (λ (f : ℕ → Body). tree.walk f) (sym pages) ∙ laws.drop_walk (settled b older) r.page k i old.good can
             ∙ ap (λ (es : List Entry). without_key k es) old.walk ∙ sym (entries_drop (contents b older) k)
             ∙ sym (ap (λ (m : IndexMap). entries m) (ap (λ (v : What). contents_after v (contents b older)) is ∙ map));
+        named = still_named b r older (settled b (r ∷ older) 0).leftmost (settled b older 0).leftmost (entries_count (λ es. without_key k es) pages) old.named;
       })
 
   pub append_insert : TreeLaws tree → (k : Key) (i : ℕ) → r.what ≡ InsertKey k i → IsLawful b tree (r ∷ older)

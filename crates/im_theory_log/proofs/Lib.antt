@@ -3,6 +3,7 @@ pub mod Redo
 pub mod Copies
 pub mod RedoPoints
 pub mod Fronts
+pub mod Named
 pub mod Committed
 pub mod Settled
 pub mod Appends

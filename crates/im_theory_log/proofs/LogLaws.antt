@@ -36,7 +36,7 @@ module _ (tree : Tree) (laws : TreeLaws tree) (b : Base) (older : History) (r : 
   by_kind (UndoDelete k i) is = append_undo_delete b tree older r law follows laws k i is
   by_kind (Smo old new) is = append_smo b tree older r law follows old new is
   by_kind (UndoSmo new) is = append_undo_smo b tree older r law follows new is
-  by_kind DummyClr is = let now = rebuilt is in append_dummy b tree older r law follows is now.good now.walk
+  by_kind DummyClr is = let now = rebuilt is in append_dummy b tree older r law follows is now.good now.walk now.named
   by_kind Commit is = append_commit b tree older r law follows is
   by_kind End is = append_end b tree older r law follows is
   by_kind (Image c) is = append_image b tree older r law follows c is

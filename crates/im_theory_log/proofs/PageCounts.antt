@@ -5,7 +5,7 @@ use Rattle.std.proofs.lemmas.Bool.{cases_Bool, cases_eq, cond-true, cond-false, 
 use Rattle.im_theory_log.specs.Copies.{copy_in, noted}
 use Rattle.im_theory_log.specs.Histories.{Base, History, IsFront, IsRecordOf, page_after, page_at}
 use Rattle.im_theory_log.specs.Lawful.{Follows, IsLawful, MayCome}
-use Rattle.im_theory_log.specs.PageCounts.{count_in, greatest_count, named_to, names_page}
+use Rattle.im_theory_log.specs.PageCounts.{count_in, count_of, first_count, greatest_count, named_to, names_page}
 use Rattle.im_base_types.specs.Pages.{Body, Page}
 use Rattle.im_base_types.specs.Records.{Checkpoint, Commit, DeleteKey, DummyClr, End, Image, InsertKey, Logged, Smo, UndoDelete, UndoInsert, UndoSmo, Unreadable, What}
 use Rattle.im_theory_log.specs.Structure.{body_before, open_after, open_smo, settled, taken_back}
@@ -74,27 +74,44 @@ noted_named from (r ∷ log) p l c is = by (λ e. noted_named from log p l c e) 
 
 -- ---- the page count
 
-pub count_more : (r : Logged) (older : History) → greatest_count older ≤ greatest_count (r ∷ older)
-count_more r older = elim (cases_eq r.page 0) [
-  | inl here ↦ (let is : greatest_count (r ∷ older) ≡ max (count_in r.what) (greatest_count older) = cond-true (r.page == 0) (max (count_in r.what) (greatest_count older)) (greatest_count older) (eq-eqb r.page 0 here) in omega (arith, is))
-  | inr other ↦ (let is : greatest_count (r ∷ older) ≡ greatest_count older = cond-false (r.page == 0) (max (count_in r.what) (greatest_count older)) (greatest_count older) (ne_eqb r.page 0 other) in omega (arith, is))
+pub count_more : (n : ℕ) (r : Logged) (older : History) → greatest_count n older ≤ greatest_count n (r ∷ older)
+count_more n r older = elim (cases_eq r.page 0) [
+  | inl here ↦ (let is : greatest_count n (r ∷ older) ≡ max (count_in r.what) (greatest_count n older) = cond-true (r.page == 0) (max (count_in r.what) (greatest_count n older)) (greatest_count n older) (eq-eqb r.page 0 here) in omega (arith, is))
+  | inr other ↦ (let is : greatest_count n (r ∷ older) ≡ greatest_count n older = cond-false (r.page == 0) (max (count_in r.what) (greatest_count n older)) (greatest_count n older) (ne_eqb r.page 0 other) in omega (arith, is))
 ]
 
-pub count_said : (r : Logged) (older : History) → r.page ≡ 0 → count_in r.what ≤ greatest_count (r ∷ older)
-count_said r older here =
-    let is : greatest_count (r ∷ older) ≡ max (count_in r.what) (greatest_count older) = cond-true (r.page == 0) (max (count_in r.what) (greatest_count older)) (greatest_count older) (eq-eqb r.page 0 here) in
+pub count_said : (n : ℕ) (r : Logged) (older : History) → r.page ≡ 0 → count_in r.what ≤ greatest_count n (r ∷ older)
+count_said n r older here =
+    let is : greatest_count n (r ∷ older) ≡ max (count_in r.what) (greatest_count n older) = cond-true (r.page == 0) (max (count_in r.what) (greatest_count n older)) (greatest_count n older) (eq-eqb r.page 0 here) in
     omega (arith, is)
 
-pub count_low : (log : History) → 2 ≤ greatest_count log
-count_low [] = omega arith
-count_low (r ∷ older) = let low = count_low older in let up = count_more r older in omega (arith, low, up)
+pub count_begun : (n : ℕ) (log : History) → n ≤ greatest_count n log
+count_begun n [] = omega arith
+count_begun n (r ∷ older) = let low = count_begun n older in let up = count_more n r older in omega (arith, low, up)
 
-count_by : (newer f : History) → greatest_count f ≤ greatest_count (newer ++ f)
-count_by [] f = omega arith
-count_by (r ∷ newer) f = let rest = count_by newer f in let more = count_more r (newer ++ f) in omega (arith, rest, more)
+pub count_low : (b : Base) (log : History) → 2 ≤ greatest_count (count_of b) log
+count_low b log = let begun = count_begun (count_of b) log in omega (arith, begun)
 
-pub count_front : (f log : History) → IsFront f log → greatest_count f ≤ greatest_count log
-count_front f log h = subst (λ (l : History). greatest_count f ≤ greatest_count l) h.is (count_by h.newer f)
+-- a greater count at first is a greater one at last
+pub count_grows : (m n : ℕ) (log : History) → m ≤ n → greatest_count m log ≤ greatest_count n log
+count_grows m n [] le = le
+count_grows m n (r ∷ older) le = let rest = count_grows m n older le in elim (cases_eq r.page 0) [
+  | inl here ↦ (
+      let one : greatest_count m (r ∷ older) ≡ max (count_in r.what) (greatest_count m older) = cond-true (r.page == 0) (max (count_in r.what) (greatest_count m older)) (greatest_count m older) (eq-eqb r.page 0 here) in
+      let two : greatest_count n (r ∷ older) ≡ max (count_in r.what) (greatest_count n older) = cond-true (r.page == 0) (max (count_in r.what) (greatest_count n older)) (greatest_count n older) (eq-eqb r.page 0 here) in
+      omega (arith, one, two, rest))
+  | inr other ↦ (
+      let one : greatest_count m (r ∷ older) ≡ greatest_count m older = cond-false (r.page == 0) (max (count_in r.what) (greatest_count m older)) (greatest_count m older) (ne_eqb r.page 0 other) in
+      let two : greatest_count n (r ∷ older) ≡ greatest_count n older = cond-false (r.page == 0) (max (count_in r.what) (greatest_count n older)) (greatest_count n older) (ne_eqb r.page 0 other) in
+      omega (arith, one, two, rest))
+]
+
+count_by : (n : ℕ) (newer f : History) → greatest_count n f ≤ greatest_count n (newer ++ f)
+count_by n [] f = omega arith
+count_by n (r ∷ newer) f = let rest = count_by n newer f in let more = count_more n r (newer ++ f) in omega (arith, rest, more)
+
+pub count_front : (n : ℕ) (f log : History) → IsFront f log → greatest_count n f ≤ greatest_count n log
+count_front n f log h = subst (λ (l : History). greatest_count n f ≤ greatest_count n l) h.is (count_by n h.newer f)
 
 -- what a record leaves of the count that a page says
 after_count : (l : ℕ) (w : What) (g : Page) → ((page_after l w g).body.leftmost ≡ g.body.leftmost) ⊎ ((page_after l w g).body.leftmost ≡ count_in w)
@@ -112,17 +129,17 @@ after_count l (Checkpoint n a d) g = inl refl
 after_count l Unreadable g = inl refl
 
 -- page 0 says no greater count than the log has said
-pub page_count_le : (b : Base) (tree : Tree) (log : History) → IsLawful b tree log → (page_at b log 0).body.leftmost ≤ greatest_count log
-page_count_le b tree [] law = law.count
+pub page_count_le : (b : Base) (tree : Tree) (log : History) → IsLawful b tree log → (page_at b log 0).body.leftmost ≤ greatest_count (count_of b) log
+page_count_le b tree [] law = omega arith
 page_count_le b tree (r ∷ older) law =
-    let old : (page_at b older 0).body.leftmost ≤ greatest_count older = page_count_le b tree older law.0 in
-    let more = count_more r older in
+    let old : (page_at b older 0).body.leftmost ≤ greatest_count (count_of b) older = page_count_le b tree older law.0 in
+    let more = count_more (count_of b) r older in
     elim (cases_eq r.page 0) [
       | inl here ↦
           let is : (page_at b (r ∷ older) 0).body.leftmost ≡ (page_after r.lsn r.what (page_at b older 0)).body.leftmost = ap (λ (g : Page). g.body.leftmost) (page_here b r older 0 here) in
           elim (after_count r.lsn r.what (page_at b older 0)) [
             | inl same ↦ omega (arith, is, same, old, more)
-            | inr new ↦ let said = count_said r older here in omega (arith, is, new, said)
+            | inr new ↦ let said = count_said (count_of b) r older here in omega (arith, is, new, said)
           ]
       | inr other ↦
           let is : (page_at b (r ∷ older) 0).body.leftmost ≡ (page_at b older 0).body.leftmost = ap (λ (g : Page). g.body.leftmost) (page_other b r older 0 other) in
@@ -174,30 +191,30 @@ opened c r (Image d) going is here all = all
 opened c r (Checkpoint n a d) going is here all = all
 opened c r Unreadable going is here all = all
 
-open_counts : (b : Base) (tree : Tree) (log : History) → IsLawful b tree log → HaveCounts (greatest_count log) (open_smo log)
+open_counts : (b : Base) (tree : Tree) (log : History) → IsLawful b tree log → HaveCounts (greatest_count (count_of b) log) (open_smo log)
 open_counts b tree [] law = tt
 open_counts b tree (r ∷ older) law =
-    let up = count_more r older in
-    opened (greatest_count (r ∷ older)) r r.what (open_smo older) refl
+    let up = count_more (count_of b) r older in
+    opened (greatest_count (count_of b) (r ∷ older)) r r.what (open_smo older) refl
     (λ here old new is. (
     let may = subst (λ (w : What). MayCome b tree r older w) is law.1.may in
     let was : old.leftmost ≡ (page_at b older 0).body.leftmost = ap (λ (x : Body). x.leftmost) may.before ∙ ap (λ (p : ℕ). (page_at b older p).body.leftmost) here in
     let low = page_count_le b tree older law.0 in
     omega (arith, was, low, up)))
-    (counts_more (greatest_count older) (greatest_count (r ∷ older)) (open_smo older) up (open_counts b tree older law.0))
+    (counts_more (greatest_count (count_of b) older) (greatest_count (count_of b) (r ∷ older)) (open_smo older) up (open_counts b tree older law.0))
 
 -- nor does page 0 of the tree that the log stands for
-pub settled_count : (b : Base) (tree : Tree) (log : History) → IsLawful b tree log → (settled b log 0).leftmost ≤ greatest_count log
-settled_count b tree log law = taken_count (greatest_count log) (open_smo log) (page_at b log 0).body (open_counts b tree log law) (page_count_le b tree log law)
+pub settled_count : (b : Base) (tree : Tree) (log : History) → IsLawful b tree log → (settled b log 0).leftmost ≤ greatest_count (count_of b) log
+settled_count b tree log law = taken_count (greatest_count (count_of b) log) (open_smo log) (page_at b log 0).body (open_counts b tree log law) (page_count_le b tree log law)
 
 -- ---- lawful logs
 
-module _ (b : Base) (tree : Tree) (laws : TreeLaws tree) (r : Logged) (older : History) (law : IsLawful b tree older) (follows : Follows b tree r older) (known : named_to older ≤ greatest_count older) where
-  leaf_within : (r.page < 2) ⊎ (r.page < (settled b older 0).leftmost) → r.page < greatest_count older
-  leaf_within (inl low) = let some = count_low older in omega (arith, low, some)
+module _ (b : Base) (tree : Tree) (laws : TreeLaws tree) (r : Logged) (older : History) (law : IsLawful b tree older) (follows : Follows b tree r older) (known : named_to older ≤ greatest_count (count_of b) older) where
+  leaf_within : (r.page < 2) ⊎ (r.page < (settled b older 0).leftmost) → r.page < greatest_count (count_of b) older
+  leaf_within (inl low) = let some = count_low b older in omega (arith, low, some)
   leaf_within (inr below) = let some = settled_count b tree older law in omega (arith, below, some)
 
-  by_kind : (w : What) → MayCome b tree r older w → names_page w ≡ true → r.page < greatest_count older
+  by_kind : (w : What) → MayCome b tree r older w → names_page w ≡ true → r.page < greatest_count (count_of b) older
   by_kind (InsertKey k i) may names = leaf_within (laws.put_within (settled b older) r.page k i (has_tree b tree older law).good may.can_put)
   by_kind (DeleteKey k i) may names = leaf_within (laws.drop_within (settled b older) r.page k i (has_tree b tree older law).good may.can_drop)
   by_kind (UndoInsert k i) may names = leaf_within (laws.drop_within (settled b older) r.page k i (has_tree b tree older law).good may.can_drop)
@@ -216,15 +233,15 @@ module _ (b : Base) (tree : Tree) (laws : TreeLaws tree) (r : Logged) (older : H
   by_kind (Checkpoint n a d) may names = absurd (cc names)
   by_kind Unreadable may names = absurd may
 
-  pub next_within : names_page r.what ≡ true → r.page < greatest_count older
+  pub next_within : names_page r.what ≡ true → r.page < greatest_count (count_of b) older
   next_within names = by_kind r.what follows.may names
 
 -- Each page that a lawful log names is below a page count that it has said.
-pub named_le_count : (b : Base) (tree : Tree) → TreeLaws tree → (log : History) → IsLawful b tree log → named_to log ≤ greatest_count log
+pub named_le_count : (b : Base) (tree : Tree) → TreeLaws tree → (log : History) → IsLawful b tree log → named_to log ≤ greatest_count (count_of b) log
 named_le_count b tree laws [] law = omega arith
 named_le_count b tree laws (r ∷ older) law =
     let known = named_le_count b tree laws older law.0 in
-    let more = count_more r older in
+    let more = count_more (count_of b) r older in
     elim (cases_Bool (names_page r.what)) [
       | inl names ↦
           let is : named_to (r ∷ older) ≡ max (r.page + 1) (named_to older) = cond-true (names_page r.what) (max (r.page + 1) (named_to older)) (named_to older) names in
@@ -236,5 +253,5 @@ named_le_count b tree laws (r ∷ older) law =
     ]
 
 -- and so is that of each record, by the counts that were said before it
-pub record_within : (b : Base) (tree : Tree) → TreeLaws tree → (r : Logged) (older : History) → IsLawful b tree (r ∷ older) → names_page r.what ≡ true → r.page < greatest_count older
+pub record_within : (b : Base) (tree : Tree) → TreeLaws tree → (r : Logged) (older : History) → IsLawful b tree (r ∷ older) → names_page r.what ≡ true → r.page < greatest_count (count_of b) older
 record_within b tree laws r older law names = next_within b tree laws r older law.0 law.1 (named_le_count b tree laws older law.0) names

@@ -11,6 +11,7 @@ use Rattle.im_base_types.specs.Records.{Logged, Smo, UndoSmo, What}
 use Rattle.im_theory_log.specs.Structure.{body_before, open_after, open_smo, settled, taken_back}
 use Rattle.im_theory_log.specs.Transactions.{contents}
 use Rattle.im_theory_log.specs.Tree.{Tree}
+use Rattle.im_theory_log.proofs.Named.{still_named}
 
 -- a tree that looks the same stands as before
 pub tree_same : (b : Base) (tree : Tree) (r : Logged) (older : History) → ((p : ℕ) → settled b (r ∷ older) p ≡ settled b older p) → contents b (r ∷ older) ≡ contents b older → HasTree b tree older → HasTree b tree (r ∷ older)
@@ -19,6 +20,7 @@ tree_same b tree r older pages map old =
     record {
       good = subst (λ (f : ℕ → Body). tree.Good f) same old.good;
       walk = ap (λ (f : ℕ → Body). tree.walk f) (sym same) ∙ old.walk ∙ ap (λ m. entries m) (sym map);
+      named = still_named b r older (settled b (r ∷ older) 0).leftmost (settled b older 0).leftmost (ap (λ (x : Body). x.leftmost) (pages 0)) old.named;
     }
 
 apart : (t : ℕ) (p : ℕ) (going : History) (now : Body) → IsNewIn t p going → taken_back going p now ≡ now

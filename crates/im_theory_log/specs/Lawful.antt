@@ -1,5 +1,5 @@
 -- When a log is lawful: each of its records may come after what stands before it, and each front stands for a good tree.
-use Rattle.std.specs.Prelude.{◌≡◌, ◌≢◌, ◌≤◌, ◌<◌, ℕ, [], ◌∷◌, Bool, true, false, None, Some}
+use Rattle.std.specs.Prelude.{◌≡◌, ◌≢◌, ◌≤◌, ◌<◌, ℕ, [], ◌∷◌, Bool, true, false, None, Some, max}
 use Rattle.std.specs.FinMap.{get, entries}
 use Rattle.im_base_types.specs.Keys.{Key}
 use Rattle.im_base_types.specs.Changes.{Touches}
@@ -7,7 +7,7 @@ use Rattle.im_base_types.specs.Pages.{Body, Page}
 use Rattle.im_base_types.specs.Records.{What, InsertKey, DeleteKey, UndoInsert, UndoDelete, Smo, UndoSmo, DummyClr, Commit, End, Image, Checkpoint, Unreadable, Logged}
 use Rattle.im_theory_log.specs.Tree.{Tree}
 use Rattle.im_theory_log.specs.Histories.{History, Base, end_of, below, page_at, page_up_to}
-use Rattle.im_theory_log.specs.PageCounts.{first_count, greatest_count, named_to}
+use Rattle.im_theory_log.specs.PageCounts.{count_of, greatest_count, named_to}
 use Rattle.im_theory_log.specs.Structure.{open_smo, settled}
 use Rattle.im_theory_log.specs.Transactions.{last_of, undo_next_of, to_undo, net, is_finished, is_rolling_back, contents}
 
@@ -87,7 +87,7 @@ pub record MaySmo (b : Base) (r : Logged) (older : History) (old : Body) : Type 
   pub no_undo_next : r.undo_next ≡ 0
   pub new_in : IsNewIn r.txn r.page (open_smo older)
   pub before : old ≡ (page_at b older r.page).body
-  pub within : r.page < greatest_count older
+  pub within : r.page < greatest_count (count_of b) older
 
 -- the undo of the open structure change's newest page, back to what it was
 pub record MayUndoSmo (r : Logged) (older : History) (new : Body) : Type 0 where
@@ -160,11 +160,12 @@ pub record Follows (b : Base) (tree : Tree) (r : Logged) (older : History) : Typ
 pub record HasTree (b : Base) (tree : Tree) (log : History) : Type 0 where
   pub good : tree.Good (settled b log)
   pub walk : tree.walk (settled b log) ≡ entries (contents b log)
+  -- the page count that page 0 says is one that the base said, or no page below it is above all that the log has named
+  pub named : (settled b log 0).leftmost ≤ max (count_of b) (named_to log)
 
--- where a log starts: no page has an LSN after the start, page 0 says no more pages than a first log finds, and they are a good tree with the base's map
+-- where a log starts: no page has an LSN after the start, and they are a good tree with the base's map
 pub record IsStart (b : Base) (tree : Tree) : Type 0 where
   pub lsns : (p : ℕ) → (b.pages p).lsn ≤ b.start
-  pub count : (b.pages 0).body.leftmost ≤ first_count
   pub stands : HasTree b tree []
 
 abbrev pub IsLawful : Base → Tree → History → Type 0

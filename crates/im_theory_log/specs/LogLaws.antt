@@ -1,5 +1,5 @@
 -- What is promised of lawful logs.
-use Rattle.std.specs.Prelude.{◌≡◌, ◌≢◌, ℕ, List, [], ◌∷◌, ◌++◌, true, false, Option}
+use Rattle.std.specs.Prelude.{◌≡◌, ◌≢◌, ℕ, List, [], ◌∷◌, ◌++◌, true, false, Option, ◌≤◌, max}
 use Rattle.std.specs.FinMap.{entries}
 use Rattle.im_base_types.specs.Changes.{Effect, apply_all}
 use Rattle.im_base_types.specs.Nets.{AreNets}
@@ -7,6 +7,7 @@ use Rattle.im_base_types.specs.Pages.{Body}
 use Rattle.im_base_types.specs.Records.{DummyClr, Logged}
 use Rattle.im_theory_log.specs.Tree.{Tree}
 use Rattle.im_theory_log.specs.Histories.{Base, History, IsFront, IsRecordOf, page_at}
+use Rattle.im_theory_log.specs.PageCounts.{count_of, named_to}
 use Rattle.im_theory_log.specs.Structure.{open_smo, settled}
 use Rattle.im_theory_log.specs.Transactions.{to_undo, undo_next_of, top_of, net, is_finished, is_key, is_smo, IsCounted, committed, contents}
 use Rattle.im_theory_log.specs.Lawful.{IsLawful, Follows, has_owner}
@@ -31,6 +32,7 @@ FrontsAreLawful tree = (b : Base) (f log : History) → IsFront f log → IsLawf
 pub record IsRebuilt (b : Base) (tree : Tree) (log : History) : Type 0 where
   pub good : tree.Good (bodies b log)
   pub walk : tree.walk (bodies b log) ≡ tree.walk (settled b log)
+  pub named : (bodies b log 0).leftmost ≤ max (count_of b) (named_to log)
 
 -- A record of any kind that may come next leaves a lawful log. Of the end of a structure change it is asked that the pages are a good tree with the same walk.
 abbrev pub LogsStayLawful : Tree → Type 0

@@ -7,8 +7,8 @@ use Rattle.im_base_types.specs.Changes.{Effect}
 use Rattle.im_base_types.specs.Answers.{Access, Fetch, Seek, Next, Scan, Insert, Delete, Step, Begin, Do, Commit, Rollback, Continue, FlushPage, Force, Checkpoint, Mark, Idle, Going, MustRollBack, RollingBack, Committing, Blocked, Die, Duplicate, Inserted, Deleted, Absent, answer, found, entry}
 use Rattle.im_base_types.specs.Refusals.{memory, unfinished}
 use Rattle.im_base_types.specs.Lives.{Asked, Shown, effects, effect_asked, all_acked, answered, refused, asks, breaks}
-use Rattle.im_engine_lock.specs.View.{View}
-use Rattle.im_engine_lock.specs.Machine.{Wants}
+use Rattle.im_base_lock.specs.View.{View}
+use Rattle.im_base_lock.specs.Machine.{Wants}
 
 -- ---- the effects asked
 
@@ -91,20 +91,24 @@ module _ (s : Shown) (t : ℕ) where
 
 -- ---- refusals
 
--- a refusal for want of memory, or of a transaction that is not going, asks nothing
-pub refusals_ask_nothing : (n : ℕ) (step : Step) (s : Shown) → ((t : ℕ) → step ≡ Commit t → ((n == memory) ≡ true) ⊎ ((s.running t).mark ≡ Going → ⊥)) → (refused n step s).asked ≡ s.asked
+-- a refusal for want of memory, within a structure change, or of a transaction that is not going, asks nothing
+abbrev pub asks_none : ℕ → Bool
+asks_none n = n == memory || n == unfinished
+
+pub refusals_ask_nothing : (n : ℕ) (step : Step) (s : Shown) → ((t : ℕ) → step ≡ Commit t → (asks_none n ≡ true) ⊎ ((s.running t).mark ≡ Going → ⊥)) → (refused n step s).asked ≡ s.asked
 refusals_ask_nothing n (Commit t) s how = by (how t refl)
   where
     quiet : (b : Bool) → effect_asked t false (s.running t).mark (s.running t).effect ≡ [] → (if b then s else record (asks t false s) { failed = breaks n }).asked ≡ s.asked
     quiet true none = refl
     quiet false none = ap (λ (l : List Asked). s.asked ++ l) none ∙ append-nil s.asked
 
-    skip : (a b c : Bool) → b ≡ true → (if a || b || c then s else record (asks t false s) { failed = breaks n }).asked ≡ s.asked
+    skip : (a b c : Bool) → (b || c) ≡ true → (if a || b || c then s else record (asks t false s) { failed = breaks n }).asked ≡ s.asked
     skip true b c e = refl
     skip false true c e = refl
-    skip false false c e = absurd cc
+    skip false false true e = refl
+    skip false false false e = absurd cc
 
-    by : ((n == memory) ≡ true) ⊎ ((s.running t).mark ≡ Going → ⊥) → (refused n (Commit t) s).asked ≡ s.asked
+    by : (asks_none n ≡ true) ⊎ ((s.running t).mark ≡ Going → ⊥) → (refused n (Commit t) s).asked ≡ s.asked
     by (inl e) = skip s.failed (n == memory) (n == unfinished) e
     by (inr ne) = quiet (s.failed || n == memory || n == unfinished) (none_asked t false (s.running t).mark (s.running t).effect ne)
 refusals_ask_nothing n Begin s how = refl
@@ -116,7 +120,7 @@ refusals_ask_nothing n Force s how = refl
 refusals_ask_nothing n Checkpoint s how = refl
 
 -- a Commit is refused for want of memory alone, where no check bars it and the engine does not fail
-pub commit_wants : (step : Step) (f t : ℕ) → Wants step f → step ≡ Commit t → (f == memory) ≡ true
+pub commit_wants : (step : Step) (f t : ℕ) → Wants step f → step ≡ Commit t → asks_none f ≡ true
 commit_wants step f t wants is =
     let e : f ≡ memory = subst (λ (x : Step). Wants x f) is wants in
-    subst (λ (k : ℕ). (k == memory) ≡ true) (sym e) refl
+    subst (λ (k : ℕ). asks_none k ≡ true) (sym e) refl

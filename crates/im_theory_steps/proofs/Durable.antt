@@ -1,5 +1,5 @@
 -- What a stop leaves of the Commits of a life.
-use Rattle.std.proofs.Common.{◌≡◌, ◌≢◌, inl, ℕ, Bool, true, false, List, [], ◌∷◌, ◌++◌, length, refl, sym, ap, subst, ◌∙◌, append_assoc, append-nil}
+use Rattle.std.proofs.Common.{◌≡◌, ◌≢◌, inl, ℕ, Bool, true, false, List, [], ◌∷◌, ◌++◌, length, Option, None, refl, sym, ap, subst, ◌∙◌, append_assoc, append-nil}
 use Rattle.std.specs.Prelude.{find, if◌then◌else◌, ◌==◌, ◌||◌}
 use Rattle.std.proofs.lemmas.Bool.{ne_eqb}
 use Rattle.std.specs.FinMap.{empty}
@@ -14,17 +14,22 @@ use Rattle.im_base_types.specs.Refusals.{memory, unfinished}
 use Rattle.im_base_types.specs.Lives.{Asked, Shown, NoneAcked, all_acked, asks, breaks, cut_off, effects, effect_asked}
 use Rattle.im_base_types.proofs.Changes.{seen_append}
 use Rattle.im_theory_log.proofs.Fronts.{committed_front, fronts_lawful}
-use Rattle.im_engine_txn.specs.declared.transaction.Transaction.{Transaction}
-use Rattle.im_engine_txn.specs.Rows.{is_of}
-use Rattle.im_engine_lock.specs.Table.{Table}
-use Rattle.im_engine_lock.specs.View.{View, Txn, idle}
-use Rattle.im_engine_lock.specs.Machine.{start}
-use Rattle.im_engine_lock.proofs.Isolates.{isolates}
+use Rattle.im_base_txn.specs.declared.transaction.Transaction.{Transaction}
+use Rattle.im_base_txn.specs.Rows.{is_of}
+use Rattle.im_base_lock.specs.Table.{Table}
+use Rattle.im_base_lock.specs.View.{View, owner_in, Txn, idle, is_among, nets_of}
+use Rattle.im_base_lock.proofs.Queue.{among_one}
+use Rattle.im_base_lock.specs.Machine.{start}
+use Rattle.im_base_lock.proofs.Isolates.{isolates, queue_marks}
 use Rattle.im_theory_steps.specs.Serving.{IsServing, IsAt, mark_of}
 use Rattle.im_theory_steps.specs.Durable.{AreCommitted, StopsAllow, CommitsStand, CutCommitsStand, OthersAskNothing, QuietLivesSettle, Settled}
 use Rattle.im_theory_steps.specs.Acknowledged.{AllAcked}
 use Rattle.im_theory_steps.proofs.Asking.{effects_append, effects_acked}
-use Rattle.im_theory_steps.proofs.Steps.{at, map_made}
+use Rattle.im_theory_steps.proofs.Acknowledged.{no_effects}
+use Rattle.im_theory_steps.proofs.Showing.{shown_is, effect_shown}
+use Rattle.im_base_lock.proofs.Under.{unowned_clear}
+use Rattle.im_base_txn.specs.declared.transaction.Mark.TheVariants.{Going as RowGoing}
+use Rattle.im_theory_steps.proofs.Steps.{at, has_changed, mark_free, new_by, map_made}
 
 -- all but the first
 abbrev rest_of : List Effect → List Effect
@@ -174,14 +179,14 @@ cut_asks : (s : Shown) (t : ℕ) → s.failed ≡ false → (cut_off (Commit t) 
 cut_asks s t works = ap (λ (b : Bool). (if b then s else asks t false s).asked) works
 
 pub cut_commits_stand : CutCommitsStand
-cut_commits_stand b earlier before s v older longer durable rows next held t row h found mark some on are =
-    let is = at b earlier before s v older rows next held h t row found in
+cut_commits_stand b earlier before s v older longer durable rows next held t row h found mark some free on are =
+    let is = at b earlier before s v older rows next held h t row found (mark_free row.mark RowGoing mark (λ x. cc x)) in
     let going : (v.txns t).mark ≡ Going = is.2 ∙ ap mark_of mark in
-    let net_some : net t older ≢ [] = λ e. is.1.logged some (ap (λ (n : ℕ). net n older) is.0 ∙ e) in
-    let effect_is : (s.running t).effect ≡ seen_effect (net t older) = h.shows.shown.effects t (inl going) ∙ ap seen_effect (h.seen_by.nets t) in
+    let net_some : net t older ≢ [] = has_changed t older row (owner_in v) is.0 (is.1.logged some) free in
+    let effect_is : (s.running t).effect ≡ seen_effect (net t older) = effect_shown s v h.shows.shown t (unowned_clear v.under t free) (inl going) ∙ ap seen_effect (h.seen_by.nets t (new_by b earlier before s v older rows next held h t Going going (λ x. cc x))) in
     let more = effect_asked t false (s.running t).mark (s.running t).effect in
     let adds : effects more ≡ seen_effect (net t older) ∷ [] =
-    ap (λ (m : Mark). effects (effect_asked t false m (s.running t).effect)) (h.shows.shown.marks t ∙ going)
+    ap (λ (m : Mark). effects (effect_asked t false m (s.running t).effect)) (shown_is ((s.running t).mark) ((v.txns t).mark) Going (h.shows.shown.marks t) going (λ x. cc x))
     ∙ ap (λ (e : Effect). effects (effect_asked t false Going e)) effect_is ∙ asked_one t (seen_effect (net t older)) (seen_some (net t older) net_some) in
     let now : (cut_off (Commit t) s).asked ≡ s.asked ++ more = cut_asks s t (h.shows.shown.failed ∙ h.works) in
     record {
@@ -235,6 +240,15 @@ none_waits [] [] all none = refl
 none_waits [] (x ∷ rest) all none = absurd (let clash : true ≡ false = sym all.0 ∙ none.0 in cc clash)
 none_waits (x ∷ front) rest all none = none_waits front rest all.1 none
 
+empty_queue : (queue : List ℕ) → ((t : ℕ) → is_among t queue ≡ true → ⊥) → queue ≡ []
+empty_queue [] none = refl
+empty_queue (t ∷ ts) none = absurd (none t (among_one t t ts refl))
+
+-- in no row, whoever has a structure change under way
+owned_by_none : (t next : ℕ) (log : History) (rows : List Transaction) (who : Option ℕ) (x : Txn) → rows ≡ [] → IsAt t (find (is_of t) rows) next log who x → IsAt t (find (is_of t) rows) next log None x
+owned_by_none t next log [] who x is at = at
+owned_by_none t next log (row ∷ rows) who x is at = absurd (cc is)
+
 no_rows : (rows : List Transaction) → length rows ≡ 0 → rows ≡ []
 no_rows [] is = refl
 no_rows (row ∷ rows) is = absurd (cc is)
@@ -243,8 +257,19 @@ module _ (b : Base) (earlier before : List Effect) (s : Shown) (v : View) (durab
   abbrev all : List Effect
   all = before ++ effects s.asked
 
+  is_idle : (t : ℕ) → v.txns t ≡ idle
+  is_idle t = (subst (λ (l : List Transaction). IsAt t (find (is_of t) l) next log (owner_in v) (v.txns t)) (no_rows rows (sym h.table.active ∙ none)) (h.table.each t)).2
+
+  no_queue : v.queue ≡ []
+  no_queue = empty_queue v.queue (λ t some.
+      let waits : (v.txns t).mark ≡ Committing = (queue_marks _ v h.reached).waits t some in
+      let never : Committing ≡ Idle = sym waits ∙ ap (λ (x : Txn). x.mark) (is_idle t) in cc never)
+
   acked : AllAcked s.asked
-  acked = h.shows.clean h.works
+  acked =
+      let c = h.shows.clean h.works in
+      let gone : c.waiting ≡ [] = no_effects c.waiting (c.are ∙ ap seen (ap (nets_of v.txns) no_queue)) in
+      subst AllAcked (sym (append-nil c.done) ∙ ap (λ (l : List Asked). c.done ++ l) (sym gone) ∙ c.all) c.acked
 
   -- of the asked effects none is lost
   whole : (kept lost : List Asked) → kept ++ lost ≡ s.asked → NoneAcked lost → effects kept ≡ effects s.asked
@@ -252,11 +277,11 @@ module _ (b : Base) (earlier before : List Effect) (s : Shown) (v : View) (durab
       let gone : lost ≡ [] = none_waits kept lost (subst AllAcked (sym is) acked) waits in
       ap effects (sym (append-nil kept) ∙ ap (λ (l : List Asked). kept ++ l) (sym gone) ∙ is)
 
-  map_is : v.committed ≡ apply_all empty all
-  map_is = h.seen_by.committed ∙ sym (map_made b earlier all log h.made h.says)
+  finished_is : committed log ≡ h.seen_by.finished
+  finished_is = h.seen_by.all ∙ ap (λ (es : List Effect). h.seen_by.finished ++ es) (ap (nets_of v.txns) no_queue) ∙ append-nil h.seen_by.finished
 
-  is_idle : (t : ℕ) → v.txns t ≡ idle
-  is_idle t = (subst (λ (l : List Transaction). IsAt t (find (is_of t) l) next log (v.txns t)) (no_rows rows (sym h.table.active ∙ none)) (h.table.each t)).2
+  map_is : v.committed ≡ apply_all empty all
+  map_is = h.seen_by.answered ∙ ap (apply_all b.map) (sym finished_is) ∙ sym (map_made b earlier all log h.made h.says)
 
   walk_is : v.walk ≡ v.committed
   walk_is = (isolates (apply_all empty before) h.reached.first).quiet h.reached.trace v h.reached.run (λ t. ap (λ (x : Txn). x.net) (is_idle t))
@@ -268,19 +293,22 @@ module _ (b : Base) (earlier before : List Effect) (s : Shown) (v : View) (durab
       made = h.made;
       works = refl;
       seen_by = record {
-        committed = h.seen_by.committed;
+        finished = h.seen_by.finished;
+        all = finished_is ∙ sym (append-nil h.seen_by.finished);
+        answered = h.seen_by.answered;
         walk = sym walk_is ∙ h.seen_by.walk;
-        nets = λ t. sym (ap (λ (x : Txn). x.net) (is_idle t)) ∙ h.seen_by.nets t;
+        nets = λ t none. sym (ap (λ (x : Txn). x.net) (is_idle t)) ∙ h.seen_by.nets t (ap (is_among t) no_queue);
+        over = λ t some. absurd (cc some);
       };
-      shows = record { shown = record { failed = refl; marks = λ t. refl; effects = λ t may. refl }; commits = map_is; clean = λ q. tt };
+      shows = record { shown = record { failed = refl; marks = λ t. inl refl; pending = λ t. refl; effects = λ t may. refl }; commits = map_is; clean = λ q. record { done = []; waiting = []; all = refl; acked = tt; none = tt; are = refl } };
       reached = record { trace = []; first = v.next; run = ap (λ (m : IndexMap). start m v.next) map_is };
       says = h.says ∙ sym (append-nil all);
       table = record {
-        each = λ t. subst (λ (x : Txn). IsAt t (find (is_of t) rows) next log x) (is_idle t) (h.table.each t);
+        each = λ t. subst (λ (x : Txn). IsAt t (find (is_of t) rows) next log None x) (is_idle t) (owned_by_none t next log rows (owner_in v) (v.txns t) (no_rows rows (sym h.table.active ∙ none)) (h.table.each t));
         active = sym none ∙ h.table.active;
         numbers = h.table.numbers;
       };
-      locks = λ t. sym (ap (λ (x : Txn). x.locks) (is_idle t)) ∙ h.locks t;
+      locks = ((λ t. sym (ap (λ (x : Txn). x.locks) (is_idle t)) ∙ h.locks.0 t), λ w s. refl);
     };
     commits = record {
       front = [];

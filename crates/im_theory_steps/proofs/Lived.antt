@@ -6,10 +6,10 @@ use Rattle.im_theory_log.specs.Histories.{History}
 use Rattle.im_base_types.specs.Answers.{Mark, Step, Reply, Begin, Do, Commit, Rollback, Continue, FlushPage, Force, Checkpoint, Refused}
 use Rattle.im_base_types.specs.Refusals.{capacity, failed as has_failed}
 use Rattle.im_base_types.specs.Lives.{Shown}
-use Rattle.im_engine_txn.specs.declared.transaction.Transaction.{Transaction}
-use Rattle.im_engine_txn.specs.Rows.{is_of}
-use Rattle.im_engine_lock.specs.View.{View, Txn, broken}
-use Rattle.im_engine_lock.specs.Machine.{Moves, Answers, breaks, barred, first_check, mark_for, fault_if}
+use Rattle.im_base_txn.specs.declared.transaction.Transaction.{Transaction}
+use Rattle.im_base_txn.specs.Rows.{is_of}
+use Rattle.im_base_lock.specs.View.{View, owner_in, owns_in, Txn, broken}
+use Rattle.im_base_lock.specs.Machine.{Moves, Answers, breaks, barred, first_check, mark_for, fault_if}
 use Rattle.im_theory_steps.specs.Serving.{IsAt}
 use Rattle.im_theory_steps.specs.Checks.{mark_at, marks_in, RowsTellChecks}
 use Rattle.im_theory_steps.specs.Lived.{IsLived, IsLivedOn, LivesGoOn}
@@ -19,9 +19,9 @@ use Rattle.im_theory_steps.proofs.Steps.{moves_by}
 
 -- ---- checks
 
-found_mark : (t next : ℕ) (log : History) (o : Option Transaction) (x : Txn) → IsAt t o next log x → x.mark ≡ mark_at o
-found_mark t next log None x is = ap (λ (y : Txn). y.mark) is.2
-found_mark t next log (Some row) x is = is.2
+found_mark : (who : Option ℕ) (t next : ℕ) (log : History) (o : Option Transaction) (x : Txn) → IsAt t o next log who x → x.mark ≡ mark_at o
+found_mark who t next log None x is = ap (λ (y : Txn). y.mark) is.2
+found_mark who t next log (Some row) x is = is.2
 
 -- the mark of the transaction that a step names
 named_mark : (one two : ℕ → Mark) → ((t : ℕ) → one t ≡ two t) → (step : Step) → mark_for one step ≡ mark_for two step
@@ -36,20 +36,20 @@ named_mark one two same Checkpoint = refl
 
 pub rows_tell : RowsTellChecks
 rows_tell b earlier before s v log rows next held step h =
-    ap (λ (failed : Bool). first_check failed v.active (mark_for (λ t. (v.txns t).mark) step) step) h.works
-    ∙ ap (λ (n : ℕ). first_check false n (mark_for (λ t. (v.txns t).mark) step) step) h.table.active
-    ∙ ap (λ (m : Mark). first_check false (length rows) m step) (named_mark (λ t. (v.txns t).mark) (marks_in rows) (λ t. found_mark t next log (find (is_of t) rows) (v.txns t) (h.table.each t)) step)
+    ap (λ (failed : Bool). first_check failed v.active (mark_for (λ t. (v.txns t).mark) step) (owns_in v.under step) step) h.works
+    ∙ ap (λ (n : ℕ). first_check false n (mark_for (λ t. (v.txns t).mark) step) (owns_in v.under step) step) h.table.active
+    ∙ ap (λ (m : Mark). first_check false (length rows) m (owns_in v.under step) step) (named_mark (λ t. (v.txns t).mark) (marks_in rows) (λ t. found_mark (owner_in v) t next log (find (is_of t) rows) (v.txns t) (h.table.each t)) step)
 
 -- ---- lives
 
 lived_on : (base : IndexMap) (s : Shown) (v w : View) (step : Step) (reply : Reply) → IsLived base s v → Moves v step reply w → IsLivedOn base s v step reply w
-lived_on base s v w step reply life moves = (moves, record { shows = step_shows base s v life.shows step reply w moves; reached = moves_reach base v w step reply life.reached moves })
+lived_on base s v w step reply life moves = (moves, record { shows = step_shows base s v life.shows life.reached step reply w moves; reached = moves_reach base v w step reply life.reached moves })
 
 -- a failed engine refuses each step
 first_failed : (v : View) (step : Step) → v.failed ≡ true → barred v step ≡ Some has_failed
-first_failed v step failed = ap (λ (b : Bool). first_check b v.active (mark_for (λ t. (v.txns t).mark) step) step) failed ∙ by step
+first_failed v step failed = ap (λ (b : Bool). first_check b v.active (mark_for (λ t. (v.txns t).mark) step) (owns_in v.under step) step) failed ∙ by step
   where
-    by : (x : Step) → first_check true v.active (mark_for (λ t. (v.txns t).mark) x) x ≡ Some has_failed
+    by : (x : Step) → first_check true v.active (mark_for (λ t. (v.txns t).mark) x) (owns_in v.under x) x ≡ Some has_failed
     by Begin = refl
     by (Do t a) = refl
     by (Commit t) = refl

@@ -1,5 +1,5 @@
 -- A key record that was granted its locks, a Commit and a Checkpoint, logged.
-use Rattle.std.proofs.Common.{◌≡◌, ◌≤◌, ◌<◌, ℕ, List, [], ◌∷◌, ◌++◌, map, refl, sym, ◌∙◌, ap, subst, cond, is_some, Bool, true, false, Option, None, Some}
+use Rattle.std.proofs.Common.{◌≡◌, ◌≢◌, ◌≤◌, ◌<◌, ℕ, List, [], ◌∷◌, ◌++◌, map, refl, sym, ◌∙◌, ap, subst, cond, is_some, Bool, true, false, Option, None, Some, inl}
 use Rattle.std.specs.Prelude.{find, if◌then◌else◌, ◌==◌, ◌||◌}
 use Rattle.std.specs.FinMap.{get}
 use Rattle.std.proofs.lemmas.Bool.{eq-eqb, cond-true}
@@ -16,25 +16,26 @@ use Rattle.im_theory_log.specs.Transactions.{last_of, undo_next_of, undo_from, t
 use Rattle.im_base_types.specs.Answers as answers
 use Rattle.im_base_types.specs.Answers.{Access, Insert, Delete, Inserted, Deleted, Duplicate, Absent, Do, Reply, answer, changes, dropped}
 use Rattle.im_base_types.specs.Lives.{Shown}
-use Rattle.im_engine_txn.specs.declared.transaction.Mark.TheVariants.{Going, RollingBack}
-use Rattle.im_engine_txn.specs.declared.transaction.Transaction.{Transaction}
-use Rattle.im_engine_txn.specs.Rows.{is_of, changed, with_record}
-use Rattle.im_engine_lock.specs.Table.{Table, locks_of, Decides}
-use Rattle.im_engine_lock.specs.declared.verdict.Verdict.TheVariants.{Granted}
-use Rattle.im_engine_lock.specs.Machine.{keys_fit}
-use Rattle.im_engine_lock.specs.Locks as locks
-use Rattle.im_engine_lock.specs.Locks.{Lock, Holds, ConflictsWith, Request}
-use Rattle.im_engine_lock.specs.Rows.{asked}
-use Rattle.im_engine_lock.specs.Serving.{Matches}
-use Rattle.im_engine_lock.specs.View.{View, locks_in, did}
+use Rattle.im_base_txn.specs.declared.transaction.Mark.TheVariants.{Going, RollingBack}
+use Rattle.im_base_txn.specs.declared.transaction.Transaction.{Transaction}
+use Rattle.im_base_txn.specs.Rows.{is_of, changed, with_record}
+use Rattle.im_base_lock.specs.Table.{Table, locks_of, Decides}
+use Rattle.im_base_lock.specs.declared.verdict.Verdict.TheVariants.{Granted}
+use Rattle.im_base_lock.specs.Machine.{keys_fit}
+use Rattle.im_base_lock.specs.Locks as locks
+use Rattle.im_base_lock.specs.Locks.{Lock, Holds, ConflictsWith, Request}
+use Rattle.im_base_lock.specs.Rows.{asked}
+use Rattle.im_base_lock.specs.Serving.{Matches}
+use Rattle.im_base_lock.specs.View.{View, owner_in, locks_in, did}
 use Rattle.im_theory_steps.specs.Growth.{Stays, Adds, IsOfOthers}
 use Rattle.im_theory_steps.specs.Serving.{IsServing, IsServed, IsRow, mark_of}
-use Rattle.im_theory_steps.specs.Steps.{key_record, commit_record, IsOnTheWay, InsertsAreServed, DeletesAreServed, LoggedCommitsAreServed, LoggedCheckpointsAreServed}
+use Rattle.im_theory_steps.specs.Steps.{key_record, commit_record, IsOnTheWay, InsertsAreServed, DeletesAreServed, LoggedCommitsAreServed, LoggedCommitsWait, LoggedCheckpointsAreServed}
 use Rattle.im_theory_steps.proofs.Growth.{same_by, same_then, checkpoints_change_nothing}
 use Rattle.im_theory_steps.proofs.Promises.{granted_keys_free}
 use Rattle.im_theory_steps.proofs.Records.{put_adds, drop_adds, commit_commits}
 use Rattle.im_theory_steps.proofs.Together.{together}
-use Rattle.im_theory_steps.proofs.Steps.{at, changes_served, commits_served, checkpoints_served}
+use Rattle.im_base_lock.proofs.Serving.{all_held}
+use Rattle.im_theory_steps.proofs.Steps.{at, mark_free, changes_served, commits_served, commits_wait, checkpoints_served}
 
 -- what a key record says of its transaction
 module _ (older : History) (t last lsn page : ℕ) (w : What) (c : Change) (no_end : is_end w ≡ false) (no_undo : is_compensation w ≡ false) (from : undo_from (key_record t last lsn page w) w ≡ lsn)
@@ -51,25 +52,19 @@ module _ (older : History) (t last lsn page : ℕ) (w : What) (c : Change) (no_e
   net_is : net t (r ∷ older) ≡ c ∷ net t older
   net_is = ap changes_of (own (stack_after r w (to_undo t older)) (to_undo t older) ∙ stacked) ∙ ap (λ (e : Effect). e ++ net t older) one
 
-  row_says : (row : Transaction) (next : ℕ) → row.number ≡ t → 1 ≤ row.number → row.number < next → is_finished t older ≡ false → is_rolling_back t older ≡ false → IsRow (with_record lsn lsn row) next (r ∷ older)
-  row_says row next is number below unfinished rolling = record {
+  row_says : {who : Option ℕ} (row : Transaction) (next : ℕ) → row.number ≡ t → 1 ≤ row.number → row.number < next → is_finished t older ≡ false → is_rolling_back t older ≡ false → IsRow (with_record lsn lsn row) next (r ∷ older) who
+  row_says {who} row next is number below unfinished rolling = record {
     number = number;
     below = below;
     last = sym (at_number (λ n. last_of n (r ∷ older)) (own lsn (last_of t older)));
     undo = sym (at_number (λ n. undo_next_of n (r ∷ older)) (own (undo_from r w) (undo_next_of t older) ∙ from));
     unfinished = at_number (λ n. is_finished n (r ∷ older)) (own (is_end w || is_finished t older) (is_finished t older) ∙ ap (λ (b : Bool). b || is_finished t older) no_end ∙ unfinished);
     forward = λ m. at_number (λ n. is_rolling_back n (r ∷ older)) (own (is_compensation w || is_rolling_back t older) (is_rolling_back t older) ∙ ap (λ (b : Bool). b || is_rolling_back t older) no_undo ∙ rolling);
-    logged = λ le none. let never : c ∷ net t older ≡ [] = sym net_is ∙ ap (λ (n : ℕ). net n (r ∷ older)) (sym is) ∙ none in cc;
+    logged = λ le. inl (λ none. let never : c ∷ net t older ≡ [] = sym net_is ∙ ap (λ (n : ℕ). net n (r ∷ older)) (sym is) ∙ none in cc);
   }
     where
       at_number : {A : Type 0} {x : A} (f : ℕ → A) → f t ≡ x → f row.number ≡ x
       at_number f e = ap f is ∙ e
-
-outside : (t : ℕ) (log : History) → log ≡ [] → IsOutside t log
-outside t log e = subst (λ (l : History). IsOutside t l) (sym e) tt
-
-not_in : (p : ℕ) (log : History) → log ≡ [] → IsNotIn p log
-not_in p log e = subst (λ (l : History). IsNotIn p l) (sym e) tt
 
 -- what is free by the table is free for the machine
 free_in : (v : View) (table : Table) (t : ℕ) (row : List Request) → Matches v table → locks.IsFree (locks_of table) t row → locks.IsFree (locks_in v) t row
@@ -79,7 +74,7 @@ free_in v table t row h free s p = free s (record {
   theirs = p.theirs;
   other = p.other;
   ask = p.ask;
-  held = subst (λ (ls : List Lock). Holds ls p.name p.theirs) (h s) p.held;
+  held = subst (λ (ls : List Lock). Holds ls p.name p.theirs) (all_held v table h s) p.held;
   exclusive = p.exclusive;
 })
 
@@ -93,14 +88,14 @@ adds_behind b t c older between longer stays on = record {
 }
 
 module _ (b : Base) (earlier before : List Effect) (s : Shown) (v : View) (older : History) (rows : List Transaction) (next : ℕ) (old : Table) (t : ℕ) (row : Transaction) (h : IsServing b earlier before s v older rows next old) (found : find (is_of t) rows ≡ Some row) (mark : row.mark ≡ Going) where
-  is_at : (row.number ≡ t) × IsRow row next older × ((v.txns t).mark ≡ mark_of row.mark)
-  is_at = at b earlier before s v older rows next old h t row found
+  is_at : (row.number ≡ t) × IsRow row next older (owner_in v) × ((v.txns t).mark ≡ mark_of row.mark)
+  is_at = at b earlier before s v older rows next old h t row found (mark_free row.mark Going mark (λ x. cc x))
 
   going : (v.txns t).mark ≡ answers.Going
   going = is_at.2 ∙ ap mark_of mark
 
   -- what a key record of t says of a step that was granted its locks
-  module _ (last : ℕ) (between : History) (way : IsOnTheWay b t last older between) (new : Table) (a : Access) (c : Change) (lsn page : ℕ) (w : What) (fits : keys_fit a ≡ true) (one : changes a v.walk ≡ c ∷ []) (decides : Decides old t (asked a v.walk) Granted new) where
+  module _ (last : ℕ) (between : History) (way : IsOnTheWay b t last older between) (new : Table) (a : Access) (c : Change) (lsn page : ℕ) (w : What) (unowned : owner_in v ≢ Some t) (fits : keys_fit a ≡ true) (one : changes a v.walk ≡ c ∷ []) (decides : Decides old t (asked a v.walk) Granted new) where
     chained : IsChained (key_record t last lsn page w) between
     chained = record { number = subst (λ (n : ℕ). 1 ≤ n) is_at.0 is_at.1.number; prev = sym way.newest; unfinished = way.unfinished }
 
@@ -111,13 +106,13 @@ module _ (b : Base) (earlier before : List Effect) (s : Shown) (v : View) (older
         → Adds b t c between (key_record t last lsn page w ∷ between) → IsServed b earlier before s v (Do t a) (answer a v.walk) (did v t a (locks_of new t)) (key_record t last lsn page w ∷ between) (map (changed t (with_record lsn lsn)) rows) next new
     logged no_end no_undo from stacked makes adds =
         let newest = key_record t last lsn page w in
-        changes_served b earlier before s v older (newest ∷ between) rows next old new t lsn lsn row a c h found mark fits one decides
+        changes_served b earlier before s v older (newest ∷ between) rows next old new t lsn lsn row a c h found mark unowned fits one decides
         (adds_behind b t c older between (newest ∷ between) way.stays adds)
         (λ u differ. same_then u older between (newest ∷ between) (way.others u differ) (others_say between t last lsn page w c no_end no_undo from stacked makes u differ))
         (row_says between t last lsn page w c no_end no_undo from stacked makes row next is_at.0 is_at.1.number is_at.1.below way.unfinished way.forward)
 
 pub inserts_served : (tree : Tree) → TreeLaws tree → InsertsAreServed tree
-inserts_served tree laws b earlier before s v older between rows next old new t last lsn page row k i h found mark fits way law closed absent decides can rises =
+inserts_served tree laws b earlier before s v older between rows next old new t last lsn page row k i h found mark unowned fits way law out apart absent decides can rises =
     let lacks : get v.walk k ≡ None = ap (λ (m : IndexMap). get m k) h.seen_by.walk ∙ absent in
     let one : changes (Insert k i) v.walk ≡ Put k i ∷ [] = ap (λ (o : Option ℕ). cond (is_some o) [] (Put k i ∷ [])) lacks in
     let says : answer (Insert k i) v.walk ≡ Inserted = ap (λ (o : Option ℕ). cond (is_some o) Duplicate Inserted) lacks in
@@ -125,25 +120,25 @@ inserts_served tree laws b earlier before s v older between rows next old new t 
     let w = did v t (Insert k i) (locks_of new t) in
     let follows : Follows b tree newest between = record {
       rises = rises;
-      chained = λ owned. chained b earlier before s v older rows next old t row h found mark last between way new (Insert k i) (Put k i) lsn page (InsertKey k i) fits one decides;
+      chained = λ owned. chained b earlier before s v older rows next old t row h found mark last between way new (Insert k i) (Put k i) lsn page (InsertKey k i) unowned fits one decides;
       may = record {
         no_undo_next = refl;
-        outside = outside t (open_smo between) closed;
+        outside = out;
         not_rolling_back = way.forward;
-        free = key_free b earlier before s v older rows next old t row h found mark last between way new (Insert k i) (Put k i) lsn page (InsertKey k i) fits one decides;
+        free = key_free b earlier before s v older rows next old t row h found mark last between way new (Insert k i) (Put k i) lsn page (InsertKey k i) unowned fits one decides;
         absent = ap (λ (m : IndexMap). get m k) way.stays.walk ∙ absent;
         can_put = can;
-        not_in = not_in page (open_smo between) closed;
+        not_in = apart;
       };
     } in
-    let served = logged b earlier before s v older rows next old t row h found mark last between way new (Insert k i) (Put k i) lsn page (InsertKey k i) fits one decides refl refl refl refl refl (put_adds b between newest t refl k i refl) in
+    let served = logged b earlier before s v older rows next old t row h found mark last between way new (Insert k i) (Put k i) lsn page (InsertKey k i) unowned fits one decides refl refl refl refl refl (put_adds b between newest t refl k i refl) in
     record {
       lawful = logs_stay_lawful tree laws b between newest law follows (λ e. absurd cc);
       served = subst (λ (reply : Reply). IsServed b earlier before s v (Do t (Insert k i)) reply w (newest ∷ between) (map (changed t (with_record lsn lsn)) rows) next new) says served;
     }
 
 pub deletes_served : (tree : Tree) → TreeLaws tree → DeletesAreServed tree
-deletes_served tree laws b earlier before s v older between rows next old new t last lsn page row k i h found mark fits way law closed there decides can rises =
+deletes_served tree laws b earlier before s v older between rows next old new t last lsn page row k i h found mark unowned fits way law out apart there decides can rises =
     let has : get v.walk k ≡ Some i = ap (λ (m : IndexMap). get m k) h.seen_by.walk ∙ there in
     let one : changes (Delete k) v.walk ≡ Drop k i ∷ [] = ap (dropped k) has in
     let says : answer (Delete k) v.walk ≡ Deleted = ap (λ (o : Option ℕ). cond (is_some o) Deleted Absent) has in
@@ -151,18 +146,18 @@ deletes_served tree laws b earlier before s v older between rows next old new t 
     let w = did v t (Delete k) (locks_of new t) in
     let follows : Follows b tree newest between = record {
       rises = rises;
-      chained = λ owned. chained b earlier before s v older rows next old t row h found mark last between way new (Delete k) (Drop k i) lsn page (DeleteKey k i) fits one decides;
+      chained = λ owned. chained b earlier before s v older rows next old t row h found mark last between way new (Delete k) (Drop k i) lsn page (DeleteKey k i) unowned fits one decides;
       may = record {
         no_undo_next = refl;
-        outside = outside t (open_smo between) closed;
+        outside = out;
         not_rolling_back = way.forward;
-        free = key_free b earlier before s v older rows next old t row h found mark last between way new (Delete k) (Drop k i) lsn page (DeleteKey k i) fits one decides;
+        free = key_free b earlier before s v older rows next old t row h found mark last between way new (Delete k) (Drop k i) lsn page (DeleteKey k i) unowned fits one decides;
         there = ap (λ (m : IndexMap). get m k) way.stays.walk ∙ there;
         can_drop = can;
-        not_in = not_in page (open_smo between) closed;
+        not_in = apart;
       };
     } in
-    let served = logged b earlier before s v older rows next old t row h found mark last between way new (Delete k) (Drop k i) lsn page (DeleteKey k i) fits one decides refl refl refl refl refl (drop_adds b between newest t refl k i refl) in
+    let served = logged b earlier before s v older rows next old t row h found mark last between way new (Delete k) (Drop k i) lsn page (DeleteKey k i) unowned fits one decides refl refl refl refl refl (drop_adds b between newest t refl k i refl) in
     record {
       lawful = logs_stay_lawful tree laws b between newest law follows (λ e. absurd cc);
       served = subst (λ (reply : Reply). IsServed b earlier before s v (Do t (Delete k)) reply w (newest ∷ between) (map (changed t (with_record lsn lsn)) rows) next new) says served;
@@ -171,8 +166,8 @@ deletes_served tree laws b earlier before s v older between rows next old new t 
 -- ---- a Commit
 
 pub logged_commits_served : (tree : Tree) → TreeLaws tree → LoggedCommitsAreServed tree
-logged_commits_served tree laws b earlier before s v older rows next old new t lsn row h found mark some law closed rises released once =
-    let is = at b earlier before s v older rows next old h t row found in
+logged_commits_served tree laws b earlier before s v older rows next old new t lsn row h found mark some free law out rises alone released once =
+    let is = at b earlier before s v older rows next old h t row found (mark_free row.mark Going mark (λ x. cc x)) in
     let newest = commit_record t row.last lsn in
     let follows : Follows b tree newest older = record {
       rises = rises;
@@ -183,17 +178,42 @@ logged_commits_served tree laws b earlier before s v older rows next old new t l
       };
       may = record {
         no_undo_next = refl;
-        outside = outside t (open_smo older) closed;
+        outside = out;
         not_rolling_back = ap (λ (n : ℕ). is_rolling_back n older) (sym is.0) ∙ is.1.forward (λ e. let never : Going ≡ RollingBack = sym mark ∙ e in cc);
       };
     } in
     record {
       lawful = logs_stay_lawful tree laws b older newest law follows (λ e. absurd cc);
-      served = commits_served b earlier before s v older (newest ∷ older) rows next old new t row h found mark some released (commit_commits b older newest t refl refl)
+      served = commits_served b earlier before s v older (newest ∷ older) rows next old new t row h found mark some free alone released (commit_commits b older newest t refl refl)
           (λ u differ. same_by u newest older (λ e. differ (sym e)))
           (λ one le. cond-true (t == t) (is_end CommitRecord || is_finished t older) (is_finished t older) (eq-eqb t t refl))
           (cond-true (t == t) [] (to_undo t older) (eq-eqb t t refl))
           once;
+    }
+
+pub logged_commits_wait : (tree : Tree) → TreeLaws tree → LoggedCommitsWait tree
+logged_commits_wait tree laws b earlier before s v older rows next held t lsn row h found mark some free law out rises =
+    let is = at b earlier before s v older rows next held h t row found (mark_free row.mark Going mark (λ x. cc x)) in
+    let newest = commit_record t row.last lsn in
+    let follows : Follows b tree newest older = record {
+      rises = rises;
+      chained = λ owned. record {
+        number = subst (λ (n : ℕ). 1 ≤ n) is.0 is.1.number;
+        prev = is.1.last ∙ ap (λ (n : ℕ). last_of n older) is.0;
+        unfinished = ap (λ (n : ℕ). is_finished n older) (sym is.0) ∙ is.1.unfinished;
+      };
+      may = record {
+        no_undo_next = refl;
+        outside = out;
+        not_rolling_back = ap (λ (n : ℕ). is_rolling_back n older) (sym is.0) ∙ is.1.forward (λ e. let never : Going ≡ RollingBack = sym mark ∙ e in cc);
+      };
+    } in
+    record {
+      lawful = logs_stay_lawful tree laws b older newest law follows (λ e. absurd cc);
+      served = commits_wait b earlier before s v older (newest ∷ older) rows next held t row h found mark some free (commit_commits b older newest t refl refl)
+          (λ u differ. same_by u newest older (λ e. differ (sym e)))
+          (cond-true (t == t) (is_end CommitRecord || is_finished t older) (is_finished t older) (eq-eqb t t refl))
+          (cond-true (t == t) [] (to_undo t older) (eq-eqb t t refl));
     }
 
 -- the record of a Checkpoint

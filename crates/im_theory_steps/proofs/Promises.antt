@@ -1,14 +1,19 @@
 -- Granted keys are free in the log, and a machine that was reached is reached after a step.
-use Rattle.std.proofs.Common.{◌++◌, [], ◌∷◌, sym, subst}
+use Rattle.std.proofs.Common.{◌++◌, [], ◌∷◌, inl, inr, sym, subst}
+use Rattle.im_base_lock.specs.View.{is_among}
+use Rattle.im_base_lock.proofs.Bools.{cases_test}
 use Rattle.im_base_types.specs.Changes.{Effect, Touches, key_of}
-use Rattle.im_engine_lock.specs.Machine.{start}
-use Rattle.im_engine_lock.proofs.Callers.{Run-push}
-use Rattle.im_engine_lock.proofs.Isolates.{granted_free}
+use Rattle.im_base_lock.specs.Machine.{start}
+use Rattle.im_base_lock.proofs.Callers.{Run-push}
+use Rattle.im_base_lock.proofs.Isolates.{granted_free}
 use Rattle.im_theory_steps.specs.Laws.{GrantedKeysAreFree, MovesReach}
 
 pub granted_keys_free : GrantedKeysAreFree
 granted_keys_free base b log v t a c reached seen works going free one u differ touch =
-    granted_free base v reached works t a c going free one u differ (subst (λ (e : Effect). Touches e (key_of c)) (sym (seen.nets u)) touch)
+    elim (cases_test (is_among u v.queue)) [
+      | inl some ↦ subst (λ (e : Effect). Touches e (key_of c)) (seen.over u some) touch
+      | inr none ↦ granted_free base v reached works t a c going free one u differ (subst (λ (e : Effect). Touches e (key_of c)) (sym (seen.nets u none)) touch)
+    ]
 
 pub moves_reach : MovesReach
 moves_reach base v w step reply reached moves = record {

@@ -1,18 +1,21 @@
 -- What taking back one change leaves of a log, and the steps that do so.
-use Rattle.std.proofs.Common.{◌≡◌, ℕ, [], ◌∷◌, ◌++◌, sym, ◌∙◌, ap}
+use Rattle.std.proofs.Common.{◌≡◌, ℕ, inl, [], ◌∷◌, ◌++◌, sym, ◌∙◌, ap}
 use Rattle.std.specs.Prelude.{◌==◌, ◌||◌, if◌then◌else◌}
 use Rattle.std.proofs.lemmas.Bool.{eq-eqb, cond-true}
 use Rattle.im_base_types.specs.Changes.{Effect}
 use Rattle.im_base_types.specs.Records.{What, End, Logged}
 use Rattle.im_theory_log.specs.Histories.{History, Base}
 use Rattle.im_theory_log.specs.Transactions.{changes_of, committed, committed_after, contents, contents_after, net, is_end, is_finished, last_of, undo_next_of, stack_after, to_undo}
-use Rattle.im_engine_txn.specs.Rows.{with_record}
+use Rattle.im_base_txn.specs.Rows.{with_record}
+use Rattle.im_base_lock.specs.View.{owner_of, owner_in}
 use Rattle.im_theory_steps.specs.Growth.{IsOver, IsOfOthers}
 use Rattle.im_theory_steps.specs.Serving.{IsRow, mark_of}
 use Rattle.im_theory_steps.specs.Undone.{UndoTakesBack, EndsLeaveNothing, RollingBackHasMore, UndoneChangesAreServed, LastUndoneChangesAreServed}
 use Rattle.im_theory_steps.proofs.Growth.{within_leaves_others, same_by, same_then}
 use Rattle.im_theory_steps.proofs.Rolling.{rolling_is}
-use Rattle.im_theory_steps.proofs.Steps.{at, undo_served, ends_served}
+use Rattle.im_base_txn.specs.declared.transaction.Mark.TheVariants.{RollingBack}
+use Rattle.im_base_types.specs.Answers.{RollingBack as AnsweredRolling}
+use Rattle.im_theory_steps.proofs.Steps.{at, mark_free, new_by, undo_served, ends_served}
 
 pub undo_takes_back : UndoTakesBack
 undo_takes_back b t c older longer is =
@@ -63,22 +66,22 @@ ends_leave_nothing b t c older between last undoes none mine is =
     }
 
 pub rolling_has_more : RollingBackHasMore
-rolling_has_more b earlier before s v log rows next held t row h found mark none =
-    let is = at b earlier before s v log rows next held h t row found in
-    rolling_is _ v h.reached t (is.2 ∙ ap mark_of mark) (h.seen_by.nets t ∙ ap changes_of none)
+rolling_has_more b earlier before s v log rows next held t row h found mark free none =
+    let is = at b earlier before s v log rows next held h t row found (mark_free row.mark RollingBack mark (λ x. cc x)) in
+    free (ap owner_of (rolling_is _ v h.reached t (is.2 ∙ ap mark_of mark) (h.seen_by.nets t (new_by b earlier before s v log rows next held h t AnsweredRolling (is.2 ∙ ap mark_of mark) (λ x. cc x)) ∙ ap changes_of none)))
 
 pub undone_served : UndoneChangesAreServed
 undone_served b earlier before s v older longer rows next held t row c h found mark undoes left going =
-    let is = at b earlier before s v older rows next held h t row found in
+    let is = at b earlier before s v older rows next held h t row found (mark_free row.mark RollingBack mark (λ x. cc x)) in
     let on = undo_takes_back b t c older longer undoes in
-    let now : IsRow (with_record (last_of t longer) (undo_next_of t longer) row) next longer = record {
+    let now : IsRow (with_record (last_of t longer) (undo_next_of t longer) row) next longer (owner_in v) = record {
       number = is.1.number;
       below = is.1.below;
       last = ap (λ (n : ℕ). last_of n longer) (sym is.0);
       undo = ap (λ (n : ℕ). undo_next_of n longer) (sym is.0);
       unfinished = ap (λ (n : ℕ). is_finished n longer) is.0 ∙ going;
       forward = λ other. absurd (other mark);
-      logged = λ le none. left (ap (λ (n : ℕ). net n longer) (sym is.0) ∙ none);
+      logged = λ le. inl (λ none. left (ap (λ (n : ℕ). net n longer) (sym is.0) ∙ none));
     } in
     undo_served b earlier before s v older longer rows next held t (last_of t longer) (undo_next_of t longer) row c h found mark on.0 left on.1 now
 

@@ -7,7 +7,7 @@ use Rattle.im_theory_log.specs.Histories.{History}
 use Rattle.im_theory_log.specs.Transactions.{committed, net, last_of, is_finished, is_rolling_back}
 use Rattle.im_base_types.specs.Answers.{Step, Reply, Begin, Do, Commit, Rollback, Continue, Insert, Started, Inserted, Committed, RolledBack, More}
 use Rattle.im_base_types.specs.Lives.{nothing_shown, shown_by}
-use Rattle.im_engine_lock.specs.Isolation.{finished, serial}
+use Rattle.im_base_lock.specs.Isolation.{finished, serial}
 use Rattle.im_theory_steps.specs.Steps.{key_record}
 use Rattle.im_theory_steps.specs.Acknowledged.{acked_effects}
 
@@ -53,3 +53,13 @@ one_serial = refl
 
 one_finished : finished 1 steps ≡ (Insert a 1, Inserted) ∷ []
 one_finished = refl
+
+-- an insert that goes on is finished by the reply to its last Continue, and a Commit does not come between
+abbrev later : List (Step × Reply)
+later = (Begin, Started 1) ∷ (Do 1 (Insert a 1), More) ∷ (Continue 1, More) ∷ (Continue 1, Inserted) ∷ (Commit 1, Committed) ∷ []
+
+later_finished : finished 1 later ≡ (Insert a 1, Inserted) ∷ []
+later_finished = refl
+
+later_acked : acked_effects (shown_by nothing_shown later).asked ≡ (Put a 1 ∷ []) ∷ []
+later_acked = refl

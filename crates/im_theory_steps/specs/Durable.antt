@@ -1,5 +1,5 @@
 -- Which Commits a stop leaves: those that are durable, and of those that wait for a force a front.
-use Rattle.std.specs.Prelude.{◌≡◌, ◌≤◌, ℕ, List, [], ◌++◌, None, Some, find}
+use Rattle.std.specs.Prelude.{◌≡◌, ◌≢◌, ◌≤◌, ℕ, List, [], ◌++◌, None, Some, find}
 use Rattle.std.specs.FinMap.{empty}
 use Rattle.im_base_types.specs.Changes.{Effect, apply_all, seen}
 use Rattle.im_theory_log.specs.Tree.{Tree}
@@ -10,12 +10,12 @@ use Rattle.im_theory_log.specs.Writer.{IsLeft}
 use Rattle.im_base_types.specs.Answers.{Step, Commit, Refused}
 use Rattle.im_base_types.specs.Refusals.{memory, unfinished}
 use Rattle.im_base_types.specs.Lives.{Asked, Shown, NoneAcked, Survives, all_acked, effects, nothing_shown, shows}
-use Rattle.im_engine_txn.specs.declared.transaction.Mark.TheVariants.{Going}
-use Rattle.im_engine_txn.specs.declared.transaction.Transaction.{Transaction}
-use Rattle.im_engine_txn.specs.Rows.{is_of}
-use Rattle.im_engine_lock.specs.Table.{Table}
-use Rattle.im_engine_lock.specs.View.{View}
-use Rattle.im_engine_lock.specs.Machine.{start}
+use Rattle.im_base_txn.specs.declared.transaction.Mark.TheVariants.{Going}
+use Rattle.im_base_txn.specs.declared.transaction.Transaction.{Transaction}
+use Rattle.im_base_txn.specs.Rows.{is_of}
+use Rattle.im_base_lock.specs.Table.{Table}
+use Rattle.im_base_lock.specs.View.{View, owner_in}
+use Rattle.im_base_lock.specs.Machine.{start}
 use Rattle.im_theory_steps.specs.Growth.{Commits}
 use Rattle.im_theory_steps.specs.Serving.{IsServing}
 
@@ -57,7 +57,7 @@ pub record CommitsStand : Type 0 where
 -- A Commit that is in the log is asked, whether a stop fell within its step or its step was refused behind that record: it is left, or nothing of it.
 abbrev pub CutCommitsStand : Type 0
 CutCommitsStand = (b : Base) (earlier before : List Effect) (s : Shown) (v : View) (older longer durable : History) (rows : List Transaction) (next : ℕ) (held : Table) (t : ℕ) (row : Transaction)
-    → IsServing b earlier before s v older rows next held → find (is_of t) rows ≡ Some row → row.mark ≡ Going → 1 ≤ row.last → Commits b t older longer → AreCommitted earlier before s.asked durable older
+    → IsServing b earlier before s v older rows next held → find (is_of t) rows ≡ Some row → row.mark ≡ Going → 1 ≤ row.last → owner_in v ≢ Some t → Commits b t older longer → AreCommitted earlier before s.asked durable older
     → AreCommitted earlier before ((shows s (Commit t) None).asked) durable longer
 
 -- No step but a Commit asks for an effect, and a stop within one leaves what was asked before it.

@@ -6,10 +6,10 @@ use Rattle.im_theory_log.specs.Histories.{History, Base}
 use Rattle.im_theory_log.specs.Lawful as lawful
 use Rattle.im_base_types.specs.Answers.{Access, Step, Reply, Going, changes}
 use Rattle.im_base_types.specs.Lives.{Shown, shows}
-use Rattle.im_engine_lock.specs.Locks.{Lock, IsFree}
-use Rattle.im_engine_lock.specs.Rows.{asked}
-use Rattle.im_engine_lock.specs.View.{View, locks_in, did, committed_by, undid_more, undid_last}
-use Rattle.im_engine_lock.specs.Machine.{Moves, IsReached}
+use Rattle.im_base_lock.specs.Locks.{Lock, IsFree}
+use Rattle.im_base_lock.specs.Rows.{asked}
+use Rattle.im_base_lock.specs.View.{View, locks_in, did, committed_by, undid_more, undid_last, queued, forced_by, is_among}
+use Rattle.im_base_lock.specs.Machine.{Moves, IsReached}
 use Rattle.im_theory_steps.specs.Growth.{Stays, Adds, TakesBack, Commits}
 use Rattle.im_theory_steps.specs.Seen.{IsSeen, IsShownBy}
 
@@ -21,15 +21,19 @@ GrantedKeysAreFree = (base : IndexMap) (b : Base) (log : History) (v : View) (t 
 -- What the log becomes is what the machine goes on to.
 pub record LogAndViewGoTogether : Type 0 where
   pub stays : (b : Base) (older longer : History) (v : View) → IsSeen b older v → Stays b older longer → IsSeen b longer v
-  pub reads : (b : Base) (older longer : History) (v : View) (t : ℕ) (a : Access) (ls : List Lock) → IsSeen b older v → changes a v.walk ≡ [] → Stays b older longer → IsSeen b longer (did v t a ls)
-  pub adds : (b : Base) (older longer : History) (v : View) (t : ℕ) (a : Access) (c : Change) (ls : List Lock) → IsSeen b older v → changes a v.walk ≡ c ∷ [] → Adds b t c older longer → IsSeen b longer (did v t a ls)
-  pub takes_back : (b : Base) (older longer : History) (v : View) (t : ℕ) (c : Change) (cs : List Change) → IsSeen b older v → (v.txns t).net ≡ c ∷ cs → TakesBack b t c older longer → IsSeen b longer (undid_more v t c cs)
-  pub takes_last : (b : Base) (older longer : History) (v : View) (t : ℕ) (c : Change) → IsSeen b older v → (v.txns t).net ≡ c ∷ [] → TakesBack b t c older longer → IsSeen b longer (undid_last v t c)
-  pub commits : (b : Base) (older longer : History) (v : View) (t : ℕ) → IsSeen b older v → Commits b t older longer → IsSeen b longer (committed_by v t)
+  pub reads : (b : Base) (older longer : History) (v : View) (t : ℕ) (a : Access) (ls : List Lock) → IsSeen b older v → is_among t v.queue ≡ false → changes a v.walk ≡ [] → Stays b older longer → IsSeen b longer (did v t a ls)
+  pub adds : (b : Base) (older longer : History) (v : View) (t : ℕ) (a : Access) (c : Change) (ls : List Lock) → IsSeen b older v → is_among t v.queue ≡ false → changes a v.walk ≡ c ∷ [] → Adds b t c older longer → IsSeen b longer (did v t a ls)
+  pub takes_back : (b : Base) (older longer : History) (v : View) (t : ℕ) (c : Change) (cs : List Change) → IsSeen b older v → is_among t v.queue ≡ false → (v.txns t).net ≡ c ∷ cs → TakesBack b t c older longer → IsSeen b longer (undid_more v t c cs)
+  pub takes_last : (b : Base) (older longer : History) (v : View) (t : ℕ) (c : Change) → IsSeen b older v → is_among t v.queue ≡ false → (v.txns t).net ≡ c ∷ [] → TakesBack b t c older longer → IsSeen b longer (undid_last v t c)
+  -- a Commit at once, where nobody waits
+  pub commits : (b : Base) (older longer : History) (v : View) (t : ℕ) → IsSeen b older v → v.queue ≡ [] → Commits b t older longer → IsSeen b longer (committed_by v t)
+  -- one that waits, and the force
+  pub queues : (b : Base) (older longer : History) (v : View) (t : ℕ) → IsSeen b older v → is_among t v.queue ≡ false → Commits b t older longer → IsSeen b longer (queued v t)
+  pub forces : (b : Base) (log : History) (v : View) → IsSeen b log v → IsSeen b log (forced_by v)
 
 -- Each step of the machine shows what it does.
 abbrev pub MovesAreShown : Type 0
-MovesAreShown = (s : Shown) (v w : View) (step : Step) (reply : Reply) → IsShownBy s v → Moves v step reply w → IsShownBy (shows s step (Some reply)) w
+MovesAreShown = (base : IndexMap) (s : Shown) (v w : View) (step : Step) (reply : Reply) → IsReached base v → IsShownBy s v → Moves v step reply w → IsShownBy (shows s step (Some reply)) w
 
 -- A machine that was reached is reached after a step.
 abbrev pub MovesReach : Type 0

@@ -7,11 +7,11 @@ use Rattle.im_theory_log.specs.Histories.{History, Base}
 use Rattle.im_base_types.specs.Answers.{Step, Reply, Refused}
 use Rattle.im_base_types.specs.Refusals.{failed as has_failed}
 use Rattle.im_base_types.specs.Lives.{Shown, shows}
-use Rattle.im_engine_txn.specs.declared.transaction.Transaction.{Transaction}
-use Rattle.im_engine_lock.specs.Locks.{Lock}
-use Rattle.im_engine_lock.specs.Table.{Table}
-use Rattle.im_engine_lock.specs.View.{View, broken}
-use Rattle.im_engine_lock.specs.Machine.{Moves, Breaks, barred, IsReached}
+use Rattle.im_base_txn.specs.declared.transaction.Transaction.{Transaction}
+use Rattle.im_base_lock.specs.Locks.{Lock}
+use Rattle.im_base_lock.specs.Table.{Table}
+use Rattle.im_base_lock.specs.View.{View, broken}
+use Rattle.im_base_lock.specs.Machine.{Moves, Breaks, barred, IsReached}
 use Rattle.im_theory_steps.specs.Acknowledged.{Shows}
 use Rattle.im_theory_steps.specs.Serving.{IsServing}
 

@@ -6,23 +6,23 @@ use Rattle.im_base_types.specs.Changes.{Change, Effect, apply_all, seen}
 use Rattle.im_base_types.specs.Records.{What, InsertKey, DeleteKey, Commit as CommitRecord, Logged}
 use Rattle.im_theory_log.specs.Tree.{Tree}
 use Rattle.im_theory_log.specs.Structure.{open_smo, settled}
-use Rattle.im_theory_log.specs.Lawful.{IsLawful}
+use Rattle.im_theory_log.specs.Lawful.{IsLawful, IsOutside, IsNotIn}
 use Rattle.im_theory_log.specs.Histories.{History, Base, Rises, end_of}
 use Rattle.im_theory_log.specs.Transactions.{committed, last_of, undo_next_of, to_undo, net, is_finished, is_rolling_back, contents}
 use Rattle.im_base_types.specs.Answers.{Access, Insert, Delete, Inserted, Deleted, Step, Begin, Started, Do, Commit, Committed, Rollback, RolledBack, Continue, More, Blocked, Die, FlushPage, Force, Checkpoint, Done, Refused, answer, changes}
 use Rattle.im_base_types.specs.Answers as answers
 use Rattle.im_base_types.specs.Lives.{Shown, nothing_shown}
-use Rattle.im_engine_txn.specs.declared.transaction.Mark.TheVariants.{Going, MustRollBack, RollingBack}
-use Rattle.im_engine_txn.specs.declared.transaction.Transaction.{Transaction}
-use Rattle.im_engine_txn.specs.Rows.{begun as row_begun, is_of, changed, with_mark, with_record}
-use Rattle.im_engine_txn.specs.LookUps.{without}
-use Rattle.im_engine_lock.specs.Table.{Table, locks_of, Decides, IsReleased}
-use Rattle.im_engine_lock.specs.declared.verdict.Verdict.TheVariants.{Granted, Wait, Die as MustDie}
-use Rattle.im_engine_lock.specs.Rows.{asked}
-use Rattle.im_engine_lock.specs.View.{View, begun, did, marked, committed_by, dropped_by, undid_more, undid_last}
-use Rattle.im_engine_lock.specs.Machine.{keys_fit, barred, start, Wants}
+use Rattle.im_base_txn.specs.declared.transaction.Mark.TheVariants.{Going, MustRollBack, RollingBack, Committing}
+use Rattle.im_base_txn.specs.declared.transaction.Transaction.{Transaction}
+use Rattle.im_base_txn.specs.Rows.{begun as row_begun, is_of, changed, with_mark, with_record}
+use Rattle.im_base_txn.specs.LookUps.{without}
+use Rattle.im_base_lock.specs.Table.{Table, locks_of, Decides, IsReleased, AreReleased}
+use Rattle.im_base_lock.specs.declared.verdict.Verdict.TheVariants.{Granted, Wait, Die as MustDie}
+use Rattle.im_base_lock.specs.Rows.{asked}
+use Rattle.im_base_lock.specs.View.{View, Under, owner_in, begun, did, marked, committed_by, dropped_by, undid_more, undid_last, queued, forced_by, is_among}
+use Rattle.im_base_lock.specs.Machine.{keys_fit, barred, start, Wants}
 use Rattle.im_theory_steps.specs.Growth.{Stays, Adds, TakesBack, Commits, IsOfOthers, IsOfAll, IsOver, HasNone, IsCheckpoint, GrowsByImages, GrowsByStructure}
-use Rattle.im_theory_steps.specs.Serving.{IsRow, IsServing, IsServed}
+use Rattle.im_theory_steps.specs.Serving.{IsRow, AreRows, IsServing, IsServed}
 
 -- ---- what an opening leaves
 
@@ -47,10 +47,10 @@ abbrev pub ImagesKeepServing : Type 0
 ImagesKeepServing = (b : Base) (earlier before : List Effect) (s : Shown) (v : View) (older longer : History) (rows : List Transaction) (next : ℕ) (held : Table)
     → IsServing b earlier before s v older rows next held → GrowsByImages older longer → IsServing b earlier before s v longer rows next held
 
--- So do records of a structure change of a transaction that has a record, and its row notes them.
+-- So do records of a structure change of a transaction that has a record, or whose change is under way, and its row notes them.
 abbrev pub StructureKeepsServing : Type 0
 StructureKeepsServing = (b : Base) (earlier before : List Effect) (s : Shown) (v : View) (older longer : History) (rows : List Transaction) (next : ℕ) (held : Table) (t : ℕ) (row : Transaction)
-    → IsServing b earlier before s v older rows next held → find (is_of t) rows ≡ Some row → 1 ≤ row.last → GrowsByStructure t older longer
+    → IsServing b earlier before s v older rows next held → find (is_of t) rows ≡ Some row → row.mark ≢ Committing → (1 ≤ row.last) ⊎ (owner_in v ≡ Some t) → GrowsByStructure t older longer
     → IsServing b earlier before s v longer (map (changed t (with_record (last_of t longer) (undo_next_of t longer))) rows) next held
 
 -- The log has grown on the way to a change of t, whose records now end at this LSN: the tree's map, the nets and the other transactions are as they were. Of a
@@ -73,8 +73,8 @@ pub record WaysLeadOn : Type 0 where
 -- A change that was granted and logged.
 abbrev pub ChangesAreServed : Type 0
 ChangesAreServed = (b : Base) (earlier before : List Effect) (s : Shown) (v : View) (older longer : History) (rows : List Transaction) (next : ℕ) (old new : Table) (t last undo_next : ℕ) (row : Transaction) (a : Access) (c : Change)
-    → IsServing b earlier before s v older rows next old → find (is_of t) rows ≡ Some row → row.mark ≡ Going → keys_fit a ≡ true → changes a v.walk ≡ c ∷ []
-    → Decides old t (asked a v.walk) Granted new → Adds b t c older longer → IsOfOthers t older longer → IsRow (with_record last undo_next row) next longer
+    → IsServing b earlier before s v older rows next old → find (is_of t) rows ≡ Some row → row.mark ≡ Going → owner_in v ≢ Some t → keys_fit a ≡ true → changes a v.walk ≡ c ∷ []
+    → Decides old t (asked a v.walk) Granted new → Adds b t c older longer → IsOfOthers t older longer → IsRow (with_record last undo_next row) next longer (owner_in v)
     → IsServed b earlier before s v (Do t a) (answer a v.walk) (did v t a (locks_of new t)) longer (map (changed t (with_record last undo_next)) rows) next new
 
 -- the record of a key of t, behind its record at an LSN
@@ -89,35 +89,35 @@ pub record IsLogged (b : Base) (tree : Tree) (earlier before : List Effect) (s :
 -- An insert of a key that the tree lacks, logged on the page that takes it, behind whatever led there.
 abbrev pub InsertsAreServed : Tree → Type 0
 InsertsAreServed tree = (b : Base) (earlier before : List Effect) (s : Shown) (v : View) (older between : History) (rows : List Transaction) (next : ℕ) (old new : Table) (t last lsn page : ℕ) (row : Transaction) (k : Key) (i : ℕ)
-    → IsServing b earlier before s v older rows next old → find (is_of t) rows ≡ Some row → row.mark ≡ Going → keys_fit (Insert k i) ≡ true → IsOnTheWay b t last older between
-    → IsLawful b tree between → open_smo between ≡ [] → get (contents b older) k ≡ None → Decides old t (asked (Insert k i) v.walk) Granted new → tree.CanPut (settled b between) page k i → end_of b between < lsn
+    → IsServing b earlier before s v older rows next old → find (is_of t) rows ≡ Some row → row.mark ≡ Going → owner_in v ≢ Some t → keys_fit (Insert k i) ≡ true → IsOnTheWay b t last older between
+    → IsLawful b tree between → IsOutside t (open_smo between) → IsNotIn page (open_smo between) → get (contents b older) k ≡ None → Decides old t (asked (Insert k i) v.walk) Granted new → tree.CanPut (settled b between) page k i → end_of b between < lsn
     → IsLogged b tree earlier before s v (Do t (Insert k i)) Inserted (did v t (Insert k i) (locks_of new t)) (key_record t last lsn page (InsertKey k i) ∷ between) (map (changed t (with_record lsn lsn)) rows) next new
 
 -- A delete of a key that is there.
 abbrev pub DeletesAreServed : Tree → Type 0
 DeletesAreServed tree = (b : Base) (earlier before : List Effect) (s : Shown) (v : View) (older between : History) (rows : List Transaction) (next : ℕ) (old new : Table) (t last lsn page : ℕ) (row : Transaction) (k : Key) (i : ℕ)
-    → IsServing b earlier before s v older rows next old → find (is_of t) rows ≡ Some row → row.mark ≡ Going → keys_fit (Delete k) ≡ true → IsOnTheWay b t last older between
-    → IsLawful b tree between → open_smo between ≡ [] → get (contents b older) k ≡ Some i → Decides old t (asked (Delete k) v.walk) Granted new → tree.CanDrop (settled b between) page k i → end_of b between < lsn
+    → IsServing b earlier before s v older rows next old → find (is_of t) rows ≡ Some row → row.mark ≡ Going → owner_in v ≢ Some t → keys_fit (Delete k) ≡ true → IsOnTheWay b t last older between
+    → IsLawful b tree between → IsOutside t (open_smo between) → IsNotIn page (open_smo between) → get (contents b older) k ≡ Some i → Decides old t (asked (Delete k) v.walk) Granted new → tree.CanDrop (settled b between) page k i → end_of b between < lsn
     → IsLogged b tree earlier before s v (Do t (Delete k)) Deleted (did v t (Delete k) (locks_of new t)) (key_record t last lsn page (DeleteKey k i) ∷ between) (map (changed t (with_record lsn lsn)) rows) next new
 
 -- An access that was granted and changes nothing; the log may have grown by Images.
 abbrev pub ReadsAreServed : Type 0
 ReadsAreServed = (b : Base) (earlier before : List Effect) (s : Shown) (v : View) (older longer : History) (rows : List Transaction) (next : ℕ) (old new : Table) (t : ℕ) (row : Transaction) (a : Access)
-    → IsServing b earlier before s v older rows next old → find (is_of t) rows ≡ Some row → row.mark ≡ Going → keys_fit a ≡ true → changes a v.walk ≡ []
+    → IsServing b earlier before s v older rows next old → find (is_of t) rows ≡ Some row → row.mark ≡ Going → owner_in v ≢ Some t → keys_fit a ≡ true → changes a v.walk ≡ []
     → Decides old t (asked a v.walk) Granted new → Stays b older longer → IsOfAll older longer
     → IsServed b earlier before s v (Do t a) (answer a v.walk) (did v t a (locks_of new t)) longer rows next new
 
 -- An access that has to wait changes nothing.
 abbrev pub WaitsAreServed : Type 0
 WaitsAreServed = (b : Base) (earlier before : List Effect) (s : Shown) (v : View) (older longer : History) (rows : List Transaction) (next : ℕ) (old new : Table) (t holder : ℕ) (row : Transaction) (a : Access)
-    → IsServing b earlier before s v older rows next old → find (is_of t) rows ≡ Some row → row.mark ≡ Going → keys_fit a ≡ true
+    → IsServing b earlier before s v older rows next old → find (is_of t) rows ≡ Some row → row.mark ≡ Going → owner_in v ≢ Some t → keys_fit a ≡ true
     → Decides old t (asked a v.walk) (Wait holder) new → Stays b older longer → IsOfAll older longer
     → IsServed b earlier before s v (Do t a) (Blocked holder) v longer rows next new
 
 -- One that must die marks its transaction.
 abbrev pub DiesAreServed : Type 0
 DiesAreServed = (b : Base) (earlier before : List Effect) (s : Shown) (v : View) (older longer : History) (rows : List Transaction) (next : ℕ) (old new : Table) (t : ℕ) (row : Transaction) (a : Access)
-    → IsServing b earlier before s v older rows next old → find (is_of t) rows ≡ Some row → row.mark ≡ Going → keys_fit a ≡ true
+    → IsServing b earlier before s v older rows next old → find (is_of t) rows ≡ Some row → row.mark ≡ Going → owner_in v ≢ Some t → keys_fit a ≡ true
     → Decides old t (asked a v.walk) MustDie new → Stays b older longer → IsOfAll older longer
     → IsServed b earlier before s v (Do t a) Die (marked v t answers.MustRollBack) longer (map (changed t (with_mark MustRollBack)) rows) next new
 
@@ -132,7 +132,7 @@ BeginsAreServed = (b : Base) (earlier before : List Effect) (s : Shown) (v : Vie
 -- A Commit that was logged, with its locks released and its row taken out.
 abbrev pub CommitsAreServed : Type 0
 CommitsAreServed = (b : Base) (earlier before : List Effect) (s : Shown) (v : View) (older longer : History) (rows : List Transaction) (next : ℕ) (old new : Table) (t : ℕ) (row : Transaction)
-    → IsServing b earlier before s v older rows next old → find (is_of t) rows ≡ Some row → row.mark ≡ Going → 1 ≤ row.last → IsReleased old t new → Commits b t older longer → IsOfOthers t older longer
+    → IsServing b earlier before s v older rows next old → find (is_of t) rows ≡ Some row → row.mark ≡ Going → 1 ≤ row.last → owner_in v ≢ Some t → v.queue ≡ [] → IsReleased old t new → Commits b t older longer → IsOfOthers t older longer
     → IsOver t longer → to_undo t longer ≡ [] → length rows ≡ length (without t rows) + 1
     → IsServed b earlier before s v (Commit t) Committed (committed_by v t) longer (without t rows) next new
 
@@ -143,32 +143,44 @@ commit_record t last lsn = record { lsn = lsn; txn = t; prev = last; undo_next =
 -- The record of a Commit leaves a lawful log, and with its locks released and its row taken out it is a step of the machine.
 abbrev pub LoggedCommitsAreServed : Tree → Type 0
 LoggedCommitsAreServed tree = (b : Base) (earlier before : List Effect) (s : Shown) (v : View) (older : History) (rows : List Transaction) (next : ℕ) (old new : Table) (t lsn : ℕ) (row : Transaction)
-    → IsServing b earlier before s v older rows next old → find (is_of t) rows ≡ Some row → row.mark ≡ Going → 1 ≤ row.last → IsLawful b tree older → open_smo older ≡ [] → end_of b older < lsn
-    → IsReleased old t new → length rows ≡ length (without t rows) + 1
+    → IsServing b earlier before s v older rows next old → find (is_of t) rows ≡ Some row → row.mark ≡ Going → 1 ≤ row.last → owner_in v ≢ Some t → IsLawful b tree older → IsOutside t (open_smo older) → end_of b older < lsn
+    → v.queue ≡ [] → IsReleased old t new → length rows ≡ length (without t rows) + 1
     → IsLogged b tree earlier before s v (Commit t) Committed (committed_by v t) (commit_record t row.last lsn ∷ older) (without t rows) next new
+
+-- A Commit that was logged and waits for a force: its row is marked, and it keeps its locks.
+abbrev pub CommitsWait : Type 0
+CommitsWait = (b : Base) (earlier before : List Effect) (s : Shown) (v : View) (older longer : History) (rows : List Transaction) (next : ℕ) (held : Table) (t : ℕ) (row : Transaction)
+    → IsServing b earlier before s v older rows next held → find (is_of t) rows ≡ Some row → row.mark ≡ Going → 1 ≤ row.last → owner_in v ≢ Some t → Commits b t older longer → IsOfOthers t older longer
+    → is_finished t longer ≡ true → to_undo t longer ≡ []
+    → IsServed b earlier before s v (Commit t) More (queued v t) longer (map (changed t (with_mark Committing)) rows) next held
+
+abbrev pub LoggedCommitsWait : Tree → Type 0
+LoggedCommitsWait tree = (b : Base) (earlier before : List Effect) (s : Shown) (v : View) (older : History) (rows : List Transaction) (next : ℕ) (held : Table) (t lsn : ℕ) (row : Transaction)
+    → IsServing b earlier before s v older rows next held → find (is_of t) rows ≡ Some row → row.mark ≡ Going → 1 ≤ row.last → owner_in v ≢ Some t → IsLawful b tree older → IsOutside t (open_smo older) → end_of b older < lsn
+    → IsLogged b tree earlier before s v (Commit t) More (queued v t) (commit_record t row.last lsn ∷ older) (map (changed t (with_mark Committing)) rows) next held
 
 -- A Commit of a transaction without a record.
 abbrev pub UnloggedCommitsAreServed : Type 0
 UnloggedCommitsAreServed = (b : Base) (earlier before : List Effect) (s : Shown) (v : View) (log : History) (rows : List Transaction) (next : ℕ) (old new : Table) (t : ℕ) (row : Transaction)
-    → IsServing b earlier before s v log rows next old → Rises b log → find (is_of t) rows ≡ Some row → row.mark ≡ Going → row.last ≡ 0 → IsReleased old t new → length rows ≡ length (without t rows) + 1
+    → IsServing b earlier before s v log rows next old → Rises b log → find (is_of t) rows ≡ Some row → row.mark ≡ Going → owner_in v ≢ Some t → row.last ≡ 0 → IsReleased old t new → length rows ≡ length (without t rows) + 1
     → IsServed b earlier before s v (Commit t) Committed (committed_by v t) log (without t rows) next new
 
 -- A Rollback of a transaction without a record.
 abbrev pub DropsAreServed : Type 0
 DropsAreServed = (b : Base) (earlier before : List Effect) (s : Shown) (v : View) (log : History) (rows : List Transaction) (next : ℕ) (old new : Table) (t : ℕ) (row : Transaction)
-    → IsServing b earlier before s v log rows next old → Rises b log → find (is_of t) rows ≡ Some row → (row.mark ≡ Going) ⊎ (row.mark ≡ MustRollBack) → row.last ≡ 0 → IsReleased old t new → length rows ≡ length (without t rows) + 1
+    → IsServing b earlier before s v log rows next old → Rises b log → find (is_of t) rows ≡ Some row → (row.mark ≡ Going) ⊎ (row.mark ≡ MustRollBack) → owner_in v ≢ Some t → row.last ≡ 0 → IsReleased old t new → length rows ≡ length (without t rows) + 1
     → IsServed b earlier before s v (Rollback t) RolledBack (dropped_by v t) log (without t rows) next new
 
 -- A Rollback of one that has a record marks it.
 abbrev pub TurnsAreServed : Type 0
 TurnsAreServed = (b : Base) (earlier before : List Effect) (s : Shown) (v : View) (log : History) (rows : List Transaction) (next : ℕ) (held : Table) (t : ℕ) (row : Transaction)
-    → IsServing b earlier before s v log rows next held → find (is_of t) rows ≡ Some row → (row.mark ≡ Going) ⊎ (row.mark ≡ MustRollBack) → 1 ≤ row.last
+    → IsServing b earlier before s v log rows next held → find (is_of t) rows ≡ Some row → (row.mark ≡ Going) ⊎ (row.mark ≡ MustRollBack) → 1 ≤ row.last → owner_in v ≢ Some t
     → IsServed b earlier before s v (Rollback t) More (marked v t answers.RollingBack) log (map (changed t (with_mark RollingBack)) rows) next held
 
 -- A change that was taken back, with others left to take back.
 abbrev pub UndoIsServed : Type 0
 UndoIsServed = (b : Base) (earlier before : List Effect) (s : Shown) (v : View) (older longer : History) (rows : List Transaction) (next : ℕ) (held : Table) (t last undo_next : ℕ) (row : Transaction) (c : Change)
-    → IsServing b earlier before s v older rows next held → find (is_of t) rows ≡ Some row → row.mark ≡ RollingBack → TakesBack b t c older longer → net t longer ≢ [] → IsOfOthers t older longer → IsRow (with_record last undo_next row) next longer
+    → IsServing b earlier before s v older rows next held → find (is_of t) rows ≡ Some row → row.mark ≡ RollingBack → TakesBack b t c older longer → net t longer ≢ [] → IsOfOthers t older longer → IsRow (with_record last undo_next row) next longer (owner_in v)
     → IsServed b earlier before s v (Continue t) More (undid_more v t c (net t longer)) longer (map (changed t (with_record last undo_next)) rows) next held
 
 -- The last change was taken back, and the transaction ended.
@@ -180,15 +192,21 @@ EndsAreServed = (b : Base) (earlier before : List Effect) (s : Shown) (v : View)
 
 -- ---- the store
 
+-- the table without the rows of these
+abbrev pub without_all : List ℕ → List Transaction → List Transaction
+without_all [] rows = rows
+without_all (t ∷ ts) rows = without_all ts (without t rows)
+
 -- A page was written, behind Images.
 abbrev pub FlushesAreServed : Type 0
 FlushesAreServed = (b : Base) (earlier before : List Effect) (s : Shown) (v : View) (older longer : History) (rows : List Transaction) (next : ℕ) (held : Table) (p : ℕ)
     → IsServing b earlier before s v older rows next held → Stays b older longer → IsOfAll older longer → IsServed b earlier before s v (FlushPage p) Done v longer rows next held
 
--- The log was forced.
+-- The log was forced: who waited has ended, with row and locks.
 abbrev pub ForcesAreServed : Type 0
-ForcesAreServed = (b : Base) (earlier before : List Effect) (s : Shown) (v : View) (older longer : History) (rows : List Transaction) (next : ℕ) (held : Table)
-    → IsServing b earlier before s v older rows next held → Stays b older longer → IsOfAll older longer → IsServed b earlier before s v Force Done v longer rows next held
+ForcesAreServed = (b : Base) (earlier before : List Effect) (s : Shown) (v : View) (older longer : History) (rows : List Transaction) (next : ℕ) (old new : Table)
+    → IsServing b earlier before s v older rows next old → Stays b older longer → IsOfAll older longer → AreReleased old (λ t. is_among t v.queue) new → length rows ≡ length (without_all v.queue rows) + length v.queue
+    → IsServed b earlier before s v Force Done (forced_by v) longer (without_all v.queue rows) next new
 
 -- A Checkpoint was answered, behind records that are no transaction's.
 abbrev pub CheckpointsAreServed : Type 0
@@ -212,3 +230,11 @@ abbrev pub LacksAreServed : Type 0
 LacksAreServed = (b : Base) (earlier before : List Effect) (s : Shown) (v : View) (older longer : History) (rows : List Transaction) (next : ℕ) (held : Table) (step : Step) (fault : ℕ)
     → IsServing b earlier before s v older rows next held → barred v step ≡ None → Wants step fault → Stays b older longer → IsOfAll older longer
     → IsServed b earlier before s v step (Refused fault) v longer rows next held
+
+-- A transaction begins a structure change: its rows are as they were.
+abbrev pub RowsTakeOwner : Type 0
+RowsTakeOwner = (u : Under) (next : ℕ) (log : History) (rows : List Transaction) (v : View) → v.under ≡ None → AreRows rows next log v → AreRows rows next log (record v { under = Some u })
+
+-- It ends it, and has changed a key.
+abbrev pub RowsLeaveOwner : Type 0
+RowsLeaveOwner = (t next : ℕ) (log : History) (rows : List Transaction) (v : View) → owner_in v ≡ Some t → net t log ≢ [] → AreRows rows next log v → AreRows rows next log (record v { under = None })

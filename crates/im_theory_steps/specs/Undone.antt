@@ -6,12 +6,12 @@ use Rattle.im_theory_log.specs.Histories.{History, Base}
 use Rattle.im_theory_log.specs.Transactions.{change_of, contents, net, last_of, undo_next_of, to_undo, is_finished}
 use Rattle.im_base_types.specs.Answers.{Continue, More, RolledBack}
 use Rattle.im_base_types.specs.Lives.{Shown}
-use Rattle.im_engine_txn.specs.declared.transaction.Mark.TheVariants.{RollingBack}
-use Rattle.im_engine_txn.specs.declared.transaction.Transaction.{Transaction}
-use Rattle.im_engine_txn.specs.Rows.{is_of, changed, with_record}
-use Rattle.im_engine_txn.specs.LookUps.{without}
-use Rattle.im_engine_lock.specs.Table.{Table, IsReleased}
-use Rattle.im_engine_lock.specs.View.{View, undid_more, undid_last}
+use Rattle.im_base_txn.specs.declared.transaction.Mark.TheVariants.{RollingBack}
+use Rattle.im_base_txn.specs.declared.transaction.Transaction.{Transaction}
+use Rattle.im_base_txn.specs.Rows.{is_of, changed, with_record}
+use Rattle.im_base_txn.specs.LookUps.{without}
+use Rattle.im_base_lock.specs.Table.{Table, IsReleased}
+use Rattle.im_base_lock.specs.View.{View, owner_in, undid_more, undid_last}
 use Rattle.im_theory_steps.specs.Growth.{TakesBack, IsOfOthers, IsOver, GrowsWithin}
 use Rattle.im_theory_steps.specs.Serving.{IsServing, IsServed}
 
@@ -39,10 +39,10 @@ pub record IsEndedBack (b : Base) (t : ℕ) (c : Change) (older longer : History
 abbrev pub EndsLeaveNothing : Type 0
 EndsLeaveNothing = (b : Base) (t : ℕ) (c : Change) (older between : History) (last : Logged) → UndoesNewest b t c older between → net t between ≡ [] → last.txn ≡ t → last.what ≡ End → IsEndedBack b t c older (last ∷ between)
 
--- A transaction that rolls back has something left to undo.
+-- A transaction that rolls back has something left to undo, but where its last change was taken back and the leaf that this left empty still goes.
 abbrev pub RollingBackHasMore : Type 0
 RollingBackHasMore = (b : Base) (earlier before : List Effect) (s : Shown) (v : View) (log : History) (rows : List Transaction) (next : ℕ) (held : Table) (t : ℕ) (row : Transaction)
-    → IsServing b earlier before s v log rows next held → find (is_of t) rows ≡ Some row → row.mark ≡ RollingBack → to_undo t log ≢ []
+    → IsServing b earlier before s v log rows next held → find (is_of t) rows ≡ Some row → row.mark ≡ RollingBack → owner_in v ≢ Some t → to_undo t log ≢ []
 
 -- A change was taken back, with others left: the row notes where the transaction's records now end, and where its undo goes on.
 abbrev pub UndoneChangesAreServed : Type 0

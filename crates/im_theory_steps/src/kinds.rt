@@ -1,6 +1,6 @@
 //! Each kind of step keeps what holds between steps. These functions do nothing: their contracts are the laws.
 
-ghost use Rattle.im_theory_steps.specs.Steps.{NewStoresServe, OpenedStoresServe, QuietLogsHoldCommitted, ImagesKeepServing, StructureKeepsServing, WaysLeadOn, LoggedCommitsAreServed, BeginsAreServed, ChangesAreServed, InsertsAreServed, DeletesAreServed, ReadsAreServed, WaitsAreServed, DiesAreServed, CommitsAreServed, UnloggedCommitsAreServed, DropsAreServed, TurnsAreServed, UndoIsServed, EndsAreServed, FlushesAreServed, ForcesAreServed, CheckpointsAreServed, LoggedCheckpointsAreServed, BarredStepsAreServed, LacksAreServed};
+ghost use Rattle.im_theory_steps.specs.Steps.{NewStoresServe, RowsTakeOwner, RowsLeaveOwner, OpenedStoresServe, QuietLogsHoldCommitted, ImagesKeepServing, StructureKeepsServing, WaysLeadOn, LoggedCommitsAreServed, BeginsAreServed, ChangesAreServed, InsertsAreServed, DeletesAreServed, ReadsAreServed, WaitsAreServed, DiesAreServed, CommitsAreServed, CommitsWait, LoggedCommitsWait, UnloggedCommitsAreServed, DropsAreServed, TurnsAreServed, UndoIsServed, EndsAreServed, FlushesAreServed, ForcesAreServed, CheckpointsAreServed, LoggedCheckpointsAreServed, BarredStepsAreServed, LacksAreServed};
 
 use im_theory_log::laws::logs::PageTree;
 
@@ -79,6 +79,16 @@ pub fn logged_commits_are_served<T: PageTree>()
     ensures { LoggedCommitsAreServed T.tree }
 {}
 
+/// A Commit that was logged and waits for a force.
+pub fn commits_wait()
+    ensures { CommitsWait }
+{}
+
+/// The record of a Commit that waits leaves a lawful log.
+pub fn logged_commits_wait<T: PageTree>()
+    ensures { LoggedCommitsWait T.tree }
+{}
+
 /// A Commit of a transaction without a record.
 pub fn unlogged_commits_are_served()
     ensures { UnloggedCommitsAreServed }
@@ -132,4 +142,14 @@ pub fn barred_steps_are_served()
 /// A step for which pages or memory are wanting.
 pub fn lacks_are_served()
     ensures { LacksAreServed }
+{}
+
+/// A structure change begins: the rows are as they were.
+pub fn rows_take_owner()
+    ensures { RowsTakeOwner }
+{}
+
+/// It ends, behind a change of a key.
+pub fn rows_leave_owner()
+    ensures { RowsLeaveOwner }
 {}

@@ -1,6 +1,6 @@
-//! Each step of a store of several transactions is a step of the machine of `im_engine_lock` and a growth of the log.
+//! Each step of a store of several transactions is a step of the machine of `im_base_lock` and a growth of the log.
 //!
-//! The log knows what is committed, what the tree holds and each transaction's net; the machine of `im_engine_lock` knows marks, locks and
+//! The log knows what is committed, what the tree holds and each transaction's net; the machine of `im_base_lock` knows marks, locks and
 //! replies; users are shown steps and replies alone. `IsServing` says what holds between two steps of an engine that works: the log
 //! is what the machine sees (`IsSeen`), steps and replies have shown the machine (`IsShownBy`), it came here by a run
 //! (`IsReached`), the committed effects are those before this life and the ones asked since, and the table of transactions and the

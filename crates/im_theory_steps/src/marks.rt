@@ -1,10 +1,10 @@
 //! What a row's mark lets its transaction do.
 
 ghost use Rattle.std.specs.Prelude.{◌≡◌, ◌↔◌, true};
-ghost use Rattle.im_engine_lock.specs.View.{MayRollBack};
+ghost use Rattle.im_base_lock.specs.View.{MayRollBack};
 ghost use Rattle.im_theory_steps.specs.Serving.{mark_of};
 
-use im_engine_txn::Mark;
+use im_base_txn::Mark;
 
 /// Whether a transaction of this mark may be rolled back: it is going, or was told to die.
 pub fn may_roll_back(mark: Mark) -> bool

@@ -2,7 +2,7 @@
 use Rattle.std.proofs.Common.{ℕ, zero, suc, ◌<◌, List, [], ◌∷◌, ◌++◌, length, arith}
 use Rattle.im_base_types.specs.Keys.{IsBelow}
 use Rattle.im_base_types.specs.Pages.{Entry}
-use Rattle.im_page_form.specs.Entry.{entry_at, Rises}
+use Rattle.im_theory_page.specs.Entry.{entry_at, Rises}
 use Rattle.im_theory_tree.specs.Levels.{Pages, Node, entries_in, leaves_under, the_root, height, walk}
 use Rattle.im_theory_tree.specs.Good.{AllOf, AtOrAbove, IsUnder, next_bound, AreOrdered, IsGoodTree}
 use Rattle.im_theory_tree.specs.Lookups.{PagesRise}

@@ -5,9 +5,9 @@ use Rattle.std.proofs.lemmas.List.Concat.{flat_map-append}
 use Rattle.im_base_types.specs.Keys.{Key, IsBelow}
 use Rattle.im_base_types.specs.Pages.{Entry}
 use Rattle.im_base_types.specs.Maps.{with_key}
-use Rattle.im_page_form.specs.Entry.{entry_at}
-use Rattle.im_page_form.specs.Child.{StartAbove, IsChild}
-use Rattle.im_page_form.proofs.Order.{below_trans}
+use Rattle.im_theory_page.specs.Entry.{entry_at}
+use Rattle.im_theory_page.specs.Child.{StartAbove, IsChild}
+use Rattle.im_theory_page.proofs.Order.{below_trans}
 use Rattle.im_theory_tree.specs.Levels.{Pages, Node, child_of, children, below}
 use Rattle.im_theory_tree.specs.Good.{AllOf, AtOrAbove, IsUnder, next_bound, IsAfter}
 use Rattle.im_theory_tree.specs.Splits.{PutsSeparator}

@@ -4,10 +4,10 @@ use Rattle.std.proofs.lemmas.List.{get_or-take, get_or-drop, drop-drop}
 use Rattle.std.proofs.lemmas.Bool.{cases_lt}
 use Rattle.im_base_types.specs.Keys.{Key, IsBelow}
 use Rattle.im_base_types.specs.Pages.{Entry, Body}
-use Rattle.im_page_form.specs.Entry.{no_entry, entry_at, Rises}
-use Rattle.im_page_form.specs.Child.{StartAbove, IsChild}
-use Rattle.im_page_form.specs.Split.{HasRoomForAny}
-use Rattle.im_page_form.proofs.Order.{below_trans, below_irrefl}
+use Rattle.im_theory_page.specs.Entry.{no_entry, entry_at, Rises}
+use Rattle.im_theory_page.specs.Child.{StartAbove, IsChild}
+use Rattle.im_theory_page.specs.Split.{HasRoomForAny}
+use Rattle.im_theory_page.proofs.Order.{below_trans, below_irrefl}
 use Rattle.im_theory_tree.specs.Levels.{Pages}
 use Rattle.im_theory_tree.specs.Halves.{SplitsWell}
 use Rattle.im_theory_tree.specs.KeySplits.{SplitsKeyInner, SplitsKeyRootInner, KeepsWay, GoesOn}

@@ -71,9 +71,19 @@ chain_over pages new u w m leaf h lu next prev f =
     let here = chained_right pages 0 u (m ∷ leaf ∷ w) h in
     chained_front pages new 0 u (leaf ∷ w) w m lu h (λ p e. (prev ∙ e, next ∙ here.1.2.1, rechained pages new leaf.page m.page w here.1.2.2 f))
 
-pub drop_child : (pages new : Pages) (spare : List ℕ) (d h : ℕ) (a b : List Node) (parent : Node) (before after : List Node) (last c : Node)
-    → DropsChildOf pages new spare d h a b parent before after last c → IsGoodTree new (pages_under pages h (c ∷ []) ++ spare) × (walk new ≡ walk pages)
-drop_child pages new spare d h a b parent before after last c s =
+-- A leaf without entries is gone from behind another: the tree is good, with the same walk.
+pub record IsGone (pages new : Pages) (spare : List ℕ) (leaf : Node) : Type 0 where
+  pub good : IsGoodTree new spare
+  pub same : walk new ≡ walk pages
+  pub front : List Node
+  pub last : Node
+  pub back : List Node
+  pub was : leaves_under pages (height pages) the_root ≡ front ++ last ∷ leaf ∷ back
+  pub now : leaves_under new (height new) the_root ≡ front ++ last ∷ back
+
+pub child_gone : (pages new : Pages) (spare : List ℕ) (d h : ℕ) (a b : List Node) (parent : Node) (before after : List Node) (last c : Node)
+    → DropsChildOf pages new spare d h a b parent before after last c → IsGone pages new (pages_under pages h (c ∷ []) ++ spare) (bare_leaf pages h c)
+child_gone pages new spare d h a b parent before after last c s =
     let f : Node → ℕ = λ y. y.page in
     let P : ℕ → Type 0 = λ x. SameTree (pages x) (new x) in
     let L : ℕ → Type 0 = λ x. SameLinks (pages x) (new x) in
@@ -179,8 +189,9 @@ drop_child pages new spare d h a b parent before after last c s =
       all_elsewhere L (gone ++ (m.page ∷ r.page ∷ [])) (page_numbers rest) away_rest
           (λ x. omega (arith, part x, all_once x, in_lf x, in_lb x, count x, times-append x gone (m.page ∷ r.page ∷ []))),
     ) in
-    let freed = free_kept pages new l_zero s_free l_free s.good.free in (
-      record {
+    let freed = free_kept pages new l_zero s_free l_free s.good.free in
+    record {
+      good = record {
         meta = s_zero.kind ∙ s.good.meta;
         levels = subst (λ k. HaveLevels new k the_root) (sym tall)
             (levels_descend pages new d (suc h) the_root s_above (subst (λ k. HaveLevels pages k the_root) s.tall s.good.levels)
@@ -226,6 +237,15 @@ drop_child pages new spare d h a b parent before after last c s =
               times-append x gone spare,
             ) in
             same ∙ was_cover;
-      },
-      walks,
-    )
+      };
+      same = walks;
+      front = u;
+      last = m;
+      back = lb;
+      was = leaves_was ∙ split_was (leaf ∷ lb);
+      now = leaves_now ∙ split_was lb;
+    }
+
+pub drop_child : (pages new : Pages) (spare : List ℕ) (d h : ℕ) (a b : List Node) (parent : Node) (before after : List Node) (last c : Node)
+    → DropsChildOf pages new spare d h a b parent before after last c → IsGoodTree new (pages_under pages h (c ∷ []) ++ spare) × (walk new ≡ walk pages)
+drop_child pages new spare d h a b parent before after last c s = let gone = child_gone pages new spare d h a b parent before after last c s in (gone.good, gone.same)

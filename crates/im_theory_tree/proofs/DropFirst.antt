@@ -70,9 +70,19 @@ pub same_entries : (pages : Pages) (u w : List Node) (f : Option (List ℕ)) (q 
 same_entries pages [] w f q = refl
 same_entries pages (x ∷ u) w f q = ap (λ t. (pages x.page).entries ++ t) (same_entries pages u w f q)
 
-pub drop_first : (pages new : Pages) (spare : List ℕ) (d h : ℕ) (a b : List Node) (parent : Node) (after : List Node) (c r : Node)
-    → DropsFirstOf pages new spare d h a b parent after c r → IsGoodTree new (pages_under pages h (c ∷ []) ++ spare) × (walk new ≡ walk pages)
-drop_first pages new spare d h a b parent after c r s =
+-- A leaf without entries is gone from before another, which takes its bound: the tree is good, with the same walk.
+pub record IsGoneFirst (pages new : Pages) (spare : List ℕ) (leaf : Node) : Type 0 where
+  pub good : IsGoodTree new spare
+  pub same : walk new ≡ walk pages
+  pub front : List Node
+  pub next : Node
+  pub back : List Node
+  pub was : leaves_under pages (height pages) the_root ≡ front ++ leaf ∷ next ∷ back
+  pub now : leaves_under new (height new) the_root ≡ front ++ rebound leaf.bound next ∷ back
+
+pub first_gone : (pages new : Pages) (spare : List ℕ) (d h : ℕ) (a b : List Node) (parent : Node) (after : List Node) (c r : Node)
+    → DropsFirstOf pages new spare d h a b parent after c r → IsGoneFirst pages new (pages_under pages h (c ∷ []) ++ spare) (bare_leaf pages h c)
+first_gone pages new spare d h a b parent after c r s =
     let f : Node → ℕ = λ y. y.page in
     let P : ℕ → Type 0 = λ x. SameTree (pages x) (new x) in
     let L : ℕ → Type 0 = λ x. SameLinks (pages x) (new x) in
@@ -180,8 +190,9 @@ drop_first pages new spare d h a b parent after c r s =
     let all : AreChained new 0 (u ++ m ∷ q ∷ w) = chained_front pages new 0 u (leaf ∷ q ∷ w) (q ∷ w) m l_u chain_m (λ p z. (left.1 ∙ z, left.0 ∙ leaf_next, tail)) in
     (subst (AreChained new 0) (sym (split_was (q ∷ w))) all, l_free))
     (empty_or_last lf) in
-    let freed = free_kept pages new l_zero s_free result.1 s.good.free in (
-      record {
+    let freed = free_kept pages new l_zero s_free result.1 s.good.free in
+    record {
+      good = record {
         meta = s_zero.kind ∙ s.good.meta;
         levels = subst (λ k. HaveLevels new k the_root) (sym tall)
             (levels_descend pages new d (suc h) the_root s_above (subst (λ k. HaveLevels pages k the_root) s.tall s.good.levels)
@@ -227,6 +238,15 @@ drop_first pages new spare d h a b parent after c r s =
               times-append x gone spare,
             ) in
             same ∙ was_cover;
-      },
-      walks,
-    )
+      };
+      same = walks;
+      front = lf;
+      next = q;
+      back = w;
+      was = was_all;
+      now = leaves_now;
+    }
+
+pub drop_first : (pages new : Pages) (spare : List ℕ) (d h : ℕ) (a b : List Node) (parent : Node) (after : List Node) (c r : Node)
+    → DropsFirstOf pages new spare d h a b parent after c r → IsGoodTree new (pages_under pages h (c ∷ []) ++ spare) × (walk new ≡ walk pages)
+drop_first pages new spare d h a b parent after c r s = let gone = first_gone pages new spare d h a b parent after c r s in (gone.good, gone.same)

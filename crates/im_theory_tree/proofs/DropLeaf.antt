@@ -5,7 +5,7 @@ use Rattle.im_theory_tree.specs.Good.{AtOrAbove, IsUnder, next_bound, IsAfter, B
 use Rattle.im_theory_tree.specs.Levels.{Pages, Node, entries_in, page_numbers}
 use Rattle.im_theory_tree.specs.Same.{SameTree, SameOn}
 use Rattle.im_base_types.specs.Pages.{Entry}
-use Rattle.im_page_form.proofs.Order.{below_trans}
+use Rattle.im_theory_page.proofs.Order.{below_trans}
 use Rattle.im_theory_tree.proofs.Frame.{entries_same}
 use Rattle.im_theory_tree.proofs.Order.{AllOf-from, after_reached}
 use Rattle.im_theory_tree.proofs.Keeps.{ordered_same}

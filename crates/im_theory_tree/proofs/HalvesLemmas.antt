@@ -4,10 +4,10 @@ use Rattle.std.proofs.lemmas.List.{drop_more}
 use Rattle.std.proofs.lemmas.List.Sums.{sum_by-cons, sum_by-take-drop, sum_by_more}
 use Rattle.im_base_types.specs.Keys.{Key, IsBelow}
 use Rattle.im_base_types.specs.Pages.{Entry}
-use Rattle.im_page_form.specs.Entry.{no_entry, entry_at, width, size, taken, Rises}
-use Rattle.im_page_form.specs.Split.{IsSplitPoint, HasRoomForAny}
-use Rattle.im_page_form.proofs.Order.{below_trans}
-use Rattle.im_page_form.proofs.SplitLemmas.{left_has_room, right_has_room}
+use Rattle.im_theory_page.specs.Entry.{no_entry, entry_at, width, size, taken, Rises}
+use Rattle.im_theory_page.specs.Split.{IsSplitPoint, HasRoomForAny}
+use Rattle.im_theory_page.proofs.Order.{below_trans}
+use Rattle.im_theory_page.proofs.SplitLemmas.{left_has_room, right_has_room}
 use Rattle.im_theory_tree.specs.Good.{AllOf, AtOrAbove, IsUnder, InRange, IsAfter}
 use Rattle.im_theory_tree.specs.Splits.{Halves}
 use Rattle.im_theory_tree.specs.Halves.{FitsPage, LacksRoom, SplitsWell}

@@ -56,6 +56,10 @@ rest_good pages new old_spare spare leaves h =
       ap (entries_in new) h.now ∙ entries_same pages new leaves h.tree ∙ ap (entries_in pages) (sym h.was),
     )
 
+-- the leaves are the same
+pub rest_leaves : (pages new : Pages) (old_spare spare : List ℕ) (leaves : List Node) → Rest pages new old_spare spare leaves → leaves_under new (height new) the_root ≡ leaves_under pages (height pages) the_root
+rest_leaves pages new old_spare spare leaves h = h.now ∙ sym h.was
+
 -- no page stands twice
 pub good_once : (pages : Pages) (spare : List ℕ) → IsGoodTree pages spare → (x : ℕ)
     → times x (pages_under pages (height pages) the_root) + times x (0 ∷ []) + times x (free_from pages (pages 0).prev (pages 0).next) + times x spare ≤ 1
@@ -67,8 +71,8 @@ good_once pages spare good x =
     grind (arith, good.cover x, one, two)
 
 -- THE ROOT
-pub root_split : (pages new : Pages) (spare : List ℕ) (h left right : ℕ) (up : Entry) → SplitsRootOf pages new spare h left right up → IsGoodTree new spare × (walk new ≡ walk pages)
-root_split pages new spare h left right up s =
+pub root_rest : (pages new : Pages) (spare : List ℕ) (h left right : ℕ) (up : Entry) → SplitsRootOf pages new spare h left right up → Rest pages new (left ∷ right ∷ spare) spare (leaves_under pages h (below pages the_root))
+root_rest pages new spare h left right up s =
     let changed : List ℕ = 1 ∷ left ∷ right ∷ [] in
     let under = pages_under pages h (below pages the_root) in
     let leaves = leaves_under pages h (below pages the_root) in
@@ -94,8 +98,7 @@ root_split pages new spare h left right up s =
     let down : below new (below new the_root) ≡ below pages the_root =
     ap (below new) two ∙ sym (append_assoc (children new l) (children new r) []) ∙ ap (λ c. c ++ []) halves in
     let tall : height new ≡ suc (suc h) = s.root.1 in
-    rest_good pages new (left ∷ right ∷ spare) spare leaves
-    (record {
+    record {
       good = s.good;
       was = ap (λ k. leaves_under pages k the_root) s.tall;
       now = ap (λ k. leaves_under new k the_root) tall ∙ ap (leaves_under new h) down ∙ leaves_same pages new h (below pages the_root) s_under;
@@ -120,12 +123,19 @@ root_split pages new spare h left right up s =
           (times-append x (page_numbers (below new the_root)) (pages_under new h (below new (below new the_root)))
           ∙ ap₂ (λ u v. times x (page_numbers u) + times x v) two (ap (pages_under new h) down ∙ pages_same pages new h (below pages the_root) s_under)) in
           omega (arith, one, part x);
-    })
+    }
+
+pub root_split : (pages new : Pages) (spare : List ℕ) (h left right : ℕ) (up : Entry) → SplitsRootOf pages new spare h left right up → IsGoodTree new spare × (walk new ≡ walk pages)
+root_split pages new spare h left right up s = rest_good pages new (left ∷ right ∷ spare) spare (leaves_under pages h (below pages the_root)) (root_rest pages new spare h left right up s)
 
 -- AN INNER PAGE
-pub inner_split : (pages new : Pages) (spare : List ℕ) (d h : ℕ) (a b : List Node) (parent : Node) (before after : List Node) (n : Node) (q : ℕ) (up : Entry)
-    → SplitsInnerOf pages new spare d h a b parent before after n q up → IsGoodTree new spare × (walk new ≡ walk pages)
-inner_split pages new spare d h a b parent before after n q up s =
+-- the level that is split
+abbrev pub inner_level : Pages → (a b before after : List Node) → Node → List Node
+inner_level pages a b before after n = (below pages a ++ before) ++ n ∷ (after ++ below pages b)
+
+pub inner_rest : (pages new : Pages) (spare : List ℕ) (d h : ℕ) (a b : List Node) (parent : Node) (before after : List Node) (n : Node) (q : ℕ) (up : Entry)
+    → SplitsInnerOf pages new spare d h a b parent before after n q up → Rest pages new (q ∷ spare) spare (leaves_under pages h (below pages (inner_level pages a b before after n)))
+inner_rest pages new spare d h a b parent before after n q up s =
     let f : Node → ℕ = λ y. y.page in
     let m : Node = record { bound = Some up.0; page = q } in
     let sep : Entry = (up.0, q) in
@@ -172,8 +182,7 @@ inner_split pages new spare d h a b parent before after n q up s =
     let at_new : descend new d the_root ≡ level = down.0 ∙ s.at in
     let bottom : leaves_under new h (below new (below new level)) ≡ leaves =
     ap (λ ns. leaves_under new h (below new ns)) now ∙ ap (leaves_under new h) same_below ∙ leaves_same pages new h (below pages mine) s_under in
-    rest_good pages new (q ∷ spare) spare leaves
-    (record {
+    record {
       good = s.good;
       was = ap (λ k. leaves_under pages k the_root) s.tall ∙ leaves_descend pages d (suc (suc h)) the_root ∙ ap (leaves_under pages (suc (suc h))) s.at ∙ ap (λ ns. leaves_under pages h (below pages ns)) was;
       now = ap (λ k. leaves_under new k the_root) tall ∙ leaves_descend new d (suc (suc h)) the_root ∙ ap (leaves_under new (suc (suc h))) at_new ∙ bottom;
@@ -215,4 +224,9 @@ inner_split pages new spare d h a b parent before after n q up s =
           (times-append x (page_numbers (fr ++ n ∷ m ∷ bk)) (pages_under new h (below new (fr ++ n ∷ m ∷ bk)))
           ∙ ap (λ ps. times x (page_numbers (fr ++ n ∷ m ∷ bk)) + times x ps) (ap (pages_under new h) same_below ∙ pages_same pages new h (below pages mine) s_under))) in
           omega (arith, one, part x, in_new, in_mine x);
-    })
+    }
+
+pub inner_split : (pages new : Pages) (spare : List ℕ) (d h : ℕ) (a b : List Node) (parent : Node) (before after : List Node) (n : Node) (q : ℕ) (up : Entry)
+    → SplitsInnerOf pages new spare d h a b parent before after n q up → IsGoodTree new spare × (walk new ≡ walk pages)
+inner_split pages new spare d h a b parent before after n q up s =
+    rest_good pages new (q ∷ spare) spare (leaves_under pages h (below pages (inner_level pages a b before after n))) (inner_rest pages new spare d h a b parent before after n q up s)

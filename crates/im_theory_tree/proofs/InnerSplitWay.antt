@@ -3,8 +3,8 @@ use Rattle.std.proofs.Common.{◌≡◌, ℕ, suc, ◌+◌, ◌<◌, List, [], �
 use Rattle.std.proofs.lemmas.List.{map-append}
 use Rattle.im_base_types.specs.Keys.{Key}
 use Rattle.im_base_types.specs.Pages.{Entry}
-use Rattle.im_page_form.specs.Entry.{entry_at, Rises}
-use Rattle.im_page_form.specs.Child.{IsChild}
+use Rattle.im_theory_page.specs.Entry.{entry_at, Rises}
+use Rattle.im_theory_page.specs.Child.{IsChild}
 use Rattle.im_theory_tree.specs.Levels.{Pages, Node, child_of, below, leaves_under, pages_under, the_root, height, page_numbers, descend, lifted}
 use Rattle.im_theory_tree.specs.Same.{SameTree}
 use Rattle.im_theory_tree.specs.Good.{AreOrdered, times, IsGoodTree}

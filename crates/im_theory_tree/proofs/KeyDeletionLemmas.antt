@@ -3,7 +3,7 @@ use Rattle.std.proofs.Common.{◌≡◌, ℕ, zero, suc, ◌+◌, ◌<◌, List,
 use Rattle.std.proofs.lemmas.List.{map-append}
 use Rattle.im_base_types.specs.Keys.{Key}
 use Rattle.im_base_types.specs.Pages.{Entry}
-use Rattle.im_page_form.specs.Entry.{entry_at}
+use Rattle.im_theory_page.specs.Entry.{entry_at}
 use Rattle.im_theory_tree.specs.Levels.{Pages, Node, child_of, children, below, pages_under, the_root, walk}
 use Rattle.im_theory_tree.specs.Same.{SameTree}
 use Rattle.im_theory_tree.specs.Good.{times, IsGoodTree}

@@ -5,8 +5,8 @@ use Rattle.std.proofs.lemmas.Bool.Decides.{nat_tests}
 use Rattle.im_base_types.specs.Keys.{Key, IsBelow}
 use Rattle.im_base_types.specs.Pages.{Entry}
 use Rattle.im_base_types.specs.declared.page_kind.PageKind.TheVariants.{Free, Meta, Leaf, Inner}
-use Rattle.im_page_form.specs.Entry.{entry_at}
-use Rattle.im_page_form.proofs.Order.{below_trans}
+use Rattle.im_theory_page.specs.Entry.{entry_at}
+use Rattle.im_theory_page.proofs.Order.{below_trans}
 use Rattle.im_theory_tree.specs.Levels.{Pages, Node, below, leaves_under, pages_under, the_root, height, page_numbers, lifted}
 use Rattle.im_theory_tree.specs.Good.{AllOf, IsInnerPage, HaveLevels, AtOrAbove, IsUnder, InRange, next_bound, AreOrdered, AreFree, free_from, times, IsGoodTree}
 use Rattle.im_theory_tree.specs.Search.{IsOnWay}

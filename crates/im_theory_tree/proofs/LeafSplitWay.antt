@@ -2,8 +2,8 @@
 use Rattle.std.proofs.Common.{◌≡◌, ℕ, zero, suc, ◌<◌, ◌≤◌, List, [], ◌∷◌, ◌++◌, length, map, Some, sym, ap, subst, ◌∙◌, append_assoc, arith}
 use Rattle.im_base_types.specs.Keys.{Key}
 use Rattle.im_base_types.specs.Pages.{Entry}
-use Rattle.im_page_form.specs.Entry.{entry_at, Rises}
-use Rattle.im_page_form.specs.Child.{IsChild}
+use Rattle.im_theory_page.specs.Entry.{entry_at, Rises}
+use Rattle.im_theory_page.specs.Child.{IsChild}
 use Rattle.im_theory_tree.specs.Levels.{Pages, Node, child_of, below, leaves_under, the_root, height, page_numbers, descend, lifted}
 use Rattle.im_theory_tree.specs.Same.{SameTree, SameOn}
 use Rattle.im_theory_tree.specs.Good.{AtOrAbove, IsUnder, InRange, IsAfter, next_bound, AreOrdered, IsGoodTree}

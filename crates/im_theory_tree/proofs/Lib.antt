@@ -33,3 +33,7 @@ pub mod KeyDeletionLemmas
 pub mod WayStays
 pub mod WorkedTrees
 pub mod LeafByKey
+pub mod WayRanges
+pub mod WayLeaves
+pub mod KeyWays
+pub mod WayBlind

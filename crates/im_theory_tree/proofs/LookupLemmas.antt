@@ -8,7 +8,7 @@ use Rattle.im_base_types.specs.Keys.{Key, key_order, IsBelow}
 use Rattle.im_base_types.specs.Pages.{Entry}
 use Rattle.im_base_types.specs.declared.page_kind.PageKind.TheVariants.{Leaf, Inner}
 use Rattle.im_base_types.specs.Maps.{Start, From, Above, is_below, is_past, first_in, with_key, without_key}
-use Rattle.im_page_form.specs.Entry.{entry_at, Rises, Parts, IsPlace}
+use Rattle.im_theory_page.specs.Entry.{entry_at, Rises, Parts, IsPlace}
 use Rattle.im_theory_tree.proofs.Ascent.{all_at}
 use Rattle.im_theory_tree.specs.Levels.{Pages, Node, below, leaves_under, pages_under, entries_in, the_root, height, walk, page_numbers, descend}
 use Rattle.im_theory_tree.specs.Good.{AllOf, AreOrdered, AreChained, HaveLevels, IsLeafPage, IsInnerPage, first_page, times, IsGoodTree}

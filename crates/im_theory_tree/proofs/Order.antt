@@ -7,7 +7,7 @@ use Rattle.im_theory_tree.specs.Levels.{Pages, Node, below, entries_in, page_num
 use Rattle.im_theory_tree.specs.Same.{SameOn}
 use Rattle.im_base_types.specs.Keys.{IsBelow}
 use Rattle.im_base_types.specs.Pages.{Entry}
-use Rattle.im_page_form.proofs.Order.{below_trans}
+use Rattle.im_theory_page.proofs.Order.{below_trans}
 use Rattle.im_theory_tree.proofs.Frame.{AllOf-append, entries_same}
 
 pub AllOf-from : {X : Type 0} (P Q : X → Type 0) (f : (x : X) → P x → Q x) (xs : List X) → AllOf P xs → AllOf Q xs

@@ -2,7 +2,7 @@
 use Rattle.std.proofs.Common.{◌≡◌, ℕ, zero, suc, List, [], ◌∷◌, ◌++◌, Some, None, refl, sym, ap, ap₂, subst, ◌∙◌}
 use Rattle.im_base_types.specs.Keys.{Key}
 use Rattle.im_base_types.specs.Pages.{Entry}
-use Rattle.im_page_form.specs.Entry.{entry_at}
+use Rattle.im_theory_page.specs.Entry.{entry_at}
 use Rattle.im_theory_tree.specs.Levels.{Pages, Node, below, leaves_under, the_root, height, walk, descend, lifted}
 use Rattle.im_theory_tree.specs.Good.{AtOrAbove, IsUnder, next_bound, HaveLevels, IsGoodTree}
 use Rattle.im_theory_tree.specs.Search.{IsOnWay}

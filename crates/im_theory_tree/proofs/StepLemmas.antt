@@ -4,9 +4,9 @@ use Rattle.std.specs.declared.cmp.Ordering.{Ordering}
 use Rattle.std.specs.declared.cmp.Ordering.TheVariants.{Less, Equal, Greater}
 use Rattle.im_base_types.specs.Keys.{Key, key_order, IsBelow}
 use Rattle.im_base_types.specs.Pages.{Entry}
-use Rattle.im_page_form.specs.Entry.{entry_at}
-use Rattle.im_page_form.specs.Split.{HasRoomForAny}
-use Rattle.im_page_form.proofs.Order.{below_from_less, below_from_greater, same_from_equal}
+use Rattle.im_theory_page.specs.Entry.{entry_at}
+use Rattle.im_theory_page.specs.Split.{HasRoomForAny}
+use Rattle.im_theory_page.proofs.Order.{below_from_less, below_from_greater, same_from_equal}
 use Rattle.im_theory_tree.specs.Levels.{Pages, pages_under, the_root, height, walk}
 use Rattle.im_theory_tree.specs.Good.{free_from, times, IsGoodTree}
 use Rattle.im_theory_tree.specs.Halves.{SplitsWell}

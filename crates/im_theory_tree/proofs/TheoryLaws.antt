@@ -4,23 +4,20 @@ use Rattle.std.proofs.lemmas.Bool.{eq-eqb, eqb-true, cond-true, cond-false, fals
 use Rattle.im_base_types.specs.Keys.{Key}
 use Rattle.im_base_types.specs.Pages.{Entry, Body}
 use Rattle.im_base_types.specs.Maps.{with_key, without_key}
-use Rattle.im_theory_log.specs.Tree.{TreeLaws, with_entries, with_body}
+use Rattle.im_theory_log.specs.Tree.{TreeLaws, with_entries}
 use Rattle.im_theory_tree.specs.Levels.{Pages, Node, leaves_under, entries_in, the_root, height, walk}
 use Rattle.im_theory_tree.specs.Same.{SameTree, SameLinks}
 use Rattle.im_theory_tree.specs.Good.{AtOrAbove, IsUnder, InRange, next_bound, AreOrdered, times, IsGoodTree}
 use Rattle.im_theory_tree.specs.Search.{IsOnWay}
 use Rattle.im_theory_tree.specs.Changes.{ChangesLeaf}
 use Rattle.im_theory_tree.specs.Theory.{page_tree}
+pub use Rattle.im_theory_tree.specs.Ways.{with_leaf}
 use Rattle.im_theory_tree.proofs.Descent.{times-here}
 use Rattle.im_theory_tree.proofs.Order.{before_below, after_above, ordered_right}
 use Rattle.im_theory_tree.proofs.LeafChange.{leaf_change}
 use Rattle.im_theory_tree.proofs.LeafWalk.{entries_around, leaf_walk}
 use Rattle.im_theory_tree.proofs.LookupLemmas.{way_known}
 use Rattle.im_theory_tree.proofs.KeyLemmas.{put_behind, put_within, all_with, without-append, without_below, without_above, all_without}
-
--- a leaf with other entries
-abbrev pub with_leaf : Pages → ℕ → List Entry → Pages
-with_leaf pages p es = with_body pages p (with_entries (pages p) es)
 
 pub at_leaf : (pages : Pages) (p : ℕ) (es : List Entry) → with_leaf pages p es p ≡ with_entries (pages p) es
 at_leaf pages p es = cond-true (p == p) (with_entries (pages p) es) (pages p) (eq-eqb p p refl)

@@ -3,7 +3,7 @@ use Rattle.std.specs.Prelude.{◌≡◌, ℕ, suc, List, [], ◌∷◌}
 use Rattle.im_theory_tree.specs.Good.{times, IsGoodTree}
 use Rattle.im_theory_tree.specs.Levels.{Pages}
 use Rattle.im_theory_tree.specs.Same.{SameTree, SameLinks}
-use Rattle.im_page_form.specs.Header.{initial}
+use Rattle.im_theory_page.specs.Header.{initial}
 use Rattle.im_base_types.specs.declared.page_kind.PageKind.TheVariants.{Free}
 
 -- an allocation from the free list: its first page is spare now

@@ -1,8 +1,8 @@
 -- What stands on each side of a page's split.
 use Rattle.std.specs.Prelude.{ℕ, ◌+◌, ◌<◌, ◌≤◌, Bool, List, length, take, drop}
 use Rattle.im_base_types.specs.Pages.{Entry}
-use Rattle.im_page_form.specs.Entry.{entry_at, size, taken}
-use Rattle.im_page_form.specs.Split.{HasRoomForAny}
+use Rattle.im_theory_page.specs.Entry.{entry_at, size, taken}
+use Rattle.im_theory_page.specs.Split.{HasRoomForAny}
 
 -- the entries are those of a page: their keys are short, and their cells and slots fit
 pub record FitsPage (leaf : Bool) (es : List Entry) : Type 0 where

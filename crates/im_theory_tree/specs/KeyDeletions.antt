@@ -2,7 +2,7 @@
 use Rattle.std.specs.Prelude.{◌≡◌, ℕ, zero, suc, ◌<◌, ◌≤◌, List, [], ◌∷◌, length, remove}
 use Rattle.im_base_types.specs.Keys.{Key}
 use Rattle.im_base_types.specs.declared.page_kind.PageKind.TheVariants.{Leaf}
-use Rattle.im_page_form.specs.Entry.{entry_at}
+use Rattle.im_theory_page.specs.Entry.{entry_at}
 use Rattle.im_theory_tree.specs.Levels.{Pages, height}
 use Rattle.im_theory_tree.specs.Same.{SameTree, SameLinks}
 use Rattle.im_theory_tree.specs.Good.{times, IsGoodTree}

@@ -3,9 +3,9 @@ use Rattle.std.specs.Prelude.{◌≡◌, ℕ, zero, suc, ◌+◌, ◌<◌, ◌�
 use Rattle.im_base_types.specs.Keys.{Key, IsBelow}
 use Rattle.im_base_types.specs.Maps.{with_key}
 use Rattle.im_base_types.specs.declared.page_kind.PageKind.TheVariants.{Leaf, Inner}
-use Rattle.im_page_form.specs.Entry.{entry_at, Rises}
-use Rattle.im_page_form.specs.Child.{IsChild}
-use Rattle.im_page_form.specs.Split.{HasRoomForAny}
+use Rattle.im_theory_page.specs.Entry.{entry_at, Rises}
+use Rattle.im_theory_page.specs.Child.{IsChild}
+use Rattle.im_theory_page.specs.Split.{HasRoomForAny}
 use Rattle.im_theory_tree.specs.Levels.{Pages, height, walk}
 use Rattle.im_theory_tree.specs.Same.{SameTree, SameLinks}
 use Rattle.im_theory_tree.specs.Good.{AtOrAbove, times, IsGoodTree}

@@ -14,3 +14,4 @@ pub mod KeySplits
 pub mod KeyDeletions
 pub mod Steps
 pub mod Variants
+pub mod Ways

@@ -4,7 +4,7 @@ use Rattle.im_base_types.specs.Keys.{Key}
 use Rattle.im_base_types.specs.Pages.{Entry}
 use Rattle.im_base_types.specs.declared.page_kind.PageKind.TheVariants.{Leaf}
 use Rattle.im_base_types.specs.Maps.{Start, From, Above, first_in}
-use Rattle.im_page_form.specs.Entry.{entry_at, Rises}
+use Rattle.im_theory_page.specs.Entry.{entry_at, Rises}
 use Rattle.im_theory_tree.specs.Levels.{Pages, Node, leaves_under, entries_in, the_root, height, walk}
 use Rattle.im_theory_tree.specs.Good.{first_page}
 

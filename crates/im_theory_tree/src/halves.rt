@@ -3,8 +3,8 @@
 ghost use Rattle.std.specs.Prelude.{◌≡◌, ℕ, ◌<◌, ◌≤◌, Bool, List, length, take, drop, Option, Some};
 ghost use Rattle.im_base_types.specs.Keys.{Key};
 ghost use Rattle.im_base_types.specs.Pages.{Entry};
-ghost use Rattle.im_page_form.specs.Entry.{entry_at, Rises};
-ghost use Rattle.im_page_form.specs.Split.{IsSplitPoint};
+ghost use Rattle.im_theory_page.specs.Entry.{entry_at, Rises};
+ghost use Rattle.im_theory_page.specs.Split.{IsSplitPoint};
 ghost use Rattle.im_theory_tree.specs.Good.{InRange, IsAfter};
 ghost use Rattle.im_theory_tree.specs.Splits.{Halves};
 ghost use Rattle.im_theory_tree.specs.Halves.{FitsPage, LacksRoom, SplitsWell};

@@ -2,8 +2,8 @@
 
 ghost use Rattle.std.specs.Prelude.{ℕ, zero, suc, false, List};
 ghost use Rattle.im_base_types.specs.Keys.{Key};
-ghost use Rattle.im_page_form.specs.Entry.{entry_at, Rises};
-ghost use Rattle.im_page_form.specs.Child.{IsChild};
+ghost use Rattle.im_theory_page.specs.Entry.{entry_at, Rises};
+ghost use Rattle.im_theory_page.specs.Child.{IsChild};
 ghost use Rattle.im_theory_tree.specs.Halves.{SplitsWell};
 ghost use Rattle.im_theory_tree.specs.Levels.{Pages};
 ghost use Rattle.im_theory_tree.specs.KeySplits.{SplitsKeyLeaf, SplitsKeyInner, SplitsKeyRootLeaf, SplitsKeyRootInner, KeepsWay, GoesOn};

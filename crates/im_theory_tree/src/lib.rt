@@ -17,14 +17,15 @@
 //!   such a step, and the key's way goes on through one half, under a parent with room.
 //! - `steps`, `plans`: steps in a row are a structure change over several levels, and its pages are applied and taken back
 //!   as a plan.
+//! - `ways`: the way of a key stays where a step, or another's key, leaves its leaf alone.
 //! - `theory`: the tree as the theory of lawful logs asks for it. `worked`: a small tree, and wrong ones, by computation.
 //!
 //! No code runs here. Each law is the contract of a function that does nothing, over what the pages hold before and
 //! after a step: whoever changes pages shows that it made such a step, and finds here that the tree stays good and what
 //! became of the walk. Nothing is said of bytes, records or frames.
 //!
-//! It stands on `im_base_types` for the words of pages and for the theory of logs, to which it gives the tree (`theory`),
-//! and on `im_page` for what a page's contents are and where a page is split.
+//! It stands on `im_theory_log` for the theory of logs, to which it gives the tree (`theory`), and on `im_theory_page` for what a page's
+//! contents are and where a page is split.
 #![tactic(auto)]
 
 pub mod allocation;
@@ -38,4 +39,5 @@ pub mod search;
 pub mod splits;
 pub mod steps;
 pub mod theory;
+pub mod ways;
 pub mod worked;

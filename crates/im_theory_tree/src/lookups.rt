@@ -6,7 +6,7 @@ ghost use Rattle.im_base_types.specs.Keys.{Key, key_order};
 ghost use Rattle.im_base_types.specs.Pages.{Entry};
 ghost use Rattle.im_base_types.specs.Maps.{with_key, without_key, Start, From, Above, first_in};
 ghost use Rattle.im_base_types.specs.declared.page_kind.PageKind.TheVariants.{Leaf, Inner};
-ghost use Rattle.im_page_form.specs.Entry.{entry_at, Rises, IsPlace};
+ghost use Rattle.im_theory_page.specs.Entry.{entry_at, Rises, IsPlace};
 ghost use Rattle.im_theory_tree.specs.Levels.{Pages, walk, height, the_root, leaves_under, pages_under};
 ghost use Rattle.im_theory_tree.specs.Good.{IsGoodTree};
 ghost use Rattle.im_theory_tree.specs.Search.{IsOnWay};

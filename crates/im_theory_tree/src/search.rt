@@ -4,8 +4,8 @@ ghost use Rattle.std.specs.Prelude.{◌≡◌, ℕ, zero, suc, ◌<◌, List, []
 ghost use Rattle.im_base_types.specs.Keys.{Key, IsBelow};
 ghost use Rattle.im_base_types.specs.Pages.{Entry};
 ghost use Rattle.im_base_types.specs.declared.page_kind.PageKind.TheVariants.{Leaf};
-ghost use Rattle.im_page_form.specs.Entry.{entry_at};
-ghost use Rattle.im_page_form.specs.Child.{StartAbove, IsChild};
+ghost use Rattle.im_theory_page.specs.Entry.{entry_at};
+ghost use Rattle.im_theory_page.specs.Child.{StartAbove, IsChild};
 ghost use Rattle.im_theory_tree.specs.Levels.{Pages, height};
 ghost use Rattle.im_theory_tree.specs.Same.{SameTree};
 ghost use Rattle.im_theory_tree.specs.Good.{IsGoodTree, AtOrAbove, times};

@@ -4,14 +4,12 @@ ghost use Rattle.std.specs.Prelude.{◌≤◌, IfOk};
 
 use crate::recovered::{Copies, log_of, opened, pages_of};
 use im_base_model_disk::ModelDisk;
-use im_base_types::{Fault, PageNo};
+use im_base_types::{Fault, PAGE_ROOM, PAGE_SIZE, PageNo};
 use im_engine::Engine;
-use im_tool_look::{LogDamage, ROOM, Survey, TreeSurvey, batches_behind, check_pages, read_log};
+use im_tool_look::{LogDamage, Survey, TreeSurvey, batches_behind, check_pages, read_log};
 use std::alloc::{AllocError, Global};
 use std::io;
 use std::io::Write;
-
-const PAGE_SIZE: usize = 4_096;
 
 // What is broken of a store. `Memory` is told of none: what looked at it had too little.
 #[derive(Drop)]
@@ -194,7 +192,7 @@ fn survey_text<W: Write>(writer: &mut W, said: &Survey, file: usize) -> io::Resu
 
 // How full so many pages are, in a hundred.
 fn fill(bytes: u64, pages: u64) -> u64 {
-    let room = pages.saturating_mul(ROOM).max(1);
+    let room = pages.saturating_mul(PAGE_ROOM as u64).max(1);
     bytes.saturating_mul(100) / room
 }
 

@@ -3,11 +3,9 @@
 use crate::redo_bound::RedoBound;
 use clap::builder::ValueParser;
 use clap::{Arg, ArgAction, ArgMatches, Command, Error};
+use im_base_types::{LEAST_FRAMES, MOST_FRAMES};
 use im_engine::Config;
 use std::alloc::Global;
-
-/// The frames of a store in a folder, where the words name no number.
-const FRAMES: usize = 1_024;
 
 /// The MiB of log that an opening of a store in a folder redoes at most, where the words name no number.
 const CHECKPOINT: u64 = 16;
@@ -57,7 +55,7 @@ impl<'a> Options<'a> {
     pub(crate) fn config(&self) -> Config {
         let mut config = Config::default();
         if self.dir.is_some() {
-            config.frames = FRAMES;
+            config.frames = MOST_FRAMES;
         }
         if let Some(frames) = self.frames {
             config.frames = frames as usize;
@@ -126,7 +124,7 @@ fn with_numbers<'a>(alloc: Global, command: Command<'a>) -> Result<Command<'a>, 
         .arg(
             Arg::new(alloc, "frames")
                 .long("frames")
-                .value_parser(ValueParser::unsigned(8, 1_024))
+                .value_parser(ValueParser::unsigned(LEAST_FRAMES as u64, MOST_FRAMES as u64))
                 .help("Pages held in memory at once, 8 to 1024 [1024 with DIR, 64 without]"),
         )?
         .arg(

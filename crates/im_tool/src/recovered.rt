@@ -4,9 +4,9 @@ ghost use Rattle.std.specs.Prelude.{◌≡◌, false, OnOk};
 
 use im_base_disk::{Disk, read_vec};
 use im_base_model_disk::ModelDisk;
-use im_base_types::{Fault, FileId, Key, PageNo, Rid};
-use im_engine::{Config, Engine};
-use im_front::{Reply, Step};
+use im_base_steps::{Reply, Step};
+use im_base_types::{Fault, FileId, Key, MOST_FRAMES, PageNo, Rid};
+use im_engine::{Config, Engine, look};
 use std::alloc::Global;
 
 /// The bytes of both files.
@@ -36,23 +36,26 @@ fn whole_file<D: Disk>(alloc: Global, disk: &mut D, file: FileId) -> Result<Vec<
     read_vec(alloc, disk, file, 0, len)
 }
 
+// How a store is opened in memory.
+const IN_MEMORY: Config = Config {
+    frames: MOST_FRAMES,
+    max_pages: u32::MAX,
+};
+
 /// The store of the copies, opened in memory.
 pub(crate) fn opened(alloc: Global, copies: Copies) -> Result<Engine<ModelDisk>, Fault> {
     let disk = ModelDisk::new(copies.log, copies.pages);
-    let config = Config {
-        frames: 1_024,
-        max_pages: u32::MAX,
-    };
-    match Engine::open_or_create(alloc, disk, config) {
+    match Engine::open_or_create(alloc, disk, IN_MEMORY) {
         Ok(engine) => Ok(engine),
         Err((fault, _disk)) => Err(fault),
     }
 }
 
-/// The entries that an opening finds.
+/// The entries that a look at the copies finds.
 pub(crate) fn entries_of(alloc: Global, copies: Copies) -> Result<Vec<(Key, Rid)>, Fault> {
-    let mut engine = opened(alloc, copies)?;
-    engine.entries(alloc)
+    let disk = ModelDisk::new(copies.log, copies.pages);
+    let (entries, _disk) = look(alloc, disk, IN_MEMORY);
+    entries
 }
 
 /// The log as it stands in the file of an open store.
@@ -75,19 +78,8 @@ pub(crate) fn pages_of(
 fn write_pages(engine: &mut Engine<ModelDisk>, count: PageNo) -> Result<(), Fault> {
     for page in 0..count {
         if let Reply::Refused(fault) = engine.step(&Step::FlushPage(page)) {
-            return Err(fault_of(fault));
+            return Err(fault);
         }
     }
     Ok(())
-}
-
-// A refusal of a step that writes a page, among those of openings.
-fn fault_of(fault: im_front::Fault) -> Fault {
-    match fault {
-        im_front::Fault::LogFull => Fault::LogFull,
-        im_front::Fault::Device => Fault::Device,
-        im_front::Fault::Memory => Fault::Memory,
-        im_front::Fault::NotAStore => Fault::NotAStore,
-        _ => Fault::Failed,
-    }
 }

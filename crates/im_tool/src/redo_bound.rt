@@ -3,10 +3,10 @@
 ghost use Rattle.std.specs.Prelude.{◌≡◌, ◌≤◌, ◌<◌, ◌*◌, ◌^◌, ◌↔◌, IsTrue};
 ghost use Rattle.im_tool.specs.RedoBound.{redo_length};
 
-use im_base_types::Lsn;
+use im_base_types::{IMAGE_SIZE, Lsn};
 
-/// What a write of a page may add to the log: its full copy, a record of 4,129 bytes, in a batch of its own.
-const COPY: u128 = 4_134;
+/// What a write of a page may add to the log: its full copy, in a batch of its own.
+const COPY: u128 = IMAGE_SIZE as u128 + 5;
 
 /// A log that goes on so far behind a Checkpoint has little more in it than that Checkpoint.
 const LITTLE: u128 = 4_096;

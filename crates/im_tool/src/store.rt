@@ -8,9 +8,9 @@ use crate::line_input::{LineInput, without_newline};
 use crate::redo_bound::RedoBound;
 use crate::words_step::words_step;
 use im_base_disk::Disk;
+use im_base_steps::{Reply, Step};
 use im_base_types::{Fault, Key, Rid};
 use im_engine::{Config, Engine};
-use im_front::{Reply, Step};
 use im_tool_look::write_key;
 use im_tool_words::{entries_text, reply_text, report_text, step_line};
 use std::alloc::{AllocError, Global};
@@ -59,7 +59,7 @@ pub enum StoreEnd {
     /// The opening was refused.
     RefusedOpening(Fault),
     /// At the end of the input, where a step that closes the store was refused. What was committed is kept.
-    RefusedClose(im_front::Fault),
+    RefusedClose(Fault),
 }
 
 /// Opens the store of a disk, makes the steps that the input's lines ask for, and writes each reply, one a line.

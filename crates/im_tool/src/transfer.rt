@@ -9,9 +9,9 @@ use crate::progress::Progress;
 use crate::redo_bound::RedoBound;
 use crate::store::print_keys;
 use im_base_disk::Disk;
+use im_base_steps::{Reply, Step};
 use im_base_types::{Fault, Key, Rid, TxnId};
 use im_engine::{Config, Engine};
-use im_front::{Reply, Step};
 use im_tool_look::noted_key;
 use std::alloc::Global;
 use std::io;
@@ -33,13 +33,13 @@ pub enum Loaded {
     /// This line of the text, counted from 1, is none of a dump, or the text ends before it.
     BadLine(u64),
     /// The store refused the entry of this line, or the commit behind it. Those in front of the last commit are kept.
-    Refused(u64, im_front::Fault),
+    Refused(u64, Fault),
     /// The key of this line is in the store already.
     Duplicate(u64),
     /// The opening was refused.
     RefusedOpening(Fault),
     /// All entries of the text are in the store, and what closes it was refused.
-    RefusedClose(u64, im_front::Fault),
+    RefusedClose(u64, Fault),
 }
 
 /// Writes how many entries there are, and each: the key as it can be typed, and its row id.
@@ -161,14 +161,14 @@ fn load_lines<D: Disk, R: LineInput, P: Write>(
     Ok(Loaded::All(count))
 }
 
-fn begun<D: Disk>(engine: &mut Engine<D>) -> Result<TxnId, im_front::Fault> {
+fn begun<D: Disk>(engine: &mut Engine<D>) -> Result<TxnId, Fault> {
     match engine.step(&Step::Begin) {
         Reply::Started(number) => Ok(number),
         reply => Err(fault_of(reply)),
     }
 }
 
-fn committed<D: Disk>(engine: &mut Engine<D>, number: TxnId) -> Result<(), im_front::Fault> {
+fn committed<D: Disk>(engine: &mut Engine<D>, number: TxnId) -> Result<(), Fault> {
     match engine.step(&Step::Commit(number)) {
         Reply::Committed => Ok(()),
         reply => Err(fault_of(reply)),
@@ -196,7 +196,7 @@ fn load_entry<D: Disk>(
     let (key, rid) = match entry_of(alloc, line) {
         Ok(entry) => entry,
         Err(Fault::BadScript) => return Ok(Some(Loaded::BadLine(at))),
-        Err(_) => return Ok(Some(Loaded::Refused(at, im_front::Fault::Memory))),
+        Err(_) => return Ok(Some(Loaded::Refused(at, Fault::Memory))),
     };
     match engine.step(&Step::Insert(number, key, rid)) {
         Reply::Inserted => Ok(None),
@@ -242,9 +242,9 @@ fn number_of(digits: &[u8]) -> Option<u64> {
 }
 
 // The refusal of a step that was to be made.
-fn fault_of(reply: Reply) -> im_front::Fault {
+fn fault_of(reply: Reply) -> Fault {
     match reply {
         Reply::Refused(fault) => fault,
-        _ => im_front::Fault::Failed,
+        _ => Fault::Failed,
     }
 }

@@ -2,8 +2,8 @@
 
 ghost use Rattle.std.specs.Prelude.{◌≤◌, length, IfSome};
 
+use im_base_steps::Step;
 use im_base_types::Fault;
-use im_front::Step;
 use im_tool_look::noted_key;
 use im_tool_words::step_line;
 use std::alloc::Global;

@@ -2,7 +2,7 @@
 use Rattle.std.specs.Prelude.{◌≡◌, ◌≢◌, List, [], ◌∷◌, Some, None}
 use Rattle.im_base_types.specs.Faults.{number_of}
 use Rattle.im_base_types.specs.Lives.{Shown, Asked, nothing_shown, breaks, shows}
-use Rattle.im_front.specs.Calls.{asked_by, told_by}
+use Rattle.im_base_steps.specs.Calls.{asked_by, told_by}
 use Rattle.im_tool_lines.specs.declared.store_life.StoreLine.{StoreLine}
 use Rattle.im_tool_lines.specs.declared.store_life.StoreLine.TheVariants as lines
 use Rattle.im_tool_lines.specs.declared.store_life.StoreLife.{StoreLife}

@@ -1,7 +1,7 @@
 //! What a life of a store answers.
 
+use im_base_steps::Reply;
 use im_base_types::{Fault, PageNo};
-use im_front::Reply;
 use im_page::Header;
 use im_restart::RedoReport;
 use im_tool_raw::Opening;

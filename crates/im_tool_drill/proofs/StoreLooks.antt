@@ -8,19 +8,18 @@ use Rattle.im_base_types.specs.Maps.{IndexMap}
 use Rattle.im_base_types.specs.Changes.{Effect, apply_all}
 use Rattle.im_base_types.specs.Lives.{Shown, nothing_shown}
 use Rattle.im_base_disk.specs.declared.disk.Disk.{Ghosts}
-use Rattle.im_engine_lock.specs.Locks.{Lock}
-use Rattle.im_engine_lock.specs.View.{View, broken}
+use Rattle.im_base_lock.specs.Locks.{Lock}
+use Rattle.im_base_lock.specs.View.{View, broken}
 use Rattle.im_engine.specs.declared.engine.Engine.{Engine}
 use Rattle.im_engine.specs.Kept.{LookKept, EntriesKept}
 use Rattle.im_engine.specs.Running.{IsLife}
 use Rattle.im_tool_drill.specs.StoreLives.{GoesOn}
 
--- the entries that an opening hands out, or why it hands out none
-pub entries_match : {A : Type 0} (items : A → List Entry) (L : List Effect → Shown → View → Type 0) (r : Result A Fault) (after : List Effect) (v : View) → v.walk ≡ apply_all empty after → L after nothing_shown v
-    → IfOk r (λ l. (before : List Effect) (s : Shown) (w : View) → L before s w → EntriesKept before s w (items l)) → IfErr r (λ e. (before : List Effect) (s : Shown) (w : View) → L before s w → e ≢ NotAStore)
-    → MatchResult r (λ l. items l ≡ entries (apply_all empty after)) (λ e. e ≢ NotAStore)
-entries_match items L (Ok l) after v walk life kept never = (kept after nothing_shown v life).walk ∙ ap (λ (m : IndexMap). entries m) walk
-entries_match items L (Err e) after v walk life kept never = never after nothing_shown v life
+-- the entries that a look hands out, or why it hands out none
+pub entries_match : {A : Type 0} (items : A → List Entry) (r : Result A Fault) (after : List Effect) (Stands : List Effect → Type 0) → Stands after → IfOk r (λ l. (before : List Effect) → Unit {0} → Stands before → items l ≡ entries (apply_all empty before))
+    → IfErr r (λ e. (before : List Effect) → Unit {0} → Stands before → e ≢ NotAStore) → MatchResult r (λ l. items l ≡ entries (apply_all empty after)) (λ e. e ≢ NotAStore)
+entries_match items (Ok l) after Stands stands shows never = shows after tt stands
+entries_match items (Err e) after Stands stands shows never = never after tt stands
 
 -- what is shown of an engine that fails just where it did
 same_shown : (s : Shown) (failed : Bool) → failed ≡ s.failed → record s { failed = failed } ≡ s

@@ -15,7 +15,7 @@ use Rattle.im_tool_answers.specs.declared.store_answers.StoreReply.{StoreReply}
 use Rattle.im_tool_answers.specs.declared.store_answers.StoreAnswers.{StoreAnswers}
 use Rattle.im_base_types.specs.Changes.{Effect}
 use Rattle.im_base_types.specs.Lives.{Shown}
-use Rattle.im_engine_lock.specs.View.{View}
+use Rattle.im_base_lock.specs.View.{View}
 use Rattle.im_page_pool.specs.Pool.{page_at}
 use Rattle.im_page_writer.specs.Outcome.{fault_of}
 use Rattle.im_page.specs.declared.header.Header.{Header}

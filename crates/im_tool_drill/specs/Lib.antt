@@ -1,3 +1,2 @@
 pub mod StoreLives
-pub mod Listing
 pub mod StoreRuns

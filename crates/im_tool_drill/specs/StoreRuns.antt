@@ -4,16 +4,16 @@ use Rattle.std.specs.Global.{Vec}
 use Rattle.std.specs.Result.{IsErrAnd}
 use Rattle.im_base_types.specs.declared.fault.Fault.{Fault}
 use Rattle.im_base_types.specs.declared.fault.Fault.TheVariants.{Memory, Device, LogFull, NotAStore, PoolSize, Capacity}
-use Rattle.im_front.specs.declared.step.Step.{Step}
-use Rattle.im_front.specs.declared.reply.Reply.{Reply}
+use Rattle.im_base_steps.specs.declared.step.Step.{Step}
+use Rattle.im_base_steps.specs.declared.reply.Reply.{Reply}
 use Rattle.im_base_types.specs.Changes.{Effect}
 use Rattle.im_base_types.specs.Lives.{Shown}
-use Rattle.im_engine_lock.specs.View.{View}
+use Rattle.im_base_lock.specs.View.{View}
 use Rattle.im_base_types.specs.Pages.{Entry}
 use Rattle.im_base_disk.specs.declared.disk.Disk.{Ghosts}
 use Rattle.im_base_model_disk.specs.declared.model_disk.ModelDisk.{ModelDisk}
 use Rattle.im_base_model_disk.specs.declared.stop.Stop.{Stop}
-use Rattle.im_base_disk.specs.Disk.{both}
+use Rattle.im_base_disk.specs.Disk.{three}
 use Rattle.im_base_model_disk.specs.Model.{IsFresh, model_calls}
 use Rattle.im_base_disk.specs.Runs.{Reads}
 use Rattle.im_page_pool.specs.Pool.{page_at}
@@ -24,6 +24,7 @@ use Rattle.im_engine.specs.declared.config.Config.{Config}
 use Rattle.im_page.specs.declared.header.Header.{Header}
 use Rattle.im_engine.specs.declared.engine.Engine.{Engine}
 use Rattle.im_engine.specs.Looking.{Looks, header_of}
+use Rattle.im_engine.specs.Listing.{IsFoundBy}
 use Rattle.im_engine.specs.Kept.{OpenKept, LookKept, disk_of}
 use Rattle.im_engine.specs.Running.{IsLife}
 use Rattle.im_engine.specs.Stands.{StandsFor}
@@ -40,7 +41,6 @@ use Rattle.im_tool_answers.specs.declared.store_answers.StoreAnswers.{StoreAnswe
 use Rattle.im_tool_drill.specs.declared.store_drilled.StoreDrilled.{StoreDrilled}
 use Rattle.im_tool_raw.specs.Stops.{IsArmedAll, HasCome, IsNextDisk, IsOpenedOr}
 use Rattle.im_tool_drill.specs.StoreLives.{IsConfigOf}
-use Rattle.im_tool_drill.specs.Listing.{IsListing}
 
 -- a life whose options are left out
 abbrev pub no_options : LifeOptions
@@ -117,22 +117,17 @@ module _ (d : Ghosts ModelDisk) where
   AreLivesRun (life ∷ rest) (told ∷ others) old new = (left : ModelDisk) × (next : ModelDisk) × IsLifeRun life told old left × IsNextDisk d left next × AreLivesRun rest others next new
   AreLivesRun _ _ old new = ⊥
 
-  -- What stands behind the last life, and the disk then: what the engine answered when it was asked for its entries, or why there is no engine.
-  abbrev pub IsFoundBy : Result (Vec Entry) Fault → ModelDisk → Result (Engine ModelDisk d) (Fault × ModelDisk) → Type 0
-  IsFoundBy last new (Ok e) = (listed : Engine ModelDisk d) × IsListing d last e listed × (new ≡ listed.disk)
-  IsFoundBy last new (Err x) = (last ≡ Err x.0) × (new ≡ x.1)
-
   -- The last opening was made on this disk, and left it so.
   pub record IsLastRun (old : ModelDisk) (last : Result (Vec Entry) Fault) (new : ModelDisk) : Type 0 where
     pub result : Result (Engine ModelDisk d) (Fault × ModelDisk)
     pub opening : IsOpening no_options old result
-    pub found : IsFoundBy last new result
+    pub found : IsFoundBy d last new result
 
   -- The lives of a script were run on a disk that begins with the script's files, and then one opening more.
   pub record IsRun (script : StoreScript) (told : StoreDrilled) : Type 0 where
     pub first : ModelDisk
     pub fresh : IsFresh first
-    pub seen : d.seen first ≡ both script.log.items script.pages.items
+    pub seen : d.seen first ≡ three script.log.items script.pages.items script.log2.items
     pub end : ModelDisk
     pub lives : AreLivesRun script.lives.items told.lives.items first end
     pub last : IsLastRun end told.last told.disk

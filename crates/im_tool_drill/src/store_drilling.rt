@@ -5,7 +5,7 @@ ghost use Rattle.std.specs.FinMap.{empty, entries};
 ghost use Rattle.im_base_types.specs.declared.fault.Fault.TheVariants.{NotAStore};
 ghost use Rattle.im_base_types.specs.Changes.{Effect, apply_all};
 ghost use Rattle.im_base_types.specs.Lives.{Lives};
-ghost use Rattle.im_base_disk.specs.Disk.{both};
+ghost use Rattle.im_base_disk.specs.Disk.{three};
 ghost use Rattle.im_engine.specs.Stands.{StandsFor};
 ghost use Rattle.im_tool_answers.specs.StoreShown.{asked_in_each, EachStoreAnswered, AreStores};
 ghost use Rattle.im_tool_drill.specs.StoreRuns.{IsRun};
@@ -33,14 +33,15 @@ use std::alloc::{AllocError, Global};
 pub fn drill_store(alloc: Global, script: &StoreScript) -> Result<StoreDrilled, AllocError>
     ensures run { IfOk result (λ told. IsRun ⟦<ModelDisk as Disk>⟧ script.now told) }
     ensures answered { IfOk result (λ told. EachStoreAnswered script.now.lives.items told.lives.items) }
-    ensures kept { IfOk result (λ told. (before : List Effect) → StandsFor before (both script.now.log.items script.now.pages.items)
+    ensures kept { IfOk result (λ told. (before : List Effect) → StandsFor before (three script.now.log.items script.now.pages.items script.now.log2.items)
         → (after : List Effect) × Lives before (asked_in_each script.now.lives.items told.lives.items) after
         × MatchResult told.last (λ found. found.items ≡ entries (apply_all empty after)) (λ fault. fault ≢ NotAStore)) }
-    ensures stores { IfOk result (λ told. (before : List Effect) → StandsFor before (both script.now.log.items script.now.pages.items) → AreStores told.lives.items) }
+    ensures stores { IfOk result (λ told. (before : List Effect) → StandsFor before (three script.now.log.items script.now.pages.items script.now.log2.items) → AreStores told.lives.items) }
 {
     let log = Vec::from_slice(alloc, &script.log)?;
     let pages = Vec::from_slice(alloc, &script.pages)?;
-    let mut disk = ModelDisk::new(log, pages);
+    let log2 = Vec::from_slice(alloc, &script.log2)?;
+    let mut disk = ModelDisk::with_log2(log, pages, log2);
     let mut lives = Vec::new(alloc);
     for life in &script.lives {
         let (told, after) = run_store_life(alloc, disk, life)?;

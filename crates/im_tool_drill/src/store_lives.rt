@@ -16,9 +16,9 @@ ghost use Rattle.im_tool_drill.specs.StoreRuns.{IsOpening, IsLifeRun, AreLinesRu
 
 use im_base_disk::Disk;
 use im_base_model_disk::{ModelDisk, Stop};
+use im_base_steps::Step;
 use im_base_types::{Fault, Key, PageNo, Rid};
-use im_engine::{Config, Engine};
-use im_front::Step;
+use im_engine::{Config, Engine, look};
 use im_tool_answers::{StoreAnswers, StoreReply};
 use im_tool_lines::{LifeOptions, StoreLife, StoreLine};
 use im_tool_raw::{Opening, arm_life, has_come, refused_opening};
@@ -181,7 +181,7 @@ fn is_stopped(reply: &StoreReply) -> bool
     matches!(reply, StoreReply::Stopped)
 }
 
-/// The entries that an opening finds, and the disk behind it.
+/// The entries that a look finds, and the disk behind it.
 pub(crate) fn last_entries(
     alloc: Global,
     disk: ModelDisk,
@@ -198,12 +198,5 @@ pub(crate) fn last_entries(
         failing_call: None,
         failing_read: None,
     };
-    match open_store(alloc, disk, options) {
-        Ok(mut engine) => {
-            let entries = engine.entries(alloc);
-            let disk = engine.into_disk();
-            (entries, disk)
-        }
-        Err((fault, disk)) => (Err(fault), disk),
-    }
+    look(alloc, disk, config_of(options))
 }

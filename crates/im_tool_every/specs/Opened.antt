@@ -12,7 +12,7 @@ use Rattle.im_base_model_disk.specs.Model.{IsArmed, IsFresh, armed_of, file_of, 
 use Rattle.im_engine.specs.declared.engine.Engine.{Engine}
 use Rattle.im_engine.specs.Kept.{disk_of}
 use Rattle.im_tool_lines.specs.declared.store_life.LifeOptions.{LifeOptions}
-use Rattle.im_tool_drill.specs.Listing.{IsListing}
+use Rattle.im_engine.specs.Listing.{IsListing}
 use Rattle.im_tool_drill.specs.StoreRuns.{IsOpening}
 use Rattle.im_tool_judge.specs.declared.change.AskedEffect.{AskedEffect}
 use Rattle.im_tool_every.specs.declared.opening.Judged.{Judged}

@@ -58,12 +58,18 @@ fn life_of(alloc: Global, text: &[u8]) -> Result<Option<StoreLife>, ScriptError>
     let StoreScript {
         log,
         pages,
+        log2,
         mut lives,
     } = StoreScript::parse(alloc, text)?;
     let Some(life) = lives.pop() else {
         return Ok(None);
     };
-    if !log.is_empty() || !pages.is_empty() || !lives.is_empty() || life.stop.is_some() {
+    if !log.is_empty()
+        || !pages.is_empty()
+        || !log2.is_empty()
+        || !lives.is_empty()
+        || life.stop.is_some()
+    {
         return Ok(None);
     }
     Ok(Some(life))

@@ -4,7 +4,7 @@ use Rattle.std.proofs.lemmas.List.{take_more}
 use Rattle.im_base_types.specs.Keys.{Key}
 use Rattle.im_base_types.specs.Pages.{Entry as KeyEntry}
 use Rattle.im_base_types.specs.Answers.{Reply, Started, Found, Absent, Entry, End, Entries, Inserted, Duplicate, Deleted, Committed, RolledBack, More, Blocked, BlockedTree, Die, Done, Refused}
-use Rattle.im_front.specs.Calls.{entries_in}
+use Rattle.im_base_steps.specs.Calls.{entries_in}
 use Rattle.im_tool_judge.specs.Replies.{kind_of, key_in, number_in}
 
 -- the reply of these parts

@@ -1,5 +1,5 @@
 -- What is kept of a life while its lines are read.
-use Rattle.std.proofs.Common.{Vec, Global, ◌≡◌, ◌≢◌, ◌⊎◌, inl, inr, ℕ, zero, suc, ◌+◌, ◌<◌, ◌≤◌, nat_eq, Bool, true, false, List, [], ◌∷◌, ◌++◌, length, take, get_or, None, Some, refl, sym, ◌∙◌, ap, subst, arith}
+use Rattle.std.proofs.Common.{Vec, Global, ◌≡◌, ◌≢◌, ◌⊎◌, inl, inr, ℕ, zero, suc, ◌+◌, ◌<◌, ◌≤◌, nat_eq, Bool, true, false, List, [], ◌∷◌, ◌++◌, length, take, get_or, Option, None, Some, refl, sym, ◌∙◌, ap, subst, arith}
 use Rattle.std.specs.Prelude.{◌==◌, ◌||◌, if◌then◌else◌}
 use Rattle.std.proofs.lemmas.Bool.{eqb-true, eq-eqb, ne_eqb, cond-true, cond-false}
 use Rattle.std.proofs.lemmas.List.{map-append, take_more, append-nil, length-take-le}
@@ -7,10 +7,10 @@ use Rattle.im_base_types.specs.Answers.{Mark, Going, Idle, MustRollBack, Rolling
 use Rattle.im_base_types.specs.Answers as answers
 use Rattle.im_base_types.specs.Changes.{Effect}
 use Rattle.im_base_types.specs.Changes as changes
-use Rattle.im_front.specs.declared.step.Step.{Step}
-use Rattle.im_front.specs.declared.step.Step.TheVariants as steps
-use Rattle.im_front.specs.Calls.{asked_by}
-use Rattle.im_base_types.specs.Lives.{Running, Shown, Asked, idle, with_running, adds, answered, asks, effect_asked, all_acked, refused, breaks, cut_off}
+use Rattle.im_base_steps.specs.declared.step.Step.{Step}
+use Rattle.im_base_steps.specs.declared.step.Step.TheVariants as steps
+use Rattle.im_base_steps.specs.Calls.{asked_by}
+use Rattle.im_base_types.specs.Lives.{Running, Shown, Asked, idle, with_running, adds, pends, finishes, shown_change, answered, asks, effect_asked, all_acked, refused, breaks, cut_off}
 use Rattle.im_base_types.specs.Refusals.{memory, unfinished}
 use Rattle.im_tool_lines.specs.declared.store_life.StoreLine.{StoreLine}
 use Rattle.im_tool_answers.specs.declared.store_answers.StoreReply.{StoreReply}
@@ -20,10 +20,10 @@ use Rattle.im_tool_judge.specs.declared.change.AskedEffect.{AskedEffect}
 use Rattle.im_tool_judge.specs.declared.showing.Event.{Event}
 use Rattle.im_tool_judge.specs.declared.showing.Found.{Found}
 use Rattle.im_tool_judge.specs.declared.showing.Happened.{Happened}
-use Rattle.im_tool_judge.specs.declared.showing.Happened.TheVariants.{Began, Changed, Died, Turned, Waited, Ended}
+use Rattle.im_tool_judge.specs.declared.showing.Happened.TheVariants.{Began, Changed, GoesOn, InsertEnded, DeleteEnded, Died, Turned, Waited, Ended}
 use Rattle.im_tool_judge.specs.declared.showing.Showing.{Showing}
 use Rattle.im_tool_judge.specs.Judged.{asked_of, asked_in, change_of, newest_first}
-use Rattle.im_tool_judge.specs.Shows.{IsShown, IsFound, access_of, behind, is_going, running_from}
+use Rattle.im_tool_judge.specs.Shows.{IsShown, IsFound, access_of, maker_of, pending_in, effect_in, behind, is_going, running_from}
 
 -- ---- transactions
 
@@ -84,36 +84,64 @@ found_other f t es i e within is differ found =
     (sym (ap (λ (l : List Event). running_from t idle l) (take_more es i e within ∙ ap (λ (x : Event). take i es ++ x ∷ []) (sym is)) ∙ other_push t (take i es) e differ)) found
 
 -- one change more, the newest
-newest_push : (cs : List Change) (c : Change) (e : Effect) → newest_first (cs ++ c ∷ []) e ≡ change_of c ∷ newest_first cs e
+pub newest_push : (cs : List Change) (c : Change) (e : Effect) → newest_first (cs ++ c ∷ []) e ≡ change_of c ∷ newest_first cs e
 newest_push [] c e = refl
 newest_push (x ∷ cs) c e = newest_push cs c (change_of x ∷ e)
 
-found_push : (f new : Found) (r : Running) (c copy : Change) → IsFound f r → new.going ≡ f.going → new.changes.items ≡ f.changes.items ++ copy ∷ [] → change_of copy ≡ change_of c
+found_push : (f new : Found) (r : Running) (c copy : Change) → IsFound f r → new.going ≡ f.going → new.pending ≡ f.pending → new.changes.items ≡ f.changes.items ++ copy ∷ [] → change_of copy ≡ change_of c
     → IsFound new (record r { effect = change_of c ∷ r.effect })
-found_push f new r c copy found going pushed is = record {
+found_push f new r c copy found going same_pending pushed is = record {
   mark = going ∙ found.mark;
   effect =
       ap (λ (e : Effect). change_of c ∷ e) found.effect
       ∙ ap (λ (x : changes.Change). x ∷ newest_first f.changes.items []) (sym is)
       ∙ sym (newest_push f.changes.items copy [])
       ∙ ap (λ (l : List Change). newest_first l []) (sym pushed);
+  pending = found.pending ∙ ap pending_in (sym same_pending);
 }
 
-pub found_change : (f new : Found) (r : Running) (what : Happened) (c copy : Change) → what ≡ Changed c → IsFound f r → new.going ≡ f.going → new.changes.items ≡ f.changes.items ++ copy ∷ [] → change_of copy ≡ change_of c → IsFound new (behind what r)
-found_change f new r what c copy happened_so found going pushed is = subst (λ (w : Happened). IsFound new (behind w r)) (sym happened_so) (found_push f new r c copy found going pushed is)
+pub found_change : (f new : Found) (r : Running) (what : Happened) (c copy : Change) → what ≡ Changed c → IsFound f r → new.going ≡ f.going → new.pending ≡ f.pending → new.changes.items ≡ f.changes.items ++ copy ∷ [] → change_of copy ≡ change_of c → IsFound new (behind what r)
+found_change f new r what c copy happened_so found going same_pending pushed is = subst (λ (w : Happened). IsFound new (behind w r)) (sym happened_so) (found_push f new r c copy found going same_pending pushed is)
+
+-- an access of a transaction goes on
+pub found_goes_on : (f new : Found) (r : Running) (what : Happened) (c copy : Change) → what ≡ GoesOn c → IsFound f r → new.going ≡ f.going → new.changes ≡ f.changes → new.pending ≡ Some copy → change_of copy ≡ change_of c → IsFound new (behind what r)
+found_goes_on f new r what c copy happened_so found going same now is = subst (λ (w : Happened). IsFound new (behind w r)) (sym happened_so) (record {
+  mark = going ∙ found.mark;
+  effect = found.effect ∙ ap (λ (l : Vec Change Global). newest_first l.items []) (sym same);
+  pending = ap (λ (x : changes.Change). Some (maker_of x)) (sym is) ∙ ap pending_in (sym now);
+})
+
+-- it is answered
+pub found_ended : (f new : Found) (r : Running) (reply : answers.Reply) (more : Option Change) → IsFound f r → new.going ≡ f.going → newest_first new.changes.items [] ≡ effect_in more ++ newest_first f.changes.items [] → new.pending ≡ None
+    → effect_in more ≡ shown_change (pending_in f.pending) reply → IsFound new (record r { effect = shown_change r.pending reply ++ r.effect; pending = None })
+found_ended f new r reply more found going joins none shown = record {
+  mark = going ∙ found.mark;
+  effect =
+      ap (λ (o : Option answers.Access). shown_change o reply ++ r.effect) found.pending
+      ∙ ap (λ (e : Effect). e ++ r.effect) (sym shown)
+      ∙ ap (λ (e : Effect). effect_in more ++ e) found.effect
+      ∙ sym joins;
+  pending = ap pending_in (sym none);
+}
+
+pub found_insert_ended : (new : Found) (r : Running) (what : Happened) → what ≡ InsertEnded → IsFound new (behind InsertEnded r) → IsFound new (behind what r)
+found_insert_ended new r what is found = subst (λ (w : Happened). IsFound new (behind w r)) (sym is) found
+
+pub found_delete_ended : (new : Found) (r : Running) (what : Happened) → what ≡ DeleteEnded → IsFound new (behind DeleteEnded r) → IsFound new (behind what r)
+found_delete_ended new r what is found = subst (λ (w : Happened). IsFound new (behind w r)) (sym is) found
 
 -- a transaction that makes no more changes
-found_stopped : (f new : Found) (r : Running) (m : Mark) → is_going m ≡ false → IsFound f r → new.going ≡ false → new.changes ≡ f.changes → IsFound new (record r { mark = m })
-found_stopped f new r m stops found going same = record { mark = going ∙ sym stops; effect = found.effect ∙ ap (λ (l : Vec Change Global). newest_first l.items []) (sym same) }
+found_stopped : (f new : Found) (r : Running) (m : Mark) → is_going m ≡ false → IsFound f r → new.going ≡ false → new.changes ≡ f.changes → new.pending ≡ f.pending → IsFound new (record r { mark = m })
+found_stopped f new r m stops found going same kept = record { mark = going ∙ sym stops; effect = found.effect ∙ ap (λ (l : Vec Change Global). newest_first l.items []) (sym same); pending = found.pending ∙ ap pending_in (sym kept) }
 
-pub found_died : (f new : Found) (r : Running) (what : Happened) → what ≡ Died → IsFound f r → new.going ≡ false → new.changes ≡ f.changes → IsFound new (behind what r)
-found_died f new r what is found going same = subst (λ (w : Happened). IsFound new (behind w r)) (sym is) (found_stopped f new r MustRollBack refl found going same)
+pub found_died : (f new : Found) (r : Running) (what : Happened) → what ≡ Died → IsFound f r → new.going ≡ false → new.changes ≡ f.changes → new.pending ≡ f.pending → IsFound new (behind what r)
+found_died f new r what is found going same kept = subst (λ (w : Happened). IsFound new (behind w r)) (sym is) (found_stopped f new r MustRollBack refl found going same kept)
 
-pub found_turned : (f new : Found) (r : Running) (what : Happened) → what ≡ Turned → IsFound f r → new.going ≡ false → new.changes ≡ f.changes → IsFound new (behind what r)
-found_turned f new r what is found going same = subst (λ (w : Happened). IsFound new (behind w r)) (sym is) (found_stopped f new r RollingBack refl found going same)
+pub found_turned : (f new : Found) (r : Running) (what : Happened) → what ≡ Turned → IsFound f r → new.going ≡ false → new.changes ≡ f.changes → new.pending ≡ f.pending → IsFound new (behind what r)
+found_turned f new r what is found going same kept = subst (λ (w : Happened). IsFound new (behind w r)) (sym is) (found_stopped f new r RollingBack refl found going same kept)
 
-pub found_waited : (f new : Found) (r : Running) (what : Happened) → what ≡ Waited → IsFound f r → new.going ≡ false → new.changes ≡ f.changes → IsFound new (behind what r)
-found_waited f new r what is found going same = subst (λ (w : Happened). IsFound new (behind w r)) (sym is) (found_stopped f new r Committing refl found going same)
+pub found_waited : (f new : Found) (r : Running) (what : Happened) → what ≡ Waited → IsFound f r → new.going ≡ false → new.changes ≡ f.changes → new.pending ≡ f.pending → IsFound new (behind what r)
+found_waited f new r what is found going same kept = subst (λ (w : Happened). IsFound new (behind w r)) (sym is) (found_stopped f new r Committing refl found going same kept)
 
 -- ---- Commits
 
@@ -215,6 +243,24 @@ pub deleted : (step : Step) (t : ℕ) (key : Vec ℕ Global) (bytes : List ℕ) 
 deleted step t key bytes x new s is same drop shown =
     subst (λ (y : Step). IsShown new (answered (asked_by y) answers.Deleted s)) (sym is)
     (subst (λ (y : changes.Change). IsShown new (adds t y s)) (drop ∙ ap (λ (k : List ℕ). changes.Drop k 0) same) shown)
+
+pub insert_goes_on : (step : Step) (t : ℕ) (key : Vec ℕ Global) (rid : ℕ) (bytes : List ℕ) (c : Change) (new : Showing) (s : Shown) → step ≡ steps.Insert t key rid → bytes ≡ key.items → change_of c ≡ changes.Put bytes rid
+    → IsShown new (with_running t (behind (GoesOn c) (s.running t)) s) → IsShown new (answered (asked_by step) answers.More s)
+insert_goes_on step t key rid bytes c new s is same put shown =
+    subst (λ (y : Step). IsShown new (answered (asked_by y) answers.More s)) (sym is)
+    (subst (λ (y : changes.Change). IsShown new (pends t (maker_of y) s)) (put ∙ ap (λ (k : List ℕ). changes.Put k rid) same) shown)
+
+pub delete_goes_on : (step : Step) (t : ℕ) (key : Vec ℕ Global) (bytes : List ℕ) (c : Change) (new : Showing) (s : Shown) → step ≡ steps.Delete t key → bytes ≡ key.items → change_of c ≡ changes.Drop bytes 0
+    → IsShown new (with_running t (behind (GoesOn c) (s.running t)) s) → IsShown new (answered (asked_by step) answers.More s)
+delete_goes_on step t key bytes c new s is same drop shown =
+    subst (λ (y : Step). IsShown new (answered (asked_by y) answers.More s)) (sym is)
+    (subst (λ (y : changes.Change). IsShown new (pends t (maker_of y) s)) (drop ∙ ap (λ (k : List ℕ). changes.Drop k 0) same) shown)
+
+pub insert_ends : (step : Step) (t : ℕ) (new : Showing) (s : Shown) → step ≡ steps.Continue t → IsShown new (with_running t (behind InsertEnded (s.running t)) s) → IsShown new (answered (asked_by step) answers.Inserted s)
+insert_ends step t new s is shown = subst (λ (y : Step). IsShown new (answered (asked_by y) answers.Inserted s)) (sym is) shown
+
+pub delete_ends : (step : Step) (t : ℕ) (new : Showing) (s : Shown) → step ≡ steps.Continue t → IsShown new (with_running t (behind DeleteEnded (s.running t)) s) → IsShown new (answered (asked_by step) answers.Deleted s)
+delete_ends step t new s is shown = subst (λ (y : Step). IsShown new (answered (asked_by y) answers.Deleted s)) (sym is) shown
 
 pub committed : (step : Step) (t : ℕ) (mid new : Showing) (s : Shown) → step ≡ steps.Commit t → ((u : Shown) → IsShown mid u → IsShown new (with_running t (behind Ended (u.running t)) u)) → IsShown mid (asks t true s)
     → IsShown new (answered (asked_by step) answers.Committed s)

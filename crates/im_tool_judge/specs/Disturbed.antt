@@ -1,9 +1,8 @@
 -- What a life answers in which one device call, read or length call failed.
 use Rattle.std.specs.Prelude.{◌≡◌, ◌≢◌, ◌⊎◌, ◌||◌, Bool, true, false, List, [], ◌∷◌}
 use Rattle.im_base_types.specs.declared.fault.Fault.TheVariants as faults
-use Rattle.im_front.specs.declared.fault.Fault.TheVariants as causes
-use Rattle.im_front.specs.declared.reply.Reply.TheVariants as said
-use Rattle.im_front.specs.Calls.{told_by}
+use Rattle.im_base_steps.specs.declared.reply.Reply.TheVariants as said
+use Rattle.im_base_steps.specs.Calls.{told_by}
 use Rattle.im_tool_raw.specs.declared.life_answers.Opening.TheVariants as openings
 use Rattle.im_tool_answers.specs.declared.store_answers.StoreAnswers.{StoreAnswers}
 use Rattle.im_tool_answers.specs.declared.store_answers.StoreReply.{StoreReply}
@@ -11,14 +10,14 @@ use Rattle.im_tool_answers.specs.declared.store_answers.StoreReply.TheVariants a
 
 -- whether a line is refused by the device
 abbrev pub is_by_device : StoreReply → Bool
-is_by_device (replies.Step (said.Refused causes.Device)) = true
+is_by_device (replies.Step (said.Refused faults.Device)) = true
 is_by_device (replies.Refused faults.Device) = true
 is_by_device _ = false
 
 -- Whether an engine that has failed answers so: it refuses all, and its device calls can still be counted.
 abbrev pub is_behind_failure : StoreReply → Bool
 is_behind_failure (replies.Calls n) = true
-is_behind_failure (replies.Step (said.Refused causes.Failed)) = true
+is_behind_failure (replies.Step (said.Refused faults.Failed)) = true
 is_behind_failure (replies.Refused faults.Failed) = true
 is_behind_failure _ = false
 

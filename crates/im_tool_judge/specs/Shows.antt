@@ -1,18 +1,38 @@
 -- What of a life's lines and replies is kept while they are read, as the definition of lives shows it.
-use Rattle.std.specs.Prelude.{◌≡◌, ℕ, List, [], ◌∷◌, Bool, true, false, if◌then◌else◌, ◌==◌, Option, None, Some}
-use Rattle.im_base_types.specs.Answers.{Mark, Idle, Going, MustRollBack, RollingBack, Committing, Step, Do}
-use Rattle.im_base_types.specs.Lives.{Running, Shown, idle}
+use Rattle.std.specs.Prelude.{◌≡◌, ℕ, List, [], ◌∷◌, ◌++◌, Bool, true, false, if◌then◌else◌, ◌==◌, Option, None, Some}
+use Rattle.im_base_types.specs.Answers.{Access, Insert, Delete, Inserted, Deleted, Mark, Idle, Going, MustRollBack, RollingBack, Committing, Step, Do}
+use Rattle.im_base_types.specs.Changes as changes
+use Rattle.im_base_types.specs.Changes.{Effect}
+use Rattle.im_base_types.specs.Lives.{Running, Shown, idle, shown_change}
+use Rattle.im_tool_judge.specs.declared.change.Change.{Change}
 use Rattle.im_tool_judge.specs.declared.showing.Event.{Event}
 use Rattle.im_tool_judge.specs.declared.showing.Found.{Found}
 use Rattle.im_tool_judge.specs.declared.showing.Happened.{Happened}
-use Rattle.im_tool_judge.specs.declared.showing.Happened.TheVariants.{Began, Changed, Died, Turned, Waited, Ended}
+use Rattle.im_tool_judge.specs.declared.showing.Happened.TheVariants.{Began, Changed, GoesOn, InsertEnded, DeleteEnded, Died, Turned, Waited, Ended}
 use Rattle.im_tool_judge.specs.declared.showing.Showing.{Showing}
 use Rattle.im_tool_judge.specs.Judged.{asked_in, change_of, newest_first}
 
+-- the access that makes a change
+abbrev pub maker_of : changes.Change → Access
+maker_of (changes.Put k r) = Insert k r
+maker_of (changes.Drop k r) = Delete k
+
+-- the access that goes on, by the change that it makes
+abbrev pub pending_in : Option Change → Option Access
+pending_in None = None
+pending_in (Some change) = Some (maker_of (change_of change))
+
+abbrev pub effect_in : Option Change → Effect
+effect_in None = []
+effect_in (Some change) = change_of change ∷ []
+
 -- a transaction behind what happened to it
 abbrev pub behind : Happened → Running → Running
-behind Began r = record { mark = Going; effect = [] }
+behind Began r = record { mark = Going; effect = []; pending = None }
 behind (Changed change) r = record r { effect = change_of change ∷ r.effect }
+behind (GoesOn change) r = record r { pending = Some (maker_of (change_of change)) }
+behind InsertEnded r = record r { effect = shown_change r.pending Inserted ++ r.effect; pending = None }
+behind DeleteEnded r = record r { effect = shown_change r.pending Deleted ++ r.effect; pending = None }
 behind Died r = record r { mark = MustRollBack }
 behind Turned r = record r { mark = RollingBack }
 behind Waited r = record r { mark = Committing }
@@ -46,3 +66,4 @@ access_of _ = None
 pub record IsFound (f : Found) (r : Running) : Type 0 where
   pub mark : f.going ≡ is_going r.mark
   pub effect : r.effect ≡ newest_first f.changes.items []
+  pub pending : r.pending ≡ pending_in f.pending

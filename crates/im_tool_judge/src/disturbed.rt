@@ -4,8 +4,8 @@ ghost use Rattle.std.specs.Prelude.{◌≡◌, ◌↔◌, true, false};
 ghost use Rattle.im_tool_judge.specs.Disturbed.{IsDisturbed, AreDisturbed, IsNext, TellsSame, is_behind_failure, is_by_device};
 
 use crate::same_replies::says_same;
+use im_base_steps::Reply;
 use im_base_types::Fault;
-use im_front::Reply;
 use im_tool_answers::{StoreAnswers, StoreReply};
 use im_tool_raw::Opening;
 
@@ -56,7 +56,7 @@ fn is_behind_failure(reply: &StoreReply) -> bool
     matches!(
         reply,
         StoreReply::Calls(_)
-            | StoreReply::Step(Reply::Refused(im_front::Fault::Failed))
+            | StoreReply::Step(Reply::Refused(Fault::Failed))
             | StoreReply::Refused(Fault::Failed)
     )
 }
@@ -80,7 +80,6 @@ pub fn is_by_device(reply: &StoreReply) -> bool
 {
     matches!(
         reply,
-        StoreReply::Step(Reply::Refused(im_front::Fault::Device))
-            | StoreReply::Refused(Fault::Device)
+        StoreReply::Step(Reply::Refused(Fault::Device)) | StoreReply::Refused(Fault::Device)
     )
 }

@@ -1,12 +1,12 @@
 //! Whether two replies say the same.
 
 ghost use Rattle.std.specs.Prelude.{◌≡◌, ◌↔◌, true};
-ghost use Rattle.im_front.specs.Calls.{told_by, entries_in};
+ghost use Rattle.im_base_steps.specs.Calls.{told_by, entries_in};
 ghost use Rattle.im_tool_judge.specs.Disturbed.{SaysSame};
 ghost use Rattle.im_tool_judge.specs.Replies.{key_in, kind_of, number_in};
 
+use im_base_steps::{Blocker, Reply};
 use im_base_types::{Key, Rid};
-use im_front::{Blocker, Reply};
 use im_tool_answers::StoreReply;
 
 /// Whether the replies to two lines say the same.

@@ -1,21 +1,21 @@
 //! What the lines and replies of a life show, read off them by the definition of lives.
 
-ghost use Rattle.std.specs.Prelude.{◌≡◌, ◌≢◌, ◌⊎◌, ◌||◌, ◌==◌, ◌≤◌, ◌<◌, ℕ, false, [], length, get_or, IfOk, OnOk};
+ghost use Rattle.std.specs.Prelude.{◌≡◌, ◌≢◌, ◌⊎◌, ◌||◌, ◌==◌, ◌≤◌, ◌<◌, ◌++◌, ℕ, false, [], None, length, get_or, IfOk, OnOk};
 ghost use Rattle.im_base_types.specs.Answers.{Force, Commit};
 ghost use Rattle.im_base_types.specs.Answers as answers;
 ghost use Rattle.im_base_types.specs.Changes as changes;
-ghost use Rattle.im_base_types.specs.Faults as below;
-ghost use Rattle.im_base_types.specs.Lives.{Shown, Running, nothing_shown, idle, adds, all_acked, answered, asks, breaks, cut_off, refused, with_running};
+ghost use Rattle.im_base_types.specs.Lives.{Shown, Running, nothing_shown, idle, adds, all_acked, answered, asks, breaks, cut_off, refused, shown_change, with_running};
 ghost use Rattle.im_base_types.specs.Refusals.{memory, unfinished};
-ghost use Rattle.im_front.specs.Calls.{asked_by, told_by, number_of};
+ghost use Rattle.im_base_steps.specs.Calls.{asked_by, told_by};
+ghost use Rattle.im_base_types.specs.Faults.{number_of};
 ghost use Rattle.im_tool_lines.specs.declared.store_life.StoreLine.TheVariants as lines;
 ghost use Rattle.im_tool_answers.specs.StoreShown.{shown_after, shown_in};
-ghost use Rattle.im_tool_judge.specs.Judged.{asked_in, change_of};
-ghost use Rattle.im_tool_judge.specs.Shows.{IsShown, IsFound, access_of, behind, running_from};
+ghost use Rattle.im_tool_judge.specs.Judged.{asked_in, change_of, newest_first};
+ghost use Rattle.im_tool_judge.specs.Shows.{IsShown, IsFound, access_of, behind, effect_in, pending_in, running_from};
 
 use crate::change::{AskedEffect, Change};
-use im_base_types::{Rid, TxnId};
-use im_front::{Fault, Reply, Step};
+use im_base_steps::{Reply, Step};
+use im_base_types::{Fault, Rid, TxnId};
 use im_tool_answers::StoreReply;
 use im_tool_lines::StoreLine;
 use std::alloc::{AllocError, Global};
@@ -57,6 +57,12 @@ fn shorter(first: usize, second: usize) -> usize
 pub(crate) enum Happened {
     Began,
     Changed(Change),
+    /// Its access that makes this change goes on.
+    GoesOn(Change),
+    /// An access of it that went on was answered `Inserted`.
+    InsertEnded,
+    /// An access of it that went on was answered `Deleted`.
+    DeleteEnded,
     /// It was answered `Die`.
     Died,
     /// It takes its changes back.
@@ -113,7 +119,7 @@ impl Showing {
         ensures { (s : Shown) (page : ℕ) → IsShown self.old s → IsShown self.new (shown_after s (lines.Page page) reply.now) }
     {
         if let StoreReply::Refused(fault) = reply {
-            self.failed = look_breaks(*fault);
+            self.failed = breaks(*fault);
         }
     }
 
@@ -217,6 +223,10 @@ impl Showing {
                 self.change(*txn, one)?;
                 Ok(())
             }
+            Step::Continue(txn) => {
+                self.happen(*txn, Happened::InsertEnded)?;
+                Ok(())
+            }
             _ => Ok(()),
         }
     }
@@ -228,6 +238,10 @@ impl Showing {
             Step::Delete(txn, key) => {
                 let one = deletion(self.alloc, key)?;
                 self.change(*txn, one)?;
+                Ok(())
+            }
+            Step::Continue(txn) => {
+                self.happen(*txn, Happened::DeleteEnded)?;
                 Ok(())
             }
             _ => Ok(()),
@@ -263,7 +277,7 @@ impl Showing {
         }
     }
 
-    // Something is left to be done: a rollback has begun, or a Commit waits for a force.
+    // Something is left to be done: a rollback has begun, a Commit waits for a force, or an insert or a delete goes on.
     fn go_on(&mut self, step: &Step) -> Result<(), AllocError>
         ensures { OnOk result ((s : Shown) → IsShown self.old s → IsShown self.new (answered (asked_by step.now) answers.More s)) }
     {
@@ -275,6 +289,16 @@ impl Showing {
             }
             Step::Rollback(txn) => {
                 self.happen(*txn, Happened::Turned)?;
+                Ok(())
+            }
+            Step::Insert(txn, key, rid) => {
+                let one = insertion(self.alloc, key, *rid)?;
+                self.happen(*txn, Happened::GoesOn(one))?;
+                Ok(())
+            }
+            Step::Delete(txn, key) => {
+                let one = deletion(self.alloc, key)?;
+                self.happen(*txn, Happened::GoesOn(one))?;
                 Ok(())
             }
             _ => Ok(()),
@@ -340,7 +364,11 @@ impl Showing {
     fn ask_found(&mut self, txn: TxnId, acked: bool, found: Found) -> Result<(), AllocError>
         ensures { OnOk result ((s : Shown) → IsShown self.old s → IsFound found (running_from txn idle self.old.events.items) → IsShown self.new (asks txn acked s)) }
     {
-        let Found { going, changes } = found;
+        let Found {
+            going,
+            changes,
+            pending: _pending,
+        } = found;
         if !going {
             return Ok(());
         }
@@ -377,11 +405,12 @@ fn acknowledged(alloc: Global, asked: Vec<AskedEffect>) -> Result<Vec<AskedEffec
     Ok(all)
 }
 
-/// A transaction as it is found: whether it is going, and its changes, the oldest first.
+/// A transaction as it is found: whether it is going, its changes, the oldest first, and the change of its access that goes on.
 #[derive(Drop)]
 pub(crate) struct Found {
     going: bool,
     changes: Vec<Change>,
+    pending: Option<Change>,
 }
 
 // A transaction behind all that happened.
@@ -391,6 +420,7 @@ fn find(alloc: Global, events: &[Event], txn: TxnId) -> Result<Found, AllocError
     let mut found = Found {
         going: false,
         changes: Vec::new(alloc),
+        pending: None,
     };
     for event in events {
         if event.txn != txn {
@@ -408,34 +438,140 @@ fn behind(alloc: Global, found: Found, what: &Happened) -> Result<Found, AllocEr
         Happened::Began => Ok(Found {
             going: true,
             changes: Vec::new(alloc),
+            pending: None,
         }),
         Happened::Changed(change) => {
-            let Found { going, mut changes } = found;
+            let Found {
+                going,
+                mut changes,
+                pending,
+            } = found;
             changes.push(copied(alloc, change)?)?;
-            Ok(Found { going, changes })
+            Ok(Found {
+                going,
+                changes,
+                pending,
+            })
         }
+        Happened::GoesOn(change) => {
+            let Found {
+                going,
+                changes,
+                pending: _pending,
+            } = found;
+            let copy = copied(alloc, change)?;
+            Ok(Found {
+                going,
+                changes,
+                pending: Some(copy),
+            })
+        }
+        Happened::InsertEnded => insert_ended(found),
+        Happened::DeleteEnded => delete_ended(found),
         Happened::Died => Ok(stopped(found)),
         Happened::Turned => Ok(stopped(found)),
         Happened::Waited => Ok(stopped(found)),
         Happened::Ended => Ok(Found {
             going: false,
             changes: Vec::new(alloc),
+            pending: None,
         }),
     }
+}
+
+// What went on was answered, and shows its change if it was an insert.
+fn insert_ended(found: Found) -> Result<Found, AllocError>
+    ensures { IfOk result (λ new. (r : Running) → IsFound found r → IsFound new (record r { effect = shown_change r.pending answers.Inserted ++ r.effect; pending = None })) }
+{
+    let Found {
+        going,
+        changes,
+        pending,
+    } = found;
+    joined(going, changes, if_insertion(pending))
+}
+
+// The same for a delete.
+fn delete_ended(found: Found) -> Result<Found, AllocError>
+    ensures { IfOk result (λ new. (r : Running) → IsFound found r → IsFound new (record r { effect = shown_change r.pending answers.Deleted ++ r.effect; pending = None })) }
+{
+    let Found {
+        going,
+        changes,
+        pending,
+    } = found;
+    joined(going, changes, if_deletion(pending))
+}
+
+fn if_insertion(pending: Option<Change>) -> Option<Change>
+    ensures { effect_in result ≡ shown_change (pending_in pending) answers.Inserted }
+{
+    match pending {
+        Some(change) => only_insertion(change),
+        None => None,
+    }
+}
+
+fn only_insertion(change: Change) -> Option<Change>
+    ensures { effect_in result ≡ shown_change (pending_in (Some change)) answers.Inserted }
+{
+    match change {
+        Change::Insertion(key, rid) => Some(Change::Insertion(key, rid)),
+        Change::Deletion(_key) => None,
+    }
+}
+
+fn if_deletion(pending: Option<Change>) -> Option<Change>
+    ensures { effect_in result ≡ shown_change (pending_in pending) answers.Deleted }
+{
+    match pending {
+        Some(change) => only_deletion(change),
+        None => None,
+    }
+}
+
+fn only_deletion(change: Change) -> Option<Change>
+    ensures { effect_in result ≡ shown_change (pending_in (Some change)) answers.Deleted }
+{
+    match change {
+        Change::Insertion(_key, _rid) => None,
+        Change::Deletion(key) => Some(Change::Deletion(key)),
+    }
+}
+
+// A transaction with one change more, where there is one, and nothing that goes on.
+#[tactic(auto, using(crate::proofs::Shows::newest_push))]
+fn joined(going: bool, changes: Vec<Change>, more: Option<Change>) -> Result<Found, AllocError>
+    ensures going { IfOk result (λ new. new.going ≡ going) }
+    ensures changes { IfOk result (λ new. newest_first new.changes.items [] ≡ effect_in more ++ newest_first changes.items []) }
+    ensures pending { IfOk result (λ new. new.pending ≡ None) }
+{
+    let mut changes = changes;
+    if let Some(change) = more {
+        changes.push(change)?;
+    }
+    Ok(Found {
+        going,
+        changes,
+        pending: None,
+    })
 }
 
 // It makes no more changes, and those that it made are kept.
 fn stopped(found: Found) -> Found
     ensures going { result.going ≡ false }
     ensures changes { result.changes ≡ found.changes }
+    ensures pending { result.pending ≡ found.pending }
 {
     let Found {
         going: _going,
         changes,
+        pending,
     } = found;
     Found {
         going: false,
         changes,
+        pending,
     }
 }
 
@@ -505,20 +641,6 @@ fn breaks(fault: Fault) -> bool
         Fault::Device => true,
         Fault::Failed => true,
         Fault::NotAStore => true,
-        _ => false,
-    }
-}
-
-// The same of a look at a page.
-fn look_breaks(fault: im_base_types::Fault) -> bool
-    ensures { result ≡ breaks (below.number_of fault) }
-{
-    match fault {
-        im_base_types::Fault::Capacity => true,
-        im_base_types::Fault::LogFull => true,
-        im_base_types::Fault::Device => true,
-        im_base_types::Fault::Failed => true,
-        im_base_types::Fault::NotAStore => true,
         _ => false,
     }
 }

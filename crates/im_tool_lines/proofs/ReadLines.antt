@@ -2,7 +2,7 @@
 use Rattle.std.proofs.Common.{◌≡◌, ℕ, List, [], ◌∷◌, ◌++◌, map, Option, Some, None, Vec, Global, refl, sym, ◌∙◌, ap, subst, append_assoc}
 use Rattle.std.proofs.lemmas.List.{append-nil, map-append}
 use Rattle.im_base_types.specs.declared.file_id.FileId.{FileId}
-use Rattle.im_base_disk.specs.Disk.{Files, both}
+use Rattle.im_base_disk.specs.Disk.{Files, both, three}
 use Rattle.im_base_model_disk.specs.declared.stop.Stop.{Stop}
 use Rattle.im_tool_lines.specs.declared.line.Line.{Line}
 use Rattle.im_tool_lines.specs.declared.line.Line.TheVariants as lines
@@ -97,7 +97,7 @@ stop_read files lives old said stop lives' r is =
     tt (behind_life lives life ∙ ap (λ (x : List RawLife). place_of x None) (sym is))
 
 -- what was read is a script
-pub end_read : (script : Script) (said : List Line) → IsRead (both script.log.items script.pages.items) script.lives.items None said → IsScriptOf script said × MayStand Before (map kind_of said)
+pub end_read : (script : Script) (said : List Line) → IsRead (three script.log.items script.pages.items script.log2.items) script.lives.items None said → IsScriptOf script said × MayStand Before (map kind_of said)
 end_read script said r = (
   record {
     sets = r.sets;
@@ -107,7 +107,7 @@ end_read script said r = (
   r.stand,
 )
 
-pub end_more : (script : Script) (files : Files) (lives : List RawLife) (old : Vec RawLine Global) (said : List Line) → both script.log.items script.pages.items ≡ files → script.lives.items ≡ lives ++ record { lines = old; stop = None } ∷ [] → IsRead files lives (Some old) said
+pub end_more : (script : Script) (files : Files) (lives : List RawLife) (old : Vec RawLine Global) (said : List Line) → three script.log.items script.pages.items script.log2.items ≡ files → script.lives.items ≡ lives ++ record { lines = old; stop = None } ∷ [] → IsRead files lives (Some old) said
     → IsScriptOf script said × MayStand Before (map kind_of said)
 end_more script files lives old said same is r = (
   record {

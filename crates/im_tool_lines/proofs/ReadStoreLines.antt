@@ -2,7 +2,7 @@
 use Rattle.std.proofs.Common.{◌≡◌, ℕ, List, [], ◌∷◌, ◌++◌, map, Option, Some, None, Vec, Global, refl, sym, ◌∙◌, ap, subst, append_assoc}
 use Rattle.std.proofs.lemmas.List.{append-nil, map-append}
 use Rattle.im_base_types.specs.declared.file_id.FileId.{FileId}
-use Rattle.im_base_disk.specs.Disk.{Files, both}
+use Rattle.im_base_disk.specs.Disk.{Files, both, three}
 use Rattle.im_base_model_disk.specs.declared.stop.Stop.{Stop}
 use Rattle.im_tool_lines.specs.declared.store_script_line.StoreScriptLine.{StoreScriptLine}
 use Rattle.im_tool_lines.specs.declared.store_script_line.StoreScriptLine.TheVariants as lines
@@ -104,7 +104,7 @@ stop_read files lives old said stop lives' r is =
     tt (behind_life lives life ∙ ap (λ (x : List StoreLife). place_of x None) (sym is))
 
 -- what was read is a script
-pub end_read : (script : StoreScript) (said : List StoreScriptLine) → IsStoreRead (both script.log.items script.pages.items) script.lives.items None said → IsStoreScriptOf script said × MayStand Before (map store_kind_of said)
+pub end_read : (script : StoreScript) (said : List StoreScriptLine) → IsStoreRead (three script.log.items script.pages.items script.log2.items) script.lives.items None said → IsStoreScriptOf script said × MayStand Before (map store_kind_of said)
 end_read script said r = (
   record {
     sets = r.sets;
@@ -114,7 +114,7 @@ end_read script said r = (
   r.stand,
 )
 
-pub end_more : (script : StoreScript) (files : Files) (lives : List StoreLife) (old : OpenLife) (said : List StoreScriptLine) → both script.log.items script.pages.items ≡ files → script.lives.items ≡ lives ++ record { options = old.options; lines = old.lines; stop = None } ∷ [] → IsStoreRead files lives (Some old) said
+pub end_more : (script : StoreScript) (files : Files) (lives : List StoreLife) (old : OpenLife) (said : List StoreScriptLine) → three script.log.items script.pages.items script.log2.items ≡ files → script.lives.items ≡ lives ++ record { options = old.options; lines = old.lines; stop = None } ∷ [] → IsStoreRead files lives (Some old) said
     → IsStoreScriptOf script said × MayStand Before (map store_kind_of said)
 end_more script files lives old said same is r = (
   record {

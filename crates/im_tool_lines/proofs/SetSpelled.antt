@@ -40,6 +40,7 @@ set_said rest (lines.Stop stop) s = let e : Stops ≡ Sets = spelled_kind (codes
 file_lacks : (file : FileId) → Lacks 32 (file_word file)
 file_lacks files.Log = (λ x. omega arith, (λ x. omega arith, (λ x. omega arith, tt)))
 file_lacks files.Pages = (λ x. omega arith, (λ x. omega arith, (λ x. omega arith, (λ x. omega arith, (λ x. omega arith, tt)))))
+file_lacks files.Log2 = (λ x. omega arith, (λ x. omega arith, (λ x. omega arith, (λ x. omega arith, tt))))
 
 set_cut : (rest word more : List ℕ) (said : Line) → Spells (codes "set " ++ rest) said → rest ≡ word ++ 32 ∷ more → Lacks 32 word → (w : SetWords rest) × (word ≡ file_word w.file) × (more ≡ w.hex)
 set_cut rest word more said s cut l = let w = set_said rest said s in let e = cut_once 32 word (file_word w.file) more w.hex l (file_lacks w.file) (sym cut ∙ w.is) in (w, e.0, e.1)

@@ -1,7 +1,7 @@
 -- What lines of scripts of lives of a store spell, and what they do not.
 use Rattle.std.proofs.Common.{◌≡◌, ◌≢◌, ℕ, List, slice_index, ◌++◌, ◌∷◌, if◌then◌else◌, ◌==◌, codes, sym, ◌∙◌, ap, subst, arith}
-use Rattle.im_front.specs.declared.step.Step.{Step}
-use Rattle.im_front.specs.declared.step.Step.TheVariants as steps
+use Rattle.im_base_steps.specs.declared.step.Step.{Step}
+use Rattle.im_base_steps.specs.declared.step.Step.TheVariants as steps
 use Rattle.im_tool_lines.specs.declared.batch.Batch.{Batch}
 use Rattle.im_tool_lines.specs.declared.line.Line.{Line}
 use Rattle.im_tool_lines.specs.declared.line.Line.TheVariants as raws

@@ -34,6 +34,7 @@ IsFillWord word (fills.Bytes bytes) = (decode_of word ≡ Ok bytes.items) × (1 
 abbrev pub file_word : FileId → List ℕ
 file_word files.Log = codes "log"
 file_word files.Pages = codes "pages"
+file_word files.Log2 = codes "log2"
 
 -- The bytes of a line that says this. Its words stand apart by single spaces; a batch has 1 to 16,384 bytes.
 abbrev pub Spells : List ℕ → Line → Type 0

@@ -2,8 +2,8 @@
 use Rattle.std.specs.Prelude.{◌≡◌, ℕ, ◌+◌, ◌==◌, if◌then◌else◌, List, [], ◌∷◌, ◌++◌, length, map, Option, Some, None}
 use Rattle.std.specs.Global.{Vec}
 use Rattle.im_base_types.specs.declared.file_id.FileId.{FileId}
-use Rattle.im_base_types.specs.declared.file_id.FileId.TheVariants.{Log, Pages}
-use Rattle.im_base_disk.specs.Disk.{Files, both}
+use Rattle.im_base_types.specs.declared.file_id.FileId.TheVariants.{Log, Pages, Log2}
+use Rattle.im_base_disk.specs.Disk.{Files, both, three}
 use Rattle.im_base_model_disk.specs.declared.stop.Stop.{Stop}
 use Rattle.im_tool_lines.specs.declared.line.Line.{Line}
 use Rattle.im_tool_lines.specs.declared.line.Line.TheVariants as lines
@@ -110,8 +110,9 @@ set_line set = lines.Set set.0 set.1
 
 -- the files with other bytes of one of them
 abbrev pub with_file : FileId → List ℕ → Files → Files
-with_file Log bytes files = both bytes (files Pages)
-with_file Pages bytes files = both (files Log) bytes
+with_file Log bytes files = three bytes (files Pages) (files Log2)
+with_file Pages bytes files = three (files Log) bytes (files Log2)
+with_file Log2 bytes files = three (files Log) (files Pages) bytes
 
 -- the files behind the lines that set them, in order
 abbrev pub files_set : Files → List (FileId × Vec ℕ) → Files
@@ -122,7 +123,7 @@ files_set files (set ∷ rest) = files_set (with_file set.0 set.1.items files) r
 pub record IsScriptOf (script : Script) (said : List Line) : Type 0 where
   pub sets : List (FileId × Vec ℕ)
   pub is : said ≡ map set_line sets ++ lines_of_lives script.lives.items
-  pub files : both script.log.items script.pages.items ≡ files_set (both [] []) sets
+  pub files : three script.log.items script.pages.items script.log2.items ≡ files_set (both [] []) sets
 
 -- lines of a text that are spelled as the grammar says and may stand in this order
 abbrev pub IsGoodBy : {L : Type 0} → (List ℕ → L → Type 0) → (L → Kind) → List (List ℕ) → Type 0

@@ -2,7 +2,7 @@
 use Rattle.std.specs.Prelude.{◌≡◌, ℕ, List, [], ◌∷◌, ◌++◌, map, Option, Some, None}
 use Rattle.std.specs.Global.{Vec}
 use Rattle.im_base_types.specs.declared.file_id.FileId.{FileId}
-use Rattle.im_base_disk.specs.Disk.{Files, both}
+use Rattle.im_base_disk.specs.Disk.{Files, both, three}
 use Rattle.im_tool_lines.specs.declared.store_script_line.StoreScriptLine.{StoreScriptLine}
 use Rattle.im_tool_lines.specs.declared.store_script_line.StoreScriptLine.TheVariants as lines
 use Rattle.im_tool_lines.specs.declared.store_life.StoreLife.{StoreLife}
@@ -31,4 +31,4 @@ pub record IsStoreRead (files : Files) (lives : List StoreLife) (life : Option O
   pub place : place_after Before (map store_kind_of said) ≡ place_of lives life
 
 abbrev pub IsStoreReading : StoreReading → List StoreScriptLine → Type 0
-IsStoreReading reading said = IsStoreRead (both reading.script.log.items reading.script.pages.items) reading.script.lives.items reading.life said
+IsStoreReading reading said = IsStoreRead (three reading.script.log.items reading.script.pages.items reading.script.log2.items) reading.script.lives.items reading.life said

@@ -2,7 +2,7 @@
 use Rattle.std.specs.Prelude.{◌≡◌, ◌≢◌, ◌⊎◌, ℕ, List, [], ◌∷◌, ◌++◌, map, codes, Option, Some, None}
 use Rattle.std.specs.Global.{Vec}
 use Rattle.im_base_types.specs.declared.file_id.FileId.{FileId}
-use Rattle.im_base_disk.specs.Disk.{both}
+use Rattle.im_base_disk.specs.Disk.{both, three}
 use Rattle.im_base_model_disk.specs.declared.stop.Stop.{Stop}
 use Rattle.im_tool_lines.specs.declared.line.Line.TheVariants as raws
 use Rattle.im_tool_lines.specs.declared.store_script_line.StoreScriptLine.{StoreScriptLine}
@@ -88,7 +88,7 @@ set_store_line set = lines.Set set.0 set.1
 pub record IsStoreScriptOf (script : StoreScript) (said : List StoreScriptLine) : Type 0 where
   pub sets : List (FileId × Vec ℕ)
   pub is : said ≡ map set_store_line sets ++ lines_of_lives script.lives.items
-  pub files : both script.log.items script.pages.items ≡ files_set (both [] []) sets
+  pub files : three script.log.items script.pages.items script.log2.items ≡ files_set (both [] []) sets
 
 -- The script that the lines of a text make.
 abbrev pub IsStoreScript : List (List ℕ) → StoreScript → Type 0

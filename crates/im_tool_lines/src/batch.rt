@@ -2,6 +2,8 @@
 
 ghost use Rattle.std.specs.Prelude.{◌≡◌, ◌≤◌, ◌<◌, ◌⊎◌, length, MatchOption};
 
+use im_base_types::LONGEST_BATCH;
+
 /// The bytes that one `put` line puts behind a gate: 1 to 16,384.
 #[derive(Debug, Drop)]
 pub struct Batch {
@@ -16,7 +18,7 @@ impl Batch {
     pub fn new(records: Vec<u8>) -> Option<Batch>
         ensures { MatchOption result ((length records.items ≡ 0) ⊎ (16384 < length records.items)) (λ batch. batch.records.items ≡ records.items) }
     {
-        if records.is_empty() || records.len() > 16_384 {
+        if records.is_empty() || records.len() > LONGEST_BATCH {
             return None;
         }
         Some(Batch { records })

@@ -11,7 +11,7 @@
 //! the number that is refused is that of the first line which is bad (`IsFirstBad`, `IsFirstBadOfStore`). `reason_of` says in words why a line
 //! is bad; its text is tested and stands in no clause.
 //!
-//! This crate knows the stops of the model disk and the steps of a store of many transactions (`im_front`), and no gate and no store; `hex` reads digits.
+//! This crate knows the stops of the model disk and the steps of a store of many transactions (`im_base_steps`), and no gate and no store; `hex` reads digits.
 #![tactic(auto)]
 
 mod batch;

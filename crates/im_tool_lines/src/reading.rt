@@ -29,6 +29,7 @@ impl Reading {
             script: Script {
                 log: Vec::new(alloc),
                 pages: Vec::new(alloc),
+                log2: Vec::new(alloc),
                 lives: Vec::new(alloc),
             },
             life: None,
@@ -71,6 +72,10 @@ impl Reading {
             }
             FileId::Pages => {
                 self.script.pages = bytes;
+                Ok(())
+            }
+            FileId::Log2 => {
+                self.script.log2 = bytes;
                 Ok(())
             }
         }

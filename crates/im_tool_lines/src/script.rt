@@ -16,6 +16,8 @@ pub struct Script {
     pub log: Vec<u8>,
     /// The bytes of the file of pages before the first life.
     pub pages: Vec<u8>,
+    /// The bytes of the other log before the first life.
+    pub log2: Vec<u8>,
     /// The lives, in order.
     pub lives: Vec<RawLife>,
 }

@@ -16,5 +16,8 @@ pub(crate) fn file_of(word: &[u8]) -> Option<FileId>
     if word == b"pages".as_slice() {
         return Some(FileId::Pages);
     }
+    if word == b"log2".as_slice() {
+        return Some(FileId::Log2);
+    }
     None
 }

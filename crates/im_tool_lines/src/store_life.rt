@@ -1,8 +1,8 @@
 //! A life of a store in a script.
 
 use im_base_model_disk::Stop;
+use im_base_steps::Step;
 use im_base_types::PageNo;
-use im_front::Step;
 
 /// A line within a life of a store.
 #[derive(Drop)]

@@ -39,6 +39,7 @@ impl StoreReading {
             script: StoreScript {
                 log: Vec::new(alloc),
                 pages: Vec::new(alloc),
+                log2: Vec::new(alloc),
                 lives: Vec::new(alloc),
             },
             life: None,
@@ -80,6 +81,10 @@ impl StoreReading {
             }
             FileId::Pages => {
                 self.script.pages = bytes;
+                Ok(())
+            }
+            FileId::Log2 => {
+                self.script.log2 = bytes;
                 Ok(())
             }
         }

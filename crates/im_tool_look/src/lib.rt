@@ -18,5 +18,5 @@ pub use key_notation::{noted_key, write_key};
 pub use log_bytes::{Survey, batches_behind, read_log};
 pub use log_damage::LogDamage;
 pub use record_lines::log_text;
-pub use tree_check::{ROOM, TreeSurvey, check_pages};
+pub use tree_check::{TreeSurvey, check_pages};
 pub use tree_damage::TreeDamage;

@@ -1,7 +1,7 @@
 //! The bytes of a log, as its batches and records.
 
 use crate::log_damage::LogDamage;
-use im_base_types::{Fault, PageNo, TxnId};
+use im_base_types::{Fault, LONGEST_BATCH, PageNo, TxnId};
 use im_log_record::{Record, decode_front};
 use im_restart_analysis::{Analysed, Analysis};
 use std::alloc::Global;
@@ -14,9 +14,6 @@ const LEAST_NUMBER: TxnId = 1;
 
 /// What stands behind the first byte: the name of the format, and the size of a page.
 const HEADER: &[u8] = b"ARIESIM1\0\0\x10\0";
-
-/// The most bytes of records that a batch has.
-const MOST: usize = 16_384;
 
 /// What stands in front of a batch's records: its gate and its length.
 const AHEAD: usize = 5;
@@ -55,7 +52,7 @@ pub(crate) fn batch_at(log: &[u8], gate: usize) -> Option<&[u8]> {
         return None;
     };
     let size = u32::from_be_bytes([*a, *b, *c, *d]) as usize;
-    if size == 0 || size > MOST {
+    if size == 0 || size > LONGEST_BATCH {
         return None;
     }
     let behind = from.checked_add(size)?;

@@ -1,17 +1,12 @@
 //! The tree and the free list of a store, page by page.
 
 use crate::tree_damage::TreeDamage;
-use im_base_types::{Fault, Key, PageKind, PageNo, compare};
+use im_base_types::{Fault, Key, PAGE_SIZE, PageKind, PageNo, compare};
 use im_page::Page;
 use std::alloc::Global;
 use std::cmp::Ordering;
 
-const PAGE_SIZE: usize = 4_096;
-
 const ROOT: PageNo = 1;
-
-/// The bytes of cells and slots that a page of the tree may have.
-pub const ROOM: u64 = 4_064;
 
 /// What the pages of a store are, in numbers, and what is broken in them.
 #[derive(Drop)]

@@ -6,7 +6,7 @@ use Rattle.im_base_types.specs.declared.fault.Fault.TheVariants.{Memory, Device,
 use Rattle.im_base_disk.specs.declared.disk.Disk.{Ghosts}
 use Rattle.im_base_model_disk.specs.declared.model_disk.ModelDisk.{ModelDisk}
 use Rattle.im_base_model_disk.specs.declared.stop.Stop.{Stop}
-use Rattle.im_base_disk.specs.Disk.{both}
+use Rattle.im_base_disk.specs.Disk.{three}
 use Rattle.im_base_model_disk.specs.Model.{IsFresh, model_calls}
 use Rattle.im_log_gate.specs.declared.gate.Gate.{Gate}
 use Rattle.im_log_gate.specs.Batches.{with_batch}
@@ -92,7 +92,7 @@ module _ (d : Ghosts ModelDisk) where
   pub record IsRawRun (script : Script) (told : Drilled) : Type 0 where
     pub first : ModelDisk
     pub fresh : IsFresh first
-    pub seen : d.seen first ≡ both script.log.items script.pages.items
+    pub seen : d.seen first ≡ three script.log.items script.pages.items script.log2.items
     pub end : ModelDisk
     pub lives : AreRawLivesRun script.lives.items told.lives.items first end
     pub last : IsRawLastRun end told.last

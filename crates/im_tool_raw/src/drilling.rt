@@ -2,7 +2,7 @@
 
 ghost use Rattle.std.specs.Prelude.{◌≡◌, ◌≢◌, [], ℕ, List, map, IfOk, MatchResult};
 ghost use Rattle.im_base_types.specs.declared.fault.Fault.TheVariants.{NotAStore};
-ghost use Rattle.im_base_disk.specs.Disk.{both};
+ghost use Rattle.im_base_disk.specs.Disk.{three};
 ghost use Rattle.im_tool_raw.specs.Lives.{StandsFor, Lives};
 ghost use Rattle.im_tool_raw.specs.Answered.{EachAnswered, AreRawStores};
 ghost use Rattle.im_tool_raw.specs.RawRuns.{IsRawRun};
@@ -29,14 +29,15 @@ use std::alloc::{AllocError, Global};
 pub fn drill(alloc: Global, script: &Script) -> Result<Drilled, AllocError>
     ensures run { IfOk result (λ told. IsRawRun ⟦<ModelDisk as Disk>⟧ script.now told) }
     ensures answered { IfOk result (λ told. EachAnswered script.now.lives.items told.lives.items) }
-    ensures kept { IfOk result (λ told. (before : List (List ℕ)) → StandsFor (both script.now.log.items script.now.pages.items) before
+    ensures kept { IfOk result (λ told. (before : List (List ℕ)) → StandsFor (three script.now.log.items script.now.pages.items script.now.log2.items) before
         → (after : List (List ℕ)) × Lives script.now.lives.items told.lives.items before after
         × MatchResult told.last (λ found. map (λ batch. batch.items) found.items ≡ after) (λ fault. fault ≢ NotAStore)) }
-    ensures stores { IfOk result (λ told. (before : List (List ℕ)) → StandsFor (both script.now.log.items script.now.pages.items) before → AreRawStores told.lives.items) }
+    ensures stores { IfOk result (λ told. (before : List (List ℕ)) → StandsFor (three script.now.log.items script.now.pages.items script.now.log2.items) before → AreRawStores told.lives.items) }
 {
     let log = Vec::from_slice(alloc, &script.log)?;
     let pages = Vec::from_slice(alloc, &script.pages)?;
-    let mut disk = ModelDisk::new(log, pages);
+    let log2 = Vec::from_slice(alloc, &script.log2)?;
+    let mut disk = ModelDisk::with_log2(log, pages, log2);
     let mut lives = Vec::new(alloc);
     for life in &script.lives {
         let told = run_life(alloc, &mut disk, life)?;

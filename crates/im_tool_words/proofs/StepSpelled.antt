@@ -1,11 +1,10 @@
 -- What lines that ask for steps spell, and what they do not.
 use Rattle.std.proofs.Common.{◌≡◌, ◌≢◌, ℕ, List, ◌∷◌, ◌++◌, slice_index, codes, Result, Ok, Err, IfErr, sym, ◌∙◌, ap, subst, arith}
-use Rattle.im_front.specs.declared.step.Step.{Step}
-use Rattle.im_front.specs.declared.step.Step.TheVariants as steps
+use Rattle.im_base_steps.specs.declared.step.Step.{Step}
+use Rattle.im_base_steps.specs.declared.step.Step.TheVariants as steps
 use Rattle.im_tool_words.specs.Words.{Lacks, IsNumber, IsPageNumber}
 use Rattle.im_tool_words.specs.Steps.{IsKeyWord, IsNumbered, IsKeyed, IsKeyedWith, IsBehindKey, IsRanged, SpellsStep}
-use Rattle.im_tool_words.proofs.Texts.{lacks_mid, cut_once}
-use Rattle.im_tool_words.proofs.Texts.{digits_lack}
+use Rattle.im_tool_words.proofs.Texts.{lacks_mid, cut_once, digits_lack}
 use Rattle.im_tool_words.proofs.KeyWords.{key_lacks}
 
 -- the first word of a line that asks for a step

@@ -5,7 +5,7 @@
 //! no line spells what it refuses as bad. So do `number_of` (`IsNumber`), `page_of` (`IsPageNumber`) and `bytes_of` for single words;
 //! `first_piece` cuts a text at a separator. `reply_text`, `entries_text` and `report_text` print; their text is tested and stands in no clause.
 //!
-//! This crate knows the steps and the replies of a store of many transactions (`im_front`), and no store.
+//! This crate knows the steps and the replies of a store of many transactions (`im_base_steps`), and no store.
 #![tactic(auto)]
 
 mod digits;

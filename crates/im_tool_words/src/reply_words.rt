@@ -1,7 +1,7 @@
 //! The words of replies.
 
+use im_base_steps::{Blocker, Reply};
 use im_base_types::{Key, Rid};
-use im_front::{Blocker, Reply};
 use std::alloc::Global;
 use std::io;
 use std::io::Write;

@@ -2,15 +2,15 @@
 
 ghost use Rattle.std.specs.Prelude.{◌≡◌, ◌≢◌, ◌⊎◌, ◌++◌, ◌∷◌, ℕ, List, codes, IfOk, IfErr};
 ghost use Rattle.im_base_types.specs.declared.fault.Fault.TheVariants.{BadScript, Memory};
-ghost use Rattle.im_front.specs.declared.step.Step.{Step};
+ghost use Rattle.im_base_steps.specs.declared.step.Step.{Step};
 ghost use Rattle.im_tool_words.specs.Words.{Lacks, IsNumber, IsPageNumber};
 ghost use Rattle.im_tool_words.specs.Steps.{SpellsStep, IsNumbered, IsKeyed, IsKeyedWith, IsBehindKey};
 
 use crate::key_word::key_of;
 use crate::number::number_of;
 use crate::pieces::first_piece;
+use im_base_steps::Step;
 use im_base_types::Fault;
-use im_front::Step;
 use std::alloc::Global;
 
 /// The step that the line asks for. It has no newline. Refused `BadScript` exactly where the line asks for none; `Memory`.

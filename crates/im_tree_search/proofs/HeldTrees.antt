@@ -7,8 +7,8 @@ use Rattle.im_base_types.specs.Keys.{Key}
 use Rattle.im_base_types.specs.Pages.{Body, Entry}
 use Rattle.im_base_types.specs.declared.page_kind.PageKind.{PageKind}
 use Rattle.im_base_types.specs.declared.page_kind.PageKind.TheVariants.{Free, Meta, Leaf, Inner}
-use Rattle.im_page_form.specs.Child.{IsChild, StartAbove}
-use Rattle.im_page_form.specs.Entry.{entry_at}
+use Rattle.im_theory_page.specs.Child.{IsChild, StartAbove}
+use Rattle.im_theory_page.specs.Entry.{entry_at}
 use Rattle.im_page_pool.specs.Pool.{PoolView, page_at, Holds}
 use Rattle.im_page_writer.specs.Outcome.{AllPages}
 use Rattle.im_theory_tree.specs.Levels.{Pages, Node, children, child_of, below, leaves_under, pages_under, the_root, height, page_numbers}

@@ -3,7 +3,7 @@ use Rattle.std.proofs.Common.{◌≡◌, ℕ, List, Option, Some, None, refl, �
 use Rattle.std.specs.Prelude.{option_map}
 use Rattle.im_base_types.specs.Keys.{Key}
 use Rattle.im_base_types.specs.Pages.{Entry, Page}
-use Rattle.im_page_form.specs.Entry.{entry_at}
+use Rattle.im_theory_page.specs.Entry.{entry_at}
 use Rattle.im_page_pool.specs.Pool.{PoolView, page_at}
 use Rattle.im_tree_search.specs.declared.entry_place.EntryPlace.{EntryPlace}
 use Rattle.im_tree_search.specs.declared.next_key.NextKey.{NextKey}

@@ -3,7 +3,7 @@ use Rattle.std.proofs.Common.{ℕ, Bool, true, false, ◌<◌, List, length, Ok,
 use Rattle.im_base_types.specs.Keys.{Key}
 use Rattle.im_base_types.specs.Pages.{Entry}
 use Rattle.im_base_types.specs.Maps.{From, Above}
-use Rattle.im_page_form.specs.Entry.{Rises, IsPlace}
+use Rattle.im_theory_page.specs.Entry.{Rises, IsPlace}
 use Rattle.im_theory_tree.specs.Lookups.{IsFirstAt}
 use Rattle.im_theory_tree.proofs.LookupLemmas.{first_at_key, first_at_gap}
 use Rattle.im_tree_search.specs.Levels.{start_at}

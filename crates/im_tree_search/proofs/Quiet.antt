@@ -7,8 +7,8 @@ use Rattle.std.specs.Option.{option_map_or}
 use Rattle.im_base_types.specs.Keys.{Key}
 use Rattle.im_base_types.specs.Pages.{Body, Page}
 use Rattle.im_base_types.specs.declared.page_kind.PageKind.TheVariants.{Leaf, Inner}
-use Rattle.im_page_form.specs.Child.{IsChild}
-use Rattle.im_page_form.specs.Header.{initial}
+use Rattle.im_theory_page.specs.Child.{IsChild}
+use Rattle.im_theory_page.specs.Header.{initial}
 use Rattle.im_page_pool.specs.Pool.{Held, PoolView, held_of, page_at, Holds, MovesFirst}
 use Rattle.im_page_writer.specs.declared.page_writer.PageWriter.{PageWriter}
 use Rattle.im_tree_search.specs.HeldPages.{HoldsWay, HoldsOn, IsQuiet}

@@ -13,8 +13,8 @@ use Rattle.std.proofs.lemmas.List.{take-append-drop}
 use Rattle.im_base_types.specs.Keys.{Key, key_order, IsBelow}
 use Rattle.im_base_types.specs.Pages.{Body, Entry, Page}
 use Rattle.im_base_types.specs.Maps.{Start, From, Above, is_below, is_past, first_in}
-use Rattle.im_page_form.specs.Entry.{entry_at, Rises, IsPlace, no_entry}
-use Rattle.im_page_form.proofs.Order.{below_trans, below_from_greater, same_from_equal}
+use Rattle.im_theory_page.specs.Entry.{entry_at, Rises, IsPlace, no_entry}
+use Rattle.im_theory_page.proofs.Order.{below_trans, below_from_greater, same_from_equal}
 use Rattle.im_theory_tree.specs.Levels.{Pages, Node, leaves_under, entries_in, the_root, height, walk}
 use Rattle.im_theory_tree.specs.Good.{AllOf, AtOrAbove, IsUnder, next_bound, AreOrdered, AreChained, first_page, IsGoodTree}
 use Rattle.im_theory_tree.specs.Search.{IsOnWay}

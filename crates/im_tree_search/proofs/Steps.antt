@@ -5,7 +5,7 @@ use Rattle.std.proofs.Math.Dec.{eqb-suc-zero}
 use Rattle.im_base_types.specs.declared.fault.Fault.{Fault}
 use Rattle.im_base_types.specs.Keys.{Key}
 use Rattle.im_base_types.specs.declared.page_kind.PageKind.TheVariants.{Leaf, Inner}
-use Rattle.im_page_form.specs.Child.{IsChild}
+use Rattle.im_theory_page.specs.Child.{IsChild}
 use Rattle.im_page_pool.specs.declared.frame.Frame.{Frame}
 use Rattle.im_page_pool.specs.Pool.{PoolView, page_at}
 use Rattle.im_page_writer.specs.Outcome.{AllPages, IsSound}

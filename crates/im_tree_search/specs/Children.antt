@@ -2,8 +2,8 @@
 use Rattle.std.specs.Prelude.{◌≡◌, ℕ, ◌<◌, [], length}
 use Rattle.im_base_types.specs.Keys.{Key}
 use Rattle.im_base_types.specs.Pages.{Body}
-use Rattle.im_page_form.specs.Entry.{entry_at}
-use Rattle.im_page_form.specs.Child.{IsChild, StartAbove}
+use Rattle.im_theory_page.specs.Entry.{entry_at}
+use Rattle.im_theory_page.specs.Child.{IsChild, StartAbove}
 use Rattle.im_tree_search.specs.declared.child_place.ChildPlace.{ChildPlace}
 use Rattle.im_tree_search.specs.declared.child_place.ChildPlace.TheVariants.{Entry, Leftmost, Only}
 use Rattle.im_tree_search.specs.declared.child_place.Child.{Child}

@@ -2,7 +2,7 @@
 use Rattle.std.specs.Prelude.{◌≡◌, ◌≤◌, ℕ, Bool, true}
 use Rattle.im_base_types.specs.Keys.{Key}
 use Rattle.im_base_types.specs.declared.page_kind.PageKind.TheVariants.{Leaf, Inner}
-use Rattle.im_page_form.specs.Child.{IsChild}
+use Rattle.im_theory_page.specs.Child.{IsChild}
 use Rattle.im_page_pool.specs.Pool.{PoolView, held_of, page_at, Holds}
 use Rattle.im_page_writer.specs.declared.page_writer.PageWriter.{PageWriter}
 

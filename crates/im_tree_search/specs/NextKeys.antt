@@ -3,7 +3,7 @@ use Rattle.std.specs.Prelude.{◌≡◌, ◌+◌, ◌<◌, ℕ, List, length, Op
 use Rattle.im_base_types.specs.Keys.{Key}
 use Rattle.im_base_types.specs.Pages.{Entry}
 use Rattle.im_base_types.specs.Maps.{Above, first_in}
-use Rattle.im_page_form.specs.Entry.{entry_at}
+use Rattle.im_theory_page.specs.Entry.{entry_at}
 use Rattle.im_page_pool.specs.Pool.{PoolView}
 use Rattle.im_page_writer.specs.Outcome.{AllPages}
 use Rattle.im_theory_tree.specs.Levels.{Pages, height, walk}

@@ -4,7 +4,7 @@ use Rattle.std.specs.List.{filter}
 use Rattle.im_base_types.specs.Keys.{Key}
 use Rattle.im_base_types.specs.Pages.{Entry}
 use Rattle.im_base_types.specs.Maps.{Start, Above, is_below, is_past, first_in}
-use Rattle.im_page_form.specs.Entry.{entry_at}
+use Rattle.im_theory_page.specs.Entry.{entry_at}
 use Rattle.im_theory_tree.specs.Levels.{Pages, Node, leaves_under, entries_in, the_root, height, walk}
 use Rattle.im_theory_tree.specs.Good.{AllOf, first_page}
 use Rattle.im_theory_tree.specs.Search.{IsOnWay}

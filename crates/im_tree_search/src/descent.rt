@@ -3,7 +3,7 @@
 ghost use Rattle.std.specs.Prelude.{◌≡◌, ◌≤◌, ◌+◌, ◌-◌, ℕ, Bool, false, true, IfOk, OnOk};
 ghost use Rattle.im_base_types.specs.Keys.{Key};
 ghost use Rattle.im_base_types.specs.declared.page_kind.PageKind.TheVariants.{Inner};
-ghost use Rattle.im_page_form.specs.Child.{IsChild};
+ghost use Rattle.im_theory_page.specs.Child.{IsChild};
 ghost use Rattle.im_page_pool.specs.Pool.{page_at, Holds, IsAt};
 ghost use Rattle.im_page_writer.specs.PageWriter.{IsReadyWriter};
 ghost use Rattle.im_page_writer.specs.Outcome.{fault_of, AllPages, IsSound, Reads};

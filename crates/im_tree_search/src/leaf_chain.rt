@@ -2,7 +2,7 @@
 
 ghost use Rattle.std.specs.Prelude.{◌≡◌, ◌≤◌, ◌<◌, ℕ, Bool, false, true, length, Some, None, option_map, IfOk, IfSome, OnOk, ◌+◌};
 ghost use Rattle.im_base_types.specs.Maps.{first_in};
-ghost use Rattle.im_page_form.specs.Entry.{entry_at};
+ghost use Rattle.im_theory_page.specs.Entry.{entry_at};
 ghost use Rattle.im_page_writer.specs.PageWriter.{IsReadyWriter};
 ghost use Rattle.im_page_writer.specs.Outcome.{fault_of, AllPages, IsSound, Reads};
 ghost use Rattle.im_theory_tree.specs.Levels.{walk};

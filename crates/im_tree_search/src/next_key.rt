@@ -2,7 +2,7 @@
 
 ghost use Rattle.std.specs.Prelude.{◌≡◌, ◌≤◌, ◌<◌, ℕ, Bool, false, true, IfOk, length};
 ghost use Rattle.im_base_types.specs.Maps.{Above};
-ghost use Rattle.im_page_form.specs.Entry.{entry_at};
+ghost use Rattle.im_theory_page.specs.Entry.{entry_at};
 ghost use Rattle.im_page_pool.specs.Pool.{page_at, IsAt};
 ghost use Rattle.im_page_writer.specs.PageWriter.{IsReadyWriter};
 ghost use Rattle.im_page_writer.specs.Outcome.{fault_of, AllPages, IsSound, Reads};

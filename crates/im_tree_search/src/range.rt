@@ -3,7 +3,7 @@
 ghost use Rattle.std.specs.Prelude.{◌≡◌, ◌≤◌, ◌<◌, ◌++◌, [], ◌∷◌, ℕ, length, false, IfErr, IfOk, IfSome, OnOk};
 ghost use Rattle.im_base_types.specs.declared.fault.Fault.TheVariants.{Memory};
 ghost use Rattle.im_base_types.specs.Maps.{is_below};
-ghost use Rattle.im_page_form.specs.Entry.{entry_at};
+ghost use Rattle.im_theory_page.specs.Entry.{entry_at};
 ghost use Rattle.im_page_writer.specs.PageWriter.{IsReadyWriter};
 ghost use Rattle.im_page_writer.specs.Outcome.{fault_of, AllPages, IsSound, Lists};
 ghost use Rattle.im_tree_search.specs.Levels.{bodies_of};
@@ -16,7 +16,7 @@ use crate::leaf_chain::{page_count, place_past};
 use crate::levels::tree_page;
 use crate::next_key::{NextKey, copied};
 use im_base_disk::Disk;
-use im_base_types::{Fault, Key, PageNo, Rid, compare, push_entry};
+use im_base_types::{Fault, Key, MOST_ENTRIES, PageNo, Rid, compare, push_entry};
 use im_page::Page;
 use im_page_writer::PageWriter;
 use std::alloc::Global;
@@ -33,7 +33,7 @@ fn list_for(alloc: Global, limit: usize) -> Result<Vec<(Key, Rid)>, Fault>
     ensures none { IfOk result (λ list. list.items ≡ []) }
     ensures memory { IfErr result (λ e. e ≡ Memory) }
 {
-    Vec::with_capacity(alloc, limit.min(256)).map_err(|_| Fault::Memory)
+    Vec::with_capacity(alloc, limit.min(MOST_ENTRIES)).map_err(|_| Fault::Memory)
 }
 
 // Adds an entry of a page to a list.

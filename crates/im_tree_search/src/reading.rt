@@ -3,8 +3,8 @@
 ghost use Rattle.std.specs.Prelude.{◌≡◌, ◌<◌, ◌≤◌, length, IfErr, IfOk, IsNone, IfSome};
 ghost use Rattle.im_base_types.specs.declared.fault.Fault.TheVariants.{NotAStore};
 ghost use Rattle.im_base_types.specs.declared.page_kind.PageKind.TheVariants.{Inner};
-ghost use Rattle.im_page_form.specs.Entry.{entry_at};
-ghost use Rattle.im_page_form.specs.Child.{IsChild, StartAbove};
+ghost use Rattle.im_theory_page.specs.Entry.{entry_at};
+ghost use Rattle.im_theory_page.specs.Child.{IsChild, StartAbove};
 ghost use Rattle.im_page_writer.specs.PageWriter.{IsReadyWriter};
 ghost use Rattle.im_page_writer.specs.Outcome.{fault_of, AllPages, AreLoaded, HasPages, IsSound, Reads};
 ghost use Rattle.im_tree_search.specs.Levels.{HasLevel};

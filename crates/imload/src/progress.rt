@@ -1,6 +1,6 @@
 //! What a user who looks on is told while a load runs.
 
-use im_front::Turn;
+use im_base_steps::Turn;
 use std::io::IsTerminal;
 
 /// Says on standard error which of the threads have begun, where that is a terminal.

@@ -7,8 +7,8 @@ ghost use Rattle.im_front.specs.Held.{IsResting};
 mod threads;
 
 use im_base_file_disk::FileDisk;
+use im_base_steps::{Reply, Step, Store};
 use im_engine::{Config, Engine};
-use im_front::{Reply, Step, Store};
 use std::fs;
 use std::marker::Brand;
 use std::sync::ledger::Blank;

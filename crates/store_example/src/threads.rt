@@ -6,9 +6,10 @@ ghost use Rattle.im_front.specs.Held.{IsResting};
 
 use crate::open_store;
 use im_base_file_disk::FileDisk;
-use im_base_types::TxnId;
+use im_base_steps::{Reply, Step, Store};
+use im_base_types::{Fault, TxnId};
 use im_engine::Engine;
-use im_front::{Closed, Fault, Front, Reply, Share, Stats, Step, Store};
+use im_front::{Closed, Front, Share, Stats};
 use std::alloc::Global;
 use std::sync::Wait;
 use std::sync::ledger::{Blank, Ledger};
@@ -32,7 +33,7 @@ pub fn show(
 }
 
 // Closes the store. Whether every step is in the trace.
-fn close(closed: Closed<Engine<FileDisk>>) -> Result<bool, im_base_types::Fault> {
+fn close(closed: Closed<Engine<FileDisk>>) -> Result<bool, Fault> {
     let Closed {
         engine,
         trace,

@@ -54,7 +54,7 @@ fn opened<D: Disk>(alloc: Global, disk: &mut D) -> Result<PageWriter, Fault>
     requires synced { IsSynced D.Disk disk.old }
     ensures ready { IfOk result (λ writer. IsReadyWriter D.Disk writer disk.new) }
 {
-    let log = open_or_create(alloc, disk)?;
+    let log = open_or_create(alloc, disk, 1)?;
     PageWriter::new(alloc, log, 64)
 }
 

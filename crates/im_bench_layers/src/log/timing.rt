@@ -10,6 +10,7 @@ use crate::log::work::{
 use anyhow::Result;
 use im_base_disk::Disk;
 use im_base_model_disk::ModelDisk;
+use im_base_types::LONGEST_BATCH;
 use im_log::{LogFile, open_or_create};
 use std::time::Instant;
 
@@ -51,7 +52,7 @@ fn read_nanos<D: Disk>(
     requires ready { IsOpen D.Disk log.now disk.old }
     ensures ready { OnOk result (IsOpen D.Disk log.now disk.new) }
 {
-    let mut room = vec![in rt.alloc(); 0; 16_384]?;
+    let mut room = vec![in rt.alloc(); 0; LONGEST_BATCH]?;
     let start = Instant::now(rt)?;
     read_many(log, disk, &mut room, 0, durable, MANY)?;
     let from_file = nanos_each(rt, &start, MANY)?;
@@ -65,7 +66,7 @@ fn print_log_times<D: Disk>(rt: &HostRuntime, disk: &mut D, batches: u64) -> Res
     requires working { D.failed disk.old ≡ false }
     requires synced { IsSynced D.Disk disk.old }
 {
-    let mut log = open_or_create(rt.alloc(), disk)?;
+    let mut log = open_or_create(rt.alloc(), disk, 1)?;
     print_times_of(rt, &mut log, disk, batches)
 }
 
@@ -95,7 +96,7 @@ fn print_force_times<D: Disk>(rt: &HostRuntime, disk: &mut D, batches: u64) -> R
     requires working { D.failed disk.old ≡ false }
     requires synced { IsSynced D.Disk disk.old }
 {
-    let mut log = open_or_create(rt.alloc(), disk)?;
+    let mut log = open_or_create(rt.alloc(), disk, 1)?;
     append_nanos(rt, &mut log, disk, batches)?;
     let start = Instant::now(rt)?;
     force_many(&mut log, disk, MANY)?;
@@ -115,7 +116,7 @@ pub fn print_times(rt: &HostRuntime, batches: u64) -> Result<()> {
 
 /// Prints the times of the same bytes copied, and put by the same device calls.
 pub fn print_hand_times(rt: &HostRuntime) -> Result<()> {
-    let mut room = [0; 16_384];
+    let mut room = [0; LONGEST_BATCH];
     let start = Instant::now(rt)?;
     let at = copy_by_hand(&[0x5a; 50], &mut room, MANY);
     let copied = nanos_each(rt, &start, MANY)?;

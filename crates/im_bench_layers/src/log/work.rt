@@ -5,7 +5,7 @@ ghost use Rattle.im_base_disk.specs.Runs.{IsSynced};
 ghost use Rattle.im_log.specs.LogFile.{IsOpen};
 
 use im_base_disk::Disk;
-use im_base_types::{Fault, FileId, Lsn};
+use im_base_types::{Fault, FileId, LONGEST_BATCH, Lsn};
 use im_log::{LogFile, open_or_create};
 use im_log_gate::FIRST_GATE;
 use im_log_record::Record;
@@ -100,7 +100,7 @@ fn read_first<D: Disk>(alloc: Global, log: &LogFile, disk: &mut D, count: u64) -
     requires ready { IsOpen D.Disk log.now disk.old }
     ensures ready { OnOk result (IsOpen D.Disk log.now disk.new) }
 {
-    let mut room = vec![in alloc; 0; 16_384].map_err(|_| Fault::Memory)?;
+    let mut room = vec![in alloc; 0; LONGEST_BATCH].map_err(|_| Fault::Memory)?;
     read_many(log, disk, &mut room, 0, count, count)
 }
 
@@ -120,10 +120,10 @@ pub fn scan_all<D: Disk>(alloc: Global, log: &LogFile, disk: &mut D) -> Result<u
 
 /// Copies the bytes of one record so many times, one behind another into the room, and from its front again where it is
 /// full.
-pub fn copy_by_hand(record: &[u8; 50], room: &mut [u8; 16_384], count: u64) -> u64 {
+pub fn copy_by_hand(record: &[u8; 50], room: &mut [u8; LONGEST_BATCH], count: u64) -> u64 {
     let mut at = 0;
     for _copy in 0..count {
-        if at + RECORD > 16_384 {
+        if at + RECORD > LONGEST_BATCH {
             at = 0;
         }
         room[at..at + RECORD].copy_from_slice(record);
@@ -161,7 +161,7 @@ pub fn counted<D: Disk>(alloc: Global, disk: &mut D, count: u64) -> Result<Count
     requires working { D.failed disk.old ≡ false }
     requires synced { IsSynced D.Disk disk.old }
 {
-    let mut log = open_or_create(alloc, disk)?;
+    let mut log = open_or_create(alloc, disk, 1)?;
     counted_in(alloc, &mut log, disk, count)
 }
 

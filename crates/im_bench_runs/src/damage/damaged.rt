@@ -98,6 +98,7 @@ pub fn founded(alloc: Global) -> Result<Files, Fault> {
     let files = Files {
         log: Vec::new(alloc),
         pages: Vec::new(alloc),
+        log2: Vec::new(alloc),
     };
     let mut engine = opened(alloc, BoundedDisk::new(files), FRAMES)?;
     found(alloc, &mut engine)?;

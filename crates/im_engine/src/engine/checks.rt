@@ -1,26 +1,33 @@
 //! What a row of the table lets its transaction do.
 
-ghost use Rattle.std.specs.Prelude.{◌≡◌, not, ◌&&◌};
+ghost use Rattle.std.specs.Prelude.{◌≡◌, not, ◌&&◌, None};
 ghost use Rattle.im_base_types.specs.Refusals.{key_length};
-ghost use Rattle.im_engine_lock.specs.Machine.{barred_to, barred_to_rollback, barred_to_continue, fits, or_else, fault_if};
+ghost use Rattle.im_base_lock.specs.Machine.{barred_to, barred_to_rollback, barred_to_continue, fits, or_else, fault_if};
 ghost use Rattle.im_theory_steps.specs.Checks.{mark_at};
 ghost use Rattle.im_engine.specs.Kept.{numbered};
 
-use im_engine_txn::{Mark, Transaction};
-use im_front::Fault;
+use im_base_txn::{Mark, Transaction};
+use im_base_types::{Fault, LONGEST_KEY};
 
 // What it refuses to an access, where its keys have their length or not.
 pub(crate) fn to_access(row: Option<Transaction>, fit: bool) -> Option<Fault>
     ensures { numbered result ≡ or_else (barred_to (mark_at row)) (fault_if (not fit) key_length) }
 {
-    if let Some(fault) = to_commit(row) {
+    if let Some(fault) = by_mark(row) {
         return Some(fault);
     }
     if fit { None } else { Some(Fault::KeyLength) }
 }
 
-// What it refuses to an access and to a Commit.
+// What it refuses to a Commit, where no insert or delete of it goes on.
 pub(crate) fn to_commit(row: Option<Transaction>) -> Option<Fault>
+    ensures { numbered result ≡ or_else (barred_to (mark_at row)) None }
+{
+    by_mark(row)
+}
+
+// What its mark refuses to an access and to a Commit.
+fn by_mark(row: Option<Transaction>) -> Option<Fault>
     ensures { numbered result ≡ barred_to (mark_at row) }
 {
     let Some(row) = row else {
@@ -34,8 +41,14 @@ pub(crate) fn to_commit(row: Option<Transaction>) -> Option<Fault>
     }
 }
 
-// What it refuses to a Rollback.
+// What it refuses to a Rollback, where no insert or delete of it goes on.
 pub(crate) fn to_rollback(row: Option<Transaction>) -> Option<Fault>
+    ensures { numbered result ≡ or_else (barred_to_rollback (mark_at row)) None }
+{
+    by_mark_to_rollback(row)
+}
+
+fn by_mark_to_rollback(row: Option<Transaction>) -> Option<Fault>
     ensures { numbered result ≡ barred_to_rollback (mark_at row) }
 {
     let Some(row) = row else {
@@ -68,5 +81,5 @@ pub(crate) fn to_continue(row: Option<Transaction>) -> Option<Fault>
 pub(crate) fn has_length(key: &Vec<u8>) -> bool
     ensures { result ≡ fits key.now.items }
 {
-    !key.is_empty() && key.len() < 256
+    !key.is_empty() && key.len() <= LONGEST_KEY
 }

@@ -6,14 +6,11 @@ ghost use Rattle.im_theory_log.specs.Writer.{Writer};
 use crate::PageWriter;
 use crate::image_range::note_in_file;
 use im_base_disk::Disk;
-use im_base_types::{Fault, PageNo};
+use im_base_types::{Fault, IMAGE_SIZE, PageNo};
 use im_page_pool::Frame;
 
 /// How many pages are written at once at most.
 const AT_ONCE: usize = 8;
-
-/// The most bytes that wait in the log's buffer, of 16,384, while an Image, of 4,129, still fits.
-const WITH_ROOM: usize = 12_255;
 
 impl PageWriter {
     ghost use Rattle.im_page_pool.specs.Pool.{IsAt};
@@ -82,7 +79,7 @@ impl PageWriter {
         ensures outcome { Flushes D.Disk self.old disk.old self.new disk.new (fault_of result) }
         ensures pool { self.new.pool ≡ self.old.pool }
     {
-        if self.log.waiting() > WITH_ROOM {
+        if !self.log.takes(IMAGE_SIZE) {
             return Ok(());
         }
         if self.table.copied(number).is_some() {

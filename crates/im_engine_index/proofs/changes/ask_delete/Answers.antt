@@ -9,8 +9,8 @@ use Rattle.im_page_writer.proofs.Outcomes.{out_of_memory, refused, sound_on, rea
 use Rattle.im_theory_tree.specs.Levels.{walk}
 use Rattle.im_theory_tree.proofs.LookupLemmas.{leaf_value}
 use Rattle.im_tree_search.specs.Levels.{HasLevel, bodies_of}
-use Rattle.im_engine_lock.specs.Rows.{asked, next_name}
-use Rattle.im_engine_lock.specs.Table.{named, row}
+use Rattle.im_base_lock.specs.Rows.{asked, next_name}
+use Rattle.im_base_lock.specs.Table.{named, row}
 use Rattle.im_engine_index.specs.declared.place.Place.{Place}
 use Rattle.im_engine_index.specs.Asks.{IsPlace}
 use Rattle.im_engine_index.specs.Outcomes.{name_in}

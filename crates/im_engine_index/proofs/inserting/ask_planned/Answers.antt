@@ -15,4 +15,4 @@ returns-clause-kept g c pages m rid max tree is place plan =
     let t = c.args.transaction in
     let pool = c.ask_insert_at.new.writer.pool in
     subst (IsPrepared pages t c.args.key.now rid max m c.args.locks.now c.ask_insert_at.new.locks pool) (sym c.with_plan.ensures)
-    (prepared_is pages t c.args.key.now rid max m c.args.locks.now c.ask_insert_at.new.locks pool c.args.plan c.in_ok-outcome.outcome (c.in_ok-outcome.ensures.kept pages m rid tree is place) plan)
+    (prepared_is pages t c.args.key.now rid max m c.args.locks.now c.ask_insert_at.new.locks pool c.args.plan c.in_ok-outcome.outcome tree.spare tree.good (c.in_ok-outcome.ensures.kept pages m rid tree is place) plan)

@@ -1,64 +1,30 @@
-use Rattle.std.proofs.Common.{arith, ◌+◌, length, take, drop, ◌∙◌}
-use Rattle.im_log_gate.proofs.Puts.{written_is, first_put, second_put, put_adds, put_moves, put_closed}
-use Rattle.im_log_gate.proofs.Fronts.{first_front, second_front}
-use Rattle.im_base_disk.proofs.Costs.{costs_then, most_as, most_then}
+use Rattle.std.proofs.Common.{arith, ◌≡◌, ◌≢◌, ◌+◌, ◌∙◌, ℕ, [], ◌∷◌, length, get_or, subst}
+use Rattle.im_log_gate.specs.Batches.{batches, Reaches}
+use Rattle.im_log_gate.proofs.Puts.{lays_one, leaves_one}
+use Rattle.im_log_gate.proofs.Several.{with_one}
 use Rattle.im_log_gate.proofs.put.put_behind.Goals as goal
 
-pub returns-in_err-write_synced-clause-any_moment : goal.returns-in_err-write_synced-clause-any_moment
-returns-in_err-write_synced-clause-any_moment g c first reaches =
-    first_put g.D.Disk c.args.file first c.args.disk.now c.write_synced.new.disk c.args.place c.args.records.now (drop (length c.args.records.now + 5) (take c.args.size c.clear.new.room)) (take c.args.size c.clear.new.room) (written_is c.args.records.now c.clear.new.room c.args.size c.requires.least (c.clear.ensures.front ∙ c.spell.ensures.spelled)) c.requires.some c.requires.most
-    reaches c.requires.closed c.requires.durable c.write_synced.ensures.any_moment
-
-pub returns-in_err-write_synced-2-clause-any_moment : goal.returns-in_err-write_synced-2-clause-any_moment
-returns-in_err-write_synced-2-clause-any_moment g c first reaches =
-    second_put g.D.Disk c.args.file first c.args.disk.now c.write_synced.new.disk c.args.place c.args.records.now (drop (length c.args.records.now + 5) (take c.args.size c.clear.new.room)) (take c.args.size c.clear.new.room) (written_is c.args.records.now c.clear.new.room c.args.size c.requires.least (c.clear.ensures.front ∙ c.spell.ensures.spelled)) c.requires.some c.requires.most
-    reaches c.requires.closed c.requires.durable c.write_synced-2.new.disk c.in_ok-write_synced.ensures.written c.in_ok-write_synced.ensures.changes c.in_ok-write_synced.ensures.durable
-    (first_put g.D.Disk c.args.file first c.args.disk.now c.write_synced.new.disk c.args.place c.args.records.now (drop (length c.args.records.now + 5) (take c.args.size c.clear.new.room)) (take c.args.size c.clear.new.room) (written_is c.args.records.now c.clear.new.room c.args.size c.requires.least (c.clear.ensures.front ∙ c.spell.ensures.spelled)) c.requires.some c.requires.most
-    reaches c.requires.closed c.requires.durable c.write_synced.ensures.any_moment) c.write_synced-2.ensures.any_moment
+pub returns-in_err-put_laid-clause-any_moment : goal.returns-in_err-put_laid-clause-any_moment
+returns-in_err-put_laid-clause-any_moment g c first reaches =
+    leaves_one g.D.Disk c.args.file c.args.disk.now c.put_laid.new.disk first c.args.records.now (batches first (g.D.Disk.seen c.args.disk.now c.args.file))
+    (c.put_laid.ensures.any_moment first (c.args.records.now ∷ []) (lays_one c.args.records.now c.clear.new.room c.args.size c.requires.some c.requires.most c.requires.least (c.clear.ensures.front ∙ c.spell.ensures.spelled)) reaches)
 
 pub returns-clause-any_moment : goal.returns-clause-any_moment
 returns-clause-any_moment g c first reaches =
-    second_put g.D.Disk c.args.file first c.args.disk.now c.write_synced.new.disk c.args.place c.args.records.now (drop (length c.args.records.now + 5) (take c.args.size c.clear.new.room)) (take c.args.size c.clear.new.room) (written_is c.args.records.now c.clear.new.room c.args.size c.requires.least (c.clear.ensures.front ∙ c.spell.ensures.spelled)) c.requires.some c.requires.most
-    reaches c.requires.closed c.requires.durable c.write_synced-2.new.disk c.in_ok-write_synced.ensures.written c.in_ok-write_synced.ensures.changes c.in_ok-write_synced.ensures.durable
-    (first_put g.D.Disk c.args.file first c.args.disk.now c.write_synced.new.disk c.args.place c.args.records.now (drop (length c.args.records.now + 5) (take c.args.size c.clear.new.room)) (take c.args.size c.clear.new.room) (written_is c.args.records.now c.clear.new.room c.args.size c.requires.least (c.clear.ensures.front ∙ c.spell.ensures.spelled)) c.requires.some c.requires.most
-    reaches c.requires.closed c.requires.durable c.write_synced.ensures.any_moment) c.write_synced-2.ensures.any_moment
+    leaves_one g.D.Disk c.args.file c.args.disk.now c.put_laid.new.disk first c.args.records.now (batches first (g.D.Disk.seen c.args.disk.now c.args.file))
+    (c.put_laid.ensures.any_moment first (c.args.records.now ∷ []) (lays_one c.args.records.now c.clear.new.room c.args.size c.requires.some c.requires.most c.requires.least (c.clear.ensures.front ∙ c.spell.ensures.spelled)) reaches)
 
 pub returns-clause-put : goal.returns-clause-put
-returns-clause-put g c first reaches =
-    put_adds g.D.Disk c.args.file first c.args.disk.now c.write_synced.new.disk c.args.place c.args.records.now (drop (length c.args.records.now + 5) (take c.args.size c.clear.new.room)) (take c.args.size c.clear.new.room) (written_is c.args.records.now c.clear.new.room c.args.size c.requires.least (c.clear.ensures.front ∙ c.spell.ensures.spelled)) c.requires.some c.requires.most
-    reaches c.requires.closed c.requires.durable c.write_synced-2.new.disk c.in_ok-write_synced.ensures.written c.in_ok-write_synced-2.ensures.written
+returns-clause-put g c first reaches told =
+    c.in_ok-put_laid.ensures.put first (c.args.records.now ∷ []) (lays_one c.args.records.now c.clear.new.room c.args.size c.requires.some c.requires.most c.requires.least (c.clear.ensures.front ∙ c.spell.ensures.spelled)) reaches told
+    ∙ with_one c.args.records.now (batches first (g.D.Disk.seen c.args.disk.now c.args.file))
 
 pub returns-clause-reaches : goal.returns-clause-reaches
-returns-clause-reaches g c first reaches =
-    put_moves g.D.Disk c.args.file first c.args.disk.now c.write_synced.new.disk c.args.place c.args.records.now (drop (length c.args.records.now + 5) (take c.args.size c.clear.new.room)) (take c.args.size c.clear.new.room) (written_is c.args.records.now c.clear.new.room c.args.size c.requires.least (c.clear.ensures.front ∙ c.spell.ensures.spelled)) c.requires.some c.requires.most
-    reaches c.requires.closed c.requires.durable c.write_synced-2.new.disk c.in_ok-write_synced.ensures.written c.in_ok-write_synced-2.ensures.written
+returns-clause-reaches g c first reaches told =
+    subst (λ (k : ℕ). Reaches first (g.D.Disk.seen c.put_laid.new.disk c.args.file) k) (let e : c.args.place + (5 + length c.args.records.now + 0) ≡ c.args.place + (length c.args.records.now + 5) = omega arith in e)
+    (c.in_ok-put_laid.ensures.reaches first (c.args.records.now ∷ []) (lays_one c.args.records.now c.clear.new.room c.args.size c.requires.some c.requires.most c.requires.least (c.clear.ensures.front ∙ c.spell.ensures.spelled)) reaches told)
 
 pub returns-clause-closed : goal.returns-clause-closed
-returns-clause-closed g c first reaches =
-    put_closed g.D.Disk c.args.file first c.args.disk.now c.write_synced.new.disk c.args.place c.args.records.now (drop (length c.args.records.now + 5) (take c.args.size c.clear.new.room)) (take c.args.size c.clear.new.room) (written_is c.args.records.now c.clear.new.room c.args.size c.requires.least (c.clear.ensures.front ∙ c.spell.ensures.spelled)) c.requires.some c.requires.most
-    reaches c.requires.closed c.requires.durable c.write_synced-2.new.disk c.in_ok-write_synced.ensures.written c.in_ok-write_synced-2.ensures.written
-
-pub returns-in_err-write_synced-clause-front : goal.returns-in_err-write_synced-clause-front
-returns-in_err-write_synced-clause-front g c n le = first_front g.D.Disk c.args.file c.args.disk.now c.write_synced.new.disk c.args.place (length (take c.args.size c.clear.new.room)) n le c.requires.durable c.write_synced.ensures.any_moment
-
-pub returns-in_err-write_synced-2-clause-front : goal.returns-in_err-write_synced-2-clause-front
-returns-in_err-write_synced-2-clause-front g c n le =
-    second_front g.D.Disk c.args.file c.args.disk.now c.write_synced.new.disk c.args.place (length (take c.args.size c.clear.new.room)) n le c.requires.durable c.write_synced-2.new.disk (take c.args.size c.clear.new.room) (λ told. let w = c.requires.within told in omega arith) c.in_ok-write_synced.ensures.written c.in_ok-write_synced.ensures.changes c.in_ok-write_synced.ensures.durable
-    (first_front g.D.Disk c.args.file c.args.disk.now c.write_synced.new.disk c.args.place (length (take c.args.size c.clear.new.room)) n le c.requires.durable c.write_synced.ensures.any_moment) c.write_synced-2.ensures.any_moment
-
-pub returns-clause-front : goal.returns-clause-front
-returns-clause-front g c n le =
-    second_front g.D.Disk c.args.file c.args.disk.now c.write_synced.new.disk c.args.place (length (take c.args.size c.clear.new.room)) n le c.requires.durable c.write_synced-2.new.disk (take c.args.size c.clear.new.room) (λ told. let w = c.requires.within told in omega arith) c.in_ok-write_synced.ensures.written c.in_ok-write_synced.ensures.changes c.in_ok-write_synced.ensures.durable
-    (first_front g.D.Disk c.args.file c.args.disk.now c.write_synced.new.disk c.args.place (length (take c.args.size c.clear.new.room)) n le c.requires.durable c.write_synced.ensures.any_moment) c.write_synced-2.ensures.any_moment
-
-pub returns-clause-costs : goal.returns-clause-costs
-returns-clause-costs g c = costs_then g.D.Disk 1 1 1 1 c.args.disk.now c.write_synced.new.disk c.write_synced-2.new.disk c.in_ok-write_synced.ensures.costs c.in_ok-write_synced-2.ensures.costs
-
-pub returns-clause-few : goal.returns-clause-few
-returns-clause-few g c = most_then g.D.Disk 1 1 1 1 c.args.disk.now c.write_synced.new.disk c.write_synced-2.new.disk c.write_synced.ensures.few c.write_synced-2.ensures.few
-
-pub returns-in_err-write_synced-2-clause-few : goal.returns-in_err-write_synced-2-clause-few
-returns-in_err-write_synced-2-clause-few g c = most_then g.D.Disk 1 1 1 1 c.args.disk.now c.write_synced.new.disk c.write_synced-2.new.disk c.write_synced.ensures.few c.write_synced-2.ensures.few
-
-pub returns-in_err-write_synced-clause-few : goal.returns-in_err-write_synced-clause-few
-returns-in_err-write_synced-clause-few g c = most_as g.D.Disk 1 1 2 2 c.args.disk.now c.write_synced.new.disk (omega arith) (omega arith) c.write_synced.ensures.few
+returns-clause-closed g c first reaches told =
+    subst (λ (k : ℕ). get_or (g.D.Disk.seen c.put_laid.new.disk c.args.file) k 0 ≢ 1) (let e : c.args.place + (5 + length c.args.records.now + 0) ≡ c.args.place + (length c.args.records.now + 5) = omega arith in e)
+    (c.in_ok-put_laid.ensures.closed first (c.args.records.now ∷ []) (lays_one c.args.records.now c.clear.new.room c.args.size c.requires.some c.requires.most c.requires.least (c.clear.ensures.front ∙ c.spell.ensures.spelled)) reaches told)

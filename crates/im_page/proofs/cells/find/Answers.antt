@@ -1,8 +1,8 @@
 use Rattle.std.proofs.Common.{ℕ, ◌+◌, ◌-◌, ◌/◌, ◌<◌, arith, sym, ◌∙◌}
-use Rattle.im_page_form.specs.Form.{slot_at, key_from}
+use Rattle.im_theory_page.specs.Form.{slot_at, key_from}
 use Rattle.im_base_types.specs.Keys.{IsBelow}
-use Rattle.im_page_form.proofs.Order.{below_from_greater, below_from_less, same_from_equal}
-use Rattle.im_page_form.proofs.FoundLemmas.{parts_right, parts_left, read_key}
+use Rattle.im_theory_page.proofs.Order.{below_from_greater, below_from_less, same_from_equal}
+use Rattle.im_theory_page.proofs.FoundLemmas.{parts_right, parts_left, read_key}
 use Rattle.im_page.proofs.cells.find.Goals as goal
 
 pub loop-low-preserved-in-Less : goal.loop-low-preserved-in-Less

@@ -1,6 +1,6 @@
 use Rattle.std.proofs.Common.{◌-◌, ◌≤◌}
-use Rattle.im_page_form.specs.Form.{count_of}
-use Rattle.im_page_form.specs.Found.{Parts}
+use Rattle.im_theory_page.specs.Form.{count_of}
+use Rattle.im_theory_page.specs.Found.{Parts}
 use Rattle.im_page.proofs.cells.find.Given as goal
 
 -- the keys before `low` are below the key, and those from `high` on above it

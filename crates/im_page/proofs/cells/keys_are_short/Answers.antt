@@ -1,7 +1,7 @@
 use Rattle.std.proofs.Common.{◌<◌, arith}
-use Rattle.im_page_form.specs.Form.{count_of, slot_at}
-use Rattle.im_page_form.proofs.EntryLemmas.{length-entries_of}
-use Rattle.im_page_form.proofs.ContentLemmas.{key_length}
+use Rattle.im_theory_page.specs.Form.{count_of, slot_at}
+use Rattle.im_theory_page.proofs.EntryLemmas.{length-entries_of}
+use Rattle.im_theory_page.proofs.ContentLemmas.{key_length}
 use Rattle.im_page.proofs.cells.keys_are_short.Goals as goal
 
 pub returns : goal.returns

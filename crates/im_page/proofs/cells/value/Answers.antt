@@ -1,5 +1,5 @@
 use Rattle.std.proofs.Common.{rules}
-use Rattle.im_page_form.specs.Form.{entry_from}
+use Rattle.im_theory_page.specs.Form.{entry_from}
 use Rattle.im_page.proofs.cells.value.Goals as goal
 
 pub returns-then-leaf : goal.returns-then-leaf

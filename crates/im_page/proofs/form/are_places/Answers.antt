@@ -1,6 +1,6 @@
 use Rattle.std.proofs.Common.{◌≡◌, ℕ, ◌<◌, ◌≤◌, List, arith, subst, ⊎_elim}
 use Rattle.std.proofs.lemmas.Bool.{and_parts, cases_lt}
-use Rattle.im_page_form.specs.Form.{count_of, start_of, slot_at}
+use Rattle.im_theory_page.specs.Form.{count_of, start_of, slot_at}
 use Rattle.im_page.specs.Sound.{ArePlaces, IsPlace}
 use Rattle.im_page.proofs.form.are_places.Goals as goal
 

@@ -1,7 +1,7 @@
 use Rattle.std.proofs.Common.{◌≡◌, ℕ, ◌+◌, ◌-◌, ◌<◌, ◌≤◌, List, length, slice_index, slice_set, true, arith, rules, refl, ap, subst, sym, ◌∙◌, ⊎_elim}
 use Rattle.std.proofs.lemmas.Bool.{cases_lt}
 use Rattle.im_base_types.specs.Keys.{IsBelow}
-use Rattle.im_page_form.specs.Form.{count_of, start_of, slot_at, cell_size, key_from}
+use Rattle.im_theory_page.specs.Form.{count_of, start_of, slot_at, cell_size, key_from}
 use Rattle.im_page.specs.Sound.{AreEnds, MarksOne, IsTopOf, IsFootOf}
 use Rattle.im_page.proofs.SoundLemmas.{all_flagged, end_flagged, ends_begin, ends_more, marks_set, sound_all}
 use Rattle.im_page.proofs.WordLemmas.{by_words, key_bytes}
@@ -48,7 +48,7 @@ loop-i-preserved c =
     let at : ℕ = c.get_u16-at.result in
     let is_at : at ≡ slot_at bytes n = c.get_u16-at.ensures.value in
     let is_end : at + c.cell_len.result ≡ at + cell_size leaf bytes at = omega (arith, c.cell_len.ensures) in
-    let high : at + cell_size leaf bytes at ≤ 4096 = omega (arith, is_end, c.if-end-gt4096.false) in
+    let high : at + cell_size leaf bytes at ≤ 4096 = omega (arith, is_end, c.if-end-gt-PAGE_SIZE.false) in
     let key : c.key_at-key.result.now ≡ key_from bytes at = c.key_at-key.ensures.key in
     let long : length c.key_at-key.result.now ≡ slice_index bytes at = c.key_at-key.ensures.len in
     let last : 0 < n → IsBelow (key_from bytes (slot_at bytes (n - 1))) (key_from bytes at) =

@@ -1,8 +1,8 @@
 use Rattle.std.proofs.Common.{◌≡◌, ℕ, ◌+◌, ◌-◌, ◌<◌, ◌≤◌, List, length, slice_index, arith, refl, ap, subst, sym, ◌∙◌, ⊎_elim}
 use Rattle.std.proofs.lemmas.Bool.{cases_lt}
 use Rattle.im_base_types.specs.Keys.{IsBelow}
-use Rattle.im_page_form.specs.Entry.{width}
-use Rattle.im_page_form.specs.Form.{count_of, slot_at, cell_size, key_from}
+use Rattle.im_theory_page.specs.Entry.{width}
+use Rattle.im_theory_page.specs.Form.{count_of, slot_at, cell_size, key_from}
 use Rattle.im_page.specs.Sound.{AreUniform, IsTopOf, IsFootOf}
 use Rattle.im_page.proofs.UniformLemmas.{uniform_begins, uniform_more}
 use Rattle.im_page.proofs.WordLemmas.{by_words, key_bytes}

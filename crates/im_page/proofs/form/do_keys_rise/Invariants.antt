@@ -1,6 +1,6 @@
 use Rattle.std.proofs.Common.{◌+◌, ◌-◌, ◌<◌, ◌≤◌, ◌≡◌, slice_index}
-use Rattle.im_page_form.specs.Entry.{width}
-use Rattle.im_page_form.specs.Form.{slot_at, key_from}
+use Rattle.im_theory_page.specs.Entry.{width}
+use Rattle.im_theory_page.specs.Form.{slot_at, key_from}
 use Rattle.im_page.specs.Sound.{AreUniform, IsTopOf}
 use Rattle.im_page.proofs.form.do_keys_rise.Given as goal
 

@@ -1,5 +1,5 @@
 use Rattle.std.proofs.Common.{◌≡◌, ℕ, ◌<◌, true, false}
-use Rattle.im_page_form.specs.Form.{slot_at}
+use Rattle.im_theory_page.specs.Form.{slot_at}
 use Rattle.im_page.specs.Sound.{is_taken}
 use Rattle.im_page.proofs.form.has_slots.Given as goal
 

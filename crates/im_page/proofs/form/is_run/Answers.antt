@@ -1,7 +1,7 @@
 use Rattle.std.proofs.Common.{◌≡◌, ℕ, ◌+◌, ◌-◌, ◌<◌, ◌≤◌, List, length, slice_index, arith, refl, ap, subst, sym, ◌∙◌, ⊎_elim}
 use Rattle.std.proofs.lemmas.Bool.{cases_lt}
 use Rattle.im_base_types.specs.Keys.{IsBelow}
-use Rattle.im_page_form.specs.Form.{count_of, start_of, slot_at, cell_size, key_from}
+use Rattle.im_theory_page.specs.Form.{count_of, start_of, slot_at, cell_size, key_from}
 use Rattle.im_page.specs.Sound.{IsRun, IsTopOf, IsFootOf}
 use Rattle.im_page.proofs.SoundLemmas.{run_begins, run_more, run_sound}
 use Rattle.im_page.proofs.WordLemmas.{by_words, key_bytes}

@@ -1,6 +1,6 @@
 use Rattle.std.proofs.Common.{ℕ, ◌+◌, ◌-◌, ◌<◌, ◌≤◌, ◌≡◌, slice_index}
 use Rattle.im_base_types.specs.Keys.{IsBelow}
-use Rattle.im_page_form.specs.Form.{slot_at, key_from}
+use Rattle.im_theory_page.specs.Form.{slot_at, key_from}
 use Rattle.im_page.specs.Sound.{IsRun, IsTopOf}
 use Rattle.im_page.proofs.form.is_run.Given as goal
 

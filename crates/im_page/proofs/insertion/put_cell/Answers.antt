@@ -1,5 +1,5 @@
 use Rattle.std.proofs.Common.{◌+◌, arith, length}
-use Rattle.im_page_form.specs.Entry.{width}
+use Rattle.im_theory_page.specs.Entry.{width}
 use Rattle.im_page.proofs.CellLemmas.{written_entry}
 use Rattle.im_page.proofs.insertion.put_cell.Goals as goal
 

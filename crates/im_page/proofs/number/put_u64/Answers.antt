@@ -3,7 +3,7 @@ use Rattle.std.proofs.lemmas.List.{places}
 use borrow.Rule.Slice.PartMut.{put_mid}
 use Rattle.byteorder.specs.Endian.{big_number}
 use Rattle.byteorder.specs.Numbers.{big_number-reads_back}
-use Rattle.im_page_form.specs.Number.{u64_at}
+use Rattle.im_theory_page.specs.Number.{u64_at}
 use Rattle.im_page.proofs.number.put_u64.Goals as goal
 
 module _ (at k : ℕ) (old part : List ℕ) (inside : at ≤ length old) where

@@ -1,7 +1,7 @@
 use Rattle.std.proofs.Common.{ℕ, refl, ap, sym, ◌∙◌, take, drop}
 use Rattle.im_base_types.specs.declared.file_id.FileId.TheVariants.{Pages}
-use Rattle.im_page_form.specs.Page.{IsForm, page_of}
-use Rattle.im_page_form.proofs.FormLemmas.{page_of_form, no_page}
+use Rattle.im_theory_page.specs.Page.{IsForm, page_of}
+use Rattle.im_theory_page.proofs.FormLemmas.{page_of_form, no_page}
 use Rattle.im_page.proofs.reading.read_form.Goals as goal
 
 pub returns-clause-page : goal.returns-clause-page

@@ -1,5 +1,5 @@
 use Rattle.std.proofs.Common.{◌≡◌, ℕ, ◌<◌, ◌≤◌, slice_index}
-use Rattle.im_page_form.specs.Number.{SameOutside}
+use Rattle.im_theory_page.specs.Number.{SameOutside}
 use Rattle.im_page.proofs.removal.clear.Given as goal
 
 abbrev pub invariant-loop-k : goal.invariant-loop-k

@@ -1,5 +1,5 @@
 use Rattle.std.proofs.Common.{◌≡◌, ℕ, ◌+◌, ◌*◌, ◌<◌, ◌≤◌, slice_index}
-use Rattle.im_page_form.specs.Form.{slot_at}
+use Rattle.im_theory_page.specs.Form.{slot_at}
 use Rattle.im_page.specs.Edit.{moved_up}
 use Rattle.im_page.proofs.removal.move_slots.Given as goal
 

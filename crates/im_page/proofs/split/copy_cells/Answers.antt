@@ -1,9 +1,9 @@
 use Rattle.std.proofs.Common.{◌≡◌, ℕ, ◌-◌, ◌<◌, List, length, slice_range, insert, sym, ap, ◌∙◌, arith}
 use Rattle.im_base_types.specs.Pages.{Entry}
-use Rattle.im_page_form.specs.Entry.{entry_at}
-use Rattle.im_page_form.specs.Form.{slot_at, entry_from, entries_of}
-use Rattle.im_page_form.proofs.EntryLemmas.{length-entries_of, entry_at-entries_of}
-use Rattle.im_page_form.proofs.SplitLemmas.{next_place, next_room, range_more, same_pair}
+use Rattle.im_theory_page.specs.Entry.{entry_at}
+use Rattle.im_theory_page.specs.Form.{slot_at, entry_from, entries_of}
+use Rattle.im_theory_page.proofs.EntryLemmas.{length-entries_of, entry_at-entries_of}
+use Rattle.im_theory_page.proofs.SplitLemmas.{next_place, next_room, range_more, same_pair}
 use Rattle.im_page.proofs.split.copy_cells.Goals as goal
 
 pub insert_cell-requires-clause-place : goal.insert_cell-requires-clause-place

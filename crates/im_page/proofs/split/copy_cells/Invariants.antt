@@ -1,5 +1,5 @@
 use Rattle.std.proofs.Common.{◌≡◌, ℕ, ◌<◌, ◌≤◌, slice_index, slice_range}
-use Rattle.im_page_form.specs.Form.{entries_of, IsPacked}
+use Rattle.im_theory_page.specs.Form.{entries_of, IsPacked}
 use Rattle.im_page.proofs.split.copy_cells.Given as goal
 
 -- the entries from `low` up to j are there

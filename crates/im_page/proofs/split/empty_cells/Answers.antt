@@ -1,5 +1,5 @@
 use Rattle.std.proofs.Common.{◌≡◌, ◌+◌, ◌*◌, arith, ap₂, ◌∙◌}
-use Rattle.im_page_form.specs.Form.{count_of}
+use Rattle.im_theory_page.specs.Form.{count_of}
 use Rattle.im_page.proofs.HeaderLemmas.{none_packed}
 use Rattle.im_page.proofs.split.empty_cells.Goals as goal
 

@@ -1,9 +1,9 @@
 use Rattle.std.proofs.Common.{◌≡◌, List, take, ap, sym, ◌∙◌, arith}
 use Rattle.im_base_types.specs.Pages.{Entry}
-use Rattle.im_page_form.specs.Entry.{taken}
-use Rattle.im_page_form.specs.Form.{cell_size, entries_of}
-use Rattle.im_page_form.proofs.EntryLemmas.{length-entries_of}
-use Rattle.im_page_form.proofs.SplitLemmas.{taken_more}
+use Rattle.im_theory_page.specs.Entry.{taken}
+use Rattle.im_theory_page.specs.Form.{cell_size, entries_of}
+use Rattle.im_theory_page.proofs.EntryLemmas.{length-entries_of}
+use Rattle.im_theory_page.proofs.SplitLemmas.{taken_more}
 use Rattle.im_page.proofs.split.split_point.Goals as goal
 
 pub returns-then-used-gt2032 : goal.returns-then-used-gt2032

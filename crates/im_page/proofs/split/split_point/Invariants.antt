@@ -1,6 +1,6 @@
 use Rattle.std.proofs.Common.{◌≡◌, ◌≤◌, take}
-use Rattle.im_page_form.specs.Entry.{taken}
-use Rattle.im_page_form.specs.Form.{entries_of}
+use Rattle.im_theory_page.specs.Entry.{taken}
+use Rattle.im_theory_page.specs.Form.{entries_of}
 use Rattle.im_page.proofs.split.split_point.Given as goal
 
 -- what the entries before i take, which is not too much yet

@@ -1,7 +1,7 @@
 use Rattle.std.proofs.Common.{rules, ◌≡◌, ◌*◌, ◌≤◌, true, length, sym, ◌∙◌}
 use Rattle.im_base_types.specs.declared.file_id.FileId.TheVariants.{Pages}
 use Rattle.im_theory_log.specs.WriterSteps.{written_entry}
-use Rattle.im_page_form.proofs.PageFileLemmas.{place_within}
+use Rattle.im_theory_page.proofs.PageFileLemmas.{place_within}
 use Rattle.im_page_table.specs.DirtyTable.{has_room, ChangesEntry}
 use Rattle.im_page_file.proofs.Standing.{open_written, stands_written, write_stops}
 use Rattle.im_page_table.proofs.TableSteps.{entries_written}

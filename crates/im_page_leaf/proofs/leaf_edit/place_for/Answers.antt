@@ -1,5 +1,5 @@
 use Rattle.std.proofs.Common.{◌≡◌, None, Some, refl, sym, ◌∙◌}
-use Rattle.im_page_form.specs.Entry.{entry_at}
+use Rattle.im_theory_page.specs.Entry.{entry_at}
 use Rattle.im_page_leaf.proofs.KeyLists.{found_at}
 use Rattle.im_page_leaf.proofs.leaf_edit.place_for.Goals as goal
 

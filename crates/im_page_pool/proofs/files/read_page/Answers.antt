@@ -2,8 +2,8 @@ use Rattle.std.proofs.Common.{◌≡◌, ◌∙◌, sym, ap, Some}
 use Rattle.std.proofs.lemmas.Result.{on_ok_weaker}
 use Rattle.im_base_types.specs.declared.file_id.FileId.TheVariants.{Pages}
 use Rattle.im_base_disk.specs.Disk.{Files}
-use Rattle.im_page_form.specs.Page.{page_of}
-use Rattle.im_page_form.specs.PageFile.{page_bytes}
+use Rattle.im_theory_page.specs.Page.{page_of}
+use Rattle.im_theory_page.specs.PageFile.{page_bytes}
 use Rattle.im_page_pool.proofs.PageFileLemmas.{read_past, read_within}
 use Rattle.im_page_pool.proofs.files.read_page.Goals as goal
 

@@ -2,7 +2,7 @@ use Rattle.std.proofs.Common.{◌≡◌, ◌≤◌, ℕ, true, inl, inr, refl, s
 use Rattle.std.specs.Prelude.{is_some, OnOk}
 use Rattle.im_base_types.specs.declared.file_id.FileId.TheVariants.{Pages}
 use Rattle.im_base_disk.specs.Disk.{Files}
-use Rattle.im_page_form.specs.PageFile.{page_count}
+use Rattle.im_theory_page.specs.PageFile.{page_count}
 use Rattle.im_page_table.specs.DirtyTable.{entry_in, has_room}
 use Rattle.im_page_table.proofs.Growing.{on_ok}
 use Rattle.im_page_writer.proofs.Goings.{leaves_then}

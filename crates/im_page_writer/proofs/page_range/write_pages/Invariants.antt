@@ -4,7 +4,7 @@ use Rattle.im_theory_log.specs.Histories.{Base}
 use Rattle.im_theory_log.specs.Writer.{Writer}
 use Rattle.im_base_disk.specs.Runs.{ChangesOnly, Costs}
 use Rattle.im_log.specs.declared.log_file.LogFile.{LogFile}
-use Rattle.im_page_form.specs.PageFile.{page_count}
+use Rattle.im_theory_page.specs.PageFile.{page_count}
 use Rattle.im_page_table.specs.DirtyTable.{has_room, written_in}
 use Rattle.im_page_writer.specs.Writing.{lsn_for, IsWriting, MayWriteHere, SameHeld, WritesTo}
 use Rattle.im_page_writer.proofs.page_range.write_pages.Given as goal

@@ -1,6 +1,7 @@
 use Rattle.std.proofs.Common.{rules, ◌≢◌, refl, inl}
 use Rattle.im_base_types.specs.declared.fault.Fault.TheVariants.{NotAStore}
 use Rattle.im_base_types.specs.declared.file_id.FileId.TheVariants.{Log, Pages}
+use Rattle.im_theory_log.specs.PageCounts.{first_count}
 use Rattle.im_page_writer.proofs.LoggedChanges.{err_on}
 use Rattle.im_page_writer.proofs.Outcomes.{sound_also, sound_on}
 use Rattle.im_theory_tree.specs.Theory.{page_tree}
@@ -20,7 +21,7 @@ pub returns-in_err-found-clause-kept : goal.returns-in_err-found-clause-kept
 returns-in_err-found-clause-kept g c b base all told may =
     let d = g.D.Disk in
     let old = c.args.disk.now in
-    let k = c.in_err-found.ensures.kept base all told may.has.log may.has.bare (lawful_taken b page_tree page_tree_laws all may.lawful) in
+    let k = c.in_err-found.ensures.kept base all told may.has.log may.has.bare (lawful_taken b page_tree first_count page_tree_laws may.counted all may.lawful) in
     record {
       sound = sound_on c.from_residual.result _ _ c.from_residual.ensures.1 k.cause;
       stops = left_opening d b base all old c.open_log.new.disk (g.met.D.Disk.only_now old) told (c.requires.synced Log) (c.requires.synced Pages) may k.stops c.in_err-found.ensures.reads;
@@ -31,7 +32,7 @@ returns-clause-kept g c b base all told may =
     let d = g.D.Disk in
     let old = c.args.disk.now in
     let mid = c.open_log.new.disk in
-    let k = c.in_ok-found.ensures.kept base all told may.has.log may.has.bare (lawful_taken b page_tree page_tree_laws all may.lawful) in
+    let k = c.in_ok-found.ensures.kept base all told may.has.log may.has.bare (lawful_taken b page_tree first_count page_tree_laws may.counted all may.lawful) in
     let opening = left_opening d b base all old mid (g.met.D.Disk.only_now old) told (c.requires.synced Log) (c.requires.synced Pages) may k.stops c.in_ok-found.ensures.reads in
     let behind = may_behind d b base all old mid c.in_ok-found.found.log may c.in_ok-found.ensures.changes k.ok.log in
     let r = c.restart.ensures.kept b base all behind (pages_synced d b base all old mid c.in_ok-found.ensures.changes (c.requires.synced Pages)) k.ok in

@@ -1,7 +1,7 @@
 use Rattle.std.proofs.Common.{◌≢◌, sym, ◌∙◌, ap, subst}
 use Rattle.im_base_types.specs.declared.fault.Fault.TheVariants.{NotAStore}
 use Rattle.im_base_types.specs.declared.file_id.FileId.TheVariants.{Pages}
-use Rattle.im_page_form.specs.PageFile.{file_page}
+use Rattle.im_theory_page.specs.PageFile.{file_page}
 use Rattle.im_restart_analysis.specs.CopyLsns.{AreCopies}
 use Rattle.im_restart_analysis.specs.OpenChange.{oldest_first}
 use Rattle.im_restart_redo.specs.Redo.{lsns_from}

@@ -1,4 +1,4 @@
-use Rattle.std.proofs.Common.{◌≡◌, ◌≢◌, ℕ, List, refl, ◌∙◌, ap, subst}
+use Rattle.std.proofs.Common.{◌≡◌, ◌≢◌, refl, ◌∙◌, ap, subst}
 use Rattle.im_base_types.specs.Records.{Unreadable}
 use Rattle.im_theory_log.specs.PageCounts.{count_in}
 use Rattle.im_log_record.specs.Entry.{Entry, Smo, UndoSmo, view, page_of}

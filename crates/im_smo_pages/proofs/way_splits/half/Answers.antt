@@ -1,7 +1,7 @@
 use Rattle.std.proofs.Common.{sym, ◌∙◌, subst, inl, inr, refl, ◌≡◌}
 use Rattle.im_base_types.specs.Keys.{Key, IsBelow}
-use Rattle.im_page_form.specs.Entry.{entry_at}
-use Rattle.im_page_form.proofs.Order.{below_from_greater, same_from_equal}
+use Rattle.im_theory_page.specs.Entry.{entry_at}
+use Rattle.im_theory_page.proofs.Order.{below_from_greater, same_from_equal}
 use Rattle.im_smo_pages.proofs.way_splits.half.Goals as goal
 
 pub returns-in-Equal : goal.returns-in-Equal

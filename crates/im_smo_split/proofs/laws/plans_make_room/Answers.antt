@@ -1,6 +1,6 @@
 use Rattle.std.proofs.Common.{◌≡◌, zero, true, [], sym, ap, ◌∙◌, subst}
 use Rattle.std.proofs.Math.Path.{fun_ext}
-use Rattle.im_page_form.specs.Split.{HasRoom}
+use Rattle.im_theory_page.specs.Split.{HasRoom}
 use Rattle.im_theory_tree.specs.Levels.{Pages, walk}
 use Rattle.im_theory_tree.specs.Good.{IsGoodTree}
 use Rattle.im_theory_tree.specs.Search.{IsOnWay}

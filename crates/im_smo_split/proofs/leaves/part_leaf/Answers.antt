@@ -13,4 +13,4 @@ returns-in_err-half-clause-sound c pages spare good way goes page_is above next 
     (ap (λ (f : Fault). Err f) fault)
 
 pub returns-clause-halves : goal.returns-clause-halves
-returns-clause-halves c = record { there = c.in_ok-half.ensures.there; goes = c.in_ok-half.ensures.goes }
+returns-clause-halves c = record { there = c.in_ok-half.ensures.there; part = c.in_ok-half.ensures.half; goes = c.in_ok-half.ensures.goes }

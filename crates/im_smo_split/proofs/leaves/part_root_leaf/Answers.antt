@@ -12,4 +12,4 @@ returns-in_err-half-clause-sound c leaf can e =
     c.in_err-half.ensures.sound (can (fits_leaf c.args.page.now.body leaf c.content.ensures.short c.content.ensures.fits)) (ap (λ (f : Fault). Err f) fault)
 
 pub returns-clause-halves : goal.returns-clause-halves
-returns-clause-halves c = record { there = c.in_ok-half.ensures.there; goes = c.in_ok-half.ensures.goes }
+returns-clause-halves c = record { there = c.in_ok-half.ensures.there; part = c.in_ok-half.ensures.half; goes = c.in_ok-half.ensures.goes }

@@ -34,6 +34,6 @@ returns-clause-kept g c store has turn above =
     sound_own c.part_leaf.result _ _ c.part_leaf.ensures.halves
     (not_refused c.part_leaf.result
     (c.part_leaf.ensures.sound (beneath store c.bring_both.new.images c.args.turn.page page c.rise.ensures page_is) [] can.good can.way can.child can.page can.above can.next can.leaf can.can))
-    (λ half halves. ended store c.args.key.now c.args.images.now c.part_leaf.new.images half
+    (λ half halves. ended store c.args.key.now c.args.images.now c.part_leaf.new.images half c.args.turn.page
     (leaf_ended store c.args.key.now (seen store c.args.images.now) c.bring_both.new.images c.rise.ensures c.args.turn.page c.args.turn.parent q page both.one.same page_is one
     c.image.new.images c.part_leaf.new.images half c.image.ensures.images halves))

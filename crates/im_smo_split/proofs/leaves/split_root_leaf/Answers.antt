@@ -28,5 +28,5 @@ returns-clause-kept g c store has turn =
     (not_refused c.part_root_leaf.result
     (c.part_root_leaf.ensures.sound (root_leaf store c.args.key.now c.args.images.now c.rise.ensures l r page page_is one)
     (can_part_root store c.args.key.now c.args.images.now c.rise.ensures l r page page_is one)))
-    (λ half halves. ended store c.args.key.now c.args.images.now c.part_root_leaf.new.images half
+    (λ half halves. ended store c.args.key.now c.args.images.now c.part_root_leaf.new.images half 1
     (root_ended store c.args.key.now c.args.images.now c.rise.ensures l r page page_is one c.image.new.images c.part_root_leaf.new.images half c.image.ensures.images halves))

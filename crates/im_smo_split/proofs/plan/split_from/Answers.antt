@@ -44,7 +44,7 @@ returns-clause-kept g c store has good top =
     let mid = c.take_pages.new.images in
     let numbers = c.in_ok-numbers.numbers.items in
     let one = c.in_ok-numbers.ensures.kept store (has_none store first c.new-images.ensures g.D.Disk has good) in
-    down_done store first c.new-images.ensures c.args.key.now c.args.top top mid numbers one c.split_down.new.images c.in_ok-leaf.leaf
+    down_done store first c.new-images.ensures c.args.key.now c.args.top top mid numbers one c.split_down.new.images c.in_ok-leaf.leaf good
     (c.in_ok-leaf.ensures.kept store
     (has_taken_all store first c.new-images.ensures c.args.key.now c.args.top top mid numbers one g.D.Disk (pages_still g.D.Disk has c.in_ok-numbers.ensures.outcome))
     (root_on store first c.new-images.ensures c.args.key.now c.args.top top mid numbers one)

@@ -1,6 +1,6 @@
 use Rattle.std.proofs.Common.{◌≤◌, ◌<◌, ◌+◌, ◌-◌, ℕ}
-use Rattle.im_page_form.specs.Entry.{taken, width}
-use Rattle.im_page_form.specs.Page.{is_leaf_kind}
+use Rattle.im_theory_page.specs.Entry.{taken, width}
+use Rattle.im_theory_page.specs.Page.{is_leaf_kind}
 use Rattle.im_smo_split.proofs.reading.key_room.Given as goal
 
 abbrev pub invariant-loop-low : goal.invariant-loop-low

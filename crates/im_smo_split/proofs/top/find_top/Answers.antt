@@ -1,10 +1,8 @@
 use Rattle.std.proofs.Common.{◌≡◌, ℕ, [], length, true, ap, sym, ◌∙◌, subst, arith}
 use Rattle.im_base_types.specs.Pages.{Body, Page}
-use Rattle.im_page_form.specs.Page.{is_leaf_kind}
-use Rattle.im_page_pool.specs.Pool.{page_at}
+use Rattle.im_theory_page.specs.Page.{is_leaf_kind}
 use Rattle.im_page_writer.proofs.Outcomes.{held_is, pages_still, sound_on, then}
 use Rattle.im_theory_tree.specs.Levels.{height}
-use Rattle.im_tree_search.specs.Found.{HasTree}
 use Rattle.im_tree_search.specs.Levels.{kind_at}
 use Rattle.im_smo_alloc.specs.Seen.{bodies}
 use Rattle.im_smo_split.specs.Readings.{IsRoom}

@@ -1,11 +1,10 @@
 use Rattle.std.proofs.Common.{◌≡◌, ℕ, ◌-◌, Bool, false, suc, ap, sym, ◌∙◌, subst, arith}
 use Rattle.im_base_types.specs.Pages.{Body, Page}
-use Rattle.im_page_form.specs.Child.{IsChild}
-use Rattle.im_page_form.specs.Page.{is_leaf_kind}
+use Rattle.im_theory_page.specs.Child.{IsChild}
+use Rattle.im_theory_page.specs.Page.{is_leaf_kind}
 use Rattle.im_page_pool.specs.declared.frame.Frame.{Frame}
 use Rattle.im_page_pool.specs.Pool.{page_at}
 use Rattle.im_page_writer.proofs.Outcomes.{held_is, sound_on}
-use Rattle.im_theory_tree.specs.Search.{IsOnWay}
 use Rattle.im_theory_tree.specs.KeySplits.{is_leaf_level}
 use Rattle.im_tree_search.specs.Levels.{kind_at}
 use Rattle.im_tree_search.proofs.Steps.{way_level, step_level}

@@ -1,6 +1,7 @@
-use Rattle.std.proofs.Common.{sym, subst, ap}
+use Rattle.std.proofs.Common.{zero, sym, subst, ap}
 use Rattle.im_page_writer.proofs.Outcomes.{sound_on}
 use Rattle.im_theory_tree.specs.Levels.{Pages, walk}
+use Rattle.im_theory_tree.specs.Search.{IsOnWay}
 use Rattle.im_smo_split.specs.Pages.{newest_first}
 use Rattle.im_smo_split.specs.Turns.{IsTurn}
 use Rattle.im_smo_split.proofs.turns.first_turn.Goals as goal
@@ -18,4 +19,5 @@ returns-clause-kept g c store has root under =
       turn_is = subst (λ (pages : Pages). IsTurn pages (newest_first c.args.numbers.now.items) c.args.key.now c.args.top.level c.args.top.parent c.args.top.page) (sym one.same) (under c.if-top.false);
       parent = one.there;
       same = ap walk one.same;
+      ways = λ k q to all. subst (λ (pages : Pages). IsOnWay pages zero k q) (sym one.same) to;
     }

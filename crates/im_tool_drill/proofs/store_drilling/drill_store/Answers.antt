@@ -3,7 +3,7 @@ use Rattle.std.proofs.lemmas.Grind.{common_steps}
 use Rattle.std.proofs.lemmas.List.{take_more}
 use Rattle.im_base_types.specs.Lives.{Lives}
 use Rattle.im_base_model_disk.specs.contracts.model_disk.ModelDiskDisk.TheImpl.{ghosts}
-use Rattle.im_base_disk.specs.Disk.{Files, both}
+use Rattle.im_base_disk.specs.Disk.{Files, three}
 use Rattle.im_engine.specs.Stands.{StandsFor}
 use Rattle.im_tool_lines.specs.declared.store_life.StoreLife.{StoreLife}
 use Rattle.im_tool_answers.specs.declared.store_answers.StoreAnswers.{StoreAnswers}
@@ -15,14 +15,15 @@ use Rattle.im_tool_drill.proofs.store_drilling.drill_store.Goals as goal
 
 pub loop-life-init : goal.loop-life-init
 loop-life-init c = record {
-  working = c.new-disk.ensures.working;
-  synced = c.new-disk.ensures.synced;
-  run = subst (λ (l : List StoreAnswers). AreLivesRun ghosts [] l c.new-disk.result c.new-disk.result) (sym c.new-lives.ensures.items) refl;
+  working = c.with_log2-disk.ensures.working;
+  synced = c.with_log2-disk.ensures.synced;
+  run = subst (λ (l : List StoreAnswers). AreLivesRun ghosts [] l c.with_log2-disk.result c.with_log2-disk.result) (sym c.new-lives.ensures.items) refl;
   answered = subst (λ (l : List StoreAnswers). EachStoreAnswered [] l) (sym c.new-lives.ensures.items) tt;
   kept = λ before stands.
       let log = c.in_ok-log.ensures.items ∙ c.deref.ensures.value in
       let pages = c.in_ok-pages.ensures.items ∙ c.deref-2.ensures.value in
-      let seen = c.new-disk.ensures.seen ∙ ap (λ (l : List ℕ). both l c.in_ok-pages.pages.items) log ∙ ap (λ (l : List ℕ). both c.args.script.now.log.items l) pages in (
+      let log2 = c.in_ok-log2.ensures.items ∙ c.deref-3.ensures.value in
+      let seen = c.with_log2-disk.ensures.seen ∙ ap (λ (l : List ℕ). three l c.in_ok-pages.pages.items c.in_ok-log2.log2.items) log ∙ ap (λ (l : List ℕ). three c.args.script.now.log.items l c.in_ok-log2.log2.items) pages ∙ ap (λ (l : List ℕ). three c.args.script.now.log.items c.args.script.now.pages.items l) log2 in (
         before,
         subst (λ (s : Files). StandsFor before s) (sym seen) stands,
         subst (λ (l : List StoreAnswers). Lives before (asked_in_each [] l) before) (sym c.new-lives.ensures.items) refl,
@@ -41,9 +42,9 @@ loop-life-preserved c =
       working = c.in-Ok.ensures.working;
       synced = c.in-Ok.ensures.synced;
       run =
-          subst (λ (l : List StoreLife). AreLivesRun ghosts l c.push.new.self.items c.new-disk.result c.in-Ok.left) (sym more)
-          (subst (λ (l : List StoreAnswers). AreLivesRun ghosts (take i all ++ c.life-item.result ∷ []) l c.new-disk.result c.in-Ok.left) (sym c.in_ok-push.ensures.items)
-          (lives_run_push ghosts (take i all) c.loop-life.lives.items c.life-item.result c.in_ok-told.told c.new-disk.result c.loop-life.disk c.in_ok-told.after c.in-Ok.left c.loop-life.invariant.run c.in_ok-told.ensures.run
+          subst (λ (l : List StoreLife). AreLivesRun ghosts l c.push.new.self.items c.with_log2-disk.result c.in-Ok.left) (sym more)
+          (subst (λ (l : List StoreAnswers). AreLivesRun ghosts (take i all ++ c.life-item.result ∷ []) l c.with_log2-disk.result c.in-Ok.left) (sym c.in_ok-push.ensures.items)
+          (lives_run_push ghosts (take i all) c.loop-life.lives.items c.life-item.result c.in_ok-told.told c.with_log2-disk.result c.loop-life.disk c.in_ok-told.after c.in-Ok.left c.loop-life.invariant.run c.in_ok-told.ensures.run
           (record { bytes = c.in-Ok.ensures.bytes; fresh = c.in-Ok.ensures.fresh })));
       answered =
           subst (λ (l : List StoreLife). EachStoreAnswered l c.push.new.self.items) (sym more)
@@ -80,11 +81,12 @@ returns-clause-run c =
     let all : take c.loop-life.life-index c.args.script.now.lives.items ≡ c.args.script.now.lives.items = grind (arith, common_steps) in
     let log = c.in_ok-log.ensures.items ∙ c.deref.ensures.value in
     let pages = c.in_ok-pages.ensures.items ∙ c.deref-2.ensures.value in
+    let log2 = c.in_ok-log2.ensures.items ∙ c.deref-3.ensures.value in
     record {
-      first = c.new-disk.result;
-      fresh = c.new-disk.ensures.fresh;
-      seen = c.new-disk.ensures.seen ∙ ap (λ (l : List ℕ). both l c.in_ok-pages.pages.items) log ∙ ap (λ (l : List ℕ). both c.args.script.now.log.items l) pages;
+      first = c.with_log2-disk.result;
+      fresh = c.with_log2-disk.ensures.fresh;
+      seen = c.with_log2-disk.ensures.seen ∙ ap (λ (l : List ℕ). three l c.in_ok-pages.pages.items c.in_ok-log2.log2.items) log ∙ ap (λ (l : List ℕ). three c.args.script.now.log.items l c.in_ok-log2.log2.items) pages ∙ ap (λ (l : List ℕ). three c.args.script.now.log.items c.args.script.now.pages.items l) log2;
       end = c.loop-life.disk;
-      lives = subst (λ (l : List StoreLife). AreLivesRun ghosts l c.loop-life.lives.items c.new-disk.result c.loop-life.disk) all c.loop-life.invariant.run;
+      lives = subst (λ (l : List StoreLife). AreLivesRun ghosts l c.loop-life.lives.items c.with_log2-disk.result c.loop-life.disk) all c.loop-life.invariant.run;
       last = c.last_entries-last.ensures.run;
     }

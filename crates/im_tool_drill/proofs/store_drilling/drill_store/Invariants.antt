@@ -2,7 +2,7 @@ use Rattle.std.proofs.Common.{◌≡◌, List, false, take}
 use Rattle.im_base_types.specs.Changes.{Effect}
 use Rattle.im_base_types.specs.Lives.{Lives}
 use Rattle.im_base_model_disk.specs.contracts.model_disk.ModelDiskDisk.TheImpl.{ghosts}
-use Rattle.im_base_disk.specs.Disk.{both}
+use Rattle.im_base_disk.specs.Disk.{three}
 use Rattle.im_base_disk.specs.Runs.{IsSynced}
 use Rattle.im_engine.specs.Stands.{StandsFor}
 use Rattle.im_tool_answers.specs.StoreShown.{asked_in_each, EachStoreAnswered, AreStores}
@@ -16,7 +16,7 @@ invariant-loop-life l = record {
   synced : IsSynced ghosts l.disk;
   run : AreLivesRun ghosts (take l.life-index l.script.lives.items) l.lives.items l.initial.disk l.disk;
   answered : EachStoreAnswered (take l.life-index l.script.lives.items) l.lives.items;
-  kept : (before : List Effect) → StandsFor before (both l.script.log.items l.script.pages.items)
+  kept : (before : List Effect) → StandsFor before (three l.script.log.items l.script.pages.items l.script.log2.items)
       → (mid : List Effect) × StandsFor mid (ghosts.seen l.disk) × Lives before (asked_in_each (take l.life-index l.script.lives.items) l.lives.items) mid;
-  stores : (before : List Effect) → StandsFor before (both l.script.log.items l.script.pages.items) → AreStores l.lives.items;
+  stores : (before : List Effect) → StandsFor before (three l.script.log.items l.script.pages.items l.script.log2.items) → AreStores l.lives.items;
 }

@@ -1,15 +1,15 @@
 use Rattle.std.proofs.Common.{refl}
-use Rattle.im_tool_judge.proofs.Shows.{found_change, found_died, found_turned, found_waited}
+use Rattle.im_tool_judge.proofs.Shows.{found_change, found_goes_on, found_insert_ended, found_delete_ended, found_died, found_turned, found_waited}
 use Rattle.im_tool_judge.proofs.showing.behind.Goals as goal
 
 pub returns-in_ok-push-in-Changed : goal.returns-in_ok-push-in-Changed
-returns-in_ok-push-in-Changed c r found = found_change c.args.found _ r c.args.what.now _ _ c.in-Changed.is found refl c.in_ok-push-in-Changed.ensures.items c.in_ok-copied-in-Changed.ensures
+returns-in_ok-push-in-Changed c r found = found_change c.args.found _ r c.args.what.now _ _ c.in-Changed.is found refl refl c.in_ok-push-in-Changed.ensures.items c.in_ok-copied-in-Changed.ensures
 
 pub returns-in-Died : goal.returns-in-Died
-returns-in-Died c r found = found_died c.args.found _ r c.args.what.now c.in-Died.is found c.stopped.ensures.going c.stopped.ensures.changes
+returns-in-Died c r found = found_died c.args.found _ r c.args.what.now c.in-Died.is found c.stopped.ensures.going c.stopped.ensures.changes c.stopped.ensures.pending
 
 pub returns-in-Turned : goal.returns-in-Turned
-returns-in-Turned c r found = found_turned c.args.found _ r c.args.what.now c.in-Turned.is found c.stopped-in-Turned.ensures.going c.stopped-in-Turned.ensures.changes
+returns-in-Turned c r found = found_turned c.args.found _ r c.args.what.now c.in-Turned.is found c.stopped-in-Turned.ensures.going c.stopped-in-Turned.ensures.changes c.stopped-in-Turned.ensures.pending
 
 pub returns-in-Waited : goal.returns-in-Waited
-returns-in-Waited c r found = found_waited c.args.found _ r c.args.what.now c.in-Waited.is found c.stopped-in-Waited.ensures.going c.stopped-in-Waited.ensures.changes
+returns-in-Waited c r found = found_waited c.args.found _ r c.args.what.now c.in-Waited.is found c.stopped-in-Waited.ensures.going c.stopped-in-Waited.ensures.changes c.stopped-in-Waited.ensures.pending

@@ -1,6 +1,6 @@
 use Rattle.std.proofs.Common.{◌-◌, ◌∙◌, subst}
 use Rattle.im_base_types.specs.Pages.{Page}
-use Rattle.im_page_form.specs.Child.{IsChild}
+use Rattle.im_theory_page.specs.Child.{IsChild}
 use Rattle.im_page_writer.proofs.Outcomes.{held_is}
 use Rattle.im_tree_search.specs.Levels.{bodies_of}
 use Rattle.im_tree_search.proofs.Steps.{way_level, step_level, reached_got}

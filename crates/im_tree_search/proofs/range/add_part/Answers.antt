@@ -1,6 +1,6 @@
 use Rattle.std.proofs.Common.{◌≡◌, ◌≤◌, ◌<◌, ◌+◌, ◌++◌, [], ◌∷◌, List, sym, ◌∙◌, ap, subst, arith, append_assoc, rules}
 use Rattle.im_base_types.specs.Pages.{Entry}
-use Rattle.im_page_form.specs.Entry.{entry_at}
+use Rattle.im_theory_page.specs.Entry.{entry_at}
 use Rattle.im_tree_search.specs.declared.next_key.NextKey.{NextKey}
 use Rattle.im_tree_search.specs.NextKeys.{far_name, IsFar}
 use Rattle.im_tree_search.proofs.Ranges.{Taken, part_full, part_whole, taken_more}

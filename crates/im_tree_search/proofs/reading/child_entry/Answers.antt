@@ -1,5 +1,5 @@
 use Rattle.std.proofs.Common.{arith, ◌≤◌}
-use Rattle.im_page_form.proofs.ChildLemmas.{child_found, child_before}
+use Rattle.im_theory_page.proofs.ChildLemmas.{child_found, child_before}
 use Rattle.im_tree_search.proofs.reading.child_entry.Goals as goal
 
 pub returns-in-Ok-clause-entry : goal.returns-in-Ok-clause-entry

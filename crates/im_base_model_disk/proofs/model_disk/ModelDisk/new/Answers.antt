@@ -1,9 +1,6 @@
-use Rattle.std.proofs.Common.{◌∙◌, sym, ap, length}
-use Rattle.im_base_model_disk.proofs.Synced.{synced_both}
+use Rattle.std.proofs.Common.{◌∙◌, ap, List, ℕ}
+use Rattle.im_base_disk.specs.Disk.{three}
 use Rattle.im_base_model_disk.proofs.model_disk.ModelDisk.new.Goals as goal
 
-pub returns-clause-synced : goal.returns-clause-synced
-returns-clause-synced c =
-    let l = c.new.ensures in
-    let p = c.new-2.ensures in
-    λ file f left. synced_both c.new.result c.new-2.result (l.synced ∙ sym (ap length l.bytes)) l.written (p.synced ∙ sym (ap length p.bytes)) p.written f left file
+pub returns-clause-seen : goal.returns-clause-seen
+returns-clause-seen c = c.with_log2.ensures.seen ∙ ap (λ (l : List ℕ). three c.args.log.items c.args.pages.items l) c.new-log2.ensures.items

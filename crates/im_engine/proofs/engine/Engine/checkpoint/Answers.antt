@@ -7,9 +7,9 @@ use Rattle.im_log.specs.LogFile.{end_with}
 use Rattle.im_page_writer.specs.Checkpoints.{CheckpointKept}
 use Rattle.im_page_table.specs.DirtyTable.{dirty_pages, synced_entries}
 use Rattle.im_page_writer.specs.Outcome.{none_mild}
-use Rattle.im_engine_txn.specs.declared.transaction.Transaction.{Transaction}
+use Rattle.im_base_txn.specs.declared.transaction.Transaction.{Transaction}
 use Rattle.im_engine_checkpoint.specs.Rows.{listed}
-use Rattle.im_front.specs.declared.reply.Reply.TheVariants as replies
+use Rattle.im_base_steps.specs.declared.reply.Reply.TheVariants as replies
 use Rattle.im_engine.proofs.Ending.{of_log}
 use Rattle.im_engine.proofs.Forcing.{checkpointed, checkpoint_refused}
 use Rattle.im_engine.proofs.Telling.{not_true, told_answered, told_refused, log_ends, log_lost}
@@ -28,7 +28,7 @@ returns-in-Ok g c =
           (subst (λ (rows : List Transaction). CheckpointKept g.D.Disk b r.base r.now c.next.result (listed rows) dirty old.disk c.take.new.writer c.take.new.disk (Ok c.in-Ok._lsn)) c.table.ensures.rows
           (c.in-Ok.ensures.kept b r.base r.now r.redo_end r.stands r.over)) in
           checkpointed g.D.Disk before s v old _ life c.requires.works dirty c.in-Ok._lsn kept.ok kept.stops refl refl refl;
-      told = told_answered g.D.Disk old _ c.requires.works refl refl replies.Done (λ k. refl) refl tt refl refl c.in-Ok.ensures.outcome.ends.alive;
+      told = told_answered g.D.Disk old _ c.requires.works refl refl replies.Done (λ k. refl) refl refl tt refl refl c.in-Ok.ensures.outcome.ends.alive;
       answered =
           let fits = subst (λ (n : ℕ). end_with old.writer.log (size_of (Checkpoint n (listed old.txns.rows) dirty)) ≤ 2 ^ 62) c.next.ensures
           (subst (λ (rows : List Transaction). end_with old.writer.log (size_of (Checkpoint c.next.result (listed rows) dirty)) ≤ 2 ^ 62) c.table.ensures.rows c.in-Ok.ensures.fits) in
@@ -56,7 +56,7 @@ returns-in-Err g c =
           let of = of_log g.D.Disk old.writer old.disk c.take.new.writer c.take.new.disk (old.working c.requires.works) c.in-Err.fault c.in-Err.ensures.outcome.ends in
           checkpoint_refused g.D.Disk before s v old _ life c.requires.works dirty c.in-Err.fault of c.told.result c.told.ensures refl kept.stops (λ t f le left. g.met.D.Disk.counts_now c.take.new.disk t f le left);
       told =
-          told_refused g.D.Disk old _ c.requires.works refl refl c.in-Err.fault c.told.result c.told.ensures (log_ends g.D.Disk old.writer old.disk c.take.new.writer c.take.new.disk c.in-Err.fault ends) refl
+          told_refused g.D.Disk old _ c.requires.works refl refl c.in-Err.fault c.told.result c.told.ensures (log_ends g.D.Disk old.writer old.disk c.take.new.writer c.take.new.disk c.in-Err.fault ends) refl (λ _ u. refl)
           (λ lost. log_lost g.D.Disk old.writer old.disk c.take.new.writer c.take.new.disk lost none_mild c.in-Err.fault ends (old.working c.requires.works));
       answered =
           behind g.D.Disk old c.take.new.writer.log c.take.new.disk c.requires.works answers.Checkpoint (replies.Refused c.told.result) refl

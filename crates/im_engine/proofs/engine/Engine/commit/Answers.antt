@@ -7,7 +7,7 @@ use Rattle.im_engine.proofs.Checked.{commit_mark}
 use Rattle.im_engine.proofs.Running.{covered_stops}
 use Rattle.im_engine.proofs.Ending.{of_log, cut_leaves, ended, commit_stops, committed_on, commit_refused}
 use Rattle.im_page_writer.specs.Outcome.{none_mild}
-use Rattle.im_front.specs.declared.reply.Reply.TheVariants as replies
+use Rattle.im_base_steps.specs.declared.reply.Reply.TheVariants as replies
 use Rattle.im_engine.proofs.Telling.{alive_now, not_true, told_committed, told_refused, log_lost, log_ends}
 use Rattle.im_engine.proofs.Causes.{append_cause, force_cause, commit_empty, commit_made, commit_append, commit_lost, logged, unlogged}
 use Rattle.im_base_disk.proofs.Costs.{forces_by, forces_none, most_as, most_none, most_then}
@@ -54,7 +54,7 @@ returns-in-Err g c =
           (cut_leaves g.D.Disk before s c.args.t old.disk c.log_only.new.disk (covered_stops g.D.Disk before s v old r c.log_only.new.disk kept.stops))
           (λ t f le left. g.met.D.Disk.counts_now c.log_only.new.disk t f le left);
       told =
-          told_refused g.D.Disk old _ c.requires.works refl refl c.in-Err.fault c.told.result c.told.ensures (log_ends g.D.Disk old.writer old.disk c.log_only.new.self c.log_only.new.disk c.in-Err.fault ends) refl
+          told_refused g.D.Disk old _ c.requires.works refl refl c.in-Err.fault c.told.result c.told.ensures (log_ends g.D.Disk old.writer old.disk c.log_only.new.self c.log_only.new.disk c.in-Err.fault ends) refl (λ _ u. refl)
           (λ lost. log_lost g.D.Disk old.writer old.disk c.log_only.new.self c.log_only.new.disk lost none_mild c.in-Err.fault ends (old.working c.requires.works));
       answered =
           commit_append g.D.Disk old c.log_only.new.self.log c.log_only.new.disk c.requires.works c.args.t c.in-Some.row found c.requires.checked (omega (arith, c.if-row-eq0.false)) c.in-Err.fault c.told.result c.told.ensures
@@ -93,7 +93,7 @@ returns-in-Err-force g c =
           c.force.new.disk logged.stops forced.stops)
           (λ t f le left. g.met.D.Disk.counts_now c.force.new.disk t f le left);
       told =
-          told_refused g.D.Disk old _ c.requires.works refl refl c.in-Err-force.fault c.told-in-Err-force.result c.told-in-Err-force.ensures (log_ends g.D.Disk c.log_only.new.self c.log_only.new.disk c.force.new.self c.force.new.disk c.in-Err-force.fault ends) refl
+          told_refused g.D.Disk old _ c.requires.works refl refl c.in-Err-force.fault c.told-in-Err-force.result c.told-in-Err-force.ensures (log_ends g.D.Disk c.log_only.new.self c.log_only.new.disk c.force.new.self c.force.new.disk c.in-Err-force.fault ends) refl (λ _ u. refl)
           (λ lost. log_lost g.D.Disk c.log_only.new.self c.log_only.new.disk c.force.new.self c.force.new.disk lost none_mild c.in-Err-force.fault ends works);
       answered =
           commit_lost g.D.Disk old c.force.new.self.log c.force.new.disk c.requires.works c.args.t c.in-Some.row found c.requires.checked (omega (arith, c.if-row-eq0.false)) c.told-in-Err-force.result (c.told-in-Err-force.ensures ∙ cause.0)

@@ -2,15 +2,15 @@ use Rattle.std.proofs.Common.{ℕ, ◌≤◌, refl, sym, subst, ap, ◌∙◌, l
 use Rattle.std.proofs.lemmas.List.{length-map}
 use Rattle.im_base_types.specs.Answers as answers
 use Rattle.im_page_writer.specs.Outcome.{mild}
-use Rattle.im_engine_txn.specs.Rows.{changed, with_mark, with_record}
-use Rattle.im_engine_txn.specs.declared.transaction.Mark.TheVariants.{MustRollBack}
-use Rattle.im_front.specs.declared.reply.Blocker.TheVariants.{Lock}
-use Rattle.im_front.specs.declared.reply.Reply.TheVariants as replies
+use Rattle.im_base_txn.specs.Rows.{changed, with_mark, with_record}
+use Rattle.im_base_txn.specs.declared.transaction.Mark.TheVariants.{MustRollBack}
+use Rattle.im_base_steps.specs.declared.reply.Blocker.TheVariants.{Lock}
+use Rattle.im_base_steps.specs.declared.reply.Reply.TheVariants as replies
 use Rattle.im_engine.specs.Numbered.{Numbered}
 use Rattle.im_engine.specs.Told.{DeleteCause}
 use Rattle.im_engine.proofs.Causes.{behind, delete_cause, not_refused_for, refused_for}
-use Rattle.im_engine.proofs.Telling.{late_lost, told_answered, told_refused}
-use Rattle.im_engine_txn.proofs.LookUps.{look_ups_follow}
+use Rattle.im_engine.proofs.Telling.{late_lost, told_answered, told_refused, delete_table}
+use Rattle.im_base_txn.proofs.LookUps.{look_ups_follow}
 use Rattle.im_engine.proofs.Deleting.{delete_absent, delete_dies, delete_made, delete_refused, delete_waits, delete_wants}
 use Rattle.im_engine.proofs.engine.Engine.delete.Goals as goal
 
@@ -25,7 +25,7 @@ returns-in-Some-found g c =
           let r = (life.running c.requires.works).1 in
           delete_made g.D.Disk old c.args.t c.args.key.now c.in-Some.row (sym c.in-Some.ensures.found) c.requires.checked _ before s v r c.in-Ok-Granted.field-0 c.in-Ok-Granted.ensures.kept c.in-Ok-Granted.found c.in-Ok-Granted.field-0-is
           c.in-Some-found.taken c.in-Some-found.is c.note_record.ensures refl;
-      told = told_answered g.D.Disk old _ c.requires.works (ap (λ (x : Numbered). x.next) c.note_record.ensures) refl replies.Deleted (λ k. refl) refl tt refl
+      told = told_answered g.D.Disk old _ c.requires.works (ap (λ (x : Numbered). x.next) c.note_record.ensures) refl replies.Deleted (λ k. refl) refl refl tt refl
           (ap (λ (x : Numbered). length x.rows) c.note_record.ensures ∙ length-map old.txns.rows (changed c.args.t (with_record c.in-Some-found.taken.last c.in-Some-found.taken.undo_next))) c.in-Ok-Granted.ensures.outcome.ends.alive;
       answered = behind g.D.Disk old c.delete.new.writer.log c.delete.new.disk c.requires.works (answers.Do c.args.t (answers.Delete c.args.key.now)) replies.Deleted c.requires.checked
           (λ fault. not_refused_for g.D.Disk old c.delete.new.writer.log c.delete.new.disk c.requires.works (DeleteCause g.D.Disk c.delete.new.writer.log c.delete.new.disk) replies.Deleted (λ x e. cc e) fault);
@@ -44,7 +44,7 @@ returns-in-None g c =
           let r = (life.running c.requires.works).1 in
           delete_absent g.D.Disk old c.args.t c.args.key.now c.in-Some.row (sym c.in-Some.ensures.found) c.requires.checked _ before s v r c.in-Ok-Granted.field-0 c.in-Ok-Granted.ensures.kept c.in-Ok-Granted.found c.in-Ok-Granted.field-0-is
           c.in-None.is refl refl;
-      told = told_answered g.D.Disk old _ c.requires.works refl refl replies.Absent (λ k. refl) refl tt refl refl c.in-Ok-Granted.ensures.outcome.ends.alive;
+      told = told_answered g.D.Disk old _ c.requires.works refl refl replies.Absent (λ k. refl) refl refl tt refl refl c.in-Ok-Granted.ensures.outcome.ends.alive;
       answered = behind g.D.Disk old c.delete.new.writer.log c.delete.new.disk c.requires.works (answers.Do c.args.t (answers.Delete c.args.key.now)) replies.Absent c.requires.checked
           (λ fault. not_refused_for g.D.Disk old c.delete.new.writer.log c.delete.new.disk c.requires.works (DeleteCause g.D.Disk c.delete.new.writer.log c.delete.new.disk) replies.Absent (λ x e. cc e) fault);
       suits = search rules;
@@ -61,7 +61,7 @@ returns-in-Ok-Wait g c =
       kept = λ before s v life.
           let r = (life.running c.requires.works).1 in
           delete_waits g.D.Disk old c.args.t c.args.key.now c.in-Some.row (sym c.in-Some.ensures.found) c.requires.checked _ before s v r c.in-Ok-Wait.field-0 c.in-Ok-Wait.ensures.kept c.in-Ok-Wait.holder c.in-Ok-Wait.field-0-is refl refl;
-      told = told_answered g.D.Disk old _ c.requires.works refl refl (replies.Blocked (Lock c.in-Ok-Wait.holder)) (λ k. refl) refl tt refl refl c.in-Ok-Wait.ensures.outcome.ends.alive;
+      told = told_answered g.D.Disk old _ c.requires.works refl refl (replies.Blocked (Lock c.in-Ok-Wait.holder)) (λ k. refl) refl refl tt refl refl c.in-Ok-Wait.ensures.outcome.ends.alive;
       answered = behind g.D.Disk old c.delete.new.writer.log c.delete.new.disk c.requires.works (answers.Do c.args.t (answers.Delete c.args.key.now)) (replies.Blocked (Lock c.in-Ok-Wait.holder)) c.requires.checked
           (λ fault. not_refused_for g.D.Disk old c.delete.new.writer.log c.delete.new.disk c.requires.works (DeleteCause g.D.Disk c.delete.new.writer.log c.delete.new.disk) (replies.Blocked (Lock c.in-Ok-Wait.holder)) (λ x e. cc e) fault);
       suits = search rules;
@@ -78,7 +78,7 @@ returns-in-Ok-Die g c =
       kept = λ before s v life.
           let r = (life.running c.requires.works).1 in
           delete_dies g.D.Disk old c.args.t c.args.key.now c.in-Some.row (sym c.in-Some.ensures.found) c.requires.checked _ before s v r c.in-Ok-Die.field-0 c.in-Ok-Die.ensures.kept c.in-Ok-Die.field-0-is c.set_mark.ensures refl;
-      told = told_answered g.D.Disk old _ c.requires.works (ap (λ (x : Numbered). x.next) c.set_mark.ensures) refl replies.Die (λ k. refl) refl tt refl
+      told = told_answered g.D.Disk old _ c.requires.works (ap (λ (x : Numbered). x.next) c.set_mark.ensures) refl replies.Die (λ k. refl) refl refl tt refl
           (ap (λ (x : Numbered). length x.rows) c.set_mark.ensures ∙ length-map old.txns.rows (changed c.args.t (with_mark MustRollBack))) c.in-Ok-Die.ensures.outcome.ends.alive;
       answered = behind g.D.Disk old c.delete.new.writer.log c.delete.new.disk c.requires.works (answers.Do c.args.t (answers.Delete c.args.key.now)) replies.Die c.requires.checked
           (λ fault. not_refused_for g.D.Disk old c.delete.new.writer.log c.delete.new.disk c.requires.works (DeleteCause g.D.Disk c.delete.new.writer.log c.delete.new.disk) replies.Die (λ x e. cc e) fault);
@@ -97,7 +97,7 @@ returns-in-Err g c =
       kept = λ before s v life.
           delete_refused g.D.Disk old c.args.t c.args.key.now c.in-Some.row found c.requires.checked _ before s v life c.requires.works (λ u f le left. g.met.D.Disk.counts_now c.delete.new.disk u f le left) c.in-Err.fault
           c.in-Err.ensures.kept c.in-Err.ensures.outcome.ends c.breaks-self.ensures refl c.in-Err.ensures.table c.told.result c.told.ensures;
-      told = told_refused g.D.Disk old _ c.requires.works refl refl c.in-Err.fault c.told.result c.told.ensures c.breaks-self.ensures refl (λ lost. late_lost g.D.Disk old.writer old.disk c.delete.new.writer c.delete.new.disk lost mild c.in-Err.fault c.in-Err.ensures.outcome.ends);
+      told = told_refused g.D.Disk old _ c.requires.works refl refl c.in-Err.fault c.told.result c.told.ensures c.breaks-self.ensures refl (delete_table g.D.Disk old.writer old.disk c.delete.new.writer c.delete.new.disk c.in-Err.fault c.in-Err.ensures.outcome.ends old.locks c.delete.new.locks c.in-Err.ensures.table) (λ lost. late_lost g.D.Disk old.writer old.disk c.delete.new.writer c.delete.new.disk lost mild c.in-Err.fault c.in-Err.ensures.outcome.ends);
       answered = behind g.D.Disk old c.delete.new.writer.log c.delete.new.disk c.requires.works (answers.Do c.args.t (answers.Delete c.args.key.now)) (replies.Refused c.told.result) c.requires.checked
           (λ fault. refused_for g.D.Disk old c.delete.new.writer.log c.delete.new.disk c.requires.works (DeleteCause g.D.Disk c.delete.new.writer.log c.delete.new.disk) c.in-Err.fault c.told.result c.told.ensures
           (delete_cause g.D.Disk old.writer old.disk c.delete.new.writer c.delete.new.disk c.in-Err.fault c.in-Err.ensures.outcome.ends) fault);

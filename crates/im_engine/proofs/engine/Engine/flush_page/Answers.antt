@@ -2,7 +2,7 @@ use Rattle.std.proofs.Common.{refl, rules}
 use Rattle.im_engine.proofs.Ending.{flushed, flush_refused}
 use Rattle.im_base_types.specs.Answers as answers
 use Rattle.im_page_pool.specs.Pool.{is_changed}
-use Rattle.im_front.specs.declared.reply.Reply.TheVariants as replies
+use Rattle.im_base_steps.specs.declared.reply.Reply.TheVariants as replies
 use Rattle.im_engine.proofs.Telling.{told_answered, told_refused, flush_lost, flush_ends, still_false}
 use Rattle.im_engine.specs.Told.{FlushCause}
 use Rattle.im_engine.proofs.Causes.{behind, refused_for, not_refused_for, flush_cause}
@@ -16,7 +16,7 @@ returns-in-Ok g c =
           let b = (life.running c.requires.works).0 in
           let r = (life.running c.requires.works).1 in
           flushed g.D.Disk before s v old _ life c.requires.works c.args.page c.in-Ok.ensures.outcome (c.in-Ok.ensures.kept b r.base r.now r.stands) refl refl refl;
-      told = told_answered g.D.Disk old _ c.requires.works refl refl replies.Done (λ k. refl) refl tt refl refl c.in-Ok.ensures.outcome.ends.alive;
+      told = told_answered g.D.Disk old _ c.requires.works refl refl replies.Done (λ k. refl) refl refl tt refl refl c.in-Ok.ensures.outcome.ends.alive;
       answered = behind g.D.Disk old c.flush_one.new.self.log c.flush_one.new.disk c.requires.works (answers.FlushPage c.args.page) replies.Done refl (λ fault. not_refused_for g.D.Disk old c.flush_one.new.self.log c.flush_one.new.disk c.requires.works (FlushCause g.D.Disk c.flush_one.new.self.log c.flush_one.new.disk) replies.Done (λ x e. cc e) fault);
       suits = search rules;
       frames = search rules;
@@ -32,7 +32,7 @@ returns-in-Err g c =
     record {
       kept = λ before s v life. flush_refused g.D.Disk before s v old _ life c.requires.works c.args.page c.in-Err.fault c.in-Err.ensures.outcome c.told.result c.told.ensures refl (λ t f le left. g.met.D.Disk.counts_now c.flush_one.new.disk t f le left);
       told =
-          told_refused g.D.Disk old _ c.requires.works refl refl c.in-Err.fault c.told.result c.told.ensures (flush_ends g.D.Disk old.writer old.disk c.flush_one.new.self c.flush_one.new.disk c.in-Err.fault ends) refl
+          told_refused g.D.Disk old _ c.requires.works refl refl c.in-Err.fault c.told.result c.told.ensures (flush_ends g.D.Disk old.writer old.disk c.flush_one.new.self c.flush_one.new.disk c.in-Err.fault ends) refl (λ _ u. refl)
           (λ lost. flush_lost g.D.Disk old.writer old.disk c.flush_one.new.self c.flush_one.new.disk lost c.in-Err.fault ends (old.working c.requires.works));
       answered =
           behind g.D.Disk old c.flush_one.new.self.log c.flush_one.new.disk c.requires.works (answers.FlushPage c.args.page) (replies.Refused c.told.result) refl (λ fault. refused_for g.D.Disk old c.flush_one.new.self.log c.flush_one.new.disk c.requires.works (FlushCause g.D.Disk c.flush_one.new.self.log c.flush_one.new.disk) c.in-Err.fault c.told.result c.told.ensures

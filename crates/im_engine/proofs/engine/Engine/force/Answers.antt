@@ -1,7 +1,7 @@
 use Rattle.std.proofs.Common.{refl, ◌∙◌, Err, arith, rules}
 use Rattle.im_engine.proofs.Ending.{of_log, log_forced, force_refused}
 use Rattle.im_base_types.specs.Answers as answers
-use Rattle.im_front.specs.declared.reply.Reply.TheVariants as replies
+use Rattle.im_base_steps.specs.declared.reply.Reply.TheVariants as replies
 use Rattle.im_engine.proofs.Telling.{not_true, told_answered, told_refused, ends_as}
 use Rattle.im_engine.proofs.Causes.{behind, force_made, force_lost, force_cause}
 use Rattle.im_engine.proofs.engine.Engine.force.Goals as goal
@@ -15,7 +15,7 @@ returns-in-Ok g c =
           let r = (life.running c.requires.works).1 in
           let forced = c.in-Ok.ensures.kept b r.base r.now r.stands in
           log_forced g.D.Disk before s v old _ life c.requires.works forced.ok forced.stops refl refl refl;
-      told = told_answered g.D.Disk old _ c.requires.works refl refl replies.Done (λ k. refl) refl tt refl refl c.in-Ok.ensures.outcome.ends.alive;
+      told = told_answered g.D.Disk old _ c.requires.works refl refl replies.Done (λ k. refl) refl refl tt refl refl c.in-Ok.ensures.outcome.ends.alive;
       answered = behind g.D.Disk old c.force.new.self.log c.force.new.disk c.requires.works answers.Force replies.Done refl (λ fault. force_made g.D.Disk old c.force.new.self.log c.force.new.disk replies.Done (λ lost. not_true (g.D.Disk.failed c.force.new.disk) c.in-Ok.ensures.outcome.ends.alive lost) (λ x e. cc e) fault);
       suits = search rules;
       frames = search rules;
@@ -34,7 +34,7 @@ returns-in-Err g c =
           let b = (life.running c.requires.works).0 in
           let r = (life.running c.requires.works).1 in
           force_refused g.D.Disk before s v old _ life c.requires.works c.in-Err.fault of c.told.result c.told.ensures refl (c.in-Err.ensures.kept b r.base r.now r.stands).stops (λ t f le left. g.met.D.Disk.counts_now c.force.new.disk t f le left);
-      told = told_refused g.D.Disk old _ c.requires.works refl refl c.in-Err.fault c.told.result c.told.ensures (ends_as c.in-Err.fault cause.0) refl (λ lost. cause.0);
+      told = told_refused g.D.Disk old _ c.requires.works refl refl c.in-Err.fault c.told.result c.told.ensures (ends_as c.in-Err.fault cause.0) refl (λ _ u. refl) (λ lost. cause.0);
       answered = behind g.D.Disk old c.force.new.self.log c.force.new.disk c.requires.works answers.Force (replies.Refused c.told.result) refl (λ fault. force_lost g.D.Disk old c.force.new.self.log c.force.new.disk c.told.result (c.told.ensures ∙ cause.0) cause.1 fault);
       suits = search rules;
       frames = search rules;

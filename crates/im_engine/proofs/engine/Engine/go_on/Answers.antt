@@ -1,9 +1,9 @@
 use Rattle.std.proofs.Common.{refl, sym, ap, ◌∙◌, ◌+◌, length, rules}
 use Rattle.std.proofs.lemmas.List.{length-map}
-use Rattle.im_engine_txn.specs.Rows.{changed, with_record}
-use Rattle.im_front.specs.declared.reply.Reply.TheVariants as replies
+use Rattle.im_base_txn.specs.Rows.{changed, with_record}
+use Rattle.im_base_steps.specs.declared.reply.Reply.TheVariants as replies
 use Rattle.im_engine.specs.Numbered.{Numbered}
-use Rattle.im_front.specs.declared.fault.Fault.TheVariants as faults
+use Rattle.im_base_types.specs.declared.fault.Fault.TheVariants as faults
 use Rattle.im_engine.proofs.Causes.{refused_inj}
 use Rattle.im_engine.proofs.Telling.{not_true, told_answered, told_refused, told_rolled_back}
 use Rattle.im_engine.proofs.Turning.{continue_made, continue_refused, has_ended, has_more, has_more_to_undo, lacks_way, stands_going, told_capacity, turn_lost, turn_refused, lacks_room, told_memory}
@@ -21,7 +21,7 @@ returns-in-Ok-More g c =
           let kept = c.in-Ok-More.ensures.kept b r.base r.now r.redo_end (stands_going g.D.Disk before s v c.args.t row old r found c.requires.checked) (has_more_to_undo g.D.Disk before s v c.args.t row old r found c.requires.checked) in
           has_more g.D.Disk before s v c.args.t row old _ life c.requires.works found c.requires.checked refl kept.stops c.in-Ok-More.field-0 c.in-Ok-More.last c.in-Ok-More.undo_next c.in-Ok-More.field-0-is kept.sound refl c.note_record.ensures;
       told =
-          told_answered g.D.Disk old _ c.requires.works (ap (λ (x : Numbered). x.next) c.note_record.ensures) refl replies.More (λ k. refl) refl tt refl
+          told_answered g.D.Disk old _ c.requires.works (ap (λ (x : Numbered). x.next) c.note_record.ensures) refl replies.More (λ k. refl) refl refl tt refl
           (ap (λ (x : Numbered). length x.rows) c.note_record.ensures ∙ length-map old.txns.rows (changed c.args.t (with_record c.in-Ok-More.last c.in-Ok-More.undo_next))) c.in-Ok-More.ensures.outcome.ends.alive;
       answered = continue_made g.D.Disk old c.requires.works c.args.t c.requires.checked c.undo_next.new.writer.log c.undo_next.new.disk replies.More (λ x e. cc e);
       suits = search rules;
@@ -67,7 +67,7 @@ returns-in-Err g c =
           turn_refused g.D.Disk before s v c.args.t row old _ life c.requires.works found c.requires.checked c.in-Err.fault c.in-Err.ensures.outcome.ends kept.sound kept.again kept.stops c.breaks-self.ensures refl refl
           c.told.result c.told.ensures (λ t f le left. g.met.D.Disk.counts_now c.undo_next.new.disk t f le left);
       told =
-          told_refused g.D.Disk old _ c.requires.works refl refl c.in-Err.fault c.told.result c.told.ensures c.breaks-self.ensures refl
+          told_refused g.D.Disk old _ c.requires.works refl refl c.in-Err.fault c.told.result c.told.ensures c.breaks-self.ensures refl (λ _ u. refl)
           (λ lost. turn_lost g.D.Disk old.writer c.undo_next.new.writer c.undo_next.new.disk lost c.in-Err.fault c.in-Err.ensures.outcome.ends);
       answered = continue_refused g.D.Disk old c.requires.works c.args.t c.requires.checked c.undo_next.new.writer c.undo_next.new.disk c.in-Err.fault c.told.result c.told.ensures c.in-Err.ensures.outcome.ends;
       suits = search rules;

@@ -3,8 +3,9 @@ use Rattle.std.proofs.lemmas.List.{take_all}
 use Rattle.im_base_disk.specs.Runs.{LeavesOnly}
 use Rattle.im_base_disk.proofs.Runs.{started}
 use Rattle.im_engine.specs.Stands.{Allowed}
-use Rattle.im_front.specs.declared.step.Step.{Step}
-use Rattle.im_engine.specs.Turns.{answered_by, LivesOn, IsCutOff}
+use Rattle.im_base_steps.specs.declared.step.Step.{Step}
+use Rattle.im_engine.specs.Promise.{answered_by}
+use Rattle.im_engine.specs.Turns.{LivesOn, IsCutOff}
 use Rattle.im_engine.proofs.TurnLemmas.{one_turn_more, lives_more, cut_one_more}
 use Rattle.im_engine.proofs.engine.Engine.life.Goals as goal
 

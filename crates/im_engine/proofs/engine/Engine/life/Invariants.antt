@@ -3,9 +3,10 @@ use Rattle.std.specs.Vec.{vec_len, vec_capacity}
 use Rattle.im_base_types.specs.Changes.{Effect}
 use Rattle.im_base_types.specs.Lives.{Shown}
 use Rattle.im_base_disk.specs.Runs.{LeavesOnly}
-use Rattle.im_engine_lock.specs.View.{View}
+use Rattle.im_base_lock.specs.View.{View}
 use Rattle.im_engine.specs.Running.{IsLife}
-use Rattle.im_engine.specs.Turns.{answered_by, LivesOn, AreSteps, IsCutOff}
+use Rattle.im_engine.specs.Promise.{answered_by}
+use Rattle.im_engine.specs.Turns.{LivesOn, AreSteps, IsCutOff}
 use Rattle.im_engine.proofs.engine.Engine.life.Given as goal
 
 abbrev pub invariant-loop-step : goal.invariant-loop-step

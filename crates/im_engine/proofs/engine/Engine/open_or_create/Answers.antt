@@ -5,8 +5,8 @@ use Rattle.im_restart_analysis.specs.Numbers.{IsNextNumber}
 use Rattle.im_engine.proofs.Openings.{may_restart, none_opened, opening_stops, engine_opened}
 use Rattle.im_engine.proofs.engine.Engine.open_or_create.Goals as goal
 
-pub returns-then-config-lt8-clause-kept : goal.returns-then-config-lt8-clause-kept
-returns-then-config-lt8-clause-kept g c before told synced stands = record {
+pub returns-then-config-lt-LEAST_FRAMES-clause-kept : goal.returns-then-config-lt-LEAST_FRAMES-clause-kept
+returns-then-config-lt-LEAST_FRAMES-clause-kept g c before told synced stands = record {
   ok = tt;
   next = tt;
   report = tt;

@@ -3,9 +3,9 @@ use Rattle.im_engine.specs.Numbered.{Numbered}
 use Rattle.im_engine.proofs.Checked.{back_mark}
 use Rattle.im_engine.proofs.Ending.{dropped, turned}
 use Rattle.std.proofs.lemmas.List.{length-map}
-use Rattle.im_front.specs.declared.reply.Reply.TheVariants as replies
-use Rattle.im_engine_txn.specs.Rows.{changed, with_mark}
-use Rattle.im_engine_txn.specs.declared.transaction.Mark.TheVariants.{RollingBack}
+use Rattle.im_base_steps.specs.declared.reply.Reply.TheVariants as replies
+use Rattle.im_base_txn.specs.Rows.{changed, with_mark}
+use Rattle.im_base_txn.specs.declared.transaction.Mark.TheVariants.{RollingBack}
 use Rattle.im_engine.proofs.Telling.{alive_now, not_true, told_answered, told_rolled_back}
 use Rattle.im_engine.proofs.Causes.{rollback_made}
 use Rattle.im_engine.proofs.engine.Engine.roll_back.Goals as goal
@@ -19,7 +19,7 @@ returns-then-row-ne0 g c =
           turned g.D.Disk before s v old _ life c.requires.works refl refl (g.met.D.Disk.only_now old.disk) c.args.t c.in-Some.row found (back_mark old.txns.rows c.args.t c.in-Some.row found c.requires.checked)
           (omega (arith, c.if-row-ne0.true)) refl c.set_mark.ensures c.requires.works;
       told =
-          told_answered g.D.Disk old _ c.requires.works (ap (λ (x : Numbered). x.next) c.set_mark.ensures) refl replies.More (λ k. refl) refl tt c.requires.works
+          told_answered g.D.Disk old _ c.requires.works (ap (λ (x : Numbered). x.next) c.set_mark.ensures) refl replies.More (λ k. refl) refl refl tt c.requires.works
           (ap (λ (x : Numbered). length x.rows) c.set_mark.ensures ∙ length-map old.txns.rows (changed c.args.t (with_mark RollingBack))) (alive_now g.D.Disk old c.requires.works);
       answered = rollback_made g.D.Disk old old.writer.log old.disk c.requires.works c.args.t c.requires.checked replies.More (λ x e. cc e);
       suits = search rules;

@@ -7,10 +7,10 @@ use Rattle.im_engine_index.specs.Outcomes.{entries_found, IfGranted}
 use Rattle.im_engine_index.specs.declared.outcome.Outcome.{Outcome}
 use Rattle.im_engine.proofs.Reading.{granted, waits, dies, refused}
 use Rattle.std.proofs.lemmas.List.{length-map}
-use Rattle.im_front.specs.declared.reply.Blocker.TheVariants.{Lock}
-use Rattle.im_front.specs.declared.reply.Reply.TheVariants as replies
-use Rattle.im_engine_txn.specs.Rows.{changed, with_mark}
-use Rattle.im_engine_txn.specs.declared.transaction.Mark.TheVariants.{MustRollBack}
+use Rattle.im_base_steps.specs.declared.reply.Blocker.TheVariants.{Lock}
+use Rattle.im_base_steps.specs.declared.reply.Reply.TheVariants as replies
+use Rattle.im_base_txn.specs.Rows.{changed, with_mark}
+use Rattle.im_base_txn.specs.declared.transaction.Mark.TheVariants.{MustRollBack}
 use Rattle.im_engine.specs.Numbered.{Numbered}
 use Rattle.im_engine.proofs.Telling.{told_answered, told_refused, read_lost}
 use Rattle.im_engine.proofs.Causes.{read_answered, read_cause, read_refused}
@@ -24,7 +24,7 @@ returns-in-Ok-Granted g c =
           let r = (life.running c.requires.works).1 in
           let read = c.in-Ok-Granted.ensures.kept (pages_of r.now) v.walk (has_good_tree g.D.Disk before s v old r) (walk_is g.D.Disk before s v old r) in
           granted g.D.Disk before s v c.args.t (answers.Scan c.args.lo.now c.args.hi.now c.args.limit) old _ life c.requires.works c.requires.checked refl entries_found c.in-Ok-Granted.field-0 read c.in-Ok-Granted.list c.in-Ok-Granted.field-0-is _ refl c.in-Ok-Granted.ensures.outcome refl refl;
-      told = told_answered g.D.Disk old _ c.requires.works refl refl (replies.Entries c.in-Ok-Granted.list) (λ k. refl) refl tt refl refl c.in-Ok-Granted.ensures.outcome.ends.alive;
+      told = told_answered g.D.Disk old _ c.requires.works refl refl (replies.Entries c.in-Ok-Granted.list) (λ k. refl) refl refl tt refl refl c.in-Ok-Granted.ensures.outcome.ends.alive;
       answered = read_answered g.D.Disk old c.scan.new.writer.log c.scan.new.disk c.requires.works c.args.t (answers.Scan c.args.lo.now c.args.hi.now c.args.limit) refl c.requires.checked (replies.Entries c.in-Ok-Granted.list) (λ x e. cc e);
       suits = (refl, subst (λ (o : Outcome (Vec (List ℕ × ℕ) Global)). IfGranted o (λ l. length l.items ≤ limit_of c.args.limit)) c.in-Ok-Granted.field-0-is c.in-Ok-Granted.ensures.most);
       frames = search rules;
@@ -41,7 +41,7 @@ returns-in-Ok-Wait g c =
           let r = (life.running c.requires.works).1 in
           let read = c.in-Ok-Wait.ensures.kept (pages_of r.now) v.walk (has_good_tree g.D.Disk before s v old r) (walk_is g.D.Disk before s v old r) in
           waits g.D.Disk before s v c.args.t (answers.Scan c.args.lo.now c.args.hi.now c.args.limit) old _ life c.requires.works c.requires.checked entries_found c.in-Ok-Wait.field-0 read c.in-Ok-Wait.holder c.in-Ok-Wait.field-0-is c.in-Ok-Wait.ensures.outcome refl refl;
-      told = told_answered g.D.Disk old _ c.requires.works refl refl (replies.Blocked (Lock c.in-Ok-Wait.holder)) (λ k. refl) refl tt refl refl c.in-Ok-Wait.ensures.outcome.ends.alive;
+      told = told_answered g.D.Disk old _ c.requires.works refl refl (replies.Blocked (Lock c.in-Ok-Wait.holder)) (λ k. refl) refl refl tt refl refl c.in-Ok-Wait.ensures.outcome.ends.alive;
       answered = read_answered g.D.Disk old c.scan.new.writer.log c.scan.new.disk c.requires.works c.args.t (answers.Scan c.args.lo.now c.args.hi.now c.args.limit) refl c.requires.checked (replies.Blocked (Lock c.in-Ok-Wait.holder)) (λ x e. cc e);
       suits = search rules;
       frames = search rules;
@@ -58,7 +58,7 @@ returns-in-Ok-Die g c =
           let r = (life.running c.requires.works).1 in
           let read = c.in-Ok-Die.ensures.kept (pages_of r.now) v.walk (has_good_tree g.D.Disk before s v old r) (walk_is g.D.Disk before s v old r) in
           dies g.D.Disk before s v c.args.t (answers.Scan c.args.lo.now c.args.hi.now c.args.limit) old _ life c.requires.works c.requires.checked entries_found c.in-Ok-Die.field-0 read c.in-Ok-Die.field-0-is c.in-Ok-Die.ensures.outcome c.set_mark.ensures refl;
-      told = told_answered g.D.Disk old _ c.requires.works (ap (λ (x : Numbered). x.next) c.set_mark.ensures) refl replies.Die (λ k. refl) refl tt refl (ap (λ (x : Numbered). length x.rows) c.set_mark.ensures ∙ length-map old.txns.rows (changed c.args.t (with_mark MustRollBack))) c.in-Ok-Die.ensures.outcome.ends.alive;
+      told = told_answered g.D.Disk old _ c.requires.works (ap (λ (x : Numbered). x.next) c.set_mark.ensures) refl replies.Die (λ k. refl) refl refl tt refl (ap (λ (x : Numbered). length x.rows) c.set_mark.ensures ∙ length-map old.txns.rows (changed c.args.t (with_mark MustRollBack))) c.in-Ok-Die.ensures.outcome.ends.alive;
       answered = read_answered g.D.Disk old c.scan.new.writer.log c.scan.new.disk c.requires.works c.args.t (answers.Scan c.args.lo.now c.args.hi.now c.args.limit) refl c.requires.checked replies.Die (λ x e. cc e);
       suits = search rules;
       frames = search rules;
@@ -76,7 +76,7 @@ returns-in-Err g c =
           let sound = c.in-Err.ensures.kept (pages_of r.now) v.walk (has_good_tree g.D.Disk before s v old r) (walk_is g.D.Disk before s v old r) in
           refused g.D.Disk before s v c.args.t (answers.Scan c.args.lo.now c.args.hi.now c.args.limit) old _ life c.requires.works c.requires.checked (λ t f le left. g.met.D.Disk.counts_now c.scan.new.disk t f le left) c.in-Err.fault refl c.in-Err.ensures.outcome sound
           c.breaks-self.ensures refl c.in-Err.ensures.table c.told.result c.told.ensures;
-      told = told_refused g.D.Disk old _ c.requires.works refl refl c.in-Err.fault c.told.result c.told.ensures c.breaks-self.ensures refl (λ lost. read_lost g.D.Disk old.writer old.disk c.scan.new.writer c.scan.new.disk lost c.in-Err.fault c.in-Err.ensures.outcome.ends (old.working c.requires.works));
+      told = told_refused g.D.Disk old _ c.requires.works refl refl c.in-Err.fault c.told.result c.told.ensures c.breaks-self.ensures refl (λ _. c.in-Err.ensures.table) (λ lost. read_lost g.D.Disk old.writer old.disk c.scan.new.writer c.scan.new.disk lost c.in-Err.fault c.in-Err.ensures.outcome.ends (old.working c.requires.works));
       answered =
           read_refused g.D.Disk old c.scan.new.writer.log c.scan.new.disk c.requires.works c.args.t (answers.Scan c.args.lo.now c.args.hi.now c.args.limit) refl c.requires.checked c.in-Err.fault c.told.result c.told.ensures
           (read_cause g.D.Disk old.writer old.disk c.scan.new.writer c.scan.new.disk c.in-Err.fault c.in-Err.ensures.outcome.ends (old.working c.requires.works));

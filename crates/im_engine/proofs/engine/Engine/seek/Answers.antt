@@ -3,27 +3,30 @@ use Rattle.im_base_types.specs.Answers as answers
 use Rattle.im_base_types.specs.Maps.{IndexMap}
 use Rattle.im_theory_log.specs.Structure.{settled}
 use Rattle.im_theory_tree.specs.Levels.{Pages}
-use Rattle.im_front.specs.declared.reply.Reply.{Reply}
+use Rattle.im_base_steps.specs.declared.reply.Reply.{Reply}
 use Rattle.im_engine.specs.Told.{WantsOf}
 use Rattle.im_page_writer.specs.Outcome.{pages_of}
 use Rattle.im_engine.proofs.Running.{has_good_tree, walk_is}
 use Rattle.im_engine_index.specs.Outcomes.{seek_at}
 use Rattle.im_engine.proofs.Reading.{granted, waits, dies, refused, seeks_change_nothing, seeks_want_memory}
 use Rattle.std.proofs.lemmas.List.{length-map}
-use Rattle.im_front.specs.declared.reply.Blocker.TheVariants.{Lock}
-use Rattle.im_front.specs.declared.reply.Reply.TheVariants as replies
-use Rattle.im_engine_txn.specs.Rows.{changed, with_mark}
-use Rattle.im_engine_txn.specs.declared.transaction.Mark.TheVariants.{MustRollBack}
+use Rattle.im_base_lock.specs.Locks.{Lock as HeldLock}
+use Rattle.im_base_lock.specs.Table.{locks_of}
+use Rattle.im_base_steps.specs.declared.reply.Blocker.TheVariants.{Lock}
+use Rattle.im_base_steps.specs.declared.reply.Reply.TheVariants as replies
+use Rattle.im_base_types.specs.Changes.{Effect}
+use Rattle.im_base_txn.specs.Rows.{changed, with_mark}
+use Rattle.im_base_txn.specs.declared.transaction.Mark.TheVariants.{MustRollBack}
 use Rattle.im_engine.specs.Numbered.{Numbered}
 use Rattle.im_engine.proofs.Telling.{told_answered, told_refused, read_lost}
 use Rattle.im_engine.proofs.Causes.{read_answered, read_cause, read_refused, seeks_read}
-use Rattle.im_front.specs.Replies.{is_search}
+use Rattle.im_base_steps.specs.Replies.{is_search}
 use Rattle.im_engine.proofs.engine.Engine.seek.Goals as goal
 
 -- neither wants anything
-seeks_want : (pages : Pages) (map : IndexMap) (max_pages t : ℕ) (inclusive : Bool) (key : List ℕ) (reply : Reply) → WantsOf pages map max_pages (answers.Do t (seek_at inclusive key)) reply
-seeks_want pages map max_pages t true key reply = tt
-seeks_want pages map max_pages t false key reply = tt
+seeks_want : (pages : Pages) (map : IndexMap) (nets : ℕ → Effect) (locks : ℕ → List HeldLock) (max_pages t : ℕ) (inclusive : Bool) (key : List ℕ) (reply : Reply) → WantsOf pages map nets locks max_pages (answers.Do t (seek_at inclusive key)) reply
+seeks_want pages map nets locks max_pages t true key reply = tt
+seeks_want pages map nets locks max_pages t false key reply = tt
 
 -- both searches are
 a_search : (t : ℕ) (inclusive : Bool) (key : List ℕ) → is_search (answers.Do t (seek_at inclusive key)) ≡ true
@@ -38,11 +41,11 @@ returns-in-Some g c =
           let r = (life.running c.requires.works).1 in
           let read = c.in-Ok-Granted.ensures.kept (pages_of r.now) v.walk (has_good_tree g.D.Disk before s v old r) (walk_is g.D.Disk before s v old r) in
           granted g.D.Disk before s v c.args.t (seek_at c.args.inclusive c.args.key.now) old _ life c.requires.works c.requires.checked (seeks_change_nothing c.args.inclusive c.args.key.now v.walk) answers.entry c.in-Ok-Granted.field-0 read c.in-Ok-Granted.found c.in-Ok-Granted.field-0-is (answers.Entry c.in-Some.key c.in-Some.rid) (ap answers.entry c.in-Some.is) c.in-Ok-Granted.ensures.outcome refl refl;
-      told = told_answered g.D.Disk old _ c.requires.works refl refl (replies.Entry c.in-Some.key c.in-Some.rid) (λ k. refl) refl tt refl refl c.in-Ok-Granted.ensures.outcome.ends.alive;
+      told = told_answered g.D.Disk old _ c.requires.works refl refl (replies.Entry c.in-Some.key c.in-Some.rid) (λ k. refl) refl refl tt refl refl c.in-Ok-Granted.ensures.outcome.ends.alive;
       answered = read_answered g.D.Disk old c.seek.new.writer.log c.seek.new.disk c.requires.works c.args.t (seek_at c.args.inclusive c.args.key.now) (seeks_read c.args.inclusive c.args.key.now) c.requires.checked (replies.Entry c.in-Some.key c.in-Some.rid) (λ x e. cc e);
       suits = a_search c.args.t c.args.inclusive c.args.key.now;
       frames = search rules;
-      wants = λ b before s v r. seeks_want (settled b r.now.log) v.walk old.max_pages c.args.t c.args.inclusive c.args.key.now (replies.Entry c.in-Some.key c.in-Some.rid);
+      wants = λ b before s v r. seeks_want (settled b r.now.log) v.walk (λ t. (v.txns t).net) (locks_of old.locks) old.max_pages c.args.t c.args.inclusive c.args.key.now (replies.Entry c.in-Some.key c.in-Some.rid);
       quiet = λ none. absurd (none tt);
       costs = tt;
     }
@@ -55,11 +58,11 @@ returns-in-None g c =
           let r = (life.running c.requires.works).1 in
           let read = c.in-Ok-Granted.ensures.kept (pages_of r.now) v.walk (has_good_tree g.D.Disk before s v old r) (walk_is g.D.Disk before s v old r) in
           granted g.D.Disk before s v c.args.t (seek_at c.args.inclusive c.args.key.now) old _ life c.requires.works c.requires.checked (seeks_change_nothing c.args.inclusive c.args.key.now v.walk) answers.entry c.in-Ok-Granted.field-0 read c.in-Ok-Granted.found c.in-Ok-Granted.field-0-is answers.End (ap answers.entry c.in-None.is) c.in-Ok-Granted.ensures.outcome refl refl;
-      told = told_answered g.D.Disk old _ c.requires.works refl refl replies.End (λ k. refl) refl tt refl refl c.in-Ok-Granted.ensures.outcome.ends.alive;
+      told = told_answered g.D.Disk old _ c.requires.works refl refl replies.End (λ k. refl) refl refl tt refl refl c.in-Ok-Granted.ensures.outcome.ends.alive;
       answered = read_answered g.D.Disk old c.seek.new.writer.log c.seek.new.disk c.requires.works c.args.t (seek_at c.args.inclusive c.args.key.now) (seeks_read c.args.inclusive c.args.key.now) c.requires.checked replies.End (λ x e. cc e);
       suits = a_search c.args.t c.args.inclusive c.args.key.now;
       frames = search rules;
-      wants = λ b before s v r. seeks_want (settled b r.now.log) v.walk old.max_pages c.args.t c.args.inclusive c.args.key.now replies.End;
+      wants = λ b before s v r. seeks_want (settled b r.now.log) v.walk (λ t. (v.txns t).net) (locks_of old.locks) old.max_pages c.args.t c.args.inclusive c.args.key.now replies.End;
       quiet = λ none. absurd (none tt);
       costs = tt;
     }
@@ -72,11 +75,11 @@ returns-in-Ok-Wait g c =
           let r = (life.running c.requires.works).1 in
           let read = c.in-Ok-Wait.ensures.kept (pages_of r.now) v.walk (has_good_tree g.D.Disk before s v old r) (walk_is g.D.Disk before s v old r) in
           waits g.D.Disk before s v c.args.t (seek_at c.args.inclusive c.args.key.now) old _ life c.requires.works c.requires.checked answers.entry c.in-Ok-Wait.field-0 read c.in-Ok-Wait.holder c.in-Ok-Wait.field-0-is c.in-Ok-Wait.ensures.outcome refl refl;
-      told = told_answered g.D.Disk old _ c.requires.works refl refl (replies.Blocked (Lock c.in-Ok-Wait.holder)) (λ k. refl) refl tt refl refl c.in-Ok-Wait.ensures.outcome.ends.alive;
+      told = told_answered g.D.Disk old _ c.requires.works refl refl (replies.Blocked (Lock c.in-Ok-Wait.holder)) (λ k. refl) refl refl tt refl refl c.in-Ok-Wait.ensures.outcome.ends.alive;
       answered = read_answered g.D.Disk old c.seek.new.writer.log c.seek.new.disk c.requires.works c.args.t (seek_at c.args.inclusive c.args.key.now) (seeks_read c.args.inclusive c.args.key.now) c.requires.checked (replies.Blocked (Lock c.in-Ok-Wait.holder)) (λ x e. cc e);
       suits = search rules;
       frames = search rules;
-      wants = λ b before s v r. seeks_want (settled b r.now.log) v.walk old.max_pages c.args.t c.args.inclusive c.args.key.now (replies.Blocked (Lock c.in-Ok-Wait.holder));
+      wants = λ b before s v r. seeks_want (settled b r.now.log) v.walk (λ t. (v.txns t).net) (locks_of old.locks) old.max_pages c.args.t c.args.inclusive c.args.key.now (replies.Blocked (Lock c.in-Ok-Wait.holder));
       quiet = λ none. absurd (none tt);
       costs = tt;
     }
@@ -89,11 +92,11 @@ returns-in-Ok-Die g c =
           let r = (life.running c.requires.works).1 in
           let read = c.in-Ok-Die.ensures.kept (pages_of r.now) v.walk (has_good_tree g.D.Disk before s v old r) (walk_is g.D.Disk before s v old r) in
           dies g.D.Disk before s v c.args.t (seek_at c.args.inclusive c.args.key.now) old _ life c.requires.works c.requires.checked answers.entry c.in-Ok-Die.field-0 read c.in-Ok-Die.field-0-is c.in-Ok-Die.ensures.outcome c.set_mark.ensures refl;
-      told = told_answered g.D.Disk old _ c.requires.works (ap (λ (x : Numbered). x.next) c.set_mark.ensures) refl replies.Die (λ k. refl) refl tt refl (ap (λ (x : Numbered). length x.rows) c.set_mark.ensures ∙ length-map old.txns.rows (changed c.args.t (with_mark MustRollBack))) c.in-Ok-Die.ensures.outcome.ends.alive;
+      told = told_answered g.D.Disk old _ c.requires.works (ap (λ (x : Numbered). x.next) c.set_mark.ensures) refl replies.Die (λ k. refl) refl refl tt refl (ap (λ (x : Numbered). length x.rows) c.set_mark.ensures ∙ length-map old.txns.rows (changed c.args.t (with_mark MustRollBack))) c.in-Ok-Die.ensures.outcome.ends.alive;
       answered = read_answered g.D.Disk old c.seek.new.writer.log c.seek.new.disk c.requires.works c.args.t (seek_at c.args.inclusive c.args.key.now) (seeks_read c.args.inclusive c.args.key.now) c.requires.checked replies.Die (λ x e. cc e);
       suits = search rules;
       frames = search rules;
-      wants = λ b before s v r. seeks_want (settled b r.now.log) v.walk old.max_pages c.args.t c.args.inclusive c.args.key.now replies.Die;
+      wants = λ b before s v r. seeks_want (settled b r.now.log) v.walk (λ t. (v.txns t).net) (locks_of old.locks) old.max_pages c.args.t c.args.inclusive c.args.key.now replies.Die;
       quiet = λ none. absurd (none tt);
       costs = tt;
     }
@@ -107,13 +110,13 @@ returns-in-Err g c =
           let sound = c.in-Err.ensures.kept (pages_of r.now) v.walk (has_good_tree g.D.Disk before s v old r) (walk_is g.D.Disk before s v old r) in
           refused g.D.Disk before s v c.args.t (seek_at c.args.inclusive c.args.key.now) old _ life c.requires.works c.requires.checked (λ t f le left. g.met.D.Disk.counts_now c.seek.new.disk t f le left) c.in-Err.fault (seeks_want_memory c.args.t c.args.inclusive c.args.key.now) c.in-Err.ensures.outcome sound
           c.breaks-self.ensures refl c.in-Err.ensures.table c.told.result c.told.ensures;
-      told = told_refused g.D.Disk old _ c.requires.works refl refl c.in-Err.fault c.told.result c.told.ensures c.breaks-self.ensures refl (λ lost. read_lost g.D.Disk old.writer old.disk c.seek.new.writer c.seek.new.disk lost c.in-Err.fault c.in-Err.ensures.outcome.ends (old.working c.requires.works));
+      told = told_refused g.D.Disk old _ c.requires.works refl refl c.in-Err.fault c.told.result c.told.ensures c.breaks-self.ensures refl (λ _. c.in-Err.ensures.table) (λ lost. read_lost g.D.Disk old.writer old.disk c.seek.new.writer c.seek.new.disk lost c.in-Err.fault c.in-Err.ensures.outcome.ends (old.working c.requires.works));
       answered =
           read_refused g.D.Disk old c.seek.new.writer.log c.seek.new.disk c.requires.works c.args.t (seek_at c.args.inclusive c.args.key.now) (seeks_read c.args.inclusive c.args.key.now) c.requires.checked c.in-Err.fault c.told.result c.told.ensures
           (read_cause g.D.Disk old.writer old.disk c.seek.new.writer c.seek.new.disk c.in-Err.fault c.in-Err.ensures.outcome.ends (old.working c.requires.works));
       suits = search rules;
       frames = search rules;
-      wants = λ b before s v r. seeks_want (settled b r.now.log) v.walk old.max_pages c.args.t c.args.inclusive c.args.key.now (replies.Refused c.told.result);
+      wants = λ b before s v r. seeks_want (settled b r.now.log) v.walk (λ t. (v.txns t).net) (locks_of old.locks) old.max_pages c.args.t c.args.inclusive c.args.key.now (replies.Refused c.told.result);
       quiet = λ none. absurd (none tt);
       costs = tt;
     }

@@ -13,4 +13,5 @@ returns g c = record {
       };
   reply = λ alive. step_replies g.D.Disk c.args.step.now c.step.result c.args.self.now c.step.new.self c.step.ensures;
   counted = λ alive. step_counts g.D.Disk c.args.step.now c.step.result c.args.self.now c.step.new.self c.step.ensures;
+  made = c.step.ensures;
 }

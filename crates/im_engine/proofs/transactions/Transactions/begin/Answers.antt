@@ -1,5 +1,5 @@
 use Rattle.std.proofs.Common.{◌≡◌, ◌+◌, ℕ, suc, [], ◌∷◌, length, length-append, ap, sym, subst, ◌∙◌, arith}
-use Rattle.im_engine_txn.specs.Rows.{AreAbove, AreBelow, begun}
+use Rattle.im_base_txn.specs.Rows.{AreAbove, AreBelow, begun}
 use Rattle.im_engine.specs.Numbered.{Numbered}
 use Rattle.im_engine.proofs.Numbers.{above_begun}
 use Rattle.im_engine.proofs.transactions.Transactions.begin.Goals as goal

@@ -1,6 +1,6 @@
 use Rattle.std.proofs.Common.{length, ap, sym, subst, arith, not, Bool, true, false, refl, ◌≡◌}
 use Rattle.std.proofs.lemmas.List.Filters.{length-filter_both}
-use Rattle.im_engine_txn.specs.Rows.{AreAbove, AreBelow, is_of}
+use Rattle.im_base_txn.specs.Rows.{AreAbove, AreBelow, is_of}
 use Rattle.im_engine.proofs.Numbers.{above_without}
 use Rattle.im_engine.proofs.transactions.Transactions.end.Goals as goal
 

@@ -1,6 +1,6 @@
 use Rattle.std.proofs.Common.{length, ap, sym, subst, refl, arith, ◌∙◌}
 use Rattle.im_theory_steps.proofs.Rows.{length_map}
-use Rattle.im_engine_txn.specs.Rows.{AreAbove, AreBelow, changed, with_mark}
+use Rattle.im_base_txn.specs.Rows.{AreAbove, AreBelow, changed, with_mark}
 use Rattle.im_engine.proofs.Numbers.{above_changed}
 use Rattle.im_engine.proofs.transactions.Transactions.set_mark.Goals as goal
 

@@ -1,4 +1,4 @@
-use Rattle.im_front.specs.Calls.{trace_of}
+use Rattle.im_front.specs.Traces.{trace_of}
 use Rattle.im_front.proofs.Steps.{run_of}
 use Rattle.im_front.proofs.held.Held.close.Goals as goal
 

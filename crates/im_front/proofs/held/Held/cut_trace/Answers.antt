@@ -3,7 +3,7 @@ use Rattle.std.specs.FinMap.{empty, entries}
 use Rattle.im_base_types.specs.Changes.{apply_all}
 use Rattle.im_base_types.specs.Lives.{nothing_shown}
 use Rattle.im_front.specs.declared.recorded.Recorded.{Recorded}
-use Rattle.im_front.specs.Calls.{trace_of}
+use Rattle.im_front.specs.Traces.{trace_of}
 use Rattle.im_front.specs.Events.{shown_in}
 use Rattle.im_front.specs.Held.{State, IsTallied, Stands, IsCut}
 use Rattle.im_front.proofs.Steps.{stands_cut, stands_look, tallied_as, tallied_cut, rest_walk, is_cut, length-trace_of}

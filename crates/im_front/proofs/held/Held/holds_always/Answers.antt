@@ -1,5 +1,5 @@
 use Rattle.std.proofs.Common.{subst}
-use Rattle.im_front.specs.Calls.{trace_of}
+use Rattle.im_front.specs.Traces.{trace_of}
 use Rattle.im_front.specs.Held.{State, IsRun}
 use Rattle.im_front.proofs.Steps.{run_of}
 use Rattle.im_front.proofs.held.Held.holds_always.Goals as goal

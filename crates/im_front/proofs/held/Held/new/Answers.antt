@@ -2,9 +2,9 @@ use Rattle.std.proofs.Common.{rules, [], ◌∷◌, ◌∙◌, ℕ, List, refl, 
 use Rattle.im_base_types.specs.Lives.{nothing_shown}
 use Rattle.im_base_types.specs.Changes.{apply_all}
 use Rattle.std.specs.FinMap.{empty}
-use Rattle.im_engine_lock.specs.Machine.{start}
+use Rattle.im_base_lock.specs.Machine.{start}
 use Rattle.im_front.specs.declared.recorded.Recorded.{Recorded}
-use Rattle.im_front.specs.Calls.{trace_of}
+use Rattle.im_front.specs.Traces.{trace_of}
 use Rattle.im_front.specs.Held.{IsTallied, Stands}
 use Rattle.im_front.proofs.Steps.{stands_new, tallied_new}
 use Rattle.im_front.proofs.held.Held.new.Goals as goal

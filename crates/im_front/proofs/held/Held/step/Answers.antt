@@ -2,9 +2,10 @@ use Rattle.std.proofs.Common.{rules, ◌≡◌, length, true, false, true≢fals
 use Rattle.im_base_types.specs.Lives.{nothing_shown}
 use Rattle.im_base_types.specs.Answers.{Step, Reply}
 use Rattle.im_front.specs.declared.recorded.Recorded.{Recorded}
-use Rattle.im_front.specs.Calls.{asked_by, told_by, trace_of, is_blocked}
+use Rattle.im_base_steps.specs.Calls.{asked_by, told_by, is_blocked}
+use Rattle.im_front.specs.Traces.{trace_of}
 use Rattle.im_front.specs.Events.{shown_in}
-use Rattle.im_front.specs.Replies.{is_full}
+use Rattle.im_base_steps.specs.Replies.{is_full}
 use Rattle.im_front.specs.Held.{State, IsTallied, Stands}
 use Rattle.im_front.proofs.Replies.{few_entries, entry_asked, blocked_counts}
 use Rattle.im_front.proofs.Steps.{alive_of, stands_push, stands_blocked, tallied_as, tallied_push, trace_of-recorded}

@@ -1,8 +1,9 @@
 use Rattle.std.proofs.Common.{refl, sym, ap, subst, ◌∙◌}
 use Rattle.im_base_types.specs.Keys.{Key}
 use Rattle.im_base_types.specs.Answers.{Do, Fetch, Seek, Next, Scan, Insert, Delete, Done}
-use Rattle.im_front.specs.declared.step.Step.{Step}
-use Rattle.im_front.specs.Calls.{asked_by, told_by, number_of}
+use Rattle.im_base_steps.specs.declared.step.Step.{Step}
+use Rattle.im_base_steps.specs.Calls.{asked_by, told_by}
+use Rattle.im_base_types.specs.Faults.{number_of}
 use Rattle.im_front_memory.specs.Stored.{checked, state_of, Serves}
 use Rattle.im_front_memory.proofs.Moving.{barred_kept}
 use Rattle.im_front_memory.proofs.EndLemmas.{flushed_kept, forced_kept, checkpointed_kept}

@@ -4,9 +4,9 @@ use Rattle.std.specs.Map.{lookup}
 use Rattle.std.specs.FinMap.{empty, entries, len-entries, len-empty}
 use Rattle.im_base_types.specs.Keys.{key_order}
 use Rattle.im_base_types.specs.Pages.{Entry}
-use Rattle.im_engine_lock.specs.Table.{Table, locks_of}
-use Rattle.im_engine_txn.specs.declared.transaction.Transaction.{Transaction}
-use Rattle.im_engine_txn.specs.Rows.{is_of}
+use Rattle.im_base_lock.specs.Table.{Table, locks_of}
+use Rattle.im_base_txn.specs.declared.transaction.Transaction.{Transaction}
+use Rattle.im_base_txn.specs.Rows.{is_of}
 use Rattle.im_front_memory.specs.Changed.{net_in, effects_of}
 use Rattle.im_front_memory.specs.Stored.{mark_at}
 use Rattle.im_front_memory.proofs.memory_store.MemoryStore.new.Goals as goal
@@ -30,11 +30,13 @@ returns c = record {
           walk = empty_entries ∙ sym c.new.ensures.items;
           marks = λ t. ap (λ (rows : List Transaction). mark_at (find (is_of t) rows)) (sym c.new-2.ensures.0);
           nets = λ t. ap (λ es. net_in (lookup (nat_eq t) es)) (sym c.new-4.ensures.empty);
-          locks = λ t. ap (λ (table : Table). locks_of table t) (sym c.new-3.ensures);
+          locks = ((λ t. ap (λ (table : Table). locks_of table t) (sym c.new-3.ensures)), λ w s. refl);
           active = ap length (sym c.new-2.ensures.0);
           numbers = sym c.new-2.ensures.1;
           failing = refl;
           kept = ap effects_of c.new-5.ensures.items;
+          alone = refl;
+          unowned = refl;
         };
       };
 }

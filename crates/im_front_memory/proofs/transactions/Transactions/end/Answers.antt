@@ -1,6 +1,6 @@
 use Rattle.std.proofs.Common.{length, ap, sym, subst, arith, not, Bool, true, false, refl, ◌≡◌}
 use Rattle.std.proofs.lemmas.List.Filters.{length-filter_both}
-use Rattle.im_engine_txn.specs.Rows.{AreBelow, is_of}
+use Rattle.im_base_txn.specs.Rows.{AreBelow, is_of}
 use Rattle.im_front_memory.proofs.transactions.Transactions.end.Goals as goal
 
 pub invariant_of-self : goal.invariant_of-self

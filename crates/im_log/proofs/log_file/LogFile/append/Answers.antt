@@ -4,7 +4,7 @@ use Rattle.im_base_types.specs.declared.file_id.FileId.TheVariants.{Log}
 use Rattle.im_log_record.specs.Entry.{view}
 use Rattle.im_log_record.specs.Spelling.{spelling}
 use Rattle.im_log.proofs.Spells.{whole}
-use Rattle.im_log.proofs.Runs.{unmoved, appended, no_more}
+use Rattle.im_log.proofs.Runs.{unmoved, appended, batch_begun, no_more}
 use Rattle.im_base_disk.proofs.Costs.{forces_by, forces_none, most_none}
 use Rattle.im_log.proofs.log_file.LogFile.append.Goals as goal
 
@@ -20,8 +20,8 @@ returns-in_err-force-clause-kept g c base all durable h = record {
   stops = (c.force.ensures.kept base all durable h).stops;
 }
 
-pub returns-then-self-size-le-BUFFER-clause-kept : goal.returns-then-self-size-le-BUFFER-clause-kept
-returns-then-self-size-le-BUFFER-clause-kept g c base all durable h =
+pub returns-then-self-size-le-LONGEST_BATCH-clause-kept : goal.returns-then-self-size-le-LONGEST_BATCH-clause-kept
+returns-then-self-size-le-LONGEST_BATCH-clause-kept g c base all durable h =
     let put = c.put_in.ensures in
     let laws = c.spellings.ensures in
     let entry = view c.args.record.now in
@@ -30,7 +30,23 @@ returns-then-self-size-le-BUFFER-clause-kept g c base all durable h =
       ok = appended g.D.Disk base all durable durable (record { newer = []; is = refl }) c.args.self.now c.put_in.new.self c.args.disk.now c.args.disk.now (no_more (g.D.Disk.seen c.args.disk.now Log)) (spelling entry) entry c.put_in.result h
           (laws.read entry (spelling entry) (record { fits = c.requires.entry; spelled = refl }))
           (whole (spelling entry) (omega (arith, size, laws.least entry)) (ap (λ (l : List ℕ). from_be_bytes w32 (take 4 l)) (sym (append-nil (spelling entry))) ∙ laws.length_first entry [] c.requires.entry ∙ sym size))
-          put.lsn put.buffered (omega (arith, put.used, size)) put.base put.gate put.failed;
+          put.lsn put.buffered (omega (arith, put.used, size)) put.sealed put.base put.gate put.failed;
+      stops = unmoved g.D.Disk base all durable c.args.self.now c.args.disk.now (g.met.D.Disk.only_now c.args.disk.now) c.requires.ready h;
+    }
+
+pub returns-then-begins_next-clause-kept : goal.returns-then-begins_next-clause-kept
+returns-then-begins_next-clause-kept g c base all durable h =
+    let put = c.put_in-then-begins_next.ensures in
+    let new = c.begin_batch.ensures in
+    let laws = c.spellings.ensures in
+    let entry = view c.args.record.now in
+    let size = laws.size entry in
+    let begun = batch_begun g.D.Disk base all durable c.args.self.now c.begin_batch.new.self c.args.disk.now h (new.sealed h.sealed.batches h.sealed.filled) new.start new.used new.base new.gate new.failed in
+    record {
+      ok = appended g.D.Disk base all durable durable (record { newer = []; is = refl }) c.begin_batch.new.self c.put_in-then-begins_next.new.self c.args.disk.now c.args.disk.now (no_more (g.D.Disk.seen c.args.disk.now Log)) (spelling entry) entry c.put_in-then-begins_next.result begun
+          (laws.read entry (spelling entry) (record { fits = c.requires.entry; spelled = refl }))
+          (whole (spelling entry) (omega (arith, size, laws.least entry)) (ap (λ (l : List ℕ). from_be_bytes w32 (take 4 l)) (sym (append-nil (spelling entry))) ∙ laws.length_first entry [] c.requires.entry ∙ sym size))
+          put.lsn put.buffered (omega (arith, put.used, size)) put.sealed put.base put.gate put.failed;
       stops = unmoved g.D.Disk base all durable c.args.self.now c.args.disk.now (g.met.D.Disk.only_now c.args.disk.now) c.requires.ready h;
     }
 
@@ -45,12 +61,12 @@ returns-clause-kept g c base all durable h =
       ok = appended g.D.Disk base all all durable h.front c.force.new.self c.put_in-2.new.self c.args.disk.now c.force.new.disk forced.ok.file (spelling entry) entry c.put_in-2.result forced.ok.log
           (laws.read entry (spelling entry) (record { fits = c.requires.entry; spelled = refl }))
           (whole (spelling entry) (omega (arith, size, laws.least entry)) (ap (λ (l : List ℕ). from_be_bytes w32 (take 4 l)) (sym (append-nil (spelling entry))) ∙ laws.length_first entry [] c.requires.entry ∙ sym size))
-          put.lsn put.buffered (omega (arith, put.used, size)) put.base put.gate put.failed;
+          put.lsn put.buffered (omega (arith, put.used, size)) put.sealed put.base put.gate put.failed;
       stops = forced.stops;
     }
 
-pub returns-then-self-size-le-BUFFER-clause-forces : goal.returns-then-self-size-le-BUFFER-clause-forces
-returns-then-self-size-le-BUFFER-clause-forces g c = forces_none g.D.Disk 1 c.args.disk.now
+pub returns-then-self-size-le-LONGEST_BATCH-clause-forces : goal.returns-then-self-size-le-LONGEST_BATCH-clause-forces
+returns-then-self-size-le-LONGEST_BATCH-clause-forces g c = forces_none g.D.Disk 1 c.args.disk.now
 
 pub returns-clause-forces : goal.returns-clause-forces
 returns-clause-forces g c = forces_by g.D.Disk c.args.self.now.used c.args.disk.now c.force.new.disk c.in_ok-force.ensures.costs c.force.ensures.none
@@ -61,5 +77,11 @@ returns-then-self-clause-few g c = most_none g.D.Disk 2 2 c.args.disk.now
 pub returns-then-is_full-clause-few : goal.returns-then-is_full-clause-few
 returns-then-is_full-clause-few g c = most_none g.D.Disk 2 2 c.args.disk.now
 
-pub returns-then-self-size-le-BUFFER-clause-few : goal.returns-then-self-size-le-BUFFER-clause-few
-returns-then-self-size-le-BUFFER-clause-few g c = most_none g.D.Disk 2 2 c.args.disk.now
+pub returns-then-self-size-le-LONGEST_BATCH-clause-few : goal.returns-then-self-size-le-LONGEST_BATCH-clause-few
+returns-then-self-size-le-LONGEST_BATCH-clause-few g c = most_none g.D.Disk 2 2 c.args.disk.now
+
+pub returns-then-begins_next-clause-forces : goal.returns-then-begins_next-clause-forces
+returns-then-begins_next-clause-forces g c = forces_none g.D.Disk 1 c.args.disk.now
+
+pub returns-then-begins_next-clause-few : goal.returns-then-begins_next-clause-few
+returns-then-begins_next-clause-few g c = most_none g.D.Disk 2 2 c.args.disk.now

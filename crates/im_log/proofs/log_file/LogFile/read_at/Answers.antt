@@ -1,10 +1,10 @@
-use Rattle.std.proofs.Common.{◌≡◌, ℕ, List, ◌-◌, Some, None, take, drop, ap, sym, ◌∙◌, rules, arith, subst}
+use Rattle.std.proofs.Common.{◌≡◌, ℕ, List, ◌-◌, Some, None, take, drop, ap, sym, ◌∙◌, ◌+◌, rules, arith, subst, length-drop}
 use Rattle.im_base_types.specs.declared.file_id.FileId.TheVariants.{Log}
-use Rattle.im_log.specs.LogFile.{buffered}
 use Rattle.im_log.specs.Spelled.{first_record}
 use Rattle.im_log.specs.Reading.{IsFrontOf}
 use Rattle.im_log.proofs.Spells.{first_is}
-use Rattle.im_log.proofs.Places.{none_below, buffer_bounds, there_in_file, there_in_buffer, brought, slice_is}
+use Rattle.im_log.proofs.Places.{none_below, buffer_bounds, there_in_file, there_in_buffer, brought, cut_first, shown, shown_long}
+use Rattle.im_log.proofs.Runs.{log_read}
 use Rattle.im_log.proofs.log_file.LogFile.read_at.Goals as goal
 
 pub returns-then-lsn-self-clause-found : goal.returns-then-lsn-self-clause-found
@@ -38,18 +38,28 @@ returns-then-behind-lt5-clause-found g c base all durable r h has same =
 pub returns-in_err-size-2-clause-found : goal.returns-in_err-size-2-clause-found
 returns-in_err-size-2-clause-found g c base all durable r h has same =
     let log = c.args.self.now in
-    let at : ℕ = c.args.lsn - log.base - c.place-place.result - 5 in
+    let at : ℕ = c.args.lsn - log.base - c.place-place.result - 1 in
+    let end : ℕ = c.min-end.result in
     let t = there_in_buffer g.D.Disk base all durable log c.args.disk.now r c.requires.ready h has at (omega (arith, same)) in
-    let are : take (log.used - at) (drop at c.deref.result.now) ≡ drop at (buffered log) = ap (λ (l : List ℕ). take (log.used - at) (drop at l)) c.deref.ensures.value ∙ slice_is log.buffer.items at log.used (omega arith) in
-    let never : None ≡ Some t.entry = sym c.in_err-size-2.ensures.refused.1 ∙ ap first_record are ∙ first_is (drop at (buffered log)) t.entry t.first in
+    let cut = cut_first log.buffer.items at (log.start + 4 + log.used) (end - at) t.entry (omega arith) (omega (arith, log.sized, log.within)) (omega (arith, c.min-end.ensures)) t.first (omega (arith, c.min-end.ensures, t.fits.room, t.fits.most, length-drop at (shown log), shown_long log)) in
+    let are : take (end - at) (drop at c.deref.result.now) ≡ take (end - at) (drop at log.buffer.items) = ap (λ (l : List ℕ). take (end - at) (drop at l)) c.deref.ensures.value in
+    let never : None ≡ Some t.entry = sym c.in_err-size-2.ensures.refused.1 ∙ ap first_record are ∙ first_is (take (end - at) (drop at log.buffer.items)) t.entry cut in
     let bottom : ⊥ = cc in
     absurd bottom
 
 pub returns-clause-found : goal.returns-clause-found
 returns-clause-found g c base all durable r h has same =
     let log = c.args.self.now in
-    let at : ℕ = c.args.lsn - log.base - c.place-place.result - 5 in
+    let at : ℕ = c.args.lsn - log.base - c.place-place.result - 1 in
+    let end : ℕ = c.min-end.result in
     let t = there_in_buffer g.D.Disk base all durable log c.args.disk.now r c.requires.ready h has at (omega (arith, same)) in
-    let are : take (log.used - at) (drop at c.deref.result.now) ≡ drop at (buffered log) = ap (λ (l : List ℕ). take (log.used - at) (drop at l)) c.deref.ensures.value ∙ slice_is log.buffer.items at log.used (omega arith) in
+    let cut = cut_first log.buffer.items at (log.start + 4 + log.used) (end - at) t.entry (omega arith) (omega (arith, log.sized, log.within)) (omega (arith, c.min-end.ensures)) t.first (omega (arith, c.min-end.ensures, t.fits.room, t.fits.most, length-drop at (shown log), shown_long log)) in
+    let are : take (end - at) (drop at c.deref.result.now) ≡ take (end - at) (drop at log.buffer.items) = ap (λ (l : List ℕ). take (end - at) (drop at l)) c.deref.ensures.value in
     let copied = subst (λ (l : List ℕ). IsFrontOf c.in_ok-size-2.size l c.copy_front.new.room) are c.in_ok-size-2.ensures.copied in
-    record { ok = brought (drop at (buffered log)) c.copy_front.new.room c.in_ok-size-2.size t.entry r t.first copied t.is; cause = search rules }
+    record { ok = brought (take (end - at) (drop at log.buffer.items)) c.copy_front.new.room c.in_ok-size-2.size t.entry r cut copied t.is; cause = search rules }
+
+pub returns-in_err-size-clause-kept : goal.returns-in_err-size-clause-kept
+returns-in_err-size-clause-kept g c base all durable h = log_read g.D.Disk base all durable c.args.self.now c.args.disk.now c.read_front.new.disk c.read_front.ensures.reads.seen h
+
+pub returns-then-at-place-clause-kept : goal.returns-then-at-place-clause-kept
+returns-then-at-place-clause-kept g c base all durable h = log_read g.D.Disk base all durable c.args.self.now c.args.disk.now c.read_front.new.disk c.read_front.ensures.reads.seen h

@@ -1,4 +1,4 @@
-use Rattle.im_page_form.proofs.FormLemmas.{page_of_form}
+use Rattle.im_theory_page.proofs.FormLemmas.{page_of_form}
 use Rattle.im_page.proofs.page.Page.bytes.Goals as goal
 
 pub returns-clause-page : goal.returns-clause-page

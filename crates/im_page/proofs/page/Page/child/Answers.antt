@@ -1,8 +1,8 @@
 use Rattle.std.proofs.Common.{subst, ◌≤◌, arith, sym}
-use Rattle.im_page_form.specs.Entry.{Rises}
-use Rattle.im_page_form.specs.Page.{is_leaf}
-use Rattle.im_page_form.specs.Child.{IsChild}
-use Rattle.im_page_form.proofs.ChildLemmas.{rises_of, child_found, child_leftmost, child_before}
+use Rattle.im_theory_page.specs.Entry.{Rises}
+use Rattle.im_theory_page.specs.Page.{is_leaf}
+use Rattle.im_theory_page.specs.Child.{IsChild}
+use Rattle.im_theory_page.proofs.ChildLemmas.{rises_of, child_found, child_leftmost, child_before}
 use Rattle.im_page.proofs.page.Page.child.Goals as goal
 
 pub returns-in-Ok-clause-child : goal.returns-in-Ok-clause-child

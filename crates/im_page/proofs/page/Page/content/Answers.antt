@@ -1,4 +1,4 @@
-use Rattle.im_page_form.proofs.ContentLemmas.{content_from}
+use Rattle.im_theory_page.proofs.ContentLemmas.{content_from}
 use Rattle.im_page.proofs.page.Page.content.Goals as goal
 
 pub returns : goal.returns

@@ -1,7 +1,7 @@
 use Rattle.std.proofs.Common.{◌≡◌, slice_range, sym, ap, ◌∙◌}
-use Rattle.im_page_form.specs.Form.{entries_of}
-use Rattle.im_page_form.specs.Page.{is_leaf, with_entries, said_by}
-use Rattle.im_page_form.proofs.EntryLemmas.{length-entries_of, same_leaf}
+use Rattle.im_theory_page.specs.Form.{entries_of}
+use Rattle.im_theory_page.specs.Page.{is_leaf, with_entries, said_by}
+use Rattle.im_theory_page.proofs.EntryLemmas.{length-entries_of, same_leaf}
 use Rattle.im_page.proofs.FieldLemmas.{entries_written}
 use Rattle.im_page.proofs.page.Page.copy_entries.Goals as goal
 

@@ -1,5 +1,5 @@
-use Rattle.im_page_form.specs.Page.{is_leaf}
-use Rattle.im_page_form.proofs.EntryLemmas.{place_of_slots}
+use Rattle.im_theory_page.specs.Page.{is_leaf}
+use Rattle.im_theory_page.proofs.EntryLemmas.{place_of_slots}
 use Rattle.im_page.proofs.page.Page.find.Goals as goal
 
 pub returns : goal.returns

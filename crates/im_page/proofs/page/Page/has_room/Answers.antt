@@ -1,5 +1,5 @@
 use Rattle.std.proofs.Common.{arith, refl}
-use Rattle.im_page_form.proofs.EntryLemmas.{room_exact}
+use Rattle.im_theory_page.proofs.EntryLemmas.{room_exact}
 use Rattle.im_page.proofs.page.Page.has_room.Goals as goal
 
 pub returns-then-room-cell_len : goal.returns-then-room-cell_len

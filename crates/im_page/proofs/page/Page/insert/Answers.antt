@@ -1,6 +1,6 @@
 use Rattle.std.proofs.Common.{arith, refl}
-use Rattle.im_page_form.specs.Page.{is_leaf}
-use Rattle.im_page_form.proofs.EntryLemmas.{slots_of_place, full_is}
+use Rattle.im_theory_page.specs.Page.{is_leaf}
+use Rattle.im_theory_page.proofs.EntryLemmas.{slots_of_place, full_is}
 use Rattle.im_page.proofs.page.Page.insert.Goals as goal
 
 pub insert_cell-requires-clause-place : goal.insert_cell-requires-clause-place

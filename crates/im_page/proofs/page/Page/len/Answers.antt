@@ -1,6 +1,6 @@
 use Rattle.std.proofs.Common.{sym, ◌∙◌}
-use Rattle.im_page_form.specs.Page.{is_leaf}
-use Rattle.im_page_form.proofs.EntryLemmas.{length-entries_of}
+use Rattle.im_theory_page.specs.Page.{is_leaf}
+use Rattle.im_theory_page.proofs.EntryLemmas.{length-entries_of}
 use Rattle.im_page.proofs.page.Page.len.Goals as goal
 
 pub returns : goal.returns

@@ -1,13 +1,13 @@
 use Rattle.std.proofs.Common.{◌≡◌, true, refl}
-use Rattle.im_page_form.proofs.FormLemmas.{page_of_form, no_page}
-use Rattle.im_page.proofs.page.Page.load.Goals.{then-bytes-ne4096-via-then-bytes-ne4096, then-bytes-ne4096-via-else-bytes-ne4096+then-not-is_form}
+use Rattle.im_theory_page.proofs.FormLemmas.{page_of_form, no_page}
+use Rattle.im_page.proofs.page.Page.load.Goals.{then-bytes-ne-PAGE_SIZE-via-then-bytes-ne-PAGE_SIZE, then-bytes-ne-PAGE_SIZE-via-else-bytes-ne-PAGE_SIZE+then-not-is_form}
 use Rattle.im_page.proofs.page.Page.load.Goals as goal
 
-pub returns-then-bytes-ne4096-clause-none : goal.returns-then-bytes-ne4096-clause-none
-returns-then-bytes-ne4096-clause-none c =
-    no_page c.args.bytes.now (λ h. elim c.then-bytes-ne4096.branch [
-      | then-bytes-ne4096-via-then-bytes-ne4096 w ↦ w.if-bytes-ne4096.true h.packed.len
-      | then-bytes-ne4096-via-else-bytes-ne4096+then-not-is_form w ↦ (let t : w.is_form.result ≡ true = w.is_form.ensures.1 h in cc)
+pub returns-then-bytes-ne-PAGE_SIZE-clause-none : goal.returns-then-bytes-ne-PAGE_SIZE-clause-none
+returns-then-bytes-ne-PAGE_SIZE-clause-none c =
+    no_page c.args.bytes.now (λ h. elim c.then-bytes-ne-PAGE_SIZE.branch [
+      | then-bytes-ne-PAGE_SIZE-via-then-bytes-ne-PAGE_SIZE w ↦ w.if-bytes-ne-PAGE_SIZE.true h.packed.len
+      | then-bytes-ne-PAGE_SIZE-via-else-bytes-ne-PAGE_SIZE+then-not-is_form w ↦ (let t : w.is_form.result ≡ true = w.is_form.ensures.1 h in cc)
     ])
 
 pub returns-clause-page : goal.returns-clause-page

@@ -1,6 +1,6 @@
 use Rattle.std.proofs.Common.{ap, ◌∙◌}
-use Rattle.im_page_form.specs.Page.{is_leaf, said_by, with_entries}
-use Rattle.im_page_form.proofs.EntryLemmas.{length-entries_of}
+use Rattle.im_theory_page.specs.Page.{is_leaf, said_by, with_entries}
+use Rattle.im_theory_page.proofs.EntryLemmas.{length-entries_of}
 use Rattle.im_page.proofs.FieldLemmas.{entries_written}
 use Rattle.im_page.proofs.page.Page.remove.Goals as goal
 

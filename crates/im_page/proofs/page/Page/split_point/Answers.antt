@@ -1,8 +1,8 @@
 use Rattle.std.proofs.Common.{ℕ, List}
-use Rattle.im_page_form.specs.Form.{entries_of}
-use Rattle.im_page_form.specs.Page.{is_leaf}
-use Rattle.im_page_form.proofs.EntryLemmas.{leaf_kind}
-use Rattle.im_page_form.proofs.SplitLemmas.{right_has_room, both_parts, taken_fits}
+use Rattle.im_theory_page.specs.Form.{entries_of}
+use Rattle.im_theory_page.specs.Page.{is_leaf}
+use Rattle.im_theory_page.proofs.EntryLemmas.{leaf_kind}
+use Rattle.im_theory_page.proofs.SplitLemmas.{right_has_room, both_parts, taken_fits}
 use Rattle.im_page.proofs.page.Page.split_point.Goals as goal
 
 pub returns-clause-right : goal.returns-clause-right

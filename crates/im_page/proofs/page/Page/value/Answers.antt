@@ -1,7 +1,7 @@
 use Rattle.std.proofs.Common.{ap, sym, ◌∙◌}
-use Rattle.im_page_form.specs.Page.{is_leaf}
+use Rattle.im_theory_page.specs.Page.{is_leaf}
 use Rattle.im_base_types.specs.Pages.{Entry}
-use Rattle.im_page_form.proofs.EntryLemmas.{length-entries_of, entry_at-entries_of}
+use Rattle.im_theory_page.proofs.EntryLemmas.{length-entries_of, entry_at-entries_of}
 use Rattle.im_page.proofs.page.Page.value.Goals as goal
 
 pub value-requires-clause-place : goal.value-requires-clause-place

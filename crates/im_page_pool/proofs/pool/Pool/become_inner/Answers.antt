@@ -1,7 +1,7 @@
 use Rattle.std.proofs.Common.{true, sym, subst}
 use Rattle.im_base_types.specs.Pages.{Page}
 use Rattle.im_base_types.specs.declared.page_kind.PageKind.TheVariants.{Inner}
-use Rattle.im_page_form.specs.Header.{empty_body}
+use Rattle.im_theory_page.specs.Header.{empty_body}
 use Rattle.im_page_pool.specs.Frames.{stored_at}
 use Rattle.im_page_pool.specs.Pool.{Changes}
 use Rattle.im_page_pool.proofs.PoolLemmas.{seen_as, within, page_there, sets}

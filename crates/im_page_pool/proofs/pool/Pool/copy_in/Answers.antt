@@ -1,7 +1,7 @@
 use Rattle.std.proofs.Common.{◌≡◌, true, Some, sym, ap, ◌∙◌}
 use Rattle.std.proofs.lemmas.Result.{on_ok_weaker}
 use Rattle.im_base_types.specs.Pages.{Page}
-use Rattle.im_page_form.specs.Page.{page_of}
+use Rattle.im_theory_page.specs.Page.{page_of}
 use Rattle.im_page_pool.specs.Frames.{stored_at, Puts}
 use Rattle.im_page_pool.proofs.PoolLemmas.{seen_as, sets_shown, within, page_now, sets, found_at}
 use Rattle.im_page_pool.proofs.pool.Pool.copy_in.Goals as goal

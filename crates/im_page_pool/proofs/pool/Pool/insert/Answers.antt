@@ -2,8 +2,8 @@ use Rattle.std.proofs.Common.{◌≡◌, ◌↔◌, ◌+◌, ◌≤◌, ◌<◌,
 use Rattle.std.proofs.lemmas.Result.{on_ok_weaker}
 use Rattle.im_base_types.specs.Pages.{Page}
 use Rattle.im_base_types.specs.declared.page_kind.PageKind.TheVariants.{Inner}
-use Rattle.im_page_form.specs.Entry.{Parts, taken, size}
-use Rattle.im_page_form.specs.Page.{HoldsEntries, is_leaf_kind, with_entries}
+use Rattle.im_theory_page.specs.Entry.{Parts, taken, size}
+use Rattle.im_theory_page.specs.Page.{HoldsEntries, is_leaf_kind, with_entries}
 use Rattle.im_page_pool.specs.Frames.{stored_at, Puts}
 use Rattle.im_page_pool.specs.Pool.{Changes}
 use Rattle.im_page_pool.proofs.PoolLemmas.{seen_as, within, page_there, sets}

@@ -2,7 +2,7 @@ use Rattle.std.proofs.Common.{rules, arith, ◌≡◌, ◌<◌, List, length, ap
 use Rattle.im_page_table.specs.declared.table_entry.TableEntry.{TableEntry}
 use Rattle.im_page_table.specs.DirtyTable.{put, IsRising, IsFound, IsAbsent}
 use Rattle.im_theory_log.specs.WriterSteps.{changed_entry}
-use Rattle.im_page_table.specs.declared.dirty_table.TheConstants.{MOST}
+use Rattle.im_base_types.specs.declared.sizes.TheConstants.{MOST_DIRTY}
 use Rattle.im_page_table.proofs.Tables.{changes_entry, put_set, put_absent, put_rising, absent_none}
 use Rattle.im_page_table.proofs.dirty_table.DirtyTable.enter.Goals as goal
 
@@ -25,7 +25,7 @@ unwrap-requires c =
     let v : c.self.inside.entries.items ≡ c.args.self.now = c.self.view_is in
     let absent : IsAbsent c.args.self.now c.args.page c.in-Err.at = c.in-Err.ensures.absent in
     let rising : IsRising c.args.self.now = subst (λ (l : List TableEntry). IsRising l) v c.self.invariant.0 in
-    let room : length c.args.self.now < MOST = c.requires.room (absent_none c.args.self.now c.in-Err.at c.args.page rising absent) in
+    let room : length c.args.self.now < MOST_DIRTY = c.requires.room (absent_none c.args.self.now c.in-Err.at c.args.page rising absent) in
     let n : length c.self.inside.entries.items ≡ length c.args.self.now = ap (λ (l : List TableEntry). length l) v in
     let k : vec_len c.self.inside.entries ≡ length c.self.inside.entries.items = search rules in
     c.insert.ensures.succeeds (omega (arith, n, k, room, c.self.invariant))
@@ -35,7 +35,7 @@ invariant_of-self-in-Err c =
     let v : c.self.inside.entries.items ≡ c.args.self.now = c.self.view_is in
     let absent : IsAbsent c.args.self.now c.args.page c.in-Err.at = c.in-Err.ensures.absent in
     let rising : IsRising c.args.self.now = subst (λ (l : List TableEntry). IsRising l) v c.self.invariant.0 in
-    let room : length c.args.self.now < MOST = c.requires.room (absent_none c.args.self.now c.in-Err.at c.args.page rising absent) in
+    let room : length c.args.self.now < MOST_DIRTY = c.requires.room (absent_none c.args.self.now c.in-Err.at c.args.page rising absent) in
     let n : length c.self.inside.entries.items ≡ length c.args.self.now = ap (λ (l : List TableEntry). length l) v in
     let k : vec_len c.self.inside.entries ≡ length c.self.inside.entries.items = search rules in
     let new = rw c.unwrap.ensures at c.insert.ensures.items in

@@ -1,6 +1,6 @@
 use Rattle.std.proofs.Common.{◌≡◌, ◌≤◌, ◌++◌, length, take, drop, vec_len, vec_capacity}
 use Rattle.im_page_table.specs.DirtyTable.{synced_entries}
-use Rattle.im_page_table.specs.declared.dirty_table.TheConstants.{MOST}
+use Rattle.im_base_types.specs.declared.sizes.TheConstants.{MOST_DIRTY}
 use Rattle.im_page_table.proofs.dirty_table.DirtyTable.sync.Given as goal
 
 abbrev pub invariant-loop-at : goal.invariant-loop-at
@@ -8,6 +8,6 @@ invariant-loop-at l = record {
   kept_low : l.kept ≤ l.at;
   same : length l.self-inside.entries.items ≡ length l.fn.self;
   done : synced_entries l.fn.self ≡ take l.kept l.self-inside.entries.items ++ synced_entries (drop l.at l.self-inside.entries.items);
-  within : vec_len l.self-inside.entries ≤ MOST;
-  room : MOST ≤ vec_capacity l.self-inside.entries;
+  within : vec_len l.self-inside.entries ≤ MOST_DIRTY;
+  room : MOST_DIRTY ≤ vec_capacity l.self-inside.entries;
 }

@@ -3,8 +3,8 @@ use Rattle.im_restart_analysis.specs.CopyLsns.{AreCopies}
 use Rattle.im_restart_analysis.proofs.analysis.Analysis.finish.Goals as goal
 
 pub returns : goal.returns
-returns c least log is =
-    let at = c.redo_point-redo_point.ensures least log is in
+returns c least n log is =
+    let at = c.redo_point-redo_point.ensures least n log is in
     record {
       next = is.next;
       point = at;

@@ -2,7 +2,7 @@ use Rattle.std.proofs.Common.{sym, subst, ◌∙◌, ap, ◌≡◌, true, false,
 use Rattle.std.specs.Result.{is_ok}
 use Rattle.im_base_types.specs.Pages.{Body, Page}
 use Rattle.im_base_types.specs.declared.page_kind.PageKind.TheVariants.{Leaf}
-use Rattle.im_page_form.specs.Entry.{Rises}
+use Rattle.im_theory_page.specs.Entry.{Rises}
 use Rattle.im_smo_pages.specs.Parts.{CanSplit}
 use Rattle.im_smo_pages.proofs.Holding.{held_there, three_puts}
 use Rattle.im_smo_pages.proofs.Parting.{parts_leaf}

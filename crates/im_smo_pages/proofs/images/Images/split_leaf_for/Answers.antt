@@ -6,7 +6,7 @@ use Rattle.im_base_types.specs.declared.page_kind.PageKind.TheVariants.{Leaf}
 use Rattle.im_smo_pages.specs.Images.{Has, held}
 use Rattle.im_smo_pages.specs.OnImages.{Becomes}
 use Rattle.im_smo_pages.specs.Changed.{linked_prev}
-use Rattle.im_smo_pages.proofs.GoingDown.{leaf_has_room, next_still_leaf}
+use Rattle.im_smo_pages.proofs.GoingDown.{has_half, leaf_has_room, next_still_leaf}
 use Rattle.im_smo_pages.proofs.images.Images.split_leaf_for.Goals as goal
 
 pub returns-clause-goes : goal.returns-clause-goes
@@ -34,3 +34,8 @@ returns-in_err-link_prev-clause-sound c pages spare good way goes page_is has ne
 
 pub returns-clause-there : goal.returns-clause-there
 returns-clause-there c = c.in_ok-link_prev.ensures.new.kept c.args.p c.in_ok-n.ensures.parts.left
+
+pub returns-clause-half : goal.returns-clause-half
+returns-clause-half c =
+    let new = c.link_prev.new.self in
+    has_half new c.args.p c.args.q (c.in_ok-link_prev.ensures.new.kept c.args.p c.in_ok-n.ensures.parts.left) (c.in_ok-link_prev.ensures.new.kept c.args.q c.in_ok-n.ensures.parts.right) c.half.ensures

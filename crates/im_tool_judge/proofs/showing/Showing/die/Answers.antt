@@ -1,5 +1,5 @@
 use Rattle.std.proofs.Common.{sym, ◌∙◌}
-use Rattle.im_front.specs.Calls.{asked_by}
+use Rattle.im_base_steps.specs.Calls.{asked_by}
 use Rattle.im_tool_judge.proofs.Shows.{died, none_died}
 use Rattle.im_tool_judge.proofs.showing.Showing.die.Goals as goal
 

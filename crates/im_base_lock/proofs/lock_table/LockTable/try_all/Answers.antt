@@ -1,0 +1,37 @@
+use Rattle.std.proofs.Common.{refl, subst}
+use Rattle.im_base_lock.specs.Table.{Table, locks_of, row, IsGrown, SameTable}
+use Rattle.im_base_lock.specs.Locks.{WaitsFor, MustDie, IsFree}
+use Rattle.im_base_lock.specs.InStep.{owned}
+use Rattle.im_base_lock.proofs.Conflicts.{free-by, waits-by, dies-by}
+use Rattle.im_base_lock.proofs.lock_table.LockTable.try_all.Goals as goal
+use Rattle.im_base_lock.proofs.lock_table.LockTable.try_all.Goals.{then-t-holder, else-t-holder}
+
+pub returns-in-Some-clause-decided : goal.returns-in-Some-clause-decided
+returns-in-Some-clause-decided c =
+    elim c.if-t-holder.branch [
+      | then-t-holder w ↦ rw w.result-is (
+        subst (λ (table : Table). WaitsFor (locks_of table) c.args.t (row c.args.requests.now) c.in-Some.holder) c.self.view_is
+            (waits-by c.self.inside.names (owned c.self.inside.owners) c.self.invariant c.args.t (row c.args.requests.now) c.in-Some.holder c.in-Some.ensures w.if-t-holder.true),
+        refl,
+      )
+      | else-t-holder w ↦ rw w.result-is (
+        subst (λ (table : Table). MustDie (locks_of table) c.args.t (row c.args.requests.now)) c.self.view_is
+            (dies-by c.self.inside.names (owned c.self.inside.owners) c.self.invariant c.args.t (row c.args.requests.now) c.in-Some.holder c.in-Some.ensures w.if-t-holder.false),
+        refl,
+      )
+    ]
+
+pub returns-clause-decided : goal.returns-clause-decided
+returns-clause-decided c = (
+  subst (λ (table : Table). IsFree (locks_of table) c.args.t (row c.args.requests.now)) c.self.view_is
+      (free-by c.self.inside.names (owned c.self.inside.owners) c.self.invariant c.args.t (row c.args.requests.now) c.in_default.ensures),
+  subst (λ (table : Table). IsGrown table c.args.t (row c.args.requests.now) (owned c.grant_to.new.owners)) c.self.view_is c.in_default-grant_to.ensures.granted,
+)
+
+pub returns-in-Err-clause-refused : goal.returns-in-Err-clause-refused
+returns-in-Err-clause-refused c = (
+  refl,
+  subst (λ (table : Table). IsFree (locks_of table) c.args.t (row c.args.requests.now)) c.self.view_is
+      (free-by c.self.inside.names (owned c.self.inside.owners) c.self.invariant c.args.t (row c.args.requests.now) c.in_default.ensures),
+  subst (λ (table : Table). SameTable table (owned c.grant_to.new.owners)) c.self.view_is c.in-Err.ensures.err,
+)

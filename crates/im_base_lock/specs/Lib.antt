@@ -1,0 +1,13 @@
+pub mod Locks
+pub mod Table
+pub mod HeldKeys
+pub mod Index
+pub mod InStep
+pub mod Rows
+pub mod View
+pub mod Machine
+pub mod Isolation
+pub mod Kept
+pub mod Found
+pub mod Serving
+pub mod Worked

@@ -1,0 +1,59 @@
+-- The lock table as one value, and what its calls promise.
+use Rattle.std.specs.Prelude.{◌≡◌, ◌≢◌, ℕ, Bool, true, false, List, [], ◌∷◌, cond, map, nat_eq}
+use Rattle.im_base_lock.specs.Locks.{Name, At, PastAll, Request, Lock, kept, SameLocks, IsFree, WaitsFor, MustDie}
+use Rattle.im_base_lock.specs.declared.name.Name.{Name as NameInCode}
+use Rattle.im_base_lock.specs.declared.name.Name.TheVariants.{Key as KeyInCode, End as EndInCode}
+use Rattle.im_base_lock.specs.declared.request.Request.{Request as RequestInCode}
+use Rattle.im_base_lock.specs.declared.verdict.Verdict.{Verdict}
+use Rattle.im_base_lock.specs.declared.verdict.Verdict.TheVariants.{Granted, Wait, Die}
+
+-- who holds which locks: each owner once
+abbrev pub Table : Type 0
+Table = List (ℕ × List Lock)
+
+-- the locks that s holds
+abbrev pub locks_of : Table → ℕ → List Lock
+locks_of [] s = []
+locks_of (e ∷ es) s = cond (nat_eq s e.0) e.1 (locks_of es s)
+
+-- a name as the code has it
+abbrev pub named : NameInCode → Name
+named (KeyInCode key) = At key.now
+named EndInCode = PastAll
+
+-- a request as the code has it
+abbrev pub requested : RequestInCode → Request
+requested q = record { name = named q.name; mode = q.mode; duration = q.duration }
+
+-- the requests of a step as the code has them
+abbrev pub row : List RequestInCode → List Request
+row qs = map requested qs
+
+-- everybody but t holds the same list of locks
+abbrev pub OthersKeep : Table → ℕ → Table → Type 0
+OthersKeep old t new = (s : ℕ) → s ≢ t → locks_of new s ≡ locks_of old s
+
+-- everybody holds the same list of locks
+abbrev pub SameTable : Table → Table → Type 0
+SameTable old new = (s : ℕ) → locks_of new s ≡ locks_of old s
+
+-- t holds what it held and what was asked to commit, and everybody else what it held
+pub record IsGrown (old : Table) (t : ℕ) (asked : List Request) (new : Table) : Type 0 where
+  pub own : SameLocks (locks_of new t) (kept asked (locks_of old t))
+  pub others : OthersKeep old t new
+
+-- the verdict on what t asks, and the table after it
+abbrev pub Decides : Table → ℕ → List Request → Verdict → Table → Type 0
+Decides old t asked Granted new = IsFree (locks_of old) t asked × IsGrown old t asked new
+Decides old t asked (Wait holder) new = WaitsFor (locks_of old) t asked holder × (new ≡ old)
+Decides old t asked Die new = MustDie (locks_of old) t asked × (new ≡ old)
+
+-- t holds nothing, and everybody else what it held
+pub record IsReleased (old : Table) (t : ℕ) (new : Table) : Type 0 where
+  pub none : locks_of new t ≡ []
+  pub others : OthersKeep old t new
+
+-- those for whom the test holds hold nothing, and everybody else what it held
+pub record AreReleased (old : Table) (gone : ℕ → Bool) (new : Table) : Type 0 where
+  pub none : (s : ℕ) → gone s ≡ true → locks_of new s ≡ []
+  pub others : (s : ℕ) → gone s ≡ false → locks_of new s ≡ locks_of old s

@@ -1,0 +1,103 @@
+//! What is asked of a store that many transactions use at once.
+
+ghost use Rattle.std.specs.Prelude.{◌≡◌, IfOk};
+ghost use Rattle.im_base_steps.specs.Calls.{asked_by, may_end, most_entries, most_key};
+
+use im_base_types::{LONGEST_KEY, MOST_ENTRIES, PageNo, Rid, TxnId};
+use std::alloc::{AllocError, Global};
+
+/// A step, made by one call. A key or a bound is handed in as bytes; where it has 0 bytes or more than 255 the step
+/// is refused.
+#[derive(Drop)]
+pub enum Step {
+    /// Begins a transaction.
+    Begin,
+    /// The row id of a key.
+    Fetch(TxnId, Vec<u8>),
+    /// The entry of the least key from this one on.
+    Seek(TxnId, Vec<u8>),
+    /// The entry of the least key above this one.
+    Next(TxnId, Vec<u8>),
+    /// The first entries from the first key to the second, as many as the limit, which is brought into 1 to 256.
+    Scan(TxnId, Vec<u8>, Vec<u8>, u64),
+    /// Puts a key with its row id, where it is not there yet.
+    Insert(TxnId, Vec<u8>, Rid),
+    /// Drops a key.
+    Delete(TxnId, Vec<u8>),
+    /// Makes all that the transaction did durable, and ends it.
+    Commit(TxnId),
+    /// Takes back what the transaction did: ends it where that is nothing, and else begins to.
+    Rollback(TxnId),
+    /// Takes back the newest change of a transaction that is rolling back, and ends it behind the last.
+    Continue(TxnId),
+    /// Writes a page in place, where something of it is left to be written.
+    FlushPage(PageNo),
+    /// Makes every record so far durable.
+    Force,
+    /// Asks that a restart may begin later in the log. A store whose log has no checkpoints makes every record durable, as `Force` does.
+    Checkpoint,
+}
+
+impl Step {
+    /// A step that asks the same.
+    pub fn try_clone(&self, alloc: Global) -> Result<Step, AllocError>
+        ensures { IfOk result (λ copy. asked_by copy ≡ asked_by self.now) }
+    {
+        Ok(match self {
+            Step::Begin => Step::Begin,
+            Step::Fetch(t, key) => Step::Fetch(*t, copied(alloc, key)?),
+            Step::Seek(t, key) => Step::Seek(*t, copied(alloc, key)?),
+            Step::Next(t, key) => Step::Next(*t, copied(alloc, key)?),
+            Step::Scan(t, lo, hi, limit) => {
+                Step::Scan(*t, copied(alloc, lo)?, copied(alloc, hi)?, *limit)
+            }
+            Step::Insert(t, key, rid) => Step::Insert(*t, copied(alloc, key)?, *rid),
+            Step::Delete(t, key) => Step::Delete(*t, copied(alloc, key)?),
+            Step::Commit(t) => Step::Commit(*t),
+            Step::Rollback(t) => Step::Rollback(*t),
+            Step::Continue(t) => Step::Continue(*t),
+            Step::FlushPage(page) => Step::FlushPage(*page),
+            Step::Force => Step::Force,
+            Step::Checkpoint => Step::Checkpoint,
+        })
+    }
+
+    /// Whether it may end a transaction: a Commit, a Rollback, a Continue. Such a step is never refused for a full trace.
+    pub fn may_end(&self) -> bool
+        ensures { result ≡ may_end (asked_by self.now) }
+    {
+        matches!(
+            self,
+            Step::Commit(_) | Step::Rollback(_) | Step::Continue(_)
+        )
+    }
+
+    /// How many entries its reply may have at most.
+    pub fn most_entries(&self) -> usize
+        ensures { result ≡ most_entries (asked_by self.now) }
+    {
+        match self {
+            Step::Scan(_, _, _, limit) => (*limit).clamp(1, MOST_ENTRIES as u64) as usize,
+            _ => 0,
+        }
+    }
+
+    /// How many bytes the key of its reply may have at most.
+    pub fn most_key(&self) -> usize
+        ensures { result ≡ most_key (asked_by self.now) }
+    {
+        match self {
+            Step::Seek(..) | Step::Next(..) => LONGEST_KEY,
+            _ => 0,
+        }
+    }
+}
+
+// The same bytes.
+fn copied(alloc: Global, key: &Vec<u8>) -> Result<Vec<u8>, AllocError>
+    ensures { IfOk result (λ copy. copy.items ≡ key.now.items) }
+{
+    let mut copy = Vec::new(alloc);
+    copy.extend_from_slice(key.as_slice())?;
+    Ok(copy)
+}

@@ -1,0 +1,40 @@
+-- The rows of the table, in rising number.
+use Rattle.std.specs.Prelude.{◌≡◌, ◌<◌, ◌==◌, ℕ, Bool, not, List, [], ◌∷◌, if◌then◌else◌}
+use Rattle.im_base_txn.specs.declared.transaction.Mark.{Mark}
+use Rattle.im_base_txn.specs.declared.transaction.Mark.TheVariants.{Going}
+use Rattle.im_base_txn.specs.declared.transaction.Transaction.{Transaction}
+
+-- A transaction that has just begun.
+abbrev pub begun : ℕ → Transaction
+begun number = record { number = number; last = 0; undo_next = 0; mark = Going }
+
+-- Each of these numbers is above this one.
+abbrev pub AreAbove : ℕ → List Transaction → Type 0
+AreAbove n [] = Unit {0}
+AreAbove n (row ∷ rows) = (n < row.number) × AreAbove n rows
+
+-- Numbers rise, so that each stands once.
+abbrev pub AreRising : List Transaction → Type 0
+AreRising [] = Unit {0}
+AreRising (row ∷ rows) = AreAbove row.number rows × AreRising rows
+
+-- Each of these numbers is below this one.
+abbrev pub AreBelow : ℕ → List Transaction → Type 0
+AreBelow n [] = Unit {0}
+AreBelow n (row ∷ rows) = (row.number < n) × AreBelow n rows
+
+-- Whether a row has this number.
+abbrev pub is_of : ℕ → Transaction → Bool
+is_of number row = row.number == number
+
+-- A transaction after a record.
+abbrev pub with_record : ℕ → ℕ → Transaction → Transaction
+with_record last undo_next row = record { number = row.number; last = last; undo_next = undo_next; mark = row.mark }
+
+-- A transaction with this mark.
+abbrev pub with_mark : Mark → Transaction → Transaction
+with_mark mark row = record { number = row.number; last = row.last; undo_next = row.undo_next; mark = mark }
+
+-- A row after a change of the transaction of this number.
+abbrev pub changed : ℕ → (Transaction → Transaction) → Transaction → Transaction
+changed number change row = if row.number == number then change row else row

@@ -1,0 +1,103 @@
+use Rattle.std.proofs.Common.{rules, ◌≡◌, length, true, false, true≢false, List, [], ◌∷◌, ◌++◌, sym, ap, ◌∙◌, subst, arith, length-append}
+use Rattle.im_base_types.specs.Lives.{nothing_shown}
+use Rattle.im_base_types.specs.Answers as answers
+use Rattle.im_base_steps.specs.declared.step.Step.{Step}
+use Rattle.im_base_steps.specs.declared.reply.Reply.{Reply}
+use Rattle.im_base_steps.specs.Calls.{asked_by, told_by, is_blocked}
+use Rattle.im_front.specs.Events.{shown_in}
+use Rattle.im_base_steps.specs.Replies.{is_full}
+use Rattle.im_front.specs.Held.{IsTallied, Stands}
+use Rattle.im_front.specs.Plain.{PlainState, none, seen_of}
+use Rattle.im_front.proofs.Replies.{blocked_counts}
+use Rattle.im_front.proofs.Steps.{stands_push, stands_blocked, tallied_as, tallied_push}
+use Rattle.im_front.proofs.Growing.{alive_from, seen_of-push}
+use Rattle.im_front.proofs.open.Kept.step.Goals as goal
+
+pub invariant_of-self : goal.invariant_of-self
+invariant_of-self g c =
+    let i = c.self.invariant in
+    let trace = seen_of c.self.inside.trace.steps in
+    let b : is_blocked (told_by c.step-reply.result) ≡ true = sym c.is_blocked.ensures ∙ c.if-is_blocked.true in
+    let alive = alive_from g.E.Store.life g.E.Store.tells c.self.inside.trace.steps c.self.inside.engine i.0 in
+    let same = blocked_counts (told_by c.step-reply.result) (g.E.Store.actives c.self.inside.engine) (g.E.Store.actives c.step-reply.new.self) b (c.step-reply.ensures.counted alive) in (
+      (λ tells.
+          let h = i.0 tells in
+          let made = c.step-reply.ensures.kept h.1.before (shown_in nothing_shown h.1.events) h.1.view h.1.life_is in
+          (h.0, stands_blocked g.E.Store.life h.0 trace c.self.inside.engine h.1 c.step-reply.new.self (asked_by c.args.step.now) (told_by c.step-reply.result) made b)),
+      tallied_as trace (g.E.Store.actives c.self.inside.engine) 0 none c.self.inside.counts i.1 (g.E.Store.actives c.step-reply.new.self) same,
+      i.2,
+      i.3,
+      i.4,
+    )
+
+pub returns-then-is_blocked-clause-run : goal.returns-then-is_blocked-clause-run
+returns-then-is_blocked-clause-run g c base was =
+    let h = subst (λ (s : PlainState g.row.E.Denot). Stands g.E.Store.life base (seen_of s.trace) s.engine) (sym c.self.view_is) was in
+    let b : is_blocked (told_by c.step-reply.result) ≡ true = sym c.is_blocked.ensures ∙ c.if-is_blocked.true in
+    let made = c.step-reply.ensures.kept h.before (shown_in nothing_shown h.events) h.view h.life_is in
+    stands_blocked g.E.Store.life base (seen_of c.self.inside.trace.steps) c.self.inside.engine h c.step-reply.new.self (asked_by c.args.step.now) (told_by c.step-reply.result) made b
+
+pub publish-requires-clause-sound : goal.publish-requires-clause-sound
+publish-requires-clause-sound g c =
+    let i = c.self.invariant in
+    let alive = alive_from g.E.Store.life g.E.Store.tells c.self.inside.trace.steps c.self.inside.engine i.0 in
+    let tallied = tallied_push (seen_of c.self.inside.trace.steps) (g.E.Store.actives c.self.inside.engine) 0 none c.self.inside.counts i.1 (g.E.Store.actives c.step-reply.new.self) c.counted-now.result (asked_by c.args.step.now)
+    (told_by c.step-reply.result) (c.step-reply.ensures.reply alive) (c.step-reply.ensures.counted alive) c.counted-now.ensures in
+    let b = tallied.balanced in
+    omega arith
+
+pub invariant_of-self-2 : goal.invariant_of-self-2
+invariant_of-self-2 g c =
+    let i = c.self.invariant in
+    let steps = c.self.inside.trace.steps in
+    let trace = seen_of steps in
+    let alive = alive_from g.E.Store.life g.E.Store.tells steps c.self.inside.engine i.0 in
+    let tallied = tallied_push trace (g.E.Store.actives c.self.inside.engine) 0 none c.self.inside.counts i.1 (g.E.Store.actives c.step-reply.new.self) c.counted-now.result (asked_by c.args.step.now)
+    (told_by c.step-reply.result) (c.step-reply.ensures.reply alive) (c.step-reply.ensures.counted alive) c.counted-now.ensures in
+    let last : Step × Reply = (c.args.step.now, c.step-reply.result) in
+    let grown : c.with.result.steps ≡ steps ++ last ∷ [] = c.with.ensures in
+    let seen : seen_of c.with.result.steps ≡ trace ++ (asked_by c.args.step.now, told_by c.step-reply.result) ∷ [] = ap seen_of grown ∙ seen_of-push steps c.args.step.now c.step-reply.result in
+    let longer = ap length grown ∙ length-append steps (last ∷ []) in (
+      (λ tells.
+          let h = i.0 tells in
+          let made = c.step-reply.ensures.kept h.1.before (shown_in nothing_shown h.1.events) h.1.view h.1.life_is in
+          let stands = stands_push g.E.Store.life h.0 trace c.self.inside.engine h.1 c.step-reply.new.self (asked_by c.args.step.now) (told_by c.step-reply.result) made in
+          (h.0, subst (λ (l : List (answers.Step × answers.Reply)). Stands g.E.Store.life h.0 l c.step-reply.new.self) (sym seen) stands)),
+      subst (λ (l : List (answers.Step × answers.Reply)). IsTallied l (g.E.Store.actives c.step-reply.new.self) 0 none c.counted-now.result) (sym seen) tallied,
+      omega (arith, i.2, longer),
+      c.publish.ensures.cell ∙ i.3,
+      c.publish.ensures.wrote,
+    )
+
+pub returns-clause-adds : goal.returns-clause-adds
+returns-clause-adds g c _ _ =
+    let last : Step × Reply = (c.args.step.now, c.step-reply.result) in
+    let grown : c.with.result.steps ≡ c.self.inside.trace.steps ++ last ∷ [] = c.with.ensures in
+    grown ∙ ap (λ (s : PlainState g.row.E.Denot). s.trace ++ last ∷ []) c.self.view_is
+
+pub returns-clause-blocked : goal.returns-clause-blocked
+returns-clause-blocked g c b = absurd (true≢false (sym b ∙ (sym c.is_blocked.ensures ∙ c.if-is_blocked.false)))
+
+pub returns-clause-same : goal.returns-clause-same
+returns-clause-same g c f =
+    let alive = alive_from g.E.Store.life g.E.Store.tells c.self.inside.trace.steps c.self.inside.engine c.self.invariant.0 in
+    absurd (true≢false (sym f ∙ (c.step-reply.ensures.reply alive).room))
+
+pub returns-clause-run : goal.returns-clause-run
+returns-clause-run g c base was =
+    let h = subst (λ (s : PlainState g.row.E.Denot). Stands g.E.Store.life base (seen_of s.trace) s.engine) (sym c.self.view_is) was in
+    let steps = c.self.inside.trace.steps in
+    let last : Step × Reply = (c.args.step.now, c.step-reply.result) in
+    let grown : c.with.result.steps ≡ steps ++ last ∷ [] = c.with.ensures in
+    let seen : seen_of c.with.result.steps ≡ seen_of steps ++ (asked_by c.args.step.now, told_by c.step-reply.result) ∷ [] = ap seen_of grown ∙ seen_of-push steps c.args.step.now c.step-reply.result in
+    let made = c.step-reply.ensures.kept h.before (shown_in nothing_shown h.events) h.view h.life_is in
+    let stands = stands_push g.E.Store.life base (seen_of steps) c.self.inside.engine h c.step-reply.new.self (asked_by c.args.step.now) (told_by c.step-reply.result) made in
+    subst (λ (l : List (answers.Step × answers.Reply)). Stands g.E.Store.life base l c.step-reply.new.self) (sym seen) stands
+
+pub returns-clause-full : goal.returns-clause-full
+returns-clause-full g c =
+    let alive = alive_from g.E.Store.life g.E.Store.tells c.self.inside.trace.steps c.self.inside.engine c.self.invariant.0 in
+    let room : is_full (told_by c.step-reply.result) ≡ false = (c.step-reply.ensures.reply alive).room in (
+      (λ f. absurd (true≢false (sym f ∙ room))),
+      (λ q. absurd (true≢false (sym (search rules) ∙ c.if-is_spent.false))),
+    )

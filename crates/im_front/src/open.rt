@@ -1,0 +1,249 @@
+//! A front that keeps its trace for proofs alone, and hands its callers no parts of a ledger: nobody has to pick one.
+
+ghost use Rattle.std.specs.Prelude.{◌≡◌, ◌≤◌, ◌^◌, ◌+◌, ◌↔◌, ◌⊎◌, List, true, false, [], ◌∷◌, ◌++◌, length, Err, IfOk, IfErr, OnErr, IfSome, IsSome};
+ghost use Rattle.std.specs.List.{sum_by, All};
+ghost use Rattle.std.specs.Arc.{arc_value};
+ghost use Rattle.crossbeam_utils.specs.Seq.{cell_view};
+ghost use Rattle.im_base_types.specs.Pages.{Entry};
+ghost use Rattle.im_front_stats.specs.Counts.{writer, started, committed, rolled_back, IsSound, NoLess};
+ghost use Rattle.im_base_types.specs.declared.fault.Fault.TheVariants.{TooMany, Memory};
+ghost use Rattle.im_base_steps.specs.Calls.{told_by, is_blocked};
+ghost use Rattle.im_front.specs.Traces.{counts_of};
+ghost use Rattle.im_base_steps.specs.Replies.{is_full, IsReply};
+ghost use Rattle.im_front.specs.Held.{IsResting, Stands, after_trace};
+ghost use Rattle.im_front.specs.Plain.{none, seen_of, Notes, GoesOn, IsRunFrom, StopKeepsFrom};
+
+use crate::held::{counted, publish};
+use crate::seat::{Rested, Seat};
+use crate::stats::Stats;
+use crate::trace::Trace;
+use im_base_steps::{Reply, Step, Store};
+use im_base_types::Fault;
+use im_front_stats::{Pass, StatsCell};
+use std::alloc::Global;
+use std::marker::Model;
+use std::sync::{Arc, Condvar, Mutex, Wait};
+
+/// The most steps that a front ever makes.
+const MOST: u64 = 1 << 62;
+
+/// The value behind the lock: an engine, and for proofs alone the trace of its steps.
+#[derive(Drop)]
+pub struct Kept<E: Store> {
+    engine: E,
+    trace: Trace,
+    made: u64,
+    counts: [u64; 3],
+    cell: Arc<StatsCell, Global>,
+    pass: Pass,
+}
+
+impl<E: Store> Model for Kept<E> {
+    ghost use Rattle.std.specs.Prelude.{◌≡◌, ◌+◌, length};
+    ghost use Rattle.std.specs.Arc.{arc_value};
+    ghost use Rattle.crossbeam_utils.specs.Seq.{cell_view};
+    ghost use Rattle.im_front_stats.specs.Counts.{writer};
+    ghost use Rattle.im_front.specs.Held.{IsTallied};
+    ghost use Rattle.im_front.specs.Plain.{PlainState, StandsFrom, none, seen_of};
+
+    ghost Value = { PlainState E };
+
+    ghost view = { λ h. record { engine = h.engine; trace = h.trace.steps; counts = (cell_view h.pass).seen; handed = 0 } };
+
+    ghost invariant = { λ h. (E.tells → StandsFrom E.life h.trace.steps h.engine) × IsTallied (seen_of h.trace.steps) (E.actives h.engine) 0 none h.counts × (h.made ≡ length h.trace.steps) × (h.pass.table_id ≡ (arc_value h.cell).table.shared.table_id) × (cell_view h.pass ≡ writer h.counts) };
+}
+
+/// What is left of a front.
+#[derive(Drop)]
+pub struct Left<E: Store> {
+    /// The engine.
+    pub engine: E,
+    /// The steps that were made, for proofs alone.
+    pub trace: Trace,
+    /// How many.
+    pub made: u64,
+}
+
+impl<E: Store> Kept<E> {
+    /// An engine at rest, with an empty trace. Refused `Memory`; engine and blank come back then.
+    pub fn new(alloc: Global, at_rest: Rested<E>) -> Result<Kept<E>, (Fault, Rested<E>)>
+        ensures ok { IfOk result (λ h. (h.engine ≡ at_rest) × (h.trace ≡ []) × (h.counts ≡ none)) }
+        ensures err { IfErr result (λ e. (e.0 ≡ Memory) × (e.1 ≡ at_rest)) }
+    {
+        let Ok((cell, pass)) = StatsCell::new(alloc) else {
+            return Err((Fault::Memory, at_rest));
+        };
+        let Ok(cell) = Arc::new(alloc, cell) else {
+            return Err((Fault::Memory, at_rest));
+        };
+        let engine = at_rest.into_engine();
+        Ok(Kept {
+            engine,
+            trace: Trace::new(),
+            made: 0,
+            counts: [0; 3],
+            cell,
+            pass,
+        })
+    }
+
+    /// What always holds of the value behind the lock. It does nothing: its contract says so.
+    pub fn holds_always(&self)
+        ensures run { E.tells → IsRunFrom E.life self.now.trace self.now.engine }
+        ensures stops { E.tells → StopKeepsFrom E.leaves self.now.trace self.now.engine }
+        ensures replies { All (λ e. IsReply e.0 e.1) (seen_of self.now.trace) }
+        ensures counts { self.now.counts ≡ after_trace none (seen_of self.now.trace) }
+        ensures active { started self.now.counts ≡ committed self.now.counts + rolled_back self.now.counts + E.actives self.now.engine }
+        ensures sound { IsSound self.now.counts }
+    {
+        let _made = self.made;
+    }
+
+    /// A share, which has made no step and read the counts as they are. Refused `Memory`.
+    pub fn share(&mut self) -> Result<Seat, Fault>
+        ensures ok { IfOk result (λ s. self.new ≡ self.old) }
+        ensures none { IfOk result (λ s. s.read ≡ self.old.counts) }
+        ensures err { OnErr result (self.new ≡ self.old) }
+        ensures causes { IfErr result (λ e. e ≡ Memory) }
+    {
+        let Kept {
+            counts,
+            cell,
+            pass,
+            ..
+        } = self;
+        let Ok(cell) = Arc::try_clone(cell) else {
+            return Err(Fault::Memory);
+        };
+        let pass = cell.reader(pass);
+        Ok(Seat {
+            cell,
+            pass,
+            read: *counts,
+        })
+    }
+
+    /// Ends the front. There is a sum where as many shares came back as were handed out, and it is the number of all steps.
+    pub fn close(self) -> Left<E>
+        ensures run { E.tells → IsRunFrom E.life result.trace.steps result.engine }
+        ensures stops { E.tells → StopKeepsFrom E.leaves result.trace.steps result.engine }
+        ensures replies { All (λ e. IsReply e.0 e.1) (seen_of result.trace.steps) }
+        ensures same { (result.trace.steps ≡ self.trace) × (result.engine ≡ self.engine) }
+        ensures made { result.made ≡ length self.trace }
+    {
+        let Kept {
+            engine,
+            trace,
+            made,
+            ..
+        } = self;
+        Left {
+            engine,
+            trace,
+            made,
+        }
+    }
+
+    /// Makes a step of the engine, and answers what it answers. Refused `TraceFull` where 2^62 steps were made; it is not made then.
+    pub fn step<R: Wait>(&mut self, rt: &R, step: &Step) -> Reply
+        ensures adds { is_blocked (told_by result) ≡ false → is_full (told_by result) ≡ false → self.new.trace ≡ self.old.trace ++ (step.now, result) ∷ [] }
+        ensures blocked { is_blocked (told_by result) ≡ true → self.new.trace ≡ self.old.trace }
+        ensures same { is_full (told_by result) ≡ true → self.new ≡ self.old }
+        ensures run { GoesOn E.life self.old self.new }
+        ensures full { is_full (told_by result) ≡ true ↔ (2 ^ 62 ≤ length self.old.trace) }
+        ensures made { is_full (told_by result) ≡ false → E.made self.old.engine step.now result self.new.engine }
+    {
+        if is_spent(self.made) {
+            return Reply::Refused(Fault::TraceFull);
+        }
+        let Kept {
+            engine,
+            trace,
+            made,
+            counts,
+            cell,
+            pass,
+            ..
+        } = self;
+        let reply = engine.step(step);
+        if reply.is_blocked() {
+            return reply;
+        }
+        let now = counted(*counts, &reply);
+        *trace = trace.with(step, &reply);
+        *made += 1;
+        publish(rt, cell, pass, *counts, now);
+        *counts = now;
+        reply
+    }
+}
+
+// Whether so many steps are all that are ever made.
+fn is_spent(made: u64) -> bool
+    ensures { result ≡ true ↔ (2 ^ 62 ≤ made) }
+{
+    made >= MOST
+}
+
+/// An engine that threads share, for as long as they like. Each call takes the lock, and waits for its turn.
+#[derive(Drop)]
+pub struct Open<E: Store> {
+    held: Mutex<Kept<E>>,
+    ended: Condvar,
+}
+
+impl<E: Store> Open<E> {
+    /// A front over an engine at rest. Refused `Memory`; engine and blank come back then.
+    pub fn new(alloc: Global, at_rest: Rested<E>) -> Result<Open<E>, (Fault, Rested<E>)>
+        ensures err { IfErr result (λ e. (e.0 ≡ Memory) × (e.1 ≡ at_rest)) }
+    {
+        let held = Kept::new(alloc, at_rest)?;
+        Ok(Open {
+            held: Mutex::new(held),
+            ended: Condvar::new(),
+        })
+    }
+
+    /// A share, which has made no step: one for each thread. Refused `Memory`.
+    pub fn share<R: Wait>(&self, rt: &R) -> Result<Seat, Fault> {
+        self.held.lock(rt).share()
+    }
+
+    /// Makes a step as `Kept::step` does, and makes it again each time that a transaction has ended while it is `Blocked`.
+    pub fn call<R: Wait>(&self, rt: &R, step: Step) -> Reply
+        ensures unblocked { is_blocked (told_by result) ≡ false }
+    {
+        let mut held = self.held.lock(rt);
+        for _ in rt.forever() {
+            let reply = held.step(rt, &step);
+            if !reply.is_blocked() {
+                if reply.may_unblock() {
+                    self.ended.notify_all();
+                }
+                return reply;
+            }
+            held = self.ended.wait(rt, held);
+        }
+        unreachable!()
+    }
+
+    /// Started, committed and rolled back, as they were at one moment.
+    pub fn stats(&self, share: &mut Seat) -> Stats
+        ensures sound { result.committed + result.rolled_back ≤ result.started }
+        ensures rises { NoLess share.old.read (counts_of result) }
+        ensures read { (share.new.read ≡ counts_of result) }
+    {
+        share.stats()
+    }
+
+    /// Ends the front. There is a sum where as many shares came back as were handed out, and it is the number of all steps.
+    pub fn close(self) -> Left<E>
+        ensures run { E.tells → IsRunFrom E.life result.trace.steps result.engine }
+        ensures stops { E.tells → StopKeepsFrom E.leaves result.trace.steps result.engine }
+        ensures replies { All (λ e. IsReply e.0 e.1) (seen_of result.trace.steps) }
+        ensures made { result.made ≡ length result.trace.steps }
+    {
+        let Open { held, ended: _ } = self;
+        held.into_inner().close()
+    }
+}

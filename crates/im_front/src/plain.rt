@@ -1,0 +1,292 @@
+//! A front that keeps its trace for proofs alone.
+
+ghost use Rattle.std.specs.Prelude.{◌≡◌, ◌≤◌, ◌^◌, ◌+◌, ◌↔◌, ◌⊎◌, List, true, false, [], length, Err, IfOk, IfErr, OnErr, IfSome, IsSome};
+ghost use Rattle.std.specs.List.{sum_by, All};
+ghost use Rattle.std.specs.Arc.{arc_value};
+ghost use Rattle.crossbeam_utils.specs.Seq.{cell_view};
+ghost use Rattle.im_base_types.specs.Pages.{Entry};
+ghost use Rattle.im_front_stats.specs.Counts.{writer, started, committed, rolled_back, IsSound, NoLess};
+ghost use Rattle.im_base_types.specs.declared.fault.Fault.TheVariants.{TooMany, Memory};
+ghost use Rattle.im_base_steps.specs.Calls.{told_by, is_blocked};
+ghost use Rattle.im_front.specs.Traces.{counts_of};
+ghost use Rattle.im_base_steps.specs.Replies.{is_full, IsReply};
+ghost use Rattle.im_front.specs.Held.{IsResting, Stands, after_trace};
+ghost use Rattle.im_front.specs.Plain.{none, seen_of, Notes, GoesOn, IsRunFrom, StopKeepsFrom};
+
+use crate::held::{SHARES, counted, gather, publish};
+use crate::share::Share;
+use crate::stats::Stats;
+use crate::trace::Trace;
+use im_base_steps::{Reply, Step, Store};
+use im_base_types::Fault;
+use im_front_stats::{Pass, StatsCell};
+use std::alloc::Global;
+use std::marker::Model;
+use std::sync::ledger::{Blank, Book, Ledger, Share as Part};
+use std::sync::{Arc, Condvar, Mutex, Wait};
+
+/// The most steps that a front ever makes.
+const MOST: u64 = 1 << 62;
+
+/// The value behind the lock: an engine, and for proofs alone the trace of its steps.
+#[derive(Drop)]
+pub struct Plain<E: Store, L: Ledger> {
+    engine: E,
+    trace: Trace,
+    made: u64,
+    counts: [u64; 3],
+    book: Book<L>,
+    rest: Part<L>,
+    handed: u64,
+    cell: Arc<StatsCell, Global>,
+    pass: Pass,
+}
+
+impl<E: Store, L: Ledger> Model for Plain<E, L> {
+    ghost use Rattle.std.specs.Prelude.{◌≡◌, ◌+◌, length};
+    ghost use Rattle.std.specs.Arc.{arc_value};
+    ghost use Rattle.crossbeam_utils.specs.Seq.{cell_view};
+    ghost use Rattle.im_front_stats.specs.Counts.{writer};
+    ghost use Rattle.im_front.specs.Held.{IsTallied};
+    ghost use Rattle.im_front.specs.Plain.{PlainState, StandsFrom, none, seen_of};
+
+    ghost Value = { PlainState E };
+
+    ghost view = { λ h. record { engine = h.engine; trace = h.trace.steps; counts = (cell_view h.pass).seen; handed = h.handed } };
+
+    ghost invariant = { λ h. (E.tells → StandsFrom E.life h.trace.steps h.engine) × IsTallied (seen_of h.trace.steps) (E.actives h.engine) 0 none h.counts × (h.book.total ≡ length h.trace.steps) × (h.made ≡ length h.trace.steps) × (h.rest.parts + h.handed ≡ 1024) × (h.rest.amount ≡ 0) × (h.pass.table_id ≡ (arc_value h.cell).table.shared.table_id) × (cell_view h.pass ≡ writer h.counts) };
+}
+
+/// What is left of a front.
+#[derive(Drop)]
+pub struct Ended<E: Store> {
+    /// The engine.
+    pub engine: E,
+    /// The steps that were made, for proofs alone.
+    pub trace: Trace,
+    /// How many.
+    pub made: u64,
+    /// How many steps the shares made in all, where every share came back.
+    pub sum: Option<u64>,
+}
+
+impl<E: Store, L: Ledger> Plain<E, L> {
+    /// An engine at rest, with an empty trace. Refused `Memory`; engine and blank come back then.
+    pub fn new(alloc: Global, engine: E, blank: Blank) -> Result<Plain<E, L>, (Fault, E, Blank)>
+        requires resting { IsResting E.Store engine }
+        requires blank { (blank.name ≡ L.name) × (blank.parts ≡ L.parts) × (blank.parts ≡ 1024) }
+        ensures ok { IfOk result (λ h. (h.engine ≡ engine) × (h.trace ≡ []) × (h.handed ≡ 0) × (h.counts ≡ none)) }
+        ensures err { IfErr result (λ e. (e.0 ≡ Memory) × (e.1 ≡ engine) × (e.2 ≡ blank)) }
+    {
+        let Ok((cell, pass)) = StatsCell::new(alloc) else {
+            return Err((Fault::Memory, engine, blank));
+        };
+        let Ok(cell) = Arc::new(alloc, cell) else {
+            return Err((Fault::Memory, engine, blank));
+        };
+        let (book, rest) = blank.open::<L>();
+        Ok(Plain {
+            engine,
+            trace: Trace::new(),
+            made: 0,
+            counts: [0; 3],
+            book,
+            rest,
+            handed: 0,
+            cell,
+            pass,
+        })
+    }
+
+    /// What always holds of the value behind the lock. It does nothing: its contract says so.
+    pub fn holds_always(&self)
+        ensures run { E.tells → IsRunFrom E.life self.now.trace self.now.engine }
+        ensures stops { E.tells → StopKeepsFrom E.leaves self.now.trace self.now.engine }
+        ensures replies { All (λ e. IsReply e.0 e.1) (seen_of self.now.trace) }
+        ensures counts { self.now.counts ≡ after_trace none (seen_of self.now.trace) }
+        ensures active { started self.now.counts ≡ committed self.now.counts + rolled_back self.now.counts + E.actives self.now.engine }
+        ensures sound { IsSound self.now.counts }
+        ensures handed { self.now.handed ≤ 1024 }
+    {
+        let _handed = self.handed;
+    }
+
+    /// A share, which has made no step and read the counts as they are. Refused `TooMany` after the 1,024th, and `Memory`.
+    pub fn share(&mut self) -> Result<Share<L>, Fault>
+        ensures ok { IfOk result (λ s. self.new ≡ record self.old { handed = self.old.handed + 1 }) }
+        ensures none { IfOk result (λ s. (s.made.amount ≡ 0) × (s.read ≡ self.old.counts)) }
+        ensures err { OnErr result (self.new ≡ self.old) }
+        ensures many { result ≡ Err TooMany ↔ (self.old.handed ≡ 1024) }
+        ensures causes { IfErr result (λ e. (e ≡ TooMany) ⊎ (e ≡ Memory)) }
+    {
+        if self.handed >= SHARES {
+            return Err(Fault::TooMany);
+        }
+        let Plain {
+            rest,
+            handed,
+            counts,
+            cell,
+            pass,
+            ..
+        } = self;
+        let Ok(cell) = Arc::try_clone(cell) else {
+            return Err(Fault::Memory);
+        };
+        let made = rest.split_off(1, 0);
+        let pass = cell.reader(pass);
+        *handed += 1;
+        Ok(Share {
+            made,
+            cell,
+            pass,
+            read: *counts,
+        })
+    }
+
+    /// Ends the front. There is a sum where as many shares came back as were handed out, and it is the number of all steps.
+    pub fn close(self, shares: Vec<Share<L>>) -> Ended<E>
+        requires { L.parts ≡ 1024 }
+        ensures run { E.tells → IsRunFrom E.life result.trace.steps result.engine }
+        ensures stops { E.tells → StopKeepsFrom E.leaves result.trace.steps result.engine }
+        ensures replies { All (λ e. IsReply e.0 e.1) (seen_of result.trace.steps) }
+        ensures same { (result.trace.steps ≡ self.trace) × (result.engine ≡ self.engine) }
+        ensures made { result.made ≡ length self.trace }
+        ensures sum { IfSome result.sum (λ n. (n ≡ length self.trace) × (n ≡ sum_by (λ s. s.made.amount) shares.items)) }
+        ensures all { IsSome result.sum ↔ (length shares.items ≡ self.handed) }
+    {
+        let Plain {
+            engine,
+            trace,
+            made,
+            mut book,
+            mut rest,
+            handed,
+            ..
+        } = self;
+        let back = gather(&mut rest, shares);
+        let sum = if back == handed {
+            book.audit(&mut rest);
+            Some(made)
+        } else {
+            None
+        };
+        Ended {
+            engine,
+            trace,
+            made,
+            sum,
+        }
+    }
+
+    /// Makes a step of the engine, and answers what it answers. Refused `TraceFull` where 2^62 steps were made; it is not made then.
+    pub fn step<R: Wait>(&mut self, rt: &R, mine: &mut Share<L>, step: &Step) -> Reply
+        ensures notes { Notes step.now result self.old self.new mine.old.made.amount mine.new.made.amount }
+        ensures run { GoesOn E.life self.old self.new }
+        ensures full { is_full (told_by result) ≡ true ↔ (2 ^ 62 ≤ length self.old.trace) }
+        ensures made { is_full (told_by result) ≡ false → E.made self.old.engine step.now result self.new.engine }
+    {
+        if is_spent(self.made) {
+            return Reply::Refused(Fault::TraceFull);
+        }
+        let Plain {
+            engine,
+            trace,
+            made,
+            counts,
+            book,
+            cell,
+            pass,
+            ..
+        } = self;
+        let reply = engine.step(step);
+        if reply.is_blocked() {
+            return reply;
+        }
+        let now = counted(*counts, &reply);
+        *trace = trace.with(step, &reply);
+        *made += 1;
+        book.add(&mut mine.made, 1);
+        publish(rt, cell, pass, *counts, now);
+        *counts = now;
+        reply
+    }
+}
+
+// Whether so many steps are all that are ever made.
+fn is_spent(made: u64) -> bool
+    ensures { result ≡ true ↔ (2 ^ 62 ≤ made) }
+{
+    made >= MOST
+}
+
+/// An engine that threads share, for as long as they like. Each call takes the lock, and waits for its turn.
+#[derive(Drop)]
+pub struct Shared<E: Store, L: Ledger> {
+    held: Mutex<Plain<E, L>>,
+    ended: Condvar,
+}
+
+impl<E: Store, L: Ledger> Shared<E, L> {
+    /// A front over an engine at rest. Refused `Memory`; engine and blank come back then.
+    pub fn new(alloc: Global, engine: E, blank: Blank) -> Result<Shared<E, L>, (Fault, E, Blank)>
+        requires resting { IsResting E.Store engine }
+        requires blank { (blank.name ≡ L.name) × (blank.parts ≡ L.parts) × (blank.parts ≡ 1024) }
+        ensures err { IfErr result (λ e. (e.0 ≡ Memory) × (e.1 ≡ engine) × (e.2 ≡ blank)) }
+    {
+        let held = Plain::new(alloc, engine, blank)?;
+        Ok(Shared {
+            held: Mutex::new(held),
+            ended: Condvar::new(),
+        })
+    }
+
+    /// A share, which has made no step: one for each thread. Refused `TooMany` after the 1,024th, and `Memory`.
+    pub fn share<R: Wait>(&self, rt: &R) -> Result<Share<L>, Fault>
+        ensures { IfOk result (λ s. s.made.amount ≡ 0) }
+    {
+        self.held.lock(rt).share()
+    }
+
+    /// Makes a step as `Plain::step` does, and makes it again each time that a transaction has ended while it is `Blocked`.
+    pub fn call<R: Wait>(&self, rt: &R, mine: &mut Share<L>, step: Step) -> Reply
+        ensures unblocked { is_blocked (told_by result) ≡ false }
+        ensures counted { is_full (told_by result) ≡ false → mine.new.made.amount ≡ mine.old.made.amount + 1 }
+        ensures full { is_full (told_by result) ≡ true → mine.new.made.amount ≡ mine.old.made.amount }
+    {
+        let mut held = self.held.lock(rt);
+        for _ in rt.forever() {
+            let reply = held.step(rt, mine, &step);
+            if !reply.is_blocked() {
+                if reply.may_unblock() {
+                    self.ended.notify_all();
+                }
+                return reply;
+            }
+            held = self.ended.wait(rt, held);
+        }
+        unreachable!()
+    }
+
+    /// Started, committed and rolled back, as they were at one moment.
+    pub fn stats(&self, share: &mut Share<L>) -> Stats
+        ensures sound { result.committed + result.rolled_back ≤ result.started }
+        ensures rises { NoLess share.old.read (counts_of result) }
+        ensures read { (share.new.read ≡ counts_of result) × (share.new.made ≡ share.old.made) }
+    {
+        share.stats()
+    }
+
+    /// Ends the front. There is a sum where as many shares came back as were handed out, and it is the number of all steps.
+    pub fn close(self, shares: Vec<Share<L>>) -> Ended<E>
+        requires { L.parts ≡ 1024 }
+        ensures run { E.tells → IsRunFrom E.life result.trace.steps result.engine }
+        ensures stops { E.tells → StopKeepsFrom E.leaves result.trace.steps result.engine }
+        ensures replies { All (λ e. IsReply e.0 e.1) (seen_of result.trace.steps) }
+        ensures made { result.made ≡ length result.trace.steps }
+        ensures sum { IfSome result.sum (λ n. (n ≡ length result.trace.steps) × (n ≡ sum_by (λ s. s.made.amount) shares.items)) }
+    {
+        let Shared { held, ended: _ } = self;
+        held.into_inner().close(shares)
+    }
+}
