@@ -1,5 +1,8 @@
 pub mod ImageCalls
 pub mod Costs
+pub mod SyncedPages
+pub mod ChangedPages
+pub mod OwnPages
 pub mod Goings
 pub mod Imaging
 pub mod Placing

@@ -15,7 +15,8 @@ use Rattle.im_log.specs.LogFile.{HasNoRoom, end_with}
 use Rattle.im_page_table.specs.declared.table_entry.TableEntry.{TableEntry}
 use Rattle.im_page_writer.specs.declared.page_writer.PageWriter.{PageWriter}
 use Rattle.im_page_table.specs.Growth.{Keeps}
-use Rattle.im_page_table.specs.KnownCopies.{IsKnownFrom}
+use Rattle.im_page_writer.specs.Synced.{IsKnown}
+use Rattle.im_page_writer.specs.declared.known.Known.{Known}
 use Rattle.im_page_file.specs.LogEnds.{EndsNoSooner}
 use Rattle.im_page_writer.specs.Writing.{Goes, LeavesGrown}
 use Rattle.im_page_writer.specs.PageWriter.{IsReadyWriter, StandsAs, GoesOn, Evicted}
@@ -531,7 +532,7 @@ module _ {D : Type 0} (d : Ghosts D) where
 
 module _ {D : Type 0} (d : Ghosts D) (only_now : (disk : D) (c : Files) → d.left_since disk (d.moment disk) c → d.may_leave disk c) where
   -- where nothing that pages are read from has changed, the writer goes on
-  stays_here : (v : PageWriter) (old : D) (w : PageWriter) (new : D) → v.failed ≡ false → w.failed ≡ false → d.failed new ≡ false → w.log ≡ v.log → w.table ≡ v.table → w.pool ≡ v.pool → w.known_from ≡ v.known_from → new ≡ old → Stays d AreLoaded v old w new
+  stays_here : (v : PageWriter) (old : D) (w : PageWriter) (new : D) → v.failed ≡ false → w.failed ≡ false → d.failed new ≡ false → w.log ≡ v.log → w.table ≡ v.table → w.pool ≡ v.pool → w.known ≡ v.known → new ≡ old → Stays d AreLoaded v old w new
   stays_here v old w new began works alive log table pool known disk = record {
     began = began;
     works = works;
@@ -543,7 +544,7 @@ module _ {D : Type 0} (d : Ghosts D) (only_now : (disk : D) (c : Files) → d.le
           now = s;
           on = record {
             working = works;
-            known = subst (λ (from : Option ℕ). IsKnownFrom s from) (sym known) is.known;
+            known = subst (λ (known : Known). IsKnown s known) (sym known) is.known;
             goes = subst (λ (x : D). Goes d b base s old s w.log w.table w.pool x) (sym disk)
                 (subst (λ (x : PoolView). Goes d b base s old s w.log w.table x old) (sym pool)
                 (subst (λ (x : List TableEntry). Goes d b base s old s w.log x v.pool old) (sym table) (subst (λ (x : LogFile). Goes d b base s old s x v.table v.pool old) (sym log) start)));
@@ -552,7 +553,7 @@ module _ {D : Type 0} (d : Ghosts D) (only_now : (disk : D) (c : Files) → d.le
   }
 
   -- a refusal for bytes that are no page's, behind which nothing that pages are read from has changed
-  pub same_logs : {v : PageWriter} {old : D} {w : PageWriter} → v.failed ≡ false → w.failed ≡ false → IsReadyWriter d w old → w.log ≡ v.log → w.table ≡ v.table → w.pool ≡ v.pool → w.known_from ≡ v.known_from → Logs d false no_page v old w old (Some NotAStore)
+  pub same_logs : {v : PageWriter} {old : D} {w : PageWriter} → v.failed ≡ false → w.failed ≡ false → IsReadyWriter d w old → w.log ≡ v.log → w.table ≡ v.table → w.pool ≡ v.pool → w.known ≡ v.known → Logs d false no_page v old w old (Some NotAStore)
   same_logs {v} {old} {w} began works ready log table pool known =
       let opened = ready.opened works in
       record {

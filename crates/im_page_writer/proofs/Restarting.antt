@@ -4,7 +4,7 @@ use Rattle.im_base_types.specs.declared.file_id.FileId.TheVariants.{Pages}
 use Rattle.im_base_types.specs.Records.{Logged}
 use Rattle.im_theory_log.specs.Histories.{Base, History, IsFront, Rises, changes_page, end_of}
 use Rattle.im_theory_log.specs.Copies.{GrowsByImages}
-use Rattle.im_theory_log.specs.RedoPoints.{Covers}
+use Rattle.im_theory_log.specs.RedoPoints.{Covers, redo_point}
 use Rattle.im_theory_log.specs.Writer.{PageState, Writer}
 use Rattle.im_theory_log.specs.WriterSteps.{applies, ended, opened, redone}
 use Rattle.im_theory_log.proofs.WriterOpenings.{redo_ends}
@@ -18,7 +18,9 @@ use Rattle.im_page_writer.specs.declared.page_writer.PageWriter.{PageWriter}
 use Rattle.im_page_writer.specs.Writing.{IsPooled, IsWriting}
 use Rattle.im_page_writer.specs.PageWriter.{StandsAs}
 use Rattle.im_page_table.specs.KnownCopies.{IsKnownFrom, every_page}
-use Rattle.im_page_table.proofs.KnownCopies.{known_ended, knows_ended}
+use Rattle.im_page_writer.specs.Synced.{AreSyncedWith}
+use Rattle.im_page_table.proofs.KnownCopies.{knows_ended}
+use Rattle.im_page_writer.proofs.SyncedPages.{known_ended}
 use Rattle.im_page_writer.proofs.Goings.{pooled_same}
 use Rattle.im_page_file.proofs.Openings.{page_file_as, stands_opened}
 use Rattle.im_page_writer.proofs.RedoneRecords.{applies_none, redone_none}
@@ -37,10 +39,10 @@ pooled_none frames gets pages none = record {
 module _ {D : Type 0} (d : Ghosts D) (b : Base) (base : ℕ) where
   -- A new writer over an opened log, on a disk that is synced, whose file of pages the log covers.
   pub writer_opens : (all : History) (w : PageWriter) (frames : ℕ) (disk : D) → b.start ≤ base → Rises b all → Covers b all (file_page (d.seen disk Pages)) → IsOpen d w.log disk → IsLog d base all all w.log disk
-      → Only Pages (d.seen disk) (d.may_leave disk) → w.pool ≡ record { held = []; frames = frames; gets = 0 } → w.table ≡ [] → w.failed ≡ false → w.known_from ≡ None → StandsAs d b base (opened b all (file_page (d.seen disk Pages))) w disk
-  writer_opens all w frames disk based up covered ready log_is synced pool table working unknown = record {
+      → Only Pages (d.seen disk) (d.may_leave disk) → w.pool ≡ record { held = []; frames = frames; gets = 0 } → w.table ≡ [] → w.failed ≡ false → w.known.from ≡ None → AreSyncedWith all (redo_point all) w.known.synced → StandsAs d b base (opened b all (file_page (d.seen disk Pages))) w disk
+  writer_opens all w frames disk based up covered ready log_is synced pool table working unknown expected = record {
     working = working;
-    known = subst (λ (from : Option ℕ). IsKnownFrom (opened b all (file_page (d.seen disk Pages))) from) (sym unknown) tt;
+    known = record { from = subst (λ (from : Option ℕ). IsKnownFrom (opened b all (file_page (d.seen disk Pages))) from) (sym unknown) tt; synced = expected };
     writing = subst (λ (x : PoolView). IsWriting d b base (opened b all (file_page (d.seen disk Pages))) w.log w.table x disk) (sym pool)
         (subst (λ (x : List TableEntry). IsWriting d b base (opened b all (file_page (d.seen disk Pages))) w.log x (record { held = []; frames = frames; gets = 0 }) disk) (sym table) (record {
           stands = stands_opened d b base all w.log disk up covered ready log_is synced;
@@ -54,7 +56,7 @@ module _ {D : Type 0} (d : Ghosts D) (b : Base) (base : ℕ) where
     -- Redo goes past a record that it does not apply, with no call.
     pub redo_passes : (r : Logged) (newer older : History) → newer ++ r ∷ older ≡ s.durable → s.point ≤ r.lsn → ((p : ℕ) → ((s.pages p).waits ≡ false) × (end_of b older < (s.pages p).upto))
         → ((p : ℕ) → applies r p (s.pages p).page ≡ false) → StandsAs d b base (redone r every_page s) w disk
-    redo_passes r newer older at from ready none = record { working = is.working; known = known_ended s (redone r every_page s) w.known_from going is.known; writing = redone_none d b base s w.log w.table w.pool disk is.writing going r newer older at from ready none }
+    redo_passes r newer older at from ready none = record { working = is.working; known = known_ended s (redone r every_page s) w.known going refl refl is.known; writing = redone_none d b base s w.log w.table w.pool disk is.writing going r newer older at from ready none }
 
     -- The same of a record whose kind changes no page.
     pub redo_passes_plain : (r : Logged) (newer older : History) → newer ++ r ∷ older ≡ s.durable → s.point ≤ r.lsn → ((p : ℕ) → ((s.pages p).waits ≡ false) × (end_of b older < (s.pages p).upto))
@@ -65,7 +67,7 @@ module _ {D : Type 0} (d : Ghosts D) (b : Base) (base : ℕ) where
     pub writer_ends : (begun : History) → ((p : ℕ) → (s.pages p).waits ≡ false) → GrowsByImages b begun s.log → IsFront begun s.durable → ((p : ℕ) → end_of b begun < (s.pages p).upto) → StandsAs d b base (ended b s) w disk
     writer_ends begun ready grows front past = record {
       working = is.working;
-      known = known_ended s (ended b s) w.known_from going is.known;
+      known = known_ended s (ended b s) w.known going refl refl is.known;
       writing = record {
         stands = record {
           kept = redo_ends b s begun grows.images is.writing.stands.kept going ready grows.is grows.all front past;

@@ -1,4 +1,5 @@
 pub mod Costs
+pub mod Synced
 pub mod Writing
 pub mod PageWriter
 pub mod LoggedChange

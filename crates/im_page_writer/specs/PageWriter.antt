@@ -16,7 +16,7 @@ use Rattle.im_log.specs.LogFile.{IsOpen}
 use Rattle.im_page_pool.specs.declared.frame.Frame.{Frame}
 use Rattle.im_page_pool.specs.Pool.{Held, PoolView, last_changed, page_at}
 use Rattle.im_page_writer.specs.declared.page_writer.PageWriter.{PageWriter}
-use Rattle.im_page_table.specs.KnownCopies.{IsKnownFrom}
+use Rattle.im_page_writer.specs.Synced.{IsKnown}
 use Rattle.im_page_file.specs.Stands.{LeavesCovered}
 use Rattle.im_page_writer.specs.Writing.{Goes, IsWriting, LeavesGrown}
 
@@ -45,13 +45,13 @@ module _ {D : Type 0} (d : Ghosts D) where
     pub record StandsAs (s : Writer) (w : PageWriter) (disk : D) : Type 0 where
       pub working : w.failed ≡ false
       pub writing : IsWriting d b base s w.log w.table w.pool disk
-      pub known : IsKnownFrom s w.known_from
+      pub known : IsKnown s w.known
 
     -- Calls in a row since old: each page is as it was, and the log has Images more.
     pub record GoesOn (s : Writer) (old : D) (t : Writer) (w : PageWriter) (disk : D) : Type 0 where
       pub working : w.failed ≡ false
       pub goes : Goes d b base s old t w.log w.table w.pool disk
-      pub known : IsKnownFrom t w.known_from
+      pub known : IsKnown t w.known
 
     -- Nothing of the page is left to be written: the file has it as it is.
     pub record FlushedOne (s : Writer) (p : ℕ) (old : D) (w : PageWriter) (disk : D) : Type 0 where

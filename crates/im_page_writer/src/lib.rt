@@ -54,9 +54,11 @@
 
 mod flush;
 mod image_range;
+mod known;
 mod leaf_change;
 mod page_range;
 mod page_writer;
 mod redone_page;
 
+pub use known::Synced;
 pub use page_writer::PageWriter;

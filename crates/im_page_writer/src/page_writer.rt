@@ -7,6 +7,7 @@ ghost use Rattle.im_theory_log.specs.Writer.{Writer};
 ghost use Rattle.im_log.specs.LogFile.{end_with};
 
 use crate::flush::flush_page;
+use crate::known::{Known, Synced};
 use im_base_disk::Disk;
 use im_base_types::{DirtyPage, Fault, Lsn, MOST_DIRTY, MOST_FRAMES, PageNo};
 use im_log::LogFile;
@@ -35,9 +36,7 @@ pub struct PageWriter {
     rows: Vec<DirtyPage>,
     /// A page past the file's end that is written along.
     spare: Box<Page>,
-    /// The LSN of the first record of this life, behind its last Checkpoint, that changed a leaf. A page without an entry that has this
-    /// LSN or a later one was changed since, and written since: the log has a full copy of it at or after its redo point.
-    known_from: Option<Lsn>,
+    known: Known,
     failed: bool,
     ghost noted: { 1024 ≤ vec_capacity lsns },
     ghost listed: { 1024 ≤ vec_capacity rows },
@@ -85,6 +84,7 @@ impl PageWriter {
     ghost use Rattle.im_log_record.specs.Spelling.{IsEntry, size_of};
     ghost use Rattle.im_log.specs.Whats.{what_of};
     ghost use Rattle.im_log_gate.specs.Gate.{place_of};
+    ghost use Rattle.im_page_writer.specs.Synced.{IsForeign, IsOwn};
     ghost use Rattle.im_page_writer.specs.Writing.{SameHeld};
     ghost use Rattle.im_page_writer.specs.Outcome.{fault_of, no_page, none_mild, AllPages, AreLoadedTo, Flushes, HasPages, IsSound, Logs, Outcome};
     ghost use Rattle.im_page_writer.specs.PageWriter.{IsReadyWriter, StandsAs, FlushedOne, StepKept, FlushedOldest, HasRoom, IsPlain, LogKept};
@@ -153,7 +153,7 @@ impl PageWriter {
         ensures free { length self.new.pool.held < self.new.pool.frames }
         ensures log { self.new.log ≡ self.old.log }
         ensures table { self.new.table ≡ self.old.table }
-        ensures known { self.new.known_from ≡ self.old.known_from }
+        ensures known { self.new.known ≡ self.old.known }
         ensures failed { self.new.failed ≡ self.old.failed }
     {
         let _held = self.pool.len();
@@ -219,15 +219,39 @@ impl PageWriter {
         ensures at { IfOk result (IsAt self.new.pool) }
         ensures frame { IfOk result (λ frame. frame.number ≡ number) }
         ensures gets { IfOk result (λ _. self.new.pool.gets ≡ self.old.pool.gets + 1) }
-        ensures no_page { result ≡ Err NotAStore → D.tells → file_page (D.seen disk.new Pages) number ≡ None }
+        ensures own { IfOk result (λ _. IsOwn self.new.log self.new.known number (page_at self.new.pool number)) }
+        ensures no_page { result ≡ Err NotAStore → D.tells → IsForeign self.new.log self.new.known number (file_page (D.seen disk.new Pages) number) }
     {
         match self.pool.get_absent(disk, number) {
-            Ok(frame) => Ok(frame),
+            Ok(frame) => {
+                if self.is_own(frame) {
+                    return Ok(frame);
+                }
+                self.drop_page(number);
+                Err(Fault::NotAStore)
+            }
             Err(fault) => {
                 self.failed = fault == Fault::Device;
                 Err(fault)
             }
         }
+    }
+
+    // Whether a held page was written under this log.
+    fn is_own(&self, frame: Frame) -> bool
+        requires at { IsAt self.now.pool frame }
+        ensures own { result ≡ true → IsOwn self.now.log self.now.known frame.number (page_at self.now.pool frame.number) }
+        ensures foreign { result ≡ false → ¬ (IsOwn self.now.log self.now.known frame.number (page_at self.now.pool frame.number)) }
+    {
+        let page = self.pool.page(frame);
+        page.lsn() < self.log.durable_end() && self.known.may_be(frame.number, page)
+    }
+
+    /// From now on no page counts as read that lacks what the file of pages was synced with. No device call.
+    pub fn expect(&mut self, synced: Synced)
+        ensures { self.new ≡ record self.old { known = record self.old.known { synced = synced } } }
+    {
+        self.known.synced = synced;
     }
 
     /// Where a page is held from now on, as the most recently used. A page that is held takes no call of the disk; for one that is
@@ -245,7 +269,8 @@ impl PageWriter {
         ensures gets { IfOk result (λ _. self.new.pool.gets ≡ self.old.pool.gets + 1) }
         ensures held { self.old.failed ≡ false → Holds self.old.pool number → IsOk result × MovesFirst number self.old.pool self.new.pool }
         ensures quiet { self.old.failed ≡ false → Holds self.old.pool number → (disk.new ≡ disk.old) × (self.new.log ≡ self.old.log) × (self.new.table ≡ self.old.table) }
-        ensures no_page { result ≡ Err NotAStore → D.tells → file_page (D.seen disk.new Pages) number ≡ None }
+        ensures own { IfOk result (λ _. held_of self.old.pool number ≡ None → IsOwn self.new.log self.new.known number (page_at self.new.pool number)) }
+        ensures no_page { result ≡ Err NotAStore → D.tells → IsForeign self.new.log self.new.known number (file_page (D.seen disk.new Pages) number) }
     {
         if self.failed {
             return Err(Fault::Failed);
@@ -266,7 +291,8 @@ impl PageWriter {
         ensures at { IfOk result (IsAt self.new.pool) }
         ensures frame { IfOk result (λ frame. frame.number ≡ number) }
         ensures gets { IfOk result (λ _. self.new.pool.gets ≡ self.old.pool.gets + 1) }
-        ensures no_page { result ≡ Err NotAStore → D.tells → file_page (D.seen disk.new Pages) number ≡ None }
+        ensures own { IfOk result (λ _. IsOwn self.new.log self.new.known number (page_at self.new.pool number)) }
+        ensures no_page { result ≡ Err NotAStore → D.tells → IsForeign self.new.log self.new.known number (file_page (D.seen disk.new Pages) number) }
     {
         self.make_frame(disk)?;
         self.hold(disk, number)
@@ -290,7 +316,8 @@ impl PageWriter {
         ensures pool { IfOk result (λ w. w.pool ≡ record { held = []; frames = frames; gets = 0 }) }
         ensures table { IfOk result (λ w. w.table ≡ []) }
         ensures failed { IfOk result (λ w. w.failed ≡ false) }
-        ensures known { IfOk result (λ w. w.known_from ≡ None) }
+        ensures known { IfOk result (λ w. w.known.from ≡ None) }
+        ensures none { IfOk result (λ w. w.known.synced.lsns.entries ≡ []) }
         ensures refused { IfErr result (λ e. e ≡ Memory) }
     {
         let pool = Pool::new(alloc, frames)?;
@@ -305,7 +332,7 @@ impl PageWriter {
             lsns,
             rows,
             spare,
-            known_from: None,
+            known: Known::new(alloc),
             failed: false,
         })
     }

@@ -8,7 +8,7 @@ use Rattle.im_base_types.specs.declared.file_id.FileId.TheVariants.{Log, Pages}
 use Rattle.im_base_types.specs.Pages.{Page}
 use Rattle.im_theory_log.specs.Histories.{Base, History, Rises, end_of}
 use Rattle.im_theory_log.specs.Copies.{GrowsByImages}
-use Rattle.im_theory_log.specs.RedoPoints.{Covers}
+use Rattle.im_theory_log.specs.RedoPoints.{Covers, redo_point}
 use Rattle.im_theory_log.specs.Lawful.{IsLawful}
 use Rattle.im_theory_log.specs.Writer.{Writer}
 use Rattle.im_theory_log.specs.WriterSteps.{forced, opened}
@@ -29,6 +29,7 @@ use Rattle.im_page_writer.specs.declared.page_writer.PageWriter.{PageWriter}
 use Rattle.im_page_writer.specs.PageWriter.{GoesOn, StandsAs, StepKept}
 use Rattle.im_page_table.proofs.Growing.{grown_front}
 use Rattle.im_page_writer.proofs.Outcomes.{sound_done}
+use Rattle.im_page_writer.proofs.SyncedPages.{synced_none}
 use Rattle.im_page_writer.proofs.Restarting.{writer_opens}
 use Rattle.im_restart_analysis.specs.Numbers.{IsNextNumber}
 use Rattle.im_restart_redo.specs.Redo.{LeavesRedoing, Redone}
@@ -166,10 +167,10 @@ module _ {D : Type 0} (d : Ghosts D) (b : Base) (base : ℕ) (all : History) whe
   -- ---- the writer
 
   pub writer_starts : (file : LogFile) (w : PageWriter) (frames : ℕ) (disk : D) → b.start ≤ base → Rises b all → Covers b all (file_page (d.seen disk Pages)) → Only Pages (d.seen disk) (d.may_leave disk) → IsOpen d file disk → IsLog d base all all file disk → w.log ≡ file
-      → w.pool ≡ record { held = []; frames = frames; gets = 0 } → w.table ≡ [] → w.failed ≡ false → w.known_from ≡ None → StandsAs d b base (opened b all (file_page (d.seen disk Pages))) w disk
-  writer_starts file w frames disk start up covers pages is_open log same pool table working unknown =
+      → w.pool ≡ record { held = []; frames = frames; gets = 0 } → w.table ≡ [] → w.failed ≡ false → w.known.from ≡ None → w.known.synced.lsns.entries ≡ [] → StandsAs d b base (opened b all (file_page (d.seen disk Pages))) w disk
+  writer_starts file w frames disk start up covers pages is_open log same pool table working unknown none =
       writer_opens d b base all w frames disk start up covers (subst (λ (f : LogFile). IsOpen d f disk) (sym same) is_open) (subst (λ (f : LogFile). IsLog d base all all f disk) (sym same) log) pages pool
-      table working unknown
+      table working unknown (synced_none all (redo_point all) w.known.synced none)
 
 -- the next number is not below the least, nor is that 0
 pub next_least : (lowest next : ℕ) (log : History) → 1 ≤ lowest → IsNextNumber lowest next log → 1 ≤ next

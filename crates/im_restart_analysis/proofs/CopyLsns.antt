@@ -1,5 +1,5 @@
 -- Full copies: those at or after an LSN are the last ones of all that stand there; a map of them is put back.
-use Rattle.std.proofs.Common.{◌≡◌, ◌<◌, ℕ, [], ◌∷◌, true, Option, None, Some, Result, Ok, Err, OnOk, OnErr, inl, inr, refl, sym, ◌∙◌, ap, arith}
+use Rattle.std.proofs.Common.{◌≡◌, ◌≢◌, ◌⊎◌, ◌<◌, ℕ, [], ◌∷◌, true, Option, None, Some, Result, Ok, Err, OnOk, OnErr, inl, inr, refl, sym, ◌∙◌, ap, arith}
 use Rattle.std.specs.Prelude.{cond, nat_le}
 use Rattle.std.specs.Option.{option_map}
 use Rattle.std.specs.Cmp.{nat_cmp_total}
@@ -85,3 +85,13 @@ put_back was copies new page lsn before sorted sorted_new is put back = btree_ma
 pub inserted : {E : Type 0} (result : Result (Option ℕ) E) (P : Type 0) (found : Option ℕ) (lsn : ℕ) → OnOk result P → OnErr result (found ≡ None) → found ≡ Some lsn → P
 inserted (Ok x) P found lsn done absent is = done
 inserted (Err e) P found lsn done absent is = let clash : None ≡ Some lsn = sym absent ∙ is in absurd (cc clash)
+
+-- what a map has behind an insert: the new pair, and the old ones at other keys
+pub inserted_at : (m n : CopyMap) (p l : ℕ) → Updates nat_cmp m n p (Some l) → (q k : ℕ) → get nat_cmp n q ≡ Some k → ((q ≡ p) × (k ≡ l)) ⊎ ((q ≢ p) × (get nat_cmp m q ≡ Some k))
+inserted_at m n p l up q k has = elim (cases_eq q p) [
+  | inl here ↦ let same : Some k ≡ Some l = sym has ∙ ap (λ (x : ℕ). get nat_cmp n x) here ∙ up.1 in inl (here, (let e : k ≡ l = cc same in e))
+  | inr other ↦ elim (cases_Bool (is_at (nat_cmp p) q)) [
+    | inl at ↦ absurd (other (sym (exact_unsigned p q (is_equal (nat_cmp p q) at))))
+    | inr past ↦ inr (other, sym (up.0 q ∙ cond-false (is_at (nat_cmp p) q) (Some l) (get nat_cmp m q) past) ∙ has)
+  ]
+]

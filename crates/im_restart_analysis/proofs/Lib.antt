@@ -1,4 +1,5 @@
 pub mod CopyLsns
+pub mod ChangedRecords
 pub mod NextNumbers
 pub mod Taking
 pub mod Losers

@@ -4,5 +4,6 @@ pub mod CopyLsns
 pub mod OpenChange
 pub mod Records
 pub mod Analysis
+pub mod Changes
 pub mod Undo
 pub mod Orderly

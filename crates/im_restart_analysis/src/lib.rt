@@ -18,6 +18,7 @@
 
 mod analysis;
 mod chains;
+mod changes;
 pub mod laws;
 mod notes;
 mod numbers;
@@ -26,4 +27,5 @@ mod page_counts;
 mod rows;
 
 pub use analysis::{Analysed, Analysis};
+pub use changes::{Changes, LastChanges};
 pub use rows::{Loser, OpenRecord};

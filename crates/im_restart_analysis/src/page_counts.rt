@@ -42,8 +42,8 @@ fn count_at(page: PageNo, body: &[u8]) -> PageNo
     if page == 0 { count_behind(body) } else { 0 }
 }
 
-// The page count that a record of page 0 leaves there, 0 for other records.
-fn said_count(record: &Record) -> PageNo
+/// The page count that a record of page 0 leaves there, 0 for other records.
+pub(crate) fn said_count(record: &Record) -> PageNo
     ensures { what_of (view record.now) ≢ Unreadable → result ≡ (if page_of (view record.now) == 0 then count_in (what_of (view record.now)) else 0) }
 {
     match record {

@@ -8,7 +8,7 @@ use Rattle.im_theory_log.proofs.WriterFronts.{whole}
 use Rattle.im_base_disk.specs.declared.disk.Disk.{Ghosts}
 use Rattle.im_page_writer.specs.declared.page_writer.PageWriter.{PageWriter}
 use Rattle.im_page_writer.specs.PageWriter.{StandsAs}
-use Rattle.im_page_table.proofs.KnownCopies.{known_same}
+use Rattle.im_page_writer.proofs.SyncedPages.{known_same}
 use Rattle.im_page_writer.proofs.Goings.{pooled_same}
 use Rattle.im_page_file.proofs.Openings.{page_file_as}
 
@@ -51,7 +51,7 @@ module _ (b : Base) (s : Writer) (n : ℕ) (k : WriterKept b s) (going : s.redo_
 pub stands_raised : {D : Type 0} (d : Ghosts D) (b : Base) (base : ℕ) (s : Writer) (n : ℕ) (w : PageWriter) (disk : D) → WriterKept b (raised n s) → StandsAs d b base s w disk → StandsAs d b base (raised n s) w disk
 stands_raised d b base s n w disk kept is = let old = is.writing in record {
   working = is.working;
-  known = known_same s (raised n s) w.known_from refl refl is.known;
+  known = known_same s (raised n s) w.known refl refl refl is.known;
   writing = record {
     stands = record {
       kept = kept;

@@ -8,7 +8,8 @@ use im_base_file_disk::FileDisk;
 use im_base_model_disk::ModelDisk;
 use im_base_types::Fault;
 use im_engine::Config;
-use im_tool::{Manner, RedoBound, StoreEnd, store_text};
+use im_engine_upkeep::RedoBound;
+use im_tool::{Cause, Causes, Manner, StoreEnd, store_text};
 use std::alloc::Global;
 use std::io::BufReader;
 use std::test::Fail;
@@ -121,7 +122,7 @@ static RUNS: [Run; 7] = [
 ];
 
 // What a store on a disk answers to these lines, and how the run ended.
-fn answers<D: Disk + Drop>(
+fn answers<D: Disk + Cause + Drop>(
     alloc: Global,
     disk: D,
     bound: u64,
@@ -133,6 +134,11 @@ fn answers<D: Disk + Drop>(
 {
     let mut reader = BufReader::new(alloc, lines.as_bytes())?;
     let mut printed = Vec::new(alloc);
+    let mut causes = Causes {
+        writer: Vec::new(alloc),
+        dir: "",
+        is_told: false,
+    };
     let end = store_text(
         alloc,
         disk,
@@ -141,6 +147,7 @@ fn answers<D: Disk + Drop>(
         manner,
         &mut reader,
         &mut printed,
+        &mut causes,
     )?;
     Ok((end, printed))
 }

@@ -2,7 +2,8 @@
 
 use im_base_model_disk::ModelDisk;
 use im_engine::Config;
-use im_tool::{Loaded, Progress, RedoBound, load_text};
+use im_engine_upkeep::RedoBound;
+use im_tool::{Causes, Loaded, Progress, load_text};
 use std::alloc::Global;
 use std::io;
 use std::io::{BufReader, Write};
@@ -25,6 +26,11 @@ fn loaded(alloc: Global, text: &[u8], is_shown: bool) -> io::Result<(Loaded, Vec
         is_shown,
     };
     let disk = ModelDisk::new(Vec::new(alloc), Vec::new(alloc));
+    let mut causes = Causes {
+        writer: Vec::new(alloc),
+        dir: "",
+        is_told: false,
+    };
     let end = load_text(
         alloc,
         disk,
@@ -32,6 +38,7 @@ fn loaded(alloc: Global, text: &[u8], is_shown: bool) -> io::Result<(Loaded, Vec
         RedoBound::of_bytes(0),
         &mut reader,
         &mut progress,
+        &mut causes,
     )?;
     let Progress { writer, .. } = progress;
     Ok((end, writer))

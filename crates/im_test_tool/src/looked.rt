@@ -2,8 +2,9 @@
 
 use im_base_file_disk::FileDisk;
 use im_engine::Config;
+use im_engine_upkeep::RedoBound;
 use im_log_gate::FIRST_GATE;
-use im_tool::{Copies, Manner, RedoBound, check_text, copies_of, stat_text, store_text};
+use im_tool::{Causes, Copies, Manner, check_text, copies_of, stat_text, store_text};
 use std::alloc::Global;
 use std::io::{BufReader, Write};
 use std::process::Abort;
@@ -27,6 +28,11 @@ fn fill(rt: &HostRuntime, folder: &str, lines: &[u8]) -> Result<(), Fail> {
     let mut reader = BufReader::new(rt.alloc(), lines)?;
     let disk = FileDisk::open(rt, folder)?;
     let mut printed = Vec::new(rt.alloc());
+    let mut causes = Causes {
+        writer: Vec::new(rt.alloc()),
+        dir: "",
+        is_told: false,
+    };
     let _end = store_text(
         rt.alloc(),
         disk,
@@ -35,6 +41,7 @@ fn fill(rt: &HostRuntime, folder: &str, lines: &[u8]) -> Result<(), Fail> {
         Manner::default(),
         &mut reader,
         &mut printed,
+        &mut causes,
     )?;
     Ok(())
 }

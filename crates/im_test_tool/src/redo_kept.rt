@@ -4,7 +4,7 @@ use im_base_model_disk::ModelDisk;
 use im_base_steps::{Reply, Step};
 use im_base_types::LONGEST_KEY;
 use im_engine::{Config, Engine};
-use im_tool::{Checkpoints, RedoBound};
+use im_engine_upkeep::{Checkpoints, RedoBound};
 use std::alloc::Global;
 use std::process::Abort;
 use std::test::Fail;

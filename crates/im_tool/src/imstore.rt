@@ -3,14 +3,16 @@
 ghost use Rattle.std.specs.Prelude.{◌≡◌, ◌≤◌, false, IfOk};
 ghost use Rattle.im_base_disk.specs.Runs.{IsSynced};
 
+use crate::causes::{Cause, Causes};
 use crate::line_input::LineInput;
 use crate::options::{Options, Task, parse_options};
 use crate::store::{Manner, StoreEnd, print_refused_opening, store_text};
-use crate::tasks::{load_program, look_program};
+use crate::tasks::{load_program, look_program, tell_damage};
 use clap::Error;
 use im_base_disk::Disk;
 use im_base_file_disk::{FileDisk, OpenError};
 use im_base_model_disk::ModelDisk;
+use im_base_types::Fault;
 use std::alloc::AllocError;
 use std::fmt::Display;
 use std::io;
@@ -64,7 +66,7 @@ fn run_in_memory(rt: &HostRuntime, options: &Options) -> io::Result<u8>
     let mut reader = BufReader::new(alloc, rt.reader())?;
     let mut writer = BufWriter::new(alloc, io::writer(rt))?;
     let disk = ModelDisk::new(Vec::new(alloc), Vec::new(alloc));
-    let end = run_steps(rt, disk, options, &mut reader, &mut writer)?;
+    let end = run_steps(rt, disk, "memory", options, &mut reader, &mut writer)?;
     Ok(status_at(end))
 }
 
@@ -87,9 +89,14 @@ fn run_on_files<R: LineInput, W: Write>(
 {
     match FileDisk::open(rt, dir) {
         Ok(disk) => {
-            let end = run_steps(rt, disk, options, reader, writer)?;
+            let end = run_steps(rt, disk, dir, options, reader, writer)?;
             match end {
-                StoreEnd::RefusedOpening(fault) => tell(rt, dir, &fault),
+                StoreEnd::RefusedOpening(fault) => {
+                    tell(rt, dir, &fault);
+                    if fault == Fault::NotAStore {
+                        tell_damage(rt, dir);
+                    }
+                }
                 StoreEnd::RefusedClose(fault) => tell(rt, dir, &fault),
                 StoreEnd::Input | StoreEnd::RefusedLine => {}
             }
@@ -104,9 +111,10 @@ fn run_on_files<R: LineInput, W: Write>(
 }
 
 // The steps that the lines of a reader ask for, as the options say.
-fn run_steps<D: Disk + Drop, R: LineInput, W: Write>(
+fn run_steps<D: Disk + Cause + Drop, R: LineInput, W: Write>(
     rt: &HostRuntime,
     disk: D,
+    dir: &str,
     options: &Options,
     reader: &mut R,
     writer: &mut W,
@@ -115,6 +123,11 @@ fn run_steps<D: Disk + Drop, R: LineInput, W: Write>(
     requires synced { IsSynced D.Disk disk }
 {
     let (config, bound) = (options.config(), options.redo_bound());
+    let mut causes = Causes {
+        writer: rt.stderr(),
+        dir,
+        is_told: false,
+    };
     store_text(
         rt.alloc(),
         disk,
@@ -123,6 +136,7 @@ fn run_steps<D: Disk + Drop, R: LineInput, W: Write>(
         manner_of(rt, options),
         reader,
         writer,
+        &mut causes,
     )
 }
 

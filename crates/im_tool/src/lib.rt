@@ -3,33 +3,31 @@
 //! `store_program` is all of `imstore` but its `main`: it opens the folder that its words name, or an
 //! empty model disk, and hands the disk on to `store_text`, which opens the store of any disk, makes the steps that a
 //! reader's lines ask for, and has written and flushed all replies before it waits for a line. Checkpoints are taken behind the steps as a
-//! `RedoBound` wants them, and one behind the last line, so that the next opening has little to redo, or nothing. What goes to which
+//! `RedoBound` of `im_engine_upkeep` wants them, and one behind the last line, so that the next opening has little to redo, or nothing. What goes to which
 //! stream is tested, by stored outputs word for word among other tests, and stands in no clause.
 //!
 //! It stands on `im_tool_words` for the lines of steps and the words of replies, on the engine, and on `clap` for command lines. Scripts are none
 //! of its work, so it is proved beside their crates.
 #![tactic(auto)]
 
-mod checkpoints;
+mod causes;
 mod imstore;
 mod line_input;
 mod look;
 mod options;
 mod progress;
 mod recovered;
-mod redo_bound;
 mod store;
 mod tasks;
 mod transfer;
 mod words_step;
 
-pub use checkpoints::Checkpoints;
+pub use causes::{Cause, Causes};
 pub use imstore::store_program;
 pub use line_input::LineInput;
 pub use look::{check_text, stat_text};
 pub use options::{Options, Task};
 pub use progress::Progress;
 pub use recovered::{Copies, copies_of};
-pub use redo_bound::RedoBound;
 pub use store::{Manner, StoreEnd, store_text};
 pub use transfer::{Loaded, load_text};

@@ -6,7 +6,10 @@ use crate::recovered::{Copies, log_of, opened, pages_of};
 use im_base_model_disk::ModelDisk;
 use im_base_types::{Fault, PAGE_ROOM, PAGE_SIZE, PageNo};
 use im_engine::Engine;
-use im_tool_look::{LogDamage, Survey, TreeSurvey, batches_behind, check_pages, read_log};
+use im_tool_look::{
+    Compared, LogDamage, ROOM, Survey, TreeSurvey, batches_behind, check_pages, compare_pages,
+    read_log,
+};
 use std::alloc::{AllocError, Global};
 use std::io;
 use std::io::Write;
@@ -15,11 +18,20 @@ use std::io::Write;
 #[derive(Drop)]
 enum Broken {
     Log(LogDamage),
+    Pages(Compared),
     Opening(Fault),
 }
 
-// What the log says, and what the tree and the free list are behind an opening.
-fn look(alloc: Global, copies: Copies) -> Result<(Survey, TreeSurvey), Broken> {
+// What is told of a whole store.
+#[derive(Drop)]
+struct Looked {
+    said: Survey,
+    compared: Compared,
+    tree: TreeSurvey,
+}
+
+// What the log says, how the pages go with it, and what the tree and the free list are behind an opening.
+fn look(alloc: Global, copies: Copies) -> Result<Looked, Broken> {
     match read_log(alloc, &copies.log) {
         Ok(said) => look_behind(alloc, said, copies),
         Err(damage) => Err(Broken::Log(damage)),
@@ -27,13 +39,20 @@ fn look(alloc: Global, copies: Copies) -> Result<(Survey, TreeSurvey), Broken> {
 }
 
 // The same of files whose log says this.
-fn look_behind(
-    alloc: Global,
-    said: Survey,
-    copies: Copies,
-) -> Result<(Survey, TreeSurvey), Broken> {
+fn look_behind(alloc: Global, said: Survey, copies: Copies) -> Result<Looked, Broken> {
+    let compared = match compare_pages(alloc, &said, &copies.pages) {
+        Ok(compared) => compared,
+        Err(fault) => return Err(Broken::Opening(fault)),
+    };
+    if !compared.damages.is_empty() {
+        return Err(Broken::Pages(compared));
+    }
     match tree_behind(alloc, &said, copies) {
-        Ok(tree) => Ok((said, tree)),
+        Ok(tree) => Ok(Looked {
+            said,
+            compared,
+            tree,
+        }),
         Err(broken) => Err(broken),
     }
 }
@@ -82,14 +101,14 @@ fn count_named(alloc: Global, engine: &Engine<ModelDisk>) -> Result<u64, Broken>
     }
 }
 
-/// Checks a store: the records of its log, the whole batches behind the log's end, and the tree and the free list as an opening
+/// Checks a store: the records of its log, the file of pages beside them, the whole batches behind the log's end, and the tree and the free list as an opening
 /// finds them. Writes `ok`, or a line for each rule that does not hold, and answers the exit status, 0 or 1.
 pub fn check_text<W: Write>(alloc: Global, writer: &mut W, copies: Copies) -> io::Result<u8>
     ensures { IfOk result (λ status. status ≤ 1) }
 {
     let log = clone_of(alloc, &copies.log)?;
     match look(alloc, copies) {
-        Ok((said, tree)) => whole_text(writer, &log, &said, &tree),
+        Ok(looked) => whole_text(writer, &log, &looked.said, &looked.tree),
         Err(broken) => broken_text(writer, &broken),
     }
 }
@@ -130,6 +149,14 @@ fn broken_text<W: Write>(writer: &mut W, broken: &Broken) -> io::Result<u8>
             return Err(io::Error::from(AllocError));
         }
         Broken::Log(damage) => writeln!(writer, "{damage}")?,
+        Broken::Pages(compared) => {
+            for damage in &compared.damages {
+                writeln!(writer, "{damage}")?;
+            }
+            if compared.more > 0 {
+                writeln!(writer, "pages: {} more are not of this log", compared.more)?;
+            }
+        }
         Broken::Opening(fault) => {
             writeln!(writer, "opening: refused {}: {fault}", fault.number())?;
         }
@@ -143,9 +170,10 @@ pub fn stat_text<W: Write>(alloc: Global, writer: &mut W, copies: Copies) -> io:
 {
     let file = copies.log.len();
     match look(alloc, copies) {
-        Ok((said, tree)) => {
-            tree_text(writer, &tree)?;
-            survey_text(writer, &said, file)?;
+        Ok(looked) => {
+            tree_text(writer, &looked.tree)?;
+            survey_text(writer, &looked.said, file)?;
+            compared_text(writer, &looked.compared)?;
             Ok(0)
         }
         Err(broken) => broken_text(writer, &broken),
@@ -188,6 +216,14 @@ fn survey_text<W: Write>(writer: &mut W, said: &Survey, file: usize) -> io::Resu
         said.analysed.losers.len()
     )?;
     writeln!(writer, "next transaction {}", said.analysed.next)
+}
+
+fn compared_text<W: Write>(writer: &mut W, compared: &Compared) -> io::Result<()> {
+    writeln!(
+        writer,
+        "pages in the file {}, {} compared with the records below the redo point, {} restored from copies in the log",
+        compared.pages, compared.with_synced, compared.copied
+    )
 }
 
 // How full so many pages are, in a hundred.

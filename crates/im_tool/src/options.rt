@@ -1,10 +1,10 @@
 //! The command line of the program that keeps a store.
 
-use crate::redo_bound::RedoBound;
 use clap::builder::ValueParser;
 use clap::{Arg, ArgAction, ArgMatches, Command, Error};
 use im_base_types::{LEAST_FRAMES, MOST_FRAMES};
 use im_engine::Config;
+use im_engine_upkeep::RedoBound;
 use std::alloc::Global;
 
 /// The MiB of log that an opening of a store in a folder redoes at most, where the words name no number.

@@ -3,14 +3,14 @@
 ghost use Rattle.std.specs.Prelude.{◌≡◌, ◌≤◌, false, IfOk};
 ghost use Rattle.im_base_disk.specs.Runs.{IsSynced};
 
-use crate::checkpoints::Checkpoints;
+use crate::causes::{Cause, Causes};
 use crate::line_input::{LineInput, without_newline};
-use crate::redo_bound::RedoBound;
 use crate::words_step::words_step;
 use im_base_disk::Disk;
 use im_base_steps::{Reply, Step};
 use im_base_types::{Fault, Key, Rid};
 use im_engine::{Config, Engine};
+use im_engine_upkeep::{Checkpoints, RedoBound};
 use im_tool_look::write_key;
 use im_tool_words::{entries_text, reply_text, report_text, step_line};
 use std::alloc::{AllocError, Global};
@@ -70,8 +70,8 @@ pub enum StoreEnd {
 ///
 /// Checkpoints are taken behind the opening and behind the steps, as the bound wants them. At the end of the input all changed
 /// pages are written and a last one is taken, so that the next opening has nothing to redo. Where such a step is refused, a line
-/// `checkpoint refused N` or `close refused N` says so.
-pub fn store_text<D: Disk + Drop, R: LineInput, W: Write>(
+/// `checkpoint refused N` or `close refused N` says so. Where a call of the disk failed, what failed stands in a line of `causes`, once.
+pub fn store_text<D: Disk + Cause + Drop, R: LineInput, W: Write, E: Write>(
     alloc: Global,
     disk: D,
     config: Config,
@@ -79,20 +79,22 @@ pub fn store_text<D: Disk + Drop, R: LineInput, W: Write>(
     manner: Manner,
     reader: &mut R,
     writer: &mut W,
+    causes: &mut Causes<E>,
 ) -> io::Result<StoreEnd>
     requires working { D.failed disk ≡ false }
     requires synced { IsSynced D.Disk disk }
 {
     match Engine::open_or_create(alloc, disk, config) {
         Ok(mut engine) => {
-            let run = run_to_close(alloc, &mut engine, bound, manner, reader, writer);
+            let run = run_to_close(alloc, &mut engine, bound, manner, reader, writer, causes);
             let _disk = engine.into_disk();
             let end = run?;
             writer.flush()?;
             Ok(end)
         }
-        Err((fault, _disk)) => {
+        Err((fault, disk)) => {
             print_refused_opening(writer, fault)?;
+            causes.tell(&disk);
             Ok(StoreEnd::RefusedOpening(fault))
         }
     }
@@ -105,20 +107,30 @@ pub(crate) fn print_refused_opening<W: Write>(writer: &mut W, fault: Fault) -> i
 }
 
 // Makes the steps that the lines ask for, and closes the store behind them.
-fn run_to_close<D: Disk, R: LineInput, W: Write>(
+fn run_to_close<D: Disk + Cause, R: LineInput, W: Write, E: Write>(
     alloc: Global,
     engine: &mut Engine<D>,
     bound: RedoBound,
     manner: Manner,
     reader: &mut R,
     writer: &mut W,
+    causes: &mut Causes<E>,
 ) -> io::Result<StoreEnd> {
     let mut checkpoints = Checkpoints::of(engine, bound);
     let is_unkept = keep(engine, &mut checkpoints, manner, writer)?;
+    causes.tell(engine.disk());
     if is_unkept && manner.is_batch {
         return Ok(StoreEnd::RefusedLine);
     }
-    let end = run_all_lines(alloc, engine, &mut checkpoints, manner, reader, writer)?;
+    let end = run_all_lines(
+        alloc,
+        engine,
+        &mut checkpoints,
+        manner,
+        reader,
+        writer,
+        causes,
+    )?;
     if end != StoreEnd::Input {
         return Ok(end);
     }
@@ -127,18 +139,20 @@ fn run_to_close<D: Disk, R: LineInput, W: Write>(
         Err(fault) => {
             write!(writer, "close ")?;
             print_refused(writer, manner, fault.number(), &fault)?;
+            causes.tell(engine.disk());
             Ok(StoreEnd::RefusedClose(fault))
         }
     }
 }
 
-fn run_all_lines<D: Disk, R: LineInput, W: Write>(
+fn run_all_lines<D: Disk + Cause, R: LineInput, W: Write, E: Write>(
     alloc: Global,
     engine: &mut Engine<D>,
     checkpoints: &mut Checkpoints,
     manner: Manner,
     reader: &mut R,
     writer: &mut W,
+    causes: &mut Causes<E>,
 ) -> io::Result<StoreEnd> {
     let mut line = Vec::new(alloc);
     run_lines(
@@ -149,11 +163,12 @@ fn run_all_lines<D: Disk, R: LineInput, W: Write>(
         reader,
         &mut line,
         writer,
+        causes,
     )
 }
 
 // Reads line by line into the room for one.
-fn run_lines<D: Disk, R: LineInput, W: Write>(
+fn run_lines<D: Disk + Cause, R: LineInput, W: Write, E: Write>(
     alloc: Global,
     engine: &mut Engine<D>,
     checkpoints: &mut Checkpoints,
@@ -161,6 +176,7 @@ fn run_lines<D: Disk, R: LineInput, W: Write>(
     reader: &mut R,
     line: &mut Vec<u8>,
     writer: &mut W,
+    causes: &mut Causes<E>,
 ) -> io::Result<StoreEnd> {
     for _count in 0..u64::MAX {
         if !reader.has_line() {
@@ -176,6 +192,7 @@ fn run_lines<D: Disk, R: LineInput, W: Write>(
         if !text.is_empty() {
             let is_refused = run_line(alloc, engine, checkpoints, manner, text, writer)?;
             let is_unkept = keep(engine, checkpoints, manner, writer)?;
+            causes.tell(engine.disk());
             if (is_refused || is_unkept) && manner.is_batch {
                 return Ok(StoreEnd::RefusedLine);
             }

@@ -2,6 +2,7 @@
 
 ghost use Rattle.std.specs.Prelude.{◌≤◌, IfOk};
 
+use crate::causes::Causes;
 use crate::imstore::{tell, tell_unopened};
 use crate::line_input::LineInput;
 use crate::look::{check_text, stat_text};
@@ -12,10 +13,10 @@ use crate::store::print_refused_opening;
 use crate::transfer::{Loaded, dump_text, load_text};
 use im_base_file_disk::{FileDisk, OpenError};
 use im_base_types::Fault;
-use im_tool_look::log_text;
-use std::fmt::Display;
-use std::io;
+use im_tool_look::{log_text, read_log};
+use std::fmt::{Display, Formatter};
 use std::io::{BufReader, BufWriter, IsTerminal, Write};
+use std::{fmt, io};
 
 /// Does a task that only looks at the store in a folder, and changes no byte of it. It answers the exit status: 0, or 1 where
 /// the store is broken or could not be read.
@@ -35,6 +36,9 @@ fn look_in<W: Write>(rt: &HostRuntime, dir: &str, task: Task, writer: &mut W) ->
     match FileDisk::open_to_read(rt, dir) {
         Ok(mut disk) => {
             let copies = copies_of(rt.alloc(), &mut disk);
+            if let Some(error) = disk.last_error() {
+                tell(rt, dir, error);
+            }
             look_at(rt, dir, task, writer, copies)
         }
         Err(error) => {
@@ -83,6 +87,49 @@ fn refused<W: Write>(rt: &HostRuntime, dir: &str, writer: &mut W, fault: Fault) 
     Ok(1)
 }
 
+/// Says on standard error what of a store is damaged that was refused as none. Where that cannot be told, nothing is said.
+pub(crate) fn tell_damage(rt: &HostRuntime, dir: &str) {
+    let Ok(mut disk) = FileDisk::open_to_read(rt, dir) else {
+        return;
+    };
+    let Ok(copies) = copies_of(rt.alloc(), &mut disk) else {
+        return;
+    };
+    let _ = check_text(rt.alloc(), &mut rt.stderr(), copies);
+}
+
+// Says on standard error how many transactions a dump leaves out.
+fn tell_left_out(rt: &HostRuntime, dir: &str, copies: &Copies) {
+    if let Ok(said) = read_log(rt.alloc(), &copies.log) {
+        let losers = said.analysed.losers.len();
+        if losers > 0 {
+            tell(
+                rt,
+                dir,
+                &LeftOut {
+                    transactions: losers,
+                },
+            );
+        }
+    }
+}
+
+// How many transactions were not committed.
+#[derive(Drop)]
+struct LeftOut {
+    transactions: usize,
+}
+
+impl Display for LeftOut {
+    fn fmt<W: fmt::Write>(&self, f: &mut Formatter<W>) -> fmt::Result {
+        write!(
+            f,
+            "what transactions did that had not committed is left out: {} of them",
+            self.transactions
+        )
+    }
+}
+
 fn print_log<W: Write>(
     rt: &HostRuntime,
     dir: &str,
@@ -104,6 +151,7 @@ fn print_log<W: Write>(
 fn dump<W: Write>(rt: &HostRuntime, dir: &str, writer: &mut W, copies: Copies) -> io::Result<u8>
     ensures { IfOk result (λ status. status ≤ 1) }
 {
+    tell_left_out(rt, dir, &copies);
     let mut progress = Progress {
         writer: rt.stderr(),
         is_shown: rt.stderr().is_terminal() && !rt.stdout().is_terminal(),
@@ -147,7 +195,20 @@ fn load_from<R: LineInput, W: Write>(
                 is_shown: rt.stderr().is_terminal(),
             };
             let (config, bound) = (options.config(), options.redo_bound());
-            let loaded = load_text(rt.alloc(), disk, config, bound, reader, &mut progress)?;
+            let mut causes = Causes {
+                writer: rt.stderr(),
+                dir,
+                is_told: false,
+            };
+            let loaded = load_text(
+                rt.alloc(),
+                disk,
+                config,
+                bound,
+                reader,
+                &mut progress,
+                &mut causes,
+            )?;
             let has_words = options.has_words || rt.stdout().is_terminal();
             print_loaded(rt, dir, writer, has_words, loaded)
         }

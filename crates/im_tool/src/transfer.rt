@@ -3,15 +3,15 @@
 ghost use Rattle.std.specs.Prelude.{◌≡◌, false};
 ghost use Rattle.im_base_disk.specs.Runs.{IsSynced};
 
-use crate::checkpoints::Checkpoints;
+use crate::causes::{Cause, Causes};
 use crate::line_input::{LineInput, without_newline};
 use crate::progress::Progress;
-use crate::redo_bound::RedoBound;
 use crate::store::print_keys;
 use im_base_disk::Disk;
 use im_base_steps::{Reply, Step};
 use im_base_types::{Fault, Key, Rid, TxnId};
 use im_engine::{Config, Engine};
+use im_engine_upkeep::{Checkpoints, RedoBound};
 use im_tool_look::noted_key;
 use std::alloc::Global;
 use std::io;
@@ -64,13 +64,14 @@ pub(crate) fn dump_text<W: Write, P: Write>(
 
 /// Puts the entries of such a text into a store, commits them a thousand at a time, and tells of each commit. Checkpoints are taken in
 /// between, as the bound wants them, and one behind the last entry, so that the next opening has nothing to redo.
-pub fn load_text<D: Disk + Drop, R: LineInput, P: Write>(
+pub fn load_text<D: Disk + Cause + Drop, R: LineInput, P: Write, E: Write>(
     alloc: Global,
     disk: D,
     config: Config,
     bound: RedoBound,
     reader: &mut R,
     progress: &mut Progress<P>,
+    causes: &mut Causes<E>,
 ) -> io::Result<Loaded>
     requires working { D.failed disk ≡ false }
     requires synced { IsSynced D.Disk disk }
@@ -78,11 +79,15 @@ pub fn load_text<D: Disk + Drop, R: LineInput, P: Write>(
     match Engine::open_or_create(alloc, disk, config) {
         Ok(mut engine) => {
             let loaded = load_to_close(alloc, &mut engine, bound, reader, progress);
-            let _disk = engine.into_disk();
+            let disk = engine.into_disk();
             progress.end();
+            causes.tell(&disk);
             loaded
         }
-        Err((fault, _disk)) => Ok(Loaded::RefusedOpening(fault)),
+        Err((fault, disk)) => {
+            causes.tell(&disk);
+            Ok(Loaded::RefusedOpening(fault))
+        }
     }
 }
 

@@ -2,7 +2,7 @@
 //! broken in it; the tree and the free list of a file of pages, rule by rule; and keys as users type them.
 //!
 //! `read_log` counts what a log has and analyses it as an opening does, `batches_behind` looks for whole batches behind the log's end,
-//! `log_text` prints a line for each record. `check_pages` goes over the pages and lists each rule that does not hold. `write_key` and
+//! `log_text` prints a line for each record. `compare_pages` tells where the file of pages is not one of this log. `check_pages` goes over the pages and lists each rule that does not hold. `write_key` and
 //! `noted_key` are the notation of keys, `x'6100'` and `"a b"` among them. No store is opened here, and nothing is written but text. What
 //! is found and printed is tested, and stands in no clause: every call is safe and ends, on any bytes.
 #![tactic(auto)]
@@ -10,6 +10,8 @@
 mod key_notation;
 mod log_bytes;
 mod log_damage;
+mod page_compare;
+mod page_damage;
 mod record_lines;
 mod tree_check;
 mod tree_damage;
@@ -17,6 +19,8 @@ mod tree_damage;
 pub use key_notation::{noted_key, write_key};
 pub use log_bytes::{Survey, batches_behind, read_log};
 pub use log_damage::LogDamage;
+pub use page_compare::{Compared, compare_pages};
+pub use page_damage::PageDamage;
 pub use record_lines::log_text;
 pub use tree_check::{TreeSurvey, check_pages};
 pub use tree_damage::TreeDamage;

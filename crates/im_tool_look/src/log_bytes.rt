@@ -3,7 +3,7 @@
 use crate::log_damage::LogDamage;
 use im_base_types::{Fault, LONGEST_BATCH, PageNo, TxnId};
 use im_log_record::{Record, decode_front};
-use im_restart_analysis::{Analysed, Analysis};
+use im_restart_analysis::{Analysed, Analysis, Changes, LastChanges};
 use std::alloc::Global;
 
 /// The place of the first gate.
@@ -28,6 +28,8 @@ pub struct Survey {
     pub commits: u64,
     /// The greatest page that a record names.
     pub greatest_page: PageNo,
+    /// The last change of each page below the redo point.
+    pub last: LastChanges,
     pub analysed: Analysed,
 }
 
@@ -81,6 +83,7 @@ pub(crate) fn next_gate(gate: usize, records: &[u8]) -> usize {
 /// Reads the log to its closed gate.
 pub fn read_log(alloc: Global, log: &[u8]) -> Result<Survey, LogDamage> {
     let mut counts = Counts::default();
+    let mut changes = Changes::new(alloc);
     let mut analysis = Analysis::new(alloc, LEAST_NUMBER);
     let mut gate = 0;
     if is_made(log) {
@@ -92,6 +95,7 @@ pub fn read_log(alloc: Global, log: &[u8]) -> Result<Survey, LogDamage> {
             counts.batches = counts.batches.saturating_add(1);
             take_batch(
                 &mut analysis,
+                &mut changes,
                 &mut counts,
                 gate.saturating_add(AHEAD),
                 records,
@@ -99,13 +103,18 @@ pub fn read_log(alloc: Global, log: &[u8]) -> Result<Survey, LogDamage> {
             gate = next_gate(gate, records);
         }
     }
+    let analysed = analysis.finish();
+    let Ok(last) = changes.below(alloc, analysed.redo_point) else {
+        return Err(LogDamage::Memory);
+    };
     Ok(Survey {
         end: gate,
         batches: counts.batches,
         records: counts.records,
         commits: counts.commits,
         greatest_page: counts.greatest_page,
-        analysed: analysis.finish(),
+        last,
+        analysed,
     })
 }
 
@@ -120,6 +129,7 @@ struct Counts {
 // Takes the records of a batch, the first of which has this LSN.
 fn take_batch(
     analysis: &mut Analysis,
+    changes: &mut Changes,
     counts: &mut Counts,
     lsn: usize,
     records: &[u8],
@@ -137,6 +147,9 @@ fn take_batch(
             Ok(()) => {}
             Err(Fault::Memory) => return Err(LogDamage::Memory),
             Err(_) => return Err(misplaced(counts, at, record.page())),
+        }
+        if changes.note(at as u64, &record).is_err() {
+            return Err(LogDamage::Memory);
         }
         note(counts, &record);
         left = rest;

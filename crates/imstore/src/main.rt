@@ -5,7 +5,17 @@ use im_tool::store_program;
 use std::process::ExitCode;
 use std::{env, io};
 
-fn main(rt: HostRuntime) -> io::Result<ExitCode> {
-    let words: Vec<String> = env::args(&rt)?.collect(rt.alloc())?;
-    Ok(ExitCode::from(store_program(&rt, &words)?))
+fn main(rt: HostRuntime) -> ExitCode {
+    match run(&rt) {
+        Ok(status) => ExitCode::from(status),
+        Err(error) => {
+            let _ = eprintln!(rt; "imstore: what it reads or prints, or its memory: {error}");
+            ExitCode::from(1)
+        }
+    }
+}
+
+fn run(rt: &HostRuntime) -> io::Result<u8> {
+    let words: Vec<String> = env::args(rt)?.collect(rt.alloc())?;
+    store_program(rt, &words)
 }

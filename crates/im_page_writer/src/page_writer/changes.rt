@@ -72,9 +72,9 @@ impl PageWriter {
     fn is_known(&self, frame: Frame) -> bool
         requires at { IsAt self.now.pool frame }
         ensures none { result ≡ true → entry_in self.now.table frame.number ≡ None }
-        ensures late { result ≡ true → IsAtOrAfter self.now.known_from (page_at self.now.pool frame.number).lsn }
+        ensures late { result ≡ true → IsAtOrAfter self.now.known.from (page_at self.now.pool frame.number).lsn }
     {
-        match self.known_from {
+        match self.known.from {
             Some(from) => {
                 from <= self.pool.page(frame).lsn() && self.table.get(frame.number).is_none()
             }
@@ -113,7 +113,7 @@ impl PageWriter {
         let lsn = self.log.append(disk, record)?;
         edit_key(&mut self.pool, frame, edit, i, key, rid, lsn);
         self.table.enter(frame.number, lsn, known);
-        self.known_from = first_of(self.known_from, lsn);
+        self.known.from = first_of(self.known.from, lsn);
         self.failed = false;
         Ok(lsn)
     }

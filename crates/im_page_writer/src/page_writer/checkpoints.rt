@@ -48,7 +48,7 @@ impl PageWriter {
         self.table.forget();
         self.failed = true;
         let lsn = append_tables(disk, &mut self.log, next, active, self.rows.as_slice())?;
-        self.known_from = None;
+        self.known.from = None;
         self.failed = false;
         Ok(lsn)
     }

@@ -88,7 +88,7 @@ impl PageWriter {
         requires entry { IsEntry (view record.now) }
         ensures ok { OnOk result (LoadedHere point lsn (what_of (view record.now)) number self.old self.new) }
         ensures log { self.new.log ≡ self.old.log }
-        ensures known { self.new.known_from ≡ self.old.known_from }
+        ensures known { self.new.known ≡ self.old.known }
         ensures frames { self.new.pool.frames ≡ self.old.pool.frames }
         ensures failed { self.new.failed ≡ self.old.failed }
         ensures refused { IfErr result (λ e. (e ≡ Memory) ⊎ ((e ≡ NotAStore) × (Holds self.old.pool number ⊎ (copy_in lsn (what_of (view record.now)) ≡ None)))) }
@@ -160,7 +160,7 @@ impl PageWriter {
         requires entry { IsEntry (view record.now) }
         ensures ok { IfOk result (λ done. RedoneHere copied point lsn (what_of (view record.now)) number self.old done self.new) }
         ensures log { self.new.log ≡ self.old.log }
-        ensures known { self.new.known_from ≡ self.old.known_from }
+        ensures known { self.new.known ≡ self.old.known }
         ensures frames { self.new.pool.frames ≡ self.old.pool.frames }
         ensures failed { self.new.failed ≡ self.old.failed }
         ensures refused { IfErr result (λ e. (e ≡ Memory) ⊎ ((e ≡ NotAStore) × LacksTaker (what_of (view record.now)) number self.old.pool)) }

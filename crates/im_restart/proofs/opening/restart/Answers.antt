@@ -34,7 +34,7 @@ pub returns-in_err-applied-clause-kept : goal.returns-in_err-applied-clause-kept
 returns-in_err-applied-clause-kept g c b base all may pages is =
     let d = g.D.Disk in
     let w = c.in_ok-writer in
-    let stands = writer_starts d b base all c.args.found.log w.writer c.args.frames c.args.disk.now may.start (rises b page_tree all may.lawful) may.has.covers pages c.requires.ready is.log w.ensures.log w.ensures.pool w.ensures.table w.ensures.failed w.ensures.known in
+    let stands = writer_starts d b base all c.args.found.log w.writer c.args.frames c.args.disk.now may.start (rises b page_tree all may.lawful) may.has.covers pages c.requires.ready is.log w.ensures.log w.ensures.pool w.ensures.table w.ensures.failed w.ensures.known w.ensures.none in
     let k = c.in_err-applied.ensures.kept b base all stands may (least_number (d.seen c.args.disk.now Log)) is.analysis (c.deref.ensures.value ∙ is.lsns) in
     record { sound = sound_on c.from_residual-in_err-applied.result _ _ c.from_residual-in_err-applied.ensures.1 k.sound; stops = k.stops }
 
@@ -42,7 +42,7 @@ pub returns-clause-kept : goal.returns-clause-kept
 returns-clause-kept g c b base all may pages is =
     let d = g.D.Disk in
     let w = c.in_ok-writer in
-    let stands = writer_starts d b base all c.args.found.log w.writer c.args.frames c.args.disk.now may.start (rises b page_tree all may.lawful) may.has.covers pages c.requires.ready is.log w.ensures.log w.ensures.pool w.ensures.table w.ensures.failed w.ensures.known in
+    let stands = writer_starts d b base all c.args.found.log w.writer c.args.frames c.args.disk.now may.start (rises b page_tree all may.lawful) may.has.covers pages c.requires.ready is.log w.ensures.log w.ensures.pool w.ensures.table w.ensures.failed w.ensures.known w.ensures.none in
     let k = c.in_ok-applied.ensures.kept b base all stands may (least_number (d.seen c.args.disk.now Log)) is.analysis (c.deref.ensures.value ∙ is.lsns) in
     let lowest = least_number (d.seen c.args.disk.now Log) in
     let least = next_least lowest c.args.found.analysed.next all is.numbers is.analysis.next in
@@ -64,7 +64,7 @@ pub returns-in_err-applied-clause-redoes : goal.returns-in_err-applied-clause-re
 returns-in_err-applied-clause-redoes g c b base all may pages is =
     let d = g.D.Disk in
     let w = c.in_ok-writer in
-    let stands = writer_starts d b base all c.args.found.log w.writer c.args.frames c.args.disk.now may.start may.rises may.has.covers pages c.requires.ready is.log w.ensures.log w.ensures.pool w.ensures.table w.ensures.failed w.ensures.known in
+    let stands = writer_starts d b base all c.args.found.log w.writer c.args.frames c.args.disk.now may.start may.rises may.has.covers pages c.requires.ready is.log w.ensures.log w.ensures.pool w.ensures.table w.ensures.failed w.ensures.known w.ensures.none in
     let other = c.in_err-applied.ensures.redoes b base all stands may.can may.done (least_number (d.seen c.args.disk.now Log)) is.analysis (c.deref.ensures.value ∙ is.lsns) in
     err_on c.from_residual-in_err-applied.result c.in_err-applied.field-0.0 (λ e. e ≢ NotAStore) c.from_residual-in_err-applied.ensures.1 other
 

@@ -7,7 +7,7 @@ use Rattle.im_log.specs.Whats.{what_of}
 use Rattle.im_page_pool.specs.Pool.{held_of, Sets}
 use Rattle.im_page_file.proofs.Standing.{log_stops}
 use Rattle.im_page_writer.proofs.LoggedChanges.{at_held, err_on}
-use Rattle.im_page_table.proofs.KnownCopies.{known_more}
+use Rattle.im_page_writer.proofs.SyncedPages.{known_more}
 use Rattle.im_page_writer.proofs.Outcomes.{same_logs}
 use Rattle.im_page_writer.proofs.Structure.{leaves_body, left_by, never_none}
 use Rattle.im_page_writer.proofs.Writers.{goes_on_start}
@@ -46,7 +46,7 @@ returns-clause-kept g c b base s e is over =
           known = holds_copy (what_of entry);
           stands = record {
             working = refl;
-            known = known_more (logged_at lsn entry) s (record (changed (logged_at lsn entry) s) { durable = k.ok.now_durable }) w.known_from refl refl (leaves_body lsn (what_of entry) c.read_after.new.page.body (c.read_after.ensures.is c.if-not-read_after.false)).point is.known;
+            known = known_more (logged_at lsn entry) s (record (changed (logged_at lsn entry) s) { durable = k.ok.now_durable }) w.known refl refl refl (leaves_body lsn (what_of entry) c.read_after.new.page.body (c.read_after.ensures.is c.if-not-read_after.false)).point is.known;
             writing = left_by g.D.Disk b base s e w.log c.append.new.self w.table c.enter.new.self w.pool c.set_page.new.pool c.args.disk.now c.append.new.disk (view c.args.record.now) lsn frame is.writing over c.read_after.new.page.body
                 (c.read_after.ensures.is c.if-not-read_after.false) k.ok c.requires.page c.append.ensures.ready c.append.ensures.changes (at_held (held_of w.pool frame.number) frame.place c.requires.at) sets c.enter.ensures.entry;
           };

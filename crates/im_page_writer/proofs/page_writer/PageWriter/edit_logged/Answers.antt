@@ -6,9 +6,11 @@ use Rattle.im_theory_page.specs.Header.{initial}
 use Rattle.im_log.specs.Spelled.{logged_at}
 use Rattle.im_log.specs.Whats.{what_of}
 use Rattle.im_page_pool.specs.Pool.{held_of, Sets}
-use Rattle.im_page_table.specs.KnownCopies.{changed_as, IsAtOrAfter, IsKnownFrom}
+use Rattle.im_page_table.specs.KnownCopies.{changed_as, IsAtOrAfter}
+use Rattle.im_page_writer.specs.Synced.{IsKnown}
+use Rattle.im_page_writer.specs.declared.known.Known.{Known}
 use Rattle.im_page_leaf.specs.LeafEdits.{edit_of}
-use Rattle.im_page_table.proofs.KnownCopies.{known_first}
+use Rattle.im_page_writer.proofs.SyncedPages.{known_first}
 use Rattle.im_page_file.proofs.Standing.{log_stops}
 use Rattle.im_page_writer.proofs.Changing.{changed_by, like_names}
 use Rattle.im_page_writer.proofs.LeafChanges.{edit_gives}
@@ -30,8 +32,8 @@ returns-clause-kept g c b base s e is over =
     let shows = at_shows (held_of w.pool frame.number) frame.place (s.pages frame.number) (initial 0) c.requires.at (is.writing.pooled.shows frame.number) in
     let made = ap (λ (g : Page). page_after lsn (edit_of c.args.edit c.args.key.now c.args.rid) g) shows ∙ sym (c.requires.what.after lsn (s.pages frame.number).page) in
     let sets = subst (λ (p : Page). Sets frame p true w.pool c.edit_key.new.pool) made c.edit_key.ensures in
-    let has_copy : c.is_known-known.result ≡ true → ((s.pages frame.number).entry ≡ None) × IsAtOrAfter w.known_from (s.pages frame.number).page.lsn =
-    λ t. (sym (is.writing.entries frame.number) ∙ c.is_known-known.ensures.none t, subst (λ (p : Page). IsAtOrAfter w.known_from p.lsn) shows (c.is_known-known.ensures.late t)) in
+    let has_copy : c.is_known-known.result ≡ true → ((s.pages frame.number).entry ≡ None) × IsAtOrAfter w.known.from (s.pages frame.number).page.lsn =
+    λ t. (sym (is.writing.entries frame.number) ∙ c.is_known-known.ensures.none t, subst (λ (p : Page). IsAtOrAfter w.known.from p.lsn) shows (c.is_known-known.ensures.late t)) in
     record {
       ok = record {
         durable = k.ok.now_durable;
@@ -39,10 +41,10 @@ returns-clause-kept g c b base s e is over =
         known = c.is_known-known.result;
         stands = record {
           working = refl;
-          known = subst (λ (o : Option ℕ). IsKnownFrom (record (changed_as c.is_known-known.result (logged_at lsn (view c.args.record.now)) s) { durable = k.ok.now_durable }) o) (sym c.first_of-self.ensures)
-              (known_first b (logged_at lsn (view c.args.record.now)) s (record (changed_as c.is_known-known.result (logged_at lsn (view c.args.record.now)) s) { durable = k.ok.now_durable }) e w.known_from is.writing.stands.kept over refl refl c.requires.what.point (k.ok.rises b is.writing.based) is.known);
+          known = subst (λ (o : Option ℕ). IsKnown (record (changed_as c.is_known-known.result (logged_at lsn (view c.args.record.now)) s) { durable = k.ok.now_durable }) (record w.known { from = o })) (sym c.first_of-self.ensures)
+              (known_first b (logged_at lsn (view c.args.record.now)) s (record (changed_as c.is_known-known.result (logged_at lsn (view c.args.record.now)) s) { durable = k.ok.now_durable }) e w.known is.writing.stands.kept over refl refl refl c.requires.what.point (k.ok.rises b is.writing.based) is.known);
           writing = changed_by g.D.Disk b base s e w.log c.append.new.self w.table c.enter.new.self w.pool c.edit_key.new.pool c.args.disk.now c.append.new.disk (view c.args.record.now) lsn frame is.writing over (c.requires.what.copy lsn)
-              c.requires.what.point (like_names (what_of (view c.args.record.now)) (edit_of c.args.edit c.args.key.now c.args.rid) (edit_gives c.args.edit c.args.key.now c.args.rid) c.requires.what.after) k.ok c.requires.page c.is_known-known.result w.known_from is.known has_copy c.append.ensures.ready c.append.ensures.changes (at_held (held_of w.pool frame.number) frame.place c.requires.at) sets c.enter.ensures.entry;
+              c.requires.what.point (like_names (what_of (view c.args.record.now)) (edit_of c.args.edit c.args.key.now c.args.rid) (edit_gives c.args.edit c.args.key.now c.args.rid) c.requires.what.after) k.ok c.requires.page c.is_known-known.result w.known.from is.known.from has_copy c.append.ensures.ready c.append.ensures.changes (at_held (held_of w.pool frame.number) frame.place c.requires.at) sets c.enter.ensures.entry;
         };
         high = k.ok.rises b is.writing.based;
       };

@@ -1,7 +1,8 @@
 use Rattle.std.proofs.Common.{◌≡◌, ℕ, List, Option, length, subst, sym, ◌∙◌, arith, rules}
 use Rattle.im_log.specs.declared.log_file.LogFile.{LogFile}
 use Rattle.im_page_table.specs.declared.table_entry.TableEntry.{TableEntry}
-use Rattle.im_page_table.specs.KnownCopies.{IsKnownFrom}
+use Rattle.im_page_writer.specs.Synced.{IsKnown}
+use Rattle.im_page_writer.specs.declared.known.Known.{Known}
 use Rattle.im_page_file.specs.LogEnds.{EndsNoSooner}
 use Rattle.im_page_writer.specs.Writing.{Goes}
 use Rattle.im_page_writer.proofs.Writers.{absent_still, goes_evicted}
@@ -32,7 +33,7 @@ returns-clause-outcome g c =
               now = f.now;
               on = record {
                 working = c.drop_page.ensures.failed ∙ f.on.working;
-                known = subst (λ (from : Option ℕ). IsKnownFrom f.now from) (sym c.drop_page.ensures.known) f.on.known;
+                known = subst (λ (known : Known). IsKnown f.now known) (sym c.drop_page.ensures.known) f.on.known;
                 goes = subst (λ (log : LogFile). Goes g.D.Disk b base s old f.now log new.table new.pool disk) (sym c.drop_page.ensures.log)
                     (subst (λ (table : List TableEntry). Goes g.D.Disk b base s old f.now mid.log table new.pool disk) (sym c.drop_page.ensures.table) gone);
               };

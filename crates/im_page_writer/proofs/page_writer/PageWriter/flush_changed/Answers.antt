@@ -1,5 +1,5 @@
 use Rattle.std.proofs.Common.{refl, rules, arith}
-use Rattle.im_page_table.proofs.KnownCopies.{known_grown}
+use Rattle.im_page_writer.proofs.SyncedPages.{known_grown}
 use Rattle.im_page_writer.proofs.ImageCalls.{imaging_broke}
 use Rattle.im_page_writer.proofs.page_writer.PageWriter.flush_changed.Goals as goal
 
@@ -12,7 +12,7 @@ pub returns-clause-kept : goal.returns-clause-kept
 returns-clause-kept g c b base s is =
     let done = c.in_ok-flush_page.ensures.kept b base s is.writing in
     let flushed = done.ok.written c.args.number (omega arith) (omega arith) in
-    record { now = done.ok.now; on = record { working = refl; goes = done.ok.goes; known = known_grown b s done.ok.now c.args.self.now.known_from done.ok.goes.keeps.redo_end done.ok.goes.keeps.log is.known }; written = flushed.0; in_file = λ ready. flushed.1 }
+    record { now = done.ok.now; on = record { working = refl; goes = done.ok.goes; known = known_grown b s done.ok.now c.args.self.now.known done.ok.goes.keeps.redo_end done.ok.goes.keeps.log done.ok.goes.keeps.point is.known }; written = flushed.0; in_file = λ ready. flushed.1 }
 
 pub returns-clause-outcome : goal.returns-clause-outcome
 returns-clause-outcome g c =

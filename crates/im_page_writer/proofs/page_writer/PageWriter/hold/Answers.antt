@@ -1,17 +1,26 @@
-use Rattle.std.proofs.Common.{◌≡◌, refl, sym, ◌∙◌, ap, subst, Option, false, true, is_some, Err, None, rules, arith}
+use Rattle.std.proofs.Common.{◌≡◌, ℕ, List, refl, sym, ◌∙◌, ap, subst, Option, false, true, is_some, Err, None, rules, arith}
 use Rattle.im_base_types.specs.declared.fault.Fault.TheVariants.{Device, NotAStore}
 use Rattle.im_base_types.specs.declared.file_id.FileId.TheVariants.{Pages}
 use Rattle.im_base_disk.specs.Disk.{Files}
 use Rattle.im_theory_page.specs.PageFile.{file_page}
-use Rattle.im_page_pool.specs.Pool.{Held, held_of}
+use Rattle.im_base_types.specs.Pages.{Page}
+use Rattle.im_theory_log.specs.Writer.{IsWritten}
+use Rattle.im_log.specs.declared.log_file.LogFile.{LogFile}
+use Rattle.im_page_table.specs.declared.table_entry.TableEntry.{TableEntry}
+use Rattle.im_page_file.specs.LogEnds.{EndsNoSooner}
+use Rattle.im_page_pool.specs.Pool.{Held, held_of, page_at}
+use Rattle.im_page_writer.specs.declared.known.Known.{Known}
+use Rattle.im_page_writer.specs.Synced.{IsForeign, IsKnown, IsOwn}
+use Rattle.im_page_writer.specs.Writing.{Goes, IsShown}
 use Rattle.im_page_writer.proofs.Flushing.{leaves_read}
 use Rattle.im_page_writer.proofs.Outcomes.{read_ends}
-use Rattle.im_page_writer.proofs.Writers.{got_page, goes_got, goes_refused, no_page_missing, seen_none}
+use Rattle.im_page_writer.proofs.OwnPages.{own_page}
+use Rattle.im_page_writer.proofs.Writers.{got_page, goes_evicted, goes_got, goes_refused, no_page_missing, seen_none}
 use Rattle.im_page_file.proofs.LogEnds.{still_working}
 use Rattle.im_page_writer.proofs.page_writer.PageWriter.hold.Goals as goal
 
-pub returns-in-Ok-clause-outcome : goal.returns-in-Ok-clause-outcome
-returns-in-Ok-clause-outcome g c =
+pub returns-then-is_own-clause-outcome : goal.returns-then-is_own-clause-outcome
+returns-then-is_own-clause-outcome g c =
     let w = c.args.self.now in
     let old = c.args.disk.now in
     let e = c.in-Ok.ensures in
@@ -36,8 +45,8 @@ returns-in-Ok-clause-outcome g c =
       };
     }
 
-pub returns-in-Ok-clause-kept : goal.returns-in-Ok-clause-kept
-returns-in-Ok-clause-kept g c pages has =
+pub returns-then-is_own-clause-kept : goal.returns-then-is_own-clause-kept
+returns-then-is_own-clause-kept g c pages has =
     let w = c.args.self.now in
     let writing = has.stands.writing in
     got_page g.D.Disk has.b has.base has.now w.log w.table w.pool c.args.disk.now writing c.args.number has.asked c.get_absent.new.self (c.in-Ok.ensures.page writing.stands.log_is.tells) ∙ has.shows c.args.number
@@ -78,8 +87,62 @@ returns-in-Err-clause-kept g c pages has =
 
 pub returns-in-Err-clause-no_page : goal.returns-in-Err-clause-no_page
 returns-in-Err-clause-no_page g c is told =
+    let w = c.args.self.now in
     let old = c.args.disk.now in
     let p = c.args.number in
     let e = c.in-Err.ensures in
     let works = still_working (g.D.Disk.failed c.get_absent.new.disk) (λ failed. let clash : Err NotAStore ≡ Err Device = sym is ∙ e.device.1 failed in let never : ⊥ = cc clash in never) in
-    subst (λ (s : Files). file_page (s Pages) p ≡ None) (sym e.reads.seen) (seen_none (held_of c.args.self.now.pool p) (file_page (g.D.Disk.seen old Pages) p) ((e.refused told works).0 is))
+    let none : file_page (g.D.Disk.seen c.get_absent.new.disk Pages) p ≡ None =
+    subst (λ (s : Files). file_page (s Pages) p ≡ None) (sym e.reads.seen) (seen_none (held_of w.pool p) (file_page (g.D.Disk.seen old Pages) p) ((e.refused told works).0 is)) in
+    subst (λ (o : Option Page). IsForeign w.log w.known p o) (sym none) tt
+
+pub returns-else-is_own-clause-outcome : goal.returns-else-is_own-clause-outcome
+returns-else-is_own-clause-outcome g c =
+    let w = c.args.self.now in
+    let old = c.args.disk.now in
+    let p = c.args.number in
+    let e = c.in-Ok.ensures in
+    let mid = c.get_absent.new.self in
+    let disk = c.get_absent.new.disk in
+    let new = c.drop_page.new.self in
+    let alive = still_working (g.D.Disk.failed disk) (λ failed. let clash = e.device.1 failed in let never : ⊥ = cc clash in never) in
+    record {
+      ready = search rules;
+      frames = c.drop_page.ensures.evicts.frames ∙ e.frames;
+      ends = (
+        refl,
+        record {
+          began = c.requires.working;
+          works = c.drop_page.ensures.failed ∙ c.requires.working;
+          alive = alive;
+          later = subst (λ (log : LogFile). EndsNoSooner w.log log) (sym c.drop_page.ensures.log) (record { each = λ size. omega arith });
+          goes = λ b base s is ready.
+              let got = goes_got g.D.Disk b base s w.log w.table w.pool old is.writing p ready mid disk c.in-Ok.frame (g.met.D.Disk.only_now old) e.reads
+              alive (e.page is.writing.stands.log_is.tells) e.frame (λ holds. let clash : false ≡ true = subst (λ (o : Option Held). is_some o ≡ true) c.requires.absent holds in absurd cc) (λ _. e.read) in
+              let done : IsWritten (s.pages p).entry = subst (λ (o : Option Held). IsShown o (s.pages p)) c.requires.absent (is.writing.pooled.shows p) in
+              let gone = goes_evicted g.D.Disk b base s old s w.log w.table mid new.pool disk p got done c.drop_page.ensures.evicts in
+              record {
+                now = s;
+                on = record {
+                  working = c.drop_page.ensures.failed ∙ is.working;
+                  known = subst (λ (known : Known). IsKnown s known) (sym c.drop_page.ensures.known) is.known;
+                  goes = subst (λ (log : LogFile). Goes g.D.Disk b base s old s log new.table new.pool disk) (sym c.drop_page.ensures.log)
+                      (subst (λ (table : List TableEntry). Goes g.D.Disk b base s old s w.log table new.pool disk) (sym c.drop_page.ensures.table) gone);
+                };
+              };
+        },
+      );
+    }
+
+pub returns-else-is_own-clause-kept : goal.returns-else-is_own-clause-kept
+returns-else-is_own-clause-kept g c pages has =
+    let w = c.args.self.now in
+    let p = c.args.number in
+    let e = c.in-Ok.ensures in
+    let s = has.now in
+    let writing = has.stands.writing in
+    let done : IsWritten (s.pages p).entry = subst (λ (o : Option Held). IsShown o (s.pages p)) c.requires.absent (writing.pooled.shows p) in
+    let own = own_page g.D.Disk has.b has.base s w.log c.args.disk.now writing.based writing.stands.kept writing.stands.ready writing.stands.log_is w.known p has.stands.known (has.asked p (omega arith)) done in
+    let shown = got_page g.D.Disk has.b has.base s w.log w.table w.pool c.args.disk.now writing p has.asked c.get_absent.new.self (e.page writing.stands.log_is.tells) in
+    let here : IsOwn w.log w.known p (page_at c.get_absent.new.self p) = subst (λ (x : Page). IsOwn w.log w.known p x) (sym shown) own in
+    λ same. c.is_own.ensures.foreign c.if-is_own.false (subst (λ (n : ℕ). IsOwn w.log w.known n (page_at c.get_absent.new.self n)) (sym e.frame) here)

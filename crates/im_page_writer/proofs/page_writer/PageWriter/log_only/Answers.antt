@@ -2,7 +2,7 @@ use Rattle.std.proofs.Common.{refl, rules}
 use Rattle.im_theory_log.specs.WriterSteps.{appended}
 use Rattle.im_log_record.specs.Entry.{view}
 use Rattle.im_log.specs.Spelled.{logged_at}
-use Rattle.im_page_table.proofs.KnownCopies.{known_more}
+use Rattle.im_page_writer.proofs.SyncedPages.{known_more}
 use Rattle.im_page_file.proofs.Standing.{log_stops}
 use Rattle.im_page_writer.proofs.Logging.{logged_high, logged_only}
 use Rattle.im_base_disk.proofs.Costs.{most_none}
@@ -25,7 +25,7 @@ returns-clause-kept g c b base s e is over plain =
         grows = k.ok.grows;
         stands = record {
           working = refl;
-          known = known_more (logged_at c.in_ok-lsn.lsn entry) s (record (appended (logged_at c.in_ok-lsn.lsn entry) s) { durable = k.ok.now_durable }) w.known_from refl refl plain.point is.known;
+          known = known_more (logged_at c.in_ok-lsn.lsn entry) s (record (appended (logged_at c.in_ok-lsn.lsn entry) s) { durable = k.ok.now_durable }) w.known refl refl refl plain.point is.known;
           writing = logged_only g.D.Disk b base s e w.log c.append.new.self w.table w.pool c.args.disk.now c.append.new.disk entry c.in_ok-lsn.lsn is.writing over plain k.ok c.append.ensures.ready c.append.ensures.changes;
         };
         high = logged_high g.D.Disk b base s e w.log c.append.new.self w.table w.pool c.args.disk.now c.append.new.disk entry c.in_ok-lsn.lsn is.writing over plain k.ok;

@@ -1,11 +1,13 @@
 use Rattle.std.proofs.Common.{◌≡◌, List, refl, subst, rules}
 use Rattle.im_base_types.specs.declared.tables.DirtyPage.{DirtyPage}
-use Rattle.im_theory_log.specs.WriterSteps.{Lists, forgotten}
+use Rattle.im_theory_log.specs.WriterSteps.{Lists, appended, forgotten}
 use Rattle.im_log_record.specs.Entry.{Checkpoint}
+use Rattle.im_page_writer.specs.Checkpoints.{checkpoint_at}
 use Rattle.im_log.specs.Kept.{Appended}
 use Rattle.im_page_table.specs.DirtyTable.{dirty_pages}
 use Rattle.im_page_writer.proofs.Checkpointing.{forgets, tables_logged}
 use Rattle.im_page_file.proofs.Standing.{log_stops}
+use Rattle.im_page_writer.proofs.SyncedPages.{synced_more}
 use Rattle.im_page_writer.proofs.page_writer.PageWriter.log_tables.Goals as goal
 
 pub returns-in_err-lsn-clause-kept : goal.returns-in_err-lsn-clause-kept
@@ -35,7 +37,7 @@ returns-clause-kept g c b base s e is over synced =
         grows = done.grows;
         stands = record {
           working = refl;
-          known = tt;
+          known = record { from = tt; synced = synced_more (checkpoint_at lsn c.args.next c.args.active.now dirty) s (record (appended (checkpoint_at lsn c.args.next c.args.active.now dirty) (forgotten s)) { durable = done.now_durable }) w.known.synced refl refl is.known.synced };
           writing = tables_logged g.D.Disk b base s e c.args.next c.args.active.now dirty lsn w.log c.append_tables.new.log table w.pool old new f over done lists synced (c.append_tables.ensures.outcome (c.requires.ready.works c.requires.working)).opened c.append_tables.ensures.changes;
         };
         high = done.rises b is.writing.based;

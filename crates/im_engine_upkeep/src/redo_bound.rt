@@ -1,7 +1,7 @@
 //! How much an opening may have to redo, and what follows from that: when a Checkpoint is due, and which pages are written before it.
 
 ghost use Rattle.std.specs.Prelude.{◌≡◌, ◌≤◌, ◌<◌, ◌*◌, ◌^◌, ◌↔◌, IsTrue};
-ghost use Rattle.im_tool.specs.RedoBound.{redo_length};
+ghost use Rattle.im_engine_upkeep.specs.RedoBound.{redo_length};
 
 use im_base_types::{IMAGE_SIZE, Lsn};
 

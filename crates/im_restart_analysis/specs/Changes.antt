@@ -1,0 +1,47 @@
+-- The changes of pages that the records of a log made, and the last one of each page below a redo point.
+use Rattle.std.specs.Prelude.{◌≡◌, ◌≤◌, ◌<◌, ℕ, true, All, List, Option, Some}
+use Rattle.std.specs.Ordering.{nat_cmp}
+use Rattle.std.specs.BTreeMap.{BTreeMap, get}
+use Rattle.im_base_types.specs.Records.{Logged}
+use Rattle.im_theory_log.specs.Histories.{History, IsRecordOf, changes_page}
+use Rattle.im_theory_log.specs.PageCounts.{count_in, named_to}
+use Rattle.im_restart_analysis.specs.declared.changes.Change.{Change}
+use Rattle.im_restart_analysis.specs.declared.changes.Changes.{Changes}
+use Rattle.im_restart_analysis.specs.declared.changes.LastChanges.{LastChanges}
+
+-- an LSN for each of some pages
+abbrev pub LastMap : Type 0
+LastMap = BTreeMap ℕ ℕ
+
+-- A record of the log changed the page; where a page count is said, it says that.
+pub record IsChange (log : History) (x : Change) : Type 0 where
+  pub logged : Logged
+  pub there : IsRecordOf logged log
+  pub page : logged.page ≡ x.page
+  pub changes : changes_page logged.what ≡ true
+  pub lsn : logged.lsn ≡ x.lsn
+  pub says : 1 ≤ x.said → (x.page ≡ 0) × (count_in logged.what ≡ x.said)
+
+-- Each is a change that a record of the log made, and the pages that records name are below this number.
+pub record AreChanges (log : History) (c : Changes) : Type 0 where
+  pub all : All (IsChange log) c.all.items
+  pub named : c.named ≡ named_to log
+
+-- A record of the log below the redo point changed the page, at this LSN; and where the page is page 0 and a page count is said, it says that.
+pub record IsChangedAt (log : History) (point : ℕ) (count : Option ℕ) (p l : ℕ) : Type 0 where
+  pub logged : Logged
+  pub there : IsRecordOf logged log
+  pub page : logged.page ≡ p
+  pub changes : changes_page logged.what ≡ true
+  pub lsn : logged.lsn ≡ l
+  pub low : l < point
+  pub says : p ≡ 0 → (n : ℕ) → count ≡ Some n → (1 ≤ n) × (count_in logged.what ≡ n)
+
+-- each LSN is that of such a record
+abbrev pub AreChangedAt : History → ℕ → Option ℕ → LastMap → Type 0
+AreChangedAt log point count lsns = (p l : ℕ) → get nat_cmp lsns p ≡ Some l → IsChangedAt log point count p l
+
+-- Each LSN is that of a record below the redo point that changed the page.
+pub record AreLastBelow (log : History) (point : ℕ) (last : LastChanges) : Type 0 where
+  pub lsns : AreChangedAt log point last.count last.lsns
+  pub named : last.named ≡ named_to log

@@ -1,0 +1,178 @@
+//! The changes of pages that the records so far made.
+
+ghost use Rattle.std.specs.Prelude.{◌≡◌, ◌≢◌, ◌≤◌, ◌+◌, ◌∷◌, ℕ, [], All, max, true, false, if◌then◌else◌, IfErr, IfOk, OnOk, None, Some};
+ghost use Rattle.im_base_types.specs.declared.fault.Fault.TheVariants.{Memory};
+ghost use Rattle.im_base_types.specs.Records.{Unreadable};
+ghost use Rattle.im_theory_log.specs.Histories.{History, changes_page};
+ghost use Rattle.im_theory_log.specs.PageCounts.{named_to, names_page};
+ghost use Rattle.im_log_record.specs.Entry.{view};
+ghost use Rattle.im_log.specs.Spelled.{logged_at};
+ghost use Rattle.im_log.specs.Whats.{what_of};
+ghost use Rattle.im_restart_analysis.specs.Changes.{AreChangedAt, AreChanges, AreLastBelow, IsChange};
+
+use crate::page_counts::said_count;
+use im_base_types::{Fault, Lsn, PageNo};
+use im_log_record::Record;
+use std::alloc::Global;
+use std::cmp::max;
+use std::collections::BTreeMap;
+
+/// A record that changed a page.
+#[derive(Clone, Copy, Debug, PartialEq, Eq)]
+pub(crate) struct Change {
+    pub page: PageNo,
+    /// The page count that it says, where it is one of page 0 that says one; else 0.
+    pub said: PageNo,
+    pub lsn: Lsn,
+}
+
+/// The changes of pages that the records so far made, 16 bytes for each, and the pages that records name.
+#[derive(Drop)]
+pub struct Changes {
+    all: Vec<Change>,
+    named: u64,
+}
+
+/// The last change of each page below a redo point. The file of pages was synced with it, or the log has a full copy of the page.
+#[derive(Drop)]
+pub struct LastChanges {
+    /// For each page that a record below the point changed, the LSN of the last one.
+    pub lsns: BTreeMap<PageNo, Lsn>,
+    /// The page count that page 0 says behind its own, where that record says one.
+    pub count: Option<PageNo>,
+    /// The least number above all pages that records of the whole log name.
+    pub named: u64,
+}
+
+// Whether a record's kind is one that changes its page.
+fn changes_page(record: &Record) -> bool
+    ensures { what_of (view record.now) ≢ Unreadable → result ≡ changes_page (what_of (view record.now)) }
+{
+    match record {
+        Record::InsertKey { .. }
+        | Record::DeleteKey { .. }
+        | Record::UndoInsert { .. }
+        | Record::UndoDelete { .. }
+        | Record::Smo { .. }
+        | Record::UndoSmo { .. } => true,
+        Record::DummyClr { .. }
+        | Record::Commit { .. }
+        | Record::End { .. }
+        | Record::Image { .. }
+        | Record::Checkpoint { .. } => false,
+    }
+}
+
+// The least number above the page that a record names; 0 where it names none.
+fn above_named(record: &Record) -> u64
+    ensures { (lsn : ℕ) (older : History) → what_of (view record.now) ≢ Unreadable → max (named_to older) result ≡ named_to (logged_at lsn (view record.now) ∷ older) }
+{
+    match record {
+        Record::InsertKey { page, .. }
+        | Record::DeleteKey { page, .. }
+        | Record::UndoInsert { page, .. }
+        | Record::UndoDelete { page, .. }
+        | Record::Smo { page, .. }
+        | Record::UndoSmo { page, .. }
+        | Record::Image { page, .. } => u64::from(*page) + 1,
+        Record::DummyClr { .. }
+        | Record::Commit { .. }
+        | Record::End { .. }
+        | Record::Checkpoint { .. } => 0,
+    }
+}
+
+// The page count that page 0 says behind a change: its own, if it says one; a change of another page leaves it.
+fn said_behind(count: Option<PageNo>, change: &Change) -> Option<PageNo>
+    ensures own { change.now.page ≡ 0 → (n : ℕ) → result ≡ Some n → (n ≡ change.now.said) × (1 ≤ n) }
+    ensures other { change.now.page ≢ 0 → result ≡ count }
+{
+    if change.page != 0 {
+        count
+    } else if change.said == 0 {
+        None
+    } else {
+        Some(change.said)
+    }
+}
+
+// Enters a change, where it is below the redo point. It answers the page count that page 0 says then.
+fn enter(
+    lsns: &mut BTreeMap<PageNo, Lsn>,
+    count: Option<PageNo>,
+    change: &Change,
+    point: Lsn,
+) -> Result<Option<PageNo>, Fault>
+    ensures kept { IfOk result (λ said. (log : History) → IsChange log change.now → AreChangedAt log point count lsns.old → AreChangedAt log point said lsns.new) }
+    ensures causes { IfErr result (λ e. e ≡ Memory) }
+{
+    if change.lsn >= point {
+        return Ok(count);
+    }
+    match lsns.insert(change.page, change.lsn) {
+        Ok(_) => Ok(said_behind(count, change)),
+        Err(_) => Err(Fault::Memory),
+    }
+}
+
+// The last one of each page, of the changes below a redo point, the oldest first; and the page count that page 0 says behind its own.
+fn last_of(
+    alloc: Global,
+    changes: &[Change],
+    point: Lsn,
+) -> Result<(BTreeMap<PageNo, Lsn>, Option<PageNo>), Fault>
+    ensures kept { IfOk result (λ last. (log : History) → All (IsChange log) changes.now → AreChangedAt log point last.1 last.0) }
+    ensures causes { IfErr result (λ e. e ≡ Memory) }
+{
+    let mut lsns = BTreeMap::new(alloc);
+    let mut count = None;
+    for change in changes {
+        count = enter(&mut lsns, count, change, point)?;
+    }
+    Ok((lsns, count))
+}
+
+impl Changes {
+    /// Before the first record.
+    pub fn new(alloc: Global) -> Self
+        ensures { AreChanges [] result }
+    {
+        Changes {
+            all: Vec::new(alloc),
+            named: 0,
+        }
+    }
+
+    /// Notes what a record changes and names. Refused `Memory`.
+    pub fn note(&mut self, lsn: Lsn, record: &Record) -> Result<(), Fault>
+        ensures kept { OnOk result ((older : History) → what_of (view record.now) ≢ Unreadable → AreChanges older self.old → AreChanges (logged_at lsn (view record.now) ∷ older) self.new) }
+        ensures causes { IfErr result (λ e. e ≡ Memory) }
+    {
+        self.named = max(self.named, above_named(record));
+        if !changes_page(record) {
+            return Ok(());
+        }
+        let change = Change {
+            page: record.page(),
+            said: said_count(record),
+            lsn,
+        };
+        match self.all.push(change) {
+            Ok(()) => Ok(()),
+            Err(_) => Err(Fault::Memory),
+        }
+    }
+
+    /// The last changes below a redo point. Refused `Memory`.
+    pub fn below(self, alloc: Global, point: Lsn) -> Result<LastChanges, Fault>
+        ensures kept { IfOk result (λ last. (log : History) → AreChanges log self → AreLastBelow log point last) }
+        ensures causes { IfErr result (λ e. e ≡ Memory) }
+    {
+        let (lsns, count) = last_of(alloc, &self.all, point)?;
+        Ok(LastChanges {
+            lsns,
+            count,
+            named: self.named,
+        })
+    }
+}

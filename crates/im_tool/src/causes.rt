@@ -1,0 +1,46 @@
+//! What a disk says of a call that failed.
+
+use im_base_disk::Disk;
+use im_base_file_disk::{DiskError, FileDisk};
+use im_base_model_disk::ModelDisk;
+use std::io::Write;
+
+/// A disk that may say why its last call failed.
+pub trait Cause {
+    /// The last call that failed, with what the system said. None where the disk knows none.
+    fn cause(&self) -> Option<&DiskError>;
+}
+
+impl Cause for FileDisk {
+    fn cause(&self) -> Option<&DiskError> {
+        self.last_error()
+    }
+}
+
+impl Cause for ModelDisk {
+    fn cause(&self) -> Option<&DiskError> {
+        None
+    }
+}
+
+/// Where causes are told, each once.
+#[derive(Drop)]
+pub struct Causes<'a, W> {
+    pub writer: W,
+    /// What stands in front: the name of the folder.
+    pub dir: &'a str,
+    pub is_told: bool,
+}
+
+impl<'a, W: Write> Causes<'a, W> {
+    /// Tells the disk's last error, unless one was told. Where that cannot be written nobody reads it, and the run goes on.
+    pub(crate) fn tell<D: Disk + Cause>(&mut self, disk: &D) {
+        if self.is_told {
+            return;
+        }
+        if let Some(error) = disk.cause() {
+            self.is_told = true;
+            let _ = writeln!(self.writer, "imstore: {}: {error}", self.dir);
+        }
+    }
+}

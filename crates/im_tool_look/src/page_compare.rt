@@ -1,0 +1,137 @@
+//! The file of pages beside the log: whether each page is as a store leaves it under this log.
+
+use crate::log_bytes::Survey;
+use crate::page_damage::PageDamage;
+use im_base_types::{Fault, Lsn, PageNo};
+use im_page::Page;
+use im_restart_analysis::LastChanges;
+use std::alloc::Global;
+use std::collections::BTreeMap;
+
+const PAGE_SIZE: usize = 4_096;
+
+/// The most damages that are listed.
+const MOST: usize = 20;
+
+/// What came of it.
+#[derive(Drop)]
+pub struct Compared {
+    /// The whole pages of the file.
+    pub pages: u64,
+    /// Those of which the log says which LSN they have at least.
+    pub with_synced: u64,
+    /// Those that an opening takes from their copies in the log, whatever the file has of them.
+    pub copied: u64,
+    /// The first 20 damages.
+    pub damages: Vec<PageDamage>,
+    /// How many more there are.
+    pub more: u64,
+}
+
+impl Compared {
+    fn note(&mut self, damage: PageDamage) -> Result<(), Fault> {
+        if self.damages.len() >= MOST {
+            self.more = self.more.saturating_add(1);
+            return Ok(());
+        }
+        match self.damages.push(damage) {
+            Ok(()) => Ok(()),
+            Err(_) => Err(Fault::Memory),
+        }
+    }
+}
+
+/// Compares the file of pages with the log. Refused `Memory`.
+pub fn compare_pages(alloc: Global, said: &Survey, pages: &[u8]) -> Result<Compared, Fault> {
+    let whole = pages.len() / PAGE_SIZE;
+    let mut compared = Compared {
+        pages: whole as u64,
+        with_synced: 0,
+        copied: 0,
+        damages: Vec::new(alloc),
+        more: 0,
+    };
+    let copies = &said.analysed.copies;
+    lengths(&mut compared, &said.last, copies, whole)?;
+    let mut number = 0;
+    for bytes in pages.chunks_exact(PAGE_SIZE) {
+        compare(&mut compared, said, number, bytes)?;
+        number = number.saturating_add(1);
+    }
+    Ok(compared)
+}
+
+// A file that is shorter than what it was synced with, or has pages that no record names.
+fn lengths(
+    compared: &mut Compared,
+    last: &LastChanges,
+    copies: &BTreeMap<PageNo, Lsn>,
+    whole: usize,
+) -> Result<(), Fault> {
+    let mut greatest = None;
+    for (page, _) in &last.lsns {
+        if copies.get(page).is_none() {
+            greatest = Some(*page);
+        }
+    }
+    if let Some(page) = greatest {
+        if page as usize >= whole {
+            compared.note(PageDamage::Short(whole as u64, page))?;
+        }
+    }
+    if whole as u64 > last.named.max(2) {
+        compared.note(PageDamage::Long(whole as u64, last.named))?;
+    }
+    Ok(())
+}
+
+// One page. Of its LSN a torn write leaves the old or the new one, and both are of this log.
+fn compare(
+    compared: &mut Compared,
+    said: &Survey,
+    number: PageNo,
+    bytes: &[u8],
+) -> Result<(), Fault> {
+    let end = said.end as u64;
+    let is_copied = said.analysed.copies.get(&number).is_some();
+    if is_copied {
+        compared.copied = compared.copied.saturating_add(1);
+    }
+    let lsn = lsn_of(bytes);
+    if lsn >= end && lsn > 0 {
+        return compared.note(PageDamage::PastTheLog(number, lsn, end));
+    }
+    if is_copied {
+        return Ok(());
+    }
+    let Some(least) = said.last.lsns.get(&number) else {
+        return Ok(());
+    };
+    compared.with_synced = compared.with_synced.saturating_add(1);
+    if lsn < *least {
+        return compared.note(PageDamage::Older(number, lsn, *least));
+    }
+    if number == 0 && lsn == *least {
+        return compare_count(compared, said, bytes);
+    }
+    Ok(())
+}
+
+// The page count of page 0, as the record left it that the file was synced with.
+fn compare_count(compared: &mut Compared, said: &Survey, bytes: &[u8]) -> Result<(), Fault> {
+    let (Some(said), Ok(page)) = (said.last.count, Page::read(bytes)) else {
+        return Ok(());
+    };
+    if page.leftmost() != said {
+        return compared.note(PageDamage::Count(page.leftmost(), said));
+    }
+    Ok(())
+}
+
+fn lsn_of(bytes: &[u8]) -> Lsn {
+    let mut lsn = 0;
+    for byte in bytes.iter().take(8) {
+        lsn = (lsn << 8) | u64::from(*byte);
+    }
+    lsn
+}
