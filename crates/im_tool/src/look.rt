@@ -7,8 +7,7 @@ use im_base_model_disk::ModelDisk;
 use im_base_types::{Fault, PAGE_ROOM, PAGE_SIZE, PageNo};
 use im_engine::Engine;
 use im_tool_look::{
-    Compared, LogDamage, ROOM, Survey, TreeSurvey, batches_behind, check_pages, compare_pages,
-    read_log,
+    Compared, LogDamage, Survey, TreeSurvey, batches_behind, check_pages, compare_pages, read_log,
 };
 use std::alloc::{AllocError, Global};
 use std::io;
