@@ -1,7 +1,7 @@
 //! A store is opened.
 
 ghost use Rattle.std.specs.Prelude.{◌≡◌, ◌≢◌, ◌≤◌, ◌⊎◌, ℕ, [], false, length, Ok, IfErr, IfOk};
-ghost use Rattle.im_base_types.specs.declared.fault.Fault.TheVariants.{Device, Memory, NotAStore};
+ghost use Rattle.im_base_types.specs.declared.fault.Fault.TheVariants.{Capacity, Device, Memory, NotAStore};
 ghost use Rattle.im_base_types.specs.declared.file_id.FileId.TheVariants.{Log, Pages};
 ghost use Rattle.im_theory_log.specs.Histories.{Base, History};
 ghost use Rattle.im_theory_log.specs.RedoPoints.{redo_point};
@@ -24,7 +24,7 @@ ghost use Rattle.im_restart.specs.Opening.{Opens};
 ghost use Rattle.im_restart.specs.Reading.{IsFound};
 ghost use Rattle.im_restart.specs.StructureChange.{IsTakingBack};
 ghost use Rattle.im_restart.specs.Undoing.{UndoKept};
-ghost use Rattle.im_restart.specs.Restart.{IsFresh, SpellsLog, LeavesNoUndo, MayRedo, MayRestart, RestartKept, SettleKept};
+ghost use Rattle.im_restart.specs.Restart.{IsFresh, SpellsLog, LeavesNoUndo, MayRedo, MayRestart, RestartKept, RunsOut, SettleKept};
 
 use crate::found::Found;
 use crate::reading::open_log;
@@ -72,6 +72,8 @@ fn undo_found<D: Disk>(
     ensures outcome { Recovers D.Disk mild_to_take writer.old writer.new disk.new (fault_of result) }
     ensures kept { (b : Base) (base : ℕ) (all : History) (s : Writer) → StandsAs D.Disk b base s writer.old disk.old → IsTakingBack b all s
         → IsOpenChange analysed.old.open_change.items s.log → AreLosers analysed.old.losers s.log → UndoKept D.Disk b base all s disk.old writer.new disk.new result }
+    ensures used_up { (b : Base) (base : ℕ) (all : History) (s : Writer) → StandsAs D.Disk b base s writer.old disk.old → IsTakingBack b all s
+        → IsOpenChange analysed.old.open_change.items s.log → AreLosers analysed.old.losers s.log → IfErr result (λ e. e ≡ Capacity → RunsOut b all) }
     ensures none { analysed.old.open_change.items ≡ [] → analysed.old.losers.entries ≡ [] → (result ≡ Ok tt) × (writer.new ≡ writer.old) × (disk.new ≡ disk.old) }
     ensures next { analysed.new.next ≡ analysed.old.next }
 {
@@ -101,6 +103,8 @@ fn settle<D: Disk>(
     ensures outcome { Recovers D.Disk mild_to_take writer.old writer.new disk.new (fault_of result) }
     ensures kept { (b : Base) (base : ℕ) (all : History) → StandsAs D.Disk b base (opened b all (file_page (D.seen disk.old Pages))) writer.old disk.old → MayRestart b base all (D.seen disk.old)
         → (least : ℕ) → IsAnalysis least all analysed.old → lsns.now ≡ lsns_from (redo_point all) all → SettleKept D.Disk b base all disk.old writer.new disk.new result }
+    ensures used_up { (b : Base) (base : ℕ) (all : History) → StandsAs D.Disk b base (opened b all (file_page (D.seen disk.old Pages))) writer.old disk.old → MayRestart b base all (D.seen disk.old)
+        → (least : ℕ) → IsAnalysis least all analysed.old → lsns.now ≡ lsns_from (redo_point all) all → IfErr result (λ e. e ≡ Capacity → RunsOut b all) }
     ensures redoes { (b : Base) (base : ℕ) (all : History) → StandsAs D.Disk b base (opened b all (file_page (D.seen disk.old Pages))) writer.old disk.old → AreApplicable b all → LeavesNoUndo all
         → (least : ℕ) → IsAnalysis least all analysed.old → lsns.now ≡ lsns_from (redo_point all) all → IfErr result (λ e. e ≢ NotAStore) }
     ensures next { analysed.new.next ≡ analysed.old.next }
@@ -135,6 +139,8 @@ fn restart<D: Disk>(
     ensures least { IfOk result (λ r. 1 ≤ r.next) }
     ensures kept { (b : Base) (base : ℕ) (all : History) → MayRestart b base all (D.seen disk.old) → Only Pages (D.seen disk.old) (D.may_leave disk.old) → IsFound D.Disk base all found disk.old
         → RestartKept D.Disk b base all disk.old disk.new result }
+    ensures used_up { (b : Base) (base : ℕ) (all : History) → MayRestart b base all (D.seen disk.old) → Only Pages (D.seen disk.old) (D.may_leave disk.old) → IsFound D.Disk base all found disk.old
+        → IfErr result (λ e. e ≡ Capacity → RunsOut b all) }
     ensures redoes { (b : Base) (base : ℕ) (all : History) → MayRedo b base all (D.seen disk.old) → Only Pages (D.seen disk.old) (D.may_leave disk.old) → IsFound D.Disk base all found disk.old
         → IfErr result (λ e. e ≢ NotAStore) }
 {
@@ -157,7 +163,7 @@ fn restart<D: Disk>(
     })
 }
 
-// The same, behind a test of the file of pages.
+// The same, after a test of the file of pages.
 fn restart_tested<D: Disk>(
     alloc: Global,
     disk: &mut D,
@@ -174,6 +180,8 @@ fn restart_tested<D: Disk>(
     ensures least { IfOk result (λ r. 1 ≤ r.next) }
     ensures kept { (b : Base) (base : ℕ) (all : History) → MayRestart b base all (D.seen disk.old) → Only Pages (D.seen disk.old) (D.may_leave disk.old) → IsFound D.Disk base all found disk.old
         → RestartKept D.Disk b base all disk.old disk.new result }
+    ensures used_up { (b : Base) (base : ℕ) (all : History) → MayRestart b base all (D.seen disk.old) → Only Pages (D.seen disk.old) (D.may_leave disk.old) → IsFound D.Disk base all found disk.old
+        → IfErr result (λ e. e ≡ Capacity → RunsOut b all) }
     ensures redoes { (b : Base) (base : ℕ) (all : History) → MayRedo b base all (D.seen disk.old) → Only Pages (D.seen disk.old) (D.may_leave disk.old) → IsFound D.Disk base all found disk.old
         → IfErr result (λ e. e ≢ NotAStore) }
 {
@@ -211,6 +219,7 @@ pub fn open_or_create<D: Disk>(
     ensures made { IfOk result (λ _. D.tells → IsFresh (D.seen disk.old) ⊎ IsMade (D.seen disk.old Log)) }
     ensures spelled { IfOk result (λ _. D.tells → SpellsLog (D.seen disk.old)) }
     ensures kept { (b : Base) (base : ℕ) (all : History) → D.tells → MayRestart b base all (D.seen disk.old) → RestartKept D.Disk b base all disk.old disk.new result }
+    ensures used_up { (b : Base) (base : ℕ) (all : History) → D.tells → MayRestart b base all (D.seen disk.old) → IfErr result (λ e. e ≡ Capacity → RunsOut b all) }
     ensures redoes { (b : Base) (base : ℕ) (all : History) → D.tells → MayRedo b base all (D.seen disk.old) → IfErr result (λ e. e ≢ NotAStore) }
     ensures unspelled { D.tells → ¬ (SpellsLog (D.seen disk.old)) → Reads D.Disk disk.old disk.new × IfErr result (λ e. (e ≡ Memory) ⊎ (e ≡ Device) ⊎ (e ≡ NotAStore)) }
 {

@@ -1,5 +1,5 @@
 use Rattle.std.proofs.Common.{◌≡◌, ◌≢◌, inr, false, refl, sym, ap, subst}
-use Rattle.im_base_types.specs.declared.fault.Fault.TheVariants.{NotAStore}
+use Rattle.im_base_types.specs.declared.fault.Fault.TheVariants.{Capacity, NotAStore}
 use Rattle.im_base_types.specs.declared.file_id.FileId.TheVariants.{Log, Pages}
 use Rattle.im_base_disk.specs.Disk.{Files}
 use Rattle.im_base_disk.proofs.Runs.{spares_reads}
@@ -10,8 +10,8 @@ use Rattle.im_page_file.proofs.LogEnds.{still_working}
 use Rattle.im_page_writer.proofs.LoggedChanges.{err_on}
 use Rattle.im_page_writer.proofs.Outcomes.{sound_also, sound_on}
 use Rattle.im_theory_tree.specs.Theory.{page_tree}
-use Rattle.im_restart.specs.Restart.{MayRedo, MayRestart}
-use Rattle.im_restart.proofs.Ends.{opens_read, opens_refused}
+use Rattle.im_restart.specs.Restart.{MayRedo, MayRestart, RunsOut}
+use Rattle.im_restart.proofs.Ends.{opens_read, opens_refused, read_cause}
 use Rattle.im_restart.proofs.Restarts.{found_read, left_reading, log_over, log_synced, opened_behind, pages_read}
 use Rattle.im_restart.proofs.Steps.{left_then}
 use Rattle.im_restart.proofs.opening.restart_tested.Goals as goal
@@ -70,3 +70,16 @@ returns-clause-redoes g c b base all may pages is =
     let reads = c.in_ok-check_file.ensures.reads in
     let again = subst (λ (f : Files). MayRedo b base all f) (sym reads.seen) may in
     c.restart.ensures.redoes b base all again (pages_read d b base all old mid reads pages) (found_read d b base all c.args.found old mid reads is)
+
+pub returns-in_err-check_file-clause-used_up : goal.returns-in_err-check_file-clause-used_up
+returns-in_err-check_file-clause-used_up g c b base all may pages is =
+    err_on c.from_residual.result c.in_err-check_file.field-0.0 (λ e. e ≡ Capacity → RunsOut b all) c.from_residual.ensures.1 (λ full. read_cause c.in_err-check_file.field-0.0 (inr c.in_err-check_file.ensures.causes) full)
+
+pub returns-clause-used_up : goal.returns-clause-used_up
+returns-clause-used_up g c b base all may pages is =
+    let d = g.D.Disk in
+    let old = c.args.disk.now in
+    let mid = c.check_file.new.disk in
+    let reads = c.in_ok-check_file.ensures.reads in
+    let again = subst (λ (f : Files). MayRestart b base all f) (sym reads.seen) may in
+    c.restart.ensures.used_up b base all again (pages_read d b base all old mid reads pages) (found_read d b base all c.args.found old mid reads is)
