@@ -8,6 +8,7 @@ ghost use Rattle.im_tool_lines.specs.Scripts.{IsScriptOf, MayStand, MayFollow, B
 ghost use Rattle.im_tool_lines.specs.Reading.{IsReading};
 
 use crate::grammar::parse_line;
+use crate::line_reader::LineReader;
 use crate::{Line, RawLife, RawLine, Script, ScriptError};
 use im_base_model_disk::Stop;
 use im_base_types::{Fault, FileId};
@@ -34,15 +35,6 @@ impl Reading {
             },
             life: None,
         }
-    }
-
-    /// Reads the next line. Refused `BadScript` where it is bad by itself or may not stand here.
-    pub(crate) fn read_line(&mut self, alloc: Global, line: &[u8]) -> Result<(), Fault>
-        ensures read { OnOk result ((said : List Line) → IsReading self.old said → (next : Line) × Spells line.now next × IsReading self.new (said ++ next ∷ [])) }
-        ensures refused { result ≡ Err BadScript → (said : List Line) → IsReading self.old said → (next : Line) → Spells line.now next → ¬ (MayFollow (kind_of next) (place_after Before (map kind_of said))) }
-    {
-        let line = parse_line(alloc, line)?;
-        self.take(alloc, line)
     }
 
     fn take(&mut self, alloc: Global, line: Line) -> Result<(), Fault>
@@ -145,5 +137,20 @@ impl Reading {
             Ok(()) => Ok(script),
             Err(_) => Err(ScriptError::Memory),
         }
+    }
+}
+
+impl LineReader for Reading {
+    type Line = Line;
+
+    ghost spells = { Spells };
+
+    ghost kind = { kind_of };
+
+    ghost has_read = { IsReading };
+
+    fn read_line(&mut self, alloc: Global, line: &[u8]) -> Result<(), Fault> {
+        let line = parse_line(alloc, line)?;
+        self.take(alloc, line)
     }
 }

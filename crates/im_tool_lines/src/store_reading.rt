@@ -8,6 +8,7 @@ ghost use Rattle.im_tool_lines.specs.StoreScripts.{SpellsStore, IsStoreScriptOf,
 ghost use Rattle.im_tool_lines.specs.StoreReading.{IsStoreReading};
 
 use crate::ScriptError;
+use crate::line_reader::LineReader;
 use crate::store_grammar::parse_store_line;
 use crate::store_life::{LifeOptions, StoreLife, StoreLine};
 use crate::store_script::StoreScript;
@@ -44,15 +45,6 @@ impl StoreReading {
             },
             life: None,
         }
-    }
-
-    /// Reads the next line. Refused `BadScript` where it is bad by itself or may not stand here.
-    pub(crate) fn read_line(&mut self, alloc: Global, line: &[u8]) -> Result<(), Fault>
-        ensures read { OnOk result ((said : List StoreScriptLine) → IsStoreReading self.old said → (next : StoreScriptLine) × SpellsStore line.now next × IsStoreReading self.new (said ++ next ∷ [])) }
-        ensures refused { result ≡ Err BadScript → (said : List StoreScriptLine) → IsStoreReading self.old said → (next : StoreScriptLine) → SpellsStore line.now next → ¬ (MayFollow (store_kind_of next) (place_after Before (map store_kind_of said))) }
-    {
-        let line = parse_store_line(alloc, line)?;
-        self.take(alloc, line)
     }
 
     fn take(&mut self, alloc: Global, line: StoreScriptLine) -> Result<(), Fault>
@@ -169,5 +161,20 @@ impl StoreReading {
             Ok(()) => Ok(script),
             Err(_) => Err(ScriptError::Memory),
         }
+    }
+}
+
+impl LineReader for StoreReading {
+    type Line = StoreScriptLine;
+
+    ghost spells = { SpellsStore };
+
+    ghost kind = { store_kind_of };
+
+    ghost has_read = { IsStoreReading };
+
+    fn read_line(&mut self, alloc: Global, line: &[u8]) -> Result<(), Fault> {
+        let line = parse_store_line(alloc, line)?;
+        self.take(alloc, line)
     }
 }
