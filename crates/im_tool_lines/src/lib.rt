@@ -25,6 +25,7 @@ mod reading;
 mod reason;
 mod script;
 mod script_error;
+mod set_files;
 mod set_words;
 mod stop_words;
 mod store_grammar;

@@ -9,6 +9,7 @@ ghost use Rattle.im_tool_lines.specs.Reading.{IsReading};
 
 use crate::grammar::parse_line;
 use crate::line_reader::LineReader;
+use crate::set_files::SetFiles;
 use crate::{Line, RawLife, RawLine, Script, ScriptError};
 use im_base_model_disk::Stop;
 use im_base_types::{Fault, FileId};
@@ -17,7 +18,8 @@ use std::alloc::Global;
 /// The files and the lives that are ended, and the lines of the life that is not.
 #[derive(Drop)]
 pub(crate) struct Reading {
-    script: Script,
+    files: SetFiles,
+    lives: Vec<RawLife>,
     life: Option<Vec<RawLine>>,
 }
 
@@ -26,13 +28,11 @@ impl Reading {
     pub(crate) fn new(alloc: Global) -> Reading
         ensures { IsReading result [] }
     {
+        let files = SetFiles::new(alloc);
+        let lives = Vec::new(alloc);
         Reading {
-            script: Script {
-                log: Vec::new(alloc),
-                pages: Vec::new(alloc),
-                log2: Vec::new(alloc),
-                lives: Vec::new(alloc),
-            },
+            files,
+            lives,
             life: None,
         }
     }
@@ -54,23 +54,11 @@ impl Reading {
         ensures read { OnOk result ((said : List Line) → IsReading self.old said → IsReading self.new (said ++ Line.Set file bytes ∷ [])) }
         ensures refused { result ≡ Err BadScript → (said : List Line) → IsReading self.old said → ¬ (MayFollow (kind_of (Line.Set file bytes)) (place_after Before (map kind_of said))) }
     {
-        if self.life.is_some() || !self.script.lives.is_empty() {
+        if self.life.is_some() || !self.lives.is_empty() {
             return Err(Fault::BadScript);
         }
-        match file {
-            FileId::Log => {
-                self.script.log = bytes;
-                Ok(())
-            }
-            FileId::Pages => {
-                self.script.pages = bytes;
-                Ok(())
-            }
-            FileId::Log2 => {
-                self.script.log2 = bytes;
-                Ok(())
-            }
-        }
+        self.files.set(file, bytes);
+        Ok(())
     }
 
     fn begin_life(&mut self, alloc: Global) -> Result<(), Fault>
@@ -82,7 +70,7 @@ impl Reading {
             self.life = Some(empty);
             return Ok(());
         };
-        match self.script.lives.push(RawLife { lines, stop: None }) {
+        match self.lives.push(RawLife { lines, stop: None }) {
             Ok(()) => {
                 self.life = Some(empty);
                 Ok(())
@@ -118,7 +106,7 @@ impl Reading {
             lines,
             stop: Some(stop),
         };
-        let Ok(()) = self.script.lives.push(life) else {
+        let Ok(()) = self.lives.push(life) else {
             return Err(Fault::Memory);
         };
         Ok(())
@@ -129,7 +117,14 @@ impl Reading {
         ensures read { IfOk result (λ script. (said : List Line) → IsReading self said → IsScriptOf script said × MayStand Before (map kind_of said)) }
         ensures memory { IfErr result (λ error. error ≡ ScriptError.Memory) }
     {
-        let Reading { mut script, life } = self;
+        let Reading { files, lives, life } = self;
+        let SetFiles { log, pages, log2 } = files;
+        let mut script = Script {
+            log,
+            pages,
+            log2,
+            lives,
+        };
         let Some(lines) = life else {
             return Ok(script);
         };

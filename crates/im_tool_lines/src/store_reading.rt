@@ -9,6 +9,7 @@ ghost use Rattle.im_tool_lines.specs.StoreReading.{IsStoreReading};
 
 use crate::ScriptError;
 use crate::line_reader::LineReader;
+use crate::set_files::SetFiles;
 use crate::store_grammar::parse_store_line;
 use crate::store_life::{LifeOptions, StoreLife, StoreLine};
 use crate::store_script::StoreScript;
@@ -27,7 +28,8 @@ pub(crate) struct OpenLife {
 /// The files and the lives that are ended, and the life that is not.
 #[derive(Drop)]
 pub(crate) struct StoreReading {
-    script: StoreScript,
+    files: SetFiles,
+    lives: Vec<StoreLife>,
     life: Option<OpenLife>,
 }
 
@@ -36,13 +38,11 @@ impl StoreReading {
     pub(crate) fn new(alloc: Global) -> StoreReading
         ensures { IsStoreReading result [] }
     {
+        let files = SetFiles::new(alloc);
+        let lives = Vec::new(alloc);
         StoreReading {
-            script: StoreScript {
-                log: Vec::new(alloc),
-                pages: Vec::new(alloc),
-                log2: Vec::new(alloc),
-                lives: Vec::new(alloc),
-            },
+            files,
+            lives,
             life: None,
         }
     }
@@ -63,23 +63,11 @@ impl StoreReading {
         ensures read { OnOk result ((said : List StoreScriptLine) → IsStoreReading self.old said → IsStoreReading self.new (said ++ StoreScriptLine.Set file bytes ∷ [])) }
         ensures refused { result ≡ Err BadScript → (said : List StoreScriptLine) → IsStoreReading self.old said → ¬ (MayFollow (store_kind_of (StoreScriptLine.Set file bytes)) (place_after Before (map store_kind_of said))) }
     {
-        if self.life.is_some() || !self.script.lives.is_empty() {
+        if self.life.is_some() || !self.lives.is_empty() {
             return Err(Fault::BadScript);
         }
-        match file {
-            FileId::Log => {
-                self.script.log = bytes;
-                Ok(())
-            }
-            FileId::Pages => {
-                self.script.pages = bytes;
-                Ok(())
-            }
-            FileId::Log2 => {
-                self.script.log2 = bytes;
-                Ok(())
-            }
-        }
+        self.files.set(file, bytes);
+        Ok(())
     }
 
     fn begin_life(&mut self, alloc: Global, options: LifeOptions) -> Result<(), Fault>
@@ -95,7 +83,7 @@ impl StoreReading {
             return Ok(());
         };
         let OpenLife { options, lines } = life;
-        match self.script.lives.push(StoreLife {
+        match self.lives.push(StoreLife {
             options,
             lines,
             stop: None,
@@ -137,7 +125,7 @@ impl StoreReading {
             lines,
             stop: Some(stop),
         };
-        let Ok(()) = self.script.lives.push(life) else {
+        let Ok(()) = self.lives.push(life) else {
             return Err(Fault::Memory);
         };
         Ok(())
@@ -148,7 +136,14 @@ impl StoreReading {
         ensures read { IfOk result (λ script. (said : List StoreScriptLine) → IsStoreReading self said → IsStoreScriptOf script said × MayStand Before (map store_kind_of said)) }
         ensures memory { IfErr result (λ error. error ≡ ScriptError.Memory) }
     {
-        let StoreReading { mut script, life } = self;
+        let StoreReading { files, lives, life } = self;
+        let SetFiles { log, pages, log2 } = files;
+        let mut script = StoreScript {
+            log,
+            pages,
+            log2,
+            lives,
+        };
         let Some(life) = life else {
             return Ok(script);
         };
