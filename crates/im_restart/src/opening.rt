@@ -31,6 +31,7 @@ use crate::reading::open_log;
 use crate::redo_report::RedoReport;
 use crate::restarted::Restarted;
 use crate::structure_change::undo_change;
+use crate::synced::{check_file, synced_of};
 use crate::undo::undo;
 use im_base_disk::Disk;
 use im_base_types::{Fault, LONGEST_BATCH, Lsn, TxnId};
@@ -147,9 +148,11 @@ fn restart<D: Disk>(
         log,
         analysed,
         lsns,
+        last,
     } = found;
     let mut analysed = analysed;
     let mut writer = PageWriter::new(alloc, log, frames)?;
+    writer.expect(synced_of(last));
     let mut room = make_room(alloc)?;
     let point = analysed.redo_point;
     let applied = settle(alloc, disk, &mut writer, &mut analysed, &lsns, &mut room)?;
@@ -158,6 +161,37 @@ fn restart<D: Disk>(
         next: first_number(analysed.next),
         report: RedoReport { point, applied },
     })
+}
+
+// The same, after a test of the file of pages.
+fn restart_tested<D: Disk>(
+    alloc: Global,
+    disk: &mut D,
+    found: Found,
+    frames: usize,
+) -> Result<Restarted, Fault>
+    requires least { 8 ≤ frames }
+    requires most { frames ≤ 1024 }
+    requires ready { IsOpen D.Disk found.log disk.old }
+    requires usable { found.log.failed ≡ false }
+    ensures outcome { Opens D.Disk disk.new (fault_of result) }
+    ensures ready { IfOk result (λ r. IsReadyWriter D.Disk r.writer disk.new × (r.writer.failed ≡ false)) }
+    ensures pool { IfOk result (λ r. r.writer.pool.frames ≡ frames) }
+    ensures least { IfOk result (λ r. 1 ≤ r.next) }
+    ensures kept { (b : Base) (base : ℕ) (all : History) → MayRestart b base all (D.seen disk.old) → Only Pages (D.seen disk.old) (D.may_leave disk.old) → IsFound D.Disk base all found disk.old
+        → RestartKept D.Disk b base all disk.old disk.new result }
+    ensures used_up { (b : Base) (base : ℕ) (all : History) → MayRestart b base all (D.seen disk.old) → Only Pages (D.seen disk.old) (D.may_leave disk.old) → IsFound D.Disk base all found disk.old
+        → IfErr result (λ e. e ≡ Capacity → RunsOut b all) }
+    ensures redoes { (b : Base) (base : ℕ) (all : History) → MayRedo b base all (D.seen disk.old) → Only Pages (D.seen disk.old) (D.may_leave disk.old) → IsFound D.Disk base all found disk.old
+        → IfErr result (λ e. e ≢ NotAStore) }
+{
+    check_file(
+        disk,
+        &found.last,
+        &found.analysed.copies,
+        found.log.durable_end(),
+    )?;
+    restart(alloc, disk, found, frames)
 }
 
 /// Opens a store's log and pages, or makes a log where there is none yet and no page: analysis reads the log once, redo brings the
@@ -190,5 +224,5 @@ pub fn open_or_create<D: Disk>(
     ensures unspelled { D.tells → ¬ (SpellsLog (D.seen disk.old)) → Reads D.Disk disk.old disk.new × IfErr result (λ e. (e ≡ Memory) ⊎ (e ≡ Device) ⊎ (e ≡ NotAStore)) }
 {
     let found = open_log(alloc, disk)?;
-    restart(alloc, disk, found, frames)
+    restart_tested(alloc, disk, found, frames)
 }

@@ -36,11 +36,11 @@ returns-clause-kept g c b base all told may =
     let k = c.in_ok-found.ensures.kept base all told may.has.log may.has.bare (lawful_taken b page_tree first_count page_tree_laws may.counted all may.lawful) in
     let opening = left_opening d b base all old mid (g.met.D.Disk.only_now old) told (c.requires.synced Log) (c.requires.synced Pages) may k.stops c.in_ok-found.ensures.reads in
     let behind = may_behind d b base all old mid c.in_ok-found.found.log may c.in_ok-found.ensures.changes k.ok.log in
-    let r = c.restart.ensures.kept b base all behind (pages_synced d b base all old mid c.in_ok-found.ensures.changes (c.requires.synced Pages)) k.ok in
+    let r = c.restart_tested.ensures.kept b base all behind (pages_synced d b base all old mid c.in_ok-found.ensures.changes (c.requires.synced Pages)) k.ok in
     let number = (c.in_ok-found.ensures.alike told).number in
     record {
-      sound = sound_also c.restart.result _ _ r.sound (λ made is. opened_behind d b base all old mid c.restart.new.disk made number (c.in_ok-found.ensures.changes.seen Pages (λ e. cc e)) is);
-      stops = left_then d b base all old mid c.restart.new.disk opening r.stops;
+      sound = sound_also c.restart_tested.result _ _ r.sound (λ made is. opened_behind d b base all old mid c.restart_tested.new.disk made number (c.in_ok-found.ensures.changes.seen Pages (λ e. cc e)) is);
+      stops = left_then d b base all old mid c.restart_tested.new.disk opening r.stops;
     }
 
 pub returns-in_err-found-clause-unspelled : goal.returns-in_err-found-clause-unspelled
@@ -53,10 +53,10 @@ pub returns-clause-unspelled : goal.returns-clause-unspelled
 returns-clause-unspelled g c told none = absurd (none (c.in_ok-found.ensures.spelled told))
 
 pub returns-clause-made : goal.returns-clause-made
-returns-clause-made g c = holds_if_ok c.restart.result c.in_ok-found.ensures.store
+returns-clause-made g c = holds_if_ok c.restart_tested.result c.in_ok-found.ensures.store
 
 pub returns-clause-spelled : goal.returns-clause-spelled
-returns-clause-spelled g c = holds_if_ok c.restart.result c.in_ok-found.ensures.spelled
+returns-clause-spelled g c = holds_if_ok c.restart_tested.result c.in_ok-found.ensures.spelled
 
 pub returns-in_err-found-clause-redoes : goal.returns-in_err-found-clause-redoes
 returns-in_err-found-clause-redoes g c b base all told may =
@@ -70,7 +70,7 @@ returns-clause-redoes g c b base all told may =
     let mid = c.open_log.new.disk in
     let k = c.in_ok-found.ensures.kept base all told may.has.log may.has.bare may.taken in
     let behind = redo_behind d b base all old mid c.in_ok-found.found.log may c.in_ok-found.ensures.changes k.ok.log in
-    c.restart.ensures.redoes b base all behind (pages_synced d b base all old mid c.in_ok-found.ensures.changes (c.requires.synced Pages)) k.ok
+    c.restart_tested.ensures.redoes b base all behind (pages_synced d b base all old mid c.in_ok-found.ensures.changes (c.requires.synced Pages)) k.ok
 
 pub returns-in_err-found-clause-used_up : goal.returns-in_err-found-clause-used_up
 returns-in_err-found-clause-used_up g c b base all told may =
@@ -83,4 +83,4 @@ returns-clause-used_up g c b base all told may =
     let mid = c.open_log.new.disk in
     let k = c.in_ok-found.ensures.kept base all told may.has.log may.has.bare (lawful_taken b page_tree first_count page_tree_laws may.counted all may.lawful) in
     let behind = may_behind d b base all old mid c.in_ok-found.found.log may c.in_ok-found.ensures.changes k.ok.log in
-    c.restart.ensures.used_up b base all behind (pages_synced d b base all old mid c.in_ok-found.ensures.changes (c.requires.synced Pages)) k.ok
+    c.restart_tested.ensures.used_up b base all behind (pages_synced d b base all old mid c.in_ok-found.ensures.changes (c.requires.synced Pages)) k.ok
