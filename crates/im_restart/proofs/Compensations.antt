@@ -2,13 +2,15 @@
 use Rattle.std.proofs.Common.{◌≡◌, ◌≢◌, ℕ, [], ◌∷◌, ◌++◌, Bool, true, false, Result, Err, inl, inr, refl, sym, ◌∙◌, ap, subst}
 use Rattle.std.specs.Prelude.{◌&&◌, not, nat_le, if◌then◌else◌}
 use Rattle.std.proofs.lemmas.Bool.{and_parts, cases_eq}
+use Rattle.std.proofs.Math.Path.{fun_ext}
 use Rattle.im_base_types.specs.declared.file_id.FileId.TheVariants.{Log}
 use Rattle.im_base_types.specs.declared.fault.Fault.{Fault}
-use Rattle.im_base_types.specs.declared.fault.Fault.TheVariants.{Failed, Memory, NotAStore}
+use Rattle.im_base_types.specs.declared.fault.Fault.TheVariants.{Capacity, Failed, Memory, NotAStore}
 use Rattle.im_base_types.specs.Pages.{Page}
 use Rattle.im_base_types.specs.Records.{What, InsertKey, DeleteKey, UndoInsert, UndoDelete, Smo, UndoSmo, DummyClr, Commit, End, Image, Checkpoint, Unreadable, Logged}
 use Rattle.im_theory_log.specs.Histories.{Base, History, page_after, page_at}
 use Rattle.im_theory_log.specs.Copies.{GrowsByImages}
+use Rattle.im_theory_log.specs.Structure.{settled, taken_back}
 use Rattle.im_theory_log.specs.Transactions.{is_end, is_finished, last_of}
 use Rattle.im_theory_log.specs.Writer.{PageState, Writer}
 use Rattle.im_page_table.specs.KnownCopies.{changed_page_as}
@@ -20,23 +22,25 @@ use Rattle.im_base_disk.proofs.Runs.{weakened}
 use Rattle.im_log_record.specs.Entry.{Entry, prev_of}
 use Rattle.im_log.proofs.Above.{front_then}
 use Rattle.im_log.specs.Spelled.{logged_at}
+use Rattle.im_log.specs.Whats.{what_of}
 use Rattle.im_log.proofs.Creations.{not_both}
 use Rattle.im_page_writer.specs.declared.page_writer.PageWriter.{PageWriter}
 use Rattle.im_page_writer.specs.PageWriter.{StandsAs}
 use Rattle.im_page_writer.proofs.Outcomes.{sound_also}
 use Rattle.im_theory_tree.specs.Good.{AllOf}
+use Rattle.im_theory_tree.specs.Levels.{Pages}
 use Rattle.im_theory_tree.specs.Theory.{page_tree}
 use Rattle.im_restart_analysis.specs.Losers.{has_record, is_loser}
 use Rattle.im_restart_analysis.proofs.Losers.{loser_number, loser_unfinished, same_loser, still_loser}
 use Rattle.im_restart_undo.specs.Records as undone
 use Rattle.im_restart_undo.specs.Records.{IsOfUndo}
 use Rattle.im_restart_undo.specs.Undoing as undoing
-use Rattle.im_restart_undo.specs.Undoing.{IsGoing, LeavesUndo, LeftByUndo, TakenBack}
+use Rattle.im_restart_undo.specs.Undoing.{CanNotSplit, IsGoing, LeavesUndo, LeftByUndo, TakenBack, UsesUp}
 use Rattle.im_restart_undo.proofs.Growth as growth
 use Rattle.im_restart_undo.proofs.Growth.{going_page}
 use Rattle.im_restart.specs.declared.chains.Chain.{Chain}
 use Rattle.im_restart.specs.Undone.{AreUndo, GrowsByRestart, IsUndo}
-use Rattle.im_restart.specs.Restart.{IsLeftUndoing}
+use Rattle.im_restart.specs.Restart.{IsLeftUndoing, RunsOut}
 use Rattle.im_restart.specs.LoserChains.{IsToUndo}
 use Rattle.im_restart.specs.Undoing.{Compensated, CompensateKept, IsUndoing}
 use Rattle.im_restart.proofs.Growth.{grows_front, grows_then}
@@ -192,3 +196,44 @@ module _ {D : Type 0} (d : Ghosts D) (b : Base) (base : ℕ) (all : History) whe
     refused_so t x new f answer same memory others keeps =
         let k = compensated_so t x new (Err f) same keeps in
         record { sound = answered_cause f answer memory others k.sound; stops = k.stops }
+
+    -- what the pages say
+    abbrev pages_now : Pages
+    pages_now = λ p. (s.pages p).page.body
+
+    -- and refused for numbers
+    pub runs_out : (t : ℕ) (x : PageWriter) (new : D) (f answer : Fault) → t ≡ c.transaction → (answer ≡ Capacity → f ≡ Capacity) → KeepsKey t x new (Err f) → answer ≡ Capacity → RunsOut b all
+    runs_out t x new f answer same numbers keeps full =
+        let k = subst (λ (u : ℕ). KeepsKey u x new (Err f)) same keeps is.redo_end going (record { lsn = to.lsn; next = to.next }) in
+        by (what_of said) refl (k.used_up (numbers full))
+      where
+        pages_are : pages_now ≡ settled b s.log
+        pages_are = fun_ext (λ (p : ℕ). ap (λ (g : Page). g.body) (is.pages p) ∙ ap (λ (l : History). taken_back l p (page_at b s.log p).body) (sym is.can.closed))
+
+        by : (kind : What) → what_of said ≡ kind → UsesUp pages_now kind → RunsOut b all
+        by (DeleteKey k i) kind_is lacks = record {
+          now = s.log;
+          grown = is.grown;
+          lawful = is.can.lawful;
+          closed = is.can.closed;
+          owner = c.transaction;
+          loser = to.loser;
+          next = logged_at to.lsn said;
+          older = to.next.rest;
+          stack = to.next.stack;
+          key = k;
+          rid = i;
+          dropped = kind_is;
+          full = subst (λ (pages : Pages). CanNotSplit pages k) pages_are lacks;
+        }
+        by (InsertKey k i) kind_is lacks = absurd lacks
+        by (UndoInsert k i) kind_is lacks = absurd lacks
+        by (UndoDelete k i) kind_is lacks = absurd lacks
+        by (Smo was now) kind_is lacks = absurd lacks
+        by (UndoSmo now) kind_is lacks = absurd lacks
+        by DummyClr kind_is lacks = absurd lacks
+        by Commit kind_is lacks = absurd lacks
+        by End kind_is lacks = absurd lacks
+        by (Image copy) kind_is lacks = absurd lacks
+        by (Checkpoint n a dirty) kind_is lacks = absurd lacks
+        by Unreadable kind_is lacks = absurd lacks

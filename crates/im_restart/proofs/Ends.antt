@@ -75,6 +75,31 @@ module _ {D : Type 0} (d : Ghosts D) where
   pub no_store : {may : Fault → Bool} (v : PageWriter) (old : D) → may NotAStore ≡ true → v.failed ≡ false → IsReadyWriter d v old → Recovers d may v v old (Some NotAStore)
   no_store {may} v old is works ready = let begun = (unmoved d {may = may} v old works ready).ends in record { ready = ready; frames = refl; ends = (is, begun.began, begun.alive) }
 
+-- ---- numbers that are used up
+
+module _ {D : Type 0} (d : Ghosts D) where
+  never_full : (v w : PageWriter) (new : D) (e : Fault) → RecoveryEnds d mild v w new (Some e) → e ≡ Capacity → ⊥
+  never_full v w new Capacity one is = let clash = one.0 in cc clash
+  never_full v w new e one is = cc is
+
+  -- a call that takes no page is not refused for them
+  pub never_numbers : {v w : PageWriter} {new : D} {f : Fault} → Recovers d mild v w new (Some f) → {X : Type 0} → f ≡ Capacity → X
+  never_numbers {v} {w} {new} {f} one {X} is = absurd (never_full v w new f one.ends is)
+
+  pub no_numbers : {A : Type 0} {v w : PageWriter} {new : D} (r : Result A Fault) → Recovers d mild v w new (fault_of r) → (X : Type 0) → IfErr r (λ e. e ≡ Capacity → X)
+  no_numbers {A} {v} {w} {new} (Ok a) one X = tt
+  no_numbers {A} {v} {w} {new} (Err e) one X = λ is. never_numbers one is
+
+-- nor is one that is refused for another cause
+pub other_cause : (f g : Fault) → f ≡ g → (g ≡ Capacity → ⊥) → {X : Type 0} → f ≡ Capacity → X
+other_cause f g is other {X} full = absurd (other (sym is ∙ full))
+
+-- nor is the reading of a log
+pub read_cause : (f : Fault) → (f ≡ Memory) ⊎ (f ≡ Device) ⊎ (f ≡ NotAStore) → {X : Type 0} → f ≡ Capacity → X
+read_cause f (inl is) {X} full = other_cause f Memory is (λ x. cc x) full
+read_cause f (inr (inl is)) {X} full = other_cause f Device is (λ x. cc x) full
+read_cause f (inr (inr is)) {X} full = other_cause f NotAStore is (λ x. cc x) full
+
 -- ---- an opening
 
 module _ {D : Type 0} (d : Ghosts D) where

@@ -14,5 +14,6 @@ pub mod Restarts
 pub mod OpenChanges
 pub mod Orders
 pub mod Latest
+mod SyncedFiles
 mod FullLog
 pub mod Ends

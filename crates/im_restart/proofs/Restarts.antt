@@ -1,5 +1,5 @@
 -- A restart: what redo, undo and the last force leave, put together.
-use Rattle.std.proofs.Common.{◌≡◌, ◌≢◌, ◌≤◌, ◌-◌, ◌^◌, ℕ, min, inl, inr, [], List, false, length, Option, Result, refl, sym, ◌∙◌, ap, subst, arith, None}
+use Rattle.std.proofs.Common.{◌≡◌, ◌≢◌, ◌≤◌, ◌<◌, ◌-◌, ◌^◌, ℕ, min, inl, inr, [], List, false, length, Option, Result, refl, sym, ◌∙◌, ap, subst, arith, None}
 use Rattle.std.specs.Prelude.{IfErr}
 use Rattle.im_base_types.specs.declared.fault.Fault.{Fault}
 use Rattle.im_base_types.specs.declared.fault.Fault.TheVariants.{NotAStore}
@@ -17,20 +17,23 @@ use Rattle.im_theory_log.specs.Structure.{open_smo}
 use Rattle.im_base_disk.specs.declared.disk.Disk.{Ghosts}
 use Rattle.im_base_disk.specs.Disk.{Files, Only}
 use Rattle.im_base_disk.specs.Runs.{ChangesOnly, LeavesIn, LeavesOnly, Reads}
-use Rattle.im_base_disk.proofs.Runs.{reads_on, started, weakened}
+use Rattle.im_base_disk.proofs.Runs.{reads_on, spares_reads, started, weakened}
 use Rattle.im_log_gate.specs.Header.{IsUnmade, least_number}
 use Rattle.im_theory_page.specs.PageFile.{file_page}
 use Rattle.im_log.specs.Kept.{IsLogOf}
 use Rattle.im_log.specs.LogFile.{IsOpen, IsLog}
-use Rattle.im_log.proofs.Above.{front_none}
+use Rattle.im_log.proofs.Above.{front_none, log_spared}
 use Rattle.im_log.proofs.Creations.{not_both}
 use Rattle.im_log.specs.declared.log_file.LogFile.{LogFile}
 use Rattle.im_page_writer.specs.declared.page_writer.PageWriter.{PageWriter}
 use Rattle.im_page_writer.specs.PageWriter.{GoesOn, StandsAs, StepKept}
 use Rattle.im_page_table.proofs.Growing.{grown_front}
 use Rattle.im_page_writer.proofs.Outcomes.{sound_done}
-use Rattle.im_page_writer.proofs.SyncedPages.{synced_none}
+use Rattle.im_page_writer.specs.declared.known.Synced.{Synced}
+use Rattle.im_page_writer.specs.Synced.{AreSyncedWith, end_of_log}
+use Rattle.im_page_writer.proofs.OwnPages.{under_end}
 use Rattle.im_page_writer.proofs.Restarting.{writer_opens}
+use Rattle.im_restart_analysis.specs.Analysis.{IsAnalysis}
 use Rattle.im_restart_analysis.specs.Numbers.{IsNextNumber}
 use Rattle.im_restart_redo.specs.Redo.{LeavesRedoing, Redone}
 use Rattle.im_restart_analysis.specs.Losers.{AreLosers, LoserMap}
@@ -40,6 +43,8 @@ use Rattle.im_restart_analysis.proofs.Tables.{images_table}
 use Rattle.im_theory_tree.specs.Theory.{page_tree}
 use Rattle.im_restart.specs.Restart.{HasStore, IsFresh, IsLeftUndoing, IsOpened, IsReport, IsSettled, MayRedo, MayRestart, RestartSound}
 use Rattle.im_restart.specs.declared.restarted.Restarted.{Restarted}
+use Rattle.im_restart.specs.Reading.{IsFound}
+use Rattle.im_restart.specs.declared.found.Found.{Found}
 use Rattle.im_restart.specs.StructureChange.{ChangeGoes}
 use Rattle.im_restart.specs.Undoing.{AllUndone}
 use Rattle.im_restart.proofs.Growth.{grows_images, grows_none}
@@ -166,11 +171,35 @@ module _ {D : Type 0} (d : Ghosts D) (b : Base) (base : ℕ) (all : History) whe
 
   -- ---- the writer
 
-  pub writer_starts : (file : LogFile) (w : PageWriter) (frames : ℕ) (disk : D) → b.start ≤ base → Rises b all → Covers b all (file_page (d.seen disk Pages)) → Only Pages (d.seen disk) (d.may_leave disk) → IsOpen d file disk → IsLog d base all all file disk → w.log ≡ file
-      → w.pool ≡ record { held = []; frames = frames; gets = 0 } → w.table ≡ [] → w.failed ≡ false → w.known.from ≡ None → w.known.synced.lsns.entries ≡ [] → StandsAs d b base (opened b all (file_page (d.seen disk Pages))) w disk
-  writer_starts file w frames disk start up covers pages is_open log same pool table working unknown none =
-      writer_opens d b base all w frames disk start up covers (subst (λ (f : LogFile). IsOpen d f disk) (sym same) is_open) (subst (λ (f : LogFile). IsLog d base all all f disk) (sym same) log) pages pool
-      table working unknown (synced_none all (redo_point all) w.known.synced none)
+  -- that expects what the file was synced with
+  pub writer_starts : (file : LogFile) (w x : PageWriter) (synced : Synced) (frames : ℕ) (disk : D) → b.start ≤ base → Rises b all → Covers b all (file_page (d.seen disk Pages)) → Only Pages (d.seen disk) (d.may_leave disk) → IsOpen d file disk → IsLog d base all all file disk
+      → x ≡ record w { known = record w.known { synced = synced } } → w.log ≡ file → w.pool ≡ record { held = []; frames = frames; gets = 0 } → w.table ≡ [] → w.failed ≡ false → w.known.from ≡ None → AreSyncedWith all (redo_point all) synced
+      → StandsAs d b base (opened b all (file_page (d.seen disk Pages))) x disk
+  writer_starts file w x synced frames disk start up covers pages is_open log is same pool table working unknown expected =
+      subst (λ (y : PageWriter). StandsAs d b base (opened b all (file_page (d.seen disk Pages))) y disk) (sym is)
+      (writer_opens d b base all (record w { known = record w.known { synced = synced } }) frames disk start up covers (subst (λ (f : LogFile). IsOpen d f disk) (sym same) is_open)
+      (subst (λ (f : LogFile). IsLog d base all all f disk) (sym same) log) pages pool table working unknown expected)
+
+  -- ---- the file of pages is tested first, by reads
+
+  pub log_over : (file : LogFile) (disk : D) (end : ℕ) → b.start ≤ base → IsOpen d file disk → IsLog d base all all file disk → end ≡ end_of_log file → end_of b all < end
+  log_over file disk end start is_open log is = subst (λ (n : ℕ). end_of b all < n) (sym is) (under_end d base all all file disk is_open log b (end_of b all) start (omega arith))
+
+  pub left_reading : (old mid : D) → ((c : Files) → d.left_since old (d.moment old) c → d.may_leave old c) → Only Log (d.seen old) (d.may_leave old) → Only Pages (d.seen old) (d.may_leave old) → HasStore b base all (d.seen old)
+      → IsLawful b page_tree all → Reads d old mid → LeavesOnly d old mid (IsLeftUndoing b base all)
+  left_reading old mid only_now log pages has law reads = reads_on d old old mid (IsLeftUndoing b base all) (left_unmoved old only_now log pages has law) reads
+
+  pub pages_read : (old mid : D) → Reads d old mid → Only Pages (d.seen old) (d.may_leave old) → Only Pages (d.seen mid) (d.may_leave mid)
+  pages_read old mid reads pages c left = pages c (reads.outcomes c left) ∙ sym (ap (λ (f : Files). f Pages) reads.seen)
+
+  pub found_read : (found : Found) (old mid : D) → Reads d old mid → IsFound d base all found old → IsFound d base all found mid
+  found_read found old mid reads is = record {
+    log = log_spared d base all all found.log old mid (spares_reads d Log old mid reads) is.log;
+    analysis = subst (λ (f : Files). IsAnalysis (least_number (f Log)) all found.analysed) (sym reads.seen) is.analysis;
+    numbers = subst (λ (f : Files). 1 ≤ least_number (f Log)) (sym reads.seen) is.numbers;
+    lsns = is.lsns;
+    last = is.last;
+  }
 
 -- the next number is not below the least, nor is that 0
 pub next_least : (lowest next : ℕ) (log : History) → 1 ≤ lowest → IsNextNumber lowest next log → 1 ≤ next

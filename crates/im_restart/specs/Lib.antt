@@ -1,3 +1,4 @@
+pub mod Synced
 pub mod Undone
 pub mod UndoOrder
 pub mod Restart

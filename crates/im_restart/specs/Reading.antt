@@ -12,6 +12,7 @@ use Rattle.im_log_gate.specs.Header.{least_number}
 use Rattle.im_log.specs.Kept.{HasLog, IsLogOf}
 use Rattle.im_log.specs.LogFile.{IsLog}
 use Rattle.im_restart_analysis.specs.Analysis.{IsAnalysis}
+use Rattle.im_restart_analysis.specs.Changes.{AreLastBelow}
 use Rattle.im_restart_redo.specs.Redo.{lsns_from}
 use Rattle.im_restart.specs.declared.found.Found.{Found}
 
@@ -28,6 +29,7 @@ module _ {D : Type 0} (d : Ghosts D) (base : ℕ) (all : History) where
     pub analysis : IsAnalysis (least_number (d.seen disk Log)) all found.analysed
     pub numbers : 1 ≤ least_number (d.seen disk Log)
     pub lsns : found.lsns.items ≡ lsns_from (redo_point all) all
+    pub last : AreLastBelow all (redo_point all) found.last
 
   -- what reading the records keeps
   pub record ReadKept (disk : D) (result : Result Found Fault) : Type 0 where

@@ -1,11 +1,14 @@
 -- What a restart asks of the files, and what it keeps.
-use Rattle.std.specs.Prelude.{◌≡◌, ◌⊎◌, ◌+◌, ◌<◌, ◌≤◌, ◌^◌, ℕ, [], ◌∷◌, length, Option, Some, false, Result}
+use Rattle.std.specs.Prelude.{◌≡◌, ◌⊎◌, ◌+◌, ◌<◌, ◌≤◌, ◌^◌, ℕ, [], ◌∷◌, length, Option, Some, true, false, Result}
 use Rattle.im_base_types.specs.declared.fault.Fault.{Fault}
 use Rattle.im_base_types.specs.declared.file_id.FileId.TheVariants.{Log, Pages}
 use Rattle.im_theory_log.specs.Histories.{Base, History, Rises, page_at}
 use Rattle.im_theory_log.specs.PageCounts.{count_of, first_count}
-use Rattle.im_theory_log.specs.Structure.{open_smo}
+use Rattle.im_theory_log.specs.Structure.{open_smo, settled}
+use Rattle.im_theory_log.specs.Transactions.{to_undo}
+use Rattle.im_base_types.specs.Keys.{Key}
 use Rattle.im_base_types.specs.Pages.{Page}
+use Rattle.im_base_types.specs.Records.{DeleteKey, Logged}
 use Rattle.im_theory_log.specs.RedoPoints.{Covers, redo_point}
 use Rattle.im_theory_log.specs.Lawful.{IsLawful}
 use Rattle.im_theory_log.specs.Writer.{Writer}
@@ -24,6 +27,7 @@ use Rattle.im_restart_analysis.specs.Losers.{is_loser}
 use Rattle.im_restart_analysis.specs.Numbers.{IsNextNumber}
 use Rattle.im_restart_analysis.specs.Orderly.{FitsBehind, IsOrderly, IsReadable}
 use Rattle.im_restart_redo.specs.Redo.{AreApplicable, applied_in, first_lsn}
+use Rattle.im_restart_undo.specs.Undoing.{CanNotSplit}
 use Rattle.im_restart.specs.declared.redo_report.RedoReport.{RedoReport}
 use Rattle.im_restart.specs.declared.restarted.Restarted.{Restarted}
 use Rattle.im_restart.specs.Undone.{GrowsByRestart}
@@ -78,6 +82,23 @@ pub record MayRedo (b : Base) (base : ℕ) (all : History) (files : Files) : Typ
   pub taken : AreTaken first_count all
   pub can : AreApplicable b all
   pub done : LeavesNoUndo all
+
+-- Undo of this log came to a loser whose next record to undo dropped a key, and the leaf of that key lacks room for it and can't be split: page numbers or levels are used up.
+pub record RunsOut (b : Base) (all : History) : Type 0 where
+  -- the log as undo has it by then
+  pub now : History
+  pub grown : GrowsByRestart all now
+  pub lawful : IsLawful b page_tree now
+  pub closed : open_smo now ≡ []
+  pub owner : ℕ
+  pub loser : is_loser owner now ≡ true
+  pub next : Logged
+  pub older : History
+  pub stack : to_undo owner now ≡ next ∷ older
+  pub key : Key
+  pub rid : ℕ
+  pub dropped : next.what ≡ DeleteKey key rid
+  pub full : CanNotSplit (settled b now) key
 
 -- A stop left what a restart can start from again: the log, or it with records of undo more.
 pub record IsLeftUndoing (b : Base) (base : ℕ) (all : History) (files : Files) : Type 0 where

@@ -52,6 +52,7 @@ mod reading;
 mod redo_report;
 mod restarted;
 mod structure_change;
+mod synced;
 mod undo;
 
 pub use opening::open_or_create;

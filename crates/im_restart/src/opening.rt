@@ -1,7 +1,7 @@
 //! A store is opened.
 
 ghost use Rattle.std.specs.Prelude.{◌≡◌, ◌≢◌, ◌≤◌, ◌⊎◌, ℕ, [], false, length, Ok, IfErr, IfOk};
-ghost use Rattle.im_base_types.specs.declared.fault.Fault.TheVariants.{Device, Memory, NotAStore};
+ghost use Rattle.im_base_types.specs.declared.fault.Fault.TheVariants.{Capacity, Device, Memory, NotAStore};
 ghost use Rattle.im_base_types.specs.declared.file_id.FileId.TheVariants.{Log, Pages};
 ghost use Rattle.im_theory_log.specs.Histories.{Base, History};
 ghost use Rattle.im_theory_log.specs.RedoPoints.{redo_point};
@@ -24,13 +24,14 @@ ghost use Rattle.im_restart.specs.Opening.{Opens};
 ghost use Rattle.im_restart.specs.Reading.{IsFound};
 ghost use Rattle.im_restart.specs.StructureChange.{IsTakingBack};
 ghost use Rattle.im_restart.specs.Undoing.{UndoKept};
-ghost use Rattle.im_restart.specs.Restart.{IsFresh, SpellsLog, LeavesNoUndo, MayRedo, MayRestart, RestartKept, SettleKept};
+ghost use Rattle.im_restart.specs.Restart.{IsFresh, SpellsLog, LeavesNoUndo, MayRedo, MayRestart, RestartKept, RunsOut, SettleKept};
 
 use crate::found::Found;
 use crate::reading::open_log;
 use crate::redo_report::RedoReport;
 use crate::restarted::Restarted;
 use crate::structure_change::undo_change;
+use crate::synced::{check_file, synced_of};
 use crate::undo::undo;
 use im_base_disk::Disk;
 use im_base_types::{Fault, LONGEST_BATCH, Lsn, TxnId};
@@ -71,6 +72,8 @@ fn undo_found<D: Disk>(
     ensures outcome { Recovers D.Disk mild_to_take writer.old writer.new disk.new (fault_of result) }
     ensures kept { (b : Base) (base : ℕ) (all : History) (s : Writer) → StandsAs D.Disk b base s writer.old disk.old → IsTakingBack b all s
         → IsOpenChange analysed.old.open_change.items s.log → AreLosers analysed.old.losers s.log → UndoKept D.Disk b base all s disk.old writer.new disk.new result }
+    ensures used_up { (b : Base) (base : ℕ) (all : History) (s : Writer) → StandsAs D.Disk b base s writer.old disk.old → IsTakingBack b all s
+        → IsOpenChange analysed.old.open_change.items s.log → AreLosers analysed.old.losers s.log → IfErr result (λ e. e ≡ Capacity → RunsOut b all) }
     ensures none { analysed.old.open_change.items ≡ [] → analysed.old.losers.entries ≡ [] → (result ≡ Ok tt) × (writer.new ≡ writer.old) × (disk.new ≡ disk.old) }
     ensures next { analysed.new.next ≡ analysed.old.next }
 {
@@ -100,6 +103,8 @@ fn settle<D: Disk>(
     ensures outcome { Recovers D.Disk mild_to_take writer.old writer.new disk.new (fault_of result) }
     ensures kept { (b : Base) (base : ℕ) (all : History) → StandsAs D.Disk b base (opened b all (file_page (D.seen disk.old Pages))) writer.old disk.old → MayRestart b base all (D.seen disk.old)
         → (least : ℕ) → IsAnalysis least all analysed.old → lsns.now ≡ lsns_from (redo_point all) all → SettleKept D.Disk b base all disk.old writer.new disk.new result }
+    ensures used_up { (b : Base) (base : ℕ) (all : History) → StandsAs D.Disk b base (opened b all (file_page (D.seen disk.old Pages))) writer.old disk.old → MayRestart b base all (D.seen disk.old)
+        → (least : ℕ) → IsAnalysis least all analysed.old → lsns.now ≡ lsns_from (redo_point all) all → IfErr result (λ e. e ≡ Capacity → RunsOut b all) }
     ensures redoes { (b : Base) (base : ℕ) (all : History) → StandsAs D.Disk b base (opened b all (file_page (D.seen disk.old Pages))) writer.old disk.old → AreApplicable b all → LeavesNoUndo all
         → (least : ℕ) → IsAnalysis least all analysed.old → lsns.now ≡ lsns_from (redo_point all) all → IfErr result (λ e. e ≢ NotAStore) }
     ensures next { analysed.new.next ≡ analysed.old.next }
@@ -134,6 +139,8 @@ fn restart<D: Disk>(
     ensures least { IfOk result (λ r. 1 ≤ r.next) }
     ensures kept { (b : Base) (base : ℕ) (all : History) → MayRestart b base all (D.seen disk.old) → Only Pages (D.seen disk.old) (D.may_leave disk.old) → IsFound D.Disk base all found disk.old
         → RestartKept D.Disk b base all disk.old disk.new result }
+    ensures used_up { (b : Base) (base : ℕ) (all : History) → MayRestart b base all (D.seen disk.old) → Only Pages (D.seen disk.old) (D.may_leave disk.old) → IsFound D.Disk base all found disk.old
+        → IfErr result (λ e. e ≡ Capacity → RunsOut b all) }
     ensures redoes { (b : Base) (base : ℕ) (all : History) → MayRedo b base all (D.seen disk.old) → Only Pages (D.seen disk.old) (D.may_leave disk.old) → IsFound D.Disk base all found disk.old
         → IfErr result (λ e. e ≢ NotAStore) }
 {
@@ -141,9 +148,11 @@ fn restart<D: Disk>(
         log,
         analysed,
         lsns,
+        last,
     } = found;
     let mut analysed = analysed;
     let mut writer = PageWriter::new(alloc, log, frames)?;
+    writer.expect(synced_of(last));
     let mut room = make_room(alloc)?;
     let point = analysed.redo_point;
     let applied = settle(alloc, disk, &mut writer, &mut analysed, &lsns, &mut room)?;
@@ -152,6 +161,37 @@ fn restart<D: Disk>(
         next: first_number(analysed.next),
         report: RedoReport { point, applied },
     })
+}
+
+// The same, after a test of the file of pages.
+fn restart_tested<D: Disk>(
+    alloc: Global,
+    disk: &mut D,
+    found: Found,
+    frames: usize,
+) -> Result<Restarted, Fault>
+    requires least { 8 ≤ frames }
+    requires most { frames ≤ 1024 }
+    requires ready { IsOpen D.Disk found.log disk.old }
+    requires usable { found.log.failed ≡ false }
+    ensures outcome { Opens D.Disk disk.new (fault_of result) }
+    ensures ready { IfOk result (λ r. IsReadyWriter D.Disk r.writer disk.new × (r.writer.failed ≡ false)) }
+    ensures pool { IfOk result (λ r. r.writer.pool.frames ≡ frames) }
+    ensures least { IfOk result (λ r. 1 ≤ r.next) }
+    ensures kept { (b : Base) (base : ℕ) (all : History) → MayRestart b base all (D.seen disk.old) → Only Pages (D.seen disk.old) (D.may_leave disk.old) → IsFound D.Disk base all found disk.old
+        → RestartKept D.Disk b base all disk.old disk.new result }
+    ensures used_up { (b : Base) (base : ℕ) (all : History) → MayRestart b base all (D.seen disk.old) → Only Pages (D.seen disk.old) (D.may_leave disk.old) → IsFound D.Disk base all found disk.old
+        → IfErr result (λ e. e ≡ Capacity → RunsOut b all) }
+    ensures redoes { (b : Base) (base : ℕ) (all : History) → MayRedo b base all (D.seen disk.old) → Only Pages (D.seen disk.old) (D.may_leave disk.old) → IsFound D.Disk base all found disk.old
+        → IfErr result (λ e. e ≢ NotAStore) }
+{
+    check_file(
+        disk,
+        &found.last,
+        &found.analysed.copies,
+        found.log.durable_end(),
+    )?;
+    restart(alloc, disk, found, frames)
 }
 
 /// Opens a store's log and pages, or makes a log where there is none yet and no page: analysis reads the log once, redo brings the
@@ -179,9 +219,10 @@ pub fn open_or_create<D: Disk>(
     ensures made { IfOk result (λ _. D.tells → IsFresh (D.seen disk.old) ⊎ IsMade (D.seen disk.old Log)) }
     ensures spelled { IfOk result (λ _. D.tells → SpellsLog (D.seen disk.old)) }
     ensures kept { (b : Base) (base : ℕ) (all : History) → D.tells → MayRestart b base all (D.seen disk.old) → RestartKept D.Disk b base all disk.old disk.new result }
+    ensures used_up { (b : Base) (base : ℕ) (all : History) → D.tells → MayRestart b base all (D.seen disk.old) → IfErr result (λ e. e ≡ Capacity → RunsOut b all) }
     ensures redoes { (b : Base) (base : ℕ) (all : History) → D.tells → MayRedo b base all (D.seen disk.old) → IfErr result (λ e. e ≢ NotAStore) }
     ensures unspelled { D.tells → ¬ (SpellsLog (D.seen disk.old)) → Reads D.Disk disk.old disk.new × IfErr result (λ e. (e ≡ Memory) ⊎ (e ≡ Device) ⊎ (e ≡ NotAStore)) }
 {
     let found = open_log(alloc, disk)?;
-    restart(alloc, disk, found, frames)
+    restart_tested(alloc, disk, found, frames)
 }

@@ -28,7 +28,7 @@ use im_base_types::{Fault, FileId, Lsn, TxnId};
 use im_log::Opening;
 use im_log_gate::Gate;
 use im_log_record::Record;
-use im_restart_analysis::Analysis;
+use im_restart_analysis::{Analysis, Changes};
 use std::alloc::Global;
 
 // The first gate of the log, which is made where there is none yet and the file of pages is empty.
@@ -121,6 +121,7 @@ fn read_all<D: Disk>(
     let mut opening = opening;
     let mut analysis = Analysis::new(alloc, least);
     let mut lsns = Vec::new(alloc);
+    let mut changes = Changes::new(alloc);
     loop {
         match opening.next(disk)? {
             None => break,
@@ -128,15 +129,18 @@ fn read_all<D: Disk>(
                 let record = opening.record()?;
                 analysis.take(lsn, &record)?;
                 note_change(&mut lsns, lsn, &record)?;
+                changes.note(lsn, &record)?;
             }
         }
     }
     let analysed = analysis.finish();
+    let last = changes.below(alloc, analysed.redo_point)?;
     let lsns = since(lsns, analysed.redo_point);
     Ok(Found {
         log: opening.finish(disk),
         analysed,
         lsns,
+        last,
     })
 }
 

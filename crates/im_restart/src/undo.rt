@@ -3,7 +3,7 @@
 ghost use Rattle.std.specs.Prelude.{◌≡◌, [], ◌∷◌, ◌++◌, ◌≢◌, ◌≤◌, ◌<◌, ◌⊎◌, ◌↔◌, ℕ, Bool, true, false, length, Option, None, Some, Ok, Err, IfErr, IfOk, IfSome, IsSome, OnOk};
 ghost use Rattle.std.specs.Ordering.{nat_cmp};
 ghost use Rattle.std.specs.BTreeMap.{Updates, btree_map_len, get};
-ghost use Rattle.im_base_types.specs.declared.fault.Fault.TheVariants.{Failed, LogFull, Memory, NotAStore};
+ghost use Rattle.im_base_types.specs.declared.fault.Fault.TheVariants.{Capacity, Failed, LogFull, Memory, NotAStore};
 ghost use Rattle.im_theory_log.specs.Histories.{Base, History, IsRecordOf, Rises};
 ghost use Rattle.im_theory_log.specs.Transactions.{is_key};
 ghost use Rattle.im_theory_log.specs.Writer.{Writer};
@@ -18,6 +18,7 @@ ghost use Rattle.im_page_writer.specs.PageWriter.{IsReadyWriter, StandsAs};
 ghost use Rattle.im_restart_redo.specs.Recovery.{Recovers};
 ghost use Rattle.im_restart.specs.UndoOrder.{IsLatest};
 ghost use Rattle.im_restart.specs.LoserChains.{AreChains, GoesOnAt, IsToUndo, LeadsNowhere, MayLeadOn, PutKept, above, and_also, nobody};
+ghost use Rattle.im_restart.specs.Restart.{RunsOut};
 ghost use Rattle.im_restart.specs.Undoing.{CompensateKept, EndKept, IsUndoing, EnterKept, StepKept, UndoKept};
 
 use crate::chains::Chain;
@@ -35,6 +36,7 @@ fn answered(fault: Fault) -> Fault
     ensures memory { fault ≡ Failed → result ≡ Memory }
     ensures others { fault ≢ Failed → result ≡ fault }
     ensures full { result ≡ LogFull → fault ≡ LogFull }
+    ensures numbers { result ≡ Capacity → fault ≡ Capacity }
 {
     match fault {
         Fault::Failed => Fault::Memory,
@@ -58,6 +60,7 @@ fn compensate<D: Disk>(
     ensures outcome { Recovers D.Disk mild_to_take writer.old writer.new disk.new (fault_of result) }
     ensures kept { (b : Base) (base : ℕ) (all : History) (s : Writer) → StandsAs D.Disk b base s writer.old disk.old → IsUndoing b all s → IsToUndo s.log chain (view record.now)
         → CompensateKept D.Disk b base all s chain.transaction (prev_of (view record.now)) disk.old writer.new disk.new result }
+    ensures used_up { (b : Base) (base : ℕ) (all : History) (s : Writer) → StandsAs D.Disk b base s writer.old disk.old → IsUndoing b all s → IsToUndo s.log chain (view record.now) → IfErr result (λ e. e ≡ Capacity → RunsOut b all) }
 {
     if chain.transaction == 0 {
         return Err(Fault::NotAStore);
@@ -193,6 +196,7 @@ fn undo_key<D: Disk>(
     ensures kept { (b : Base) (base : ℕ) (all : History) (s : Writer) (out : ℕ → Bool) → StandsAs D.Disk b base s writer.old disk.old → IsUndoing b all s
         → AreChains (and_also chain.transaction out) chains.old s.log → out chain.transaction ≡ false → IsToUndo s.log chain (view record.now)
         → StepKept D.Disk b base all s chain.transaction out disk.old writer.new chains.new disk.new result }
+    ensures used_up { (b : Base) (base : ℕ) (all : History) (s : Writer) → StandsAs D.Disk b base s writer.old disk.old → IsUndoing b all s → IsToUndo s.log chain (view record.now) → IfErr result (λ e. e ≡ Capacity → RunsOut b all) }
     ensures above { OnOk result ((n : ℕ) → next < n → above chains.old.entries ≤ n → above chains.new.entries ≤ n) }
 {
     let last = compensate(alloc, disk, writer, chain, record)?;
@@ -224,6 +228,8 @@ fn undo_record<D: Disk>(
         → AreChains (and_also chain.transaction out) chains.old s.log → out chain.transaction ≡ false → GoesOnAt chain lsn s.log
         → IsRecordOf (logged_at lsn (view record.now)) s.log → transaction_of (view record.now) ≡ chain.transaction → IsLatest lsn s.log
         → StepKept D.Disk b base all s chain.transaction out disk.old writer.new chains.new disk.new result }
+    ensures used_up { (b : Base) (base : ℕ) (all : History) (s : Writer) → StandsAs D.Disk b base s writer.old disk.old → IsUndoing b all s → GoesOnAt chain lsn s.log
+        → IsRecordOf (logged_at lsn (view record.now)) s.log → transaction_of (view record.now) ≡ chain.transaction → IsLatest lsn s.log → IfErr result (λ e. e ≡ Capacity → RunsOut b all) }
     ensures above { OnOk result (above chains.old.entries ≤ lsn → above chains.new.entries ≤ lsn) }
 {
     if record.transaction() != chain.transaction {
@@ -255,6 +261,8 @@ fn undo_at<D: Disk>(
     ensures kept { (b : Base) (base : ℕ) (all : History) (s : Writer) (out : ℕ → Bool) → StandsAs D.Disk b base s writer.old disk.old → IsUndoing b all s
         → AreChains (and_also chain.transaction out) chains.old s.log → out chain.transaction ≡ false → lsn ≢ 0 → GoesOnAt chain lsn s.log → IsLatest lsn s.log
         → StepKept D.Disk b base all s chain.transaction out disk.old writer.new chains.new disk.new result }
+    ensures used_up { (b : Base) (base : ℕ) (all : History) (s : Writer) → StandsAs D.Disk b base s writer.old disk.old → IsUndoing b all s → lsn ≢ 0 → GoesOnAt chain lsn s.log → IsLatest lsn s.log
+        → IfErr result (λ e. e ≡ Capacity → RunsOut b all) }
     ensures above { OnOk result (above chains.old.entries ≤ lsn → above chains.new.entries ≤ lsn) }
 {
     let size = writer.read_at(disk, lsn, room)?;
@@ -288,6 +296,7 @@ fn undo_all<D: Disk>(
     ensures outcome { Recovers D.Disk mild_to_take writer.old writer.new disk.new (fault_of result) }
     ensures kept { (b : Base) (base : ℕ) (all : History) (s : Writer) → StandsAs D.Disk b base s writer.old disk.old → IsUndoing b all s
         → AreChains nobody chains.old s.log → UndoKept D.Disk b base all s disk.old writer.new disk.new result }
+    ensures used_up { (b : Base) (base : ℕ) (all : History) (s : Writer) → StandsAs D.Disk b base s writer.old disk.old → IsUndoing b all s → AreChains nobody chains.old s.log → IfErr result (λ e. e ≡ Capacity → RunsOut b all) }
     ensures none { chains.old.entries ≡ [] → (result ≡ Ok tt) × (writer.new ≡ writer.old) × (disk.new ≡ disk.old) }
 {
     while let Some((lsn, chain)) = take_last(chains) {
@@ -341,6 +350,7 @@ pub(crate) fn undo<D: Disk>(
     ensures outcome { Recovers D.Disk mild_to_take writer.old writer.new disk.new (fault_of result) }
     ensures kept { (b : Base) (base : ℕ) (all : History) (s : Writer) → StandsAs D.Disk b base s writer.old disk.old → IsUndoing b all s
         → AreLosers losers.old s.log → UndoKept D.Disk b base all s disk.old writer.new disk.new result }
+    ensures used_up { (b : Base) (base : ℕ) (all : History) (s : Writer) → StandsAs D.Disk b base s writer.old disk.old → IsUndoing b all s → AreLosers losers.old s.log → IfErr result (λ e. e ≡ Capacity → RunsOut b all) }
     ensures none { losers.old.entries ≡ [] → (result ≡ Ok tt) × (writer.new ≡ writer.old) × (disk.new ≡ disk.old) }
 {
     let mut chains = BTreeMap::new(alloc);

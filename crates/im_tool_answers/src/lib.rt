@@ -1,4 +1,4 @@
-//! What a life of a store in a script answers, and what its lines and replies show.
+//! What did a life of a store in a script answer, and what did it ask, by its lines and replies?
 //!
 //! `StoreAnswers` has the opening's answer and one reply a line (`StoreReply`). What a life asked is what its own lines and replies show by the
 //! definition of lives (`shown_in`, `asked_in`): a step with its reply, or cut off by the stop. Each line has its reply, up to one into which

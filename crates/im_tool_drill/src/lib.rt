@@ -1,7 +1,7 @@
-//! Lives of a store in a script, run by engines on the model disk.
+//! What do the lives of a script answer, and what does the last opening find, where engines run them on the model disk?
 //!
-//! `drill_store` runs a script's lives (`StoreScript` of `im_tool_lines`), one behind the other, each on what the stop of the one before has
-//! left, and opens once more behind the last. Every answer is an engine's, on that disk (`IsRun`).
+//! `drill_store` runs a script's lives (`StoreScript` of `im_tool_lines`), one after the other, each on what the stop of the one before has
+//! left, and opens once more after the last. Every answer is an engine's, on that disk (`IsRun`).
 //!
 //! It promises, in the words of the engine and of lives, of every store and of the steps of up to 64
 //! transactions in any order, rollbacks that a stop cuts off among them: of a script whose files stand for some effects at first, as two empty files do for none, there are effects that

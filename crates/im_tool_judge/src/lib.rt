@@ -1,11 +1,11 @@
-//! The judges of lives of a store: of what an opening found, and of what a life answered in which a call failed.
+//! Is what an opening found allowed? Are these the answers of a life in which a call failed?
 //!
 //! `effects_asked` reads off a life's lines and replies which effects it asked, as the definition of lives shows them (`shown_in`). `is_allowed` says
 //! whether the entries that an opening found are those of a front of these effects, with all that were acknowledged (`IsAllowed`): it keeps a plain
 //! ordered list of entries, and knows nothing of pages or logs. `is_good` judges also an opening that was refused (`IsGood`).
 //!
 //! `is_disturbed` judges the answers of a life in which a device call, a read or a length call failed by those of the same life undisturbed
-//! (`IsDisturbed`): it answers as undisturbed up to a refusal by the device, and behind that as an engine that has failed.
+//! (`IsDisturbed`): it answers as undisturbed up to a refusal by the device, and after that as an engine that has failed.
 //!
 //! This crate knows lines and answers alone, and no engine.
 #![tactic(auto)]

@@ -35,6 +35,11 @@ module _ (files : Files) (lives : List RawLife) (life : Option (Vec RawLine Glob
       push_read files lives' life' l r.sets
       (ap (λ (x : List Line). x ++ l ∷ []) r.is ∙ append_assoc (map set_line r.sets) (lines_of_lives lives ++ lines_of_open life) (l ∷ []) ∙ ap (λ (x : List Line). map set_line r.sets ++ x) (sym same)) r.files_are may next
 
+-- no line was read
+pub none_read : (files : Files) (lives : List RawLife) → files ≡ both [] [] → lives ≡ [] → IsRead files lives None []
+none_read files [] same none = record { sets = []; is = refl; files_are = same; stand = tt; place = refl }
+none_read files (one ∷ lives) same none = absurd (cc)
+
 -- a line that sets a file
 pub set_read : (files : Files) (lives : List RawLife) (life : Option (Vec RawLine Global)) (said : List Line) (file : FileId) (bytes : Vec ℕ Global) → IsRead files lives life said → lives ≡ [] → life ≡ None → IsRead (with_file file bytes.items files) lives life (said ++ lines.Set file bytes ∷ [])
 set_read files [] None said file bytes r none closed =

@@ -38,6 +38,11 @@ module _ (files : Files) (lives : List StoreLife) (life : Option OpenLife) (said
       push_read files lives' life' l r.sets
       (ap (λ (x : List StoreScriptLine). x ++ l ∷ []) r.is ∙ append_assoc (map set_store_line r.sets) (lines_of_lives lives ++ lines_of_open life) (l ∷ []) ∙ ap (λ (x : List StoreScriptLine). map set_store_line r.sets ++ x) (sym same)) r.files_are may next
 
+-- no line was read
+pub none_read : (files : Files) (lives : List StoreLife) → files ≡ both [] [] → lives ≡ [] → IsStoreRead files lives None []
+none_read files [] same none = record { sets = []; is = refl; files_are = same; stand = tt; place = refl }
+none_read files (one ∷ lives) same none = absurd (cc)
+
 -- a line that sets a file
 pub set_read : (files : Files) (lives : List StoreLife) (life : Option OpenLife) (said : List StoreScriptLine) (file : FileId) (bytes : Vec ℕ Global) → IsStoreRead files lives life said → lives ≡ [] → life ≡ None → IsStoreRead (with_file file bytes.items files) lives life (said ++ lines.Set file bytes ∷ [])
 set_read files [] None said file bytes r none closed =

@@ -2,12 +2,13 @@
 use Rattle.std.specs.Prelude.{◌≡◌, ℕ, List, [], ◌∷◌, ◌++◌, map, Option, Some, None}
 use Rattle.std.specs.Global.{Vec}
 use Rattle.im_base_types.specs.declared.file_id.FileId.{FileId}
-use Rattle.im_base_disk.specs.Disk.{Files, both, three}
+use Rattle.im_base_disk.specs.Disk.{Files, both}
 use Rattle.im_tool_lines.specs.declared.line.Line.{Line}
 use Rattle.im_tool_lines.specs.declared.line.Line.TheVariants as lines
 use Rattle.im_tool_lines.specs.declared.raw_line.RawLine.{RawLine}
 use Rattle.im_tool_lines.specs.declared.raw_life.RawLife.{RawLife}
 use Rattle.im_tool_lines.specs.declared.reading.Reading.{Reading}
+use Rattle.im_tool_lines.specs.SetFiles.{files_of}
 use Rattle.im_tool_lines.specs.Scripts.{Place, Before, Within, Behind, kind_of, MayStand, place_after, line_of, lines_of_lives, set_line, files_set}
 
 -- the lines of the life that is not ended
@@ -30,4 +31,4 @@ pub record IsRead (files : Files) (lives : List RawLife) (life : Option (Vec Raw
   pub place : place_after Before (map kind_of said) ≡ place_of lives life
 
 abbrev pub IsReading : Reading → List Line → Type 0
-IsReading reading said = IsRead (three reading.script.log.items reading.script.pages.items reading.script.log2.items) reading.script.lives.items reading.life said
+IsReading reading said = IsRead (files_of reading.files) reading.lives.items reading.life said

@@ -2,12 +2,13 @@
 use Rattle.std.specs.Prelude.{◌≡◌, ℕ, List, [], ◌∷◌, ◌++◌, map, Option, Some, None}
 use Rattle.std.specs.Global.{Vec}
 use Rattle.im_base_types.specs.declared.file_id.FileId.{FileId}
-use Rattle.im_base_disk.specs.Disk.{Files, both, three}
+use Rattle.im_base_disk.specs.Disk.{Files, both}
 use Rattle.im_tool_lines.specs.declared.store_script_line.StoreScriptLine.{StoreScriptLine}
 use Rattle.im_tool_lines.specs.declared.store_script_line.StoreScriptLine.TheVariants as lines
 use Rattle.im_tool_lines.specs.declared.store_life.StoreLife.{StoreLife}
 use Rattle.im_tool_lines.specs.declared.store_reading.StoreReading.{StoreReading}
 use Rattle.im_tool_lines.specs.declared.store_reading.OpenLife.{OpenLife}
+use Rattle.im_tool_lines.specs.SetFiles.{files_of}
 use Rattle.im_tool_lines.specs.Scripts.{Place, Before, Within, Behind, MayStand, place_after, files_set}
 use Rattle.im_tool_lines.specs.StoreScripts.{store_kind_of, lines_of_lives, set_store_line}
 
@@ -31,4 +32,4 @@ pub record IsStoreRead (files : Files) (lives : List StoreLife) (life : Option O
   pub place : place_after Before (map store_kind_of said) ≡ place_of lives life
 
 abbrev pub IsStoreReading : StoreReading → List StoreScriptLine → Type 0
-IsStoreReading reading said = IsStoreRead (three reading.script.log.items reading.script.pages.items reading.script.log2.items) reading.script.lives.items reading.life said
+IsStoreReading reading said = IsStoreRead (files_of reading.files) reading.lives.items reading.life said

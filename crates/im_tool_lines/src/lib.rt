@@ -1,13 +1,13 @@
-//! Scripts of lives as text: what a line spells, and what script the lines of a text make.
+//! What does a line of a script say, and what script of lives do the lines of a text make?
 //!
-//! A script sets the bytes of the files and then has lives, one behind the other, each on what the stop of the one before
+//! A script sets the bytes of the files and then has lives, one after the other, each on what the stop of the one before
 //! has left. A life opens, runs its lines, and ends by a stop within a device call or after the last line. There are two sorts: lives over the
 //! gate alone, which put batches (`Script`), and lives of a store, which make steps (`StoreScript`); a text is of the first sort where a `raw`
-//! line stands in it, and no `life` line in front of that (`is_raw`, by `IsRaw`).
+//! line stands in it, and no `life` line before that (`is_raw`, by `IsRaw`).
 //!
 //! `parse_line` and `parse_store_line` decide the grammar, with the lines of steps as `im_tool_words` reads them: what they read is spelled as the
 //! grammar says (`Spells`, `SpellsStore`), and no line spells what they refuse as bad. `Script::parse` and `StoreScript::parse` read exactly
-//! the scripts: a script is that of the text's lines (`IsScript`, `IsStoreScript`), each of which may stand where it stands (`MayStand`), and
+//! the scripts, both by `read_lines` over what takes a line of theirs (`LineReader`): a script is that of the text's lines (`IsScript`, `IsStoreScript`), each of which may stand where it stands (`MayStand`), and
 //! the number that is refused is that of the first line which is bad (`IsFirstBad`, `IsFirstBadOfStore`). `reason_of` says in words why a line
 //! is bad; its text is tested and stands in no clause.
 //!
@@ -17,6 +17,7 @@
 mod batch;
 mod grammar;
 mod line;
+mod line_reader;
 mod raw_life;
 mod raw_line;
 mod raw_text;
@@ -24,6 +25,7 @@ mod reading;
 mod reason;
 mod script;
 mod script_error;
+mod set_files;
 mod set_words;
 mod stop_words;
 mod store_grammar;

@@ -8,6 +8,8 @@ ghost use Rattle.im_tool_lines.specs.Scripts.{IsScriptOf, MayStand, MayFollow, B
 ghost use Rattle.im_tool_lines.specs.Reading.{IsReading};
 
 use crate::grammar::parse_line;
+use crate::line_reader::LineReader;
+use crate::set_files::SetFiles;
 use crate::{Line, RawLife, RawLine, Script, ScriptError};
 use im_base_model_disk::Stop;
 use im_base_types::{Fault, FileId};
@@ -16,7 +18,8 @@ use std::alloc::Global;
 /// The files and the lives that are ended, and the lines of the life that is not.
 #[derive(Drop)]
 pub(crate) struct Reading {
-    script: Script,
+    files: SetFiles,
+    lives: Vec<RawLife>,
     life: Option<Vec<RawLine>>,
 }
 
@@ -25,24 +28,13 @@ impl Reading {
     pub(crate) fn new(alloc: Global) -> Reading
         ensures { IsReading result [] }
     {
+        let files = SetFiles::new(alloc);
+        let lives = Vec::new(alloc);
         Reading {
-            script: Script {
-                log: Vec::new(alloc),
-                pages: Vec::new(alloc),
-                log2: Vec::new(alloc),
-                lives: Vec::new(alloc),
-            },
+            files,
+            lives,
             life: None,
         }
-    }
-
-    /// Reads the next line. Refused `BadScript` where it is bad by itself or may not stand here.
-    pub(crate) fn read_line(&mut self, alloc: Global, line: &[u8]) -> Result<(), Fault>
-        ensures read { OnOk result ((said : List Line) → IsReading self.old said → (next : Line) × Spells line.now next × IsReading self.new (said ++ next ∷ [])) }
-        ensures refused { result ≡ Err BadScript → (said : List Line) → IsReading self.old said → (next : Line) → Spells line.now next → ¬ (MayFollow (kind_of next) (place_after Before (map kind_of said))) }
-    {
-        let line = parse_line(alloc, line)?;
-        self.take(alloc, line)
     }
 
     fn take(&mut self, alloc: Global, line: Line) -> Result<(), Fault>
@@ -62,23 +54,11 @@ impl Reading {
         ensures read { OnOk result ((said : List Line) → IsReading self.old said → IsReading self.new (said ++ Line.Set file bytes ∷ [])) }
         ensures refused { result ≡ Err BadScript → (said : List Line) → IsReading self.old said → ¬ (MayFollow (kind_of (Line.Set file bytes)) (place_after Before (map kind_of said))) }
     {
-        if self.life.is_some() || !self.script.lives.is_empty() {
+        if self.life.is_some() || !self.lives.is_empty() {
             return Err(Fault::BadScript);
         }
-        match file {
-            FileId::Log => {
-                self.script.log = bytes;
-                Ok(())
-            }
-            FileId::Pages => {
-                self.script.pages = bytes;
-                Ok(())
-            }
-            FileId::Log2 => {
-                self.script.log2 = bytes;
-                Ok(())
-            }
-        }
+        self.files.set(file, bytes);
+        Ok(())
     }
 
     fn begin_life(&mut self, alloc: Global) -> Result<(), Fault>
@@ -90,7 +70,7 @@ impl Reading {
             self.life = Some(empty);
             return Ok(());
         };
-        match self.script.lives.push(RawLife { lines, stop: None }) {
+        match self.lives.push(RawLife { lines, stop: None }) {
             Ok(()) => {
                 self.life = Some(empty);
                 Ok(())
@@ -126,7 +106,7 @@ impl Reading {
             lines,
             stop: Some(stop),
         };
-        let Ok(()) = self.script.lives.push(life) else {
+        let Ok(()) = self.lives.push(life) else {
             return Err(Fault::Memory);
         };
         Ok(())
@@ -137,7 +117,14 @@ impl Reading {
         ensures read { IfOk result (λ script. (said : List Line) → IsReading self said → IsScriptOf script said × MayStand Before (map kind_of said)) }
         ensures memory { IfErr result (λ error. error ≡ ScriptError.Memory) }
     {
-        let Reading { mut script, life } = self;
+        let Reading { files, lives, life } = self;
+        let SetFiles { log, pages, log2 } = files;
+        let mut script = Script {
+            log,
+            pages,
+            log2,
+            lives,
+        };
         let Some(lines) = life else {
             return Ok(script);
         };
@@ -145,5 +132,20 @@ impl Reading {
             Ok(()) => Ok(script),
             Err(_) => Err(ScriptError::Memory),
         }
+    }
+}
+
+impl LineReader for Reading {
+    type Line = Line;
+
+    ghost spells = { Spells };
+
+    ghost kind = { kind_of };
+
+    ghost has_read = { IsReading };
+
+    fn read_line(&mut self, alloc: Global, line: &[u8]) -> Result<(), Fault> {
+        let line = parse_line(alloc, line)?;
+        self.take(alloc, line)
     }
 }

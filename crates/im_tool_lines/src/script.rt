@@ -3,10 +3,9 @@
 ghost use Rattle.std.specs.Prelude.{◌≡◌, ℕ, IfOk};
 ghost use Rattle.im_tool_lines.specs.Scripts.{lines_of, IsScript, IsFirstBad};
 
+use crate::line_reader::read_lines;
 use crate::reading::Reading;
 use crate::{RawLife, ScriptError};
-use im_base_types::Fault;
-use im_tool_words::first_piece;
 use std::alloc::Global;
 
 /// A script whose lines are all good.
@@ -32,21 +31,7 @@ impl Script {
         ensures refused { (n : ℕ) → result ≡ Err (ScriptError.BadLine n) → IsFirstBad (lines_of text.now) n }
     {
         let mut reading = Reading::new(alloc);
-        let mut number = 0u64;
-        let mut left = Some(text);
-        while let Some(rest) = left {
-            let (line, more) = first_piece(rest, b'\n');
-            left = more;
-            number += 1;
-            if line.is_empty() {
-                continue;
-            }
-            match reading.read_line(alloc, line) {
-                Ok(()) => {}
-                Err(Fault::BadScript) => return Err(ScriptError::BadLine(number)),
-                Err(_) => return Err(ScriptError::Memory),
-            }
-        }
+        read_lines(alloc, text, &mut reading)?;
         reading.end()
     }
 }

@@ -8,6 +8,8 @@ ghost use Rattle.im_tool_lines.specs.StoreScripts.{SpellsStore, IsStoreScriptOf,
 ghost use Rattle.im_tool_lines.specs.StoreReading.{IsStoreReading};
 
 use crate::ScriptError;
+use crate::line_reader::LineReader;
+use crate::set_files::SetFiles;
 use crate::store_grammar::parse_store_line;
 use crate::store_life::{LifeOptions, StoreLife, StoreLine};
 use crate::store_script::StoreScript;
@@ -26,7 +28,8 @@ pub(crate) struct OpenLife {
 /// The files and the lives that are ended, and the life that is not.
 #[derive(Drop)]
 pub(crate) struct StoreReading {
-    script: StoreScript,
+    files: SetFiles,
+    lives: Vec<StoreLife>,
     life: Option<OpenLife>,
 }
 
@@ -35,24 +38,13 @@ impl StoreReading {
     pub(crate) fn new(alloc: Global) -> StoreReading
         ensures { IsStoreReading result [] }
     {
+        let files = SetFiles::new(alloc);
+        let lives = Vec::new(alloc);
         StoreReading {
-            script: StoreScript {
-                log: Vec::new(alloc),
-                pages: Vec::new(alloc),
-                log2: Vec::new(alloc),
-                lives: Vec::new(alloc),
-            },
+            files,
+            lives,
             life: None,
         }
-    }
-
-    /// Reads the next line. Refused `BadScript` where it is bad by itself or may not stand here.
-    pub(crate) fn read_line(&mut self, alloc: Global, line: &[u8]) -> Result<(), Fault>
-        ensures read { OnOk result ((said : List StoreScriptLine) → IsStoreReading self.old said → (next : StoreScriptLine) × SpellsStore line.now next × IsStoreReading self.new (said ++ next ∷ [])) }
-        ensures refused { result ≡ Err BadScript → (said : List StoreScriptLine) → IsStoreReading self.old said → (next : StoreScriptLine) → SpellsStore line.now next → ¬ (MayFollow (store_kind_of next) (place_after Before (map store_kind_of said))) }
-    {
-        let line = parse_store_line(alloc, line)?;
-        self.take(alloc, line)
     }
 
     fn take(&mut self, alloc: Global, line: StoreScriptLine) -> Result<(), Fault>
@@ -71,23 +63,11 @@ impl StoreReading {
         ensures read { OnOk result ((said : List StoreScriptLine) → IsStoreReading self.old said → IsStoreReading self.new (said ++ StoreScriptLine.Set file bytes ∷ [])) }
         ensures refused { result ≡ Err BadScript → (said : List StoreScriptLine) → IsStoreReading self.old said → ¬ (MayFollow (store_kind_of (StoreScriptLine.Set file bytes)) (place_after Before (map store_kind_of said))) }
     {
-        if self.life.is_some() || !self.script.lives.is_empty() {
+        if self.life.is_some() || !self.lives.is_empty() {
             return Err(Fault::BadScript);
         }
-        match file {
-            FileId::Log => {
-                self.script.log = bytes;
-                Ok(())
-            }
-            FileId::Pages => {
-                self.script.pages = bytes;
-                Ok(())
-            }
-            FileId::Log2 => {
-                self.script.log2 = bytes;
-                Ok(())
-            }
-        }
+        self.files.set(file, bytes);
+        Ok(())
     }
 
     fn begin_life(&mut self, alloc: Global, options: LifeOptions) -> Result<(), Fault>
@@ -103,7 +83,7 @@ impl StoreReading {
             return Ok(());
         };
         let OpenLife { options, lines } = life;
-        match self.script.lives.push(StoreLife {
+        match self.lives.push(StoreLife {
             options,
             lines,
             stop: None,
@@ -145,7 +125,7 @@ impl StoreReading {
             lines,
             stop: Some(stop),
         };
-        let Ok(()) = self.script.lives.push(life) else {
+        let Ok(()) = self.lives.push(life) else {
             return Err(Fault::Memory);
         };
         Ok(())
@@ -156,7 +136,14 @@ impl StoreReading {
         ensures read { IfOk result (λ script. (said : List StoreScriptLine) → IsStoreReading self said → IsStoreScriptOf script said × MayStand Before (map store_kind_of said)) }
         ensures memory { IfErr result (λ error. error ≡ ScriptError.Memory) }
     {
-        let StoreReading { mut script, life } = self;
+        let StoreReading { files, lives, life } = self;
+        let SetFiles { log, pages, log2 } = files;
+        let mut script = StoreScript {
+            log,
+            pages,
+            log2,
+            lives,
+        };
         let Some(life) = life else {
             return Ok(script);
         };
@@ -169,5 +156,20 @@ impl StoreReading {
             Ok(()) => Ok(script),
             Err(_) => Err(ScriptError::Memory),
         }
+    }
+}
+
+impl LineReader for StoreReading {
+    type Line = StoreScriptLine;
+
+    ghost spells = { SpellsStore };
+
+    ghost kind = { store_kind_of };
+
+    ghost has_read = { IsStoreReading };
+
+    fn read_line(&mut self, alloc: Global, line: &[u8]) -> Result<(), Fault> {
+        let line = parse_store_line(alloc, line)?;
+        self.take(alloc, line)
     }
 }

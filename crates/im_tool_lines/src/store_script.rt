@@ -5,10 +5,9 @@ ghost use Rattle.im_tool_lines.specs.Scripts.{lines_of};
 ghost use Rattle.im_tool_lines.specs.StoreScripts.{IsStoreScript, IsFirstBadOfStore};
 
 use crate::ScriptError;
+use crate::line_reader::read_lines;
 use crate::store_life::StoreLife;
 use crate::store_reading::StoreReading;
-use im_base_types::Fault;
-use im_tool_words::first_piece;
 use std::alloc::Global;
 
 /// A script of lives of a store, whose lines are all good.
@@ -34,21 +33,7 @@ impl StoreScript {
         ensures refused { (n : ℕ) → result ≡ Err (ScriptError.BadLine n) → IsFirstBadOfStore (lines_of text.now) n }
     {
         let mut reading = StoreReading::new(alloc);
-        let mut number = 0u64;
-        let mut left = Some(text);
-        while let Some(rest) = left {
-            let (line, more) = first_piece(rest, b'\n');
-            left = more;
-            number += 1;
-            if line.is_empty() {
-                continue;
-            }
-            match reading.read_line(alloc, line) {
-                Ok(()) => {}
-                Err(Fault::BadScript) => return Err(ScriptError::BadLine(number)),
-                Err(_) => return Err(ScriptError::Memory),
-            }
-        }
+        read_lines(alloc, text, &mut reading)?;
         reading.end()
     }
 }

@@ -2,13 +2,11 @@
 
 use crate::log_bytes::Survey;
 use crate::page_damage::PageDamage;
-use im_base_types::{Fault, Lsn, PageNo};
+use im_base_types::{Fault, Lsn, PAGE_SIZE, PageNo};
 use im_page::Page;
 use im_restart_analysis::LastChanges;
 use std::alloc::Global;
 use std::collections::BTreeMap;
-
-const PAGE_SIZE: usize = 4_096;
 
 /// The most damages that are listed.
 const MOST: usize = 20;

@@ -1,12 +1,13 @@
-use Rattle.std.proofs.Common.{rules, ◌≢◌, refl, inl}
-use Rattle.im_base_types.specs.declared.fault.Fault.TheVariants.{NotAStore}
+use Rattle.std.proofs.Common.{rules, ◌≡◌, ◌≢◌, refl, inl}
+use Rattle.im_base_types.specs.declared.fault.Fault.TheVariants.{Capacity, NotAStore}
 use Rattle.im_base_types.specs.declared.file_id.FileId.TheVariants.{Log, Pages}
 use Rattle.im_theory_log.specs.PageCounts.{first_count}
 use Rattle.im_page_writer.proofs.LoggedChanges.{err_on}
 use Rattle.im_page_writer.proofs.Outcomes.{sound_also, sound_on}
 use Rattle.im_theory_tree.specs.Theory.{page_tree}
 use Rattle.im_theory_tree.proofs.TheoryLaws.{page_tree_laws}
-use Rattle.im_restart.proofs.Ends.{opens_read, opens_refused}
+use Rattle.im_restart.specs.Restart.{RunsOut}
+use Rattle.im_restart.proofs.Ends.{opens_read, opens_refused, read_cause}
 use Rattle.im_restart.proofs.Openings.{holds_if_ok, lawful_taken}
 use Rattle.im_restart.proofs.Restarts.{left_opening, may_behind, opened_behind, pages_synced, redo_behind}
 use Rattle.im_restart.proofs.Steps.{left_then}
@@ -35,11 +36,11 @@ returns-clause-kept g c b base all told may =
     let k = c.in_ok-found.ensures.kept base all told may.has.log may.has.bare (lawful_taken b page_tree first_count page_tree_laws may.counted all may.lawful) in
     let opening = left_opening d b base all old mid (g.met.D.Disk.only_now old) told (c.requires.synced Log) (c.requires.synced Pages) may k.stops c.in_ok-found.ensures.reads in
     let behind = may_behind d b base all old mid c.in_ok-found.found.log may c.in_ok-found.ensures.changes k.ok.log in
-    let r = c.restart.ensures.kept b base all behind (pages_synced d b base all old mid c.in_ok-found.ensures.changes (c.requires.synced Pages)) k.ok in
+    let r = c.restart_tested.ensures.kept b base all behind (pages_synced d b base all old mid c.in_ok-found.ensures.changes (c.requires.synced Pages)) k.ok in
     let number = (c.in_ok-found.ensures.alike told).number in
     record {
-      sound = sound_also c.restart.result _ _ r.sound (λ made is. opened_behind d b base all old mid c.restart.new.disk made number (c.in_ok-found.ensures.changes.seen Pages (λ e. cc e)) is);
-      stops = left_then d b base all old mid c.restart.new.disk opening r.stops;
+      sound = sound_also c.restart_tested.result _ _ r.sound (λ made is. opened_behind d b base all old mid c.restart_tested.new.disk made number (c.in_ok-found.ensures.changes.seen Pages (λ e. cc e)) is);
+      stops = left_then d b base all old mid c.restart_tested.new.disk opening r.stops;
     }
 
 pub returns-in_err-found-clause-unspelled : goal.returns-in_err-found-clause-unspelled
@@ -52,10 +53,10 @@ pub returns-clause-unspelled : goal.returns-clause-unspelled
 returns-clause-unspelled g c told none = absurd (none (c.in_ok-found.ensures.spelled told))
 
 pub returns-clause-made : goal.returns-clause-made
-returns-clause-made g c = holds_if_ok c.restart.result c.in_ok-found.ensures.store
+returns-clause-made g c = holds_if_ok c.restart_tested.result c.in_ok-found.ensures.store
 
 pub returns-clause-spelled : goal.returns-clause-spelled
-returns-clause-spelled g c = holds_if_ok c.restart.result c.in_ok-found.ensures.spelled
+returns-clause-spelled g c = holds_if_ok c.restart_tested.result c.in_ok-found.ensures.spelled
 
 pub returns-in_err-found-clause-redoes : goal.returns-in_err-found-clause-redoes
 returns-in_err-found-clause-redoes g c b base all told may =
@@ -69,4 +70,17 @@ returns-clause-redoes g c b base all told may =
     let mid = c.open_log.new.disk in
     let k = c.in_ok-found.ensures.kept base all told may.has.log may.has.bare may.taken in
     let behind = redo_behind d b base all old mid c.in_ok-found.found.log may c.in_ok-found.ensures.changes k.ok.log in
-    c.restart.ensures.redoes b base all behind (pages_synced d b base all old mid c.in_ok-found.ensures.changes (c.requires.synced Pages)) k.ok
+    c.restart_tested.ensures.redoes b base all behind (pages_synced d b base all old mid c.in_ok-found.ensures.changes (c.requires.synced Pages)) k.ok
+
+pub returns-in_err-found-clause-used_up : goal.returns-in_err-found-clause-used_up
+returns-in_err-found-clause-used_up g c b base all told may =
+    err_on c.from_residual.result c.in_err-found.field-0.0 (λ e. e ≡ Capacity → RunsOut b all) c.from_residual.ensures.1 (λ full. read_cause c.in_err-found.field-0.0 c.in_err-found.ensures.causes full)
+
+pub returns-clause-used_up : goal.returns-clause-used_up
+returns-clause-used_up g c b base all told may =
+    let d = g.D.Disk in
+    let old = c.args.disk.now in
+    let mid = c.open_log.new.disk in
+    let k = c.in_ok-found.ensures.kept base all told may.has.log may.has.bare (lawful_taken b page_tree first_count page_tree_laws may.counted all may.lawful) in
+    let behind = may_behind d b base all old mid c.in_ok-found.found.log may c.in_ok-found.ensures.changes k.ok.log in
+    c.restart_tested.ensures.used_up b base all behind (pages_synced d b base all old mid c.in_ok-found.ensures.changes (c.requires.synced Pages)) k.ok

@@ -1,5 +1,5 @@
-use Rattle.std.proofs.Common.{◌≢◌, sym, ◌∙◌, ap, subst}
-use Rattle.im_base_types.specs.declared.fault.Fault.TheVariants.{NotAStore}
+use Rattle.std.proofs.Common.{◌≡◌, ◌≢◌, sym, ◌∙◌, ap, subst}
+use Rattle.im_base_types.specs.declared.fault.Fault.TheVariants.{Capacity, NotAStore}
 use Rattle.im_base_types.specs.declared.file_id.FileId.TheVariants.{Pages}
 use Rattle.im_theory_page.specs.PageFile.{file_page}
 use Rattle.im_restart_analysis.specs.CopyLsns.{AreCopies}
@@ -8,10 +8,11 @@ use Rattle.im_restart_redo.specs.Redo.{lsns_from}
 use Rattle.im_restart_redo.proofs.Applicable.{lawful_is_applicable}
 use Rattle.im_page_writer.proofs.LoggedChanges.{err_on}
 use Rattle.im_page_writer.proofs.Outcomes.{sound_on}
-use Rattle.im_restart_redo.proofs.Recoveries.{logs_recover, never_none, recovers_more, recovers_then, recovery_refused}
+use Rattle.im_restart_redo.proofs.Recoveries.{logs_recover, mildly, never_none, recovers_more, recovers_then, recovery_refused}
 use Rattle.im_theory_tree.specs.Theory.{page_tree}
 use Rattle.im_theory_tree.proofs.TheoryLaws.{page_tree_laws}
-use Rattle.im_restart.proofs.Ends.{take_mild, take_none}
+use Rattle.im_restart.specs.Restart.{RunsOut}
+use Rattle.im_restart.proofs.Ends.{never_numbers, take_mild, take_none}
 use Rattle.im_restart.proofs.Leaves.{on_leaves}
 use Rattle.im_restart.proofs.Losers.{losers_none}
 use Rattle.im_restart.proofs.Restarts.{left_redoing, losers_then, open_then, settled_so, taking_begins}
@@ -86,3 +87,22 @@ returns-in_err-undo_found-clause-redoes g c b base all stands can done least is 
 pub returns-in_err-force-clause-redoes : goal.returns-in_err-force-clause-redoes
 returns-in_err-force-clause-redoes g c b base all stands can done least is lsns =
     err_on c.from_residual-in_err-force.result c.in_err-force.field-0.0 (λ e. e ≢ NotAStore) c.from_residual-in_err-force.ensures.1 (never_none g.D.Disk c.in_err-force.field-0.0 (logs_recover g.D.Disk c.in_err-force.ensures.outcome))
+
+pub returns-in_err-applied-clause-used_up : goal.returns-in_err-applied-clause-used_up
+returns-in_err-applied-clause-used_up g c b base all stands may least is lsns =
+    err_on c.from_residual.result c.in_err-applied.field-0.0 (λ e. e ≡ Capacity → RunsOut b all) c.from_residual.ensures.1 (λ full. never_numbers g.D.Disk c.in_err-applied.ensures.outcome full)
+
+pub returns-in_err-undo_found-clause-used_up : goal.returns-in_err-undo_found-clause-used_up
+returns-in_err-undo_found-clause-used_up g c b base all stands may least is lsns =
+    let file = file_page (g.D.Disk.seen c.args.disk.now Pages) in
+    let k = c.in_ok-applied.ensures.kept b base all file stands (lawful_is_applicable b page_tree page_tree_laws on_leaves all may.lawful) is.point
+    (subst (λ n. AreCopies n c.args.analysed.now.copies all) (sym is.point) is.copies) (lsns ∙ ap (λ n. lsns_from n all) (sym is.point)) in
+    let done = k.sound.0 in
+    let begun = taking_begins g.D.Disk b base all file c.args.disk.now c.redo.new.writer c.redo.new.disk (g.D.Disk.seen c.args.disk.now) may done in
+    err_on c.from_residual-in_err-undo_found.result c.in_err-undo_found.field-0.0 (λ e. e ≡ Capacity → RunsOut b all) c.from_residual-in_err-undo_found.ensures.1
+    (c.in_err-undo_found.ensures.used_up b base all done.now begun.stands begun.taking (open_then g.D.Disk b base all c.args.analysed.now.open_change.items done.now.log done.log is.open_change) (losers_then g.D.Disk b base all c.args.analysed.now.losers done.now.log done.log is.losers))
+
+pub returns-in_err-force-clause-used_up : goal.returns-in_err-force-clause-used_up
+returns-in_err-force-clause-used_up g c b base all stands may least is lsns =
+    err_on c.from_residual-in_err-force.result c.in_err-force.field-0.0 (λ e. e ≡ Capacity → RunsOut b all) c.from_residual-in_err-force.ensures.1
+    (λ full. never_numbers g.D.Disk (recovers_more g.D.Disk mildly (logs_recover g.D.Disk c.in_err-force.ensures.outcome)) full)

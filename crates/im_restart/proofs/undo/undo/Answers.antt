@@ -1,7 +1,10 @@
-use Rattle.std.proofs.Common.{◌∙◌}
+use Rattle.std.proofs.Common.{◌≡◌, ◌∙◌}
+use Rattle.im_base_types.specs.declared.fault.Fault.TheVariants.{Capacity}
+use Rattle.im_page_writer.proofs.LoggedChanges.{err_on}
 use Rattle.im_page_writer.proofs.Outcomes.{sound_on}
 use Rattle.im_restart_redo.proofs.Recoveries.{recovers_more, recovery_refused}
-use Rattle.im_restart.proofs.Ends.{take_mild}
+use Rattle.im_restart.specs.Restart.{RunsOut}
+use Rattle.im_restart.proofs.Ends.{never_numbers, take_mild}
 use Rattle.im_restart.proofs.Undos.{undo_behind}
 use Rattle.im_restart.proofs.undo.undo.Goals as goal
 
@@ -24,3 +27,12 @@ returns-in_err-enter_all-clause-none g c is = let e = (c.in_err-enter_all.ensure
 
 pub returns-clause-none : goal.returns-clause-none
 returns-clause-none g c is = let first = c.in_ok-enter_all.ensures.none is in let last = c.undo_all.ensures.none first.2 in (last.0, last.1 ∙ first.1, last.2 ∙ first.3)
+
+pub returns-in_err-enter_all-clause-used_up : goal.returns-in_err-enter_all-clause-used_up
+returns-in_err-enter_all-clause-used_up g c b base all s stands is are =
+    err_on c.from_residual.result c.in_err-enter_all.field-0.0 (λ e. e ≡ Capacity → RunsOut b all) c.from_residual.ensures.1 (λ full. never_numbers g.D.Disk c.in_err-enter_all.ensures.outcome full)
+
+pub returns-clause-used_up : goal.returns-clause-used_up
+returns-clause-used_up g c b base all s stands is are =
+    let k = c.in_ok-enter_all.ensures.kept b base all s stands is are in
+    c.undo_all.ensures.used_up b base all k.sound.now k.sound.goes.stands k.sound.goes.undoing k.sound.are

@@ -1,10 +1,13 @@
-use Rattle.std.proofs.Common.{rules, refl, arith}
+use Rattle.std.proofs.Common.{◌≡◌, rules, refl, arith}
 use Rattle.std.proofs.lemmas.Grind.{common_steps}
+use Rattle.im_base_types.specs.declared.fault.Fault.TheVariants.{Capacity}
+use Rattle.im_page_writer.proofs.LoggedChanges.{err_on}
 use Rattle.im_page_writer.proofs.Outcomes.{sound_on}
 use Rattle.im_restart_redo.proofs.Recoveries.{recovers_then, unmoved}
 use Rattle.im_theory_tree.specs.Theory.{page_tree}
 use Rattle.im_theory_tree.proofs.TheoryLaws.{page_tree_laws}
 use Rattle.im_restart.specs.LoserChains.{nobody}
+use Rattle.im_restart.specs.Restart.{RunsOut}
 use Rattle.im_restart.proofs.Bounds.{falls, last_of_none, none_left}
 use Rattle.im_restart.proofs.Latest.{latest_here}
 use Rattle.im_restart.proofs.Losers.{chains_none, chains_taken}
@@ -56,3 +59,10 @@ returns-in_err-undo_at-clause-none g c is = absurd (last_of_none c.loop-lsn.chai
 
 pub returns-clause-none : goal.returns-clause-none
 returns-clause-none g c is = let h = c.loop-lsn.invariant.none is in (refl, h.1, h.2)
+
+pub returns-in_err-undo_at-clause-used_up : goal.returns-in_err-undo_at-clause-used_up
+returns-in_err-undo_at-clause-used_up g c b base all s stands is are =
+    let h = c.loop-lsn.invariant.kept b base all s stands is are in
+    let t = chains_taken c.loop-lsn.chains c.take_last.new.chains h.0.log c.in-Some.lsn c.in-Some.chain h.2 c.in-Some.ensures.value c.in-Some.ensures.updates.0 in
+    let latest = latest_here b page_tree page_tree_laws h.0.log c.in-Some.chain c.in-Some.lsn c.take_last.new.chains h.1.undoing.can t.2 t.0 c.in-Some.ensures.others in
+    err_on c.from_residual.result c.in_err-undo_at.field-0.0 (λ e. e ≡ Capacity → RunsOut b all) c.from_residual.ensures.1 (c.in_err-undo_at.ensures.used_up b base all h.0 h.1.stands h.1.undoing t.1 t.2 latest)

@@ -1,12 +1,13 @@
 use Rattle.std.proofs.Common.{◌≡◌, ap, refl, sym, ◌∙◌}
-use Rattle.im_base_types.specs.declared.fault.Fault.TheVariants.{Device, NotAStore}
+use Rattle.im_base_types.specs.declared.fault.Fault.TheVariants.{Capacity, Device, NotAStore}
 use Rattle.im_log_record.specs.Entry.{view}
 use Rattle.im_smo_alloc.specs.Kept.{mild_to_take}
 use Rattle.im_page_writer.specs.Outcome.{mild}
 use Rattle.im_page_writer.proofs.LoggedChanges.{err_on}
 use Rattle.im_page_writer.proofs.Outcomes.{sound_on}
 use Rattle.im_restart_redo.proofs.Recoveries.{moved, read_refused, recovers_more, recovers_then, recovery_own, recovery_refused}
-use Rattle.im_restart.proofs.Ends.{take_mild}
+use Rattle.im_restart.specs.Restart.{RunsOut}
+use Rattle.im_restart.proofs.Ends.{other_cause, take_mild}
 use Rattle.im_restart.proofs.Others.{spares_none}
 use Rattle.im_restart.proofs.Readings.{spelled_here, spelled_none}
 use Rattle.im_restart.proofs.Undos.{read_stops, step_then, undo_read}
@@ -55,3 +56,20 @@ returns-clause-kept g c b base all s out stands is are left some goes latest =
     let read = undo_read g.D.Disk b base all s c.args.writer.now c.read_at.new.self c.args.disk.now c.read_at.new.disk (g.met.D.Disk.only_now c.args.disk.now) stands is c.read_at.ensures.reads after in
     step_then g.D.Disk b base all s t out c.args.disk.now s c.read_at.new.self c.read_at.new.disk c.undo_record.new.writer c.undo_record.new.chains c.undo_record.new.disk c.undo_record.result read (spares_none t s.log)
     (c.undo_record.ensures.kept b base all s out after is are left goes here.0 here.1 latest)
+
+pub returns-in_err-size-clause-used_up : goal.returns-in_err-size-clause-used_up
+returns-in_err-size-clause-used_up g c b base all s stands is some goes latest =
+    let at = goes.at some in
+    let cause : c.in_err-size.field-0.0 ≡ Device = (c.in_err-size.ensures.found b base s at.found stands at.logged (sym at.here)).cause in
+    err_on c.from_residual.result c.in_err-size.field-0.0 (λ e. e ≡ Capacity → RunsOut b all) c.from_residual.ensures.1 (λ full. other_cause c.in_err-size.field-0.0 Device cause (λ x. cc x) full)
+
+pub returns-in_err-record-clause-used_up : goal.returns-in_err-record-clause-used_up
+returns-in_err-record-clause-used_up g c b base all s stands is some goes latest =
+    err_on c.from_residual-in_err-record.result c.in_err-record.field-0.0 (λ e. e ≡ Capacity → RunsOut b all) c.from_residual-in_err-record.ensures.1 (λ full. other_cause c.in_err-record.field-0.0 NotAStore c.in_err-record.ensures.entry.0 (λ x. cc x) full)
+
+pub returns-clause-used_up : goal.returns-clause-used_up
+returns-clause-used_up g c b base all s stands is some goes latest =
+    let at = goes.at some in
+    let found = c.in_ok-size.ensures.found b base s at.found stands at.logged (sym at.here) in
+    let here = spelled_here c.args.chain.transaction c.args.lsn s.log at _ found.ok (view c.in_ok-record.record) c.in_ok-record.ensures.entry in
+    c.undo_record.ensures.used_up b base all s (c.in_ok-size.ensures.kept b base s stands) is goes here.0 here.1 latest

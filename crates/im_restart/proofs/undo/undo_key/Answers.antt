@@ -1,7 +1,10 @@
-use Rattle.std.proofs.Common.{sym, subst}
+use Rattle.std.proofs.Common.{◌≡◌, sym, subst}
 use Rattle.im_page_writer.proofs.Outcomes.{sound_on}
 use Rattle.im_restart_redo.proofs.Recoveries.{recovers_more, recovers_then}
-use Rattle.im_restart.proofs.Ends.{take_mild}
+use Rattle.im_base_types.specs.declared.fault.Fault.TheVariants.{Capacity}
+use Rattle.im_page_writer.proofs.LoggedChanges.{err_on}
+use Rattle.im_restart.specs.Restart.{RunsOut}
+use Rattle.im_restart.proofs.Ends.{no_numbers, take_mild}
 use Rattle.im_log_record.specs.Entry.{view, prev_of}
 use Rattle.im_theory_tree.specs.Theory.{page_tree}
 use Rattle.im_restart.specs.LoserChains.{GoesOnAt, chain_of}
@@ -27,3 +30,10 @@ returns-clause-kept g c b base all s out stands is are left to =
     subst (λ n. GoesOnAt (chain_of t lsn n) n now.log) (sym c.requires.next) (goes_behind b page_tree now.log t lsn (prev_of (view c.args.«record».now)) done.goes.undoing.can.lawful done.loser done.row) in
     step_then g.D.Disk b base all s t out c.args.disk.now now c.compensate.new.writer c.compensate.new.disk c.go_on.new.writer c.go_on.new.chains c.go_on.new.disk c.go_on.result done.goes done.others
     (c.go_on.ensures.kept b base all now out done.goes.stands done.goes.undoing (chains_then g.D.Disk b base all s t out c.args.chains.now c.args.disk.now now c.compensate.new.writer c.compensate.new.disk is done.goes done.others are) left goes)
+
+pub returns-in_err-last-clause-used_up : goal.returns-in_err-last-clause-used_up
+returns-in_err-last-clause-used_up g c b base all s stands is to =
+    err_on c.from_residual.result c.in_err-last.field-0.0 (λ e. e ≡ Capacity → RunsOut b all) c.from_residual.ensures.1 (c.in_err-last.ensures.used_up b base all s stands is to)
+
+pub returns-clause-used_up : goal.returns-clause-used_up
+returns-clause-used_up g c b base all s stands is to = no_numbers g.D.Disk c.go_on.result c.go_on.ensures.outcome (RunsOut b all)

@@ -1,9 +1,11 @@
-use Rattle.std.proofs.Common.{ap, refl, sym, ◌∙◌, subst}
+use Rattle.std.proofs.Common.{◌≡◌, ap, refl, sym, ◌∙◌, subst}
 use Rattle.im_smo_alloc.specs.Kept.{mild_to_take}
 use Rattle.im_page_writer.specs.Outcome.{mild}
 use Rattle.im_page_writer.proofs.LoggedChanges.{err_on}
 use Rattle.im_restart_redo.proofs.Recoveries.{recovers_more, recovery_own, unmoved}
-use Rattle.im_restart.proofs.Ends.{no_store, take_mild}
+use Rattle.im_base_types.specs.declared.fault.Fault.TheVariants.{Capacity, NotAStore}
+use Rattle.im_restart.specs.Restart.{RunsOut}
+use Rattle.im_restart.proofs.Ends.{no_numbers, no_store, other_cause, take_mild}
 use Rattle.im_theory_tree.specs.Theory.{page_tree}
 use Rattle.im_theory_tree.proofs.TheoryLaws.{page_tree_laws}
 use Rattle.im_restart.specs.LoserChains.{GoesOnAt}
@@ -36,3 +38,15 @@ returns-else-is_key-clause-kept g c b base all s out stands is are left goes the
     let other = c.in_ok-next.ensures.other (sym c.is_key.ensures ∙ c.if-is_key.false) in
     let on = leads_so b page_tree page_tree_laws s.log c.args.chain c.args.lsn (view c.args.«record».now) is.can goes there mine other.0 in
     c.go_on.ensures.kept b base all s out stands is are left (subst (λ n. GoesOnAt c.args.chain n s.log) (sym other.1) on)
+
+pub returns-in_err-next-clause-used_up : goal.returns-in_err-next-clause-used_up
+returns-in_err-next-clause-used_up g c b base all s stands is goes there mine latest =
+    err_on c.from_residual.result c.in_err-next.field-0.0 (λ e. e ≡ Capacity → RunsOut b all) c.from_residual.ensures.1 (λ full. other_cause c.in_err-next.field-0.0 NotAStore c.in_err-next.ensures.refused.0 (λ x. cc x) full)
+
+pub returns-then-is_key-clause-used_up : goal.returns-then-is_key-clause-used_up
+returns-then-is_key-clause-used_up g c b base all s stands is goes there mine latest =
+    let key = sym c.is_key.ensures ∙ c.if-is_key.true in
+    c.undo_key.ensures.used_up b base all s stands is (to_undo_here b page_tree page_tree_laws s.log c.args.chain c.args.lsn (view c.args.«record».now) is.can goes there mine key latest)
+
+pub returns-else-is_key-clause-used_up : goal.returns-else-is_key-clause-used_up
+returns-else-is_key-clause-used_up g c b base all s stands is goes there mine latest = no_numbers g.D.Disk c.go_on.result c.go_on.ensures.outcome (RunsOut b all)

@@ -1,0 +1,18 @@
+//! What a caller of another language asks, and what it is answered, as numbers and bytes in one place in memory.
+//!
+//! A `Call` is a question with its answer. `step_of` is the step that it asks: `Asks` says which, by its number and its fields. `answer` puts a
+//! reply in its place: `Tells` says what it then reads, byte by byte, and the question stays. Steps and replies are those of the engine, as
+//! `asked_by` and `told_by` have them, so what is asked and answered in memory is what contracts speak of.
+//!
+//! Steps by their numbers: 0 Begin, 1 Fetch, 2 Seek, 3 Next, 4 Scan, 5 Insert, 6 Delete, 7 Commit, 8 Rollback, 9 Continue, 10 FlushPage,
+//! 11 Force, 12 Checkpoint. Replies: 0 Started, 1 Found, 2 Absent, 3 Entry, 4 End, 5 Entries, 6 Inserted, 7 Duplicate, 8 Deleted,
+//! 9 Committed, 10 RolledBack, 11 More, 12 Blocked by a lock, 13 Die, 14 Done, 15 Refused, 16 Blocked by a structure change.
+#![tactic(auto)]
+
+mod call;
+mod question;
+mod telling;
+
+pub use call::Call;
+pub use question::step_of;
+pub use telling::{answer, refuse, tell, tell_numbers};
