@@ -63,7 +63,7 @@ fn command<'a>(alloc: Global) -> Result<Command<'a>, Error> {
     let command = Command::new(alloc, "imload")
         .version("1")
         .about(
-            "Runs threads that make transactions at once on a store in memory, and prints what came of them",
+            "Runs threads that make transactions at once on a store whose files are in memory, and prints what came of them",
         )
         .arg(threads)?
         .arg(txns)?

@@ -17,5 +17,5 @@ mod worker;
 
 pub use args::{LoadCommand, load_args};
 pub use loading::{Loaded, load};
-pub use program::load_text;
+pub use program::{load_text, print_refused};
 pub use worker::key_of;

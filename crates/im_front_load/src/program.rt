@@ -1,12 +1,12 @@
 //! What a load prints.
 
 ghost use Rattle.std.specs.Prelude.{◌≤◌, IfOk};
+ghost use Rattle.im_front.specs.Held.{IsResting};
 
 use crate::loading::{Loaded, load};
 use im_base_steps::{Store, Turn};
 use im_base_types::Fault;
 use im_front::LoadArgs;
-use im_front_memory::MemoryStore;
 use std::alloc::Global;
 use std::io;
 use std::io::Write;
@@ -15,19 +15,20 @@ use std::sync::Wait;
 use std::sync::ledger::Blank;
 use std::thread::Threads;
 
-/// Runs a load on a store in memory, and prints what came of it: the transactions, how many entries the store has, and how many
+/// Runs a load on a store at rest, and prints what came of it: the transactions, how many entries the store has, and how many
 /// steps the trace. It answers the exit status: 0, and 1 where a step was refused, whose number it prints.
-pub fn load_text<T: Turn + Sync, R: Threads + Wait + Sync, W: Write>(
+pub fn load_text<E: Store + Send, T: Turn + Sync, R: Threads + Wait + Sync, W: Write>(
     rt: &R,
     alloc: Global,
+    engine: E,
     args: LoadArgs,
     turn: &T,
     writer: &mut W,
 ) -> io::Result<u8>
+    requires resting { IsResting E.Store engine }
     ensures { IfOk result (λ status. status ≤ 1) }
 {
-    let engine = MemoryStore::with_group(alloc, args.group());
-    match load::<MemoryStore, Brand, T, R>(rt, alloc, engine, Blank::new(1024), args, turn) {
+    match load::<E, Brand, T, R>(rt, alloc, engine, Blank::new(1024), args, turn) {
         Ok(loaded) => print_loaded(alloc, loaded, writer),
         Err(fault) => print_refused(fault, writer),
     }
@@ -57,8 +58,8 @@ fn print_loaded<E: Store, W: Write>(
     }
 }
 
-// A refusal, by its number.
-fn print_refused<W: Write>(fault: Fault, writer: &mut W) -> io::Result<u8>
+/// Prints a refusal, by its number, and answers the exit status 1.
+pub fn print_refused<W: Write>(fault: Fault, writer: &mut W) -> io::Result<u8>
     ensures { IfOk result (λ status. status ≤ 1) }
 {
     writeln!(writer, "refused {}", fault.number())?;

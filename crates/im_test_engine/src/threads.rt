@@ -45,7 +45,14 @@ fn load_two_at_once(rt: HostRuntime) -> Result<(), Fail> {
     };
     let mut text = Vec::new(rt.alloc());
     let args = LoadArgs::new(2, 3, 0).expect(&rt, "in their ranges");
-    let status = load_text(&rt, rt.alloc(), args, &meet, &mut text)?;
+    let status = load_text(
+        &rt,
+        rt.alloc(),
+        MemoryStore::new(rt.alloc()),
+        args,
+        &meet,
+        &mut text,
+    )?;
     assert_eq!(rt; status, 0);
     assert!(rt; meet.met[0].load(Ordering::SeqCst) && meet.met[1].load(Ordering::SeqCst));
     assert!(rt; text.as_slice().ends_with(b"\ntrace 18\n"));

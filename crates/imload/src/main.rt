@@ -1,13 +1,15 @@
-//! `imload [--threads N] [--txns M] [--flush F] [--group] [--time]`: threads that make transactions at once on one store in memory. On a
+//! `imload [--threads N] [--txns M] [--flush F] [--group] [--time]`: threads that make transactions at once on one store, whose files are in memory. On a
 //! terminal it says on standard error which threads have begun.
 #![tactic(auto)]
 
 mod progress;
+mod store;
 
 use crate::progress::Progress;
+use crate::store::new_store;
 use clap::error::ErrorKind;
 use im_front::LoadArgs;
-use im_front_load::{load_args, load_text};
+use im_front_load::{load_args, load_text, print_refused};
 use std::alloc::AllocError;
 use std::process::ExitCode;
 use std::time::Instant;
@@ -19,13 +21,18 @@ fn main(rt: HostRuntime) -> io::Result<ExitCode> {
         Ok(command) => {
             let start = Instant::now(&rt)?;
             let progress = Progress::new(&rt, command.args.threads());
-            let status = load_text(
-                &rt,
-                rt.alloc(),
-                command.args,
-                &progress,
-                &mut io::writer(&rt),
-            )?;
+            let mut writer = io::writer(&rt);
+            let status = match new_store(rt.alloc()) {
+                Ok(engine) => load_text(
+                    &rt,
+                    rt.alloc(),
+                    engine,
+                    command.args,
+                    &progress,
+                    &mut writer,
+                )?,
+                Err(fault) => print_refused(fault, &mut writer)?,
+            };
             if command.timed && status == 0 {
                 let nanos = start.elapsed(&rt)?.as_nanos();
                 println!(rt; "transactions a second {}", rate(&command.args, nanos))?;
