@@ -8,7 +8,7 @@ use im_base_types::{IMAGE_SIZE, Lsn};
 /// What a write of a page may add to the log: its full copy, in a batch of its own.
 const COPY: u128 = IMAGE_SIZE as u128 + 5;
 
-/// A log that goes on so far behind a Checkpoint has little more in it than that Checkpoint.
+/// A log that goes on so far after a Checkpoint has little more in it than that Checkpoint.
 const LITTLE: u128 = 4_096;
 
 /// How much log an opening may have to redo, whenever the store stopped: a number of bytes, and with 0 any.

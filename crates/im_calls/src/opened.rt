@@ -1,0 +1,134 @@
+//! A store that is open, over any disk.
+
+ghost use Rattle.std.specs.Prelude.{◌≡◌, ◌⊎◌, false};
+
+use im_base_disk::Disk;
+use im_base_steps::{Reply, Step};
+use im_base_types::Fault;
+use im_calls_form::{Call, answer, refuse, step_of, tell, tell_numbers};
+use im_engine::{Config, Engine};
+use im_engine_upkeep::{Checkpoints, RedoBound};
+use std::alloc::Global;
+
+/// A store that is open: its engine, and the upkeep that its next opening wants.
+#[derive(Drop)]
+pub struct Opened<D: Disk> {
+    engine: Engine<D>,
+    checkpoints: Checkpoints,
+}
+
+impl<D: Disk + Drop> Opened<D> {
+    ghost use Rattle.im_base_disk.specs.Runs.{IsSynced};
+    ghost use Rattle.im_calls_form.specs.Calls.{IsAnswered, Asks, Says};
+    ghost use Rattle.im_base_steps.specs.Calls.{asked_by};
+    ghost use Rattle.im_engine_upkeep.specs.Upkeep.{IsKeptUp};
+    ghost use Rattle.im_calls.specs.Sessions.{IsMade, Serves, IsOpening, IsRefused};
+
+    /// Opens the store of a disk as a call asks it: `limit` frames, `txn` pages at most, `number` bytes of log that the opening after this one
+    /// may have to redo.
+    pub fn open(alloc: Global, disk: D, call: &mut Call) -> Option<Opened<D>>
+        requires working { D.failed disk ≡ false }
+        requires synced { IsSynced D.Disk disk }
+        ensures opening { IsOpening D.Disk call.old call.new result }
+        ensures question { IsAnswered call.old call.new }
+    {
+        let Ok(max_pages) = u32::try_from(call.txn) else {
+            refuse(call, Fault::Capacity);
+            return None;
+        };
+        let config = Config {
+            frames: call.limit as usize,
+            max_pages,
+        };
+        match Engine::open_or_create(alloc, disk, config) {
+            Ok(engine) => {
+                let checkpoints = Checkpoints::of(&engine, RedoBound::of_bytes(call.number));
+                tell(call, 14, 0);
+                Some(Opened {
+                    engine,
+                    checkpoints,
+                })
+            }
+            Err((fault, _disk)) => {
+                refuse(call, fault);
+                None
+            }
+        }
+    }
+
+    /// Makes the step that a call asks, answers it, and takes a Checkpoint where one is due.
+    pub fn step(&mut self, alloc: Global, call: &mut Call)
+        ensures served { Serves D.Disk call.old call.new self.old.engine self.new.engine }
+        ensures question { IsAnswered call.old call.new }
+    {
+        match step_of(alloc, call) {
+            Ok(step) => self.make(&step, call),
+            Err(fault) => refuse(call, fault),
+        }
+    }
+
+    // Makes a step, which a call asks.
+    fn make(&mut self, step: &Step, call: &mut Call)
+        requires { Asks call.old (asked_by step.now) }
+        ensures made { IsMade D.Disk call.old call.new self.old.engine self.new.engine }
+        ensures question { IsAnswered call.old call.new }
+    {
+        let reply = self.checkpoints.step(&mut self.engine, step);
+        answer(call, &reply);
+        self.keep_up(&reply);
+    }
+
+    // Takes a Checkpoint after a step, where one is due.
+    fn keep_up(&mut self, reply: &Reply)
+        ensures { IsKeptUp D.Disk self.old.engine self.new.engine }
+    {
+        if !logs(reply) {
+            return;
+        }
+        let _kept = self.checkpoints.keep(&mut self.engine);
+    }
+
+    /// Answers how the store stands, in six numbers: active transactions, pages whose file lacks changes, where the durable log ends, where redo
+    /// began, how many records it applied, and 1 where the engine has failed.
+    pub fn stat(&self, call: &mut Call)
+        ensures told { Says call.new 14 6 }
+        ensures question { IsAnswered call.old call.new }
+    {
+        let redo = self.engine.redo_report();
+        let numbers = [
+            self.engine.active() as u64,
+            self.engine.dirty_count() as u64,
+            self.engine.durable_end(),
+            redo.point,
+            redo.applied,
+            u64::from(self.engine.failed()),
+        ];
+        tell_numbers(call, &numbers);
+    }
+
+    /// Writes all pages, takes a Checkpoint, and ends the store.
+    pub fn close(self, call: &mut Call)
+        ensures told { Says call.new 14 0 ⊎ IsRefused call.new }
+        ensures question { IsAnswered call.old call.new }
+    {
+        let Opened {
+            mut engine,
+            mut checkpoints,
+        } = self;
+        let kept = checkpoints.close(&mut engine);
+        let (synced, _disk) = engine.close();
+        match (kept, synced) {
+            (Ok(()), Ok(())) => tell(call, 14, 0),
+            (Err(fault), _) => refuse(call, fault),
+            (Ok(()), Err(fault)) => refuse(call, fault),
+        }
+    }
+}
+
+// Whether records may have joined the log.
+fn logs(reply: &Reply) -> bool {
+    matches!(
+        reply,
+        Reply::Inserted | Reply::Deleted | Reply::Committed | Reply::RolledBack | Reply::More
+    )
+}
