@@ -27,6 +27,7 @@ use Rattle.im_engine.specs.Stands.{Allowed}
 use Rattle.im_engine.specs.Running.{IsRunning, IsLife}
 use Rattle.im_engine.specs.Kept.{StepKept}
 use Rattle.im_engine.proofs.Running.{allowed_as, idle_stops, runs_on, checks_tell}
+use Rattle.im_engine.proofs.Grown.{no_images}
 use Rattle.im_engine.proofs.Made.{step_made}
 use Rattle.im_engine.proofs.Refused.{none_done}
 use Rattle.im_engine.proofs.Ending.{cut_leaves}
@@ -83,10 +84,12 @@ module _ {D : Type 0} (d : Ghosts D) (before : List Effect) (s : Shown) (v : Vie
         };
         stops = cut_any d before s step e.disk e.disk stops_here;
         done = none_done d before (shows s step (Some (Refused has_failed))) v step has_failed e;
+        grown = λ works. let never : true ≡ false = sym fails ∙ works in cc;
       }
 
   -- of one that works
   is_barred : e.failed ≡ false → (n : ℕ) → barred v step ≡ Some n → StepKept d before s v step (Refused n) e e
+  unfolding runs_on
   is_barred works n checked =
       let b = (life.running works).0 in
       let r = (life.running works).1 in
@@ -99,7 +102,7 @@ module _ {D : Type 0} (d : Ghosts D) (before : List Effect) (s : Shown) (v : Vie
       let shown = shows s step (Some (Refused n)) in
       let running = runs_on d before s v e r shown v e r.now (goes_on_start d b r.base r.now e.writer e.disk only_now r.stands) served.1
       (subst (λ (l : List Asked). AreCommitted r.earlier before l r.now.durable r.now.log) (sym asks_none) r.commits) r.numbered r.alone r.unowned in
-      step_made d before s v step (Refused n) e e v served.0 running works (cut_any d before s step e.disk e.disk stops_here) (none_done d before shown v step n e)
+      step_made d before s v step (Refused n) e e v served.0 running works (cut_any d before s step e.disk e.disk stops_here) (none_done d before shown v step n e) r (no_images b r.now.log)
 
   -- the first check that a step fails
   pub barred_kept : (n : ℕ) → Some n ≡ first_check e.failed (length e.txns.rows) (mark_for (marks_in e.txns.rows) step) false step → StepKept d before s v step (Refused n) e e

@@ -1,5 +1,5 @@
 -- A delete of a key, from how the call below ended.
-use Rattle.std.proofs.Common.{◌≡◌, ◌≢◌, ℕ, ◌≤◌, List, true, false, cond, is_some, Option, Some, None, Result, Ok, Err, map, refl, sym, ap, subst, ◌∙◌}
+use Rattle.std.proofs.Common.{◌≡◌, ◌≢◌, inl, inr, ⊎_elim, ℕ, ◌≤◌, List, true, false, cond, is_some, Option, Some, None, Result, Ok, Err, map, refl, sym, ap, subst, ◌∙◌}
 use Rattle.std.specs.Prelude.{find}
 use Rattle.std.specs.FinMap.{get}
 use Rattle.im_base_types.specs.Answers as answers
@@ -9,6 +9,7 @@ use Rattle.im_theory_log.specs.Histories.{Base}
 use Rattle.im_base_types.specs.Keys.{Key}
 use Rattle.im_base_types.specs.Lives.{Shown}
 use Rattle.im_base_types.specs.Maps.{IndexMap}
+use Rattle.im_theory_log.specs.Structure.{settled}
 use Rattle.im_theory_log.specs.Transactions.{contents}
 use Rattle.im_theory_log.specs.Writer.{Writer}
 use Rattle.im_base_types.specs.declared.fault.Fault.{Fault}
@@ -17,6 +18,8 @@ use Rattle.im_base_disk.specs.declared.disk.Disk.{Ghosts}
 use Rattle.im_base_disk.specs.Disk.{Files}
 use Rattle.im_page_writer.specs.declared.page_writer.PageWriter.{PageWriter}
 use Rattle.im_page_writer.specs.Outcome.{LogEnds, mild}
+use Rattle.im_page_writer.specs.PageWriter.{Evicted}
+use Rattle.im_theory_tree.specs.Levels.{Pages}
 use Rattle.im_base_txn.specs.declared.transaction.Mark.TheVariants.{Going, MustRollBack}
 use Rattle.im_base_txn.specs.declared.transaction.Transaction.{Transaction}
 use Rattle.im_base_txn.specs.Rows.{is_of, changed, with_mark, with_record}
@@ -33,13 +36,15 @@ use Rattle.im_theory_steps.specs.Checks.{checked_by}
 use Rattle.im_engine_index.specs.declared.noted.Taken.{Taken}
 use Rattle.im_engine_index.specs.declared.outcome.Outcome.{Outcome}
 use Rattle.im_engine_index.specs.declared.outcome.Outcome.TheVariants.{Granted, Wait, Die}
-use Rattle.im_engine_index.specs.Edits.{MayEdit, DeleteKept}
+use Rattle.im_engine_index.specs.Edits.{MayEdit, DeleteKept, HasOne}
 use Rattle.im_engine.specs.declared.engine.Engine.{Engine}
 use Rattle.im_engine.specs.Faults.{told_as, ends_engine}
 use Rattle.im_engine.specs.Running.{IsRunning, IsLife}
 use Rattle.im_engine.specs.Kept.{StepKept}
+use Rattle.im_engine.specs.Told.{DeleteFails}
 use Rattle.im_engine.proofs.Causes.{refused_inj}
 use Rattle.im_engine.proofs.Checked.{access_fits, access_going}
+use Rattle.im_engine.proofs.Running.{bodies_are}
 use Rattle.im_engine.proofs.Edited.{blocked, deleted, died, edit_refused, edit_stops, failed_as, may_edit, unchanged}
 
 -- the row that was found is the row of the step
@@ -75,11 +80,16 @@ module _ {D : Type 0} (d : Ghosts D) (old : Engine D d) (t : ℕ) (key : Key) (r
           (below b r.base r.now r.redo_end (subst (λ (n : ℕ). MayEdit d b r.base r.now r.redo_end n row.last row.undo_next (Delete key) old.locks old.writer old.disk) (sym number) (may_edit d before s v old r t row found mark (Delete key))))
 
       -- it fails late only where the key is there, with its locks granted
-      pub delete_wants : (f : Fault) → Below (Err f) → LogEnds d true mild old.writer old.disk w disk (Some f) → (told : Fault) → told ≡ told_as f → replies.Refused told ≡ replies.Refused faults.Failed → (get v.walk key ≢ None) × IsFree (locks_of old.locks) t (asked (Delete key) v.walk)
+      pub delete_wants : (f : Fault) → Below (Err f) → LogEnds d true mild old.writer old.disk w disk (Some f) → (told : Fault) → told ≡ told_as f → replies.Refused told ≡ replies.Refused faults.Failed
+          → DeleteFails (settled b r.now.log) v.walk (Evicted d b r.base r.now old.disk w disk) (locks_of old.locks) t key
       delete_wants f below ends told is failed =
           let late : f ≡ Failed = failed_as d old.writer old.disk w disk f ends (sym is ∙ refused_inj told faults.Failed failed) in
           let begun = (kept_here (Err f) below).begun late in
-          subst (λ (m : IndexMap). (get m key ≢ None) × IsFree (locks_of old.locks) t (asked (Delete key) m)) (sym r.serving.seen_by.walk) (begun.0, begun.1.0)
+          record {
+            there = subst (λ (m : IndexMap). get m key ≢ None) (sym r.serving.seen_by.walk) begun.0;
+            granted = subst (λ (m : IndexMap). IsFree (locks_of old.locks) t (asked (Delete key) m)) (sym r.serving.seen_by.walk) begun.1.0;
+            broken = ⊎_elim (λ one. inl (subst (λ (pages : Pages). HasOne pages key) (bodies_are d before s v old r) one)) (λ idle. inr idle) begun.2;
+          }
 
   module _ (new : Engine D d) where
     abbrev Of : Result (Outcome (Option Taken)) Fault → Type 0

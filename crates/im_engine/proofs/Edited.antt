@@ -70,8 +70,10 @@ use Rattle.im_engine.specs.Numbered.{Numbered}
 use Rattle.im_engine.specs.Stands.{Allowed}
 use Rattle.im_engine.specs.Running.{IsRunning, IsLife}
 use Rattle.im_engine.specs.Kept.{StepKept}
+use Rattle.im_engine.specs.Growing.{DropsKey, GrowsAs}
 use Rattle.im_engine.specs.Faults.{told_as, ends_engine}
 use Rattle.im_engine.proofs.Running.{outside, not_in, not_owner, checks_tell, left_on, read_on}
+use Rattle.im_engine.proofs.Grown.{read_grows}
 use Rattle.im_engine.proofs.Made.{grown_made, leaves_as, step_made}
 use Rattle.im_engine.proofs.Refused.{breaks_with, lacks_with}
 
@@ -190,7 +192,7 @@ module _ {D : Type 0} (d : Ghosts D) {b : Base} (before : List Effect) (s : Show
 
   module _ (a : Access) (new : Engine D d) (now : Writer) (e last undo_next : ℕ) (is : IsUnfinished d b r.base now e t last undo_next new.writer new.disk) (durable : IsFront r.now.durable now.durable) (grows : GrowsWithin t r.now.log now.log)
       (rows : List Transaction) (table : new.txns ≡ record old.txns { rows = rows }) (w : View) (served : IsServed b r.earlier before s v (Do t a) (answer a v.walk) w now.log rows old.txns.next new.locks) (alone : w.queue ≡ []) (unowned : w.under ≡ None) where
-    pub edited_runs : IsRunning d b before (shows s (Do t a) (Some (answer a v.walk))) w new
+    unfoldable pub edited_runs : IsRunning d b before (shows s (Do t a) (Some (answer a v.walk))) w new
     edited_runs =
         let same = (within_leaves_others t r.now.log now.log grows).1 in
         let commits = commits_stand.more r.earlier before s.asked r.now.durable now.log now.durable
@@ -215,8 +217,9 @@ module _ {D : Type 0} (d : Ghosts D) {b : Base} (before : List Effect) (s : Show
           unowned = unowned;
         }
 
-    pub edited : LeavesEdit d b r.base r.now t old.disk new.disk → new.failed ≡ false → StepKept d before s v (Do t a) (answer a v.walk) old new
-    edited stops works = step_made d before s v (Do t a) (answer a v.walk) old new w served.0 edited_runs works (leaves_as d before s (shows s (Do t a) None) old.disk new.disk refl (edit_stops new.disk stops)) tt
+    pub edited : LeavesEdit d b r.base r.now t old.disk new.disk → new.failed ≡ false → GrowsAs b (answer a v.walk) (Do t a) r.now.log now.log → StepKept d before s v (Do t a) (answer a v.walk) old new
+    unfolding edited_runs
+    edited stops works adds = step_made d before s v (Do t a) (answer a v.walk) old new w served.0 edited_runs works (leaves_as d before s (shows s (Do t a) None) old.disk new.disk refl (edit_stops new.disk stops)) tt r adds
 
   -- a key that went
   module _ (key : Key) (new : Engine D d) (fits : keys_fit (Delete key) ≡ true) (taken : Taken) (is : Deleted d b r.base r.now r.redo_end t row.last key taken new.writer new.disk) (decides : Decides old.locks t (asked (Delete key) (contents b r.now.log)) Granted new.locks) where
@@ -265,6 +268,9 @@ module _ {D : Type 0} (d : Ghosts D) {b : Base} (before : List Effect) (s : Show
         let with_record_of : GrowsWithin t r.now.log mid = record { more = newest ∷ images.more; is = ap (λ (l : History). newest ∷ l) images.is; within = (inr (refl, refl), images.within) } in
         within_then t r.now.log mid is.now.log with_record_of (grows_within t mid is.now.log is.change)
 
+    drops : DropsKey b t key r.now.log is.now.log
+    drops = record { before = is.before; images = is.images; rid = is.rid; last = row.last; lsn = taken.undo_next; page = is.page; change = is.change; only = is.only }
+
     pub deleted : new.txns ≡ record old.txns { rows = map (changed t (with_record taken.last taken.undo_next)) old.txns.rows } → LeavesEdit d b r.base r.now t old.disk new.disk → new.failed ≡ false
         → StepKept d before s v (Do t (Delete key)) answers.Deleted old new
     deleted table stops works =
@@ -272,7 +278,7 @@ module _ {D : Type 0} (d : Ghosts D) {b : Base} (before : List Effect) (s : Show
         let rows = map (changed t (with_record taken.last taken.undo_next)) old.txns.rows in
         subst (λ (reply : Reply). StepKept d before s v (Do t (Delete key)) reply old new) says
         (edited (Delete key) new is.now r.redo_end taken.last taken.undo_next is.stands is.durable grown rows table w
-        (subst (λ (reply : Reply). IsServed b r.earlier before s v (Do t (Delete key)) reply w is.now.log rows old.txns.next new.locks) (sym says) (after_record.0, in_full)) r.alone r.unowned stops works)
+        (subst (λ (reply : Reply). IsServed b r.earlier before s v (Do t (Delete key)) reply w is.now.log rows old.txns.next new.locks) (sym says) (after_record.0, in_full)) r.alone r.unowned stops works (subst (λ (reply : Reply). GrowsAs b reply (Do t (Delete key)) r.now.log is.now.log) (sym says) drops))
 
   -- ---- a change that was not made
 
@@ -284,14 +290,14 @@ module _ {D : Type 0} (d : Ghosts D) {b : Base} (before : List Effect) (s : Show
         subst (λ (y : Reply). StepKept d before s v (Do t a) y old new) (ap (answer a) walk_of ∙ says)
         (grown_made d before s v (did v t a (locks_of new.locks t)) (Do t a) (answer a v.walk) old new r old.txns r.alone r.unowned ev
         (λ longer stays all. reads_served b r.earlier before s v r.now.log longer old.txns.rows old.txns.next old.locks new.locks t row a r.serving found mark (not_owner d before s v old r t) fits (ap (changes a) walk_of ∙ none) (decided_here a Granted new.locks decides) stays all)
-        (asks_nothing s t a v) refl table refl (edit_stops new.disk stops) works tt)
+        (asks_nothing s t a v) refl table refl (edit_stops new.disk stops) works tt (λ longer images. read_grows b t r.now.log longer images a v.walk (ap (changes a) walk_of ∙ none)))
 
     -- it has to wait
     pub blocked : (holder : ℕ) → Decides old.locks t (asked a (contents b r.now.log)) (Wait holder) new.locks → Evicted d b r.base r.now old.disk new.writer new.disk → new.txns ≡ old.txns → new.failed ≡ false → StepKept d before s v (Do t a) (Blocked holder) old new
     blocked holder decides ev table works =
         grown_made d before s v v (Do t a) (Blocked holder) old new r old.txns r.alone r.unowned ev
         (λ longer stays all. waits_served b r.earlier before s v r.now.log longer old.txns.rows old.txns.next old.locks new.locks t holder row a r.serving found mark (not_owner d before s v old r t) fits (decided_here a (Wait holder) new.locks decides) stays all)
-        (waits_ask_nothing s t holder a) refl table refl (edit_stops new.disk stops) works tt
+        (waits_ask_nothing s t holder a) refl table refl (edit_stops new.disk stops) works tt (λ longer images. images)
 
     -- its transaction must die
     pub died : Decides old.locks t (asked a (contents b r.now.log)) MustDie new.locks → Evicted d b r.base r.now old.disk new.writer new.disk → new.txns ≡ record old.txns { rows = map (changed t (with_mark MustRollBack)) old.txns.rows } → new.failed ≡ false
@@ -299,7 +305,7 @@ module _ {D : Type 0} (d : Ghosts D) {b : Base} (before : List Effect) (s : Show
     died decides ev table works =
         grown_made d before s v (marked v t answers.MustRollBack) (Do t a) Die old new r (record old.txns { rows = map (changed t (with_mark MustRollBack)) old.txns.rows }) r.alone r.unowned ev
         (λ longer stays all. dies_served b r.earlier before s v r.now.log longer old.txns.rows old.txns.next old.locks new.locks t row a r.serving found mark (not_owner d before s v old r t) fits (decided_here a MustDie new.locks decides) stays all)
-        (dies_ask_nothing s t a) refl table refl (edit_stops new.disk stops) works tt
+        (dies_ask_nothing s t a) refl table refl (edit_stops new.disk stops) works tt (λ longer images. images)
 
 -- ---- refusals
 

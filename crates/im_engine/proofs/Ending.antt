@@ -63,6 +63,7 @@ use Rattle.im_engine.specs.Running.{IsRunning, IsLife}
 use Rattle.im_engine.specs.Kept.{StepKept, IsDurable}
 use Rattle.im_engine.proofs.Stands.{covered_allowed}
 use Rattle.im_engine.proofs.Running.{outside, not_owner, nothing_pending, checks_tell, allowed_as, tells, none_waits, page_is, read_stops, covered_stops, idle_stops, runs_on}
+use Rattle.im_engine.specs.Growing.{with_records, without_records}
 use Rattle.im_engine.proofs.Made.{step_made, step_broke, leaves_as}
 
 -- the record of a Commit leaves a lawful log
@@ -146,6 +147,7 @@ module _ {D : Type 0} (d : Ghosts D) (before : List Effect) (s : Shown) (v : Vie
     -- a transaction began
     pub began : (number : ℕ) → number ≡ old.txns.next → number ≤ 2 ^ 62 → length old.txns.rows < 64 → new.txns ≡ record { rows = old.txns.rows ++ row_begun number ∷ []; next = number + 1 } → new.locks ≡ old.locks → new.failed ≡ false
         → StepKept d before s v Begin (Started number) old new
+    unfolding runs_on
     began number is le few table locks works_on =
         let r = run.1 in
         let le_old : old.txns.next ≤ 2 ^ 62 = subst (λ (n : ℕ). n ≤ 2 ^ 62) is le in
@@ -161,7 +163,7 @@ module _ {D : Type 0} (d : Ghosts D) (before : List Effect) (s : Shown) (v : Vie
         (subst (λ (l : _). IsServing run.0 r.earlier before t w r.now.log after.rows after.next l) (sym locks) served.1) in
         let running = runs_on d before s v old r t w new r.now on_here serving r.commits
         (subst (λ (n : ℕ). n ≤ 2 ^ 62 → AreBelow n r.now.log) (sym (ap (λ (x : Numbered). x.next) table_is)) (λ le_new. numbers_stay_new.more old.txns.next (suc old.txns.next) r.now.log (omega arith) below)) r.alone r.unowned in
-        subst (λ (n : ℕ). StepKept d before s v Begin (Started n) old new) (sym is) (step_made d before s v Begin (Started old.txns.next) old new w served.0 running works_on (stops_here (shows s Begin None) refl) tt)
+        subst (λ (n : ℕ). StepKept d before s v Begin (Started n) old new) (sym is) (step_made d before s v Begin (Started old.txns.next) old new w served.0 running works_on (stops_here (shows s Begin None) refl) tt r refl)
 
     module _ (t : ℕ) (row : Transaction) (found : find (is_of t) old.txns.rows ≡ Some row) (mark : (row.mark ≡ Going) ⊎ (row.mark ≡ MustRollBack)) where
       rises : Rises run.0 run.1.now.log
@@ -169,6 +171,7 @@ module _ {D : Type 0} (d : Ghosts D) (before : List Effect) (s : Shown) (v : Vie
 
       -- it has no record, and is over
       pub dropped : row.last ≡ 0 → IsReleased old.locks t new.locks → length old.txns.rows ≡ length (without t old.txns.rows) + 1 → new.txns ≡ record old.txns { rows = without t old.txns.rows } → new.failed ≡ false → StepKept d before s v (Rollback t) RolledBack old new
+      unfolding runs_on
       dropped none released once table works_on =
           let r = run.1 in
           let served = drops_served run.0 r.earlier before s v r.now.log old.txns.rows old.txns.next old.locks new.locks t row r.serving rises found mark (not_owner d before s v old r t) none released once in
@@ -178,10 +181,11 @@ module _ {D : Type 0} (d : Ghosts D) (before : List Effect) (s : Shown) (v : Vie
           let running = runs_on d before s v old r shown w new r.now on_here
           (subst (λ (x : Numbered). IsServing run.0 r.earlier before shown w r.now.log x.rows x.next new.locks) (sym table) served.1) r.commits
           (subst (λ (n : ℕ). n ≤ 2 ^ 62 → AreBelow n r.now.log) (sym (ap (λ (x : Numbered). x.next) table)) r.numbered) r.alone r.unowned in
-          step_made d before s v (Rollback t) RolledBack old new w served.0 running works_on (stops_here (shows s (Rollback t) None) refl) tt
+          step_made d before s v (Rollback t) RolledBack old new w served.0 running works_on (stops_here (shows s (Rollback t) None) refl) tt r refl
 
       -- it has one, and is marked
       pub turned : 1 ≤ row.last → new.locks ≡ old.locks → new.txns ≡ record old.txns { rows = map (changed t (with_mark RollingBack)) old.txns.rows } → new.failed ≡ false → StepKept d before s v (Rollback t) More old new
+      unfolding runs_on
       turned some locks table works_on =
           let r = run.1 in
           let served = turns_served run.0 r.earlier before s v r.now.log old.txns.rows old.txns.next old.locks t row r.serving found mark some (not_owner d before s v old r t) in
@@ -192,7 +196,7 @@ module _ {D : Type 0} (d : Ghosts D) (before : List Effect) (s : Shown) (v : Vie
           (subst (λ (x : Numbered). IsServing run.0 r.earlier before shown w r.now.log x.rows x.next new.locks) (sym table)
           (subst (λ (l : _). IsServing run.0 r.earlier before shown w r.now.log after.rows after.next l) (sym locks) served.1)) r.commits
           (subst (λ (n : ℕ). n ≤ 2 ^ 62 → AreBelow n r.now.log) (sym (ap (λ (x : Numbered). x.next) table)) r.numbered) r.alone r.unowned in
-          step_made d before s v (Rollback t) More old new w served.0 running works_on (stops_here (shows s (Rollback t) None) refl) tt
+          step_made d before s v (Rollback t) More old new w served.0 running works_on (stops_here (shows s (Rollback t) None) refl) tt r refl
 
   -- the log was forced
   pub log_forced : GoesOn d run.0 run.1.base run.1.now old.disk (forced run.1.now) new.writer new.disk → LeavesCovered d run.0 run.1.base run.1.now.durable run.1.now.log old.disk new.disk → new.txns ≡ old.txns → new.locks ≡ old.locks → new.failed ≡ false
@@ -210,7 +214,7 @@ module _ {D : Type 0} (d : Ghosts D) (before : List Effect) (s : Shown) (v : Vie
       (subst (λ (rows : List Transaction). IsServing run.0 r.earlier before shown w r.now.log rows old.txns.next old.locks) (ap (λ (q : List ℕ). without_all q old.txns.rows) r.alone) served.1)))
       (commits_stand.all r.earlier before shown.asked r.now.log served.1.says)
       (subst (λ (n : ℕ). n ≤ 2 ^ 62 → AreBelow n r.now.log) (sym (ap (λ (x : Numbered). x.next) table)) r.numbered) refl r.unowned in
-      step_made d before s v Force Done old new w served.0 running works_on (covered_stops d before s v old r new.disk run_stops) (record { b = run.0; running = running; all = refl })
+      step_made d before s v Force Done old new w served.0 running works_on (covered_stops d before s v old r new.disk run_stops) (record { b = run.0; running = running; all = refl }) r refl
 
   -- what a Commit asks, of a transaction that logged nothing
   module _ (t : ℕ) (row : Transaction) (found : find (is_of t) old.txns.rows ≡ Some row) (mark : row.mark ≡ Going) (released : IsReleased old.locks t new.locks) (once : length old.txns.rows ≡ length (without t old.txns.rows) + 1)
@@ -220,6 +224,7 @@ module _ {D : Type 0} (d : Ghosts D) (before : List Effect) (s : Shown) (v : Vie
 
     -- it logged nothing
     pub ended : row.last ≡ 0 → new.writer ≡ old.writer → new.disk ≡ old.disk → ((c : Files) → d.left_since old.disk (d.moment old.disk) c → d.may_leave old.disk c) → StepKept d before s v (Commit t) Committed old new
+    unfolding runs_on
     ended none writer disk only_now =
         let r = run.1 in
         let rises = rises_of run.0 page_tree r.now.log r.lawful in
@@ -235,7 +240,8 @@ module _ {D : Type 0} (d : Ghosts D) (before : List Effect) (s : Shown) (v : Vie
         (subst (λ (x : Numbered). IsServing run.0 r.earlier before shown w r.now.log x.rows x.next new.locks) (sym table) served.1)
         (subst (λ (l : List Asked). AreCommitted r.earlier before l r.now.durable r.now.log) (sym asks) r.commits)
         (subst (λ (n : ℕ). n ≤ 2 ^ 62 → AreBelow n r.now.log) (sym (ap (λ (x : Numbered). x.next) table)) r.numbered) r.alone r.unowned in
-        step_made d before s v (Commit t) Committed old new w served.0 running works_on (cut_leaves d before s t old.disk new.disk (stops_here writer disk only_now s refl)) tt
+        step_made d before s v (Commit t) Committed old new w served.0 running works_on (cut_leaves d before s t old.disk new.disk (stops_here writer disk only_now s refl)) tt r
+        (without_records last_is refl)
 
   -- a Commit that was logged
   module _ (t : ℕ) (row : Transaction) (found : find (is_of t) old.txns.rows ≡ Some row) (mark : row.mark ≡ Going) (some : 1 ≤ row.last) (lsn : ℕ) (x : PageWriter) (mid : D) (logged : LoggedOnly d run.0 run.1.base run.1.now (entries.Commit t row.last) lsn x mid) where
@@ -291,7 +297,9 @@ module _ {D : Type 0} (d : Ghosts D) (before : List Effect) (s : Shown) (v : Vie
           alone = r.alone;
           unowned = r.unowned;
         } in
-        step_made d before s v (Commit t) Committed old new w law.served.0 running works_on stops tt
+        let last_is : row.last ≡ last_of t r.now.log = is.1.last ∙ ap (λ (n : ℕ). last_of n r.now.log) is.0 in
+        step_made d before s v (Commit t) Committed old new w law.served.0 running works_on stops tt r
+        (with_records lsn (subst (λ (n : ℕ). 1 ≤ n) last_is some) (ap (λ (n : ℕ). commit_record t n lsn ∷ r.now.log) last_is))
 
   -- one that a call refused has failed
   pub commit_broke : (t fault : ℕ) → barred v (Commit t) ≡ None → Breaks fault → (fault ≡ memory → ⊥) → (fault ≡ unfinished → ⊥) → new.failed ≡ true → LeavesOnly d old.disk new.disk (Allowed before (shows s (Commit t) None))
@@ -341,7 +349,8 @@ module _ {D : Type 0} (d : Ghosts D) (before : List Effect) (s : Shown) (v : Vie
       (subst (λ (l : _). IsServing b r.earlier before s v f.now.log old.txns.rows old.txns.next l) (sym locks) served.1)) commits
       (subst (λ (n : ℕ). n ≤ 2 ^ 62 → AreBelow n f.now.log) (sym (ap (λ (x : Numbered). x.next) table)) (λ le. same.below old.txns.next old.first (r.numbered le))) r.alone r.unowned in
       let reads = f.on.goes.writing.stands.file.reads p ∙ f.in_file ((f.on.goes.keeps.pages p).waits ∙ none_waits d before s v old r p) ∙ ap (λ (g : Page). Some g) (page_is d before s v new running p) in
-      step_made d before s v (FlushPage p) Done old new v served.0 running works_on (read_stops d before s v old r new.writer new.disk (flush_asks d one)) (record { b = b; running = running; reads = reads })
+      step_made d before s v (FlushPage p) Done old new v served.0 running works_on (read_stops d before s v old r new.writer new.disk (flush_asks d one)) (record { b = b; running = running; reads = reads }) r
+      f.on.goes.keeps.log
 
   -- a flush that was refused
   pub flush_refused : (p : ℕ) (f : Fault) → Flushes d old.writer old.disk new.writer new.disk (Some f) → (told : Fault) → told ≡ told_as f → new.failed ≡ true

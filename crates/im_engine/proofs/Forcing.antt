@@ -120,6 +120,10 @@ module _ {D : Type 0} (d : Ghosts D) (before : List Effect) (s : Shown) (v : Vie
         newest = ap (λ (x : Numbered). checkpoint_at lsn x.next (listed x.rows) dirty ∷ r.now.log) (sym table);
         lists = lists_on lsn (synced r.now).pages dirty taken.lists;
         synced = λ p. refl;
+      }) r (record {
+        newest = newest;
+        checkpoint = record { next = old.txns.next; active = listed old.txns.rows; dirty = dirty; what = refl; no_owner = refl };
+        is = refl;
       })
 
   -- a call within it was refused

@@ -64,6 +64,7 @@ use Rattle.im_engine.specs.Faults.{told_as, ends_engine}
 use Rattle.im_engine.specs.Running.{IsRunning, IsLife}
 use Rattle.im_engine.specs.Stands.{Allowed}
 use Rattle.im_engine.specs.Kept.{StepKept}
+use Rattle.im_engine.specs.Growing.{GrowsAs, PutsKey}
 use Rattle.im_engine.specs.Told.{AsksChange, InsertCause, InsertWants, wants_pages, wants_numbers, wants_memory}
 use Rattle.im_engine.proofs.Causes.{Answers, behind, not_refused_for, refused_for, refused_inj}
 use Rattle.im_engine.proofs.Checked.{access_fits}
@@ -119,12 +120,27 @@ module _ {D : Type 0} (d : Ghosts D) {b : Base} (before : List Effect) (s : Show
         let way_there = grows_within t r.now.log is.between is.change in
         record { more = newest ∷ way_there.more; is = ap (λ (l : History). newest ∷ l) way_there.is ∙ sym is.is; within = (inr (refl, refl), way_there.within) }
 
+    pages_as : bodies_of (pages_of r.now) ≡ settled b r.now.log
+    pages_as = bodies_are d before s v old r
+
+    puts : PutsKey b t key rid r.now.log is.now.log
+    puts = record {
+      between = is.between;
+      change = is.change;
+      some = λ lacks. is.some (subst (λ (pages : Pages). LacksRoomFor pages key) (sym pages_as) lacks);
+      only = λ has. subst (λ (pages : Pages). LacksRoomFor pages key) pages_as (is.only has);
+      last = is.newest;
+      lsn = noted.last;
+      page = is.page;
+      is = is.is;
+    }
+
     pub inserted : new.txns ≡ record old.txns { rows = map (changed t (with_record noted.last noted.undo_next)) old.txns.rows } → LeavesEdit d b r.base r.now t old.disk new.disk → new.failed ≡ false → StepKept d before s v (Do t (Insert key rid)) answers.Inserted old new
     inserted table stops works =
         let w = did v t (Insert key rid) (locks_of new.locks t) in
         subst (λ (reply : Reply). StepKept d before s v (Do t (Insert key rid)) reply old new) says
         (edited d before s v old r t row found mark (Insert key rid) new is.now r.redo_end noted.last noted.undo_next is.stands is.durable grown rows table w
-        (subst (λ (reply : Reply). IsServed b r.earlier before s v (Do t (Insert key rid)) reply w is.now.log rows old.txns.next new.locks) (sym says) after_record) r.alone r.unowned stops works)
+        (subst (λ (reply : Reply). IsServed b r.earlier before s v (Do t (Insert key rid)) reply w is.now.log rows old.txns.next new.locks) (sym says) after_record) r.alone r.unowned stops works (subst (λ (reply : Reply). GrowsAs b reply (Do t (Insert key rid)) r.now.log is.now.log) (sym says) puts))
 
 -- ---- refusals
 
@@ -145,7 +161,7 @@ module _ {D : Type 0} (d : Ghosts D) (before : List Effect) (s : Shown) (v : Vie
       grown_made d before s v v (Do t (Insert key rid)) (Refused pages_full) old new run.1 old.txns run.1.alone run.1.unowned is
       (λ longer stays all. lacks_served run.0 run.1.earlier before s v run.1.now.log longer old.txns.rows old.txns.next new.locks (Do t (Insert key rid)) pages_full
       (serving_with run.0 run.1.earlier before s v run.1.now.log old.txns.rows old.txns.next old.locks new.locks same run.1.serving) bars (inl refl) stays all)
-      refl refl table refl leaves works_on tt
+      refl refl table refl leaves works_on tt (λ longer images. images)
 
   pub insert_stopped : (f : Fault) → LogEnds d true (mild_to_split (Some old.max_pages)) old.writer old.disk new.writer new.disk (Some f) → LeavesOnly d old.disk new.disk (Allowed before s) → f ≢ NotAStore → new.failed ≡ ends_engine f → new.txns ≡ old.txns
       → ((f ≡ Memory) ⊎ (f ≡ PagesFull) → SameTable old.locks new.locks) → (told : Fault) → told ≡ told_as f → StepKept d before s v (Do t (Insert key rid)) (Refused (number_of told)) old new
@@ -198,15 +214,16 @@ used_up_is g is = absurd (cc is)
 -- ---- what an insert wants
 
 -- one that was not refused
-wants_answered : (pages : Pages) (m : IndexMap) (locks : ℕ → List Lock) (max t : ℕ) (key : Key) (rid : ℕ) (reply : said.Reply) → ((x : Fault) → reply ≢ replies.Refused x) → (get m key ≡ None → IsLimited pages key max) → (reply ≡ replies.Inserted → LacksRoomFor pages key → IsWithin pages key max)
-    → InsertWants pages m locks max t key rid reply
-wants_answered pages m locks max t key rid reply not limited within = record {
+wants_answered : (pages : Pages) (m : IndexMap) (Idle : Type 0) (locks : ℕ → List Lock) (max t : ℕ) (key : Key) (rid : ℕ) (reply : said.Reply) → ((x : Fault) → reply ≢ replies.Refused x) → (get m key ≡ None → IsLimited pages key max) → (reply ≡ replies.Inserted → LacksRoomFor pages key → IsWithin pages key max)
+    → InsertWants pages m Idle locks max t key rid reply
+wants_answered pages m Idle locks max t key rid reply not limited within = record {
   made = within;
   limited = λ none. limited;
   full = λ is. absurd (not faults.PagesFull is);
   used_up = λ is. absurd (not faults.Capacity is);
   granted = λ is. ⊎_elim (λ numbers. absurd (not faults.Capacity numbers)) (λ memory. absurd (not faults.Failed memory)) is;
   absent = asks;
+  broken = λ is. absurd (not faults.Failed is);
 }
   where
     asks : AsksChange reply → get m key ≡ None
@@ -240,22 +257,26 @@ module _ {D : Type 0} (d : Ghosts D) (old : Engine D d) (locks : Table) (writer 
     pages_are : bodies_of (pages_of r.now) ≡ settled b r.now.log
     pages_are = bodies_are d before s v old r
 
+    -- nothing but Images joined the log
+    abbrev pub Idle : Type 0
+    Idle = Evicted d b r.base r.now old.disk writer disk
+
     limits : (o : Outcome (Option Noted)) → Below (Ok o) → get v.walk key ≡ None → IsLimited (settled b r.now.log) key old.max_pages
     limits o below none = subst (λ (pages : Pages). IsLimited pages key old.max_pages) pages_are ((kept_here (Ok o) below).limited (sym (ap (λ (m : IndexMap). get m key) r.serving.seen_by.walk) ∙ none))
 
     -- what is said of its pages
-    pub made_wants : (o : Outcome (Option Noted)) → Below (Ok o) → (x : Option Noted) → o ≡ Granted x → (noted : Noted) → x ≡ Some noted → InsertWants (settled b r.now.log) v.walk (locks_of old.locks) old.max_pages t key rid replies.Inserted
+    pub made_wants : (o : Outcome (Option Noted)) → Below (Ok o) → (x : Option Noted) → o ≡ Granted x → (noted : Noted) → x ≡ Some noted → InsertWants (settled b r.now.log) v.walk Idle (locks_of old.locks) old.max_pages t key rid replies.Inserted
     made_wants o below x granted noted some =
         let kept = subst (λ (y : Outcome (Option Noted)). Here (Ok y)) (granted ∙ ap Granted some) (kept_here (Ok o) below) in
-        wants_answered (settled b r.now.log) v.walk (locks_of old.locks) old.max_pages t key rid replies.Inserted (λ x e. cc e) (limits o below)
+        wants_answered (settled b r.now.log) v.walk Idle (locks_of old.locks) old.max_pages t key rid replies.Inserted (λ x e. cc e) (limits o below)
         (λ is. subst (λ (pages : Pages). LacksRoomFor pages key → IsWithin pages key old.max_pages) pages_are kept.sound.1.within)
 
     -- answered otherwise
-    pub other_wants : (o : Outcome (Option Noted)) → Below (Ok o) → (reply : said.Reply) → reply ≢ replies.Inserted → ((x : Fault) → reply ≢ replies.Refused x) → InsertWants (settled b r.now.log) v.walk (locks_of old.locks) old.max_pages t key rid reply
-    other_wants o below reply no_insert not = wants_answered (settled b r.now.log) v.walk (locks_of old.locks) old.max_pages t key rid reply not (limits o below) (λ is. absurd (no_insert is))
+    pub other_wants : (o : Outcome (Option Noted)) → Below (Ok o) → (reply : said.Reply) → reply ≢ replies.Inserted → ((x : Fault) → reply ≢ replies.Refused x) → InsertWants (settled b r.now.log) v.walk Idle (locks_of old.locks) old.max_pages t key rid reply
+    other_wants o below reply no_insert not = wants_answered (settled b r.now.log) v.walk Idle (locks_of old.locks) old.max_pages t key rid reply not (limits o below) (λ is. absurd (no_insert is))
 
     -- refused, and why
-    pub refused_wants : (f : Fault) → Below (Err f) → LogEnds d true (mild_to_split (Some old.max_pages)) old.writer old.disk writer disk (Some f) → (told : Fault) → told ≡ told_as f → InsertWants (settled b r.now.log) v.walk (locks_of old.locks) old.max_pages t key rid (replies.Refused told)
+    pub refused_wants : (f : Fault) → Below (Err f) → LogEnds d true (mild_to_split (Some old.max_pages)) old.writer old.disk writer disk (Some f) → (told : Fault) → told ≡ told_as f → InsertWants (settled b r.now.log) v.walk Idle (locks_of old.locks) old.max_pages t key rid (replies.Refused told)
     refused_wants f below ends told is = record {
       made = λ clash lacks. absurd (cc clash);
       limited = λ not. absurd (not told refl);
@@ -267,6 +288,7 @@ module _ {D : Type 0} (d : Ghosts D) (old : Engine D d) (locks : Table) (writer 
           subst (λ (pages : Pages). LacksRoomFor pages key × IsUsedUp pages key) same (why.1, why.2);
       granted = λ is_late. subst (λ (m : IndexMap). IsFree (locks_of old.locks) t (asked (Insert key rid) m)) (sym r.serving.seen_by.walk) (free is_late);
       absent = asks;
+      broken = broke;
     }
       where
         kept : Here (Err f)
@@ -277,6 +299,9 @@ module _ {D : Type 0} (d : Ghosts D) (old : Engine D d) (locks : Table) (writer 
 
         lacks : get (contents b r.now.log) key ≡ None → get v.walk key ≡ None
         lacks none = ap (λ (m : IndexMap). get m key) r.serving.seen_by.walk ∙ none
+
+        broke : replies.Refused told ≡ replies.Refused faults.Failed → LacksRoomFor (settled b r.now.log) key ⊎ Idle
+        broke why = ⊎_elim (λ has_none. inl (subst (λ (pages : Pages). LacksRoomFor pages key) same has_none)) (λ idle. inr idle) (kept.begun (failed_is d old.max_pages old.writer old.disk writer disk f ends (sym is ∙ refused_inj told faults.Failed why))).2
 
         free : (replies.Refused told ≡ replies.Refused faults.Capacity) ⊎ (replies.Refused told ≡ replies.Refused faults.Failed) → IsFree (locks_of old.locks) t (asked (Insert key rid) (contents b r.now.log))
         free (inl why) = (kept.used_up (used_up_is f (sym is ∙ refused_inj told faults.Capacity why))).3.0

@@ -2,6 +2,7 @@ pub mod Stands
 pub mod Numbers
 pub mod Checked
 pub mod Running
+pub mod Grown
 pub mod Made
 pub mod Refused
 pub mod Reading

@@ -1,6 +1,7 @@
 -- Calls that only look.
 use Rattle.std.proofs.Common.{◌≡◌, ◌≢◌, inl, inr, ℕ, ◌≤◌, ◌^◌, List, [], ◌++◌, Bool, true, false, Option, None, Some, Result, Ok, Err, IfErr, OnOk, refl, sym, ap, subst, ◌∙◌}
 use Rattle.std.proofs.lemmas.Bool.{cases_Bool}
+use Rattle.std.specs.Prelude.{◌↔◌, IfSome}
 use Rattle.std.specs.FinMap.{empty, entries}
 use Rattle.im_base_types.specs.Maps.{IndexMap}
 use Rattle.im_base_types.specs.Pages.{Entry}
@@ -18,7 +19,7 @@ use Rattle.im_log.proofs.Above.{left_now}
 use Rattle.im_theory_log.specs.Writer.{Writer}
 use Rattle.im_page_writer.specs.declared.page_writer.PageWriter.{PageWriter}
 use Rattle.im_page_writer.specs.PageWriter.{Evicted}
-use Rattle.im_page_writer.specs.Outcome.{fault_of, AreLoaded, Ends, mild, no_page, Outcome}
+use Rattle.im_page_writer.specs.Outcome.{fault_of, AreLoaded, Ends, Lists, mild, no_page, Outcome}
 use Rattle.im_theory_tree.specs.Theory.{page_tree}
 use Rattle.im_base_lock.specs.Locks.{Lock}
 use Rattle.im_base_lock.specs.Table.{Table, locks_of}
@@ -36,7 +37,7 @@ use Rattle.im_engine.specs.Numbered.{Numbered}
 use Rattle.im_engine.specs.Stands.{Allowed}
 use Rattle.im_engine.specs.Running.{IsRunning, IsLife}
 use Rattle.im_engine.specs.Kept.{LookKept, EntriesKept}
-use Rattle.im_engine.specs.Looking.{Searched, Looks, broken_by}
+use Rattle.im_engine.specs.Looking.{Looks, broken_by}
 use Rattle.im_engine.proofs.Running.{tells, read_on, read_stops, runs_on}
 use Rattle.im_engine.proofs.Openings.{lives_on}
 
@@ -50,17 +51,52 @@ never_short d {asks} {v} {old} {w} {new} {f} one is =
     let clash : false ≡ true = moved.ends.0 in cc clash
 
 module _ {D : Type 0} (d : Ghosts D) (old new : Engine D d) where
-  never_failed : old.writer.failed ≡ false → (why : Option Fault) → Ends d AreLoaded mild old.writer old.disk new.writer new.disk why → why ≡ Some Failed → ⊥
-  never_failed works None x is = cc is
-  never_failed works (Some Failed) x is = not_true old.writer.failed works x.0
-  never_failed works (Some e) x is = cc is
+  -- how a search of an engine that works ended, with its writer
+  pub record SearchedBy (why : Option Fault) : Type 0 where
+    pub writer : Lists d old.writer old.disk new.writer new.disk why
+    pub failed : new.failed ≡ broken_by why
+    pub txns : new.txns ≡ old.txns
+    pub locks : new.locks ≡ old.locks
+    pub max_pages : new.max_pages ≡ old.max_pages
+    pub report : new.report ≡ old.report
+
+  module _ (works : old.writer.failed ≡ false) where
+    never_failed : (why : Option Fault) → Ends d AreLoaded mild old.writer old.disk new.writer new.disk why → why ≡ Some Failed → ⊥
+    never_failed None x is = cc is
+    never_failed (Some Failed) x is = not_true old.writer.failed works x.0
+    never_failed (Some e) x is = cc is
+
+    cause_of : (why : Option Fault) → Ends d AreLoaded mild old.writer old.disk new.writer new.disk why → IfSome why (ReadCause d new.writer.log new.disk)
+    cause_of None x = tt
+    cause_of (Some Memory) x = tt
+    cause_of (Some LogFull) x = x.2
+    cause_of (Some Device) x = x.1
+    cause_of (Some NotAStore) x = tt
+    cause_of (Some Failed) x = absurd (not_true old.writer.failed works x.0)
+    cause_of (Some g) x = absurd (let never = x.0 in cc never)
+
+    device_of : (why : Option Fault) → Ends d AreLoaded mild old.writer old.disk new.writer new.disk why → (why ≡ Some Device) ↔ (d.failed new.disk ≡ true)
+    device_of None x = ((λ is. absurd (cc is)), (λ lost. absurd (not_true (d.failed new.disk) x.alive lost)))
+    device_of (Some Device) x = ((λ is. x.1), (λ lost. refl))
+    device_of (Some LogFull) x = ((λ is. absurd (cc is)), (λ lost. absurd (not_true (d.failed new.disk) x.1 lost)))
+    device_of (Some Failed) x = absurd (not_true old.writer.failed works x.0)
+    device_of (Some e) x = ((λ is. absurd (cc is)), (λ lost. absurd (not_true (d.failed new.disk) x.1.alive lost)))
 
   -- a search of an engine that works
-  pub looks_of : old.failed ≡ false → (why : Option Fault) → Searched d why old new → Looks d why old new
+  pub looks_of : old.failed ≡ false → (why : Option Fault) → SearchedBy why → Looks d why old new
   looks_of works why one = record {
     failed = (λ is. absurd (never_failed (old.working works) why one.writer.ends is), λ was. absurd (not_true old.failed works was));
     same = λ was. absurd (not_true old.failed works was);
-    searched = λ _. one;
+    searched = λ _. record {
+      cause = cause_of (old.working works) why one.writer.ends;
+      device = device_of (old.working works) why one.writer.ends;
+      failed = one.failed;
+      frames = one.writer.frames;
+      txns = one.txns;
+      locks = one.locks;
+      max_pages = one.max_pages;
+      report = one.report;
+    };
   }
 
   -- ---- what it says of the engine
@@ -73,38 +109,36 @@ module _ {D : Type 0} (d : Ghosts D) (old new : Engine D d) where
   ]
   look_works {A} (Err e) one = tt
 
-  ends_as : old.writer.failed ≡ false → (f : Fault) → Ends d AreLoaded mild old.writer old.disk new.writer new.disk (Some f) → ends_engine f ≡ breaks (number_of f)
-  ends_as works Memory x = refl
-  ends_as works LogFull x = refl
-  ends_as works Device x = refl
-  ends_as works NotAStore x = refl
-  ends_as works Failed x = refl
-  ends_as works g x = absurd (let never = x.0 in cc never)
+  ends_as : (f : Fault) → ReadCause d new.writer.log new.disk f → ends_engine f ≡ breaks (number_of f)
+  ends_as Memory x = refl
+  ends_as LogFull x = refl
+  ends_as Device x = refl
+  ends_as NotAStore x = refl
+  ends_as g x = absurd x
 
   -- and has failed where the refusal breaks it
   pub look_fails : {A : Type 0} (r : Result A Fault) → Looks d (fault_of r) old new → IfErr r (λ e. new.failed ≡ breaks (number_of e))
   look_fails {A} (Ok a) one = tt
   look_fails {A} (Err e) one = elim (cases_Bool old.failed) [
     | inl was ↦ ap (λ (x : Engine D d). x.failed) (one.same was) ∙ was ∙ sym (ap (λ (why : Option Fault). told_by why) (one.failed.1 was))
-    | inr was ↦ (one.searched was).failed ∙ ends_as (old.working was) e (one.searched was).writer.ends
+    | inr was ↦ (one.searched was).failed ∙ ends_as e (one.searched was).cause
   ]
     where
       told_by : Option Fault → Bool
       told_by None = false
       told_by (Some f) = breaks (number_of f)
 
-  cause_of : old.writer.failed ≡ false → (f : Fault) → Ends d AreLoaded mild old.writer old.disk new.writer new.disk (Some f) → ReadCause d new.writer.log new.disk (told_as f)
-  cause_of works Memory x = tt
-  cause_of works LogFull x = x.2
-  cause_of works Device x = x.1
-  cause_of works NotAStore x = tt
-  cause_of works Failed x = absurd (not_true old.writer.failed works x.0)
-  cause_of works g x = absurd (let never = x.0 in cc never)
+  cause_told : (f : Fault) → ReadCause d new.writer.log new.disk f → ReadCause d new.writer.log new.disk (told_as f)
+  cause_told Memory x = x
+  cause_told LogFull x = x
+  cause_told Device x = x
+  cause_told NotAStore x = x
+  cause_told g x = absurd x
 
   -- why it was refused
   pub look_cause : {A : Type 0} (r : Result A Fault) → Looks d (fault_of r) old new → IfErr r (λ e. old.failed ≡ false → ReadCause d new.writer.log new.disk (told_as e))
   look_cause {A} (Ok a) one = tt
-  look_cause {A} (Err e) one = λ works. cause_of (old.working works) e (one.searched works).writer.ends
+  look_cause {A} (Err e) one = λ works. cause_told e (one.searched works).cause
 
 -- an engine that has failed
 pub looks_failed : {D : Type 0} (d : Ghosts D) (e : Engine D d) → e.failed ≡ true → Looks d (Some Failed) e e
@@ -147,14 +181,14 @@ module _ {D : Type 0} (d : Ghosts D) (before : List Effect) (s : Shown) (v : Vie
         (subst (λ (n : ℕ). n ≤ 2 ^ 62 → AreBelow n is.now.log) (sym (ap (λ (x : Numbered). x.next) table)) (λ le. same.below old.txns.next old.first (r.numbered le))) r.alone r.unowned
 
     -- a look that was answered
-    pub look_kept : Searched d None old new → LookKept d before s v old new
+    pub look_kept : SearchedBy d old new None → LookKept d before s v old new
     look_kept one = record {
       after = inl (one.failed, lives_on d before s v new one.failed (still_runs (read_on d before s v old run.1 new.writer new.disk one.writer.ends) one.txns one.locks));
       stops = read_stops d before s v old run.1 new.writer new.disk one.writer;
     }
 
     -- one that was refused
-    pub look_refused : ((t : ℕ) (c : Files) → t ≤ d.moment new.disk → d.may_leave new.disk c → d.left_since new.disk t c) → (fault : Fault) → Searched d (Some fault) old new → LookKept d before s v old new
+    pub look_refused : ((t : ℕ) (c : Files) → t ≤ d.moment new.disk → d.may_leave new.disk c → d.left_since new.disk t c) → (fault : Fault) → SearchedBy d old new (Some fault) → LookKept d before s v old new
     look_refused counts_now fault one = by fault one.writer.ends one.failed
       where
         leaves : LeavesOnly d old.disk new.disk (Allowed before s)

@@ -7,6 +7,7 @@ use Rattle.im_base_types.specs.Answers.{Access, Step, Do, Commit, Reply, Refused
 use Rattle.im_base_types.specs.Changes.{Effect, apply_all}
 use Rattle.im_theory_log.specs.Histories.{Base, History}
 use Rattle.im_theory_log.specs.Writer.{Writer}
+use Rattle.im_theory_log.specs.Copies as copies
 use Rattle.im_base_types.specs.Lives.{Asked, Shown, shows}
 use Rattle.im_theory_log.proofs.Histories.{front_of_front}
 use Rattle.im_base_disk.specs.declared.disk.Disk.{Ghosts}
@@ -36,6 +37,7 @@ use Rattle.im_engine.specs.declared.engine.Engine.{Engine}
 use Rattle.im_engine.specs.Stands.{Allowed}
 use Rattle.im_engine.specs.Numbered.{Numbered}
 use Rattle.im_engine.specs.Running.{IsRunning, IsLife}
+use Rattle.im_engine.specs.Growing.{GrowsAs}
 use Rattle.im_engine.specs.Kept.{StepKept, IsDone}
 use Rattle.im_engine.proofs.Running.{allowed_as, grown_stops, runs_on, stops_now}
 
@@ -46,9 +48,9 @@ module _ {D : Type 0} (d : Ghosts D) (before : List Effect) where
 
   module _ (s : Shown) (v : View) (step : Step) (reply : Reply) (old new : Engine D d) where
     -- a step behind which the engine works
-    pub step_made : {b : Base} (w : View) → Moves v step reply w → IsRunning d b before (shows s step (Some reply)) w new → new.failed ≡ false → LeavesOnly d old.disk new.disk (Allowed before (shows s step None))
-        → IsDone d before (shows s step (Some reply)) w step reply new → StepKept d before s v step reply old new
-    step_made {b = b} w moves running works stops done = record {
+    pub step_made : {b : Base} (w : View) → Moves v step reply w → (running : IsRunning d b before (shows s step (Some reply)) w new) → new.failed ≡ false → LeavesOnly d old.disk new.disk (Allowed before (shows s step None))
+        → IsDone d before (shows s step (Some reply)) w step reply new → (was : IsRunning d b before s v old) → GrowsAs b reply step was.now.log running.now.log → StepKept d before s v step reply old new
+    step_made {b = b} w moves running works stops done was grows = record {
       next = w;
       moves = moves;
       after = record {
@@ -59,6 +61,7 @@ module _ {D : Type 0} (d : Ghosts D) (before : List Effect) where
       };
       stops = stops;
       done = done;
+      grown = λ _. record { b = b; was = was; now = running; grows = grows };
     }
 
   -- a step behind calls that added no more than Images, which asks no effect
@@ -66,8 +69,9 @@ module _ {D : Type 0} (d : Ghosts D) (before : List Effect) where
     pub grown_made : Evicted d b r.base r.now old.disk new.writer new.disk
         → ((longer : History) → Stays b r.now.log longer → IsOfAll r.now.log longer → IsServed b r.earlier before s v step reply w longer txns.rows txns.next new.locks)
         → (shows s step (Some reply)).asked ≡ s.asked → (shows s step None).asked ≡ s.asked → new.txns ≡ txns → txns.next ≡ old.txns.next → LeavesOnly d old.disk new.disk (Allowed before s)
-        → new.failed ≡ false → IsDone d before (shows s step (Some reply)) w step reply new → StepKept d before s v step reply old new
-    grown_made is serves asks cut table next stops works done =
+        → new.failed ≡ false → IsDone d before (shows s step (Some reply)) w step reply new → ((longer : History) → copies.GrowsByImages b r.now.log longer → GrowsAs b reply step r.now.log longer) → StepKept d before s v step reply old new
+    unfolding runs_on
+    grown_made is serves asks cut table next stops works done bare =
         let same = copies_are_images page_tree b r.now.log is.now.log is.on.goes.keeps.log in
         let on = images_change_nothing b r.now.log is.now.log same.images in
         let served = serves is.now.log on.0 on.1 in
@@ -78,7 +82,8 @@ module _ {D : Type 0} (d : Ghosts D) (before : List Effect) where
         (subst (λ (x : Numbered). IsServing b r.earlier before (shows s step (Some reply)) w is.now.log x.rows x.next new.locks) (sym table) served.1)
         (subst (λ (l : List Asked). AreCommitted r.earlier before l is.now.durable is.now.log) (sym asks) commits)
         (subst (λ (n : ℕ). n ≤ 2 ^ 62 → AreBelow n is.now.log) (sym (ap (λ (x : Numbered). x.next) table ∙ next)) (λ le. same.below old.txns.next old.first (r.numbered le))) alone unowned in
-        step_made s v step reply old new w served.0 running works (leaves_as s (shows s step None) old.disk new.disk cut stops) done
+        step_made s v step reply old new w served.0 running works (leaves_as s (shows s step None) old.disk new.disk cut stops) done r
+        (bare is.now.log is.on.goes.keeps.log)
 
   -- a step that broke the engine: no Commit, or one whose record is not in the log
   pub step_broke : (s : Shown) (v : View) (step : Step) (fault : ℕ) (old new : Engine D d) (ls : ℕ → List Lock) → IsLife d before s v old → barred v step ≡ None → Breaks fault → new.failed ≡ true
@@ -97,4 +102,5 @@ module _ {D : Type 0} (d : Ghosts D) (before : List Effect) where
         };
         stops = stops;
         done = done;
+        grown = λ works. let never : true ≡ false = sym fails ∙ works in cc;
       }

@@ -296,27 +296,28 @@ module _ {D : Type 0} (d : Ghosts D) (step : Asked) (e : Engine D d) (only_now :
   memory_none : e.failed ≡ false → Refused fault ≡ Refused faults.Memory → ⊥
   memory_none works so = works_so (λ (n : ℕ). n ≡ 9 → ⊥) (λ e. cc e) (λ e. cc e) (λ e. cc e) (λ e. cc e) (λ e. cc e) works (ap number_of (refused_inj fault faults.Memory so))
 
-  wants_none : e.failed ≡ false → (pages : Pages) (map : IndexMap) (nets : ℕ → Effect) (locks : ℕ → List Lock) (max : ℕ) (s : Step) → WantsOf pages map nets locks max s (Refused fault)
-  wants_none works pages map nets locks max (Do t (answers.Insert key rid)) = record {
+  wants_none : e.failed ≡ false → (pages : Pages) (map : IndexMap) (Still : Type 0) (Begun : ℕ → Type 0) (nets : ℕ → Effect) (locks : ℕ → List Lock) (max : ℕ) (s : Step) → WantsOf pages map Still Begun nets locks max s (Refused fault)
+  wants_none works pages map Still Begun nets locks max (Do t (answers.Insert key rid)) = record {
     made = λ so. absurd (cc so);
     limited = λ not. absurd (not fault refl);
     full = λ so. absurd (asks_none works (wants_pages so));
     used_up = λ so. absurd (asks_none works (wants_numbers so));
     granted = λ so. absurd (⊎_elim (λ numbers. asks_none works (wants_numbers numbers)) (λ memory. asks_none works (wants_memory memory)) so);
     absent = λ asks. absurd (asks_none works asks);
+    broken = λ so. absurd (asks_none works (wants_memory so));
   }
-  wants_none works pages map nets locks max (Do t (answers.Delete key)) = λ so. absurd (asks_none works (wants_memory so))
-  wants_none works pages map nets locks max (Do t (answers.Fetch k)) = tt
-  wants_none works pages map nets locks max (Do t (answers.Seek k)) = tt
-  wants_none works pages map nets locks max (Do t (answers.Next k)) = tt
-  wants_none works pages map nets locks max (Do t (answers.Scan lo hi l)) = tt
-  wants_none works pages map nets locks max Begin = tt
-  wants_none works pages map nets locks max (Commit t) = tt
-  wants_none works pages map nets locks max (Rollback t) = tt
-  wants_none works pages map nets locks max (Continue t) = record { short = λ so. absurd (memory_none works so); used_up = λ so. absurd (asks_none works (wants_numbers so)) }
-  wants_none works pages map nets locks max (FlushPage p) = tt
-  wants_none works pages map nets locks max Force = tt
-  wants_none works pages map nets locks max Checkpoint = tt
+  wants_none works pages map Still Begun nets locks max (Do t (answers.Delete key)) = λ so. absurd (asks_none works (wants_memory so))
+  wants_none works pages map Still Begun nets locks max (Do t (answers.Fetch k)) = tt
+  wants_none works pages map Still Begun nets locks max (Do t (answers.Seek k)) = tt
+  wants_none works pages map Still Begun nets locks max (Do t (answers.Next k)) = tt
+  wants_none works pages map Still Begun nets locks max (Do t (answers.Scan lo hi l)) = tt
+  wants_none works pages map Still Begun nets locks max Begin = tt
+  wants_none works pages map Still Begun nets locks max (Commit t) = tt
+  wants_none works pages map Still Begun nets locks max (Rollback t) = tt
+  wants_none works pages map Still Begun nets locks max (Continue t) = record { short = λ so. absurd (memory_none works so); used_up = λ so. absurd (asks_none works (wants_numbers so)); broken = λ so. absurd (asks_none works (wants_memory so)) }
+  wants_none works pages map Still Begun nets locks max (FlushPage p) = tt
+  wants_none works pages map Still Begun nets locks max Force = tt
+  wants_none works pages map Still Begun nets locks max Checkpoint = tt
 
   -- a refusal by a check costs nothing
   costs_none : (step : Step) → StepCosts d step (Refused fault) e e
@@ -348,7 +349,7 @@ module _ {D : Type 0} (d : Ghosts D) (step : Asked) (e : Engine D d) (only_now :
     answered = λ other. subst (λ (o : Option ℕ). (Refused fault ≡ Refused other) ↔ Checked o other (Refuses d (Refused fault) e e.writer.log e.disk other (asked_by step))) is
         (λ so. ap number_of (sym (refused_inj fault other so)), λ so. ap (λ (f : Fault). Refused f) (same_fault fault other (sym so)));
     suits = tt;
-    wants = λ works b before s v r. wants_none works _ _ (λ t. (v.txns t).net) (locks_of e.locks) _ (asked_by step);
+    wants = λ works b before s v r. wants_none works _ _ _ _ (λ t. (v.txns t).net) (locks_of e.locks) _ (asked_by step);
     quiet = λ _. refl;
     costs = costs_none (asked_by step);
     works = told_works d (Refused fault) e e told_so;

@@ -292,7 +292,7 @@ module _ {D : Type 0} (d : Ghosts D) (before : List Effect) (s : Shown) (v : Vie
           alone = r.alone;
           unowned = ap (of_others t) r.unowned;
         } in
-        step_made d before s v (Continue t) More old new w served.0 running works_on (undo_stops stops) tt
+        step_made d before s v (Continue t) More old new w served.0 running works_on (undo_stops stops) tt r (record { grows = took.taken.goes.grows; once = took.taken.once })
 
     -- the last one was taken back
     pub has_ended : (u : Undone) → u ≡ turns.Ended → Turned d run.0 run.1.base run.1.now run.1.redo_end t old.disk new.writer new.disk u → IsReleased old.locks t new.locks → length old.txns.rows ≡ length (without t old.txns.rows) + 1
@@ -334,7 +334,8 @@ module _ {D : Type 0} (d : Ghosts D) (before : List Effect) (s : Shown) (v : Vie
           alone = r.alone;
           unowned = ap (of_others t) r.unowned;
         } in
-        step_made d before s v (Continue t) RolledBack old new w served.0 running works_on (undo_stops stops) tt
+        step_made d before s v (Continue t) RolledBack old new w served.0 running works_on (undo_stops stops) tt r
+        (record { between = between; one = record { grows = took.taken.goes.grows; once = took.taken.once }; last = is.last; lsn = is.end.lsn; is = is.end.log })
 
   -- it is refused: for want of memory all is as it was, and any other refusal breaks the engine
   pub turn_refused : (f : Fault) → TurnEnds d may_turn old.writer new.writer new.disk (Some f) → f ≢ NotAStore → (f ≡ Memory → Evicted d run.0 run.1.base run.1.now old.disk new.writer new.disk)
@@ -383,6 +384,16 @@ module _ {D : Type 0} (d : Ghosts D) (old : Engine D d) (works : old.failed ≡ 
   pub continue_refused : (w : PageWriter) (disk : D) (f : Fault) (told : Fault) → told ≡ told_as f → TurnEnds d may_turn old.writer w disk (Some f) → Answers d old w.log disk (Continue t) (replies.Refused told)
   continue_refused w disk f told is x =
       behind d old w.log disk works (Continue t) (replies.Refused told) checked (λ fault. refused_for d old w.log disk works (TurnCause d w.log disk) f told is (turn_cause d old.writer w disk f x) fault)
+
+-- it is told that it failed only where it did
+pub told_failed : {D : Type 0} (d : Ghosts D) (v w : PageWriter) (new : D) (f : Fault) → TurnEnds d may_turn v w new (Some f) → told_as f ≡ faults.Failed → f ≡ Failed
+told_failed d v w new Failed x is = refl
+told_failed d v w new Memory x is = absurd (cc is)
+told_failed d v w new Capacity x is = absurd (cc is)
+told_failed d v w new LogFull x is = absurd (cc is)
+told_failed d v w new Device x is = absurd (cc is)
+told_failed d v w new NotAStore x is = absurd (cc is)
+told_failed d v w new g x is = absurd (let never = x.0 in cc never)
 
 -- a refusal that is told so was one
 pub told_memory : (f : Fault) → told_as f ≡ faults.Memory → f ≡ Memory

@@ -5,7 +5,7 @@ use Rattle.im_base_types.specs.Answers.{Step, Reply, FlushPage, Force, Checkpoin
 use Rattle.im_base_types.specs.declared.file_id.FileId.TheVariants.{Log, Pages}
 use Rattle.im_base_types.specs.declared.fault.Fault.{Fault}
 use Rattle.im_base_types.specs.declared.tables.DirtyPage.{DirtyPage}
-use Rattle.im_base_types.specs.declared.fault.Fault.TheVariants.{NotAStore}
+use Rattle.im_base_types.specs.declared.fault.Fault.TheVariants.{Capacity, NotAStore}
 use Rattle.im_base_types.specs.Pages.{Entry}
 use Rattle.im_base_types.specs.Changes.{Effect, apply_all}
 use Rattle.im_theory_log.specs.Histories.{Base, History, page_at}
@@ -22,10 +22,11 @@ use Rattle.im_base_lock.specs.Locks.{Lock}
 use Rattle.im_base_lock.specs.View.{View, broken}
 use Rattle.im_base_lock.specs.Machine.{Moves, start}
 use Rattle.im_base_types.specs.Faults.{number_of}
-use Rattle.im_restart.specs.Restart.{IsReport}
+use Rattle.im_restart.specs.Restart.{IsReport, RunsOut}
 use Rattle.im_engine.specs.declared.engine.Engine.{Engine}
 use Rattle.im_engine.specs.Stands.{StandsFor, Allowed}
 use Rattle.im_engine.specs.Running.{IsRunning, IsLife}
+use Rattle.im_engine.specs.Growing.{GrowsAs}
 
 -- the number of a refusal, if there is one
 abbrev pub numbered : Option Fault → Option ℕ
@@ -47,6 +48,8 @@ module _ {D : Type 0} (d : Ghosts D) where
     pub report : IfOk result (λ e. IsReport stands.b stands.log (file_page (d.seen old Pages)) e.report)
     pub stops : LeavesOnly d old (disk_of result) (Allowed before nothing_shown)
     pub cause : IfErr result (λ x. x.0 ≢ NotAStore)
+    -- page numbers or levels were used up only where undo of the log that was found came to a key that finds no room
+    pub used_up : IfErr result (λ x. x.0 ≡ Capacity → RunsOut stands.b stands.log)
 
   -- Every record is durable: a stop leaves the whole log.
   pub record IsDurable (before : List Effect) (s : Shown) (v : View) (e : Engine D d) : Type 0 where
@@ -80,13 +83,21 @@ module _ {D : Type 0} (d : Ghosts D) where
   IsDone before s v Checkpoint Done e = IsCheckpointTaken before s v e
   IsDone before s v _ _ e = Unit {0}
 
-  -- A step: it is a step of the machine, with which the life goes on and what the reply shows; a stop within it leaves what is allowed; and what Done says is so.
+  -- The log grew by the records of this step and its reply, and no others.
+  pub record HasGrown (before : List Effect) (s : Shown) (v : View) (step : Step) (reply : Reply) (next : View) (old new : Engine D d) : Type 0 where
+    pub b : Base
+    pub was : IsRunning d b before s v old
+    pub now : IsRunning d b before (shows s step (Some reply)) next new
+    pub grows : GrowsAs b reply step was.now.log now.now.log
+
+  -- A step: it is a step of the machine, with which the life goes on and what the reply shows; a stop within it leaves what is allowed; what Done says is so; and the log of an engine that works on has grown by the step's own records alone.
   pub record StepKept (before : List Effect) (s : Shown) (v : View) (step : Step) (reply : Reply) (old new : Engine D d) : Type 0 where
     pub next : View
     pub moves : Moves v step reply next
     pub after : IsLife d before (shows s step (Some reply)) next new
     pub stops : LeavesOnly d old.disk new.disk (Allowed before (shows s step None))
     pub done : IsDone before (shows s step (Some reply)) next step reply new
+    pub grown : new.failed ≡ false → HasGrown before s v step reply next old new
 
   -- A call that only looks: the life goes on as it was, or the call broke the engine.
   pub record LookKept (before : List Effect) (s : Shown) (v : View) (old new : Engine D d) : Type 0 where

@@ -3,10 +3,11 @@ pub mod Faults
 pub mod Stands
 pub mod Promise
 pub mod Running
+pub mod Growing
 pub mod Kept
-pub mod Looking
 pub mod Costs
 pub mod Told
+pub mod Looking
 pub mod Counted
 pub mod Turns
 pub mod Opening

@@ -1,13 +1,13 @@
 -- How calls end that only look.
-use Rattle.std.specs.Prelude.{◌≡◌, ◌↔◌, Bool, true, false, Option, Some, None, length}
+use Rattle.std.specs.Prelude.{◌≡◌, ◌↔◌, Bool, true, false, Option, Some, None, IfSome, length}
 use Rattle.im_base_types.specs.Pages.{Page}
 use Rattle.im_base_types.specs.declared.fault.Fault.{Fault}
-use Rattle.im_base_types.specs.declared.fault.Fault.TheVariants.{Failed}
+use Rattle.im_base_types.specs.declared.fault.Fault.TheVariants.{Device, Failed}
 use Rattle.im_base_disk.specs.declared.disk.Disk.{Ghosts}
-use Rattle.im_page_writer.specs.Outcome.{Lists}
 use Rattle.im_page.specs.declared.header.Header.{Header}
 use Rattle.im_engine.specs.declared.engine.Engine.{Engine}
 use Rattle.im_engine.specs.Faults.{ends_engine}
+use Rattle.im_engine.specs.Told.{ReadCause}
 
 -- what the header of a page says
 abbrev pub header_of : Page → Header
@@ -19,10 +19,12 @@ broken_by None = false
 broken_by (Some fault) = ends_engine fault
 
 module _ {D : Type 0} (d : Ghosts D) where
-  -- How a search of a working engine ends: its writer as searches do, and the rest is as it was, but that a refusal may break the engine.
+  -- How a search of a working engine ends: it is refused only for a cause that a search has, and told that the disk has failed just where it has; a refusal may break the engine, and the rest is as it was.
   pub record Searched (why : Option Fault) (old new : Engine D d) : Type 0 where
-    pub writer : Lists d old.writer old.disk new.writer new.disk why
+    pub cause : IfSome why (ReadCause d new.writer.log new.disk)
+    pub device : (why ≡ Some Device) ↔ (d.failed new.disk ≡ true)
     pub failed : new.failed ≡ broken_by why
+    pub frames : new.writer.pool.frames ≡ old.writer.pool.frames
     pub txns : new.txns ≡ old.txns
     pub locks : new.locks ≡ old.locks
     pub max_pages : new.max_pages ≡ old.max_pages

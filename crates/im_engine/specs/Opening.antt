@@ -1,13 +1,12 @@
 -- How a store is opened.
-use Rattle.std.specs.Prelude.{◌≡◌, ◌≢◌, ◌⊎◌, ◌↔◌, ◌<◌, ℕ, true, false, List, [], Result, IfOk, IfErr}
+use Rattle.std.specs.Prelude.{◌≡◌, ◌⊎◌, ◌↔◌, ◌<◌, true, false, List, [], Result, IfOk, IfErr}
 use Rattle.std.specs.Result.{IsErrAnd}
 use Rattle.im_base_types.specs.declared.fault.Fault.{Fault}
 use Rattle.im_base_types.specs.declared.fault.Fault.TheVariants.{Memory, Device, LogFull, NotAStore, PoolSize, Capacity}
 use Rattle.im_base_types.specs.Changes.{Effect}
-use Rattle.im_theory_log.specs.Histories.{Base, History}
 use Rattle.im_base_disk.specs.declared.disk.Disk.{Ghosts}
 use Rattle.im_base_disk.specs.Runs.{Reads}
-use Rattle.im_restart.specs.Restart.{IsFullLog, MayRedo, SpellsLog}
+use Rattle.im_restart.specs.Restart.{IsFullLog, SpellsLog}
 use Rattle.im_engine.specs.declared.config.Config.{Config}
 use Rattle.im_engine.specs.declared.engine.Engine.{Engine}
 use Rattle.im_engine.specs.Kept.{OpenKept, disk_of}
@@ -16,7 +15,7 @@ use Rattle.im_engine.specs.Stands.{StandsFor}
 module _ {D : Type 0} (d : Ghosts D) where
   -- What an opening with these limits answers: an engine that works, with no transaction and no lock, or the disk and why there is none. It is refused
   -- by the number of its frames just where they are too few or too many, by the disk just where that has failed, for want of room only where the log's file is full,
-  -- and else only for want of memory or of page numbers, or because the files are no store. Where the log's bytes are no log's it only reads. Where redo alone brings the files back, it is not refused as no store.
+  -- and else only for want of memory or of page numbers, or because the files are no store. Where the log's bytes are no log's it only reads.
   pub record IsOpening (config : Config) (old : D) (result : Result (Engine D d) (Fault × D)) : Type 0 where
     pub kept : (before : List Effect) → d.tells → (stands : StandsFor before (d.seen old)) → OpenKept d before old stands result
     pub opened : IfOk result (λ e. (e.failed ≡ false) × (e.txns.rows ≡ []) × (e.locks ≡ []) × (d.failed e.disk ≡ false))
@@ -29,4 +28,3 @@ module _ {D : Type 0} (d : Ghosts D) where
     pub causes : IfErr result (λ x. (x.0 ≡ PoolSize) ⊎ (x.0 ≡ Memory) ⊎ (x.0 ≡ Device) ⊎ (x.0 ≡ NotAStore) ⊎ (x.0 ≡ LogFull) ⊎ (x.0 ≡ Capacity))
     pub full : IfErr result (λ x. x.0 ≡ LogFull → d.tells → IsFullLog (d.seen x.1))
     pub unspelled : d.tells → ¬ (SpellsLog (d.seen old)) → Reads d old (disk_of d result) × IfErr result (λ x. (x.0 ≡ PoolSize) ⊎ (x.0 ≡ Memory) ⊎ (x.0 ≡ Device) ⊎ (x.0 ≡ NotAStore))
-    pub redoes : (b : Base) (base : ℕ) (all : History) → d.tells → MayRedo b base all (d.seen old) → IfErr result (λ x. x.0 ≢ NotAStore)

@@ -19,12 +19,15 @@ use Rattle.im_log.specs.LogFile.{HasNoRoom, end_with}
 use Rattle.im_theory_page.specs.PageFile.{page_count}
 use Rattle.im_page_pool.specs.Pool.{is_changed}
 use Rattle.im_page_writer.specs.Costs.{PageCosts}
+use Rattle.im_page_writer.specs.PageWriter.{Evicted}
 use Rattle.im_page_table.specs.DirtyTable.{dirty_pages, has_room, synced_entries}
 use Rattle.im_engine_checkpoint.specs.Rows.{listed}
 use Rattle.im_theory_tree.specs.Levels.{Pages}
 use Rattle.im_smo_split.specs.Plan.{IsWithin, IsOver}
 use Rattle.im_smo_split.specs.Tops.{LacksRoomFor}
 use Rattle.im_smo_actions.specs.Structure.{IsUsedUp}
+use Rattle.im_engine_index.specs.Edits.{HasOne}
+use Rattle.im_restart_undo.specs.Undoing.{HasBegun}
 use Rattle.im_base_txn.specs.declared.transaction.Transaction.{Transaction}
 use Rattle.im_base_txn.specs.Rows.{is_of}
 use Rattle.im_base_lock.specs.Locks.{Lock, IsFree}
@@ -222,16 +225,6 @@ pub data AsksChange (reply : Reply) : Type 0 where
   wants_memory : reply ≡ Refused Failed → AsksChange reply
 
 module _ (pages : Pages) (map : IndexMap) where
-  -- An insert meets the limit of pages first, then its locks, then the end of page numbers and levels. Where the key is absent and its leaf lacks room it is made only within the limit, waits or dies only within it or where the end is reached, and is refused `PagesFull` only over it, and `Capacity` only
-  -- at the end; its locks were granted where that is answered, or `Failed`. A key that is there is a Duplicate, and none of these.
-  pub record InsertWants (locks : ℕ → List Lock) (max_pages t : ℕ) (key : Key) (rid : ℕ) (reply : Reply) : Type 0 where
-    pub made : reply ≡ Inserted → LacksRoomFor pages key → IsWithin pages key max_pages
-    pub limited : ((fault : Fault) → reply ≢ Refused fault) → get map key ≡ None → LacksRoomFor pages key → IsWithin pages key max_pages ⊎ IsUsedUp pages key
-    pub full : reply ≡ Refused PagesFull → LacksRoomFor pages key × IsOver pages key max_pages
-    pub used_up : reply ≡ Refused Capacity → LacksRoomFor pages key × IsUsedUp pages key
-    pub granted : (reply ≡ Refused Capacity) ⊎ (reply ≡ Refused Failed) → IsFree locks t (asked (answers.Insert key rid) map)
-    pub absent : AsksChange reply → get map key ≡ None
-
   -- The newest of these changes dropped a key, which the tree lacks and whose leaf is without room for it now.
   pub record LacksRoom (net : Effect) : Type 0 where
     pub key : Key
@@ -241,17 +234,37 @@ module _ (pages : Pages) (map : IndexMap) where
     pub absent : get map key ≡ None
     pub lacks : LacksRoomFor pages key
 
-  -- A change that is taken back is refused `Memory` only where a key comes back that finds its leaf without room, so that its split is planned, and `Capacity` only where that can't be had.
-  pub record TurnWants (net : Effect) (reply : Reply) : Type 0 where
+  -- A change that is taken back is refused `Memory` only where a key comes back that finds its leaf without room, so that its split is planned, `Capacity` only where that can't be had, and `Failed` only behind a record of the transaction (`Begun`).
+  pub record TurnWants (net : Effect) (Begun : Type 0) (reply : Reply) : Type 0 where
     pub short : reply ≡ Refused Memory → LacksRoom net
     pub used_up : reply ≡ Refused Capacity → (wants : LacksRoom net) × IsUsedUp pages wants.key
+    pub broken : reply ≡ Refused Failed → Begun
 
-  -- of the steps inserts and deletes are asked that: a key that is not there is Absent, and no delete of it fails late, nor one before its locks are granted. Of a change that is taken back it is asked what it wants room for, by the net of its transaction
-  abbrev pub WantsOf : (ℕ → Effect) → (ℕ → List Lock) → ℕ → answers.Step → Reply → Type 0
-  WantsOf nets locks max_pages (answers.Do t (answers.Insert key rid)) reply = InsertWants locks max_pages t key rid reply
-  WantsOf nets locks max_pages (answers.Do t (answers.Delete key)) reply = reply ≡ Refused Failed → (get map key ≢ None) × IsFree locks t (asked (answers.Delete key) map)
-  WantsOf nets locks max_pages (answers.Continue t) reply = TurnWants (nets t) reply
-  WantsOf nets locks max_pages _ reply = Unit {0}
+-- `Idle` says that nothing but Images joined the log.
+module _ (pages : Pages) (map : IndexMap) (Idle : Type 0) where
+  -- An insert meets the limit of pages first, then its locks, then the end of page numbers and levels. Where the key is absent and its leaf lacks room it is made only within the limit, waits or dies only within it or where the end is reached, and is refused `PagesFull` only over it, and `Capacity` only
+  -- at the end; its locks were granted where that is answered, or `Failed`, which comes only where the leaf lacks room or nothing but Images joined the log. A key that is there is a Duplicate, and none of these.
+  pub record InsertWants (locks : ℕ → List Lock) (max_pages t : ℕ) (key : Key) (rid : ℕ) (reply : Reply) : Type 0 where
+    pub made : reply ≡ Inserted → LacksRoomFor pages key → IsWithin pages key max_pages
+    pub limited : ((fault : Fault) → reply ≢ Refused fault) → get map key ≡ None → LacksRoomFor pages key → IsWithin pages key max_pages ⊎ IsUsedUp pages key
+    pub full : reply ≡ Refused PagesFull → LacksRoomFor pages key × IsOver pages key max_pages
+    pub used_up : reply ≡ Refused Capacity → LacksRoomFor pages key × IsUsedUp pages key
+    pub granted : (reply ≡ Refused Capacity) ⊎ (reply ≡ Refused Failed) → IsFree locks t (asked (answers.Insert key rid) map)
+    pub absent : AsksChange reply → get map key ≡ None
+    pub broken : reply ≡ Refused Failed → LacksRoomFor pages key ⊎ Idle
+
+  -- A delete fails late only of a key that is there, behind the grant of its locks, and only where it is its leaf's only one or nothing but Images joined the log.
+  pub record DeleteFails (locks : ℕ → List Lock) (t : ℕ) (key : Key) : Type 0 where
+    pub there : get map key ≢ None
+    pub granted : IsFree locks t (asked (answers.Delete key) map)
+    pub broken : HasOne pages key ⊎ Idle
+
+  -- Of the steps that is asked of inserts and of deletes, where a key that is not there is Absent. Of a change that is taken back it is asked what it wants room for, by the net of its transaction.
+  abbrev pub WantsOf : (ℕ → Type 0) → (ℕ → Effect) → (ℕ → List Lock) → ℕ → answers.Step → Reply → Type 0
+  WantsOf Begun nets locks max_pages (answers.Do t (answers.Insert key rid)) reply = InsertWants locks max_pages t key rid reply
+  WantsOf Begun nets locks max_pages (answers.Do t (answers.Delete key)) reply = reply ≡ Refused Failed → DeleteFails locks t key
+  WantsOf Begun nets locks max_pages (answers.Continue t) reply = TurnWants pages map (nets t) (Begun t) reply
+  WantsOf Begun nets locks max_pages _ reply = Unit {0}
 
 -- An access that is answered has the answer of one user alone on the map of all that was committed, with what its transaction did on top.
 abbrev pub AnswersAlone : List Effect → Shown → answers.Step → answers.Reply → Type 0
@@ -261,6 +274,11 @@ AnswersAlone before s _ reply = Unit {0}
 -- ---- a step that was made
 
 module _ {D : Type 0} (d : Ghosts D) where
+  -- what a step asks of the pages of an engine that works
+  abbrev pub WantsHere : {old : Engine D d} (b : Base) (before : List Effect) (s : Shown) (v : View) → IsRunning d b before s v old → answers.Step → Reply → Engine D d → Type 0
+  WantsHere {old} b before s v r step reply new =
+      WantsOf (settled b r.now.log) v.walk (Evicted d b r.base r.now old.disk new.writer new.disk) (λ t. HasBegun d b r.base r.now t new.writer new.disk) (λ t. (v.txns t).net) (locks_of old.locks) old.max_pages step reply
+
   -- a step of what was asked so, behind the checks
   pub record IsMade (step : answers.Step) (reply : Reply) (old new : Engine D d) : Type 0 where
     pub kept : (before : List Effect) (s : Shown) (v : View) → IsLife d before s v old → StepKept d before s v step (told_by reply) old new
@@ -268,7 +286,7 @@ module _ {D : Type 0} (d : Ghosts D) where
     pub answered : IsAnswered d step reply old new
     pub suits : SuitsAtOnce step (told_by reply)
     pub frames : new.writer.pool.frames ≡ old.writer.pool.frames
-    pub wants : (b : Base) (before : List Effect) (s : Shown) (v : View) (r : IsRunning d b before s v old) → WantsOf (settled b r.now.log) v.walk (λ t. (v.txns t).net) (locks_of old.locks) old.max_pages step reply
+    pub wants : (b : Base) (before : List Effect) (s : Shown) (v : View) (r : IsRunning d b before s v old) → WantsHere b before s v r step reply new
     pub quiet : (CallsDevice d step old → ⊥) → new.disk ≡ old.disk
     pub costs : StepCosts d step reply old new
 
@@ -282,7 +300,7 @@ module _ {D : Type 0} (d : Ghosts D) where
     pub answered : IsAnswered d (asked_by step) reply old new
     -- over any disk, a reply is of those that its step may have
     pub suits : SuitsAtOnce (asked_by step) (told_by reply)
-    pub wants : old.failed ≡ false → (b : Base) (before : List Effect) (s : Shown) (v : View) (r : IsRunning d b before s v old) → WantsOf (settled b r.now.log) v.walk (λ t. (v.txns t).net) (locks_of old.locks) old.max_pages (asked_by step) reply
+    pub wants : old.failed ≡ false → (b : Base) (before : List Effect) (s : Shown) (v : View) (r : IsRunning d b before s v old) → WantsHere b before s v r (asked_by step) reply new
     pub quiet : (CallsDevice d (asked_by step) old → ⊥) → new.disk ≡ old.disk
     pub costs : StepCosts d (asked_by step) reply old new
     pub works : d.failed new.disk ≡ true → new.failed ≡ true

@@ -1,6 +1,6 @@
 //! How a store is opened, and how its engine ends.
 
-ghost use Rattle.std.specs.Prelude.{◌≡◌, ◌≢◌, ◌<◌, ◌⊎◌, ◌↔◌, ℕ, [], false, true, length, List, IfOk, IfErr};
+ghost use Rattle.std.specs.Prelude.{◌≡◌, ◌<◌, ◌⊎◌, ◌↔◌, [], false, true, length, List, IfOk, IfErr};
 ghost use Rattle.std.specs.Result.{IsErrAnd};
 ghost use Rattle.im_base_types.specs.declared.fault.Fault.TheVariants.{Memory};
 
@@ -23,12 +23,11 @@ fn make_room(alloc: Global) -> Result<Vec<u8>, Fault>
 
 impl<D: Disk> Engine<D> {
     ghost use Rattle.im_base_types.specs.Changes.{Effect};
-    ghost use Rattle.im_theory_log.specs.Histories.{Base, History};
     ghost use Rattle.std.specs.Prelude.{OnOk};
     ghost use Rattle.im_base_types.specs.declared.fault.Fault.TheVariants.{LogFull, Capacity, Device, Failed, Memory, NotAStore, PoolSize};
     ghost use Rattle.im_base_disk.specs.Disk.{Files};
     ghost use Rattle.im_base_disk.specs.Runs.{IsSynced, LeavesOnly, Reads};
-    ghost use Rattle.im_restart.specs.Restart.{IsFullLog, MayRedo, SpellsLog};
+    ghost use Rattle.im_restart.specs.Restart.{IsFullLog, SpellsLog};
     ghost use Rattle.im_engine.specs.Stands.{StandsFor};
     ghost use Rattle.im_engine.specs.Kept.{OpenKept, disk_of};
 
@@ -38,9 +37,7 @@ impl<D: Disk> Engine<D> {
     /// Refused `PoolSize`, with no device call, where the frames are not 8 to 1,024; `NotAStore` where the bytes are no store;
     /// `LogFull` only where the log's file then ends less than 32,778 bytes below LSN 2^62; `Capacity` where what is taken back needs
     /// a page and page numbers or levels are used up; `Memory`; `Device`. Where the log's bytes are no log's, one of its records leads to a
-    /// later one or names a page that no page count before it has, or one opens a structure change beside another's, nothing is written. A log that leaves nothing to take back is refused
-    /// `NotAStore` only for one of these, for an image that is no page, for a record behind its transaction's end, where the file of pages
-    /// lacks what stands below the redo point, or where a page does not take its record.
+    /// later one or names a page that no page count before it has, or one opens a structure change beside another's, nothing is written.
     pub fn open_or_create(alloc: Global, disk: D, config: Config) -> Result<Engine<D>, (Fault, D)>
         requires working { D.failed disk ≡ false }
         requires synced { IsSynced D.Disk disk }
@@ -53,7 +50,6 @@ impl<D: Disk> Engine<D> {
         ensures spelled { IfOk result (λ _. D.tells → SpellsLog (D.seen disk)) }
         ensures causes { IfErr result (λ x. (x.0 ≡ PoolSize) ⊎ (x.0 ≡ Memory) ⊎ (x.0 ≡ Device) ⊎ (x.0 ≡ NotAStore) ⊎ (x.0 ≡ LogFull) ⊎ (x.0 ≡ Capacity)) }
         ensures unspelled { D.tells → ¬ (SpellsLog (D.seen disk)) → Reads D.Disk disk (disk_of D.Disk result) × IfErr result (λ x. (x.0 ≡ PoolSize) ⊎ (x.0 ≡ Memory) ⊎ (x.0 ≡ Device) ⊎ (x.0 ≡ NotAStore)) }
-        ensures redoes { (b : Base) (base : ℕ) (all : History) → D.tells → MayRedo b base all (D.seen disk) → IfErr result (λ x. x.0 ≢ NotAStore) }
         ensures full { IfErr result (λ x. x.0 ≡ LogFull → D.tells → IsFullLog (D.seen x.1)) }
         ensures device { IsErrAnd result (λ x. x.0 ≡ Device) ↔ (D.failed (disk_of D.Disk result) ≡ true) }
     {

@@ -26,7 +26,7 @@ pub fn load_text<T: Turn + Sync, R: Threads + Wait + Sync, W: Write>(
 ) -> io::Result<u8>
     ensures { IfOk result (λ status. status ≤ 1) }
 {
-    let engine = MemoryStore::new(alloc);
+    let engine = MemoryStore::with_group(alloc, args.group());
     match load::<MemoryStore, Brand, T, R>(rt, alloc, engine, Blank::new(1024), args, turn) {
         Ok(loaded) => print_loaded(alloc, loaded, writer),
         Err(fault) => print_refused(fault, writer),

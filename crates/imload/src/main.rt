@@ -1,4 +1,4 @@
-//! `imload [--threads N] [--txns M] [--flush F] [--time]`: threads that make transactions at once on one store in memory. On a
+//! `imload [--threads N] [--txns M] [--flush F] [--group] [--time]`: threads that make transactions at once on one store in memory. On a
 //! terminal it says on standard error which threads have begun.
 #![tactic(auto)]
 

@@ -28,7 +28,6 @@ returns-in-Err-clause-refused g c =
         causes = is.causes;
         full = is.full;
         unspelled = is.unspelled;
-        redoes = is.redoes;
       };
       refused = (refl, refl);
       since = λ told files left before stands. (is.kept before told c.requires.synced stands).stops.each told files left;
@@ -54,7 +53,6 @@ returns-in-Ok-clause-lived g c =
       causes = is.causes;
       full = is.full;
       unspelled = is.unspelled;
-      redoes = is.redoes;
     } in
     listed c.life-replies.result _ _ c.life-replies.ensures.turns (λ replies turns.
     subst (λ x. IsLived d c.args.config c.args.steps.now replies.items c.args.disk x) (sym c.into_disk.ensures)
@@ -76,7 +74,6 @@ returns-in-Ok-clause-refused g c =
       causes = is.causes;
       full = is.full;
       unspelled = is.unspelled;
-      redoes = is.redoes;
     } in
     on_err c.life-replies.result _ _ _ c.life-replies.ensures.none c.life-replies.ensures.memory (λ same e memory.
     let disk = c.into_disk.ensures ∙ ap (λ (x : Engine _ d). x.disk) same in

@@ -21,7 +21,6 @@ returns-in-Err-clause-look g c =
         causes = is.causes;
         full = is.full;
         unspelled = is.unspelled;
-        redoes = is.redoes;
       };
       by = (refl, refl);
     }
@@ -41,7 +40,6 @@ returns-in-Err-clause-run g c =
       causes = is.causes;
       full = is.full;
       unspelled = is.unspelled;
-      redoes = is.redoes;
     } in
     unlooked g.D.Disk c.args.config c.args.disk c.in-Err.fault c.in-Err.disk opening
 
@@ -66,7 +64,6 @@ returns-in-Ok-clause-look g c =
         causes = is.causes;
         full = is.full;
         unspelled = is.unspelled;
-        redoes = is.redoes;
       };
       by = (c.entries-list.new.self, record { outcome = e.outcome; kept = e.kept; entries = e.entries; never = e.never }, c.into_disk.ensures);
     }
@@ -88,7 +85,6 @@ returns-in-Ok-clause-run g c told files left =
       causes = is.causes;
       full = is.full;
       unspelled = is.unspelled;
-      redoes = is.redoes;
     } in
     let listing : IsListing d c.entries-list.result c.in-Ok.opened c.entries-list.new.self = record { outcome = e.outcome; kept = e.kept; entries = e.entries; never = e.never } in
     looked d c.args.config c.args.disk c.in-Ok.opened c.entries-list.new.self opening c.entries-list.result listing told files (subst (λ x. d.left_since x (d.moment c.args.disk) files) c.into_disk.ensures left)
@@ -110,7 +106,6 @@ returns-in-Ok-clause-shows g c =
       causes = is.causes;
       full = is.full;
       unspelled = is.unspelled;
-      redoes = is.redoes;
     } in
     let listing : IsListing d c.entries-list.result c.in-Ok.opened c.entries-list.new.self = record { outcome = e.outcome; kept = e.kept; entries = e.entries; never = e.never } in
     shows_told d c.args.config c.args.disk c.entries-list.result
@@ -133,7 +128,6 @@ returns-in-Ok-clause-never g c =
       causes = is.causes;
       full = is.full;
       unspelled = is.unspelled;
-      redoes = is.redoes;
     } in
     let listing : IsListing d c.entries-list.result c.in-Ok.opened c.entries-list.new.self = record { outcome = e.outcome; kept = e.kept; entries = e.entries; never = e.never } in
     never_told d c.args.config c.args.disk c.entries-list.result

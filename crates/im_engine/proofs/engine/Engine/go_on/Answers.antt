@@ -6,7 +6,7 @@ use Rattle.im_engine.specs.Numbered.{Numbered}
 use Rattle.im_base_types.specs.declared.fault.Fault.TheVariants as faults
 use Rattle.im_engine.proofs.Causes.{refused_inj}
 use Rattle.im_engine.proofs.Telling.{not_true, told_answered, told_refused, told_rolled_back}
-use Rattle.im_engine.proofs.Turning.{continue_made, continue_refused, has_ended, has_more, has_more_to_undo, lacks_way, stands_going, told_capacity, turn_lost, turn_refused, lacks_room, told_memory}
+use Rattle.im_engine.proofs.Turning.{continue_made, continue_refused, has_ended, has_more, has_more_to_undo, lacks_way, stands_going, told_capacity, told_failed, turn_lost, turn_refused, lacks_room, told_memory}
 use Rattle.im_engine.proofs.engine.Engine.go_on.Goals as goal
 
 pub returns-in-Ok-More : goal.returns-in-Ok-More
@@ -26,7 +26,7 @@ returns-in-Ok-More g c =
       answered = continue_made g.D.Disk old c.requires.works c.args.t c.requires.checked c.undo_next.new.writer.log c.undo_next.new.disk replies.More (λ x e. cc e);
       suits = search rules;
       frames = search rules;
-      wants = λ b before s v r. record { short = λ is. absurd (let never : ⊥ = cc is in never); used_up = λ is. absurd (let never : ⊥ = cc is in never) };
+      wants = λ b before s v r. record { short = λ is. absurd (let never : ⊥ = cc is in never); used_up = λ is. absurd (let never : ⊥ = cc is in never); broken = λ is. absurd (let never : ⊥ = cc is in never) };
       quiet = λ none. absurd (none tt);
       costs = tt;
     }
@@ -49,7 +49,7 @@ returns-in-Ok-Ended g c =
       answered = continue_made g.D.Disk old c.requires.works c.args.t c.requires.checked c.undo_next.new.writer.log c.undo_next.new.disk replies.RolledBack (λ x e. cc e);
       suits = search rules;
       frames = search rules;
-      wants = λ b before s v r. record { short = λ is. absurd (let never : ⊥ = cc is in never); used_up = λ is. absurd (let never : ⊥ = cc is in never) };
+      wants = λ b before s v r. record { short = λ is. absurd (let never : ⊥ = cc is in never); used_up = λ is. absurd (let never : ⊥ = cc is in never); broken = λ is. absurd (let never : ⊥ = cc is in never) };
       quiet = λ none. absurd (none tt);
       costs = tt;
     }
@@ -77,6 +77,7 @@ returns-in-Err g c =
           record {
             short = λ wants. lacks_room g.D.Disk before s v c.args.t row old r found c.requires.checked (kept.short (told_memory c.in-Err.fault (sym c.told.ensures ∙ refused_inj c.told.result faults.Memory wants)));
             used_up = λ full. lacks_way g.D.Disk before s v c.args.t row old r found c.requires.checked (kept.used_up (told_capacity c.in-Err.fault (sym c.told.ensures ∙ refused_inj c.told.result faults.Capacity full)));
+            broken = λ late. kept.begun (told_failed g.D.Disk old.writer c.undo_next.new.writer c.undo_next.new.disk c.in-Err.fault c.in-Err.ensures.outcome.ends (sym c.told.ensures ∙ refused_inj c.told.result faults.Failed late));
           };
       quiet = λ none. absurd (none tt);
       costs = tt;

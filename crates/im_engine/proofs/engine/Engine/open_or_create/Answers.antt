@@ -12,6 +12,7 @@ returns-then-config-lt-LEAST_FRAMES-clause-kept g c before told synced stands = 
   report = tt;
   stops = none_opened g.D.Disk before c.args.disk stands synced (g.met.D.Disk.only_now c.args.disk);
   cause = λ e. cc e;
+  used_up = λ e. absurd (cc e);
 }
 
 pub returns-in-Err-clause-kept : goal.returns-in-Err-clause-kept
@@ -21,6 +22,7 @@ returns-in-Err-clause-kept g c before told synced stands = record {
   report = tt;
   stops = none_opened g.D.Disk before c.args.disk stands synced (g.met.D.Disk.only_now c.args.disk);
   cause = λ e. let never = sym c.in-Err.ensures.causes ∙ e in cc never;
+  used_up = λ e. absurd (let never = sym c.in-Err.ensures.causes ∙ e in cc never);
 }
 
 pub returns-in-Err-open_or_create-clause-kept : goal.returns-in-Err-open_or_create-clause-kept
@@ -32,6 +34,7 @@ returns-in-Err-open_or_create-clause-kept g c before told synced stands =
       report = tt;
       stops = opening_stops g.D.Disk before c.args.disk stands c.open_or_create.new.disk kept.stops;
       cause = kept.sound;
+      used_up = c.in-Err-open_or_create.ensures.used_up stands.b stands.base stands.log told (may_restart before (g.D.Disk.seen c.args.disk) stands);
     }
 
 pub returns-in-Ok-open_or_create-clause-kept : goal.returns-in-Ok-open_or_create-clause-kept
@@ -43,4 +46,5 @@ returns-in-Ok-open_or_create-clause-kept g c before told synced stands =
       report = kept.sound.report;
       stops = opening_stops g.D.Disk before c.args.disk stands c.open_or_create.new.disk kept.stops;
       cause = tt;
+      used_up = tt;
     }

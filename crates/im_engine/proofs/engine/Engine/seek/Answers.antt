@@ -6,6 +6,8 @@ use Rattle.im_theory_tree.specs.Levels.{Pages}
 use Rattle.im_base_steps.specs.declared.reply.Reply.{Reply}
 use Rattle.im_engine.specs.Told.{WantsOf}
 use Rattle.im_page_writer.specs.Outcome.{pages_of}
+use Rattle.im_page_writer.specs.PageWriter.{Evicted}
+use Rattle.im_restart_undo.specs.Undoing.{HasBegun}
 use Rattle.im_engine.proofs.Running.{has_good_tree, walk_is}
 use Rattle.im_engine_index.specs.Outcomes.{seek_at}
 use Rattle.im_engine.proofs.Reading.{granted, waits, dies, refused, seeks_change_nothing, seeks_want_memory}
@@ -24,9 +26,9 @@ use Rattle.im_base_steps.specs.Replies.{is_search}
 use Rattle.im_engine.proofs.engine.Engine.seek.Goals as goal
 
 -- neither wants anything
-seeks_want : (pages : Pages) (map : IndexMap) (nets : ℕ → Effect) (locks : ℕ → List HeldLock) (max_pages t : ℕ) (inclusive : Bool) (key : List ℕ) (reply : Reply) → WantsOf pages map nets locks max_pages (answers.Do t (seek_at inclusive key)) reply
-seeks_want pages map nets locks max_pages t true key reply = tt
-seeks_want pages map nets locks max_pages t false key reply = tt
+seeks_want : (Idle : Type 0) (Begun : ℕ → Type 0) (pages : Pages) (map : IndexMap) (nets : ℕ → Effect) (locks : ℕ → List HeldLock) (max_pages t : ℕ) (inclusive : Bool) (key : List ℕ) (reply : Reply) → WantsOf pages map Idle Begun nets locks max_pages (answers.Do t (seek_at inclusive key)) reply
+seeks_want Idle Begun pages map nets locks max_pages t true key reply = tt
+seeks_want Idle Begun pages map nets locks max_pages t false key reply = tt
 
 -- both searches are
 a_search : (t : ℕ) (inclusive : Bool) (key : List ℕ) → is_search (answers.Do t (seek_at inclusive key)) ≡ true
@@ -45,7 +47,7 @@ returns-in-Some g c =
       answered = read_answered g.D.Disk old c.seek.new.writer.log c.seek.new.disk c.requires.works c.args.t (seek_at c.args.inclusive c.args.key.now) (seeks_read c.args.inclusive c.args.key.now) c.requires.checked (replies.Entry c.in-Some.key c.in-Some.rid) (λ x e. cc e);
       suits = a_search c.args.t c.args.inclusive c.args.key.now;
       frames = search rules;
-      wants = λ b before s v r. seeks_want (settled b r.now.log) v.walk (λ t. (v.txns t).net) (locks_of old.locks) old.max_pages c.args.t c.args.inclusive c.args.key.now (replies.Entry c.in-Some.key c.in-Some.rid);
+      wants = λ b before s v r. seeks_want (Evicted g.D.Disk b r.base r.now old.disk c.seek.new.writer c.seek.new.disk) (λ u. HasBegun g.D.Disk b r.base r.now u c.seek.new.writer c.seek.new.disk) (settled b r.now.log) v.walk (λ t. (v.txns t).net) (locks_of old.locks) old.max_pages c.args.t c.args.inclusive c.args.key.now (replies.Entry c.in-Some.key c.in-Some.rid);
       quiet = λ none. absurd (none tt);
       costs = tt;
     }
@@ -62,7 +64,7 @@ returns-in-None g c =
       answered = read_answered g.D.Disk old c.seek.new.writer.log c.seek.new.disk c.requires.works c.args.t (seek_at c.args.inclusive c.args.key.now) (seeks_read c.args.inclusive c.args.key.now) c.requires.checked replies.End (λ x e. cc e);
       suits = a_search c.args.t c.args.inclusive c.args.key.now;
       frames = search rules;
-      wants = λ b before s v r. seeks_want (settled b r.now.log) v.walk (λ t. (v.txns t).net) (locks_of old.locks) old.max_pages c.args.t c.args.inclusive c.args.key.now replies.End;
+      wants = λ b before s v r. seeks_want (Evicted g.D.Disk b r.base r.now old.disk c.seek.new.writer c.seek.new.disk) (λ u. HasBegun g.D.Disk b r.base r.now u c.seek.new.writer c.seek.new.disk) (settled b r.now.log) v.walk (λ t. (v.txns t).net) (locks_of old.locks) old.max_pages c.args.t c.args.inclusive c.args.key.now replies.End;
       quiet = λ none. absurd (none tt);
       costs = tt;
     }
@@ -79,7 +81,7 @@ returns-in-Ok-Wait g c =
       answered = read_answered g.D.Disk old c.seek.new.writer.log c.seek.new.disk c.requires.works c.args.t (seek_at c.args.inclusive c.args.key.now) (seeks_read c.args.inclusive c.args.key.now) c.requires.checked (replies.Blocked (Lock c.in-Ok-Wait.holder)) (λ x e. cc e);
       suits = search rules;
       frames = search rules;
-      wants = λ b before s v r. seeks_want (settled b r.now.log) v.walk (λ t. (v.txns t).net) (locks_of old.locks) old.max_pages c.args.t c.args.inclusive c.args.key.now (replies.Blocked (Lock c.in-Ok-Wait.holder));
+      wants = λ b before s v r. seeks_want (Evicted g.D.Disk b r.base r.now old.disk c.seek.new.writer c.seek.new.disk) (λ u. HasBegun g.D.Disk b r.base r.now u c.seek.new.writer c.seek.new.disk) (settled b r.now.log) v.walk (λ t. (v.txns t).net) (locks_of old.locks) old.max_pages c.args.t c.args.inclusive c.args.key.now (replies.Blocked (Lock c.in-Ok-Wait.holder));
       quiet = λ none. absurd (none tt);
       costs = tt;
     }
@@ -96,7 +98,7 @@ returns-in-Ok-Die g c =
       answered = read_answered g.D.Disk old c.seek.new.writer.log c.seek.new.disk c.requires.works c.args.t (seek_at c.args.inclusive c.args.key.now) (seeks_read c.args.inclusive c.args.key.now) c.requires.checked replies.Die (λ x e. cc e);
       suits = search rules;
       frames = search rules;
-      wants = λ b before s v r. seeks_want (settled b r.now.log) v.walk (λ t. (v.txns t).net) (locks_of old.locks) old.max_pages c.args.t c.args.inclusive c.args.key.now replies.Die;
+      wants = λ b before s v r. seeks_want (Evicted g.D.Disk b r.base r.now old.disk c.seek.new.writer c.seek.new.disk) (λ u. HasBegun g.D.Disk b r.base r.now u c.seek.new.writer c.seek.new.disk) (settled b r.now.log) v.walk (λ t. (v.txns t).net) (locks_of old.locks) old.max_pages c.args.t c.args.inclusive c.args.key.now replies.Die;
       quiet = λ none. absurd (none tt);
       costs = tt;
     }
@@ -116,7 +118,7 @@ returns-in-Err g c =
           (read_cause g.D.Disk old.writer old.disk c.seek.new.writer c.seek.new.disk c.in-Err.fault c.in-Err.ensures.outcome.ends (old.working c.requires.works));
       suits = search rules;
       frames = search rules;
-      wants = λ b before s v r. seeks_want (settled b r.now.log) v.walk (λ t. (v.txns t).net) (locks_of old.locks) old.max_pages c.args.t c.args.inclusive c.args.key.now (replies.Refused c.told.result);
+      wants = λ b before s v r. seeks_want (Evicted g.D.Disk b r.base r.now old.disk c.seek.new.writer c.seek.new.disk) (λ u. HasBegun g.D.Disk b r.base r.now u c.seek.new.writer c.seek.new.disk) (settled b r.now.log) v.walk (λ t. (v.txns t).net) (locks_of old.locks) old.max_pages c.args.t c.args.inclusive c.args.key.now (replies.Refused c.told.result);
       quiet = λ none. absurd (none tt);
       costs = tt;
     }
