@@ -1,5 +1,5 @@
 -- The steps and replies of the code, as the definitions know them.
-use Rattle.std.specs.Prelude.{ℕ, Bool, true, false, List, [], ◌∷◌}
+use Rattle.std.specs.Prelude.{ℕ, nat_lt, Bool, true, false, List, [], ◌∷◌}
 use Rattle.im_base_types.specs.Pages.{Entry}
 use Rattle.im_base_types.specs.Answers as answers
 use Rattle.im_base_types.specs.Answers.{limit_of}
@@ -52,12 +52,17 @@ told_by replies.Die = answers.Die
 told_by replies.Done = answers.Done
 told_by (replies.Refused fault) = answers.Refused (number_of fault)
 
--- a step that may end a transaction
-abbrev pub may_end : answers.Step → Bool
-may_end (answers.Commit t) = true
-may_end (answers.Rollback t) = true
-may_end (answers.Continue t) = true
-may_end _ = false
+-- a step that may end a transaction, where so many wait for a force
+abbrev pub may_end : ℕ → answers.Step → Bool
+may_end waiting (answers.Commit t) = true
+may_end waiting (answers.Rollback t) = true
+may_end waiting (answers.Continue t) = true
+may_end waiting answers.Force = nat_lt 0 waiting
+may_end waiting _ = false
+
+abbrev pub is_force : answers.Step → Bool
+is_force answers.Force = true
+is_force _ = false
 
 -- how many entries the reply to an access may have at most
 abbrev pub most_of : answers.Access → ℕ
@@ -96,9 +101,10 @@ is_blocked (answers.Blocked holder) = true
 is_blocked answers.BlockedTree = true
 is_blocked _ = false
 
--- a transaction has ended, or the engine has failed
-abbrev pub may_unblock : answers.Reply → Bool
-may_unblock answers.Committed = true
-may_unblock answers.RolledBack = true
-may_unblock (answers.Refused fault) = breaks fault
-may_unblock _ = false
+-- a transaction has ended, or may have where a force was made, or the engine has failed
+abbrev pub may_unblock : answers.Step → answers.Reply → Bool
+may_unblock step answers.Committed = true
+may_unblock step answers.RolledBack = true
+may_unblock step answers.Done = is_force step
+may_unblock step (answers.Refused fault) = breaks fault
+may_unblock step _ = false

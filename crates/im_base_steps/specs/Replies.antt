@@ -1,8 +1,8 @@
 -- What each step may be answered, whatever is known of a store's disk.
-use Rattle.std.specs.Prelude.{◌||◌, ◌≡◌, ℕ, ◌+◌, ◌≤◌, ◌==◌, Bool, true, false, length}
+use Rattle.std.specs.Prelude.{◌||◌, ◌≡◌, ℕ, ◌+◌, ◌≤◌, ◌==◌, Bool, true, false, length, if◌then◌else◌}
 use Rattle.im_base_types.specs.Answers.{Fetch, Seek, Next, Scan, Insert, Delete, Step, Begin, Do, Commit, Rollback, Continue, FlushPage, Force, Checkpoint, Reply, Started, Found, Absent, Entry, End, Entries, Inserted, Duplicate, Deleted, Committed, RolledBack, More, Blocked, BlockedTree, Die, Done, Refused}
 use Rattle.im_base_types.specs.Refusals.{memory}
-use Rattle.im_base_steps.specs.Calls.{most_entries, most_key}
+use Rattle.im_base_steps.specs.Calls.{is_force, most_entries}
 
 -- ---- steps, by what they ask
 
@@ -95,11 +95,11 @@ Suits step Die = is_access step ≡ true
 Suits step Done = is_service step ≡ true
 Suits step (Refused fault) = Unit {0}
 
--- What it may be answered by a store that makes each structure change within one step: no Insert or Delete goes on, and no Continue finds the tree blocked.
+-- What it may be answered by a store that makes each structure change within one step, and each Commit: no Insert, Delete or Commit goes on, and no Continue finds the tree blocked.
 abbrev pub SuitsAtOnce : Step → Reply → Type 0
 SuitsAtOnce step Inserted = is_insert step ≡ true
 SuitsAtOnce step Deleted = is_delete step ≡ true
-SuitsAtOnce step More = (takes_back step || is_commit step) ≡ true
+SuitsAtOnce step More = takes_back step ≡ true
 SuitsAtOnce step BlockedTree = is_access step ≡ true
 SuitsAtOnce step reply = Suits step reply
 
@@ -114,14 +114,22 @@ abbrev pub started_in : Reply → ℕ
 started_in (Started t) = 1
 started_in _ = 0
 
-abbrev pub committed_in : Reply → ℕ
-committed_in Committed = 1
-committed_in _ = 0
-
 abbrev pub rolled_back_in : Reply → ℕ
 rolled_back_in RolledBack = 1
 rolled_back_in _ = 0
 
--- With so many active before a reply and so many behind it: what was started or was active has ended, or is active.
-abbrev pub IsCounted : Reply → ℕ → ℕ → Type 0
-IsCounted reply old new = started_in reply + old ≡ (committed_in reply + rolled_back_in reply) + new
+-- Where so many wait for a force: how many a reply commits, since a force commits all of them, and how many wait then.
+abbrev pub commits_in : ℕ → Step → Reply → ℕ
+commits_in waiting step Committed = 1
+commits_in waiting step Done = if is_force step then waiting else 0
+commits_in waiting step _ = 0
+
+abbrev pub waits_after : ℕ → Step → Reply → ℕ
+waits_after waiting step More = if is_commit step then waiting + 1 else waiting
+waits_after waiting step Done = if is_force step then 0 else waiting
+waits_after waiting step _ = waiting
+
+-- With so many that wait for a force and so many active before a reply, and so many of both after it: what was started or was active has ended, or is active, and who waits is
+-- who waited and was not committed, or whose Commit is to wait.
+abbrev pub IsCounted : Step → Reply → (waiting old waits new : ℕ) → Type 0
+IsCounted step reply waiting old waits new = (started_in reply + old ≡ (commits_in waiting step reply + rolled_back_in reply) + new) × (waits ≡ waits_after waiting step reply)

@@ -1,7 +1,7 @@
 //! What a store that many transactions use at once answers.
 
 ghost use Rattle.std.specs.Prelude.{◌≡◌};
-ghost use Rattle.im_base_steps.specs.Calls.{told_by, is_blocked, may_unblock};
+ghost use Rattle.im_base_steps.specs.Calls.{told_by, is_blocked};
 
 use im_base_types::{Fault, Key, Rid, TxnId};
 
@@ -37,7 +37,7 @@ pub enum Reply {
     Committed,
     /// Nothing of what the transaction did is left.
     RolledBack,
-    /// Make a Continue: something is left to be done.
+    /// Something is left to be done: make a Continue. Behind a Commit: it is logged, and the next force that is made commits the transaction.
     More,
     /// Nothing was changed: make the step again when what stands in the way has ended.
     Blocked(Blocker),
@@ -54,23 +54,5 @@ impl Reply {
         ensures { result ≡ is_blocked (told_by self.now) }
     {
         matches!(self, Reply::Blocked(_))
-    }
-
-    /// Whether a step that is `Blocked` is worth making again behind this one: a transaction has ended, or the engine has failed.
-    pub fn may_unblock(&self) -> bool
-        ensures { result ≡ may_unblock (told_by self.now) }
-    {
-        matches!(
-            self,
-            Reply::Committed
-                | Reply::RolledBack
-                | Reply::Refused(
-                    Fault::Capacity
-                        | Fault::LogFull
-                        | Fault::Device
-                        | Fault::Failed
-                        | Fault::NotAStore
-                )
-        )
     }
 }

@@ -1,9 +1,13 @@
 //! What is asked of a store that many transactions use at once.
 
-ghost use Rattle.std.specs.Prelude.{◌≡◌, IfOk};
-ghost use Rattle.im_base_steps.specs.Calls.{asked_by, may_end, most_entries, most_key};
+ghost use Rattle.std.specs.Prelude.{◌≡◌, ◌<◌, ◌^◌, IfOk};
+ghost use Rattle.im_base_types.specs.Faults.{number_of};
+ghost use Rattle.im_base_types.specs.Lives.{breaks};
+ghost use Rattle.im_base_steps.specs.Calls.{asked_by, told_by, may_end, may_unblock, most_entries, most_key};
+ghost use Rattle.im_base_steps.specs.Replies.{waits_after};
 
-use im_base_types::{LONGEST_KEY, MOST_ENTRIES, PageNo, Rid, TxnId};
+use crate::reply::Reply;
+use im_base_types::{Fault, LONGEST_KEY, MOST_ENTRIES, PageNo, Rid, TxnId};
 use std::alloc::{AllocError, Global};
 
 /// A step, made by one call. A key or a bound is handed in as bytes; where it has 0 bytes or more than 255 the step
@@ -24,7 +28,7 @@ pub enum Step {
     Insert(TxnId, Vec<u8>, Rid),
     /// Drops a key.
     Delete(TxnId, Vec<u8>),
-    /// Makes all that the transaction did durable, and ends it.
+    /// Makes all that the transaction did durable, and ends it: at once, or with the next force where it is answered `More`.
     Commit(TxnId),
     /// Takes back what the transaction did: ends it where that is nothing, and else begins to.
     Rollback(TxnId),
@@ -62,14 +66,41 @@ impl Step {
         })
     }
 
-    /// Whether it may end a transaction: a Commit, a Rollback, a Continue. Such a step is never refused for a full trace.
-    pub fn may_end(&self) -> bool
-        ensures { result ≡ may_end (asked_by self.now) }
+    /// Whether it may end a transaction, where so many wait for a force: a Commit, a Rollback, a Continue, and a Force where some wait. Such a
+    /// step is never refused for a full trace.
+    pub fn may_end(&self, waiting: u64) -> bool
+        ensures { result ≡ may_end waiting (asked_by self.now) }
     {
-        matches!(
-            self,
-            Step::Commit(_) | Step::Rollback(_) | Step::Continue(_)
-        )
+        match self {
+            Step::Commit(_) | Step::Rollback(_) | Step::Continue(_) => true,
+            Step::Force => waiting > 0,
+            _ => false,
+        }
+    }
+
+    /// Whether a step that is `Blocked` is worth making again behind this one with this reply: a transaction has ended, or may have where a
+    /// force was made, or the engine has failed.
+    pub fn may_unblock(&self, reply: &Reply) -> bool
+        ensures { result ≡ may_unblock (asked_by self.now) (told_by reply.now) }
+    {
+        match reply {
+            Reply::Committed | Reply::RolledBack => true,
+            Reply::Done => matches!(self, Step::Force),
+            Reply::Refused(fault) => breaks(*fault),
+            _ => false,
+        }
+    }
+
+    /// How many wait for a force behind this step with this reply, where so many waited before it.
+    pub fn waits_after(&self, waiting: u64, reply: &Reply) -> u64
+        requires { waiting < 2 ^ 63 }
+        ensures { result ≡ waits_after waiting (asked_by self.now) (told_by reply.now) }
+    {
+        match (self, reply) {
+            (Step::Commit(_), Reply::More) => waiting + 1,
+            (Step::Force, Reply::Done) => 0,
+            _ => waiting,
+        }
     }
 
     /// How many entries its reply may have at most.
@@ -91,6 +122,16 @@ impl Step {
             _ => 0,
         }
     }
+}
+
+// Whether a refusal for this fault leaves an engine that has failed.
+fn breaks(fault: Fault) -> bool
+    ensures { result ≡ breaks (number_of fault) }
+{
+    matches!(
+        fault,
+        Fault::Capacity | Fault::LogFull | Fault::Device | Fault::Failed | Fault::NotAStore
+    )
 }
 
 // The same bytes.

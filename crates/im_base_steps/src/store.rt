@@ -1,6 +1,6 @@
 //! What a front asks of an engine.
 
-ghost use Rattle.std.specs.Prelude.{◌≡◌, ℕ, List, false, ◌++◌, IfOk, IfErr};
+ghost use Rattle.std.specs.Prelude.{◌≡◌, ◌≤◌, ℕ, List, false, ◌++◌, IfOk, IfErr};
 ghost use Rattle.std.specs.FinMap.{empty, entries as entries_of};
 ghost use Rattle.im_base_types.specs.Changes.{Effect, apply_all};
 ghost use Rattle.im_base_types.specs.Lives.{Shown, Survives, effects, nothing_shown};
@@ -34,6 +34,9 @@ pub trait Store: Drop {
     /// How many transactions are active.
     ghost actives: { Self → ℕ };
 
+    /// How many of them wait for a force, their Commit answered `More`.
+    ghost waiting: { Self → ℕ };
+
     /// Why the entries are refused.
     ghost refuses: { Self → Self → faults.Fault → Type 0 };
 
@@ -45,7 +48,7 @@ pub trait Store: Drop {
         ensures kept { (before : List Effect) (s : Shown) (v : View) → life before s v self.old
             → StepKept life before s v (asked_by step.now) (told_by result) self.new }
         ensures reply { IsAlive life tells self.old → IsReply (asked_by step.now) (told_by result) }
-        ensures counted { IsAlive life tells self.old → IsCounted (told_by result) (actives self.old) (actives self.new) }
+        ensures counted { IsAlive life tells self.old → IsCounted (asked_by step.now) (told_by result) (waiting self.old) (actives self.old) (waiting self.new) (actives self.new) }
         ensures made { made self.old step.now result self.new };
 
     /// The entries of the map, those of active transactions included, in rising key order. A refusal may break the store.
@@ -54,7 +57,8 @@ pub trait Store: Drop {
             → (list.items ≡ entries_of v.walk) × life before s v self.new) }
         ensures kept { IfErr result (λ fault. (before : List Effect) (s : Shown) (v : View) → life before s v self.old → LookKept life before s v self.new) }
         ensures cause { IfErr result (λ fault. refuses self.old self.new fault) }
-        ensures active { actives self.new ≡ actives self.old };
+        ensures active { actives self.new ≡ actives self.old }
+        ensures waiting { waiting self.new ≡ waiting self.old };
 
     /// How many transactions are active.
     fn active(&self) -> usize
@@ -64,6 +68,9 @@ pub trait Store: Drop {
     /// Whether an earlier call broke it.
     fn failed(&self) -> bool
         ensures { (before : List Effect) (s : Shown) (v : View) → life before s v self.now → result ≡ v.failed };
+
+    /// Who waits is active.
+    ghost few: { (e : Self) → waiting e ≤ actives e };
 
     /// What was acknowledged survives a stop: it leaves a front of what was asked, with each acknowledged one.
     ghost stops: { (before : List Effect) (s : Shown) (v : View) (e : Self) → life before s v e → leaves e (λ after. Survives before s.asked after) };

@@ -1,2 +1,3 @@
 pub mod RowLemmas
 pub mod LookUps
+pub mod Waiting

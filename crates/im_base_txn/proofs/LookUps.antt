@@ -3,7 +3,7 @@ use Rattle.std.proofs.Common.{◌≡◌, ◌≢◌, ◌<◌, ◌≤◌, ◌+◌,
 use Rattle.std.proofs.lemmas.Bool.{eq-eqb, ne_eqb, cond-false, cond-true, cases_eq}
 use Rattle.std.specs.Prelude.{◌==◌, if◌then◌else◌}
 use Rattle.im_base_txn.specs.declared.transaction.Transaction.{Transaction}
-use Rattle.im_base_txn.specs.Rows.{AreAbove, AreBelow, AreRising, begun, changed, is_of}
+use Rattle.im_base_txn.specs.Rows.{AreAbove, AreBelow, AreRising, begun, changed, is_of, is_waiting, waiting_in}
 use Rattle.im_base_txn.specs.LookUps.{Keeps, without, LookUpsFollow, NumbersStayBelow}
 
 same_row : (a b : Transaction) → Some a ≡ Some b → a ≡ b
@@ -187,8 +187,16 @@ below_left next n (r ∷ rs) h = go (not (r.number == n)) (below_left next n rs 
     go true rest = (h.0, rest)
     go false rest = rest
 
+below_part : (next : ℕ) (p : Transaction → Bool) (rows : List Transaction) → AreBelow next rows → AreBelow next (filter p rows)
+below_part next p [] h = tt
+below_part next p (r ∷ rs) h = go (p r) (below_part next p rs h.1)
+  where
+    go : (b : Bool) → AreBelow next (filter p rs) → AreBelow next (cond b (r ∷ filter p rs) (filter p rs))
+    go true rest = (h.0, rest)
+    go false rest = rest
+
 pub numbers_stay_below : NumbersStayBelow
-numbers_stay_below = record { begins = below_begun; changes = below_changed; ends = below_left }
+numbers_stay_below = record { begins = below_begun; changes = below_changed; ends = below_left; forces = λ next rows below. below_part next (λ row. not (is_waiting row)) rows below }
 
 -- ---- the invariant of the table, behind each change of its rows
 
@@ -232,6 +240,44 @@ table_left n new old inside is same table =
     let few : length inside ≤ 64 = table.0 in (
       omega (arith, long, less, here, few),
       subst (λ (l : List Transaction). AreRising l) (sym is) (rising_left n old (subst (λ (l : List Transaction). AreRising l) same table.1)),
+    )
+
+-- the rows that pass a test
+pub above_part : (n : ℕ) (p : Transaction → Bool) (rows : List Transaction) → AreAbove n rows → AreAbove n (filter p rows)
+above_part n p [] h = tt
+above_part n p (r ∷ rs) h = go (p r) (above_part n p rs h.1)
+  where
+    go : (b : Bool) → AreAbove n (filter p rs) → AreAbove n (cond b (r ∷ filter p rs) (filter p rs))
+    go true rest = (h.0, rest)
+    go false rest = rest
+
+rising_part : (p : Transaction → Bool) (rows : List Transaction) → AreRising rows → AreRising (filter p rows)
+rising_part p [] h = tt
+rising_part p (r ∷ rs) h = go (p r) (rising_part p rs h.1)
+  where
+    go : (b : Bool) → AreRising (filter p rs) → AreRising (cond b (r ∷ filter p rs) (filter p rs))
+    go true rest = (above_part r.number p rs h.0, rest)
+    go false rest = rest
+
+length_part : (p : Transaction → Bool) (rows : List Transaction) → length (filter p rows) ≤ length rows
+length_part p [] = omega arith
+length_part p (r ∷ rs) = go (p r) (length_part p rs)
+  where
+    go : (b : Bool) → length (filter p rs) ≤ length rs → length (cond b (r ∷ filter p rs) (filter p rs)) ≤ length (r ∷ rs)
+    go true h = omega (arith, h)
+    go false h = omega (arith, h)
+
+pub few_waiting : (rows : List Transaction) → waiting_in rows ≤ length rows
+few_waiting rows = length_part is_waiting rows
+
+pub table_part : (p : Transaction → Bool) (new old inside : List Transaction) → new ≡ filter p old → inside ≡ old → IsTable inside → IsTable new
+table_part p new old inside is same table =
+    let long : length new ≡ length (filter p old) = ap (λ (l : List Transaction). length l) is in
+    let less : length (filter p old) ≤ length old = length_part p old in
+    let here : length inside ≡ length old = ap (λ (l : List Transaction). length l) same in
+    let few : length inside ≤ 64 = table.0 in (
+      omega (arith, long, less, here, few),
+      subst (λ (l : List Transaction). AreRising l) (sym is) (rising_part p old (subst (λ (l : List Transaction). AreRising l) same table.1)),
     )
 
 pub one_left : (n : ℕ) (new old inside : List Transaction) → new ≡ without n old → inside ≡ old → IsTable inside → (row : Transaction) → find (is_of n) old ≡ Some row → length old ≡ length new + 1

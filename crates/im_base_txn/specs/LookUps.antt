@@ -2,7 +2,7 @@
 use Rattle.std.specs.Prelude.{◌≡◌, ◌≢◌, ℕ, suc, ◌+◌, List, [], ◌∷◌, ◌++◌, length, map, not, Option, None, Some}
 use Rattle.std.specs.List.{filter, find}
 use Rattle.im_base_txn.specs.declared.transaction.Transaction.{Transaction}
-use Rattle.im_base_txn.specs.Rows.{AreBelow, AreRising, begun, changed, is_of}
+use Rattle.im_base_txn.specs.Rows.{AreBelow, AreRising, begun, changed, is_of, without_waiting}
 
 -- a change of rows that keeps their numbers
 abbrev pub Keeps : (Transaction → Transaction) → Type 0
@@ -33,3 +33,4 @@ pub record NumbersStayBelow : Type 0 where
   pub begins : (n : ℕ) (rows : List Transaction) → AreBelow n rows → AreBelow (suc n) (rows ++ begun n ∷ [])
   pub changes : (next n : ℕ) (f : Transaction → Transaction) → Keeps f → (rows : List Transaction) → AreBelow next rows → AreBelow next (map (changed n f) rows)
   pub ends : (next n : ℕ) (rows : List Transaction) → AreBelow next rows → AreBelow next (without n rows)
+  pub forces : (next : ℕ) (rows : List Transaction) → AreBelow next rows → AreBelow next (without_waiting rows)

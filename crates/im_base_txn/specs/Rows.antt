@@ -1,7 +1,7 @@
 -- The rows of the table, in rising number.
-use Rattle.std.specs.Prelude.{◌≡◌, ◌<◌, ◌==◌, ℕ, Bool, not, List, [], ◌∷◌, if◌then◌else◌}
+use Rattle.std.specs.Prelude.{◌≡◌, ◌<◌, ◌==◌, ℕ, Bool, true, false, not, List, [], ◌∷◌, Option, None, Some, length, filter, map, if◌then◌else◌}
 use Rattle.im_base_txn.specs.declared.transaction.Mark.{Mark}
-use Rattle.im_base_txn.specs.declared.transaction.Mark.TheVariants.{Going}
+use Rattle.im_base_txn.specs.declared.transaction.Mark.TheVariants.{Going, MustRollBack, RollingBack, Committing}
 use Rattle.im_base_txn.specs.declared.transaction.Transaction.{Transaction}
 
 -- A transaction that has just begun.
@@ -38,3 +38,30 @@ with_mark mark row = record { number = row.number; last = row.last; undo_next = 
 -- A row after a change of the transaction of this number.
 abbrev pub changed : ℕ → (Transaction → Transaction) → Transaction → Transaction
 changed number change row = if row.number == number then change row else row
+
+-- Its Commit is logged, and waits for a force.
+abbrev pub is_committing : Mark → Bool
+is_committing Committing = true
+is_committing Going = false
+is_committing MustRollBack = false
+is_committing RollingBack = false
+
+abbrev pub is_waiting : Transaction → Bool
+is_waiting row = is_committing row.mark
+
+-- Whether a row that is found waits.
+abbrev pub waits_at : Option Transaction → Bool
+waits_at None = false
+waits_at (Some row) = is_waiting row
+
+-- The numbers of those that wait.
+abbrev pub waiting_numbers : List Transaction → List ℕ
+waiting_numbers rows = map (λ row. row.number) (filter is_waiting rows)
+
+-- How many wait.
+abbrev pub waiting_in : List Transaction → ℕ
+waiting_in rows = length (filter is_waiting rows)
+
+-- The table without those that wait.
+abbrev pub without_waiting : List Transaction → List Transaction
+without_waiting rows = filter (λ row. not (is_waiting row)) rows

@@ -1,7 +1,7 @@
 //! The table.
 
 ghost use Rattle.std.specs.Prelude.{◌≡◌, true, ◌<◌, ◌≤◌, ◌++◌, ◌+◌, ◌↔◌, [], ◌∷◌, not, filter, find, length, map, Some};
-ghost use Rattle.im_base_txn.specs.Rows.{AreBelow, AreRising, begun, changed, is_of, with_mark, with_record};
+ghost use Rattle.im_base_txn.specs.Rows.{AreBelow, AreRising, begun, changed, is_of, with_mark, with_record, without_waiting};
 ghost use Rattle.im_base_txn.specs.declared.transaction.Transaction.{Transaction as Row};
 
 use crate::transaction::{Mark, Transaction};
@@ -129,6 +129,20 @@ impl Table {
                 self.rows.remove(at);
             } else {
                 at += 1;
+            }
+        }
+    }
+
+    /// Takes every transaction whose Commit waits for a force out of the table.
+    pub fn end_waiting(&mut self)
+        ensures { self.new ≡ without_waiting self.old }
+    {
+        let mut i = 0;
+        while i < self.rows.len() {
+            if self.rows.as_slice()[i].mark.is_committing() {
+                self.rows.remove(i);
+            } else {
+                i += 1;
             }
         }
     }

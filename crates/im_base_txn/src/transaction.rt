@@ -1,5 +1,8 @@
 //! A row of the table.
 
+ghost use Rattle.std.specs.Prelude.{◌≡◌};
+ghost use Rattle.im_base_txn.specs.Rows.{is_committing};
+
 use im_base_types::{Lsn, TxnId};
 
 /// What a transaction may do next.
@@ -14,6 +17,15 @@ pub enum Mark {
     RollingBack,
     /// Its Commit is logged and waits for a force: no step is taken.
     Committing,
+}
+
+impl Mark {
+    /// Whether a Commit is logged and waits for a force.
+    pub fn is_committing(&self) -> bool
+        ensures { result ≡ is_committing self.now }
+    {
+        matches!(self, Mark::Committing)
+    }
 }
 
 /// An active transaction.

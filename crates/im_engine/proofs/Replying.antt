@@ -1,5 +1,6 @@
 -- What a step is answered over any disk: never a full trace, and what its reply begins and ends is what the table then has.
 use Rattle.std.proofs.Common.{◌≡◌, ◌⊎◌, inl, inr, ℕ, ◌≤◌, ◌+◌, ◌-◌, Bool, true, false, List, [], ◌∷◌, length, Option, None, Some, refl, sym, ap, subst, ◌∙◌, true≢false, arith}
+use Rattle.std.specs.Prelude.{if◌then◌else◌}
 use Rattle.std.proofs.lemmas.Bool.{cases_Bool}
 use Rattle.im_base_types.specs.Answers as answers
 use Rattle.im_base_types.specs.declared.fault.Fault as below
@@ -14,7 +15,7 @@ use Rattle.im_base_types.specs.declared.fault.Fault.TheVariants as faults
 use Rattle.im_base_steps.specs.declared.reply.Blocker.TheVariants as blockers
 use Rattle.im_base_steps.specs.declared.reply.Reply.{Reply}
 use Rattle.im_base_steps.specs.declared.reply.Reply.TheVariants as replies
-use Rattle.im_base_steps.specs.Calls.{asked_by, told_by}
+use Rattle.im_base_steps.specs.Calls.{asked_by, told_by, is_force}
 use Rattle.im_base_types.specs.Faults.{number_of}
 use Rattle.im_base_steps.proofs.AtOnce.{at_once}
 use Rattle.im_base_steps.specs.Replies.{is_commit, takes_back, is_full, SuitsAtOnce, IsReply, IsCounted}
@@ -108,6 +109,17 @@ module _ {D : Type 0} (d : Ghosts D) (step : Step) (reply : Reply) (old new : En
 
 -- ---- who ends had begun
 
+-- a Commit takes nothing back
+no_commit : (step : answers.Step) → takes_back step ≡ true → is_commit step ≡ false
+no_commit (answers.Rollback t) e = refl
+no_commit (answers.Continue t) e = refl
+no_commit (answers.Commit t) e = absurd (true≢false (sym e))
+no_commit answers.Begin e = absurd (true≢false (sym e))
+no_commit (answers.Do t a) e = absurd (true≢false (sym e))
+no_commit (answers.FlushPage p) e = absurd (true≢false (sym e))
+no_commit answers.Force e = absurd (true≢false (sym e))
+no_commit answers.Checkpoint e = absurd (true≢false (sym e))
+
 -- a step that ends a transaction is refused where there is none
 no_row : (step : answers.Step) → ((is_commit step ≡ true) ⊎ (takes_back step ≡ true)) → first_check false 0 (mark_for (marks_in []) step) false step ≡ Some (number_of faults.NoTransaction)
 no_row (answers.Commit t) e = refl
@@ -145,21 +157,33 @@ module _ {D : Type 0} (d : Ghosts D) (step : Step) (reply : Reply) (old new : En
   now : (r : Reply) → reply ≡ r → length new.txns.rows ≡ (after r (known_of d old)).active
   now r is = ap (λ (k : Known). k.active) one.told.known ∙ ap (λ (x : Reply). (after x (known_of d old)).active) is
 
-  plain : length new.txns.rows ≡ length old.txns.rows → 0 + length old.txns.rows ≡ (0 + 0) + length new.txns.rows
-  plain e = omega (arith, e)
+  abbrev AreAsMany : ℕ → ℕ → Type 0
+  AreAsMany ended waits = (0 + length old.txns.rows ≡ (ended + 0) + length new.txns.rows) × (0 ≡ waits)
 
-  counts : (r : Reply) → reply ≡ r → IsCounted (told_by r) (length old.txns.rows) (length new.txns.rows)
-  counts (replies.Started n) is = let e : length new.txns.rows ≡ length old.txns.rows + 1 = now (replies.Started n) is in omega arith
+  plain : length new.txns.rows ≡ length old.txns.rows → AreAsMany 0 0
+  plain e = (omega (arith, e), refl)
+
+  -- nobody waits for a force, also where one is made
+  done : (b : Bool) → length new.txns.rows ≡ length old.txns.rows → AreAsMany (if b then 0 else 0) (if b then 0 else 0)
+  done true e = plain e
+  done false e = plain e
+
+  more : (b : Bool) → b ≡ false → length new.txns.rows ≡ length old.txns.rows → AreAsMany 0 (if b then 0 + 1 else 0)
+  more true never e = absurd (true≢false never)
+  more false is e = plain e
+
+  counts : (r : Reply) → reply ≡ r → IsCounted (asked_by step) (told_by r) 0 (length old.txns.rows) 0 (length new.txns.rows)
+  counts (replies.Started n) is = let e : length new.txns.rows ≡ length old.txns.rows + 1 = now (replies.Started n) is in (omega arith, refl)
   counts replies.Committed is =
       let e : length new.txns.rows ≡ length old.txns.rows - 1 = now replies.Committed is in
       let suits : is_commit (asked_by step) ≡ true = subst (λ (r : Reply). SuitsAtOnce (asked_by step) (told_by r)) is one.suits in
       let some = some_row (λ fault so. (let never = sym is ∙ so in cc never)) (inl suits) in
-      omega (arith, e, some)
+      (omega (arith, e, some), refl)
   counts replies.RolledBack is =
       let e : length new.txns.rows ≡ length old.txns.rows - 1 = now replies.RolledBack is in
       let suits : takes_back (asked_by step) ≡ true = subst (λ (r : Reply). SuitsAtOnce (asked_by step) (told_by r)) is one.suits in
       let some = some_row (λ fault so. (let never = sym is ∙ so in cc never)) (inr suits) in
-      omega (arith, e, some)
+      (omega (arith, e, some), refl)
   counts (replies.Refused fault) is = plain (now (replies.Refused fault) is)
   counts (replies.Found rid) is = plain (now (replies.Found rid) is)
   counts replies.Absent is = plain (now replies.Absent is)
@@ -169,13 +193,13 @@ module _ {D : Type 0} (d : Ghosts D) (step : Step) (reply : Reply) (old new : En
   counts replies.Inserted is = plain (now replies.Inserted is)
   counts replies.Duplicate is = plain (now replies.Duplicate is)
   counts replies.Deleted is = plain (now replies.Deleted is)
-  counts replies.More is = plain (now replies.More is)
+  counts replies.More is = more (is_commit (asked_by step)) (no_commit (asked_by step) (subst (λ (r : Reply). SuitsAtOnce (asked_by step) (told_by r)) is one.suits)) (now replies.More is)
   counts (replies.Blocked (blockers.Lock h)) is = plain (now (replies.Blocked (blockers.Lock h)) is)
   counts (replies.Blocked blockers.Tree) is = plain (now (replies.Blocked blockers.Tree) is)
   counts replies.Die is = plain (now replies.Die is)
-  counts replies.Done is = plain (now replies.Done is)
+  counts replies.Done is = done (is_force (asked_by step)) (now replies.Done is)
 
-  pub step_counts : IsCounted (told_by reply) (length old.txns.rows) (length new.txns.rows)
+  pub step_counts : IsCounted (asked_by step) (told_by reply) 0 (length old.txns.rows) 0 (length new.txns.rows)
   step_counts = counts reply refl
 
 -- ---- a look

@@ -1,6 +1,6 @@
 -- An engine as a store that a front shares among threads.
-use Rattle.std.specs.Prelude.{◌≡◌, ℕ, false, List, ◌++◌, [], length, Some}
-use Rattle.std.proofs.Common.{refl, sym, ◌∙◌}
+use Rattle.std.specs.Prelude.{◌≡◌, ◌≤◌, ℕ, false, List, ◌++◌, [], length, Some}
+use Rattle.std.proofs.Common.{refl, sym, ◌∙◌, arith}
 use Rattle.std.specs.FinMap.{empty}
 use Rattle.im_base_types.specs.Changes.{Effect, apply_all}
 use Rattle.im_base_types.specs.Lives.{Shown, Survives, effects, nothing_shown}
@@ -32,6 +32,10 @@ module _ {D : Type 0} (d : Ghosts D) where
     pub why : below.Fault
     pub told : fault ≡ told_as why
     pub looks : Looks d (Some why) old new
+
+-- nobody waits for a force: who waits is active
+pub none_waits : (active : ℕ) → 0 ≤ active
+none_waits active = omega arith
 
 module _ {D : Type 0} {d : Ghosts D} where
   -- what was acknowledged survives a stop

@@ -11,7 +11,7 @@ use std::alloc::Global;
 impl<D: Disk + Drop> Store for Engine<D> {
     ghost use Rattle.std.specs.Prelude.{length};
     ghost use Rattle.im_engine.specs.Told.{IsStep};
-    ghost use Rattle.im_engine.specs.Serves.{IsStoreLife, Leaves, IsRefused, stops_keep, settled};
+    ghost use Rattle.im_engine.specs.Serves.{IsStoreLife, Leaves, IsRefused, none_waits, stops_keep, settled};
 
     ghost tells = { D.tells };
 
@@ -20,6 +20,8 @@ impl<D: Disk + Drop> Store for Engine<D> {
     ghost leaves = { λ e P. Leaves D.Disk e P };
 
     ghost actives = { λ e. length e.txns.rows };
+
+    ghost waiting = { λ e. 0 };
 
     ghost refuses = { λ old new fault. IsRefused D.Disk old new fault };
 
@@ -43,6 +45,8 @@ impl<D: Disk + Drop> Store for Engine<D> {
     fn failed(&self) -> bool {
         Engine::failed(self)
     }
+
+    ghost few = { λ e. none_waits (length e.txns.rows) };
 
     ghost stops = { λ before s v e h. stops_keep before s v e h };
 

@@ -1,18 +1,18 @@
 -- In a run of the machine, what was started has ended or is active.
-use Rattle.std.proofs.Common.{◌≡◌, ◌≢◌, ℕ, zero, suc, ◌+◌, ◌-◌, ◌≤◌, ◌<◌, Bool, true, false, true≢false, List, [], ◌∷◌, ◌++◌, length, Option, Some, None, ◌⊎◌, refl, ap, sym, subst, ◌∙◌, inl, inr, arith}
+use Rattle.std.proofs.Common.{◌≡◌, ◌≢◌, ℕ, zero, suc, ◌+◌, ◌-◌, ◌≤◌, ◌<◌, Bool, true, false, true≢false, List, [], ◌∷◌, ◌++◌, length, length-append, Option, Some, None, ◌⊎◌, refl, ap, sym, subst, ◌∙◌, inl, inr, arith}
 use Rattle.std.proofs.lemmas.Bool.{cases_lt, eq-eqb, ne_eqb}
 use Rattle.std.specs.Prelude.{cond, is_some, ◌==◌}
 use Rattle.std.specs.FinMap.{get}
 use Rattle.im_base_types.specs.Keys.{Key}
 use Rattle.im_base_types.specs.Maps.{IndexMap, From, Above, first}
-use Rattle.im_base_types.specs.Answers.{Access, Fetch, Seek, Next, Scan, Insert, Delete, Step, Reply, Started, Committed, RolledBack, More, Blocked, BlockedTree, Die, Done, Refused, Absent, Inserted, Duplicate, Deleted, Mark, Idle, Going, MustRollBack, RollingBack, Committing, found, entry, answer}
+use Rattle.im_base_types.specs.Answers.{Access, Fetch, Seek, Next, Scan, Insert, Delete, Step, Begin, Do, Commit, Rollback, Continue, FlushPage, Force, Checkpoint, Reply, Started, Committed, RolledBack, More, Blocked, BlockedTree, Die, Done, Refused, Absent, Inserted, Duplicate, Deleted, Mark, Idle, Going, MustRollBack, RollingBack, Committing, found, entry, answer}
 use Rattle.im_base_lock.specs.Locks.{Lock}
 use Rattle.im_base_lock.specs.View.{Txn, View, Puts, Drops, TakesBack, TookBack, locked, with_change, change_made, idle, set_txn, begun, did, did_txn, marked, committed_by, dropped_by, undid_more, undid_last, broken, queued, forced_by, is_among, idle_all, AreDifferent, MayRollBack}
 use Rattle.im_base_lock.proofs.Bools.{or_true}
 use Rattle.im_base_lock.proofs.Queue.{among_one}
 use Rattle.im_base_lock.proofs.Runs.{IsQueue, queue_goes, queue_breaks}
 use Rattle.im_base_lock.specs.Machine.{barred, Answers, Goes, Moves, begins, does, waits, dies, commits, queues, drops, turns, undoes, ends, puts_later, puts, drops_first, drops_leaf, takes_later, takes_first, takes_leaf, takes_last, logs_page, tree_blocks, tree_halts, flushes, forces, checkpoints, lacks, breaks, start}
-use Rattle.im_base_steps.specs.Replies.{started_in, committed_in, rolled_back_in, IsCounted}
+use Rattle.im_base_steps.specs.Replies.{started_in, commits_in, rolled_back_in, waits_after, IsCounted}
 use Rattle.im_front.specs.Events.{Event, Made, Broke, Runs}
 
 pub cases_number : (s t : ℕ) → (s ≡ t) ⊎ (s ≢ t)
@@ -157,42 +157,45 @@ force_busy (t ∷ ts) txns next active failed h each some =
     (of_active (idle_all (set_txn txns t idle) ts) next (active - 1 - length ts) failed rest.0 (active - suc (length ts)) (omega arith), omega arith)
 
 -- a reply that begins and ends nothing
-abbrev IsPlain : Reply → Type 0
-IsPlain r = (started_in r ≡ 0) × (committed_in r ≡ 0) × (rolled_back_in r ≡ 0)
+pub record IsPlain (r : Reply) : Type 0 where
+  pub started : started_in r ≡ 0
+  pub taken_back : rolled_back_in r ≡ 0
+  pub commits_none : (n : ℕ) (s : Step) → commits_in n s r ≡ 0
+  pub waits_still : (n : ℕ) (s : Step) → waits_after n s r ≡ n
 
 plain_found : (o : Option ℕ) → IsPlain (found o)
-plain_found None = (refl, refl, refl)
-plain_found (Some r) = (refl, refl, refl)
+plain_found None = record { started = refl; taken_back = refl; commits_none = λ n s. refl; waits_still = λ n s. refl }
+plain_found (Some r) = record { started = refl; taken_back = refl; commits_none = λ n s. refl; waits_still = λ n s. refl }
 
 plain_entry : (o : Option (Key × ℕ)) → IsPlain (entry o)
-plain_entry None = (refl, refl, refl)
-plain_entry (Some r) = (refl, refl, refl)
+plain_entry None = record { started = refl; taken_back = refl; commits_none = λ n s. refl; waits_still = λ n s. refl }
+plain_entry (Some r) = record { started = refl; taken_back = refl; commits_none = λ n s. refl; waits_still = λ n s. refl }
 
 plain_insert : (b : Bool) → IsPlain (cond b Duplicate Inserted)
-plain_insert true = (refl, refl, refl)
-plain_insert false = (refl, refl, refl)
+plain_insert true = record { started = refl; taken_back = refl; commits_none = λ n s. refl; waits_still = λ n s. refl }
+plain_insert false = record { started = refl; taken_back = refl; commits_none = λ n s. refl; waits_still = λ n s. refl }
 
 plain_delete : (b : Bool) → IsPlain (cond b Deleted Absent)
-plain_delete true = (refl, refl, refl)
-plain_delete false = (refl, refl, refl)
+plain_delete true = record { started = refl; taken_back = refl; commits_none = λ n s. refl; waits_still = λ n s. refl }
+plain_delete false = record { started = refl; taken_back = refl; commits_none = λ n s. refl; waits_still = λ n s. refl }
 
 answer_plain : (a : Access) (m : IndexMap) → IsPlain (answer a m)
 answer_plain (Fetch k) m = plain_found (get m k)
 answer_plain (Seek k) m = plain_entry (first (From k) m)
 answer_plain (Next k) m = plain_entry (first (Above k) m)
-answer_plain (Scan lo hi n) m = (refl, refl, refl)
+answer_plain (Scan lo hi n) m = record { started = refl; taken_back = refl; commits_none = λ n s. refl; waits_still = λ n s. refl }
 answer_plain (Insert k r) m = plain_insert (is_some (get m k))
 answer_plain (Delete k) m = plain_delete (is_some (get m k))
 
--- what a step leaves, and, where nobody waits for a force, what its reply began and ended
-abbrev pub Leaves : View → Reply → View → Type 0
-Leaves v r w = Busy w.txns w.next w.active w.failed × (v.queue ≡ [] → IsCounted r v.active w.active)
+counts_plainly : (s : Step) (r : Reply) (waiting active : ℕ) → IsPlain r → IsCounted s r waiting active waiting active
+counts_plainly s r waiting active p = let a = p.started in let b = p.taken_back in let c = p.commits_none waiting s in (omega arith, sym (p.waits_still waiting s))
 
-leaves_at : (v w w' : View) (r r' : Reply) → r ≡ r' → w ≡ w' → Leaves v r' w' → Leaves v r w
-leaves_at v w w' r r' e is h = subst (λ (x : Reply × View). Leaves v x.0 x.1) (λ i. (sym e i, sym is i)) h
+-- what a step leaves, and what its reply began and ended
+abbrev pub Leaves : View → Step → Reply → View → Type 0
+Leaves v s r w = Busy w.txns w.next w.active w.failed × IsCounted s r (length v.queue) v.active (length w.queue) w.active
 
-plain_leaves : (v w : View) (r : Reply) → IsPlain r → Busy w.txns w.next w.active w.failed → w.active ≡ v.active → Leaves v r w
-plain_leaves v w r p h e = let a = p.0 in let b = p.1 in let c = p.2 in (h, λ alone. omega arith)
+leaves_at : (v w w' : View) (s s' : Step) (r r' : Reply) → s ≡ s' → r ≡ r' → w ≡ w' → Leaves v s' r' w' → Leaves v s r w
+leaves_at v w w' s s' r r' same e is h = subst (λ (x : Step × Reply × View). Leaves v x.0 x.1 x.2) (λ i. (sym same i, sym e i, sym is i)) h
 
 pub broken_busy : (v : View) (ls : ℕ → List Lock) → Busy v.txns v.next v.active v.failed → Busy (broken v ls).txns v.next v.active true
 broken_busy v ls h = record {
@@ -201,60 +204,62 @@ broken_busy v ls h = record {
   rest = λ f. absurd (true≢false f);
 }
 
-goes_leaves : (v w : View) (s : Step) (r : Reply) → IsBusy v → Goes v s r w → Leaves v r w
-goes_leaves v w s r b (begins a limit x c) = leaves_at v w (begun v) r (Started v.next) x c (begin_busy v.txns v.next v.active v.failed b.0 (record idle { mark = Going }) refl, λ alone. omega arith)
+goes_leaves : (v w : View) (s : Step) (r : Reply) → IsBusy v → Goes v s r w → Leaves v s r w
+goes_leaves v w s r b (begins a limit x c) = leaves_at v w (begun v) s Begin r (Started v.next) a x c (begin_busy v.txns v.next v.active v.failed b.0 (record idle { mark = Going }) refl, (omega arith, refl))
 goes_leaves v w s r b (does t a ls x going free same d e) =
-    leaves_at v w (did v t a ls) r (answer a v.walk) d e (plain_leaves v (did v t a ls) (answer a v.walk) (answer_plain a v.walk) (set_busy v.txns v.next v.active v.failed b.0 t (did_txn (v.txns t) a v.walk ls) (ap busy going) refl) refl)
-goes_leaves v w s r b (waits t a holder x going wait d e) = leaves_at v w v r (Blocked holder) d e (b.0, λ alone. refl)
+    leaves_at v w (did v t a ls) s (Do t a) r (answer a v.walk) x d e (
+      set_busy v.txns v.next v.active v.failed b.0 t (did_txn (v.txns t) a v.walk ls) (ap busy going) refl,
+      counts_plainly (Do t a) (answer a v.walk) (length v.queue) v.active (answer_plain a v.walk),
+    )
+goes_leaves v w s r b (waits t a holder x going wait d e) = leaves_at v w v s (Do t a) r (Blocked holder) x d e (b.0, (refl, refl))
 goes_leaves v w s r b (dies t a x going die d e) =
-    leaves_at v w (marked v t MustRollBack) r Die d e (set_busy v.txns v.next v.active v.failed b.0 t (record (v.txns t) { mark = MustRollBack }) (ap busy going) refl, λ alone. refl)
+    leaves_at v w (marked v t MustRollBack) s (Do t a) r Die x d e (set_busy v.txns v.next v.active v.failed b.0 t (record (v.txns t) { mark = MustRollBack }) (ap busy going) refl, (refl, refl))
 goes_leaves v w s r b (commits t x going some_wait d e) =
     let some = some_active v.txns v.next v.active v.failed b.0 t (ap busy going) in
-    leaves_at v w (committed_by v t) r Committed d e (set_idle v.txns v.next v.active v.failed b.0 t (ap busy going), λ alone. omega arith)
+    leaves_at v w (committed_by v t) s (Commit t) r Committed x d e (set_idle v.txns v.next v.active v.failed b.0 t (ap busy going), (omega arith, refl))
 goes_leaves v w s r b (queues t c cs x going some d e) =
-    leaves_at v w (queued v t) r More d e (set_busy v.txns v.next v.active v.failed b.0 t (record (v.txns t) { mark = Committing }) (ap busy going) refl, λ alone. refl)
+    leaves_at v w (queued v t) s (Commit t) r More x d e (set_busy v.txns v.next v.active v.failed b.0 t (record (v.txns t) { mark = Committing }) (ap busy going) refl, (refl, length-append v.queue (t ∷ [])))
 goes_leaves v w s r b (drops t x may none d e) =
     let some = some_active v.txns v.next v.active v.failed b.0 t (busy_may ((v.txns t).mark) may) in
-    leaves_at v w (dropped_by v t) r RolledBack d e (set_idle v.txns v.next v.active v.failed b.0 t (busy_may ((v.txns t).mark) may), λ alone. omega arith)
+    leaves_at v w (dropped_by v t) s (Rollback t) r RolledBack x d e (set_idle v.txns v.next v.active v.failed b.0 t (busy_may ((v.txns t).mark) may), (omega arith, refl))
 goes_leaves v w s r b (turns t x xs y may net d e) =
-    leaves_at v w (marked v t RollingBack) r More d e (set_busy v.txns v.next v.active v.failed b.0 t (record (v.txns t) { mark = RollingBack }) (busy_may ((v.txns t).mark) may) refl, λ alone. refl)
+    leaves_at v w (marked v t RollingBack) s (Rollback t) r More y d e (set_busy v.txns v.next v.active v.failed b.0 t (record (v.txns t) { mark = RollingBack }) (busy_may ((v.txns t).mark) may) refl, (refl, refl))
 goes_leaves v w s r b (undoes t x y xs z rolling net d e) =
-    leaves_at v w (undid_more v t x (y ∷ xs)) r More d e (set_busy v.txns v.next v.active v.failed b.0 t (record (v.txns t) { net = y ∷ xs }) (ap busy rolling) (ap busy rolling), λ alone. refl)
+    leaves_at v w (undid_more v t x (y ∷ xs)) s (Continue t) r More z d e (set_busy v.txns v.next v.active v.failed b.0 t (record (v.txns t) { net = y ∷ xs }) (ap busy rolling) (ap busy rolling), (refl, refl))
 goes_leaves v w s r b (ends t x y rolling net d e) =
     let some = some_active v.txns v.next v.active v.failed b.0 t (ap busy rolling) in
-    leaves_at v w (undid_last v t x) r RolledBack d e (set_idle v.txns v.next v.active v.failed b.0 t (ap busy rolling), λ alone. omega arith)
+    leaves_at v w (undid_last v t x) s (Continue t) r RolledBack y d e (set_idle v.txns v.next v.active v.failed b.0 t (ap busy rolling), (omega arith, refl))
 goes_leaves v w s r b (puts_later t k i ls x going none absent free same d e) =
-    leaves_at v w (with_change (locked v t ls) t (Puts k i)) r More d e (set_busy v.txns v.next v.active v.failed b.0 t (record (v.txns t) { locks = ls }) (ap busy going) (ap busy going), λ alone. refl)
+    leaves_at v w (with_change (locked v t ls) t (Puts k i)) s (Do t (Insert k i)) r More x d e (set_busy v.txns v.next v.active v.failed b.0 t (record (v.txns t) { locks = ls }) (ap busy going) (ap busy going), (refl, refl))
 goes_leaves v w s r b (puts t k i x going under d e) =
-    leaves_at v w (change_made (did v t (Insert k i) ((v.txns t).locks))) r Inserted d e (set_busy v.txns v.next v.active v.failed b.0 t (did_txn (v.txns t) (Insert k i) v.walk ((v.txns t).locks)) (ap busy going) refl, λ alone. refl)
+    leaves_at v w (change_made (did v t (Insert k i) ((v.txns t).locks))) s (Continue t) r Inserted x d e (set_busy v.txns v.next v.active v.failed b.0 t (did_txn (v.txns t) (Insert k i) v.walk ((v.txns t).locks)) (ap busy going) refl, (refl, refl))
 goes_leaves v w s r b (drops_first t k i ls x going none there free same d e) =
-    leaves_at v w (with_change (did v t (Delete k) ls) t (Drops k)) r More d e (set_busy v.txns v.next v.active v.failed b.0 t (did_txn (v.txns t) (Delete k) v.walk ls) (ap busy going) refl, λ alone. refl)
-goes_leaves v w s r b (drops_leaf t k x going under d e) = leaves_at v w (change_made v) r Deleted d e (b.0, λ alone. refl)
-goes_leaves v w s r b (takes_later t c cs x rolling none net d e) = leaves_at v w (with_change v t TakesBack) r More d e (b.0, λ alone. refl)
+    leaves_at v w (with_change (did v t (Delete k) ls) t (Drops k)) s (Do t (Delete k)) r More x d e (set_busy v.txns v.next v.active v.failed b.0 t (did_txn (v.txns t) (Delete k) v.walk ls) (ap busy going) refl, (refl, refl))
+goes_leaves v w s r b (drops_leaf t k x going under d e) = leaves_at v w (change_made v) s (Continue t) r Deleted x d e (b.0, (refl, refl))
+goes_leaves v w s r b (takes_later t c cs x rolling none net d e) = leaves_at v w (with_change v t TakesBack) s (Continue t) r More x d e (b.0, (refl, refl))
 goes_leaves v w s r b (takes_first t c cs x rolling none net d e) =
-    leaves_at v w (with_change (undid_more v t c cs) t TookBack) r More d e (set_busy v.txns v.next v.active v.failed b.0 t (record (v.txns t) { net = cs }) (ap busy rolling) (ap busy rolling), λ alone. refl)
-goes_leaves v w s r b (takes_leaf t c cs x rolling under net d e) = leaves_at v w (change_made v) r More d e (b.0, λ alone. refl)
+    leaves_at v w (with_change (undid_more v t c cs) t TookBack) s (Continue t) r More x d e (set_busy v.txns v.next v.active v.failed b.0 t (record (v.txns t) { net = cs }) (ap busy rolling) (ap busy rolling), (refl, refl))
+goes_leaves v w s r b (takes_leaf t c cs x rolling under net d e) = leaves_at v w (change_made v) s (Continue t) r More x d e (b.0, (refl, refl))
 goes_leaves v w s r b (takes_last t x rolling under none d e) =
     let some = some_active v.txns v.next v.active v.failed b.0 t (ap busy rolling) in
-    leaves_at v w (change_made (dropped_by v t)) r RolledBack d e (set_idle v.txns v.next v.active v.failed b.0 t (ap busy rolling), λ alone. omega arith)
-goes_leaves v w s r b (logs_page t u x under owner d e) = leaves_at v w v r More d e (b.0, λ alone. refl)
-goes_leaves v w s r b (tree_blocks t a u x under other d e) = leaves_at v w v r BlockedTree d e (b.0, λ alone. refl)
-goes_leaves v w s r b (tree_halts t u x under other d e) = leaves_at v w v r BlockedTree d e (b.0, λ alone. refl)
-goes_leaves v w s r b (flushes p x d e) = leaves_at v w v r Done d e (b.0, λ alone. refl)
+    leaves_at v w (change_made (dropped_by v t)) s (Continue t) r RolledBack x d e (set_idle v.txns v.next v.active v.failed b.0 t (ap busy rolling), (omega arith, refl))
+goes_leaves v w s r b (logs_page t u x under owner d e) = leaves_at v w v s (Continue t) r More x d e (b.0, (refl, refl))
+goes_leaves v w s r b (tree_blocks t a u x under other d e) = leaves_at v w v s (Do t a) r BlockedTree x d e (b.0, (refl, refl))
+goes_leaves v w s r b (tree_halts t u x under other d e) = leaves_at v w v s (Continue t) r BlockedTree x d e (b.0, (refl, refl))
+goes_leaves v w s r b (flushes p x d e) = leaves_at v w v s (FlushPage p) r Done x d e (b.0, (refl, refl))
 goes_leaves v w s r b (forces x d e) =
-    leaves_at v w (forced_by v) r Done d e (
-      (force_busy v.queue v.txns v.next v.active v.failed b.0 b.1.each (λ t some. ap busy (b.1.waits t some))).0,
-      λ alone. let none : length v.queue ≡ 0 = ap length alone in omega arith,
-    )
-goes_leaves v w s r b (checkpoints x d e) = leaves_at v w v r Done d e (b.0, λ alone. refl)
-goes_leaves v w s r b (lacks fault want d e) = leaves_at v w v r (Refused fault) d e (b.0, λ alone. refl)
-goes_leaves v w s r b (breaks fault ls break d e) = leaves_at v w (broken v ls) r (Refused fault) d e (broken_busy v ls b.0, λ alone. refl)
+    let all = force_busy v.queue v.txns v.next v.active v.failed b.0 b.1.each (λ t some. ap busy (b.1.waits t some)) in
+    let few : length v.queue ≤ v.active = all.1 in
+    leaves_at v w (forced_by v) s Force r Done x d e (all.0, (omega arith, refl))
+goes_leaves v w s r b (checkpoints x d e) = leaves_at v w v s Checkpoint r Done x d e (b.0, (refl, refl))
+goes_leaves v w s r b (lacks fault want d e) = leaves_at v w v s s r (Refused fault) refl d e (b.0, (refl, refl))
+goes_leaves v w s r b (breaks fault ls break d e) = leaves_at v w (broken v ls) s s r (Refused fault) refl d e (broken_busy v ls b.0, (refl, refl))
 
-answers_leaves : (v w : View) (s : Step) (r : Reply) → IsBusy v → (o : Option ℕ) → Answers v s r w o → IsBusy w × (v.queue ≡ [] → IsCounted r v.active w.active)
+answers_leaves : (v w : View) (s : Step) (r : Reply) → IsBusy v → (o : Option ℕ) → Answers v s r w o → IsBusy w × IsCounted s r (length v.queue) v.active (length w.queue) w.active
 answers_leaves v w s r b None a = let on = goes_leaves v w s r b a in ((on.0, queue_goes v w s r b.1 (b.0.fresh v.next (omega arith)) a), on.1)
-answers_leaves v w s r b (Some f) a = let on = leaves_at v w v r (Refused f) a.0 a.1 (b.0, λ alone. refl) in ((on.0, subst (λ (u : View). IsQueue u.queue u.txns) (sym a.1) b.1), on.1)
+answers_leaves v w s r b (Some f) a = let on = leaves_at v w v s s r (Refused f) refl a.0 a.1 (b.0, (refl, refl)) in ((on.0, subst (λ (u : View). IsQueue u.queue u.txns) (sym a.1) b.1), on.1)
 
-pub moves_leaves : (v w : View) (s : Step) (r : Reply) → IsBusy v → Moves v s r w → IsBusy w × (v.queue ≡ [] → IsCounted r v.active w.active)
+pub moves_leaves : (v w : View) (s : Step) (r : Reply) → IsBusy v → Moves v s r w → IsBusy w × IsCounted s r (length v.queue) v.active (length w.queue) w.active
 moves_leaves v w s r b m = answers_leaves v w s r b (barred v s) m
 
 pub runs_busy : (v w : View) (events : List Event) → IsBusy v → Runs v events w → IsBusy w
@@ -290,3 +295,13 @@ all_idle v h f none t = h.0.rest f t (elim (cases_lt t v.next) [
   | inl l ↦ idle_below v.txns v.next t (sym h.0.active_is ∙ none) l
   | inr l ↦ h.0.fresh t l
 ])
+
+none_of : (queue : List ℕ) → length queue ≡ 0 → queue ≡ []
+none_of [] e = refl
+none_of (t ∷ ts) e = absurd (omega arith)
+
+-- who waits is active
+pub nobody_waits : (v : View) → IsBusy v → v.active ≡ 0 → v.queue ≡ []
+nobody_waits v h none =
+    let few : length v.queue ≤ v.active = (force_busy v.queue v.txns v.next v.active v.failed h.0 h.1.each (λ t some. ap busy (h.1.waits t some))).1 in
+    none_of v.queue (omega (arith, few, none))

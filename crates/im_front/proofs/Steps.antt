@@ -16,9 +16,9 @@ use Rattle.im_front.specs.declared.recorded.Recorded.{Recorded}
 use Rattle.im_base_steps.specs.Calls.{asked_by, is_blocked}
 use Rattle.im_front.specs.Traces.{said_by, trace_of}
 use Rattle.im_front.specs.Events.{Event, Made, Broke, made_in, Runs, shown_in}
-use Rattle.im_base_steps.specs.Replies.{started_in, committed_in, rolled_back_in, IsReply, IsCounted}
+use Rattle.im_base_steps.specs.Replies.{started_in, commits_in, rolled_back_in, waits_after, IsReply, IsCounted}
 use Rattle.im_base_steps.specs.Store.{IsAlive, StepKept, LookKept}
-use Rattle.im_front.specs.Held.{after_reply, after_trace, IsTallied, Stands, IsRun, IsCut}
+use Rattle.im_front.specs.Held.{after_reply, after_trace, waits_in, IsTallied, Stands, IsRun, IsCut}
 use Rattle.im_front.proofs.Balance.{runs_busy, start_busy, all_idle}
 use Rattle.im_front.proofs.Replies.{stays_failed, blocked_stays, blocked_shows}
 
@@ -73,9 +73,13 @@ shown_plainly s v w (Broke locks ∷ events) run f = absurd (true≢false (sym (
 
 -- ---- traces
 
-after_trace-push : (c : List ℕ) (trace : List (Step × Reply)) (e : Step × Reply) → after_trace c (trace ++ e ∷ []) ≡ after_reply (after_trace c trace) e.1
-after_trace-push c [] e = refl
-after_trace-push c (x ∷ xs) e = after_trace-push (after_reply c x.1) xs e
+after_trace-push : (n : ℕ) (c : List ℕ) (trace : List (Step × Reply)) (e : Step × Reply) → after_trace n c (trace ++ e ∷ []) ≡ after_reply (waits_in n trace) (after_trace n c trace) e.0 e.1
+after_trace-push n c [] e = refl
+after_trace-push n c (x ∷ xs) e = after_trace-push (waits_after n x.0 x.1) (after_reply n c x.0 x.1) xs e
+
+waits_in-push : (n : ℕ) (trace : List (Step × Reply)) (e : Step × Reply) → waits_in n (trace ++ e ∷ []) ≡ waits_after (waits_in n trace) e.0 e.1
+waits_in-push n [] e = refl
+waits_in-push n (x ∷ xs) e = waits_in-push (waits_after n x.0 x.1) xs e
 
 pub trace_of-push : (rs : List Recorded) (r : Recorded) → trace_of (rs ++ r ∷ []) ≡ trace_of rs ++ (asked_by r.step, said_by r.reply) ∷ []
 trace_of-push [] r = refl
@@ -88,79 +92,103 @@ pub length-trace_of : (rs : List Recorded) → length (trace_of rs) ≡ length r
 length-trace_of [] = refl
 length-trace_of (x ∷ xs) = let e : length (trace_of xs) ≡ length xs = length-trace_of xs in omega arith
 
-at_most_one : (r : Reply) → (started_in r ≤ 1) × (committed_in r ≤ 1) × (rolled_back_in r ≤ 1)
-at_most_one (answers.Started t) = (omega arith, omega arith, omega arith)
-at_most_one answers.Committed = (omega arith, omega arith, omega arith)
-at_most_one answers.RolledBack = (omega arith, omega arith, omega arith)
-at_most_one (answers.Blocked h) = (omega arith, omega arith, omega arith)
-at_most_one answers.BlockedTree = (omega arith, omega arith, omega arith)
-at_most_one (answers.Found t) = (omega arith, omega arith, omega arith)
-at_most_one answers.Absent = (omega arith, omega arith, omega arith)
-at_most_one (answers.Entry k r) = (omega arith, omega arith, omega arith)
-at_most_one answers.End = (omega arith, omega arith, omega arith)
-at_most_one (answers.Entries l) = (omega arith, omega arith, omega arith)
-at_most_one answers.Inserted = (omega arith, omega arith, omega arith)
-at_most_one answers.Duplicate = (omega arith, omega arith, omega arith)
-at_most_one answers.Deleted = (omega arith, omega arith, omega arith)
-at_most_one answers.More = (omega arith, omega arith, omega arith)
-at_most_one answers.Die = (omega arith, omega arith, omega arith)
-at_most_one answers.Done = (omega arith, omega arith, omega arith)
-at_most_one (answers.Refused f) = (omega arith, omega arith, omega arith)
+-- a reply begins and takes back one at most, and what it commits had waited or was one
+at_most_one : (n : ℕ) (s : Step) (r : Reply) → (started_in r ≤ 1) × (commits_in n s r + waits_after n s r ≤ n + 1) × (rolled_back_in r ≤ 1)
+at_most_one n s (answers.Started t) = (omega arith, omega arith, omega arith)
+at_most_one n s answers.RolledBack = (omega arith, omega arith, omega arith)
+at_most_one n s (answers.Blocked h) = (omega arith, omega arith, omega arith)
+at_most_one n s answers.BlockedTree = (omega arith, omega arith, omega arith)
+at_most_one n s (answers.Found t) = (omega arith, omega arith, omega arith)
+at_most_one n s answers.Absent = (omega arith, omega arith, omega arith)
+at_most_one n s (answers.Entry k r) = (omega arith, omega arith, omega arith)
+at_most_one n s answers.End = (omega arith, omega arith, omega arith)
+at_most_one n s (answers.Entries l) = (omega arith, omega arith, omega arith)
+at_most_one n s answers.Inserted = (omega arith, omega arith, omega arith)
+at_most_one n s answers.Duplicate = (omega arith, omega arith, omega arith)
+at_most_one n s answers.Deleted = (omega arith, omega arith, omega arith)
+at_most_one n s answers.Committed = (omega arith, omega arith, omega arith)
+at_most_one n s answers.Die = (omega arith, omega arith, omega arith)
+at_most_one n s (answers.Refused f) = (omega arith, omega arith, omega arith)
+at_most_one n answers.Begin answers.More = (omega arith, omega arith, omega arith)
+at_most_one n (answers.Do t a) answers.More = (omega arith, omega arith, omega arith)
+at_most_one n (answers.Commit t) answers.More = (omega arith, omega arith, omega arith)
+at_most_one n (answers.Rollback t) answers.More = (omega arith, omega arith, omega arith)
+at_most_one n (answers.Continue t) answers.More = (omega arith, omega arith, omega arith)
+at_most_one n (answers.FlushPage p) answers.More = (omega arith, omega arith, omega arith)
+at_most_one n answers.Force answers.More = (omega arith, omega arith, omega arith)
+at_most_one n answers.Checkpoint answers.More = (omega arith, omega arith, omega arith)
+at_most_one n answers.Begin answers.Done = (omega arith, omega arith, omega arith)
+at_most_one n (answers.Do t a) answers.Done = (omega arith, omega arith, omega arith)
+at_most_one n (answers.Commit t) answers.Done = (omega arith, omega arith, omega arith)
+at_most_one n (answers.Rollback t) answers.Done = (omega arith, omega arith, omega arith)
+at_most_one n (answers.Continue t) answers.Done = (omega arith, omega arith, omega arith)
+at_most_one n (answers.FlushPage p) answers.Done = (omega arith, omega arith, omega arith)
+at_most_one n answers.Force answers.Done = (omega arith, omega arith, omega arith)
+at_most_one n answers.Checkpoint answers.Done = (omega arith, omega arith, omega arith)
 
 -- ---- counts
 
-module _ (trace : List (Step × Reply)) (active cut : ℕ) (kept counts : List ℕ) (h : IsTallied trace active cut kept counts) where
+module _ (trace : List (Step × Reply)) (active waiting cut : ℕ) (kept counts : List ℕ) (h : IsTallied trace active waiting cut kept counts) where
   -- a step that is recorded
-  pub tallied_push : (after : ℕ) (now : List ℕ) (step : Step) (reply : Reply) → IsReply step reply → IsCounted reply active after → now ≡ after_reply counts reply → IsTallied (trace ++ (step, reply) ∷ []) after cut kept now
-  tallied_push after now step reply is leaves e =
-      let one = at_most_one reply in
+  pub tallied_push : (after waits : ℕ) (now : List ℕ) (step : Step) (reply : Reply) → IsReply step reply → IsCounted step reply waiting active waits after → now ≡ after_reply waiting counts step reply → IsTallied (trace ++ (step, reply) ∷ []) after waits cut kept now
+  tallied_push after waits now step reply is leaves e =
+      let one = at_most_one waiting step reply in
       let a : slice_index now 0 ≡ slice_index counts 0 + started_in reply = ap (λ l. slice_index l 0) e in
-      let b : slice_index now 1 ≡ slice_index counts 1 + committed_in reply = ap (λ l. slice_index l 1) e in
+      let b : slice_index now 1 ≡ slice_index counts 1 + commits_in waiting step reply = ap (λ l. slice_index l 1) e in
       let c : slice_index now 2 ≡ slice_index counts 2 + rolled_back_in reply = ap (λ l. slice_index l 2) e in
       let longer : length (trace ++ (step, reply) ∷ []) ≡ length trace + 1 = length-append trace ((step, reply) ∷ []) in
       let small = h.counts_small in
       let was = h.balanced in
+      let left = leaves.0 in
+      let still = leaves.1 in
       record {
         replies = All-push (λ x. IsReply x.0 x.1) trace (step, reply) h.replies is;
-        counted = e ∙ ap (λ l. after_reply l reply) h.counted ∙ sym (after_trace-push kept trace (step, reply));
+        counted = e ∙ (λ i. after_reply (h.waits i) (h.counted i) step reply) ∙ sym (after_trace-push 0 kept trace (step, reply));
+        waits = leaves.1 ∙ ap (λ n. waits_after n step reply) h.waits ∙ sym (waits_in-push 0 trace (step, reply));
         long = ap length e;
         cut_small = h.cut_small;
-        counts_small = (omega (arith, one.0, small.0), omega (arith, one.1, small.1), omega (arith, one.2, small.2));
-        balanced = omega (arith, leaves);
+        counts_small = (omega (arith, one.0, small.0), omega (arith, one.1, small.1, still), omega (arith, one.2, small.2));
+        balanced = omega (arith, left);
       }
 
-  -- as many are active as before
-  pub tallied_as : (after : ℕ) → after ≡ active → IsTallied trace after cut kept counts
-  tallied_as after e = subst (λ (n : ℕ). IsTallied trace n cut kept counts) (sym e) h
+  -- as many are active as before, and as many wait
+  pub tallied_as : (after waits : ℕ) → after ≡ active → waits ≡ waiting → IsTallied trace after waits cut kept counts
+  tallied_as after waits e same = subst (λ (x : ℕ × ℕ). IsTallied trace x.0 x.1 cut kept counts) (λ i. (sym e i, sym same i)) h
 
   -- the trace is cut
-  pub tallied_cut : (after : ℕ) → after ≡ active → cut + length trace ≤ 2 ^ 62 → IsTallied [] after (cut + length trace) counts counts
-  tallied_cut after e small =
+  pub tallied_cut : (after waits : ℕ) → after ≡ active → waits ≡ 0 → cut + length trace ≤ 2 ^ 62 → IsTallied [] after waits (cut + length trace) counts counts
+  tallied_cut after waits e none small =
       let few = h.counts_small in
       let was = h.balanced in
       record {
         replies = All-nil (λ x. IsReply x.0 x.1);
         counted = refl;
+        waits = none;
         long = h.long;
         cut_small = small;
-        counts_small = (omega (arith, few.0), omega (arith, few.1), omega (arith, few.2));
+        counts_small = (omega (arith, few.0), omega (arith, few.1, none), omega (arith, few.2));
         balanced = omega (arith, e, was);
       }
 
 -- an empty trace, and nothing active
-pub tallied_new : (active : ℕ) (counts : List ℕ) → active ≡ 0 → counts ≡ 0 ∷ 0 ∷ 0 ∷ [] → IsTallied [] active 0 counts counts
-tallied_new active counts none zeros =
+pub tallied_new : (active waiting : ℕ) (counts : List ℕ) → active ≡ 0 → waiting ≡ 0 → counts ≡ 0 ∷ 0 ∷ 0 ∷ [] → IsTallied [] active waiting 0 counts counts
+tallied_new active waiting counts none nobody zeros =
     let x : slice_index counts 0 ≡ 0 = ap (λ l. slice_index l 0) zeros in
     let y : slice_index counts 1 ≡ 0 = ap (λ l. slice_index l 1) zeros in
     let z : slice_index counts 2 ≡ 0 = ap (λ l. slice_index l 2) zeros in
     record {
       replies = All-nil (λ x. IsReply x.0 x.1);
       counted = refl;
+      waits = nobody;
       long = ap length zeros;
       cut_small = omega arith;
       counts_small = (omega arith, omega arith, omega arith);
       balanced = omega arith;
     }
+
+-- who waits is active
+pub none_waiting : (waiting active : ℕ) → waiting ≤ active → active ≡ 0 → waiting ≡ 0
+none_waiting waiting active few none = omega arith
 
 -- ---- what stands under the lock
 

@@ -16,7 +16,7 @@ use Rattle.im_front.specs.Traces.{trace_of}
 use Rattle.im_base_steps.specs.Calls.{is_blocked}
 use Rattle.im_base_steps.specs.Store.{Rests}
 use Rattle.im_front.specs.Events.{Event, made_in, Runs, shown_in}
-use Rattle.im_base_steps.specs.Replies.{is_full, lacks_memory, started_in, committed_in, rolled_back_in, IsReply}
+use Rattle.im_base_steps.specs.Replies.{is_full, lacks_memory, started_in, commits_in, rolled_back_in, waits_after, IsReply}
 use Rattle.im_base_steps.specs.declared.store.Store.{Ghosts}
 
 -- the value behind the lock, as contracts see it
@@ -30,19 +30,26 @@ pub record State (E : Type 0) : Type 0 where
   pub kept : List ℕ
   -- the counts that were written last to the cell of statistics
   pub counts : List ℕ
+  -- how many transactions wait for a force
+  pub waiting : ℕ
   -- how many shares were handed out
   pub handed : ℕ
 
 -- ---- counts
 
--- the counts after a step with this reply
-abbrev pub after_reply : List ℕ → Reply → List ℕ
-after_reply counts reply = (started counts + started_in reply) ∷ (committed counts + committed_in reply) ∷ (rolled_back counts + rolled_back_in reply) ∷ []
+-- how many wait for a force after a trace, before which so many waited
+abbrev pub waits_in : ℕ → List (Step × Reply) → ℕ
+waits_in waiting [] = waiting
+waits_in waiting (e ∷ es) = waits_in (waits_after waiting e.0 e.1) es
 
--- the counts after a trace
-abbrev pub after_trace : List ℕ → List (Step × Reply) → List ℕ
-after_trace counts [] = counts
-after_trace counts (e ∷ es) = after_trace (after_reply counts e.1) es
+-- the counts after a step with this reply, before which so many waited
+abbrev pub after_reply : ℕ → List ℕ → Step → Reply → List ℕ
+after_reply waiting counts step reply = (started counts + started_in reply) ∷ (committed counts + commits_in waiting step reply) ∷ (rolled_back counts + rolled_back_in reply) ∷ []
+
+-- the counts after a trace, before which so many waited
+abbrev pub after_trace : ℕ → List ℕ → List (Step × Reply) → List ℕ
+after_trace waiting counts [] = counts
+after_trace waiting counts (e ∷ es) = after_trace (waits_after waiting e.0 e.1) (after_reply waiting counts e.0 e.1) es
 
 -- ---- a step
 
@@ -67,13 +74,14 @@ module _ {E : Type 0} (step : Step) (reply : Reply) (old new : State E) (before 
 
 -- ---- what always holds
 
--- Over any disk: each reply of the trace suits its step, the counts are those of the trace, and what was started has ended or is active.
-pub record IsTallied (trace : List (Step × Reply)) (active cut : ℕ) (kept counts : List ℕ) : Type 0 where
+-- Over any disk: each reply of the trace suits its step, the counts are those of the trace, before which nobody waited for a force, and what was started has ended or is active.
+pub record IsTallied (trace : List (Step × Reply)) (active waiting cut : ℕ) (kept counts : List ℕ) : Type 0 where
   pub replies : All (λ e. IsReply e.0 e.1) trace
-  pub counted : counts ≡ after_trace kept trace
+  pub counted : counts ≡ after_trace 0 kept trace
+  pub waits : waiting ≡ waits_in 0 trace
   pub long : length counts ≡ 3
   pub cut_small : cut ≤ 2 ^ 62
-  pub counts_small : (started counts ≤ cut + length trace) × (committed counts ≤ cut + length trace) × (rolled_back counts ≤ cut + length trace)
+  pub counts_small : (started counts ≤ cut + length trace) × (committed counts + waiting ≤ cut + length trace) × (rolled_back counts ≤ cut + length trace)
   pub balanced : started counts ≡ committed counts + rolled_back counts + active
 
 module _ {E : Type 0} (life : List Effect → Shown → View → E → Type 0) where

@@ -17,6 +17,8 @@ pub record PlainState (E : Type 0) : Type 0 where
   pub trace : List (Step × Reply)
   -- the counts that were written last to the cell of statistics
   pub counts : List ℕ
+  -- how many transactions wait for a force
+  pub waiting : ℕ
   -- how many shares were handed out
   pub handed : ℕ
 

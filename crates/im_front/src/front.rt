@@ -66,7 +66,7 @@ impl<E: Store, L: Ledger> Front<E, L> {
         for _ in rt.forever() {
             let reply = held.step(rt, mine, &step);
             if !reply.is_blocked() {
-                if reply.may_unblock() {
+                if step.may_unblock(&reply) {
                     self.ended.notify_all();
                 }
                 return reply;

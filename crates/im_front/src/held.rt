@@ -14,7 +14,7 @@ ghost use Rattle.im_base_steps.specs.Calls.{asked_by, told_by, is_blocked, may_e
 ghost use Rattle.im_front.specs.Traces.{trace_of};
 ghost use Rattle.im_base_steps.specs.Replies.{is_full, lacks_memory, IsReply};
 ghost use Rattle.im_base_steps.specs.Store.{LookKept};
-ghost use Rattle.im_front.specs.Held.{IsResting, Records, IsRun, StopKeeps, IsCut, WhyNotCut, after_reply, after_trace};
+ghost use Rattle.im_front.specs.Held.{IsResting, Records, IsRun, StopKeeps, IsCut, WhyNotCut, after_reply, after_trace, waits_in};
 
 use crate::recorded::Recorded;
 use crate::share::Share;
@@ -47,6 +47,8 @@ pub struct Held<E: Store, L: Ledger> {
     cut: u64,
     kept: [u64; 3],
     counts: [u64; 3],
+    // How many transactions wait for a force
+    waiting: u64,
     book: Book<L>,
     rest: Part<L>,
     handed: u64,
@@ -64,9 +66,9 @@ impl<E: Store, L: Ledger> Model for Held<E, L> {
 
     ghost Value = { State E };
 
-    ghost view = { λ h. record { engine = h.engine; base = h.base.items; trace = h.trace.items; cut = h.cut; kept = h.kept; counts = (cell_view h.pass).seen; handed = h.handed } };
+    ghost view = { λ h. record { engine = h.engine; base = h.base.items; trace = h.trace.items; cut = h.cut; kept = h.kept; counts = (cell_view h.pass).seen; waiting = h.waiting; handed = h.handed } };
 
-    ghost invariant = { λ h. (E.tells → Stands E.life h.base.items (trace_of h.trace.items) h.engine) × IsTallied (trace_of h.trace.items) (E.actives h.engine) h.cut h.kept h.counts × (h.book.total ≡ h.cut + length h.trace.items) × (h.rest.parts + h.handed ≡ 1024) × (h.rest.amount ≡ 0) × (h.pass.table_id ≡ (arc_value h.cell).table.shared.table_id) × (cell_view h.pass ≡ writer h.counts) };
+    ghost invariant = { λ h. (E.tells → Stands E.life h.base.items (trace_of h.trace.items) h.engine) × IsTallied (trace_of h.trace.items) (E.actives h.engine) (E.waiting h.engine) h.cut h.kept h.counts × (h.book.total ≡ h.cut + length h.trace.items) × (h.rest.parts + h.handed ≡ 1024) × (h.rest.amount ≡ 0) × (h.pass.table_id ≡ (arc_value h.cell).table.shared.table_id) × (cell_view h.pass ≡ writer h.counts) × (h.waiting ≡ E.waiting h.engine) };
 }
 
 /// What is left of a front.
@@ -115,6 +117,7 @@ impl<E: Store, L: Ledger> Held<E, L> {
             cut: 0,
             kept: [0; 3],
             counts: [0; 3],
+            waiting: 0,
             book,
             rest,
             handed: 0,
@@ -125,13 +128,14 @@ impl<E: Store, L: Ledger> Held<E, L> {
 
     /// What always holds of the value behind the lock. Over an engine that tells what it holds the trace is a run that ends in it,
     /// and a stop keeps what the trace acknowledged. Over any engine each reply of the trace suits its step, the counts that were
-    /// written last to the cell are those of the trace, added to those of the steps cut, and what was started has ended or is
-    /// active. It does nothing: its contract says so.
+    /// written last to the cell are those of the trace, added to those of the steps cut, those wait for a force whose Commit was answered
+    /// `More` since the last force, and what was started has ended or is active. It does nothing: its contract says so.
     pub fn holds_always(&self)
         ensures run { E.tells → IsRun E.life self.now.base (trace_of self.now.trace) self.now.engine }
         ensures stops { E.tells → StopKeeps E.leaves self.now.base (trace_of self.now.trace) self.now.engine }
         ensures replies { All (λ e. IsReply e.0 e.1) (trace_of self.now.trace) }
-        ensures counts { self.now.counts ≡ after_trace self.now.kept (trace_of self.now.trace) }
+        ensures counts { self.now.counts ≡ after_trace 0 self.now.kept (trace_of self.now.trace) }
+        ensures waiting { (self.now.waiting ≡ waits_in 0 (trace_of self.now.trace)) × (self.now.waiting ≡ E.waiting self.now.engine) }
         ensures active { started self.now.counts ≡ committed self.now.counts + rolled_back self.now.counts + E.actives self.now.engine }
         ensures sound { IsSound self.now.counts }
         ensures handed { self.now.handed ≤ 1024 }
@@ -178,7 +182,7 @@ impl<E: Store, L: Ledger> Held<E, L> {
     pub fn cut_trace(&mut self) -> Result<(), Fault>
         ensures ok { IfOk result (λ _. (self.new.trace ≡ []) × (self.new.cut ≡ self.old.cut + length self.old.trace) × (self.new.kept ≡ self.old.counts)) }
         ensures base { IfOk result (λ _. E.tells → IsCut self.old.base self.new.base (trace_of self.old.trace)) }
-        ensures same { (self.new.counts ≡ self.old.counts) × (self.new.handed ≡ self.old.handed) }
+        ensures same { (self.new.counts ≡ self.old.counts) × (self.new.waiting ≡ self.old.waiting) × (self.new.handed ≡ self.old.handed) }
         ensures err { OnErr result ((self.new.trace ≡ self.old.trace) × (self.new.base ≡ self.old.base) × (self.new.cut ≡ self.old.cut) × (self.new.kept ≡ self.old.kept)) }
         ensures cause { IfErr result (λ fault. WhyNotCut E.Store self.old self.new fault) }
     {
@@ -247,14 +251,14 @@ impl<E: Store, L: Ledger> Held<E, L> {
 
     /// Makes a step, and puts it with its reply at the end of the trace. The room for both is made first.
     ///
-    /// Refused `TraceFull` where the trace holds 65,536 steps or more and the step ends no transaction, then `Memory` where
+    /// Refused `TraceFull` where the trace holds 65,536 steps or more and the step ends no transaction (`Step::may_end`), then `Memory` where
     /// there is no room; the step is not made then. Every other reply is the engine's.
     pub fn step<R: Wait>(&mut self, rt: &R, mine: &mut Share<L>, step: &Step) -> Reply
         ensures records { Records (asked_by step.now) (told_by result) self.old self.new mine.old.made.amount mine.new.made.amount }
-        ensures full { is_full (told_by result) ≡ true ↔ ((65536 ≤ length self.old.trace) × (may_end (asked_by step.now) ≡ false)) }
+        ensures full { is_full (told_by result) ≡ true ↔ ((65536 ≤ length self.old.trace) × (may_end self.old.waiting (asked_by step.now) ≡ false)) }
         ensures made { is_full (told_by result) ≡ false → lacks_memory (told_by result) ≡ false → E.made self.old.engine step.now result self.new.engine }
     {
-        if is_refused(self.trace.len(), step) {
+        if is_refused(self.trace.len(), self.waiting, step) {
             return Reply::Refused(Fault::TraceFull);
         }
         let Held {
@@ -262,6 +266,7 @@ impl<E: Store, L: Ledger> Held<E, L> {
             engine,
             trace,
             counts,
+            waiting,
             book,
             cell,
             pass,
@@ -275,7 +280,8 @@ impl<E: Store, L: Ledger> Held<E, L> {
             return reply;
         }
         let told = Told::of(&reply, room);
-        let now = counted(*counts, &reply);
+        let now = counted(*waiting, *counts, step, &reply);
+        *waiting = step.waits_after(*waiting, &reply);
         trace.push_reserved(Recorded {
             step: asked,
             reply: told,
@@ -316,11 +322,11 @@ fn is_busy(active: usize) -> bool
     active > 0
 }
 
-// Whether a step is refused for a trace of this length: a step that may end a transaction never is.
-fn is_refused(len: usize, step: &Step) -> bool
-    ensures { result ≡ true ↔ ((65536 ≤ len) × (may_end (asked_by step.now) ≡ false)) }
+// Whether a step is refused for a trace of this length, where so many wait for a force: a step that may end a transaction never is.
+fn is_refused(len: usize, waiting: u64, step: &Step) -> bool
+    ensures { result ≡ true ↔ ((65536 ≤ len) × (may_end waiting (asked_by step.now) ≡ false)) }
 {
-    len >= FULL && !step.may_end()
+    len >= FULL && !step.may_end(waiting)
 }
 
 // Room for a step and its reply: one place more in the trace, a copy of the step, and room for what it may be answered.
@@ -351,15 +357,16 @@ pub(crate) fn gather<L: Ledger>(rest: &mut Part<L>, shares: Vec<Share<L>>) -> u6
     back
 }
 
-// The counts after a step with this reply.
-pub(crate) fn counted(counts: [u64; 3], reply: &Reply) -> [u64; 3]
-    requires { (slice_index counts 0 < 2 ^ 63) × (slice_index counts 1 < 2 ^ 63) × (slice_index counts 2 < 2 ^ 63) × (length counts ≡ 3) }
-    ensures { result ≡ after_reply counts (told_by reply.now) }
+// The counts after a step with this reply, before which so many waited for a force.
+pub(crate) fn counted(waiting: u64, counts: [u64; 3], step: &Step, reply: &Reply) -> [u64; 3]
+    requires { (slice_index counts 0 < 2 ^ 63) × (slice_index counts 1 + waiting < 2 ^ 63) × (slice_index counts 2 < 2 ^ 63) × (length counts ≡ 3) }
+    ensures { result ≡ after_reply waiting counts (asked_by step.now) (told_by reply.now) }
 {
-    match reply {
-        Reply::Started(_) => [counts[0] + 1, counts[1], counts[2]],
-        Reply::Committed => [counts[0], counts[1] + 1, counts[2]],
-        Reply::RolledBack => [counts[0], counts[1], counts[2] + 1],
+    match (step, reply) {
+        (_, Reply::Started(_)) => [counts[0] + 1, counts[1], counts[2]],
+        (_, Reply::Committed) => [counts[0], counts[1] + 1, counts[2]],
+        (_, Reply::RolledBack) => [counts[0], counts[1], counts[2] + 1],
+        (Step::Force, Reply::Done) => [counts[0], counts[1] + waiting, counts[2]],
         _ => [counts[0], counts[1], counts[2]],
     }
 }

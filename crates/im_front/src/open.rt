@@ -10,7 +10,7 @@ ghost use Rattle.im_base_types.specs.declared.fault.Fault.TheVariants.{TooMany, 
 ghost use Rattle.im_base_steps.specs.Calls.{told_by, is_blocked};
 ghost use Rattle.im_front.specs.Traces.{counts_of};
 ghost use Rattle.im_base_steps.specs.Replies.{is_full, IsReply};
-ghost use Rattle.im_front.specs.Held.{IsResting, Stands, after_trace};
+ghost use Rattle.im_front.specs.Held.{IsResting, Stands, after_trace, waits_in};
 ghost use Rattle.im_front.specs.Plain.{none, seen_of, Notes, GoesOn, IsRunFrom, StopKeepsFrom};
 
 use crate::held::{counted, publish};
@@ -34,6 +34,8 @@ pub struct Kept<E: Store> {
     trace: Trace,
     made: u64,
     counts: [u64; 3],
+    // How many transactions wait for a force.
+    waiting: u64,
     cell: Arc<StatsCell, Global>,
     pass: Pass,
 }
@@ -48,9 +50,9 @@ impl<E: Store> Model for Kept<E> {
 
     ghost Value = { PlainState E };
 
-    ghost view = { λ h. record { engine = h.engine; trace = h.trace.steps; counts = (cell_view h.pass).seen; handed = 0 } };
+    ghost view = { λ h. record { engine = h.engine; trace = h.trace.steps; counts = (cell_view h.pass).seen; waiting = h.waiting; handed = 0 } };
 
-    ghost invariant = { λ h. (E.tells → StandsFrom E.life h.trace.steps h.engine) × IsTallied (seen_of h.trace.steps) (E.actives h.engine) 0 none h.counts × (h.made ≡ length h.trace.steps) × (h.pass.table_id ≡ (arc_value h.cell).table.shared.table_id) × (cell_view h.pass ≡ writer h.counts) };
+    ghost invariant = { λ h. (E.tells → StandsFrom E.life h.trace.steps h.engine) × IsTallied (seen_of h.trace.steps) (E.actives h.engine) (E.waiting h.engine) 0 none h.counts × (h.made ≡ length h.trace.steps) × (h.pass.table_id ≡ (arc_value h.cell).table.shared.table_id) × (cell_view h.pass ≡ writer h.counts) × (h.waiting ≡ E.waiting h.engine) };
 }
 
 /// What is left of a front.
@@ -82,6 +84,7 @@ impl<E: Store> Kept<E> {
             trace: Trace::new(),
             made: 0,
             counts: [0; 3],
+            waiting: 0,
             cell,
             pass,
         })
@@ -92,7 +95,8 @@ impl<E: Store> Kept<E> {
         ensures run { E.tells → IsRunFrom E.life self.now.trace self.now.engine }
         ensures stops { E.tells → StopKeepsFrom E.leaves self.now.trace self.now.engine }
         ensures replies { All (λ e. IsReply e.0 e.1) (seen_of self.now.trace) }
-        ensures counts { self.now.counts ≡ after_trace none (seen_of self.now.trace) }
+        ensures counts { self.now.counts ≡ after_trace 0 none (seen_of self.now.trace) }
+        ensures waiting { (self.now.waiting ≡ waits_in 0 (seen_of self.now.trace)) × (self.now.waiting ≡ E.waiting self.now.engine) }
         ensures active { started self.now.counts ≡ committed self.now.counts + rolled_back self.now.counts + E.actives self.now.engine }
         ensures sound { IsSound self.now.counts }
     {
@@ -161,6 +165,7 @@ impl<E: Store> Kept<E> {
             trace,
             made,
             counts,
+            waiting,
             cell,
             pass,
             ..
@@ -169,7 +174,8 @@ impl<E: Store> Kept<E> {
         if reply.is_blocked() {
             return reply;
         }
-        let now = counted(*counts, &reply);
+        let now = counted(*waiting, *counts, step, &reply);
+        *waiting = step.waits_after(*waiting, &reply);
         *trace = trace.with(step, &reply);
         *made += 1;
         publish(rt, cell, pass, *counts, now);
@@ -217,7 +223,7 @@ impl<E: Store> Open<E> {
         for _ in rt.forever() {
             let reply = held.step(rt, &step);
             if !reply.is_blocked() {
-                if reply.may_unblock() {
+                if step.may_unblock(&reply) {
                     self.ended.notify_all();
                 }
                 return reply;

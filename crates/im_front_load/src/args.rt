@@ -11,7 +11,7 @@ use std::alloc::Global;
 /// What a command line asks for.
 #[derive(Clone, Copy, Debug)]
 pub struct LoadCommand {
-    /// How many threads, transactions and rounds of the flusher.
+    /// How many threads, transactions and rounds of the flusher, and whether Commits wait for a force.
     pub args: LoadArgs,
     /// Whether the throughput is printed too.
     pub timed: bool,
@@ -28,9 +28,13 @@ pub fn load_args(alloc: Global, words: &[String]) -> Result<LoadCommand, Error> 
         matches.get_one::<u64>("txns").unwrap_or(1),
         matches.get_one::<u64>("flush").unwrap_or(0),
     );
+    let group = matches.get_flag("group");
     let timed = matches.get_flag("time");
     match args {
-        Some(args) => Ok(LoadCommand { args, timed }),
+        Some(args) => Ok(LoadCommand {
+            args: args.with_group(group),
+            timed,
+        }),
         None => Err(command.error(ErrorKind::ValueValidation, "a number is out of its range")?),
     }
 }
@@ -48,6 +52,10 @@ fn command<'a>(alloc: Global) -> Result<Command<'a>, Error> {
         .long("flush")
         .value_parser(ValueParser::unsigned(0, 100))
         .help("Rounds of a thread beside them that writes pages, at most 100 [0]");
+    let group = Arg::new(alloc, "group")
+        .long("group")
+        .action(ArgAction::SetTrue)
+        .help("Let Commits wait for a force, which each thread makes for all that wait");
     let time = Arg::new(alloc, "time")
         .long("time")
         .action(ArgAction::SetTrue)
@@ -60,6 +68,7 @@ fn command<'a>(alloc: Global) -> Result<Command<'a>, Error> {
         .arg(threads)?
         .arg(txns)?
         .arg(flush)?
+        .arg(group)?
         .arg(time)?;
     Ok(command)
 }

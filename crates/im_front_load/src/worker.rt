@@ -51,7 +51,7 @@ fn one_insert<E: Store, L: Ledger, R: Wait>(
     }
 }
 
-// Commits a transaction.
+// Commits a transaction, with a force of its own where its Commit is to wait for one.
 fn commit<E: Store, L: Ledger, R: Wait>(
     rt: &R,
     front: &Front<E, L>,
@@ -60,7 +60,10 @@ fn commit<E: Store, L: Ledger, R: Wait>(
 ) -> Result<(), Fault>
     ensures { OnOk result (mine.old.made.amount + 1 ≤ mine.new.made.amount) }
 {
-    made(rt, front, mine, Step::Commit(t))?;
+    let reply = made(rt, front, mine, Step::Commit(t))?;
+    if matches!(reply, Reply::More) {
+        made(rt, front, mine, Step::Force)?;
+    }
     Ok(())
 }
 

@@ -20,7 +20,7 @@ use Rattle.im_base_lock.specs.Table.{locks_of, Decides}
 use Rattle.im_base_lock.specs.Rows.{asked, name_of, next_name}
 use Rattle.im_base_lock.specs.Found.{Finds, FindsNext, IsScanOf}
 use Rattle.im_base_lock.specs.declared.verdict.Verdict.TheVariants.{Granted, Wait, Die as MustDie}
-use Rattle.im_base_lock.specs.View.{View, did, did_txn, marked}
+use Rattle.im_base_lock.specs.View.{View, did, did_txn, marked, is_among}
 use Rattle.im_base_lock.specs.Machine.{barred, barred_to, or_else, fault_if}
 use Rattle.im_base_lock.proofs.Serving.{table-serves}
 use Rattle.im_base_lock.proofs.Invariant.{by_txn}
@@ -30,8 +30,8 @@ use Rattle.im_theory_steps.proofs.Asking.{asks_nothing, waits_ask_nothing, dies_
 use Rattle.im_front_memory.specs.declared.change.Change as code
 use Rattle.im_front_memory.specs.Changed.{change_of}
 use Rattle.im_front_memory.specs.Listed.{value_at, is_between, past_name}
-use Rattle.im_front_memory.specs.Stored.{State, mark_at, marks_of, checked, IsStored, Kept, IsTurned, Waits, Dies}
-use Rattle.im_front_memory.proofs.Moving.{moved, barred_is, moves_by, lacking_kept}
+use Rattle.im_front_memory.specs.Stored.{State, mark_at, marks_of, flags_of, checked, IsStored, Kept, IsTurned, Waits, Dies}
+use Rattle.im_front_memory.proofs.Moving.{moved, barred_is, moves_by, out_of, own_net, lacking_kept}
 
 -- what a check that passes says
 passed : (f : Bool) (m : Mark) (g : Option ℕ) → or_else (fault_if f has_failed) (or_else (barred_to m) g) ≡ None → (f ≡ false) × (m ≡ Going)
@@ -54,41 +54,44 @@ module _ (before : List Effect) (s : Shown) (v : View) (st : State) (h : IsStore
   going : (v.txns t).mark ≡ Going
   going = h.marks t ∙ is_going
 
+  not_waiting : (v.txns t).mark ≡ Committing → ⊥
+  not_waiting is = let never : Going ≡ Committing = sym going ∙ is in cc never
+
   frees : barred v (Do t a) ≡ None
   frees = barred_is before s v st h (Do t a) ∙ passes
 
   -- it was granted its locks
-  pub granted_kept : (row : List Request) → row ≡ asked a v.walk → (new : State) (reply : Reply) → reply ≡ answer a v.walk → Decides st.table t row Granted new.table → entries (map_after a v.walk) ≡ new.list → new.rows ≡ st.rows → new.next ≡ st.next → new.failed ≡ st.failed
+  pub granted_kept : (row : List Request) → row ≡ asked a v.walk → (new : State) (reply : Reply) → reply ≡ answer a v.walk → Decides st.table t row Granted new.table → entries (map_after a v.walk) ≡ new.list → new.rows ≡ st.rows → new.next ≡ st.next → flags_of new ≡ flags_of st
       → new.journal ≡ st.journal → new.net t ≡ changes a v.walk ++ st.net t → ((u : ℕ) → u ≢ t → new.net u ≡ st.net u) → Kept before s v (Do t a) reply new
-  granted_kept row asks new reply told decides list rows next failed journal own others =
+  granted_kept row asks new reply told decides list rows next flags journal own others =
       let goes = table-serves.decided v st.table new.table h.locks t a Granted going (subst (λ (q : List Request). Decides st.table t q Granted new.table) asks decides) in
       let x = did_txn (v.txns t) a v.walk (locks_of new.table t) in
       let same : (u : ℕ) → marks_of st u ≡ marks_of new u = λ u. ap (λ (l : List Transaction). mark_at (find (is_of u) l)) (sym rows) in
       subst (λ (r : Reply). Kept before s v (Do t a) r new) (sym told)
-      (moved before s v st h (Do t a) (answer a v.walk) (did v t a (locks_of new.table t)) new refl h.unowned
+      (moved before s v st h (Do t a) (answer a v.walk) (did v t a (locks_of new.table t)) new refl (ap (λ (x : Bool × Bool). x.1) flags) h.unowned
       (moves_by v (did v t a (locks_of new.table t)) (Do t a) (answer a v.walk) frees goes.0)
       list
       (by_txn (λ u y. y.mark ≡ marks_of new u) v.txns t x (sym is_going ∙ same t) (λ u ne. h.marks u ∙ same u))
-      (by_txn (λ u y. y.net ≡ new.net u) v.txns t x (ap (λ (n : Effect). changes a v.walk ++ n) (h.nets t) ∙ sym own) (λ u ne. h.nets u ∙ sym (others u ne)))
+      (by_txn (λ u y. cond (is_among u v.queue) [] y.net ≡ new.net u) v.txns t x (ap (λ (b : Bool). cond b [] (changes a v.walk ++ (v.txns t).net)) (out_of before s v st h t not_waiting) ∙ ap (λ (n : Effect). changes a v.walk ++ n) (own_net before s v st h t not_waiting) ∙ sym own) (λ u ne. h.nets u ∙ sym (others u ne)))
       goes.1
       (h.active ∙ ap length (sym rows))
       (h.numbers ∙ sym next)
-      (h.failing ∙ sym failed)
+      (h.failing ∙ sym (ap (λ (x : Bool × Bool). x.0) flags))
       (journal ∙ h.kept ∙ ap (λ (l : List Effect). before ++ l) (sym (ap effects (asks_nothing s t a v)))))
 
   -- it was granted its locks, and changes nothing
-  pub read_kept : (row : List Request) → row ≡ asked a v.walk → (new : State) (reply : Reply) → reply ≡ answer a v.walk → changes a v.walk ≡ [] → Decides st.table t row Granted new.table → new.list ≡ st.list → new.rows ≡ st.rows → new.next ≡ st.next → new.failed ≡ st.failed
+  pub read_kept : (row : List Request) → row ≡ asked a v.walk → (new : State) (reply : Reply) → reply ≡ answer a v.walk → changes a v.walk ≡ [] → Decides st.table t row Granted new.table → new.list ≡ st.list → new.rows ≡ st.rows → new.next ≡ st.next → flags_of new ≡ flags_of st
       → new.journal ≡ st.journal → ((u : ℕ) → new.net u ≡ st.net u) → Kept before s v (Do t a) reply new
-  read_kept row asks new reply told none decides list rows next failed journal net =
-      granted_kept row asks new reply told decides (ap (λ (e : Effect). entries (apply v.walk e)) none ∙ h.walk ∙ sym list) rows next failed journal (net t ∙ ap (λ (e : Effect). e ++ st.net t) (sym none)) (λ u ne. net u)
+  read_kept row asks new reply told none decides list rows next flags journal net =
+      granted_kept row asks new reply told decides (ap (λ (e : Effect). entries (apply v.walk e)) none ∙ h.walk ∙ sym list) rows next flags journal (net t ∙ ap (λ (e : Effect). e ++ st.net t) (sym none)) (λ u ne. net u)
 
-  module _ (row : List Request) (asks : row ≡ asked a v.walk) (reply : Reply) (new : State) (list : new.list ≡ st.list) (next : new.next ≡ st.next) (failed : new.failed ≡ st.failed) (journal : new.journal ≡ st.journal) (net : (u : ℕ) → new.net u ≡ st.net u) where
+  module _ (row : List Request) (asks : row ≡ asked a v.walk) (reply : Reply) (new : State) (list : new.list ≡ st.list) (next : new.next ≡ st.next) (flags : flags_of new ≡ flags_of st) (journal : new.journal ≡ st.journal) (net : (u : ℕ) → new.net u ≡ st.net u) where
     waits_kept : Waits st.table t row reply st.rows new.rows new.table → Kept before s v (Do t a) reply new
     waits_kept w =
         let decides : Decides st.table t (asked a v.walk) (Wait w.holder) new.table = subst (λ (q : List Request). Decides st.table t q (Wait w.holder) new.table) asks w.decided in
         let goes = table-serves.decided v st.table new.table h.locks t a (Wait w.holder) going decides in
         subst (λ (r : Reply). Kept before s v (Do t a) r new) (sym w.told)
-        (moved before s v st h (Do t a) (Blocked w.holder) v new refl h.unowned
+        (moved before s v st h (Do t a) (Blocked w.holder) v new refl (ap (λ (x : Bool × Bool). x.1) flags) h.unowned
         (moves_by v v (Do t a) (Blocked w.holder) frees goes.0)
         (h.walk ∙ sym list)
         (λ u. h.marks u ∙ ap (λ (l : List Transaction). mark_at (find (is_of u) l)) (sym w.same))
@@ -96,7 +99,7 @@ module _ (before : List Effect) (s : Shown) (v : View) (st : State) (h : IsStore
         goes.1
         (h.active ∙ ap length (sym w.same))
         (h.numbers ∙ sym next)
-        (h.failing ∙ sym failed)
+        (h.failing ∙ sym (ap (λ (x : Bool × Bool). x.0) flags))
         (journal ∙ h.kept ∙ ap (λ (l : List Effect). before ++ l) (sym (ap effects (waits_ask_nothing s t w.holder a)))))
 
     dies_kept : Dies st.table t row reply st.rows new.rows new.table → Kept before s v (Do t a) reply new
@@ -108,23 +111,23 @@ module _ (before : List Effect) (s : Shown) (v : View) (st : State) (h : IsStore
         let f = with_mark marks.MustRollBack in
         let after : (u : ℕ) → mark_at (find (is_of u) (map (changed t f) st.rows)) ≡ marks_of new u = λ u. ap (λ (l : List Transaction). mark_at (find (is_of u) l)) (sym w.marked) in
         subst (λ (r : Reply). Kept before s v (Do t a) r new) (sym w.told)
-        (moved before s v st h (Do t a) Die (marked v t MustRollBack) new refl h.unowned
+        (moved before s v st h (Do t a) Die (marked v t MustRollBack) new refl (ap (λ (x : Bool × Bool). x.1) flags) h.unowned
         (moves_by v (marked v t MustRollBack) (Do t a) Die frees goes.0)
         (h.walk ∙ sym list)
         (by_txn (λ u y. y.mark ≡ marks_of new u) v.txns t x
         (sym (ap mark_at (look_ups_follow.changed_own t f (λ r. refl) st.rows found.0 found.1)) ∙ after t)
         (λ u ne. h.marks u ∙ sym (ap mark_at (look_ups_follow.changed_other u t f (λ r. refl) st.rows ne)) ∙ after u))
-        (by_txn (λ u y. y.net ≡ new.net u) v.txns t x (h.nets t ∙ sym (net t)) (λ u ne. h.nets u ∙ sym (net u)))
+        (by_txn (λ u y. cond (is_among u v.queue) [] y.net ≡ new.net u) v.txns t x (h.nets t ∙ sym (net t)) (λ u ne. h.nets u ∙ sym (net u)))
         goes.1
         (h.active ∙ sym (length_map (changed t f) st.rows) ∙ ap length (sym w.marked))
         (h.numbers ∙ sym next)
-        (h.failing ∙ sym failed)
+        (h.failing ∙ sym (ap (λ (x : Bool × Bool). x.0) flags))
         (journal ∙ h.kept ∙ ap (λ (l : List Effect). before ++ l) (sym (ap effects (dies_ask_nothing s t a)))))
 
     pub turned_kept : IsTurned st.table t row reply st.rows new.rows new.table → Kept before s v (Do t a) reply new
     turned_kept (inl w) = waits_kept w
     turned_kept (inr (inl w)) = dies_kept w
-    turned_kept (inr (inr w)) = lacking_kept before s v st new h (Do t a) reply passes w.told list w.same next failed journal net w.table
+    turned_kept (inr (inr w)) = lacking_kept before s v st new h (Do t a) reply passes w.told list w.same next flags journal net w.table
 
 -- ---- nets
 

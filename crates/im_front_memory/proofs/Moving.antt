@@ -1,24 +1,31 @@
 -- Each step of the store is a step of the machine.
 use Rattle.std.proofs.Common.{◌≡◌, inl, inr, ℕ, List, ◌++◌, [], ◌∷◌, length, refl, sym, ◌∙◌, ap, subst, true, false, Bool, Option, None, Some}
-use Rattle.std.specs.Prelude.{find, if◌then◌else◌, ◌==◌, ◌||◌}
+use Rattle.std.specs.Prelude.{cond, find, if◌then◌else◌, ◌==◌, ◌||◌}
 use Rattle.std.specs.FinMap.{entries, empty}
 use Rattle.im_base_types.specs.Changes.{Effect, apply_all}
-use Rattle.im_base_types.specs.Answers.{Step, Reply, Mark, Going, Begin, Do, Commit, Rollback, Continue, FlushPage, Force, Checkpoint, Refused, Fetch, Seek, Next, Scan, Insert, Delete}
-use Rattle.im_base_types.specs.Refusals.{unfinished, failed as has_failed, memory}
+use Rattle.im_base_types.specs.Answers.{Step, Reply, Mark, Going, Committing, Begin, Do, Commit, Rollback, Continue, FlushPage, Force, Checkpoint, Refused, Fetch, Seek, Next, Scan, Insert, Delete}
+use Rattle.im_base_types.specs.Refusals.{unfinished, memory}
 use Rattle.im_base_types.specs.Lives.{asks, breaks as breaking, Shown, effects, nothing_shown, shown_by, shows, refused}
 use Rattle.im_base_txn.specs.declared.transaction.Transaction.{Transaction}
-use Rattle.im_base_txn.specs.Rows.{is_of}
+use Rattle.im_base_txn.specs.declared.transaction.Mark as code
+use Rattle.im_base_txn.specs.declared.transaction.Mark.TheVariants as marks
+use Rattle.im_base_txn.specs.Rows.{AreRising, is_of, is_committing, waits_at, waiting_in}
 use Rattle.im_base_lock.specs.Table.{SameTable}
 use Rattle.im_base_lock.specs.Serving.{Matches}
-use Rattle.im_base_lock.specs.View.{View, owns_in}
-use Rattle.im_base_lock.specs.Machine.{Moves, Answers, Goes, lacks, barred, barred_to, or_else, fault_if, start, first_check, mark_for, Wants}
+use Rattle.im_base_lock.specs.View.{View, owns_in, is_among}
+use Rattle.im_base_lock.specs.Machine.{Moves, Answers, Goes, lacks, barred, start, first_check, mark_for, Wants}
+use Rattle.im_base_lock.proofs.Bools.{cases_test}
 use Rattle.im_base_lock.proofs.Callers.{Run-push}
+use Rattle.im_base_lock.proofs.Runs.{IsQueue}
 use Rattle.im_theory_steps.specs.Seen.{IsShownBy}
 use Rattle.im_theory_steps.proofs.Showing.{is_shown_so}
 use Rattle.im_theory_steps.proofs.Asking.{refusals_ask_nothing}
 use Rattle.im_theory_steps.proofs.Acknowledged.{going_free, runs_commit}
+use Rattle.im_theory_steps.proofs.Waiting.{queue_long}
 use Rattle.im_base_lock.proofs.Under.{none_owned}
-use Rattle.im_front_memory.specs.Stored.{State, mark_at, marks_of, checked, IsStored, Kept}
+use Rattle.im_theory_steps.specs.Serving.{mark_of}
+use Rattle.im_front_memory.specs.Laws.{busy_is}
+use Rattle.im_front_memory.specs.Stored.{State, mark_at, marks_of, flags_of, left_net, checked, IsStored, Kept}
 
 -- what is shown by one step more
 shown_by-push : (s : Shown) (trace : List (Step × Reply)) (step : Step) (reply : Reply) → shown_by s (trace ++ (step, reply) ∷ []) ≡ shows (shown_by s trace) step (Some reply)
@@ -39,6 +46,31 @@ mark_for-same f g same (FlushPage p) = refl
 mark_for-same f g same Force = refl
 mark_for-same f g same Checkpoint = refl
 
+same_tests : (a b : Bool) → (a ≡ true → b ≡ true) → (b ≡ true → a ≡ true) → a ≡ b
+same_tests true b there back = sym (there refl)
+same_tests false true there back = back refl
+same_tests false false there back = refl
+
+waits_by : (o : Option Transaction) → mark_at o ≡ Committing → waits_at o ≡ true
+waits_by None e = absurd (cc e)
+waits_by (Some row) e = by row.mark e
+  where
+    by : (m : code.Mark) → mark_of m ≡ Committing → is_committing m ≡ true
+    by marks.Committing e = refl
+    by marks.Going e = absurd (cc e)
+    by marks.MustRollBack e = absurd (cc e)
+    by marks.RollingBack e = absurd (cc e)
+
+marked_so : (o : Option Transaction) → waits_at o ≡ true → mark_at o ≡ Committing
+marked_so None e = absurd (cc e)
+marked_so (Some row) e = by row.mark e
+  where
+    by : (m : code.Mark) → is_committing m ≡ true → mark_of m ≡ Committing
+    by marks.Committing e = refl
+    by marks.Going e = absurd (cc e)
+    by marks.MustRollBack e = absurd (cc e)
+    by marks.RollingBack e = absurd (cc e)
+
 module _ (before : List Effect) (s : Shown) (v : View) (st : State) (h : IsStored before s v st) where
   pub shown_is : IsShownBy s v
   shown_is = subst (λ (x : Shown). IsShownBy x v) (sym h.reached.shown) (runs_commit (apply_all empty before) h.reached.first h.reached.trace v h.reached.run).shown
@@ -50,10 +82,28 @@ module _ (before : List Effect) (s : Shown) (v : View) (st : State) (h : IsStore
       ∙ ap (λ (m : Mark). first_check st.failed (length st.rows) m (owns_in v.under step) step) (mark_for-same (λ t. (v.txns t).mark) (marks_of st) h.marks step)
       ∙ ap (λ (b : Bool). first_check st.failed (length st.rows) (mark_for (marks_of st) step) b step) (none_owned v.under h.unowned step)
 
-  -- a step of the machine that asks nothing
-  pub moved : (step : Step) (reply : Reply) (w : View) (new : State) → w.queue ≡ v.queue → w.under ≡ None → Moves v step reply w → entries w.walk ≡ new.list → ((t : ℕ) → (w.txns t).mark ≡ marks_of new t) → ((t : ℕ) → (w.txns t).net ≡ new.net t) → Matches w new.table
-      → w.active ≡ length new.rows → w.next ≡ new.next → w.failed ≡ new.failed → new.journal ≡ before ++ effects (shows s step (Some reply)).asked → Kept before s v step reply new
-  moved step reply w new queue under moves walk mark net lock active next failing kept = (
+  pub queue_is : IsQueue v.queue v.txns
+  queue_is = (busy_is before s v h.reached).1
+
+  -- who does not wait has its whole net
+  pub out_of : (t : ℕ) → ((v.txns t).mark ≡ Committing → ⊥) → is_among t v.queue ≡ false
+  out_of t not_so = elim (cases_test (is_among t v.queue)) [ inl some ↦ absurd (not_so (queue_is.waits t some)) | inr none ↦ none ]
+
+  pub own_net : (t : ℕ) → ((v.txns t).mark ≡ Committing → ⊥) → (v.txns t).net ≡ st.net t
+  own_net t not_so = ap (λ (b : Bool). cond b [] ((v.txns t).net)) (sym (out_of t not_so)) ∙ h.nets t
+
+  -- the queue has those that wait by the table
+  pub queue_tells : (t : ℕ) → is_among t v.queue ≡ waits_at (find (is_of t) st.rows)
+  queue_tells t = same_tests (is_among t v.queue) (waits_at (find (is_of t) st.rows)) (λ some. waits_by (find (is_of t) st.rows) (sym (h.marks t) ∙ queue_is.waits t some)) (λ waits. queue_is.all t (h.marks t ∙ marked_so (find (is_of t) st.rows) waits))
+
+  -- as many wait and are active as the table says
+  pub counts_as : AreRising st.rows → (length v.queue ≡ waiting_in st.rows) × (v.active ≡ length st.rows)
+  counts_as rising = (sym (queue_long v.queue st.rows rising queue_is.each queue_tells), h.active)
+
+  -- a step of the machine
+  pub moved_to : (step : Step) (reply : Reply) (w : View) (new : State) → (new.group ≡ false → w.queue ≡ []) → w.under ≡ None → Moves v step reply w → entries w.walk ≡ new.list → ((t : ℕ) → (w.txns t).mark ≡ marks_of new t) → ((t : ℕ) → left_net w t ≡ new.net t)
+      → Matches w new.table → w.active ≡ length new.rows → w.next ≡ new.next → w.failed ≡ new.failed → new.journal ≡ before ++ effects (shows s step (Some reply)).asked → Kept before s v step reply new
+  moved_to step reply w new alone under moves walk mark net lock active next failing kept = (
     w,
     moves,
     record {
@@ -71,15 +121,20 @@ module _ (before : List Effect) (s : Shown) (v : View) (st : State) (h : IsStore
       numbers = next;
       failing = failing;
       kept = kept;
-      alone = queue ∙ h.alone;
+      alone = alone;
       unowned = under;
     },
   )
 
+  -- one behind which as many wait
+  pub moved : (step : Step) (reply : Reply) (w : View) (new : State) → w.queue ≡ v.queue → new.group ≡ st.group → w.under ≡ None → Moves v step reply w → entries w.walk ≡ new.list → ((t : ℕ) → (w.txns t).mark ≡ marks_of new t) → ((t : ℕ) → left_net w t ≡ new.net t)
+      → Matches w new.table → w.active ≡ length new.rows → w.next ≡ new.next → w.failed ≡ new.failed → new.journal ≡ before ++ effects (shows s step (Some reply)).asked → Kept before s v step reply new
+  moved step reply w new queue group under moves walk mark net lock active next failing kept = moved_to step reply w new (λ off. queue ∙ h.alone (sym group ∙ off)) under moves walk mark net lock active next failing kept
+
   -- one that changes nothing
   pub same_kept : (step : Step) (reply : Reply) → Moves v step reply v → effects (shows s step (Some reply)).asked ≡ effects s.asked → Kept before s v step reply st
   same_kept step reply moves asks =
-      moved step reply v st refl h.unowned moves h.walk h.marks h.nets h.locks h.active h.numbers h.failing (h.kept ∙ ap (λ (l : List Effect). before ++ l) (sym asks))
+      moved step reply v st refl refl h.unowned moves h.walk h.marks h.nets h.locks h.active h.numbers h.failing (h.kept ∙ ap (λ (l : List Effect). before ++ l) (sym asks))
 
 -- ---- refusals
 
@@ -135,10 +190,10 @@ memory_asks s step = ap effects (refusals_ask_nothing memory step s (λ t e. inl
 
 -- memory is wanting; the parts say what they said
 pub lacking_kept : (before : List Effect) (s : Shown) (v : View) (st new : State) → IsStored before s v st → (step : Step) (reply : Reply) → checked st step ≡ None → reply ≡ Refused memory
-    → new.list ≡ st.list → new.rows ≡ st.rows → new.next ≡ st.next → new.failed ≡ st.failed → new.journal ≡ st.journal → ((t : ℕ) → new.net t ≡ st.net t) → SameTable st.table new.table → Kept before s v step reply new
-lacking_kept before s v st new h step reply passes told list rows next failed journal net table =
+    → new.list ≡ st.list → new.rows ≡ st.rows → new.next ≡ st.next → flags_of new ≡ flags_of st → new.journal ≡ st.journal → ((t : ℕ) → new.net t ≡ st.net t) → SameTable st.table new.table → Kept before s v step reply new
+lacking_kept before s v st new h step reply passes told list rows next flags journal net table =
     subst (λ (r : Reply). Kept before s v step r new) (sym told)
-    (moved before s v st h step (Refused memory) v new refl h.unowned
+    (moved before s v st h step (Refused memory) v new refl (ap (λ (x : Bool × Bool). x.1) flags) h.unowned
     (moves_by v v step (Refused memory) (barred_is before s v st h step ∙ passes) (lacks memory (wants_memory step) refl refl))
     (h.walk ∙ sym list)
     (λ t. h.marks t ∙ ap (λ (l : List Transaction). mark_at (find (is_of t) l)) (sym rows))
@@ -146,5 +201,5 @@ lacking_kept before s v st new h step reply passes told list rows next failed jo
     ((λ t. h.locks.0 t ∙ sym (table t)), h.locks.1)
     (h.active ∙ ap length (sym rows))
     (h.numbers ∙ sym next)
-    (h.failing ∙ sym failed)
+    (h.failing ∙ sym (ap (λ (x : Bool × Bool). x.0) flags))
     (journal ∙ h.kept ∙ ap (λ (l : List Effect). before ++ l) (sym (memory_asks s step))))

@@ -1,17 +1,17 @@
 -- Stops of a store in memory, and where a life of it may end.
 use Rattle.std.proofs.Common.{◌≡◌, ◌++◌, ◌∷◌, ℕ, [], List, false, Bool, refl, sym, ap, subst, ◌∙◌, append-nil}
-use Rattle.std.specs.Prelude.{if◌then◌else◌}
+use Rattle.std.specs.Prelude.{cond, if◌then◌else◌}
 use Rattle.std.specs.FinMap.{empty, entries}
 use Rattle.im_base_types.specs.Changes.{Effect, apply, apply_all}
 use Rattle.im_base_types.specs.Maps.{IndexMap}
 use Rattle.im_base_types.specs.Answers.{Step, Reply}
 use Rattle.im_base_types.specs.Lives.{Shown, Asked, Survives, effects, nothing_shown}
-use Rattle.im_base_lock.specs.View.{View, Txn, idle, nets_of}
+use Rattle.im_base_lock.specs.View.{View, Txn, idle, nets_of, is_among}
 use Rattle.im_base_lock.specs.Machine.{start, Run}
 use Rattle.im_base_lock.proofs.Isolates.{isolates}
 use Rattle.im_theory_steps.specs.Acknowledged.{acked_effects, AllAcked, IsCleanBut, Shows}
 use Rattle.im_theory_steps.proofs.Acknowledged.{no_effects, runs_commit}
-use Rattle.im_front.proofs.Balance.{IsBusy, moves_leaves, start_busy, all_idle}
+use Rattle.im_front.proofs.Balance.{IsBusy, moves_leaves, start_busy, all_idle, nobody_waits}
 use Rattle.im_front_memory.specs.Stored.{State, IsStored, IsReachedBy}
 
 runs_are_busy : (v w : View) (trace : List (Step × Reply)) → IsBusy v → Run v trace w → IsBusy w
@@ -40,8 +40,11 @@ module _ (before : List Effect) (s : Shown) (v : View) (st : State) (h : IsStore
   shows : Shows (apply_all empty before) s v
   shows = subst (λ (x : Shown). Shows (apply_all empty before) x v) (sym h.reached.shown) (runs_commit (apply_all empty before) h.reached.first h.reached.trace v h.reached.run)
 
+  nobody : v.queue ≡ []
+  nobody = nobody_waits v (busy_is before s v h.reached) none
+
   committed : v.committed ≡ apply_all empty (before ++ effects s.asked)
-  committed = shows.commits ∙ ap (apply_all (apply_all empty before)) (all_are s.asked (all_acked_in s.asked (subst (λ (q : List ℕ). IsCleanBut (nets_of v.txns q) s.asked) h.alone (shows.clean works)))) ∙ sym (apply_more empty before (effects s.asked))
+  committed = shows.commits ∙ ap (apply_all (apply_all empty before)) (all_are s.asked (all_acked_in s.asked (subst (λ (q : List ℕ). IsCleanBut (nets_of v.txns q) s.asked) nobody (shows.clean works)))) ∙ sym (apply_more empty before (effects s.asked))
 
   quiet : (t : ℕ) → v.txns t ≡ idle
   quiet = all_idle v (busy_is before s v h.reached) works none
@@ -56,13 +59,13 @@ module _ (before : List Effect) (s : Shown) (v : View) (st : State) (h : IsStore
       reached = record { first = v.next; trace = []; run = ap (λ (m : IndexMap). start m v.next) committed; shown = refl };
       walk = ap entries (sym walk_is) ∙ h.walk;
       marks = λ t. ap (λ (x : Txn). x.mark) (sym (quiet t)) ∙ h.marks t;
-      nets = λ t. ap (λ (x : Txn). x.net) (sym (quiet t)) ∙ h.nets t;
+      nets = λ t. ap (λ (x : Txn). x.net) (sym (quiet t)) ∙ ap (λ (q : List ℕ). cond (is_among t q) [] ((v.txns t).net)) (sym nobody) ∙ h.nets t;
       locks = ((λ t. ap (λ (x : Txn). x.locks) (sym (quiet t)) ∙ h.locks.0 t), λ w s. refl);
       active = sym none ∙ h.active;
       numbers = h.numbers;
       failing = sym works ∙ h.failing;
       kept = h.kept ∙ sym (append-nil (before ++ effects s.asked));
-      alone = refl;
+      alone = λ g. refl;
       unowned = refl;
     },
   )

@@ -1,5 +1,5 @@
 -- What a store in memory is, as the machine of transactions sees it.
-use Rattle.std.specs.Prelude.{◌≡◌, ℕ, ◌⊎◌, Bool, false, List, [], ◌++◌, Option, None, Some, length, map, find}
+use Rattle.std.specs.Prelude.{◌≡◌, ℕ, ◌⊎◌, Bool, false, List, [], ◌++◌, Option, None, Some, cond, length, map, find}
 use Rattle.std.specs.FinMap.{empty, entries}
 use Rattle.im_base_types.specs.Pages.{Entry}
 use Rattle.im_base_types.specs.Changes.{Effect, apply_all}
@@ -13,7 +13,7 @@ use Rattle.im_base_lock.specs.Table.{Table, Decides, SameTable}
 use Rattle.im_base_lock.specs.Locks.{Request}
 use Rattle.im_base_lock.specs.declared.verdict.Verdict.TheVariants.{Wait, Die as MustDie}
 use Rattle.im_base_lock.specs.Serving.{Matches}
-use Rattle.im_base_lock.specs.View.{View}
+use Rattle.im_base_lock.specs.View.{View, is_among}
 use Rattle.im_base_lock.specs.Machine.{Moves, Run, start, first_check, mark_for}
 use Rattle.im_theory_steps.specs.Serving.{mark_of}
 use Rattle.im_base_types.specs.declared.fault.Fault.{Fault}
@@ -30,9 +30,11 @@ pub record State : Type 0 where
   pub net : ℕ → Effect
   pub journal : List Effect
   pub failed : Bool
+  -- whether a Commit waits for a force
+  pub group : Bool
 
 abbrev pub state_of : MemoryStore → State
-state_of m = record { list = m.entries.items; rows = m.txns.rows; next = m.txns.next; table = m.locks; net = net_at m.nets; journal = effects_of m.journal.items; failed = m.failed }
+state_of m = record { list = m.entries.items; rows = m.txns.rows; next = m.txns.next; table = m.locks; net = net_at m.nets; journal = effects_of m.journal.items; failed = m.failed; group = m.group }
 
 -- the mark of a transaction that is found, or not
 abbrev pub mark_at : Option Transaction → Mark
@@ -41,6 +43,14 @@ mark_at (Some row) = mark_of row.mark
 
 abbrev pub marks_of : State → ℕ → Mark
 marks_of st t = mark_at (find (is_of t) st.rows)
+
+-- what most steps leave as it was
+abbrev pub flags_of : State → Bool × Bool
+flags_of st = (st.failed, st.group)
+
+-- what the journal does not have yet of a transaction's net: nothing where its Commit waits for a force
+abbrev pub left_net : View → ℕ → Effect
+left_net v t = cond (is_among t v.queue) [] ((v.txns t).net)
 
 -- the first refusal that a check gives to a step: no Insert or Delete goes on, since each is answered in its step
 abbrev pub checked : State → Step → Option ℕ
@@ -58,19 +68,19 @@ pub record IsReachedBy (before : List Effect) (s : Shown) (v : View) : Type 0 wh
   pub run : Run (start (apply_all empty before) first) trace v
   pub shown : s ≡ shown_by nothing_shown trace
 
--- the store is this view of the machine, and its journal has what was committed before this life and in it
+-- the store is this view of the machine, and its journal has what was committed before this life, and what was asked to be in it
 pub record IsStored (before : List Effect) (s : Shown) (v : View) (st : State) : Type 0 where
   pub reached : IsReachedBy before s v
   pub walk : entries v.walk ≡ st.list
   pub marks : (t : ℕ) → (v.txns t).mark ≡ marks_of st t
-  pub nets : (t : ℕ) → (v.txns t).net ≡ st.net t
+  pub nets : (t : ℕ) → left_net v t ≡ st.net t
   pub locks : Matches v st.table
   pub active : v.active ≡ length st.rows
   pub numbers : v.next ≡ st.next
   pub failing : v.failed ≡ st.failed
   pub kept : st.journal ≡ before ++ effects s.asked
-  -- nobody waits for a force
-  pub alone : v.queue ≡ []
+  -- nobody waits for a force where Commits are made at once
+  pub alone : st.group ≡ false → v.queue ≡ []
   -- there are no structure changes
   pub unowned : v.under ≡ None
 

@@ -1,7 +1,10 @@
 //! How transactions begin and end.
 
-ghost use Rattle.std.specs.Prelude.{◌≡◌, ◌≢◌, ℕ, ◌<◌, ◌++◌, ◌∷◌, None, vec_len, vec_capacity};
+ghost use Rattle.std.specs.Prelude.{◌≡◌, ◌≢◌, ◌⊎◌, ℕ, ◌<◌, ◌++◌, [], ◌∷◌, true, false, None, vec_len, vec_capacity};
 ghost use Rattle.im_base_types.specs.Answers as answers;
+ghost use Rattle.im_base_txn.specs.Rows.{waiting_numbers};
+ghost use Rattle.im_base_lock.specs.Table.{AreReleased};
+ghost use Rattle.im_base_lock.specs.View.{is_among};
 ghost use Rattle.im_base_steps.specs.Calls.{told_by};
 ghost use Rattle.im_front_memory.specs.Changed.{effects_of, net_at, net_in, noted};
 ghost use Rattle.im_front_memory.specs.Listed.{taken_back};
@@ -11,8 +14,9 @@ ghost use Rattle.im_front_memory.specs.Stored.{checked, Serves, state_of};
 use crate::change::Change;
 use crate::memory_store::MemoryStore;
 use crate::{nets, sorted};
+use im_base_lock::LockTable;
 use im_base_steps::Reply;
-use im_base_txn::Mark;
+use im_base_txn::{Mark, Transaction};
 use im_base_types::{Fault, Key, Rid, TxnId};
 use std::collections::HashMap;
 
@@ -37,10 +41,33 @@ impl MemoryStore {
         let Ok(()) = self.journal.reserve(1) else {
             return Reply::Refused(Fault::Memory);
         };
+        let waits = self.must_wait(t);
         note(&mut self.journal, nets::take_all(&mut self.nets, t));
+        if waits {
+            self.txns.set_mark(t, Mark::Committing);
+            return Reply::More;
+        }
         self.locks.release_all(t);
         self.txns.end(t);
         Reply::Committed
+    }
+
+    // Whether the Commit of a transaction waits for a force.
+    fn must_wait(&self, t: TxnId) -> bool
+        ensures waits { result ≡ true → (self.now.group ≡ true) × (net_at self.now.nets t ≢ []) }
+        ensures at_once { result ≡ false → (self.now.group ≡ false) ⊎ (net_at self.now.nets t ≡ []) }
+    {
+        self.group && !nets::is_clean(&self.nets, t)
+    }
+
+    // Commits all that wait.
+    pub(crate) fn force(&mut self) -> Reply
+        requires { checked (state_of self.old) answers.Force ≡ None }
+        ensures { Serves (state_of self.old) answers.Force (told_by result) (state_of self.new) }
+    {
+        release_waiting(&mut self.locks, self.txns.rows());
+        self.txns.end_waiting();
+        Reply::Done
     }
 
     pub(crate) fn roll_back(&mut self, t: TxnId) -> Reply
@@ -81,6 +108,17 @@ fn note(journal: &mut Vec<Vec<Change>>, changes: Option<Vec<Change>>)
     if let Some(changes) = changes {
         if !changes.is_empty() {
             journal.push_reserved(changes);
+        }
+    }
+}
+
+// Gives back the locks of those that wait for a force.
+fn release_waiting(locks: &mut LockTable, rows: &[Transaction])
+    ensures { AreReleased locks.old (λ t. is_among t (waiting_numbers rows.now)) locks.new }
+{
+    for row in rows {
+        if row.mark.is_committing() {
+            locks.release_all(row.number);
         }
     }
 }

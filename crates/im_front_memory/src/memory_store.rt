@@ -19,8 +19,10 @@ pub struct MemoryStore {
     pub(crate) locks: LockTable,
     /// What each of them changed and has not taken back, the oldest first.
     pub(crate) nets: HashMap<TxnId, Vec<Change>>,
-    /// What was committed, in the order of the Commits.
+    /// What was committed or waits for a force, in the order of the Commits.
     pub(crate) journal: Vec<Vec<Change>>,
     /// Whether an earlier step broke it.
     pub(crate) failed: bool,
+    /// Whether a Commit waits for a force.
+    pub(crate) group: bool,
 }

@@ -1,6 +1,6 @@
 //! A store in memory is a store.
 
-ghost use Rattle.std.specs.Prelude.{◌≡◌};
+ghost use Rattle.std.specs.Prelude.{◌≡◌, false};
 ghost use Rattle.im_base_steps.specs.Calls.{asked_by, told_by};
 ghost use Rattle.im_front.specs.Held.{IsResting};
 ghost use Rattle.im_front_memory.specs.Stored.{Serves, state_of};
@@ -15,9 +15,19 @@ use std::alloc::Global;
 use std::collections::HashMap;
 
 impl MemoryStore {
-    /// A store without entries.
+    /// A store without entries, whose Commits are made at once.
     pub fn new(alloc: Global) -> MemoryStore
-        ensures { IsResting ⟦<MemoryStore as Store>⟧ result }
+        ensures resting { IsResting ⟦<MemoryStore as Store>⟧ result }
+        ensures group { result.group ≡ false }
+    {
+        MemoryStore::with_group(alloc, false)
+    }
+
+    /// A store without entries. With `group` the Commit of a transaction that changed something is answered `More`, and the next `Force`
+    /// commits all that wait.
+    pub fn with_group(alloc: Global, group: bool) -> MemoryStore
+        ensures resting { IsResting ⟦<MemoryStore as Store>⟧ result }
+        ensures group { result.group ≡ group }
     {
         MemoryStore {
             alloc,
@@ -27,6 +37,7 @@ impl MemoryStore {
             nets: HashMap::new(alloc),
             journal: Vec::new(alloc),
             failed: false,
+            group,
         }
     }
 
@@ -49,7 +60,7 @@ impl MemoryStore {
             Step::Rollback(t) => self.roll_back(*t),
             Step::Continue(t) => self.go_on(*t),
             Step::FlushPage(_) => Reply::Done,
-            Step::Force => Reply::Done,
+            Step::Force => self.force(),
             Step::Checkpoint => Reply::Done,
         }
     }
@@ -59,6 +70,8 @@ impl Store for MemoryStore {
     ghost use Rattle.std.specs.Prelude.{◌≡◌, length};
     ghost use Rattle.im_base_types.specs.declared.fault.Fault.TheVariants.{Memory};
     ghost use Rattle.im_base_steps.specs.Calls.{asked_by, told_by};
+    ghost use Rattle.im_base_txn.specs.Rows.{waiting_in};
+    ghost use Rattle.im_base_txn.proofs.LookUps.{few_waiting};
     ghost use Rattle.im_front_memory.specs.Stored.{IsStored, Serves, state_of};
     ghost use Rattle.im_front_memory.specs.Laws.{stops_whole, settled};
 
@@ -70,12 +83,17 @@ impl Store for MemoryStore {
 
     ghost actives = { λ e. length (state_of e).rows };
 
+    ghost waiting = { λ e. waiting_in (state_of e).rows };
+
     ghost refuses = { λ old new fault. (new ≡ old) × (fault ≡ Memory) };
 
     ghost made = { λ old step reply new. Serves (state_of old) (asked_by step) (told_by reply) (state_of new) };
 
     fn step(&mut self, step: &Step) -> Reply {
-        self.make(step)
+        self.txns.rise();
+        let reply = self.make(step);
+        self.txns.rise();
+        reply
     }
 
     fn entries(&mut self, alloc: Global) -> Result<Vec<(Key, Rid)>, Fault> {
@@ -92,6 +110,8 @@ impl Store for MemoryStore {
     fn failed(&self) -> bool {
         self.failed
     }
+
+    ghost few = { λ e. few_waiting (state_of e).rows };
 
     ghost stops = { λ before s v e h. stops_whole before s v (state_of e) h };
 

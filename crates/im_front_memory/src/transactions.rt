@@ -1,7 +1,7 @@
 //! Active transactions, and the number that is given next.
 
 ghost use Rattle.std.specs.Prelude.{◌≡◌, ◌<◌, ◌≤◌, ◌^◌, ◌+◌, ◌++◌, [], ◌∷◌, not, filter, find, length, map, nat_lt, true, IfSome, IfNone, Some};
-ghost use Rattle.im_base_txn.specs.Rows.{begun, changed, is_of, with_mark};
+ghost use Rattle.im_base_txn.specs.Rows.{AreRising, begun, changed, is_of, with_mark, without_waiting};
 ghost use Rattle.im_base_txn.specs.declared.transaction.Transaction.{Transaction as Row};
 
 use im_base_txn::{Mark, Table, Transaction, numbers_stay_below};
@@ -45,6 +45,21 @@ impl Transactions {
         self.table.len()
     }
 
+    /// Their rows, in rising number.
+    pub fn rows(&self) -> &[Transaction]
+        ensures rows { result.now ≡ self.now.rows }
+        ensures rising { AreRising result.now }
+    {
+        self.table.rows()
+    }
+
+    /// Numbers rise. It does nothing: its contract says so.
+    pub fn rise(&self)
+        ensures { AreRising self.now.rows }
+    {
+        let _rows = self.table.rows();
+    }
+
     /// The row of the transaction of this number, if it is active.
     pub fn find(&self, number: TxnId) -> Option<Transaction>
         ensures { result ≡ find (is_of number) self.now.rows }
@@ -84,5 +99,13 @@ impl Transactions {
     {
         numbers_stay_below();
         self.table.end(number);
+    }
+
+    /// Ends the transactions that wait for a force.
+    pub fn end_waiting(&mut self)
+        ensures { self.new ≡ record self.old { rows = without_waiting self.old.rows } }
+    {
+        numbers_stay_below();
+        self.table.end_waiting();
     }
 }

@@ -13,3 +13,4 @@ pub mod Durable
 pub mod Lived
 pub mod Rolling
 pub mod Undone
+pub mod Waiting

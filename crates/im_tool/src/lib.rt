@@ -1,9 +1,9 @@
-//! The program that keeps a store, as a function of its words and of the runtime.
+//! What is `imstore`, as a function of its words and of the runtime?
 //!
 //! `store_program` is all of `imstore` but its `main`: it opens the folder that its words name, or an
 //! empty model disk, and hands the disk on to `store_text`, which opens the store of any disk, makes the steps that a
-//! reader's lines ask for, and has written and flushed all replies before it waits for a line. Checkpoints are taken behind the steps as a
-//! `RedoBound` of `im_engine_upkeep` wants them, and one behind the last line, so that the next opening has little to redo, or nothing. What goes to which
+//! reader's lines ask for, and has written and flushed all replies before it waits for a line. Checkpoints are taken after the steps as a
+//! `RedoBound` of `im_engine_upkeep` wants them, and one after the last line, so that the next opening has little to redo, or nothing. What goes to which
 //! stream is tested, by stored outputs word for word among other tests, and stands in no clause.
 //!
 //! It stands on `im_tool_words` for the lines of steps and the words of replies, on the engine, and on `clap` for command lines. Scripts are none
@@ -11,6 +11,8 @@
 #![tactic(auto)]
 
 mod causes;
+mod entry_text;
+mod help;
 mod imstore;
 mod line_input;
 mod look;
@@ -20,9 +22,11 @@ mod recovered;
 mod store;
 mod tasks;
 mod transfer;
+mod version;
 mod words_step;
 
 pub use causes::{Cause, Causes};
+pub use entry_text::{Form, dump_text};
 pub use imstore::store_program;
 pub use line_input::LineInput;
 pub use look::{check_text, stat_text};

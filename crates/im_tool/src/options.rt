@@ -1,5 +1,7 @@
 //! The command line of the program that keeps a store.
 
+use crate::entry_text::Form;
+use crate::version::VERSION;
 use clap::builder::ValueParser;
 use clap::{Arg, ArgAction, ArgMatches, Command, Error};
 use im_base_types::{LEAST_FRAMES, MOST_FRAMES};
@@ -26,8 +28,8 @@ pub enum Task {
     Stat,
     /// The records of the log.
     Log,
-    /// The entries, as text that `Load` takes.
-    Dump,
+    /// The entries, as text of a form that `Load` takes.
+    Dump(Form),
     /// Entries put in, as `Dump` wrote them.
     Load,
 }
@@ -100,7 +102,7 @@ fn task_of(matches: &ArgMatches) -> Task {
     } else if matches.get_flag("log") {
         Task::Log
     } else if matches.get_flag("dump") {
-        Task::Dump
+        Task::Dump(form_of(matches))
     } else if matches.get_flag("load") {
         Task::Load
     } else {
@@ -108,8 +110,16 @@ fn task_of(matches: &ArgMatches) -> Task {
     }
 }
 
+fn form_of(matches: &ArgMatches) -> Form {
+    if matches.get_flag("portable") {
+        Form::Portable
+    } else {
+        Form::Own
+    }
+}
+
 fn command<'a>(alloc: Global) -> Result<Command<'a>, Error> {
-    let command = Command::new(alloc, "imstore").version("1").about(
+    let command = Command::new(alloc, "imstore").version(VERSION).about(
         "Keeps keys with their row ids in a store, and makes the steps that standard input asks for",
     );
     with_tasks(alloc, with_flags(alloc, with_numbers(alloc, command)?)?)
@@ -182,11 +192,17 @@ fn with_tasks<'a>(alloc: Global, command: Command<'a>) -> Result<Command<'a>, Er
         "Print the records of the log, and change nothing",
     )?;
     command = with_task(alloc, command, "dump", "Print all entries as text")?;
+    command = command.arg(flag(
+        alloc,
+        "portable",
+        "Dump them as LMDB and Berkeley DB do, with row ids of 8 bytes",
+    )
+    .requires_arg("dump")?)?;
     with_task(
         alloc,
         command,
         "load",
-        "Put in the entries that standard input has, as --dump prints them",
+        "Put in the entries that standard input has, as --dump prints them, in either form",
     )
 }
 

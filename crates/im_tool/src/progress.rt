@@ -11,12 +11,15 @@ pub struct Progress<W> {
 }
 
 impl<W: Write> Progress<W> {
-    /// Tells how many of all entries are done. Where that cannot be written nobody reads it, and the task goes on.
-    pub(crate) fn show(&mut self, done: u64, all: u64)
+    /// Tells how many entries are done, and of how many where that is known. Where that cannot be written nobody reads it, and the task goes on.
+    pub(crate) fn show(&mut self, done: u64, all: Option<u64>)
         ensures quiet { self.old.is_shown ≡ false → self.new ≡ self.old }
     {
         if self.is_shown {
-            let _ = write!(self.writer, "\r{done} of {all} entries");
+            let _ = match all {
+                Some(all) => write!(self.writer, "\r{done} of {all} entries"),
+                None => write!(self.writer, "\r{done} entries"),
+            };
         }
     }
 

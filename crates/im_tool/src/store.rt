@@ -4,11 +4,12 @@ ghost use Rattle.std.specs.Prelude.{◌≡◌, ◌≤◌, false, IfOk};
 ghost use Rattle.im_base_disk.specs.Runs.{IsSynced};
 
 use crate::causes::{Cause, Causes};
+use crate::help::{write_help, write_help_on};
 use crate::line_input::{LineInput, without_newline};
 use crate::words_step::words_step;
 use im_base_disk::Disk;
 use im_base_steps::{Reply, Step};
-use im_base_types::{Fault, Key, Rid};
+use im_base_types::{Fault, Key, MOST_ENTRIES, Rid, TxnId};
 use im_engine::{Config, Engine};
 use im_engine_upkeep::{Checkpoints, RedoBound};
 use im_tool_look::write_key;
@@ -17,26 +18,6 @@ use std::alloc::{AllocError, Global};
 use std::fmt::Display;
 use std::io;
 use std::io::Write;
-
-const HELP: &str = "begin                    a transaction begins; its number is answered
-insert N KEY ROWID       puts a key in, in transaction N
-delete N KEY             takes a key out
-fetch N KEY              answers the row id of a key
-seek N KEY               answers the first key from this one on, with its row id
-next N KEY               answers the first key behind this one, with its row id
-scan N KEY KEY LIMIT     answers the keys from one to another, LIMIT at most
-commit N                 what transaction N did is kept from now on
-rollback N               takes back what transaction N did: at once, or step by step
-continue N               takes back the next of it
-entries                  all keys with their row ids
-force                    makes the log durable
-flush PAGE               writes a page to the file of pages
-checkpoint               makes the log durable, with a record that says where a restart begins to redo
-redo                     where the opening began to redo the log, and how many records it applied
-help                     this list
-KEY is text without spaces, \"text with spaces\", or x'6100'. Up to 64 transactions are active at a time.
-A step that is `blocked` is asked for again once that transaction has ended; behind `die` its transaction has to roll back.
-";
 
 /// How lines are read and replies are written.
 #[derive(Clone, Copy, Debug, Default, PartialEq, Eq)]
@@ -189,6 +170,9 @@ fn run_lines<D: Disk + Cause, R: LineInput, W: Write, E: Write>(
             return Ok(StoreEnd::Input);
         }
         let text = without_newline(line);
+        if manner.has_words && text == b"quit".as_slice() {
+            return Ok(StoreEnd::Input);
+        }
         if !text.is_empty() {
             let is_refused = run_line(alloc, engine, checkpoints, manner, text, writer)?;
             let is_unkept = keep(engine, checkpoints, manner, writer)?;
@@ -255,9 +239,8 @@ fn run_line<D: Disk, W: Write>(
         report_text(writer, report.point, report.applied)?;
         return Ok(false);
     }
-    if manner.has_words && line == b"help".as_slice() {
-        writer.write_all(HELP.as_bytes())?;
-        return Ok(false);
+    if manner.has_words && is_help(line) {
+        return run_help(manner, line, writer);
     }
     let step = if manner.has_words {
         words_step(alloc, line)
@@ -276,6 +259,23 @@ fn run_line<D: Disk, W: Write>(
     }
 }
 
+// The line is `help`, or begins with that word.
+fn is_help(line: &[u8]) -> bool {
+    line == b"help".as_slice() || line.starts_with(b"help ")
+}
+
+// Writes the lines that may be written, or what is to be known of a word; and answers whether there is no such word.
+fn run_help<W: Write>(manner: Manner, line: &[u8], writer: &mut W) -> io::Result<bool> {
+    let Some(word) = line.strip_prefix(b"help ") else {
+        write_help(writer)?;
+        return Ok(false);
+    };
+    if write_help_on(writer, word)? {
+        return Ok(false);
+    }
+    print_refused(writer, manner, Fault::BadScript.number(), &Fault::BadScript)
+}
+
 fn run_step<D: Disk, W: Write>(
     alloc: Global,
     engine: &mut Engine<D>,
@@ -290,6 +290,9 @@ fn run_step<D: Disk, W: Write>(
     }
     print_reply(alloc, writer, manner, &reply)?;
     writeln!(writer)?;
+    if manner.has_words {
+        print_stop(alloc, writer, step, &reply)?;
+    }
     if matches!(&reply, Reply::Committed) {
         writer.flush()?;
     }
@@ -323,6 +326,41 @@ fn print_reply<W: Write>(
         }
         _ => reply_text(alloc, writer, reply),
     }
+}
+
+// Where a scan stopped at the most entries that it lists though more were asked for, a line that says how to go on.
+fn print_stop<W: Write>(
+    alloc: Global,
+    writer: &mut W,
+    step: &Step,
+    reply: &Reply,
+) -> io::Result<()> {
+    if let Step::Scan(number, _, _, limit) = step {
+        if let Reply::Entries(list) = reply {
+            if *limit > MOST_ENTRIES as u64 && list.len() >= MOST_ENTRIES {
+                return print_last(alloc, writer, *number, list);
+            }
+        }
+    }
+    Ok(())
+}
+
+fn print_last<W: Write>(
+    alloc: Global,
+    writer: &mut W,
+    number: TxnId,
+    list: &[(Key, Rid)],
+) -> io::Result<()> {
+    let Some((key, _)) = list.last() else {
+        return Ok(());
+    };
+    write!(
+        writer,
+        "stopped at {} entries; to go on: next {number} ",
+        list.len()
+    )?;
+    write_key(alloc, writer, key.bytes())?;
+    writeln!(writer)
 }
 
 fn print_entries<W: Write>(

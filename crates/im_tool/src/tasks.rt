@@ -3,6 +3,7 @@
 ghost use Rattle.std.specs.Prelude.{◌≤◌, IfOk};
 
 use crate::causes::Causes;
+use crate::entry_text::{Form, dump_text};
 use crate::imstore::{tell, tell_unopened};
 use crate::line_input::LineInput;
 use crate::look::{check_text, stat_text};
@@ -10,7 +11,7 @@ use crate::options::{Options, Task};
 use crate::progress::Progress;
 use crate::recovered::{Copies, copies_of, entries_of};
 use crate::store::print_refused_opening;
-use crate::transfer::{Loaded, dump_text, load_text};
+use crate::transfer::{Loaded, load_text};
 use im_base_file_disk::{FileDisk, OpenError};
 use im_base_types::Fault;
 use im_tool_look::{log_text, read_log};
@@ -67,7 +68,8 @@ fn look_at<W: Write>(
         Task::Check => check_text(rt.alloc(), writer, copies),
         Task::Stat => stat_text(rt.alloc(), writer, copies),
         Task::Log => print_log(rt, dir, writer, &copies),
-        _ => dump(rt, dir, writer, copies),
+        Task::Dump(form) => dump(rt, dir, writer, form, copies),
+        Task::Steps | Task::Load => Ok(0),
     }
 }
 
@@ -148,7 +150,13 @@ fn print_log<W: Write>(
     }
 }
 
-fn dump<W: Write>(rt: &HostRuntime, dir: &str, writer: &mut W, copies: Copies) -> io::Result<u8>
+fn dump<W: Write>(
+    rt: &HostRuntime,
+    dir: &str,
+    writer: &mut W,
+    form: Form,
+    copies: Copies,
+) -> io::Result<u8>
     ensures { IfOk result (λ status. status ≤ 1) }
 {
     tell_left_out(rt, dir, &copies);
@@ -159,7 +167,7 @@ fn dump<W: Write>(rt: &HostRuntime, dir: &str, writer: &mut W, copies: Copies) -
     progress.say("opening a copy of the store");
     match entries_of(rt.alloc(), copies) {
         Ok(entries) => {
-            dump_text(rt.alloc(), writer, &entries, &mut progress)?;
+            dump_text(rt.alloc(), writer, form, &entries, &mut progress)?;
             Ok(0)
         }
         Err(fault) => refused(rt, dir, writer, fault),

@@ -1,29 +1,23 @@
-//! Entries as text, out of a store and into one.
+//! Entries of a text, put into a store.
 
 ghost use Rattle.std.specs.Prelude.{◌≡◌, false};
 ghost use Rattle.im_base_disk.specs.Runs.{IsSynced};
 
 use crate::causes::{Cause, Causes};
-use crate::line_input::{LineInput, without_newline};
+use crate::entry_text::{EntryText, Next};
+use crate::line_input::LineInput;
 use crate::progress::Progress;
-use crate::store::print_keys;
 use im_base_disk::Disk;
 use im_base_steps::{Reply, Step};
-use im_base_types::{Fault, Key, Rid, TxnId};
+use im_base_types::{Fault, Rid, TxnId};
 use im_engine::{Config, Engine};
 use im_engine_upkeep::{Checkpoints, RedoBound};
-use im_tool_look::noted_key;
 use std::alloc::Global;
 use std::io;
 use std::io::Write;
 
 /// How many entries are put in between one commit and the next.
 const A_COMMIT: u64 = 1_000;
-
-/// How many entries are written between one word of the progress and the next.
-const A_PART: usize = 10_000;
-
-const TITLE: &[u8] = b"imstore entries ";
 
 /// How a load ended.
 #[derive(Clone, Copy, Debug, PartialEq, Eq)]
@@ -32,7 +26,7 @@ pub enum Loaded {
     All(u64),
     /// This line of the text, counted from 1, is none of a dump, or the text ends before it.
     BadLine(u64),
-    /// The store refused the entry of this line, or the commit behind it. Those in front of the last commit are kept.
+    /// The store refused the entry of this line, or the commit after it. Those before the last commit are kept.
     Refused(u64, Fault),
     /// The key of this line is in the store already.
     Duplicate(u64),
@@ -42,28 +36,8 @@ pub enum Loaded {
     RefusedClose(u64, Fault),
 }
 
-/// Writes how many entries there are, and each: the key as it can be typed, and its row id.
-pub(crate) fn dump_text<W: Write, P: Write>(
-    alloc: Global,
-    writer: &mut W,
-    entries: &[(Key, Rid)],
-    progress: &mut Progress<P>,
-) -> io::Result<()> {
-    let all = entries.len() as u64;
-    let mut done = 0u64;
-    writer.write_all(TITLE)?;
-    writeln!(writer, "{all}")?;
-    for part in entries.chunks(A_PART) {
-        print_keys(alloc, writer, part)?;
-        done = done.saturating_add(part.len() as u64);
-        progress.show(done, all);
-    }
-    progress.end();
-    Ok(())
-}
-
 /// Puts the entries of such a text into a store, commits them a thousand at a time, and tells of each commit. Checkpoints are taken in
-/// between, as the bound wants them, and one behind the last entry, so that the next opening has nothing to redo.
+/// between, as the bound wants them, and one after the last entry, so that the next opening has nothing to redo.
 pub fn load_text<D: Disk + Cause + Drop, R: LineInput, P: Write, E: Write>(
     alloc: Global,
     disk: D,
@@ -91,7 +65,7 @@ pub fn load_text<D: Disk + Cause + Drop, R: LineInput, P: Write, E: Write>(
     }
 }
 
-// Loads the lines, and closes the store behind them.
+// Loads the lines, and closes the store after them.
 fn load_to_close<D: Disk, R: LineInput, P: Write>(
     alloc: Global,
     engine: &mut Engine<D>,
@@ -120,50 +94,71 @@ fn load_all_lines<D: Disk, R: LineInput, P: Write>(
     reader: &mut R,
     progress: &mut Progress<P>,
 ) -> io::Result<Loaded> {
-    let mut line = Vec::new(alloc);
-    load_lines(alloc, engine, checkpoints, reader, &mut line, progress)
+    let mut text = EntryText::new(alloc);
+    if !text.read_head(reader)? {
+        return Ok(Loaded::BadLine(text.number()));
+    }
+    load_entries(alloc, engine, checkpoints, reader, &mut text, progress)
 }
 
-// Reads line by line into the room for one.
-fn load_lines<D: Disk, R: LineInput, P: Write>(
+// Puts in one entry after another, and commits the last ones.
+fn load_entries<D: Disk, R: LineInput, P: Write>(
     alloc: Global,
     engine: &mut Engine<D>,
     checkpoints: &mut Checkpoints,
     reader: &mut R,
-    line: &mut Vec<u8>,
+    text: &mut EntryText,
     progress: &mut Progress<P>,
 ) -> io::Result<Loaded> {
-    let Some(count) = next_count(reader, line)? else {
-        return Ok(Loaded::BadLine(1));
-    };
     let mut number = 0;
-    for place in 0..count {
-        let at = place.saturating_add(2);
-        if place % A_COMMIT == 0 {
+    for done in 0..u64::MAX {
+        let (key, rid, at) = match text.next_entry(alloc, reader)? {
+            Next::Entry(key, rid, at) => (key, rid, at),
+            Next::End => return Ok(end_load(engine, checkpoints, number, done, text, progress)),
+            Next::Bad(at) => return Ok(Loaded::BadLine(at)),
+            Next::Memory(at) => return Ok(Loaded::Refused(at, Fault::Memory)),
+        };
+        if done % A_COMMIT == 0 {
             match begun(engine) {
                 Ok(started) => number = started,
                 Err(fault) => return Ok(Loaded::Refused(at, fault)),
             }
         }
-        line.clear();
-        if !reader.next_line(line)? {
-            return Ok(Loaded::BadLine(at));
-        }
-        if let Some(end) = load_entry(alloc, engine, number, without_newline(line), at)? {
+        if let Some(end) = load_entry(engine, number, key, rid, at) {
             return Ok(end);
         }
-        let is_last = place.saturating_add(1) == count;
-        if is_last || place % A_COMMIT == A_COMMIT - 1 {
-            match committed(engine, number) {
-                Ok(()) => progress.show(place.saturating_add(1), count),
-                Err(fault) => return Ok(Loaded::Refused(at, fault)),
+        if done % A_COMMIT == A_COMMIT - 1 {
+            if let Err(fault) = committed(engine, number) {
+                return Ok(Loaded::Refused(at, fault));
             }
+            progress.show(done.saturating_add(1), text.all());
         }
         if let Err(fault) = checkpoints.keep(engine) {
             return Ok(Loaded::Refused(at, fault));
         }
     }
-    Ok(Loaded::All(count))
+    Ok(Loaded::All(u64::MAX))
+}
+
+// Commits what was put in since the last commit.
+fn end_load<D: Disk, P: Write>(
+    engine: &mut Engine<D>,
+    checkpoints: &mut Checkpoints,
+    number: TxnId,
+    done: u64,
+    text: &EntryText,
+    progress: &mut Progress<P>,
+) -> Loaded {
+    if done % A_COMMIT != 0 {
+        if let Err(fault) = committed(engine, number) {
+            return Loaded::Refused(text.number(), fault);
+        }
+        progress.show(done, text.all());
+    }
+    match checkpoints.keep(engine) {
+        Ok(()) => Loaded::All(done),
+        Err(fault) => Loaded::Refused(text.number(), fault),
+    }
 }
 
 fn begun<D: Disk>(engine: &mut Engine<D>) -> Result<TxnId, Fault> {
@@ -180,69 +175,18 @@ fn committed<D: Disk>(engine: &mut Engine<D>, number: TxnId) -> Result<(), Fault
     }
 }
 
-// The number in the first line.
-fn next_count<R: LineInput>(reader: &mut R, line: &mut Vec<u8>) -> io::Result<Option<u64>> {
-    if !reader.next_line(line)? {
-        return Ok(None);
-    }
-    match without_newline(line).strip_prefix(TITLE) {
-        Some(digits) => Ok(number_of(digits)),
-        None => Ok(None),
-    }
-}
-
+// Puts in an entry. It answers how the load ends where that is refused.
 fn load_entry<D: Disk>(
-    alloc: Global,
     engine: &mut Engine<D>,
     number: TxnId,
-    line: &[u8],
+    key: Vec<u8>,
+    rid: Rid,
     at: u64,
-) -> io::Result<Option<Loaded>> {
-    let (key, rid) = match entry_of(alloc, line) {
-        Ok(entry) => entry,
-        Err(Fault::BadScript) => return Ok(Some(Loaded::BadLine(at))),
-        Err(_) => return Ok(Some(Loaded::Refused(at, Fault::Memory))),
-    };
+) -> Option<Loaded> {
     match engine.step(&Step::Insert(number, key, rid)) {
-        Reply::Inserted => Ok(None),
-        Reply::Duplicate => Ok(Some(Loaded::Duplicate(at))),
-        reply => Ok(Some(Loaded::Refused(at, fault_of(reply)))),
-    }
-}
-
-// A key and its row id.
-fn entry_of(alloc: Global, line: &[u8]) -> Result<(Vec<u8>, Rid), Fault> {
-    let (key, behind) = match noted_key(alloc, line)? {
-        Some(noted) => noted,
-        None => plain_key(alloc, line)?,
-    };
-    match behind {
-        [b' ', digits @ ..] => match number_of(digits) {
-            Some(rid) => Ok((key, rid)),
-            None => Err(Fault::BadScript),
-        },
-        _ => Err(Fault::BadScript),
-    }
-}
-
-// The text in front of the first space, and what stands from that space on.
-fn plain_key(alloc: Global, line: &[u8]) -> Result<(Vec<u8>, &[u8]), Fault> {
-    for place in 0..line.len() {
-        if line[place] == b' ' {
-            let key = Vec::from_slice(alloc, &line[..place]).map_err(|_| Fault::Memory)?;
-            return Ok((key, &line[place..]));
-        }
-    }
-    Err(Fault::BadScript)
-}
-
-fn number_of(digits: &[u8]) -> Option<u64> {
-    if digits.first().copied() == Some(b'+') {
-        return None;
-    }
-    match std::str::from_utf8(digits) {
-        Ok(text) => text.parse::<u64>().ok(),
-        Err(_) => None,
+        Reply::Inserted => None,
+        Reply::Duplicate => Some(Loaded::Duplicate(at)),
+        reply => Some(Loaded::Refused(at, fault_of(reply))),
     }
 }
 

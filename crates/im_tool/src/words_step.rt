@@ -30,7 +30,7 @@ pub(crate) fn words_step(alloc: Global, line: &[u8]) -> Result<Step, Fault> {
     Ok(with_key(step_line(alloc, &plain)?, key))
 }
 
-// The place behind the second space, where a key stands.
+// The place after the second space, where a key stands.
 fn key_place(line: &[u8]) -> Option<usize>
     ensures { IfSome result (λ place. place ≤ length line.now) }
 {
@@ -46,16 +46,19 @@ fn key_place(line: &[u8]) -> Option<usize>
     None
 }
 
-// Takes a key off the front of a text, and gives what stands behind it. A plain one is put behind the line; of any other a
-// plain key stands there for it.
+// Takes a key off the front of a text, and gives what stands after it, from the next space on. A plain one is put at the end of the line; of
+// any other a plain key stands there for it.
 fn take_key<'a>(
     alloc: Global,
     plain: &mut Vec<u8>,
     text: &'a [u8],
 ) -> Result<(Option<Vec<u8>>, &'a [u8]), Fault> {
-    if let Some((key, behind)) = noted_key(alloc, text)? {
+    if let Some((key, rest)) = noted_key(alloc, text)? {
+        if !rest.is_empty() && !rest.starts_with(b" ") {
+            return Err(Fault::BadScript);
+        }
         append(plain, b"k")?;
-        return Ok((Some(key), behind));
+        return Ok((Some(key), rest));
     }
     for place in 0..text.len() {
         if text[place] == b' ' {

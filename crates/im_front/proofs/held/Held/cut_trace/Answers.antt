@@ -6,7 +6,7 @@ use Rattle.im_front.specs.declared.recorded.Recorded.{Recorded}
 use Rattle.im_front.specs.Traces.{trace_of}
 use Rattle.im_front.specs.Events.{shown_in}
 use Rattle.im_front.specs.Held.{State, IsTallied, Stands, IsCut}
-use Rattle.im_front.proofs.Steps.{stands_cut, stands_look, tallied_as, tallied_cut, rest_walk, is_cut, length-trace_of}
+use Rattle.im_front.proofs.Steps.{stands_cut, stands_look, tallied_as, tallied_cut, none_waiting, rest_walk, is_cut, length-trace_of}
 use Rattle.im_front.proofs.held.Held.cut_trace.Goals as goal
 
 pub invariant_of-self : goal.invariant_of-self
@@ -16,12 +16,14 @@ invariant_of-self g c =
           let h = i.0 tells in
           let look = c.in_err-base.ensures.kept h.before (shown_in nothing_shown h.events) h.view h.life_is in
           stands_look g.E.Store.life c.self.inside.base.items (trace_of c.self.inside.trace.items) c.self.inside.engine h c.entries.new.self look),
-      tallied_as (trace_of c.self.inside.trace.items) (g.E.Store.actives c.self.inside.engine) c.self.inside.cut c.self.inside.kept c.self.inside.counts i.1 (g.E.Store.actives c.entries.new.self) c.in_err-base.ensures.active,
+      tallied_as (trace_of c.self.inside.trace.items) (g.E.Store.actives c.self.inside.engine) (g.E.Store.waiting c.self.inside.engine) c.self.inside.cut c.self.inside.kept c.self.inside.counts i.1 (g.E.Store.actives c.entries.new.self) (g.E.Store.waiting c.entries.new.self) c.in_err-base.ensures.active
+          c.in_err-base.ensures.waiting,
       i.2,
       i.3,
       i.4,
       i.5,
       i.6,
+      i.7 ∙ sym c.in_err-base.ensures.waiting,
     )
 
 pub invariant_of-self-2 : goal.invariant_of-self-2
@@ -32,8 +34,11 @@ invariant_of-self-2 g c =
     let cut : c.self.inside.cut + length (trace_of c.self.inside.trace.items) ≡ c.self.inside.cut + c.len-2.result = omega arith in
     let none_left = sym c.clear.ensures.items in
     let actives = g.E.Store.actives c.entries.new.self in
-    let tallied = tallied_cut trace (g.E.Store.actives c.self.inside.engine) c.self.inside.cut c.self.inside.kept c.self.inside.counts i.1 actives c.in_ok-base.ensures.active (omega arith) in
-    let there : IsTallied [] actives (c.self.inside.cut + c.len-2.result) c.self.inside.counts c.self.inside.counts = subst (λ (n : ℕ). IsTallied [] actives n c.self.inside.counts c.self.inside.counts) cut tallied in (
+    let waiting = g.E.Store.waiting c.entries.new.self in
+    let idle : actives ≡ 0 = c.in_ok-base.ensures.active ∙ sym c.active.ensures.count ∙ c.is_busy.ensures.free c.if-is_busy.false in
+    let nobody = none_waiting waiting actives (g.met.E.Store.few c.entries.new.self) idle in
+    let tallied = tallied_cut trace (g.E.Store.actives c.self.inside.engine) (g.E.Store.waiting c.self.inside.engine) c.self.inside.cut c.self.inside.kept c.self.inside.counts i.1 actives waiting c.in_ok-base.ensures.active nobody (omega arith) in
+    let there : IsTallied [] actives waiting (c.self.inside.cut + c.len-2.result) c.self.inside.counts c.self.inside.counts = subst (λ (n : ℕ). IsTallied [] actives waiting n c.self.inside.counts c.self.inside.counts) cut tallied in (
       (λ tells.
           let h = i.0 tells in
           let list = c.in_ok-base.ensures.list h.before (shown_in nothing_shown h.events) h.view h.life_is in
@@ -44,12 +49,13 @@ invariant_of-self-2 g c =
           let settled = g.met.E.Store.settles h.before (shown_in nothing_shown h.events) h.view c.entries.new.self list.1 running none in
           let stands = stands_cut g.E.Store.life c.self.inside.base.items trace c.self.inside.engine h c.entries.new.self c.in_ok-base.field-0.items none settled (list.0 ∙ ap entries walk) in
           subst (λ (l : List Recorded). Stands g.E.Store.life c.in_ok-base.field-0.items (trace_of l) c.entries.new.self) none_left stands),
-      subst (λ (l : List Recorded). IsTallied (trace_of l) actives (c.self.inside.cut + c.len-2.result) c.self.inside.counts c.self.inside.counts) none_left there,
+      subst (λ (l : List Recorded). IsTallied (trace_of l) actives waiting (c.self.inside.cut + c.len-2.result) c.self.inside.counts c.self.inside.counts) none_left there,
       (let empty_now = ap length c.clear.ensures.items in omega (arith, i.2, empty_now)),
       i.3,
       i.4,
       i.5,
       i.6,
+      i.7 ∙ sym c.in_ok-base.ensures.waiting,
     )
 
 pub returns-clause-base : goal.returns-clause-base

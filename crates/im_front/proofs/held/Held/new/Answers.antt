@@ -6,7 +6,7 @@ use Rattle.im_base_lock.specs.Machine.{start}
 use Rattle.im_front.specs.declared.recorded.Recorded.{Recorded}
 use Rattle.im_front.specs.Traces.{trace_of}
 use Rattle.im_front.specs.Held.{IsTallied, Stands}
-use Rattle.im_front.proofs.Steps.{stands_new, tallied_new}
+use Rattle.im_front.proofs.Steps.{stands_new, tallied_new, none_waiting}
 use Rattle.im_front.proofs.held.Held.new.Goals as goal
 
 pub invariant_of-result : goal.invariant_of-result
@@ -14,15 +14,17 @@ invariant_of-result g c =
     let zeros : List ℕ = 0 ∷ 0 ∷ 0 ∷ [] in
     let resting = c.requires.resting in
     let none = sym c.new-3.ensures.items in
-    let tallied = tallied_new (g.E.Store.actives c.entries.new.self) zeros (c.in-Ok.ensures.active ∙ resting.idle) refl in (
+    let nobody = none_waiting (g.E.Store.waiting c.entries.new.self) (g.E.Store.actives c.entries.new.self) (g.met.E.Store.few c.entries.new.self) (c.in-Ok.ensures.active ∙ resting.idle) in
+    let tallied = tallied_new (g.E.Store.actives c.entries.new.self) (g.E.Store.waiting c.entries.new.self) zeros (c.in-Ok.ensures.active ∙ resting.idle) nobody refl in (
       (λ tells.
           let r = resting.rests tells in
           let e = c.in-Ok.ensures.list r.before nothing_shown (start (apply_all empty r.before) r.first) r.life_is in
           subst (λ (l : List Recorded). Stands g.E.Store.life c.in-Ok.base.items (trace_of l) c.entries.new.self) none (stands_new g.E.Store.life c.in-Ok.base.items c.entries.new.self r.before r.first e.1 e.0)),
-      subst (λ (l : List Recorded). IsTallied (trace_of l) (g.E.Store.actives c.entries.new.self) 0 zeros zeros) none tallied,
+      subst (λ (l : List Recorded). IsTallied (trace_of l) (g.E.Store.actives c.entries.new.self) (g.E.Store.waiting c.entries.new.self) 0 zeros zeros) none tallied,
       search rules,
       search rules,
       search rules,
       search rules,
       search rules,
+      sym nobody,
     )

@@ -5,8 +5,8 @@ use Rattle.im_front.specs.declared.recorded.Recorded.{Recorded}
 use Rattle.im_base_steps.specs.Calls.{asked_by, told_by, is_blocked}
 use Rattle.im_front.specs.Traces.{trace_of}
 use Rattle.im_front.specs.Events.{shown_in}
-use Rattle.im_base_steps.specs.Replies.{is_full}
-use Rattle.im_front.specs.Held.{State, IsTallied, Stands}
+use Rattle.im_base_steps.specs.Replies.{is_full, waits_after}
+use Rattle.im_front.specs.Held.{State, IsTallied, Stands, after_reply}
 use Rattle.im_front.proofs.Replies.{few_entries, entry_asked, blocked_counts}
 use Rattle.im_front.proofs.Steps.{alive_of, stands_push, stands_blocked, tallied_as, tallied_push, trace_of-recorded}
 use Rattle.im_front.proofs.held.Held.step.Goals as goal
@@ -16,20 +16,21 @@ invariant_of-self-then-is_blocked g c =
     let i = c.self.invariant in
     let b : is_blocked (told_by c.step-reply.result) ≡ true = sym c.is_blocked.ensures ∙ c.if-is_blocked.true in
     let alive = alive_of g.E.Store.life g.E.Store.tells c.self.inside.base.items (trace_of c.self.inside.trace.items) c.self.inside.engine i.0 in
-    let same = blocked_counts (told_by c.step-reply.result) (g.E.Store.actives c.self.inside.engine) (g.E.Store.actives c.step-reply.new.self) b (c.step-reply.ensures.counted alive) in
-    let tallied = tallied_as (trace_of c.self.inside.trace.items) (g.E.Store.actives c.self.inside.engine) c.self.inside.cut c.self.inside.kept c.self.inside.counts i.1 (g.E.Store.actives c.step-reply.new.self) same in
+    let same = blocked_counts (asked_by c.args.step.now) (told_by c.step-reply.result) (g.E.Store.waiting c.self.inside.engine) (g.E.Store.actives c.self.inside.engine) (g.E.Store.waiting c.step-reply.new.self) (g.E.Store.actives c.step-reply.new.self) b (c.step-reply.ensures.counted alive) in
+    let tallied = tallied_as (trace_of c.self.inside.trace.items) (g.E.Store.actives c.self.inside.engine) (g.E.Store.waiting c.self.inside.engine) c.self.inside.cut c.self.inside.kept c.self.inside.counts i.1 (g.E.Store.actives c.step-reply.new.self) (g.E.Store.waiting c.step-reply.new.self) same.0 same.1 in
     let long = ap length c.in-Some.ensures.kept in (
       (λ tells.
           let h = i.0 tells in
           let made = c.step-reply.ensures.kept h.before (shown_in nothing_shown h.events) h.view h.life_is in
           let stands = stands_blocked g.E.Store.life c.self.inside.base.items (trace_of c.self.inside.trace.items) c.self.inside.engine h c.step-reply.new.self (asked_by c.args.step.now) (told_by c.step-reply.result) made b in
           subst (λ (l : List Recorded). Stands g.E.Store.life c.self.inside.base.items (trace_of l) c.step-reply.new.self) (sym c.in-Some.ensures.kept) stands),
-      subst (λ (l : List Recorded). IsTallied (trace_of l) (g.E.Store.actives c.step-reply.new.self) c.self.inside.cut c.self.inside.kept c.self.inside.counts) (sym c.in-Some.ensures.kept) tallied,
+      subst (λ (l : List Recorded). IsTallied (trace_of l) (g.E.Store.actives c.step-reply.new.self) (g.E.Store.waiting c.step-reply.new.self) c.self.inside.cut c.self.inside.kept c.self.inside.counts) (sym c.in-Some.ensures.kept) tallied,
       omega (arith, i.2, long),
       i.3,
       i.4,
       i.5,
       i.6,
+      i.7 ∙ sym same.1,
     )
 
 pub of-told-requires-clause-key : goal.of-told-requires-clause-key
@@ -48,8 +49,8 @@ pub publish-requires-clause-sound : goal.publish-requires-clause-sound
 publish-requires-clause-sound g c =
     let i = c.self.invariant in
     let alive = alive_of g.E.Store.life g.E.Store.tells c.self.inside.base.items (trace_of c.self.inside.trace.items) c.self.inside.engine i.0 in
-    let tallied = tallied_push (trace_of c.self.inside.trace.items) (g.E.Store.actives c.self.inside.engine) c.self.inside.cut c.self.inside.kept c.self.inside.counts i.1 (g.E.Store.actives c.step-reply.new.self) c.counted-now.result (asked_by c.args.step.now)
-    (told_by c.step-reply.result) (c.step-reply.ensures.reply alive) (c.step-reply.ensures.counted alive) c.counted-now.ensures in
+    let tallied = tallied_push (trace_of c.self.inside.trace.items) (g.E.Store.actives c.self.inside.engine) (g.E.Store.waiting c.self.inside.engine) c.self.inside.cut c.self.inside.kept c.self.inside.counts i.1 (g.E.Store.actives c.step-reply.new.self) (g.E.Store.waiting c.step-reply.new.self) c.counted-now.result (asked_by c.args.step.now)
+    (told_by c.step-reply.result) (c.step-reply.ensures.reply alive) (c.step-reply.ensures.counted alive) (c.counted-now.ensures ∙ ap (λ n. after_reply n c.self.inside.counts (asked_by c.args.step.now) (told_by c.step-reply.result)) i.7) in
     let b = tallied.balanced in
     omega arith
 
@@ -57,8 +58,8 @@ pub invariant_of-self-2 : goal.invariant_of-self-2
 invariant_of-self-2 g c =
     let i = c.self.invariant in
     let alive = alive_of g.E.Store.life g.E.Store.tells c.self.inside.base.items (trace_of c.self.inside.trace.items) c.self.inside.engine i.0 in
-    let tallied = tallied_push (trace_of c.self.inside.trace.items) (g.E.Store.actives c.self.inside.engine) c.self.inside.cut c.self.inside.kept c.self.inside.counts i.1 (g.E.Store.actives c.step-reply.new.self) c.counted-now.result (asked_by c.args.step.now)
-    (told_by c.step-reply.result) (c.step-reply.ensures.reply alive) (c.step-reply.ensures.counted alive) c.counted-now.ensures in
+    let tallied = tallied_push (trace_of c.self.inside.trace.items) (g.E.Store.actives c.self.inside.engine) (g.E.Store.waiting c.self.inside.engine) c.self.inside.cut c.self.inside.kept c.self.inside.counts i.1 (g.E.Store.actives c.step-reply.new.self) (g.E.Store.waiting c.step-reply.new.self) c.counted-now.result (asked_by c.args.step.now)
+    (told_by c.step-reply.result) (c.step-reply.ensures.reply alive) (c.step-reply.ensures.counted alive) (c.counted-now.ensures ∙ ap (λ n. after_reply n c.self.inside.counts (asked_by c.args.step.now) (told_by c.step-reply.result)) i.7) in
     let last : Recorded = record { step = c.in-Some.asked; reply = c.of-told.result } in
     let items : c.push_reserved.new.self.items ≡ c.self.inside.trace.items ++ last ∷ [] = c.push_reserved.ensures.items ∙ ap (λ (l : List Recorded). l ++ last ∷ []) c.in-Some.ensures.kept in
     let trace = trace_of-recorded c.self.inside.trace.items c.push_reserved.new.self.items last (asked_by c.args.step.now) (told_by c.step-reply.result) items c.in-Some.ensures.step c.of-told.ensures in
@@ -68,12 +69,13 @@ invariant_of-self-2 g c =
           let made = c.step-reply.ensures.kept h.before (shown_in nothing_shown h.events) h.view h.life_is in
           let stands = stands_push g.E.Store.life c.self.inside.base.items (trace_of c.self.inside.trace.items) c.self.inside.engine h c.step-reply.new.self (asked_by c.args.step.now) (told_by c.step-reply.result) made in
           subst (λ (l : List (Step × Reply)). Stands g.E.Store.life c.self.inside.base.items l c.step-reply.new.self) (sym trace) stands),
-      subst (λ (l : List (Step × Reply)). IsTallied l (g.E.Store.actives c.step-reply.new.self) c.self.inside.cut c.self.inside.kept c.counted-now.result) (sym trace) tallied,
+      subst (λ (l : List (Step × Reply)). IsTallied l (g.E.Store.actives c.step-reply.new.self) (g.E.Store.waiting c.step-reply.new.self) c.self.inside.cut c.self.inside.kept c.counted-now.result) (sym trace) tallied,
       omega (arith, c.add.ensures.total, i.2, longer),
       i.3,
       i.4,
       c.publish.ensures.cell ∙ i.5,
       c.publish.ensures.wrote,
+      c.waits_after.ensures ∙ ap (λ n. waits_after n (asked_by c.args.step.now) (told_by c.step-reply.result)) i.7 ∙ sym (c.step-reply.ensures.counted alive).1,
     )
 
 pub returns-clause-records : goal.returns-clause-records

@@ -5,8 +5,8 @@ use Rattle.im_base_steps.specs.declared.step.Step.{Step}
 use Rattle.im_base_steps.specs.declared.reply.Reply.{Reply}
 use Rattle.im_base_steps.specs.Calls.{asked_by, told_by, is_blocked}
 use Rattle.im_front.specs.Events.{shown_in}
-use Rattle.im_base_steps.specs.Replies.{is_full}
-use Rattle.im_front.specs.Held.{IsTallied, Stands}
+use Rattle.im_base_steps.specs.Replies.{is_full, waits_after}
+use Rattle.im_front.specs.Held.{IsTallied, Stands, after_reply}
 use Rattle.im_front.specs.Plain.{PlainState, none, seen_of}
 use Rattle.im_front.proofs.Replies.{blocked_counts}
 use Rattle.im_front.proofs.Steps.{stands_push, stands_blocked, tallied_as, tallied_push}
@@ -19,18 +19,19 @@ invariant_of-self g c =
     let trace = seen_of c.self.inside.trace.steps in
     let b : is_blocked (told_by c.step-reply.result) ≡ true = sym c.is_blocked.ensures ∙ c.if-is_blocked.true in
     let alive = alive_from g.E.Store.life g.E.Store.tells c.self.inside.trace.steps c.self.inside.engine i.0 in
-    let same = blocked_counts (told_by c.step-reply.result) (g.E.Store.actives c.self.inside.engine) (g.E.Store.actives c.step-reply.new.self) b (c.step-reply.ensures.counted alive) in (
+    let same = blocked_counts (asked_by c.args.step.now) (told_by c.step-reply.result) (g.E.Store.waiting c.self.inside.engine) (g.E.Store.actives c.self.inside.engine) (g.E.Store.waiting c.step-reply.new.self) (g.E.Store.actives c.step-reply.new.self) b (c.step-reply.ensures.counted alive) in (
       (λ tells.
           let h = i.0 tells in
           let made = c.step-reply.ensures.kept h.1.before (shown_in nothing_shown h.1.events) h.1.view h.1.life_is in
           (h.0, stands_blocked g.E.Store.life h.0 trace c.self.inside.engine h.1 c.step-reply.new.self (asked_by c.args.step.now) (told_by c.step-reply.result) made b)),
-      tallied_as trace (g.E.Store.actives c.self.inside.engine) 0 none c.self.inside.counts i.1 (g.E.Store.actives c.step-reply.new.self) same,
+      tallied_as trace (g.E.Store.actives c.self.inside.engine) (g.E.Store.waiting c.self.inside.engine) 0 none c.self.inside.counts i.1 (g.E.Store.actives c.step-reply.new.self) (g.E.Store.waiting c.step-reply.new.self) same.0 same.1,
       i.2,
       i.3,
       i.4,
       i.5,
       i.6,
       i.7,
+      i.8 ∙ sym same.1,
     )
 
 pub returns-then-is_blocked-clause-run : goal.returns-then-is_blocked-clause-run
@@ -44,8 +45,8 @@ pub publish-requires-clause-sound : goal.publish-requires-clause-sound
 publish-requires-clause-sound g c =
     let i = c.self.invariant in
     let alive = alive_from g.E.Store.life g.E.Store.tells c.self.inside.trace.steps c.self.inside.engine i.0 in
-    let tallied = tallied_push (seen_of c.self.inside.trace.steps) (g.E.Store.actives c.self.inside.engine) 0 none c.self.inside.counts i.1 (g.E.Store.actives c.step-reply.new.self) c.counted-now.result (asked_by c.args.step.now)
-    (told_by c.step-reply.result) (c.step-reply.ensures.reply alive) (c.step-reply.ensures.counted alive) c.counted-now.ensures in
+    let tallied = tallied_push (seen_of c.self.inside.trace.steps) (g.E.Store.actives c.self.inside.engine) (g.E.Store.waiting c.self.inside.engine) 0 none c.self.inside.counts i.1 (g.E.Store.actives c.step-reply.new.self) (g.E.Store.waiting c.step-reply.new.self) c.counted-now.result (asked_by c.args.step.now)
+    (told_by c.step-reply.result) (c.step-reply.ensures.reply alive) (c.step-reply.ensures.counted alive) (c.counted-now.ensures ∙ ap (λ n. after_reply n c.self.inside.counts (asked_by c.args.step.now) (told_by c.step-reply.result)) i.8) in
     let b = tallied.balanced in
     omega arith
 
@@ -55,8 +56,8 @@ invariant_of-self-2 g c =
     let steps = c.self.inside.trace.steps in
     let trace = seen_of steps in
     let alive = alive_from g.E.Store.life g.E.Store.tells steps c.self.inside.engine i.0 in
-    let tallied = tallied_push trace (g.E.Store.actives c.self.inside.engine) 0 none c.self.inside.counts i.1 (g.E.Store.actives c.step-reply.new.self) c.counted-now.result (asked_by c.args.step.now)
-    (told_by c.step-reply.result) (c.step-reply.ensures.reply alive) (c.step-reply.ensures.counted alive) c.counted-now.ensures in
+    let tallied = tallied_push trace (g.E.Store.actives c.self.inside.engine) (g.E.Store.waiting c.self.inside.engine) 0 none c.self.inside.counts i.1 (g.E.Store.actives c.step-reply.new.self) (g.E.Store.waiting c.step-reply.new.self) c.counted-now.result (asked_by c.args.step.now)
+    (told_by c.step-reply.result) (c.step-reply.ensures.reply alive) (c.step-reply.ensures.counted alive) (c.counted-now.ensures ∙ ap (λ n. after_reply n c.self.inside.counts (asked_by c.args.step.now) (told_by c.step-reply.result)) i.8) in
     let last : Step × Reply = (c.args.step.now, c.step-reply.result) in
     let grown : c.with.result.steps ≡ steps ++ last ∷ [] = c.with.ensures in
     let seen : seen_of c.with.result.steps ≡ trace ++ (asked_by c.args.step.now, told_by c.step-reply.result) ∷ [] = ap seen_of grown ∙ seen_of-push steps c.args.step.now c.step-reply.result in
@@ -66,13 +67,14 @@ invariant_of-self-2 g c =
           let made = c.step-reply.ensures.kept h.1.before (shown_in nothing_shown h.1.events) h.1.view h.1.life_is in
           let stands = stands_push g.E.Store.life h.0 trace c.self.inside.engine h.1 c.step-reply.new.self (asked_by c.args.step.now) (told_by c.step-reply.result) made in
           (h.0, subst (λ (l : List (answers.Step × answers.Reply)). Stands g.E.Store.life h.0 l c.step-reply.new.self) (sym seen) stands)),
-      subst (λ (l : List (answers.Step × answers.Reply)). IsTallied l (g.E.Store.actives c.step-reply.new.self) 0 none c.counted-now.result) (sym seen) tallied,
+      subst (λ (l : List (answers.Step × answers.Reply)). IsTallied l (g.E.Store.actives c.step-reply.new.self) (g.E.Store.waiting c.step-reply.new.self) 0 none c.counted-now.result) (sym seen) tallied,
       omega (arith, c.add.ensures.total, i.2, longer),
       omega (arith, i.3, longer),
       i.4,
       i.5,
       c.publish.ensures.cell ∙ i.6,
       c.publish.ensures.wrote,
+      c.waits_after.ensures ∙ ap (λ n. waits_after n (asked_by c.args.step.now) (told_by c.step-reply.result)) i.8 ∙ sym (c.step-reply.ensures.counted alive).1,
     )
 
 pub returns-clause-notes : goal.returns-clause-notes

@@ -6,7 +6,7 @@ use Rattle.im_base_steps.specs.Calls.{asked_by, told_by}
 use Rattle.im_base_types.specs.Faults.{number_of}
 use Rattle.im_front_memory.specs.Stored.{checked, state_of, Serves}
 use Rattle.im_front_memory.proofs.Moving.{barred_kept}
-use Rattle.im_front_memory.proofs.EndLemmas.{flushed_kept, forced_kept, checkpointed_kept}
+use Rattle.im_front_memory.proofs.EndLemmas.{flushed_kept, checkpointed_kept}
 use Rattle.im_front_memory.proofs.memory_store.MemoryStore.make.Goals as goal
 
 pub returns-in-Some : goal.returns-in-Some
@@ -70,8 +70,8 @@ returns-in-FlushPage c =
 
 pub returns-in-Force : goal.returns-in-Force
 returns-in-Force c =
-    let passes = ap (λ (x : Step). checked (state_of c.args.self.now) (asked_by x)) (sym c.in-Force.is) ∙ sym c.in_default.ensures in
-    subst (λ (x : Step). Serves (state_of c.args.self.now) (asked_by x) Done (state_of c.args.self.now)) (sym c.in-Force.is) (λ before s v h. forced_kept before s v (state_of c.args.self.now) h passes)
+    subst (λ (x : Step). Serves (state_of c.args.self.now) (asked_by x) (told_by c.force.result) (state_of c.force.new.self)) (sym c.in-Force.is)
+    c.force.ensures
 
 pub returns-in-Checkpoint : goal.returns-in-Checkpoint
 returns-in-Checkpoint c =

@@ -9,7 +9,7 @@ use Rattle.im_base_txn.specs.declared.transaction.Transaction.{Transaction}
 use Rattle.im_base_txn.specs.Rows.{is_of}
 use Rattle.im_front_memory.specs.Changed.{net_in, effects_of}
 use Rattle.im_front_memory.specs.Stored.{mark_at}
-use Rattle.im_front_memory.proofs.memory_store.MemoryStore.new.Goals as goal
+use Rattle.im_front_memory.proofs.memory_store.MemoryStore.with_group.Goals as goal
 
 none_long : (es : List Entry) → length es ≡ 0 → es ≡ []
 none_long [] e = refl
@@ -18,8 +18,8 @@ none_long (x ∷ es) e = absurd (omega arith)
 empty_entries : entries {X = ℕ} {R = key_order} empty ≡ []
 empty_entries = none_long (entries {X = ℕ} {R = key_order} empty) (sym (len-entries {X = ℕ} {R = key_order} empty) ∙ len-empty key_order ℕ)
 
-pub returns : goal.returns
-returns c = record {
+pub returns-clause-resting : goal.returns-clause-resting
+returns-clause-resting c = record {
   idle = ap length c.new-2.ensures.0;
   rests = λ tells.
       record {
@@ -35,7 +35,7 @@ returns c = record {
           numbers = sym c.new-2.ensures.1;
           failing = refl;
           kept = ap effects_of c.new-5.ensures.items;
-          alone = refl;
+          alone = λ off. refl;
           unowned = refl;
         };
       };

@@ -1,0 +1,149 @@
+//! What the program says of its lines to a user who asks.
+
+use std::io;
+use std::io::Write;
+
+/// Each line that asks for something: how it is written, what it does, and what else is to be known of it.
+static LINES: [(&str, &str, &str); 17] = [
+    (
+        "begin",
+        "a transaction begins; its number is answered",
+        "Numbers rise, also from one run to the next. Refused 12 where 64 transactions are active.",
+    ),
+    (
+        "insert N KEY ROWID",
+        "puts a key in, in transaction N",
+        "Answers `inserted`, or `duplicate` where the key is there: to give it another row id, delete it first.",
+    ),
+    (
+        "delete N KEY",
+        "takes a key out",
+        "Answers `deleted`, or `absent` where the key is not there.",
+    ),
+    (
+        "fetch N KEY",
+        "answers the row id of a key",
+        "Answers `found ROWID`, or `absent`.",
+    ),
+    (
+        "seek N KEY",
+        "answers the first key from this one on, with its row id",
+        "Answers `entry KEY ROWID`, or `end` where no such key is left.",
+    ),
+    (
+        "next N KEY",
+        "answers the first key after this one, with its row id",
+        "Answers `entry KEY ROWID`, or `end` where no such key is left.",
+    ),
+    (
+        "scan N KEY KEY LIMIT",
+        "answers the keys from one to another, LIMIT at most",
+        "A LIMIT above 256 is taken for 256. Where a scan stops for that, it says how to go on.",
+    ),
+    (
+        "commit N",
+        "what transaction N did is kept from now on",
+        "Only the answer `committed` says so. Then it is kept over a kill and a power cut too.",
+    ),
+    (
+        "rollback N",
+        "takes back what transaction N did: at once, or step by step",
+        "Answers `rolledback`; or `more`, and then `continue N` until that answers `rolledback`.",
+    ),
+    (
+        "continue N",
+        "takes back the next of it",
+        "Answers `more` while something is left to be taken back, and then `rolledback`.",
+    ),
+    (
+        "entries",
+        "all keys with their row ids",
+        "Answers `total COUNT` and a line for each, those of active transactions too.",
+    ),
+    (
+        "force",
+        "makes the log durable",
+        "A commit does that by itself.",
+    ),
+    (
+        "flush PAGE",
+        "writes a page to the file of pages",
+        "Pages are written by themselves where there is need.",
+    ),
+    (
+        "checkpoint",
+        "makes the log durable, with a record that says where a restart begins to redo",
+        "One is taken as the option --checkpoint says, and one at the end.",
+    ),
+    (
+        "redo",
+        "where the opening began to redo the log, and how many records it applied",
+        "Answers `redo POINT COUNT`.",
+    ),
+    (
+        "help [WORD]",
+        "this list, or more on one of its words",
+        "The words are the first of each line, and `KEY`, `blocked`, `die`, `more`.",
+    ),
+    (
+        "quit",
+        "ends the program, as the end of the input does",
+        "What was not committed is taken back when the store is opened again.",
+    ),
+];
+
+const NOTES: &str =
+    "KEY is text without spaces, \"text with spaces\", or x'6100'. Up to 64 transactions are active at a time.
+A step that is `blocked` is asked for again once that transaction has ended; after `die` its transaction has to roll back.
+";
+
+/// The words that begin no line.
+static WORDS: [(&str, &str); 4] = [
+    (
+        "KEY",
+        "A key has 1 to 255 bytes. It is text without spaces, where a+b*3 stands for abbb; \"a b\", any bytes but a quotation mark; or x'6100', in hexadecimal digits.",
+    ),
+    (
+        "blocked",
+        "`blocked lock T`: nothing was done. Make the same step again once transaction T has ended.",
+    ),
+    (
+        "die",
+        "Nothing was done: an older transaction is in the way. `rollback N`, `continue N` while there is `more`, and begin again.",
+    ),
+    ("more", "Something is left to be taken back: `continue N`."),
+];
+
+/// Writes all lines that may be written, and what they do.
+pub(crate) fn write_help<W: Write>(writer: &mut W) -> io::Result<()> {
+    for (usage, what, _) in &LINES {
+        writeln!(writer, "{usage:<24} {what}")?;
+    }
+    writer.write_all(NOTES.as_bytes())
+}
+
+/// Writes what is to be known of a word. It answers whether there is such a word.
+pub(crate) fn write_help_on<W: Write>(writer: &mut W, word: &[u8]) -> io::Result<bool> {
+    for (usage, what, more) in &LINES {
+        if is_of(usage, word) {
+            writeln!(writer, "{usage:<24} {what}")?;
+            writeln!(writer, "{more}")?;
+            return Ok(true);
+        }
+    }
+    for (other, more) in &WORDS {
+        if other.as_bytes() == word {
+            writeln!(writer, "{more}")?;
+            return Ok(true);
+        }
+    }
+    Ok(false)
+}
+
+// The line that is written so begins with this word.
+fn is_of(usage: &str, word: &[u8]) -> bool {
+    match usage.as_bytes().strip_prefix(word) {
+        Some(rest) => !word.is_empty() && (rest.is_empty() || rest.starts_with(b" ")),
+        None => false,
+    }
+}
