@@ -1,4 +1,5 @@
-//! `imload [--threads N] [--txns M] [--flush F] [--group] [--time]`: threads that make transactions at once on one store, whose files are in memory. On a
+//! `imload [--threads N] [--txns M] [--flush F] [--group] [--time]`: threads that make transactions at once on one store, whose files
+//! are in memory; with `--group` on a store that keeps a map in memory, as the engine lets no Commit wait for a force. On a
 //! terminal it says on standard error which threads have begun.
 #![tactic(auto)]
 
@@ -10,6 +11,7 @@ use crate::store::new_store;
 use clap::error::ErrorKind;
 use im_front::LoadArgs;
 use im_front_load::{load_args, load_text, print_refused};
+use im_front_memory::MemoryStore;
 use std::alloc::AllocError;
 use std::process::ExitCode;
 use std::time::Instant;
@@ -21,18 +23,7 @@ fn main(rt: HostRuntime) -> io::Result<ExitCode> {
         Ok(command) => {
             let start = Instant::now(&rt)?;
             let progress = Progress::new(&rt, command.args.threads());
-            let mut writer = io::writer(&rt);
-            let status = match new_store(rt.alloc()) {
-                Ok(engine) => load_text(
-                    &rt,
-                    rt.alloc(),
-                    engine,
-                    command.args,
-                    &progress,
-                    &mut writer,
-                )?,
-                Err(fault) => print_refused(fault, &mut writer)?,
-            };
+            let status = run_load(&rt, command.args, &progress)?;
             if command.timed && status == 0 {
                 let nanos = start.elapsed(&rt)?.as_nanos();
                 println!(rt; "transactions a second {}", rate(&command.args, nanos))?;
@@ -44,6 +35,19 @@ fn main(rt: HostRuntime) -> io::Result<ExitCode> {
             error.print(&rt)?;
             Ok(ExitCode::from(if error.use_stderr() { 2 } else { 0 }))
         }
+    }
+}
+
+// Runs the load and prints what came of it, and answers the exit status.
+fn run_load(rt: &HostRuntime, args: LoadArgs, progress: &Progress) -> io::Result<u8> {
+    let mut writer = io::writer(rt);
+    if args.group() {
+        let store = MemoryStore::with_group(rt.alloc(), true);
+        return load_text(rt, rt.alloc(), store, args, progress, &mut writer);
+    }
+    match new_store(rt.alloc()) {
+        Ok(engine) => load_text(rt, rt.alloc(), engine, args, progress, &mut writer),
+        Err(fault) => print_refused(fault, &mut writer),
     }
 }
 
