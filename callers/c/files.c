@@ -1,0 +1,362 @@
+/* The files of a store, and the thread that makes the calls of the system. What is guarded here is what FileDisk guards
+ * (crates/im_base_file_disk): the two are tested on one list, examples/imstore_guards_files. */
+#define _GNU_SOURCE
+#include "internal.h"
+#include <errno.h>
+#include <fcntl.h>
+#include <signal.h>
+#include <stdio.h>
+#include <stdlib.h>
+#include <string.h>
+#include <sys/file.h>
+#include <sys/stat.h>
+#include <unistd.h>
+
+/* ---- calls that are made whole ---- */
+
+/* Reads or writes all bytes at a place of a file; the end of the file is a failure. */
+static int whole_at(int fd, int writes, uint8_t *bytes, size_t len, off_t at)
+{
+	while (len) {
+		ssize_t n = writes ? pwrite(fd, bytes, len, at) : pread(fd, bytes, len, at);
+		if (n == 0)
+			errno = EIO;
+		if (n == 0 || (n < 0 && errno != EINTR))
+			return -1;
+		if (n > 0) {
+			bytes += n;
+			at += n;
+			len -= (size_t)n;
+		}
+	}
+	return 0;
+}
+
+static int whole(int fd, int writes, void *bytes, size_t len)
+{
+	uint8_t *at = bytes;
+	while (len) {
+		ssize_t n = writes ? write(fd, at, len) : read(fd, at, len);
+		if (n == 0 || (n < 0 && errno != EINTR))
+			return -1;
+		if (n > 0) {
+			at += n;
+			len -= (size_t)n;
+		}
+	}
+	return 0;
+}
+
+/* ---- the thread ---- */
+
+/* A question of the store: crates/im_base_pipe_disk. */
+struct question { uint32_t kind, file; uint64_t place, len; };
+enum { LEN = 1, READ, WRITE, SYNC };
+
+/* In tests, whether this call is to fail. */
+static int is_to_fail(struct device *device)
+{
+#ifdef VAH_TEST
+	if (device->kill_at && !--device->kill_at)
+		raise(SIGKILL);
+	if (device->fail_at && !--device->fail_at) {
+		device->fail_at = 1;
+		errno = EIO;
+		return 1;
+	}
+#else
+	(void)device;
+#endif
+	return 0;
+}
+
+/* Takes the bytes of a write out of the pipe, all of them whatever happens, since the store is putting them in, and writes them by one call; 0
+ * where they are written. */
+static int take_write(struct device *device, int fd, const struct question *q, int failed)
+{
+	uint8_t some[4096], *room = failed ? NULL : malloc(q->len ? q->len : 1);
+	if (room) {
+		failed = whole(device->ask[0], 0, room, q->len) || whole_at(fd, 1, room, q->len, (off_t)q->place);
+		free(room);
+		return failed;
+	}
+	int why = errno;
+	for (uint64_t done = 0; done < q->len; ) {
+		size_t n = q->len - done < sizeof some ? (size_t)(q->len - done) : sizeof some;
+		if (whole(device->ask[0], 0, some, n))
+			break;
+		done += n;
+	}
+	errno = why;
+	return -1;
+}
+
+/* Makes the calls that the store asks for, until its end of the pipe is closed. It never closes its own end while the store may write. */
+static void *serve(void *arg)
+{
+	struct device *device = arg;
+	struct question q;
+	struct stat st;
+	while (!whole(device->ask[0], 0, &q, sizeof q)) {
+		int fd = q.file < FILES ? device->files[q.file] : -1, failed = is_to_fail(device);
+		uint64_t number = 0;
+		uint8_t *room = NULL;
+		switch (q.kind) {
+		case LEN:
+			failed = failed || fstat(fd, &st);
+			number = failed ? 0 : (uint64_t)st.st_size;
+			break;
+		case READ:
+			failed = failed || !(room = malloc(q.len ? q.len : 1)) || whole_at(fd, 0, room, q.len, (off_t)q.place);
+			break;
+		case WRITE:
+			failed = take_write(device, fd, &q, failed);
+			break;
+		default:
+			failed = failed || fdatasync(fd);
+			break;
+		}
+		if (failed) {
+			int none = 0;
+			atomic_compare_exchange_strong(&device->why, &none, errno);
+			number = UINT64_MAX;
+		}
+		if (!whole(device->answer[1], 1, &number, sizeof number) && q.kind == READ && !failed)
+			whole(device->answer[1], 1, room, q.len);
+		free(room);
+	}
+	return NULL;
+}
+
+/* Starts the thread, which handles no signal. */
+static int start(struct device *device)
+{
+	sigset_t all, old;
+	sigfillset(&all);
+	pthread_sigmask(SIG_SETMASK, &all, &old);
+	errno = pthread_create(&device->thread, NULL, serve, device);
+	device->has_thread = !errno;
+	pthread_sigmask(SIG_SETMASK, &old, NULL);
+	return device->has_thread ? 0 : -1;
+}
+
+/* ---- the opening ---- */
+
+/* A stop of a creation leaves no more bytes of a log that was not made: its header, and the first gate. */
+enum { UNMADE_LOG = 48 };
+
+/* Where an opening is: the folder, where its refusal's words go, and the code. */
+struct opening { const char *path; char *text; size_t size; int code, why; };
+
+static int refuse(struct opening *o, int code, const char *words)
+{
+	snprintf(o->text, o->size, "%s: %s", o->path, words);
+	o->code = code;
+	return -1;
+}
+
+/* A call of the system failed. */
+static int refuse_system(struct opening *o)
+{
+	char room[128], words[256];
+	int error = errno;
+	const char *why = strerror_r(error, room, sizeof room);
+	o->why = error;
+	switch (error) {
+	case ENOMEM: return refuse(o, VAH_MEMORY, "out of memory");
+	case ENOTDIR: case EEXIST: return refuse(o, VAH_DEVICE, "it is no folder, or lies under something that is none");
+	case ENOENT: snprintf(words, sizeof words, "there is no such folder, and it cannot be made: %s", why); break;
+	case EACCES: snprintf(words, sizeof words, "the system does not allow it: %s", why); break;
+	default: snprintf(words, sizeof words, "%s", why); break;
+	}
+	return refuse(o, VAH_DEVICE, words);
+}
+
+/* Makes the folder where there is none, and those above it. */
+static int make_folders(struct opening *o, char *path)
+{
+	struct stat st;
+	for (char *at = path + 1; ; at++) {
+		if (*at != '/' && *at)
+			continue;
+		char kept = *at;
+		*at = 0;
+		int failed = mkdir(path, 0777) && errno != EEXIST && (kept == 0 || stat(path, &st));
+		*at = kept;
+		if (failed)
+			return refuse_system(o);
+		if (!kept)
+			break;
+	}
+	if (stat(path, &st))
+		return refuse_system(o);
+	if (!S_ISDIR(st.st_mode)) {
+		errno = ENOTDIR;
+		return refuse_system(o);
+	}
+	return 0;
+}
+
+/* Brings the folder and each above it to the disk, so that a power cut takes none of them. Those that may not be read this
+ * program has not made. */
+static int sync_folders(struct opening *o, char *path)
+{
+	for (size_t len = strlen(path); ; ) {
+		const char *name = len ? path : ".";
+		int fd = open(name, O_RDONLY | O_DIRECTORY | O_CLOEXEC);
+		if (fd < 0 && errno != EACCES)
+			return refuse_system(o);
+		int failed = fd >= 0 && fsync(fd), why = errno;
+		if (fd >= 0)
+			close(fd);
+		errno = why;
+		if (failed)
+			return refuse_system(o);
+		if (!len || (len == 1 && *path == '/'))
+			return 0;
+		while (len && path[len - 1] != '/')
+			len--;
+		while (len > 1 && path[len - 1] == '/')
+			len--;
+		if (len == 1 && *path != '/')
+			len = 0;
+		path[len] = 0;
+	}
+}
+
+/* Whether the folder has a plain file of this name; -1 where the name is taken by something else. */
+static int has_file(struct opening *o, const char *name)
+{
+	char words[64], *path;
+	struct stat st;
+	if (asprintf(&path, "%s/%s", o->path, name) < 0)
+		return refuse(o, VAH_MEMORY, "out of memory");
+	int is_there = !stat(path, &st), why = errno;
+	free(path);
+	errno = why;
+	if (!is_there)
+		return errno == ENOENT ? 0 : refuse_system(o);
+	if (S_ISREG(st.st_mode))
+		return 1;
+	snprintf(words, sizeof words, "`%s` in it is no plain file", name);
+	return refuse(o, VAH_NOT_A_STORE, words);
+}
+
+/* Opens a file of the folder, made where it is missing; -1 where it is refused. It must not have the descriptor of a standard stream: what the
+ * program prints there would be written over the store. */
+static int open_file(struct opening *o, const char *name)
+{
+	char *path;
+	if (asprintf(&path, "%s/%s", o->path, name) < 0)
+		return refuse(o, VAH_MEMORY, "out of memory");
+	int fd = open(path, O_RDWR | O_CREAT | O_CLOEXEC | O_NOCTTY, 0666), why = errno;
+	free(path);
+	errno = why;
+	if (fd < 0)
+		return refuse_system(o);
+	if (fd > STDERR_FILENO)
+		return fd;
+	close(fd);
+	return refuse(o, VAH_DEVICE, "no descriptor is left but those of the standard streams");
+}
+
+/* The length of a file, and its first byte, 0 where it has none. */
+static int front_of(struct opening *o, int fd, uint64_t *len, uint8_t *first)
+{
+	struct stat st;
+	*first = 0;
+	if (fstat(fd, &st))
+		return refuse_system(o);
+	*len = (uint64_t)st.st_size;
+	return *len && whole_at(fd, 0, first, 1, 0) ? refuse_system(o) : 0;
+}
+
+/* Whether the logs may be those of a store: one says that it was made, or a stop of a creation leaves such logs. Nothing is written. It
+ * stands for FileDisk's has_made_log. */
+static int guard(struct opening *o, const int *files, int *is_made)
+{
+	uint64_t len = 0, len2 = 0;
+	uint8_t first = 0, first2 = 0;
+	if (front_of(o, files[LOG], &len, &first) || (files[LOG2] >= 0 && front_of(o, files[LOG2], &len2, &first2)))
+		return -1;
+	*is_made = first == 1 || first2 == 1;
+	if (!*is_made && (len > UNMADE_LOG || len2 > UNMADE_LOG))
+		return refuse(o, VAH_NOT_A_STORE, "`log` in it does not begin as the log of a store");
+	return 0;
+}
+
+/* Opens, locks, guards, makes and syncs, in the order of FileDisk::open. */
+static int open_files(struct opening *o, int *files, int folder, char *path)
+{
+	int is_made, is_there;
+	if (has_file(o, "log") < 0 || has_file(o, "pages") < 0 || (files[LOG] = open_file(o, "log")) < 0)
+		return -1;
+	if (flock(files[LOG], LOCK_EX | LOCK_NB))
+		return errno == EWOULDBLOCK ? refuse(o, VAH_LOCKED, "the store is open elsewhere") : refuse_system(o);
+	if ((is_there = has_file(o, "log2")) < 0 || (is_there && (files[LOG2] = open_file(o, "log2")) < 0))
+		return -1;
+	if (guard(o, files, &is_made) || (is_there = has_file(o, "pages")) < 0)
+		return -1;
+	if (is_made && !is_there)
+		return refuse(o, VAH_NOT_A_STORE, "there is no `pages` in it beside a log that was made: the pages of the store are missing");
+	if (files[LOG2] < 0 && (files[LOG2] = open_file(o, "log2")) < 0)
+		return -1;
+	if ((files[PAGES] = open_file(o, "pages")) < 0)
+		return -1;
+	if (fsync(files[LOG]) || fsync(files[LOG2]) || fsync(files[PAGES]) || fsync(folder))
+		return refuse_system(o);
+	return is_made ? 0 : sync_folders(o, path);
+}
+
+static int open_pipes(struct opening *o, struct device *device)
+{
+	if (pipe2(device->ask, O_CLOEXEC) || pipe2(device->answer, O_CLOEXEC))
+		return refuse_system(o);
+	for (int i = 0; i < 2; i++)
+		if (device->ask[i] <= STDERR_FILENO || device->answer[i] <= STDERR_FILENO)
+			return refuse(o, VAH_DEVICE, "no descriptor is left but those of the standard streams");
+	return start(device) ? refuse_system(o) : 0;
+}
+
+int vah_device_open(struct device *device, const char *path, char *text, size_t size)
+{
+	struct opening o = { path, text, size, 0, 0 };
+	int folders[3] = { -1, -1, -1 };
+	char *copy = strdup(path);
+	device->files[LOG] = device->files[PAGES] = device->files[LOG2] = -1;
+	device->ask[0] = device->ask[1] = device->answer[0] = device->answer[1] = -1;
+	if (!copy) {
+		refuse(&o, VAH_MEMORY, "out of memory");
+	} else if (!*path) {
+		errno = ENOENT;
+		refuse_system(&o);
+	} else if (!make_folders(&o, copy)) {
+		/* As long as these three stand, nothing that is opened gets the descriptor of a standard stream. */
+		for (int i = 0; i < 3 && !o.code; i++)
+			if ((folders[i] = open(path, O_RDONLY | O_DIRECTORY | O_CLOEXEC)) < 0)
+				refuse_system(&o);
+		if (!o.code && !open_files(&o, device->files, folders[0], copy))
+			open_pipes(&o, device);
+	}
+	for (int i = 0; i < 3; i++)
+		if (folders[i] >= 0)
+			close(folders[i]);
+	free(copy);
+	if (o.code) {
+		vah_device_close(device, 0);
+		errno = o.why;
+	}
+	return o.code;
+}
+
+void vah_device_close(struct device *device, int is_child)
+{
+	if (device->ask[1] >= 0)
+		close(device->ask[1]);
+	if (device->has_thread && !is_child)
+		pthread_join(device->thread, NULL);
+	int rest[] = { device->ask[0], device->answer[0], device->answer[1], device->files[PAGES], device->files[LOG2], device->files[LOG] };
+	for (size_t i = 0; i < sizeof rest / sizeof *rest; i++)
+		if (rest[i] >= 0)
+			close(rest[i]);
+}

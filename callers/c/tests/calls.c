@@ -1,0 +1,273 @@
+/* Bad input, the same calls on a table in memory, threads that share a store, a thread that would wait for itself, and signals. */
+#define _GNU_SOURCE
+#include "test.h"
+#include <pthread.h>
+#include <stdatomic.h>
+#include <signal.h>
+#include <sys/time.h>
+
+/* ---- bad input ---- */
+
+static void refusals(const char *dir)
+{
+	static uint8_t large[300], hi[255];
+	struct { vah_config known; uint64_t later; } longer = { VAH_CONFIG_INIT, 0 };
+	vah_config config = VAH_CONFIG_INIT;
+	vah_store *store = NULL, *other = NULL;
+	vah_txn *txn, *old, *txns[64];
+	vah_entry entry, entries[2];
+	vah_info info;
+	uint64_t n;
+	size_t count;
+
+	IS(vah_open(NULL, NULL, &store), VAH_INVALID);
+	IS(vah_open(dir, NULL, NULL), VAH_INVALID);
+	IS(vah_open("", NULL, &store), VAH_DEVICE);
+	config.size = 8;
+	IS(vah_open(dir, &config, &store), VAH_INVALID);
+	config = (vah_config)VAH_CONFIG_INIT;
+	config.frames = 7;
+	IS(vah_open(dir, &config, &store), VAH_POOL_SIZE);
+	config.frames = 1025;
+	IS(vah_open(dir, &config, &store), VAH_POOL_SIZE);
+	longer.known.size = sizeof longer;
+	longer.later = 1;
+	IS(vah_open(dir, &longer.known, &store), VAH_INVALID);
+	longer.later = 0;
+	OK(vah_open(dir, &longer.known, &store));
+	IS(vah_open(dir, NULL, &other), VAH_LOCKED);
+	HOLDS(!other && strstr(vah_last_error(), "the store is open elsewhere"));
+
+	IS(vah_begin(NULL, &txn), VAH_INVALID);
+	IS(vah_begin(store, NULL), VAH_INVALID);
+	IS(vah_begin_with(store, 2, &txn), VAH_INVALID);
+	IS(vah_commit(NULL), VAH_INVALID);
+	OK(vah_rollback(NULL));
+	OK(vah_close(NULL));
+	IS(vah_again(NULL), VAH_INVALID);
+	IS(vah_stat(store, NULL), VAH_INVALID);
+	IS(vah_stat(NULL, &info), VAH_INVALID);
+	IS(vah_checkpoint(NULL), VAH_INVALID);
+
+	OK(vah_begin(store, &txn));
+	IS(vah_fetch(NULL, "a", 1, &n), VAH_INVALID);
+	IS(vah_fetch(txn, NULL, 1, &n), VAH_INVALID);
+	IS(vah_fetch(txn, NULL, 0, &n), VAH_KEY_LENGTH);
+	IS(vah_fetch(txn, "a", 0, &n), VAH_KEY_LENGTH);
+	IS(vah_fetch(txn, large, 256, &n), VAH_KEY_LENGTH);
+	IS(vah_insert(txn, large, 300, 1), VAH_KEY_LENGTH);
+	IS(vah_delete(txn, large, SIZE_MAX), VAH_KEY_LENGTH);
+	IS(vah_seek(txn, "a", 1, NULL), VAH_INVALID);
+	IS(vah_next(txn, "", 0, &entry), VAH_KEY_LENGTH);
+	IS(vah_scan(txn, "a", 1, NULL, 1, entries, 2, &count), VAH_INVALID);
+	IS(vah_scan(txn, "a", 1, "", 0, entries, 2, &count), VAH_KEY_LENGTH);
+	IS(vah_scan(txn, "a", 1, "b", 1, NULL, 2, &count), VAH_INVALID);
+	IS(vah_scan(txn, "a", 1, "b", 1, entries, 0, &count), VAH_INVALID);
+	IS(vah_scan(txn, "a", 1, "b", 1, entries, 2, NULL), VAH_INVALID);
+	OK(vah_insert(txn, large, 255, UINT64_MAX));
+	OK(vah_fetch(txn, large, 255, &n));
+	HOLDS(n == UINT64_MAX);
+	OK(vah_fetch(txn, large, 255, NULL));
+	memset(hi, 255, sizeof hi);
+	OK(vah_insert(txn, hi, 255, 0));
+	OK(vah_scan(txn, large, 1, hi, 255, entries, 2, &count));
+	HOLDS(count == 2 && entries[0].len == 255 && !memcmp(entries[0].key, large, 255) && entries[1].key[254] == 255);
+	OK(vah_scan(txn, hi, 255, large, 1, entries, 2, &count));
+	HOLDS(count == 0);
+	IS(vah_close(store), VAH_ACTIVE);
+	OK(vah_stat(store, &info));
+	HOLDS(info.active == 1 && !info.has_failed);
+	OK(vah_commit(txn));
+
+	/* one thread with two transactions: the older would wait for the younger, and the younger must give way */
+	OK(vah_begin_with(store, VAH_NO_WAIT, &old));
+	OK(vah_begin(store, &txn));
+	OK(vah_insert(txn, "k", 1, 1));
+	IS(vah_insert(old, "k", 1, 2), VAH_BUSY);
+	OK(vah_insert(old, "m", 1, 2));
+	IS(vah_fetch(txn, "m", 1, &n), VAH_GIVE_WAY);
+	IS(vah_commit(txn), VAH_MUST_ROLL_BACK);
+	IS(vah_insert(txn, "o", 1, 1), VAH_MUST_ROLL_BACK);
+	OK(vah_rollback(txn));
+	OK(vah_insert(old, "k", 1, 2));
+	OK(vah_begin_with(store, VAH_NO_WAIT, &txn));
+	IS(vah_fetch(txn, "k", 1, &n), VAH_GIVE_WAY);
+	OK(vah_again(txn)); /* which does not wait */
+	IS(vah_fetch(txn, "k", 1, &n), VAH_GIVE_WAY);
+	OK(vah_rollback(old));
+	OK(vah_again(txn));
+	IS(vah_fetch(txn, "k", 1, &n), VAH_NOT_FOUND);
+	OK(vah_rollback(txn));
+
+	for (int i = 0; i < 64; i++) OK(vah_begin(store, &txns[i]));
+	IS(vah_begin(store, &txn), VAH_TOO_MANY);
+	for (int i = 0; i < 64; i++) OK(vah_commit(txns[i]));
+	OK(vah_close(store));
+	IS(vah_open("/proc/none/here", NULL, &store), VAH_DEVICE);
+	for (int i = -1; i < 130; i++) HOLDS(vah_strerror(i)[0]);
+	HOLDS(vah_version() == VAH_VERSION);
+}
+
+/* ---- the same calls on a table ---- */
+
+enum { KEYS = 600 };
+static uint64_t seed = 7;
+static unsigned chance(unsigned n) { seed = seed * 6364136223846793005u + 1442695040888963407u; return (unsigned)(seed >> 33) % n; }
+
+/* The key of a number: four digits, and a tail whose length is the number's own, so that keys of a number's order are in that order. */
+static size_t key_of(unsigned i, char *key)
+{
+	size_t len = (size_t)snprintf(key, 8, "%04u", i);
+	memset(key + len, 'x', i * 7 % 250);
+	return len + i * 7 % 250;
+}
+
+static void on_a_table(const char *dir, int steps)
+{
+	static int64_t kept[KEYS], now[KEYS]; /* the number of each key, or -1 */
+	static vah_entry entries[VAH_SCAN_MAX];
+	vah_config config = VAH_CONFIG_INIT;
+	vah_store *store;
+	vah_txn *txn;
+	vah_entry entry;
+	char key[256], hi[256];
+	uint64_t n;
+	size_t count;
+	config.frames = 16;
+	config.redo_bytes = 1 << 20;
+	memset(kept, 0xff, sizeof kept);
+	OK(vah_open(dir, &config, &store));
+	for (int life = 0; steps > 0; life++) {
+		OK(vah_begin(store, &txn));
+		memcpy(now, kept, sizeof kept);
+		for (int s = (int)chance(400); s >= 0; s--, steps--) {
+			unsigned i = chance(KEYS), j = chance(KEYS), what = chance(9);
+			size_t len = key_of(i, key), hi_len = key_of(j, hi);
+			unsigned at = i;
+			switch (what) {
+			case 0: case 1: case 2: case 3:
+				IS(vah_insert(txn, key, len, i + (unsigned)life), now[i] < 0 ? VAH_OK : VAH_EXISTS);
+				if (now[i] < 0) now[i] = i + life;
+				break;
+			case 4: case 5:
+				IS(vah_delete(txn, key, len), now[i] < 0 ? VAH_NOT_FOUND : VAH_OK);
+				now[i] = -1;
+				break;
+			case 6:
+				IS(vah_fetch(txn, key, len, &n), now[i] < 0 ? VAH_NOT_FOUND : VAH_OK);
+				HOLDS(now[i] < 0 || n == (uint64_t)now[i]);
+				break;
+			case 7: {
+				int is_next = (int)chance(2);
+				for (at += is_next; at < KEYS && now[at] < 0; at++) ;
+				IS(is_next ? vah_next(txn, key, len, &entry) : vah_seek(txn, key, len, &entry), at < KEYS ? VAH_OK : VAH_NOT_FOUND);
+				HOLDS(at == KEYS || (entry.number == (uint64_t)now[at] && entry.len == key_of(at, key) && !memcmp(entry.key, key, entry.len)));
+				break;
+			}
+			default: {
+				size_t max = 1 + chance(300), most = max > VAH_SCAN_MAX ? VAH_SCAN_MAX : max, seen = 0;
+				OK(vah_scan(txn, key, len, hi, hi_len, entries, max, &count));
+				for (at = i; at <= j && seen < most; at++)
+					if (now[at] >= 0) {
+						HOLDS(seen < count && entries[seen].number == (uint64_t)now[at] && entries[seen].len == key_of(at, key)
+							&& !memcmp(entries[seen].key, key, entries[seen].len));
+						seen++;
+					}
+				HOLDS(seen == count);
+			}
+			}
+		}
+		if (chance(4)) {
+			OK(vah_commit(txn));
+			memcpy(kept, now, sizeof kept);
+		} else {
+			OK(vah_rollback(txn));
+		}
+		switch (chance(12)) {
+		case 0: OK(vah_checkpoint(store)); break;
+		case 1: OK(vah_flush(store)); break;
+		case 2: OK(vah_close(store)); OK(vah_open(dir, &config, &store)); break;
+		}
+	}
+	OK(vah_close(store));
+}
+
+/* ---- threads ---- */
+
+struct work { vah_store *store; int number; };
+
+/* Moves 1 from one of eight accounts to another, again and again; their sum stays. */
+static void *move(void *arg)
+{
+	struct work *work = arg;
+	unsigned mix = (unsigned)work->number * 2654435761u;
+	for (int i = 0; i < 60; i++) {
+		vah_txn *txn;
+		unsigned from = (mix = mix * 1664525u + 1013904223u) >> 29, to = (mix = mix * 1664525u + 1013904223u) >> 29;
+		if (from == to) continue;
+		char a[2] = { 'n', (char)('0' + from) }, b[2] = { 'n', (char)('0' + to) };
+		OK(vah_begin(work->store, &txn));
+		for (;;) {
+			uint64_t n, m;
+			int rc = vah_fetch(txn, a, 2, &n);
+			if (!rc) rc = vah_delete(txn, a, 2);
+			if (!rc) rc = vah_insert(txn, a, 2, n - 1);
+			if (!rc) rc = vah_fetch(txn, b, 2, &m);
+			if (!rc) rc = vah_delete(txn, b, 2);
+			if (!rc) rc = vah_insert(txn, b, 2, m + 1);
+			if (!rc) { OK(vah_commit(txn)); break; }
+			IS(rc, VAH_GIVE_WAY);
+			OK(vah_again(txn));
+		}
+		if (i % 20 == 0) OK(vah_checkpoint(work->store));
+	}
+	return NULL;
+}
+
+static atomic_int fired;
+static void on_alarm(int signal) { (void)signal; atomic_fetch_add(&fired, 1); }
+
+static void threads(const char *dir)
+{
+	struct itimerval often = { { 0, 700 }, { 0, 700 } }, none = { { 0, 0 }, { 0, 0 } };
+	struct sigaction action = { .sa_handler = on_alarm };
+	vah_store *store;
+	vah_txn *txn;
+	vah_entry entries[16];
+	pthread_t all[6];
+	struct work works[6];
+	size_t count;
+	uint64_t sum = 0;
+	OK(vah_open(dir, NULL, &store));
+	OK(vah_begin(store, &txn));
+	for (char i = '0'; i < '8'; i++) OK(vah_insert(txn, (char[2]){ 'n', i }, 2, 1000));
+	OK(vah_commit(txn));
+	sigaction(SIGALRM, &action, NULL);
+	setitimer(ITIMER_REAL, &often, NULL);
+	for (int i = 0; i < 6; i++) {
+		works[i] = (struct work){ store, i };
+		HOLDS(!pthread_create(&all[i], NULL, move, &works[i]));
+	}
+	for (int i = 0; i < 6; i++) pthread_join(all[i], NULL);
+	setitimer(ITIMER_REAL, &none, NULL);
+	HOLDS(fired > 0);
+	OK(vah_begin(store, &txn));
+	OK(vah_scan(txn, "n", 1, "nz", 2, entries, 16, &count));
+	OK(vah_commit(txn));
+	for (size_t i = 0; i < count; i++) sum += entries[i].number;
+	HOLDS(count == 8 && sum == 8000);
+	OK(vah_close(store));
+}
+
+int main(int argc, char **argv)
+{
+	char dir[4096];
+	if (argc < 2) return 1;
+	snprintf(dir, sizeof dir, "%s/deep/refusals", argv[1]);
+	refusals(dir);
+	snprintf(dir, sizeof dir, "%s/table", argv[1]);
+	on_a_table(dir, argc > 2 ? atoi(argv[2]) : 20000);
+	snprintf(dir, sizeof dir, "%s/threads", argv[1]);
+	threads(dir);
+	return 0;
+}

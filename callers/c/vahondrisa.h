@@ -1,0 +1,227 @@
+/** @file vahondrisa.h
+ *
+ *  A persistent ordered index with transactions, in a folder, inside your
+ *  program. Keys are 1 to 255 bytes, each with a number of 64 bits, and no two
+ *  keys are equal. Keys are ordered by their unsigned bytes, a front of a key
+ *  before the key. What a transaction did is there whole or not at all after a
+ *  kill, a crash or a power cut, and is there if its commit returned 0.
+ *
+ *	@section start	Getting started
+ *
+ *	vah_store *store;
+ *	vah_txn *txn;
+ *	uint64_t number;
+ *	int rc = vah_open("keys", NULL, &store);
+ *	if (rc) { fprintf(stderr, "%s\n", vah_last_error()); exit(1); }
+ *	rc = vah_begin(store, &txn);
+ *	if (!rc) rc = vah_insert(txn, "apple", 5, 7);
+ *	if (!rc) rc = vah_fetch(txn, "apple", 5, &number);
+ *	rc = rc ? vah_rollback(txn) : vah_commit(txn);
+ *	vah_close(store);
+ *
+ *  A transaction may see VAH_GIVE_WAY from any of its calls by a key: an older
+ *  one stands in its way. Call vah_again then, and make all of its calls again.
+ *
+ *	@section promises	What is proved, and what is not
+ *
+ *  The store below these functions is proved: each call answers what one
+ *  caller alone would be answered in some order of the commits, and a stop at
+ *  any moment leaves each transaction whole or absent. The functions of this
+ *  header are some 900 lines of C over three exports of the proved library, and
+ *  are tested. They hold one lock around each call, and keep the duties that
+ *  the proofs ask of a caller in C. So do not write past the memory that you
+ *  hand in, and do not use a store or a transaction after its end: then nothing
+ *  is promised. A library built with VAH_DEBUG answers VAH_INVALID there.
+ *
+ *	@section threads	Threads
+ *
+ *  Any thread may call any function on one store; calls wait for one another.
+ *  One transaction belongs to one thread at a time. Up to 64 transactions are
+ *  active at once. A call waits while a younger transaction holds what it
+ *  needs (an older one never waits for it: see VAH_GIVE_WAY), so a thread that
+ *  has two transactions active can wait for itself: begin with VAH_NO_WAIT then.
+ *  Each store has a thread of its own, which makes the calls of the system.
+ *  Signals that come while a call is under way are handled after it. A store
+ *  is not to be used in a child after fork(): its calls are refused there
+ *  VAH_FORKED, and vah_close lets go of what the child has of it.
+ *
+ *	@section files	Files
+ *
+ *  A store is a folder with the files `log`, `log2` and `pages`. It is open once
+ *  at a time: a second opening, here or elsewhere, is refused VAH_LOCKED. Files
+ *  are read alike on each machine. Never delete, copy or put back one of the
+ *  three alone. A child that outlives the program without exec holds the lock on.
+ */
+#ifndef VAHONDRISA_H
+#define VAHONDRISA_H
+
+#include <stddef.h>
+#include <stdint.h>
+
+#ifdef __cplusplus
+extern "C" {
+#endif
+
+/** The version of this header: major * 10000 + minor * 100 + patch. */
+#define VAH_VERSION 100
+
+/** The longest key, in bytes. */
+#define VAH_KEY_MAX 255
+
+/** The most entries of one scan. */
+#define VAH_SCAN_MAX 256
+
+/** A store that is open. */
+typedef struct vah_store vah_store;
+/** A transaction that is active. */
+typedef struct vah_txn vah_txn;
+
+/** A key with its number, as a scan gives it. */
+typedef struct vah_entry {
+	uint64_t number;
+	uint8_t len;              /**< 1 to 255 */
+	uint8_t key[VAH_KEY_MAX]; /**< its first `len` bytes */
+} vah_entry;
+
+/** How a store is opened. Begin with VAH_CONFIG_INIT, so that fields of later
+ *  versions have their defaults. */
+typedef struct vah_config {
+	size_t size;              /**< sizeof(vah_config) */
+	uint32_t frames;          /**< pages of 4 KiB kept in memory, 8 to 1024 */
+	uint32_t max_pages;       /**< the most pages of the store */
+	uint64_t redo_bytes;      /**< the most log that an opening has to redo; 0: any */
+} vah_config;
+#define VAH_CONFIG_INIT { sizeof(vah_config), 1024, 1000000, 16u << 20 }
+
+/** What vah_stat tells. */
+typedef struct vah_info {
+	uint64_t active;          /**< transactions */
+	uint64_t dirty_pages;     /**< pages whose file lacks changes */
+	uint64_t durable_end;     /**< the log is on the disk up to here */
+	uint64_t redo_from;       /**< where the opening began to redo the log */
+	uint64_t redone;          /**< how many records it applied */
+	uint64_t has_failed;      /**< 1: only vah_close is of use */
+} vah_info;
+
+/** @defgroup codes	What calls return
+ *  0 is success. Each code keeps its number for ever.
+ *  @{ */
+#define VAH_OK 0
+/** The key is not there; a seek or a next found none. Nothing was changed. */
+#define VAH_NOT_FOUND 100
+/** The key is there already. Nothing was changed. */
+#define VAH_EXISTS 101
+/** An older transaction stands in the way. Only vah_again and vah_rollback are
+ *  taken now. */
+#define VAH_GIVE_WAY 102
+/** Under VAH_NO_WAIT: a younger transaction holds what is needed. Nothing was
+ *  changed; call again once it has ended. */
+#define VAH_BUSY 103
+/** An argument is NULL, or a flag or a size is not known. */
+#define VAH_INVALID 104
+/** Transactions of the store are active: it was not closed. */
+#define VAH_ACTIVE 105
+/** The store was opened by the process that this one was forked from. */
+#define VAH_FORKED 106
+/* The refusals of the store, by the numbers that its programs print. */
+#define VAH_NO_TRANSACTION 1   /**< the transaction has ended */
+#define VAH_MUST_ROLL_BACK 2   /**< a call of it was answered VAH_GIVE_WAY */
+#define VAH_KEY_LENGTH 3       /**< a key has 1 to 255 bytes */
+#define VAH_ROLLING_BACK 4     /**< a rollback of it was begun and not ended */
+#define VAH_PAGES_FULL 5       /**< max_pages are in use */
+#define VAH_CAPACITY 6         /**< numbers are used up; the store has failed */
+#define VAH_LOG_FULL 7         /**< the log is full; the store has failed */
+#define VAH_DEVICE 8           /**< a call of the system failed; so has the store */
+#define VAH_MEMORY 9           /**< out of memory; nothing was changed */
+#define VAH_FAILED 10          /**< an earlier call failed: close, and open again */
+#define VAH_NOT_A_STORE 11     /**< the files are of no store, or are damaged */
+#define VAH_TOO_MANY 12        /**< 64 transactions are active */
+#define VAH_POOL_SIZE 13       /**< frames are not 8 to 1024 */
+#define VAH_LOCKED 19          /**< the store is open elsewhere */
+/** @} */
+
+/** What a code means, in words. Never NULL; not to be freed. */
+const char *vah_strerror(int code);
+
+/** What the last call of this thread that was refused said, with the folder's
+ *  name and the system's reason where there is one. VAH_NOT_FOUND and
+ *  VAH_EXISTS are answers, and leave it as it is. Never NULL; good until the
+ *  next call of this thread. After VAH_DEVICE and VAH_FAILED errno is the
+ *  system's reason, or 0 where it is not known. */
+const char *vah_last_error(void);
+
+/** The version of the library, as VAH_VERSION. */
+int vah_version(void);
+
+/** Open the store in a folder, or make one; the folder is made too, and those
+ *  above it. What was committed is there, and what was not is taken back.
+ *  @param[in] path the folder
+ *  @param[in] config NULL for the defaults
+ *  @param[out] store set on success alone
+ *  @return VAH_LOCKED, VAH_NOT_A_STORE, VAH_POOL_SIZE, VAH_DEVICE, VAH_MEMORY */
+int vah_open(const char *path, const vah_config *config, vah_store **store);
+
+/** Write all pages, take a checkpoint, and end the store. What was committed is
+ *  kept whatever this returns, and `store` is freed on each code but VAH_ACTIVE.
+ *  NULL is taken. */
+int vah_close(vah_store *store);
+
+/** Begin a transaction.
+ *  @param[in] flags VAH_NO_WAIT, or 0
+ *  @return VAH_TOO_MANY, VAH_CAPACITY, VAH_FAILED, VAH_MEMORY */
+int vah_begin_with(vah_store *store, unsigned flags, vah_txn **txn);
+#define VAH_NO_WAIT 1u
+#define vah_begin(store, txn) vah_begin_with(store, 0, txn)
+
+/** Make all that the transaction did durable, and end it. On VAH_DEVICE it is
+ *  not known whether it is kept: open the store again to see. `txn` is freed
+ *  except on VAH_MUST_ROLL_BACK and VAH_ROLLING_BACK. */
+int vah_commit(vah_txn *txn);
+
+/** After VAH_GIVE_WAY: take back all that the transaction did, wait until
+ *  another one has ended, and begin again, by the same pointer. Under
+ *  VAH_NO_WAIT it does not wait. On any code but 0 the transaction has ended
+ *  and `txn` is freed. */
+int vah_again(vah_txn *txn);
+
+/** Take back all that the transaction did, and end it. Changes are taken back
+ *  one at a time, and other threads' calls come in between. `txn` is freed in
+ *  each case. NULL is taken. */
+int vah_rollback(vah_txn *txn);
+
+/** The number of a key. @return VAH_NOT_FOUND, VAH_GIVE_WAY, .. */
+int vah_fetch(vah_txn *txn, const void *key, size_t len, uint64_t *number);
+
+/** Put a key in. @return VAH_EXISTS, VAH_GIVE_WAY, VAH_PAGES_FULL, .. */
+int vah_insert(vah_txn *txn, const void *key, size_t len, uint64_t number);
+
+/** Take a key out. @return VAH_NOT_FOUND, VAH_GIVE_WAY, .. */
+int vah_delete(vah_txn *txn, const void *key, size_t len);
+
+/** The first entry from a key on. @return VAH_NOT_FOUND past the last, .. */
+int vah_seek(vah_txn *txn, const void *key, size_t len, vah_entry *entry);
+
+/** The first entry after a key. @return VAH_NOT_FOUND past the last, .. */
+int vah_next(vah_txn *txn, const void *key, size_t len, vah_entry *entry);
+
+/** The entries from one key to another, both included, in order.
+ *  @param[out] entries room for `max` of them
+ *  @param[in] max 1 to 256; more is taken as 256
+ *  @param[out] count how many there are; fewer than `max` are all */
+int vah_scan(vah_txn *txn, const void *lo, size_t lo_len, const void *hi,
+	size_t hi_len, vah_entry *entries, size_t max, size_t *count);
+
+/** Bound what the next opening has to redo. Taken by itself as
+ *  config.redo_bytes asks. */
+int vah_checkpoint(vah_store *store);
+
+/** Make all records so far durable, those of active transactions too. */
+int vah_flush(vah_store *store);
+
+/** Tell how the store stands. */
+int vah_stat(vah_store *store, vah_info *info);
+
+#ifdef __cplusplus
+}
+#endif
+#endif

@@ -1,0 +1,223 @@
+import ctypes
+import itertools
+import os
+import signal
+import subprocess
+import sys
+import tempfile
+import threading
+import unittest
+
+import vahondrisa
+
+COMMITS = """
+import sys, vahondrisa
+store = vahondrisa.open(sys.argv[1])
+turn = 0
+while True:
+    store.write(lambda txn: [txn.insert(b"%d.%d" % (turn, j), turn) for j in range(10)])
+    print(turn, flush=True)
+    turn += 1
+"""
+
+# An exception comes out of a signal's handler somewhere in each turn: in a call, between two of them, or at a block's end.
+INTERRUPTED = """
+import signal, sys, vahondrisa
+class Stop(Exception): pass
+def stop(*_): raise Stop
+signal.signal(signal.SIGALRM, stop)
+store = vahondrisa.open(sys.argv[1])
+turn = stops = 0
+while stops < 150:
+    try:
+        signal.setitimer(signal.ITIMER_REAL, 0.0002 + (stops * 37 % 100) * 0.00002)
+        for turn in range(turn + 1, turn + 1000):
+            with store.begin() as txn:
+                for j in range(10):
+                    txn.insert(b"%d.%d" % (turn, j), turn)
+    except Stop:
+        stops += 1
+signal.setitimer(signal.ITIMER_REAL, 0)
+print(turn)
+"""
+
+
+class Stores(unittest.TestCase):
+    def setUp(self):
+        self.room = tempfile.TemporaryDirectory()
+        self.dir = os.path.join(self.room.name, "store")
+
+    def tearDown(self):
+        self.room.cleanup()
+
+    def run_on(self, text, **options):
+        environment = dict(os.environ, PYTHONPATH=os.pathsep.join(filter(None, sys.path)))
+        return subprocess.Popen([sys.executable, "-c", text, self.dir], stdout=subprocess.PIPE, env=environment, **options)
+
+    def turns(self):
+        """The keys of each turn that the store has."""
+        found = {}
+        with vahondrisa.open(self.dir) as store, store.begin() as txn:
+            for key, number in txn.range():
+                found.setdefault(number, []).append(key)
+        return found
+
+    def test_keys_are_there_when_opened_again(self):
+        with vahondrisa.open(self.dir) as store:
+            with store.begin() as txn:
+                for i in range(1000):
+                    self.assertTrue(txn.insert(i.to_bytes(8, "big"), i * i))
+                self.assertFalse(txn.insert(bytes(8), 1))
+        with vahondrisa.open(self.dir) as store, store.begin() as txn:
+            self.assertEqual(list(txn.range()), [(i.to_bytes(8, "big"), i * i) for i in range(1000)])
+            self.assertEqual(list(txn.range(batch=2))[500:], list(txn.range((500).to_bytes(8, "big"))))
+            self.assertEqual(txn.seek((500).to_bytes(8, "big"))[1], 250000)
+            self.assertEqual(txn.next((998).to_bytes(8, "big")), ((999).to_bytes(8, "big"), 998001))
+            self.assertIsNone(txn.next((999).to_bytes(8, "big")))
+            self.assertEqual(next(iter(txn)), bytes(8))
+
+    def test_the_recipes_of_callers(self):
+        with vahondrisa.open(self.dir) as store, store.begin() as txn:
+            # a prefix, and the count of a range
+            for i in range(700):
+                txn[b"user%d" % i] = i
+            self.assertEqual([key for key, _ in itertools.islice(txn.prefix(b"user12"), 3)], [b"user12", b"user120", b"user121"])
+            self.assertEqual([sum(1 for _ in txn.prefix(it)) for it in (b"user12", b"user", b"")], [11, 700, 700])
+
+            # two indexes in one store, each by a first byte; and keys that are not unique, by the row at their end
+            def with_row(city, row):
+                return b"\2" + city + b"\0" + row.to_bytes(8, "big")
+
+            for row, city in enumerate([b"oslo", b"rome", b"oslo", b"oslo"]):
+                txn[bytes([1, ord("a") + row])] = row
+                txn[with_row(city, row)] = row
+            self.assertEqual([row for _, row in txn.range(with_row(b"oslo", 0), with_row(b"oslo", 2**64 - 1))], [0, 2, 3])
+            self.assertEqual(sum(1 for _ in txn.prefix(b"\1")), 4)
+
+    def test_an_exception_rolls_back(self):
+        with vahondrisa.open(self.dir) as store:
+            with self.assertRaises(ZeroDivisionError):
+                with store.begin() as txn:
+                    txn[b"a"] = 1
+                    1 / 0
+            with store.begin() as txn:
+                self.assertNotIn(b"a", txn)
+                self.assertEqual(store.info()["active"], 1)
+
+    def test_refusals(self):
+        with vahondrisa.open(self.dir) as store:
+            with self.assertRaisesRegex(vahondrisa.Locked, f"^{self.dir}: the store is open elsewhere$"):
+                vahondrisa.open(self.dir)
+            txn = store.begin()
+            self.assertRaises(ValueError, txn.insert, b"", 1)
+            self.assertRaises(ValueError, txn.insert, bytes(256), 1)
+            self.assertRaises(ValueError, txn.insert, b"a", 2**64)
+            self.assertRaises(ValueError, txn.insert, b"a", -1)
+            self.assertRaises((TypeError, ctypes.ArgumentError), txn.insert, "a", 1)
+            self.assertRaises(KeyError, txn.__getitem__, b"a")
+            self.assertRaises(KeyError, txn.__delitem__, b"a")
+            txn[b"a"] = 1
+            self.assertRaises(KeyError, txn.__setitem__, b"a", 2)
+            younger = store.begin()
+            self.assertRaises(vahondrisa.GiveWay, younger.get, b"a")
+            self.assertRaises(vahondrisa.GiveWay, younger.commit)
+            txn.commit()
+            older, younger = store.begin(wait=False), store.begin()
+            younger[b"b"] = 1
+            self.assertRaises(vahondrisa.Busy, older.get, b"b")
+            younger.rollback()
+            older.rollback()
+            older.rollback()
+            self.assertRaises(ValueError, older.get, b"b")
+        self.assertRaises(ValueError, store.begin)
+        self.assertRaises(ValueError, vahondrisa.open, self.dir, frames=7)
+        self.assertRaises(ValueError, vahondrisa.open, self.dir, frames=2**32 + 8)
+        self.assertRaises(ValueError, vahondrisa.open, "a\0b")
+        with self.assertRaises(vahondrisa.Failed) as caught:
+            vahondrisa.open("/proc/none/here")
+        self.assertIsInstance(caught.exception.__cause__, FileNotFoundError)
+        os.mkdir(self.dir + "2")
+        with open(self.dir + "2/log", "wb") as file:
+            file.write(b"x" * 100)
+        self.assertRaises(vahondrisa.NotAStore, vahondrisa.open, self.dir + "2")
+
+    def test_a_close_rolls_back_what_is_active(self):
+        with vahondrisa.open(self.dir) as store:
+            left = store.begin()
+            left[b"a"] = 1
+        self.assertRaises(ValueError, left.get, b"a")
+        del left
+        with vahondrisa.open(self.dir) as store, store.begin() as txn:
+            self.assertNotIn(b"a", txn)
+
+    def test_threads(self):
+        with vahondrisa.open(self.dir) as store:
+            store.write(lambda txn: txn.insert(b"n", 0))
+
+            def one(txn):
+                n = txn[b"n"]
+                del txn[b"n"]
+                txn[b"n"] = n + 1
+
+            threads = [threading.Thread(target=lambda: [store.write(one) for _ in range(20)]) for _ in range(3)]
+            for it in threads:
+                it.start()
+            for it in threads:
+                it.join()
+            with store.begin() as txn:
+                self.assertEqual(txn[b"n"], 60)
+
+    def test_signals_do_no_harm(self):
+        fired = []
+        before = signal.signal(signal.SIGALRM, lambda *_: fired.append(1))
+        signal.setitimer(signal.ITIMER_REAL, 0.0005, 0.0005)
+        try:
+            with vahondrisa.open(self.dir) as store:
+                for i in range(50):
+                    store.write(lambda txn: txn.insert(str(i).encode(), i))
+        finally:
+            signal.setitimer(signal.ITIMER_REAL, 0)
+            signal.signal(signal.SIGALRM, before)
+        self.assertTrue(fired)
+
+    def test_exceptions_of_signals_leave_each_block_whole(self):
+        run = self.run_on(INTERRUPTED)
+        self.assertTrue(run.stdout.read().strip().isdigit())
+        run.stdout.close()
+        self.assertEqual(run.wait(), 0)
+        found = self.turns()
+        self.assertTrue(found and all(len(keys) == 10 for keys in found.values()))
+
+    def test_a_full_disk_is_told_with_its_cause(self):
+        text = "import resource; resource.setrlimit(resource.RLIMIT_FSIZE, (100000, resource.RLIM_INFINITY))\n"
+        text += COMMITS.replace("store.write(", "try: store.write(").replace("print(", "except vahondrisa.Failed as it: print(it.__cause__.errno); break\n    print(")
+        run = self.run_on(text)
+        lines = run.stdout.read().split()
+        run.stdout.close()
+        self.assertEqual(run.wait(), 0)
+        self.assertEqual(int(lines[-1]), 27)
+        last = int(lines[-2])
+        found = self.turns()
+        self.assertTrue(all(len(keys) == 10 for keys in found.values()))
+        self.assertLessEqual(set(range(last + 1)), set(found))
+
+    def test_a_kill_keeps_what_was_committed(self):
+        for after in (1, 7, 30):
+            self.dir = os.path.join(self.room.name, f"killed{after}")
+            run = self.run_on(COMMITS)
+            for line in run.stdout:
+                last = int(line)
+                if last >= after:
+                    break
+            run.kill()
+            last = max([last, *map(int, run.stdout.read().split())])
+            run.wait()
+            run.stdout.close()
+            found = self.turns()
+            self.assertTrue(all(len(keys) == 10 for keys in found.values()))
+            self.assertLessEqual(set(range(last + 1)), set(found))
+            self.assertIn(len(found), (last + 1, last + 2))
+
+
+if __name__ == "__main__":
+    unittest.main()

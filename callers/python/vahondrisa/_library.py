@@ -1,0 +1,66 @@
+"""The functions of vahondrisa.h, by ctypes."""
+import ctypes
+import os
+from ctypes import POINTER, c_char_p, c_int, c_size_t, c_uint, c_uint8, c_uint32, c_uint64, c_void_p
+
+KEY_MAX = 255
+SCAN_MAX = 256
+NO_WAIT = 1
+NOT_FOUND, EXISTS, GIVE_WAY, BUSY, INVALID, ACTIVE, FORKED = 100, 101, 102, 103, 104, 105, 106
+MUST_ROLL_BACK, KEY_LENGTH, ROLLING_BACK, CAPACITY, LOG_FULL, DEVICE, MEMORY = 2, 3, 4, 6, 7, 8, 9
+FAILED, NOT_A_STORE, POOL_SIZE, LOCKED = 10, 11, 13, 19
+
+
+class Entry(ctypes.Structure):
+    _fields_ = [("number", c_uint64), ("len", c_uint8), ("key", c_uint8 * KEY_MAX)]
+
+
+class Config(ctypes.Structure):
+    _fields_ = [("size", c_size_t), ("frames", c_uint32), ("max_pages", c_uint32), ("redo_bytes", c_uint64)]
+
+
+class Info(ctypes.Structure):
+    _fields_ = [(it, c_uint64) for it in ("active", "dirty_pages", "durable_end", "redo_from", "redone", "has_failed")]
+
+
+# The library's own build tests these sizes too.
+assert (ctypes.sizeof(Entry), ctypes.sizeof(Config), ctypes.sizeof(Info)) == (264, 24, 48)
+
+
+def _load() -> ctypes.CDLL:
+    named = os.environ.get("VAHONDRISA_LIBRARY")
+    if named:
+        return ctypes.CDLL(named, use_errno=True)
+    for place in (os.path.join(os.path.dirname(__file__), "libvahondrisa.so.0"), "libvahondrisa.so.0"):
+        try:
+            return ctypes.CDLL(place, use_errno=True)
+        except OSError:
+            continue
+    raise ImportError("libvahondrisa.so.0 is neither in the package nor where the system looks, and VAHONDRISA_LIBRARY does not name it")
+
+
+lib = _load()
+
+_FUNCTIONS = {
+    "vah_open": (c_char_p, POINTER(Config), POINTER(c_void_p)),
+    "vah_close": (c_void_p,),
+    "vah_begin_with": (c_void_p, c_uint, POINTER(c_void_p)),
+    "vah_commit": (c_void_p,),
+    "vah_again": (c_void_p,),
+    "vah_rollback": (c_void_p,),
+    "vah_fetch": (c_void_p, c_char_p, c_size_t, POINTER(c_uint64)),
+    "vah_insert": (c_void_p, c_char_p, c_size_t, c_uint64),
+    "vah_delete": (c_void_p, c_char_p, c_size_t),
+    "vah_seek": (c_void_p, c_char_p, c_size_t, POINTER(Entry)),
+    "vah_next": (c_void_p, c_char_p, c_size_t, POINTER(Entry)),
+    "vah_scan": (c_void_p, c_char_p, c_size_t, c_char_p, c_size_t, c_void_p, c_size_t, POINTER(c_size_t)),
+    "vah_checkpoint": (c_void_p,),
+    "vah_flush": (c_void_p,),
+    "vah_stat": (c_void_p, POINTER(Info)),
+    "vah_version": (),
+}
+for _name, _arguments in _FUNCTIONS.items():
+    _function = getattr(lib, _name)
+    _function.argtypes, _function.restype = _arguments, c_int
+lib.vah_strerror.argtypes, lib.vah_strerror.restype = (c_int,), c_char_p
+lib.vah_last_error.argtypes, lib.vah_last_error.restype = (), c_char_p

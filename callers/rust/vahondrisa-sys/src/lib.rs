@@ -1,0 +1,98 @@
+//! The functions of `vahondrisa.h`, name for name. `vahondrisa` is the safe crate over them.
+#![allow(non_camel_case_types)]
+#![no_std]
+use core::ffi::{c_char, c_int, c_uint, c_void};
+
+#[repr(C)]
+pub struct vah_store {
+    _private: [u8; 0],
+}
+
+#[repr(C)]
+pub struct vah_txn {
+    _private: [u8; 0],
+}
+
+pub const VAH_KEY_MAX: usize = 255;
+pub const VAH_SCAN_MAX: usize = 256;
+
+#[repr(C)]
+#[derive(Clone, Copy)]
+pub struct vah_entry {
+    pub number: u64,
+    pub len: u8,
+    pub key: [u8; VAH_KEY_MAX],
+}
+
+#[repr(C)]
+#[derive(Clone, Copy)]
+pub struct vah_config {
+    pub size: usize,
+    pub frames: u32,
+    pub max_pages: u32,
+    pub redo_bytes: u64,
+}
+
+#[repr(C)]
+#[derive(Clone, Copy, Default)]
+pub struct vah_info {
+    pub active: u64,
+    pub dirty_pages: u64,
+    pub durable_end: u64,
+    pub redo_from: u64,
+    pub redone: u64,
+    pub has_failed: u64,
+}
+
+pub const VAH_OK: c_int = 0;
+pub const VAH_NOT_FOUND: c_int = 100;
+pub const VAH_EXISTS: c_int = 101;
+pub const VAH_GIVE_WAY: c_int = 102;
+pub const VAH_BUSY: c_int = 103;
+pub const VAH_INVALID: c_int = 104;
+pub const VAH_ACTIVE: c_int = 105;
+pub const VAH_FORKED: c_int = 106;
+pub const VAH_NO_TRANSACTION: c_int = 1;
+pub const VAH_MUST_ROLL_BACK: c_int = 2;
+pub const VAH_KEY_LENGTH: c_int = 3;
+pub const VAH_ROLLING_BACK: c_int = 4;
+pub const VAH_PAGES_FULL: c_int = 5;
+pub const VAH_CAPACITY: c_int = 6;
+pub const VAH_LOG_FULL: c_int = 7;
+pub const VAH_DEVICE: c_int = 8;
+pub const VAH_MEMORY: c_int = 9;
+pub const VAH_FAILED: c_int = 10;
+pub const VAH_NOT_A_STORE: c_int = 11;
+pub const VAH_TOO_MANY: c_int = 12;
+pub const VAH_POOL_SIZE: c_int = 13;
+pub const VAH_LOCKED: c_int = 19;
+pub const VAH_NO_WAIT: c_uint = 1;
+
+// The library's own build tests these sizes and places too.
+const _: () = assert!(core::mem::size_of::<vah_entry>() == 264 && core::mem::offset_of!(vah_entry, key) == 9);
+const _: () = assert!(core::mem::size_of::<vah_config>() == 24 && core::mem::offset_of!(vah_config, redo_bytes) == 16);
+const _: () = assert!(core::mem::size_of::<vah_info>() == 48);
+
+extern "C" {
+    pub fn vah_strerror(code: c_int) -> *const c_char;
+    pub fn vah_last_error() -> *const c_char;
+    pub fn vah_version() -> c_int;
+    pub fn vah_open(path: *const c_char, config: *const vah_config, store: *mut *mut vah_store) -> c_int;
+    pub fn vah_close(store: *mut vah_store) -> c_int;
+    pub fn vah_begin_with(store: *mut vah_store, flags: c_uint, txn: *mut *mut vah_txn) -> c_int;
+    pub fn vah_commit(txn: *mut vah_txn) -> c_int;
+    pub fn vah_again(txn: *mut vah_txn) -> c_int;
+    pub fn vah_rollback(txn: *mut vah_txn) -> c_int;
+    pub fn vah_fetch(txn: *mut vah_txn, key: *const c_void, len: usize, number: *mut u64) -> c_int;
+    pub fn vah_insert(txn: *mut vah_txn, key: *const c_void, len: usize, number: u64) -> c_int;
+    pub fn vah_delete(txn: *mut vah_txn, key: *const c_void, len: usize) -> c_int;
+    pub fn vah_seek(txn: *mut vah_txn, key: *const c_void, len: usize, entry: *mut vah_entry) -> c_int;
+    pub fn vah_next(txn: *mut vah_txn, key: *const c_void, len: usize, entry: *mut vah_entry) -> c_int;
+    pub fn vah_scan(
+        txn: *mut vah_txn, lo: *const c_void, lo_len: usize, hi: *const c_void, hi_len: usize,
+        entries: *mut vah_entry, max: usize, count: *mut usize,
+    ) -> c_int;
+    pub fn vah_checkpoint(store: *mut vah_store) -> c_int;
+    pub fn vah_flush(store: *mut vah_store) -> c_int;
+    pub fn vah_stat(store: *mut vah_store, info: *mut vah_info) -> c_int;
+}

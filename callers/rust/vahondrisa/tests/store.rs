@@ -1,0 +1,203 @@
+use std::path::PathBuf;
+use vahondrisa::{ErrorKind, Store};
+
+struct Folder(PathBuf);
+
+impl Folder {
+    fn new(name: &str) -> Folder {
+        let path = std::env::temp_dir().join(format!("vahondrisa-{name}-{}", std::process::id()));
+        let _ = std::fs::remove_dir_all(&path);
+        Folder(path)
+    }
+}
+
+impl Drop for Folder {
+    fn drop(&mut self) {
+        let _ = std::fs::remove_dir_all(&self.0);
+    }
+}
+
+#[test]
+fn keys_are_there_when_opened_again() {
+    let dir = Folder::new("again");
+    let store = Store::open(&dir.0).unwrap();
+    store.write(|txn| (0..1000u64).try_for_each(|i| txn.insert(&i.to_be_bytes(), i * i).map(drop))).unwrap();
+    store.close().unwrap();
+    let store = Store::open(&dir.0).unwrap();
+    let txn = store.begin().unwrap();
+    let all: Vec<_> = txn.range(&[0], &[255; 8]).collect::<Result<_, _>>().unwrap();
+    assert_eq!(all, (0..1000u64).map(|i| (i.to_be_bytes().to_vec(), i * i)).collect::<Vec<_>>());
+    assert_eq!(txn.seek(&500u64.to_be_bytes()).unwrap().unwrap().1, 250_000);
+    txn.commit().unwrap();
+}
+
+#[test]
+fn a_dropped_transaction_is_rolled_back() {
+    let dir = Folder::new("drop");
+    let store = Store::open(&dir.0).unwrap();
+    store.write(|txn| txn.insert(b"a", 1)).unwrap();
+    let txn = store.begin().unwrap();
+    assert!(txn.remove(b"a").unwrap());
+    assert!(txn.insert(b"b", 2).unwrap());
+    drop(txn);
+    let txn = store.begin().unwrap();
+    assert_eq!((txn.get(b"a").unwrap(), txn.get(b"b").unwrap()), (Some(1), None));
+}
+
+#[test]
+fn refusals_have_their_kinds() {
+    let dir = Folder::new("refusals");
+    let store = Store::open(&dir.0).unwrap();
+    assert_eq!(Store::open(&dir.0).err().unwrap().kind(), ErrorKind::Locked);
+    let txn = store.begin().unwrap();
+    assert_eq!(txn.insert(b"", 1).unwrap_err().kind(), ErrorKind::KeyLength);
+    assert_eq!(txn.insert(&[1; 256], 1).unwrap_err().kind(), ErrorKind::KeyLength);
+    assert!(txn.insert(b"a", 1).unwrap());
+    assert!(!txn.insert(b"a", 2).unwrap());
+    let younger = store.begin().unwrap();
+    let error = younger.get(b"a").unwrap_err();
+    assert_eq!(error.kind(), ErrorKind::GiveWay);
+    assert_eq!(younger.commit().unwrap_err().kind(), ErrorKind::MustRollBack);
+    txn.commit().unwrap();
+    assert_eq!(Store::options().frames(7).open(dir.0.join("x")).err().unwrap().kind(), ErrorKind::PoolSize);
+    assert_eq!(Store::open("/proc/none/here").err().unwrap().kind(), ErrorKind::Device);
+}
+
+#[test]
+fn threads_count_to_the_sum() {
+    let dir = Folder::new("threads");
+    let store = Store::open(&dir.0).unwrap();
+    store.write(|txn| txn.insert(b"count", 0)).unwrap();
+    std::thread::scope(|scope| {
+        for _ in 0..4 {
+            scope.spawn(|| {
+                for _ in 0..100 {
+                    store.write(|txn| {
+                        let n = txn.get(b"count")?.unwrap();
+                        txn.remove(b"count")?;
+                        txn.insert(b"count", n + 1)
+                    }).unwrap();
+                }
+            });
+        }
+    });
+    assert_eq!(store.begin().unwrap().get(b"count").unwrap(), Some(400));
+    assert_eq!(store.info().unwrap().active, 0);
+}
+
+#[test]
+fn a_range_goes_on_past_256_entries() {
+    let dir = Folder::new("range");
+    let store = Store::open(&dir.0).unwrap();
+    store.write(|txn| (0..256u64 * 3).try_for_each(|i| txn.insert(&i.to_be_bytes(), i).map(drop))).unwrap();
+    let txn = store.begin().unwrap();
+    for (from, to) in [(0u64, 767u64), (0, 255), (0, 256), (1, 256), (0, 511), (0, 512), (5, 5), (9, 3)] {
+        let found: Vec<u64> = txn.range(&from.to_be_bytes(), &to.to_be_bytes()).map(|it| it.unwrap().1).collect();
+        assert_eq!(found, (from..=to).collect::<Vec<_>>());
+    }
+    assert_eq!(txn.next(&766u64.to_be_bytes()).unwrap().unwrap().1, 767);
+    assert!(txn.next(&767u64.to_be_bytes()).unwrap().is_none());
+    assert!(txn.range(b"", b"a").next().unwrap().is_err());
+}
+
+#[test]
+fn the_recipes_of_callers() {
+    let dir = Folder::new("recipes");
+    let store = Store::open(&dir.0).unwrap();
+    let txn = store.begin().unwrap();
+    // a prefix, and the count of a range
+    for i in 0..700u64 {
+        txn.insert(format!("user{i}").as_bytes(), i).unwrap();
+    }
+    let first: Vec<_> = txn.prefix(b"user12").take(3).map(|it| String::from_utf8(it.unwrap().0).unwrap()).collect();
+    assert_eq!(first, ["user12", "user120", "user121"]);
+    assert_eq!((txn.prefix(b"user12").count(), txn.prefix(b"user").count(), txn.prefix(b"").count()), (11, 700, 700));
+    // two indexes in one store, each by a first byte; and keys that are not unique, by the row at their end
+    let with_row = |city: &str, row: u64| [&[2], city.as_bytes(), &[0], &row.to_be_bytes()[..]].concat();
+    for (row, city) in (0u64..).zip(["oslo", "rome", "oslo", "oslo"]) {
+        txn.insert(&[1, b'a' + row as u8], row).unwrap();
+        txn.insert(&with_row(city, row), row).unwrap();
+    }
+    let rows: Vec<_> = txn.range(&with_row("oslo", 0), &with_row("oslo", u64::MAX)).map(|it| it.unwrap().1).collect();
+    assert_eq!((rows, txn.prefix(&[1]).count()), (vec![0, 2, 3], 4));
+    txn.commit().unwrap();
+}
+
+#[test]
+fn an_error_says_why() {
+    let dir = Folder::new("why");
+    let store = Store::open(&dir.0).unwrap();
+    let error = Store::open(&dir.0).unwrap_err();
+    assert!(error.to_string().ends_with("the store is open elsewhere") && error.to_string().starts_with(dir.0.to_str().unwrap()));
+    let error = Store::open("/proc/none/here").unwrap_err();
+    let source = std::error::Error::source(&error).unwrap().downcast_ref::<std::io::Error>().unwrap();
+    assert_eq!(source.kind(), std::io::ErrorKind::NotFound);
+    let error = Store::open("a\0b").unwrap_err();
+    assert_eq!(error.kind(), ErrorKind::Invalid);
+    assert!(std::error::Error::source(&error).is_some());
+    let (old, young) = (store.try_begin().unwrap(), store.begin().unwrap());
+    young.insert(b"k", 1).unwrap();
+    assert_eq!(old.get(b"k").unwrap_err().kind(), ErrorKind::Busy);
+    young.commit().unwrap();
+    assert_eq!(old.get(b"k").unwrap(), Some(1));
+}
+
+#[test]
+fn a_body_that_fails_is_rolled_back() {
+    let dir = Folder::new("body");
+    let store = Store::open(&dir.0).unwrap();
+    let failed: vahondrisa::Result<()> = store.write(|txn| {
+        txn.insert(b"a", 1)?;
+        txn.insert(b"", 1).map(drop)
+    });
+    assert_eq!(failed.unwrap_err().kind(), ErrorKind::KeyLength);
+    let panicked = std::panic::catch_unwind(std::panic::AssertUnwindSafe(|| store.write(|txn| txn.insert(b"a", 1).map(|_| panic!("on purpose")))));
+    assert!(panicked.is_err());
+    assert_eq!(store.info().unwrap().active, 0);
+    assert_eq!(store.begin().unwrap().get(b"a").unwrap(), None);
+}
+
+/// Run as a child by the test below: commits ten keys with the number of each turn, and says so.
+#[test]
+#[ignore = "a child of a_kill_keeps_what_was_committed"]
+fn commits_until_it_is_killed() {
+    use std::io::Write;
+    let store = Store::open(std::env::var_os("VAHONDRISA_KILLED").unwrap()).unwrap();
+    for turn in 0u64.. {
+        store.write(|txn| (0..10).try_for_each(|j| txn.insert(format!("{turn}.{j}").as_bytes(), turn).map(drop))).unwrap();
+        let mut out = std::io::stdout();
+        writeln!(out, "\ncommitted {turn}").and_then(|()| out.flush()).unwrap();
+    }
+}
+
+#[test]
+fn a_kill_keeps_what_was_committed() {
+    use std::io::{BufRead, BufReader};
+    for turns in [1, 7, 30] {
+        let dir = Folder::new(&format!("kill{turns}"));
+        let mut child = std::process::Command::new(std::env::current_exe().unwrap())
+            .args(["--ignored", "--exact", "--nocapture", "commits_until_it_is_killed"])
+            .env("VAHONDRISA_KILLED", &dir.0)
+            .stdout(std::process::Stdio::piped())
+            .spawn()
+            .unwrap();
+        let mut last = 0;
+        let mut lines = BufReader::new(child.stdout.take().unwrap()).lines();
+        let turn_of = |line: &str| line.strip_prefix("committed ").and_then(|it| it.parse::<u64>().ok());
+        while last < turns {
+            last = turn_of(&lines.next().unwrap().unwrap()).unwrap_or(last);
+        }
+        child.kill().unwrap();
+        last = lines.filter_map(|it| turn_of(&it.ok()?)).max().unwrap_or(last);
+        child.wait().unwrap();
+        let store = Store::open(&dir.0).unwrap();
+        let txn = store.begin().unwrap();
+        let mut counts = std::collections::BTreeMap::new();
+        for entry in txn.prefix(b"") {
+            *counts.entry(entry.unwrap().1).or_insert(0) += 1;
+        }
+        assert!(counts.values().all(|it| *it == 10));
+        assert!((0..=last).all(|it| counts.contains_key(&it)));
+        assert!(counts.len() as u64 <= last + 2);
+    }
+}
