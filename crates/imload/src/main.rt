@@ -9,11 +9,15 @@ mod store;
 use crate::progress::Progress;
 use crate::store::new_store;
 use clap::error::ErrorKind;
+use im_base_steps::Turn;
 use im_front::LoadArgs;
 use im_front_load::{load_args, load_text, print_refused};
 use im_front_memory::MemoryStore;
-use std::alloc::AllocError;
+use std::alloc::{AllocError, Global};
+use std::io::Write;
 use std::process::ExitCode;
+use std::sync::Wait;
+use std::thread::Threads;
 use std::time::Instant;
 use std::{env, io};
 
@@ -23,7 +27,8 @@ fn main(rt: HostRuntime) -> io::Result<ExitCode> {
         Ok(command) => {
             let start = Instant::now(&rt)?;
             let progress = Progress::new(&rt, command.args.threads());
-            let status = run_load(&rt, command.args, &progress)?;
+            let mut writer = io::writer(&rt);
+            let status = run_load(&rt, rt.alloc(), command.args, &progress, &mut writer)?;
             if command.timed && status == 0 {
                 let nanos = start.elapsed(&rt)?.as_nanos();
                 println!(rt; "transactions a second {}", rate(&command.args, nanos))?;
@@ -39,15 +44,20 @@ fn main(rt: HostRuntime) -> io::Result<ExitCode> {
 }
 
 // Runs the load and prints what came of it, and answers the exit status.
-fn run_load(rt: &HostRuntime, args: LoadArgs, progress: &Progress) -> io::Result<u8> {
-    let mut writer = io::writer(rt);
+fn run_load<T: Turn + Sync, R: Threads + Wait + Sync, W: Write>(
+    rt: &R,
+    alloc: Global,
+    args: LoadArgs,
+    turn: &T,
+    writer: &mut W,
+) -> io::Result<u8> {
     if args.group() {
-        let store = MemoryStore::with_group(rt.alloc(), true);
-        return load_text(rt, rt.alloc(), store, args, progress, &mut writer);
+        let store = MemoryStore::with_group(alloc, true);
+        return load_text(rt, alloc, store, args, turn, writer);
     }
-    match new_store(rt.alloc()) {
-        Ok(engine) => load_text(rt, rt.alloc(), engine, args, progress, &mut writer),
-        Err(fault) => print_refused(fault, &mut writer),
+    match new_store(alloc) {
+        Ok(engine) => load_text(rt, alloc, engine, args, turn, writer),
+        Err(fault) => print_refused(fault, writer),
     }
 }
 
