@@ -1,0 +1,174 @@
+//! Files that do not belong together, and calls of the system that fail.
+
+ghost use Rattle.std.specs.Prelude.{◌≡◌, false};
+
+use im_base_disk::Disk;
+use im_base_file_disk::FileDisk;
+use im_base_model_disk::ModelDisk;
+use im_base_types::{Fault, PAGE_SIZE};
+use im_engine::{Config, Engine};
+use im_engine_upkeep::RedoBound;
+use im_log_gate::FIRST_GATE;
+use im_tool::{Causes, Copies, Manner, check_text, copies_of, stat_text, store_text};
+use std::alloc::Global;
+use std::io::{BufReader, Write};
+use std::test::Fail;
+use std::{fs, io};
+
+// What is done to the files of a store.
+#[derive(Clone, Copy, Debug)]
+enum Damage {
+    // `pages` has no byte.
+    Emptied,
+    // `pages` has the first page alone.
+    Cut,
+    // Page 0 says another page count.
+    Counted,
+    // The log has no record.
+    Unlogged,
+    // `pages` is as long, and no page of it is one.
+    Overwritten,
+}
+
+// What the check of a store says that was so damaged, and whether its opening is refused.
+static DAMAGES: [(Damage, &str, bool); 5] = [
+    (
+        Damage::Emptied,
+        "pages: the file has 0 whole pages, and it was synced with page ",
+        true,
+    ),
+    (
+        Damage::Cut,
+        "pages: the file has 1 whole pages, and it was synced with page ",
+        true,
+    ),
+    (Damage::Counted, "page 0: it says ", false),
+    (
+        Damage::Unlogged,
+        "the log was cut, or is older than the page",
+        true,
+    ),
+    (Damage::Overwritten, "page 0: ", false),
+];
+
+// Sixty keys of 255 bytes, in leaves of fifteen.
+fn write_lines(lines: &mut Vec<u8>) -> io::Result<()> {
+    lines.extend_from_slice(b"begin\n")?;
+    for n in 10..70u32 {
+        writeln!(lines, "insert 1 {n}+z*253 {n}")?;
+    }
+    lines.extend_from_slice(b"commit 1\n")?;
+    Ok(())
+}
+
+// What is printed of lines, and what of calls that fail.
+fn answered(alloc: Global, disk: FileDisk, lines: &[u8]) -> Result<(Vec<u8>, Vec<u8>), Fail>
+    requires working { ⟦<FileDisk as Disk>⟧.failed disk ≡ false }
+{
+    let mut reader = BufReader::new(alloc, lines)?;
+    let mut printed = Vec::new(alloc);
+    let mut causes = Causes {
+        writer: Vec::new(alloc),
+        dir: "folder",
+        is_told: false,
+    };
+    let _end = store_text(
+        alloc,
+        disk,
+        Config::default(),
+        RedoBound::of_bytes(1_048_576),
+        Manner::default(),
+        &mut reader,
+        &mut printed,
+        &mut causes,
+    )?;
+    Ok((printed, causes.writer))
+}
+
+// Makes a store in a folder, which is closed in order.
+fn make_store(rt: &HostRuntime, folder: &str) -> Result<(), Fail> {
+    let _ = fs::remove_dir_all(rt, folder);
+    let mut lines = Vec::new(rt.alloc());
+    write_lines(&mut lines)?;
+    let _told = answered(rt.alloc(), FileDisk::open(rt, folder)?, &lines)?;
+    Ok(())
+}
+
+fn copies_in(rt: &HostRuntime, folder: &str) -> Result<Copies, Fail> {
+    let mut disk = FileDisk::open_to_read(rt, folder)?;
+    Ok(copies_of(rt.alloc(), &mut disk)?)
+}
+
+fn damaged(alloc: Global, copies: &Copies, damage: Damage) -> Result<Copies, Fail> {
+    let mut log = Vec::from_slice(alloc, &copies.log)?;
+    let mut pages = Vec::from_slice(alloc, &copies.pages)?;
+    match damage {
+        Damage::Emptied => pages.clear(),
+        Damage::Cut => pages.truncate(PAGE_SIZE),
+        Damage::Counted => {
+            if pages.len() > 24 {
+                pages[24] = pages[24] ^ 1;
+            }
+        }
+        Damage::Unlogged => {
+            log.truncate(FIRST_GATE as usize);
+            log.push(0)?;
+        }
+        Damage::Overwritten => pages.fill(0x7f),
+    }
+    Ok(Copies { log, pages })
+}
+
+fn has_part(text: &[u8], part: &str) -> bool {
+    text.windows(part.len().max(1))
+        .any(|words| words == part.as_bytes())
+}
+
+// Whether the check says this of the files, and the numbers are not told.
+fn is_named(alloc: Global, copies: &Copies, damage: Damage, name: &str) -> Result<bool, Fail> {
+    let mut printed = Vec::new(alloc);
+    let mut numbers = Vec::new(alloc);
+    let check = check_text(alloc, &mut printed, damaged(alloc, copies, damage)?)?;
+    let stat = stat_text(alloc, &mut numbers, damaged(alloc, copies, damage)?)?;
+    Ok(check == 1 && stat == 1 && has_part(&printed, name) && has_part(&numbers, name))
+}
+
+// Whether the opening is refused, or the first look at page 0 is.
+fn is_refused(alloc: Global, copies: Copies, in_opening: bool) -> bool {
+    let disk = ModelDisk::new(copies.log, copies.pages);
+    match Engine::open_or_create(alloc, disk, Config::default()) {
+        Ok(mut engine) => {
+            let looked = matches!(&engine.header(0), Err(Fault::NotAStore));
+            let _disk = engine.into_disk();
+            !in_opening && looked
+        }
+        Err((fault, _disk)) => in_opening && fault == Fault::NotAStore,
+    }
+}
+
+// A store that was closed in order is opened without a look at a page: also where none of the file's bytes is one.
+#[test]
+fn files_that_do_not_belong_together_are_refused_by_name(rt: HostRuntime) -> Result<(), Fail> {
+    make_store(&rt, "im_tool_mixed")?;
+    let copies = copies_in(&rt, "im_tool_mixed")?;
+    fs::remove_dir_all(&rt, "im_tool_mixed")?;
+    for (damage, name, in_opening) in &DAMAGES {
+        assert!(rt; is_named(rt.alloc(), &copies, *damage, name)?, "{damage:?}");
+        let files = damaged(rt.alloc(), &copies, *damage)?;
+        assert!(rt; is_refused(rt.alloc(), files, *in_opening), "{damage:?}");
+    }
+    Ok(())
+}
+
+// The files are opened to be read only: the system refuses the first write.
+#[test]
+fn a_call_that_fails_is_named(rt: HostRuntime) -> Result<(), Fail> {
+    make_store(&rt, "im_tool_failing")?;
+    let disk = FileDisk::open_to_read(&rt, "im_tool_failing")?;
+    let lines = b"begin\ninsert 2 a 1\ncommit 2\n";
+    let (printed, told) = answered(rt.alloc(), disk, lines)?;
+    fs::remove_dir_all(&rt, "im_tool_failing")?;
+    assert!(rt; printed.starts_with(b"started 2\ninserted\nrefused 8\n"));
+    assert!(rt; told.starts_with(b"imstore: folder: a write to `log` at byte "));
+    Ok(())
+}
