@@ -7,14 +7,18 @@
 //! A page's bytes are damaged beside a sound log: the log has a full copy of each page at or after its redo point, so an opening has to find
 //! just what was committed. Then bytes of the log are damaged. No checksum tells that, so an opening may find other keys; but it opens, or says that
 //! there is no store, and each step answers and each file stays below a bound. Bytes of the page numbers of records are left out.
+//!
+//! At last each bit of the page count in page 0 is changed, where all pages are written and a Checkpoint is behind them, so that no full copy
+//! restores it: a page that is then taken by that count would bring a write of all pages before it along.
 
 mod damaged;
 
-use crate::damage::damaged::{Damaged, Outcomes, founded, judged};
+use crate::damage::damaged::{Damaged, Outcomes, closed, founded, judged, pages_taken};
 use anyhow::Result;
 use im_base_types::{FileId, MOST_FRAMES};
 use im_bench_layers::bounded::Files;
 use im_bench_layers::places::{is_in_page_number, page_numbers};
+use std::cmp::max;
 
 /// Which bytes of a file are damaged in turn.
 #[derive(Clone, Copy)]
@@ -30,7 +34,39 @@ struct Part {
 pub fn run(rt: &HostRuntime, words: &[String]) -> Result<()> {
     let each = !words.is_empty() && words[0].as_str() == "--all";
     let files = founded(rt.alloc())?;
-    show_parts(rt, &files, if each { [1, 1, 1] } else { [409, 5, 2_801] })
+    show_parts(rt, &files, if each { [1, 1, 1] } else { [409, 5, 2_801] })?;
+    show_count(rt, &closed(rt.alloc(), &files)?)
+}
+
+/// Where the page count stands in page 0, and so in the file.
+const COUNT: usize = 24;
+
+/// More pages than the steps take.
+const MANY: u64 = 64;
+
+// Changes each bit of the page count, and says whether a page is taken by one that was not changed, and by one that was.
+fn show_count(rt: &HostRuntime, files: &Files) -> Result<()> {
+    let sound = pages_taken(rt.alloc(), files.copy(rt.alloc())?)?;
+    let mut most = 0u64;
+    for bit in 0..32u32 {
+        let mut changed = files.copy(rt.alloc())?;
+        change(&mut changed.pages, bit);
+        most = max(most, pages_taken(rt.alloc(), changed)?);
+    }
+    println!(rt;
+        "the page count: a page is taken by it {}, by none of 32 others {}",
+        sound > 0 && sound < MANY,
+        most == 0
+    )?;
+    Ok(())
+}
+
+// Changes a bit of the page count.
+fn change(pages: &mut Vec<u8>, bit: u32) {
+    let at = COUNT.saturating_add((bit / 8) as usize);
+    if at < pages.len() {
+        pages[at] = pages[at] ^ 1u8.wrapping_shl(bit % 8);
+    }
 }
 
 // Damages bytes of each part, by these strides.

@@ -1,9 +1,12 @@
 //! Openings of damaged files, and what they come to.
 
 use crate::opening::opened;
-use im_base_types::{Fault, FileId, Key, Rid};
+use im_base_steps::Step;
+use im_base_types::{Fault, FileId, Key, PAGE_SIZE, Rid};
 use im_bench_layers::bounded::{BoundedDisk, Files};
 use im_bench_layers::founding::{are_committed, found, make_each};
+use im_bench_layers::spans::{Order, Span, Work, committed};
+use im_bench_layers::tally::Tally;
 use im_engine::Engine;
 use std::alloc::Global;
 
@@ -103,4 +106,44 @@ pub fn founded(alloc: Global) -> Result<Files, Fault> {
     let mut engine = opened(alloc, BoundedDisk::new(files), FRAMES)?;
     found(alloc, &mut engine)?;
     Ok(engine.into_disk().into_files())
+}
+
+// More pages than the store has.
+const PAGES: u32 = 64;
+
+// Writes each page, and takes a Checkpoint behind that.
+fn write_all(engine: &mut Engine<BoundedDisk>) {
+    for page in 0..PAGES {
+        let _reply = engine.step(&Step::FlushPage(page));
+    }
+    let _reply = engine.step(&Step::Checkpoint);
+}
+
+/// The same files behind an opening that takes the third transaction back, with all pages written and a Checkpoint behind them.
+pub fn closed(alloc: Global, files: &Files) -> Result<Files, Fault> {
+    let files = files.copy(alloc).map_err(|_| Fault::Memory)?;
+    let mut engine = opened(alloc, BoundedDisk::new(files), FRAMES)?;
+    write_all(&mut engine);
+    Ok(engine.into_disk().into_files())
+}
+
+// Keys behind all others, by which leaves split.
+const MORE: Span = Span {
+    first: 400,
+    keys: 60,
+    order: Order::Rising,
+};
+
+/// By how many pages the file grows where keys are inserted until leaves split, and all pages written. 0 where the opening is refused.
+pub fn pages_taken(alloc: Global, files: Files) -> Result<u64, Fault> {
+    let before = files.size(FileId::Pages);
+    let disk = BoundedDisk::new(files);
+    let Ok(mut engine) = opened(alloc, disk, FRAMES) else {
+        return Ok(0);
+    };
+    let mut tally = Tally::default();
+    committed(alloc, &mut engine, Work::Insert, MORE, &mut tally)?;
+    write_all(&mut engine);
+    let behind = engine.into_disk().into_files().size(FileId::Pages);
+    Ok((behind.saturating_sub(before) / PAGE_SIZE) as u64)
 }
