@@ -53,10 +53,18 @@ static int whole(int fd, int writes, void *bytes, size_t len)
 struct question { uint32_t kind, file; uint64_t place, len; };
 enum { LEN = 1, READ, WRITE, SYNC };
 
+#ifdef VAH_TEST
+atomic_ulong vah_test_syncs;
+#endif
+
 /* In tests, whether this call is to fail. */
-static int is_to_fail(struct device *device)
+static int is_to_fail(struct device *device, const struct question *q)
 {
 #ifdef VAH_TEST
+	if (q->kind == SYNC) {
+		atomic_fetch_add(&vah_test_syncs, 1);
+		usleep((useconds_t)device->slow);
+	}
 	if (device->kill_at && !--device->kill_at)
 		raise(SIGKILL);
 	if (device->fail_at && !--device->fail_at) {
@@ -66,6 +74,7 @@ static int is_to_fail(struct device *device)
 	}
 #else
 	(void)device;
+	(void)q;
 #endif
 	return 0;
 }
@@ -98,7 +107,7 @@ static void *serve(void *arg)
 	struct question q;
 	struct stat st;
 	while (!whole(device->ask[0], 0, &q, sizeof q)) {
-		int fd = q.file < FILES ? device->files[q.file] : -1, failed = is_to_fail(device);
+		int fd = q.file < FILES ? device->files[q.file] : -1, failed = is_to_fail(device, &q);
 		uint64_t number = 0;
 		uint8_t *room = NULL;
 		switch (q.kind) {

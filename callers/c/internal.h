@@ -33,6 +33,7 @@ struct device {
 	atomic_int why;         /* the system's reason for the first call that failed */
 	unsigned long fail_at;  /* in tests: this call fails, and each after it; 0: none does */
 	unsigned long kill_at;  /* in tests: within this call the process is killed; 0: none */
+	unsigned long slow;     /* in tests: how many microseconds longer a sync takes */
 };
 
 /* Opens the files of a folder, locks them, and starts the thread. A code; `text` then says why. */
@@ -40,5 +41,10 @@ int vah_device_open(struct device *device, const char *path, char *text, size_t 
 
 /* Ends the thread, unless this is the child of who started it, and lets go of the files. The store must make no call any more. */
 void vah_device_close(struct device *device, int is_child);
+
+#ifdef VAH_TEST
+/* In tests: how many syncs were asked for, of all stores. */
+extern atomic_ulong vah_test_syncs;
+#endif
 
 #endif

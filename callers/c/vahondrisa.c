@@ -20,8 +20,14 @@ enum { STARTED, FOUND, ABSENT, ENTRY, END, ENTRIES, INSERTED, DUPLICATE, DELETED
 struct vah_store {
 	const void *self;       /* this very store, until it is closed */
 	pthread_mutex_t lock;
+	atomic_uint awake;      /* callers that are in the library and do not sleep */
 	pthread_cond_t ended;   /* a transaction ended, or the store failed */
 	unsigned waiting;
+	pthread_cond_t forced;  /* the log was forced, the store failed, or one of those that wait is to force it */
+	unsigned committing;    /* commits that wait for a force */
+	unsigned since;         /* steps since the first of them began to wait */
+	uint64_t forces;        /* how often the log was forced */
+	int has_failed;
 	unsigned active;        /* transactions that a caller has */
 	unsigned forks;         /* how many forks lay above the process that opened it */
 	uint64_t ends;          /* how many transactions have ended */
@@ -44,6 +50,9 @@ struct told { uint32_t word, fault; uint64_t number; };
 
 /* What is asked of the store. */
 struct question { uint32_t what, limit; uint64_t txn, number; const void *key; size_t key_len; const void *hi; size_t hi_len; };
+
+/* So many steps at most are made while a commit waits for a force. */
+enum { LONG_WAIT = 256 };
 
 /* How many forks lie above this process. */
 static atomic_uint forks;
@@ -143,11 +152,9 @@ static int told_code(const struct told *told)
 	}
 }
 
-/* Whether a call that waits is worth making again: a transaction has ended, or the store has failed. */
-static int may_unblock(const struct told *told)
+/* Whether the store has failed by a call, or had before. */
+static int breaks(const struct told *told)
 {
-	if (told->word == COMMITTED || told->word == ROLLED_BACK)
-		return 1;
 	return told->word == REFUSED && (told->fault == VAH_CAPACITY || told->fault == VAH_LOG_FULL || told->fault == VAH_DEVICE
 		|| told->fault == VAH_FAILED || told->fault == VAH_NOT_A_STORE);
 }
@@ -186,25 +193,102 @@ static struct told ask_once(vah_store *store, const struct question *q)
 	return (struct told){ call->word, call->fault, call->number };
 }
 
+/* ---- the lock, and who waits ---- */
+
+/* Takes the lock. Who waits for it is awake: it may bring one commit more to those that wait for a force. */
+static void enter(vah_store *store)
+{
+	atomic_fetch_add(&store->awake, 1);
+	pthread_mutex_lock(&store->lock);
+}
+
+/* Whether the commits that wait for a force have to wait no longer: nobody but this caller is awake, or they have waited long. */
+static int is_force_due(vah_store *store)
+{
+	return store->committing && (atomic_load(&store->awake) == 1 || store->since >= LONG_WAIT);
+}
+
+/* One caller less is awake. The last one leaves the force to one that waits for it, so that none waits for nobody. */
+static void leave(vah_store *store)
+{
+	if (is_force_due(store))
+		pthread_cond_signal(&store->forced);
+	atomic_fetch_sub(&store->awake, 1);
+}
+
+/* Lets go of the lock. */
+static void done(vah_store *store)
+{
+	leave(store);
+	pthread_mutex_unlock(&store->lock);
+}
+
+/* Sleeps until something is told. The lock is held before it and after it. */
+static void sleep_on(vah_store *store, pthread_cond_t *told)
+{
+	leave(store);
+	pthread_cond_wait(told, &store->lock);
+	atomic_fetch_add(&store->awake, 1);
+}
+
+/* Wakes those for whom an answer changed something. */
+static void wake(vah_store *store, uint32_t what, const struct told *told)
+{
+	unsigned ends = told->word == COMMITTED || told->word == ROLLED_BACK;
+	store->since++;
+	if (breaks(told)) {
+		store->has_failed = 1;
+		ends++;
+	}
+	if (what == FORCE && told->word == DONE) {
+		store->forces++;
+		ends += store->committing;
+	}
+	if (store->committing && (store->has_failed || (what == FORCE && told->word == DONE))) {
+		store->committing = 0;
+		pthread_cond_broadcast(&store->forced);
+	}
+	store->ends += ends;
+	if (ends && store->waiting)
+		pthread_cond_broadcast(&store->ended);
+}
+
 /* Takes the lock and makes a step, again each time that a transaction has ended while it is blocked. The lock is held after it. */
 static struct told ask(vah_store *store, unsigned flags, const struct question *q)
 {
 	struct told told;
-	pthread_mutex_lock(&store->lock);
+	enter(store);
 	while (told = ask_once(store, q), (told.word == BLOCKED || told.word == BLOCKED_TREE) && !(flags & VAH_NO_WAIT)) {
 		store->waiting++;
-		pthread_cond_wait(&store->ended, &store->lock);
+		sleep_on(store, &store->ended);
 		store->waiting--;
 	}
-	if (may_unblock(&told)) {
-		store->ends++;
-		if (store->waiting)
-			pthread_cond_broadcast(&store->ended);
-	}
+	wake(store, q->what, &told);
 	return told;
 }
 
-static void done(vah_store *store) { pthread_mutex_unlock(&store->lock); }
+/* What becomes of a commit that waits for a force: the last caller that is awake forces the log for all of them. Where the store fails before
+ * that, it is not known whether they are kept. The lock is held before it and after it. */
+static struct told force_for_all(vah_store *store)
+{
+	struct told told = { REFUSED, VAH_DEVICE, 0 };
+	uint64_t before = store->forces;
+	if (!store->committing++)
+		store->since = 0;
+	while (store->forces == before && !store->has_failed) {
+		if (!is_force_due(store)) {
+			sleep_on(store, &store->forced);
+			continue;
+		}
+		told = ask_once(store, &(struct question){ .what = FORCE });
+		wake(store, FORCE, &told);
+		if (told.word == REFUSED)
+			break;
+	}
+	if (store->forces != before)
+		told = (struct told){ DONE, 0, 0 };
+	return told;
+}
 
 /* Whether a store may be asked, and else why not. */
 static int check_store(const vah_store *store)
@@ -248,6 +332,7 @@ static int open_session(vah_store *store, const vah_config *config)
 {
 	im_init(store->handle);
 	store->call.step = OPEN;
+	store->call.word = 1; /* commits wait for a force */
 	store->call.limit = config->frames;
 	store->call.txn = config->max_pages;
 	store->call.number = config->redo_bytes;
@@ -274,6 +359,7 @@ int vah_open(const char *path, const vah_config *config, vah_store **store)
 #ifdef VAH_TEST
 	made->device.fail_at = getenv("VAH_FAIL_AT") ? strtoul(getenv("VAH_FAIL_AT"), NULL, 10) : 0;
 	made->device.kill_at = getenv("VAH_KILL_AT") ? strtoul(getenv("VAH_KILL_AT"), NULL, 10) : 0;
+	made->device.slow = getenv("VAH_SLOW_SYNC") ? strtoul(getenv("VAH_SLOW_SYNC"), NULL, 10) : 0;
 #endif
 	code = made->path && made->handle ? vah_device_open(&made->device, path, text, sizeof text) : fail(NULL, VAH_MEMORY);
 	if (!code && (code = open_session(made, &read))) {
@@ -289,6 +375,7 @@ int vah_open(const char *path, const vah_config *config, vah_store **store)
 	}
 	pthread_mutex_init(&made->lock, NULL);
 	pthread_cond_init(&made->ended, NULL);
+	pthread_cond_init(&made->forced, NULL);
 	*store = made;
 	return VAH_OK;
 }
@@ -302,7 +389,7 @@ int vah_close(vah_store *store)
 	if (code == VAH_INVALID)
 		return fail(NULL, code);
 	if (code == VAH_OK) {
-		pthread_mutex_lock(&store->lock);
+		enter(store);
 		if (store->active) {
 			done(store);
 			return fail(store, VAH_ACTIVE);
@@ -313,6 +400,7 @@ int vah_close(vah_store *store)
 			code = (int)store->call.fault;
 		done(store);
 		pthread_cond_destroy(&store->ended);
+		pthread_cond_destroy(&store->forced);
 		pthread_mutex_destroy(&store->lock);
 	}
 	vah_device_close(&store->device, code == VAH_FORKED);
@@ -376,7 +464,7 @@ int vah_begin_with(vah_store *store, unsigned flags, vah_txn **txn)
 
 static void end_txn(vah_txn *txn)
 {
-	pthread_mutex_lock(&txn->store->lock);
+	enter(txn->store);
 	txn->store->active--;
 	done(txn->store);
 	txn->self = NULL;
@@ -420,19 +508,18 @@ static int by_key(vah_txn *txn, uint32_t what, const void *key, size_t len, uint
 	return fail(txn->store, told_code(told));
 }
 
-/* Goes on with a step of the transaction that is answered MORE, until it is done. */
-static int go_on(vah_txn *txn, struct told *told, int code)
-{
-	while (told->word == MORE)
-		code = by_key(txn, CONTINUE, NULL, 0, 0, told, NULL);
-	return code;
-}
-
 int vah_commit(vah_txn *txn)
 {
-	struct told told = { REFUSED, VAH_INVALID, 0 };
-	int code = go_on(txn, &told, by_key(txn, COMMIT, NULL, 0, 0, &told, NULL));
-	if (code != VAH_INVALID && code != VAH_FORKED && code != VAH_MUST_ROLL_BACK && code != VAH_ROLLING_BACK)
+	struct question q = { .what = COMMIT };
+	struct told told;
+	int code = ask_txn(txn, &q, &told);
+	if (code)
+		return code;
+	if (told.word == MORE)
+		told = force_for_all(txn->store);
+	done(txn->store);
+	code = fail(txn->store, told_code(&told));
+	if (code != VAH_MUST_ROLL_BACK && code != VAH_ROLLING_BACK)
 		end_txn(txn);
 	return code;
 }
@@ -444,7 +531,9 @@ static int take_back(vah_txn *txn)
 	int code = by_key(txn, ROLLBACK, NULL, 0, 0, &told, NULL);
 	if (code == VAH_ROLLING_BACK)
 		told.word = MORE;
-	return go_on(txn, &told, code);
+	while (told.word == MORE)
+		code = by_key(txn, CONTINUE, NULL, 0, 0, &told, NULL);
+	return code;
 }
 
 int vah_rollback(vah_txn *txn)
@@ -468,10 +557,10 @@ int vah_again(vah_txn *txn)
 	code = take_back(txn);
 	if (!code) {
 		if (!(txn->flags & VAH_NO_WAIT)) {
-			pthread_mutex_lock(&store->lock);
+			enter(store);
 			store->waiting++;
 			while (store->ends == txn->seen + 1) /* its own end alone */
-				pthread_cond_wait(&store->ended, &store->lock);
+				sleep_on(store, &store->ended);
 			store->waiting--;
 			done(store);
 		}

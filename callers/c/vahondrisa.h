@@ -27,7 +27,7 @@
  *  The store below these functions is proved: each call answers what one
  *  caller alone would be answered in some order of the commits, and a stop at
  *  any moment leaves each transaction whole or absent. The functions of this
- *  header are some 900 lines of C over three exports of the proved library, and
+ *  header are some 1,000 lines of C over three exports of the proved library, and
  *  are tested. They hold one lock around each call, and keep the duties that
  *  the proofs ask of a caller in C. So do not write past the memory that you
  *  hand in, and do not use a store or a transaction after its end: then nothing
@@ -40,6 +40,8 @@
  *  active at once. A call waits while a younger transaction holds what it
  *  needs (an older one never waits for it: see VAH_GIVE_WAY), so a thread that
  *  has two transactions active can wait for itself: begin with VAH_NO_WAIT then.
+ *  Commits of several threads share the syncs of the disk: a commit waits while
+ *  other threads are within calls, for 256 of their calls at most.
  *  Each store has a thread of its own, which makes the calls of the system.
  *  Signals that come while a call is under way are handled after it. A store
  *  is not to be used in a child after fork(): its calls are refused there

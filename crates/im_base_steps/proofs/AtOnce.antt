@@ -1,13 +1,18 @@
 -- What a store answers that makes each structure change within one step.
-use Rattle.std.proofs.Common.{Bool, ap}
+use Rattle.std.proofs.Common.{◌≡◌, Bool, true, false, true≢false, refl, ap, sym}
 use Rattle.std.specs.Prelude.{◌||◌}
 use Rattle.im_base_types.specs.Answers.{Step, Reply, Started, Found, Absent, Entry, End, Entries, Inserted, Duplicate, Deleted, Committed, RolledBack, More, Blocked, BlockedTree, Die, Done, Refused}
-use Rattle.im_base_steps.specs.Replies.{is_continue, is_insert, is_delete, is_commit, SuitsAtOnce, Suits}
+use Rattle.im_base_steps.specs.Replies.{is_continue, is_insert, is_delete, is_commit, takes_back, SuitsAtOnce, Suits}
 
 pub at_once : (s : Step) (r : Reply) → SuitsAtOnce s r → Suits s r
 at_once s Inserted e = ap (λ (b : Bool). b || is_continue s) e
 at_once s Deleted e = ap (λ (b : Bool). b || is_continue s) e
-at_once s More e = ap (λ (b : Bool). b || (is_commit s || (is_insert s || is_delete s))) e
+at_once s More e = by (takes_back s) (is_commit s) e
+  where
+    by : (b c : Bool) → (b || c) ≡ true → (b || (c || (is_insert s || is_delete s))) ≡ true
+    by true c e = refl
+    by false true e = refl
+    by false false e = absurd (true≢false (sym e))
 at_once s BlockedTree e = ap (λ (b : Bool). b || is_continue s) e
 at_once s (Started t) e = e
 at_once s (Found t) e = e

@@ -95,11 +95,11 @@ Suits step Die = is_access step ≡ true
 Suits step Done = is_service step ≡ true
 Suits step (Refused fault) = Unit {0}
 
--- What it may be answered by a store that makes each structure change within one step, and each Commit: no Insert, Delete or Commit goes on, and no Continue finds the tree blocked.
+-- What it may be answered by a store that makes each structure change within one step: no Insert or Delete goes on, and no Continue finds the tree blocked.
 abbrev pub SuitsAtOnce : Step → Reply → Type 0
 SuitsAtOnce step Inserted = is_insert step ≡ true
 SuitsAtOnce step Deleted = is_delete step ≡ true
-SuitsAtOnce step More = takes_back step ≡ true
+SuitsAtOnce step More = (takes_back step || is_commit step) ≡ true
 SuitsAtOnce step BlockedTree = is_access step ≡ true
 SuitsAtOnce step reply = Suits step reply
 

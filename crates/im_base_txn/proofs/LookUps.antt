@@ -20,10 +20,10 @@ module _ (n : ℕ) (row : Transaction) (rows : List Transaction) where
   pub found_later : row.number ≢ n → find (is_of n) (row ∷ rows) ≡ find (is_of n) rows
   found_later is = cond-false (row.number == n) (Some row) (find (is_of n) rows) (ne_eqb row.number n is)
 
-  left_here : row.number ≡ n → without n (row ∷ rows) ≡ without n rows
+  pub left_here : row.number ≡ n → without n (row ∷ rows) ≡ without n rows
   left_here is = ap (λ (b : Bool). cond (not b) (row ∷ without n rows) (without n rows)) (eq-eqb row.number n is)
 
-  left_later : row.number ≢ n → without n (row ∷ rows) ≡ row ∷ without n rows
+  pub left_later : row.number ≢ n → without n (row ∷ rows) ≡ row ∷ without n rows
   left_later is = ap (λ (b : Bool). cond (not b) (row ∷ without n rows) (without n rows)) (ne_eqb row.number n is)
 
 changed_number : (n : ℕ) (f : Transaction → Transaction) → Keeps f → (row : Transaction) → (changed n f row).number ≡ row.number
@@ -104,7 +104,7 @@ ended_others u n (r ∷ rs) differ = elim (cases_eq r.number n) [
       ∙ ap (λ (o : Option Transaction). cond (r.number == u) (Some r) o) (ended_others u n rs differ)
 ]
 
-all_left : (n : ℕ) (rows : List Transaction) → AreAbove n rows → without n rows ≡ rows
+pub all_left : (n : ℕ) (rows : List Transaction) → AreAbove n rows → without n rows ≡ rows
 all_left n [] h = refl
 all_left n (r ∷ rs) h = left_later n r rs (λ e. let l : n < r.number = h.0 in absurd (omega (arith, e))) ∙ ap (λ (l : List Transaction). r ∷ l) (all_left n rs h.1)
 

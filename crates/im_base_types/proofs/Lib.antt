@@ -2,4 +2,5 @@ pub mod Words
 pub mod Maps
 pub mod Changes
 pub mod Nets
+pub mod Outcomes
 mod WorkedLives

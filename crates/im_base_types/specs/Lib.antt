@@ -1,4 +1,5 @@
 pub mod Faults
+pub mod Outcomes
 pub mod Keys
 pub mod Pages
 pub mod Records

@@ -148,13 +148,3 @@ Lives before (asked ∷ lives) after = (between : List Effect) × Survives befor
 -- the files stand for what a life that asked this may make of these effects
 abbrev pub StandsForMore : {F : Type 0} → (List Effect → F → Type 0) → List Effect → List Asked → F → Type 0
 StandsForMore StandsFor before asked files = (after : List Effect) × Survives before asked after × StandsFor after files
-
--- A life takes files to files: whatever the first stood for, the others stand for what it may make of that. This is what the
--- contracts of an opening and of its steps say of every stop.
-abbrev pub Takes : {F : Type 0} → (List Effect → F → Type 0) → F → List Asked → F → Type 0
-Takes StandsFor old asked new = (before : List Effect) → StandsFor before old → StandsForMore StandsFor before asked new
-
--- a list of lives, each from what the last one's stop left
-abbrev pub Chain : {F : Type 0} → (List Effect → F → Type 0) → F → List (List Asked × F) → F → Type 0
-Chain StandsFor old [] new = new ≡ old
-Chain StandsFor old (life ∷ lives) new = Takes StandsFor old life.0 life.1 × Chain StandsFor life.1 lives new

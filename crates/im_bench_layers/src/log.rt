@@ -37,7 +37,6 @@ fn print_counts(rt: &HostRuntime) -> anyhow::Result<()> {
         "forced: durable below {}, device calls {calls}",
         counts.end
     )?;
-    println!(rt; "scanned: {} records", counts.scanned)?;
     Ok(())
 }
 

@@ -16,6 +16,7 @@ pub fn opened<D: Disk + Drop>(alloc: Global, disk: D, frames: usize) -> Result<E
     let config = Config {
         frames,
         max_pages: 1_000_000,
+        group: false,
     };
     match Engine::open_or_create(alloc, disk, config) {
         Ok(engine) => Ok(engine),

@@ -1,5 +1,5 @@
 -- What a store that is open makes of a call.
-use Rattle.std.specs.Prelude.{◌≡◌, ◌≢◌, ◌⊎◌, ◌<◌, ℕ, false, [], Option, None, Some}
+use Rattle.std.specs.Prelude.{◌≡◌, ◌≢◌, ◌⊎◌, ◌<◌, ◌↔◌, ℕ, false, true, [], Option, None, Some}
 use Rattle.im_base_types.specs.declared.fault.Fault.{Fault}
 use Rattle.im_base_types.specs.Faults.{number_of}
 use Rattle.im_base_disk.specs.declared.disk.Disk.{Ghosts}
@@ -47,6 +47,7 @@ module _ {D : Type 0} (d : Ghosts D) (asked told : Call) where
     pub works : e.failed ≡ false
     pub active : e.txns.rows ≡ []
     pub max_pages : e.max_pages ≡ asked.txn
+    pub group : (e.txns.group ≡ true) ↔ (asked.word ≡ 1)
     pub frames : e.writer.pool.frames ≡ asked.limit
 
   -- what comes of an opening

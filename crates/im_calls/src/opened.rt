@@ -1,6 +1,6 @@
 //! A store that is open, over any disk.
 
-ghost use Rattle.std.specs.Prelude.{◌≡◌, ◌⊎◌, false};
+ghost use Rattle.std.specs.Prelude.{◌≡◌, ◌↔◌, ◌⊎◌, false, true};
 
 use im_base_disk::Disk;
 use im_base_steps::{Reply, Step};
@@ -25,7 +25,7 @@ impl<D: Disk + Drop> Opened<D> {
     ghost use Rattle.im_calls.specs.Sessions.{IsMade, Serves, IsOpening, IsRefused};
 
     /// Opens the store of a disk as a call asks it: `limit` frames, `txn` pages at most, `number` bytes of log that the opening after this one
-    /// may have to redo.
+    /// may have to redo; with 1 as `word` a Commit waits for a Force.
     pub fn open(alloc: Global, disk: D, call: &mut Call) -> Option<Opened<D>>
         requires working { D.failed disk ≡ false }
         requires synced { IsSynced D.Disk disk }
@@ -39,6 +39,7 @@ impl<D: Disk + Drop> Opened<D> {
         let config = Config {
             frames: call.limit as usize,
             max_pages,
+            group: waits(call),
         };
         match Engine::open_or_create(alloc, disk, config) {
             Ok(engine) => {
@@ -123,6 +124,13 @@ impl<D: Disk + Drop> Opened<D> {
             (Ok(()), Err(fault)) => refuse(call, fault),
         }
     }
+}
+
+// Whether a Commit of the store that is to be opened waits for a Force.
+fn waits(call: &Call) -> bool
+    ensures { (result ≡ true) ↔ (call.now.word ≡ 1) }
+{
+    call.word == 1
 }
 
 // Whether records may have joined the log.

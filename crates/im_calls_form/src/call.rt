@@ -1,12 +1,12 @@
 //! A question with its answer.
 
-/// What is asked, and behind it what was answered: one place in memory, in the order that C gives to these fields.
+/// What is asked, with what was answered: one place in memory, in the order that C gives to these fields.
 #[repr(C)]
 #[derive(Drop)]
 pub struct Call {
     /// What is asked, by its number.
     pub step: u32,
-    /// What was answered, by its number.
+    /// What was answered, by its number; at an opening, when it is asked, 1 where a Commit is to wait for a Force.
     pub word: u32,
     /// The number of a refusal.
     pub fault: u32,

@@ -2,7 +2,8 @@
 //!
 //! A `Call` is a question with its answer. `step_of` is the step that it asks: `Asks` says which, by its number and its fields. `answer` puts a
 //! reply in its place: `Tells` says what it then reads, byte by byte, and the question stays. Steps and replies are those of the engine, as
-//! `asked_by` and `told_by` have them, so what is asked and answered in memory is what contracts speak of.
+//! `asked_by` and `told_by` have them, so what is asked and answered in memory is what contracts speak of. Who reads the bytes of entries by their
+//! form has the entries that were told (`entries_are_read_again`).
 //!
 //! Steps by their numbers: 0 Begin, 1 Fetch, 2 Seek, 3 Next, 4 Scan, 5 Insert, 6 Delete, 7 Commit, 8 Rollback, 9 Continue, 10 FlushPage,
 //! 11 Force, 12 Checkpoint. Replies: 0 Started, 1 Found, 2 Absent, 3 Entry, 4 End, 5 Entries, 6 Inserted, 7 Duplicate, 8 Deleted,
@@ -10,9 +11,11 @@
 #![tactic(auto)]
 
 mod call;
+mod laws;
 mod question;
 mod telling;
 
 pub use call::Call;
+pub use laws::entries_are_read_again;
 pub use question::step_of;
 pub use telling::{answer, refuse, tell, tell_numbers};

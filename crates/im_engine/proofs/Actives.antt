@@ -16,7 +16,9 @@ use Rattle.im_base_types.specs.declared.fault.Fault.{Fault}
 use Rattle.im_base_types.specs.declared.fault.Fault.TheVariants as faults
 use Rattle.im_base_steps.specs.declared.reply.Reply.{Reply}
 use Rattle.im_base_steps.specs.declared.reply.Reply.TheVariants as replies
-use Rattle.im_base_steps.specs.Calls.{asked_by, told_by}
+use Rattle.im_base_steps.specs.Calls.{asked_by, told_by, is_force}
+use Rattle.im_base_steps.specs.Replies.{is_commit}
+use Rattle.std.specs.Prelude.{◌+◌, ◌-◌, if◌then◌else◌}
 use Rattle.im_base_types.specs.Faults.{number_of}
 use Rattle.im_engine.specs.declared.engine.Engine.{Engine}
 use Rattle.im_engine.specs.Running.{IsLife}
@@ -64,23 +66,31 @@ refused_active v w step n moves = by (barred v step) moves
     by (Some fault) is = ap (λ (x : View). x.active) is.1
 
 -- a reply that breaks what works is a refusal
-broken_reply : (reply : Reply) (k : Known) → k.failed ≡ false → (after reply k).failed ≡ true → (fault : Fault) × (reply ≡ replies.Refused fault)
-broken_reply (replies.Refused fault) k works broke = (fault, refl)
-broken_reply (replies.Started n) k works broke = absurd (not_true k.failed works broke)
-broken_reply (replies.Found rid) k works broke = absurd (not_true k.failed works broke)
-broken_reply replies.Absent k works broke = absurd (not_true k.failed works broke)
-broken_reply (replies.Entry key rid) k works broke = absurd (not_true k.failed works broke)
-broken_reply replies.End k works broke = absurd (not_true k.failed works broke)
-broken_reply (replies.Entries list) k works broke = absurd (not_true k.failed works broke)
-broken_reply replies.Inserted k works broke = absurd (not_true k.failed works broke)
-broken_reply replies.Duplicate k works broke = absurd (not_true k.failed works broke)
-broken_reply replies.Deleted k works broke = absurd (not_true k.failed works broke)
-broken_reply replies.Committed k works broke = absurd (not_true k.failed works broke)
-broken_reply replies.RolledBack k works broke = absurd (not_true k.failed works broke)
-broken_reply replies.More k works broke = absurd (not_true k.failed works broke)
-broken_reply (replies.Blocked b) k works broke = absurd (not_true k.failed works broke)
-broken_reply replies.Die k works broke = absurd (not_true k.failed works broke)
-broken_reply replies.Done k works broke = absurd (not_true k.failed works broke)
+broken_reply : (step : Step) (reply : Reply) (k : Known) → k.failed ≡ false → (after step reply k).failed ≡ true → (fault : Fault) × (reply ≡ replies.Refused fault)
+broken_reply step (replies.Refused fault) k works broke = (fault, refl)
+broken_reply step (replies.Started n) k works broke = absurd (not_true k.failed works broke)
+broken_reply step (replies.Found rid) k works broke = absurd (not_true k.failed works broke)
+broken_reply step replies.Absent k works broke = absurd (not_true k.failed works broke)
+broken_reply step (replies.Entry key rid) k works broke = absurd (not_true k.failed works broke)
+broken_reply step replies.End k works broke = absurd (not_true k.failed works broke)
+broken_reply step (replies.Entries list) k works broke = absurd (not_true k.failed works broke)
+broken_reply step replies.Inserted k works broke = absurd (not_true k.failed works broke)
+broken_reply step replies.Duplicate k works broke = absurd (not_true k.failed works broke)
+broken_reply step replies.Deleted k works broke = absurd (not_true k.failed works broke)
+broken_reply step replies.Committed k works broke = absurd (not_true k.failed works broke)
+broken_reply step replies.RolledBack k works broke = absurd (not_true k.failed works broke)
+broken_reply step replies.More k works broke = absurd (not_true k.failed works (sym (by (is_commit step)) ∙ broke))
+  where
+    by : (b : Bool) → (if b then record k { waiting = k.waiting + 1 } else k).failed ≡ k.failed
+    by true = refl
+    by false = refl
+broken_reply step (replies.Blocked b) k works broke = absurd (not_true k.failed works broke)
+broken_reply step replies.Die k works broke = absurd (not_true k.failed works broke)
+broken_reply step replies.Done k works broke = absurd (not_true k.failed works (sym (by (is_force step)) ∙ broke))
+  where
+    by : (b : Bool) → (if b then record k { active = k.active - k.waiting; waiting = 0 } else k).failed ≡ k.failed
+    by true = refl
+    by false = refl
 
 module _ {D : Type 0} (d : Ghosts D) (before : List Effect) (s : Shown) (v : View) where
   -- an engine that works
@@ -93,14 +103,14 @@ module _ {D : Type 0} (d : Ghosts D) (before : List Effect) (s : Shown) (v : Vie
     | inl broke ↦
         (let why : (fault : Fault) × (reply ≡ replies.Refused fault) = refusal broke in
         let moves = subst_moves why in
-        ap (λ (k : Known). k.active) one.told.known ∙ ap (λ (r : Reply). (after r (known_of d old)).active) why.1 ∙ was.active ∙ sym moves)
+        ap (λ (k : Known). k.active) one.told.known ∙ ap (λ (r : Reply). (after (asked_by step) r (known_of d old)).active) why.1 ∙ was.active ∙ sym moves)
     | inr works ↦ sym (made.after.running works).1.serving.table.active
   ]
     where
       refusal : new.failed ≡ true → (fault : Fault) × (reply ≡ replies.Refused fault)
       refusal broke = elim (cases_Bool old.failed) [
         | inl before_it ↦ (faults.Failed, one.told.failed before_it)
-        | inr worked ↦ broken_reply reply (known_of d old) worked (sym (ap (λ (k : Known). k.failed) one.told.known) ∙ broke)
+        | inr worked ↦ broken_reply (asked_by step) reply (known_of d old) worked (sym (ap (λ (k : Known). k.failed) one.told.known) ∙ broke)
       ]
 
       subst_moves : (fault : Fault) × (reply ≡ replies.Refused fault) → made.next.active ≡ v.active

@@ -101,7 +101,7 @@ module _ {D : Type 0} (d : Ghosts D) (before : List Effect) (s : Shown) (v : Vie
       ]) in
       let shown = shows s step (Some (Refused n)) in
       let running = runs_on d before s v e r shown v e r.now (goes_on_start d b r.base r.now e.writer e.disk only_now r.stands) served.1
-      (subst (λ (l : List Asked). AreCommitted r.earlier before l r.now.durable r.now.log) (sym asks_none) r.commits) r.numbered r.alone r.unowned in
+      (subst (λ (l : List Asked). AreCommitted r.earlier before l r.now.durable r.now.log) (sym asks_none) r.commits) r.numbered r.unowned in
       step_made d before s v step (Refused n) e e v served.0 running works (cut_any d before s step e.disk e.disk stops_here) (none_done d before shown v step n e) r (no_images b r.now.log)
 
   -- the first check that a step fails

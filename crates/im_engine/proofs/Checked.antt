@@ -6,7 +6,7 @@ use Rattle.im_base_types.specs.Answers.{Access, Step, Do, Commit, Rollback, Repl
 use Rattle.im_base_txn.specs.declared.transaction.Mark.{Mark}
 use Rattle.im_base_txn.specs.declared.transaction.Mark.TheVariants.{Going, MustRollBack, RollingBack, Committing}
 use Rattle.im_base_txn.specs.declared.transaction.Transaction.{Transaction}
-use Rattle.im_base_txn.specs.Rows.{is_of}
+use Rattle.im_base_txn.specs.Rows.{is_of, is_committing, waits_at}
 use Rattle.im_base_lock.specs.Machine.{keys_fit, barred_to, barred_to_rollback, or_else, fault_if}
 use Rattle.im_theory_steps.specs.Checks.{mark_at, checked_by}
 
@@ -72,3 +72,7 @@ back_mark rows t row found is = back_by row.mark row refl (sym (ap (λ (o : Opti
 
 pub back_found : (rows : List Transaction) (t : ℕ) → find (is_of t) rows ≡ None → checked_by rows false (Rollback t) ≡ None → ⊥
 back_found rows t none is = let never = sym (ap (λ (o : Option Transaction). barred_to_rollback (mark_at o)) none) ∙ first_of (barred_to_rollback (mark_at (find (is_of t) rows))) None is in cc never
+
+-- so it does not wait for a force
+pub access_free : (rows : List Transaction) (t : ℕ) (a : Access) → checked_by rows false (Do t a) ≡ None → waits_at (find (is_of t) rows) ≡ false
+access_free rows t a is = let g = access_going rows t a is in ap waits_at g.found ∙ ap is_committing g.mark

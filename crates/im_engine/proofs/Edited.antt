@@ -191,7 +191,7 @@ module _ {D : Type 0} (d : Ghosts D) {b : Base} (before : List Effect) (s : Show
   -- ---- the engine behind a change
 
   module _ (a : Access) (new : Engine D d) (now : Writer) (e last undo_next : ℕ) (is : IsUnfinished d b r.base now e t last undo_next new.writer new.disk) (durable : IsFront r.now.durable now.durable) (grows : GrowsWithin t r.now.log now.log)
-      (rows : List Transaction) (table : new.txns ≡ record old.txns { rows = rows }) (w : View) (served : IsServed b r.earlier before s v (Do t a) (answer a v.walk) w now.log rows old.txns.next new.locks) (alone : w.queue ≡ []) (unowned : w.under ≡ None) where
+      (rows : List Transaction) (table : new.txns ≡ record old.txns { rows = rows }) (w : View) (served : IsServed b r.earlier before s v (Do t a) (answer a v.walk) w now.log rows old.txns.next new.locks) (unowned : w.under ≡ None) where
     unfoldable pub edited_runs : IsRunning d b before (shows s (Do t a) (Some (answer a v.walk))) w new
     edited_runs =
         let same = (within_leaves_others t r.now.log now.log grows).1 in
@@ -213,7 +213,6 @@ module _ {D : Type 0} (d : Ghosts D) {b : Base} (before : List Effect) (s : Show
           commits = subst (λ (l : List Asked). AreCommitted r.earlier before l now.durable now.log) (sym (asks_nothing s t a v)) commits;
           numbered = subst (λ (n : ℕ). n ≤ 2 ^ 62 → AreBelow n now.log) (sym (ap (λ (x : Numbered). x.next) table))
               (λ le. numbers_stay_new.within old.txns.next t r.now.log now.log number_below (r.numbered le) grows);
-          alone = alone;
           unowned = unowned;
         }
 
@@ -278,7 +277,7 @@ module _ {D : Type 0} (d : Ghosts D) {b : Base} (before : List Effect) (s : Show
         let rows = map (changed t (with_record taken.last taken.undo_next)) old.txns.rows in
         subst (λ (reply : Reply). StepKept d before s v (Do t (Delete key)) reply old new) says
         (edited (Delete key) new is.now r.redo_end taken.last taken.undo_next is.stands is.durable grown rows table w
-        (subst (λ (reply : Reply). IsServed b r.earlier before s v (Do t (Delete key)) reply w is.now.log rows old.txns.next new.locks) (sym says) (after_record.0, in_full)) r.alone r.unowned stops works (subst (λ (reply : Reply). GrowsAs b reply (Do t (Delete key)) r.now.log is.now.log) (sym says) drops))
+        (subst (λ (reply : Reply). IsServed b r.earlier before s v (Do t (Delete key)) reply w is.now.log rows old.txns.next new.locks) (sym says) (after_record.0, in_full)) r.unowned stops works (subst (λ (reply : Reply). GrowsAs b reply (Do t (Delete key)) r.now.log is.now.log) (sym says) drops))
 
   -- ---- a change that was not made
 
@@ -288,14 +287,14 @@ module _ {D : Type 0} (d : Ghosts D) {b : Base} (before : List Effect) (s : Show
         → new.txns ≡ old.txns → new.failed ≡ false → StepKept d before s v (Do t a) reply old new
     unchanged none decides ev reply says table works =
         subst (λ (y : Reply). StepKept d before s v (Do t a) y old new) (ap (answer a) walk_of ∙ says)
-        (grown_made d before s v (did v t a (locks_of new.locks t)) (Do t a) (answer a v.walk) old new r old.txns r.alone r.unowned ev
+        (grown_made d before s v (did v t a (locks_of new.locks t)) (Do t a) (answer a v.walk) old new r old.txns r.unowned ev
         (λ longer stays all. reads_served b r.earlier before s v r.now.log longer old.txns.rows old.txns.next old.locks new.locks t row a r.serving found mark (not_owner d before s v old r t) fits (ap (changes a) walk_of ∙ none) (decided_here a Granted new.locks decides) stays all)
         (asks_nothing s t a v) refl table refl (edit_stops new.disk stops) works tt (λ longer images. read_grows b t r.now.log longer images a v.walk (ap (changes a) walk_of ∙ none)))
 
     -- it has to wait
     pub blocked : (holder : ℕ) → Decides old.locks t (asked a (contents b r.now.log)) (Wait holder) new.locks → Evicted d b r.base r.now old.disk new.writer new.disk → new.txns ≡ old.txns → new.failed ≡ false → StepKept d before s v (Do t a) (Blocked holder) old new
     blocked holder decides ev table works =
-        grown_made d before s v v (Do t a) (Blocked holder) old new r old.txns r.alone r.unowned ev
+        grown_made d before s v v (Do t a) (Blocked holder) old new r old.txns r.unowned ev
         (λ longer stays all. waits_served b r.earlier before s v r.now.log longer old.txns.rows old.txns.next old.locks new.locks t holder row a r.serving found mark (not_owner d before s v old r t) fits (decided_here a (Wait holder) new.locks decides) stays all)
         (waits_ask_nothing s t holder a) refl table refl (edit_stops new.disk stops) works tt (λ longer images. images)
 
@@ -303,7 +302,7 @@ module _ {D : Type 0} (d : Ghosts D) {b : Base} (before : List Effect) (s : Show
     pub died : Decides old.locks t (asked a (contents b r.now.log)) MustDie new.locks → Evicted d b r.base r.now old.disk new.writer new.disk → new.txns ≡ record old.txns { rows = map (changed t (with_mark MustRollBack)) old.txns.rows } → new.failed ≡ false
         → StepKept d before s v (Do t a) Die old new
     died decides ev table works =
-        grown_made d before s v (marked v t answers.MustRollBack) (Do t a) Die old new r (record old.txns { rows = map (changed t (with_mark MustRollBack)) old.txns.rows }) r.alone r.unowned ev
+        grown_made d before s v (marked v t answers.MustRollBack) (Do t a) Die old new r (record old.txns { rows = map (changed t (with_mark MustRollBack)) old.txns.rows }) r.unowned ev
         (λ longer stays all. dies_served b r.earlier before s v r.now.log longer old.txns.rows old.txns.next old.locks new.locks t row a r.serving found mark (not_owner d before s v old r t) fits (decided_here a MustDie new.locks decides) stays all)
         (dies_ask_nothing s t a) refl table refl (edit_stops new.disk stops) works tt (λ longer images. images)
 

@@ -1,6 +1,6 @@
 -- Transactions that begin and end, and the force of the log.
 use Rattle.std.proofs.Common.{◌≡◌, ◌⊎◌, inl, inr, ℕ, suc, ◌+◌, ◌≤◌, ◌<◌, ◌^◌, List, [], ◌∷◌, ◌++◌, append-nil, Bool, true, false, Option, Some, None, Result, Ok, length, refl, sym, ap, subst, ◌∙◌, arith}
-use Rattle.std.specs.Prelude.{find, map, nat_lt, not}
+use Rattle.std.specs.Prelude.{find, map, nat_lt, not, if◌then◌else◌}
 use Rattle.std.proofs.lemmas.Bool.{ltb-true}
 use Rattle.im_base_types.specs.Faults.{number_of}
 use Rattle.im_base_types.specs.declared.fault.Fault.{Fault}
@@ -22,7 +22,7 @@ use Rattle.im_base_types.specs.Refusals.{memory, unfinished, too_many}
 use Rattle.im_base_types.specs.declared.fault.Fault.TheVariants.{Failed, LogFull, Device, NotAStore}
 use Rattle.im_theory_log.specs.Writer.{Writer}
 use Rattle.im_theory_log.specs.WriterSteps.{appended, forced}
-use Rattle.im_base_types.specs.Lives.{Asked, Shown, Survives, StandsForMore, all_acked, effects, effect_asked, shows}
+use Rattle.im_base_types.specs.Lives.{Asked, Shown, Survives, StandsForMore, all_acked, effects, effect_asked, asks, shows}
 use Rattle.im_theory_log.proofs.Fronts.{rises as rises_of}
 use Rattle.im_base_disk.specs.declared.disk.Disk.{Ghosts}
 use Rattle.im_base_disk.specs.Disk.{Files}
@@ -37,12 +37,12 @@ use Rattle.im_page_writer.specs.PageWriter.{StandsAs, GoesOn, FlushedOne, Logged
 use Rattle.im_page_writer.proofs.Writers.{goes_on_start}
 use Rattle.im_theory_tree.specs.Theory.{page_tree}
 use Rattle.im_theory_tree.proofs.TheoryLaws.{page_tree_laws}
-use Rattle.im_base_txn.specs.Rows.{begun as row_begun, is_of, changed, with_mark}
+use Rattle.im_base_txn.specs.Rows.{AreRising, begun as row_begun, is_of, is_committing, changed, with_mark, waiting_in, waiting_numbers, without_waiting}
 use Rattle.im_base_txn.specs.LookUps.{without}
-use Rattle.im_base_txn.specs.declared.transaction.Mark.TheVariants.{Going, MustRollBack, RollingBack}
+use Rattle.im_base_txn.specs.declared.transaction.Mark.TheVariants.{Going, MustRollBack, RollingBack, Committing}
 use Rattle.im_base_txn.specs.declared.transaction.Transaction.{Transaction}
-use Rattle.im_base_lock.specs.Table.{Table, IsReleased, locks_of}
-use Rattle.im_base_lock.specs.View.{View, begun, marked, committed_by, dropped_by, forced_by, is_among}
+use Rattle.im_base_lock.specs.Table.{Table, AreReleased, IsReleased, locks_of}
+use Rattle.im_base_lock.specs.View.{View, begun, marked, committed_by, dropped_by, queued, forced_by, is_among}
 use Rattle.im_base_lock.specs.Machine.{Breaks, barred, fault_if}
 use Rattle.im_theory_steps.specs.Checks.{checked_by}
 use Rattle.im_theory_steps.specs.Durable.{AreCommitted}
@@ -51,9 +51,9 @@ use Rattle.im_theory_steps.specs.Serving.{IsServing, IsServed, mark_of}
 use Rattle.im_theory_steps.proofs.Asking.{empty_asked, effects_acked}
 use Rattle.im_theory_steps.proofs.Growth.{copies_are_images, images_change_nothing, numbers_stay_new, same_here, unlogged}
 use Rattle.im_theory_steps.proofs.Durable.{commits_stand, others_ask_nothing, cut_commits_stand}
-use Rattle.im_theory_steps.specs.Steps.{commit_record, without_all}
+use Rattle.im_theory_steps.specs.Steps.{commit_record}
 use Rattle.im_theory_steps.proofs.Records.{commit_commits}
-use Rattle.im_theory_steps.proofs.Logging.{logged_commits_served}
+use Rattle.im_theory_steps.proofs.Logging.{logged_commits_served, logged_commits_wait}
 use Rattle.im_theory_steps.proofs.Showing.{effect_shown}
 use Rattle.im_theory_steps.proofs.Steps.{at, mark_free, unlogged_commits_served, begins_served, drops_served, turns_served, flushes_served, forces_served, barred_served}
 use Rattle.im_engine.specs.declared.engine.Engine.{Engine}
@@ -65,6 +65,7 @@ use Rattle.im_engine.proofs.Stands.{covered_allowed}
 use Rattle.im_engine.proofs.Running.{outside, not_owner, nothing_pending, checks_tell, allowed_as, tells, none_waits, page_is, read_stops, covered_stops, idle_stops, runs_on}
 use Rattle.im_engine.specs.Growing.{with_records, without_records}
 use Rattle.im_engine.proofs.Made.{step_made, step_broke, leaves_as}
+use Rattle.im_engine.proofs.Waits.{out_of, not_waiting, nobody, left_rows, left_count, left_locks}
 
 -- the record of a Commit leaves a lawful log
 commit_lawful : (b : Base) (earlier before : List Effect) (s : Shown) (v : View) (older : History) (rows : List Transaction) (next : ℕ) (held : Table) (t lsn : ℕ) (row : Transaction) → IsServing b earlier before s v older rows next held
@@ -128,9 +129,6 @@ few_of n is = by (nat_lt n 64) refl is
 pub begin_few : (rows : List Transaction) → checked_by rows false Begin ≡ None → length rows < 64
 begin_few rows is = few_of (length rows) is
 
-nobody_leaves : (queue : List ℕ) (rows : List Transaction) → queue ≡ [] → length rows ≡ length (without_all queue rows) + length queue
-nobody_leaves queue rows none = sym (ap (λ (q : List ℕ). length (without_all q rows) + length q) none ∙ omega arith)
-
 module _ {D : Type 0} (d : Ghosts D) (before : List Effect) (s : Shown) (v : View) (old new : Engine D d) (life : IsLife d before s v old) (works : old.failed ≡ false) where
   abbrev run : (b : Base) × IsRunning d b before s v old
   run = life.running works
@@ -145,7 +143,7 @@ module _ {D : Type 0} (d : Ghosts D) (before : List Effect) (s : Shown) (v : Vie
     stops_here t same = leaves_as d before s t old.disk new.disk same (subst (λ (x : D). LeavesOnly d old.disk x (Allowed before s)) (sym disk) (idle_stops d before s v old run.1 only_now))
 
     -- a transaction began
-    pub began : (number : ℕ) → number ≡ old.txns.next → number ≤ 2 ^ 62 → length old.txns.rows < 64 → new.txns ≡ record { rows = old.txns.rows ++ row_begun number ∷ []; next = number + 1 } → new.locks ≡ old.locks → new.failed ≡ false
+    pub began : (number : ℕ) → number ≡ old.txns.next → number ≤ 2 ^ 62 → length old.txns.rows < 64 → new.txns ≡ record old.txns { rows = old.txns.rows ++ row_begun number ∷ []; next = number + 1 } → new.locks ≡ old.locks → new.failed ≡ false
         → StepKept d before s v Begin (Started number) old new
     unfolding runs_on
     began number is le few table locks works_on =
@@ -153,16 +151,16 @@ module _ {D : Type 0} (d : Ghosts D) (before : List Effect) (s : Shown) (v : Vie
         let le_old : old.txns.next ≤ 2 ^ 62 = subst (λ (n : ℕ). n ≤ 2 ^ 62) is le in
         let below = r.numbered le_old in
         let served = begins_served run.0 r.earlier before s v r.now.log old.txns.rows old.txns.next old.locks r.serving (numbers_stay_new.none old.txns.next r.now.log below) old.first le_old few in
-        let after : Numbered = record { rows = old.txns.rows ++ row_begun old.txns.next ∷ []; next = suc old.txns.next } in
+        let after : Numbered = record old.txns { rows = old.txns.rows ++ row_begun old.txns.next ∷ []; next = suc old.txns.next } in
         let next_is : number + 1 ≡ suc old.txns.next = omega (arith, is) in
-        let table_is : new.txns ≡ after = table ∙ ap (λ (n : ℕ). record { rows = old.txns.rows ++ row_begun n ∷ []; next = number + 1 }) is ∙ ap (λ (n : ℕ). record { rows = old.txns.rows ++ row_begun old.txns.next ∷ []; next = n }) next_is in
+        let table_is : new.txns ≡ after = table ∙ ap (λ (n : ℕ). record old.txns { rows = old.txns.rows ++ row_begun n ∷ []; next = number + 1 }) is ∙ ap (λ (n : ℕ). record old.txns { rows = old.txns.rows ++ row_begun old.txns.next ∷ []; next = n }) next_is in
         let t = shows s Begin (Some (Started old.txns.next)) in
         let w = begun v in
         let serving : IsServing run.0 r.earlier before t w r.now.log new.txns.rows new.txns.next new.locks =
         subst (λ (x : Numbered). IsServing run.0 r.earlier before t w r.now.log x.rows x.next new.locks) (sym table_is)
         (subst (λ (l : _). IsServing run.0 r.earlier before t w r.now.log after.rows after.next l) (sym locks) served.1) in
         let running = runs_on d before s v old r t w new r.now on_here serving r.commits
-        (subst (λ (n : ℕ). n ≤ 2 ^ 62 → AreBelow n r.now.log) (sym (ap (λ (x : Numbered). x.next) table_is)) (λ le_new. numbers_stay_new.more old.txns.next (suc old.txns.next) r.now.log (omega arith) below)) r.alone r.unowned in
+        (subst (λ (n : ℕ). n ≤ 2 ^ 62 → AreBelow n r.now.log) (sym (ap (λ (x : Numbered). x.next) table_is)) (λ le_new. numbers_stay_new.more old.txns.next (suc old.txns.next) r.now.log (omega arith) below)) r.unowned in
         subst (λ (n : ℕ). StepKept d before s v Begin (Started n) old new) (sym is) (step_made d before s v Begin (Started old.txns.next) old new w served.0 running works_on (stops_here (shows s Begin None) refl) tt r refl)
 
     module _ (t : ℕ) (row : Transaction) (found : find (is_of t) old.txns.rows ≡ Some row) (mark : (row.mark ≡ Going) ⊎ (row.mark ≡ MustRollBack)) where
@@ -180,7 +178,7 @@ module _ {D : Type 0} (d : Ghosts D) (before : List Effect) (s : Shown) (v : Vie
           let w = dropped_by v t in
           let running = runs_on d before s v old r shown w new r.now on_here
           (subst (λ (x : Numbered). IsServing run.0 r.earlier before shown w r.now.log x.rows x.next new.locks) (sym table) served.1) r.commits
-          (subst (λ (n : ℕ). n ≤ 2 ^ 62 → AreBelow n r.now.log) (sym (ap (λ (x : Numbered). x.next) table)) r.numbered) r.alone r.unowned in
+          (subst (λ (n : ℕ). n ≤ 2 ^ 62 → AreBelow n r.now.log) (sym (ap (λ (x : Numbered). x.next) table)) r.numbered) r.unowned in
           step_made d before s v (Rollback t) RolledBack old new w served.0 running works_on (stops_here (shows s (Rollback t) None) refl) tt r refl
 
       -- it has one, and is marked
@@ -195,26 +193,26 @@ module _ {D : Type 0} (d : Ghosts D) (before : List Effect) (s : Shown) (v : Vie
           let running = runs_on d before s v old r shown w new r.now on_here
           (subst (λ (x : Numbered). IsServing run.0 r.earlier before shown w r.now.log x.rows x.next new.locks) (sym table)
           (subst (λ (l : _). IsServing run.0 r.earlier before shown w r.now.log after.rows after.next l) (sym locks) served.1)) r.commits
-          (subst (λ (n : ℕ). n ≤ 2 ^ 62 → AreBelow n r.now.log) (sym (ap (λ (x : Numbered). x.next) table)) r.numbered) r.alone r.unowned in
+          (subst (λ (n : ℕ). n ≤ 2 ^ 62 → AreBelow n r.now.log) (sym (ap (λ (x : Numbered). x.next) table)) r.numbered) r.unowned in
           step_made d before s v (Rollback t) More old new w served.0 running works_on (stops_here (shows s (Rollback t) None) refl) tt r refl
 
-  -- the log was forced
-  pub log_forced : GoesOn d run.0 run.1.base run.1.now old.disk (forced run.1.now) new.writer new.disk → LeavesCovered d run.0 run.1.base run.1.now.durable run.1.now.log old.disk new.disk → new.txns ≡ old.txns → new.locks ≡ old.locks → new.failed ≡ false
-      → StepKept d before s v Force Done old new
+  -- the log was forced, and all that waited have ended
+  pub log_forced : GoesOn d run.0 run.1.base run.1.now old.disk (forced run.1.now) new.writer new.disk → LeavesCovered d run.0 run.1.base run.1.now.durable run.1.now.log old.disk new.disk → AreRising old.txns.rows → AreReleased old.locks (λ t. is_among t (waiting_numbers old.txns.rows)) new.locks
+      → new.txns ≡ record old.txns { rows = without_waiting old.txns.rows; waiting = 0 } → new.failed ≡ false → StepKept d before s v Force Done old new
   unfolding runs_on
-  log_forced on run_stops table locks works_on =
+  log_forced on run_stops rising released table works_on =
       let r = run.1 in
       let same = stays_here run.0 r.now.log in
-      let served = forces_served run.0 r.earlier before s v r.now.log r.now.log old.txns.rows old.txns.next old.locks old.locks r.serving same.0 same.1 (record { none = λ u some. absurd (let never : true ≡ false = sym some ∙ ap (is_among u) r.alone in cc never); others = λ u none. refl }) (nobody_leaves v.queue old.txns.rows r.alone) in
+      let gone = left_locks run.0 r.earlier before s v r.now.log old.txns.rows old.txns.next old.locks r.serving rising new.locks released in
+      let served = forces_served run.0 r.earlier before s v r.now.log r.now.log old.txns.rows old.txns.next old.locks new.locks r.serving same.0 same.1 gone (left_count run.0 r.earlier before s v r.now.log old.txns.rows old.txns.next old.locks r.serving rising) in
       let shown = shows s Force (Some Done) in
       let w = forced_by v in
       let running = runs_on d before s v old r shown w new (forced r.now) on
       (subst (λ (x : Numbered). IsServing run.0 r.earlier before shown w r.now.log x.rows x.next new.locks) (sym table)
-      (subst (λ (l : _). IsServing run.0 r.earlier before shown w r.now.log old.txns.rows old.txns.next l) (sym locks)
-      (subst (λ (rows : List Transaction). IsServing run.0 r.earlier before shown w r.now.log rows old.txns.next old.locks) (ap (λ (q : List ℕ). without_all q old.txns.rows) r.alone) served.1)))
+      (subst (λ (rows : List Transaction). IsServing run.0 r.earlier before shown w r.now.log rows old.txns.next new.locks) (sym (left_rows run.0 r.earlier before s v r.now.log old.txns.rows old.txns.next old.locks r.serving rising)) served.1))
       (commits_stand.all r.earlier before shown.asked r.now.log served.1.says)
-      (subst (λ (n : ℕ). n ≤ 2 ^ 62 → AreBelow n r.now.log) (sym (ap (λ (x : Numbered). x.next) table)) r.numbered) refl r.unowned in
-      step_made d before s v Force Done old new w served.0 running works_on (covered_stops d before s v old r new.disk run_stops) (record { b = run.0; running = running; all = refl }) r refl
+      (subst (λ (n : ℕ). n ≤ 2 ^ 62 → AreBelow n r.now.log) (sym (ap (λ (x : Numbered). x.next) table)) r.numbered) r.unowned in
+      step_made d before s v Force Done old new w served.0 running works_on (covered_stops d before s v old r new.disk run_stops) (record { b = run.0; running = running; all = refl; finished = refl }) r refl
 
   -- what a Commit asks, of a transaction that logged nothing
   module _ (t : ℕ) (row : Transaction) (found : find (is_of t) old.txns.rows ≡ Some row) (mark : row.mark ≡ Going) (released : IsReleased old.locks t new.locks) (once : length old.txns.rows ≡ length (without t old.txns.rows) + 1)
@@ -234,12 +232,12 @@ module _ {D : Type 0} (d : Ghosts D) (before : List Effect) (s : Shown) (v : Vie
         let is = at run.0 r.earlier before s v r.now.log old.txns.rows old.txns.next old.locks r.serving t row found (mark_free row.mark Going mark (λ x. cc x)) in
         let last_is : last_of t r.now.log ≡ 0 = sym (is.1.last ∙ ap (λ (n : ℕ). last_of n r.now.log) is.0) ∙ none in
         let empty : net t r.now.log ≡ [] = ap changes_of (unlogged run.0 t r.now.log rises last_is) in
-        let effect_is : (s.running t).effect ≡ [] = effect_shown s v r.serving.shows.shown t (nothing_pending d before s v old r t) (inl (is.2 ∙ ap mark_of mark)) ∙ ap seen_effect (r.serving.seen_by.nets t (ap (is_among t) r.alone) ∙ empty) in
+        let effect_is : (s.running t).effect ≡ [] = effect_shown s v r.serving.shows.shown t (nothing_pending d before s v old r t) (inl (is.2 ∙ ap mark_of mark)) ∙ ap seen_effect (r.serving.seen_by.nets t (out_of run.0 r.earlier before s v r.now.log old.txns.rows old.txns.next old.locks r.serving t (not_waiting old.txns.rows t row found (ap is_committing mark))) ∙ empty) in
         let asks : shown.asked ≡ s.asked = ap (λ (l : List Asked). s.asked ++ l) (empty_asked t true (s.running t).mark (s.running t).effect effect_is) ∙ append-nil s.asked in
         let running = runs_on d before s v old r shown w new r.now (on_here writer disk only_now)
         (subst (λ (x : Numbered). IsServing run.0 r.earlier before shown w r.now.log x.rows x.next new.locks) (sym table) served.1)
         (subst (λ (l : List Asked). AreCommitted r.earlier before l r.now.durable r.now.log) (sym asks) r.commits)
-        (subst (λ (n : ℕ). n ≤ 2 ^ 62 → AreBelow n r.now.log) (sym (ap (λ (x : Numbered). x.next) table)) r.numbered) r.alone r.unowned in
+        (subst (λ (n : ℕ). n ≤ 2 ^ 62 → AreBelow n r.now.log) (sym (ap (λ (x : Numbered). x.next) table)) r.numbered) r.unowned in
         step_made d before s v (Commit t) Committed old new w served.0 running works_on (cut_leaves d before s t old.disk new.disk (stops_here writer disk only_now s refl)) tt r
         (without_records last_is refl)
 
@@ -271,12 +269,12 @@ module _ {D : Type 0} (d : Ghosts D) (before : List Effect) (s : Shown) (v : Vie
         then_on d old.disk mid last (Allowed before (shows s (Commit t) None)) (IsCovered run.0 r.base logged.durable longer) (cut_leaves d before s t old.disk mid (covered_stops d before s v old r mid first)) second
         (λ told c is. covered_allowed run.0 r.base r.earlier before (shows s (Commit t) None) logged.durable longer r.start r.counted r.serving.made lawful_on asked_on c is)
 
-    -- behind them
-    pub committed_on : GoesOn d run.0 run.1.base with_commit mid (forced with_commit) new.writer new.disk → LeavesOnly d old.disk new.disk (Allowed before (shows s (Commit t) None))
+    -- behind them, where nobody waits
+    pub committed_on : AreRising old.txns.rows → waiting_in old.txns.rows ≡ 0 → GoesOn d run.0 run.1.base with_commit mid (forced with_commit) new.writer new.disk → LeavesOnly d old.disk new.disk (Allowed before (shows s (Commit t) None))
         → IsReleased old.locks t new.locks → length old.txns.rows ≡ length (without t old.txns.rows) + 1 → new.txns ≡ record old.txns { rows = without t old.txns.rows } → new.failed ≡ false → StepKept d before s v (Commit t) Committed old new
-    committed_on on stops released once table works_on =
+    committed_on rising alone on stops released once table works_on =
         let r = run.1 in
-        let law = logged_commits_served page_tree page_tree_laws run.0 r.earlier before s v r.now.log old.txns.rows old.txns.next old.locks new.locks t lsn row r.serving found mark some (not_owner d before s v old r t) r.lawful (outside t (open_smo r.now.log) r.closed) logged.high r.alone released once in
+        let law = logged_commits_served page_tree page_tree_laws run.0 r.earlier before s v r.now.log old.txns.rows old.txns.next old.locks new.locks t lsn row r.serving found mark some (not_owner d before s v old r t) r.lawful (outside t (open_smo r.now.log) r.closed) logged.high (nobody run.0 r.earlier before s v r.now.log old.txns.rows old.txns.next old.locks r.serving rising alone) released once in
         let shown = shows s (Commit t) (Some Committed) in
         let w = committed_by v t in
         let is = at run.0 r.earlier before s v r.now.log old.txns.rows old.txns.next old.locks r.serving t row found (mark_free row.mark Going mark (λ x. cc x)) in
@@ -294,11 +292,42 @@ module _ {D : Type 0} (d : Ghosts D) (before : List Effect) (s : Shown) (v : Vie
           serving = subst (λ (x : Numbered). IsServing run.0 r.earlier before shown w longer x.rows x.next new.locks) (sym table) law.served.1;
           commits = commits_stand.all r.earlier before shown.asked longer law.served.1.says;
           numbered = subst (λ (n : ℕ). n ≤ 2 ^ 62 → AreBelow n longer) (sym (ap (λ (x : Numbered). x.next) table)) (λ le. (subst (λ (n : ℕ). n < old.txns.next) is.0 is.1.below, r.numbered le));
-          alone = r.alone;
           unowned = r.unowned;
         } in
         let last_is : row.last ≡ last_of t r.now.log = is.1.last ∙ ap (λ (n : ℕ). last_of n r.now.log) is.0 in
         step_made d before s v (Commit t) Committed old new w law.served.0 running works_on stops tt r
+        (with_records lsn (subst (λ (n : ℕ). 1 ≤ n) last_is some) (ap (λ (n : ℕ). commit_record t n lsn ∷ r.now.log) last_is))
+
+    -- behind the record alone: it waits
+    pub queued_on : new.writer ≡ x → new.disk ≡ mid → LeavesCovered d run.0 run.1.base run.1.now.durable run.1.now.log old.disk new.disk → new.locks ≡ old.locks → new.txns ≡ record old.txns { rows = map (changed t (with_mark Committing)) old.txns.rows; waiting = old.txns.waiting + 1 } → new.failed ≡ false
+        → StepKept d before s v (Commit t) More old new
+    queued_on writer disk run_stops locks table works_on =
+        let r = run.1 in
+        let law = logged_commits_wait page_tree page_tree_laws run.0 r.earlier before s v r.now.log old.txns.rows old.txns.next old.locks t lsn row r.serving found mark some (not_owner d before s v old r t) r.lawful (outside t (open_smo r.now.log) r.closed) logged.high in
+        let shown = shows s (Commit t) (Some More) in
+        let w = queued v t in
+        let is = at run.0 r.earlier before s v r.now.log old.txns.rows old.txns.next old.locks r.serving t row found (mark_free row.mark Going mark (λ x. cc x)) in
+        let works_now : s.failed ≡ false = r.serving.shows.shown.failed ∙ r.serving.works in
+        let asked_same : (shows s (Commit t) None).asked ≡ shown.asked = ap (λ (b : Bool). (if b then s else asks t false s).asked) works_now in
+        let running : IsRunning d run.0 before shown w new = record {
+          base = r.base;
+          start = r.start;
+          counted = r.counted;
+          earlier = r.earlier;
+          now = with_commit;
+          stands = subst (λ (y : PageWriter × D). StandsAs d run.0 r.base with_commit y.0 y.1) (λ i. (sym writer i, sym disk i)) logged.stands;
+          redo_end = r.redo_end;
+          over = r.over;
+          lawful = law.lawful;
+          closed = r.closed;
+          serving = subst (λ (x : Numbered). IsServing run.0 r.earlier before shown w longer x.rows x.next new.locks) (sym table)
+              (subst (λ (l : Table). IsServing run.0 r.earlier before shown w longer (map (changed t (with_mark Committing)) old.txns.rows) old.txns.next l) (sym locks) law.served.1);
+          commits = subst (λ (l : List Asked). AreCommitted r.earlier before l logged.durable longer) asked_same asked_on;
+          numbered = subst (λ (n : ℕ). n ≤ 2 ^ 62 → AreBelow n longer) (sym (ap (λ (x : Numbered). x.next) table)) (λ le. (subst (λ (n : ℕ). n < old.txns.next) is.0 is.1.below, r.numbered le));
+          unowned = r.unowned;
+        } in
+        let last_is : row.last ≡ last_of t r.now.log = is.1.last ∙ ap (λ (n : ℕ). last_of n r.now.log) is.0 in
+        step_made d before s v (Commit t) More old new w law.served.0 running works_on (cut_leaves d before s t old.disk new.disk (covered_stops d before s v old r new.disk run_stops)) tt r
         (with_records lsn (subst (λ (n : ℕ). 1 ≤ n) last_is some) (ap (λ (n : ℕ). commit_record t n lsn ∷ r.now.log) last_is))
 
   -- one that a call refused has failed
@@ -347,7 +376,7 @@ module _ {D : Type 0} (d : Ghosts D) (before : List Effect) (s : Shown) (v : Vie
       let running = runs_on d before s v old r s v new f.now f.on
       (subst (λ (x : Numbered). IsServing b r.earlier before s v f.now.log x.rows x.next new.locks) (sym table)
       (subst (λ (l : _). IsServing b r.earlier before s v f.now.log old.txns.rows old.txns.next l) (sym locks) served.1)) commits
-      (subst (λ (n : ℕ). n ≤ 2 ^ 62 → AreBelow n f.now.log) (sym (ap (λ (x : Numbered). x.next) table)) (λ le. same.below old.txns.next old.first (r.numbered le))) r.alone r.unowned in
+      (subst (λ (n : ℕ). n ≤ 2 ^ 62 → AreBelow n f.now.log) (sym (ap (λ (x : Numbered). x.next) table)) (λ le. same.below old.txns.next old.first (r.numbered le))) r.unowned in
       let reads = f.on.goes.writing.stands.file.reads p ∙ f.in_file ((f.on.goes.keeps.pages p).waits ∙ none_waits d before s v old r p) ∙ ap (λ (g : Page). Some g) (page_is d before s v new running p) in
       step_made d before s v (FlushPage p) Done old new v served.0 running works_on (read_stops d before s v old r new.writer new.disk (flush_asks d one)) (record { b = b; running = running; reads = reads }) r
       f.on.goes.keeps.log

@@ -107,7 +107,6 @@ module _ {D : Type 0} (d : Ghosts D) (before : List Effect) (s : Shown) (v : Vie
             (subst (λ (l : _). IsServing run.0 r.earlier before s v longer old.txns.rows old.txns.next l) (sym locks) law.served.1);
         commits = commits_stand.all r.earlier before s.asked longer law.served.1.says;
         numbered = subst (λ (n : ℕ). n ≤ 2 ^ 62 → AreBelow n longer) (sym (ap (λ (x : Numbered). x.next) table)) (λ le. on.below old.txns.next old.first (r.numbered le));
-        alone = r.alone;
         unowned = r.unowned;
       } in
       step_made d before s v Checkpoint Done old new v law.served.0 running works_on (taken_stops leaves) (record {

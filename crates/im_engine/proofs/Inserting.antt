@@ -140,7 +140,7 @@ module _ {D : Type 0} (d : Ghosts D) {b : Base} (before : List Effect) (s : Show
         let w = did v t (Insert key rid) (locks_of new.locks t) in
         subst (λ (reply : Reply). StepKept d before s v (Do t (Insert key rid)) reply old new) says
         (edited d before s v old r t row found mark (Insert key rid) new is.now r.redo_end noted.last noted.undo_next is.stands is.durable grown rows table w
-        (subst (λ (reply : Reply). IsServed b r.earlier before s v (Do t (Insert key rid)) reply w is.now.log rows old.txns.next new.locks) (sym says) after_record) r.alone r.unowned stops works (subst (λ (reply : Reply). GrowsAs b reply (Do t (Insert key rid)) r.now.log is.now.log) (sym says) puts))
+        (subst (λ (reply : Reply). IsServed b r.earlier before s v (Do t (Insert key rid)) reply w is.now.log rows old.txns.next new.locks) (sym says) after_record) r.unowned stops works (subst (λ (reply : Reply). GrowsAs b reply (Do t (Insert key rid)) r.now.log is.now.log) (sym says) puts))
 
 -- ---- refusals
 
@@ -158,7 +158,7 @@ module _ {D : Type 0} (d : Ghosts D) (before : List Effect) (s : Shown) (v : Vie
   -- pages are wanting
   lacks_pages : Evicted d run.0 run.1.base run.1.now old.disk new.writer new.disk → LeavesOnly d old.disk new.disk (Allowed before s) → new.txns ≡ old.txns → SameTable old.locks new.locks → new.failed ≡ false → StepKept d before s v (Do t (Insert key rid)) (Refused pages_full) old new
   lacks_pages is leaves table same works_on =
-      grown_made d before s v v (Do t (Insert key rid)) (Refused pages_full) old new run.1 old.txns run.1.alone run.1.unowned is
+      grown_made d before s v v (Do t (Insert key rid)) (Refused pages_full) old new run.1 old.txns run.1.unowned is
       (λ longer stays all. lacks_served run.0 run.1.earlier before s v run.1.now.log longer old.txns.rows old.txns.next new.locks (Do t (Insert key rid)) pages_full
       (serving_with run.0 run.1.earlier before s v run.1.now.log old.txns.rows old.txns.next old.locks new.locks same run.1.serving) bars (inl refl) stays all)
       refl refl table refl leaves works_on tt (λ longer images. images)

@@ -34,3 +34,4 @@ pub mod Inserting
 pub mod Promised
 pub mod AsAlone
 pub mod OneLook
+pub mod Waits

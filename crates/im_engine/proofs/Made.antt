@@ -65,7 +65,7 @@ module _ {D : Type 0} (d : Ghosts D) (before : List Effect) where
     }
 
   -- a step behind calls that added no more than Images, which asks no effect
-  module _ {b : Base} (s : Shown) (v w : View) (step : Step) (reply : Reply) (old new : Engine D d) (r : IsRunning d b before s v old) (txns : Numbered) (alone : w.queue ≡ []) (unowned : w.under ≡ None) where
+  module _ {b : Base} (s : Shown) (v w : View) (step : Step) (reply : Reply) (old new : Engine D d) (r : IsRunning d b before s v old) (txns : Numbered) (unowned : w.under ≡ None) where
     pub grown_made : Evicted d b r.base r.now old.disk new.writer new.disk
         → ((longer : History) → Stays b r.now.log longer → IsOfAll r.now.log longer → IsServed b r.earlier before s v step reply w longer txns.rows txns.next new.locks)
         → (shows s step (Some reply)).asked ≡ s.asked → (shows s step None).asked ≡ s.asked → new.txns ≡ txns → txns.next ≡ old.txns.next → LeavesOnly d old.disk new.disk (Allowed before s)
@@ -81,7 +81,7 @@ module _ {D : Type 0} (d : Ghosts D) (before : List Effect) where
         let running = runs_on d before s v old r (shows s step (Some reply)) w new is.now is.on
         (subst (λ (x : Numbered). IsServing b r.earlier before (shows s step (Some reply)) w is.now.log x.rows x.next new.locks) (sym table) served.1)
         (subst (λ (l : List Asked). AreCommitted r.earlier before l is.now.durable is.now.log) (sym asks) commits)
-        (subst (λ (n : ℕ). n ≤ 2 ^ 62 → AreBelow n is.now.log) (sym (ap (λ (x : Numbered). x.next) table ∙ next)) (λ le. same.below old.txns.next old.first (r.numbered le))) alone unowned in
+        (subst (λ (n : ℕ). n ≤ 2 ^ 62 → AreBelow n is.now.log) (sym (ap (λ (x : Numbered). x.next) table ∙ next)) (λ le. same.below old.txns.next old.first (r.numbered le))) unowned in
         step_made s v step reply old new w served.0 running works (leaves_as s (shows s step None) old.disk new.disk cut stops) done r
         (bare is.now.log is.on.goes.keeps.log)
 

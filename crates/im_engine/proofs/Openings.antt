@@ -95,6 +95,5 @@ module _ {D : Type 0} (d : Ghosts D) (before : List Effect) (old : D) (l : Stand
             (subst (λ (list : List Transaction). IsServing l.b l.earlier before nothing_shown (start (apply_all empty before) e.txns.next) is.now.log list e.txns.next []) (sym rows) serves);
         commits = commits_stand.begins l.earlier before is.now.durable is.now.log whole (ap committed is.durable);
         numbered = λ le. left.below e.txns.next e.first (subst (λ (n : ℕ). AreBelow n l.log) (sym next) (next_is_above (least_number (d.seen old Log)) r.next l.log number (omega (arith, le, next))));
-        alone = refl;
         unowned = refl;
       })

@@ -76,7 +76,7 @@ module _ {D : Type 0} (d : Ghosts D) (before : List Effect) (s : Shown) (v : Vie
   pub lacks_with : Wants step memory → Evicted d run.0 run.1.base run.1.now old.disk new.writer new.disk → LeavesOnly d old.disk new.disk (Allowed before s) → new.txns ≡ old.txns → SameTable old.locks new.locks → new.failed ≡ false
       → StepKept d before s v step (Refused memory) old new
   lacks_with wants is leaves table same works_on =
-      grown_made d before s v v step (Refused memory) old new run.1 old.txns run.1.alone run.1.unowned is
+      grown_made d before s v v step (Refused memory) old new run.1 old.txns run.1.unowned is
       (λ longer stays all. lacks_served run.0 run.1.earlier before s v run.1.now.log longer old.txns.rows old.txns.next new.locks step memory
       (serving_with run.0 run.1.earlier before s v run.1.now.log old.txns.rows old.txns.next old.locks new.locks same run.1.serving) checked wants stays all)
       (refusals_ask_nothing memory step s (λ t is. inl refl)) (others_ask_nothing.cut s step other) table refl leaves works_on (none_done d before (shows s step (Some (Refused memory))) v step memory new) (λ longer images. images)

@@ -109,17 +109,6 @@ module _ {D : Type 0} (d : Ghosts D) (step : Step) (reply : Reply) (old new : En
 
 -- ---- who ends had begun
 
--- a Commit takes nothing back
-no_commit : (step : answers.Step) → takes_back step ≡ true → is_commit step ≡ false
-no_commit (answers.Rollback t) e = refl
-no_commit (answers.Continue t) e = refl
-no_commit (answers.Commit t) e = absurd (true≢false (sym e))
-no_commit answers.Begin e = absurd (true≢false (sym e))
-no_commit (answers.Do t a) e = absurd (true≢false (sym e))
-no_commit (answers.FlushPage p) e = absurd (true≢false (sym e))
-no_commit answers.Force e = absurd (true≢false (sym e))
-no_commit answers.Checkpoint e = absurd (true≢false (sym e))
-
 -- a step that ends a transaction is refused where there is none
 no_row : (step : answers.Step) → ((is_commit step ≡ true) ⊎ (takes_back step ≡ true)) → first_check false 0 (mark_for (marks_in []) step) false step ≡ Some (number_of faults.NoTransaction)
 no_row (answers.Commit t) e = refl
@@ -136,7 +125,7 @@ no_row answers.Force (inr e) = absurd (true≢false (sym e))
 no_row answers.Checkpoint (inl e) = absurd (true≢false (sym e))
 no_row answers.Checkpoint (inr e) = absurd (true≢false (sym e))
 
-module _ {D : Type 0} (d : Ghosts D) (step : Step) (reply : Reply) (old new : Engine D d) (one : IsStep d step reply old new) where
+module _ {D : Type 0} (d : Ghosts D) (step : Step) (reply : Reply) (old new : Engine D d) (one : IsStep d step reply old new) (few : old.txns.waiting ≤ length old.txns.rows) where
   -- where a reply that is no refusal ended a transaction, there was one
   some_row : ((fault : Fault) → reply ≡ replies.Refused fault → ⊥) → ((is_commit (asked_by step) ≡ true) ⊎ (takes_back (asked_by step) ≡ true)) → 1 ≤ length old.txns.rows
   some_row answered ends = by old.txns.rows refl
@@ -154,57 +143,68 @@ module _ {D : Type 0} (d : Ghosts D) (step : Step) (reply : Reply) (old new : En
       by [] is = absurd (none is)
       by (row ∷ rows) is = let long : length old.txns.rows ≡ length (row ∷ rows) = ap length is in omega (arith, long)
 
-  now : (r : Reply) → reply ≡ r → length new.txns.rows ≡ (after r (known_of d old)).active
-  now r is = ap (λ (k : Known). k.active) one.told.known ∙ ap (λ (x : Reply). (after x (known_of d old)).active) is
+  now : (r : Reply) → reply ≡ r → length new.txns.rows ≡ (after (asked_by step) r (known_of d old)).active
+  now r is = ap (λ (k : Known). k.active) one.told.known ∙ ap (λ (x : Reply). (after (asked_by step) x (known_of d old)).active) is
 
-  abbrev AreAsMany : ℕ → ℕ → Type 0
-  AreAsMany ended waits = (0 + length old.txns.rows ≡ (ended + 0) + length new.txns.rows) × (0 ≡ waits)
+  waits_now : (r : Reply) → reply ≡ r → new.txns.waiting ≡ (after (asked_by step) r (known_of d old)).waiting
+  waits_now r is = ap (λ (k : Known). k.waiting) one.told.known ∙ ap (λ (x : Reply). (after (asked_by step) x (known_of d old)).waiting) is
 
-  plain : length new.txns.rows ≡ length old.txns.rows → AreAsMany 0 0
-  plain e = (omega (arith, e), refl)
+  abbrev AreCounted : Reply → Type 0
+  AreCounted r = IsCounted (asked_by step) (told_by r) old.txns.waiting (length old.txns.rows) new.txns.waiting (length new.txns.rows)
 
-  -- nobody waits for a force, also where one is made
-  done : (b : Bool) → length new.txns.rows ≡ length old.txns.rows → AreAsMany (if b then 0 else 0) (if b then 0 else 0)
-  done true e = plain e
-  done false e = plain e
+  plain : length new.txns.rows ≡ length old.txns.rows → 0 + length old.txns.rows ≡ (0 + 0) + length new.txns.rows
+  plain e = omega (arith, e)
 
-  more : (b : Bool) → b ≡ false → length new.txns.rows ≡ length old.txns.rows → AreAsMany 0 (if b then 0 + 1 else 0)
-  more true never e = absurd (true≢false never)
-  more false is e = plain e
-
-  counts : (r : Reply) → reply ≡ r → IsCounted (asked_by step) (told_by r) 0 (length old.txns.rows) 0 (length new.txns.rows)
-  counts (replies.Started n) is = let e : length new.txns.rows ≡ length old.txns.rows + 1 = now (replies.Started n) is in (omega arith, refl)
+  counts : (r : Reply) → reply ≡ r → AreCounted r
+  counts (replies.Started n) is = let e : length new.txns.rows ≡ length old.txns.rows + 1 = now (replies.Started n) is in (omega arith, waits_now (replies.Started n) is)
   counts replies.Committed is =
       let e : length new.txns.rows ≡ length old.txns.rows - 1 = now replies.Committed is in
       let suits : is_commit (asked_by step) ≡ true = subst (λ (r : Reply). SuitsAtOnce (asked_by step) (told_by r)) is one.suits in
       let some = some_row (λ fault so. (let never = sym is ∙ so in cc never)) (inl suits) in
-      (omega (arith, e, some), refl)
+      (omega (arith, e, some), waits_now replies.Committed is)
   counts replies.RolledBack is =
       let e : length new.txns.rows ≡ length old.txns.rows - 1 = now replies.RolledBack is in
       let suits : takes_back (asked_by step) ≡ true = subst (λ (r : Reply). SuitsAtOnce (asked_by step) (told_by r)) is one.suits in
       let some = some_row (λ fault so. (let never = sym is ∙ so in cc never)) (inr suits) in
-      (omega (arith, e, some), refl)
-  counts (replies.Refused fault) is = plain (now (replies.Refused fault) is)
-  counts (replies.Found rid) is = plain (now (replies.Found rid) is)
-  counts replies.Absent is = plain (now replies.Absent is)
-  counts (replies.Entry key rid) is = plain (now (replies.Entry key rid) is)
-  counts replies.End is = plain (now replies.End is)
-  counts (replies.Entries list) is = plain (now (replies.Entries list) is)
-  counts replies.Inserted is = plain (now replies.Inserted is)
-  counts replies.Duplicate is = plain (now replies.Duplicate is)
-  counts replies.Deleted is = plain (now replies.Deleted is)
-  counts replies.More is = more (is_commit (asked_by step)) (no_commit (asked_by step) (subst (λ (r : Reply). SuitsAtOnce (asked_by step) (told_by r)) is one.suits)) (now replies.More is)
-  counts (replies.Blocked (blockers.Lock h)) is = plain (now (replies.Blocked (blockers.Lock h)) is)
-  counts (replies.Blocked blockers.Tree) is = plain (now (replies.Blocked blockers.Tree) is)
-  counts replies.Die is = plain (now replies.Die is)
-  counts replies.Done is = done (is_force (asked_by step)) (now replies.Done is)
+      (omega (arith, e, some), waits_now replies.RolledBack is)
+  counts replies.More is = by (is_commit (asked_by step)) (now replies.More is) (waits_now replies.More is)
+    where
+      by : (b : Bool) → length new.txns.rows ≡ (if b then record (known_of d old) { waiting = old.txns.waiting + 1 } else known_of d old).active → new.txns.waiting ≡ (if b then record (known_of d old) { waiting = old.txns.waiting + 1 } else known_of d old).waiting
+          → (0 + length old.txns.rows ≡ (0 + 0) + length new.txns.rows) × (new.txns.waiting ≡ (if b then old.txns.waiting + 1 else old.txns.waiting))
+      by true e waits = (plain e, waits)
+      by false e waits = (plain e, waits)
+  counts replies.Done is = by (is_force (asked_by step)) (now replies.Done is) (waits_now replies.Done is)
+    where
+      by : (b : Bool) → length new.txns.rows ≡ (if b then record (known_of d old) { active = length old.txns.rows - old.txns.waiting; waiting = 0 } else known_of d old).active
+          → new.txns.waiting ≡ (if b then record (known_of d old) { active = length old.txns.rows - old.txns.waiting; waiting = 0 } else known_of d old).waiting
+          → (0 + length old.txns.rows ≡ ((if b then old.txns.waiting else 0) + 0) + length new.txns.rows) × (new.txns.waiting ≡ (if b then 0 else old.txns.waiting))
+      by true e waits = let left : length new.txns.rows ≡ length old.txns.rows - old.txns.waiting = e in (omega (arith, left, few), waits)
+      by false e waits = (plain e, waits)
+  counts (replies.Refused fault) is = (plain (now (replies.Refused fault) is), waits_now (replies.Refused fault) is)
+  counts (replies.Found rid) is = (plain (now (replies.Found rid) is), waits_now (replies.Found rid) is)
+  counts replies.Absent is = (plain (now replies.Absent is), waits_now replies.Absent is)
+  counts (replies.Entry key rid) is = (plain (now (replies.Entry key rid) is), waits_now (replies.Entry key rid) is)
+  counts replies.End is = (plain (now replies.End is), waits_now replies.End is)
+  counts (replies.Entries list) is = (plain (now (replies.Entries list) is), waits_now (replies.Entries list) is)
+  counts replies.Inserted is = (plain (now replies.Inserted is), waits_now replies.Inserted is)
+  counts replies.Duplicate is = (plain (now replies.Duplicate is), waits_now replies.Duplicate is)
+  counts replies.Deleted is = (plain (now replies.Deleted is), waits_now replies.Deleted is)
+  counts (replies.Blocked (blockers.Lock h)) is = (plain (now (replies.Blocked (blockers.Lock h)) is), waits_now (replies.Blocked (blockers.Lock h)) is)
+  counts (replies.Blocked blockers.Tree) is = (plain (now (replies.Blocked blockers.Tree) is), waits_now (replies.Blocked blockers.Tree) is)
+  counts replies.Die is = (plain (now replies.Die is), waits_now replies.Die is)
 
-  pub step_counts : IsCounted (asked_by step) (told_by reply) 0 (length old.txns.rows) 0 (length new.txns.rows)
+  pub step_counts : AreCounted reply
   step_counts = counts reply refl
 
 -- ---- a look
 
 -- leaves as many active
+pub looks_rows : {D : Type 0} (d : Ghosts D) (why : Option below.Fault) (old new : Engine D d) → Looks d why old new → new.txns.rows ≡ old.txns.rows
+looks_rows {D = D} d why old new looks = elim (cases_Bool old.failed) [
+  | inl failed ↦ ap (λ (e : Engine D d). e.txns.rows) (looks.same failed)
+  | inr works ↦ ap (λ (x : Numbered). x.rows) (looks.searched works).txns
+]
+
 pub looks_active : {D : Type 0} (d : Ghosts D) (why : Option below.Fault) (old new : Engine D d) → Looks d why old new → length new.txns.rows ≡ length old.txns.rows
 looks_active {D = D} d why old new looks = elim (cases_Bool old.failed) [
   | inl failed ↦ ap (λ (e : Engine D d). length e.txns.rows) (looks.same failed)

@@ -140,8 +140,8 @@ module _ {D : Type 0} (d : Ghosts D) {b : Base} (before : List Effect) (s : Show
 
   -- the same engine, where its log has grown by Images, and table, locks and next number have gone on to what a step made of them
   unfoldable pub runs_on : (t : Shown) (w : View) (new : Engine D d) (now : Writer) (on : GoesOn d b r.base r.now e.disk now new.writer new.disk) → IsServing b r.earlier before t w now.log new.txns.rows new.txns.next new.locks
-      → AreCommitted r.earlier before t.asked now.durable now.log → (new.txns.next ≤ 2 ^ 62 → AreBelow new.txns.next now.log) → w.queue ≡ [] → w.under ≡ None → IsRunning d b before t w new
-  runs_on t w new now on serving commits numbered alone unowned =
+      → AreCommitted r.earlier before t.asked now.durable now.log → (new.txns.next ≤ 2 ^ 62 → AreBelow new.txns.next now.log) → w.under ≡ None → IsRunning d b before t w new
+  runs_on t w new now on serving commits numbered unowned =
       let same = copies_are_images page_tree b r.now.log now.log on.goes.keeps.log in
       record {
         base = r.base;
@@ -157,6 +157,5 @@ module _ {D : Type 0} (d : Ghosts D) {b : Base} (before : List Effect) (s : Show
         serving = serving;
         commits = commits;
         numbered = numbered;
-        alone = alone;
         unowned = unowned;
       }

@@ -1,6 +1,6 @@
 -- A step behind its checks, and one that a check refuses.
 use Rattle.std.proofs.Common.{◌≡◌, ◌≢◌, ◌⊎◌, inl, inr, ⊎_elim, ℕ, Bool, true, false, List, length, Option, None, Some, refl, sym, ap, subst, ◌∙◌, cond}
-use Rattle.std.specs.Prelude.{◌||◌, ◌==◌, if◌then◌else◌, ◌↔◌, not}
+use Rattle.std.specs.Prelude.{◌||◌, ◌==◌, ◌+◌, ◌-◌, if◌then◌else◌, ◌↔◌, not}
 use Rattle.im_base_types.specs.Answers as answers
 use Rattle.im_base_types.specs.Answers.{Step, Begin, Do, Commit, Rollback, Continue, FlushPage, Force, Checkpoint, Access, Mark, Idle, Going, MustRollBack, RollingBack, Committing}
 use Rattle.im_base_types.specs.Changes.{Effect}
@@ -22,14 +22,15 @@ use Rattle.im_theory_steps.specs.Checks.{marks_in}
 use Rattle.im_base_types.specs.declared.fault.Fault.{Fault}
 use Rattle.im_base_types.specs.declared.fault.Fault.TheVariants as faults
 use Rattle.im_base_steps.specs.declared.reply.Reply.{Reply}
-use Rattle.im_base_steps.specs.declared.reply.Reply.TheVariants.{Started, Committed, RolledBack, Refused}
+use Rattle.im_base_steps.specs.declared.reply.Reply.TheVariants.{Started, Committed, RolledBack, More, Done, Refused}
 use Rattle.im_base_steps.specs.declared.step.Step.{Step as Asked}
-use Rattle.im_base_steps.specs.Calls.{asked_by, told_by}
+use Rattle.im_base_steps.specs.Calls.{asked_by, told_by, is_force}
+use Rattle.im_base_steps.specs.Replies.{is_commit}
 use Rattle.im_base_types.specs.Faults.{number_of}
 use Rattle.im_engine.specs.declared.engine.Engine.{Engine}
 use Rattle.im_engine.specs.Running.{IsLife}
 use Rattle.im_engine.specs.Kept.{StepKept}
-use Rattle.im_engine.specs.Told.{Fixed, Known, AnswersAlone, AsksChange, wants_pages, wants_numbers, wants_memory, Checked, IsAnswered, IsMade, IsStep, IsTold, Refuses, StepCosts, WantsOf, after, check_of, fixed_of, is_early, known_of}
+use Rattle.im_engine.specs.Told.{Fixed, Known, AnswersAlone, AsksChange, wants_pages, wants_numbers, wants_memory, Checked, IsAnswered, IsMade, IsStep, IsTold, Refuses, StepCosts, SuitsGroup, WantsOf, after, check_of, fixed_of, is_early, known_of}
 use Rattle.im_engine.proofs.Alone.{answers_alone}
 use Rattle.im_engine.proofs.Barred.{barred_kept, first_failed}
 use Rattle.im_engine.proofs.Causes.{refused_inj}
@@ -200,14 +201,24 @@ refused_alone before s (FlushPage p) n = tt
 refused_alone before s Force n = tt
 refused_alone before s Checkpoint n = tt
 
-keeps_fixed : (reply : Reply) (k : Known) → (after reply k).fixed ≡ k.fixed
-keeps_fixed (Started n) k = refl
-keeps_fixed Committed k = refl
-keeps_fixed RolledBack k = refl
-keeps_fixed (Refused fault) k = refl
-keeps_fixed _ k = refl
+keeps_fixed : (step : Step) (reply : Reply) (k : Known) → (after step reply k).fixed ≡ k.fixed
+keeps_fixed step (Started n) k = refl
+keeps_fixed step Committed k = refl
+keeps_fixed step RolledBack k = refl
+keeps_fixed step (Refused fault) k = refl
+keeps_fixed step More k = by (is_commit step)
+  where
+    by : (b : Bool) → (if b then record k { waiting = k.waiting + 1 } else k).fixed ≡ k.fixed
+    by true = refl
+    by false = refl
+keeps_fixed step Done k = by (is_force step)
+  where
+    by : (b : Bool) → (if b then record k { active = k.active - k.waiting; waiting = 0 } else k).fixed ≡ k.fixed
+    by true = refl
+    by false = refl
+keeps_fixed step _ k = refl
 
-module _ {D : Type 0} (d : Ghosts D) (reply : Reply) (old new : Engine D d) (told : IsTold d reply old new) where
+module _ {D : Type 0} (d : Ghosts D) (step : Step) (reply : Reply) (old new : Engine D d) (told : IsTold d step reply old new) where
   -- a disk that has failed leaves no working engine
   told_works : d.failed new.disk ≡ true → new.failed ≡ true
   told_works lost = by old.failed refl
@@ -215,14 +226,14 @@ module _ {D : Type 0} (d : Ghosts D) (reply : Reply) (old new : Engine D d) (tol
       by : (b : Bool) → old.failed ≡ b → new.failed ≡ true
       by true was = ap (λ (e : Engine D d). e.failed) (told.same (ap (λ (b : Bool). b || is_early reply) was)) ∙ was
       by false works =
-          ap (λ (k : Known). k.failed) told.known ∙ ap (λ (r : Reply). (after r (known_of d old)).failed) (told.device works lost) ∙ ap (λ (b : Bool). b || breaks (number_of faults.Device)) works
+          ap (λ (k : Known). k.failed) told.known ∙ ap (λ (r : Reply). (after step r (known_of d old)).failed) (told.device works lost) ∙ ap (λ (b : Bool). b || breaks (number_of faults.Device)) works
 
   told_fixed : fixed_of d new ≡ fixed_of d old
-  told_fixed = ap (λ (k : Known). k.fixed) told.known ∙ keeps_fixed reply (known_of d old)
+  told_fixed = ap (λ (k : Known). k.fixed) told.known ∙ keeps_fixed step reply (known_of d old)
 
 -- no step of a sound store finds bytes that are none
 never_found : {D : Type 0} (d : Ghosts D) (step : Step) (reply : Reply) (old new : Engine D d) → ((before : List Effect) (s : Shown) (v : View) → IsLife d before s v old → StepKept d before s v step (told_by reply) old new)
-    → IsTold d reply old new → (before : List Effect) (s : Shown) (v : View) → IsLife d before s v old → reply ≢ Refused faults.NotAStore
+    → IsTold d step reply old new → (before : List Effect) (s : Shown) (v : View) → IsLife d before s v old → reply ≢ Refused faults.NotAStore
 never_found d step reply old new kept told before s v life is = by old.failed refl
   where
     by : (b : Bool) → old.failed ≡ b → ⊥
@@ -233,7 +244,7 @@ never_found d step reply old new kept told before s v life is = by old.failed re
 
 -- an access that was answered
 alone_so : {D : Type 0} (d : Ghosts D) (step : Step) (reply : Reply) (old new : Engine D d) → ((before : List Effect) (s : Shown) (v : View) → IsLife d before s v old → StepKept d before s v step (told_by reply) old new)
-    → IsTold d reply old new → (before : List Effect) (s : Shown) (v : View) → IsLife d before s v old → AnswersAlone before s step (told_by reply)
+    → IsTold d step reply old new → (before : List Effect) (s : Shown) (v : View) → IsLife d before s v old → AnswersAlone before s step (told_by reply)
 alone_so d step reply old new kept told before s v life = by old.failed refl
   where
     by : (b : Bool) → old.failed ≡ b → AnswersAlone before s step (told_by reply)
@@ -251,14 +262,15 @@ step_made_of d step reply old new none m = record {
   checked = λ fault is. absurd (let never = is ∙ sym none in cc never);
   answered = m.answered;
   suits = m.suits;
+  grouped = m.grouped;
   wants = λ works. m.wants;
   quiet = m.quiet;
   costs = m.costs;
-  works = told_works d reply old new m.told;
+  works = told_works d (asked_by step) reply old new m.told;
   never = never_found d (asked_by step) reply old new m.kept m.told;
-  max_pages = ap (λ (f : Fixed). f.max_pages) (told_fixed d reply old new m.told);
+  max_pages = ap (λ (f : Fixed). f.max_pages) (told_fixed d (asked_by step) reply old new m.told);
   frames = m.frames;
-  report = ap (λ (f : Fixed). f.redo) (told_fixed d reply old new m.told);
+  report = ap (λ (f : Fixed). f.redo) (told_fixed d (asked_by step) reply old new m.told);
 }
 
 -- of a step that is this one
@@ -323,16 +335,27 @@ module _ {D : Type 0} (d : Ghosts D) (step : Asked) (e : Engine D d) (only_now :
   costs_none : (step : Step) → StepCosts d step (Refused fault) e e
   costs_none Begin = tt
   costs_none (Do t a) = tt
-  costs_none (Commit t) = record { most = most_none d 4 4 e.disk; forces = λ is. absurd (cc is); one = λ is. absurd (cc is) }
+  costs_none (Commit t) = record { most = most_none d 4 4 e.disk; forces = λ is. absurd (cc is); one = λ is. absurd (cc is); buffered = λ is. absurd (cc is); room = λ is. absurd (cc is) }
   costs_none (Rollback t) = tt
   costs_none (Continue t) = tt
   costs_none (FlushPage p) = λ is. absurd (cc is)
   costs_none Force = record { most = most_none d 2 2 e.disk; one = λ is. absurd (cc is) }
   costs_none Checkpoint = most_none d 4 5 e.disk
 
-  told_so : IsTold d (Refused fault) e e
+  -- and lets nobody wait
+  waits_none : (step : Step) → SuitsGroup step (Refused fault) e.txns
+  waits_none Begin = tt
+  waits_none (Do t a) = tt
+  waits_none (Commit t) = tt
+  waits_none (Rollback t) = tt
+  waits_none (Continue t) = tt
+  waits_none (FlushPage p) = tt
+  waits_none Force = tt
+  waits_none Checkpoint = tt
+
+  told_so : IsTold d (asked_by step) (Refused fault) e e
   told_so = record {
-    known = λ j. record { failed = stays_so j; active = length e.txns.rows; next = e.txns.next; fixed = fixed_of d e };
+    known = λ j. record { failed = stays_so j; active = length e.txns.rows; waiting = e.txns.waiting; group = e.txns.group; next = e.txns.next; fixed = fixed_of d e };
     number = tt;
     failed = λ was. ap (λ (f : Fault). Refused f) (fails_so was);
     same = λ _. refl;
@@ -349,10 +372,11 @@ module _ {D : Type 0} (d : Ghosts D) (step : Asked) (e : Engine D d) (only_now :
     answered = λ other. subst (λ (o : Option ℕ). (Refused fault ≡ Refused other) ↔ Checked o other (Refuses d (Refused fault) e e.writer.log e.disk other (asked_by step))) is
         (λ so. ap number_of (sym (refused_inj fault other so)), λ so. ap (λ (f : Fault). Refused f) (same_fault fault other (sym so)));
     suits = tt;
+    grouped = waits_none (asked_by step);
     wants = λ works b before s v r. wants_none works _ _ _ _ (λ t. (v.txns t).net) (locks_of e.locks) _ (asked_by step);
     quiet = λ _. refl;
     costs = costs_none (asked_by step);
-    works = told_works d (Refused fault) e e told_so;
+    works = told_works d (asked_by step) (Refused fault) e e told_so;
     never = never_found d (asked_by step) (Refused fault) e e (λ before s v life. barred_kept d before s v (asked_by step) e life only_now (number_of fault) is) told_so;
     max_pages = refl;
     frames = refl;

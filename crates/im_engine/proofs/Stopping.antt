@@ -1,6 +1,7 @@
 -- What a stop leaves that falls behind some of the replies of a life.
 use Rattle.std.proofs.Common.{◌≡◌, ◌≢◌, inl, inr, ℕ, zero, suc, ◌≤◌, Bool, true, false, List, [], ◌∷◌, length, take, None, Some, refl, sym, ap, subst, ◌∙◌, arith}
 use Rattle.std.specs.Prelude.{◌||◌}
+use Rattle.im_base_types.specs.Answers as answers
 use Rattle.im_base_types.specs.Changes.{Effect}
 use Rattle.im_base_types.specs.Lives.{Shown, shows}
 use Rattle.im_base_lock.specs.View.{View}
@@ -20,8 +21,8 @@ use Rattle.im_engine.specs.Turns.{behind, AreSteps, IsCutOff, IsCutOffBehind, No
 use Rattle.im_engine.specs.Told.{IsTold, is_early}
 
 module _ {D : Type 0} (d : Ghosts D) where
-  alive_behind : (reply : Reply) (old new : Engine D d) → IsTold d reply old new → d.failed old.disk ≡ false → reply ≢ Refused Device → d.failed new.disk ≡ false
-  alive_behind reply old new told alive not = by old.failed refl
+  alive_behind : (step : answers.Step) (reply : Reply) (old new : Engine D d) → IsTold d step reply old new → d.failed old.disk ≡ false → reply ≢ Refused Device → d.failed new.disk ≡ false
+  alive_behind step reply old new told alive not = by old.failed refl
     where
       of_disk : (b : Bool) → d.failed new.disk ≡ b → old.failed ≡ false → d.failed new.disk ≡ false
       of_disk true lost works = absurd (not (told.device works lost))
@@ -36,7 +37,7 @@ module _ {D : Type 0} (d : Ghosts D) where
   alive_at_end [] [] old new turns alive none = ap (λ (e : Engine D d). d.failed e.disk) turns ∙ alive
   alive_at_end [] (r ∷ replies) old new turns alive none = absurd turns
   alive_at_end (step ∷ steps) [] old new turns alive none = absurd turns
-  alive_at_end (step ∷ steps) (reply ∷ replies) old new turns alive none = alive_at_end steps replies turns.0 new turns.2 (alive_behind reply old turns.0 turns.1.told alive none.0) none.1
+  alive_at_end (step ∷ steps) (reply ∷ replies) old new turns alive none = alive_at_end steps replies turns.0 new turns.2 (alive_behind (asked_by step) reply old turns.0 turns.1.told alive none.0) none.1
 
 module _ {D : Type 0} (d : Ghosts D) (only_now : (disk : D) (c : Files) → d.left_since disk (d.moment disk) c → d.may_leave disk c) (before : List Effect) where
   -- no call of the disk more

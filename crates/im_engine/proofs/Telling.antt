@@ -11,11 +11,12 @@ use Rattle.im_base_txn.specs.Rows.{begun}
 use Rattle.im_base_lock.specs.Table.{Table, SameTable}
 use Rattle.im_base_types.specs.declared.fault.Fault.TheVariants as faults
 use Rattle.im_base_steps.specs.declared.reply.Reply.{Reply}
-use Rattle.im_base_steps.specs.declared.reply.Reply.TheVariants.{Started, Committed, RolledBack, Refused}
+use Rattle.im_base_steps.specs.declared.reply.Reply.TheVariants.{Started, Committed, RolledBack, More, Done, Refused}
 use Rattle.im_base_types.specs.Faults.{number_of}
 use Rattle.im_engine.specs.declared.engine.Engine.{Engine}
 use Rattle.im_engine.specs.Faults.{told_as, ends_engine}
-use Rattle.im_engine.specs.Numbered.{Numbered}
+use Rattle.im_base_types.specs.Answers as answers
+use Rattle.im_engine.specs.Numbered.{Numbered, besides_rows}
 use Rattle.im_engine.specs.Told.{Known, HasNext, IsTold, after, fixed_of, is_early, known_of}
 
 pub not_true : (b : Bool) → b ≡ false → b ≡ true → ⊥
@@ -151,11 +152,13 @@ module _ {D : Type 0} (d : Ghosts D) (old new : Engine D d) (works : old.failed 
   fresh reply late is = absurd (not_true (old.failed || is_early reply) (ap (λ (b : Bool). b || is_early reply) works ∙ late) is)
 
   -- a transaction began
-  pub told_started : (number : ℕ) → number ≡ old.txns.next → new.txns ≡ record { rows = old.txns.rows ++ begun number ∷ []; next = number + 1 } → fixed_of d new ≡ fixed_of d old → new.failed ≡ false → new.disk ≡ old.disk → IsTold d (Started number) old new
+  pub told_started : (number : ℕ) → number ≡ old.txns.next → new.txns ≡ record old.txns { rows = old.txns.rows ++ begun number ∷ []; next = number + 1 } → fixed_of d new ≡ fixed_of d old → new.failed ≡ false → new.disk ≡ old.disk → IsTold d answers.Begin (Started number) old new
   told_started number is table fixed works_on disk = record {
     known = λ j. record {
       failed = (works_on ∙ sym works) j;
       active = (ap (λ (x : Numbered). length x.rows) table ∙ length-append old.txns.rows (begun number ∷ [])) j;
+      waiting = (table j).waiting;
+      group = (table j).group;
       next = (ap (λ (x : Numbered). x.next) table ∙ ap (λ (n : ℕ). n + 1) is) j;
       fixed = fixed j;
     };
@@ -166,11 +169,15 @@ module _ {D : Type 0} (d : Ghosts D) (old new : Engine D d) (works : old.failed 
     device = λ was broken. absurd (not_true (d.failed old.disk) (alive_now d old works) (subst (λ (x : D). d.failed x ≡ true) disk broken));
   }
 
-  module _ (next : new.txns.next ≡ old.txns.next) (fixed : fixed_of d new ≡ fixed_of d old) where
+  -- its transaction has ended
+  fewer : length old.txns.rows ≡ length new.txns.rows + 1 → length new.txns.rows ≡ length old.txns.rows - 1
+  fewer once = let is : length new.txns.rows ≡ length old.txns.rows - 1 = omega (arith, once) in is
+
+  module _ {step : answers.Step} (kept : besides_rows new.txns ≡ besides_rows old.txns) (fixed : fixed_of d new ≡ fixed_of d old) where
     -- it was answered, and what is known of the engine stays
-    pub told_answered : (reply : Reply) → ((k : Known) → after reply k ≡ k) → is_early reply ≡ false → is_refused reply ≡ false → HasNext reply old.txns.next → new.failed ≡ false → length new.txns.rows ≡ length old.txns.rows → d.failed new.disk ≡ false → IsTold d reply old new
+    pub told_answered : (reply : Reply) → ((k : Known) → after step reply k ≡ k) → is_early reply ≡ false → is_refused reply ≡ false → HasNext reply old.txns.next → new.failed ≡ false → length new.txns.rows ≡ length old.txns.rows → d.failed new.disk ≡ false → IsTold d step reply old new
     told_answered reply stays late no_refusal number works_on rows alive = record {
-      known = (λ j. record { failed = (works_on ∙ sym works) j; active = rows j; next = next j; fixed = fixed j }) ∙ sym (stays (known_of d old));
+      known = (λ j. record { failed = (works_on ∙ sym works) j; active = rows j; waiting = (kept j).2; group = (kept j).1; next = (kept j).0; fixed = fixed j }) ∙ sym (stays (known_of d old));
       number = number;
       failed = λ was. absurd (not_true old.failed works was);
       same = fresh reply late;
@@ -179,12 +186,14 @@ module _ {D : Type 0} (d : Ghosts D) (old new : Engine D d) (works : old.failed 
     }
 
     -- a call below refused it
-    pub told_refused : (f : Fault) (told : Fault) → told ≡ told_as f → new.failed ≡ ends_engine f → new.txns ≡ old.txns → ((f ≡ Memory) ⊎ (f ≡ PagesFull) → SameTable old.locks new.locks) → (d.failed new.disk ≡ true → told_as f ≡ faults.Device) → IsTold d (Refused told) old new
+    pub told_refused : (f : Fault) (told : Fault) → told ≡ told_as f → new.failed ≡ ends_engine f → new.txns ≡ old.txns → ((f ≡ Memory) ⊎ (f ≡ PagesFull) → SameTable old.locks new.locks) → (d.failed new.disk ≡ true → told_as f ≡ faults.Device) → IsTold d step (Refused told) old new
     told_refused f told is fails table locks lost = record {
       known = λ j. record {
         failed = (fails ∙ sym (ends_breaks f) ∙ ap (λ (e : Fault). breaks (number_of e)) (sym is) ∙ sym (ap (λ (b : Bool). b || breaks (number_of told)) works)) j;
         active = length (table j).rows;
-        next = next j;
+        waiting = (kept j).2;
+        group = (kept j).1;
+        next = (kept j).0;
         fixed = fixed j;
       };
       number = tt;
@@ -194,13 +203,9 @@ module _ {D : Type 0} (d : Ghosts D) (old new : Engine D d) (works : old.failed 
       device = λ was broken. ap (λ (e : Fault). Refused e) (is ∙ lost broken);
     }
 
-    -- its transaction has ended
-    fewer : length old.txns.rows ≡ length new.txns.rows + 1 → length new.txns.rows ≡ length old.txns.rows - 1
-    fewer once = let is : length new.txns.rows ≡ length old.txns.rows - 1 = omega (arith, once) in is
-
-    pub told_committed : length old.txns.rows ≡ length new.txns.rows + 1 → new.failed ≡ false → (d.failed new.disk ≡ true → Committed ≡ Refused faults.Device) → IsTold d Committed old new
+    pub told_committed : length old.txns.rows ≡ length new.txns.rows + 1 → new.failed ≡ false → (d.failed new.disk ≡ true → Committed ≡ Refused faults.Device) → IsTold d step Committed old new
     told_committed once works_on lost = record {
-      known = λ j. record { failed = (works_on ∙ sym works) j; active = fewer once j; next = next j; fixed = fixed j };
+      known = λ j. record { failed = (works_on ∙ sym works) j; active = fewer once j; waiting = (kept j).2; group = (kept j).1; next = (kept j).0; fixed = fixed j };
       number = tt;
       failed = λ was. absurd (not_true old.failed works was);
       same = fresh Committed refl;
@@ -208,12 +213,36 @@ module _ {D : Type 0} (d : Ghosts D) (old new : Engine D d) (works : old.failed 
       device = λ was broken. lost broken;
     }
 
-    pub told_rolled_back : length old.txns.rows ≡ length new.txns.rows + 1 → new.failed ≡ false → (d.failed new.disk ≡ true → RolledBack ≡ Refused faults.Device) → IsTold d RolledBack old new
+    pub told_rolled_back : length old.txns.rows ≡ length new.txns.rows + 1 → new.failed ≡ false → (d.failed new.disk ≡ true → RolledBack ≡ Refused faults.Device) → IsTold d step RolledBack old new
     told_rolled_back once works_on lost = record {
-      known = λ j. record { failed = (works_on ∙ sym works) j; active = fewer once j; next = next j; fixed = fixed j };
+      known = λ j. record { failed = (works_on ∙ sym works) j; active = fewer once j; waiting = (kept j).2; group = (kept j).1; next = (kept j).0; fixed = fixed j };
       number = tt;
       failed = λ was. absurd (not_true old.failed works was);
       same = fresh RolledBack refl;
       mild = not_mild RolledBack refl;
       device = λ was broken. lost broken;
     }
+
+  -- its Commit waits for a force
+  pub told_queued : (t : ℕ) → besides_rows new.txns ≡ (old.txns.next, old.txns.group, old.txns.waiting + 1) → length new.txns.rows ≡ length old.txns.rows → fixed_of d new ≡ fixed_of d old → new.failed ≡ false → d.failed new.disk ≡ false → IsTold d (answers.Commit t) More old new
+  told_queued t kept rows fixed works_on alive = record {
+    known = λ j. record { failed = (works_on ∙ sym works) j; active = rows j; waiting = (kept j).2; group = (kept j).1; next = (kept j).0; fixed = fixed j };
+    number = tt;
+    failed = λ was. absurd (not_true old.failed works was);
+    same = fresh More refl;
+    mild = not_mild More refl;
+    device = λ was broken. absurd (not_true (d.failed new.disk) alive broken);
+  }
+
+  -- a force has ended all that waited
+  pub told_forced : besides_rows new.txns ≡ (old.txns.next, old.txns.group, 0) → length new.txns.rows + old.txns.waiting ≡ length old.txns.rows → fixed_of d new ≡ fixed_of d old → new.failed ≡ false → d.failed new.disk ≡ false → IsTold d answers.Force Done old new
+  told_forced kept rows fixed works_on alive =
+      let left : length new.txns.rows ≡ length old.txns.rows - old.txns.waiting = omega (arith, rows) in
+      record {
+        known = λ j. record { failed = (works_on ∙ sym works) j; active = left j; waiting = (kept j).2; group = (kept j).1; next = (kept j).0; fixed = fixed j };
+        number = tt;
+        failed = λ was. absurd (not_true old.failed works was);
+        same = fresh Done refl;
+        mild = not_mild Done refl;
+        device = λ was broken. absurd (not_true (d.failed new.disk) alive broken);
+      }

@@ -43,7 +43,7 @@ use Rattle.im_engine_rollback.specs.Ends.{TurnEnds, may_turn}
 use Rattle.im_engine_rollback.specs.declared.undone.Undone.{Undone}
 use Rattle.im_engine_rollback.specs.declared.undone.Undone.TheVariants as turns
 use Rattle.im_engine_rollback.specs.Turns.{Took, HasMore, HasEndedNow, LacksWayBack, Turned, LacksRoomBack}
-use Rattle.im_base_txn.specs.Rows.{is_of, changed, with_record}
+use Rattle.im_base_txn.specs.Rows.{is_of, changed, with_record, is_committing}
 use Rattle.im_base_txn.specs.LookUps.{without}
 use Rattle.im_base_txn.specs.declared.transaction.Mark.{Mark}
 use Rattle.im_base_txn.specs.declared.transaction.Mark.TheVariants as marks
@@ -53,7 +53,7 @@ use Rattle.im_base_steps.specs.declared.reply.Reply.{Reply}
 use Rattle.im_base_steps.specs.declared.reply.Reply.TheVariants as replies
 use Rattle.im_base_types.specs.Faults.{number_of}
 use Rattle.im_base_lock.specs.Table.{Table, IsReleased, locks_of}
-use Rattle.im_base_lock.specs.View.{View, owner_in, is_among, of_others, undid_more, undid_last}
+use Rattle.im_base_lock.specs.View.{View, owner_in, of_others, undid_more, undid_last}
 use Rattle.im_base_lock.specs.Machine.{barred, barred_to_continue}
 use Rattle.im_theory_steps.specs.Checks.{checked_by, mark_at}
 use Rattle.im_theory_steps.specs.Growth.{AreBelow, AreWithin, GrowsWithin, IsWithin}
@@ -71,6 +71,7 @@ use Rattle.im_engine.specs.Stands.{Allowed}
 use Rattle.im_engine.specs.Running.{IsRunning, IsLife}
 use Rattle.im_engine.specs.Kept.{StepKept}
 use Rattle.im_engine.specs.Told.{LacksRoom, TurnCause}
+use Rattle.im_engine.proofs.Waits.{out_of, not_waiting}
 use Rattle.im_engine.proofs.Running.{not_owner, checks_tell, bodies_are, left_on}
 use Rattle.im_engine.proofs.Made.{step_made}
 use Rattle.im_engine.proofs.Refused.{breaks_with, lacks_with}
@@ -185,7 +186,7 @@ module _ {D : Type 0} (d : Ghosts D) {b : Base} (before : List Effect) (s : Show
 
   -- what the machine has of it
   net_now : (v.txns t).net ≡ net t r.now.log
-  net_now = r.serving.seen_by.nets t (ap (λ (queue : List ℕ). is_among t queue) r.alone)
+  net_now = r.serving.seen_by.nets t (out_of b r.earlier before s v r.now.log old.txns.rows old.txns.next old.locks r.serving t (not_waiting old.txns.rows t row found (ap is_committing mark)))
 
   -- the key of the record that is to undo next comes back, and finds its leaf without room
   abbrev comes_back : (entry : Entry) (next : IsToUndo d b r.base r.now t entry) (k : Key) (i : ℕ) → what_of entry ≡ DeleteKey k i → LacksRoomFor (bodies r.now) k → LacksRoom (settled b r.now.log) v.walk ((v.txns t).net)
@@ -289,7 +290,6 @@ module _ {D : Type 0} (d : Ghosts D) (before : List Effect) (s : Shown) (v : Vie
               (record { from = took.taken.goes.durable; upto = going.stands.writing.stands.kept.front });
           numbered = subst (λ (n : ℕ). n ≤ 2 ^ 62 → AreBelow n now.log) (sym (ap (λ (x : Numbered). x.next) table))
               (λ le. numbers_stay_new.within old.txns.next t r.now.log now.log below (r.numbered le) undoes.grows);
-          alone = r.alone;
           unowned = ap (of_others t) r.unowned;
         } in
         step_made d before s v (Continue t) More old new w served.0 running works_on (undo_stops stops) tt r (record { grows = took.taken.goes.grows; once = took.taken.once })
@@ -331,7 +331,6 @@ module _ {D : Type 0} (d : Ghosts D) (before : List Effect) (s : Shown) (v : Vie
               (record { from = front_then r.now.durable took.taken.now.durable now.durable took.taken.goes.durable is.end.durable; upto = is.end.stands.writing.stands.kept.front });
           numbered = subst (λ (n : ℕ). n ≤ 2 ^ 62 → AreBelow n now.log) (sym (ap (λ (x : Numbered). x.next) table))
               (λ le. subst (λ (l : History). AreBelow old.txns.next l) (sym is.end.log) (below, numbers_stay_new.within old.txns.next t r.now.log between below (r.numbered le) undoes.grows));
-          alone = r.alone;
           unowned = ap (of_others t) r.unowned;
         } in
         step_made d before s v (Continue t) RolledBack old new w served.0 running works_on (undo_stops stops) tt r

@@ -68,6 +68,7 @@ abbrev pub GrowsAs : Base → Reply → Step → History → History → Type 0
 GrowsAs b Inserted (Do t (Insert key rid)) older longer = PutsKey b t key rid older longer
 GrowsAs b Deleted (Do t (Delete key)) older longer = DropsKey b t key older longer
 GrowsAs b Committed (Commit t) older longer = AddsCommit t older longer
+GrowsAs b More (Commit t) older longer = AddsCommit t older longer
 GrowsAs b More (Rollback t) older longer = longer ≡ older
 GrowsAs b More (Continue t) older longer = TakesOneBack t older longer
 GrowsAs b RolledBack (Rollback t) older longer = longer ≡ older

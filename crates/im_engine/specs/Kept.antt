@@ -1,5 +1,5 @@
 -- What the calls of an engine keep.
-use Rattle.std.specs.Prelude.{◌≡◌, ◌≢◌, ◌⊎◌, ◌++◌, ◌∷◌, ℕ, List, Option, Some, None, Result, Ok, Err, IfOk, IfErr, true, false}
+use Rattle.std.specs.Prelude.{◌≡◌, ◌≢◌, ◌⊎◌, ◌++◌, [], ◌∷◌, ℕ, List, Option, Some, None, Result, Ok, Err, IfOk, IfErr, true, false}
 use Rattle.std.specs.FinMap.{empty, entries}
 use Rattle.im_base_types.specs.Answers.{Step, Reply, FlushPage, Force, Checkpoint, Done}
 use Rattle.im_base_types.specs.declared.file_id.FileId.TheVariants.{Log, Pages}
@@ -51,11 +51,12 @@ module _ {D : Type 0} (d : Ghosts D) where
     -- page numbers or levels were used up only where undo of the log that was found came to a key that finds no room
     pub used_up : IfErr result (λ x. x.0 ≡ Capacity → RunsOut stands.b stands.log)
 
-  -- Every record is durable: a stop leaves the whole log.
+  -- Every record is durable: a stop leaves the whole log. Nobody waits for a force.
   pub record IsDurable (before : List Effect) (s : Shown) (v : View) (e : Engine D d) : Type 0 where
     pub b : Base
     pub running : IsRunning d b before s v e
     pub all : running.now.durable ≡ running.now.log
+    pub finished : v.queue ≡ []
 
   -- The file of pages has the page as the log's records have made it.
   pub record IsInFile (before : List Effect) (s : Shown) (v : View) (page : ℕ) (e : Engine D d) : Type 0 where

@@ -38,8 +38,6 @@ module _ {D : Type 0} (d : Ghosts D) where
     pub commits : AreCommitted earlier before s.asked now.durable now.log
     -- numbers from the next one on are new, as long as there are any
     pub numbered : e.txns.next ≤ 2 ^ 62 → AreBelow e.txns.next now.log
-    -- nobody waits for a force
-    pub alone : v.queue ≡ []
     -- each structure change is made within its step
     pub unowned : v.under ≡ None
 

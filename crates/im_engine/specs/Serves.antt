@@ -71,7 +71,6 @@ module _ {D : Type 0} {d : Ghosts D} where
                 serving = on.serving;
                 commits = on.commits;
                 numbered = r.numbered;
-                alone = refl;
                 unowned = refl;
               },
             );

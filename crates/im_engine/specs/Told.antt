@@ -1,5 +1,5 @@
 -- What a reply alone says of an engine, and why a step is refused.
-use Rattle.std.specs.Prelude.{◌≡◌, ◌≢◌, ◌⊎◌, ◌↔◌, ◌||◌, ◌+◌, ◌-◌, ◌++◌, ◌∷◌, [], ◌≤◌, ◌<◌, ◌^◌, ℕ, Bool, true, false, List, Option, None, Some, find, length}
+use Rattle.std.specs.Prelude.{◌≡◌, ◌≢◌, ◌⊎◌, ◌↔◌, ◌||◌, ◌+◌, ◌-◌, ◌++◌, ◌∷◌, [], ◌≤◌, ◌<◌, ◌^◌, ℕ, Bool, true, false, List, Option, None, Some, find, length, if◌then◌else◌}
 use Rattle.std.specs.FinMap.{empty, get}
 use Rattle.im_base_types.specs.Answers as answers
 use Rattle.im_base_types.specs.Changes.{Drop, Effect, apply_all}
@@ -41,11 +41,12 @@ use Rattle.im_base_types.specs.declared.fault.Fault.{Fault}
 use Rattle.im_base_types.specs.declared.fault.Fault.TheVariants.{NoTransaction, MustRollBack, KeyLength, RollingBack, PagesFull, Capacity, LogFull, Device, Memory, Failed, NotAStore, TooMany}
 use Rattle.im_base_steps.specs.declared.step.Step.{Step}
 use Rattle.im_base_steps.specs.declared.reply.Reply.{Reply}
-use Rattle.im_base_steps.specs.declared.reply.Reply.TheVariants.{Started, Inserted, Committed, RolledBack, Done, Refused}
-use Rattle.im_base_steps.specs.Calls.{asked_by, told_by}
+use Rattle.im_base_steps.specs.declared.reply.Reply.TheVariants.{Started, Inserted, Committed, RolledBack, More, Done, Refused}
+use Rattle.im_base_steps.specs.Calls.{asked_by, told_by, is_force}
 use Rattle.im_base_types.specs.Faults.{number_of}
-use Rattle.im_base_steps.specs.Replies.{SuitsAtOnce}
+use Rattle.im_base_steps.specs.Replies.{is_commit, SuitsAtOnce}
 use Rattle.im_engine.specs.declared.engine.Engine.{Engine}
+use Rattle.im_engine.specs.Numbered.{Numbered}
 use Rattle.im_engine.specs.Costs.{CommitCosts, ForceCosts}
 use Rattle.im_engine.specs.Running.{IsRunning, IsLife}
 use Rattle.im_engine.specs.Kept.{StepKept}
@@ -65,17 +66,24 @@ pub record Known : Type 0 where
   pub failed : Bool
   -- how many transactions are active
   pub active : ℕ
+  -- how many of them wait for a force
+  pub waiting : ℕ
+  -- whether a Commit waits for a force
+  pub group : Bool
   -- the number that a Begin takes next
   pub next : ℕ
   pub fixed : Fixed
 
--- What a reply makes of it: a Begin takes the next number, and one more is active; a transaction that ended is active no more; a refusal may break the engine; no other reply changes it.
-abbrev pub after : Reply → Known → Known
-after (Started n) k = record k { active = k.active + 1; next = k.next + 1 }
-after Committed k = record k { active = k.active - 1 }
-after RolledBack k = record k { active = k.active - 1 }
-after (Refused fault) k = record k { failed = k.failed || breaks (number_of fault) }
-after _ k = k
+-- What a reply to a step makes of it: a Begin takes the next number, and one more is active; a Commit that is answered More waits; a transaction that ended is active no more; a force ends all that wait; a refusal may break
+-- the engine; no other reply changes it.
+abbrev pub after : answers.Step → Reply → Known → Known
+after step (Started n) k = record k { active = k.active + 1; next = k.next + 1 }
+after step Committed k = record k { active = k.active - 1 }
+after step RolledBack k = record k { active = k.active - 1 }
+after step More k = if is_commit step then record k { waiting = k.waiting + 1 } else k
+after step Done k = if is_force step then record k { active = k.active - k.waiting; waiting = 0 } else k
+after step (Refused fault) k = record k { failed = k.failed || breaks (number_of fault) }
+after step _ k = k
 
 -- a transaction that begins has the number that was next
 abbrev pub HasNext : Reply → ℕ → Type 0
@@ -96,11 +104,11 @@ module _ {D : Type 0} (d : Ghosts D) where
   fixed_of e = record { max_pages = e.max_pages; redo = e.report }
 
   abbrev pub known_of : Engine D d → Known
-  known_of e = record { failed = e.failed; active = length e.txns.rows; next = e.txns.next; fixed = fixed_of e }
+  known_of e = record { failed = e.failed; active = length e.txns.rows; waiting = e.txns.waiting; group = e.txns.group; next = e.txns.next; fixed = fixed_of e }
 
   -- What the reply to a step alone says of the engine.
-  pub record IsTold (reply : Reply) (old new : Engine D d) : Type 0 where
-    pub known : known_of new ≡ after reply (known_of old)
+  pub record IsTold (step : answers.Step) (reply : Reply) (old new : Engine D d) : Type 0 where
+    pub known : known_of new ≡ after step reply (known_of old)
     pub number : HasNext reply old.txns.next
     -- an engine that has failed answers nothing else
     pub failed : old.failed ≡ true → reply ≡ Refused Failed
@@ -121,6 +129,12 @@ Where P A B = (P × A) ⊎ ((P → ⊥) × B)
 abbrev pub HasLogged : Option Transaction → Type 0
 HasLogged None = ⊥
 HasLogged (Some row) = 1 ≤ row.last
+
+-- A Commit is answered at once where Commits do not wait for a force, or its transaction has no records, and else it waits.
+abbrev pub SuitsGroup : answers.Step → Reply → Numbered → Type 0
+SuitsGroup (answers.Commit t) Committed txns = (txns.group ≡ false) ⊎ (HasLogged (find (is_of t) txns.rows) → ⊥)
+SuitsGroup (answers.Commit t) More txns = (txns.group ≡ true) × HasLogged (find (is_of t) txns.rows)
+SuitsGroup _ _ txns = Unit {0}
 
 -- The fault is that of the first check that is failed; where none is, it has this cause.
 abbrev pub Checked : Option ℕ → Fault → Type 0 → Type 0
@@ -159,11 +173,11 @@ module _ {D : Type 0} (d : Ghosts D) (log : LogFile) (disk : D) where
   InsertCause fault = TurnCause fault
 
 module _ {D : Type 0} (d : Ghosts D) where
-  -- Steps that make no device call: a Begin, a Rollback, a Commit of a transaction that has no records, the flush of a page that was not changed, a force where nothing is buffered.
+  -- Steps that make no device call: a Begin, a Rollback, a Commit of a transaction that has no records, or one that waits for a force and whose record fits into the buffer, the flush of a page that was not changed, a force where nothing is buffered.
   abbrev pub CallsDevice : answers.Step → Engine D d → Type 0
   CallsDevice answers.Begin e = ⊥
   CallsDevice (answers.Do t access) e = Unit {0}
-  CallsDevice (answers.Commit t) e = HasLogged (find (is_of t) e.txns.rows)
+  CallsDevice (answers.Commit t) e = HasLogged (find (is_of t) e.txns.rows) × ((e.txns.group ≡ false) ⊎ (16384 < e.writer.log.used + 33))
   CallsDevice (answers.Rollback t) e = ⊥
   CallsDevice (answers.Continue t) e = Unit {0}
   CallsDevice (answers.FlushPage page) e = is_changed e.writer.pool page ≡ true
@@ -282,9 +296,10 @@ module _ {D : Type 0} (d : Ghosts D) where
   -- a step of what was asked so, behind the checks
   pub record IsMade (step : answers.Step) (reply : Reply) (old new : Engine D d) : Type 0 where
     pub kept : (before : List Effect) (s : Shown) (v : View) → IsLife d before s v old → StepKept d before s v step (told_by reply) old new
-    pub told : IsTold d reply old new
+    pub told : IsTold d step reply old new
     pub answered : IsAnswered d step reply old new
     pub suits : SuitsAtOnce step (told_by reply)
+    pub grouped : SuitsGroup step reply old.txns
     pub frames : new.writer.pool.frames ≡ old.writer.pool.frames
     pub wants : (b : Base) (before : List Effect) (s : Shown) (v : View) (r : IsRunning d b before s v old) → WantsHere b before s v r step reply new
     pub quiet : (CallsDevice d step old → ⊥) → new.disk ≡ old.disk
@@ -294,12 +309,14 @@ module _ {D : Type 0} (d : Ghosts D) where
   pub record IsStep (step : Step) (reply : Reply) (old new : Engine D d) : Type 0 where
     pub kept : (before : List Effect) (s : Shown) (v : View) → IsLife d before s v old → StepKept d before s v (asked_by step) (told_by reply) old new
     pub alone : (before : List Effect) (s : Shown) (v : View) → IsLife d before s v old → AnswersAlone before s (asked_by step) (told_by reply)
-    pub told : IsTold d reply old new
+    pub told : IsTold d (asked_by step) reply old new
     -- a step that fails a check is refused by it, and changes nothing
     pub checked : (fault : Fault) → Some (number_of fault) ≡ check_of d (asked_by step) old → (reply ≡ Refused fault) × (new ≡ old)
     pub answered : IsAnswered d (asked_by step) reply old new
     -- over any disk, a reply is of those that its step may have
     pub suits : SuitsAtOnce (asked_by step) (told_by reply)
+    -- a Commit that is not refused is answered More just where Commits wait for a force and its transaction has records
+    pub grouped : SuitsGroup (asked_by step) reply old.txns
     pub wants : old.failed ≡ false → (b : Base) (before : List Effect) (s : Shown) (v : View) (r : IsRunning d b before s v old) → WantsHere b before s v r (asked_by step) reply new
     pub quiet : (CallsDevice d (asked_by step) old → ⊥) → new.disk ≡ old.disk
     pub costs : StepCosts d (asked_by step) reply old new

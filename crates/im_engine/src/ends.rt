@@ -1,12 +1,16 @@
 //! Transactions that begin and end.
 
 ghost use Rattle.std.specs.Prelude.{◌≡◌, None, false};
+ghost use Rattle.im_base_txn.specs.Rows.{waiting_numbers};
+ghost use Rattle.im_base_lock.specs.Table.{AreReleased};
+ghost use Rattle.im_base_lock.specs.View.{is_among};
 
 use crate::accesses::told;
 use crate::engine::Engine;
 use im_base_disk::Disk;
+use im_base_lock::LockTable;
 use im_base_steps::Reply;
-use im_base_txn::Mark;
+use im_base_txn::{Mark, Transaction};
 use im_base_types::{Fault, PageNo, TxnId};
 use im_log_record::Record;
 
@@ -30,7 +34,8 @@ impl<D: Disk> Engine<D> {
         }
     }
 
-    // Ends a transaction, all of which is then durable. Its locks go behind the force, and not before.
+    // Ends a transaction, all of which is then durable: its locks go behind the force, and not before. Or its record is logged, and it waits
+    // for the next force with its locks.
     pub(crate) fn commit(&mut self, t: TxnId) -> Reply
         requires works { self.old.failed ≡ false }
         requires checked { checked_by self.old.txns.rows false (answers.Commit t) ≡ None }
@@ -52,9 +57,15 @@ impl<D: Disk> Engine<D> {
         if let Err(fault) = self.writer.log_only(&mut self.disk, &commit) {
             return Reply::Refused(told(fault));
         }
+        if self.txns.group() {
+            self.failed = false;
+            self.txns.wait(t);
+            return Reply::More;
+        }
         if let Err(fault) = self.writer.force(&mut self.disk) {
             return Reply::Refused(told(fault));
         }
+        self.txns.are_counted();
         self.locks.release_all(t);
         self.txns.end(t);
         self.failed = false;
@@ -79,7 +90,7 @@ impl<D: Disk> Engine<D> {
         Reply::RolledBack
     }
 
-    // Makes every record durable (`forces_are_served`, `commits_stand.acked`).
+    // Makes every record durable, and ends all that wait (`forces_are_served`, `commits_stand.acked`).
     pub(crate) fn force(&mut self) -> Reply
         requires works { self.old.failed ≡ false }
         ensures { IsMade D.Disk answers.Force result self.old self.new }
@@ -88,6 +99,9 @@ impl<D: Disk> Engine<D> {
         match self.writer.force(&mut self.disk) {
             Ok(()) => {
                 self.failed = false;
+                self.txns.are_counted();
+                release_waiting(&mut self.locks, self.txns.rows());
+                self.txns.end_waiting();
                 Reply::Done
             }
             Err(fault) => Reply::Refused(told(fault)),
@@ -106,6 +120,17 @@ impl<D: Disk> Engine<D> {
                 Reply::Done
             }
             Err(fault) => Reply::Refused(told(fault)),
+        }
+    }
+}
+
+// Gives back the locks of those that wait for a force.
+fn release_waiting(locks: &mut LockTable, rows: &[Transaction])
+    ensures { AreReleased locks.old (λ t. is_among t (waiting_numbers rows.now)) locks.new }
+{
+    for row in rows {
+        if row.mark.is_committing() {
+            locks.release_all(row.number);
         }
     }
 }

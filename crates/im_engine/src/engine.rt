@@ -82,18 +82,19 @@ impl<D: Disk> Engine<D> {
 
     /// Makes a step, and answers it. A step by a key reads the pages on the key's way, which makes device calls where the pool does not
     /// hold them; what is read needs a frame, so a page that was changed may be written to make one free. A Commit of a transaction that
-    /// has records forces the log, once where its record fits into the buffer and twice at most, `Force` does where records are buffered,
-    /// and `FlushPage` writes a page that was changed. `Checkpoint` syncs the file of pages, logs one record with the active transactions
-    /// and the pages that lack changes in their file, and forces the log: redo of a restart begins at the least of that record's LSN and the
-    /// LSNs that it lists of pages.
+    /// has records forces the log, once where its record fits into the buffer and twice at most; with `Config.group` it is only logged and
+    /// answered `More`, and its transaction keeps its locks up to the next `Force` that is answered `Done`, which commits all that wait.
+    /// `Force` forces the log where records are buffered, and `FlushPage` writes a page that was changed. `Checkpoint` syncs the file of
+    /// pages, logs one record with the active transactions and the pages that lack changes in their file, and forces the log: redo of a
+    /// restart begins at the least of that record's LSN and the LSNs that it lists of pages.
     ///
     /// Refused by the first of these that holds: `Failed` where an earlier step broke the engine; `TooMany` at Begin where 64 transactions
-    /// are active; `NoTransaction` where none of that number is active, or at Continue where it has nothing to go on with; `MustRollBack`
-    /// where it was answered `Die`; `RollingBack` where it is taking back; `KeyLength`; `PagesFull` where an insert needs pages past the
-    /// limit; `Capacity` where page numbers, levels or transaction numbers are used up. In between come `LogFull` where the log has no room
-    /// below LSN 2^62, `Device`, `NotAStore` where a page's bytes are none, `Memory`, and `Failed` where memory was wanted too late.
-    /// `LogFull`, `Capacity`, `Device`, `NotAStore` and `Failed` break the engine; after every other refusal the entries, the locks and the
-    /// transactions are as they were.
+    /// are active; `NoTransaction` where none of that number is active or it waits for a force, or at Continue where it has nothing to go
+    /// on with; `MustRollBack` where it was answered `Die`; `RollingBack` where it is taking back; `KeyLength`; `PagesFull` where an insert
+    /// needs pages past the limit; `Capacity` where page numbers, levels or transaction numbers are used up. In between come `LogFull`
+    /// where the log has no room below LSN 2^62, `Device`, `NotAStore` where a page's bytes are none, `Memory`, and `Failed` where memory
+    /// was wanted too late. `LogFull`, `Capacity`, `Device`, `NotAStore` and `Failed` break the engine; after every other refusal the
+    /// entries, the locks and the transactions are as they were.
     pub fn step(&mut self, step: &Step) -> Reply
         ensures { IsStep D.Disk step.now result self.old self.new }
     {

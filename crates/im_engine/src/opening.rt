@@ -46,6 +46,7 @@ impl<D: Disk> Engine<D> {
         ensures untouched { IfErr result (λ x. x.0 ≡ PoolSize → x.1 ≡ disk) }
         ensures opened { IfOk result (λ e. (e.failed ≡ false) × (e.txns.rows ≡ []) × (e.locks ≡ []) × (D.failed e.disk ≡ false)) }
         ensures limit { IfOk result (λ e. e.max_pages ≡ config.max_pages) }
+        ensures group { IfOk result (λ e. e.txns.group ≡ config.group) }
         ensures pool { IfOk result (λ e. e.writer.pool.frames ≡ config.frames) }
         ensures spelled { IfOk result (λ _. D.tells → SpellsLog (D.seen disk)) }
         ensures causes { IfErr result (λ x. (x.0 ≡ PoolSize) ⊎ (x.0 ≡ Memory) ⊎ (x.0 ≡ Device) ⊎ (x.0 ≡ NotAStore) ⊎ (x.0 ≡ LogFull) ⊎ (x.0 ≡ Capacity)) }
@@ -69,7 +70,7 @@ impl<D: Disk> Engine<D> {
                 disk,
                 max_pages: config.max_pages,
                 report: restarted.report,
-                txns: Transactions::starting_at(restarted.next),
+                txns: Transactions::starting_at(restarted.next, config.group),
                 locks: LockTable::new(alloc),
                 room,
                 failed: false,

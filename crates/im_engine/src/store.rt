@@ -10,8 +10,10 @@ use std::alloc::Global;
 
 impl<D: Disk + Drop> Store for Engine<D> {
     ghost use Rattle.std.specs.Prelude.{length};
+    ghost use Rattle.im_base_txn.specs.Rows.{waiting_in};
+    ghost use Rattle.im_base_txn.proofs.LookUps.{few_waiting};
     ghost use Rattle.im_engine.specs.Told.{IsStep};
-    ghost use Rattle.im_engine.specs.Serves.{IsStoreLife, Leaves, IsRefused, none_waits, stops_keep, settled};
+    ghost use Rattle.im_engine.specs.Serves.{IsStoreLife, Leaves, IsRefused, stops_keep, settled};
 
     ghost tells = { D.tells };
 
@@ -21,14 +23,17 @@ impl<D: Disk + Drop> Store for Engine<D> {
 
     ghost actives = { λ e. length e.txns.rows };
 
-    ghost waiting = { λ e. 0 };
+    ghost waiting = { λ e. waiting_in e.txns.rows };
 
     ghost refuses = { λ old new fault. IsRefused D.Disk old new fault };
 
     ghost made = { λ old step reply new. IsStep D.Disk step reply old new };
 
     fn step(&mut self, step: &Step) -> Reply {
-        Engine::step(self, step)
+        self.txns.are_counted();
+        let reply = Engine::step(self, step);
+        self.txns.are_counted();
+        reply
     }
 
     fn entries(&mut self, alloc: Global) -> Result<Vec<(Key, Rid)>, Fault> {
@@ -46,7 +51,7 @@ impl<D: Disk + Drop> Store for Engine<D> {
         Engine::failed(self)
     }
 
-    ghost few = { λ e. none_waits (length e.txns.rows) };
+    ghost few = { λ e. few_waiting e.txns.rows };
 
     ghost stops = { λ before s v e h. stops_keep before s v e h };
 

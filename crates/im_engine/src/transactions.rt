@@ -1,7 +1,8 @@
 //! Active transactions, and the number that is given next.
 
-ghost use Rattle.std.specs.Prelude.{◌≡◌, ◌<◌, ◌≤◌, ◌^◌, ◌+◌, ◌++◌, [], ◌∷◌, not, filter, find, length, map, nat_lt, true, IfSome, IfNone, Some};
-ghost use Rattle.im_base_txn.specs.Rows.{begun, changed, is_of, with_mark, with_record};
+ghost use Rattle.std.specs.Prelude.{◌≡◌, ◌<◌, ◌≤◌, ◌^◌, ◌+◌, ◌++◌, [], ◌∷◌, not, filter, find, length, map, nat_lt, true, false, IfSome, IfNone, Some};
+ghost use Rattle.im_base_txn.specs.Rows.{AreRising, begun, changed, is_of, is_committing, is_waiting, waits_at, waiting_in, with_mark, with_record, without_waiting};
+ghost use Rattle.im_base_txn.specs.declared.transaction.Mark.TheVariants.{Committing};
 ghost use Rattle.im_base_txn.specs.declared.transaction.Transaction.{Transaction as Row};
 
 use im_base_txn::{Mark, Table, Transaction, numbers_stay_below};
@@ -13,30 +14,59 @@ use std::marker::Model;
 pub struct Transactions {
     table: Table,
     next: TxnId,
+    // whether a Commit waits for a force
+    group: bool,
+    // how many wait
+    waiting: usize,
 }
 
 impl Model for Transactions {
     ghost use Rattle.im_engine.specs.Numbered.{Numbered};
-    ghost use Rattle.im_base_txn.specs.Rows.{AreAbove, AreBelow};
-    ghost use Rattle.std.specs.Prelude.{length, ◌≤◌};
+    ghost use Rattle.im_base_txn.specs.Rows.{AreAbove, AreBelow, waiting_in};
+    ghost use Rattle.std.specs.Prelude.{◌≡◌, false, length, ◌≤◌};
 
     ghost Value = { Numbered };
 
-    ghost view = { λ txns. record { rows = txns.table; next = txns.next } };
+    ghost view = { λ txns. record { rows = txns.table; next = txns.next; group = txns.group; waiting = txns.waiting } };
 
-    ghost invariant = { λ txns. AreBelow txns.next txns.table × (length txns.table ≤ 64) × AreAbove 0 txns.table × (1 ≤ txns.next) };
+    ghost invariant = { λ txns. AreBelow txns.next txns.table × (length txns.table ≤ 64) × AreAbove 0 txns.table × (1 ≤ txns.next) × (txns.waiting ≡ waiting_in txns.table) × (txns.group ≡ false → txns.waiting ≡ 0) };
 }
 
 impl Transactions {
-    /// No transactions; the first will have this number.
-    pub fn starting_at(next: TxnId) -> Transactions
+    /// No transactions; the first will have this number. A Commit waits for a force, or does not.
+    pub fn starting_at(next: TxnId, group: bool) -> Transactions
         requires { 1 ≤ next }
-        ensures { (result.rows ≡ []) × (result.next ≡ next) }
+        ensures { (result.rows ≡ []) × (result.next ≡ next) × (result.group ≡ group) × (result.waiting ≡ 0) }
     {
         Transactions {
             table: Table::new(),
             next,
+            group,
+            waiting: 0,
         }
+    }
+
+    /// Numbers rise, and the count is of those that wait. It does nothing: its contract says so.
+    pub fn are_counted(&self)
+        ensures rising { AreRising self.now.rows }
+        ensures waiting { self.now.waiting ≡ waiting_in self.now.rows }
+        ensures alone { self.now.group ≡ false → self.now.waiting ≡ 0 }
+    {
+        let _rows = self.table.rows();
+    }
+
+    /// Whether a Commit waits for a force.
+    pub fn group(&self) -> bool
+        ensures { result ≡ self.now.group }
+    {
+        self.group
+    }
+
+    /// Their rows, in rising number.
+    pub fn rows(&self) -> &[Transaction]
+        ensures { result.now ≡ self.now.rows }
+    {
+        self.table.rows()
     }
 
     /// Their rows, at most 64.
@@ -72,11 +102,11 @@ impl Transactions {
     /// Begins a transaction, and gives its number. None where numbers are used up.
     pub fn begin(&mut self) -> Option<TxnId>
         requires { length self.old.rows < 64 }
-        ensures some { IfSome result (λ number. (number ≡ self.old.next) × (number ≤ 2 ^ 62) × (self.new ≡ record { rows = self.old.rows ++ begun number ∷ []; next = number + 1 })) }
+        ensures some { IfSome result (λ number. (number ≡ self.old.next) × (number ≤ 2 ^ 62) × (self.new ≡ record self.old { rows = self.old.rows ++ begun number ∷ []; next = number + 1 })) }
         ensures none { IfNone result (self.new ≡ self.old) }
         ensures used_up { IfNone result (2 ^ 62 < self.old.next) }
     {
-        let Transactions { table, next } = self;
+        let Transactions { table, next, .. } = self;
         let number = *next;
         if number > LAST_TRANSACTION {
             return None;
@@ -95,19 +125,45 @@ impl Transactions {
         self.table.note_record(number, lsn, undo_next);
     }
 
-    /// Marks the transaction of this number.
+    /// Marks the transaction of this number, which neither waits for a force nor is to.
     pub fn set_mark(&mut self, number: TxnId, mark: Mark)
+        requires before { waits_at (find (is_of number) self.old.rows) ≡ false }
+        requires after { is_committing mark ≡ false }
         ensures { self.new ≡ record self.old { rows = map (changed number (with_mark mark)) self.old.rows } }
     {
+        self.are_counted();
         numbers_stay_below();
         self.table.set_mark(number, mark);
     }
 
-    /// Ends the transaction of this number.
+    /// The Commit of the transaction of this number is logged, and waits for a force.
+    pub fn wait(&mut self, number: TxnId)
+        requires group { self.old.group ≡ true }
+        requires there { (row : Row) × (find (is_of number) self.old.rows ≡ Some row) × (is_waiting row ≡ false) }
+        ensures { self.new ≡ record self.old { rows = map (changed number (with_mark Committing)) self.old.rows; waiting = self.old.waiting + 1 } }
+    {
+        self.are_counted();
+        numbers_stay_below();
+        self.table.set_mark(number, Mark::Committing);
+        self.waiting += 1;
+    }
+
+    /// Ends the transactions that wait for a force.
+    pub fn end_waiting(&mut self)
+        ensures { self.new ≡ record self.old { rows = without_waiting self.old.rows; waiting = 0 } }
+    {
+        numbers_stay_below();
+        self.table.end_waiting();
+        self.waiting = 0;
+    }
+
+    /// Ends the transaction of this number, which does not wait for a force.
     pub fn end(&mut self, number: TxnId)
+        requires { waits_at (find (is_of number) self.old.rows) ≡ false }
         ensures left { self.new ≡ record self.old { rows = filter (λ row. not (is_of number row)) self.old.rows } }
         ensures one { (row : Row) → find (is_of number) self.old.rows ≡ Some row → length self.old.rows ≡ length self.new.rows + 1 }
     {
+        self.are_counted();
         numbers_stay_below();
         self.table.end(number);
     }

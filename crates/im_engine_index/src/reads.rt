@@ -1,6 +1,6 @@
 //! One entry: that of a key, or the next.
 
-ghost use Rattle.std.specs.Prelude.{◌≡◌, ◌<◌, ℕ, Bool, false, length, None, IfOk, IfErr, OnErr};
+ghost use Rattle.std.specs.Prelude.{◌≡◌, ◌<◌, ℕ, Bool, false, true, length, None, IfOk, IfErr, OnErr};
 ghost use Rattle.std.specs.FinMap.{entries, get};
 ghost use Rattle.im_base_types.specs.Maps.{IndexMap, first_in};
 ghost use Rattle.im_base_types.specs.Answers.{Fetch, found, entry as entry_found};
@@ -8,8 +8,9 @@ ghost use Rattle.im_page_writer.specs.PageWriter.{IsReadyWriter};
 ghost use Rattle.im_page_writer.specs.Outcome.{fault_of, AllPages, IsSound, Reads};
 ghost use Rattle.im_engine_index.specs.LockCalls.{AsksLocks};
 ghost use Rattle.im_theory_tree.specs.Levels.{walk};
-ghost use Rattle.im_tree_search.specs.Levels.{bodies_of, start_at};
-ghost use Rattle.im_tree_search.specs.Found.{HasTree};
+ghost use Rattle.im_tree_search.specs.Levels.{bodies_of, start_at, HasLevel};
+ghost use Rattle.im_page_pool.specs.Pool.{page_at, IsAt};
+ghost use Rattle.im_tree_search.specs.Found.{HasTree, IsReached};
 ghost use Rattle.im_tree_search.specs.HeldPages.{HoldsOn, IsQuiet};
 ghost use Rattle.im_base_lock.specs.Table.{SameTable};
 ghost use Rattle.im_base_lock.specs.Table.{named};
@@ -24,32 +25,38 @@ use im_base_disk::Disk;
 use im_base_lock::{LockTable, Name, fetch_row, seek_row};
 use im_base_types::{Fault, Key, Rid, TxnId};
 use im_page::Page;
+use im_page_pool::Frame;
 use im_page_writer::PageWriter;
-use im_tree_search::{leaf_and_next, locate, next_entry};
+use im_tree_search::{leaf_for, next_entry, next_in_leaf, value_of};
 
 // Asks the name behind a key that is not there.
+// Its leaf is held.
 fn fetch_absent<D: Disk>(
     writer: &mut PageWriter,
     disk: &mut D,
     locks: &mut LockTable,
     transaction: TxnId,
+    held: Frame,
     key: &[u8],
 ) -> Result<Outcome<Option<Rid>>, Fault>
     requires ready { IsReadyWriter D.Disk writer.old disk.old }
+    requires working { writer.old.failed ≡ false }
+    requires at { IsAt writer.old.pool held }
+    requires page { HasLevel 0 (page_at writer.old.pool held.number).body }
     ensures outcome { AsksLocks D.Disk writer.old disk.old writer.new disk.new (fault_of result) }
-    ensures kept { (pages : AllPages) (m : IndexMap) → HasTree D.Disk pages writer.old disk.old → walk (bodies_of pages) ≡ entries m → get m key.now ≡ None
+    ensures kept { (pages : AllPages) (m : IndexMap) → HasTree D.Disk pages writer.old disk.old → IsReached pages key.now 0 held.number writer.old.pool → walk (bodies_of pages) ≡ entries m → get m key.now ≡ None
         → IsSound result (IsRead found transaction (Fetch key.now) m locks.old locks.new) }
     ensures table { OnErr result (SameTable locks.old locks.new) }
-    ensures quiet { (set : ℕ → Bool) → writer.old.failed ≡ false → HoldsOn key.now writer.old.pool set → IsQuiet writer.old disk.old writer.new disk.new }
+    ensures quiet { (set : ℕ → Bool) → HoldsOn key.now writer.old.pool set → set held.number ≡ true → IsQuiet writer.old disk.old writer.new disk.new }
 {
-    let (leaf, next) = leaf_and_next(writer, disk, key)?;
+    let (leaf, next) = next_in_leaf(writer, disk, held, key)?;
     let row = fetch_row(key, false, name_in(writer.page(leaf), &next));
     let verdict = locks.try_all(transaction, row.as_slice())?;
     Ok(outcome_of(verdict, None))
 }
 
 /// The row id of a key, `None` where the index doesn't have it. The key's lock is asked where it is there, else that of the next
-/// name, which is looked for only then. Where the pages of the key's way are held, page 0 and the leaves behind too, nothing is asked of
+/// name, which is looked for only then, from the key's leaf on, which is looked for once. Where the pages of the key's way are held, page 0 and the leaves behind too, nothing is asked of
 /// the disk, whatever is answered (`quiet`).
 ///
 /// Refused as `im_tree_search::next_entry` is, and `Memory` where the lock table wants it. Behind a refusal, `Wait` and `Die` nobody holds
@@ -68,12 +75,13 @@ pub fn fetch<D: Disk>(
     ensures table { OnErr result (SameTable locks.old locks.new) }
     ensures quiet { (set : ℕ → Bool) → writer.old.failed ≡ false → HoldsOn key.now writer.old.pool set → IsQuiet writer.old disk.old writer.new disk.new }
 {
-    if let Some(rid) = locate(writer, disk, key)? {
+    let leaf = leaf_for(writer, disk, key)?;
+    if let Some(rid) = value_of(writer.page(leaf), key) {
         let row = fetch_row(key, true, Name::End);
         let verdict = locks.try_all(transaction, row.as_slice())?;
         return Ok(outcome_of(verdict, Some(rid)));
     }
-    fetch_absent(writer, disk, locks, transaction, key)
+    fetch_absent(writer, disk, locks, transaction, leaf, key)
 }
 
 // An entry of a page, copied.

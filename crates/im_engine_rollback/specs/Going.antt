@@ -1,16 +1,13 @@
 -- Where the undo of a transaction goes on, and what reading from there comes to.
-use Rattle.std.specs.Prelude.{◌≡◌, ◌≢◌, ◌≤◌, ℕ, true, [], Option, None, Some}
+use Rattle.std.specs.Prelude.{◌≡◌, ◌≢◌, ℕ, [], Option, None, Some}
 use Rattle.im_theory_log.specs.Histories.{Base, History}
 use Rattle.im_base_types.specs.Records.{Logged}
-use Rattle.im_theory_log.specs.Transactions.{is_key, to_undo, undo_reads}
+use Rattle.im_theory_log.specs.Transactions.{to_undo, undo_reads}
 use Rattle.im_theory_log.specs.Writer.{Writer}
 use Rattle.im_base_disk.specs.declared.disk.Disk.{Ghosts}
-use Rattle.im_log_record.specs.Entry.{Entry}
-use Rattle.im_log_record.specs.Entry.{undo_next_of as named_next}
-use Rattle.im_log.specs.Whats.{what_of}
 use Rattle.im_page_writer.specs.declared.page_writer.PageWriter.{PageWriter}
 use Rattle.im_page_writer.specs.PageWriter.{StandsAs}
-use Rattle.im_restart_analysis.specs.Undo.{ComesTo, HasRecordAt, IsNext, leads_on}
+use Rattle.im_restart_analysis.specs.Undo.{ComesTo, HasRecordAt, IsNext}
 
 -- Undo of the transaction goes on at this LSN: it has a record there, and reading from there comes to what it has to undo next; at 0 it has nothing left.
 pub record GoesOnAt (t l : ℕ) (log : History) : Type 0 where
@@ -22,11 +19,6 @@ pub record IsNextAt (t l : ℕ) (log : History) : Type 0 where
   pub found : Logged
   pub next : IsNext t log found
   pub here : found.lsn ≡ l
-
--- The record says no earlier LSN at which undo goes on: it is no compensation and no end of a structure change, or leads to none.
-pub record LeadsNowhere (entry : Entry) (lsn : ℕ) : Type 0 where
-  pub key : is_key (what_of entry) ≡ true → ⊥
-  pub on : leads_on (what_of entry) ≡ true → lsn ≤ named_next entry
 
 -- a record read at an LSN: it is what is undone next, or undo goes on at another
 abbrev pub Leads : ℕ → ℕ → History → Option ℕ → Type 0

@@ -1,14 +1,9 @@
 //! The next record that a transaction has to undo.
 
-ghost use Rattle.std.specs.Prelude.{◌≡◌, ◌≢◌, ◌≤◌, ◌<◌, ℕ, length, true, false, IfErr, IfOk, IfSome};
-ghost use Rattle.im_base_types.specs.declared.fault.Fault.TheVariants.{NotAStore};
+ghost use Rattle.std.specs.Prelude.{◌≡◌, ◌≢◌, ◌≤◌, ◌<◌, ℕ, length, false, IfOk, IfSome};
 ghost use Rattle.im_theory_log.specs.Histories.{Base};
-ghost use Rattle.im_theory_log.specs.Transactions.{is_key};
 ghost use Rattle.im_theory_log.specs.Writer.{Writer};
 ghost use Rattle.im_base_disk.specs.Runs.{Reads};
-ghost use Rattle.im_log_record.specs.Entry.{view, undo_next_of};
-ghost use Rattle.im_log.specs.Whats.{what_of};
-ghost use Rattle.im_restart_analysis.specs.Undo.{leads_on};
 ghost use Rattle.im_page_writer.specs.PageWriter.{IsReadyWriter};
 ghost use Rattle.im_page_writer.specs.Outcome.{fault_of, none_mild, IsSound};
 ghost use Rattle.im_restart_undo.specs.Undoing.{IsGoing};
@@ -17,52 +12,9 @@ ghost use Rattle.im_engine_rollback.specs.Going.{Finds, GoesOnAt, ReadOne};
 
 use im_base_disk::Disk;
 use im_base_types::{Fault, Lsn, TxnId};
-use im_log_record::{Record, decode};
+use im_log_record::decode;
 use im_page_writer::PageWriter;
-
-// Whether it is an insert or a delete of a key.
-pub(crate) fn is_key_record(record: &Record) -> bool
-    ensures { result ≡ is_key (what_of (view record.now)) }
-{
-    match record {
-        Record::InsertKey { .. } | Record::DeleteKey { .. } => true,
-        Record::UndoInsert { .. }
-        | Record::UndoDelete { .. }
-        | Record::Smo { .. }
-        | Record::UndoSmo { .. }
-        | Record::DummyClr { .. }
-        | Record::Commit { .. }
-        | Record::End { .. }
-        | Record::Image { .. }
-        | Record::Checkpoint { .. } => false,
-    }
-}
-
-// Where undo goes on behind a compensation or the end of a structure change. Refused `NotAStore` for another record, and where that is
-// no earlier one.
-fn next_after(record: &Record, lsn: Lsn) -> Result<Lsn, Fault>
-    ensures next { IfOk result (λ next. next ≡ undo_next_of (view record.now)) }
-    ensures falls { IfOk result (λ next. next < lsn) }
-    ensures refused { IfErr result (λ e. (e ≡ NotAStore) × (leads_on (what_of (view record.now)) ≡ true → lsn ≤ undo_next_of (view record.now))) }
-{
-    let next = match record {
-        Record::UndoInsert { undo_next, .. }
-        | Record::UndoDelete { undo_next, .. }
-        | Record::UndoSmo { undo_next, .. }
-        | Record::DummyClr { undo_next, .. } => *undo_next,
-        Record::InsertKey { .. }
-        | Record::DeleteKey { .. }
-        | Record::Smo { .. }
-        | Record::Commit { .. }
-        | Record::End { .. }
-        | Record::Image { .. }
-        | Record::Checkpoint { .. } => return Err(Fault::NotAStore),
-    };
-    if next >= lsn {
-        return Err(Fault::NotAStore);
-    }
-    Ok(next)
-}
+use im_restart_analysis::{is_key_record, undo_next_after};
 
 // Reads the record of a transaction at an LSN: `None` where it is what is undone next, else where undo goes on.
 fn read_one<D: Disk>(
@@ -90,7 +42,7 @@ fn read_one<D: Disk>(
     if is_key_record(&record) {
         return Ok(None);
     }
-    let next = next_after(&record, lsn)?;
+    let next = undo_next_after(&record, lsn)?;
     Ok(Some(next))
 }
 

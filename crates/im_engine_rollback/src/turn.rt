@@ -12,12 +12,13 @@ ghost use Rattle.im_engine_rollback.specs.Ends.{may_be_full, may_turn, TurnOutco
 ghost use Rattle.im_engine_rollback.specs.Going.{IsNextAt};
 ghost use Rattle.im_engine_rollback.specs.Turns.{EndKept, GoOnKept, TakeKept, TurnKept};
 
-use crate::next_record::{is_key_record, next_key_record};
+use crate::next_record::next_key_record;
 use crate::undone::Undone;
 use im_base_disk::Disk;
 use im_base_types::{Fault, Lsn, TxnId};
 use im_log_record::{Record, decode};
 use im_page_writer::PageWriter;
+use im_restart_analysis::is_key_record;
 use im_restart_undo::undo_one;
 use std::alloc::Global;
 

@@ -1,9 +1,9 @@
 //! How much an opening may have to redo, and what follows from that: when a Checkpoint is due, and which pages are written before it.
 
-ghost use Rattle.std.specs.Prelude.{◌≡◌, ◌≤◌, ◌<◌, ◌*◌, ◌^◌, ◌↔◌, IsTrue};
-ghost use Rattle.im_engine_upkeep.specs.RedoBound.{redo_length};
+ghost use Rattle.std.specs.Prelude.{false, ◌≡◌, ◌≤◌, ◌<◌, ◌*◌, ◌^◌, ◌↔◌, IsTrue};
+ghost use Rattle.im_engine_upkeep.specs.RedoBound.{bytes_over, redo_length};
 
-use im_base_types::{IMAGE_SIZE, Lsn};
+use im_base_types::{IMAGE_SIZE, Lsn, PAGE_SIZE, PageNo};
 
 /// What a write of a page may add to the log: its full copy, in a batch of its own.
 const COPY: u128 = IMAGE_SIZE as u128 + 5;
@@ -11,18 +11,51 @@ const COPY: u128 = IMAGE_SIZE as u128 + 5;
 /// A log that goes on so far after a Checkpoint has little more in it than that Checkpoint.
 const LITTLE: u128 = 4_096;
 
+/// How much longer than the file of pages the log is that an opening may have to redo, of a bound that grows with the file. Each page that is
+/// written after a Checkpoint brings one full copy of itself: so these are less than a quarter of what is logged, however many pages there are.
+const TIMES: u64 = 12;
+
 /// How much log an opening may have to redo, whenever the store stopped: a number of bytes, and with 0 any.
 #[derive(Clone, Copy, Debug, PartialEq, Eq)]
 pub struct RedoBound {
     bytes: u64,
+    // It is more than these bytes where the file of pages is long.
+    grows: bool,
 }
 
 impl RedoBound {
     /// So many bytes. With 0 no Checkpoint is ever taken.
     pub fn of_bytes(bytes: u64) -> RedoBound
-        ensures { result.bytes ≡ bytes }
+        ensures bytes { result.bytes ≡ bytes }
+        ensures grows { result.grows ≡ false }
     {
-        RedoBound { bytes }
+        RedoBound {
+            bytes,
+            grows: false,
+        }
+    }
+
+    /// So many bytes, or twelve times as many as the file of pages has, whichever is more. A number above 0.
+    pub fn growing(bytes: u64) -> RedoBound
+        ensures bytes { result.bytes ≡ bytes }
+        ensures grows { IsTrue result.grows ↔ (1 ≤ bytes) }
+    {
+        RedoBound {
+            bytes,
+            grows: bytes > 0,
+        }
+    }
+
+    /// What it is for a file of so many pages.
+    pub(crate) fn over(&self, pages: PageNo) -> RedoBound
+        ensures bytes { result.bytes ≡ bytes_over self.now.bytes self.now.grows pages }
+        ensures grows { result.grows ≡ false }
+    {
+        if !self.grows {
+            return RedoBound::of_bytes(self.bytes);
+        }
+        let grown = TIMES * PAGE_SIZE as u64 * pages as u64;
+        RedoBound::of_bytes(self.bytes.max(grown))
     }
 
     /// Whether there is a bound.

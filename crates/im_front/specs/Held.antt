@@ -1,9 +1,9 @@
 -- What lies under the lock: an engine, and a trace of its steps that is a run.
-use Rattle.std.specs.Prelude.{◌≡◌, ℕ, ◌+◌, ◌<◌, ◌≤◌, ◌^◌, true, false, List, [], ◌∷◌, ◌++◌, length, ◌⊎◌}
+use Rattle.std.specs.Prelude.{◌≡◌, ℕ, ◌+◌, ◌<◌, ◌≤◌, ◌^◌, true, false, List, [], ◌∷◌, ◌++◌, length, ◌⊎◌, if◌then◌else◌}
 use Rattle.std.specs.List.{All}
 use Rattle.std.specs.FinMap.{empty, entries}
 use Rattle.im_base_types.specs.Pages.{Entry}
-use Rattle.im_base_types.specs.Answers.{Step, Reply}
+use Rattle.im_base_types.specs.Answers.{Step, Reply, Done}
 use Rattle.im_base_types.specs.Changes.{Effect, apply_all}
 use Rattle.im_base_types.specs.Lives.{Shown, Survives, effects, nothing_shown, shown_by}
 use Rattle.im_base_lock.specs.View.{View}
@@ -13,7 +13,7 @@ use Rattle.im_base_types.specs.declared.fault.Fault.{Fault}
 use Rattle.im_base_types.specs.declared.fault.Fault.TheVariants.{Failed, Busy, TraceFull}
 use Rattle.im_front.specs.declared.recorded.Recorded.{Recorded}
 use Rattle.im_front.specs.Traces.{trace_of}
-use Rattle.im_base_steps.specs.Calls.{is_blocked}
+use Rattle.im_base_steps.specs.Calls.{is_blocked, is_force}
 use Rattle.im_base_steps.specs.Store.{Rests}
 use Rattle.im_front.specs.Events.{Event, made_in, Runs, shown_in}
 use Rattle.im_base_steps.specs.Replies.{is_full, lacks_memory, started_in, commits_in, rolled_back_in, waits_after, IsReply}
@@ -32,6 +32,9 @@ pub record State (E : Type 0) : Type 0 where
   pub counts : List ℕ
   -- how many transactions wait for a force
   pub waiting : ℕ
+  -- how many forces were made, and how many of them before the trace
+  pub forces : ℕ
+  pub forced : ℕ
   -- how many shares were handed out
   pub handed : ℕ
 
@@ -51,6 +54,15 @@ abbrev pub after_trace : ℕ → List ℕ → List (Step × Reply) → List ℕ
 after_trace waiting counts [] = counts
 after_trace waiting counts (e ∷ es) = after_trace (waits_after waiting e.0 e.1) (after_reply waiting counts e.0 e.1) es
 
+-- 1 for a force that was made, and how many a trace has
+abbrev pub force_of : Step → Reply → ℕ
+force_of step Done = if is_force step then 1 else 0
+force_of step _ = 0
+
+abbrev pub forces_in : List (Step × Reply) → ℕ
+forces_in [] = 0
+forces_in (e ∷ es) = force_of e.0 e.1 + forces_in es
+
 -- ---- a step
 
 module _ {E : Type 0} (step : Step) (reply : Reply) (old new : State E) (before after : ℕ) where
@@ -65,7 +77,7 @@ module _ {E : Type 0} (step : Step) (reply : Reply) (old new : State E) (before 
   -- A step under the lock: it is recorded with the reply that is answered, and counted in the share; not where it is Blocked or the trace is
   -- full, and perhaps not where memory is wanting. Where the trace is full, or has no memory for it, it is not made.
   pub record Records : Type 0 where
-    pub base : (new.base ≡ old.base) × (new.cut ≡ old.cut) × (new.kept ≡ old.kept) × (new.handed ≡ old.handed)
+    pub base : (new.base ≡ old.base) × (new.cut ≡ old.cut) × (new.kept ≡ old.kept) × (new.forced ≡ old.forced) × (new.handed ≡ old.handed)
     pub adds : is_blocked reply ≡ false → is_full reply ≡ false → lacks_memory reply ≡ false → Adds
     pub blocked : is_blocked reply ≡ true → Stays
     pub full : is_full reply ≡ true → Stays × (new.engine ≡ old.engine)

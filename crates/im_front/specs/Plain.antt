@@ -19,6 +19,8 @@ pub record PlainState (E : Type 0) : Type 0 where
   pub counts : List ℕ
   -- how many transactions wait for a force
   pub waiting : ℕ
+  -- how many forces were made
+  pub forces : ℕ
   -- how many shares were handed out
   pub handed : ℕ
 

@@ -13,20 +13,21 @@ ghost use Rattle.im_base_steps.specs.Replies.{is_full, lacks_memory, IsReply};
 ghost use Rattle.im_base_steps.specs.Store.{LookKept};
 ghost use Rattle.im_front.specs.Held.{IsResting, IsRun, StopKeeps};
 
+use crate::callers::{Behind, Callers};
 use crate::held::{Closed, Held};
 use crate::share::Share;
 use crate::stats::Stats;
 use im_base_steps::{Reply, Step, Store};
-use im_base_types::Fault;
+use im_base_types::{Fault, TxnId};
 use std::alloc::Global;
 use std::sync::ledger::{Blank, Ledger};
-use std::sync::{Condvar, Mutex, Wait};
+use std::sync::{Mutex, MutexGuard, Wait};
 
 /// An engine that threads share. Each call takes the lock, and waits for its turn.
 #[derive(Drop)]
 pub struct Front<E: Store, L: Ledger> {
     held: Mutex<Held<E, L>>,
-    ended: Condvar,
+    callers: Callers,
 }
 
 impl<E: Store, L: Ledger> Front<E, L> {
@@ -42,7 +43,7 @@ impl<E: Store, L: Ledger> Front<E, L> {
         let held = Held::new(alloc, engine, blank)?;
         Ok(Front {
             held: Mutex::new(held),
-            ended: Condvar::new(),
+            callers: Callers::new(),
         })
     }
 
@@ -62,18 +63,91 @@ impl<E: Store, L: Ledger> Front<E, L> {
         ensures full { is_full (told_by result) ≡ true → mine.new.made.amount ≡ mine.old.made.amount }
         ensures once { (mine.new.made.amount ≡ mine.old.made.amount + 1) ⊎ (mine.new.made.amount ≡ mine.old.made.amount) }
     {
+        self.callers.come();
         let mut held = self.held.lock(rt);
         for _ in rt.forever() {
             let reply = held.step(rt, mine, &step);
             if !reply.is_blocked() {
-                if step.may_unblock(&reply) {
-                    self.ended.notify_all();
-                }
+                self.callers.tell(&step, &reply);
+                self.callers.go(held.pace());
                 return reply;
             }
-            held = self.ended.wait(rt, held);
+            held = self.callers.sleep_blocked(rt, held);
         }
         unreachable!()
+    }
+
+    /// Commits a transaction, and returns once all that it did is durable. In a store with group commit the Commit waits for a force: the last
+    /// caller awake in the front makes one for all that wait, as a step of its own, and the others sleep until it is made. In another store it
+    /// is the step `Commit` alone.
+    ///
+    /// Refused as the Commit is. `Device` or `Failed` where the force failed: whether it is committed shows when the store is opened again.
+    /// `Memory` where the trace has no room for one of the two steps: a second call is refused `NoTransaction` where the transaction waits, and
+    /// then `settle` makes it durable.
+    pub fn commit<R: Wait>(&self, rt: &R, mine: &mut Share<L>, t: TxnId) -> Result<(), Fault>
+        ensures made { IfOk result (λ _. mine.old.made.amount + 1 ≤ mine.new.made.amount) }
+        ensures few { (mine.old.made.amount ≤ mine.new.made.amount) × (mine.new.made.amount ≤ mine.old.made.amount + 2) }
+    {
+        let step = Step::Commit(t);
+        self.callers.come();
+        let mut held = self.held.lock(rt);
+        let reply = held.step(rt, mine, &step);
+        self.callers.tell(&step, &reply);
+        let done = match reply {
+            Reply::More => return self.settle_all(rt, mine, held),
+            Reply::Committed => Ok(()),
+            Reply::Refused(fault) => Err(fault),
+            _ => Err(Fault::Failed),
+        };
+        self.callers.go(held.pace());
+        done
+    }
+
+    /// Returns once every Commit that was answered `More` before is durable: it waits for a force, or makes it. It makes no step where none
+    /// waits. `Failed` where the store has failed, else refused as the force is.
+    pub fn settle<R: Wait>(&self, rt: &R, mine: &mut Share<L>) -> Result<(), Fault>
+        ensures few { (mine.old.made.amount ≤ mine.new.made.amount) × (mine.new.made.amount ≤ mine.old.made.amount + 1) }
+    {
+        self.callers.come();
+        let held = self.held.lock(rt);
+        let pace = held.pace();
+        if pace.waiting > 0 && !pace.failed {
+            return self.settle_all(rt, mine, held);
+        }
+        self.callers.go(pace);
+        if pace.failed {
+            Err(Fault::Failed)
+        } else {
+            Ok(())
+        }
+    }
+
+    // Waits for the next force, or makes it, and goes.
+    fn settle_all<R: Wait>(
+        &self,
+        rt: &R,
+        mine: &mut Share<L>,
+        held: MutexGuard<'_, Held<E, L>>,
+    ) -> Result<(), Fault>
+        ensures few { (mine.old.made.amount ≤ mine.new.made.amount) × (mine.new.made.amount ≤ mine.old.made.amount + 1) }
+    {
+        let forces = held.forces();
+        let mut held = self.callers.sleep_until_due(rt, held, forces);
+        let done = if held.is_settled(forces) {
+            Ok(())
+        } else if held.pace().failed {
+            Err(Fault::Failed)
+        } else {
+            let reply = held.step(rt, mine, &Step::Force);
+            self.callers.tell(&Step::Force, &reply);
+            match reply {
+                Reply::Done => Ok(()),
+                Reply::Refused(fault) => Err(fault),
+                _ => Err(Fault::Failed),
+            }
+        };
+        self.callers.go(held.pace());
+        done
     }
 
     /// Makes what is committed the base of the trace, and empties it. Refused `Failed`, then `Busy` while a transaction is active,
@@ -102,7 +176,7 @@ impl<E: Store, L: Ledger> Front<E, L> {
         ensures replies { All (λ e. IsReply e.0 e.1) (trace_of result.trace.items) }
         ensures sum { IfSome result.sum (λ n. (n ≡ result.cut + length result.trace.items) × (n ≡ sum_by (λ s. s.made.amount) shares.items)) }
     {
-        let Front { held, ended: _ } = self;
+        let Front { held, callers: _ } = self;
         held.into_inner().close(shares)
     }
 }

@@ -14,8 +14,9 @@ ghost use Rattle.im_base_steps.specs.Calls.{asked_by, told_by, is_blocked, may_e
 ghost use Rattle.im_front.specs.Traces.{trace_of};
 ghost use Rattle.im_base_steps.specs.Replies.{is_full, lacks_memory, IsReply};
 ghost use Rattle.im_base_steps.specs.Store.{LookKept};
-ghost use Rattle.im_front.specs.Held.{IsResting, Records, IsRun, StopKeeps, IsCut, WhyNotCut, after_reply, after_trace, waits_in};
+ghost use Rattle.im_front.specs.Held.{IsResting, Records, IsRun, StopKeeps, IsCut, WhyNotCut, after_reply, after_trace, waits_in, force_of, forces_in};
 
+use crate::callers::{Behind, Pace};
 use crate::recorded::Recorded;
 use crate::share::Share;
 use crate::told::{Room, Told};
@@ -49,6 +50,11 @@ pub struct Held<E: Store, L: Ledger> {
     counts: [u64; 3],
     // How many transactions wait for a force
     waiting: u64,
+    // How many forces were made, and how many of them before the trace
+    forces: u64,
+    forced: u64,
+    // How many steps were made since the first of those that wait came to
+    passed: u64,
     book: Book<L>,
     rest: Part<L>,
     handed: u64,
@@ -57,18 +63,18 @@ pub struct Held<E: Store, L: Ledger> {
 }
 
 impl<E: Store, L: Ledger> Model for Held<E, L> {
-    ghost use Rattle.std.specs.Prelude.{◌≡◌, ◌+◌, length};
+    ghost use Rattle.std.specs.Prelude.{◌≡◌, ◌≤◌, ◌+◌, length};
     ghost use Rattle.std.specs.Arc.{arc_value};
     ghost use Rattle.crossbeam_utils.specs.Seq.{cell_view};
     ghost use Rattle.im_front_stats.specs.Counts.{writer};
     ghost use Rattle.im_front.specs.Traces.{trace_of};
-    ghost use Rattle.im_front.specs.Held.{State, IsTallied, Stands};
+    ghost use Rattle.im_front.specs.Held.{State, IsTallied, Stands, forces_in};
 
     ghost Value = { State E };
 
-    ghost view = { λ h. record { engine = h.engine; base = h.base.items; trace = h.trace.items; cut = h.cut; kept = h.kept; counts = (cell_view h.pass).seen; waiting = h.waiting; handed = h.handed } };
+    ghost view = { λ h. record { engine = h.engine; base = h.base.items; trace = h.trace.items; cut = h.cut; kept = h.kept; counts = (cell_view h.pass).seen; waiting = h.waiting; forces = h.forces; forced = h.forced; handed = h.handed } };
 
-    ghost invariant = { λ h. (E.tells → Stands E.life h.base.items (trace_of h.trace.items) h.engine) × IsTallied (trace_of h.trace.items) (E.actives h.engine) (E.waiting h.engine) h.cut h.kept h.counts × (h.book.total ≡ h.cut + length h.trace.items) × (h.rest.parts + h.handed ≡ 1024) × (h.rest.amount ≡ 0) × (h.pass.table_id ≡ (arc_value h.cell).table.shared.table_id) × (cell_view h.pass ≡ writer h.counts) × (h.waiting ≡ E.waiting h.engine) };
+    ghost invariant = { λ h. (E.tells → Stands E.life h.base.items (trace_of h.trace.items) h.engine) × IsTallied (trace_of h.trace.items) (E.actives h.engine) (E.waiting h.engine) h.cut h.kept h.counts × (h.book.total ≡ h.cut + length h.trace.items) × (h.rest.parts + h.handed ≡ 1024) × (h.rest.amount ≡ 0) × (h.pass.table_id ≡ (arc_value h.cell).table.shared.table_id) × (cell_view h.pass ≡ writer h.counts) × (h.waiting ≡ E.waiting h.engine) × (h.forces ≡ h.forced + forces_in (trace_of h.trace.items)) × (h.forces ≤ h.cut + length h.trace.items) };
 }
 
 /// What is left of a front.
@@ -118,6 +124,9 @@ impl<E: Store, L: Ledger> Held<E, L> {
             kept: [0; 3],
             counts: [0; 3],
             waiting: 0,
+            forces: 0,
+            forced: 0,
+            passed: 0,
             book,
             rest,
             handed: 0,
@@ -129,13 +138,15 @@ impl<E: Store, L: Ledger> Held<E, L> {
     /// What always holds of the value behind the lock. Over an engine that tells what it holds the trace is a run that ends in it,
     /// and a stop keeps what the trace acknowledged. Over any engine each reply of the trace suits its step, the counts that were
     /// written last to the cell are those of the trace, added to those of the steps cut, those wait for a force whose Commit was answered
-    /// `More` since the last force, and what was started has ended or is active. It does nothing: its contract says so.
+    /// `More` since the last force, as many forces were made as those that it answered `Done`, and what was started has ended or is active. It
+    /// does nothing: its contract says so.
     pub fn holds_always(&self)
         ensures run { E.tells → IsRun E.life self.now.base (trace_of self.now.trace) self.now.engine }
         ensures stops { E.tells → StopKeeps E.leaves self.now.base (trace_of self.now.trace) self.now.engine }
         ensures replies { All (λ e. IsReply e.0 e.1) (trace_of self.now.trace) }
         ensures counts { self.now.counts ≡ after_trace 0 self.now.kept (trace_of self.now.trace) }
         ensures waiting { (self.now.waiting ≡ waits_in 0 (trace_of self.now.trace)) × (self.now.waiting ≡ E.waiting self.now.engine) }
+        ensures forces { self.now.forces ≡ self.now.forced + forces_in (trace_of self.now.trace) }
         ensures active { started self.now.counts ≡ committed self.now.counts + rolled_back self.now.counts + E.actives self.now.engine }
         ensures sound { IsSound self.now.counts }
         ensures handed { self.now.handed ≤ 1024 }
@@ -180,10 +191,10 @@ impl<E: Store, L: Ledger> Held<E, L> {
     /// while a transaction is active, then `TraceFull` where the steps cut would pass 2^62, then as `entries` is; the trace and
     /// its base stay then.
     pub fn cut_trace(&mut self) -> Result<(), Fault>
-        ensures ok { IfOk result (λ _. (self.new.trace ≡ []) × (self.new.cut ≡ self.old.cut + length self.old.trace) × (self.new.kept ≡ self.old.counts)) }
+        ensures ok { IfOk result (λ _. (self.new.trace ≡ []) × (self.new.cut ≡ self.old.cut + length self.old.trace) × (self.new.kept ≡ self.old.counts) × (self.new.forced ≡ self.old.forces)) }
         ensures base { IfOk result (λ _. E.tells → IsCut self.old.base self.new.base (trace_of self.old.trace)) }
-        ensures same { (self.new.counts ≡ self.old.counts) × (self.new.waiting ≡ self.old.waiting) × (self.new.handed ≡ self.old.handed) }
-        ensures err { OnErr result ((self.new.trace ≡ self.old.trace) × (self.new.base ≡ self.old.base) × (self.new.cut ≡ self.old.cut) × (self.new.kept ≡ self.old.kept)) }
+        ensures same { (self.new.counts ≡ self.old.counts) × (self.new.waiting ≡ self.old.waiting) × (self.new.forces ≡ self.old.forces) × (self.new.handed ≡ self.old.handed) }
+        ensures err { OnErr result ((self.new.trace ≡ self.old.trace) × (self.new.base ≡ self.old.base) × (self.new.cut ≡ self.old.cut) × (self.new.kept ≡ self.old.kept) × (self.new.forced ≡ self.old.forced)) }
         ensures cause { IfErr result (λ fault. WhyNotCut E.Store self.old self.new fault) }
     {
         if self.engine.failed() {
@@ -204,13 +215,30 @@ impl<E: Store, L: Ledger> Held<E, L> {
             cut,
             kept,
             counts,
+            forces,
+            forced,
             ..
         } = self;
         *base = engine.entries(*alloc)?;
         *cut += trace.len() as u64;
         *kept = *counts;
+        *forced = *forces;
         trace.clear();
         Ok(())
+    }
+
+    /// How many forces were made: steps `Force` that were answered `Done`. What waited before one of them is committed by it.
+    pub fn forces(&self) -> u64
+        ensures { result ≡ self.now.forces }
+    {
+        self.forces
+    }
+
+    /// Whether a force was made since so many were.
+    pub fn is_settled(&self, at: u64) -> bool
+        ensures { result ≡ true ↔ (at < self.now.forces) }
+    {
+        at < self.forces
     }
 
     /// Ends the front. There is a sum where as many shares came back as were handed out, and it is the number of all steps.
@@ -267,6 +295,8 @@ impl<E: Store, L: Ledger> Held<E, L> {
             trace,
             counts,
             waiting,
+            forces,
+            passed,
             book,
             cell,
             pass,
@@ -282,6 +312,8 @@ impl<E: Store, L: Ledger> Held<E, L> {
         let told = Told::of(&reply, room);
         let now = counted(*waiting, *counts, step, &reply);
         *waiting = step.waits_after(*waiting, &reply);
+        *forces = forces_after(*forces, step, &reply);
+        *passed = passed_after(*passed, *waiting);
         trace.push_reserved(Recorded {
             step: asked,
             reply: told,
@@ -290,6 +322,17 @@ impl<E: Store, L: Ledger> Held<E, L> {
         publish(rt, cell, pass, *counts, now);
         *counts = now;
         reply
+    }
+}
+
+impl<E: Store, L: Ledger> Behind for Held<E, L> {
+    fn pace(&self) -> Pace {
+        Pace {
+            waiting: self.waiting,
+            passed: self.passed,
+            forces: self.forces,
+            failed: self.engine.failed(),
+        }
     }
 }
 
@@ -368,5 +411,26 @@ pub(crate) fn counted(waiting: u64, counts: [u64; 3], step: &Step, reply: &Reply
         (_, Reply::RolledBack) => [counts[0], counts[1], counts[2] + 1],
         (Step::Force, Reply::Done) => [counts[0], counts[1] + waiting, counts[2]],
         _ => [counts[0], counts[1], counts[2]],
+    }
+}
+
+// How many forces were made after a step with this reply, before which so many were.
+pub(crate) fn forces_after(forces: u64, step: &Step, reply: &Reply) -> u64
+    requires { forces < 2 ^ 63 }
+    ensures count { result ≡ forces + force_of (asked_by step.now) (told_by reply.now) }
+    ensures few { result ≤ forces + 1 }
+{
+    match (step, reply) {
+        (Step::Force, Reply::Done) => forces + 1,
+        _ => forces,
+    }
+}
+
+// How many steps were made since the first of so many came to wait, where so many were made before this one.
+pub(crate) fn passed_after(passed: u64, waiting: u64) -> u64 {
+    if waiting == 0 {
+        0
+    } else {
+        passed.saturating_add(1)
     }
 }

@@ -19,6 +19,7 @@
 //! what was committed. A store over real files tells nothing, and threads share it all the same.
 #![tactic(auto)]
 
+mod callers;
 mod front;
 mod held;
 mod load_args;

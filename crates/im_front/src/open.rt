@@ -1,6 +1,6 @@
 //! A front that keeps its trace for proofs alone, and hands its callers no parts of a ledger: nobody has to pick one.
 
-ghost use Rattle.std.specs.Prelude.{◌≡◌, ◌≤◌, ◌^◌, ◌+◌, ◌↔◌, ◌⊎◌, List, true, false, [], ◌∷◌, ◌++◌, length, Err, IfOk, IfErr, OnErr, IfSome, IsSome};
+ghost use Rattle.std.specs.Prelude.{◌≡◌, ◌<◌, ◌≤◌, ◌^◌, ◌+◌, ◌↔◌, ◌⊎◌, List, true, false, [], ◌∷◌, ◌++◌, length, Err, IfOk, IfErr, OnErr, IfSome, IsSome};
 ghost use Rattle.std.specs.List.{sum_by, All};
 ghost use Rattle.std.specs.Arc.{arc_value};
 ghost use Rattle.crossbeam_utils.specs.Seq.{cell_view};
@@ -10,19 +10,20 @@ ghost use Rattle.im_base_types.specs.declared.fault.Fault.TheVariants.{TooMany, 
 ghost use Rattle.im_base_steps.specs.Calls.{told_by, is_blocked};
 ghost use Rattle.im_front.specs.Traces.{counts_of};
 ghost use Rattle.im_base_steps.specs.Replies.{is_full, IsReply};
-ghost use Rattle.im_front.specs.Held.{IsResting, Stands, after_trace, waits_in};
+ghost use Rattle.im_front.specs.Held.{IsResting, Stands, after_trace, waits_in, forces_in};
 ghost use Rattle.im_front.specs.Plain.{none, seen_of, Notes, GoesOn, IsRunFrom, StopKeepsFrom};
 
-use crate::held::{counted, publish};
+use crate::callers::{Behind, Callers, Pace};
+use crate::held::{counted, forces_after, passed_after, publish};
 use crate::seat::{Rested, Seat};
 use crate::stats::Stats;
 use crate::trace::Trace;
 use im_base_steps::{Reply, Step, Store};
-use im_base_types::Fault;
+use im_base_types::{Fault, TxnId};
 use im_front_stats::{Pass, StatsCell};
 use std::alloc::Global;
 use std::marker::Model;
-use std::sync::{Arc, Condvar, Mutex, Wait};
+use std::sync::{Arc, Mutex, MutexGuard, Wait};
 
 /// The most steps that a front ever makes.
 const MOST: u64 = 1 << 62;
@@ -36,23 +37,27 @@ pub struct Kept<E: Store> {
     counts: [u64; 3],
     // How many transactions wait for a force.
     waiting: u64,
+    // How many forces were made.
+    forces: u64,
+    // How many steps were made since the first of those that wait came to.
+    passed: u64,
     cell: Arc<StatsCell, Global>,
     pass: Pass,
 }
 
 impl<E: Store> Model for Kept<E> {
-    ghost use Rattle.std.specs.Prelude.{◌≡◌, ◌+◌, length};
+    ghost use Rattle.std.specs.Prelude.{◌≡◌, ◌≤◌, ◌+◌, length};
     ghost use Rattle.std.specs.Arc.{arc_value};
     ghost use Rattle.crossbeam_utils.specs.Seq.{cell_view};
     ghost use Rattle.im_front_stats.specs.Counts.{writer};
-    ghost use Rattle.im_front.specs.Held.{IsTallied};
+    ghost use Rattle.im_front.specs.Held.{IsTallied, forces_in};
     ghost use Rattle.im_front.specs.Plain.{PlainState, StandsFrom, none, seen_of};
 
     ghost Value = { PlainState E };
 
-    ghost view = { λ h. record { engine = h.engine; trace = h.trace.steps; counts = (cell_view h.pass).seen; waiting = h.waiting; handed = 0 } };
+    ghost view = { λ h. record { engine = h.engine; trace = h.trace.steps; counts = (cell_view h.pass).seen; waiting = h.waiting; forces = h.forces; handed = 0 } };
 
-    ghost invariant = { λ h. (E.tells → StandsFrom E.life h.trace.steps h.engine) × IsTallied (seen_of h.trace.steps) (E.actives h.engine) (E.waiting h.engine) 0 none h.counts × (h.made ≡ length h.trace.steps) × (h.pass.table_id ≡ (arc_value h.cell).table.shared.table_id) × (cell_view h.pass ≡ writer h.counts) × (h.waiting ≡ E.waiting h.engine) };
+    ghost invariant = { λ h. (E.tells → StandsFrom E.life h.trace.steps h.engine) × IsTallied (seen_of h.trace.steps) (E.actives h.engine) (E.waiting h.engine) 0 none h.counts × (h.made ≡ length h.trace.steps) × (h.pass.table_id ≡ (arc_value h.cell).table.shared.table_id) × (cell_view h.pass ≡ writer h.counts) × (h.waiting ≡ E.waiting h.engine) × (h.forces ≡ forces_in (seen_of h.trace.steps)) × (h.forces ≤ length h.trace.steps) };
 }
 
 /// What is left of a front.
@@ -85,6 +90,8 @@ impl<E: Store> Kept<E> {
             made: 0,
             counts: [0; 3],
             waiting: 0,
+            forces: 0,
+            passed: 0,
             cell,
             pass,
         })
@@ -97,6 +104,7 @@ impl<E: Store> Kept<E> {
         ensures replies { All (λ e. IsReply e.0 e.1) (seen_of self.now.trace) }
         ensures counts { self.now.counts ≡ after_trace 0 none (seen_of self.now.trace) }
         ensures waiting { (self.now.waiting ≡ waits_in 0 (seen_of self.now.trace)) × (self.now.waiting ≡ E.waiting self.now.engine) }
+        ensures forces { self.now.forces ≡ forces_in (seen_of self.now.trace) }
         ensures active { started self.now.counts ≡ committed self.now.counts + rolled_back self.now.counts + E.actives self.now.engine }
         ensures sound { IsSound self.now.counts }
     {
@@ -125,6 +133,20 @@ impl<E: Store> Kept<E> {
             pass,
             read: *counts,
         })
+    }
+
+    /// How many forces were made: steps `Force` that were answered `Done`. What waited before one of them is committed by it.
+    pub fn forces(&self) -> u64
+        ensures { result ≡ self.now.forces }
+    {
+        self.forces
+    }
+
+    /// Whether a force was made since so many were.
+    pub fn is_settled(&self, at: u64) -> bool
+        ensures { result ≡ true ↔ (at < self.now.forces) }
+    {
+        at < self.forces
     }
 
     /// Ends the front. There is a sum where as many shares came back as were handed out, and it is the number of all steps.
@@ -166,6 +188,8 @@ impl<E: Store> Kept<E> {
             made,
             counts,
             waiting,
+            forces,
+            passed,
             cell,
             pass,
             ..
@@ -176,11 +200,24 @@ impl<E: Store> Kept<E> {
         }
         let now = counted(*waiting, *counts, step, &reply);
         *waiting = step.waits_after(*waiting, &reply);
+        *forces = forces_after(*forces, step, &reply);
+        *passed = passed_after(*passed, *waiting);
         *trace = trace.with(step, &reply);
         *made += 1;
         publish(rt, cell, pass, *counts, now);
         *counts = now;
         reply
+    }
+}
+
+impl<E: Store> Behind for Kept<E> {
+    fn pace(&self) -> Pace {
+        Pace {
+            waiting: self.waiting,
+            passed: self.passed,
+            forces: self.forces,
+            failed: self.engine.failed(),
+        }
     }
 }
 
@@ -195,7 +232,7 @@ fn is_spent(made: u64) -> bool
 #[derive(Drop)]
 pub struct Open<E: Store> {
     held: Mutex<Kept<E>>,
-    ended: Condvar,
+    callers: Callers,
 }
 
 impl<E: Store> Open<E> {
@@ -206,7 +243,7 @@ impl<E: Store> Open<E> {
         let held = Kept::new(alloc, at_rest)?;
         Ok(Open {
             held: Mutex::new(held),
-            ended: Condvar::new(),
+            callers: Callers::new(),
         })
     }
 
@@ -219,18 +256,77 @@ impl<E: Store> Open<E> {
     pub fn call<R: Wait>(&self, rt: &R, step: Step) -> Reply
         ensures unblocked { is_blocked (told_by result) ≡ false }
     {
+        self.callers.come();
         let mut held = self.held.lock(rt);
         for _ in rt.forever() {
             let reply = held.step(rt, &step);
             if !reply.is_blocked() {
-                if step.may_unblock(&reply) {
-                    self.ended.notify_all();
-                }
+                self.callers.tell(&step, &reply);
+                self.callers.go(held.pace());
                 return reply;
             }
-            held = self.ended.wait(rt, held);
+            held = self.callers.sleep_blocked(rt, held);
         }
         unreachable!()
+    }
+
+    /// Commits a transaction, and returns once all that it did is durable. In a store with group commit the Commit waits for a force: the last
+    /// caller awake in the front makes one for all that wait, as a step of its own, and the others sleep until it is made. In another store it
+    /// is the step `Commit` alone.
+    ///
+    /// Refused as the Commit is. `Device` or `Failed` where the force failed: whether it is committed shows when the store is opened again.
+    pub fn commit<R: Wait>(&self, rt: &R, t: TxnId) -> Result<(), Fault> {
+        let step = Step::Commit(t);
+        self.callers.come();
+        let mut held = self.held.lock(rt);
+        let reply = held.step(rt, &step);
+        self.callers.tell(&step, &reply);
+        let done = match reply {
+            Reply::More => return self.settle_all(rt, held),
+            Reply::Committed => Ok(()),
+            Reply::Refused(fault) => Err(fault),
+            _ => Err(Fault::Failed),
+        };
+        self.callers.go(held.pace());
+        done
+    }
+
+    /// Returns once every Commit that was answered `More` before is durable: it waits for a force, or makes it. It makes no step where none
+    /// waits. `Failed` where the store has failed, else refused as the force is.
+    pub fn settle<R: Wait>(&self, rt: &R) -> Result<(), Fault> {
+        self.callers.come();
+        let held = self.held.lock(rt);
+        let pace = held.pace();
+        if pace.waiting > 0 && !pace.failed {
+            return self.settle_all(rt, held);
+        }
+        self.callers.go(pace);
+        if pace.failed {
+            Err(Fault::Failed)
+        } else {
+            Ok(())
+        }
+    }
+
+    // Waits for the next force, or makes it, and goes.
+    fn settle_all<R: Wait>(&self, rt: &R, held: MutexGuard<'_, Kept<E>>) -> Result<(), Fault> {
+        let forces = held.forces();
+        let mut held = self.callers.sleep_until_due(rt, held, forces);
+        let done = if held.is_settled(forces) {
+            Ok(())
+        } else if held.pace().failed {
+            Err(Fault::Failed)
+        } else {
+            let reply = held.step(rt, &Step::Force);
+            self.callers.tell(&Step::Force, &reply);
+            match reply {
+                Reply::Done => Ok(()),
+                Reply::Refused(fault) => Err(fault),
+                _ => Err(Fault::Failed),
+            }
+        };
+        self.callers.go(held.pace());
+        done
     }
 
     /// Started, committed and rolled back, as they were at one moment.
@@ -249,7 +345,7 @@ impl<E: Store> Open<E> {
         ensures replies { All (λ e. IsReply e.0 e.1) (seen_of result.trace.steps) }
         ensures made { result.made ≡ length result.trace.steps }
     {
-        let Open { held, ended: _ } = self;
+        let Open { held, callers: _ } = self;
         held.into_inner().close()
     }
 }

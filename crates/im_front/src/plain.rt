@@ -1,6 +1,6 @@
 //! A front that keeps its trace for proofs alone.
 
-ghost use Rattle.std.specs.Prelude.{◌≡◌, ◌≤◌, ◌^◌, ◌+◌, ◌↔◌, ◌⊎◌, List, true, false, [], length, Err, IfOk, IfErr, OnErr, IfSome, IsSome};
+ghost use Rattle.std.specs.Prelude.{◌≡◌, ◌<◌, ◌≤◌, ◌^◌, ◌+◌, ◌↔◌, ◌⊎◌, List, true, false, [], length, Err, IfOk, IfErr, OnErr, IfSome, IsSome};
 ghost use Rattle.std.specs.List.{sum_by, All};
 ghost use Rattle.std.specs.Arc.{arc_value};
 ghost use Rattle.crossbeam_utils.specs.Seq.{cell_view};
@@ -10,20 +10,21 @@ ghost use Rattle.im_base_types.specs.declared.fault.Fault.TheVariants.{TooMany, 
 ghost use Rattle.im_base_steps.specs.Calls.{told_by, is_blocked};
 ghost use Rattle.im_front.specs.Traces.{counts_of};
 ghost use Rattle.im_base_steps.specs.Replies.{is_full, IsReply};
-ghost use Rattle.im_front.specs.Held.{IsResting, Stands, after_trace, waits_in};
+ghost use Rattle.im_front.specs.Held.{IsResting, Stands, after_trace, waits_in, forces_in};
 ghost use Rattle.im_front.specs.Plain.{none, seen_of, Notes, GoesOn, IsRunFrom, StopKeepsFrom};
 
-use crate::held::{SHARES, counted, gather, publish};
+use crate::callers::{Behind, Callers, Pace};
+use crate::held::{SHARES, counted, forces_after, gather, passed_after, publish};
 use crate::share::Share;
 use crate::stats::Stats;
 use crate::trace::Trace;
 use im_base_steps::{Reply, Step, Store};
-use im_base_types::Fault;
+use im_base_types::{Fault, TxnId};
 use im_front_stats::{Pass, StatsCell};
 use std::alloc::Global;
 use std::marker::Model;
 use std::sync::ledger::{Blank, Book, Ledger, Share as Part};
-use std::sync::{Arc, Condvar, Mutex, Wait};
+use std::sync::{Arc, Mutex, MutexGuard, Wait};
 
 /// The most steps that a front ever makes.
 const MOST: u64 = 1 << 62;
@@ -37,6 +38,10 @@ pub struct Plain<E: Store, L: Ledger> {
     counts: [u64; 3],
     // How many transactions wait for a force.
     waiting: u64,
+    // How many forces were made.
+    forces: u64,
+    // How many steps were made since the first of those that wait came to.
+    passed: u64,
     book: Book<L>,
     rest: Part<L>,
     handed: u64,
@@ -45,18 +50,18 @@ pub struct Plain<E: Store, L: Ledger> {
 }
 
 impl<E: Store, L: Ledger> Model for Plain<E, L> {
-    ghost use Rattle.std.specs.Prelude.{◌≡◌, ◌+◌, length};
+    ghost use Rattle.std.specs.Prelude.{◌≡◌, ◌≤◌, ◌+◌, length};
     ghost use Rattle.std.specs.Arc.{arc_value};
     ghost use Rattle.crossbeam_utils.specs.Seq.{cell_view};
     ghost use Rattle.im_front_stats.specs.Counts.{writer};
-    ghost use Rattle.im_front.specs.Held.{IsTallied};
+    ghost use Rattle.im_front.specs.Held.{IsTallied, forces_in};
     ghost use Rattle.im_front.specs.Plain.{PlainState, StandsFrom, none, seen_of};
 
     ghost Value = { PlainState E };
 
-    ghost view = { λ h. record { engine = h.engine; trace = h.trace.steps; counts = (cell_view h.pass).seen; waiting = h.waiting; handed = h.handed } };
+    ghost view = { λ h. record { engine = h.engine; trace = h.trace.steps; counts = (cell_view h.pass).seen; waiting = h.waiting; forces = h.forces; handed = h.handed } };
 
-    ghost invariant = { λ h. (E.tells → StandsFrom E.life h.trace.steps h.engine) × IsTallied (seen_of h.trace.steps) (E.actives h.engine) (E.waiting h.engine) 0 none h.counts × (h.book.total ≡ length h.trace.steps) × (h.made ≡ length h.trace.steps) × (h.rest.parts + h.handed ≡ 1024) × (h.rest.amount ≡ 0) × (h.pass.table_id ≡ (arc_value h.cell).table.shared.table_id) × (cell_view h.pass ≡ writer h.counts) × (h.waiting ≡ E.waiting h.engine) };
+    ghost invariant = { λ h. (E.tells → StandsFrom E.life h.trace.steps h.engine) × IsTallied (seen_of h.trace.steps) (E.actives h.engine) (E.waiting h.engine) 0 none h.counts × (h.book.total ≡ length h.trace.steps) × (h.made ≡ length h.trace.steps) × (h.rest.parts + h.handed ≡ 1024) × (h.rest.amount ≡ 0) × (h.pass.table_id ≡ (arc_value h.cell).table.shared.table_id) × (cell_view h.pass ≡ writer h.counts) × (h.waiting ≡ E.waiting h.engine) × (h.forces ≡ forces_in (seen_of h.trace.steps)) × (h.forces ≤ length h.trace.steps) };
 }
 
 /// What is left of a front.
@@ -93,6 +98,8 @@ impl<E: Store, L: Ledger> Plain<E, L> {
             made: 0,
             counts: [0; 3],
             waiting: 0,
+            forces: 0,
+            passed: 0,
             book,
             rest,
             handed: 0,
@@ -108,6 +115,7 @@ impl<E: Store, L: Ledger> Plain<E, L> {
         ensures replies { All (λ e. IsReply e.0 e.1) (seen_of self.now.trace) }
         ensures counts { self.now.counts ≡ after_trace 0 none (seen_of self.now.trace) }
         ensures waiting { (self.now.waiting ≡ waits_in 0 (seen_of self.now.trace)) × (self.now.waiting ≡ E.waiting self.now.engine) }
+        ensures forces { self.now.forces ≡ forces_in (seen_of self.now.trace) }
         ensures active { started self.now.counts ≡ committed self.now.counts + rolled_back self.now.counts + E.actives self.now.engine }
         ensures sound { IsSound self.now.counts }
         ensures handed { self.now.handed ≤ 1024 }
@@ -146,6 +154,20 @@ impl<E: Store, L: Ledger> Plain<E, L> {
             pass,
             read: *counts,
         })
+    }
+
+    /// How many forces were made: steps `Force` that were answered `Done`. What waited before one of them is committed by it.
+    pub fn forces(&self) -> u64
+        ensures { result ≡ self.now.forces }
+    {
+        self.forces
+    }
+
+    /// Whether a force was made since so many were.
+    pub fn is_settled(&self, at: u64) -> bool
+        ensures { result ≡ true ↔ (at < self.now.forces) }
+    {
+        at < self.forces
     }
 
     /// Ends the front. There is a sum where as many shares came back as were handed out, and it is the number of all steps.
@@ -199,6 +221,8 @@ impl<E: Store, L: Ledger> Plain<E, L> {
             made,
             counts,
             waiting,
+            forces,
+            passed,
             book,
             cell,
             pass,
@@ -210,12 +234,25 @@ impl<E: Store, L: Ledger> Plain<E, L> {
         }
         let now = counted(*waiting, *counts, step, &reply);
         *waiting = step.waits_after(*waiting, &reply);
+        *forces = forces_after(*forces, step, &reply);
+        *passed = passed_after(*passed, *waiting);
         *trace = trace.with(step, &reply);
         *made += 1;
         book.add(&mut mine.made, 1);
         publish(rt, cell, pass, *counts, now);
         *counts = now;
         reply
+    }
+}
+
+impl<E: Store, L: Ledger> Behind for Plain<E, L> {
+    fn pace(&self) -> Pace {
+        Pace {
+            waiting: self.waiting,
+            passed: self.passed,
+            forces: self.forces,
+            failed: self.engine.failed(),
+        }
     }
 }
 
@@ -230,7 +267,7 @@ fn is_spent(made: u64) -> bool
 #[derive(Drop)]
 pub struct Shared<E: Store, L: Ledger> {
     held: Mutex<Plain<E, L>>,
-    ended: Condvar,
+    callers: Callers,
 }
 
 impl<E: Store, L: Ledger> Shared<E, L> {
@@ -243,7 +280,7 @@ impl<E: Store, L: Ledger> Shared<E, L> {
         let held = Plain::new(alloc, engine, blank)?;
         Ok(Shared {
             held: Mutex::new(held),
-            ended: Condvar::new(),
+            callers: Callers::new(),
         })
     }
 
@@ -260,18 +297,89 @@ impl<E: Store, L: Ledger> Shared<E, L> {
         ensures counted { is_full (told_by result) ≡ false → mine.new.made.amount ≡ mine.old.made.amount + 1 }
         ensures full { is_full (told_by result) ≡ true → mine.new.made.amount ≡ mine.old.made.amount }
     {
+        self.callers.come();
         let mut held = self.held.lock(rt);
         for _ in rt.forever() {
             let reply = held.step(rt, mine, &step);
             if !reply.is_blocked() {
-                if step.may_unblock(&reply) {
-                    self.ended.notify_all();
-                }
+                self.callers.tell(&step, &reply);
+                self.callers.go(held.pace());
                 return reply;
             }
-            held = self.ended.wait(rt, held);
+            held = self.callers.sleep_blocked(rt, held);
         }
         unreachable!()
+    }
+
+    /// Commits a transaction, and returns once all that it did is durable. In a store with group commit the Commit waits for a force: the last
+    /// caller awake in the front makes one for all that wait, as a step of its own, and the others sleep until it is made. In another store it
+    /// is the step `Commit` alone.
+    ///
+    /// Refused as the Commit is. `Device` or `Failed` where the force failed: whether it is committed shows when the store is opened again.
+    pub fn commit<R: Wait>(&self, rt: &R, mine: &mut Share<L>, t: TxnId) -> Result<(), Fault>
+        ensures made { IfOk result (λ _. mine.old.made.amount + 1 ≤ mine.new.made.amount) }
+        ensures few { (mine.old.made.amount ≤ mine.new.made.amount) × (mine.new.made.amount ≤ mine.old.made.amount + 2) }
+    {
+        let step = Step::Commit(t);
+        self.callers.come();
+        let mut held = self.held.lock(rt);
+        let reply = held.step(rt, mine, &step);
+        self.callers.tell(&step, &reply);
+        let done = match reply {
+            Reply::More => return self.settle_all(rt, mine, held),
+            Reply::Committed => Ok(()),
+            Reply::Refused(fault) => Err(fault),
+            _ => Err(Fault::Failed),
+        };
+        self.callers.go(held.pace());
+        done
+    }
+
+    /// Returns once every Commit that was answered `More` before is durable: it waits for a force, or makes it. It makes no step where none
+    /// waits. `Failed` where the store has failed, else refused as the force is.
+    pub fn settle<R: Wait>(&self, rt: &R, mine: &mut Share<L>) -> Result<(), Fault>
+        ensures few { (mine.old.made.amount ≤ mine.new.made.amount) × (mine.new.made.amount ≤ mine.old.made.amount + 1) }
+    {
+        self.callers.come();
+        let held = self.held.lock(rt);
+        let pace = held.pace();
+        if pace.waiting > 0 && !pace.failed {
+            return self.settle_all(rt, mine, held);
+        }
+        self.callers.go(pace);
+        if pace.failed {
+            Err(Fault::Failed)
+        } else {
+            Ok(())
+        }
+    }
+
+    // Waits for the next force, or makes it, and goes.
+    fn settle_all<R: Wait>(
+        &self,
+        rt: &R,
+        mine: &mut Share<L>,
+        held: MutexGuard<'_, Plain<E, L>>,
+    ) -> Result<(), Fault>
+        ensures few { (mine.old.made.amount ≤ mine.new.made.amount) × (mine.new.made.amount ≤ mine.old.made.amount + 1) }
+    {
+        let forces = held.forces();
+        let mut held = self.callers.sleep_until_due(rt, held, forces);
+        let done = if held.is_settled(forces) {
+            Ok(())
+        } else if held.pace().failed {
+            Err(Fault::Failed)
+        } else {
+            let reply = held.step(rt, mine, &Step::Force);
+            self.callers.tell(&Step::Force, &reply);
+            match reply {
+                Reply::Done => Ok(()),
+                Reply::Refused(fault) => Err(fault),
+                _ => Err(Fault::Failed),
+            }
+        };
+        self.callers.go(held.pace());
+        done
     }
 
     /// Started, committed and rolled back, as they were at one moment.
@@ -292,7 +400,7 @@ impl<E: Store, L: Ledger> Shared<E, L> {
         ensures made { result.made ≡ length result.trace.steps }
         ensures sum { IfSome result.sum (λ n. (n ≡ length result.trace.steps) × (n ≡ sum_by (λ s. s.made.amount) shares.items)) }
     {
-        let Shared { held, ended: _ } = self;
+        let Shared { held, callers: _ } = self;
         held.into_inner().close(shares)
     }
 }

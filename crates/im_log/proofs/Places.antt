@@ -19,7 +19,6 @@ use Rattle.im_log.specs.declared.log_file.LogFile.{LogFile}
 use Rattle.im_log.specs.Spelled.{logged_at, record_size, first_record, records_from, batches_records}
 use Rattle.im_log.specs.LogFile.{buffered, first_lsn, batch_lsn, next_lsn, IsOpen, IsLog, Sealed}
 use Rattle.im_log.specs.Reading.{FitsFront, IsFrontOf, SpellsRecord}
-use Rattle.im_log.specs.Scan.{AllBelow}
 use Rattle.im_log.proofs.Spells.{First, first, first_more, size_more, step, none, log_records}
 use Rattle.im_log.proofs.Passes.{batch_taken}
 use Rattle.im_log.proofs.Openings.{in_front_some}
@@ -156,7 +155,7 @@ found_in base place file (b ∷ bs) end older log r there le is has =
     (found_in base (place + (5 + length b)) file bs end t.mid log r s.onward (omega (arith, le)) (ap (λ (k : ℕ). batches_records k bs t.mid) at ∙ t.onward) has)
 
 -- a first record that lies in the bytes in front of others is theirs alone
-first_less : (bytes more : List ℕ) (entry : Entry) → First (bytes ++ more) entry → record_size (bytes ++ more) ≤ length bytes → First bytes entry
+pub first_less : (bytes more : List ℕ) (entry : Entry) → First (bytes ++ more) entry → record_size (bytes ++ more) ≤ length bytes → First bytes entry
 first_less bytes more entry f le =
     let size = size_more bytes more (omega (arith, f.least, le)) in
     record {
@@ -318,8 +317,3 @@ cut_first items at end n entry le within few f fits =
     let same : take n y ≡ take n (drop at items) = ap (λ (l : List ℕ). take n l) (sym (slice_is items at end le)) ∙ take-take n (end - at) (drop at items) few in
     subst (λ (l : List ℕ). First l entry) same
     (first_less (take n y) (drop n y) entry (subst (λ (l : List ℕ). First l entry) (sym split_is) f) (omega (arith, size, fits, length-take-le n y (omega (arith, long, few)))))
-
--- one record more below a bound
-pub one_more_below : (from : ℕ) (x : Logged) (passed : List Logged) → x.lsn < from → AllBelow from passed → AllBelow from (x ∷ passed)
-one_more_below from x passed below others r has =
-    ⊎_elim (λ (same : x ≡ r). let l : x.lsn ≡ r.lsn = ap (λ (y : Logged). y.lsn) same in let le : r.lsn < from = omega (arith, l, below) in le) (λ (is : IsRecordOf r passed). others r is) has

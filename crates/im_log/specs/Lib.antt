@@ -1,8 +1,9 @@
 pub mod Gates
 pub mod Kept
+pub mod Outcome
 pub mod LogFile
 pub mod Opening
 pub mod Reading
-pub mod Scan
+pub mod Span
 pub mod Spelled
 pub mod Whats

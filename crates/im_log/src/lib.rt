@@ -7,9 +7,10 @@
 //! call and takes no memory, and one that does not fit forces first.
 //!
 //! `IsOpen` holds on any bytes and is asked and given by each call. `IsLog` says which list the log is, over a disk that tells
-//! its bytes; what each call keeps of it stands in its clause `kept`. After a call that failed every later one is refused.
+//! its bytes; what each call keeps of it stands in its clause `kept`. After a call that failed every later one is refused: how an append or
+//! a force ends is one fact (`LogOutcome`).
 //!
-//! Nothing that was written is read again but by `read_at` and a scan: an append costs a copy of its record into the buffer, and
+//! Nothing that was written is read again but by `read_at` and `read_span`: an append costs a copy of its record into the buffer, and
 //! a force one write of what is buffered and one of a byte, however long the log is. `im_bench log --time` measures it on the model
 //! disk; one run on four cores, for records of 50 bytes, in nanoseconds a record:
 //!
@@ -19,7 +20,6 @@
 //! | append and force, four device calls | 91 to 165 | 159 to 168 | 52 to 63, the same calls |
 //! | `read_at` of a waiting record | 24 | 25 | |
 //! | `read_at` of a durable record, here and there in the file | 37 | 182 | |
-//! | scan, each record decoded | 65 | 61 | |
 //!
 //! It stands on gates for the batches, and on the codec of records.
 #![tactic(auto)]
@@ -29,9 +29,9 @@ mod front;
 mod log_file;
 mod opening;
 mod reading;
-mod scan;
+mod whole;
 
 pub use creation::open_or_create;
 pub use log_file::LogFile;
 pub use opening::{Opening, open_log};
-pub use scan::Scan;
+pub use whole::whole_size;

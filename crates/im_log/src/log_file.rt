@@ -5,12 +5,12 @@ ghost use Rattle.im_log_gate.specs.Gate.{base_at, place_of};
 ghost use Rattle.im_log.specs.Gates.{IsOfLog};
 
 use crate::reading::{copy_front, read_front};
-use crate::{Opening, Scan};
 use im_base_disk::Disk;
-use im_base_types::{BATCH_ROOM, Fault, FileId, LAST_LSN, LONGEST_BATCH, Lsn};
+use im_base_types::{BATCH_ROOM, Fault, LAST_LSN, LONGEST_BATCH, Lsn};
 use im_log_gate::{Gate, seal};
 use im_log_record::{Record, spellings};
-use std::alloc::Global;
+
+mod span;
 
 /// The log: records in turn, of which the last may wait in a buffer for a force, laid out as they will stand in the file.
 #[derive(Drop)]
@@ -44,8 +44,9 @@ impl LogFile {
     ghost use Rattle.im_log.specs.LogFile.{buffered, first_lsn, batch_lsn, next_lsn, end_with, HasNoRoom, IsAhead, HasNextRoom, IsOpen, IsLog, Sealed};
     ghost use Rattle.im_log_gate.specs.Batches.{IsFilled};
     ghost use Rattle.im_log.specs.Kept.{AppendKept, ForceKept};
+    ghost use Rattle.im_log.specs.Outcome.{LacksRoom, LogOutcome};
+    ghost use Rattle.im_base_types.specs.Outcomes.{fault_of, none_own};
     ghost use Rattle.im_log.specs.Reading.{FoundKept};
-    ghost use Rattle.im_log.specs.Scan.{place_of_scan, bound_of, IsScanning, ScanBegun};
 
     // A log with nothing buffered, behind this gate.
     pub(crate) fn at_end(gate: Gate, buffer: Vec<u8>) -> LogFile
@@ -158,21 +159,14 @@ impl LogFile {
     /// Refused `Device`. After a refusal every later call answers `Failed`.
     pub fn force<D: Disk>(&mut self, disk: &mut D) -> Result<(), Fault>
         requires ready { IsOpen D.Disk self.old disk.old }
-        ensures ready { IsOpen D.Disk self.new disk.new }
+        ensures outcome { LogOutcome D.Disk none_own self.old disk.old self.new disk.new (fault_of result) }
         ensures kept { (base : ℕ) (all durable : List Logged) → IsLog D.Disk base all durable self.old disk.old
             → ForceKept D.Disk base all durable disk.old self.new disk.new result }
-        ensures changes { ChangesOnly D.Disk Log disk.old disk.new }
         ensures costs { OnOk result (1 ≤ self.old.used → Costs D.Disk 2 2 disk.old disk.new) }
-        ensures few { CostsAtMost D.Disk 2 2 disk.old disk.new }
         ensures none { self.old.used ≡ 0 → disk.new ≡ disk.old }
         ensures same { self.old.failed ≡ false → self.old.used ≡ 0 → (result ≡ Ok tt) × (self.new ≡ self.old) }
-        ensures base { self.new.base ≡ self.old.base }
         ensures place { OnOk result (1 ≤ self.old.used → next_lsn self.new ≡ next_lsn self.old + 5) }
         ensures empty { OnOk result (self.new.used ≡ 0) }
-        ensures failed { self.new.failed ≡ not (is_ok result) }
-        ensures causes { IfErr result (λ e. (e ≡ Failed) ⊎ (e ≡ Device)) }
-        ensures already { result ≡ Err Failed ↔ (self.old.failed ≡ true) }
-        ensures device { self.old.failed ≡ false → result ≡ Err Device ↔ (D.failed disk.new ≡ true) }
     {
         if self.failed {
             return Err(Fault::Failed);
@@ -204,24 +198,15 @@ impl LogFile {
     pub fn append<D: Disk>(&mut self, disk: &mut D, record: &Record) -> Result<Lsn, Fault>
         requires entry { IsEntry (view record.now) }
         requires ready { IsOpen D.Disk self.old disk.old }
-        ensures ready { IsOpen D.Disk self.new disk.new }
+        ensures outcome { LogOutcome D.Disk (LacksRoom (size_of (view record.now)) self.new) self.old disk.old self.new disk.new (fault_of result) }
         ensures kept { (base : ℕ) (all durable : List Logged) → IsLog D.Disk base all durable self.old disk.old
             → AppendKept D.Disk base all durable (view record.now) disk.old self.new disk.new result }
-        ensures changes { ChangesOnly D.Disk Log disk.old disk.new }
+        ensures full { result ≡ Err LogFull ↔ ((self.old.failed ≡ false) × (2 ^ 62 < end_with self.old (size_of (view record.now)))) }
+        ensures end { OnOk result (next_lsn self.new ≡ end_with self.old (size_of (view record.now))) }
+        ensures used { IfOk result (λ lsn. self.old.used + size_of (view record.now) ≤ 16384 → self.new.used ≡ self.old.used + size_of (view record.now)) }
         ensures fits { self.old.used + size_of (view record.now) ≤ 16384 → disk.new ≡ disk.old }
         ensures later { HasNextRoom self.old → disk.new ≡ disk.old }
         ensures forces { OnOk result (Forces D.Disk 1 disk.old disk.new) }
-        ensures few { CostsAtMost D.Disk 2 2 disk.old disk.new }
-        ensures used { IfOk result (λ lsn. self.old.used + size_of (view record.now) ≤ 16384 → self.new.used ≡ self.old.used + size_of (view record.now)) }
-        ensures base { self.new.base ≡ self.old.base }
-        ensures failed { self.new.failed ≡ not (is_ok result) }
-        ensures causes { IfErr result (λ e. (e ≡ Failed) ⊎ (e ≡ LogFull) ⊎ (e ≡ Device)) }
-        ensures already { result ≡ Err Failed ↔ (self.old.failed ≡ true) }
-        ensures full { result ≡ Err LogFull ↔ ((self.old.failed ≡ false) × (2 ^ 62 < end_with self.old (size_of (view record.now)))) }
-        ensures no_room { result ≡ Err LogFull → HasNoRoom self.new }
-        ensures left { result ≡ Err LogFull → 2 ^ 62 < end_with self.new (size_of (view record.now)) }
-        ensures end { OnOk result (next_lsn self.new ≡ end_with self.old (size_of (view record.now))) }
-        ensures device { self.old.failed ≡ false → result ≡ Err Device ↔ (D.failed disk.new ≡ true) }
     {
         if self.failed {
             return Err(Fault::Failed);
@@ -286,35 +271,5 @@ impl LogFile {
         let end = (self.start + 4 + self.used).min(waiting + LONGEST_BATCH);
         let size = copy_front(&self.buffer[waiting..end], room)?;
         Ok(size)
-    }
-
-    /// A scan of the durable records from an LSN on, the oldest first. It begins at the first gate, since a record's LSN does not
-    /// tell where its batch begins: each batch is read once, to a room that is made here, as is one for the gate.
-    ///
-    /// Refused `Failed` where the log has failed; `NotAStore` where the bytes are no log; `Memory`; `Device`, behind which the log
-    /// is not used again.
-    pub fn scan_from<D: Disk>(&self, alloc: Global, disk: &mut D, from: Lsn) -> Result<Scan, Fault>
-        requires ready { IsOpen D.Disk self.now disk.old }
-        ensures ready { D.failed disk.new ≡ false → IsOpen D.Disk self.now disk.new }
-        ensures kept { (base : ℕ) (all durable : List Logged) → IsLog D.Disk base all durable self.now disk.old → IsLog D.Disk base all durable self.now disk.new }
-        ensures scans { (base : ℕ) (all durable : List Logged) → IsLog D.Disk base all durable self.now disk.old → ScanBegun D.Disk base durable disk.new result }
-        ensures begun { IfOk result (λ scan. IsScanning D.Disk scan disk.new) }
-        ensures bound { IfOk result (λ scan. bound_of scan ≡ from) }
-        ensures working { IfOk result (λ scan. (place_of_scan scan).failed ≡ false) }
-        ensures reads { Reads D.Disk disk.old disk.new }
-        ensures causes { IfErr result (λ e. (e ≡ Failed) ⊎ (e ≡ NotAStore) ⊎ (e ≡ Memory) ⊎ (e ≡ Device)) }
-        ensures already { result ≡ Err Failed ↔ (self.now.failed ≡ true) }
-        ensures device { self.now.failed ≡ false → result ≡ Err Device ↔ (D.failed disk.new ≡ true) }
-    {
-        if self.failed {
-            return Err(Fault::Failed);
-        }
-        match Gate::open(alloc, disk, FileId::Log)? {
-            None => Err(Fault::NotAStore),
-            Some(gate) => {
-                let opening = Opening::start(alloc, gate, 1)?;
-                Ok(Scan::start(opening, from))
-            }
-        }
     }
 }

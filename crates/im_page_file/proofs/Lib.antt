@@ -4,3 +4,4 @@ pub mod PageFiles
 pub mod Standing
 pub mod ImageSteps
 pub mod Openings
+pub mod WaitingRecords

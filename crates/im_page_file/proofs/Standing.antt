@@ -4,7 +4,7 @@ use Rattle.im_base_types.specs.declared.file_id.FileId.{FileId}
 use Rattle.im_base_types.specs.declared.file_id.FileId.TheVariants.{Log, Pages}
 use Rattle.im_theory_log.specs.Histories.{Base, History, IsFront}
 use Rattle.im_theory_log.specs.Writer.{Writer, WriterKept}
-use Rattle.im_theory_log.specs.WriterSteps.{MayWrite, forced, synced_entry, written, written_entry}
+use Rattle.im_theory_log.specs.WriterSteps.{forced, synced_entry, written, written_entry}
 use Rattle.im_theory_log.proofs.Histories.{front_self}
 use Rattle.im_theory_log.proofs.WriterCovers.{covers}
 use Rattle.im_theory_log.proofs.WriterWrites.{forced_kept, synced_kept, written_kept}
@@ -76,11 +76,11 @@ module _ {D : Type 0} (d : Ghosts D) (b : Base) (base : ℕ) where
     stop_now c left = covered_by s c st.kept (has_log c (log_durable c left)) (st.file.leaves c left)
 
     -- a stop within the write of a page
-    pub write_stops : (p l n : ℕ) (new : D) → n ≡ 4096 → MayWrite b s p l → LeavesOnly d old new (Stepped (InFile Pages (Torn (p * 4096) n)) (d.may_leave old)) → LeavesCovered d b base s.durable s.log old new
-    write_stops p l n new whole may run =
+    pub write_stops : (p l n : ℕ) (new : D) → n ≡ 4096 → WriterKept b (written p l s) → LeavesOnly d old new (Stepped (InFile Pages (Torn (p * 4096) n)) (d.may_leave old)) → LeavesCovered d b base s.durable s.log old new
+    write_stops p l n new whole kept run =
         weakened d old new (Stepped (InFile Pages (Torn (p * 4096) n)) (d.may_leave old)) (IsCovered b base s.durable s.log) run
         (λ told c left.
-        covered_by (written p l s) c (written_kept b s p l st.kept may) (has_log c (left.2.others Log (λ same. cc) ∙ log_durable left.0 left.1)) (page_file_torn d s.pages p l n old whole st.file c left))
+        covered_by (written p l s) c kept (has_log c (left.2.others Log (λ same. cc) ∙ log_durable left.0 left.1)) (page_file_torn d s.pages p l n old whole st.file c left))
 
     -- a stop within a sync
     pub sync_stops : (new : D) → LeavesOnly d old new (d.may_leave old) → LeavesCovered d b base s.durable s.log old new

@@ -1,4 +1,4 @@
--- How a call may end that adds a record, or Images, to a log.
+-- How a call may end that adds Images to a log.
 use Rattle.std.specs.Prelude.{◌≡◌, ◌<◌, ◌^◌, false, true, Option, None, Some}
 use Rattle.im_base_types.specs.declared.fault.Fault.{Fault}
 use Rattle.im_base_types.specs.declared.fault.Fault.TheVariants.{Device, LogFull}
@@ -8,18 +8,6 @@ use Rattle.im_log.specs.LogFile.{end_with, HasNoRoom, IsOpen}
 use Rattle.im_page_file.specs.LogEnds.{EndsNoSooner}
 
 module _ {D : Type 0} (d : Ghosts D) where
-  -- How a call ends that adds one record to a log that works, by its refusal, if it was refused.
-  abbrev pub AppendEnds : LogFile → D → Option Fault → Type 0
-  AppendEnds new disk None = (new.failed ≡ false) × (d.failed disk ≡ false)
-  AppendEnds new disk (Some LogFull) = (d.failed disk ≡ false) × HasNoRoom new
-  AppendEnds new disk (Some Device) = d.failed disk ≡ true
-  AppendEnds new disk (Some e) = ⊥
-
-  -- The outcome of such a call: the log is open, and this is how it ended.
-  pub record Appends (new : LogFile) (disk : D) (why : Option Fault) : Type 0 where
-    pub opened : IsOpen d new disk
-    pub ends : AppendEnds new disk why
-
   -- How a call ends that adds Images to a log that works, and may bring them to the disk, by its refusal, if it was refused.
   abbrev pub ImagingEnds : LogFile → LogFile → D → Option Fault → Type 0
   ImagingEnds old new disk None = (new.failed ≡ false) × (d.failed disk ≡ false) × EndsNoSooner old new

@@ -1,14 +1,9 @@
 -- Where records of a log would end, from call to call; and why a call was refused.
-use Rattle.std.specs.Prelude.{◌≤◌, ℕ, Option, None, Some, Result, Ok, Err}
-use Rattle.im_base_types.specs.declared.fault.Fault.{Fault}
+use Rattle.std.specs.Prelude.{◌≤◌, ℕ}
 use Rattle.im_log.specs.declared.log_file.LogFile.{LogFile}
 use Rattle.im_log.specs.LogFile.{end_with}
+pub use Rattle.im_base_types.specs.Outcomes.{fault_of}
 
 -- A record of whatever length ends no sooner in the one log than it would have in the other.
 pub record EndsNoSooner (old new : LogFile) : Type 0 where
   pub each : (size : ℕ) → end_with old size ≤ end_with new size
-
--- why a call was refused, if it was
-abbrev pub fault_of : {A : Type 0} → Result A Fault → Option Fault
-fault_of (Ok a) = None
-fault_of (Err e) = Some e

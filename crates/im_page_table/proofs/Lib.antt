@@ -4,3 +4,4 @@ pub mod OnePage
 pub mod TableSteps
 pub mod KnownCopies
 pub mod Growing
+pub mod DurableCopies

@@ -1,5 +1,5 @@
 -- The dirty table as a list in rising page order, and the function of the page for which it stands.
-use Rattle.std.specs.Prelude.{◌≡◌, ◌≢◌, ◌⊎◌, ◌<◌, ◌≤◌, ℕ, List, [], ◌∷◌, length, map, slice_index_or, if◌then◌else◌, ◌==◌, nat_lt, Bool, false, true, ◌||◌, Option, None, Some, option_map}
+use Rattle.std.specs.Prelude.{◌≡◌, ◌≢◌, ◌⊎◌, ◌<◌, ◌≤◌, ◌+◌, ℕ, List, [], ◌∷◌, length, map, slice_index_or, if◌then◌else◌, ◌==◌, nat_lt, Bool, false, true, ◌||◌, Option, None, Some, option_map}
 use Rattle.std.specs.Option.{is_some}
 use Rattle.im_theory_log.specs.Writer.{DirtyEntry, IsWritten, PageState}
 use Rattle.im_base_types.specs.declared.tables.DirtyPage.{DirtyPage}
@@ -111,6 +111,17 @@ older (Some a) (Some b) = if nat_lt b.rec_lsn a.rec_lsn then Some b else Some a
 abbrev pub oldest : Option DirtyPage → List TableEntry → Option DirtyPage
 oldest o [] = o
 oldest o (x ∷ xs) = oldest (older o (changed_page x)) xs
+
+-- ---- written pages
+
+-- one more page, where it has not changed since its last write
+abbrev pub and_written : ℕ → TableEntry → ℕ
+and_written n x = if is_some x.since then n else n + 1
+
+-- so many pages, and those that have not changed since their last write
+abbrev pub with_written : ℕ → List TableEntry → ℕ
+with_written n [] = n
+with_written n (x ∷ xs) = with_written (and_written n x) xs
 
 -- ---- beside the entries that a writer keeps of its pages
 

@@ -18,6 +18,19 @@ pub record KnowsCopies (s : Writer) : Type 0 where
   pub copies : (e : ℕ) → s.redo_end ≡ Some e → (p : ℕ) → (s.pages p).entry ≡ None → e < (s.pages p).page.lsn → checkpoint_lsn s.log < (s.pages p).page.lsn
       → (left : History) → IsLeft s.durable s.log left → HasCopy s.durable p (redo_point left)
 
+-- ---- copies that are known to be durable
+
+-- an LSN is below those of all these records
+abbrev pub AreAbove : ℕ → History → Type 0
+AreAbove l [] = Unit {0}
+AreAbove l (r ∷ newer) = (l < r.lsn) × AreAbove l newer
+
+-- Of a page that was changed since redo ended, a full copy that is known comes no later than its last change: each front of the log that a stop can leave, and that has the page's changes, has
+-- a copy at or after the redo point of each log that has that front.
+abbrev pub KnowsDurable : Writer → Type 0
+KnowsDurable s = (e : ℕ) → s.redo_end ≡ Some e → (p : ℕ) → is_copied (s.pages p).entry ≡ true → e < (s.pages p).page.lsn
+    → (left : History) → (w : IsLeft s.durable s.log left) → AreAbove (s.pages p).page.lsn w.upto.newer → (h : History) → IsLeft left s.log h → HasCopy left p (redo_point h)
+
 -- redo has ended, and this LSN is above the log's end then, and above the last Checkpoint
 pub record IsKnownLsn (s : Writer) (from : ℕ) : Type 0 where
   pub redo_end : ℕ

@@ -1,11 +1,11 @@
 //! The dirty table.
-ghost use Rattle.std.specs.Prelude.{◌≡◌, ℕ, ◌<◌, ◌≤◌, ◌↔◌, ◌||◌, true, false, List, [], ◌∷◌, length, vec_len, vec_capacity, slice_index_or, IsTrue, IfOk, IfErr, IfSome, IsNone, Option, Some, None};
+ghost use Rattle.std.specs.Prelude.{◌≡◌, ℕ, ◌+◌, ◌<◌, ◌≤◌, ◌↔◌, ◌||◌, true, false, List, [], ◌∷◌, length, vec_len, vec_capacity, slice_index_or, IsTrue, IfOk, IfErr, IfSome, IsNone, Option, Some, None};
 ghost use Rattle.im_theory_log.specs.Writer.{PageState};
 ghost use Rattle.im_log_record.specs.Spelling.{Rise};
 ghost use Rattle.im_theory_log.specs.WriterSteps.{changed_entry, written_entry, synced_entry, forgotten_entry, at_point, is_copied, Lists};
 ghost use Rattle.im_page_table.specs.declared.table_entry.TableEntry.{TableEntry};
 ghost use Rattle.im_base_types.specs.declared.sizes.TheConstants.{MOST_DIRTY};
-ghost use Rattle.im_page_table.specs.DirtyTable.{entry_in, table_entry, dirty_entry, dirty_pages, put, has_room, written_in, synced_entries, forgotten_entries, changed_page, older, oldest, ChangesEntry, IsRising, IsCopied, IsFound, IsAbsent};
+ghost use Rattle.im_page_table.specs.DirtyTable.{entry_in, table_entry, dirty_entry, dirty_pages, put, has_room, written_in, synced_entries, forgotten_entries, changed_page, older, oldest, and_written, with_written, ChangesEntry, IsRising, IsCopied, IsFound, IsAbsent};
 
 use crate::TableEntry;
 use im_base_types::{DirtyPage, Lsn, MOST_DIRTY, PageNo};
@@ -238,6 +238,17 @@ impl DirtyTable {
         }
     }
 
+    /// How many of the pages have not changed since their last write: a sync of their file takes them out.
+    pub fn written_count(&self) -> usize
+        ensures { result ≡ with_written 0 self.now }
+    {
+        let mut count = 0;
+        for at in 0..self.entries.len() {
+            count = and_written(count, self.entries[at]);
+        }
+        count
+    }
+
     /// The entries, each page once, in rising order.
     pub fn entries(&self) -> &[TableEntry]
         ensures same { result.now ≡ self.now }
@@ -276,6 +287,18 @@ impl DirtyTable {
             };
             rows.push(row).unwrap();
         }
+    }
+}
+
+// One page more, where it has not changed since its last write.
+fn and_written(count: usize, entry: TableEntry) -> usize
+    requires few { count < MOST_DIRTY }
+    ensures value { result ≡ and_written count entry }
+    ensures few { result ≤ count + 1 }
+{
+    match entry.since {
+        None => count + 1,
+        Some(_) => count,
     }
 }
 

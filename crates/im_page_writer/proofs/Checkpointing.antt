@@ -58,7 +58,7 @@ none_before (Some e) is = absurd (cc is)
 knows_forgotten : (s : Writer) → KnowsCopies s → KnowsCopies (forgotten s)
 knows_forgotten s k = record { copies = λ e over p none late later h w. k.copies e over p (none_before (s.pages p).entry none) late later h w }
 
-none_copied : (o : Option DirtyEntry) → is_copied (forgotten_entry o) ≡ false
+pub none_copied : (o : Option DirtyEntry) → is_copied (forgotten_entry o) ≡ false
 none_copied None = refl
 none_copied (Some e) = refl
 

@@ -68,3 +68,14 @@ module _ {D : Type 0} (d : Ghosts D) where
     costs = costs_counted (number + 1 - n) ((n ≡ number) × (room n ≡ true)) (d.tells × (number ≤ count) × (room number ≡ true)) old mid new
         (λ has. let at : n ≡ number = omega (arith, is has.0, past, has.1) in (at, subst (λ (m : ℕ). room m ≡ true) (sym at) has.2)) counted flushed;
   }
+
+  -- a page that is written with no force
+  pub costs_early : (number : ℕ) (HasRoom : Type 0) (old new : D) → Costs d 1 0 old new → FlushCosts d (number + 1 - number) HasRoom old new
+  costs_early number HasRoom old new written = record {
+    forces = 0;
+    few = omega arith;
+    syncs = 0;
+    once = omega arith;
+    none = λ room. refl;
+    costs = costs_as d 1 0 (2 * 0 + (number + 1 - number)) (2 * 0 + 0) old new (omega arith) (omega arith) written;
+  }

@@ -82,13 +82,13 @@ module _ {D : Type 0} (d : Ghosts D) (b : Base) (base : ℕ) where
   flushed_then s t first last old mid new log new_log table new_table pool new_pool goes done = record {
     now = done.now;
     goes = goes_then d b base s old t log table pool mid goes done.now new_log new_table new_pool new done.goes;
-    durable = done.durable;
+    known = done.known;
     written = done.written;
   }
 
   -- the last page of a flush
   pub flushed_last : (s : Writer) (first last : ℕ) (old : D) (log : LogFile) (table : List TableEntry) (pool : PoolView) (new : D) → first ≤ last → Flushed d b base s first last old log table pool new → Flushed d b base s last last old log table pool new
-  flushed_last s first last old log table pool new order done = record { now = done.now; goes = done.goes; durable = done.durable; written = λ q low high. done.written q (omega (arith, order, low)) high }
+  flushed_last s first last old log table pool new order done = record { now = done.now; goes = done.goes; known = done.known; written = λ q low high. done.written q (omega (arith, order, low)) high }
 
   -- what a flush of a changed page asks holds: from it alone, or from the file's end up to it
   pub may_flush : (s : Writer) (log : LogFile) (table : List TableEntry) (pool : PoolView) (disk : D) (first p : ℕ) → IsWriting d b base s log table pool disk → pools.is_changed pool p ≡ true

@@ -58,6 +58,10 @@ pub edit_gives : (e : LeafEdit) (k : Key) (v : ℕ) (g : Page) → (page_after 1
 edit_gives Put k v g = refl
 edit_gives Take k v g = refl
 
+pub edit_lsn : (l : ℕ) (e : LeafEdit) (k : Key) (v : ℕ) (g : Page) → (page_after l (edit_of e k v) g).lsn ≡ l
+edit_lsn l Put k v g = refl
+edit_lsn l Take k v g = refl
+
 -- a leaf that takes the record takes the change
 pub may_edit : (e : LeafEdit) (k : Key) (v : ℕ) (g : Page) → LeafTakes (edit_of e k v) g → MayEdit e g k
 may_edit Put k v g takes = takes

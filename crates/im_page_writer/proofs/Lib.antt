@@ -1,4 +1,5 @@
 pub mod ImageCalls
+pub mod LogCalls
 pub mod Costs
 pub mod SyncedPages
 pub mod ChangedPages
@@ -20,3 +21,4 @@ pub mod Structure
 pub mod Restarting
 pub mod Outcomes
 pub mod Checkpointing
+pub mod EarlyWrites

@@ -24,8 +24,9 @@ use Rattle.im_page_table.specs.declared.table_entry.TableEntry.{TableEntry}
 use Rattle.im_page_table.specs.DirtyTable.{entry_in, has_room, put, written_in, ChangesEntry, is_changed}
 use Rattle.im_page_file.specs.Stands.{LeavesCovered, Stands, Synced}
 use Rattle.im_page_table.specs.Growth.{Keeps, SamePage}
-use Rattle.im_page_writer.specs.Writing.{lsn_for, IsShown, IsPooled, SameHeld, Unmarks, unmarked, pool_page, IsWriting, MayWriteHere, WrittenHere, WritesTo, Flushed}
+use Rattle.im_page_writer.specs.Writing.{lsn_for, IsShown, IsPooled, SameHeld, Unmarks, unmarked, pool_page, IsWriting, MayPlace, MayPlaceEarly, MayWriteHere, WrittenHere, WritesTo, Flushed}
 use Rattle.im_page_table.proofs.Tables.{held_put_other}
+use Rattle.im_page_table.proofs.DurableCopies.{durable_whole, durable_written}
 use Rattle.im_page_table.proofs.KnownCopies.{knows_written}
 use Rattle.im_page_table.proofs.OnePage.{only_here, only_other}
 use Rattle.im_page_file.proofs.PageFiles.{page_file_torn}
@@ -121,7 +122,7 @@ synced_keeps b s = record { log = grows_none b s.log; durable = front_self s.dur
 -- ---- a write
 
 module _ {D : Type 0} (d : Ghosts D) (b : Base) (base : ℕ) (s : Writer) (log : LogFile) (table : List TableEntry) (pool : PoolView) (old : D) (st : Stands d b base s log table old) (pooled : IsPooled pool s.pages)
-    (p l : ℕ) (may : MayWriteHere b s table pool p l) where
+    (p l : ℕ) (may : MayPlace b s table pool p l) where
   page_is : pool_page pool p ≡ (s.pages p).page
   page_is = pool_shows (held_of pool p) p (s.pages p) (pooled.shows p) may.past
 
@@ -130,7 +131,7 @@ module _ {D : Type 0} (d : Ghosts D) (b : Base) (base : ℕ) (s : Writer) (log :
 
   -- a stop within it
   pub place_stops : (new : D) → LeavesOnly d old new (Stepped (InFile Pages (TearsPage p)) (d.may_leave old)) → LeavesCovered d b base s.durable s.log old new
-  place_stops new run = write_stops d b base s log table old st p l 4096 new refl may.may
+  place_stops new run = write_stops d b base s log table old st p l 4096 new refl may.kept
       (weakened d old new (Stepped (InFile Pages (TearsPage p)) (d.may_leave old)) (Stepped (InFile Pages (Torn (p * 4096) 4096)) (d.may_leave old)) run (λ told c left. torn c left))
 
   reads_placed : (new : D) → WritesPage p (pool_page pool p) (d.seen old Pages) (d.seen new Pages) → (q : ℕ) → file_page (d.seen new Pages) q ≡ (only p (written_page l) s.pages q).reads
@@ -150,7 +151,7 @@ module _ {D : Type 0} (d : Ghosts D) (b : Base) (base : ℕ) (s : Writer) (log :
       let entry : has_room p table ≡ true → ChangesEntry p (written_entry l) table new_table = λ has. enters (room ∙ has) in
       record {
         stands = record {
-          kept = written_kept b s p l st.kept may.may;
+          kept = may.kept;
           ready = open_spared d log old new spares works st.ready;
           log_is = log_spared d base s.log s.durable log old new spares st.log_is;
           file = record { reads = reads_placed new writes; leaves = λ c left. page_file_torn d s.pages p l 4096 old refl st.file c (torn c (crash c left)) };
@@ -187,8 +188,11 @@ module _ {D : Type 0} (d : Ghosts D) (b : Base) (base : ℕ) (s : Writer) (first
   writes_left p table pool mid entered so = subst (λ (h : History). LeavesCovered d b base s.durable h old mid) so.logs so.run.stops
 
   module _ (p : ℕ) (table : List TableEntry) (pool : PoolView) (mid : D) (so_entered : Bool) (within : p ≤ last) (order : first ≤ p) (so : WritesTo d b base s first p last lsns old log table pool mid so_entered) where
-    pub asked : MayWriteHere b so.now table pool p (lsn_for lsns (p - first))
-    asked = so.may p (omega arith) within
+    asked_here : MayWriteHere b so.now table pool p (lsn_for lsns (p - first))
+    asked_here = so.may p (omega arith) within
+
+    pub asked : MayPlace b so.now table pool p (lsn_for lsns (p - first))
+    asked = record { kept = written_kept b so.now p (lsn_for lsns (p - first)) so.run.stands.kept asked_here.may; ready = asked_here.may.ready; entry = asked_here.entry; past = asked_here.past }
 
     -- one page more
     pub writes_more : (new_table : List TableEntry) (new_pool : PoolView) (new : D) (entered now_entered : Bool) → LeavesCovered d b base so.now.durable so.now.log mid new
@@ -204,7 +208,7 @@ module _ {D : Type 0} (d : Ghosts D) (b : Base) (base : ℕ) (s : Writer) (first
       may = λ q low high. next q low high;
       done = λ q low high. elim (cases_eq p q) [
         | inl here ↦ subst (λ (x : PageState). (x.waits ≡ false) × IsWritten x.entry) (sym (only_here (written_page l) so.now.pages p q here))
-            (subst (λ (n : ℕ). (so.now.pages n).waits ≡ false) here asked.may.ready, written_is l (so.now.pages q).entry)
+            (subst (λ (n : ℕ). (so.now.pages n).waits ≡ false) here asked.ready, written_is l (so.now.pages q).entry)
         | inr other ↦ subst (λ (x : PageState). (x.waits ≡ false) × IsWritten x.entry) (sym (only_other (written_page l) so.now.pages p q other)) (so.done q low (omega (arith, high, other)))
       ];
       entries = λ e. let ok = both e in done.entries ok.1 (so.entries ok.0);
@@ -219,7 +223,7 @@ module _ {D : Type 0} (d : Ghosts D) (b : Base) (base : ℕ) (s : Writer) (first
             let other : p ≡ q → ⊥ = λ e. absurd (omega (arith, low, e)) in
             let page = only_other (written_page (lsn_for lsns (p - first))) so.now.pages p q other in
             record {
-              may = may_after b so.now p (lsn_for lsns (p - first)) q (lsn_for lsns (q - first)) asked.may was.may;
+              may = may_after b so.now p (lsn_for lsns (p - first)) q (lsn_for lsns (q - first)) asked_here.may was.may;
               entry = others_written p (lsn_for lsns (p - first)) q table new_table is other ∙ was.entry ∙ ap (λ (x : PageState). x.entry) (sym page);
               past = λ none. ap (λ (x : PageState). x.page) page ∙ was.past (sym (un.others q (λ e. other (sym e))) ∙ none);
             }
@@ -231,7 +235,7 @@ module _ {D : Type 0} (d : Ghosts D) (b : Base) (base : ℕ) (s : Writer) (first
   writes_end table pool new based so = record {
     now = so.now;
     goes = record { writing = record { stands = so.run.stands; entries = so.entries refl; pooled = so.pooled; based = based }; stops = so.run.stops; keeps = so.keeps };
-    durable = so.all;
+    known = durable_whole b so.now so.run.stands.kept so.all;
     written = λ q low high. let is = so.done q low (omega (arith, high)) in (is.1, read_back b so.now q so.run.stands.kept is.0 is.1);
   }
 
@@ -247,12 +251,26 @@ module _ {D : Type 0} (d : Ghosts D) (b : Base) (base : ℕ) (s : Writer) (first
           stops = run.stops;
           keeps = keeps_then b s so.now (synced so.now) so.keeps (synced_keeps b so.now);
         };
-        durable = so.all;
+        known = durable_whole b (synced so.now) done.stands.kept so.all;
         written = λ q low high.
             let is = so.done q low (omega (arith, high)) in
             let still = written_synced (so.now.pages q).entry is.1 in
             (still, read_back b (synced so.now) q done.stands.kept is.0 still);
       }
+
+-- ---- a page alone, with no force
+
+module _ {D : Type 0} (d : Ghosts D) (b : Base) (base : ℕ) (s : Writer) (log : LogFile) (table new_table : List TableEntry) (pool new_pool : PoolView) (old new : D) (p : ℕ) where
+  pub early_written : IsWriting d b base s log table pool old → MayPlaceEarly b s table pool p → LeavesCovered d b base s.durable s.log old new → (entered : Bool) → entered ≡ true
+      → WrittenHere d b base s p 0 log table new_table new_pool new entered → Flushed d b base s p p old log new_table new_pool new
+  early_written w may stops entered is done = record {
+    now = written p 0 s;
+    goes = record { writing = record { stands = done.stands; entries = done.entries is w.entries; pooled = done.pooled; based = w.based }; stops = stops; keeps = written_keeps b s p 0 };
+    known = durable_written s p 0 may.copied may.known;
+    written = λ q low high.
+        let here : p ≡ q = omega (arith, low, high) in
+        subst (λ (x : PageState). IsWritten x.entry × (x.reads ≡ Some x.page)) (sym (only_here (written_page 0) s.pages p q here)) (written_is 0 (s.pages q).entry, refl);
+  }
 
 -- ---- what a flush asks
 

@@ -20,7 +20,8 @@ use Rattle.im_page_writer.specs.PageWriter.{StandsAs}
 use Rattle.im_page_table.specs.KnownCopies.{IsKnownFrom, every_page}
 use Rattle.im_page_writer.specs.Synced.{AreSyncedWith}
 use Rattle.im_page_table.proofs.KnownCopies.{knows_ended}
-use Rattle.im_page_writer.proofs.SyncedPages.{known_ended}
+use Rattle.im_page_table.proofs.DurableCopies.{durable_ended, durable_redoing}
+use Rattle.im_page_writer.proofs.SyncedPages.{known_ended, known_redone}
 use Rattle.im_page_writer.proofs.Goings.{pooled_same}
 use Rattle.im_page_file.proofs.Openings.{page_file_as, stands_opened}
 use Rattle.im_page_writer.proofs.RedoneRecords.{applies_none, redone_none}
@@ -42,7 +43,7 @@ module _ {D : Type 0} (d : Ghosts D) (b : Base) (base : ℕ) where
       → Only Pages (d.seen disk) (d.may_leave disk) → w.pool ≡ record { held = []; frames = frames; gets = 0 } → w.table ≡ [] → w.failed ≡ false → w.known.from ≡ None → AreSyncedWith all (redo_point all) w.known.synced → StandsAs d b base (opened b all (file_page (d.seen disk Pages))) w disk
   writer_opens all w frames disk based up covered ready log_is synced pool table working unknown expected = record {
     working = working;
-    known = record { from = subst (λ (from : Option ℕ). IsKnownFrom (opened b all (file_page (d.seen disk Pages))) from) (sym unknown) tt; synced = expected };
+    known = record { from = subst (λ (from : Option ℕ). IsKnownFrom (opened b all (file_page (d.seen disk Pages))) from) (sym unknown) tt; synced = expected; copies = λ none. durable_redoing (opened b all (file_page (d.seen disk Pages))) refl };
     writing = subst (λ (x : PoolView). IsWriting d b base (opened b all (file_page (d.seen disk Pages))) w.log w.table x disk) (sym pool)
         (subst (λ (x : List TableEntry). IsWriting d b base (opened b all (file_page (d.seen disk Pages))) w.log x (record { held = []; frames = frames; gets = 0 }) disk) (sym table) (record {
           stands = stands_opened d b base all w.log disk up covered ready log_is synced;
@@ -56,7 +57,7 @@ module _ {D : Type 0} (d : Ghosts D) (b : Base) (base : ℕ) where
     -- Redo goes past a record that it does not apply, with no call.
     pub redo_passes : (r : Logged) (newer older : History) → newer ++ r ∷ older ≡ s.durable → s.point ≤ r.lsn → ((p : ℕ) → ((s.pages p).waits ≡ false) × (end_of b older < (s.pages p).upto))
         → ((p : ℕ) → applies r p (s.pages p).page ≡ false) → StandsAs d b base (redone r every_page s) w disk
-    redo_passes r newer older at from ready none = record { working = is.working; known = known_ended s (redone r every_page s) w.known going refl refl is.known; writing = redone_none d b base s w.log w.table w.pool disk is.writing going r newer older at from ready none }
+    redo_passes r newer older at from ready none = record { working = is.working; known = known_redone s (redone r every_page s) w.known going refl refl refl is.known; writing = redone_none d b base s w.log w.table w.pool disk is.writing going r newer older at from ready none }
 
     -- The same of a record whose kind changes no page.
     pub redo_passes_plain : (r : Logged) (newer older : History) → newer ++ r ∷ older ≡ s.durable → s.point ≤ r.lsn → ((p : ℕ) → ((s.pages p).waits ≡ false) × (end_of b older < (s.pages p).upto))
@@ -67,7 +68,7 @@ module _ {D : Type 0} (d : Ghosts D) (b : Base) (base : ℕ) where
     pub writer_ends : (begun : History) → ((p : ℕ) → (s.pages p).waits ≡ false) → GrowsByImages b begun s.log → IsFront begun s.durable → ((p : ℕ) → end_of b begun < (s.pages p).upto) → StandsAs d b base (ended b s) w disk
     writer_ends begun ready grows front past = record {
       working = is.working;
-      known = known_ended s (ended b s) w.known going refl refl is.known;
+      known = known_ended s (ended b s) w.known going refl refl (durable_ended b s (redo_ends b s begun grows.images is.writing.stands.kept going ready grows.is grows.all front past)) is.known;
       writing = record {
         stands = record {
           kept = redo_ends b s begun grows.images is.writing.stands.kept going ready grows.is grows.all front past;

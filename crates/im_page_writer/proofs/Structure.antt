@@ -37,7 +37,6 @@ use Rattle.im_page_file.specs.Stands.{LeavesCovered}
 use Rattle.im_page_writer.specs.Writing.{IsWriting}
 use Rattle.im_page_writer.proofs.Changing.{step_by}
 use Rattle.im_page_table.proofs.Growing.{keeps_none}
-use Rattle.im_page_writer.proofs.LoggedChanges.{cause_of}
 use Rattle.im_page_writer.proofs.Writers.{goes_on_then}
 
 -- what a kind that leaves a page makes of it, and which copy it holds
@@ -83,10 +82,6 @@ no_after (records.Image n bytes) one two = image_none (pages.page_of bytes.now)
 no_after (records.Checkpoint n active dirty) one two = refl
 
 -- ---- refusals
-
--- an append is not refused as no store
-pub never_none : (f : Fault) → (f ≡ Failed) ⊎ (f ≡ LogFull) ⊎ (f ≡ Device) → f ≡ NotAStore → ⊥
-never_none f is same = cause_of f is (inr same)
 
 pub refused_not : {A : Type 0} (r : Result A Fault) → (r ≡ Err NotAStore → ⊥) → IfErr r (λ e. e ≢ NotAStore)
 refused_not (Ok a) never = tt

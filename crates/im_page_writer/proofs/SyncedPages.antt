@@ -10,7 +10,8 @@ use Rattle.im_theory_log.specs.Histories.{Base, History, IsFront, IsRecordOf, Ri
 use Rattle.im_theory_log.specs.Copies.{GrowsByImages}
 use Rattle.im_theory_log.specs.RedoPoints.{is_checkpoint}
 use Rattle.im_theory_log.specs.Writer.{Writer, WriterKept}
-use Rattle.im_page_table.specs.KnownCopies.{or_from}
+use Rattle.im_page_table.specs.KnownCopies.{or_from, KnowsDurable}
+use Rattle.im_page_table.proofs.DurableCopies.{durable_redoing}
 use Rattle.im_page_table.proofs.KnownCopies as from_lsn
 use Rattle.im_page_writer.specs.declared.known.Synced.{Synced}
 use Rattle.im_page_writer.specs.declared.known.Known.{Known}
@@ -35,30 +36,40 @@ synced_more r s t synced log point is = synced_by s t synced (λ x has. subst (�
 
 -- ---- the whole
 
-pub known_same : (s t : Writer) (known : Known) → t.redo_end ≡ s.redo_end → t.log ≡ s.log → t.point ≡ s.point → IsKnown s known → IsKnown t known
-known_same s t known same log point is = record { from = from_lsn.known_same s t known.from same log is.from; synced = synced_same s t known.synced log point is.synced }
+pub known_same : (s t : Writer) (known : Known) → t.redo_end ≡ s.redo_end → t.log ≡ s.log → t.point ≡ s.point → (KnowsDurable s → KnowsDurable t) → IsKnown s known → IsKnown t known
+known_same s t known same log point copies is = record { from = from_lsn.known_same s t known.from same log is.from; synced = synced_same s t known.synced log point is.synced; copies = λ none. copies (is.copies none) }
 
-pub known_grown : (b : Base) (s t : Writer) (known : Known) → t.redo_end ≡ s.redo_end → GrowsByImages b s.log t.log → t.point ≡ s.point → IsKnown s known → IsKnown t known
-known_grown b s t known same grows point is = record {
+-- whether an Image waits is known anew
+pub known_as : (ahead : Bool) (s t : Writer) (known : Known) → t.redo_end ≡ s.redo_end → t.log ≡ s.log → t.point ≡ s.point → (ahead ≡ false → KnowsDurable t) → IsKnown s known → IsKnown t (record known { ahead = ahead })
+known_as ahead s t known same log point copies is = record { from = from_lsn.known_same s t known.from same log is.from; synced = synced_same s t known.synced log point is.synced; copies = copies }
+
+pub known_grown : (ahead : Bool) (b : Base) (s t : Writer) (known : Known) → t.redo_end ≡ s.redo_end → GrowsByImages b s.log t.log → t.point ≡ s.point → (ahead ≡ false → KnowsDurable t) → IsKnown s known → IsKnown t (record known { ahead = ahead })
+known_grown ahead b s t known same grows point copies is = record {
   from = from_lsn.known_grown b s t known.from same grows is.from;
   synced = synced_by s t known.synced (λ r has. subst (λ (h : History). IsRecordOf r h) (sym grows.is) (has_more r grows.images s.log has)) point is.synced;
+  copies = copies;
 }
 
 -- behind a record that is no Checkpoint
-pub known_more : (r : Logged) (s t : Writer) (known : Known) → t.redo_end ≡ s.redo_end → t.log ≡ r ∷ s.log → t.point ≡ s.point → is_checkpoint r.what ≡ false → IsKnown s known → IsKnown t known
-known_more r s t known same log point plain is = record { from = from_lsn.known_more r s t known.from same log plain is.from; synced = synced_more r s t known.synced log point is.synced }
+pub known_more : (r : Logged) (s t : Writer) (known : Known) → t.redo_end ≡ s.redo_end → t.log ≡ r ∷ s.log → t.point ≡ s.point → is_checkpoint r.what ≡ false → (KnowsDurable s → KnowsDurable t) → IsKnown s known → IsKnown t known
+known_more r s t known same log point plain copies is =
+    record { from = from_lsn.known_more r s t known.from same log plain is.from; synced = synced_more r s t known.synced log point is.synced; copies = λ none. copies (is.copies none) }
 
 -- and from its own LSN on, where none was known before
-pub known_first : (b : Base) (r : Logged) (s t : Writer) (e : ℕ) (known : Known) → WriterKept b s → s.redo_end ≡ Some e → t.redo_end ≡ s.redo_end → t.log ≡ r ∷ s.log → t.point ≡ s.point → is_checkpoint r.what ≡ false → end_of b s.log < r.lsn → IsKnown s known
+pub known_first : (b : Base) (r : Logged) (s t : Writer) (e : ℕ) (known : Known) → WriterKept b s → s.redo_end ≡ Some e → t.redo_end ≡ s.redo_end → t.log ≡ r ∷ s.log → t.point ≡ s.point → is_checkpoint r.what ≡ false → end_of b s.log < r.lsn → (KnowsDurable s → KnowsDurable t) → IsKnown s known
     → IsKnown t (record known { from = or_from known.from r.lsn })
-known_first b r s t e known k over same log point plain last is = record {
+known_first b r s t e known k over same log point plain last copies is = record {
   from = from_lsn.known_first b r s t e known.from k over same log plain last is.from;
   synced = synced_more r s t known.synced log point is.synced;
+  copies = λ none. copies (is.copies none);
 }
 
 -- while redo goes on no copy is, and so behind it
-pub known_ended : (s t : Writer) (known : Known) → s.redo_end ≡ None → t.log ≡ s.log → t.point ≡ s.point → IsKnown s known → IsKnown t known
-known_ended s t known going log point is = record { from = from_lsn.known_ended s t known.from going is.from; synced = synced_same s t known.synced log point is.synced }
+pub known_ended : (s t : Writer) (known : Known) → s.redo_end ≡ None → t.log ≡ s.log → t.point ≡ s.point → KnowsDurable t → IsKnown s known → IsKnown t known
+known_ended s t known going log point copies is = record { from = from_lsn.known_ended s t known.from going is.from; synced = synced_same s t known.synced log point is.synced; copies = λ none. copies }
+
+pub known_redone : (s t : Writer) (known : Known) → s.redo_end ≡ None → t.redo_end ≡ s.redo_end → t.log ≡ s.log → t.point ≡ s.point → IsKnown s known → IsKnown t known
+known_redone s t known going same log point is = known_ended s t known going log point (durable_redoing t (same ∙ going)) is
 
 -- nothing is known of the file's sync
 pub synced_none : (log : History) (point : ℕ) (synced : Synced) → synced.lsns.entries ≡ [] → AreSyncedWith log point synced

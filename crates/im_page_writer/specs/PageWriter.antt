@@ -1,5 +1,5 @@
 -- What a writer of pages knows of its disk, and what each of its calls keeps.
-use Rattle.std.specs.Prelude.{◌≡◌, ◌≢◌, ◌<◌, ◌≤◌, ◌⊎◌, ℕ, false, Option, None, Some, length, Result, IfErr, IfOk, OnOk}
+use Rattle.std.specs.Prelude.{◌≡◌, ◌≢◌, ◌<◌, ◌≤◌, ◌⊎◌, ℕ, true, false, Option, None, Some, length, Result, IfErr, IfOk, OnOk}
 use Rattle.im_base_types.specs.declared.fault.Fault.{Fault}
 use Rattle.im_base_types.specs.declared.fault.Fault.TheVariants.{Memory, NotAStore}
 use Rattle.im_base_types.specs.Pages.{Page}
@@ -7,16 +7,18 @@ use Rattle.im_base_types.specs.Records.{What}
 use Rattle.im_theory_log.specs.Histories.{Base, History, IsFront, end_of, page_after}
 use Rattle.im_theory_log.specs.Copies.{copy_in}
 use Rattle.im_theory_log.specs.RedoPoints.{is_checkpoint}
-use Rattle.im_theory_log.specs.WriterSteps.{appended}
+use Rattle.im_theory_log.specs.WriterSteps.{appended, is_copied}
 use Rattle.im_log_record.specs.Entry.{Entry}
 use Rattle.im_log.specs.Spelled.{logged_at}
 use Rattle.im_theory_log.specs.Writer.{PageState, Writer, IsWritten}
 use Rattle.im_base_disk.specs.declared.disk.Disk.{Ghosts}
 use Rattle.im_log.specs.LogFile.{IsOpen}
+use Rattle.im_page_table.specs.DirtyTable.{entry_in}
+use Rattle.im_page_table.specs.KnownCopies.{IsAtOrAfter}
 use Rattle.im_page_pool.specs.declared.frame.Frame.{Frame}
 use Rattle.im_page_pool.specs.Pool.{Held, PoolView, last_changed, page_at}
 use Rattle.im_page_writer.specs.declared.page_writer.PageWriter.{PageWriter}
-use Rattle.im_page_writer.specs.Synced.{IsKnown}
+use Rattle.im_page_writer.specs.Synced.{end_of_log, IsKnown}
 use Rattle.im_page_file.specs.Stands.{LeavesCovered}
 use Rattle.im_page_writer.specs.Writing.{Goes, IsWriting, LeavesGrown}
 
@@ -25,6 +27,13 @@ pub record IsPlain (w : What) : Type 0 where
   pub page : (l : ℕ) (g : Page) → page_after l w g ≡ g
   pub copy : (l : ℕ) → copy_in l w ≡ None
   pub point : is_checkpoint w ≡ false
+
+-- The page's last change and a full copy of it are durable, as the writer knows: it is written with no force, whatever waits in the log.
+pub record IsUnforced (w : PageWriter) (p : ℕ) : Type 0 where
+  pub ahead : w.known.ahead ≡ false
+  pub copied : is_copied (entry_in w.table p) ≡ true
+  pub late : IsAtOrAfter w.known.from (page_at w.pool p).lsn
+  pub below : (page_at w.pool p).lsn < end_of_log w.log
 
 -- of the least recently used page that was changed nothing is left to be written; where there is none, of no page
 abbrev pub IsOldestWritten : Option (ℕ × Held) → (ℕ → PageState) → Type 0

@@ -1,5 +1,5 @@
 -- What the file of pages was synced with before a life, as far as the log says, and which pages it may have then.
-use Rattle.std.specs.Prelude.{◌≡◌, ◌≤◌, ◌<◌, ◌+◌, ◌-◌, ◌^◌, min, ℕ, true, Option, None, Some}
+use Rattle.std.specs.Prelude.{◌≡◌, ◌≤◌, ◌<◌, ◌+◌, ◌-◌, ◌^◌, min, ℕ, true, false, Option, None, Some}
 use Rattle.std.specs.Ordering.{nat_cmp}
 use Rattle.std.specs.BTreeMap.{get}
 use Rattle.im_base_types.specs.Pages.{Body, Page}
@@ -8,7 +8,7 @@ use Rattle.im_theory_log.specs.Histories.{History, IsRecordOf, changes_page}
 use Rattle.im_theory_log.specs.Writer.{Writer}
 use Rattle.im_log_gate.specs.Gate.{place_of}
 use Rattle.im_log.specs.declared.log_file.LogFile.{LogFile}
-use Rattle.im_page_table.specs.KnownCopies.{IsKnownFrom}
+use Rattle.im_page_table.specs.KnownCopies.{IsKnownFrom, KnowsDurable}
 use Rattle.im_page_file.specs.PageCopy.{after_in}
 use Rattle.im_page_writer.specs.declared.known.Synced.{Synced}
 use Rattle.im_page_writer.specs.declared.known.Known.{Known}
@@ -37,6 +37,8 @@ AreSyncedWith log point synced = (p l : ℕ) → get nat_cmp synced.lsns p ≡ S
 pub record IsKnown (s : Writer) (known : Known) : Type 0 where
   pub from : IsKnownFrom s known.from
   pub synced : AreSyncedWith s.log s.point known.synced
+  -- no Image that a page is known to have waits in the log: a copy that is known comes no later than its page's last change
+  pub copies : known.ahead ≡ false → KnowsDurable s
 
 -- The file may have this page: it has the changes with which the file was synced, and page 0 says no other page count than they left there.
 pub record MayBe (synced : Synced) (number : ℕ) (page : Page) : Type 0 where

@@ -7,8 +7,8 @@ use Rattle.im_theory_log.specs.Histories.{Base, History, IsFront, end_of}
 use Rattle.im_theory_log.specs.Copies.{GrowsByImages, HasCopy}
 use Rattle.im_theory_log.specs.PageCounts.{named_to}
 use Rattle.im_theory_log.specs.RedoPoints.{redo_point}
-use Rattle.im_theory_log.specs.Writer.{PageState, Writer, IsWritten}
-use Rattle.im_theory_log.specs.WriterSteps.{MayWrite, forced, written}
+use Rattle.im_theory_log.specs.Writer.{PageState, Writer, IsWritten, WriterKept}
+use Rattle.im_theory_log.specs.WriterSteps.{MayWrite, forced, is_copied, written}
 use Rattle.im_base_disk.specs.declared.disk.Disk.{Ghosts}
 use Rattle.im_log.specs.declared.log_file.LogFile.{LogFile}
 use Rattle.im_theory_page.specs.Header.{initial}
@@ -17,6 +17,7 @@ use Rattle.im_page_table.specs.declared.table_entry.TableEntry.{TableEntry}
 use Rattle.im_page_table.specs.DirtyTable.{entry_in, HasEntries, is_changed}
 use Rattle.im_page_file.specs.Stands.{LeavesCovered, Run, Stands}
 use Rattle.im_page_table.specs.Growth.{with_image, Keeps}
+use Rattle.im_page_table.specs.KnownCopies.{KnowsDurable}
 
 -- ---- the pool
 
@@ -75,6 +76,19 @@ pub record MayWriteHere (b : Base) (s : Writer) (table : List TableEntry) (pool 
   pub may : MayWrite b s p lsn
   pub entry : entry_in table p ≡ (s.pages p).entry
   pub past : held_of pool p ≡ None → (s.pages p).page ≡ initial p
+
+-- What the write of a page in place asks: that the writer goes on keeping what it keeps, that the page has its copy, that the table has its entry, and that it is the initial one where it is not held.
+pub record MayPlace (b : Base) (s : Writer) (table : List TableEntry) (pool : PoolView) (p lsn : ℕ) : Type 0 where
+  pub kept : WriterKept b (written p lsn s)
+  pub ready : (s.pages p).waits ≡ false
+  pub entry : entry_in table p ≡ (s.pages p).entry
+  pub past : held_of pool p ≡ None → (s.pages p).page ≡ initial p
+
+-- what the write of a page asks with no force: its last change and a full copy are durable
+pub record MayPlaceEarly (b : Base) (s : Writer) (table : List TableEntry) (pool : PoolView) (p : ℕ) : Type 0 where
+  pub place : MayPlace b s table pool p 0
+  pub copied : is_copied (s.pages p).entry ≡ true
+  pub known : KnowsDurable s
 
 module _ {D : Type 0} (d : Ghosts D) (b : Base) (base : ℕ) where
   -- Between calls the table has the entry of each page, and the pool shows the pages.
@@ -194,11 +208,11 @@ module _ {D : Type 0} (d : Ghosts D) (b : Base) (base : ℕ) where
 
   -- ---- a flush
 
-  -- All of the log is durable, and each page of the range is in the file as it is.
+  -- Each page of the range is in the file as it is, and each copy that is known comes no later than its page's last change.
   pub record Flushed (s : Writer) (first last : ℕ) (old : D) (log : LogFile) (table : List TableEntry) (pool : PoolView) (disk : D) : Type 0 where
     pub now : Writer
     pub goes : Goes s old now log table pool disk
-    pub durable : now.durable ≡ now.log
+    pub known : KnowsDurable now
     pub written : (q : ℕ) → first ≤ q → q ≤ last → (IsWritten (now.pages q).entry) × ((now.pages q).reads ≡ Some (now.pages q).page)
 
   -- what the writes of a flush keep

@@ -5,6 +5,7 @@ ghost use Rattle.im_base_types.specs.declared.file_id.FileId.TheVariants.{Pages}
 ghost use Rattle.im_theory_log.specs.Histories.{Base};
 ghost use Rattle.im_theory_log.specs.Writer.{Writer};
 ghost use Rattle.im_base_disk.specs.Disk.{Answers};
+ghost use Rattle.im_base_disk.specs.Runs.{Costs};
 ghost use Rattle.im_log.specs.declared.log_file.LogFile.{LogFile};
 ghost use Rattle.im_log.specs.LogFile.{HasNoRoom, end_with, IsOpen};
 ghost use Rattle.im_theory_page.specs.PageFile.{page_count};
@@ -13,10 +14,10 @@ ghost use Rattle.im_page_writer.specs.Costs.{FlushCosts, PageCosts, WriteCosts};
 ghost use Rattle.im_page_table.specs.DirtyTable.{entry_in, has_room};
 ghost use Rattle.im_page_file.specs.Imaging.{Imaging};
 ghost use Rattle.im_page_writer.specs.Outcome.{fault_of};
-ghost use Rattle.im_page_writer.specs.Writing.{lsn_for, SameHeld, IsWriting, MayCopy, MayWriteHere, WriteOutKept, FlushKept};
+ghost use Rattle.im_page_writer.specs.Writing.{lsn_for, SameHeld, IsWriting, MayCopy, MayPlaceEarly, MayWriteHere, WriteOutKept, FlushKept};
 
 use crate::image_range::log_images;
-use crate::page_range::write_pages;
+use crate::page_range::{write_one, write_pages};
 use im_base_disk::Disk;
 use im_base_types::{Fault, Lsn, PageNo};
 use im_log::LogFile;
@@ -55,6 +56,30 @@ fn write_out<D: Disk>(
     sync_pages(disk, table)
 }
 
+// Writes a page of which the table has its entry, and whose last change and full copy are durable: one write, and no force.
+fn write_early<D: Disk>(
+    disk: &mut D,
+    table: &mut DirtyTable,
+    pool: &mut Pool,
+    spare: &mut Page,
+    number: PageNo,
+) -> Result<(), Fault>
+    requires working { D.failed disk.old ≡ false }
+    requires place { D.tells → number ≤ page_count (D.seen disk.old Pages) }
+    requires entered { is_some (entry_in table.old number) ≡ true }
+    ensures kept { (b : Base) (base : ℕ) (s : Writer) (log : LogFile) → IsWriting D.Disk b base s log table.old pool.old disk.old → MayPlaceEarly b s table.old pool.old number
+        → WriteOutKept D.Disk b base s number number disk.old log table.new pool.new disk.new result }
+    ensures ready { (log : LogFile) → IsOpen D.Disk log disk.old → D.failed disk.new ≡ false → IsOpen D.Disk log disk.new }
+    ensures stays { OnOk result (is_some (entry_in table.new number) ≡ true) }
+    ensures held { OnOk result (SameHeld pool.old pool.new) }
+    ensures frames { pool.new.frames ≡ pool.old.frames }
+    ensures costs { OnOk result (Costs D.Disk 1 0 disk.old disk.new) }
+    ensures answers { Answers (D.failed disk.new) result }
+{
+    let _entered = write_one(disk, table, pool, spare, number, 0)?;
+    Ok(())
+}
+
 // Flushes a range of pages: the Images of those of which the log is known to have no full copy, in rising page number, a force, and the
 // pages in rising number.
 fn flush_range<D: Disk>(
@@ -86,8 +111,44 @@ fn flush_range<D: Disk>(
     Ok(())
 }
 
+// Flushes a page that the file has, or that comes to its end. Where its last change and full copy are durable the log is not forced.
+fn flush_in_file<D: Disk>(
+    disk: &mut D,
+    log: &mut LogFile,
+    table: &mut DirtyTable,
+    pool: &mut Pool,
+    spare: &mut Page,
+    lsns: &mut Vec<Lsn>,
+    number: PageNo,
+    durable: bool,
+) -> Result<(), Fault>
+    requires ready { IsOpen D.Disk log.old disk.old }
+    requires working { log.old.failed ≡ false }
+    requires alive { D.failed disk.old ≡ false }
+    requires room { 1024 ≤ vec_capacity lsns.old }
+    requires place { D.tells → number ≤ page_count (D.seen disk.old Pages) }
+    requires entered { durable ≡ true → is_some (entry_in table.old number) ≡ true }
+    ensures kept { (b : Base) (base : ℕ) (s : Writer) → IsWriting D.Disk b base s log.old table.old pool.old disk.old
+        → (durable ≡ true → MayPlaceEarly b s table.old pool.old number) → ((q : ℕ) → number ≤ q → q ≤ number → MayCopy s pool.old q)
+        → FlushKept D.Disk b base s number number disk.old log.new table.new pool.new disk.new result }
+    ensures outcome { Imaging D.Disk log.old log.new disk.new (fault_of result) }
+    ensures room { 1024 ≤ vec_capacity lsns.new }
+    ensures stays { is_some (entry_in table.old number) ≡ true → OnOk result (is_some (entry_in table.new number) ≡ true) }
+    ensures held { OnOk result (SameHeld pool.old pool.new) }
+    ensures frames { pool.new.frames ≡ pool.old.frames }
+    ensures costs { OnOk result (FlushCosts D.Disk (number + 1 - number) ((number ≡ number) × (has_room number table.old ≡ true)) disk.old disk.new) }
+    ensures unforced { durable ≡ true → OnOk result (Costs D.Disk 1 0 disk.old disk.new) }
+{
+    if durable {
+        write_early(disk, table, pool, spare, number)?;
+        return Ok(());
+    }
+    flush_range(disk, log, table, pool, spare, lsns, number, number)
+}
+
 /// Flushes a page that was changed since it was read or written: it alone, where the file has it, and past the file's end every page
-/// from the page count up to it.
+/// from the page count up to it. `durable` says of a page with an entry that its last change and full copy are durable: where the file
+/// has it, the log is not forced then.
 ///
 /// Refused `LogFull` or `Device`.
 pub(crate) fn flush_page<D: Disk>(
@@ -98,23 +159,26 @@ pub(crate) fn flush_page<D: Disk>(
     spare: &mut Page,
     lsns: &mut Vec<Lsn>,
     number: PageNo,
+    durable: bool,
 ) -> Result<(), Fault>
     requires ready { IsOpen D.Disk log.old disk.old }
     requires working { log.old.failed ≡ false }
     requires room { 1024 ≤ vec_capacity lsns.old }
     requires changed { is_changed pool.old number ≡ true }
+    requires entered { durable ≡ true → is_some (entry_in table.old number) ≡ true }
     ensures kept { (b : Base) (base : ℕ) (s : Writer) → IsWriting D.Disk b base s log.old table.old pool.old disk.old
-        → FlushKept D.Disk b base s number number disk.old log.new table.new pool.new disk.new result }
+        → (durable ≡ true → MayPlaceEarly b s table.old pool.old number) → FlushKept D.Disk b base s number number disk.old log.new table.new pool.new disk.new result }
     ensures outcome { Imaging D.Disk log.old log.new disk.new (fault_of result) }
     ensures room { 1024 ≤ vec_capacity lsns.new }
     ensures stays { D.tells → number ≤ page_count (D.seen disk.old Pages) → is_some (entry_in table.old number) ≡ true → OnOk result (is_some (entry_in table.new number) ≡ true) }
     ensures held { OnOk result (SameHeld pool.old pool.new) }
     ensures frames { pool.new.frames ≡ pool.old.frames }
     ensures costs { OnOk result (PageCosts D.Disk number (page_count (D.seen disk.old Pages)) (has_room number table.old) disk.old disk.new) }
+    ensures unforced { D.tells → number < page_count (D.seen disk.old Pages) → durable ≡ true → OnOk result (Costs D.Disk 1 0 disk.old disk.new) }
 {
     let count = count_pages(disk)?;
     if (number as u64) < count {
-        return flush_range(disk, log, table, pool, spare, lsns, number, number);
+        return flush_in_file(disk, log, table, pool, spare, lsns, number, durable);
     }
     flush_range(disk, log, table, pool, spare, lsns, count as u32, number)
 }

@@ -23,6 +23,8 @@ pub(crate) struct Known {
     /// The LSN of the first record of this life, behind its last Checkpoint, that changed a leaf. A page without an entry that has this
     /// LSN or a later one was changed since, and written since: the log has a full copy of it at or after its redo point.
     pub from: Option<Lsn>,
+    /// An Image by which a full copy of its page is known may wait in the log, behind all changes of that page.
+    pub ahead: bool,
     pub synced: Synced,
 }
 
@@ -47,6 +49,7 @@ impl Known {
     {
         Known {
             from: None,
+            ahead: false,
             synced: Synced {
                 lsns: BTreeMap::new(alloc),
                 count: None,

@@ -13,15 +13,18 @@
 //!   from the page count up to it, so that no range of the file is left without a page. First the Images of those pages join the
 //!   log of which no full copy is known, in rising page number; then the log is forced, four device calls, and none where nothing
 //!   is buffered; then each page is entered and written, one device call each, in rising number. Where the table has no room for the entry of a page that is written along, the file is synced
-//!   behind them.
+//!   behind them. A page that the file has, and whose last change and full copy are durable, is written with no force, whatever waits
+//!   in the log (`IsUnforced`): its LSN is below the log's durable end, and no Image waits that came behind the last change of its page.
 //! - A page that is got (`get`) stays in its frame. Where no frame is free, the least recently used page is flushed, if it was
 //!   changed, and its frame given up. Where that forces the log, changed pages that go next are flushed with it: of the half of the
 //!   frames that were used least recently, the first eight, as far as their Images fit into the log's buffer, in rising number. The log
-//!   is forced once for them all, and the order of use stays.
+//!   is forced once for them all, and the order of use stays. Where the buffer holds several batches, they are the first 64.
+//! - `flush_in_company` flushes a page in the same way, of all frames, where the log's buffer holds several batches, else as a flush does.
 //! - A change (`log_change`) gets the page, makes room for its entry (`make_entry_room`), appends the record, changes the page,
 //!   gives it the record's LSN, and enters it. What the page does not take is refused before the append.
 //! - Room is made where the table is full: the least recently used page that was changed is flushed, in the same way, and the file synced. What
-//!   stays in the table then is changed pages in frames, and of those there are at most 1,023: one entry is free (`room`).
+//!   stays in the table then is changed pages in frames, and of those there are at most 1,023: one entry is free (`room`). Where less than
+//!   half of the entries are of written pages, more pages are flushed first, until half of them are, so that one sync takes out many.
 //! - `log_only` appends a record that changes no page, `log_smo` one page of a structure change, which then is the record's
 //!   page; `force` forces the log, `sync_pages` syncs the file, `read_at` reads a record again.
 //! - A Checkpoint (`log_checkpoint`) syncs the file, appends one record with the next transaction number, the rows of active transactions

@@ -11,7 +11,7 @@ ghost use Rattle.im_theory_page.specs.PageFile.{page_count};
 ghost use Rattle.im_page_pool.specs.Writes.{WritesPage, TearsPage};
 ghost use Rattle.im_page_table.specs.DirtyTable.{entry_in, has_room, written_in};
 ghost use Rattle.im_page_file.specs.Stands.{Stands};
-ghost use Rattle.im_page_writer.specs.Writing.{lsn_for, pool_page, SameHeld, Unmarks, IsPooled, IsWriting, MayWriteHere, PlacedKept, ImagesDurable, WritesKept};
+ghost use Rattle.im_page_writer.specs.Writing.{lsn_for, pool_page, SameHeld, Unmarks, IsPooled, IsWriting, MayPlace, MayWriteHere, PlacedKept, ImagesDurable, WritesKept};
 
 use crate::image_range::lsn_of;
 use im_base_disk::Disk;
@@ -48,8 +48,10 @@ fn write_in_place<D: Disk>(
     }
 }
 
-// Enters a page into the table as written, and writes it in place. It answers whether the table has its entry.
-fn write_one<D: Disk>(
+/// Enters a page into the table as written, and writes it in place. It answers whether the table has its entry.
+///
+/// Refused `Device`.
+pub(crate) fn write_one<D: Disk>(
     disk: &mut D,
     table: &mut DirtyTable,
     pool: &mut Pool,
@@ -60,7 +62,7 @@ fn write_one<D: Disk>(
     requires working { D.failed disk.old ≡ false }
     requires place { D.tells → number ≤ page_count (D.seen disk.old Pages) }
     ensures kept { (b : Base) (base : ℕ) (s : Writer) (log : LogFile) → Stands D.Disk b base s log table.old disk.old → IsPooled pool.old s.pages
-        → MayWriteHere b s table.old pool.old number lsn → PlacedKept D.Disk b base s number lsn disk.old log table.old table.new pool.new disk.new result }
+        → MayPlace b s table.old pool.old number lsn → PlacedKept D.Disk b base s number lsn disk.old log table.old table.new pool.new disk.new result }
     ensures table { table.new ≡ written_in number lsn table.old }
     ensures entered { IfOk result (λ entered. entered ≡ has_room number table.old) }
     ensures pool { OnOk result (Unmarks number pool.old pool.new) }

@@ -5,9 +5,11 @@ ghost use Rattle.im_base_types.specs.declared.file_id.FileId.TheVariants.{Pages}
 ghost use Rattle.im_theory_log.specs.Histories.{Base};
 ghost use Rattle.im_theory_log.specs.Writer.{Writer};
 ghost use Rattle.im_log.specs.LogFile.{end_with};
+ghost use Rattle.im_page_table.specs.KnownCopies.{IsAtOrAfter};
 
 use crate::flush::flush_page;
 use crate::known::{Known, Synced};
+use crate::page_writer::least_used::HALF;
 use im_base_disk::Disk;
 use im_base_types::{DirtyPage, Fault, Lsn, MOST_DIRTY, MOST_FRAMES, PageNo};
 use im_log::LogFile;
@@ -22,6 +24,7 @@ mod changes;
 mod checkpoints;
 mod least_used;
 mod redo;
+mod span;
 mod structure;
 
 /// The pages of a store in a bounded pool over its file, with the log that goes before every write. It owns no disk.
@@ -66,6 +69,16 @@ fn row_room(alloc: Global) -> Result<Vec<DirtyPage>, Fault>
     Vec::with_capacity(alloc, MOST_DIRTY).map_err(|_| Fault::Memory)
 }
 
+// Whether an LSN is at or after another, if that is known, and below an end.
+fn is_between(from: Option<Lsn>, lsn: Lsn, end: Lsn) -> bool
+    ensures { (result ≡ true) ↔ (IsAtOrAfter from lsn × (lsn < end)) }
+{
+    match from {
+        Some(from) => from <= lsn && lsn < end,
+        None => false,
+    }
+}
+
 // A page as it is before anything was put.
 fn spare_page(alloc: Global) -> Result<Box<Page>, Fault>
     ensures refused { IfErr result (λ e. e ≡ Memory) }
@@ -87,7 +100,7 @@ impl PageWriter {
     ghost use Rattle.im_page_writer.specs.Synced.{IsForeign, IsOwn};
     ghost use Rattle.im_page_writer.specs.Writing.{SameHeld};
     ghost use Rattle.im_page_writer.specs.Outcome.{fault_of, no_page, none_mild, AllPages, AreLoadedTo, Flushes, HasPages, IsSound, Logs, Outcome};
-    ghost use Rattle.im_page_writer.specs.PageWriter.{IsReadyWriter, StandsAs, FlushedOne, StepKept, FlushedOldest, HasRoom, IsPlain, LogKept};
+    ghost use Rattle.im_page_writer.specs.PageWriter.{IsReadyWriter, IsUnforced, StandsAs, FlushedOne, StepKept, FlushedOldest, HasRoom, IsPlain, LogKept};
 
     /// Writes a page in place, if it was changed since it was read or written: it alone, where the file has it, and past the file's
     /// end every page from the page count up to it, unchanged ones too. First the Images of those pages join the log of which it is
@@ -105,6 +118,7 @@ impl PageWriter {
         ensures stays { D.tells → number ≤ page_count (D.seen disk.old Pages) → is_some (entry_in self.old.table number) ≡ true → OnOk result (is_some (entry_in self.new.table number) ≡ true) }
         ensures held { OnOk result (SameHeld self.old.pool self.new.pool) }
         ensures costs { is_changed self.old.pool number ≡ true → OnOk result (PageCosts D.Disk number (page_count (D.seen disk.old Pages)) (has_room number self.old.table) disk.old disk.new) }
+        ensures unforced { D.tells → number < page_count (D.seen disk.old Pages) → is_changed self.old.pool number ≡ true → IsUnforced self.old number → OnOk result (Costs D.Disk 1 0 disk.old disk.new) }
     {
         if self.failed {
             return Err(Fault::Failed);
@@ -113,7 +127,8 @@ impl PageWriter {
             None => Ok(()),
             Some(frame) => {
                 if self.pool.is_changed(frame) {
-                    self.flush_changed(disk, number)
+                    let durable = self.is_unforced(frame);
+                    self.flush_changed(disk, number, durable)
                 } else {
                     Ok(())
                 }
@@ -121,16 +136,33 @@ impl PageWriter {
         }
     }
 
+    // Whether a held page is written with no force: its last change and a full copy of it are durable.
+    pub(super) fn is_unforced(&self, frame: Frame) -> bool
+        requires at { IsAt self.now.pool frame }
+        ensures { (result ≡ true) ↔ IsUnforced self.now frame.number }
+    {
+        let lsn = self.pool.page(frame).lsn();
+        let durable = is_between(self.known.from, lsn, self.log.durable_end());
+        durable && !self.known.ahead && self.table.copied(frame.number).is_some()
+    }
+
     // The same of a page that was changed.
-    fn flush_changed<D: Disk>(&mut self, disk: &mut D, number: PageNo) -> Result<(), Fault>
+    fn flush_changed<D: Disk>(
+        &mut self,
+        disk: &mut D,
+        number: PageNo,
+        durable: bool,
+    ) -> Result<(), Fault>
         requires ready { IsReadyWriter D.Disk self.old disk.old }
         requires working { self.old.failed ≡ false }
         requires changed { is_changed self.old.pool number ≡ true }
+        requires durable { durable ≡ true → IsUnforced self.old number }
         ensures outcome { Flushes D.Disk self.old disk.old self.new disk.new (fault_of result) }
         ensures kept { (b : Base) (base : ℕ) (s : Writer) → StandsAs D.Disk b base s self.old disk.old → OnOk result (FlushedOne D.Disk b base s number disk.old self.new disk.new) }
         ensures stays { D.tells → number ≤ page_count (D.seen disk.old Pages) → is_some (entry_in self.old.table number) ≡ true → OnOk result (is_some (entry_in self.new.table number) ≡ true) }
         ensures held { OnOk result (SameHeld self.old.pool self.new.pool) }
         ensures costs { OnOk result (PageCosts D.Disk number (page_count (D.seen disk.old Pages)) (has_room number self.old.table) disk.old disk.new) }
+        ensures unforced { D.tells → number < page_count (D.seen disk.old Pages) → durable ≡ true → OnOk result (Costs D.Disk 1 0 disk.old disk.new) }
     {
         self.failed = true;
         flush_page(
@@ -141,7 +173,9 @@ impl PageWriter {
             &mut self.spare,
             &mut self.lsns,
             number,
+            durable,
         )?;
+        self.known.ahead = false;
         self.failed = false;
         Ok(())
     }
@@ -356,6 +390,7 @@ impl PageWriter {
         }
         self.failed = true;
         self.log.force(disk)?;
+        self.known.ahead = false;
         self.failed = false;
         Ok(())
     }
@@ -412,7 +447,7 @@ impl PageWriter {
         self.table.oldest_change()
     }
 
-    // Flushes the least recently used page that was changed, if there is one, with others that go next.
+    // Flushes the least recently used page that was changed, if there is one, and as many others as make room.
     fn flush_oldest<D: Disk>(&mut self, disk: &mut D) -> Result<(), Fault>
         requires ready { IsReadyWriter D.Disk self.old disk.old }
         requires working { self.old.failed ≡ false }
@@ -422,12 +457,30 @@ impl PageWriter {
     {
         match self.pool.oldest_changed() {
             None => Ok(()),
-            Some(frame) => self.flush_with_others(disk, frame),
+            Some(frame) => self.flush_for_room(disk, frame),
         }
     }
 
+    // Flushes a held page with others that go next. Where the dirty table has few pages that are written, changed ones are flushed first, until they
+    // are half of it.
+    fn flush_for_room<D: Disk>(&mut self, disk: &mut D, frame: Frame) -> Result<(), Fault>
+        requires ready { IsReadyWriter D.Disk self.old disk.old }
+        requires working { self.old.failed ≡ false }
+        requires at { IsAt self.old.pool frame }
+        ensures outcome { Flushes D.Disk self.old disk.old self.new disk.new (fault_of result) }
+        ensures kept { (b : Base) (base : ℕ) (s : Writer) → StandsAs D.Disk b base s self.old disk.old → OnOk result (FlushedOne D.Disk b base s frame.number disk.old self.new disk.new) }
+        ensures held { OnOk result (SameHeld self.old.pool self.new.pool) }
+    {
+        if self.table.written_count() >= HALF {
+            return self.flush_with_others(disk, frame);
+        }
+        self.flush_half(disk)?;
+        self.flush_one(disk, frame.number)
+    }
+
     /// Makes room in the dirty table, where it is full: the least recently used page that was changed is flushed, if there is one, and
-    /// the file of pages synced. Behind it one more page can come in. It comes after a page has its frame, and before the append of
+    /// the file of pages synced. Where less than half of the entries are of pages that are written, more pages are flushed before, the least recently
+    /// used first, until half of them are, so that one sync takes out many. It comes after a page has its frame, and before the append of
     /// the record that changes the page.
     ///
     /// Refused `LogFull`, where an Image would end above LSN 2^62, `Device`, or `Failed` after a call that failed.

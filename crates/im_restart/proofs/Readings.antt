@@ -15,13 +15,13 @@ use Rattle.im_log.specs.Reading.{SpellsRecord}
 use Rattle.im_log_record.specs.Reading.{entry_of}
 use Rattle.im_restart_analysis.specs.declared.rows.Loser.{Loser}
 use Rattle.im_restart_analysis.specs.Losers.{is_loser, row_of}
-use Rattle.im_restart_analysis.specs.Undo.{ComesTo, HasRecordAt, IsNext, IsUndoable, leads_on}
+use Rattle.im_restart_analysis.specs.Undo.{ComesTo, HasRecordAt, IsNext, IsUndoable, leads_on, LeadsNowhere, MayLeadOn}
 use Rattle.im_restart_analysis.proofs.Losers.{loser_number, loser_unfinished}
 use Rattle.im_restart_analysis.proofs.Readings.{goes_on_at}
 use Rattle.im_restart_analysis.proofs.Undoing.{undo_goes_on}
 use Rattle.im_restart.specs.declared.chains.Chain.{Chain}
 use Rattle.im_restart.specs.UndoOrder.{IsLatest}
-use Rattle.im_restart.specs.LoserChains.{GoesOnAt, IsToUndo, LeadsNowhere, MayLeadOn, chain_of}
+use Rattle.im_restart.specs.LoserChains.{GoesOnAt, IsToUndo, chain_of}
 use Rattle.im_restart.proofs.Steps.{comes_to}
 
 -- a record of a lawful log might come where it stands

@@ -1,18 +1,16 @@
 -- Where the undo of each loser stands, by the LSNs at which it goes on.
-use Rattle.std.specs.Prelude.{◌≡◌, ◌≢◌, ◌≤◌, ◌+◌, ◌⊎◌, ℕ, max, List, [], ◌∷◌, Bool, true, false, ◌==◌, ◌||◌, Some, Result}
+use Rattle.std.specs.Prelude.{◌≡◌, ◌≢◌, ◌+◌, ℕ, max, List, [], ◌∷◌, Bool, true, false, ◌==◌, ◌||◌, Some, Result}
 use Rattle.std.specs.Ordering.{nat_cmp}
 use Rattle.std.specs.BTreeMap.{BTreeMap, get}
 use Rattle.im_base_types.specs.declared.fault.Fault.{Fault}
-use Rattle.im_base_types.specs.Records.{What, Unreadable}
 use Rattle.im_theory_log.specs.Histories.{History}
-use Rattle.im_theory_log.specs.Transactions.{last_of, undo_next_of, undo_reads, is_key}
-use Rattle.im_log_record.specs.Entry.{Entry, prev_of, undo_next_of as named_next}
-use Rattle.im_log.specs.Whats.{what_of}
+use Rattle.im_theory_log.specs.Transactions.{last_of, undo_next_of, undo_reads}
+use Rattle.im_log_record.specs.Entry.{Entry}
 use Rattle.im_log.specs.Spelled.{logged_at}
 use Rattle.im_page_writer.specs.Outcome.{IsSound}
 use Rattle.im_restart_analysis.specs.declared.rows.Loser.{Loser}
 use Rattle.im_restart_analysis.specs.Losers.{LoserMap, is_loser, row_of}
-use Rattle.im_restart_analysis.specs.Undo.{HasRecordAt, IsNext, leads_on}
+use Rattle.im_restart_analysis.specs.Undo.{HasRecordAt, IsNext}
 use Rattle.im_restart.specs.declared.chains.Chain.{Chain}
 use Rattle.im_restart.specs.UndoOrder.{IsLatest}
 
@@ -74,15 +72,6 @@ abbrev pub PutKept : (ℕ → Bool) → History → ChainMap → Result Unit Fau
 PutKept out log chains result = IsSound result (λ u. AreChains out chains log)
 
 -- ---- single records
-
--- a compensation, or the end of a structure change; or bytes that hold no page, which no lawful log has
-abbrev pub MayLeadOn : What → Type 0
-MayLeadOn w = (leads_on w ≡ true) ⊎ (w ≡ Unreadable)
-
--- It says no earlier LSN at which undo goes on.
-pub record LeadsNowhere (entry : Entry) (lsn : ℕ) : Type 0 where
-  pub key : is_key (what_of entry) ≡ true → lsn ≤ prev_of entry
-  pub on : leads_on (what_of entry) ≡ true → lsn ≤ named_next entry
 
 -- What is undone: the next that a loser has to undo, the latest of what losers have left, which the record spells.
 pub record IsToUndo (log : History) (c : Chain) (entry : Entry) : Type 0 where

@@ -34,19 +34,22 @@ use crate::structure_change::undo_change;
 use crate::synced::{check_file, synced_of};
 use crate::undo::undo;
 use im_base_disk::Disk;
-use im_base_types::{Fault, LONGEST_BATCH, Lsn, TxnId};
+use im_base_types::{Fault, Lsn, TxnId};
 use im_page_writer::PageWriter;
 use im_restart_analysis::Analysed;
 use im_restart_redo::redo;
 use std::alloc::Global;
 use std::cmp::max;
 
+// How much of the log redo reads at once, in bytes.
+const REDO_ROOM: usize = 65_536;
+
 // The room in which records are read again.
 fn make_room(alloc: Global) -> Result<Vec<u8>, Fault>
-    ensures size { IfOk result (λ room. length room.items ≡ 16384) }
+    ensures size { IfOk result (λ room. length room.items ≡ 65536) }
     ensures causes { IfErr result (λ e. e ≡ Memory) }
 {
-    vec![in alloc; 0; LONGEST_BATCH].map_err(|_| Fault::Memory)
+    vec![in alloc; 0; REDO_ROOM].map_err(|_| Fault::Memory)
 }
 
 // The number of the next transaction, from 1 on.

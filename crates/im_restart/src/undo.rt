@@ -7,7 +7,7 @@ ghost use Rattle.im_base_types.specs.declared.fault.Fault.TheVariants.{Capacity,
 ghost use Rattle.im_theory_log.specs.Histories.{Base, History, IsRecordOf, Rises};
 ghost use Rattle.im_theory_log.specs.Transactions.{is_key};
 ghost use Rattle.im_theory_log.specs.Writer.{Writer};
-ghost use Rattle.im_log_record.specs.Entry.{view, prev_of, transaction_of, undo_next_of};
+ghost use Rattle.im_log_record.specs.Entry.{view, prev_of, transaction_of};
 ghost use Rattle.im_log_record.specs.Spelling.{IsEntry};
 ghost use Rattle.im_log.specs.Whats.{what_of};
 ghost use Rattle.im_log.specs.Spelled.{logged_at};
@@ -17,7 +17,7 @@ ghost use Rattle.im_page_writer.specs.Outcome.{fault_of, mild};
 ghost use Rattle.im_page_writer.specs.PageWriter.{IsReadyWriter, StandsAs};
 ghost use Rattle.im_restart_redo.specs.Recovery.{Recovers};
 ghost use Rattle.im_restart.specs.UndoOrder.{IsLatest};
-ghost use Rattle.im_restart.specs.LoserChains.{AreChains, GoesOnAt, IsToUndo, LeadsNowhere, MayLeadOn, PutKept, above, and_also, nobody};
+ghost use Rattle.im_restart.specs.LoserChains.{AreChains, GoesOnAt, IsToUndo, PutKept, above, and_also, nobody};
 ghost use Rattle.im_restart.specs.Restart.{RunsOut};
 ghost use Rattle.im_restart.specs.Undoing.{CompensateKept, EndKept, IsUndoing, EnterKept, StepKept, UndoKept};
 
@@ -26,7 +26,7 @@ use im_base_disk::Disk;
 use im_base_types::{Fault, Lsn, TxnId};
 use im_log_record::{Record, decode};
 use im_page_writer::PageWriter;
-use im_restart_analysis::Loser;
+use im_restart_analysis::{Loser, is_key_record, undo_next_after};
 use im_restart_undo::undo_one;
 use std::alloc::Global;
 use std::collections::BTreeMap;
@@ -129,52 +129,6 @@ fn go_on<D: Disk>(
     }
 }
 
-// Where undo goes on behind a record: a key record names its transaction's record before, and a compensation or the end of a
-// structure change the next one to undo.
-//
-// Refused `NotAStore` for another record, and where that is no earlier one.
-fn next_after(record: &Record, lsn: Lsn) -> Result<Lsn, Fault>
-    ensures key { IfOk result (λ next. is_key (what_of (view record.now)) ≡ true → next ≡ prev_of (view record.now)) }
-    ensures other { IfOk result (λ next. is_key (what_of (view record.now)) ≡ false → MayLeadOn (what_of (view record.now)) × (next ≡ undo_next_of (view record.now))) }
-    ensures falls { IfOk result (λ next. next < lsn) }
-    ensures refused { IfErr result (λ e. (e ≡ NotAStore) × LeadsNowhere (view record.now) lsn) }
-{
-    let next = match record {
-        Record::InsertKey { prev, .. } | Record::DeleteKey { prev, .. } => *prev,
-        Record::UndoInsert { undo_next, .. }
-        | Record::UndoDelete { undo_next, .. }
-        | Record::UndoSmo { undo_next, .. }
-        | Record::DummyClr { undo_next, .. } => *undo_next,
-        Record::Smo { .. }
-        | Record::Commit { .. }
-        | Record::End { .. }
-        | Record::Image { .. }
-        | Record::Checkpoint { .. } => return Err(Fault::NotAStore),
-    };
-    if next >= lsn {
-        return Err(Fault::NotAStore);
-    }
-    Ok(next)
-}
-
-// Whether it is an insert or a delete of a key.
-fn is_key(record: &Record) -> bool
-    ensures { result ≡ is_key (what_of (view record.now)) }
-{
-    match record {
-        Record::InsertKey { .. } | Record::DeleteKey { .. } => true,
-        Record::UndoInsert { .. }
-        | Record::UndoDelete { .. }
-        | Record::Smo { .. }
-        | Record::UndoSmo { .. }
-        | Record::DummyClr { .. }
-        | Record::Commit { .. }
-        | Record::End { .. }
-        | Record::Image { .. }
-        | Record::Checkpoint { .. } => false,
-    }
-}
-
 // Takes back a key record, and goes on behind it.
 #[tactic(auto, using(im_restart_redo::proofs::Recoveries::recovers_then, im_restart_redo::proofs::Recoveries::recovery_refused))]
 fn undo_key<D: Disk>(
@@ -235,8 +189,8 @@ fn undo_record<D: Disk>(
     if record.transaction() != chain.transaction {
         return Err(Fault::NotAStore);
     }
-    let next = next_after(record, lsn)?;
-    if is_key(record) {
+    let next = undo_next_after(record, lsn)?;
+    if is_key_record(record) {
         undo_key(alloc, disk, writer, chains, chain, next, record)
     } else {
         go_on(disk, writer, chains, chain, next)

@@ -1,7 +1,7 @@
 -- Undo of the losers, record by record: what it comes to, which record comes next, and what that leaves.
-use Rattle.std.specs.Prelude.{◌≡◌, ◌≢◌, ◌≤◌, ◌<◌, ◌+◌, ℕ, zero, suc, [], ◌∷◌, length, Bool, true, false, if◌then◌else◌, Option, None, Some}
+use Rattle.std.specs.Prelude.{◌≡◌, ◌≢◌, ◌≤◌, ◌<◌, ◌+◌, ◌⊎◌, ℕ, zero, suc, [], ◌∷◌, length, Bool, true, false, if◌then◌else◌, Option, None, Some}
 use Rattle.im_base_types.specs.Pages.{Body}
-use Rattle.im_base_types.specs.Records.{What, InsertKey, DeleteKey, UndoInsert, UndoDelete, Smo, UndoSmo, DummyClr, End, Logged}
+use Rattle.im_base_types.specs.Records.{What, InsertKey, DeleteKey, UndoInsert, UndoDelete, Smo, UndoSmo, DummyClr, End, Unreadable, Logged}
 use Rattle.im_theory_log.specs.Tree.{Tree}
 use Rattle.im_theory_log.specs.Histories.{History, Base, IsRecordOf, end_of}
 use Rattle.im_theory_log.specs.PageCounts.{count_of}
@@ -9,6 +9,8 @@ use Rattle.im_theory_log.specs.Structure.{open_smo}
 use Rattle.im_theory_log.specs.Transactions.{last_of, undo_next_of, to_undo, undo_reads, reads_on, is_key, committed}
 use Rattle.im_theory_log.specs.Lawful.{IsLawful}
 use Rattle.im_theory_log.specs.LogLaws.{bodies, HoldsCommitted}
+use Rattle.im_log_record.specs.Entry.{Entry, prev_of, undo_next_of as named_next}
+use Rattle.im_log.specs.Whats.{what_of}
 use Rattle.im_restart_analysis.specs.Losers.{is_loser, row_of}
 use Rattle.im_restart_analysis.specs.Analysis.{Continues}
 use Rattle.im_restart_analysis.specs.Orderly.{FitsBehind}
@@ -46,6 +48,15 @@ leads_on (UndoDelete k i) = true
 leads_on (UndoSmo after) = true
 leads_on DummyClr = true
 leads_on _ = false
+
+-- a compensation, or the end of a structure change; or bytes that hold no page, which no lawful log has
+abbrev pub MayLeadOn : What → Type 0
+MayLeadOn w = (leads_on w ≡ true) ⊎ (w ≡ Unreadable)
+
+-- It says no earlier LSN at which undo goes on.
+pub record LeadsNowhere (entry : Entry) (lsn : ℕ) : Type 0 where
+  pub key : is_key (what_of entry) ≡ true → lsn ≤ prev_of entry
+  pub on : leads_on (what_of entry) ≡ true → lsn ≤ named_next entry
 
 -- the transaction has a record at the LSN
 pub record HasRecordAt (t l : ℕ) (log : History) : Type 0 where

@@ -11,7 +11,8 @@
 //! records before it said (`FitsBehind`), also in a log that is not lawful, and `Memory`; then it changes nothing.
 //!
 //! `laws` has what undo lives by, for every tree of pages: what the losers' chains lead to, which records may come
-//! next and what they leave, and that the tree holds the committed map alone once no loser is left.
+//! next and what they leave, and that the tree holds the committed map alone once no loser is left. `undo_next_after` is where undo goes on
+//! after one record, at a restart and in a rollback.
 //!
 //! It stands on `im_log_record` for records and on the definitions of `im_log` and `im_theory_log`.
 #![tactic(auto)]
@@ -25,7 +26,9 @@ mod numbers;
 mod open_change;
 mod page_counts;
 mod rows;
+mod undo_steps;
 
 pub use analysis::{Analysed, Analysis};
 pub use changes::{Changes, LastChanges};
 pub use rows::{Loser, OpenRecord};
+pub use undo_steps::{is_key_record, undo_next_after};

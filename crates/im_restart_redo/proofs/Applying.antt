@@ -27,6 +27,7 @@ use Rattle.im_restart_redo.specs.Redo.{AreApplicable, Redone, applied_in, first_
 use Rattle.im_restart_redo.specs.Within.{IsWithinRedo}
 use Rattle.im_restart_redo.specs.Applying.{HasPassed, IsApplying, IsLsnBehind}
 use Rattle.im_restart_redo.specs.Loading.{IsLoading}
+use Rattle.im_restart_redo.specs.Window.{AreAlsoOf}
 use Rattle.im_restart_redo.proofs.Counting.{applied_by, lsn_redone, one_counted}
 use Rattle.im_restart_redo.proofs.Passing.{count_same, first_of_rest, passed_all, passed_none}
 use Rattle.im_restart_redo.proofs.Reached.{needs_record}
@@ -97,6 +98,13 @@ module _ {D : Type 0} (d : Ghosts D) (b : Base) (base : ℕ) (begun : History) (
     -- it is in the log, and in the durable one
     pub next_in_log : IsRecordOf so.first so.passed.now.log
     next_in_log = record_still b begun so.passed.now.log so.first so.passed.within.log (subst (λ (h : History). IsRecordOf so.first h) so.split (is_record so.after so.first so.older))
+
+    -- and in the log that redo began with, whose records the log has
+    pub next_in_begun : IsRecordOf so.first begun
+    next_in_begun = subst (λ (h : History). IsRecordOf so.first h) so.split (is_record so.after so.first so.older)
+
+    pub begun_in_log : AreAlsoOf begun so.passed.now.log
+    begun_in_log r has = record_still b begun so.passed.now.log r so.passed.within.log has
 
     pub next_is : (entry : Entry) → logged_at so.first.lsn entry ≡ so.first → so.first ≡ logged_at lsn entry
     next_is entry same = sym (ap (λ (l : ℕ). logged_at l entry) so.lsn_is ∙ same)

@@ -6,4 +6,5 @@ pub mod Passing
 pub mod Raised
 pub mod Reached
 pub mod Recoveries
+pub mod Windows
 pub mod Within

@@ -51,7 +51,7 @@ module _ (b : Base) (s : Writer) (n : ℕ) (k : WriterKept b s) (going : s.redo_
 pub stands_raised : {D : Type 0} (d : Ghosts D) (b : Base) (base : ℕ) (s : Writer) (n : ℕ) (w : PageWriter) (disk : D) → WriterKept b (raised n s) → StandsAs d b base s w disk → StandsAs d b base (raised n s) w disk
 stands_raised d b base s n w disk kept is = let old = is.writing in record {
   working = is.working;
-  known = known_same s (raised n s) w.known refl refl refl is.known;
+  known = known_same s (raised n s) w.known refl refl refl (λ knows. knows) is.known;
   writing = record {
     stands = record {
       kept = kept;

@@ -2,4 +2,5 @@ pub mod Applying
 pub mod Loading
 pub mod Recovery
 pub mod Redo
+pub mod Window
 pub mod Within

@@ -11,7 +11,8 @@
 //!    also so for a record that stands before the page's copy in the log: a copy may be older than the records around it, and its
 //!    own LSN says which of them it has.
 //!
-//! No record is kept in memory: each is read again at its LSN, into room that the caller lends. A page that is evicted on the way is
+//! The records are read again, a room full of the log at once (`window`), into room that the caller lends: the larger it is, the fewer
+//! reads. A page that is evicted on the way is
 //! written as in any flush, behind its Image, so Images may join the log while redo goes on.
 //!
 //! # What is kept
@@ -39,5 +40,6 @@
 mod copies;
 mod records;
 mod redoing;
+mod window;
 
 pub use redoing::redo;

@@ -1,6 +1,6 @@
 //! Records, applied to their pages from the redo point on.
 
-ghost use Rattle.std.specs.Prelude.{is_some, ◌≡◌, ◌≤◌, ◌<◌, ◌+◌, ◌-◌, ◌^◌, ◌∷◌, ℕ, List, [], true, false, if◌then◌else◌, length, Option};
+ghost use Rattle.std.specs.Prelude.{is_some, ◌≡◌, ◌≤◌, ◌<◌, ◌+◌, ◌-◌, ◌^◌, ◌∷◌, ℕ, List, [], true, false, if◌then◌else◌, length, Option, OnOk};
 ghost use Rattle.std.specs.Ordering.{nat_cmp};
 ghost use Rattle.std.specs.BTreeMap.{get};
 ghost use Rattle.im_base_types.specs.Pages.{Page};
@@ -12,7 +12,9 @@ ghost use Rattle.im_page_writer.specs.PageWriter.{IsReadyWriter};
 ghost use Rattle.im_restart_redo.specs.Redo.{AreApplicable};
 ghost use Rattle.im_restart_redo.specs.Recovery.{Recovers};
 ghost use Rattle.im_restart_redo.specs.Applying.{IsApplying, AppliedKept, ApplyingKept};
+ghost use Rattle.im_restart_redo.specs.Window.{Shows};
 
+use crate::window::Window;
 use im_base_disk::Disk;
 use im_base_types::{Fault, Lsn, PageNo};
 use im_log_record::decode;
@@ -34,18 +36,23 @@ fn redo_one<D: Disk>(
     point: Lsn,
     copies: &BTreeMap<PageNo, Lsn>,
     lsn: Lsn,
+    window: &mut Window,
     room: &mut [u8],
 ) -> Result<bool, Fault>
     requires room { 16384 ≤ length room.old }
+    requires used { window.old.used ≤ length room.old }
     requires ready { IsReadyWriter D.Disk writer.old disk.old }
     requires working { writer.old.failed ≡ false }
     ensures outcome { Recovers D.Disk mild writer.old writer.new disk.new (fault_of result) }
     ensures room { length room.new ≡ length room.old }
+    ensures used { window.new.used ≤ length room.new }
     ensures kept { (b : Base) (base : ℕ) (begun : History) (file : ℕ → Option Page) (from : D) (left : List ℕ) (count : ℕ) → IsApplying D.Disk b base begun file (lsn ∷ left) count from writer.old disk.old
-        → AreApplicable b begun → point ≡ redo_point begun → AreCopies point copies.now begun → AppliedKept D.Disk b base begun file left count from writer.new disk.new result }
+        → Shows begun window.old room.old → AreApplicable b begun → point ≡ redo_point begun → AreCopies point copies.now begun → AppliedKept D.Disk b base begun file left count from writer.new disk.new result }
+    ensures shows { (b : Base) (base : ℕ) (begun : History) (file : ℕ → Option Page) (from : D) (left : List ℕ) (count : ℕ) → IsApplying D.Disk b base begun file (lsn ∷ left) count from writer.old disk.old
+        → Shows begun window.old room.old → OnOk result (Shows begun window.new room.new) }
 {
-    let size = writer.read_at(disk, lsn, room)?;
-    let record = decode(&room[..size])?;
+    let place = window.bring(disk, writer, lsn, room)?;
+    let record = decode(&room[place.at..place.end])?;
     let copied = has_copy(copies, record.page());
     let applied = writer.redo_change(disk, point, lsn, &record, copied)?;
     Ok(applied)
@@ -77,8 +84,9 @@ pub(crate) fn redo_all<D: Disk>(
         → AreApplicable b begun → point ≡ redo_point begun → AreCopies point copies.now begun → ApplyingKept D.Disk b base begun file from writer.new disk.new result }
 {
     let mut count = 0;
+    let mut window = Window::empty();
     for lsn in lsns {
-        let applied = redo_one(disk, writer, point, copies, *lsn, room)?;
+        let applied = redo_one(disk, writer, point, copies, *lsn, &mut window, room)?;
         count = counted(count, applied);
     }
     Ok(count)

@@ -262,14 +262,15 @@ module _ {D : Type 0} (d : Ghosts D) (b : Base) (base : ℕ) (s : Writer) (e t l
           };
           stops = plan_stops at;
           begun = tt;
+          wants = tt;
         }
 
     -- its plan was refused
-    pub drop_refused : (w : PageWriter) (disk : D) (f : Fault) → Plans d v old w disk (Some f) → f ≢ NotAStore → (r : Result ℕ Fault) → IsErrAnd r (λ x. x ≡ f) → SpareKept d b base s e t undo_next key old w disk r
-    drop_refused w disk f plan sound (Ok x) is = absurd is
-    drop_refused w disk f plan sound (Err x) is =
+    pub drop_refused : (w : PageWriter) (disk : D) (f : Fault) → Plans d v old w disk (Some f) → f ≢ NotAStore → (f ≡ Memory → IsSpare (bodies s) key) → (r : Result ℕ Fault) → IsErrAnd r (λ x. x ≡ f) → SpareKept d b base s e t undo_next key old w disk r
+    drop_refused w disk f plan sound wants (Ok x) is = absurd is
+    drop_refused w disk f plan sound wants (Err x) is =
         subst (λ (y : Fault). SpareKept d b base s e t undo_next key old w disk (Err y)) (sym is)
-        (record { sound = sound; stops = plan_stops plan; begun = λ failed. absurd (never_failed d f u.stands.working plan failed) })
+        (record { sound = sound; stops = plan_stops plan; begun = λ failed. absurd (never_failed d f u.stands.working plan failed); wants = wants })
 
     module _ (images : List Numbered) (w : PageWriter) (mid : D) (at : Plans d v old w mid None) (plan : IsDropPlan (pages_of s) key (Some images)) where
       pub may_drop : MayChange d b base (planned_at at).now e images t last undo_next w mid
@@ -290,21 +291,23 @@ module _ {D : Type 0} (d : Ghosts D) (b : Base) (base : ℕ) (s : Writer) (e t l
         };
         stops = planned_stops (planned_at at).now w mid (planned_at at).on images new kept.stops;
         begun = tt;
+        wants = tt;
       }
       drop_done x new (Err f) kept = record {
         sound = kept.sound;
         stops = planned_stops (planned_at at).now w mid (planned_at at).on images new kept.stops;
         begun = λ failed. planned_begun (planned_at at).now w mid (planned_at at).on images x new (kept.begun failed);
+        wants = λ short. plan.0;
       }
 
     -- the answer of the deletion is handed on, and a want of memory is none
     pub dropped : (w : PageWriter) (disk : D) (lsn : ℕ) → SpareKept d b base s e t undo_next key old w disk (Ok lsn) → DropKept d b base s e t undo_next key old w disk (Ok (Some lsn))
-    dropped w disk lsn kept = record { sound = kept.sound; stops = kept.stops; begun = tt }
+    dropped w disk lsn kept = record { sound = kept.sound; stops = kept.stops; begun = tt; left = λ is. absurd (let never : ⊥ = cc is in never) }
 
     pub stays : {m : Fault → Bool} (w : PageWriter) (disk : D) (f : Fault) → f ≡ Memory → Logs d true m v old w disk (Some f) → SpareKept d b base s e t undo_next key old w disk (Err f) → DropKept d b base s e t undo_next key old w disk (Ok None)
     stays {m} w disk f memory ends kept =
         let logged : LogEnds d true m v old w disk (Some Memory) = subst (λ (x : Fault). LogEnds d true m v old w disk (Some x)) memory ends.ends in
-        record { sound = logged.1.goes b base s u.stands (still_ready d b base s e t last undo_next v old u); stops = kept.stops; begun = tt }
+        record { sound = logged.1.goes b base s u.stands (still_ready d b base s e t last undo_next v old u); stops = kept.stops; begun = tt; left = λ is. kept.wants memory }
 
     pub not_dropped : (w : PageWriter) (disk : D) (f : Fault) → SpareKept d b base s e t undo_next key old w disk (Err f) → DropKept d b base s e t undo_next key old w disk (Err f)
-    not_dropped w disk f kept = record { sound = kept.sound; stops = kept.stops; begun = kept.begun }
+    not_dropped w disk f kept = record { sound = kept.sound; stops = kept.stops; begun = kept.begun; left = tt }

@@ -1,7 +1,7 @@
 -- How a transaction stands between two structure changes, and what those keep that a key asks for.
-use Rattle.std.specs.Prelude.{◌≡◌, ◌⊎◌, ◌-◌, ◌^◌, ℕ, false, [], Option, Some, None, Result, IfErr}
+use Rattle.std.specs.Prelude.{◌≡◌, ◌⊎◌, ◌-◌, ◌^◌, ℕ, false, [], Option, Some, None, Result, IfErr, IfOk}
 use Rattle.im_base_types.specs.declared.fault.Fault.{Fault}
-use Rattle.im_base_types.specs.declared.fault.Fault.TheVariants.{Capacity, Failed, PagesFull}
+use Rattle.im_base_types.specs.declared.fault.Fault.TheVariants.{Capacity, Failed, Memory, PagesFull}
 use Rattle.im_base_types.specs.declared.page_kind.PageKind.TheVariants.{Free}
 use Rattle.im_base_types.specs.Keys.{Key}
 use Rattle.im_theory_log.specs.Histories.{Base, IsFront}
@@ -73,19 +73,21 @@ module _ {D : Type 0} (d : Ghosts D) (b : Base) (base : ℕ) where
     pub gone : (spare : IsSpare (bodies s) key) → (bodies made.now spare.page).kind ≡ Free
     pub either : (IsKept (bodies s) key × GrowsByImages b s.log made.now.log) ⊎ (IsSpare (bodies s) key × HasRecordOf t made.grows.more)
 
-  -- what the deletion of a key's leaf keeps; `Failed` comes behind a record
+  -- what the deletion of a key's leaf keeps; `Failed` comes behind a record, and `Memory` only where the leaf is to go
   pub record SpareKept (s : Writer) (e t undo_next : ℕ) (key : Key) (old : D) (w : PageWriter) (disk : D) (result : Result ℕ Fault) : Type 0 where
     pub sound : IsSound result (λ last. Dropped s e t last undo_next key w disk)
     pub stops : LeavesChange d b base s t old disk
     pub begun : IfErr result (λ e. e ≡ Failed → Begun d b base s t w disk)
+    pub wants : IfErr result (λ e. e ≡ Memory → IsSpare (bodies s) key)
 
   -- it is out of the tree, or stayed for want of memory, with all as it was
   abbrev pub IsDropped : Writer → ℕ → ℕ → ℕ → Key → D → PageWriter → D → Option ℕ → Type 0
   IsDropped s e t undo_next key old w disk None = Evicted d b base s old w disk
   IsDropped s e t undo_next key old w disk (Some last) = Dropped s e t last undo_next key w disk
 
-  -- What that keeps where it may stay for want of memory. `Failed` comes behind a record.
+  -- What that keeps where it may stay for want of memory, which is so only of a leaf that is to go. `Failed` comes behind a record.
   pub record DropKept (s : Writer) (e t undo_next : ℕ) (key : Key) (old : D) (w : PageWriter) (disk : D) (result : Result (Option ℕ) Fault) : Type 0 where
     pub sound : IsSound result (IsDropped s e t undo_next key old w disk)
     pub stops : LeavesChange d b base s t old disk
     pub begun : IfErr result (λ e. e ≡ Failed → Begun d b base s t w disk)
+    pub left : IfOk result (λ last. last ≡ None → IsSpare (bodies s) key)

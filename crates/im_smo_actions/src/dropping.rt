@@ -1,6 +1,6 @@
 //! An empty leaf leaves the tree.
 
-ghost use Rattle.std.specs.Prelude.{◌≡◌, ◌≢◌, ◌≤◌, ◌⊎◌, ℕ, [], true, false, Err};
+ghost use Rattle.std.specs.Prelude.{◌≡◌, ◌≢◌, ◌≤◌, ◌⊎◌, ℕ, [], true, false, Err, IfErr};
 ghost use Rattle.im_base_types.specs.declared.fault.Fault.TheVariants.{Memory};
 ghost use Rattle.im_theory_log.specs.Histories.{Base};
 ghost use Rattle.im_theory_log.specs.Writer.{Writer};
@@ -10,7 +10,7 @@ ghost use Rattle.im_page_writer.specs.Outcome.{fault_of, mild, none_mild, AllPag
 ghost use Rattle.im_theory_tree.specs.Good.{IsGoodTree};
 ghost use Rattle.im_smo_alloc.specs.Seen.{bodies};
 ghost use Rattle.im_smo_alloc.specs.Kept.{Plans};
-ghost use Rattle.im_smo_actions.specs.DropPlan.{IsDropPlan};
+ghost use Rattle.im_smo_actions.specs.DropPlan.{IsSpare, IsDropPlan};
 ghost use Rattle.im_smo_actions.specs.Structure.{IsUnfinished, SpareKept, DropKept};
 
 use im_base_disk::Disk;
@@ -55,6 +55,7 @@ fn plan_drop<D: Disk>(
     requires working { writer.old.failed ≡ false }
     ensures outcome { Plans D.Disk writer.old disk.old writer.new disk.new (fault_of result) }
     ensures kept { (store : AllPages) → HasPages D.Disk AreLoaded store writer.old disk.old → IsGoodTree (bodies store) [] → IsSound result (IsDropPlan store key.now) }
+    ensures wants { (store : AllPages) → HasPages D.Disk AreLoaded store writer.old disk.old → IsGoodTree (bodies store) [] → IfErr result (λ e. e ≡ Memory → IsSpare (bodies store) key.now) }
 {
     let frame = leaf_for(writer, disk, key)?;
     if !is_spare(writer, frame) {
@@ -90,7 +91,7 @@ fn drop_spare<D: Disk>(
 
 /// Takes the leaf of a key out of the tree where it is empty and not the root, as a structure change of the transaction whose
 /// records end at `last` and whose undo goes on at `undo_next`. It answers the LSN of the transaction's last record, which is the old
-/// one where the leaf is none such; and `None` where memory is wanted in front of the first record: the leaf stays then.
+/// one where the leaf is none such; and `None` where the leaf is such a one and memory is wanted in front of the first record: it stays then.
 ///
 /// Refused `Failed` where memory is wanted behind the first record; otherwise as `PageWriter::get` is.
 pub fn drop_empty_leaf<D: Disk>(

@@ -20,11 +20,11 @@ use Rattle.im_theory_tree.specs.Good.{AllOf}
 use Rattle.im_theory_tree.specs.Theory.{page_tree}
 use Rattle.im_smo_pages.specs.Images.{Numbered, IsAbove, IsRising, image_at}
 use Rattle.im_smo_log.specs.Logged.{smo_at}
-use Rattle.im_smo_log.specs.Changes.{IsOfChange, GrowsByChange, with_mark, marks, image_marks, AreCounted, IsOpenBelow, IsUnderWay}
+use Rattle.im_smo_log.specs.Changes.{IsOfChange, GrowsByChange, with_mark, marks, image_marks, AreCounted, IsOpenBelow, IsLoggedTo}
 
 -- ---- numbers that rise
 
-above_lt : (n : ℕ) (xs : List Numbered) (k : ℕ) → IsAbove n xs → k < length xs → n < (image_at xs k).0
+pub above_lt : (n : ℕ) (xs : List Numbered) (k : ℕ) → IsAbove n xs → k < length xs → n < (image_at xs k).0
 above_lt n [] k up within = absurd (omega arith)
 above_lt n (x ∷ xs) zero up within = up.0
 above_lt n (x ∷ xs) (suc k) up within =
@@ -32,7 +32,7 @@ above_lt n (x ∷ xs) (suc k) up within =
     let here : n < x.0 = up.0 in
     omega (arith, rest, here)
 
-tail_rises : (x : Numbered) (xs : List Numbered) → IsAbove x.0 xs → IsRising xs
+pub tail_rises : (x : Numbered) (xs : List Numbered) → IsAbove x.0 xs → IsRising xs
 tail_rises x [] up = tt
 tail_rises x (y ∷ xs) up = up.1
 
@@ -44,7 +44,7 @@ rising_lt (x ∷ xs) (suc i) zero up lt within = absurd (omega arith)
 rising_lt (x ∷ xs) (suc i) (suc k) up lt within = rising_lt xs i k (tail_rises x xs up) (omega arith) (omega arith)
 
 -- none is past the last one
-last_most : (xs : List Numbered) (i : ℕ) → IsRising xs → i < length xs → (image_at xs i).0 ≤ (image_at xs (length xs - 1)).0
+pub last_most : (xs : List Numbered) (i : ℕ) → IsRising xs → i < length xs → (image_at xs i).0 ≤ (image_at xs (length xs - 1)).0
 last_most xs i up within = ⊎_elim
     (λ (less : i < length xs - 1). let under = rising_lt xs i (length xs - 1) up less (omega (arith, within)) in omega (arith, under))
     (λ (more : length xs - 1 ≤ i). let same : i ≡ length xs - 1 = omega (arith, more, within) in omega (arith, ap (λ (k : ℕ). (image_at xs k).0) same))
@@ -132,9 +132,9 @@ images_lawful b log longer images law = subst (IsLawful b page_tree) (sym images
 -- ---- the steps
 
 module _ (b : Base) (t undo_next : ℕ) (xs : List Numbered) (older : History) (some : t ≢ 0) where
-  pub images_under_way : (i prev : ℕ) (log longer : History) → GrowsByImages b log longer → IsUnderWay b t undo_next xs older i prev log → IsUnderWay b t undo_next xs older i prev longer
+  pub images_under_way : (i prev : ℕ) (log longer : History) → GrowsByImages b log longer → IsLoggedTo b t undo_next xs older i prev log → IsLoggedTo b t undo_next xs older i prev longer
   unfolding grows_images
-  images_under_way i prev log longer images w = subst (λ (l : History). IsUnderWay b t undo_next xs older i prev l) (sym images.is) (record {
+  images_under_way i prev log longer images w = subst (λ (l : History). IsLoggedTo b t undo_next xs older i prev l) (sym images.is) (record {
     lawful = lawful_images b page_tree images.images log images.all w.lawful;
     grows = grows_images b t older log (images.images ++ log) w.grows (record { images = images.images; is = refl; all = images.all });
     order = images_marks b images.images log w.grows.more images.all ∙ w.order;
@@ -164,8 +164,8 @@ module _ (b : Base) (t undo_next : ℕ) (xs : List Numbered) (older : History) (
   resumes_smo r m log (s ∷ rest) high is = resumes_newer r m log s rest high is
 
   pub smo_under_way : (i prev lsn : ℕ) (was now : Body) (log : History) → IsRising xs → AreCounted xs → i < length xs → now ≡ (image_at xs i).1.body → end_of b log < lsn → was ≡ (page_at b log (image_at xs i).0).body
-      → ((image_at xs i).0 ≡ 0 → now.leftmost ≤ max was.leftmost ((image_at xs (length xs - 1)).0 + 1)) → IsUnderWay b t undo_next xs older i prev log
-      → IsUnderWay b t undo_next xs older (i + 1) lsn (smo_at lsn t prev (image_at xs i).0 was now ∷ log)
+      → ((image_at xs i).0 ≡ 0 → now.leftmost ≤ max was.leftmost ((image_at xs (length xs - 1)).0 + 1)) → IsLoggedTo b t undo_next xs older i prev log
+      → IsLoggedTo b t undo_next xs older (i + 1) lsn (smo_at lsn t prev (image_at xs i).0 was now ∷ log)
   smo_under_way i prev lsn was now log up all within made high before said w =
       let p = (image_at xs i).0 in
       let r = smo_at lsn t prev p was now in

@@ -19,7 +19,7 @@ use Rattle.im_theory_tree.specs.Good.{AllOf, IsGoodTree}
 use Rattle.im_theory_tree.specs.Theory.{page_tree}
 use Rattle.im_smo_pages.specs.Images.{Numbered, image_at}
 use Rattle.im_smo_log.specs.Logged.{dummy_at}
-use Rattle.im_smo_log.specs.Changes.{IsOfChange, GrowsByChange, marks, image_marks, IsOpenBelow, IsUnderWay, IsSameOf}
+use Rattle.im_smo_log.specs.Changes.{IsOfChange, GrowsByChange, marks, image_marks, IsOpenBelow, IsLoggedTo, IsSameOf}
 
 -- its records change nothing of the map
 same_contents : (t : ℕ) (r : Logged) (w : What) (m : IndexMap) → IsOfChange t r w → contents_after w m ≡ m
@@ -67,7 +67,7 @@ pub record IsClosed (b : Base) (t undo_next lsn : ℕ) (xs : List Numbered) (i :
   pub unfinished : is_finished t log ≡ false
   pub closed : open_smo log ≡ []
 
-pub closes : (b : Base) (t undo_next : ℕ) (xs : List Numbered) (older : History) (i prev lsn : ℕ) (log : History) → t ≢ 0 → 1 ≤ i → IsUnderWay b t undo_next xs older i prev log → end_of b log < lsn
+pub closes : (b : Base) (t undo_next : ℕ) (xs : List Numbered) (older : History) (i prev lsn : ℕ) (log : History) → t ≢ 0 → 1 ≤ i → IsLoggedTo b t undo_next xs older i prev log → end_of b log < lsn
     → IsLawful b page_tree older → open_smo older ≡ [] → IsGoodTree (logged_bodies b log) [] → walk (logged_bodies b log) ≡ walk (logged_bodies b older)
     → i ≡ length xs → (page_at b log 0).body.leftmost ≡ (image_at xs 0).1.body.leftmost → IsClosed b t undo_next lsn xs i older (dummy_at lsn t prev undo_next ∷ log)
 closes b t undo_next xs older i prev lsn log some any w high was closed good same whole first = record {

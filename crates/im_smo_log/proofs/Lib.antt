@@ -5,3 +5,8 @@ pub mod Closing
 pub mod Refusals
 pub mod Runs
 pub mod Nets
+mod ImagePlaces
+pub mod Others
+pub mod Going
+pub mod Coming
+pub mod Stepping

@@ -119,7 +119,7 @@ first_leftmost (x ∷ rest) pages some zeroth =
 
 module _ {D : Type 0} (d : Ghosts D) (b : Base) (base : ℕ) where
   -- the writer's pages are those of its log
-  page_is : (s : Writer) (e : ℕ) (w : PageWriter) (disk : D) → StandsAs d b base s w disk → s.redo_end ≡ Some e → (p : ℕ) → (s.pages p).page ≡ page_at b s.log p
+  pub page_is : (s : Writer) (e : ℕ) (w : PageWriter) (disk : D) → StandsAs d b base s w disk → s.redo_end ≡ Some e → (p : ℕ) → (s.pages p).page ≡ page_at b s.log p
   page_is s e w disk is over p =
       let k = is.writing.stands.kept.pages p in
       let run = k.run e over in

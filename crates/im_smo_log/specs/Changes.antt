@@ -82,7 +82,7 @@ abbrev pub IsOpenBelow : (t m l : ℕ) → History → Type 0
 IsOpenBelow t m l going = AllOf (λ (u : Logged). (u.txn ≡ t) × (u.page < m) × (u.lsn ≤ l)) going
 
 -- The first i images of a structure change are logged: the log is lawful, the change is open, and undo would go on where it stood.
-pub record IsUnderWay (b : Base) (t undo_next : ℕ) (images : List Numbered) (older : History) (i prev : ℕ) (log : History) : Type 0 where
+pub record IsLoggedTo (b : Base) (t undo_next : ℕ) (images : List Numbered) (older : History) (i prev : ℕ) (log : History) : Type 0 where
   pub lawful : IsLawful b page_tree log
   pub grows : GrowsByChange t older log
   pub order : marks grows.more ≡ image_marks i images
@@ -134,7 +134,7 @@ module _ {D : Type 0} (d : Ghosts D) (b : Base) (base : ℕ) where
     pub over : now.redo_end ≡ Some e
     pub point : now.point ≡ s.point
     pub durable : IsFront s.durable now.durable
-    pub log : IsUnderWay b t undo_next images s.log i prev now.log
+    pub log : IsLoggedTo b t undo_next images s.log i prev now.log
     pub pages : SamePages (seen (pages_of now) (drop i images)) (seen (pages_of s) images)
     pub stops : LeavesChange s t old disk
 

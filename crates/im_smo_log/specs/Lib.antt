@@ -1,2 +1,5 @@
 pub mod Logged
 pub mod Changes
+pub mod Under
+pub mod GoingOn
+pub mod Stepping

@@ -4,6 +4,7 @@ ghost use Rattle.std.specs.Prelude.{◌≡◌, ◌≢◌, ℕ};
 ghost use Rattle.im_theory_log.specs.Histories.{Base, History};
 ghost use Rattle.im_theory_log.specs.Transactions.{committed, contents, net};
 ghost use Rattle.im_smo_log.specs.Changes.{GrowsByChange, IsSameOf};
+ghost use Rattle.im_smo_log.specs.GoingOn.{OthersKeep, OthersKeepWays, PagesGoOn, OtherPagesAreSettled, PagesAgree, ClosesWell, ChangesBegin, PagesMayCome, ClosesMayCome};
 
 /// The records of a structure change, and Images among them, leave the committed effects, the tree's map and each net as
 /// they were, and of each other transaction all that undo asks. So a stop in its middle loses and adds nothing of what
@@ -13,4 +14,19 @@ pub fn changes_keep()
     ensures map { (b : Base) (t : ℕ) (older longer : History) → GrowsByChange t older longer → contents b longer ≡ contents b older }
     ensures nets { (t u : ℕ) (older longer : History) → GrowsByChange t older longer → net u longer ≡ net u older }
     ensures others { (t u : ℕ) (older longer : History) → u ≢ 0 → u ≢ t → GrowsByChange t older longer → IsSameOf u older longer }
+{}
+
+/// A structure change that is made page by page goes on whatever others log between its pages, as long as they leave its pages
+/// alone: it begins over pages with none open, its next page may come, and its end, and beside it each page that is not made
+/// yet is the settled one.
+pub fn changes_go_on()
+    ensures others { OthersKeep }
+    ensures ways { OthersKeepWays }
+    ensures pages { PagesGoOn }
+    ensures settled { OtherPagesAreSettled }
+    ensures agrees { PagesAgree }
+    ensures closes { ClosesWell }
+    ensures begins { ChangesBegin }
+    ensures next { PagesMayCome }
+    ensures ends { ClosesMayCome }
 {}

@@ -4,14 +4,22 @@
 //! changes, in rising page number, and then one DummyClr, whose next record to undo is the one from before. Until that
 //! record the change is open, and undo takes its pages back one by one; behind it the change stands, whatever becomes of
 //! the transaction. A stop at any moment leaves a front of a lawful log, and pages from which redo comes to it.
+//!
+//! `run` logs a whole one. `Change` is one that is made page by page, so that other transactions may log between its pages: it begins,
+//! each step logs a page, and it is closed behind its last one. The contract of `changes_go_on` says what keeps it under way
+//! (`IsUnderWay`): whatever others log, as long as they change no page of it, its next page may come, and its end; each page that is
+//! not made yet is the settled one; and a key whose leaf it leaves alone keeps that leaf.
 #![tactic(auto)]
 
+mod change;
+mod change_steps;
 mod late_fault;
 mod laws;
 mod page_bytes;
 mod page_record;
 mod structure_change;
 
+pub use change::Change;
 pub use late_fault::late;
-pub use laws::changes_keep;
+pub use laws::{changes_go_on, changes_keep};
 pub use structure_change::run;

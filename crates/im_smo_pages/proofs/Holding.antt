@@ -30,13 +30,6 @@ put_keeps n p xs up m has = elim (cases_eq n m) [
 pub keeps_then : (a b c : List Numbered) → KeepsAll a b → KeepsAll b c → KeepsAll a c
 keeps_then a b c h k m has = k m (h m has)
 
--- a page that was not there, as it was
-pub held_joined : (pages : Pages) (xs : List Numbered) (n : ℕ) (p : Page) → IsRising xs → image_of xs n ≡ None → pages n ≡ p.body → SamePages (held pages (put_image n p xs)) (held pages xs)
-held_joined pages xs n p up none was q = held_put pages xs n p up q ∙ elim (cases_eq n q) [
-  | inl here ↦ subst (λ (m : ℕ). with_body (held pages xs) n p.body m ≡ held pages xs m) here (at_here (held pages xs) n p.body ∙ sym was ∙ sym (applied_image pages xs n ∙ ap (λ (o : Option Page). body_or o (pages n)) none))
-  | inr other ↦ at_other (held pages xs) n p.body q other
-]
-
 -- ---- several pages
 
 abbrev pub put_two : ℕ → Page → ℕ → Page → List Numbered → List Numbered

@@ -1,6 +1,6 @@
 //! Boxes for the pages that come into a structure change.
 
-ghost use Rattle.std.specs.Prelude.{◌≡◌, IfOk, IfErr};
+ghost use Rattle.std.specs.Prelude.{◌≡◌, IfErr};
 ghost use Rattle.im_base_types.specs.declared.fault.Fault.TheVariants.{Memory};
 
 use im_base_types::Fault;
@@ -12,14 +12,4 @@ pub fn blank(alloc: Global) -> Result<Box<Page>, Fault>
     ensures { IfErr result (λ e. e ≡ Memory) }
 {
     Box::new(alloc, Page::initial(0)).map_err(|_| Fault::Memory)
-}
-
-/// A copy of a page. Refused `Memory` alone.
-pub fn copied(alloc: Global, page: &Page) -> Result<Box<Page>, Fault>
-    ensures page { IfOk result (λ p. p.value ≡ page.now) }
-    ensures refused { IfErr result (λ e. e ≡ Memory) }
-{
-    let mut copy = blank(alloc)?;
-    copy.load(page.bytes()).unwrap();
-    Ok(copy)
 }

@@ -2,11 +2,8 @@
 
 ghost use Rattle.std.specs.Prelude.{◌≡◌, ℕ, ◌<◌, ◌≤◌, [], length, OnOk, OnErr, IfOk, IfErr, IfSome, IsSome, IsNone, Some, None, IsOk, vec_len, vec_capacity};
 ghost use Rattle.im_base_types.specs.declared.fault.Fault.TheVariants.{Memory};
-ghost use Rattle.im_theory_tree.specs.Levels.{Pages};
-ghost use Rattle.im_smo_pages.specs.Changed.{SamePages};
-ghost use Rattle.im_smo_pages.specs.Images.{Has, KeepsAll, held, IsFound, IsAbsent, IsRising, image_of, image_at, put_image, without_image};
+ghost use Rattle.im_smo_pages.specs.Images.{IsFound, IsAbsent, IsRising, image_of, image_at, put_image, without_image};
 
-use crate::boxes::copied;
 use crate::image::Image;
 use im_base_types::{Fault, PageNo};
 use im_page::Page;
@@ -22,9 +19,7 @@ pub struct Images {
 
 impl Model for Images {
     ghost use Rattle.std.specs.Prelude.{List};
-    ghost use Rattle.im_theory_tree.specs.Levels.{Pages};
-    ghost use Rattle.im_smo_pages.specs.Changed.{SamePages};
-    ghost use Rattle.im_smo_pages.specs.Images.{Has, KeepsAll, held, Numbered, IsRising};
+    ghost use Rattle.im_smo_pages.specs.Images.{Numbered, IsRising};
 
     ghost Value = { List Numbered };
 
@@ -121,26 +116,6 @@ impl Images {
         match self.find(number) {
             Ok(at) => Some(self.page(at)),
             Err(_) => None,
-        }
-    }
-
-    /// Copies a page of a number in, where none of that number is there: so what each page holds does not change. Refused
-    /// `Memory` alone, with nothing changed.
-    pub fn join(&mut self, alloc: Global, number: PageNo, page: &Page) -> Result<(), Fault>
-        ensures there { OnOk result (Has self.new number) }
-        ensures kept { OnOk result (KeepsAll self.old self.new) }
-        ensures pages { OnOk result ((pages : Pages) → pages number ≡ page.now.body → SamePages (held pages self.new) (held pages self.old)) }
-        ensures same { OnErr result (self.new ≡ self.old) }
-        ensures refused { IfErr result (λ e. e ≡ Memory) }
-    {
-        self.rise();
-        match self.find(number) {
-            Ok(_) => Ok(()),
-            Err(_) => {
-                let copy = copied(alloc, page)?;
-                self.put(number, copy)?;
-                Ok(())
-            },
         }
     }
 

@@ -19,7 +19,7 @@
 //! `Images` are the pages that a structure change leaves, so far: boxes by page number, each number once, in rising order,
 //! which is the order of its records. Its methods of the same names do a step among them. Their contracts speak of what
 //! each page holds where the images are applied (`held`), whatever the pages held before: a step makes of that what
-//! the step makes of pages (`specs/Changed.antt`). A page joins them by one copy (`join`), or is made in a blank box.
+//! the step makes of pages (`specs/Changed.antt`). A page joins them in a box of its own.
 //!
 //! # What it means for the tree
 //!

@@ -1,7 +1,7 @@
-//! The laws of logs, of lives, of steps and of analysis, each at a concrete type.
+//! The laws of logs, of effects, of steps and of analysis, each at a concrete type.
 
 use im_restart_analysis::laws::{lawful_logs_are_taken, undo_goes_on};
-use im_theory_log::laws::lives::{StoredEffects, every_list_of_lives};
+use im_theory_log::laws::lives::seen_effects_agree;
 use im_theory_log::laws::logs::{
     compensated_at_most_once, finished_tree_is_committed, fronts_are_lawful, logs_stay_lawful,
     open_change_is_on_top, tree_holds_committed_and_nets, undo_chain_leads_to_the_stack,
@@ -12,17 +12,9 @@ use im_theory_steps::{
     quiet_logs_hold_committed, stops_allow,
 };
 
-/// Files that stand for no effects.
-struct NoFiles;
-
-impl StoredEffects for NoFiles {
-    ghost use Rattle.std.specs.Prelude.{◌≡◌, []};
-
-    ghost stands_for = { λ effects files. effects ≡ [] };
-}
-
 #[test]
 fn the_laws_hold_of_the_tree_of_one_leaf() {
+    seen_effects_agree();
     fronts_are_lawful::<OneLeaf>();
     logs_stay_lawful::<OneLeaf>();
     tree_holds_committed_and_nets::<OneLeaf>();
@@ -30,11 +22,6 @@ fn the_laws_hold_of_the_tree_of_one_leaf() {
     undo_chain_leads_to_the_stack::<OneLeaf>();
     open_change_is_on_top::<OneLeaf>();
     compensated_at_most_once::<OneLeaf>();
-}
-
-#[test]
-fn the_law_of_lives_holds_of_files_that_stand_for_nothing() {
-    every_list_of_lives::<NoFiles>();
 }
 
 #[test]

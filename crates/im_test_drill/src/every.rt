@@ -102,10 +102,28 @@ fn every_stop_prints_its_counts(rt: HostRuntime) -> Result<(), Fail> {
     Ok(())
 }
 
-static FAILURES: [(&str, &[Part]); 2] = [
+// Two Commits wait, and one force commits both.
+const SHARED: &str =
+    "life group\nbegin\nbegin\ninsert 1 a 1\ninsert 2 b 2\ncommit 1\ncommit 2\ncommit 1\nforce\n";
+
+// That force writes what the force of one Commit does, in as many calls, so there are as many stops.
+#[test]
+fn every_stop_of_a_shared_force_prints_its_counts(rt: HostRuntime) -> Result<(), Fail> {
+    let want = "stops 60 restarts 984 bad 0\n";
+    assert!(rt; prints_every(rt.alloc(), SHARED, want, 0)?);
+    Ok(())
+}
+
+static FAILURES: [(&str, &[Part]); 3] = [
     (
         "a_failure_within_one_insert_is_told",
         &[Text("life\nbegin\ninsert 1 a 7\ncommit 1\nbegin\ndelete 2 a\nflush 1\nforce\n")],
+    ),
+    (
+        "a_failure_while_commits_wait_is_told",
+        &[Text(
+            "life group\nbegin\nbegin\ninsert 1 a 1\ninsert 2 b 2\ncommit 1\nlog\nflush 1\ncommit 2\nforce\nlog\nbegin\nfetch 3 b\n",
+        )],
     ),
     // The root splits, and a leaf goes out of the tree.
     (

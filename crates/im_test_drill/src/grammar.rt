@@ -46,7 +46,7 @@ static IN_RAW: [&str; 15] = [
 ];
 
 // Lines that no life of a store takes.
-static IN_LIFE: [&str; 71] = [
+static IN_LIFE: [&str; 78] = [
     "raw",
     "put 61",
     "set log 00",
@@ -70,6 +70,13 @@ static IN_LIFE: [&str; 71] = [
     "life frames 8 max",
     "life frames 8  max 8",
     "life frames 8 maximum 8",
+    "life group frames 8",
+    "life group group",
+    "life group 1",
+    "life groups",
+    "life fail 3  group",
+    "log 1",
+    "log ",
     "begin ",
     "force 1",
     "flush",

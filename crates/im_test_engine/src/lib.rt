@@ -9,6 +9,8 @@ mod many;
 #[cfg(test)]
 mod open_fronts;
 #[cfg(test)]
+mod readings;
+#[cfg(test)]
 mod rollbacks;
 #[cfg(test)]
 mod said;
@@ -16,3 +18,5 @@ mod said;
 mod stops;
 #[cfg(test)]
 mod threads;
+#[cfg(test)]
+mod waiting;

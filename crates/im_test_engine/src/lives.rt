@@ -153,6 +153,7 @@ fn a_thousand_keys_come_and_go(rt: HostRuntime) -> Result<(), Fail> {
     let config = Config {
         frames: 8,
         max_pages: 100,
+        group: false,
     };
     let mut engine = created(alloc, config)?;
     let told = come_and_go(&rt, alloc, &mut engine);

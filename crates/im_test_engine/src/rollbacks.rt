@@ -68,6 +68,7 @@ fn few_frames() -> Config {
     Config {
         frames: 8,
         max_pages: 1_000,
+        group: false,
     }
 }
 

@@ -1,4 +1,4 @@
-//! The laws of lives, of lawful logs and of page writes, each as the contract of a function that does
+//! The laws of effects, of lawful logs and of page writes, each as the contract of a function that does
 //! nothing: whoever stands on them finds them proved here.
 
 pub mod lives;

@@ -40,6 +40,7 @@ fn whole_file<D: Disk>(alloc: Global, disk: &mut D, file: FileId) -> Result<Vec<
 const IN_MEMORY: Config = Config {
     frames: MOST_FRAMES,
     max_pages: u32::MAX,
+    group: false,
 };
 
 /// The store of the copies, opened in memory.

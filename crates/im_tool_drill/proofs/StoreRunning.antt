@@ -1,5 +1,5 @@
 -- Lives of a store, run: one line more, one life more.
-use Rattle.std.proofs.Common.{◌≡◌, ℕ, zero, suc, ◌<◌, List, [], ◌∷◌, ◌++◌, length, get_or, Option, Result, Ok, Err, IfOk, IfErr, MatchResult, ◌⊎◌, inl, inr, false, refl, ap, subst, arith}
+use Rattle.std.proofs.Common.{◌≡◌, ℕ, zero, suc, ◌<◌, List, [], ◌∷◌, ◌++◌, length, get_or, Option, Result, Ok, Err, IfOk, IfErr, MatchResult, ◌⊎◌, inl, inr, Bool, false, refl, ap, subst, arith}
 use Rattle.std.proofs.lemmas.Bool.{cases_Bool}
 use Rattle.im_base_types.specs.declared.fault.Fault.{Fault}
 use Rattle.im_base_disk.specs.declared.disk.Disk.{Ghosts}
@@ -24,6 +24,7 @@ use Rattle.im_engine.specs.Kept.{LookKept}
 use Rattle.im_engine.specs.Running.{IsLife}
 use Rattle.im_tool_answers.specs.declared.store_answers.StoreReply.TheVariants as replies
 use Rattle.im_tool_raw.specs.Stops.{HasCome, IsNextDisk}
+use Rattle.im_tool_drill.specs.StoreLives.{gate_of}
 use Rattle.im_tool_drill.specs.StoreRuns.{AllReport, IsLookRun, IsLineRun, AreLinesRun, IsLifeRun, AreLivesRun}
 
 module _ (d : Ghosts ModelDisk) where
@@ -59,6 +60,7 @@ module _ (d : Ghosts ModelDisk) where
   line_keeps stop (lines.Page page) told old new run = look_reports (fault_of run.header) old new run.outcome
   line_keeps stop lines.Calls told old new run = ap (λ (e : Engine ModelDisk d). e.report) run.1
   line_keeps stop lines.Redo told old new run = ap (λ (e : Engine ModelDisk d). e.report) run.1
+  line_keeps stop lines.Log told old new run = ap (λ (e : Engine ModelDisk d). e.report) run.1
 
   -- a report that a line is told is the engine's
   page_told : (page : ℕ) (report : RedoReport) (header : Result Header Fault) → MatchResult header (λ h. replies.Redo report ≡ replies.Page page h) (λ f. replies.Redo report ≡ replies.Refused f) → ⊥
@@ -77,6 +79,7 @@ module _ (d : Ghosts ModelDisk) where
       by (inl come) = let no = come.1 in absurd (cc)
       by (inr on) = absurd (page_told page report run.header on.1)
   told_report stop lines.Calls report old new run = let no : replies.Redo report ≡ replies.Calls (model_calls old.disk) = run.0 in absurd (cc)
+  told_report stop lines.Log report old new run = let no : replies.Redo report ≡ replies.Log (gate_of d old) = run.0 in absurd (cc)
   told_report stop lines.Redo report old new run = let is : replies.Redo report ≡ replies.Redo old.report = run.0 in cc
 
   line_reports : (stop : Option Stop) (line : StoreLine) (told : StoreReply) (others : List StoreReply) (old new : Engine ModelDisk d) → IsLineRun d stop line told old new → AllReport old.report others → AllReport old.report (told ∷ others)
@@ -84,6 +87,7 @@ module _ (d : Ghosts ModelDisk) where
   line_reports stop line (replies.Calls n) others old new run rest = rest
   line_reports stop line (replies.Page page header) others old new run rest = rest
   line_reports stop line (replies.Redo report) others old new run rest = (told_report stop line report old new run, rest)
+  line_reports stop line (replies.Log gate) others old new run rest = rest
   line_reports stop line (replies.Refused fault) others old new run rest = rest
   line_reports stop line replies.Stopped others old new run rest = rest
 
@@ -114,3 +118,7 @@ module _ (d : Ghosts ModelDisk) where
       → IfOk result (λ e. (e.failed ≡ false) × (e.txns.rows ≡ []) × (e.locks ≡ []) × (e.max_pages ≡ most))
   opened_as most (Ok e) opened limit = (opened.0, opened.1, opened.2, limit)
   opened_as most (Err x) opened limit = tt
+
+  -- and whether Commits wait in it
+  pub opened_in_group : (group other : Bool) (result : Result (Engine ModelDisk d) (Fault × ModelDisk)) → IfOk result (λ e. e.txns.group ≡ group) → group ≡ other → IfOk result (λ e. e.txns.group ≡ other)
+  opened_in_group group other result opened is = subst (λ (b : Bool). IfOk result (λ e. e.txns.group ≡ b)) is opened

@@ -1,10 +1,11 @@
 -- What is known within a life of a store in a script, and how its engine is opened.
-use Rattle.std.specs.Prelude.{◌≡◌, ◌≢◌, ℕ, ◌^◌, ◌-◌, nat_lt, if◌then◌else◌, List, Option, Some, None}
+use Rattle.std.specs.Prelude.{◌≡◌, ◌≢◌, ℕ, ◌+◌, ◌^◌, ◌-◌, min, nat_lt, if◌then◌else◌, List, Option, Some, None}
 use Rattle.im_base_types.specs.Changes.{Effect}
 use Rattle.im_base_types.specs.Lives.{Shown}
 use Rattle.im_base_lock.specs.View.{View}
 use Rattle.im_base_disk.specs.Disk.{Files}
 use Rattle.im_base_disk.specs.declared.disk.Disk.{Ghosts}
+use Rattle.im_log_gate.specs.Gate.{place_of}
 use Rattle.im_engine.specs.declared.config.Config.{Config}
 use Rattle.im_engine.specs.declared.engine.Engine.{Engine}
 use Rattle.im_engine.specs.Stands.{Allowed}
@@ -24,6 +25,10 @@ pub record LineKept {D : Type 0} (d : Ghosts D) (before : List Effect) (s : Show
   pub after : reply ≢ replies.Stopped → GoesOn d before (shown_after s line reply) new
   pub stops : (c : Files) → d.may_leave new.disk c → Allowed before (shown_after s line reply) c
 
+-- the LSN of the gate at which the durable log ends
+abbrev pub gate_of : {D : Type 0} (d : Ghosts D) → Engine D d → ℕ
+gate_of d e = min (e.writer.log.base + place_of e.writer.log.gate) (2 ^ 64 - 1)
+
 -- an option's number, or this one where it is left out
 abbrev pub number_or : ℕ → Option ℕ → ℕ
 number_or n None = n
@@ -33,7 +38,8 @@ number_or n (Some given) = given
 abbrev pub in_32_bits : ℕ → ℕ
 in_32_bits n = if nat_lt n (2 ^ 32) then n else 2 ^ 32 - 1
 
--- The limits that options of a life give an engine: 64 frames and 1,000,000 pages where they are left out. Page numbers have 32 bits.
+-- What options of a life give an engine: 64 frames and 1,000,000 pages where they are left out, and whether Commits wait. Page numbers have 32 bits.
 pub record IsConfigOf (options : LifeOptions) (config : Config) : Type 0 where
   pub frames : config.frames ≡ number_or 64 options.frames
   pub max_pages : config.max_pages ≡ in_32_bits (number_or 1000000 options.max_pages)
+  pub group : config.group ≡ options.group

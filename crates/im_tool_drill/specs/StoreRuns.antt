@@ -40,11 +40,11 @@ use Rattle.im_tool_answers.specs.declared.store_answers.StoreReply.TheVariants a
 use Rattle.im_tool_answers.specs.declared.store_answers.StoreAnswers.{StoreAnswers}
 use Rattle.im_tool_drill.specs.declared.store_drilled.StoreDrilled.{StoreDrilled}
 use Rattle.im_tool_raw.specs.Stops.{IsArmedAll, HasCome, IsNextDisk, IsOpenedOr}
-use Rattle.im_tool_drill.specs.StoreLives.{IsConfigOf}
+use Rattle.im_tool_drill.specs.StoreLives.{IsConfigOf, gate_of}
 
 -- a life whose options are left out
 abbrev pub no_options : LifeOptions
-no_options = record { frames = None; max_pages = None; failing_call = None; failing_read = None }
+no_options = record { frames = None; max_pages = None; failing_call = None; failing_read = None; group = false }
 
 -- Each report among these replies is this one.
 abbrev pub AllReport : RedoReport → List StoreReply → Type 0
@@ -67,12 +67,13 @@ module _ (d : Ghosts ModelDisk) where
     pub kept : (before : List Effect) (s : Shown) (v : View) → IsLife d before s v old → LookKept d before s v old new
     pub says : Where (HasCome stop new.disk) (told ≡ replies.Stopped) (MatchResult header (λ h. told ≡ replies.Page page h) (λ f. told ≡ replies.Refused f))
 
-  -- A line was run by the engine. `calls` counts the device calls so far, `redo` tells the engine's report.
+  -- A line was run by the engine. `calls` counts the device calls so far, `redo` tells the engine's report, `log` where the durable log ends.
   abbrev pub IsLineRun : Option Stop → StoreLine → StoreReply → Engine ModelDisk d → Engine ModelDisk d → Type 0
   IsLineRun stop (lines.Step step) told old new = IsStepRun stop step told old new
   IsLineRun stop (lines.Page page) told old new = IsLookRun stop page told old new
   IsLineRun stop lines.Calls told old new = (told ≡ replies.Calls (model_calls old.disk)) × (new ≡ old)
   IsLineRun stop lines.Redo told old new = (told ≡ replies.Redo old.report) × (new ≡ old)
+  IsLineRun stop lines.Log told old new = (told ≡ replies.Log (gate_of d old)) × (new ≡ old)
 
   -- The lines that have replies were run in turn, each by the engine that the one before it left.
   abbrev pub AreLinesRun : Option Stop → List StoreLine → List StoreReply → Engine ModelDisk d → Engine ModelDisk d → Type 0
@@ -103,12 +104,13 @@ module _ (d : Ghosts ModelDisk) where
   AreAnswersOf stop all told new (Ok e) = (told.opening ≡ openings.Open (model_calls e.disk)) × (last : Engine ModelDisk d) × AreLinesRun stop all told.replies.items e last × (new ≡ last.disk) × AllReport e.report told.replies.items
   AreAnswersOf stop all told new (Err x) = IsOpenedOr stop x.1 told.opening x.0 × (told.replies.items ≡ []) × (new ≡ x.1)
 
-  -- A life was run: its stop, and the device call and the read that fail in it, were armed, an engine was opened on the disk, and it made the lines.
+  -- A life was run: its stop, and the device call and the read that fail in it, were armed, an engine was opened on the disk, in which Commits wait or do not, and it made the lines.
   pub record IsLifeRun (life : StoreLife) (told : StoreAnswers) (old new : ModelDisk) : Type 0 where
     pub armed : ModelDisk
     pub arms : IsArmedAll life.stop life.options.failing_call life.options.failing_read old armed
     pub result : Result (Engine ModelDisk d) (Fault × ModelDisk)
     pub opening : IsOpening life.options armed result
+    pub group : IfOk result (λ e. e.txns.group ≡ life.options.group)
     pub answers : AreAnswersOf life.stop life.lines.items told new result
 
   -- The lives were run in turn, each on what the stop of the one before it left.

@@ -69,12 +69,13 @@ pub fn open_store(
 ) -> Result<Engine<ModelDisk>, (Fault, ModelDisk)>
     requires working { ⟦<ModelDisk as Disk>⟧.failed disk ≡ false }
     requires synced { IsSynced ⟦<ModelDisk as Disk>⟧ disk }
-    ensures { IsOpening ⟦<ModelDisk as Disk>⟧ options disk result }
+    ensures opening { IsOpening ⟦<ModelDisk as Disk>⟧ options disk result }
+    ensures group { IfOk result (λ e. e.txns.group ≡ options.group) }
 {
     Engine::open_or_create(alloc, disk, config_of(options))
 }
 
-/// How an engine is opened by these options: 64 frames and 1,000,000 pages where they are left out.
+/// How an engine is opened by these options: 64 frames and 1,000,000 pages where they are left out. Commits wait where `group` stands there.
 pub fn config_of(options: LifeOptions) -> Config
     ensures { IsConfigOf options result }
 {
@@ -88,7 +89,11 @@ pub fn config_of(options: LifeOptions) -> Config
         Some(most) => most,
     };
     let max_pages = in_32_bits(most);
-    Config { frames, max_pages }
+    Config {
+        frames,
+        max_pages,
+        group: options.group,
+    }
 }
 
 // The number, or the greatest of 32 bits.
@@ -140,6 +145,7 @@ fn run_store_line(
         StoreLine::Step(step) => run_step(engine, step, stop),
         StoreLine::Page(page) => look_at(engine, *page, stop),
         StoreLine::Redo => StoreReply::Redo(engine.redo_report()),
+        StoreLine::Log => StoreReply::Log(engine.durable_end()),
     }
 }
 
@@ -197,6 +203,7 @@ pub(crate) fn last_entries(
         max_pages: None,
         failing_call: None,
         failing_read: None,
+        group: false,
     };
     look(alloc, disk, config_of(options))
 }

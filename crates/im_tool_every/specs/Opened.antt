@@ -15,7 +15,7 @@ use Rattle.im_tool_lines.specs.declared.store_life.LifeOptions.{LifeOptions}
 use Rattle.im_engine.specs.Listing.{IsListing}
 use Rattle.im_tool_drill.specs.StoreRuns.{IsOpening}
 use Rattle.im_tool_judge.specs.declared.change.AskedEffect.{AskedEffect}
-use Rattle.im_tool_every.specs.declared.opening.Judged.{Judged}
+use Rattle.im_tool_every.specs.declared.judged_opening.Judged.{Judged}
 use Rattle.im_tool_judge.specs.Judged.{IsGood, IsPassedOver}
 
 module _ (d : Ghosts ModelDisk) where

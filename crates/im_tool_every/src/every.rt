@@ -3,7 +3,7 @@
 ghost use Rattle.std.specs.Prelude.{◌≡◌, false};
 ghost use Rattle.im_base_disk.specs.Runs.{IsSynced};
 
-use crate::opening::{judge_opening, left_by, stop_opening};
+use crate::judged_opening::{judge_opening, left_by, stop_opening};
 use im_base_disk::Disk;
 use im_base_model_disk::{Fill, Length, ModelDisk, Stop};
 use im_tool_drill::run_store_life;

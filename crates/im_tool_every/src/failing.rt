@@ -1,7 +1,7 @@
 //! Every device call of a life that fails once, and every read.
 
 use crate::every::{Counts, WAYS, judge, new_disk, stop_at};
-use crate::opening::left_by;
+use crate::judged_opening::left_by;
 use im_base_types::Fault;
 use im_tool_answers::{StoreAnswers, StoreReply};
 use im_tool_drill::run_store_life;

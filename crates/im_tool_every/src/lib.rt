@@ -14,7 +14,7 @@
 
 mod every;
 mod failing;
-mod opening;
+mod judged_opening;
 mod text;
 
 pub use every::{Counts, every_restart, every_stop};

@@ -14,9 +14,10 @@ is_by_device (replies.Step (said.Refused faults.Device)) = true
 is_by_device (replies.Refused faults.Device) = true
 is_by_device _ = false
 
--- Whether an engine that has failed answers so: it refuses all, and its device calls can still be counted.
+-- Whether an engine that has failed answers so: it refuses all, and its device calls can still be counted, and it still answers where its log ends.
 abbrev pub is_behind_failure : StoreReply → Bool
 is_behind_failure (replies.Calls n) = true
+is_behind_failure (replies.Log gate) = true
 is_behind_failure (replies.Step (said.Refused faults.Failed)) = true
 is_behind_failure (replies.Refused faults.Failed) = true
 is_behind_failure _ = false
@@ -27,6 +28,7 @@ SaysSame (replies.Step told) (replies.Step plain) = told_by told ≡ told_by pla
 SaysSame (replies.Calls told) (replies.Calls plain) = told ≡ plain
 SaysSame (replies.Page page told) (replies.Page other plain) = (page ≡ other) × (told ≡ plain)
 SaysSame (replies.Redo told) (replies.Redo plain) = told ≡ plain
+SaysSame (replies.Log told) (replies.Log plain) = told ≡ plain
 SaysSame (replies.Refused told) (replies.Refused plain) = told ≡ plain
 SaysSame replies.Stopped replies.Stopped = Unit {0}
 SaysSame _ _ = ⊥

@@ -56,6 +56,7 @@ fn is_behind_failure(reply: &StoreReply) -> bool
     matches!(
         reply,
         StoreReply::Calls(_)
+            | StoreReply::Log(_)
             | StoreReply::Step(Reply::Refused(Fault::Failed))
             | StoreReply::Refused(Fault::Failed)
     )

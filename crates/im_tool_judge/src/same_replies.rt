@@ -30,6 +30,10 @@ pub(crate) fn says_same(told: &StoreReply, plain: &StoreReply) -> bool
             StoreReply::Redo(plain) => told == plain,
             _ => false,
         },
+        StoreReply::Log(told) => match plain {
+            StoreReply::Log(plain) => told == plain,
+            _ => false,
+        },
         StoreReply::Refused(told) => match plain {
             StoreReply::Refused(plain) => told == plain,
             _ => false,

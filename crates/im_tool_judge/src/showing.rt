@@ -108,6 +108,7 @@ impl Showing {
             StoreLine::Step(step) => self.step(step, reply),
             StoreLine::Calls => Ok(()),
             StoreLine::Redo => Ok(()),
+            StoreLine::Log => Ok(()),
             StoreLine::Page(_) => {
                 self.look(reply);
                 Ok(())
@@ -132,6 +133,7 @@ impl Showing {
             StoreReply::Calls(_) => Ok(()),
             StoreReply::Page(_, _) => Ok(()),
             StoreReply::Redo(_) => Ok(()),
+            StoreReply::Log(_) => Ok(()),
             StoreReply::Refused(_) => Ok(()),
         }
     }

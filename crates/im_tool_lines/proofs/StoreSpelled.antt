@@ -20,7 +20,7 @@ use Rattle.im_tool_lines.proofs.LifeWords.{are_options, lone_life, spaced_life}
 -- the kind of a good line of a script of lives of a store, by its first bytes, and another kind for `raw` and `put`
 abbrev pub store_text_kind : List ℕ → Kind
 store_text_kind text =
-    if slice_index text 0 == 108 then Begins
+    if slice_index text 0 == 108 then (if slice_index text 1 == 111 then Counts else Begins)
     else if slice_index text 0 == 115 then (if slice_index text 1 == 116 then Stops else if slice_index text 2 == 116 then Sets else Steps)
     else if slice_index text 0 == 99 then (if slice_index text 1 == 97 then Counts else Steps)
     else if slice_index text 0 == 112 then (if slice_index text 1 == 97 then Counts else Puts)
@@ -49,6 +49,7 @@ store_kind text (lines.Set file bytes) s = sym (ap store_text_kind s.1)
 store_kind text (lines.Within within.Calls) s = sym (ap store_text_kind s)
 store_kind text (lines.Within (within.Page page)) s = sym (ap store_text_kind s.1)
 store_kind text (lines.Within within.Redo) s = sym (ap store_text_kind s)
+store_kind text (lines.Within within.Log) s = sym (ap store_text_kind s)
 store_kind text (lines.Within (within.Step step)) s = step_kind text step s
 store_kind text (lines.Stop stop) s = sym (ap store_text_kind s.3)
 
@@ -63,6 +64,7 @@ not_puts (lines.Set file bytes) e = absurd (cc)
 not_puts (lines.Within within.Calls) e = absurd (cc)
 not_puts (lines.Within (within.Page page)) e = absurd (cc)
 not_puts (lines.Within within.Redo) e = absurd (cc)
+not_puts (lines.Within within.Log) e = absurd (cc)
 not_puts (lines.Within (within.Step step)) e = absurd (cc)
 not_puts (lines.Stop stop) e = absurd (cc)
 
@@ -80,6 +82,7 @@ no_store_line text (lines.Set file bytes) s plain o t = o (raws.Set file bytes) 
 no_store_line text (lines.Within within.Calls) s plain o t = o raws.Calls s
 no_store_line text (lines.Within (within.Page page)) s plain o t = plain
 no_store_line text (lines.Within within.Redo) s plain o t = plain
+no_store_line text (lines.Within within.Log) s plain o t = plain
 no_store_line text (lines.Within (within.Step step)) s plain o t = t step s
 no_store_line text (lines.Stop stop) s plain o t = o (raws.Stop stop) s
 
@@ -92,15 +95,19 @@ page_lacks = (λ x. omega arith, (λ x. omega arith, (λ x. omega arith, (λ x. 
 redo_lacks : Lacks 32 (codes "redo")
 redo_lacks = (λ x. omega arith, (λ x. omega arith, (λ x. omega arith, (λ x. omega arith, tt))))
 
--- a word alone is `life` or `redo`, or what a plain line is
-pub no_lone_line : (word : List ℕ) (said : StoreScriptLine) → SpellsStore word said → Lacks 32 word → word ≢ codes "life" → word ≢ codes "redo" → ((other : StoreScriptLine) → IsPlainLine other → ¬ (SpellsStore word other)) → ⊥
-no_lone_line word (lines.Life options) s l other redo plain = other (lone_life word options l s)
-no_lone_line word (lines.Set file bytes) s l other redo plain = plain (lines.Set file bytes) tt s
-no_lone_line word (lines.Within within.Calls) s l other redo plain = plain (lines.Within within.Calls) tt s
-no_lone_line word (lines.Within (within.Page page)) s l other redo plain = lacks_mid 32 (codes "page") s.0 (subst (λ (t : List ℕ). Lacks 32 t) s.1 l)
-no_lone_line word (lines.Within within.Redo) s l other redo plain = redo s
-no_lone_line word (lines.Within (within.Step step)) s l other redo plain = plain (lines.Within (within.Step step)) tt s
-no_lone_line word (lines.Stop stop) s l other redo plain = plain (lines.Stop stop) tt s
+log_lacks : Lacks 32 (codes "log")
+log_lacks = (λ x. omega arith, (λ x. omega arith, (λ x. omega arith, tt)))
+
+-- a word alone is `life`, `redo` or `log`, or what a plain line is
+pub no_lone_line : (word : List ℕ) (said : StoreScriptLine) → SpellsStore word said → Lacks 32 word → word ≢ codes "life" → word ≢ codes "redo" → word ≢ codes "log" → ((other : StoreScriptLine) → IsPlainLine other → ¬ (SpellsStore word other)) → ⊥
+no_lone_line word (lines.Life options) s l other redo log plain = other (lone_life word options l s)
+no_lone_line word (lines.Set file bytes) s l other redo log plain = plain (lines.Set file bytes) tt s
+no_lone_line word (lines.Within within.Calls) s l other redo log plain = plain (lines.Within within.Calls) tt s
+no_lone_line word (lines.Within (within.Page page)) s l other redo log plain = lacks_mid 32 (codes "page") s.0 (subst (λ (t : List ℕ). Lacks 32 t) s.1 l)
+no_lone_line word (lines.Within within.Redo) s l other redo log plain = redo s
+no_lone_line word (lines.Within within.Log) s l other redo log plain = log s
+no_lone_line word (lines.Within (within.Step step)) s l other redo log plain = plain (lines.Within (within.Step step)) tt s
+no_lone_line word (lines.Stop stop) s l other redo log plain = plain (lines.Stop stop) tt s
 
 -- a line of more words begins with `life` or `page`, or is what a plain line is
 pub no_spaced_line : (text word rest : List ℕ) (said : StoreScriptLine) → SpellsStore text said → text ≡ word ++ 32 ∷ rest → Lacks 32 word → word ≢ codes "life" → word ≢ codes "page" → ((other : StoreScriptLine) → IsPlainLine other → ¬ (SpellsStore text other)) → ⊥
@@ -109,6 +116,7 @@ no_spaced_line text word rest (lines.Set file bytes) s cut l life page plain = p
 no_spaced_line text word rest (lines.Within within.Calls) s cut l life page plain = plain (lines.Within within.Calls) tt s
 no_spaced_line text word rest (lines.Within (within.Page n)) s cut l life page plain = page (cut_once 32 word (codes "page") rest s.0 l page_lacks (sym cut ∙ s.1)).0
 no_spaced_line text word rest (lines.Within within.Redo) s cut l life page plain = lacks_mid 32 word rest (subst (λ (t : List ℕ). Lacks 32 t) (sym s ∙ cut) redo_lacks)
+no_spaced_line text word rest (lines.Within within.Log) s cut l life page plain = lacks_mid 32 word rest (subst (λ (t : List ℕ). Lacks 32 t) (sym s ∙ cut) log_lacks)
 no_spaced_line text word rest (lines.Within (within.Step step)) s cut l life page plain = plain (lines.Within (within.Step step)) tt s
 no_spaced_line text word rest (lines.Stop stop) s cut l life page plain = plain (lines.Stop stop) tt s
 
@@ -119,6 +127,7 @@ life_said rest (lines.Set file bytes) s = let e : Sets ≡ Begins = store_kind (
 life_said rest (lines.Within within.Calls) s = let e : Counts ≡ Begins = store_kind (codes "life" ++ rest) (lines.Within within.Calls) s in absurd (cc)
 life_said rest (lines.Within (within.Page page)) s = let e : Counts ≡ Begins = store_kind (codes "life" ++ rest) (lines.Within (within.Page page)) s in absurd (cc)
 life_said rest (lines.Within within.Redo) s = let e : Counts ≡ Begins = store_kind (codes "life" ++ rest) (lines.Within within.Redo) s in absurd (cc)
+life_said rest (lines.Within within.Log) s = let e : Counts ≡ Begins = store_kind (codes "life" ++ rest) (lines.Within within.Log) s in absurd (cc)
 life_said rest (lines.Within (within.Step step)) s = let e : Steps ≡ Begins = store_kind (codes "life" ++ rest) (lines.Within (within.Step step)) s in absurd (cc)
 life_said rest (lines.Stop stop) s = let e : Stops ≡ Begins = store_kind (codes "life" ++ rest) (lines.Stop stop) s in absurd (cc)
 
@@ -129,5 +138,6 @@ page_said rest (lines.Life options) s = let e : Begins ≡ Counts = store_kind (
 page_said rest (lines.Set file bytes) s = let e : Sets ≡ Counts = store_kind (codes "page " ++ rest) (lines.Set file bytes) s in absurd (cc)
 page_said rest (lines.Within within.Calls) s = let e = ap (λ (t : List ℕ). slice_index t 0) s in absurd (omega (arith, e))
 page_said rest (lines.Within within.Redo) s = let e = ap (λ (t : List ℕ). slice_index t 0) s in absurd (omega (arith, e))
+page_said rest (lines.Within within.Log) s = let e = ap (λ (t : List ℕ). slice_index t 0) s in absurd (omega (arith, e))
 page_said rest (lines.Within (within.Step step)) s = let e : Steps ≡ Counts = store_kind (codes "page " ++ rest) (lines.Within (within.Step step)) s in absurd (cc)
 page_said rest (lines.Stop stop) s = let e : Stops ≡ Counts = store_kind (codes "page " ++ rest) (lines.Stop stop) s in absurd (cc)

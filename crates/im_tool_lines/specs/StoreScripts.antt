@@ -1,5 +1,5 @@
 -- The lines of scripts of lives of a store, and what script they make.
-use Rattle.std.specs.Prelude.{◌≡◌, ◌≢◌, ◌⊎◌, ℕ, List, [], ◌∷◌, ◌++◌, map, codes, Option, Some, None}
+use Rattle.std.specs.Prelude.{◌≡◌, ◌≢◌, ◌⊎◌, ℕ, Bool, true, false, List, [], ◌∷◌, ◌++◌, map, codes, Option, Some, None}
 use Rattle.std.specs.Global.{Vec}
 use Rattle.im_base_types.specs.declared.file_id.FileId.{FileId}
 use Rattle.im_base_disk.specs.Disk.{both, three}
@@ -16,29 +16,41 @@ use Rattle.im_tool_lines.specs.Lines.{Spells}
 use Rattle.im_tool_words.specs.Steps.{SpellsStep}
 use Rattle.im_tool_lines.specs.Scripts.{Kind, Sets, Begins, Counts, Steps, Stops, Before, MayStand, SaysBy, IsFirstBadBy, files_set}
 
--- An option of a life: nothing, where it is left out, or a space, its name, a space and its number.
-abbrev pub SpellsOption : List ℕ → List ℕ → Option ℕ → Type 0
-SpellsOption name text None = text ≡ []
-SpellsOption name text (Some n) = (word : List ℕ) × (text ≡ 32 ∷ (name ++ 32 ∷ word)) × IsNumber word n
+-- What an option of a life says: a number, unless it is left out, or by a word alone that it stands there.
+pub data OptionSaid : Type 0 where
+  Number : Option ℕ → OptionSaid
+  Word : Bool → OptionSaid
+
+-- An option of a life: nothing, where it is left out, or a space and its name, and behind it, where it has one, a space and its number.
+abbrev pub SpellsOption : List ℕ → List ℕ → OptionSaid → Type 0
+SpellsOption name text (Number None) = text ≡ []
+SpellsOption name text (Number (Some n)) = (word : List ℕ) × (text ≡ 32 ∷ (name ++ 32 ∷ word)) × IsNumber word n
+SpellsOption name text (Word false) = text ≡ []
+SpellsOption name text (Word true) = text ≡ 32 ∷ name
+
+-- nothing, or a space and more
+abbrev pub IsTail : List ℕ → Type 0
+IsTail text = (text ≡ []) ⊎ ((rest : List ℕ) × (text ≡ 32 ∷ rest))
 
 -- What may stand behind an option of this name: nothing, or what begins with another name.
 abbrev pub IsBehindOption : List ℕ → List ℕ → Type 0
-IsBehindOption name text = (text ≡ []) ⊎ ((other : List ℕ) × (rest : List ℕ) × (text ≡ 32 ∷ (other ++ 32 ∷ rest)) × Lacks 32 other × (other ≢ name))
+IsBehindOption name text = (text ≡ []) ⊎ ((other : List ℕ) × (rest : List ℕ) × (text ≡ 32 ∷ (other ++ rest)) × IsTail rest × Lacks 32 other × (other ≢ name))
 
 -- The text begins with this option, and this is left behind it.
-pub record IsOption (name text : List ℕ) (option : Option ℕ) (left : List ℕ) : Type 0 where
+pub record IsOption (name text : List ℕ) (option : OptionSaid) (left : List ℕ) : Type 0 where
   pub front : List ℕ
   pub is : text ≡ front ++ left
   pub spelled : SpellsOption name front option
 
 -- Options of these names, in this order.
-abbrev pub SpellsOptions : List (List ℕ × Option ℕ) → List ℕ → Type 0
+abbrev pub SpellsOptions : List (List ℕ × OptionSaid) → List ℕ → Type 0
 SpellsOptions [] text = text ≡ []
 SpellsOptions (option ∷ more) text = (left : List ℕ) × IsOption option.0 text option.1 left × SpellsOptions more left
 
--- The options of a life in their order, each by its name: the number of frames, the most pages, and the device call and the read that fail.
-abbrev pub named_options : LifeOptions → List (List ℕ × Option ℕ)
-named_options o = (codes "frames", o.frames) ∷ (codes "max", o.max_pages) ∷ (codes "fail", o.failing_call) ∷ (codes "failread", o.failing_read) ∷ []
+-- The options of a life in their order, each by its name: the number of frames, the most pages, the device call and the read that fail, and whether Commits wait for a force.
+abbrev pub named_options : LifeOptions → List (List ℕ × OptionSaid)
+named_options o =
+    (codes "frames", Number o.frames) ∷ (codes "max", Number o.max_pages) ∷ (codes "fail", Number o.failing_call) ∷ (codes "failread", Number o.failing_read) ∷ (codes "group", Word o.group) ∷ []
 
 -- `life`, and then its options.
 abbrev pub SpellsLife : List ℕ → LifeOptions → Type 0
@@ -51,14 +63,16 @@ SpellsStore text (lines.Set file bytes) = Spells text (raws.Set file bytes)
 SpellsStore text (lines.Within within.Calls) = Spells text raws.Calls
 SpellsStore text (lines.Within (within.Page page)) = (rest : List ℕ) × (text ≡ codes "page " ++ rest) × IsPageNumber rest page
 SpellsStore text (lines.Within within.Redo) = text ≡ codes "redo"
+SpellsStore text (lines.Within within.Log) = text ≡ codes "log"
 SpellsStore text (lines.Within (within.Step step)) = SpellsStep text step
 SpellsStore text (lines.Stop stop) = Spells text (raws.Stop stop)
 
--- a line that is none of `life`, `page` and `redo`
+-- a line that is none of `life`, `page`, `redo` and `log`
 abbrev pub IsPlainLine : StoreScriptLine → Type 0
 IsPlainLine (lines.Life options) = ⊥
 IsPlainLine (lines.Within (within.Page page)) = ⊥
 IsPlainLine (lines.Within within.Redo) = ⊥
+IsPlainLine (lines.Within within.Log) = ⊥
 IsPlainLine _ = Unit {0}
 
 -- `life` begins a life as `raw` does, and a step stands where a put does.
@@ -68,6 +82,7 @@ store_kind_of (lines.Set file bytes) = Sets
 store_kind_of (lines.Within within.Calls) = Counts
 store_kind_of (lines.Within (within.Page page)) = Counts
 store_kind_of (lines.Within within.Redo) = Counts
+store_kind_of (lines.Within within.Log) = Counts
 store_kind_of (lines.Within (within.Step step)) = Steps
 store_kind_of (lines.Stop stop) = Stops
 

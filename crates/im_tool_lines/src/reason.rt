@@ -46,7 +46,7 @@ fn usage_of(word: &[u8]) -> &'static str {
         b"raw" => "`raw` stands alone, and not in a script with `life`",
         b"put" => "`put HEX` stands in a life that `raw` begins",
         b"life" =>
-            "`life`, and behind it `frames N`, `max N`, `fail N` and `failread N` in this order, not in a script with `raw`",
+            "`life`, and behind it `frames N`, `max N`, `fail N`, `failread N` and `group` in this order, not in a script with `raw`",
         b"stop" =>
             "`stop N long|short HEX|written`, where N is `end` or a number, stands last in a life",
         b"calls" => "`calls` stands alone, in a life",
@@ -65,6 +65,7 @@ fn usage_of(word: &[u8]) -> &'static str {
         b"checkpoint" => "`checkpoint` stands alone, in a life",
         b"page" => "`page PAGE`, in a life",
         b"redo" => "`redo` stands alone, in a life",
+        b"log" => "`log` stands alone, in a life",
         _ => "no line begins with this word",
     }
 }

@@ -1,9 +1,9 @@
 //! The lines that scripts of lives of a store may have.
 
-ghost use Rattle.std.specs.Prelude.{◌≡◌, ◌≢◌, ◌⊎◌, ◌++◌, ◌↔◌, ℕ, List, Option, true, codes, IfOk, IfErr};
+ghost use Rattle.std.specs.Prelude.{◌≡◌, ◌≢◌, ◌⊎◌, ◌++◌, ◌↔◌, ℕ, Bool, List, Option, true, codes, IfOk, IfErr};
 ghost use Rattle.im_base_types.specs.declared.fault.Fault.TheVariants.{BadScript, Memory};
 ghost use Rattle.im_tool_lines.specs.declared.store_script_line.StoreScriptLine.{StoreScriptLine};
-ghost use Rattle.im_tool_lines.specs.StoreScripts.{SpellsStore, IsOption, IsBehindOption, IsPlainLine};
+ghost use Rattle.im_tool_lines.specs.StoreScripts.{SpellsStore, IsOption, IsBehindOption, IsPlainLine, Number, Word};
 ghost use Rattle.im_tool_words.specs.Words.{Lacks};
 ghost use Rattle.im_tool_lines.specs.Lines.{behind_word};
 
@@ -47,6 +47,9 @@ fn lone_line(alloc: Global, word: &[u8]) -> Result<StoreScriptLine, Fault>
     if word == b"redo".as_slice() {
         return Ok(StoreScriptLine::Within(StoreLine::Redo));
     }
+    if word == b"log".as_slice() {
+        return Ok(StoreScriptLine::Within(StoreLine::Log));
+    }
     plain_line(alloc, word)
 }
 
@@ -60,6 +63,7 @@ fn life_line(words: Option<&[u8]>) -> Result<StoreScriptLine, Fault>
     let (max_pages, words) = option_of(b"max".as_slice(), words)?;
     let (failing_call, words) = option_of(b"fail".as_slice(), words)?;
     let (failing_read, words) = option_of(b"failread".as_slice(), words)?;
+    let (group, words) = word_of(b"group".as_slice(), words);
     if words.is_some() {
         return Err(Fault::BadScript);
     }
@@ -68,6 +72,7 @@ fn life_line(words: Option<&[u8]>) -> Result<StoreScriptLine, Fault>
         max_pages,
         failing_call,
         failing_read,
+        group,
     }))
 }
 
@@ -78,10 +83,10 @@ fn option_of<'a>(
     words: Option<&'a [u8]>,
 ) -> Result<(Option<u64>, Option<&'a [u8]>), Fault>
     requires { Lacks 32 name.now }
-    ensures says { IfOk result (λ said. IsOption name.now (behind_word words.entry) said.0 (behind_word said.1)) }
-    ensures once { IfOk result (λ said. (option : Option ℕ) (left : List ℕ) → IsOption name.now (behind_word words.entry) option left → IsBehindOption name.now left
+    ensures says { IfOk result (λ said. IsOption name.now (behind_word words.entry) (Number said.0) (behind_word said.1)) }
+    ensures once { IfOk result (λ said. (option : Option ℕ) (left : List ℕ) → IsOption name.now (behind_word words.entry) (Number option) left → IsBehindOption name.now left
         → (option ≡ said.0) × (left ≡ behind_word said.1)) }
-    ensures refused { IfErr result (λ e. (option : Option ℕ) (left : List ℕ) → IsBehindOption name.now left → ¬ (IsOption name.now (behind_word words.entry) option left)) }
+    ensures refused { IfErr result (λ e. (option : Option ℕ) (left : List ℕ) → IsBehindOption name.now left → ¬ (IsOption name.now (behind_word words.entry) (Number option) left)) }
     ensures cause { IfErr result (λ e. e ≡ BadScript) }
 {
     let Some(text) = words else {
@@ -97,6 +102,23 @@ fn option_of<'a>(
     let (digits, more) = first_piece(rest, b' ');
     let number = count_of(digits)?;
     Ok((Some(number), more))
+}
+
+// Whether the words begin with the option of this name that is a word alone, and the words behind it.
+fn word_of<'a>(name: &[u8], words: Option<&'a [u8]>) -> (bool, Option<&'a [u8]>)
+    requires { Lacks 32 name.now }
+    ensures says { IsOption name.now (behind_word words.entry) (Word result.0) (behind_word result.1) }
+    ensures once { (option : Bool) (left : List ℕ) → IsOption name.now (behind_word words.entry) (Word option) left → IsBehindOption name.now left
+        → (option ≡ result.0) × (left ≡ behind_word result.1) }
+{
+    let Some(text) = words else {
+        return (false, None);
+    };
+    let (word, rest) = first_piece(text, b' ');
+    if !is_word(word, name) {
+        return (false, words);
+    }
+    (true, rest)
 }
 
 // The word is this name.

@@ -15,6 +15,8 @@ pub enum StoreLine {
     Page(PageNo),
     /// Prints what redo did in the life's opening.
     Redo,
+    /// Prints where the log ends.
+    Log,
 }
 
 /// How the store of a life is opened.
@@ -28,6 +30,8 @@ pub struct LifeOptions {
     pub failing_call: Option<u64>,
     /// The number of the read or length call that fails, counted from 1; none where none does.
     pub failing_read: Option<u64>,
+    /// Whether a Commit waits for a force.
+    pub group: bool,
 }
 
 /// A life of a store: it is opened, and then its lines are run in turn.

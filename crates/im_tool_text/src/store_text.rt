@@ -42,6 +42,7 @@ fn print_store_life<W: Write>(
                 print_header(writer, *page, *header)?;
             }
             StoreReply::Redo(report) => report_text(writer, report.point, report.applied)?,
+            StoreReply::Log(gate) => writeln!(writer, "log {}", gate.saturating_add(1))?,
             StoreReply::Refused(fault) => writeln!(writer, "refused {}", fault.number())?,
             StoreReply::Stopped => writeln!(writer, "stopped")?,
         }

@@ -8,3 +8,4 @@ pub mod NextNames
 pub mod Ranges
 pub mod Quiet
 pub mod HeldTrees
+pub mod Beside

@@ -4,3 +4,4 @@ pub mod Found
 pub mod NextKeys
 pub mod Ranges
 pub mod HeldPages
+pub mod Beside

@@ -48,7 +48,7 @@ pub use entry_place::EntryPlace;
 pub use leaf_chain::next_entry;
 pub use levels::{has_level, tree_page};
 pub use listing::entries;
-pub use lookup::locate;
+pub use lookup::{locate, value_of};
 pub use next_key::{NextKey, leaf_and_next, next_in_leaf};
 pub use range::entries_between;
 pub use reading::{child_in, child_of, level_of};

@@ -14,8 +14,8 @@ use im_base_types::{Fault, Rid};
 use im_page::Page;
 use im_page_writer::PageWriter;
 
-// What a page has of a key.
-fn value_of(page: &Page, key: &[u8]) -> Option<u64>
+/// What a page has of a key.
+pub fn value_of(page: &Page, key: &[u8]) -> Option<u64>
     ensures { result ≡ find key_order key.now page.now.body.entries }
 {
     page.content();

@@ -1,6 +1,5 @@
 //! `imload [--threads N] [--txns M] [--flush F] [--group] [--time]`: threads that make transactions at once on one store, whose files
-//! are in memory; with `--group` on a store that keeps a map in memory, as the engine lets no Commit wait for a force. On a
-//! terminal it says on standard error which threads have begun.
+//! are in memory; with `--group` each Commit waits for a force. On a terminal it says on standard error which threads have begun.
 #![tactic(auto)]
 
 mod progress;
@@ -12,7 +11,6 @@ use clap::error::ErrorKind;
 use im_base_steps::Turn;
 use im_front::LoadArgs;
 use im_front_load::{load_args, load_text, print_refused};
-use im_front_memory::MemoryStore;
 use std::alloc::{AllocError, Global};
 use std::io::Write;
 use std::process::ExitCode;
@@ -51,11 +49,7 @@ fn run_load<T: Turn + Sync, R: Threads + Wait + Sync, W: Write>(
     turn: &T,
     writer: &mut W,
 ) -> io::Result<u8> {
-    if args.group() {
-        let store = MemoryStore::with_group(alloc, true);
-        return load_text(rt, alloc, store, args, turn, writer);
-    }
-    match new_store(alloc) {
+    match new_store(alloc, args.group()) {
         Ok(engine) => load_text(rt, alloc, engine, args, turn, writer),
         Err(fault) => print_refused(fault, writer),
     }

@@ -1,6 +1,6 @@
 //! The store of a load.
 
-ghost use Rattle.std.specs.Prelude.{IfOk};
+ghost use Rattle.std.specs.Prelude.{◌≡◌, IfOk};
 ghost use Rattle.im_front.specs.Held.{IsResting};
 
 use im_base_model_disk::ModelDisk;
@@ -9,13 +9,16 @@ use im_base_types::Fault;
 use im_engine::{Config, Engine, every_list_of_lives};
 use std::alloc::Global;
 
-/// A new store at rest, whose files are a model disk in memory. Refused as an opening is.
-pub(crate) fn new_store(alloc: Global) -> Result<Engine<ModelDisk>, Fault>
+/// A new store at rest, whose files are a model disk in memory, and in which Commits wait for a force or do not. Refused as an opening is.
+pub(crate) fn new_store(alloc: Global, group: bool) -> Result<Engine<ModelDisk>, Fault>
     ensures resting { IfOk result (λ e. IsResting ⟦<Engine<ModelDisk> as Store>⟧ e) }
+    ensures group { IfOk result (λ e. e.txns.group ≡ group) }
 {
     every_list_of_lives();
     let disk = ModelDisk::new(Vec::new(alloc), Vec::new(alloc));
-    match Engine::open_or_create(alloc, disk, Config::default()) {
+    let mut config = Config::default();
+    config.group = group;
+    match Engine::open_or_create(alloc, disk, config) {
         Ok(engine) => Ok(engine),
         Err((fault, _disk)) => Err(fault),
     }

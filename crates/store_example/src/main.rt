@@ -1,18 +1,17 @@
 //! How a program keeps keys in a folder: it opens the store, makes a transaction, and lists what is there; and, in `threads`, how threads share one.
 #![tactic(auto)]
 
-ghost use Rattle.std.specs.Prelude.{IfOk};
-ghost use Rattle.im_front.specs.Held.{IsResting};
-
 mod threads;
 
 use im_base_file_disk::FileDisk;
-use im_base_steps::{Reply, Step, Store};
+use im_base_steps::{Reply, Step};
 use im_engine::{Config, Engine};
+use im_front::Open;
+use im_open::open;
 use std::fs;
-use std::marker::Brand;
-use std::sync::ledger::Blank;
-use threads::{share, show};
+use std::sync::Wait;
+use std::thread::Threads;
+use threads::{insert_all, show};
 
 const ALONE: &str = "store_example_files";
 
@@ -21,35 +20,35 @@ const SHARED: &str = "store_example_threads";
 fn main(rt: HostRuntime) -> anyhow::Result<()> {
     alone(&rt)?;
     fs::remove_dir_all(&rt, ALONE)?;
-    let engine = open_store(&rt, SHARED)?;
-    let blank = Blank::new(1024);
-    let (stats, closed) = share::<Engine<FileDisk>, Brand, HostRuntime>(
-        &rt,
-        rt.alloc(),
-        engine,
-        blank,
-    )?;
-    show(&rt, stats, closed, SHARED)?;
+    together(&rt, &rt)?;
     fs::remove_dir_all(&rt, SHARED)?;
     Ok(())
 }
 
-/// The store in a folder, or a new one. No transaction is active in it.
-pub fn open_store(rt: &HostRuntime, folder: &str) -> anyhow::Result<Engine<FileDisk>>
-    ensures { IfOk result (λ engine. IsResting ⟦<Engine<FileDisk> as Store>⟧ engine) }
-{
-    let disk = FileDisk::open(rt, folder)?;
-    match Engine::open_or_create(rt.alloc(), disk, Config::default()) {
-        Ok(engine) => Ok(engine),
-        Err((fault, _disk)) => Err(anyhow::Error::from(fault)),
+// One transaction, and the entries behind it.
+fn alone(rt: &HostRuntime) -> anyhow::Result<()> {
+    let mut engine = open(rt, ALONE, Config::default())?.into_engine();
+    insert(rt, &mut engine)?;
+    list(rt, &mut engine)
+}
+
+// With group commit: one force serves all threads that commit meanwhile.
+fn grouped() -> Config {
+    Config {
+        frames: 64,
+        max_pages: 1_000_000,
+        group: true,
     }
 }
 
-// One transaction, and the entries behind it.
-fn alone(rt: &HostRuntime) -> anyhow::Result<()> {
-    let mut engine = open_store(rt, ALONE)?;
-    insert(rt, &mut engine)?;
-    list(rt, &mut engine)
+// Threads that commit in one store. They are started, and waited for, by `threads` alone.
+fn together<R: Threads + Wait + Sync>(rt: &HostRuntime, threads: &R) -> anyhow::Result<()> {
+    let front = match Open::new(rt.alloc(), open(rt, SHARED, grouped())?) {
+        Ok(front) => front,
+        Err((fault, _at_rest)) => return Err(anyhow::Error::from(fault)),
+    };
+    let stats = insert_all(threads, rt.alloc(), &front);
+    show(rt, stats?, front.close(), SHARED)
 }
 
 // Inserts a key and commits, by steps of the engine.

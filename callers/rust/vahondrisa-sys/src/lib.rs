@@ -17,7 +17,7 @@ pub const VAH_KEY_MAX: usize = 255;
 pub const VAH_SCAN_MAX: usize = 256;
 
 #[repr(C)]
-#[derive(Clone, Copy)]
+#[derive(Clone, Copy, Debug)]
 pub struct vah_entry {
     pub number: u64,
     pub len: u8,

@@ -94,6 +94,10 @@ fn a_range_goes_on_past_256_entries() {
     for (from, to) in [(0u64, 767u64), (0, 255), (0, 256), (1, 256), (0, 511), (0, 512), (5, 5), (9, 3)] {
         let found: Vec<u64> = txn.range(&from.to_be_bytes(), &to.to_be_bytes()).map(|it| it.unwrap().1).collect();
         assert_eq!(found, (from..=to).collect::<Vec<_>>());
+        for batch in [0, 2, 3, 255] {
+            let range = txn.range(&from.to_be_bytes(), &to.to_be_bytes()).batch(batch);
+            assert!(range.map(|it| it.unwrap().1).eq(from..=to), "{batch}");
+        }
     }
     assert_eq!(txn.next(&766u64.to_be_bytes()).unwrap().unwrap().1, 767);
     assert!(txn.next(&767u64.to_be_bytes()).unwrap().is_none());

@@ -4,9 +4,7 @@ ghost use Rattle.std.specs.Prelude.{◌≡◌, false, OnOk};
 ghost use Rattle.im_base_disk.specs.Runs.{IsSynced};
 ghost use Rattle.im_log.specs.LogFile.{IsOpen};
 
-use crate::log::work::{
-    BATCH, append_many, copy_by_hand, force_many, put_by_hand, read_many, scan_all,
-};
+use crate::log::work::{BATCH, append_many, copy_by_hand, force_many, put_by_hand, read_many};
 use anyhow::Result;
 use im_base_disk::Disk;
 use im_base_model_disk::ModelDisk;
@@ -82,11 +80,8 @@ fn print_times_of<D: Disk>(
     let append = append_nanos(rt, log, disk, batches)?;
     append_many(log, disk, BATCH)?;
     let (durable, waiting) = read_nanos(rt, log, disk, batches.saturating_mul(BATCH))?;
-    let start = Instant::now(rt)?;
-    let records = scan_all(rt.alloc(), log, disk)?;
-    let scan = nanos_each(rt, &start, records)?;
     println!(rt;
-        "{batches} batches: a record is appended in {append} ns, read from the buffer in {waiting} and from the file in {durable}, passed by a scan in {scan}"
+        "{batches} batches: a record is appended in {append} ns, read from the buffer in {waiting} and from the file in {durable}"
     )?;
     Ok(())
 }

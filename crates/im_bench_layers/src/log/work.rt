@@ -104,20 +104,6 @@ fn read_first<D: Disk>(alloc: Global, log: &LogFile, disk: &mut D, count: u64) -
     read_many(log, disk, &mut room, 0, count, count)
 }
 
-/// Reads all durable records in turn, and answers how many there are.
-pub fn scan_all<D: Disk>(alloc: Global, log: &LogFile, disk: &mut D) -> Result<u64, Fault>
-    requires ready { IsOpen D.Disk log.now disk.old }
-{
-    let mut scan = log.scan_from(alloc, disk, 0)?;
-    for count in 0..u64::MAX {
-        if scan.next(disk)?.is_none() {
-            return Ok(count);
-        }
-        let _ = scan.record()?;
-    }
-    Err(Fault::NotAStore)
-}
-
 /// Copies the bytes of one record so many times, one behind another into the room, and from its front again where it is
 /// full.
 pub fn copy_by_hand(record: &[u8; 50], room: &mut [u8; LONGEST_BATCH], count: u64) -> u64 {
@@ -146,14 +132,13 @@ pub fn put_by_hand<D: Disk>(disk: &mut D, count: u64) -> Result<(), Fault>
     Ok(())
 }
 
-/// What came of appending so many records, reading each of them, forcing and scanning.
+/// What came of appending so many records, reading each of them and forcing.
 #[derive(Drop)]
 pub struct Counts {
     pub durable_end: Lsn,
     pub waiting: usize,
     pub read: u64,
     pub end: Lsn,
-    pub scanned: u64,
 }
 
 /// Does each work once in a new log.
@@ -180,12 +165,10 @@ fn counted_in<D: Disk>(
     let read = read_first(alloc, log, disk, count)?;
     log.force(disk)?;
     let end = log.durable_end();
-    let scanned = scan_all(alloc, log, disk)?;
     Ok(Counts {
         durable_end,
         waiting,
         read,
         end,
-        scanned,
     })
 }

@@ -46,6 +46,7 @@ const MOST_CALLS: u64 = 10_000;
 const CONFIG: Config = Config {
     frames: 8,
     max_pages: 1_000_000,
+    group: false,
 };
 
 /// What is stopped.

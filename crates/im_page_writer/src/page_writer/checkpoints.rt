@@ -10,7 +10,7 @@ ghost use Rattle.im_log_record.specs.Entry.{Checkpoint};
 ghost use Rattle.im_log_record.specs.Spelling.{Rise, size_of};
 ghost use Rattle.im_log.specs.LogFile.{end_with, IsOpen, IsLog};
 ghost use Rattle.im_log.specs.Kept.{AppendKept};
-ghost use Rattle.im_page_file.specs.Imaging.{Appends};
+ghost use Rattle.im_log.specs.Outcome.{LacksRoom, LogOutcome};
 ghost use Rattle.im_page_writer.specs.Outcome.{fault_of};
 
 use crate::PageWriter;
@@ -98,11 +98,9 @@ fn append_tables<'a, D: Disk>(
     requires dirty_most { length dirty.now ≤ 1024 }
     requires dirty_rise { Rise (λ r. r.page) None dirty.now }
     requires ready { IsOpen D.Disk log.old disk.old }
-    ensures outcome { log.old.failed ≡ false → Appends D.Disk log.new disk.new (fault_of result) }
+    ensures outcome { LogOutcome D.Disk (LacksRoom (size_of (Checkpoint next active.now dirty.now)) log.new) log.old disk.old log.new disk.new (fault_of result) }
     ensures kept { (base : ℕ) (all durable : List Logged) → IsLog D.Disk base all durable log.old disk.old
         → AppendKept D.Disk base all durable (Checkpoint next active.now dirty.now) disk.old log.new disk.new result }
-    ensures changes { ChangesOnly D.Disk Log disk.old disk.new }
-    ensures few { CostsAtMost D.Disk 2 2 disk.old disk.new }
     ensures full { result ≡ Err LogFull ↔ ((log.old.failed ≡ false) × (2 ^ 62 < end_with log.old (size_of (Checkpoint next active.now dirty.now)))) }
 {
     let record = Record::checkpoint(next, active, dirty);

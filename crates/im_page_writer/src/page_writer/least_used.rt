@@ -1,16 +1,22 @@
 //! Pages that are written before their turn, so that those that go one after another from a full pool share a force of the log.
-ghost use Rattle.std.specs.Prelude.{◌≡◌, ◌≤◌, ℕ, false, OnOk};
+ghost use Rattle.std.specs.Prelude.{◌≡◌, ◌≤◌, ℕ, false, length, OnOk};
 ghost use Rattle.im_theory_log.specs.Histories.{Base};
 ghost use Rattle.im_theory_log.specs.Writer.{Writer};
 
 use crate::PageWriter;
 use crate::image_range::note_in_file;
 use im_base_disk::Disk;
-use im_base_types::{Fault, IMAGE_SIZE, PageNo};
+use im_base_types::{Fault, IMAGE_SIZE, LONGEST_BATCH, MOST_DIRTY, PageNo};
 use im_page_pool::Frame;
 
-/// How many pages are written at once at most.
+/// How many pages are written at once at most, where the log's buffer holds one batch.
 const AT_ONCE: usize = 8;
+
+/// The same where it holds several.
+const MOST_AT_ONCE: usize = 64;
+
+/// Half of the dirty table's entries.
+pub(super) const HALF: usize = MOST_DIRTY / 2;
 
 impl PageWriter {
     ghost use Rattle.im_page_pool.specs.Pool.{IsAt};
@@ -19,8 +25,8 @@ impl PageWriter {
     ghost use Rattle.im_page_writer.specs.Writing.{SameHeld};
 
     /// Flushes a held page, as `flush_one` does. Where that forces the log, other changed pages go with it, of the half of the frames that
-    /// were used least recently: the first eight, without those whose Image is wanted and does not fit into the log's buffer any more,
-    /// or that the file does not have. So one force serves them all. The order of use stays.
+    /// were used least recently: the first eight, or 64 where the log's buffer holds several batches, without those whose Image is wanted
+    /// and does not fit into the buffer any more, or that the file does not have. So one force serves them all. The order of use stays.
     pub(crate) fn flush_with_others<D: Disk>(
         &mut self,
         disk: &mut D,
@@ -51,12 +57,114 @@ impl PageWriter {
         if self.log.waiting() == 0 && self.table.copied(frame.number).is_some() {
             return Ok(());
         }
-        let mut numbers = [0; AT_ONCE];
+        if self.is_unforced(frame) {
+            return Ok(());
+        }
         let among = self.pool.frames() / 2;
-        let count = self.pool.oldest_changes(among, &mut numbers);
+        self.flush_company(disk, among)
+    }
+
+    // Flushes changed pages among so many that were used least recently, in rising number.
+    fn flush_company<D: Disk>(&mut self, disk: &mut D, among: usize) -> Result<(), Fault>
+        requires ready { IsReadyWriter D.Disk self.old disk.old }
+        requires working { self.old.failed ≡ false }
+        ensures outcome { Flushes D.Disk self.old disk.old self.new disk.new (fault_of result) }
+        ensures held { OnOk result (SameHeld self.old.pool self.new.pool) }
+    {
+        let mut numbers = [0; MOST_AT_ONCE];
+        let first = self.pool.oldest_changes(among, &mut numbers[..AT_ONCE]);
+        self.note_copies(disk, &numbers[..first])?;
+        let count = self.more_of(among, first, &mut numbers);
         self.note_copies(disk, &numbers[..count])?;
         numbers[..count].sort_unstable();
         self.flush_copied(disk, &numbers[..count])
+    }
+
+    // The numbers of more such pages, where another batch finds room in the log's buffer, else of as many as there are.
+    fn more_of(&self, among: usize, first: usize, numbers: &mut [PageNo]) -> usize
+        requires first { first ≤ length numbers.old }
+        ensures within { result ≤ length numbers.old }
+        ensures room { length numbers.new ≡ length numbers.old }
+    {
+        if self.takes_more() {
+            self.pool.oldest_changes(among, numbers)
+        } else {
+            first
+        }
+    }
+
+    // Whether something waits in the log's buffer, and another batch finds room there: never where the buffer holds one.
+    fn takes_more(&self) -> bool {
+        self.log.waiting() > 0 && self.log.takes(LONGEST_BATCH)
+    }
+
+    // Whether the flush of a page forces the log.
+    fn wants_force(&self, number: PageNo) -> bool {
+        match self.pool.find(number) {
+            None => false,
+            Some(frame) => self.pool.is_changed(frame) && !self.is_unforced(frame),
+        }
+    }
+
+    /// Flushes a page, as `flush_one` does. Where that forces the log, whose buffer holds several batches, other changed pages go with it:
+    /// the first 64 of those that were used least recently, as `flush_with_others` takes them.
+    ///
+    /// Refused `LogFull`, where an Image would end above LSN 2^62, `Device`, or `Failed` after a call that failed.
+    pub fn flush_in_company<D: Disk>(&mut self, disk: &mut D, number: PageNo) -> Result<(), Fault>
+        requires ready { IsReadyWriter D.Disk self.old disk.old }
+        ensures outcome { Flushes D.Disk self.old disk.old self.new disk.new (fault_of result) }
+        ensures kept { (b : Base) (base : ℕ) (s : Writer) → StandsAs D.Disk b base s self.old disk.old → OnOk result (FlushedOne D.Disk b base s number disk.old self.new disk.new) }
+        ensures held { OnOk result (SameHeld self.old.pool self.new.pool) }
+    {
+        if self.failed {
+            return Err(Fault::Failed);
+        }
+        self.note_with_room(disk, number)?;
+        self.flush_more(disk, number)?;
+        self.flush_one(disk, number)
+    }
+
+    // Flushes other changed pages, where the flush of this one forces the log, whose buffer takes another batch.
+    fn flush_more<D: Disk>(&mut self, disk: &mut D, number: PageNo) -> Result<(), Fault>
+        requires ready { IsReadyWriter D.Disk self.old disk.old }
+        requires working { self.old.failed ≡ false }
+        ensures outcome { Flushes D.Disk self.old disk.old self.new disk.new (fault_of result) }
+        ensures held { OnOk result (SameHeld self.old.pool self.new.pool) }
+    {
+        if !self.takes_more() || !self.wants_force(number) {
+            return Ok(());
+        }
+        let among = self.pool.frames();
+        self.flush_company(disk, among)
+    }
+
+    // Flushes the least recently used page that was changed, if there is one, with others that go next.
+    fn flush_next<D: Disk>(&mut self, disk: &mut D) -> Result<(), Fault>
+        requires ready { IsReadyWriter D.Disk self.old disk.old }
+        requires working { self.old.failed ≡ false }
+        ensures outcome { Flushes D.Disk self.old disk.old self.new disk.new (fault_of result) }
+        ensures held { OnOk result (SameHeld self.old.pool self.new.pool) }
+    {
+        match self.pool.oldest_changed() {
+            None => Ok(()),
+            Some(frame) => self.flush_with_others(disk, frame),
+        }
+    }
+
+    // The same until half of the dirty table's entries are of pages that are written.
+    pub(super) fn flush_half<D: Disk>(&mut self, disk: &mut D) -> Result<(), Fault>
+        requires ready { IsReadyWriter D.Disk self.old disk.old }
+        requires working { self.old.failed ≡ false }
+        ensures outcome { Flushes D.Disk self.old disk.old self.new disk.new (fault_of result) }
+        ensures held { OnOk result (SameHeld self.old.pool self.new.pool) }
+    {
+        for _company in 0..HALF {
+            if self.table.written_count() >= HALF {
+                break;
+            }
+            self.flush_next(disk)?;
+        }
+        Ok(())
     }
 
     // Sees to the full copies of changed pages, as long as their Images fit into the log's buffer.
@@ -104,6 +212,7 @@ impl PageWriter {
             &mut self.spare,
             number,
         )?;
+        self.known.ahead = true;
         self.failed = false;
         Ok(())
     }

@@ -16,24 +16,24 @@ pub returns-in_err-leaf-clause-outcome : goal.returns-in_err-leaf-clause-outcome
 returns-in_err-leaf-clause-outcome g c = refused g.D.Disk c.from_residual.result c.from_residual.ensures.1 (read_more g.D.Disk mild refl c.in_err-leaf.ensures.outcome)
 
 pub returns-in_err-leaf-clause-kept : goal.returns-in_err-leaf-clause-kept
-returns-in_err-leaf-clause-kept g c pages m tree is none = sound_on c.from_residual.result _ _ c.from_residual.ensures.1 (c.in_err-leaf.ensures.kept pages tree)
+returns-in_err-leaf-clause-kept g c pages m tree reached is none = sound_on c.from_residual.result _ _ c.from_residual.ensures.1 (c.in_err-leaf.ensures.kept pages tree reached)
 
 pub returns-in_err-verdict-clause-outcome : goal.returns-in_err-verdict-clause-outcome
 returns-in_err-verdict-clause-outcome g c = refused g.D.Disk c.from_residual-in_err-verdict.result c.from_residual-in_err-verdict.ensures.1 (out_of_memory g.D.Disk c.in_err-verdict.ensures.refused.0 c.in_ok-leaf.ensures.outcome)
 
 pub returns-in_err-verdict-clause-kept : goal.returns-in_err-verdict-clause-kept
-returns-in_err-verdict-clause-kept g c pages m tree is none = sound_on c.from_residual-in_err-verdict.result _ _ c.from_residual-in_err-verdict.ensures.1 (memory_not _ c.in_err-verdict.ensures.refused.0)
+returns-in_err-verdict-clause-kept g c pages m tree reached is none = sound_on c.from_residual-in_err-verdict.result _ _ c.from_residual-in_err-verdict.ensures.1 (memory_not _ c.in_err-verdict.ensures.refused.0)
 
 pub returns-clause-outcome : goal.returns-clause-outcome
 returns-clause-outcome g c = read_more g.D.Disk mild refl c.in_ok-leaf.ensures.outcome
 
 pub returns-clause-kept : goal.returns-clause-kept
-returns-clause-kept g c pages m tree is none =
-    let r = c.in_ok-leaf.ensures.kept pages tree in
+returns-clause-kept g c pages m tree reached is none =
+    let r = c.in_ok-leaf.ensures.kept pages tree reached in
     let key = c.args.key.now in
     let p = c.in_ok-leaf.leaf.number in
     let name : named c.name_in.result ≡ next_name m key =
-    c.name_in.ensures ∙ ap (λ (x : Page). name_in x.body.entries c.in_ok-leaf.next) c.page.ensures.page ∙ next_is m (walk (bodies_of pages)) key c.leaf_and_next.new.writer.pool p c.in_ok-leaf.next is r.name in
+    c.name_in.ensures ∙ ap (λ (x : Page). name_in x.body.entries c.in_ok-leaf.next) c.page.ensures.page ∙ next_is m (walk (bodies_of pages)) key c.next_in_leaf.new.writer.pool p c.in_ok-leaf.next is r.name in
     let asks = ap row c.as_slice.ensures ∙ c.fetch_row-row.ensures m (finds_gap m key (named c.name_in.result) none name) in
     record {
       decides = decided_as c.args.locks.now c.try_all.new.self c.args.transaction _ (asked (Fetch key) m) c.in_ok-verdict.verdict c.outcome_of.result c.in_ok-verdict.ensures.decided asks c.outcome_of.ensures.verdict;
@@ -41,10 +41,10 @@ returns-clause-kept g c pages m tree is none =
     }
 
 pub returns-in_err-leaf-clause-quiet : goal.returns-in_err-leaf-clause-quiet
-returns-in_err-leaf-clause-quiet g c set working on = c.in_err-leaf.ensures.quiet set working on
+returns-in_err-leaf-clause-quiet g c set on within = c.in_err-leaf.ensures.quiet set on within
 
 pub returns-in_err-verdict-clause-quiet : goal.returns-in_err-verdict-clause-quiet
-returns-in_err-verdict-clause-quiet g c set working on = c.in_ok-leaf.ensures.quiet set working on
+returns-in_err-verdict-clause-quiet g c set on within = c.in_ok-leaf.ensures.quiet set on within
 
 pub returns-clause-quiet : goal.returns-clause-quiet
-returns-clause-quiet g c set working on = c.in_ok-leaf.ensures.quiet set working on
+returns-clause-quiet g c set on within = c.in_ok-leaf.ensures.quiet set on within

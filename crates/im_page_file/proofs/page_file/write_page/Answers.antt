@@ -1,6 +1,7 @@
 use Rattle.std.proofs.Common.{rules, ◌≡◌, ◌*◌, ◌≤◌, true, length, sym, ◌∙◌}
 use Rattle.im_base_types.specs.declared.file_id.FileId.TheVariants.{Pages}
 use Rattle.im_theory_log.specs.WriterSteps.{written_entry}
+use Rattle.im_theory_log.proofs.WriterWrites.{written_kept}
 use Rattle.im_theory_page.proofs.PageFileLemmas.{place_within}
 use Rattle.im_page_table.specs.DirtyTable.{has_room, ChangesEntry}
 use Rattle.im_page_file.proofs.Standing.{open_written, stands_written, write_stops}
@@ -11,7 +12,7 @@ pub returns-in_err-write-clause-kept : goal.returns-in_err-write-clause-kept
 returns-in_err-write-clause-kept g c b base s log st may = record {
   ok = search rules;
   entries = search rules;
-  stops = write_stops g.D.Disk b base s log c.args.table.now c.args.disk.now st c.args.page c.args.lsn (length c.args.bytes.now) c.write.new.disk c.requires.whole may.may c.write.ensures.any_moment;
+  stops = write_stops g.D.Disk b base s log c.args.table.now c.args.disk.now st c.args.page c.args.lsn (length c.args.bytes.now) c.write.new.disk c.requires.whole (written_kept b s c.args.page c.args.lsn st.kept may.may) c.write.ensures.any_moment;
 }
 
 pub returns-clause-kept : goal.returns-clause-kept
@@ -24,7 +25,7 @@ returns-clause-kept g c b base s log st may =
       ok = stands_written g.D.Disk b base s log c.args.table.now c.args.disk.now st c.args.page c.args.lsn c.args.bytes.now c.write-entered.new.self c.write.new.disk may place c.requires.whole (c.in_ok-write.ensures.written told)
           c.write.ensures.crash c.write.ensures.changes c.in_ok-write.ensures.answers.noted table.table enters;
       entries = λ entered has. entries_written s.pages c.args.page c.args.lsn c.args.table.now c.write-entered.new.self may.entry table.table enters (sym table.entered ∙ entered) has;
-      stops = write_stops g.D.Disk b base s log c.args.table.now c.args.disk.now st c.args.page c.args.lsn (length c.args.bytes.now) c.write.new.disk c.requires.whole may.may c.write.ensures.any_moment;
+      stops = write_stops g.D.Disk b base s log c.args.table.now c.args.disk.now st c.args.page c.args.lsn (length c.args.bytes.now) c.write.new.disk c.requires.whole (written_kept b s c.args.page c.args.lsn st.kept may.may) c.write.ensures.any_moment;
     }
 
 pub returns-in_err-write-clause-ready : goal.returns-in_err-write-clause-ready

@@ -1,9 +1,9 @@
-use Rattle.std.proofs.Common.{Err, ap, rules, ◌+◌, ◌-◌}
+use Rattle.std.proofs.Common.{rules, ◌+◌, ◌-◌}
 use Rattle.im_page_file.proofs.Standing.{log_stops}
 use Rattle.im_page_writer.proofs.Goings.{leaves_last, leaves_so_far}
 use Rattle.im_page_writer.proofs.Imaging.{goes_forced, images_durable}
 use Rattle.im_page_file.proofs.ImageCalls.{force_lost, imaging_refused, imaging_then}
-use Rattle.im_page_file.proofs.LogEnds.{ends_forced, still_working}
+use Rattle.im_page_file.proofs.LogEnds.{ends_forced}
 use Rattle.im_base_disk.proofs.Costs.{forces_by, forces_then}
 use Rattle.im_page_writer.proofs.image_range.log_images.Goals as goal
 
@@ -13,9 +13,8 @@ returns-in_err-append_images-clause-outcome g c = imaging_refused g.D.Disk c.fro
 pub returns-in_err-force-clause-outcome : goal.returns-in_err-force-clause-outcome
 returns-in_err-force-clause-outcome g c =
     let one = c.in_ok-append_images.ensures.outcome in
-    let e = c.in_err-force.ensures in
     imaging_refused g.D.Disk c.from_residual-in_err-force.result c.from_residual-in_err-force.ensures.1
-    (imaging_then g.D.Disk one (force_lost g.D.Disk one.ends.0 e.causes (λ is. e.already.0 (ap Err is)) (λ is. (e.device one.ends.0).0 (ap Err is))))
+    (imaging_then g.D.Disk one (force_lost g.D.Disk one.ends.0 c.in_err-force.ensures.outcome))
 
 pub returns-clause-outcome : goal.returns-clause-outcome
 returns-clause-outcome g c =
@@ -23,8 +22,8 @@ returns-clause-outcome g c =
     let e = c.in_ok-force.ensures in
     let works = one.ends.0 in
     imaging_then g.D.Disk one (record {
-      still = λ alive. e.ready;
-      ends = (e.failed, still_working (g.D.Disk.failed c.force.new.disk) (λ failed. let clash = (e.device works).1 failed in let never : ⊥ = cc clash in never), ends_forced c.append_images.new.log c.force.new.self e.place (λ none. (e.same works none).1));
+      still = λ alive. e.outcome.ready;
+      ends = (e.outcome.ends.1, e.outcome.ends.2, ends_forced c.append_images.new.log c.force.new.self e.place (λ none. (e.same works none).1));
     })
 
 pub returns-in_err-append_images-clause-kept : goal.returns-in_err-append_images-clause-kept
@@ -44,7 +43,7 @@ pub returns-clause-kept : goal.returns-clause-kept
 returns-clause-kept g c b base s w all =
     let so = (c.in_ok-append_images.ensures.kept b base s w all).ok in
     let forced = c.in_ok-force.ensures.kept base so.now.log so.now.durable so.goes.writing.stands.log_is in
-    let goes = goes_forced g.D.Disk b base so.now c.append_images.new.log c.force.new.self c.args.table.now c.args.pool.now c.append_images.new.disk c.force.new.disk so.goes.writing forced.ok.log c.force.ensures.ready c.force.ensures.changes forced.stops in
+    let goes = goes_forced g.D.Disk b base so.now c.append_images.new.log c.force.new.self c.args.table.now c.args.pool.now c.append_images.new.disk c.force.new.disk so.goes.writing forced.ok.log c.force.ensures.outcome.ready c.force.ensures.outcome.changes forced.stops in
     let all_durable = images_durable g.D.Disk b base s c.args.first c.args.last c.append_images.new.lsns.items c.args.disk.now c.append_images.new.log c.force.new.self c.args.table.now c.args.pool.now c.append_images.new.disk c.force.new.disk so goes in
     record { ok = all_durable; stops = leaves_so_far g.D.Disk b base s c.args.disk.now all_durable.now c.force.new.self c.args.table.now c.args.pool.now c.force.new.disk all_durable.goes }
 

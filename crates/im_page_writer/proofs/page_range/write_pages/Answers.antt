@@ -3,7 +3,7 @@ use Rattle.im_base_types.specs.declared.file_id.FileId.TheVariants.{Pages}
 use Rattle.im_base_disk.proofs.Runs.{changes_reads, changes_then, reads_none}
 use Rattle.im_page_table.specs.declared.table_entry.TableEntry.{TableEntry}
 use Rattle.im_page_table.specs.DirtyTable.{has_room, written_in}
-use Rattle.im_page_writer.specs.Writing.{lsn_for, MayWriteHere, WrittenHere, WritesTo}
+use Rattle.im_page_writer.specs.Writing.{lsn_for, MayPlace, WrittenHere, WritesTo}
 use Rattle.im_page_writer.proofs.Placing.{asked, held_none, held_then, held_unmarked, writes_left, writes_more, writes_start, writes_stop}
 use Rattle.im_base_disk.proofs.Costs.{costs_as, costs_none, costs_then}
 use Rattle.im_page_writer.proofs.page_range.write_pages.Goals as goal
@@ -48,7 +48,7 @@ loop-number-preserved g c =
       kept = λ b base s log w all may.
           let so = l.invariant.kept b base s log w all may in
           let asks = asked g.D.Disk b base s c.args.first c.args.last c.args.lsns.now c.args.disk.now log l.number l.table l.pool l.disk l.entered (omega (arith, c.loop-number-test.true)) l.invariant.low so in
-          let done = one.kept b base so.now log so.run.stands so.pooled (subst (λ (m : ℕ). MayWriteHere b so.now l.table l.pool l.number m) (sym lsn) asks) in
+          let done = one.kept b base so.now log so.run.stands so.pooled (subst (λ (m : ℕ). MayPlace b so.now l.table l.pool l.number m) (sym lsn) asks) in
           writes_more g.D.Disk b base s c.args.first c.args.last c.args.lsns.now c.args.disk.now log l.number l.table l.pool l.disk l.entered (omega (arith, c.loop-number-test.true)) l.invariant.low so
           c.write_one.new.table c.write_one.new.pool c.write_one.new.disk c.in_ok-has.has c.both-entered.result done.stops
           (subst (λ (m : ℕ). WrittenHere g.D.Disk b base so.now l.number m log l.table c.write_one.new.table c.write_one.new.pool c.write_one.new.disk c.in_ok-has.has) lsn done.ok) one.pool
@@ -60,7 +60,7 @@ returns-in_err-has-clause-kept g c b base s log w all may =
     let l = c.loop-number in
     let so = l.invariant.kept b base s log w all may in
     let asks = asked g.D.Disk b base s c.args.first c.args.last c.args.lsns.now c.args.disk.now log l.number l.table l.pool l.disk l.entered (omega (arith, c.loop-number-test.true)) l.invariant.low so in
-    let done = c.in_err-has.ensures.kept b base so.now log so.run.stands so.pooled (subst (λ (m : ℕ). MayWriteHere b so.now l.table l.pool l.number m) (sym c.lsn_of-lsn.ensures) asks) in
+    let done = c.in_err-has.ensures.kept b base so.now log so.run.stands so.pooled (subst (λ (m : ℕ). MayPlace b so.now l.table l.pool l.number m) (sym c.lsn_of-lsn.ensures) asks) in
     record { ok = search rules; stops = writes_stop g.D.Disk b base s c.args.first c.args.last c.args.lsns.now c.args.disk.now log l.number l.table l.pool l.disk l.entered so c.write_one.new.disk done.stops }
 
 pub returns-clause-kept : goal.returns-clause-kept

@@ -13,7 +13,7 @@ few_more count index true n is le = omega (arith, is, le)
 few_more count index false n is le = omega (arith, is, le)
 
 pub loop-lsn-init : goal.loop-lsn-init
-loop-lsn-init g c = record { outcome = moved g.D.Disk c.args.writer.now c.args.writer.now c.args.disk.now c.requires.working c.requires.ready refl c.requires.working; few = omega arith; room = refl; kept = λ b base begun file from is can at are. is }
+loop-lsn-init g c = record { outcome = moved g.D.Disk c.args.writer.now c.args.writer.now c.args.disk.now c.requires.working c.requires.ready refl c.requires.working; few = omega arith; room = refl; used = omega (arith, c.empty-window.ensures.none); kept = λ b base begun file from is can at are. (is, c.empty-window.ensures.shows begun c.args.room.now) }
 
 pub loop-lsn-preserved : goal.loop-lsn-preserved
 loop-lsn-preserved g c =
@@ -22,11 +22,15 @@ loop-lsn-preserved g c =
       outcome = recovers_then g.D.Disk l.invariant.outcome c.in_ok-applied.ensures.outcome;
       few = few_more l.count l.lsn-index c.in_ok-applied.applied c.counted-count.result c.counted-count.ensures l.invariant.few;
       room = (search rules);
+      used = c.in_ok-applied.ensures.used;
       kept = λ b base begun file from is can at are.
           let rest = drop (l.lsn-index + 1) c.args.lsns.now in
+          let held = l.invariant.kept b base begun file from is can at are in
           let more : drop l.lsn-index c.args.lsns.now ≡ get_or c.args.lsns.now l.lsn-index 0 ∷ rest = drop_more c.args.lsns.now l.lsn-index 0 c.loop-lsn-test.true in
-          let so = subst (λ (left : List ℕ). IsApplying g.D.Disk b base begun file left l.count from l.writer l.disk) more (l.invariant.kept b base begun file from is can at are) in
-          subst (λ (n : ℕ). IsApplying g.D.Disk b base begun file rest n from c.redo_one.new.writer c.redo_one.new.disk) (sym c.counted-count.ensures) (c.in_ok-applied.ensures.kept b base begun file from rest l.count so can at are).sound;
+          let so = subst (λ (left : List ℕ). IsApplying g.D.Disk b base begun file left l.count from l.writer l.disk) more (held.0) in (
+            subst (λ (n : ℕ). IsApplying g.D.Disk b base begun file rest n from c.redo_one.new.writer c.redo_one.new.disk) (sym c.counted-count.ensures) (c.in_ok-applied.ensures.kept b base begun file from rest l.count so held.1 can at are).sound,
+            c.in_ok-applied.ensures.shows b base begun file from rest l.count so held.1,
+          );
     }
 
 pub returns-in_err-applied-clause-outcome : goal.returns-in_err-applied-clause-outcome
@@ -37,13 +41,15 @@ returns-in_err-applied-clause-kept g c b base begun file from is can at are =
     let l = c.loop-lsn in
     let rest = drop (l.lsn-index + 1) c.args.lsns.now in
     let more : drop l.lsn-index c.args.lsns.now ≡ get_or c.args.lsns.now l.lsn-index 0 ∷ rest = drop_more c.args.lsns.now l.lsn-index 0 c.loop-lsn-test.true in
-    let so = subst (λ (left : List ℕ). IsApplying g.D.Disk b base begun file left l.count from l.writer l.disk) more (l.invariant.kept b base begun file from is can at are) in
-    let one = c.in_err-applied.ensures.kept b base begun file from rest l.count so can at are in
+    let held = l.invariant.kept b base begun file from is can at are in
+    let so = subst (λ (left : List ℕ). IsApplying g.D.Disk b base begun file left l.count from l.writer l.disk) more (held.0) in
+    let one = c.in_err-applied.ensures.kept b base begun file from rest l.count so held.1 can at are in
     record { sound = sound_on c.from_residual.result _ _ c.from_residual.ensures.1 one.sound; stops = one.stops }
 
 pub returns-clause-kept : goal.returns-clause-kept
 returns-clause-kept g c b base begun file from is can at are =
     let l = c.loop-lsn in
+    let held = l.invariant.kept b base begun file from is can at are in
     let past : length c.args.lsns.now ≤ l.lsn-index = omega (arith, c.loop-lsn-test.false) in
-    let so = subst (λ (left : List ℕ). IsApplying g.D.Disk b base begun file left l.count from l.writer l.disk) (drop_of_length-le c.args.lsns.now past) (l.invariant.kept b base begun file from is can at are) in
+    let so = subst (λ (left : List ℕ). IsApplying g.D.Disk b base begun file left l.count from l.writer l.disk) (drop_of_length-le c.args.lsns.now past) (held.0) in
     record { sound = so; stops = leaves_now g.D.Disk b base begun from so.passed.now l.writer l.disk so.passed.within }

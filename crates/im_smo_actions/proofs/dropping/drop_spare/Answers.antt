@@ -17,6 +17,7 @@ returns-in_err-images-clause-kept g c b base s e u =
     drop_refused g.D.Disk b base s e c.args.transaction c.args.last c.args.undo_next v old u c.requires.owner c.args.key.now c.plan_drop.new.writer c.plan_drop.new.disk c.in_err-images.field-0.0
     c.in_err-images.ensures.outcome
     (c.in_err-images.ensures.kept (pages_of s) (unfinished_pages g.D.Disk b base s e c.args.transaction c.args.last c.args.undo_next v old u) (unfinished_good g.D.Disk b base s e c.args.transaction c.args.last c.args.undo_next v old u))
+    (c.in_err-images.ensures.wants (pages_of s) (unfinished_pages g.D.Disk b base s e c.args.transaction c.args.last c.args.undo_next v old u) (unfinished_good g.D.Disk b base s e c.args.transaction c.args.last c.args.undo_next v old u))
     c.from_residual.result c.from_residual.ensures.1
 
 pub returns-in_default-clause-outcome : goal.returns-in_default-clause-outcome

@@ -1,9 +1,9 @@
 use Rattle.im_base_model_disk.specs.contracts.model_disk.ModelDiskDisk.TheImpl.{ghosts}
-use Rattle.im_tool_drill.proofs.StoreRunning.{opened_as}
+use Rattle.im_tool_drill.proofs.StoreRunning.{opened_as, opened_in_group}
 use Rattle.im_tool_drill.proofs.store_lives.open_store.Goals as goal
 
-pub returns : goal.returns
-returns c =
+pub returns-clause-opening : goal.returns-clause-opening
+returns-clause-opening c =
     let e = c.open_or_create.ensures in
     record {
       config = c.config_of.result;
@@ -18,3 +18,6 @@ returns c =
       unspelled = e.unspelled;
       full = e.full;
     }
+
+pub returns-clause-group : goal.returns-clause-group
+returns-clause-group c = opened_in_group ghosts c.config_of.result.group _ c.open_or_create.result c.open_or_create.ensures.group c.config_of.ensures.group

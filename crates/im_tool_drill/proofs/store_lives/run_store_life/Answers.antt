@@ -22,20 +22,20 @@ returns-in_ok-replies-in-Ok-clause-answered c = subst (λ (l : List StoreLine). 
 
 pub returns-in_ok-replies-in-Ok-clause-kept : goal.returns-in_ok-replies-in-Ok-clause-kept
 returns-in_ok-replies-in-Ok-clause-kept c before stands files left =
-    let k = c.in-Ok.ensures.kept before (subst (λ (s : Files). StandsFor before s) (sym c.in_ok-arm_life.ensures.reads.seen) stands) in
+    let k = c.in-Ok.ensures.opening.kept before (subst (λ (s : Files). StandsFor before s) (sym c.in_ok-arm_life.ensures.reads.seen) stands) in
     let now = subst (λ (disk : ModelDisk). ghosts.may_leave disk files) c.into_disk-disk.ensures left in
     subst (λ (l : List StoreLine). Allowed before (shown_in nothing_shown l c.in_ok-replies-in-Ok.replies.items) files) c.deref.ensures.value
     (c.in_ok-replies-in-Ok.ensures.kept before (_, k.ok.0) files now)
 
 pub returns-in-Err-clause-kept : goal.returns-in-Err-clause-kept
 returns-in-Err-clause-kept c before stands files left =
-    let k = c.in-Err.ensures.kept before (subst (λ (s : Files). StandsFor before s) (sym c.in_ok-arm_life.ensures.reads.seen) stands) in
+    let k = c.in-Err.ensures.opening.kept before (subst (λ (s : Files). StandsFor before s) (sym c.in_ok-arm_life.ensures.reads.seen) stands) in
     subst (λ (l : List StoreReply). Allowed before (shown_in nothing_shown c.args.life.now.lines.items l) files) (sym c.new-replies.ensures.items)
     (subst (λ (s : Shown). Allowed before s files) (sym (shown_none nothing_shown c.args.life.now.lines.items)) (k.stops.each tt files (inl left)))
 
 pub returns-in-Err-clause-opened : goal.returns-in-Err-clause-opened
 returns-in-Err-clause-opened c before stands is =
-    let k = c.in-Err.ensures.kept before (subst (λ (s : Files). StandsFor before s) (sym c.in_ok-arm_life.ensures.reads.seen) stands) in
+    let k = c.in-Err.ensures.opening.kept before (subst (λ (s : Files). StandsFor before s) (sym c.in_ok-arm_life.ensures.reads.seen) stands) in
     opened_still c.args.life.now.stop c.in-Err.disk c.refused_opening-opening.result c.in-Err.fault k.cause c.refused_opening-opening.ensures is
 
 pub returns-in_ok-replies-in-Ok-clause-run : goal.returns-in_ok-replies-in-Ok-clause-run
@@ -43,7 +43,8 @@ returns-in_ok-replies-in-Ok-clause-run c = record {
   armed = c.arm_life.new.disk;
   arms = c.in_ok-arm_life.ensures.armed;
   result = c.open_store.result;
-  opening = c.open_store.ensures;
+  opening = c.open_store.ensures.opening;
+  group = c.open_store.ensures.group;
   answers = rw c.in-Ok.is (
     ap (λ (n : ℕ). openings.Open n) (c.calls.ensures ∙ ap (λ (disk : ModelDisk). model_calls disk) c.disk.ensures),
     c.run_store_lines-replies.new.engine,
@@ -58,6 +59,7 @@ returns-in-Err-clause-run c = record {
   armed = c.arm_life.new.disk;
   arms = c.in_ok-arm_life.ensures.armed;
   result = c.open_store.result;
-  opening = c.open_store.ensures;
+  opening = c.open_store.ensures.opening;
+  group = c.open_store.ensures.group;
   answers = rw c.in-Err.is (c.refused_opening-opening.ensures, c.new-replies.ensures.items, refl);
 }

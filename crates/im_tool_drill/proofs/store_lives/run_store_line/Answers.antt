@@ -14,3 +14,8 @@ pub returns-in-Redo-clause-kept : goal.returns-in-Redo-clause-kept
 returns-in-Redo-clause-kept c before s life =
     subst (λ (line : StoreLine). LineKept ghosts before s line (replies.Redo c.redo_report.result) c.args.engine.now) (sym c.in-Redo.is)
     (record { after = λ going. life; stops = λ files left. life.1.stops files left })
+
+pub returns-in-Log-clause-kept : goal.returns-in-Log-clause-kept
+returns-in-Log-clause-kept c before s life =
+    subst (λ (line : StoreLine). LineKept ghosts before s line (replies.Log c.durable_end.result) c.args.engine.now) (sym c.in-Log.is)
+    (record { after = λ going. life; stops = λ files left. life.1.stops files left })

@@ -1,9 +1,9 @@
 use Rattle.std.proofs.Common.{◌≡◌, List, [], ℕ, codes, sym, subst, arith, rules}
 use Rattle.std.proofs.lemmas.Grind.{common_steps}
 use Rattle.im_tool_lines.specs.Lines.{behind_word}
-use Rattle.im_tool_lines.specs.StoreScripts.{IsOption}
+use Rattle.im_tool_lines.specs.StoreScripts.{Number, Word, IsOption}
 use Rattle.im_tool_lines.proofs.StoreSpelled.{life_said}
-use Rattle.im_tool_lines.proofs.LifeWords.{first_refused, first_read, behind_frames, behind_max, behind_fail, not_frames, not_max, not_fail, none_left, all_read, life_spelled}
+use Rattle.im_tool_lines.proofs.LifeWords.{first_refused, first_read, first_word, behind_frames, behind_max, behind_fail, behind_failread, not_frames, not_max, not_fail, not_failread, none_left, all_read, life_spelled}
 use Rattle.im_tool_lines.proofs.store_grammar.life_line.Goals as goal
 
 pub returns-in_err-frames-clause-refused : goal.returns-in_err-frames-clause-refused
@@ -44,7 +44,7 @@ returns-in_err-failing_read-clause-refused c e said s =
     let name2 : c.as_slice-3.result.now ≡ codes "fail" = first_of (search rules, cc, grind (arith, common_steps)) in
     let left2 = first_read c.as_slice-3.result.now (codes "fail") o.0.failing_call (behind_fail o.0) (behind_word c.in_ok-max_pages.words) c.in_ok-failing_call.failing_call (behind_word c.in_ok-failing_call.words) name2 (not_fail o.0) left1 c.in_ok-failing_call.ensures.once in
     let name : c.as_slice-4.result.now ≡ codes "failread" = first_of (search rules, cc, grind (arith, common_steps)) in
-    first_refused c.as_slice-4.result.now (codes "failread") o.0.failing_read [] (behind_word c.in_ok-failing_call.words) name tt left2 c.in_err-failing_read.ensures.refused
+    first_refused c.as_slice-4.result.now (codes "failread") o.0.failing_read (behind_failread o.0) (behind_word c.in_ok-failing_call.words) name (not_failread o.0) left2 c.in_err-failing_read.ensures.refused
 
 pub returns-then-is_some-clause-refused : goal.returns-then-is_some-clause-refused
 returns-then-is_some-clause-refused c e said s =
@@ -57,8 +57,10 @@ returns-then-is_some-clause-refused c e said s =
     let name2 : c.as_slice-3.result.now ≡ codes "fail" = first_of (search rules, cc, grind (arith, common_steps)) in
     let left2 = first_read c.as_slice-3.result.now (codes "fail") o.0.failing_call (behind_fail o.0) (behind_word c.in_ok-max_pages.words) c.in_ok-failing_call.failing_call (behind_word c.in_ok-failing_call.words) name2 (not_fail o.0) left1 c.in_ok-failing_call.ensures.once in
     let name3 : c.as_slice-4.result.now ≡ codes "failread" = first_of (search rules, cc, grind (arith, common_steps)) in
-    let left3 = first_read c.as_slice-4.result.now (codes "failread") o.0.failing_read [] (behind_word c.in_ok-failing_call.words) c.in_ok-failing_read.failing_read (behind_word c.in_ok-failing_read.words) name3 tt left2 c.in_ok-failing_read.ensures.once in
-    none_left c.in_ok-failing_read.words (grind (arith, common_steps)) (sym left3)
+    let left3 = first_read c.as_slice-4.result.now (codes "failread") o.0.failing_read (behind_failread o.0) (behind_word c.in_ok-failing_call.words) c.in_ok-failing_read.failing_read (behind_word c.in_ok-failing_read.words) name3 (not_failread o.0) left2 c.in_ok-failing_read.ensures.once in
+    let name4 : c.as_slice-5.result.now ≡ codes "group" = first_of (search rules, cc, grind (arith, common_steps)) in
+    let left4 = first_word c.as_slice-5.result.now (codes "group") o.0.group [] (behind_word c.in_ok-failing_read.words) c.word_of-group.result.0 (behind_word c.word_of-group.result.1) name4 tt left3 c.word_of-group.ensures.once in
+    none_left c.word_of-group.result.1 (grind (arith, common_steps)) (sym left4)
 
 pub returns-clause-says : goal.returns-clause-says
 returns-clause-says c =
@@ -66,9 +68,11 @@ returns-clause-says c =
     let name1 : c.as_slice-2.result.now ≡ codes "max" = first_of (search rules, cc, grind (arith, common_steps)) in
     let name2 : c.as_slice-3.result.now ≡ codes "fail" = first_of (search rules, cc, grind (arith, common_steps)) in
     let name3 : c.as_slice-4.result.now ≡ codes "failread" = first_of (search rules, cc, grind (arith, common_steps)) in
-    life_spelled (behind_word c.args.words) (behind_word c.in_ok-frames.words) (behind_word c.in_ok-max_pages.words) (behind_word c.in_ok-failing_call.words) (behind_word c.in_ok-failing_read.words) _
-    (subst (λ (n : List ℕ). IsOption n (behind_word c.args.words) c.in_ok-frames.frames (behind_word c.in_ok-frames.words)) name0 c.in_ok-frames.ensures.says)
-    (subst (λ (n : List ℕ). IsOption n (behind_word c.in_ok-frames.words) c.in_ok-max_pages.max_pages (behind_word c.in_ok-max_pages.words)) name1 c.in_ok-max_pages.ensures.says)
-    (subst (λ (n : List ℕ). IsOption n (behind_word c.in_ok-max_pages.words) c.in_ok-failing_call.failing_call (behind_word c.in_ok-failing_call.words)) name2 c.in_ok-failing_call.ensures.says)
-    (subst (λ (n : List ℕ). IsOption n (behind_word c.in_ok-failing_call.words) c.in_ok-failing_read.failing_read (behind_word c.in_ok-failing_read.words)) name3 c.in_ok-failing_read.ensures.says)
-    (all_read c.in_ok-failing_read.words (grind (arith, common_steps)))
+    let name4 : c.as_slice-5.result.now ≡ codes "group" = first_of (search rules, cc, grind (arith, common_steps)) in
+    life_spelled (behind_word c.args.words) (behind_word c.in_ok-frames.words) (behind_word c.in_ok-max_pages.words) (behind_word c.in_ok-failing_call.words) (behind_word c.in_ok-failing_read.words) (behind_word c.word_of-group.result.1) _
+    (subst (λ (n : List ℕ). IsOption n (behind_word c.args.words) (Number c.in_ok-frames.frames) (behind_word c.in_ok-frames.words)) name0 c.in_ok-frames.ensures.says)
+    (subst (λ (n : List ℕ). IsOption n (behind_word c.in_ok-frames.words) (Number c.in_ok-max_pages.max_pages) (behind_word c.in_ok-max_pages.words)) name1 c.in_ok-max_pages.ensures.says)
+    (subst (λ (n : List ℕ). IsOption n (behind_word c.in_ok-max_pages.words) (Number c.in_ok-failing_call.failing_call) (behind_word c.in_ok-failing_call.words)) name2 c.in_ok-failing_call.ensures.says)
+    (subst (λ (n : List ℕ). IsOption n (behind_word c.in_ok-failing_call.words) (Number c.in_ok-failing_read.failing_read) (behind_word c.in_ok-failing_read.words)) name3 c.in_ok-failing_read.ensures.says)
+    (subst (λ (n : List ℕ). IsOption n (behind_word c.in_ok-failing_read.words) (Word c.word_of-group.result.0) (behind_word c.word_of-group.result.1)) name4 c.word_of-group.ensures.says)
+    (all_read c.word_of-group.result.1 (grind (arith, common_steps)))

@@ -4,22 +4,20 @@ use Rattle.im_engine.specs.Stands.{StandsFor}
 use Rattle.imload.proofs.store.new_store.Goals as goal
 
 -- two empty files stand for no effect, so the store is at rest
-pub returns-in-Ok : goal.returns-in-Ok
-returns-in-Ok c =
+pub returns-in-Ok-clause-resting : goal.returns-in-Ok-clause-resting
+returns-in-Ok-clause-resting c =
     let seen = c.new-disk.ensures.seen ∙ (λ i. both (c.new.ensures.items i) (c.new-2.ensures.items i)) in
     let stands = subst (λ (s : Files). StandsFor [] s) (sym seen) c.every_list_of_lives.ensures.first in
     let kept = c.in-Ok.ensures.kept [] c.new-disk.ensures.tells c.new-disk.ensures.synced stands in
     record {
-      resting = record {
-        idle = ap length c.in-Ok.ensures.opened.1;
-        rests = λ tells.
-            record {
-              before = [];
-              first = c.in-Ok.engine.txns.next;
-              life_is = record {
-                life = kept.ok.0;
-                active = ap length c.in-Ok.ensures.opened.1;
-              };
+      idle = ap length c.in-Ok.ensures.opened.1;
+      rests = λ tells.
+          record {
+            before = [];
+            first = c.in-Ok.engine.txns.next;
+            life_is = record {
+              life = kept.ok.0;
+              active = ap length c.in-Ok.ensures.opened.1;
             };
-      };
+          };
     }

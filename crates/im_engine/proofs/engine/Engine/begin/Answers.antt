@@ -3,7 +3,7 @@ use Rattle.im_engine.proofs.Ending.{begin_few, began, numbers_end}
 use Rattle.im_base_types.specs.declared.fault.Fault.TheVariants.{Capacity}
 use Rattle.im_base_types.specs.declared.fault.Fault.TheVariants as faults
 use Rattle.im_base_steps.specs.declared.reply.Reply.TheVariants as replies
-use Rattle.im_engine.specs.Numbered.{Numbered}
+use Rattle.im_engine.specs.Numbered.{Numbered, besides_rows}
 use Rattle.im_engine.proofs.Telling.{alive_now, not_true, told_started, told_refused}
 use Rattle.im_engine.proofs.Causes.{begin_made, begin_full}
 use Rattle.im_engine.proofs.engine.Engine.begin.Goals as goal
@@ -17,6 +17,7 @@ returns-in-Some g c =
       told = told_started g.D.Disk old _ c.requires.works c.in-Some.number made.0 made.2 refl c.requires.works refl;
       answered = begin_made g.D.Disk old old.writer.log old.disk c.requires.works c.requires.checked (replies.Started c.in-Some.number) (subst (λ (n : ℕ). n ≤ 2 ^ 62) made.0 made.1) (λ x e. cc e);
       suits = search rules;
+      grouped = tt;
       frames = refl;
       wants = λ b before s v r. tt;
       quiet = λ none. refl;
@@ -29,9 +30,10 @@ returns-in-None g c =
     let same = c.in-None.ensures.none in
     record {
       kept = λ before s v life. numbers_end g.D.Disk before s v old _ life c.requires.works c.requires.checked refl refl (g.met.D.Disk.only_now old.disk) (λ t f le left. g.met.D.Disk.counts_now old.disk t f le left);
-      told = told_refused g.D.Disk old _ c.requires.works (ap (λ (x : Numbered). x.next) same) refl Capacity faults.Capacity refl refl same (λ _ u. refl) (λ lost. absurd (not_true (g.D.Disk.failed old.disk) (alive_now g.D.Disk old c.requires.works) lost));
+      told = told_refused g.D.Disk old _ c.requires.works (ap besides_rows same) refl Capacity faults.Capacity refl refl same (λ _ u. refl) (λ lost. absurd (not_true (g.D.Disk.failed old.disk) (alive_now g.D.Disk old c.requires.works) lost));
       answered = begin_full g.D.Disk old old.writer.log old.disk c.requires.works c.requires.checked c.in-None.ensures.used_up;
       suits = search rules;
+      grouped = tt;
       frames = refl;
       wants = λ b before s v r. tt;
       quiet = λ none. refl;

@@ -35,6 +35,7 @@ returns-in-Ok g c =
           behind g.D.Disk old c.take.new.writer.log c.take.new.disk c.requires.works answers.Checkpoint replies.Done refl
           (λ fault. checkpoint_made g.D.Disk old c.take.new.writer.log c.take.new.disk replies.Done (λ lost. not_true (g.D.Disk.failed c.take.new.disk) c.in-Ok.ensures.outcome.ends.alive lost) fits (λ x e. cc e) fault);
       suits = search rules;
+      grouped = tt;
       frames = search rules;
       wants = λ b before s v r. tt;
       quiet = λ none. absurd (none tt);
@@ -65,6 +66,7 @@ returns-in-Err g c =
           (λ full. subst (λ (n : ℕ). 2 ^ 62 < end_with old.writer.log (size_of (Checkpoint n (listed old.txns.rows) dirty))) c.next.ensures
           (subst (λ (rows : List Transaction). 2 ^ 62 < end_with old.writer.log (size_of (Checkpoint c.next.result (listed rows) dirty))) c.table.ensures.rows (c.in-Err.ensures.full (λ j. Err (full j))))) fault);
       suits = search rules;
+      grouped = tt;
       frames = search rules;
       wants = λ b before s v r. tt;
       quiet = λ none. absurd (none tt);

@@ -8,10 +8,14 @@ use Rattle.im_base_steps.specs.declared.reply.Blocker.TheVariants.{Lock}
 use Rattle.im_base_steps.specs.declared.reply.Reply.TheVariants as replies
 use Rattle.im_base_txn.specs.Rows.{changed, with_mark}
 use Rattle.im_base_txn.specs.declared.transaction.Mark.TheVariants.{MustRollBack}
-use Rattle.im_engine.specs.Numbered.{Numbered}
+use Rattle.im_engine.specs.Numbered.{Numbered, besides_rows}
 use Rattle.im_engine.proofs.Telling.{told_answered, told_refused, read_lost}
 use Rattle.im_engine.proofs.Causes.{read_answered, read_cause, read_refused}
+use Rattle.im_engine.proofs.Checked.{access_free}
 use Rattle.im_engine.proofs.engine.Engine.fetch.Goals as goal
+
+pub set_mark-requires-clause-before : goal.set_mark-requires-clause-before
+set_mark-requires-clause-before g c = access_free c.args.self.now.txns.rows c.args.t (answers.Fetch c.args.key.now) c.requires.checked
 
 pub returns-in-Some : goal.returns-in-Some
 returns-in-Some g c =
@@ -24,6 +28,7 @@ returns-in-Some g c =
       told = told_answered g.D.Disk old _ c.requires.works refl refl (replies.Found c.in-Some.rid) (λ k. refl) refl refl tt refl refl c.in-Ok-Granted.ensures.outcome.ends.alive;
       answered = read_answered g.D.Disk old c.fetch.new.writer.log c.fetch.new.disk c.requires.works c.args.t (answers.Fetch c.args.key.now) refl c.requires.checked (replies.Found c.in-Some.rid) (λ x e. cc e);
       suits = search rules;
+      grouped = tt;
       frames = search rules;
       wants = λ b before s v r. tt;
       quiet = λ none. absurd (none tt);
@@ -41,6 +46,7 @@ returns-in-None g c =
       told = told_answered g.D.Disk old _ c.requires.works refl refl replies.Absent (λ k. refl) refl refl tt refl refl c.in-Ok-Granted.ensures.outcome.ends.alive;
       answered = read_answered g.D.Disk old c.fetch.new.writer.log c.fetch.new.disk c.requires.works c.args.t (answers.Fetch c.args.key.now) refl c.requires.checked replies.Absent (λ x e. cc e);
       suits = search rules;
+      grouped = tt;
       frames = search rules;
       wants = λ b before s v r. tt;
       quiet = λ none. absurd (none tt);
@@ -58,6 +64,7 @@ returns-in-Ok-Wait g c =
       told = told_answered g.D.Disk old _ c.requires.works refl refl (replies.Blocked (Lock c.in-Ok-Wait.holder)) (λ k. refl) refl refl tt refl refl c.in-Ok-Wait.ensures.outcome.ends.alive;
       answered = read_answered g.D.Disk old c.fetch.new.writer.log c.fetch.new.disk c.requires.works c.args.t (answers.Fetch c.args.key.now) refl c.requires.checked (replies.Blocked (Lock c.in-Ok-Wait.holder)) (λ x e. cc e);
       suits = search rules;
+      grouped = tt;
       frames = search rules;
       wants = λ b before s v r. tt;
       quiet = λ none. absurd (none tt);
@@ -72,9 +79,10 @@ returns-in-Ok-Die g c =
           let r = (life.running c.requires.works).1 in
           let read = c.in-Ok-Die.ensures.kept (pages_of r.now) v.walk (has_good_tree g.D.Disk before s v old r) (walk_is g.D.Disk before s v old r) in
           dies g.D.Disk before s v c.args.t (answers.Fetch c.args.key.now) old _ life c.requires.works c.requires.checked answers.found c.in-Ok-Die.field-0 read c.in-Ok-Die.field-0-is c.in-Ok-Die.ensures.outcome c.set_mark.ensures refl;
-      told = told_answered g.D.Disk old _ c.requires.works (ap (λ (x : Numbered). x.next) c.set_mark.ensures) refl replies.Die (λ k. refl) refl refl tt refl (ap (λ (x : Numbered). length x.rows) c.set_mark.ensures ∙ length-map old.txns.rows (changed c.args.t (with_mark MustRollBack))) c.in-Ok-Die.ensures.outcome.ends.alive;
+      told = told_answered g.D.Disk old _ c.requires.works (ap besides_rows c.set_mark.ensures) refl replies.Die (λ k. refl) refl refl tt refl (ap (λ (x : Numbered). length x.rows) c.set_mark.ensures ∙ length-map old.txns.rows (changed c.args.t (with_mark MustRollBack))) c.in-Ok-Die.ensures.outcome.ends.alive;
       answered = read_answered g.D.Disk old c.fetch.new.writer.log c.fetch.new.disk c.requires.works c.args.t (answers.Fetch c.args.key.now) refl c.requires.checked replies.Die (λ x e. cc e);
       suits = search rules;
+      grouped = tt;
       frames = search rules;
       wants = λ b before s v r. tt;
       quiet = λ none. absurd (none tt);
@@ -95,6 +103,7 @@ returns-in-Err g c =
           read_refused g.D.Disk old c.fetch.new.writer.log c.fetch.new.disk c.requires.works c.args.t (answers.Fetch c.args.key.now) refl c.requires.checked c.in-Err.fault c.told.result c.told.ensures
           (read_cause g.D.Disk old.writer old.disk c.fetch.new.writer c.fetch.new.disk c.in-Err.fault c.in-Err.ensures.outcome.ends (old.working c.requires.works));
       suits = search rules;
+      grouped = tt;
       frames = search rules;
       wants = λ b before s v r. tt;
       quiet = λ none. absurd (none tt);

@@ -19,6 +19,7 @@ returns-in-Ok g c =
       told = told_answered g.D.Disk old _ c.requires.works refl refl replies.Done (λ k. refl) refl refl tt refl refl c.in-Ok.ensures.outcome.ends.alive;
       answered = behind g.D.Disk old c.flush_one.new.self.log c.flush_one.new.disk c.requires.works (answers.FlushPage c.args.page) replies.Done refl (λ fault. not_refused_for g.D.Disk old c.flush_one.new.self.log c.flush_one.new.disk c.requires.works (FlushCause g.D.Disk c.flush_one.new.self.log c.flush_one.new.disk) replies.Done (λ x e. cc e) fault);
       suits = search rules;
+      grouped = tt;
       frames = search rules;
       wants = λ b before s v r. tt;
       quiet = λ unchanged. (c.in-Ok.ensures.unchanged (old.working c.requires.works) (still_false (is_changed old.writer.pool c.args.page) unchanged)).2;
@@ -38,6 +39,7 @@ returns-in-Err g c =
           behind g.D.Disk old c.flush_one.new.self.log c.flush_one.new.disk c.requires.works (answers.FlushPage c.args.page) (replies.Refused c.told.result) refl (λ fault. refused_for g.D.Disk old c.flush_one.new.self.log c.flush_one.new.disk c.requires.works (FlushCause g.D.Disk c.flush_one.new.self.log c.flush_one.new.disk) c.in-Err.fault c.told.result c.told.ensures
           (flush_cause g.D.Disk old.writer old.disk c.flush_one.new.self c.flush_one.new.disk c.in-Err.fault c.in-Err.ensures.outcome.ends (old.working c.requires.works)) fault);
       suits = search rules;
+      grouped = tt;
       frames = search rules;
       wants = λ b before s v r. tt;
       quiet = λ unchanged. (c.in-Err.ensures.unchanged (old.working c.requires.works) (still_false (is_changed old.writer.pool c.args.page) unchanged)).2;

@@ -1,14 +1,30 @@
-use Rattle.std.proofs.Common.{refl, sym, ap, ◌∙◌, ◌+◌, length, arith, rules}
-use Rattle.im_engine.specs.Numbered.{Numbered}
+use Rattle.std.proofs.Common.{◌≡◌, ◌⊎◌, inl, inr, false, refl, sym, ap, ◌∙◌, ◌+◌, length, arith, rules}
+use Rattle.im_engine.specs.Numbered.{Numbered, besides_rows}
 use Rattle.im_engine.proofs.Checked.{back_mark}
+use Rattle.im_engine.proofs.Waits.{not_waiting}
 use Rattle.im_engine.proofs.Ending.{dropped, turned}
 use Rattle.std.proofs.lemmas.List.{length-map}
 use Rattle.im_base_steps.specs.declared.reply.Reply.TheVariants as replies
-use Rattle.im_base_txn.specs.Rows.{changed, with_mark}
-use Rattle.im_base_txn.specs.declared.transaction.Mark.TheVariants.{RollingBack}
+use Rattle.im_base_txn.specs.Rows.{changed, is_committing, with_mark}
+use Rattle.im_base_txn.specs.declared.transaction.Mark.{Mark}
+use Rattle.im_base_txn.specs.declared.transaction.Mark.TheVariants.{Going, MustRollBack, RollingBack}
 use Rattle.im_engine.proofs.Telling.{alive_now, not_true, told_answered, told_rolled_back}
 use Rattle.im_engine.proofs.Causes.{rollback_made}
 use Rattle.im_engine.proofs.engine.Engine.roll_back.Goals as goal
+
+free_mark : (m : Mark) → (m ≡ Going) ⊎ (m ≡ MustRollBack) → is_committing m ≡ false
+free_mark m (inl e) = ap is_committing e
+free_mark m (inr e) = ap is_committing e
+
+pub set_mark-requires-clause-before : goal.set_mark-requires-clause-before
+set_mark-requires-clause-before g c =
+    let found = sym c.in-Some.ensures.found in
+    not_waiting c.args.self.now.txns.rows c.args.t c.in-Some.row found (free_mark c.in-Some.row.mark (back_mark c.args.self.now.txns.rows c.args.t c.in-Some.row found c.requires.checked))
+
+pub end-requires : goal.end-requires
+end-requires g c =
+    let found = sym c.in-Some.ensures.found in
+    not_waiting c.args.self.now.txns.rows c.args.t c.in-Some.row found (free_mark c.in-Some.row.mark (back_mark c.args.self.now.txns.rows c.args.t c.in-Some.row found c.requires.checked))
 
 pub returns-then-row-ne0 : goal.returns-then-row-ne0
 returns-then-row-ne0 g c =
@@ -19,10 +35,11 @@ returns-then-row-ne0 g c =
           turned g.D.Disk before s v old _ life c.requires.works refl refl (g.met.D.Disk.only_now old.disk) c.args.t c.in-Some.row found (back_mark old.txns.rows c.args.t c.in-Some.row found c.requires.checked)
           (omega (arith, c.if-row-ne0.true)) refl c.set_mark.ensures c.requires.works;
       told =
-          told_answered g.D.Disk old _ c.requires.works (ap (λ (x : Numbered). x.next) c.set_mark.ensures) refl replies.More (λ k. refl) refl refl tt c.requires.works
+          told_answered g.D.Disk old _ c.requires.works (ap besides_rows c.set_mark.ensures) refl replies.More (λ k. refl) refl refl tt c.requires.works
           (ap (λ (x : Numbered). length x.rows) c.set_mark.ensures ∙ length-map old.txns.rows (changed c.args.t (with_mark RollingBack))) (alive_now g.D.Disk old c.requires.works);
       answered = rollback_made g.D.Disk old old.writer.log old.disk c.requires.works c.args.t c.requires.checked replies.More (λ x e. cc e);
       suits = search rules;
+      grouped = tt;
       frames = refl;
       wants = λ b before s v r. tt;
       quiet = λ none. refl;
@@ -38,10 +55,11 @@ returns g c =
           dropped g.D.Disk before s v old _ life c.requires.works refl refl (g.met.D.Disk.only_now old.disk) c.args.t c.in-Some.row found (back_mark old.txns.rows c.args.t c.in-Some.row found c.requires.checked)
           (omega (arith, c.if-row-ne0.false)) c.release_all.ensures (c.end.ensures.one c.in-Some.row found ∙ ap (λ (x : Numbered). length x.rows + 1) c.end.ensures.left) c.end.ensures.left c.requires.works;
       told =
-          told_rolled_back g.D.Disk old _ c.requires.works (ap (λ (x : Numbered). x.next) c.end.ensures.left) refl (c.end.ensures.one c.in-Some.row found) c.requires.works
+          told_rolled_back g.D.Disk old _ c.requires.works (ap besides_rows c.end.ensures.left) refl (c.end.ensures.one c.in-Some.row found) c.requires.works
           (λ lost. absurd (not_true (g.D.Disk.failed old.disk) (alive_now g.D.Disk old c.requires.works) lost));
       answered = rollback_made g.D.Disk old old.writer.log old.disk c.requires.works c.args.t c.requires.checked replies.RolledBack (λ x e. cc e);
       suits = search rules;
+      grouped = tt;
       frames = refl;
       wants = λ b before s v r. tt;
       quiet = λ none. refl;

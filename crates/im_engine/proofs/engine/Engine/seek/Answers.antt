@@ -19,10 +19,11 @@ use Rattle.im_base_steps.specs.declared.reply.Reply.TheVariants as replies
 use Rattle.im_base_types.specs.Changes.{Effect}
 use Rattle.im_base_txn.specs.Rows.{changed, with_mark}
 use Rattle.im_base_txn.specs.declared.transaction.Mark.TheVariants.{MustRollBack}
-use Rattle.im_engine.specs.Numbered.{Numbered}
+use Rattle.im_engine.specs.Numbered.{Numbered, besides_rows}
 use Rattle.im_engine.proofs.Telling.{told_answered, told_refused, read_lost}
 use Rattle.im_engine.proofs.Causes.{read_answered, read_cause, read_refused, seeks_read}
 use Rattle.im_base_steps.specs.Replies.{is_search}
+use Rattle.im_engine.proofs.Checked.{access_free}
 use Rattle.im_engine.proofs.engine.Engine.seek.Goals as goal
 
 -- neither wants anything
@@ -35,6 +36,9 @@ a_search : (t : ℕ) (inclusive : Bool) (key : List ℕ) → is_search (answers.
 a_search t true key = refl
 a_search t false key = refl
 
+pub set_mark-requires-clause-before : goal.set_mark-requires-clause-before
+set_mark-requires-clause-before g c = access_free c.args.self.now.txns.rows c.args.t (seek_at c.args.inclusive c.args.key.now) c.requires.checked
+
 pub returns-in-Some : goal.returns-in-Some
 returns-in-Some g c =
     let old = c.args.self.now in
@@ -46,6 +50,7 @@ returns-in-Some g c =
       told = told_answered g.D.Disk old _ c.requires.works refl refl (replies.Entry c.in-Some.key c.in-Some.rid) (λ k. refl) refl refl tt refl refl c.in-Ok-Granted.ensures.outcome.ends.alive;
       answered = read_answered g.D.Disk old c.seek.new.writer.log c.seek.new.disk c.requires.works c.args.t (seek_at c.args.inclusive c.args.key.now) (seeks_read c.args.inclusive c.args.key.now) c.requires.checked (replies.Entry c.in-Some.key c.in-Some.rid) (λ x e. cc e);
       suits = a_search c.args.t c.args.inclusive c.args.key.now;
+      grouped = tt;
       frames = search rules;
       wants = λ b before s v r. seeks_want (Evicted g.D.Disk b r.base r.now old.disk c.seek.new.writer c.seek.new.disk) (λ u. HasBegun g.D.Disk b r.base r.now u c.seek.new.writer c.seek.new.disk) (settled b r.now.log) v.walk (λ t. (v.txns t).net) (locks_of old.locks) old.max_pages c.args.t c.args.inclusive c.args.key.now (replies.Entry c.in-Some.key c.in-Some.rid);
       quiet = λ none. absurd (none tt);
@@ -63,6 +68,7 @@ returns-in-None g c =
       told = told_answered g.D.Disk old _ c.requires.works refl refl replies.End (λ k. refl) refl refl tt refl refl c.in-Ok-Granted.ensures.outcome.ends.alive;
       answered = read_answered g.D.Disk old c.seek.new.writer.log c.seek.new.disk c.requires.works c.args.t (seek_at c.args.inclusive c.args.key.now) (seeks_read c.args.inclusive c.args.key.now) c.requires.checked replies.End (λ x e. cc e);
       suits = a_search c.args.t c.args.inclusive c.args.key.now;
+      grouped = tt;
       frames = search rules;
       wants = λ b before s v r. seeks_want (Evicted g.D.Disk b r.base r.now old.disk c.seek.new.writer c.seek.new.disk) (λ u. HasBegun g.D.Disk b r.base r.now u c.seek.new.writer c.seek.new.disk) (settled b r.now.log) v.walk (λ t. (v.txns t).net) (locks_of old.locks) old.max_pages c.args.t c.args.inclusive c.args.key.now replies.End;
       quiet = λ none. absurd (none tt);
@@ -80,6 +86,7 @@ returns-in-Ok-Wait g c =
       told = told_answered g.D.Disk old _ c.requires.works refl refl (replies.Blocked (Lock c.in-Ok-Wait.holder)) (λ k. refl) refl refl tt refl refl c.in-Ok-Wait.ensures.outcome.ends.alive;
       answered = read_answered g.D.Disk old c.seek.new.writer.log c.seek.new.disk c.requires.works c.args.t (seek_at c.args.inclusive c.args.key.now) (seeks_read c.args.inclusive c.args.key.now) c.requires.checked (replies.Blocked (Lock c.in-Ok-Wait.holder)) (λ x e. cc e);
       suits = search rules;
+      grouped = tt;
       frames = search rules;
       wants = λ b before s v r. seeks_want (Evicted g.D.Disk b r.base r.now old.disk c.seek.new.writer c.seek.new.disk) (λ u. HasBegun g.D.Disk b r.base r.now u c.seek.new.writer c.seek.new.disk) (settled b r.now.log) v.walk (λ t. (v.txns t).net) (locks_of old.locks) old.max_pages c.args.t c.args.inclusive c.args.key.now (replies.Blocked (Lock c.in-Ok-Wait.holder));
       quiet = λ none. absurd (none tt);
@@ -94,9 +101,10 @@ returns-in-Ok-Die g c =
           let r = (life.running c.requires.works).1 in
           let read = c.in-Ok-Die.ensures.kept (pages_of r.now) v.walk (has_good_tree g.D.Disk before s v old r) (walk_is g.D.Disk before s v old r) in
           dies g.D.Disk before s v c.args.t (seek_at c.args.inclusive c.args.key.now) old _ life c.requires.works c.requires.checked answers.entry c.in-Ok-Die.field-0 read c.in-Ok-Die.field-0-is c.in-Ok-Die.ensures.outcome c.set_mark.ensures refl;
-      told = told_answered g.D.Disk old _ c.requires.works (ap (λ (x : Numbered). x.next) c.set_mark.ensures) refl replies.Die (λ k. refl) refl refl tt refl (ap (λ (x : Numbered). length x.rows) c.set_mark.ensures ∙ length-map old.txns.rows (changed c.args.t (with_mark MustRollBack))) c.in-Ok-Die.ensures.outcome.ends.alive;
+      told = told_answered g.D.Disk old _ c.requires.works (ap besides_rows c.set_mark.ensures) refl replies.Die (λ k. refl) refl refl tt refl (ap (λ (x : Numbered). length x.rows) c.set_mark.ensures ∙ length-map old.txns.rows (changed c.args.t (with_mark MustRollBack))) c.in-Ok-Die.ensures.outcome.ends.alive;
       answered = read_answered g.D.Disk old c.seek.new.writer.log c.seek.new.disk c.requires.works c.args.t (seek_at c.args.inclusive c.args.key.now) (seeks_read c.args.inclusive c.args.key.now) c.requires.checked replies.Die (λ x e. cc e);
       suits = search rules;
+      grouped = tt;
       frames = search rules;
       wants = λ b before s v r. seeks_want (Evicted g.D.Disk b r.base r.now old.disk c.seek.new.writer c.seek.new.disk) (λ u. HasBegun g.D.Disk b r.base r.now u c.seek.new.writer c.seek.new.disk) (settled b r.now.log) v.walk (λ t. (v.txns t).net) (locks_of old.locks) old.max_pages c.args.t c.args.inclusive c.args.key.now replies.Die;
       quiet = λ none. absurd (none tt);
@@ -117,6 +125,7 @@ returns-in-Err g c =
           read_refused g.D.Disk old c.seek.new.writer.log c.seek.new.disk c.requires.works c.args.t (seek_at c.args.inclusive c.args.key.now) (seeks_read c.args.inclusive c.args.key.now) c.requires.checked c.in-Err.fault c.told.result c.told.ensures
           (read_cause g.D.Disk old.writer old.disk c.seek.new.writer c.seek.new.disk c.in-Err.fault c.in-Err.ensures.outcome.ends (old.working c.requires.works));
       suits = search rules;
+      grouped = tt;
       frames = search rules;
       wants = λ b before s v r. seeks_want (Evicted g.D.Disk b r.base r.now old.disk c.seek.new.writer c.seek.new.disk) (λ u. HasBegun g.D.Disk b r.base r.now u c.seek.new.writer c.seek.new.disk) (settled b r.now.log) v.walk (λ t. (v.txns t).net) (locks_of old.locks) old.max_pages c.args.t c.args.inclusive c.args.key.now (replies.Refused c.told.result);
       quiet = λ none. absurd (none tt);

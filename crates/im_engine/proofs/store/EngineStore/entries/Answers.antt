@@ -1,6 +1,7 @@
-use Rattle.std.proofs.Common.{None, Some, refl}
+use Rattle.std.proofs.Common.{None, Some, refl, ap}
+use Rattle.im_base_txn.specs.Rows.{waiting_in}
 use Rattle.im_engine.proofs.Actives.{look_counted, look_left}
-use Rattle.im_engine.proofs.Replying.{looks_active}
+use Rattle.im_engine.proofs.Replying.{looks_active, looks_rows}
 use Rattle.im_engine.proofs.store.EngineStore.entries.Goals as goal
 
 pub returns-in-Ok-clause-list : goal.returns-in-Ok-clause-list
@@ -15,3 +16,9 @@ returns-in-Ok-clause-active g c = looks_active g.D.Disk None c.args.self.now c.e
 
 pub returns-in-Err-clause-active : goal.returns-in-Err-clause-active
 returns-in-Err-clause-active g c = looks_active g.D.Disk (Some c.in-Err.fault) c.args.self.now c.entries.new.self c.in-Err.ensures.outcome
+
+pub returns-in-Ok-clause-waiting : goal.returns-in-Ok-clause-waiting
+returns-in-Ok-clause-waiting g c = ap waiting_in (looks_rows g.D.Disk None c.args.self.now c.entries.new.self c.in-Ok.ensures.outcome)
+
+pub returns-in-Err-clause-waiting : goal.returns-in-Err-clause-waiting
+returns-in-Err-clause-waiting g c = ap waiting_in (looks_rows g.D.Disk (Some c.in-Err.fault) c.args.self.now c.entries.new.self c.in-Err.ensures.outcome)

@@ -1,5 +1,6 @@
 use Rattle.std.proofs.Common.{◌≡◌, ◌+◌, ℕ, suc, [], ◌∷◌, length, length-append, ap, sym, subst, ◌∙◌, arith}
-use Rattle.im_base_txn.specs.Rows.{AreAbove, AreBelow, begun}
+use Rattle.im_base_txn.specs.Rows.{AreAbove, AreBelow, begun, waiting_in}
+use Rattle.im_base_txn.proofs.Waiting.{waiting_begun}
 use Rattle.im_engine.specs.Numbered.{Numbered}
 use Rattle.im_engine.proofs.Numbers.{above_begun}
 use Rattle.im_engine.proofs.transactions.Transactions.begin.Goals as goal
@@ -17,4 +18,6 @@ invariant_of-self-2 c =
       omega (arith, long, few, seen),
       subst (AreAbove 0) (sym is) (above_begun 0 next c.self.inside.table owned c.self.invariant.2),
       omega (arith, owned),
+      c.self.invariant.4 ∙ sym (ap waiting_in is ∙ waiting_begun next c.self.inside.table),
+      c.self.invariant.5,
     )

@@ -5,7 +5,7 @@ use Rattle.im_base_types.specs.Lives.{nothing_shown}
 use Rattle.im_front.specs.declared.recorded.Recorded.{Recorded}
 use Rattle.im_front.specs.Traces.{trace_of}
 use Rattle.im_front.specs.Events.{shown_in}
-use Rattle.im_front.specs.Held.{State, IsTallied, Stands, IsCut}
+use Rattle.im_front.specs.Held.{State, IsTallied, Stands, IsCut, forces_in}
 use Rattle.im_front.proofs.Steps.{stands_cut, stands_look, tallied_as, tallied_cut, none_waiting, rest_walk, is_cut, length-trace_of}
 use Rattle.im_front.proofs.held.Held.cut_trace.Goals as goal
 
@@ -24,6 +24,8 @@ invariant_of-self g c =
       i.5,
       i.6,
       i.7 ∙ sym c.in_err-base.ensures.waiting,
+      i.8,
+      i.9,
     )
 
 pub invariant_of-self-2 : goal.invariant_of-self-2
@@ -56,6 +58,8 @@ invariant_of-self-2 g c =
       i.5,
       i.6,
       i.7 ∙ sym c.in_ok-base.ensures.waiting,
+      subst (λ (l : List Recorded). c.self.inside.forces ≡ c.self.inside.forces + forces_in (trace_of l)) none_left (omega arith),
+      (let empty_now = ap length c.clear.ensures.items in omega (arith, i.9, empty_now)),
     )
 
 pub returns-clause-base : goal.returns-clause-base

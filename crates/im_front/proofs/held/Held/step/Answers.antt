@@ -1,4 +1,4 @@
-use Rattle.std.proofs.Common.{rules, ◌≡◌, length, true, false, true≢false, List, [], ◌∷◌, ◌++◌, sym, ap, ◌∙◌, subst, arith, inl, length-append}
+use Rattle.std.proofs.Common.{rules, ◌≡◌, ◌+◌, length, true, false, true≢false, List, [], ◌∷◌, ◌++◌, sym, ap, ◌∙◌, subst, arith, inl, length-append}
 use Rattle.im_base_types.specs.Lives.{nothing_shown}
 use Rattle.im_base_types.specs.Answers.{Step, Reply}
 use Rattle.im_front.specs.declared.recorded.Recorded.{Recorded}
@@ -6,8 +6,9 @@ use Rattle.im_base_steps.specs.Calls.{asked_by, told_by, is_blocked}
 use Rattle.im_front.specs.Traces.{trace_of}
 use Rattle.im_front.specs.Events.{shown_in}
 use Rattle.im_base_steps.specs.Replies.{is_full, waits_after}
-use Rattle.im_front.specs.Held.{State, IsTallied, Stands, after_reply}
+use Rattle.im_front.specs.Held.{State, IsTallied, Stands, after_reply, forces_in}
 use Rattle.im_front.proofs.Replies.{few_entries, entry_asked, blocked_counts}
+use Rattle.im_front.proofs.Growing.{forces_push}
 use Rattle.im_front.proofs.Steps.{alive_of, stands_push, stands_blocked, tallied_as, tallied_push, trace_of-recorded}
 use Rattle.im_front.proofs.held.Held.step.Goals as goal
 
@@ -31,6 +32,8 @@ invariant_of-self-then-is_blocked g c =
       i.5,
       i.6,
       i.7 ∙ sym same.1,
+      subst (λ (l : List Recorded). c.self.inside.forces ≡ c.self.inside.forced + forces_in (trace_of l)) (sym c.in-Some.ensures.kept) i.8,
+      omega (arith, i.9, long),
     )
 
 pub of-told-requires-clause-key : goal.of-told-requires-clause-key
@@ -76,6 +79,9 @@ invariant_of-self-2 g c =
       c.publish.ensures.cell ∙ i.5,
       c.publish.ensures.wrote,
       c.waits_after.ensures ∙ ap (λ n. waits_after n (asked_by c.args.step.now) (told_by c.step-reply.result)) i.7 ∙ sym (c.step-reply.ensures.counted alive).1,
+      subst (λ (l : List (Step × Reply)). c.forces_after.result ≡ c.self.inside.forced + forces_in l) (sym trace)
+          (omega (arith, c.forces_after.ensures.count, i.8, forces_push (trace_of c.self.inside.trace.items) (asked_by c.args.step.now) (told_by c.step-reply.result))),
+      omega (arith, c.forces_after.ensures.few, i.9, longer),
     )
 
 pub returns-clause-records : goal.returns-clause-records
@@ -89,7 +95,7 @@ returns-clause-records g c =
     let alive = alive_of g.E.Store.life g.E.Store.tells c.self.inside.base.items (trace_of c.self.inside.trace.items) c.self.inside.engine c.self.invariant.0 in
     let room : is_full (told_by c.step-reply.result) ≡ false = (c.step-reply.ensures.reply alive).room in
     record {
-      base = (ap (λ (s : State g.row.E.Denot). s.base) is, ap (λ (s : State g.row.E.Denot). s.cut) is, ap (λ (s : State g.row.E.Denot). s.kept) is, ap (λ (s : State g.row.E.Denot). s.handed) is);
+      base = (ap (λ (s : State g.row.E.Denot). s.base) is, ap (λ (s : State g.row.E.Denot). s.cut) is, ap (λ (s : State g.row.E.Denot). s.kept) is, ap (λ (s : State g.row.E.Denot). s.forced) is, ap (λ (s : State g.row.E.Denot). s.handed) is);
       adds = λ _ _ _. (trace, c.add.ensures.amount);
       blocked = λ b. absurd (true≢false (sym b ∙ unblocked));
       full = λ f. absurd (true≢false (sym f ∙ room));

@@ -6,11 +6,11 @@ use Rattle.im_base_steps.specs.declared.reply.Reply.{Reply}
 use Rattle.im_base_steps.specs.Calls.{asked_by, told_by, is_blocked}
 use Rattle.im_front.specs.Events.{shown_in}
 use Rattle.im_base_steps.specs.Replies.{is_full, waits_after}
-use Rattle.im_front.specs.Held.{IsTallied, Stands, after_reply}
+use Rattle.im_front.specs.Held.{IsTallied, Stands, after_reply, forces_in}
 use Rattle.im_front.specs.Plain.{PlainState, none, seen_of}
 use Rattle.im_front.proofs.Replies.{blocked_counts}
 use Rattle.im_front.proofs.Steps.{stands_push, stands_blocked, tallied_as, tallied_push}
-use Rattle.im_front.proofs.Growing.{alive_from, seen_of-push}
+use Rattle.im_front.proofs.Growing.{alive_from, forces_push, seen_of-push}
 use Rattle.im_front.proofs.open.Kept.step.Goals as goal
 
 pub invariant_of-self : goal.invariant_of-self
@@ -29,6 +29,8 @@ invariant_of-self g c =
       i.3,
       i.4,
       i.5 ∙ sym same.1,
+      i.6,
+      i.7,
     )
 
 pub returns-then-is_blocked-clause-run : goal.returns-then-is_blocked-clause-run
@@ -69,6 +71,9 @@ invariant_of-self-2 g c =
       c.publish.ensures.cell ∙ i.3,
       c.publish.ensures.wrote,
       c.waits_after.ensures ∙ ap (λ n. waits_after n (asked_by c.args.step.now) (told_by c.step-reply.result)) i.5 ∙ sym (c.step-reply.ensures.counted alive).1,
+      subst (λ (l : List (answers.Step × answers.Reply)). c.forces_after.result ≡ forces_in l) (sym seen)
+          (omega (arith, c.forces_after.ensures.count, i.6, forces_push trace (asked_by c.args.step.now) (told_by c.step-reply.result))),
+      omega (arith, c.forces_after.ensures.few, i.7, longer),
     )
 
 pub returns-clause-adds : goal.returns-clause-adds

@@ -27,4 +27,6 @@ invariant_of-result g c =
       search rules,
       search rules,
       sym nobody,
+      search rules,
+      search rules,
     )

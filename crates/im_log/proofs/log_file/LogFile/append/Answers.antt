@@ -6,6 +6,11 @@ use Rattle.im_log_record.specs.Spelling.{spelling}
 use Rattle.im_log.proofs.Spells.{whole}
 use Rattle.im_log.proofs.Runs.{unmoved, appended, batch_begun, no_more}
 use Rattle.im_base_disk.proofs.Costs.{forces_by, forces_none, most_none}
+use Rattle.im_base_types.specs.Outcomes.{none_own}
+use Rattle.im_base_types.proofs.Outcomes.{end_on}
+use Rattle.im_log.proofs.Outcomes.{end_broken, end_cause}
+use Rattle.im_log_record.specs.Spelling.{size_of}
+use Rattle.im_log.specs.Outcome.{LacksRoom}
 use Rattle.im_log.proofs.log_file.LogFile.append.Goals as goal
 
 pub returns-then-is_full-clause-kept : goal.returns-then-is_full-clause-kept
@@ -71,17 +76,28 @@ returns-then-self-size-le-LONGEST_BATCH-clause-forces g c = forces_none g.D.Disk
 pub returns-clause-forces : goal.returns-clause-forces
 returns-clause-forces g c = forces_by g.D.Disk c.args.self.now.used c.args.disk.now c.force.new.disk c.in_ok-force.ensures.costs c.force.ensures.none
 
-pub returns-then-self-clause-few : goal.returns-then-self-clause-few
-returns-then-self-clause-few g c = most_none g.D.Disk 2 2 c.args.disk.now
-
-pub returns-then-is_full-clause-few : goal.returns-then-is_full-clause-few
-returns-then-is_full-clause-few g c = most_none g.D.Disk 2 2 c.args.disk.now
-
-pub returns-then-self-size-le-LONGEST_BATCH-clause-few : goal.returns-then-self-size-le-LONGEST_BATCH-clause-few
-returns-then-self-size-le-LONGEST_BATCH-clause-few g c = most_none g.D.Disk 2 2 c.args.disk.now
-
 pub returns-then-begins_next-clause-forces : goal.returns-then-begins_next-clause-forces
 returns-then-begins_next-clause-forces g c = forces_none g.D.Disk 1 c.args.disk.now
 
-pub returns-then-begins_next-clause-few : goal.returns-then-begins_next-clause-few
-returns-then-begins_next-clause-few g c = most_none g.D.Disk 2 2 c.args.disk.now
+pub returns-then-self-clause-outcome : goal.returns-then-self-clause-outcome
+returns-then-self-clause-outcome g c =
+    record { ready = c.requires.ready; changes = search rules; few = most_none g.D.Disk 2 2 c.args.disk.now; base = refl; ends = (c.if-self.true, c.if-self.true) }
+
+pub returns-in_err-force-clause-outcome : goal.returns-in_err-force-clause-outcome
+returns-in_err-force-clause-outcome g c =
+    let one = c.in_err-force.ensures.outcome in
+    let w = c.force.new.self in
+    let lost = g.D.Disk.failed c.force.new.disk in
+    record {
+      ready = one.ready;
+      changes = one.changes;
+      few = one.few;
+      base = one.base;
+      ends = end_on none_own c.args.self.now.failed w.failed lost (LacksRoom (size_of (view c.args.record.now)) w) w.failed c.in_err-force.field-0.0 c.from_residual.result c.from_residual.ensures.1 (λ e is. absurd is)
+          (end_broken none_own c.args.self.now.failed w.failed lost c.in_err-force.field-0.0 one.ends) one.ends;
+    }
+
+pub returns-in_err-force-clause-full : goal.returns-in_err-force-clause-full
+returns-in_err-force-clause-full g c =
+    let cause = end_cause none_own c.args.self.now.failed c.force.new.self.failed (g.D.Disk.failed c.force.new.disk) c.in_err-force.field-0.0 c.in_err-force.ensures.outcome.ends in
+    search (rules, cause)

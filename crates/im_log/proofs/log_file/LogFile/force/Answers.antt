@@ -1,8 +1,10 @@
-use Rattle.std.proofs.Common.{◌≤◌, ◌∙◌, refl, rules, arith}
+use Rattle.std.proofs.Common.{◌≤◌, ◌∙◌, true, refl, rules, arith}
 use Rattle.im_base_types.specs.declared.file_id.FileId.TheVariants.{Log}
 use Rattle.im_log.specs.Kept.{SpellsEither}
 use Rattle.im_log.proofs.Runs.{waits, nothing_sealed, force_stops, forced, seen_now, either_made, alike_now, starts_kept, all_durable, no_more, unmoved, laid_all, written_back, none_begun}
 use Rattle.im_base_disk.proofs.Costs.{most_none}
+use Rattle.im_base_types.specs.Outcomes.{none_own}
+use Rattle.im_base_types.proofs.Outcomes.{end_told}
 use Rattle.im_log.proofs.log_file.LogFile.force.Goals as goal
 
 pub put_batches-requires-clause-laid : goal.put_batches-requires-clause-laid
@@ -48,25 +50,44 @@ returns-then-self-eq0-clause-kept g c base all durable h = record {
   stops = unmoved g.D.Disk base all durable c.args.self.now c.args.disk.now (g.met.D.Disk.only_now c.args.disk.now) c.requires.ready h;
 }
 
-pub returns-in_err-put_batches-clause-ready : goal.returns-in_err-put_batches-clause-ready
-returns-in_err-put_batches-clause-ready g c =
+pub returns-then-self-clause-outcome : goal.returns-then-self-clause-outcome
+returns-then-self-clause-outcome g c =
+    record { ready = c.requires.ready; changes = search rules; few = most_none g.D.Disk 2 2 c.args.disk.now; base = refl; ends = (c.if-self.true, c.if-self.true) }
+
+pub returns-then-self-eq0-clause-outcome : goal.returns-then-self-eq0-clause-outcome
+returns-then-self-eq0-clause-outcome g c = record {
+  ready = c.requires.ready;
+  changes = search rules;
+  few = most_none g.D.Disk 2 2 c.args.disk.now;
+  base = refl;
+  ends = (c.if-self.false, c.if-self.false, c.requires.ready.ready.reading.working (c.requires.ready.working c.if-self.false));
+}
+
+pub returns-in_err-put_batches-clause-outcome : goal.returns-in_err-put_batches-clause-outcome
+returns-in_err-put_batches-clause-outcome g c =
     let old = c.args.disk.now in
     let new = c.put_batches.new.disk in
     let works = c.requires.ready.working c.if-self.false in
     record {
-      ready = c.put_batches.ensures.ready;
-      starts = λ told.
-          starts_kept c.args.self.now.gate c.put_batches.new.self (g.D.Disk.seen old Log) (g.D.Disk.seen new Log) (c.requires.ready.starts told) c.put_batches.ensures.same
-          (alike_now g.D.Disk c.args.self.now.gate old new c.args.self.now.of_log (c.requires.ready.starts told) (g.met.D.Disk.counts_now new) (g.met.D.Disk.seen_may_stay new) (c.put_batches.ensures.front works) told);
-      working = search rules;
-      placed = search rules;
-      room = search rules;
-      sealed = search rules;
-      filling = search rules;
+      ready = record {
+        ready = c.put_batches.ensures.ready;
+        starts = λ told.
+            starts_kept c.args.self.now.gate c.put_batches.new.self (g.D.Disk.seen old Log) (g.D.Disk.seen new Log) (c.requires.ready.starts told) c.put_batches.ensures.same
+            (alike_now g.D.Disk c.args.self.now.gate old new c.args.self.now.of_log (c.requires.ready.starts told) (g.met.D.Disk.counts_now new) (g.met.D.Disk.seen_may_stay new) (c.put_batches.ensures.front works) told);
+        working = search rules;
+        placed = search rules;
+        room = search rules;
+        sealed = search rules;
+        filling = search rules;
+      };
+      changes = search rules;
+      few = search rules;
+      base = search rules;
+      ends = end_told none_own c.args.self.now.failed true (g.D.Disk.failed new) c.from_residual.result (search rules) (search rules) (search rules) (search rules);
     }
 
-pub returns-clause-ready : goal.returns-clause-ready
-returns-clause-ready g c =
+pub returns-clause-outcome : goal.returns-clause-outcome
+returns-clause-outcome g c =
     let old = c.args.disk.now in
     let new = c.put_batches.new.disk in
     let works = c.requires.ready.working c.if-self.false in
@@ -74,19 +95,19 @@ returns-clause-ready g c =
     let at = c.in_ok-put_batches.ensures.place in
     let room = c.requires.ready.room c.if-self.false some in
     record {
-      ready = c.put_batches.ensures.ready;
-      starts = λ told.
-          starts_kept c.args.self.now.gate c.put_batches.new.self (g.D.Disk.seen old Log) (g.D.Disk.seen new Log) (c.requires.ready.starts told) c.put_batches.ensures.same
-          (alike_now g.D.Disk c.args.self.now.gate old new c.args.self.now.of_log (c.requires.ready.starts told) (g.met.D.Disk.counts_now new) (g.met.D.Disk.seen_may_stay new) (c.put_batches.ensures.front works) told);
-      working = search rules;
-      placed = search (rules, at, room);
-      room = search rules;
-      sealed = λ working. nothing_sealed _ refl;
-      filling = search rules;
+      ready = record {
+        ready = c.put_batches.ensures.ready;
+        starts = λ told.
+            starts_kept c.args.self.now.gate c.put_batches.new.self (g.D.Disk.seen old Log) (g.D.Disk.seen new Log) (c.requires.ready.starts told) c.put_batches.ensures.same
+            (alike_now g.D.Disk c.args.self.now.gate old new c.args.self.now.of_log (c.requires.ready.starts told) (g.met.D.Disk.counts_now new) (g.met.D.Disk.seen_may_stay new) (c.put_batches.ensures.front works) told);
+        working = search rules;
+        placed = search (rules, at, room);
+        room = search rules;
+        sealed = λ working. nothing_sealed _ refl;
+        filling = search rules;
+      };
+      changes = search rules;
+      few = search rules;
+      base = search rules;
+      ends = (c.if-self.false, refl, search rules);
     }
-
-pub returns-then-self-clause-few : goal.returns-then-self-clause-few
-returns-then-self-clause-few g c = most_none g.D.Disk 2 2 c.args.disk.now
-
-pub returns-then-self-eq0-clause-few : goal.returns-then-self-eq0-clause-few
-returns-then-self-eq0-clause-few g c = most_none g.D.Disk 2 2 c.args.disk.now

@@ -1,4 +1,5 @@
-use Rattle.std.proofs.Common.{true, refl, subst, rules}
+use Rattle.std.proofs.Common.{◌≡◌, true, refl, ap, subst, arith, rules}
+use Rattle.im_theory_log.specs.Histories.{page_after}
 use Rattle.im_base_types.specs.Pages.{Page}
 use Rattle.im_theory_log.specs.WriterSteps.{changed, holds_copy}
 use Rattle.im_log_record.specs.Entry.{view}
@@ -7,10 +8,12 @@ use Rattle.im_log.specs.Whats.{what_of}
 use Rattle.im_page_pool.specs.Pool.{held_of, Sets}
 use Rattle.im_page_file.proofs.Standing.{log_stops}
 use Rattle.im_page_writer.proofs.LoggedChanges.{at_held, err_on}
+use Rattle.im_page_table.proofs.DurableCopies.{durable_changed}
 use Rattle.im_page_writer.proofs.SyncedPages.{known_more}
 use Rattle.im_page_writer.proofs.Outcomes.{same_logs}
-use Rattle.im_page_writer.proofs.Structure.{leaves_body, left_by, never_none}
+use Rattle.im_page_writer.proofs.Structure.{leaves_body, left_by}
 use Rattle.im_page_writer.proofs.Writers.{goes_on_start}
+use Rattle.im_page_writer.proofs.LogCalls.{append_only, append_sound, log_broke}
 use Rattle.im_page_writer.proofs.page_writer.PageWriter.after_logged.Goals as goal
 
 pub returns-then-not-read_after-clause-outcome : goal.returns-then-not-read_after-clause-outcome
@@ -27,7 +30,7 @@ pub returns-in_err-lsn-clause-kept : goal.returns-in_err-lsn-clause-kept
 returns-in_err-lsn-clause-kept g c b base s e is over =
     let w = c.args.self.now in
     let k = c.in_err-lsn.ensures.kept base s.log s.durable is.writing.stands.log_is in
-    record { logged = record { ok = search rules; stops = log_stops g.D.Disk b base s w.log w.table c.args.disk.now is.writing.stands c.append.new.disk k.stops }; again = err_on c.from_residual.result c.in_err-lsn.field-0.0 _ c.from_residual.ensures.1 (λ same. absurd (never_none c.in_err-lsn.field-0.0 c.in_err-lsn.ensures.causes same)) }
+    record { logged = record { ok = search rules; stops = log_stops g.D.Disk b base s w.log w.table c.args.disk.now is.writing.stands c.append.new.disk k.stops }; again = err_on c.from_residual.result c.in_err-lsn.field-0.0 _ c.from_residual.ensures.1 (λ same. absurd (append_sound g.D.Disk c.in_err-lsn.ensures.outcome same)) }
 
 pub returns-clause-kept : goal.returns-clause-kept
 returns-clause-kept g c b base s e is over =
@@ -44,14 +47,23 @@ returns-clause-kept g c b base s e is over =
           durable = k.ok.now_durable;
           grows = k.ok.grows;
           known = holds_copy (what_of entry);
-          stands = record {
-            working = refl;
-            known = known_more (logged_at lsn entry) s (record (changed (logged_at lsn entry) s) { durable = k.ok.now_durable }) w.known refl refl refl (leaves_body lsn (what_of entry) c.read_after.new.page.body (c.read_after.ensures.is c.if-not-read_after.false)).point is.known;
-            writing = left_by g.D.Disk b base s e w.log c.append.new.self w.table c.enter.new.self w.pool c.set_page.new.pool c.args.disk.now c.append.new.disk (view c.args.record.now) lsn frame is.writing over c.read_after.new.page.body
-                (c.read_after.ensures.is c.if-not-read_after.false) k.ok c.requires.page c.append.ensures.ready c.append.ensures.changes (at_held (held_of w.pool frame.number) frame.place c.requires.at) sets c.enter.ensures.entry;
-          };
+          stands =
+              let r = logged_at lsn entry in
+              let leaves = leaves_body lsn (what_of entry) c.read_after.new.page.body (c.read_after.ensures.is c.if-not-read_after.false) in
+              let writing = left_by g.D.Disk b base s e w.log c.append.new.self w.table c.enter.new.self w.pool c.set_page.new.pool c.args.disk.now c.append.new.disk (view c.args.record.now) lsn frame is.writing over c.read_after.new.page.body
+              (c.read_after.ensures.is c.if-not-read_after.false) k.ok c.requires.page c.append.ensures.outcome.ready c.append.ensures.outcome.changes (at_held (held_of w.pool frame.number) frame.place c.requires.at) sets c.enter.ensures.entry in
+              record {
+                working = refl;
+                known = known_more r s (record (changed r s) { durable = k.ok.now_durable }) w.known refl refl refl leaves.point
+                    (durable_changed b r s (holds_copy (what_of entry)) k.ok.now_durable writing.stands.kept leaves.point k.ok.grows (λ page. let is : (page_after lsn (what_of entry) page).lsn ≡ lsn = ap (λ (x : Page). x.lsn) (leaves.after page) in omega (arith, is))) is.known;
+                writing = writing;
+              };
           high = k.ok.rises b is.writing.based;
         };
         stops = log_stops g.D.Disk b base s w.log w.table c.args.disk.now is.writing.stands c.append.new.disk k.stops;
       };
     }
+
+pub returns-in_err-lsn-clause-outcome : goal.returns-in_err-lsn-clause-outcome
+returns-in_err-lsn-clause-outcome g c =
+    log_broke g.D.Disk c.from_residual.result c.from_residual.ensures.1 (append_only _) c.requires.working refl (c.requires.ready.works c.requires.working) c.in_err-lsn.ensures.outcome (search rules) refl

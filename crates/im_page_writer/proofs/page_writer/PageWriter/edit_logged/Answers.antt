@@ -1,4 +1,4 @@
-use Rattle.std.proofs.Common.{◌≡◌, ℕ, Option, None, refl, sym, ap, subst, ◌∙◌, true, rules}
+use Rattle.std.proofs.Common.{◌≡◌, ◌≤◌, arith, ℕ, Option, None, refl, sym, ap, subst, ◌∙◌, true, rules}
 use Rattle.im_base_types.specs.Pages.{Page}
 use Rattle.im_theory_log.specs.Histories.{page_after}
 use Rattle.im_log_record.specs.Entry.{view}
@@ -10,11 +10,13 @@ use Rattle.im_page_table.specs.KnownCopies.{changed_as, IsAtOrAfter}
 use Rattle.im_page_writer.specs.Synced.{IsKnown}
 use Rattle.im_page_writer.specs.declared.known.Known.{Known}
 use Rattle.im_page_leaf.specs.LeafEdits.{edit_of}
+use Rattle.im_page_table.proofs.DurableCopies.{durable_changed}
 use Rattle.im_page_writer.proofs.SyncedPages.{known_first}
 use Rattle.im_page_file.proofs.Standing.{log_stops}
 use Rattle.im_page_writer.proofs.Changing.{changed_by, like_names}
-use Rattle.im_page_writer.proofs.LeafChanges.{edit_gives}
+use Rattle.im_page_writer.proofs.LeafChanges.{edit_gives, edit_lsn}
 use Rattle.im_page_writer.proofs.LoggedChanges.{at_held, at_shows}
+use Rattle.im_page_writer.proofs.LogCalls.{append_only, log_broke}
 use Rattle.im_page_writer.proofs.page_writer.PageWriter.edit_logged.Goals as goal
 
 pub returns-in_err-lsn-clause-kept : goal.returns-in_err-lsn-clause-kept
@@ -39,14 +41,23 @@ returns-clause-kept g c b base s e is over =
         durable = k.ok.now_durable;
         grows = k.ok.grows;
         known = c.is_known-known.result;
-        stands = record {
-          working = refl;
-          known = subst (λ (o : Option ℕ). IsKnown (record (changed_as c.is_known-known.result (logged_at lsn (view c.args.record.now)) s) { durable = k.ok.now_durable }) (record w.known { from = o })) (sym c.first_of-self.ensures)
-              (known_first b (logged_at lsn (view c.args.record.now)) s (record (changed_as c.is_known-known.result (logged_at lsn (view c.args.record.now)) s) { durable = k.ok.now_durable }) e w.known is.writing.stands.kept over refl refl refl c.requires.what.point (k.ok.rises b is.writing.based) is.known);
-          writing = changed_by g.D.Disk b base s e w.log c.append.new.self w.table c.enter.new.self w.pool c.edit_key.new.pool c.args.disk.now c.append.new.disk (view c.args.record.now) lsn frame is.writing over (c.requires.what.copy lsn)
-              c.requires.what.point (like_names (what_of (view c.args.record.now)) (edit_of c.args.edit c.args.key.now c.args.rid) (edit_gives c.args.edit c.args.key.now c.args.rid) c.requires.what.after) k.ok c.requires.page c.is_known-known.result w.known.from is.known.from has_copy c.append.ensures.ready c.append.ensures.changes (at_held (held_of w.pool frame.number) frame.place c.requires.at) sets c.enter.ensures.entry;
-        };
+        stands =
+            let r = logged_at lsn (view c.args.record.now) in
+            let t = record (changed_as c.is_known-known.result r s) { durable = k.ok.now_durable } in
+            let writing = changed_by g.D.Disk b base s e w.log c.append.new.self w.table c.enter.new.self w.pool c.edit_key.new.pool c.args.disk.now c.append.new.disk (view c.args.record.now) lsn frame is.writing over (c.requires.what.copy lsn)
+            c.requires.what.point (like_names (what_of (view c.args.record.now)) (edit_of c.args.edit c.args.key.now c.args.rid) (edit_gives c.args.edit c.args.key.now c.args.rid) c.requires.what.after) k.ok c.requires.page c.is_known-known.result w.known.from is.known.from has_copy c.append.ensures.outcome.ready c.append.ensures.outcome.changes (at_held (held_of w.pool frame.number) frame.place c.requires.at) sets c.enter.ensures.entry in
+            let gives = λ (page : Page). let is : (page_after lsn (what_of (view c.args.record.now)) page).lsn ≡ lsn = ap (λ (x : Page). x.lsn) (c.requires.what.after lsn page) ∙ edit_lsn lsn c.args.edit c.args.key.now c.args.rid page in (let low : lsn ≤ (page_after lsn (what_of (view c.args.record.now)) page).lsn = omega (arith, is) in low) in
+            record {
+              working = refl;
+              known = subst (λ (o : Option ℕ). IsKnown (record (changed_as c.is_known-known.result (logged_at lsn (view c.args.record.now)) s) { durable = k.ok.now_durable }) (record w.known { from = o })) (sym c.first_of-self.ensures)
+                  (known_first b (logged_at lsn (view c.args.record.now)) s (record (changed_as c.is_known-known.result (logged_at lsn (view c.args.record.now)) s) { durable = k.ok.now_durable }) e w.known is.writing.stands.kept over refl refl refl c.requires.what.point (k.ok.rises b is.writing.based) (durable_changed b r s c.is_known-known.result k.ok.now_durable writing.stands.kept c.requires.what.point k.ok.grows gives) is.known);
+              writing = writing;
+            };
         high = k.ok.rises b is.writing.based;
       };
       stops = log_stops g.D.Disk b base s w.log w.table c.args.disk.now is.writing.stands c.append.new.disk k.stops;
     }
+
+pub returns-in_err-lsn-clause-outcome : goal.returns-in_err-lsn-clause-outcome
+returns-in_err-lsn-clause-outcome g c =
+    log_broke g.D.Disk c.from_residual.result c.from_residual.ensures.1 (append_only _) c.requires.working refl (c.requires.ready.works c.requires.working) c.in_err-lsn.ensures.outcome (search rules) refl

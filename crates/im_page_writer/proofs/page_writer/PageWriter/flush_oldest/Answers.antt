@@ -18,4 +18,4 @@ returns-in-None-clause-kept g c b base s is =
 pub returns-in-Some-clause-kept : goal.returns-in-Some-clause-kept
 returns-in-Some-clause-kept g c b base s is =
     let held = c.args.self.now.pool.held in
-    on_ok c.flush_with_others.result _ _ (c.flush_with_others.ensures.kept b base s is) (λ f. record { now = f.now; on = f.on; oldest = oldest_some (last_changed held) f.now.pages c.in-Some.frame c.in-Some.ensures.oldest f.written })
+    on_ok c.flush_for_room.result _ _ (c.flush_for_room.ensures.kept b base s is) (λ f. record { now = f.now; on = f.on; oldest = oldest_some (last_changed held) f.now.pages c.in-Some.frame c.in-Some.ensures.oldest f.written })

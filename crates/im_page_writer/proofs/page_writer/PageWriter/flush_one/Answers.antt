@@ -5,6 +5,7 @@ use Rattle.im_page_writer.proofs.Goings.{found_here, found_none}
 use Rattle.im_page_writer.proofs.Outcomes.{idle_any}
 use Rattle.im_page_writer.proofs.Writers.{flushed_one, goes_on_start, none_left}
 use Rattle.std.specs.Option.{option_map_or}
+use Rattle.im_page_writer.specs.PageWriter.{IsUnforced}
 use Rattle.im_page_writer.proofs.page_writer.PageWriter.flush_one.Goals as goal
 
 pub returns-in-None-clause-outcome : goal.returns-in-None-clause-outcome
@@ -42,3 +43,21 @@ returns-else-is_changed-clause-costs g c changed =
     let here = found_here (held_of w.pool c.args.number) c.args.number c.in-Some.frame c.in-Some.ensures.found in
     let never : true ≡ false = sym changed ∙ ap (λ (n : ℕ). is_changed w.pool n) (sym here.number) ∙ sym c.is_changed.ensures ∙ c.if-is_changed.false in
     absurd (cc never)
+
+pub returns-in-None-clause-unforced : goal.returns-in-None-clause-unforced
+returns-in-None-clause-unforced g c told within changed unforced =
+    let none = found_none (held_of c.args.self.now.pool c.args.number) c.args.number c.in-None.ensures.found in
+    let never : false ≡ true = sym (ap (λ (o : Option Held). option_map_or (λ h. h.changed) o false) none) ∙ changed in
+    absurd (cc never)
+
+pub returns-else-is_changed-clause-unforced : goal.returns-else-is_changed-clause-unforced
+returns-else-is_changed-clause-unforced g c told within changed unforced =
+    let w = c.args.self.now in
+    let here = found_here (held_of w.pool c.args.number) c.args.number c.in-Some.frame c.in-Some.ensures.found in
+    let never : true ≡ false = sym changed ∙ ap (λ (n : ℕ). is_changed w.pool n) (sym here.number) ∙ sym c.is_changed.ensures ∙ c.if-is_changed.false in
+    absurd (cc never)
+
+pub returns-then-is_changed-clause-unforced : goal.returns-then-is_changed-clause-unforced
+returns-then-is_changed-clause-unforced g c told within changed unforced =
+    let here = found_here (held_of c.args.self.now.pool c.args.number) c.args.number c.in-Some.frame c.in-Some.ensures.found in
+    c.flush_changed.ensures.unforced told within (c.is_unforced-durable.ensures.1 (subst (λ (n : ℕ). IsUnforced c.args.self.now n) (sym here.number) unforced))

@@ -1,9 +1,4 @@
-use Rattle.std.proofs.Common.{subst}
-use Rattle.im_page_pool.specs.Pool.{PoolView}
-use Rattle.im_page_writer.specs.Outcome.{AsksNothing}
-use Rattle.im_page_writer.specs.Writing.{SameHeld}
-use Rattle.im_page_table.proofs.Growing.{on_ok}
-use Rattle.im_page_writer.proofs.Outcomes.{behind, handed_on, idle_any, none_still}
+use Rattle.im_page_writer.proofs.Outcomes.{idle_any}
 use Rattle.im_page_writer.proofs.Placing.{held_none}
 use Rattle.im_page_writer.proofs.page_writer.PageWriter.flush_others.Goals as goal
 
@@ -19,11 +14,8 @@ returns-then-is_some-clause-outcome g c = idle_any g.D.Disk g.met.D.Disk.only_no
 pub returns-then-is_some-clause-held : goal.returns-then-is_some-clause-held
 returns-then-is_some-clause-held g c = held_none c.args.self.now.pool
 
-pub returns-in_err-note_copies-clause-outcome : goal.returns-in_err-note_copies-clause-outcome
-returns-in_err-note_copies-clause-outcome g c = handed_on g.D.Disk c.from_residual.result c.from_residual.ensures.1 c.in_err-note_copies.ensures.outcome
+pub returns-then-is_unforced-clause-outcome : goal.returns-then-is_unforced-clause-outcome
+returns-then-is_unforced-clause-outcome g c = idle_any g.D.Disk g.met.D.Disk.only_now c.args.self.now c.args.disk.now c.requires.working c.requires.ready
 
-pub returns-clause-outcome : goal.returns-clause-outcome
-returns-clause-outcome g c = behind g.D.Disk AsksNothing none_still c.in_ok-note_copies.ensures.outcome c.flush_copied.ensures.outcome
-
-pub returns-clause-held : goal.returns-clause-held
-returns-clause-held g c = on_ok c.flush_copied.result _ _ c.flush_copied.ensures.held (λ held. subst (λ (pool : PoolView). SameHeld pool c.flush_copied.new.self.pool) c.note_copies.ensures.pool held)
+pub returns-then-is_unforced-clause-held : goal.returns-then-is_unforced-clause-held
+returns-then-is_unforced-clause-held g c = held_none c.args.self.now.pool

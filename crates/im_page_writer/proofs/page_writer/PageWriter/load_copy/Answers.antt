@@ -4,7 +4,7 @@ use Rattle.im_log.specs.Whats.{what_of}
 use Rattle.im_theory_log.specs.WriterSteps.{loaded}
 use Rattle.im_page_writer.specs.Synced.{IsKnown}
 use Rattle.im_page_writer.specs.declared.known.Known.{Known}
-use Rattle.im_page_writer.proofs.SyncedPages.{known_ended}
+use Rattle.im_page_writer.proofs.SyncedPages.{known_redone}
 use Rattle.im_page_table.proofs.Growing.{on_ok}
 use Rattle.im_page_writer.proofs.Goings.{leaves_so_far}
 use Rattle.im_page_writer.proofs.LoggedChanges.{err_on}
@@ -43,7 +43,7 @@ returns-clause-kept g c b base s copy is over at holds waits found low =
         stops = room.on.goes.stops;
         stands = record {
           working = c.put_copy.ensures.failed ∙ room.on.working;
-          known = known_ended t (loaded p copy t) new.known going refl refl (subst (λ (known : Known). IsKnown t known) (sym c.put_copy.ensures.known) room.on.known);
+          known = known_redone t (loaded p copy t) new.known going refl refl refl (subst (λ (known : Known). IsKnown t known) (sym c.put_copy.ensures.known) room.on.known);
           writing = copy_loaded g.D.Disk b base t mid.log mid.table mid.pool disk room.on.goes.writing going p c.args.lsn c.page-number.result copy what c.args.point mid new (keeps.point ∙ at) holds waits_still ((keeps.pages p).found ∙ found)
               (λ q lt. (keeps.pages q).waits ∙ low q lt) refl refl refl c.put_copy.ensures.log c.page-number.ensures here;
         };

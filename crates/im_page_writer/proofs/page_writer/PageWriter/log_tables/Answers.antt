@@ -5,9 +5,11 @@ use Rattle.im_log_record.specs.Entry.{Checkpoint}
 use Rattle.im_page_writer.specs.Checkpoints.{checkpoint_at}
 use Rattle.im_log.specs.Kept.{Appended}
 use Rattle.im_page_table.specs.DirtyTable.{dirty_pages}
-use Rattle.im_page_writer.proofs.Checkpointing.{forgets, tables_logged}
+use Rattle.im_page_writer.proofs.Checkpointing.{forgets, none_copied, tables_logged}
 use Rattle.im_page_file.proofs.Standing.{log_stops}
+use Rattle.im_page_table.proofs.DurableCopies.{durable_forgotten}
 use Rattle.im_page_writer.proofs.SyncedPages.{synced_more}
+use Rattle.im_page_writer.proofs.LogCalls.{append_only, log_broke}
 use Rattle.im_page_writer.proofs.page_writer.PageWriter.log_tables.Goals as goal
 
 pub returns-in_err-lsn-clause-kept : goal.returns-in_err-lsn-clause-kept
@@ -37,11 +39,15 @@ returns-clause-kept g c b base s e is over synced =
         grows = done.grows;
         stands = record {
           working = refl;
-          known = record { from = tt; synced = synced_more (checkpoint_at lsn c.args.next c.args.active.now dirty) s (record (appended (checkpoint_at lsn c.args.next c.args.active.now dirty) (forgotten s)) { durable = done.now_durable }) w.known.synced refl refl is.known.synced };
-          writing = tables_logged g.D.Disk b base s e c.args.next c.args.active.now dirty lsn w.log c.append_tables.new.log table w.pool old new f over done lists synced (c.append_tables.ensures.outcome (c.requires.ready.works c.requires.working)).opened c.append_tables.ensures.changes;
+          known = record { from = tt; synced = synced_more (checkpoint_at lsn c.args.next c.args.active.now dirty) s (record (appended (checkpoint_at lsn c.args.next c.args.active.now dirty) (forgotten s)) { durable = done.now_durable }) w.known.synced refl refl is.known.synced; copies = λ none. durable_forgotten (record (appended (checkpoint_at lsn c.args.next c.args.active.now dirty) (forgotten s)) { durable = done.now_durable }) (λ p. none_copied (s.pages p).entry) };
+          writing = tables_logged g.D.Disk b base s e c.args.next c.args.active.now dirty lsn w.log c.append_tables.new.log table w.pool old new f over done lists synced c.append_tables.ensures.outcome.ready c.append_tables.ensures.outcome.changes;
         };
         high = done.rises b is.writing.based;
         lists = lists;
       };
       stops = log_stops g.D.Disk b base (forgotten s) w.log table old f.stands new k.stops;
     }
+
+pub returns-in_err-lsn-clause-outcome : goal.returns-in_err-lsn-clause-outcome
+returns-in_err-lsn-clause-outcome g c =
+    log_broke g.D.Disk c.from_residual.result c.from_residual.ensures.1 (append_only _) c.requires.working refl (c.requires.ready.works c.requires.working) c.in_err-lsn.ensures.outcome (search rules) refl

@@ -1,4 +1,4 @@
-use Rattle.std.proofs.Common.{refl, rules}
+use Rattle.std.proofs.Common.{true, refl, rules}
 use Rattle.im_page_writer.proofs.SyncedPages.{known_grown}
 use Rattle.im_page_writer.proofs.ImageCalls.{imaging_broke}
 use Rattle.im_page_writer.proofs.page_writer.PageWriter.note_one.Goals as goal
@@ -24,6 +24,6 @@ returns-clause-outcome g c =
         later = one.ends.2;
         goes = λ b base s is asked.
             let f = (c.in_ok-note_in_file.ensures.kept b base s is.writing).ok in
-            record { now = f.now; on = record { working = refl; goes = f.goes; known = known_grown b s f.now c.args.self.now.known f.goes.keeps.redo_end f.goes.keeps.log f.goes.keeps.point is.known } };
+            record { now = f.now; on = record { working = refl; goes = f.goes; known = known_grown true b s f.now c.args.self.now.known f.goes.keeps.redo_end f.goes.keeps.log f.goes.keeps.point (λ none. absurd (cc none)) is.known } };
       };
     }

@@ -3,7 +3,7 @@ use Rattle.im_theory_log.specs.Copies.{HasCopy}
 use Rattle.im_log_record.specs.Entry.{view, page_of}
 use Rattle.im_log.specs.Spelled.{logged_at}
 use Rattle.im_page_table.specs.KnownCopies.{redone_as}
-use Rattle.im_page_writer.proofs.SyncedPages.{known_ended}
+use Rattle.im_page_writer.proofs.SyncedPages.{known_redone}
 use Rattle.im_page_writer.proofs.Goings.{leaves_so_far}
 use Rattle.im_page_table.proofs.Growing.{keeps_none}
 use Rattle.im_page_writer.specs.Outcome.{mild, AsksNothing}
@@ -30,7 +30,7 @@ returns-then-not-may_change-clause-kept g c b base s newer older is over at ther
         known = false;
         stands = record {
           working = is.working;
-          known = known_ended s (redone_as false r s) w.known over refl refl is.known;
+          known = known_redone s (redone_as false r s) w.known over refl refl refl is.known;
           writing = redone_none g.D.Disk b base s w.log w.table w.pool old is.writing over r newer older there (subst (λ (k : ℕ). k ≤ c.args.lsn) (sym at) from) ready (λ q. applies_none r q (s.pages q).page none);
         };
       };

@@ -5,7 +5,7 @@ use Rattle.im_log_record.specs.Entry.{view, page_of}
 use Rattle.im_log.specs.Spelled.{logged_at}
 use Rattle.im_page_pool.specs.Pool.{page_at}
 use Rattle.im_page_table.specs.KnownCopies.{redone_as}
-use Rattle.im_page_writer.proofs.SyncedPages.{known_ended}
+use Rattle.im_page_writer.proofs.SyncedPages.{known_redone}
 use Rattle.im_page_writer.proofs.Goings.{leaves_so_far}
 use Rattle.im_page_writer.specs.Outcome.{pages_of}
 use Rattle.im_page_writer.proofs.LoggedChanges.{err_on}
@@ -56,7 +56,7 @@ returns-then-lsn-clause-kept g c b base s newer older is over at there from read
         known = false;
         stands = record {
           working = got.on.working;
-          known = known_ended t (redone_as false r t) mid.known (keeps.redo_end ∙ over) refl refl got.on.known;
+          known = known_redone t (redone_as false r t) mid.known (keeps.redo_end ∙ over) refl refl refl got.on.known;
           writing = redone_none g.D.Disk b base t mid.log mid.table mid.pool disk got.on.goes.writing (keeps.redo_end ∙ over) r (keeps.durable.newer ++ newer) older (there_still b s t keeps r newer older there)
               (subst (λ (k : ℕ). k ≤ c.args.lsn) (sym (keeps.point ∙ at)) from) (ready_still b s t keeps r newer older ready)
               (λ q. subst (λ (g : Page). applies r q g ≡ false) (sym (keeps.pages q).page) (none q));

@@ -8,7 +8,7 @@ use Rattle.im_page_table.specs.KnownCopies.{redone_as}
 use Rattle.im_page_writer.specs.Synced.{IsKnown}
 use Rattle.im_page_writer.specs.declared.known.Known.{Known}
 use Rattle.im_page_writer.specs.Redoing.{TakesRecord}
-use Rattle.im_page_writer.proofs.SyncedPages.{known_ended}
+use Rattle.im_page_writer.proofs.SyncedPages.{known_redone}
 use Rattle.im_page_writer.proofs.Goings.{leaves_so_far}
 use Rattle.im_page_table.proofs.Growing.{if_ok}
 use Rattle.im_page_writer.proofs.LoggedChanges.{err_on}
@@ -55,7 +55,7 @@ returns-clause-kept g c b base s newer older is over at there from ready below h
         keeps = keeps;
         stops = room.on.goes.stops;
         known = c.args.copied;
-        stands = record { working = c.redo_held.ensures.failed ∙ room.on.working; known = known_ended t (redone_as c.args.copied r t) new.known (keeps.redo_end ∙ over) refl refl (subst (λ (known : Known). IsKnown t known) (sym c.redo_held.ensures.known) room.on.known); writing = step c.args.copied (λ known. subst (λ (k : ℕ). HasCopy t.durable k t.point) number (copy_still b s t keeps n (has known))) c.args.point n done new.log mid new refl refl (keeps.point ∙ at) number below_t c.redo_held.ensures.log here };
+        stands = record { working = c.redo_held.ensures.failed ∙ room.on.working; known = known_redone t (redone_as c.args.copied r t) new.known (keeps.redo_end ∙ over) refl refl refl (subst (λ (known : Known). IsKnown t known) (sym c.redo_held.ensures.known) room.on.known); writing = step c.args.copied (λ known. subst (λ (k : ℕ). HasCopy t.durable k t.point) number (copy_still b s t keeps n (has known))) c.args.point n done new.log mid new refl refl (keeps.point ∙ at) number below_t c.redo_held.ensures.log here };
       });
       applied = if_ok c.redo_held.result _ _ c.redo_held.ensures.ok (λ done here. here.applied.changes ∙ sym (applies_is r (s.pages r.page).page below_s));
       stops = leaves_so_far g.D.Disk b base s c.args.disk.now t mid.log mid.table mid.pool disk room.on.goes;

@@ -1,5 +1,6 @@
 use Rattle.std.proofs.Common.{refl, rules, arith}
 use Rattle.im_theory_log.specs.WriterSteps.{synced}
+use Rattle.im_page_table.proofs.DurableCopies.{durable_synced}
 use Rattle.im_page_writer.proofs.SyncedPages.{known_same}
 use Rattle.im_page_writer.proofs.Placing.{pooled_synced, synced_keeps}
 use Rattle.im_base_disk.proofs.Costs.{most_none, most_of}
@@ -15,7 +16,7 @@ returns-clause-kept g c b base s is =
     record {
       ok = record {
         working = refl;
-        known = known_same s (synced s) w.known refl refl refl is.known;
+        known = known_same s (synced s) w.known refl refl refl (durable_synced s) is.known;
         goes = record {
           writing = record { stands = k.ok.stands; entries = k.ok.entries; pooled = pooled_synced w.pool s.pages is.writing.pooled; based = is.writing.based };
           stops = k.stops;

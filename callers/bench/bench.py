@@ -1,0 +1,90 @@
+"""The same work as bench.c, in one thread, by vahondrisa and by the module lmdb. bench.py vah|lmdb FOLDER"""
+import sys
+import time
+
+who, folder = sys.argv[1:3]
+KEYS, COMMITS, READS, SCANS = 20032, 1600, 60000, 1600
+M = (1 << 64) - 1
+
+
+def mix(x: int) -> bytes:
+    x = x + 0x9E3779B97F4A7C15 & M
+    x = (x ^ x >> 30) * 0xBF58476D1CE4E5B9 & M
+    x = (x ^ x >> 27) * 0x94D049BB133111EB & M
+    return (x ^ x >> 31).to_bytes(8, "little")
+
+
+class Vah:
+    def __init__(self) -> None:
+        import vahondrisa
+
+        self.store = vahondrisa.open(folder)
+
+    def insert(self, pairs: list) -> None:
+        with self.store.begin() as txn:
+            for key, number in pairs:
+                txn.insert(key, number)
+
+    def look_up(self, keys: list) -> int:
+        with self.store.begin() as txn:
+            return sum(txn.get(key) for key in keys)
+
+    def scan(self, key: bytes) -> int:
+        with self.store.begin() as txn:
+            n = 0
+            for _ in txn.range(key, b"\xff" * 8, batch=100):
+                n += 1
+                if n == 100:
+                    break
+            return n
+
+
+class Lmdb:
+    def __init__(self) -> None:
+        import lmdb
+
+        self.env = lmdb.open(folder, map_size=1 << 30)
+
+    def insert(self, pairs: list) -> None:
+        with self.env.begin(write=True) as txn:
+            for key, number in pairs:
+                txn.put(key, number.to_bytes(8, "little"), overwrite=False)
+
+    def look_up(self, keys: list) -> int:
+        with self.env.begin() as txn:
+            return sum(int.from_bytes(txn.get(key), "little") for key in keys)
+
+    def scan(self, key: bytes) -> int:
+        with self.env.begin() as txn, txn.cursor() as cursor:
+            n = 0
+            if cursor.set_range(key):
+                for _, value in cursor:
+                    int.from_bytes(value, "little")
+                    n += 1
+                    if n == 100:
+                        break
+            return n
+
+
+user = Vah() if who == "vah" else Lmdb()
+keys = [mix(i) for i in range(KEYS)]
+late = [mix(1000000 + i) for i in range(COMMITS)]
+wanted = [i * 7919 % KEYS for i in range(READS)]
+
+
+def timed(what: str, count: int, turns) -> None:
+    wall, processor = time.perf_counter(), time.process_time()
+    for turn in turns:
+        turn()
+    wall, processor = time.perf_counter() - wall, time.process_time() - processor
+    print(f"python {who} 1 {what}: {count / wall:.0f} a second, {processor / count * 1e6:.2f} us of processor", flush=True)
+
+
+def look_up(i: int) -> None:
+    assert user.look_up([keys[j] for j in wanted[i : i + 100]]) == sum(wanted[i : i + 100])
+
+
+timed("inserts, 64 a commit", KEYS, [lambda i=i: user.insert([(keys[j], j) for j in range(i, i + 64)]) for i in range(0, KEYS, 64)])
+timed("inserts, 1 a commit", COMMITS, [lambda i=i: user.insert([(late[i], i)]) for i in range(COMMITS)])
+timed("look-ups, 100 a transaction", READS, [lambda i=i: look_up(i) for i in range(0, READS, 100)])
+timed("scans of 100", SCANS, [lambda i=i: user.scan(mix(i)) for i in range(SCANS)])

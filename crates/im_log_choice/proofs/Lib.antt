@@ -1,0 +1,4 @@
+pub mod Choices
+pub mod Names
+pub mod Turns
+pub mod Goings

@@ -1,0 +1,4 @@
+pub mod Saying
+pub mod Fronts
+pub mod Stops
+pub mod Runs

@@ -1,0 +1,23 @@
+//! What a log says of where it starts.
+
+use im_base_types::TxnId;
+
+/// What the header of a log says.
+#[derive(Clone, Copy, Debug, PartialEq, Eq)]
+pub struct Header {
+    /// Which log of its store it is: 1 is the first, and one that goes on in the other file has one more.
+    pub generation: u64,
+    /// The LSN of the file's first byte.
+    pub base: u64,
+    /// The least number that a transaction of the log may have, from 1 on.
+    pub next: TxnId,
+}
+
+/// A header, and where the first gate stands behind it.
+#[derive(Clone, Copy, Debug, PartialEq, Eq)]
+pub struct LogStart {
+    /// The place of the first gate, in bytes: 31 in the first format, 47 in the second.
+    pub first_gate: u64,
+    /// What the header says.
+    pub header: Header,
+}

@@ -1,0 +1,37 @@
+//! What stands in front of a log's first gate: the header of a log file, in either format.
+//!
+//! # The second format
+//!
+//! | Bytes | Content |
+//! |---|---|
+//! | 0 | made: 1 is made, any other byte is not |
+//! | 1 to 8 | `ARIESIM2` |
+//! | 9 to 12 | the page size, 4,096, big-endian |
+//! | 13 to 15 | zero |
+//! | 16 to 23 | the generation, 1 to 2^62 - 1 |
+//! | 24 to 31 | the base: the LSN of the file's first byte, up to 2^62 |
+//! | 32 to 39 | the least number that a transaction of the log may have |
+//! | 40 to 46 | zero |
+//! | 47 | the first gate |
+//!
+//! The first format has `ARIESIM1`, zeros from byte 13 on and its first gate at byte 31: it counts as generation 1, base 0 and
+//! least number 1. Byte 0 is asked first: a file of at most one byte, or whose byte 0 is not 1, is not made and says nothing, whatever header an
+//! earlier log has left behind that byte.
+//!
+//! `read_header` reads what a log says; it refuses a made file of neither format. `make_log` makes an empty log of the second format
+//! of any file, also of one that has a log: byte 0 is closed, the header and a closed first gate are written behind it, and byte 0 is
+//! opened, each on the disk before the next. A stop within leaves the file as it was, or not made, or the whole new log.
+//!
+//! The crate stands on the trait `Disk`. That the four numbers are functions of the bytes in front of the first gate, so that whoever keeps those keeps
+//! what they say, is the law `headers_say`.
+#![tactic(auto)]
+
+mod header;
+pub mod laws;
+mod making;
+mod reading;
+mod spelling;
+
+pub use header::{Header, LogStart};
+pub use making::make_log;
+pub use reading::read_header;

@@ -1,0 +1,9 @@
+//! A store over the files of a folder, as a program opens it that embeds one: an engine at rest, ready for the fronts of `im_front`. Who opens it here
+//! proves nothing of the engine.
+#![tactic(auto)]
+
+mod not_opened;
+mod opening;
+
+pub use not_opened::NotOpened;
+pub use opening::open;

@@ -1,0 +1,44 @@
+//! How the store of a folder is opened.
+
+ghost use Rattle.std.specs.Prelude.{◌≡◌, [], false, IfOk};
+ghost use Rattle.im_front.specs.Held.{IsResting};
+
+use crate::not_opened::NotOpened;
+use im_base_file_disk::FileDisk;
+use im_base_steps::Store;
+use im_engine::{Config, Engine};
+use im_front::Rested;
+
+/// Opens the store in a folder, or makes one where there is none. No transaction is active in it and nothing is locked, and it keeps the folder until it
+/// ends. Refused as `FileDisk::open` and `Engine::open_or_create` are.
+pub fn open(
+    rt: &HostRuntime,
+    folder: &str,
+    config: Config,
+) -> Result<Rested<Engine<FileDisk>>, NotOpened>
+    ensures group { IfOk result (λ e. e.txns.group ≡ config.group) }
+    ensures frames { IfOk result (λ e. e.writer.pool.frames ≡ config.frames) }
+    ensures works { IfOk result (λ e. (e.failed ≡ false) × (e.txns.rows ≡ [])) }
+{
+    match opened(rt, folder, config) {
+        Ok(engine) => Ok(Rested::new(engine)),
+        Err(error) => Err(error),
+    }
+}
+
+// The same, before it is said to be at rest.
+fn opened(rt: &HostRuntime, folder: &str, config: Config) -> Result<Engine<FileDisk>, NotOpened>
+    ensures rests { IfOk result (λ engine. IsResting ⟦<Engine<FileDisk> as Store>⟧ engine) }
+    ensures group { IfOk result (λ e. e.txns.group ≡ config.group) }
+    ensures frames { IfOk result (λ e. e.writer.pool.frames ≡ config.frames) }
+    ensures works { IfOk result (λ e. (e.failed ≡ false) × (e.txns.rows ≡ [])) }
+{
+    let disk = match FileDisk::open(rt, folder) {
+        Ok(disk) => disk,
+        Err(error) => return Err(NotOpened::Files(error)),
+    };
+    match Engine::open_or_create(rt.alloc(), disk, config) {
+        Ok(engine) => Ok(engine),
+        Err((fault, _disk)) => Err(NotOpened::Store(fault)),
+    }
+}

@@ -1,0 +1,136 @@
+//! The steps of a structure change that is made page by page, with records of others between its pages.
+
+ghost use Rattle.std.specs.Prelude.{◌≡◌, ◌<◌, ◌≤◌, ◌↔◌, ℕ, false, length, Some, IfErr, IfOk, IsTrue, OnErr};
+ghost use Rattle.im_base_types.specs.declared.fault.Fault.TheVariants.{Memory};
+ghost use Rattle.im_theory_log.specs.Histories.{Base};
+ghost use Rattle.im_theory_log.specs.Writer.{Writer};
+ghost use Rattle.im_log_record.specs.Entry.{DummyClr};
+ghost use Rattle.im_page_writer.specs.PageWriter.{IsReadyWriter, StandsAs, LogKept};
+ghost use Rattle.im_page_writer.specs.Outcome.{fault_of, mild, none_mild, Logs};
+ghost use Rattle.im_smo_log.specs.Changes.{AreCounted};
+ghost use Rattle.im_smo_log.specs.Stepping.{StepKept, CloseKept};
+
+use crate::change::Change;
+use crate::page_record::log_page;
+use crate::structure_change::are_counted;
+use im_base_disk::Disk;
+use im_base_types::{Fault, Lsn, TxnId};
+use im_log_record::Record;
+use im_page_writer::PageWriter;
+use im_smo_pages::Images;
+
+// Logs the record that closes a structure change.
+fn log_closing<D: Disk>(
+    writer: &mut PageWriter,
+    disk: &mut D,
+    transaction: TxnId,
+    prev: Lsn,
+    undo_next: Lsn,
+) -> Result<Lsn, Fault>
+    requires ready { IsReadyWriter D.Disk writer.old disk.old }
+    requires owner { 1 ≤ transaction }
+    ensures outcome { Logs D.Disk false none_mild writer.old disk.old writer.new disk.new (fault_of result) }
+    ensures kept { (b : Base) (base : ℕ) (s : Writer) (e : ℕ) → StandsAs D.Disk b base s writer.old disk.old → s.redo_end ≡ Some e
+        → LogKept D.Disk b base s (DummyClr transaction prev undo_next) disk.old writer.new disk.new result }
+{
+    let closing = Record::DummyClr {
+        transaction,
+        prev,
+        undo_next,
+    };
+    writer.log_only(disk, &closing)
+}
+
+impl Change {
+    /// A structure change of which no page is logged. It takes no memory; images that are none of a plan are refused `Memory`, as
+    /// `run` refuses them.
+    pub fn begin(
+        images: Images,
+        transaction: TxnId,
+        last: Lsn,
+        undo_next: Lsn,
+    ) -> Result<Change, Fault>
+        requires owner { 1 ≤ transaction }
+        ensures begun { IfOk result (λ change. (change.images ≡ images) × (change.done ≡ 0) × (change.transaction ≡ transaction) × (change.last ≡ last) × (change.undo_next ≡ undo_next)) }
+        ensures refused { IfErr result (λ e. (e ≡ Memory) × ¬ (AreCounted images)) }
+    {
+        if !are_counted(&images) {
+            return Err(Fault::Memory);
+        }
+        Ok(Change {
+            images,
+            done: 0,
+            transaction,
+            last,
+            undo_next,
+        })
+    }
+
+    /// Logs the next page, as it is and as it will be, and makes it so. Refused `Memory` with all as it was, so that it may be asked
+    /// again; `LogFull`, `Device`, or `NotAStore` where a page's bytes are none.
+    pub fn step<D: Disk>(&mut self, writer: &mut PageWriter, disk: &mut D) -> Result<(), Fault>
+        requires ready { IsReadyWriter D.Disk writer.old disk.old }
+        requires working { writer.old.failed ≡ false }
+        requires left { self.old.done < length self.old.images }
+        ensures outcome { Logs D.Disk false mild writer.old disk.old writer.new disk.new (fault_of result) }
+        ensures kept { (b : Base) (base : ℕ) (s : Writer) (e : ℕ) → StandsAs D.Disk b base s writer.old disk.old → s.redo_end ≡ Some e
+            → StepKept D.Disk b base s self.old disk.old self.new writer.new disk.new result }
+        ensures same { OnErr result (self.new ≡ self.old) }
+    {
+        let len = self.images.len();
+        let highest = self.images.number(len - 1);
+        let lsn = log_page(
+            writer,
+            disk,
+            self.transaction,
+            self.last,
+            self.images.number(self.done),
+            self.images.page(self.done),
+            highest,
+        )?;
+        self.done += 1;
+        self.last = lsn;
+        Ok(())
+    }
+
+    /// Logs the record that closes the change, behind its last page, from which undo goes on where it stood. It answers that
+    /// record's LSN. It wants no memory; refused `LogFull` or `Device`.
+    pub fn close<D: Disk>(&self, writer: &mut PageWriter, disk: &mut D) -> Result<Lsn, Fault>
+        requires ready { IsReadyWriter D.Disk writer.old disk.old }
+        requires working { writer.old.failed ≡ false }
+        requires end { self.now.done ≡ length self.now.images }
+        ensures outcome { Logs D.Disk false none_mild writer.old disk.old writer.new disk.new (fault_of result) }
+        ensures kept { (b : Base) (base : ℕ) (s : Writer) (e : ℕ) → StandsAs D.Disk b base s writer.old disk.old → s.redo_end ≡ Some e
+            → CloseKept D.Disk b base s self.now disk.old writer.new disk.new result }
+    {
+        log_closing(writer, disk, self.transaction, self.last, self.undo_next)
+    }
+
+    /// Whether a page of it is still to be logged.
+    pub fn is_left(&self) -> bool
+        ensures { IsTrue result ↔ (self.now.done < length self.now.images) }
+    {
+        self.done < self.images.len()
+    }
+
+    /// The transaction whose change it is.
+    pub fn owner(&self) -> TxnId
+        ensures { result ≡ self.now.transaction }
+    {
+        self.transaction
+    }
+
+    /// The LSN of its newest record, or of its transaction's newest one where no page is logged.
+    pub fn last(&self) -> Lsn
+        ensures { result ≡ self.now.last }
+    {
+        self.last
+    }
+
+    /// Where undo of its transaction goes on behind it.
+    pub fn undo_next(&self) -> Lsn
+        ensures { result ≡ self.now.undo_next }
+    {
+        self.undo_next
+    }
+}

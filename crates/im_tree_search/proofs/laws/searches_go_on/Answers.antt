@@ -1,0 +1,5 @@
+use Rattle.im_tree_search.proofs.Beside.{searches_go_on}
+use Rattle.im_tree_search.proofs.laws.searches_go_on.Goals as goal
+
+pub returns : goal.returns
+returns c = searches_go_on

@@ -1,4 +1,0 @@
-use Rattle.store_example.proofs.main.Given as goal
-
-abbrev pub ghosts-share : goal.ghosts-share
-ghosts-share g a = record { name = a.blank.name; parts = a.blank.parts }
