@@ -1,3 +1,5 @@
+//! Which transactions are active?
+//!
 //! The table of active transactions: at most 64 rows, in rising number.
 //!
 //! Contracts see the table as the list of its rows. Each call says exactly which list it leaves; that numbers rise, so that each

@@ -1,3 +1,5 @@
+//! What does a store do?
+//!
 //! The engine of many transactions over a log, pages, locks and a table of transactions: a store that is open, its steps, its openings,
 //! and lives of it.
 //!

@@ -1,3 +1,5 @@
+//! How is a checkpoint taken?
+//!
 //! Checkpoints: both tables written into the log, and what redo needs of a log from then on.
 //!
 //! `take` syncs the file of pages, adds one record with both tables, and forces. The one list is `rows_of`: the transactions that have

@@ -1,3 +1,5 @@
+//! How does one transaction among many do one step by a key?
+//!
 //! Steps by a key of one transaction among many: search and locks.
 //!
 //! Each step searches the tree, asks the lock table all that the access asks, by what was found there, and answers what one user alone

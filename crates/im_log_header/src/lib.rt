@@ -1,3 +1,5 @@
+//! What does a log file say of where its log starts? How is an empty log made?
+//!
 //! What stands in front of a log's first gate: the header of a log file, in either format.
 //!
 //! # The second format

@@ -1,3 +1,5 @@
+//! Which bytes are a record?
+//!
 //! The records of the log as bytes: each record has one spelling, and each spelling one record.
 //!
 //! `Record` has a variant for each of the eleven kinds, with the fields that the kind uses. Keys, page images and

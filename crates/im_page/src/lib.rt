@@ -1,3 +1,5 @@
+//! How does a page take, give and part its entries?
+//!
 //! Pages: a header and a sorted list in 4,096 bytes, searched and changed in place.
 //!
 //! A `Page` is 4,096 bytes; contracts see it as an LSN and a body (`im_base_types`: kind, level, mark, `prev`, `next`,

@@ -1,3 +1,5 @@
+//! How is a page written beside a log?
+//!
 //! Page writes beside a log: the file of pages, the full copies of pages in the log, and what a stop leaves of both.
 //!
 //! # The file of pages

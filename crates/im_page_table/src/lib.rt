@@ -1,3 +1,5 @@
+//! Since when does each page lack something in its file?
+//!
 //! What a writer of pages keeps of its pages, over plain data: the dirty table, which full copies are known beside it, and what stays
 //! while Images join the log.
 //!

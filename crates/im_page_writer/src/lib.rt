@@ -1,3 +1,5 @@
+//! How is a page changed, logged, written and redone, so that each stop can be recovered from?
+//!
 //! Page writes: which pages may lack changes in their file, and the calls that write pages in place and sync them.
 //!
 //! A page is changed in memory and written in place later, at any time. That a stop tears the write never matters: before it the

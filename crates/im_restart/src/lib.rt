@@ -1,3 +1,5 @@
+//! How is a store opened?
+//!
 //! Restart: a store's files are opened, its pages redone, and what was unfinished undone.
 //!
 //! `open_or_create` goes through the log once and then back from the ends of the losers:

@@ -1,3 +1,5 @@
+//! What does one pass over the log say?
+//!
 //! Analysis: what a restart has to know of the log before redo and undo, from one pass over its records.
 //!
 //! `Analysis::take` is handed each record with its LSN, the oldest first, and reads no page and no disk. Behind the

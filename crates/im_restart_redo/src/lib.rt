@@ -1,3 +1,5 @@
+//! How do pages come back?
+//!
 //! Redo: the pages are brought to what the whole durable log made of them.
 //!
 //! Analysis (`im_restart_analysis`) says from which LSN on records may be lacking in the file of pages, the redo point, and where the last

@@ -1,3 +1,5 @@
+//! Does this key want a structure change now?
+//!
 //! Structure changes that a key asks for: its leaf is split, or leaves the tree, as a nested top action of a transaction.
 //!
 //! - `split_for` splits the leaf of a key where it lacks room for the key, within a limit of pages or without one.

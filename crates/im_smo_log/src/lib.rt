@@ -1,3 +1,5 @@
+//! How is a planned change logged, whole or never?
+//!
 //! Structure changes in the log: each page that one changes, and the record that closes it.
 //!
 //! A structure change is a nested top action of the transaction that needs it: one Smo record for each page that it

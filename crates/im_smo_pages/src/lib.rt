@@ -1,3 +1,5 @@
+//! What do splits, deletions and allocations make of page images?
+//!
 //! Structure changes, page by page: what the pages say that a split, a deletion or an allocation leaves. Nothing here reads
 //! a disk or writes a log: all pages of a structure change are made before its first record is.
 //!

@@ -1,3 +1,5 @@
+//! Which pages does a split leave?
+//!
 //! The plan of a split: what pages have to hold before an entry goes into a leaf that lacks room for it.
 //!
 //! `plan_split` answers images, the pages that a split leaves, and changes none of the pool's: over the images the tree is good and

@@ -1,3 +1,5 @@
+//! How do log, machine, replies and tables go on together?
+//!
 //! Each step of a store of several transactions is a step of the machine of `im_base_lock` and a growth of the log.
 //!
 //! The log knows what is committed, what the tree holds and each transaction's net; the machine of `im_base_lock` knows marks, locks and

@@ -1,3 +1,5 @@
+//! Where is a key, and which is next?
+//!
 //! Search: the leaf of a key, the row id of a key, the next entry, and all entries, over a writer of pages.
 //!
 //! - `leaf_for` goes from page 1 down to the leaf in whose range a key lies, by one get for each level.
