@@ -1,3 +1,5 @@
+//! Which functions does C see?
+//!
 //! The store for C. C hands in memory: as many bytes as `im_size` says for a store, and a `Call` for each question.
 #![tactic(auto)]
 

@@ -25,7 +25,7 @@ use im_page_writer::PageWriter;
 use im_restart_analysis::{Loser, OpenRecord};
 use std::collections::BTreeMap;
 
-// Logs the undo of one page of a structure change behind its transaction's last record, and makes the page what it was. It answers
+// Logs the undo of one page of a structure change after its transaction's last record, and makes the page what it was. It answers
 // the LSN.
 fn take_back<D: Disk>(
     disk: &mut D,

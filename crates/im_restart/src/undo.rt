@@ -44,7 +44,7 @@ fn answered(fault: Fault) -> Fault
     }
 }
 
-// Takes back a key record of a loser, wherever splits have moved its key. It answers the LSN of the loser's last record behind that.
+// Takes back a key record of a loser, wherever splits have moved its key. It answers the LSN of the loser's last record after that.
 fn compensate<D: Disk>(
     alloc: Global,
     disk: &mut D,
@@ -129,7 +129,7 @@ fn go_on<D: Disk>(
     }
 }
 
-// Takes back a key record, and goes on behind it.
+// Takes back a key record, and goes on after it.
 #[tactic(auto, using(im_restart_redo::proofs::Recoveries::recovers_then, im_restart_redo::proofs::Recoveries::recovery_refused))]
 fn undo_key<D: Disk>(
     alloc: Global,

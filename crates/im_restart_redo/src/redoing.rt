@@ -24,7 +24,7 @@ use std::collections::BTreeMap;
 /// at least. It answers how many records were applied: those that change a page whose LSN was lower than theirs as redo first had it.
 ///
 /// Refused `NotAStore` where a page does not take its record or no such record stands there, otherwise as the writer's `get` is.
-/// Behind a refusal redo is not over: the store is to be opened again.
+/// After a refusal redo is not over: the store is to be opened again.
 pub fn redo<D: Disk>(
     disk: &mut D,
     writer: &mut PageWriter,
