@@ -11,6 +11,7 @@
 #![tactic(auto)]
 
 mod accesses;
+mod buffer_size;
 mod checkpoints;
 mod config;
 mod ends;
@@ -28,6 +29,7 @@ mod transactions;
 mod turns;
 mod writes;
 
+pub use buffer_size::BufferSize;
 pub use config::Config;
 pub use engine::Engine;
 pub use im_page::Header;
