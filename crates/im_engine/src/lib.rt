@@ -13,6 +13,7 @@
 #![tactic(auto)]
 
 mod accesses;
+mod buffer_size;
 mod checkpoints;
 mod config;
 mod ends;
@@ -30,6 +31,7 @@ mod transactions;
 mod turns;
 mod writes;
 
+pub use buffer_size::BufferSize;
 pub use config::Config;
 pub use engine::Engine;
 pub use im_page::Header;

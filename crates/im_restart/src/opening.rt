@@ -199,7 +199,7 @@ fn restart_tested<D: Disk>(
 
 /// Opens a store's log and pages, or makes a log where there is none yet and no page: analysis reads the log once, redo brings the
 /// pages to what all of it made of them, and the transactions with neither Commit nor End are undone and ended. Where that logs
-/// anything, it is made durable.
+/// anything, it is made durable. The log's buffer holds so many batches.
 ///
 /// Refused `NotAStore` where the bytes are no store, or there are pages without a log; `Capacity` where the key of a delete is put back into
 /// a full leaf, and page numbers or levels are used up, so that the leaf can't be split; `LogFull` only where the log's file then ends less
@@ -210,7 +210,9 @@ pub fn open_or_create<D: Disk>(
     alloc: Global,
     disk: &mut D,
     frames: usize,
+    batches: usize,
 ) -> Result<Restarted, Fault>
+    requires few { (1 ≤ batches) × (batches ≤ 64) }
     requires working { D.failed disk.old ≡ false }
     requires synced { IsSynced D.Disk disk.old }
     requires least { 8 ≤ frames }
@@ -226,6 +228,6 @@ pub fn open_or_create<D: Disk>(
     ensures redoes { (b : Base) (base : ℕ) (all : History) → D.tells → MayRedo b base all (D.seen disk.old) → IfErr result (λ e. e ≢ NotAStore) }
     ensures unspelled { D.tells → ¬ (SpellsLog (D.seen disk.old)) → Reads D.Disk disk.old disk.new × IfErr result (λ e. (e ≡ Memory) ⊎ (e ≡ Device) ⊎ (e ≡ NotAStore)) }
 {
-    let found = open_log(alloc, disk)?;
+    let found = open_log(alloc, disk, batches)?;
     restart_tested(alloc, disk, found, frames)
 }

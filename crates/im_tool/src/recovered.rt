@@ -6,7 +6,7 @@ use im_base_disk::{Disk, read_vec};
 use im_base_model_disk::ModelDisk;
 use im_base_steps::{Reply, Step};
 use im_base_types::{Fault, FileId, Key, MOST_FRAMES, PageNo, Rid};
-use im_engine::{Config, Engine, look};
+use im_engine::{BufferSize, Config, Engine, look};
 use std::alloc::Global;
 
 /// The bytes of both files.
@@ -40,6 +40,7 @@ fn whole_file<D: Disk>(alloc: Global, disk: &mut D, file: FileId) -> Result<Vec<
 const IN_MEMORY: Config = Config {
     frames: MOST_FRAMES,
     max_pages: u32::MAX,
+    buffer: BufferSize::ONE,
     group: false,
 };
 
