@@ -64,8 +64,8 @@ fn first_number(next: TxnId) -> TxnId
 #[tactic(auto, using(im_restart_redo::proofs::Recoveries::recovers_then, im_restart_redo::proofs::Recoveries::recovery_refused))]
 fn undo_found<D: Disk>(
     alloc: Global,
-    disk: &mut D,
     writer: &mut PageWriter,
+    disk: &mut D,
     analysed: &mut Analysed,
     room: &mut [u8],
 ) -> Result<(), Fault>
@@ -81,21 +81,21 @@ fn undo_found<D: Disk>(
     ensures next { analysed.new.next ≡ analysed.old.next }
 {
     undo_change(
-        disk,
         writer,
+        disk,
         &mut analysed.open_change,
         &mut analysed.losers,
         room,
     )?;
-    undo(alloc, disk, writer, &mut analysed.losers, room)
+    undo(alloc, writer, disk, &mut analysed.losers, room)
 }
 
 // Redoes the records from the redo point on, undoes and ends the losers, and makes what was logged durable. It answers how many
 // records were redone.
 fn settle<D: Disk>(
     alloc: Global,
-    disk: &mut D,
     writer: &mut PageWriter,
+    disk: &mut D,
     analysed: &mut Analysed,
     lsns: &[Lsn],
     room: &mut [u8],
@@ -113,14 +113,14 @@ fn settle<D: Disk>(
     ensures next { analysed.new.next ≡ analysed.old.next }
 {
     let applied = redo(
-        disk,
         writer,
+        disk,
         analysed.redo_point,
         &analysed.copies,
         lsns,
         room,
     )?;
-    undo_found(alloc, disk, writer, analysed, room)?;
+    undo_found(alloc, writer, disk, analysed, room)?;
     writer.force(disk)?;
     Ok(applied)
 }
@@ -158,7 +158,7 @@ fn restart<D: Disk>(
     writer.expect(synced_of(last));
     let mut room = make_room(alloc)?;
     let point = analysed.redo_point;
-    let applied = settle(alloc, disk, &mut writer, &mut analysed, &lsns, &mut room)?;
+    let applied = settle(alloc, &mut writer, disk, &mut analysed, &lsns, &mut room)?;
     Ok(Restarted {
         writer,
         next: first_number(analysed.next),

@@ -26,8 +26,8 @@ use std::collections::BTreeMap;
 /// Refused `NotAStore` where a page does not take its record or no such record stands there, otherwise as the writer's `get` is.
 /// After a refusal redo is not over: the store is to be opened again.
 pub fn redo<D: Disk>(
-    disk: &mut D,
     writer: &mut PageWriter,
+    disk: &mut D,
     point: Lsn,
     copies: &BTreeMap<PageNo, Lsn>,
     lsns: &[Lsn],
@@ -44,6 +44,6 @@ pub fn redo<D: Disk>(
     if writer.has_failed() {
         return Err(Fault::Failed);
     }
-    load_all(disk, writer, point, copies, room)?;
-    redo_all(disk, writer, point, copies, lsns, room)
+    load_all(writer, disk, point, copies, room)?;
+    redo_all(writer, disk, point, copies, lsns, room)
 }
