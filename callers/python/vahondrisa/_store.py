@@ -6,7 +6,7 @@ import os
 import weakref
 from ctypes import byref, c_size_t, c_uint64, c_void_p
 from types import TracebackType
-from typing import Callable, Dict, Iterator, Optional, Tuple, Type, TypeVar, Union
+from typing import Callable, Dict, Iterable, Iterator, Optional, Tuple, Type, TypeVar, Union
 
 from . import _library as c
 from ._errors import Error, GiveWay, refuse
@@ -152,22 +152,23 @@ class Transaction:
 
     def range(self, lo: bytes = b"\0", hi: bytes = b"\xff" * c.KEY_MAX, *, batch: int = c.SCAN_MAX) -> Iterator[Entry]:
         """The entries from one key to another, both included, in order. It reads, and so locks, `batch` of them at a time, 2 to 256."""
-        batch = max(2, min(batch, c.SCAN_MAX))
-        size = ctypes.sizeof(c.Entry)
-        room = ctypes.create_string_buffer(size * batch)
+        return itertools.chain.from_iterable(self._batches(lo, hi, max(2, min(batch, c.SCAN_MAX))))
+
+    def _batches(self, lo: bytes, hi: bytes, batch: int) -> "Iterator[Iterable[Entry]]":
+        """The entries of a range, those of one scan at a time. It reads on from the last key, which is not given twice."""
+        room = ctypes.create_string_buffer(ctypes.sizeof(c.Entry) * batch)
         count, given = c_size_t(), None
         while True:
             code = c.lib.vah_scan(self._going(), lo, len(lo), hi, len(hi), room, batch, byref(count))
             if code:
                 refuse(code)
-            raw = room.raw[: size * count.value]
-            for at in range(0, len(raw), size):
-                lo = raw[at + 9 : at + 9 + raw[at + 8]]
-                if lo != given:
-                    yield lo, int.from_bytes(raw[at : at + 8], "little")
+            fields = c.entries(count.value).unpack_from(room)
+            numbers, keys = fields[::2], fields[1::2]
+            first = int(keys[:1] == (given,))
+            yield zip(keys[first:], numbers[first:])
             if count.value < batch:
                 return
-            given = lo
+            lo = given = keys[-1]
 
     def prefix(self, prefix: bytes, *, batch: int = c.SCAN_MAX) -> Iterator[Entry]:
         """The entries whose keys begin with a prefix, in order."""
@@ -199,7 +200,8 @@ class Transaction:
     def _one(self, function: "Callable[..., int]", key: bytes) -> Optional[Entry]:
         entry = c.Entry()
         if self._unless(function(self._going(), key, len(key), byref(entry)), c.NOT_FOUND):
-            return bytes(entry.key[: entry.len]), entry.number
+            number, found = c.entries(1).unpack_from(entry)
+            return found, number
         return None
 
     @staticmethod
