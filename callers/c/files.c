@@ -47,6 +47,21 @@ static int whole(int fd, int writes, void *bytes, size_t len)
 	return 0;
 }
 
+/* What the proved library calls in the place of read and write, since it takes a call that a signal interrupted for one that failed. */
+ssize_t vah_device_read(int fd, void *to, size_t len)
+{
+	ssize_t n;
+	do n = read(fd, to, len); while (n < 0 && errno == EINTR);
+	return n;
+}
+
+ssize_t vah_device_write(int fd, const void *from, size_t len)
+{
+	ssize_t n;
+	do n = write(fd, from, len); while (n < 0 && errno == EINTR);
+	return n;
+}
+
 /* ---- the thread ---- */
 
 /* A question of the store: crates/im_base_pipe_disk. */

@@ -39,6 +39,10 @@ struct device {
 /* Opens the files of a folder, locks them, and starts the thread. A code; `text` then says why. */
 int vah_device_open(struct device *device, const char *path, char *text, size_t size);
 
+/* Calls of the proved library's pipes, made again where a signal interrupts them. */
+ssize_t vah_device_read(int fd, void *to, size_t len);
+ssize_t vah_device_write(int fd, const void *from, size_t len);
+
 /* Ends the thread, unless this is the child of who started it, and lets go of the files. The store must make no call any more. */
 void vah_device_close(struct device *device, int is_child);
 

@@ -2,7 +2,6 @@
 #define _GNU_SOURCE
 #include "internal.h"
 #include <errno.h>
-#include <signal.h>
 #include <stdio.h>
 #include <stdlib.h>
 #include <string.h>
@@ -161,16 +160,6 @@ static int breaks(const struct told *told)
 
 /* ---- questions ---- */
 
-/* The library takes a call of its pipes that a signal interrupted for one that failed, so no signal is handled on this thread meanwhile. */
-static void step(vah_store *store)
-{
-	sigset_t all, old;
-	sigfillset(&all);
-	pthread_sigmask(SIG_SETMASK, &all, &old);
-	im_step(store->handle, &store->call);
-	pthread_sigmask(SIG_SETMASK, &old, NULL);
-}
-
 /* A key of more than 255 bytes is refused by the library, which reads 256 at most. */
 static void set_key(uint8_t *to, uint32_t *to_len, const void *key, size_t len)
 {
@@ -189,7 +178,7 @@ static struct told ask_once(vah_store *store, const struct question *q)
 	call->number = q->number;
 	set_key(call->key, &call->key_len, q->key, q->key_len);
 	set_key(call->hi, &call->hi_len, q->hi, q->hi_len);
-	step(store);
+	im_step(store->handle, &store->call);
 	return (struct told){ call->word, call->fault, call->number };
 }
 
@@ -338,7 +327,7 @@ static int open_session(vah_store *store, const vah_config *config)
 	store->call.number = config->redo_bytes;
 	store->call.key_len = (uint32_t)store->device.ask[1];
 	store->call.hi_len = (uint32_t)store->device.answer[0];
-	step(store);
+	im_step(store->handle, &store->call);
 	return store->call.word == REFUSED ? fail(store, (int)store->call.fault) : VAH_OK;
 }
 
@@ -395,7 +384,7 @@ int vah_close(vah_store *store)
 			return fail(store, VAH_ACTIVE);
 		}
 		store->call.step = CLOSE;
-		step(store);
+		im_step(store->handle, &store->call);
 		if (store->call.word == REFUSED)
 			code = (int)store->call.fault;
 		done(store);

@@ -248,6 +248,7 @@ static void threads(const char *dir)
 {
 	struct itimerval often = { { 0, 700 }, { 0, 700 } }, none = { { 0, 0 }, { 0, 0 } };
 	struct sigaction action = { .sa_handler = on_alarm };
+	sigset_t alarm;
 	vah_store *store;
 	vah_txn *txn;
 	vah_entry entries[16];
@@ -265,6 +266,10 @@ static void threads(const char *dir)
 		works[i] = (struct work){ store, i };
 		HOLDS(!pthread_create(&all[i], NULL, move, &works[i]));
 	}
+	/* so that signals come to threads within calls, and interrupt what they wait for */
+	sigemptyset(&alarm);
+	sigaddset(&alarm, SIGALRM);
+	pthread_sigmask(SIG_BLOCK, &alarm, NULL);
 	for (int i = 0; i < 6; i++) pthread_join(all[i], NULL);
 	setitimer(ITIMER_REAL, &none, NULL);
 	HOLDS(fired > 0);

@@ -6,7 +6,7 @@ import os
 import weakref
 from ctypes import byref, c_size_t, c_uint64, c_void_p
 from types import TracebackType
-from typing import Callable, Dict, Iterable, Iterator, Optional, Tuple, Type, TypeVar, Union
+from typing import Callable, Dict, Iterable, Iterator, List, Optional, Tuple, Type, TypeVar, Union
 
 from . import _library as c
 from ._errors import Error, GiveWay, refuse
@@ -37,9 +37,13 @@ def open(path: Union[str, bytes, "os.PathLike[str]"], *, frames: int = 1024, max
 class Store:
     """A store that is open. Any thread may use it. A `with` block closes it at its end."""
 
+    # (of one whose making a signal's exception cut off)
+    _at: Optional[c_void_p] = None
+    _active: "weakref.WeakSet[Transaction]" = weakref.WeakSet()
+
     def __init__(self, at: c_void_p) -> None:
-        self._at: Optional[c_void_p] = at
-        self._active: "weakref.WeakSet[Transaction]" = weakref.WeakSet()
+        self._active = weakref.WeakSet()
+        self._at = at
 
     def begin(self, *, wait: bool = True) -> "Transaction":
         """Begins a transaction: use it in a `with` block, or end it by `commit` or `rollback`.
@@ -117,6 +121,8 @@ class Store:
 
 class Transaction:
     """A transaction of one thread at a time. A `with` block commits it at its end, or rolls it back where an exception leaves the block."""
+
+    _at: "List[c_void_p]" = []  # of one whose making a signal's exception cut off
 
     def __init__(self, store: Store) -> None:
         self._store = store  # which is not collected before its transactions
