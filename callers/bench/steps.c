@@ -49,8 +49,9 @@ int main(int argc, char **argv)
 	OK(vah_device_open(&device, argv[1], text, sizeof text));
 	if (!(handle = malloc(im_size()))) return 1;
 	im_init(handle);
+	vah_device_serve(&device);
 	call = (struct call){ .step = OPEN, .limit = config.frames, .txn = config.max_pages, .number = config.redo_bytes,
-		.key_len = (uint32_t)device.ask[1], .hi_len = (uint32_t)device.answer[0] };
+		.key_len = 0 };
 	im_step(handle, &call);
 	IS((int)call.word, DONE);
 
@@ -92,6 +93,6 @@ int main(int argc, char **argv)
 
 	call.step = CLOSE;
 	im_step(handle, &call);
-	vah_device_close(&device, 0);
+	vah_device_close(&device);
 	return call.word != DONE;
 }

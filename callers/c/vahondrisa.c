@@ -160,6 +160,12 @@ static int breaks(const struct told *told)
 
 /* ---- questions ---- */
 
+static void step(vah_store *store)
+{
+	vah_device_serve(&store->device);
+	im_step(store->handle, &store->call);
+}
+
 /* A key of more than 255 bytes is refused by the library, which reads 256 at most. */
 static void set_key(uint8_t *to, uint32_t *to_len, const void *key, size_t len)
 {
@@ -178,7 +184,7 @@ static struct told ask_once(vah_store *store, const struct question *q)
 	call->number = q->number;
 	set_key(call->key, &call->key_len, q->key, q->key_len);
 	set_key(call->hi, &call->hi_len, q->hi, q->hi_len);
-	im_step(store->handle, &store->call);
+	step(store);
 	return (struct told){ call->word, call->fault, call->number };
 }
 
@@ -325,9 +331,8 @@ static int open_session(vah_store *store, const vah_config *config)
 	store->call.limit = config->frames;
 	store->call.txn = config->max_pages;
 	store->call.number = config->redo_bytes;
-	store->call.key_len = (uint32_t)store->device.ask[1];
-	store->call.hi_len = (uint32_t)store->device.answer[0];
-	im_step(store->handle, &store->call);
+	store->call.key_len = store->call.hi_len = 0; /* descriptors: any, since vah_device_write and _read stand for them */
+	step(store);
 	return store->call.word == REFUSED ? fail(store, (int)store->call.fault) : VAH_OK;
 }
 
@@ -353,7 +358,7 @@ int vah_open(const char *path, const vah_config *config, vah_store **store)
 	code = made->path && made->handle ? vah_device_open(&made->device, path, text, sizeof text) : fail(NULL, VAH_MEMORY);
 	if (!code && (code = open_session(made, &read))) {
 		int reason = errno;
-		vah_device_close(&made->device, 0);
+		vah_device_close(&made->device);
 		errno = reason;
 	}
 	if (code) {
@@ -384,7 +389,7 @@ int vah_close(vah_store *store)
 			return fail(store, VAH_ACTIVE);
 		}
 		store->call.step = CLOSE;
-		im_step(store->handle, &store->call);
+		step(store);
 		if (store->call.word == REFUSED)
 			code = (int)store->call.fault;
 		done(store);
@@ -392,7 +397,7 @@ int vah_close(vah_store *store)
 		pthread_cond_destroy(&store->forced);
 		pthread_mutex_destroy(&store->lock);
 	}
-	vah_device_close(&store->device, code == VAH_FORKED);
+	vah_device_close(&store->device);
 	fail(store, code);
 	int why = errno;
 	free_store(store);
