@@ -24,6 +24,9 @@
 //! middle 1.09 times two writes and two syncs of as many bytes in C on a file that they make longer (0.96 to 1.20), and 1.06 times the
 //! same within a file of zeros; with replies into a file of the same disk 1.09 and 1.07 times, seven rounds. A log's file is longer by a room
 //! of zeros at a time, so that most syncs write no new length, which is why it is above the first of the two.
+//!
+//! Syncs a commit of 64 such inserts, counted at a load of 25: with a log's buffer of one batch, by the library for C, 5.50 at 20,032 keys and
+//! 6.14 at 100,000; with one of 32, by `imstore`, 2.02 at 20,032 and 2.01 at 53,504.
 
 mod options;
 
