@@ -2,26 +2,14 @@
  * second by the clock, and microseconds of processor each, all threads of the process together. */
 #define _GNU_SOURCE
 #include "vahondrisa.h"
+#include "work.h"
 #include <lmdb.h>
 #include <pthread.h>
 #include <sqlite3.h>
-#include <stdio.h>
-#include <stdlib.h>
 #include <string.h>
 #include <sys/stat.h>
-#include <time.h>
 
-#define IS(c, wanted) do { int rc_ = (c); if (rc_ != (wanted)) { fprintf(stderr, "line %d: %d\n", __LINE__, rc_); exit(1); } } while (0)
-#define OK(c) IS(c, 0)
-enum { KEYS = 20032, COMMITS = 1600, READS = 200000, SCANS = 1600, LIMIT = 100, MOST = 16 };
-
-static uint64_t mix(uint64_t x)
-{
-	x += 0x9e3779b97f4a7c15u;
-	x = (x ^ x >> 30) * 0xbf58476d1ce4e5b9u;
-	x = (x ^ x >> 27) * 0x94d049bb133111ebu;
-	return x ^ x >> 31;
-}
+enum { MOST = 16 };
 static const uint64_t last = UINT64_MAX;
 static unsigned threads;
 
@@ -202,13 +190,6 @@ static void *scans(void *arg)
 	return NULL;
 }
 
-static double on(clockid_t clock)
-{
-	struct timespec t;
-	clock_gettime(clock, &t);
-	return (double)t.tv_sec + (double)t.tv_nsec / 1e9;
-}
-
 int main(int argc, char **argv)
 {
 	struct { const char *name; void *(*work)(void *); double count; } works[] = {
@@ -226,10 +207,7 @@ int main(int argc, char **argv)
 		double wall = on(CLOCK_MONOTONIC), processor = on(CLOCK_PROCESS_CPUTIME_ID);
 		for (unsigned i = 0; i < threads; i++) OK(pthread_create(&running[i], NULL, works[w].work, &users[i]));
 		for (unsigned i = 0; i < threads; i++) pthread_join(running[i], NULL);
-		wall = on(CLOCK_MONOTONIC) - wall;
-		processor = on(CLOCK_PROCESS_CPUTIME_ID) - processor;
-		printf("c %s %u %s: %.0f a second, %.2f us of processor\n", argv[1], threads, works[w].name, works[w].count / wall, processor / works[w].count * 1e6);
-		fflush(stdout);
+		tell(argv[1], threads, works[w].name, works[w].count, wall, processor);
 	}
 	by->close();
 	return 0;

@@ -1,8 +1,10 @@
-"""The same work as bench.c, in one thread, by vahondrisa and by the module lmdb. bench.py vah|lmdb FOLDER"""
+"""The same work as bench.c, by vahondrisa and by the module lmdb. bench.py vah|lmdb FOLDER THREADS"""
 import sys
+import threading
 import time
 
 who, folder = sys.argv[1:3]
+THREADS = int(sys.argv[3])
 KEYS, COMMITS, READS, SCANS = 20032, 1600, 60000, 1600
 M = (1 << 64) - 1
 
@@ -21,9 +23,7 @@ class Vah:
         self.store = vahondrisa.open(folder)
 
     def insert(self, pairs: list) -> None:
-        with self.store.begin() as txn:
-            for key, number in pairs:
-                txn.insert(key, number)
+        self.store.write(lambda txn: [txn.insert(key, number) for key, number in pairs])
 
     def look_up(self, keys: list) -> int:
         with self.store.begin() as txn:
@@ -72,19 +72,23 @@ late = [mix(1000000 + i) for i in range(COMMITS)]
 wanted = [i * 7919 % KEYS for i in range(READS)]
 
 
-def timed(what: str, count: int, turns) -> None:
+def timed(what: str, count: int, each: int, turn) -> None:
+    """Turns of so many each, of which every thread does its part."""
+    threads = [threading.Thread(target=lambda n=n: [turn(i) for i in range(n * each, count, each * THREADS)]) for n in range(THREADS)]
     wall, processor = time.perf_counter(), time.process_time()
-    for turn in turns:
-        turn()
+    for it in threads:
+        it.start()
+    for it in threads:
+        it.join()
     wall, processor = time.perf_counter() - wall, time.process_time() - processor
-    print(f"python {who} 1 {what}: {count / wall:.0f} a second, {processor / count * 1e6:.2f} us of processor", flush=True)
+    print(f"python {who} {THREADS} {what}: {count / wall:.0f} a second, {processor / count * 1e6:.2f} us of processor", flush=True)
 
 
 def look_up(i: int) -> None:
     assert user.look_up([keys[j] for j in wanted[i : i + 100]]) == sum(wanted[i : i + 100])
 
 
-timed("inserts, 64 a commit", KEYS, [lambda i=i: user.insert([(keys[j], j) for j in range(i, i + 64)]) for i in range(0, KEYS, 64)])
-timed("inserts, 1 a commit", COMMITS, [lambda i=i: user.insert([(late[i], i)]) for i in range(COMMITS)])
-timed("look-ups, 100 a transaction", READS, [lambda i=i: look_up(i) for i in range(0, READS, 100)])
-timed("scans of 100", SCANS, [lambda i=i: user.scan(mix(i)) for i in range(SCANS)])
+timed("inserts, 64 a commit", KEYS, 64, lambda i: user.insert([(keys[j], j) for j in range(i, i + 64)]))
+timed("inserts, 1 a commit", COMMITS, 1, lambda i: user.insert([(late[i], i)]))
+timed("look-ups, 100 a transaction", READS, 100, look_up)
+timed("scans of 100", SCANS, 1, lambda i: user.scan(mix(i)))

@@ -1,4 +1,4 @@
-/* The files of a store, and the thread that makes the calls of the system. What is guarded here is what FileDisk guards
+/* The files of a store, and the calls of the system that it asks for. What is guarded here is what FileDisk guards
  * (crates/im_base_file_disk): the two are tested on one list, examples/imstore_guards_files. */
 #define _GNU_SOURCE
 #include "internal.h"
@@ -32,25 +32,8 @@ static int whole_at(int fd, int writes, uint8_t *bytes, size_t len, off_t at)
 	return 0;
 }
 
-static int whole(int fd, int writes, void *bytes, size_t len)
-{
-	uint8_t *at = bytes;
-	while (len) {
-		ssize_t n = writes ? write(fd, at, len) : read(fd, at, len);
-		if (n == 0 || (n < 0 && errno != EINTR))
-			return -1;
-		if (n > 0) {
-			at += n;
-			len -= (size_t)n;
-		}
-	}
-	return 0;
-}
+/* ---- what the store asks for: crates/im_base_pipe_disk ---- */
 
-/* ---- the thread ---- */
-
-/* A question of the store: crates/im_base_pipe_disk. */
-struct question { uint32_t kind, file; uint64_t place, len; };
 enum { LEN = 1, READ, WRITE, SYNC };
 
 #ifdef VAH_TEST
@@ -58,10 +41,10 @@ atomic_ulong vah_test_syncs;
 #endif
 
 /* In tests, whether this call is to fail. */
-static int is_to_fail(struct device *device, const struct question *q)
+static int is_to_fail(struct device *device)
 {
 #ifdef VAH_TEST
-	if (q->kind == SYNC) {
+	if (device->question.kind == SYNC) {
 		atomic_fetch_add(&vah_test_syncs, 1);
 		usleep((useconds_t)device->slow);
 	}
@@ -74,79 +57,96 @@ static int is_to_fail(struct device *device, const struct question *q)
 	}
 #else
 	(void)device;
-	(void)q;
 #endif
 	return 0;
 }
 
-/* Takes the bytes of a write out of the pipe, all of them whatever happens, since the store is putting them in, and writes them by one call; 0
- * where they are written. */
-static int take_write(struct device *device, int fd, const struct question *q, int failed)
+/* Notes the system's reason for the first call that failed. */
+static void note(struct device *device)
 {
-	uint8_t some[4096], *room = failed ? NULL : malloc(q->len ? q->len : 1);
-	if (room) {
-		failed = whole(device->ask[0], 0, room, q->len) || whole_at(fd, 1, room, q->len, (off_t)q->place);
-		free(room);
-		return failed;
-	}
-	int why = errno;
-	for (uint64_t done = 0; done < q->len; ) {
-		size_t n = q->len - done < sizeof some ? (size_t)(q->len - done) : sizeof some;
-		if (whole(device->ask[0], 0, some, n))
-			break;
-		done += n;
-	}
-	errno = why;
-	return -1;
+	int none = 0;
+	atomic_compare_exchange_strong(&device->why, &none, errno);
 }
 
-/* Makes the calls that the store asks for, until its end of the pipe is closed. It never closes its own end while the store may write. */
-static void *serve(void *arg)
+/* Writes all bytes. A file that may not grow raises a signal, which this thread must not end by: it is taken back. */
+static int write_whole(int fd, const void *bytes, size_t len, off_t at)
 {
-	struct device *device = arg;
-	struct question q;
-	struct stat st;
-	while (!whole(device->ask[0], 0, &q, sizeof q)) {
-		int fd = q.file < FILES ? device->files[q.file] : -1, failed = is_to_fail(device, &q);
-		uint64_t number = 0;
-		uint8_t *room = NULL;
-		switch (q.kind) {
-		case LEN:
-			failed = failed || fstat(fd, &st);
-			number = failed ? 0 : (uint64_t)st.st_size;
-			break;
-		case READ:
-			failed = failed || !(room = malloc(q.len ? q.len : 1)) || whole_at(fd, 0, room, q.len, (off_t)q.place);
-			break;
-		case WRITE:
-			failed = take_write(device, fd, &q, failed);
-			break;
-		default:
-			failed = failed || fdatasync(fd);
-			break;
-		}
-		if (failed) {
-			int none = 0;
-			atomic_compare_exchange_strong(&device->why, &none, errno);
-			number = UINT64_MAX;
-		}
-		if (!whole(device->answer[1], 1, &number, sizeof number) && q.kind == READ && !failed)
-			whole(device->answer[1], 1, room, q.len);
-		free(room);
-	}
-	return NULL;
-}
-
-/* Starts the thread, which handles no signal. */
-static int start(struct device *device)
-{
-	sigset_t all, old;
-	sigfillset(&all);
-	pthread_sigmask(SIG_SETMASK, &all, &old);
-	errno = pthread_create(&device->thread, NULL, serve, device);
-	device->has_thread = !errno;
+	sigset_t too_large, old, pending;
+	sigemptyset(&too_large);
+	sigaddset(&too_large, SIGXFSZ);
+	pthread_sigmask(SIG_BLOCK, &too_large, &old);
+	int failed = whole_at(fd, 1, (uint8_t *)(uintptr_t)bytes, len, at), why = errno;
+	if (failed && !sigpending(&pending) && sigismember(&pending, SIGXFSZ))
+		sigtimedwait(&too_large, NULL, &(struct timespec){ 0, 0 });
 	pthread_sigmask(SIG_SETMASK, &old, NULL);
-	return device->has_thread ? 0 : -1;
+	errno = why;
+	return failed;
+}
+
+/* Makes the call that is asked, with the bytes of a write, and keeps its answer. The bytes of a read are read behind it, into their place. */
+static void make(struct device *device, const void *bytes)
+{
+	const struct device_call *q = &device->question;
+	int fd = q->file < FILES ? device->files[q->file] : -1, failed = is_to_fail(device);
+	struct stat st = { 0 };
+	switch (q->kind) {
+	case LEN: failed = failed || fstat(fd, &st); break;
+	case READ: break;
+	case WRITE: failed = failed || write_whole(fd, bytes, q->len, (off_t)q->place); break;
+	default: failed = failed || fdatasync(fd); break;
+	}
+	if (failed)
+		note(device);
+	device->number = failed ? UINT64_MAX : (uint64_t)st.st_size;
+}
+
+/* The device of the store that this thread makes a step of. */
+static _Thread_local struct device *serving;
+
+void vah_device_serve(struct device *device) { serving = device; }
+
+/* What the proved library calls in the place of write: a question, and the bytes of a write. */
+ssize_t vah_device_write(int fd, const void *from, size_t len)
+{
+	struct device *device = serving;
+	(void)fd;
+	if (device->is_written) {
+		if (len != device->question.len)
+			return -1;
+		device->is_written = 0;
+		make(device, from);
+		return (ssize_t)len;
+	}
+	if (len != sizeof device->question)
+		return -1;
+	memcpy(&device->question, from, len);
+	device->is_answered = 0;
+	device->is_written = device->question.kind == WRITE && device->question.len;
+	if (!device->is_written)
+		make(device, from);
+	return (ssize_t)len;
+}
+
+/* What the proved library calls in the place of read: an answer, and the bytes of a read, which are as many as were asked for. */
+ssize_t vah_device_read(int fd, void *to, size_t len)
+{
+	struct device *device = serving;
+	const struct device_call *q = &device->question;
+	(void)fd;
+	if (!device->is_answered) {
+		if (len != sizeof device->number)
+			return -1;
+		memcpy(to, &device->number, len);
+		device->is_answered = 1;
+		return (ssize_t)len;
+	}
+	if (len != q->len)
+		return -1;
+	if (whole_at(device->files[q->file], 0, to, len, (off_t)q->place)) {
+		note(device);
+		return -1;
+	}
+	return (ssize_t)len;
 }
 
 /* ---- the opening ---- */
@@ -317,23 +317,12 @@ static int open_files(struct opening *o, int *files, int folder, char *path)
 	return is_made ? 0 : sync_folders(o, path);
 }
 
-static int open_pipes(struct opening *o, struct device *device)
-{
-	if (pipe2(device->ask, O_CLOEXEC) || pipe2(device->answer, O_CLOEXEC))
-		return refuse_system(o);
-	for (int i = 0; i < 2; i++)
-		if (device->ask[i] <= STDERR_FILENO || device->answer[i] <= STDERR_FILENO)
-			return refuse(o, VAH_DEVICE, "no descriptor is left but those of the standard streams");
-	return start(device) ? refuse_system(o) : 0;
-}
-
 int vah_device_open(struct device *device, const char *path, char *text, size_t size)
 {
 	struct opening o = { path, text, size, 0, 0 };
 	int folders[3] = { -1, -1, -1 };
 	char *copy = strdup(path);
 	device->files[LOG] = device->files[PAGES] = device->files[LOG2] = -1;
-	device->ask[0] = device->ask[1] = device->answer[0] = device->answer[1] = -1;
 	if (!copy) {
 		refuse(&o, VAH_MEMORY, "out of memory");
 	} else if (!*path) {
@@ -344,28 +333,24 @@ int vah_device_open(struct device *device, const char *path, char *text, size_t 
 		for (int i = 0; i < 3 && !o.code; i++)
 			if ((folders[i] = open(path, O_RDONLY | O_DIRECTORY | O_CLOEXEC)) < 0)
 				refuse_system(&o);
-		if (!o.code && !open_files(&o, device->files, folders[0], copy))
-			open_pipes(&o, device);
+		if (!o.code)
+			open_files(&o, device->files, folders[0], copy);
 	}
 	for (int i = 0; i < 3; i++)
 		if (folders[i] >= 0)
 			close(folders[i]);
 	free(copy);
 	if (o.code) {
-		vah_device_close(device, 0);
+		vah_device_close(device);
 		errno = o.why;
 	}
 	return o.code;
 }
 
-void vah_device_close(struct device *device, int is_child)
+void vah_device_close(struct device *device)
 {
-	if (device->ask[1] >= 0)
-		close(device->ask[1]);
-	if (device->has_thread && !is_child)
-		pthread_join(device->thread, NULL);
-	int rest[] = { device->ask[0], device->answer[0], device->answer[1], device->files[PAGES], device->files[LOG2], device->files[LOG] };
-	for (size_t i = 0; i < sizeof rest / sizeof *rest; i++)
-		if (rest[i] >= 0)
-			close(rest[i]);
+	int all[] = { device->files[PAGES], device->files[LOG2], device->files[LOG] };
+	for (size_t i = 0; i < sizeof all / sizeof *all; i++)
+		if (all[i] >= 0)
+			close(all[i]);
 }

@@ -24,23 +24,33 @@ _Static_assert(sizeof(vah_info) == 48, "bindings know the info by this");
 /* The files of a store, as the proved library numbers them. */
 enum { LOG, PAGES, LOG2, FILES };
 
-/* The files, and who makes the calls of the system that the store asks for. */
+/* A device call that the store asks for: crates/im_base_pipe_disk. */
+struct device_call { uint32_t kind, file; uint64_t place, len; };
+
+/* The files, and the call that is asked for. */
 struct device {
 	int files[FILES];
-	int ask[2], answer[2];  /* pipes: the store asks at ask[1], and is answered at answer[0] */
-	pthread_t thread;
-	int has_thread;
+	struct device_call question;
+	int is_written;         /* the bytes of a write are still to come */
+	int is_answered;        /* the answer was read; the bytes of a read come after it */
+	uint64_t number;        /* the answer */
 	atomic_int why;         /* the system's reason for the first call that failed */
 	unsigned long fail_at;  /* in tests: this call fails, and each after it; 0: none does */
 	unsigned long kill_at;  /* in tests: within this call the process is killed; 0: none */
 	unsigned long slow;     /* in tests: how many microseconds longer a sync takes */
 };
 
-/* Opens the files of a folder, locks them, and starts the thread. A code; `text` then says why. */
+/* Opens the files of a folder, and locks them. A code; `text` then says why. */
 int vah_device_open(struct device *device, const char *path, char *text, size_t size);
 
-/* Ends the thread, unless this is the child of who started it, and lets go of the files. The store must make no call any more. */
-void vah_device_close(struct device *device, int is_child);
+/* Lets go of the files. */
+void vah_device_close(struct device *device);
+
+/* Before a step: the device that this thread's next calls are for. The proved library asks, and is answered, by a pair of descriptors; whatever
+ * their numbers are, these two stand for `write` and `read` in it (Makefile), and make the call that it asks for. */
+void vah_device_serve(struct device *device);
+ssize_t vah_device_write(int fd, const void *from, size_t len);
+ssize_t vah_device_read(int fd, void *to, size_t len);
 
 #ifdef VAH_TEST
 /* In tests: how many syncs were asked for, of all stores. */

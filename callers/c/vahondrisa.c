@@ -2,7 +2,6 @@
 #define _GNU_SOURCE
 #include "internal.h"
 #include <errno.h>
-#include <signal.h>
 #include <stdio.h>
 #include <stdlib.h>
 #include <string.h>
@@ -161,14 +160,10 @@ static int breaks(const struct told *told)
 
 /* ---- questions ---- */
 
-/* The library takes a call of its pipes that a signal interrupted for one that failed, so no signal is handled on this thread meanwhile. */
 static void step(vah_store *store)
 {
-	sigset_t all, old;
-	sigfillset(&all);
-	pthread_sigmask(SIG_SETMASK, &all, &old);
+	vah_device_serve(&store->device);
 	im_step(store->handle, &store->call);
-	pthread_sigmask(SIG_SETMASK, &old, NULL);
 }
 
 /* A key of more than 255 bytes is refused by the library, which reads 256 at most. */
@@ -336,8 +331,7 @@ static int open_session(vah_store *store, const vah_config *config)
 	store->call.limit = config->frames;
 	store->call.txn = config->max_pages;
 	store->call.number = config->redo_bytes;
-	store->call.key_len = (uint32_t)store->device.ask[1];
-	store->call.hi_len = (uint32_t)store->device.answer[0];
+	store->call.key_len = store->call.hi_len = 0; /* descriptors: any, since vah_device_write and _read stand for them */
 	step(store);
 	return store->call.word == REFUSED ? fail(store, (int)store->call.fault) : VAH_OK;
 }
@@ -364,7 +358,7 @@ int vah_open(const char *path, const vah_config *config, vah_store **store)
 	code = made->path && made->handle ? vah_device_open(&made->device, path, text, sizeof text) : fail(NULL, VAH_MEMORY);
 	if (!code && (code = open_session(made, &read))) {
 		int reason = errno;
-		vah_device_close(&made->device, 0);
+		vah_device_close(&made->device);
 		errno = reason;
 	}
 	if (code) {
@@ -403,7 +397,7 @@ int vah_close(vah_store *store)
 		pthread_cond_destroy(&store->forced);
 		pthread_mutex_destroy(&store->lock);
 	}
-	vah_device_close(&store->device, code == VAH_FORKED);
+	vah_device_close(&store->device);
 	fail(store, code);
 	int why = errno;
 	free_store(store);

@@ -42,9 +42,10 @@
  *  has two transactions active can wait for itself: begin with VAH_NO_WAIT then.
  *  Commits of several threads share the syncs of the disk: a commit waits while
  *  other threads are within calls, for 256 of their calls at most.
- *  Each store has a thread of its own, which makes the calls of the system.
- *  Signals that come while a call is under way are handled after it. A store
- *  is not to be used in a child after fork(): its calls are refused there
+ *  A handler of a signal that comes while a call is under way returns, as one
+ *  that leaves by longjmp would leave the call half done, and it calls no function
+ *  of this header.
+ *  A store is not to be used in a child after fork(): its calls are refused there
  *  VAH_FORKED, and vah_close lets go of what the child has of it.
  *
  *	@section files	Files

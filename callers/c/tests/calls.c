@@ -8,6 +8,21 @@
 
 /* ---- bad input ---- */
 
+/* Each call by a key is refused one alike, and a scan whichever bound it is. */
+static void by_key(vah_txn *txn, const void *key, size_t len, int code)
+{
+	vah_entry entry;
+	uint64_t n;
+	size_t count;
+	IS(vah_fetch(txn, key, len, &n), code);
+	IS(vah_insert(txn, key, len, 1), code);
+	IS(vah_delete(txn, key, len), code);
+	IS(vah_seek(txn, key, len, &entry), code);
+	IS(vah_next(txn, key, len, &entry), code);
+	IS(vah_scan(txn, key, len, "b", 1, &entry, 1, &count), code);
+	IS(vah_scan(txn, "a", 1, key, len, &entry, 1, &count), code);
+}
+
 static void refusals(const char *dir)
 {
 	static uint8_t large[300], hi[255];
@@ -15,7 +30,7 @@ static void refusals(const char *dir)
 	vah_config config = VAH_CONFIG_INIT;
 	vah_store *store = NULL, *other = NULL;
 	vah_txn *txn, *old, *txns[64];
-	vah_entry entry, entries[2];
+	vah_entry entries[2];
 	vah_info info;
 	uint64_t n;
 	size_t count;
@@ -40,7 +55,10 @@ static void refusals(const char *dir)
 
 	IS(vah_begin(NULL, &txn), VAH_INVALID);
 	IS(vah_begin(store, NULL), VAH_INVALID);
-	IS(vah_begin_with(store, 2, &txn), VAH_INVALID);
+	for (unsigned flags = 2; flags; flags <<= 1) {
+		IS(vah_begin_with(store, flags, &txn), VAH_INVALID);
+		IS(vah_begin_with(store, flags | VAH_NO_WAIT, &txn), VAH_INVALID);
+	}
 	IS(vah_commit(NULL), VAH_INVALID);
 	OK(vah_rollback(NULL));
 	OK(vah_close(NULL));
@@ -48,19 +66,18 @@ static void refusals(const char *dir)
 	IS(vah_stat(store, NULL), VAH_INVALID);
 	IS(vah_stat(NULL, &info), VAH_INVALID);
 	IS(vah_checkpoint(NULL), VAH_INVALID);
+	IS(vah_flush(NULL), VAH_INVALID);
 
 	OK(vah_begin(store, &txn));
-	IS(vah_fetch(NULL, "a", 1, &n), VAH_INVALID);
-	IS(vah_fetch(txn, NULL, 1, &n), VAH_INVALID);
-	IS(vah_fetch(txn, NULL, 0, &n), VAH_KEY_LENGTH);
-	IS(vah_fetch(txn, "a", 0, &n), VAH_KEY_LENGTH);
-	IS(vah_fetch(txn, large, 256, &n), VAH_KEY_LENGTH);
-	IS(vah_insert(txn, large, 300, 1), VAH_KEY_LENGTH);
-	IS(vah_delete(txn, large, SIZE_MAX), VAH_KEY_LENGTH);
+	by_key(NULL, "a", 1, VAH_INVALID);
+	by_key(txn, NULL, 1, VAH_INVALID);
+	by_key(txn, NULL, 0, VAH_KEY_LENGTH);
+	by_key(txn, "a", 0, VAH_KEY_LENGTH);
+	by_key(txn, large, 256, VAH_KEY_LENGTH);
+	by_key(txn, large, 300, VAH_KEY_LENGTH);
+	by_key(txn, large, SIZE_MAX, VAH_KEY_LENGTH);
 	IS(vah_seek(txn, "a", 1, NULL), VAH_INVALID);
-	IS(vah_next(txn, "", 0, &entry), VAH_KEY_LENGTH);
-	IS(vah_scan(txn, "a", 1, NULL, 1, entries, 2, &count), VAH_INVALID);
-	IS(vah_scan(txn, "a", 1, "", 0, entries, 2, &count), VAH_KEY_LENGTH);
+	IS(vah_next(txn, "a", 1, NULL), VAH_INVALID);
 	IS(vah_scan(txn, "a", 1, "b", 1, NULL, 2, &count), VAH_INVALID);
 	IS(vah_scan(txn, "a", 1, "b", 1, entries, 0, &count), VAH_INVALID);
 	IS(vah_scan(txn, "a", 1, "b", 1, entries, 2, NULL), VAH_INVALID);
@@ -231,6 +248,7 @@ static void threads(const char *dir)
 {
 	struct itimerval often = { { 0, 700 }, { 0, 700 } }, none = { { 0, 0 }, { 0, 0 } };
 	struct sigaction action = { .sa_handler = on_alarm };
+	sigset_t alarm;
 	vah_store *store;
 	vah_txn *txn;
 	vah_entry entries[16];
@@ -248,6 +266,10 @@ static void threads(const char *dir)
 		works[i] = (struct work){ store, i };
 		HOLDS(!pthread_create(&all[i], NULL, move, &works[i]));
 	}
+	/* so that signals come to threads within calls, and interrupt what they wait for */
+	sigemptyset(&alarm);
+	sigaddset(&alarm, SIGALRM);
+	pthread_sigmask(SIG_BLOCK, &alarm, NULL);
 	for (int i = 0; i < 6; i++) pthread_join(all[i], NULL);
 	setitimer(ITIMER_REAL, &none, NULL);
 	HOLDS(fired > 0);

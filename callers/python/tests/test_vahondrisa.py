@@ -109,8 +109,10 @@ class Stores(unittest.TestCase):
             with self.assertRaisesRegex(vahondrisa.Locked, f"^{self.dir}: the store is open elsewhere$"):
                 vahondrisa.open(self.dir)
             txn = store.begin()
-            self.assertRaises(ValueError, txn.insert, b"", 1)
-            self.assertRaises(ValueError, txn.insert, bytes(256), 1)
+            for key in (b"", bytes(256)):
+                self.assertRaises(ValueError, txn.insert, key, 1)
+                for call in (txn.get, txn.delete, txn.seek, txn.next, lambda key: list(txn.range(key)), lambda key: list(txn.range(b"a", key))):
+                    self.assertRaises(ValueError, call, key)
             self.assertRaises(ValueError, txn.insert, b"a", 2**64)
             self.assertRaises(ValueError, txn.insert, b"a", -1)
             self.assertRaises((TypeError, ctypes.ArgumentError), txn.insert, "a", 1)
@@ -140,6 +142,25 @@ class Stores(unittest.TestCase):
         with open(self.dir + "2/log", "wb") as file:
             file.write(b"x" * 100)
         self.assertRaises(vahondrisa.NotAStore, vahondrisa.open, self.dir + "2")
+
+    def test_a_child_is_refused_and_does_no_harm(self):
+        with vahondrisa.open(self.dir) as store:
+            txn = store.begin()
+            txn[b"a"] = 1
+            child = os.fork()
+            if not child:
+                codes = []
+                for call in (lambda: txn.get(b"a"), txn.commit, store.begin, store.flush, store.close):
+                    try:
+                        call()
+                    except vahondrisa.Error as it:
+                        codes.append(it.code)
+                os._exit(codes != [106] * 5)
+            self.assertEqual(os.waitpid(child, 0)[1], 0)
+            txn[b"b"] = 2
+            txn.commit()
+            with store.begin() as txn:
+                self.assertEqual(list(txn.range()), [(b"a", 1), (b"b", 2)])
 
     def test_a_close_rolls_back_what_is_active(self):
         with vahondrisa.open(self.dir) as store:

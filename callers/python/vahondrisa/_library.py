@@ -1,6 +1,8 @@
 """The functions of vahondrisa.h, by ctypes."""
 import ctypes
+import functools
 import os
+import struct
 from ctypes import POINTER, c_char_p, c_int, c_size_t, c_uint, c_uint8, c_uint32, c_uint64, c_void_p
 
 KEY_MAX = 255
@@ -15,6 +17,12 @@ class Entry(ctypes.Structure):
     _fields_ = [("number", c_uint64), ("len", c_uint8), ("key", c_uint8 * KEY_MAX)]
 
 
+@functools.lru_cache(maxsize=None)
+def entries(count: int) -> struct.Struct:
+    """So many entries in a row, each of them its number and its key: a string that begins with its length."""
+    return struct.Struct("=" + "Q256p" * count)
+
+
 class Config(ctypes.Structure):
     _fields_ = [("size", c_size_t), ("frames", c_uint32), ("max_pages", c_uint32), ("redo_bytes", c_uint64)]
 
@@ -24,7 +32,7 @@ class Info(ctypes.Structure):
 
 
 # The library's own build tests these sizes too.
-assert (ctypes.sizeof(Entry), ctypes.sizeof(Config), ctypes.sizeof(Info)) == (264, 24, 48)
+assert (ctypes.sizeof(Entry), ctypes.sizeof(Config), ctypes.sizeof(Info)) == (264, 24, 48) and entries(1).size == 264
 
 
 def _load() -> ctypes.CDLL:

@@ -6,7 +6,7 @@ import os
 import weakref
 from ctypes import byref, c_size_t, c_uint64, c_void_p
 from types import TracebackType
-from typing import Callable, Dict, Iterator, Optional, Tuple, Type, TypeVar, Union
+from typing import Callable, Dict, Iterable, Iterator, List, Optional, Tuple, Type, TypeVar, Union
 
 from . import _library as c
 from ._errors import Error, GiveWay, refuse
@@ -37,9 +37,13 @@ def open(path: Union[str, bytes, "os.PathLike[str]"], *, frames: int = 1024, max
 class Store:
     """A store that is open. Any thread may use it. A `with` block closes it at its end."""
 
+    # (of one whose making a signal's exception cut off)
+    _at: Optional[c_void_p] = None
+    _active: "weakref.WeakSet[Transaction]" = weakref.WeakSet()
+
     def __init__(self, at: c_void_p) -> None:
-        self._at: Optional[c_void_p] = at
-        self._active: "weakref.WeakSet[Transaction]" = weakref.WeakSet()
+        self._active = weakref.WeakSet()
+        self._at = at
 
     def begin(self, *, wait: bool = True) -> "Transaction":
         """Begins a transaction: use it in a `with` block, or end it by `commit` or `rollback`.
@@ -118,6 +122,8 @@ class Store:
 class Transaction:
     """A transaction of one thread at a time. A `with` block commits it at its end, or rolls it back where an exception leaves the block."""
 
+    _at: "List[c_void_p]" = []  # of one whose making a signal's exception cut off
+
     def __init__(self, store: Store) -> None:
         self._store = store  # which is not collected before its transactions
         self._at = [c_void_p()]  # empty once it has ended
@@ -152,22 +158,23 @@ class Transaction:
 
     def range(self, lo: bytes = b"\0", hi: bytes = b"\xff" * c.KEY_MAX, *, batch: int = c.SCAN_MAX) -> Iterator[Entry]:
         """The entries from one key to another, both included, in order. It reads, and so locks, `batch` of them at a time, 2 to 256."""
-        batch = max(2, min(batch, c.SCAN_MAX))
-        size = ctypes.sizeof(c.Entry)
-        room = ctypes.create_string_buffer(size * batch)
+        return itertools.chain.from_iterable(self._batches(lo, hi, max(2, min(batch, c.SCAN_MAX))))
+
+    def _batches(self, lo: bytes, hi: bytes, batch: int) -> "Iterator[Iterable[Entry]]":
+        """The entries of a range, those of one scan at a time. It reads on from the last key, which is not given twice."""
+        room = ctypes.create_string_buffer(ctypes.sizeof(c.Entry) * batch)
         count, given = c_size_t(), None
         while True:
             code = c.lib.vah_scan(self._going(), lo, len(lo), hi, len(hi), room, batch, byref(count))
             if code:
                 refuse(code)
-            raw = room.raw[: size * count.value]
-            for at in range(0, len(raw), size):
-                lo = raw[at + 9 : at + 9 + raw[at + 8]]
-                if lo != given:
-                    yield lo, int.from_bytes(raw[at : at + 8], "little")
+            fields = c.entries(count.value).unpack_from(room)
+            numbers, keys = fields[::2], fields[1::2]
+            first = int(keys[:1] == (given,))
+            yield zip(keys[first:], numbers[first:])
             if count.value < batch:
                 return
-            given = lo
+            lo = given = keys[-1]
 
     def prefix(self, prefix: bytes, *, batch: int = c.SCAN_MAX) -> Iterator[Entry]:
         """The entries whose keys begin with a prefix, in order."""
@@ -199,7 +206,8 @@ class Transaction:
     def _one(self, function: "Callable[..., int]", key: bytes) -> Optional[Entry]:
         entry = c.Entry()
         if self._unless(function(self._going(), key, len(key), byref(entry)), c.NOT_FOUND):
-            return bytes(entry.key[: entry.len]), entry.number
+            number, found = c.entries(1).unpack_from(entry)
+            return found, number
         return None
 
     @staticmethod

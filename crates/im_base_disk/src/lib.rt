@@ -1,3 +1,5 @@
+//! What does a disk give, and what may a stop leave?
+//!
 //! The two files of a store as the store sees them: what a read gives, and what a stop may leave of both.
 //!
 //! The disk model. A stop leaves, for each file, a length between the synced length and the greatest written

@@ -1,3 +1,5 @@
+//! How are real files opened, locked, written and synced?
+//!
 //! The disk of real files: a folder with a log and pages.
 //!
 //! `FileDisk` is a disk in the words of `im_base_disk`. It tells no bytes: code over it is safe and total, and nothing

@@ -1,3 +1,5 @@
+//! Who may have this lock? What may an engine of many transactions answer?
+//!
 //! Locks on the keys of an index, decided by wait-die, and the theorem that they isolate transactions.
 //!
 //! **The table.** A lock is on a key, or on the name past the last key. Two locks conflict where their names are equal,

@@ -32,7 +32,7 @@ pub fn scan_row<'a>(
     }
 }
 
-// A shared lock for each entry, and for the name behind them.
+// A shared lock for each entry, and for the name after them.
 fn read_all<'a>(
     alloc: Global,
     entries: &'a [(Key, Rid)],

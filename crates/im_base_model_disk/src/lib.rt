@@ -1,3 +1,5 @@
+//! How does a disk in memory tear and cut?
+//!
 //! A disk in memory that tells its bytes, for proofs of whole stores, tests and scripts.
 //!
 //! - `ModelDisk` is the disk, in the words of `im_base_disk`. A stop can be armed within a call of it (`Stop`), a call

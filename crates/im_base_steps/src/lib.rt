@@ -1,3 +1,5 @@
+//! What can be asked of a store, what can it answer, and what is a store?
+//!
 //! What is asked of a store of many transactions, what it answers, and what a store is.
 //!
 //! `Step` and `Reply` are the words of every program and every layer that makes steps. By `asked_by` and `told_by` contracts see

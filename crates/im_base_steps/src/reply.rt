@@ -25,7 +25,7 @@ pub enum Reply {
     Absent,
     /// The least key that was asked for is there, with its row id.
     Entry(Key, Rid),
-    /// No key is there behind the one that was named.
+    /// No key is there after the one that was named.
     End,
     /// The entries of a range, in rising order.
     Entries(Vec<(Key, Rid)>),
@@ -37,7 +37,7 @@ pub enum Reply {
     Committed,
     /// Nothing of what the transaction did is left.
     RolledBack,
-    /// Something is left to be done: make a Continue. Behind a Commit: it is logged, and the next force that is made commits the transaction.
+    /// Something is left to be done: make a Continue. After a Commit: it is logged, and the next force that is made commits the transaction.
     More,
     /// Nothing was changed: make the step again when what stands in the way has ended.
     Blocked(Blocker),

@@ -32,7 +32,7 @@ pub enum Step {
     Commit(TxnId),
     /// Takes back what the transaction did: ends it where that is nothing, and else begins to.
     Rollback(TxnId),
-    /// Takes back the newest change of a transaction that is rolling back, and ends it behind the last.
+    /// Takes back the newest change of a transaction that is rolling back, and ends it after the last.
     Continue(TxnId),
     /// Writes a page in place, where something of it is left to be written.
     FlushPage(PageNo),
@@ -78,7 +78,7 @@ impl Step {
         }
     }
 
-    /// Whether a step that is `Blocked` is worth making again behind this one with this reply: a transaction has ended, or may have where a
+    /// Whether a step that is `Blocked` is worth making again after this one with this reply: a transaction has ended, or may have where a
     /// force was made, or the engine has failed.
     pub fn may_unblock(&self, reply: &Reply) -> bool
         ensures { result ≡ may_unblock (asked_by self.now) (told_by reply.now) }
@@ -91,7 +91,7 @@ impl Step {
         }
     }
 
-    /// How many wait for a force behind this step with this reply, where so many waited before it.
+    /// How many wait for a force after this step with this reply, where so many waited before it.
     pub fn waits_after(&self, waiting: u64, reply: &Reply) -> u64
         requires { waiting < 2 ^ 63 }
         ensures { result ≡ waits_after waiting (asked_by self.now) (told_by reply.now) }

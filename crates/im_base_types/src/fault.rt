@@ -5,7 +5,7 @@ ghost use Rattle.im_base_types.specs.Faults.{number_of};
 
 use thiserror::Error;
 
-/// A refusal. Its number is what programs print. Which refusals a call can answer, and what is left behind each, its contract says.
+/// A refusal. Its number is what programs print. Which refusals a call can answer, and what is left after each, its contract says.
 #[derive(Clone, Copy, Debug, PartialEq, Eq, Error)]
 pub enum Fault {
     /// No active transaction has that number, or it has nothing to go on with.

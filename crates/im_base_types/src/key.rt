@@ -58,7 +58,7 @@ impl Key {
         Key { bytes }
     }
 
-    // Adds bytes behind those that it has.
+    // Adds bytes after those that it has.
     fn extend(&mut self, more: &[u8])
         requires { length self.old + length more.now ≤ 255 }
         ensures { self.new ≡ self.old ++ more.now }

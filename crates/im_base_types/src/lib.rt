@@ -1,3 +1,5 @@
+//! What are keys, numbers, sizes, faults, steps, replies, records and lives, as data?
+//!
 //! The words that every layer speaks: keys, numbers, sizes, files, kinds of pages, faults.
 //!
 //! A key is 1 to 255 bytes, and keys are ordered by their unsigned bytes, a front before what it begins

@@ -3,10 +3,10 @@
 /// The bytes of a page.
 pub const PAGE_SIZE: usize = 4_096;
 
-/// The bytes of a page behind its LSN, which the record of a structure change holds.
+/// The bytes of a page after its LSN, which the record of a structure change holds.
 pub const PAGE_BODY: usize = 4_088;
 
-/// The bytes of a page behind its header, for slots and cells.
+/// The bytes of a page after its header, for slots and cells.
 pub const PAGE_ROOM: usize = 4_064;
 
 /// The bytes of an Image: a record that holds a page.
@@ -18,7 +18,7 @@ pub const LONGEST_KEY: usize = 255;
 /// The most bytes of records in a batch. The fewest is one.
 pub const LONGEST_BATCH: usize = 16_384;
 
-/// The most that stands behind a gate and is written with a batch: its length in 4 bytes, the records, the next gate.
+/// The most that stands after a gate and is written with a batch: its length in 4 bytes, the records, the next gate.
 pub const BATCH_ROOM: usize = 16_389;
 
 /// No record ends past this LSN.

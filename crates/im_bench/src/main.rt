@@ -1,7 +1,7 @@
 //! `im_bench [NAME] [WORDS]`: what the layers and the store do, in counts, and with `--time` in figures.
 //!
 //! Without words it does each bench in turn, each under a line with its name, and prints what came out, the same each run. With a
-//! name it does that one, with the words behind its name: `im_bench gate --time keys`. Each module says what its bench does, which
+//! name it does that one, with the words after its name: `im_bench gate --time keys`. Each module says what its bench does, which
 //! words it takes, and what its figures were.
 //!
 //! The last two are runs of whole stores, for what no contract can say, and have no figures: `long` is one long run of a store of ten
@@ -36,7 +36,7 @@ fn main(rt: HostRuntime) -> Result<()> {
     Ok(())
 }
 
-// Does the bench of this name, with the words behind it. Threads are started, and waited for, by `threads` alone.
+// Does the bench of this name, with the words after it. Threads are started, and waited for, by `threads` alone.
 fn run<R: Threads + Wait + Clock + Print + Sync>(
     rt: &HostRuntime,
     threads: &R,

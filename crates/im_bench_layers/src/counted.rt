@@ -19,7 +19,7 @@ pub struct Calls {
 }
 
 impl Calls {
-    /// The calls behind earlier ones.
+    /// The calls after earlier ones.
     pub fn since(&self, earlier: Calls) -> Calls {
         Calls {
             log_writes: self.log_writes.wrapping_sub(earlier.log_writes),
@@ -130,7 +130,7 @@ impl<D: Disk> Disk for Counted<D> {
 }
 
 // How many bytes of a write are the log's: of a batch those that its length says, with the length and the next gate, and none of
-// what is written behind them.
+// what is written after them.
 fn of_log(bytes: &[u8]) -> u64 {
     let size = bytes.len() as u64;
     match bytes {

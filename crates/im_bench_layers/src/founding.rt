@@ -11,7 +11,7 @@ const KEYS: u64 = 140;
 // How many of them a second one deletes, and commits: all of the first leaf.
 const DELETED: u64 = 8;
 
-// How many pages are written in place behind that.
+// How many pages are written in place after that.
 const PAGES: u32 = 30;
 
 // The key of a number: two bytes of it, and then `z` up to 255 bytes. Keys rise as the numbers do.

@@ -62,7 +62,7 @@ fn key(alloc: Global, number: u64) -> Result<Vec<u8>, Fault> {
     }
 }
 
-// One transaction that inserts all keys, and a cut of the trace behind it.
+// One transaction that inserts all keys, and a cut of the trace after it.
 fn fill<E: Store, L: Ledger, R: Wait>(
     rt: &R,
     alloc: Global,

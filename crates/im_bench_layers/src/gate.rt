@@ -23,7 +23,7 @@ use std::time::Instant;
 // The records of a transaction that inserts one key of one byte: an insert and a commit.
 const BATCH: [u8; 76] = [0x5a; 76];
 
-// What is written behind a gate for it: a length, the records and the next gate.
+// What is written after a gate for it: a length, the records and the next gate.
 const BEHIND: [u8; 81] = [0x5a; 81];
 
 const DEFAULT_DIR: &str = "im_bench_files";
@@ -48,7 +48,7 @@ fn read_to_end<D: Disk>(alloc: Global, disk: &mut D, gate: &mut Gate) -> Result<
     Err(Fault::NotAStore)
 }
 
-// Opens or makes the log, and puts so many batches behind those that it has. It answers how many it then has.
+// Opens or makes the log, and puts so many batches after those that it has. It answers how many it then has.
 fn put_many<D: Disk>(alloc: Global, disk: &mut D, count: u64) -> Result<u64, Fault>
     requires working { D.failed disk.old ≡ false }
     requires synced { IsSynced D.Disk disk.old }
@@ -123,7 +123,7 @@ fn print_rates(rt: &HostRuntime, dir: &str) -> anyhow::Result<()> {
     Ok(())
 }
 
-// Puts a few batches into a new log on the model disk, and a few behind those that a stop has left; how many there then are.
+// Puts a few batches into a new log on the model disk, and a few after those that a stop has left; how many there then are.
 fn model_count(alloc: Global) -> Result<u64, Fault> {
     let mut model = ModelDisk::new(Vec::new(alloc), Vec::new(alloc));
     put_many(alloc, &mut model, FEW)?;

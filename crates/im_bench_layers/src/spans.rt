@@ -112,7 +112,7 @@ pub fn all_committed<E: Store>(
     Ok(tally)
 }
 
-/// Makes a work of each key of a span in a transaction that never commits, and a force behind it.
+/// Makes a work of each key of a span in a transaction that never commits, and a force after it.
 pub fn worked_and_forced<E: Store>(
     alloc: Global,
     store: &mut E,
@@ -128,7 +128,7 @@ pub fn worked_and_forced<E: Store>(
     Ok(tally)
 }
 
-/// Makes the two works of a transaction that never commits: inserts, and deletes behind them. Behind the last of them its records are durable,
+/// Makes the two works of a transaction that never commits: inserts, and deletes after them. After the last of them its records are durable,
 /// and the root's page is written.
 pub fn lose<E: Store>(
     alloc: Global,

@@ -8,7 +8,7 @@
 //! just what was committed. Then bytes of the log are damaged. No checksum tells that, so an opening may find other keys; but it opens, or says that
 //! there is no store, and each step answers and each file stays below a bound. Bytes of the page numbers of records are left out.
 //!
-//! At last each bit of the page count in page 0 is changed, where all pages are written and a Checkpoint is behind them, so that no full copy
+//! At last each bit of the page count in page 0 is changed, where all pages are written and a Checkpoint is after them, so that no full copy
 //! restores it: a page that is then taken by that count would bring a write of all pages before it along.
 
 mod damaged;

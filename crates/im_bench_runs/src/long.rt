@@ -3,13 +3,13 @@
 //! A step may always be refused for want of memory, so a contract is met by a store that gives up at some size, and no clause counts
 //! device calls. This run shows both. It fills a store with ten thousand keys of 255 bytes, until the root has split at its fourth level,
 //! which changes a page or two on each level at once; opens it again, which redoes all these changes in eight frames; reads every key while no
-//! page is changed; lists all; has three transactions that never commit taken back by openings, two behind splits and one that deleted
+//! page is changed; lists all; has three transactions that never commit taken back by openings, two after splits and one that deleted
 //! pages; and deletes all keys, through which leaves go whose pages above have no other child. Of each part it prints how many steps had the
 //! reply that they should have, and how many had another one; the device calls of each kind; what the pages are for; and how long the
 //! files are.
 //!
-//! Then it stops a life at each of its device calls in turn, one whose transaction never commits and stands behind splits on two levels and
-//! behind a page deletion, and in the same way the opening that takes this transaction back, and counts behind how many stops the next
+//! Then it stops a life at each of its device calls in turn, one whose transaction never commits and stands after splits on two levels and
+//! after a page deletion, and in the same way the opening that takes this transaction back, and counts after how many stops the next
 //! opening finds just what was committed.
 
 mod looks;
@@ -184,7 +184,7 @@ fn done(rt: &HostRuntime, engine: &mut Engine<Counted<MemoryDisk>>, part: &Part)
     }
 }
 
-// The steps of a transaction that never commits, and a force behind them.
+// The steps of a transaction that never commits, and a force after them.
 fn lose(rt: &HostRuntime, engine: &mut Engine<Counted<MemoryDisk>>, losing: &Losing) -> Result<()> {
     let tally = worked_and_forced(rt.alloc(), engine, losing.work, losing.span)?;
     println!(rt; "{}", losing.name)?;

@@ -5,7 +5,7 @@ ghost use Rattle.im_base_disk.specs.Runs.{IsSynced};
 
 use im_base_disk::Disk;
 use im_base_types::Fault;
-use im_engine::{Config, Engine};
+use im_engine::{BufferSize, Config, Engine};
 use std::alloc::Global;
 
 /// The store of a disk, in so many frames.
@@ -16,6 +16,7 @@ pub fn opened<D: Disk + Drop>(alloc: Global, disk: D, frames: usize) -> Result<E
     let config = Config {
         frames,
         max_pages: 1_000_000,
+        buffer: BufferSize::ONE,
         group: false,
     };
     match Engine::open_or_create(alloc, disk, config) {

@@ -12,7 +12,7 @@
 //! Bytes of log a key, inserts in scattered order, 64 a commit, no Checkpoint: 100,000 keys leave 333 in 64 frames and 332 in 1,024,
 //! 1,000,000 keys in 64 frames 335. Structure changes alone take some 280 of it, records and Commits 51: evictions add no full copy but
 //! the first of a page in no structure change. In 64 frames an insert takes 0.26 writes and as many syncs of the log, and 0.71 writes of
-//! pages. Of two openings behind it the first logs what it takes back, and the second adds no byte.
+//! pages. Of two openings after it the first logs what it takes back, and the second adds no byte.
 //!
 //! In memory, 100,000 keys in 1,024 frames, five runs with nothing else running, on a host that is half as fast in some minutes: a scan
 //! of 100 entries with its 101 locks 10.8 and 10.9 us in its two fast runs and 16.0 to 17.6 in the others; in the fast ones a look-up of a key
@@ -175,7 +175,7 @@ fn each_done<D: Disk + Drop>(
     Ok(())
 }
 
-// Does a part, and says what it took; the calls before it are known, and it answers those behind it.
+// Does a part, and says what it took; the calls before it are known, and it answers those after it.
 fn done<D: Disk + Drop>(
     rt: &HostRuntime,
     options: &Options<'_>,

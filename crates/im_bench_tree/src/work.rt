@@ -68,7 +68,7 @@ pub fn found<D: Disk>(
 /// How many look-ups a transaction makes.
 const LOOK_UPS: u64 = 1_000;
 
-/// The same by a transaction's Fetch, each with its lock: they are given back behind each thousand.
+/// The same by a transaction's Fetch, each with its lock: they are given back after each thousand.
 pub fn found_locked<D: Disk>(
     writer: &mut PageWriter,
     disk: &mut D,

@@ -1,3 +1,5 @@
+//! What does a store behind a pointer make of a call?
+//!
 //! A store that a caller of another language has by a pointer.
 //!
 //! A `Session` is an engine over a disk that is asked for over pipes (`im_base_pipe_disk`), with the upkeep that its next opening wants, or none

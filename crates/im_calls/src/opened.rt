@@ -6,7 +6,7 @@ use im_base_disk::Disk;
 use im_base_steps::{Reply, Step};
 use im_base_types::Fault;
 use im_calls_form::{Call, answer, refuse, step_of, tell, tell_numbers};
-use im_engine::{Config, Engine};
+use im_engine::{BufferSize, Config, Engine};
 use im_engine_upkeep::{Checkpoints, RedoBound};
 use std::alloc::Global;
 
@@ -25,7 +25,7 @@ impl<D: Disk + Drop> Opened<D> {
     ghost use Rattle.im_calls.specs.Sessions.{IsMade, Serves, IsOpening, IsRefused};
 
     /// Opens the store of a disk as a call asks it: `limit` frames, `txn` pages at most, `number` bytes of log that the opening after this one
-    /// may have to redo; with 1 as `word` a Commit waits for a Force.
+    /// may have to redo; with 1 as `word` a Commit waits for a Force. The log's buffer is of the size that programs take.
     pub fn open(alloc: Global, disk: D, call: &mut Call) -> Option<Opened<D>>
         requires working { D.failed disk ≡ false }
         requires synced { IsSynced D.Disk disk }
@@ -39,6 +39,7 @@ impl<D: Disk + Drop> Opened<D> {
         let config = Config {
             frames: call.limit as usize,
             max_pages,
+            buffer: BufferSize::OVER_FILES,
             group: waits(call),
         };
         match Engine::open_or_create(alloc, disk, config) {

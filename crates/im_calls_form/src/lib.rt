@@ -1,3 +1,5 @@
+//! Which bytes ask a step, and which tell its reply?
+//!
 //! What a caller of another language asks, and what it is answered, as numbers and bytes in one place in memory.
 //!
 //! A `Call` is a question with its answer. `step_of` is the step that it asks: `Asks` says which, by its number and its fields. `answer` puts a

@@ -1,8 +1,11 @@
+//! Which functions does C see?
+//!
 //! The store for C. C hands in memory: as many bytes as `im_size` says for a store, and a `Call` for each question.
 #![tactic(auto)]
 
+ghost use Rattle.std.specs.Prelude.{◌≡◌};
 ghost use Rattle.std.specs.Borrow.{sem};
-ghost use Rattle.im_capi.specs.Pointers.{room_for_store, store_at, call_at};
+ghost use Rattle.im_capi.specs.Pointers.{bytes_of_store, room_for_store, store_at, call_at};
 
 use im_calls::{Session, blank, made};
 use im_calls_form::Call;
@@ -17,7 +20,9 @@ pub struct Handle {
 
 /// How many bytes a store takes, at an address that 16 divides.
 #[unsafe(no_mangle)]
-pub extern "C" fn im_size() -> usize {
+pub extern "C" fn im_size() -> usize
+    ensures { result ≡ bytes_of_store }
+{
     std::mem::size_of::<Session>()
 }
 

@@ -25,7 +25,7 @@ pub(crate) fn told(fault: Fault) -> Fault
     }
 }
 
-// Whether the engine has failed behind it.
+// Whether the engine has failed after it.
 pub(crate) fn breaks(fault: Fault) -> bool
     ensures { result ≡ ends_engine fault }
 {

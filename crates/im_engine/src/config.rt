@@ -2,6 +2,8 @@
 
 ghost use Rattle.std.specs.Prelude.{◌≡◌, ◌≤◌, false};
 
+use crate::buffer_size::BufferSize;
+
 /// The limits of an engine.
 #[derive(Clone, Copy)]
 pub struct Config {
@@ -9,6 +11,8 @@ pub struct Config {
     pub frames: usize,
     /// The most pages.
     pub max_pages: u32,
+    /// How many batches the log's buffer holds: they share one force, which comes where the next record finds no room, or is asked for.
+    pub buffer: BufferSize,
     /// Whether a Commit waits for a force: it is answered `More`, and the next `Force` commits all that wait.
     pub group: bool,
 }
@@ -17,11 +21,13 @@ impl Default for Config {
     fn default() -> Self
         ensures frames { result.frames ≡ 64 }
         ensures pages { result.max_pages ≡ 1000000 }
+        ensures buffer { result.buffer.batches ≡ 1 }
         ensures group { result.group ≡ false }
     {
         Config {
             frames: 64,
             max_pages: 1_000_000,
+            buffer: BufferSize::ONE,
             group: false,
         }
     }

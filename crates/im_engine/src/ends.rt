@@ -34,7 +34,7 @@ impl<D: Disk> Engine<D> {
         }
     }
 
-    // Ends a transaction, all of which is then durable: its locks go behind the force, and not before. Or its record is logged, and it waits
+    // Ends a transaction, all of which is then durable: its locks go after the force, and not before. Or its record is logged, and it waits
     // for the next force with its locks.
     pub(crate) fn commit(&mut self, t: TxnId) -> Reply
         requires works { self.old.failed ≡ false }

@@ -15,8 +15,8 @@ impl<D: Disk> Engine<D> {
     ghost use Rattle.im_theory_steps.specs.Checks.{checked_by};
     ghost use Rattle.im_engine.specs.Told.{IsMade};
 
-    // Puts a key with its row id (`inserts_are_served`), behind the split of its leaf where that lacks room. For want of pages, or of memory
-    // before its locks are granted, all is as it was; for want of page numbers or levels, or of memory behind the grant, the engine fails.
+    // Puts a key with its row id (`inserts_are_served`), after the split of its leaf where that lacks room. For want of pages, or of memory
+    // before its locks are granted, all is as it was; for want of page numbers or levels, or of memory after the grant, the engine fails.
     pub(crate) fn insert(&mut self, t: TxnId, key: &[u8], rid: Rid) -> Reply
         requires works { self.old.failed ≡ false }
         requires checked { checked_by self.old.txns.rows false (answers.Do t (answers.Insert key.now rid)) ≡ None }

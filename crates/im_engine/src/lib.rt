@@ -1,16 +1,19 @@
+//! What does a store do?
+//!
 //! The engine of many transactions over a log, pages, locks and a table of transactions: a store that is open, its steps, its openings,
 //! and lives of it.
 //!
 //! Each step is checked against the table (`refusal`), makes its calls below, and notes in table and locks what they answered. Its one
 //! clause (`IsStep`) says four things. It is a step of the machine of transactions, with which the life goes on, and a stop within it
 //! leaves what is allowed (`kept`); so each access has the answer of its transaction alone (`alone`). What the reply makes of the engine
-//! is a function of the reply (`told`). It is refused by the first check that it fails and then changes nothing (`checked`), and behind
+//! is a function of the reply (`told`). It is refused by the first check that it fails and then changes nothing (`checked`), and after
 //! the checks only for its cause (`answered`, `wants`, `never`). And it calls no device where it need not (`quiet`). Between two steps an
 //! engine that works stands as `IsRunning` says; of one that has failed nothing is said but what a stop leaves, and the machine that it
 //! came to (`IsLife`).
 #![tactic(auto)]
 
 mod accesses;
+mod buffer_size;
 mod checkpoints;
 mod config;
 mod ends;
@@ -28,6 +31,7 @@ mod transactions;
 mod turns;
 mod writes;
 
+pub use buffer_size::BufferSize;
 pub use config::Config;
 pub use engine::Engine;
 pub use im_page::Header;

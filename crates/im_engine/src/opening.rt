@@ -62,7 +62,7 @@ impl<D: Disk> Engine<D> {
             Err(fault) => return Err((fault, disk)),
         };
         let mut disk = disk;
-        match im_restart::open_or_create(alloc, &mut disk, config.frames) {
+        match im_restart::open_or_create(alloc, &mut disk, config.frames, config.buffer.batches()) {
             Err(fault) => Err((fault, disk)),
             Ok(restarted) => Ok(Engine {
                 alloc,

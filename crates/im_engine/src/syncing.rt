@@ -10,7 +10,7 @@ use im_base_types::{Fault, FileId};
 
 /// Brings the files of a disk to the disk itself, so that its store may be opened again: what an engine or a life hands back (`into_disk`,
 /// `live`), or an opening that was refused, need not be. Nothing that reads is changed, and a stop leaves nothing that it might not have
-/// left before; so the files stand for what a stop behind the last reply leaves. A disk whose last call failed takes no further call, this
+/// left before; so the files stand for what a stop after the last reply leaves. A disk whose last call failed takes no further call, this
 /// one neither: its files are opened anew.
 ///
 /// Refused `Device`.

@@ -16,7 +16,7 @@ impl<D: Disk> Engine<D> {
     ghost use Rattle.im_engine.specs.Told.{IsMade};
 
     // Drops a key (`deletes_are_served`), and takes the leaf out of the tree that it leaves empty. For want of memory before its locks are
-    // granted all is as it was; behind the grant the engine fails.
+    // granted all is as it was; after the grant the engine fails.
     pub(crate) fn delete(&mut self, t: TxnId, key: &[u8]) -> Reply
         requires works { self.old.failed ≡ false }
         requires checked { checked_by self.old.txns.rows false (answers.Do t (answers.Delete key.now)) ≡ None }

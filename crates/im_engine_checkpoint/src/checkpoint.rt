@@ -31,8 +31,8 @@ const NO_TRANSACTION: ActiveTransaction = ActiveTransaction {
 /// the transactions of the table that have logged a record, and the dirty table as the sync has left it, and then the log is forced. That
 /// is one sync of the pages and one force, or two where the record does not fit into the log's buffer. It takes no memory.
 ///
-/// Refused `LogFull`, behind the sync, exactly where the record would end above LSN 2^62, `Device`, or `Failed` after a call of the writer
-/// that failed. Behind each of these the writer has failed.
+/// Refused `LogFull`, after the sync, exactly where the record would end above LSN 2^62, `Device`, or `Failed` after a call of the writer
+/// that failed. After each of these the writer has failed.
 pub fn take<D: Disk>(
     writer: &mut PageWriter,
     disk: &mut D,

@@ -10,7 +10,7 @@ pub fn redo_needs_nothing_before_the_redo_point()
     ensures { RedoNeedsNothingBefore redo_all }
 {}
 
-/// Behind a Checkpoint the redo point is the least of its LSN and the rec_lsns that it lists: its own LSN where it lists no page. It does
+/// After a Checkpoint the redo point is the least of its LSN and the rec_lsns that it lists: its own LSN where it lists no page. It does
 /// nothing: its contract is the law.
 pub fn redo_point_is_the_least()
     ensures { RedoPointIsTheLeast }

@@ -35,7 +35,7 @@ use Rattle.im_smo_pages.specs.Images.{Numbered}
 use Rattle.im_base_lock.specs.Rows.{asked}
 use Rattle.im_base_lock.specs.Table.{Table, Decides}
 use Rattle.im_base_lock.specs.declared.verdict.Verdict.TheVariants.{Granted as GrantedAll}
-use Rattle.im_smo_actions.proofs.Changes.{never_failed}
+use Rattle.im_smo_actions.proofs.Changes.{never_failed, runs_out}
 use Rattle.im_smo_actions.proofs.Standing.{unfinished_good, unfinished_pages}
 use Rattle.im_engine_index.specs.declared.noted.Noted.{Noted}
 use Rattle.im_engine_index.specs.declared.outcome.Outcome.{Outcome}
@@ -98,7 +98,7 @@ pub unplanned_kept : (pages : AllPages) (key : Key) (max : ℕ) (f : Fault) (r :
     → find key_order key (walk (bodies_of pages)) ≡ None → f ≢ NotAStore → WantsPages (bodies_of pages) key (Some max) f → PlanKept pages key max r
 unplanned_kept pages key max f (Ok plan) used others absent sound wants =
     record {
-      sound = subst (IsInsertPlan pages key max) (sym used.0) (record { absent = absent; lacks = wants.lacks (inl used.1); used_up = wants.used_up used.1 });
+      sound = subst (IsInsertPlan pages key max) (sym used.0) (record { absent = absent; lacks = wants.lacks (inl used.1); used_up = runs_out (bodies_of pages) key (Some max) f wants used.1 });
       full = tt;
     }
 unplanned_kept pages key max f (Err y) used others absent sound wants = record {

@@ -83,7 +83,7 @@ pub(crate) fn ask_insert_at<D: Disk>(
 /// Asks what an Insert of a key asks: where the key is there its lock, shared; else the lock of the next name for the instant and the
 /// key's own, both against every other. Where that is granted, the key's leaf is held from now on.
 ///
-/// Refused as `im_tree_search::next_entry` is, and `Memory` where the lock table wants it. Behind a refusal, `Wait` and `Die` nobody holds
+/// Refused as `im_tree_search::next_entry` is, and `Memory` where the lock table wants it. After a refusal, `Wait` and `Die` nobody holds
 /// another lock than before.
 pub fn ask_insert<D: Disk>(
     writer: &mut PageWriter,

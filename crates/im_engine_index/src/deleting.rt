@@ -78,11 +78,11 @@ fn delete_from<D: Disk>(
 }
 
 /// Drops a key, for a transaction that is going. Its locks are those that `ask_delete` asks. A leaf other than the root that is left empty
-/// is taken out of the tree, behind the key's record; for want of memory it stays. It answers what the transaction's row notes, and `None`
+/// is taken out of the tree, after the key's record; for want of memory it stays. It answers what the transaction's row notes, and `None`
 /// where the key is not there.
 ///
-/// A want of memory behind the grant is `Failed`: it may have logged the key's record where that left the leaf empty, and none of its own
-/// otherwise. Behind `Memory`, `Wait` and `Die` nobody holds another lock than before.
+/// A want of memory after the grant is `Failed`: it may have logged the key's record where that left the leaf empty, and none of its own
+/// otherwise. After `Memory`, `Wait` and `Die` nobody holds another lock than before.
 pub fn delete<D: Disk>(
     alloc: Global,
     writer: &mut PageWriter,

@@ -46,7 +46,7 @@ use std::alloc::Global;
 
 // ---- in front of the grant
 
-// What the refusal of a plan is answered as: a want of page numbers or levels is told behind the locks.
+// What the refusal of a plan is answered as: a want of page numbers or levels is told after the locks.
 fn not_planned(fault: Fault) -> Result<Plan, Fault>
     ensures used_up { IfOk result (λ plan. (plan ≡ UsedUp) × (fault ≡ Capacity)) }
     ensures others { IfErr result (λ e. (e ≡ fault) × (e ≢ Capacity)) }
@@ -127,7 +127,7 @@ fn ask_planned<D: Disk>(
     Ok(with_plan(plan, outcome))
 }
 
-// Plans the split of an absent key's leaf, which lacks room for the key, and then asks the key's locks. Behind a refusal nobody holds
+// Plans the split of an absent key's leaf, which lacks room for the key, and then asks the key's locks. After a refusal nobody holds
 // another lock than before.
 fn prepare_split<D: Disk>(
     alloc: Global,
@@ -155,7 +155,7 @@ fn prepare_split<D: Disk>(
     ask_planned(writer, disk, locks, transaction, key, place, plan)
 }
 
-// Searches the leaf of a key, plans the split that it wants, and then asks the key's locks. Behind a refusal nobody holds another lock than
+// Searches the leaf of a key, plans the split that it wants, and then asks the key's locks. After a refusal nobody holds another lock than
 // before.
 fn prepare<D: Disk>(
     alloc: Global,
@@ -193,9 +193,9 @@ fn prepare<D: Disk>(
     )
 }
 
-// ---- behind it
+// ---- after it
 
-// Logs the record of a key that comes into its leaf, behind the transaction's record at `last`.
+// Logs the record of a key that comes into its leaf, after the transaction's record at `last`.
 fn put<D: Disk>(
     writer: &mut PageWriter,
     disk: &mut D,
@@ -221,7 +221,7 @@ fn put<D: Disk>(
     })
 }
 
-// Writes the pages of a plan, and then the key into the leaf that the plan names. Behind the first of these a want of memory is `Failed`.
+// Writes the pages of a plan, and then the key into the leaf that the plan names. After the first of these a want of memory is `Failed`.
 fn split_and_put<D: Disk>(
     writer: &mut PageWriter,
     disk: &mut D,
@@ -294,7 +294,7 @@ fn log_prepared<D: Disk>(
 /// key is there.
 ///
 /// The pages of a split are planned before a lock is asked. So `PagesFull` comes, and a want of memory for the plan, before the locks,
-/// `Capacity` behind them, and a want of memory behind the grant is `Failed`. Behind `Memory`, `PagesFull`, `Wait` and `Die` nobody holds
+/// `Capacity` after them, and a want of memory after the grant is `Failed`. After `Memory`, `PagesFull`, `Wait` and `Die` nobody holds
 /// another lock than before.
 ///
 /// The leaf is searched once. Where it has room and holds the next key, that is one get for each level, and the change is one more. Where

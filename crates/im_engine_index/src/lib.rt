@@ -1,3 +1,5 @@
+//! How does one transaction among many do one step by a key?
+//!
 //! Steps by a key of one transaction among many: search and locks.
 //!
 //! Each step searches the tree, asks the lock table all that the access asks, by what was found there, and answers what one user alone
@@ -7,8 +9,8 @@
 //! - `seek` answers the first entry at or above a key, or above it.
 //! - `scan` answers the entries of a range.
 //! - `ask_insert` and `ask_delete` ask the locks of a change, and hold the leaf where it goes.
-//! - `log_insert` and `log_delete` log the change on that leaf, behind which the log is lawful and the transaction not finished.
-//! - `insert` searches the key's leaf, plans the split that it wants, asks its locks, and logs its key where they are granted, behind that split. What it
+//! - `log_insert` and `log_delete` log the change on that leaf, after which the log is lawful and the transaction not finished.
+//! - `insert` searches the key's leaf, plans the split that it wants, asks its locks, and logs its key where they are granted, after that split. What it
 //!   logged is one record of the key, Images, and those of the split, which comes just where the leaf lacks room, within a limit of pages.
 //! - `delete` asks its locks, drops the key where they are granted, and takes out of the tree the leaf that it leaves empty. What it
 //!   logged is one record of the key, Images, and those of that structure change. A leaf stays empty only for want of memory, and the

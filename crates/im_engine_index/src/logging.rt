@@ -13,7 +13,7 @@ use im_base_types::{Fault, Lsn, PageNo, Rid, TxnId};
 use im_log_record::Record;
 use im_page_writer::PageWriter;
 
-/// Logs the record of a key that comes into its leaf, behind the transaction's record at `last`, and puts it there. It answers the
+/// Logs the record of a key that comes into its leaf, after the transaction's record at `last`, and puts it there. It answers the
 /// record's LSN.
 ///
 /// Refused as `PageWriter::log_change` is.
@@ -44,7 +44,7 @@ pub fn log_insert<D: Disk>(
     writer.log_change(disk, &record)
 }
 
-/// Logs the record of a key that goes from its leaf, behind the transaction's record at `last`, and takes it out. It answers the
+/// Logs the record of a key that goes from its leaf, after the transaction's record at `last`, and takes it out. It answers the
 /// record's LSN.
 ///
 /// Refused as `PageWriter::log_change` is.

@@ -2,7 +2,7 @@
 
 use im_base_types::Lsn;
 
-/// Where the records of a transaction end behind a change, and where its undo goes on.
+/// Where the records of a transaction end after a change, and where its undo goes on.
 #[derive(Clone, Copy, Debug, PartialEq, Eq)]
 pub struct Noted {
     pub last: Lsn,

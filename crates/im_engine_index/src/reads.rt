@@ -29,7 +29,7 @@ use im_page_pool::Frame;
 use im_page_writer::PageWriter;
 use im_tree_search::{leaf_for, next_entry, next_in_leaf, value_of};
 
-// Asks the name behind a key that is not there.
+// Asks the name after a key that is not there.
 // Its leaf is held.
 fn fetch_absent<D: Disk>(
     writer: &mut PageWriter,
@@ -56,10 +56,10 @@ fn fetch_absent<D: Disk>(
 }
 
 /// The row id of a key, `None` where the index doesn't have it. The key's lock is asked where it is there, else that of the next
-/// name, which is looked for only then, from the key's leaf on, which is looked for once. Where the pages of the key's way are held, page 0 and the leaves behind too, nothing is asked of
+/// name, which is looked for only then, from the key's leaf on, which is looked for once. Where the pages of the key's way are held, page 0 and the leaves after too, nothing is asked of
 /// the disk, whatever is answered (`quiet`).
 ///
-/// Refused as `im_tree_search::next_entry` is, and `Memory` where the lock table wants it. Behind a refusal, `Wait` and `Die` nobody holds
+/// Refused as `im_tree_search::next_entry` is, and `Memory` where the lock table wants it. After a refusal, `Wait` and `Die` nobody holds
 /// another lock than before.
 pub fn fetch<D: Disk>(
     writer: &mut PageWriter,
@@ -124,7 +124,7 @@ fn found_by<D: Disk>(
 /// The first entry at or above a key (`inclusive`), or the first above it, copied; `None` where the index has none. The lock of its
 /// key is asked, else that of the name past the last key.
 ///
-/// Refused as `im_tree_search::next_entry` is, and `Memory` where the lock table wants it. Behind a refusal, `Wait` and `Die` nobody holds
+/// Refused as `im_tree_search::next_entry` is, and `Memory` where the lock table wants it. After a refusal, `Wait` and `Die` nobody holds
 /// another lock than before.
 pub fn seek<D: Disk>(
     writer: &mut PageWriter,

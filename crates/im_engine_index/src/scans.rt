@@ -43,7 +43,7 @@ fn bounded(limit: usize) -> usize
     limit
 }
 
-// The name behind a range, where something is said of it.
+// The name after a range, where something is said of it.
 fn name_of_end(behind: &Option<NextKey>) -> Option<Name<'_>>
     requires { IfSome behind.now IsFar }
     ensures { named_if result ≡ name_behind behind.now }
@@ -55,7 +55,7 @@ fn name_of_end(behind: &Option<NextKey>) -> Option<Name<'_>>
     }
 }
 
-// Asks the locks of the entries of a range, and of the name behind it.
+// Asks the locks of the entries of a range, and of the name after it.
 fn ask_range(
     alloc: Global,
     locks: &mut LockTable,
@@ -76,7 +76,7 @@ fn ask_range(
 /// more (`most`). The lock of each entry is asked and, where they are fewer than the limit, that of the first key above `hi`, else of
 /// the name past the last key; where `hi` is below `lo` there is no entry, and no lock is asked.
 ///
-/// Refused as `im_tree_search::entries_between` is, and `Memory` where it is wanted for the locks. Behind a refusal, `Wait` and `Die` nobody
+/// Refused as `im_tree_search::entries_between` is, and `Memory` where it is wanted for the locks. After a refusal, `Wait` and `Die` nobody
 /// holds another lock than before.
 pub fn scan<D: Disk>(
     alloc: Global,

@@ -1,3 +1,5 @@
+//! How is one change of a rollback taken back?
+//!
 //! One transaction rolled back, a change at a time, while others go on.
 //!
 //! `undo_next` takes back the newest change that a transaction has left to undo, and logs its End where that was the last one. It reads

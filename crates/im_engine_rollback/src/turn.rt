@@ -22,7 +22,7 @@ use im_restart_analysis::is_key_record;
 use im_restart_undo::undo_one;
 use std::alloc::Global;
 
-// Takes back the record of a transaction at an LSN. It answers the LSN of the transaction's last record behind that, and where its undo
+// Takes back the record of a transaction at an LSN. It answers the LSN of the transaction's last record after that, and where its undo
 // goes on.
 fn undo_at<D: Disk>(
     alloc: Global,
@@ -107,7 +107,7 @@ fn go_on<D: Disk>(
 /// its last record, and `undo_next` where its undo goes on. Records are read into the room, of 16,384 bytes.
 ///
 /// No lock is asked. Refused `Capacity` only where a key that comes back finds its leaf without room, and page numbers or levels are used
-/// up; `Memory` only where it finds no room either, with all as it was; `Failed` only where memory is wanted behind a record of the
+/// up; `Memory` only where it finds no room either, with all as it was; `Failed` only where memory is wanted after a record of the
 /// transaction that joined the log; `NotAStore` where the records are not as a log of the store has them; otherwise as `PageWriter::log_change` is.
 pub fn undo_next<D: Disk>(
     alloc: Global,

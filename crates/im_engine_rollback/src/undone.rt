@@ -2,7 +2,7 @@
 
 use im_base_types::Lsn;
 
-/// What is left of a transaction behind one change that was taken back.
+/// What is left of a transaction after one change that was taken back.
 #[derive(Clone, Copy, Debug, PartialEq, Eq)]
 pub enum Undone {
     /// Other changes: its records end at `last`, and its undo goes on at `undo_next`.

@@ -1,3 +1,5 @@
+//! When is a checkpoint due, and what comes before it?
+//!
 //! How little the next opening of a store has to redo.
 //!
 //! A `RedoBound` says how much log an opening may have to redo, when a Checkpoint is due, and which pages are written before it. `Checkpoints`

@@ -2,3 +2,4 @@ pub mod Balance
 pub mod Growing
 pub mod Replies
 pub mod Steps
+mod Cuts

@@ -2,3 +2,4 @@ pub mod Events
 pub mod Held
 pub mod Plain
 pub mod Traces
+pub mod Cuts

@@ -14,6 +14,7 @@ ghost use Rattle.im_base_steps.specs.Calls.{asked_by, told_by, is_blocked, may_e
 ghost use Rattle.im_front.specs.Traces.{trace_of};
 ghost use Rattle.im_base_steps.specs.Replies.{is_full, lacks_memory, IsReply};
 ghost use Rattle.im_base_steps.specs.Store.{LookKept};
+ghost use Rattle.im_front.specs.Cuts.{ComesFirst};
 ghost use Rattle.im_front.specs.Held.{IsResting, Records, IsRun, StopKeeps, IsCut, WhyNotCut, after_reply, after_trace, waits_in, force_of, forces_in};
 
 use crate::callers::{Behind, Pace};
@@ -196,6 +197,7 @@ impl<E: Store, L: Ledger> Held<E, L> {
         ensures same { (self.new.counts ≡ self.old.counts) × (self.new.waiting ≡ self.old.waiting) × (self.new.forces ≡ self.old.forces) × (self.new.handed ≡ self.old.handed) }
         ensures err { OnErr result ((self.new.trace ≡ self.old.trace) × (self.new.base ≡ self.old.base) × (self.new.cut ≡ self.old.cut) × (self.new.kept ≡ self.old.kept) × (self.new.forced ≡ self.old.forced)) }
         ensures cause { IfErr result (λ fault. WhyNotCut E.Store self.old self.new fault) }
+        ensures first { ComesFirst E.Store self.old.engine result }
     {
         if self.engine.failed() {
             return Err(Fault::Failed);

@@ -1,3 +1,5 @@
+//! How do threads share a store?
+//!
 //! An engine that threads share: one lock, and beside the engine a trace of its steps that is a run.
 //!
 //! **What lies under the lock** (`Held`): an engine, the entries from which the trace begins, the steps with their replies, and

@@ -1,3 +1,5 @@
+//! How do threads load a store?
+//!
 //! Loads: threads that make transactions on one store through a front, and a flusher beside them.
 //!
 //! Each worker makes its transactions one after another: it begins one, inserts a key of its own, and commits it, or rolls it back

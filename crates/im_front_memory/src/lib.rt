@@ -1,3 +1,5 @@
+//! Can a store in memory meet what a front asks?
+//!
 //! A store in memory that many transactions use at once: the lock table, the table of transactions and an ordered list of entries,
 //! with no files.
 //!

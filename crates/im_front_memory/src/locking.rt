@@ -41,7 +41,7 @@ pub fn ask(
     }
 }
 
-/// Asks for `t` what a scan of these entries asks: the list that it answers and, where there may be more behind it, the first entry
+/// Asks for `t` what a scan of these entries asks: the list that it answers and, where there may be more after it, the first entry
 /// past a key. None where the locks are granted; else what the scan is answered.
 pub fn ask_range<'a>(
     alloc: Global,

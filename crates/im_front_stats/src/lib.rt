@@ -1,3 +1,5 @@
+//! How are the counts of a store that threads share read without a lock?
+//!
 //! A cell of statistics that threads share: how many transactions were started, committed and rolled back.
 //!
 //! One pass writes the three counts, any number of passes read them. A read takes no lock and never waits: it is `None`

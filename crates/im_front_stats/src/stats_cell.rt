@@ -61,7 +61,7 @@ impl StatsCell {
         }
     }
 
-    /// Stores counts that are sound and do not fall. Only the writer's pass may, and behind it knows just these.
+    /// Stores counts that are sound and do not fall. Only the writer's pass may, and after it knows just these.
     pub fn store<R: Wait>(&self, rt: &R, pass: &mut Pass, counts: [u64; 3])
         requires cell { pass.old.table_id ≡ self.now.table.shared.table_id }
         requires whole { length counts ≡ 3 }

@@ -1,3 +1,5 @@
+//! Which records are there, and which are durable?
+//!
 //! The log: records in turn, each with an LSN, of which a front is durable.
 //!
 //! Above this layer nobody speaks of bytes, batches or gates. There is a list of records, the newest first, and a front of it

@@ -1,3 +1,5 @@
+//! Which of the two logs is the current one? How does a log go on in the other?
+//!
 //! Which of the two log files is the current one, and how a log goes on in the other.
 //!
 //! The current log is the made file of the greater generation. Where none is made, it is the one that lies as `Log`. `choose`, before anything

@@ -1,10 +1,10 @@
 //! How a log goes on in the other file.
 
-ghost use Rattle.std.specs.Prelude.{◌≡◌, ◌⊎◌, ◌↔◌, ◌+◌, ◌^◌, ◌<◌, ◌≤◌, true, false, IfErr, IfOk, OnOk};
+ghost use Rattle.std.specs.Prelude.{◌≡◌, ◌⊎◌, ◌↔◌, ◌+◌, ◌^◌, ◌<◌, ◌≤◌, true, false, IfErr, IfOk, OnErr, OnOk};
 ghost use Rattle.im_base_types.specs.declared.file_id.FileId.TheVariants.{Log, Pages, Log2};
 ghost use Rattle.im_base_types.specs.declared.fault.Fault.TheVariants.{Capacity, Device, LogFull};
 ghost use Rattle.im_base_disk.specs.Disk.{Answers};
-ghost use Rattle.im_base_disk.specs.Runs.{IsSynced, CostsAtMost};
+ghost use Rattle.im_base_disk.specs.Runs.{IsSynced, ChangesOnly, CostsAtMost};
 ghost use Rattle.im_base_two_logs.specs.Runs.{LeavesNamed};
 ghost use Rattle.im_log_header.specs.Header.{IsEmptyLog};
 ghost use Rattle.im_log_header.specs.Start.{IsHeader};
@@ -55,6 +55,7 @@ pub fn go_on<D: TwoLogs>(disk: &mut D, header: &Header) -> Result<(), Fault>
     ensures pages { OnOk result (D.seen disk.new Pages ≡ D.seen disk.old Pages) }
     ensures durable { OnOk result (IsSynced D.Disk disk.new) }
     ensures any_moment { LeavesNamed D.Disk disk.old disk.new (IsGoingOn (D.seen disk.old) header.now.generation header.now.base header.now.next) }
+    ensures stays { OnErr result (ChangesOnly D.Disk Log2 disk.old disk.new) }
     ensures few { CostsAtMost D.Disk 3 3 disk.old disk.new }
     ensures answers { Answers (D.failed disk.new) result }
 {

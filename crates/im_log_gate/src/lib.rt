@@ -1,3 +1,5 @@
+//! How is a batch made durable, whole or not at all? Which batches does a file have?
+//!
 //! Batches of bytes in a log file, each on the disk before its gate is opened.
 //!
 //! # The file

@@ -13,7 +13,7 @@ pub struct Header {
     pub next: TxnId,
 }
 
-/// A header, and where the first gate stands behind it.
+/// A header, and where the first gate stands after it.
 #[derive(Clone, Copy, Debug, PartialEq, Eq)]
 pub struct LogStart {
     /// The place of the first gate, in bytes: 31 in the first format, 47 in the second.

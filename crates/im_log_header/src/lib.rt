@@ -1,3 +1,5 @@
+//! What does a log file say of where its log starts? How is an empty log made?
+//!
 //! What stands in front of a log's first gate: the header of a log file, in either format.
 //!
 //! # The second format
@@ -16,10 +18,10 @@
 //!
 //! The first format has `ARIESIM1`, zeros from byte 13 on and its first gate at byte 31: it counts as generation 1, base 0 and
 //! least number 1. Byte 0 is asked first: a file of at most one byte, or whose byte 0 is not 1, is not made and says nothing, whatever header an
-//! earlier log has left behind that byte.
+//! earlier log has left after that byte.
 //!
 //! `read_header` reads what a log says; it refuses a made file of neither format. `make_log` makes an empty log of the second format
-//! of any file, also of one that has a log: byte 0 is closed, the header and a closed first gate are written behind it, and byte 0 is
+//! of any file, also of one that has a log: byte 0 is closed, the header and a closed first gate are written after it, and byte 0 is
 //! opened, each on the disk before the next. A stop within leaves the file as it was, or not made, or the whole new log.
 //!
 //! The crate stands on the trait `Disk`. That the four numbers are functions of the bytes in front of the first gate, so that whoever keeps those keeps

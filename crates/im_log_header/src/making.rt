@@ -1,4 +1,4 @@
-//! How a log of the second format is made: byte 0 is closed, then the header and the first gate are written behind it, then it is
+//! How a log of the second format is made: byte 0 is closed, then the header and the first gate are written after it, then it is
 //! opened. Each step goes from one state of the file, all of it on the disk, to the next.
 
 ghost use Rattle.std.specs.Prelude.{◌≡◌, ◌≢◌, ◌≤◌, ◌⊎◌, ◌++◌, [], ◌∷◌, true, false, length, slice_index, OnOk};
@@ -57,7 +57,7 @@ fn front(header: &Header) -> [u8; 47]
     bytes
 }
 
-// Writes the header and the first gate behind a closed byte 0, and opens it.
+// Writes the header and the first gate after a closed byte 0, and opens it.
 fn write<D: Disk>(disk: &mut D, file: FileId, header: &Header) -> Result<(), Fault>
     requires working { D.failed disk.old ≡ false }
     requires begun { D.tells → 1 ≤ length (D.seen disk.old file) }

@@ -28,7 +28,7 @@ fn is_made<D: Disk>(disk: &mut D, file: FileId) -> Result<bool, Fault>
     Ok(made[0] == 1)
 }
 
-// The header is the first format's, and a gate stands behind it.
+// The header is the first format's, and a gate stands after it.
 fn has_first_header<D: Disk>(disk: &mut D, file: FileId) -> Result<bool, Fault>
     requires { D.failed disk.old ≡ false }
     ensures there { result ≡ Ok true → D.tells → (31 < length (D.seen disk.old file)) × (take 30 (drop 1 (D.seen disk.old file)) ≡ first_header) }
@@ -45,7 +45,7 @@ fn has_first_header<D: Disk>(disk: &mut D, file: FileId) -> Result<bool, Fault>
     Ok(found == FIRST_FORMAT)
 }
 
-// The header of the second format, where there is one with a gate behind it.
+// The header of the second format, where there is one with a gate after it.
 fn second_header_of<D: Disk>(disk: &mut D, file: FileId) -> Result<Option<Header>, Fault>
     requires { D.failed disk.old ≡ false }
     ensures there { IfOk result (λ found. IfSome found (λ header. D.tells → (47 < length (D.seen disk.old file)) × IsSpelled header (take 46 (drop 1 (D.seen disk.old file))))) }

@@ -1,8 +1,10 @@
+//! Which bytes are a record?
+//!
 //! The records of the log as bytes: each record has one spelling, and each spelling one record.
 //!
 //! `Record` has a variant for each of the eleven kinds, with the fields that the kind uses. Keys, page images and
 //! the lists of a checkpoint are borrowed, so neither writing nor reading takes memory. `Record::encode` writes a
-//! record behind the first bytes of a buffer, in one pass. `decode` reads the record that bytes spell, all of them,
+//! record after the first bytes of a buffer, in one pass. `decode` reads the record that bytes spell, all of them,
 //! and `decode_front` the one at the front of a batch. The bytes come from a disk and may be anything: whatever is
 //! no spelling is refused `NotAStore`.
 //!

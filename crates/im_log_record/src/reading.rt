@@ -49,7 +49,7 @@ fn first_of(bytes: &[u8]) -> Option<(Record<'_>, &[u8])>
     Some((record, rest))
 }
 
-/// The record at the front of the bytes, and the bytes behind it. Refused `NotAStore` where the front spells none.
+/// The record at the front of the bytes, and the bytes after it. Refused `NotAStore` where the front spells none.
 /// It takes no memory.
 #[inline]
 pub fn decode_front(bytes: &[u8]) -> Result<(Record<'_>, &[u8]), Fault>

@@ -24,7 +24,7 @@ struct Fields {
     page: u32,
 }
 
-// Each of these writes behind the front of a buffer, and answers where that front then ends.
+// Each of these writes after the front of a buffer, and answers where that front then ends.
 #[inline]
 fn put(out: &mut [u8], at: usize, bytes: &[u8]) -> usize
     requires room { at + length bytes.now ≤ length out.old }
@@ -250,7 +250,7 @@ fn fields_of(written: &Record<'_>) -> Fields
 }
 
 impl Record<'_> {
-    /// Writes the record into a buffer, behind its first bytes, and answers where the record ends. It takes no
+    /// Writes the record into a buffer, after its first bytes, and answers where the record ends. It takes no
     /// memory.
     #[inline]
     pub fn encode(&self, out: &mut [u8], at: usize) -> usize

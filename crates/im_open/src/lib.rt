@@ -1,3 +1,5 @@
+//! How does a program come to a store at rest in a folder?
+//!
 //! A store over the files of a folder, as a program opens it that embeds one: an engine at rest, ready for the fronts of `im_front`. Who opens it here
 //! proves nothing of the engine.
 #![tactic(auto)]

@@ -67,8 +67,8 @@ fn has_slots(bytes: &[u8], flags: &[bool]) -> bool
 }
 
 /// Whether the slots are those of a packed page: each at a cell of its own, their keys rising, and all cells have a slot. Where two
-/// keys rise, they are not one cell's. Flagged are the byte where the cells begin and the one behind each slot's cell: the cells stand
-/// one behind the other, up to the page's end, where each of them begins at a flag and the end is flagged too.
+/// keys rise, they are not one cell's. Flagged are the byte where the cells begin and the one after each slot's cell: the cells stand
+/// one after the other, up to the page's end, where each of them begins at a flag and the end is flagged too.
 fn are_slots_sound(leaf: bool, bytes: &[u8], flags: &mut [bool]) -> bool
     requires len { length bytes.now ≡ 4096 }
     requires slots { 32 + 2 * count_of bytes.now ≤ start_of bytes.now }
@@ -101,7 +101,7 @@ fn are_slots_sound(leaf: bool, bytes: &[u8], flags: &mut [bool]) -> bool
 
 /// Whether the cells lie as where a page is filled in order: the first slot's at the page's end, each other one right in front of that of
 /// the slot before, the last one where the cells begin. Then nothing has to be flagged: no two share a byte, and none is left over. The
-/// last slot is looked at first: a key that came behind others in another place has its cell in front of theirs.
+/// last slot is looked at first: a key that came after others in another place has its cell in front of theirs.
 #[inline(never)]
 fn is_run(leaf: bool, bytes: &[u8]) -> bool
     requires len { length bytes.now ≡ 4096 }
@@ -138,7 +138,7 @@ fn is_run(leaf: bool, bytes: &[u8]) -> bool
     true
 }
 
-/// Whether a cell of this size is in the page and a whole number of such cells behind where the cells begin. `inverse` is 2^32 by the size,
+/// Whether a cell of this size is in the page and a whole number of such cells after where the cells begin. `inverse` is 2^32 by the size,
 /// rounded up. What the cell is behind by times it is in 32 bits below it where that is a multiple of the size, and only there, as long as
 /// both are small: a product in the place of a division.
 fn is_place(at: u32, start: u32, size: u32, inverse: u32) -> bool
@@ -194,7 +194,7 @@ fn do_keys_rise(leaf: bool, bytes: &[u8], key_len: u8) -> bool
     true
 }
 
-/// Whether all cells have one size, as where all keys have one length, each of them whole sizes behind where the cells begin, and all of them
+/// Whether all cells have one size, as where all keys have one length, each of them whole sizes after where the cells begin, and all of them
 /// take all of their place. Then nothing has to be flagged: keys that rise are in cells of their own, and such cells share no byte.
 #[inline(never)]
 fn is_uniform(leaf: bool, bytes: &[u8]) -> bool

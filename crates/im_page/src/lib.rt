@@ -1,3 +1,5 @@
+//! How does a page take, give and part its entries?
+//!
 //! Pages: a header and a sorted list in 4,096 bytes, searched and changed in place.
 //!
 //! A `Page` is 4,096 bytes; contracts see it as an LSN and a body (`im_base_types`: kind, level, mark, `prev`, `next`,
@@ -68,10 +70,10 @@
 //!   `copy_entries` too: one pass over the slots, which looks first whether the last slot's cell is the foremost one.
 //! - All cells have one size, as where all keys have one length, and begin at whole numbers of it: one pass for that, without a branch, and
 //!   one for the keys. As the keys rise, no two slots have one cell, and together the cells are as long as their place.
-//! - Else flags: for the byte where the cells begin and the one behind each slot's cell, so that no step waits for the one before; at last
+//! - Else flags: for the byte where the cells begin and the one after each slot's cell, so that no step waits for the one before; at last
 //!   each slot has to name a flagged byte, and the page's end has to be one.
 //!
-//! What the first two save, on one machine: `load` of one of 64 leaves of 147 entries with keys of eight bytes, behind a copy into a buffer,
+//! What the first two save, on one machine: `load` of one of 64 leaves of 147 entries with keys of eight bytes, after a copy into a buffer,
 //! took 410 ns where their cells lie in order, 440 or 555 where they lie scattered, by how the compiler laid the loop out, and 794 where one
 //! key has a byte more, so that flags are needed; of one of 2,048 leaves into one of 1,024 pages 933, 1,001 or 1,171, and 1,430 to 1,504 (each
 //! the least of some runs of 20 times 20,000 calls).

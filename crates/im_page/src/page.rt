@@ -173,7 +173,7 @@ impl Page {
         get_u32(&self.bytes, 16)
     }
 
-    /// The leaf behind it in the chain, the free page behind it, or in a meta page the first free page; 0 for none.
+    /// The leaf after it in the chain, the free page after it, or in a meta page the first free page; 0 for none.
     pub fn next(&self) -> PageNo
         ensures { result ≡ self.now.body.next }
     {

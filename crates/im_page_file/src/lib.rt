@@ -1,3 +1,5 @@
+//! How is a page written beside a log?
+//!
 //! Page writes beside a log: the file of pages, the full copies of pages in the log, and what a stop leaves of both.
 //!
 //! # The file of pages
@@ -10,7 +12,7 @@
 //! # Full copies
 //!
 //! `append_image` adds a page's Image to the log. `read_copy` makes a page the full copy that a record holds, an Image or a structure
-//! change, and `read_after` the page behind a structure change or its undo.
+//! change, and `read_after` the page after a structure change or its undo.
 //!
 //! # What is kept
 //!

@@ -19,7 +19,7 @@ fn put_behind(room: &mut [u8], body: &[u8])
     room[8..].copy_from_slice(body);
 }
 
-// Makes a page the one that these bytes are behind an LSN of zero, and answers whether they are one.
+// Makes a page the one that these bytes are after an LSN of zero, and answers whether they are one.
 fn read_behind(page: &mut Page, body: &[u8]) -> bool
     requires { length body.now ≡ 4088 }
     ensures is { result ≡ true → page_behind body.now ≡ Some page.new }

@@ -18,7 +18,7 @@ use im_page_table::DirtyTable;
 /// The bytes of a page.
 const PAGE: u64 = PAGE_SIZE as u64;
 
-/// How many pages the file has: bytes behind the last whole one do not count. No device call. Refused `Device`.
+/// How many pages the file has: bytes after the last whole one do not count. No device call. Refused `Device`.
 pub fn count_pages<D: Disk>(disk: &mut D) -> Result<u64, Fault>
     requires working { D.failed disk.old ≡ false }
     ensures count { IfOk result (λ n. D.tells → n ≡ page_count (D.seen disk.old Pages)) }
@@ -32,7 +32,7 @@ pub fn count_pages<D: Disk>(disk: &mut D) -> Result<u64, Fault>
 /// grows by it. The LSN is that of the page's Image, for a page that has no entry.
 ///
 /// It answers whether the table has the page's entry: without room for it there is none, and the file is to be synced before the
-/// page is changed or written again. Refused `Device`; the table then is as behind a write, since part of it may have been made.
+/// page is changed or written again. Refused `Device`; the table then is as after a write, since part of it may have been made.
 pub fn write_page<D: Disk>(
     disk: &mut D,
     table: &mut DirtyTable,

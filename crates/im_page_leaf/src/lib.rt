@@ -1,3 +1,5 @@
+//! Does a leaf take this key, and where?
+//!
 //! A key of a leaf, put in or taken out by a record: whether a leaf takes that, and where.
 //!
 //! A leaf takes a key where it lacks it and has room for it (`CanPutKey`), and gives one up where it has it (`CanTakeKey`). A record does

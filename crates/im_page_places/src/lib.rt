@@ -1,3 +1,5 @@
+//! Which page stands in which frame?
+//!
 //! Which page stands in which frame of a pool, by use.
 //!
 //! Contracts see two lists (`PlacesView`): the number of each held page with the place of its frame, the most recently used first, and

@@ -74,7 +74,7 @@ pub fn enter(
     let _ = numbers.insert(p, Some(place));
 }
 
-// Whether a number can come in at once, whether the map has it or not: behind that, it still has room for twice as many numbers as there
+// Whether a number can come in at once, whether the map has it or not: after that, it still has room for twice as many numbers as there
 // are frames.
 fn has_room(numbers: &HashMap<PageNo, Option<u32>>, frames: usize) -> bool
     requires { 2 * frames ≤ hash_map_len numbers.now + spare numbers.now }

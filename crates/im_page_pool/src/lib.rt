@@ -1,3 +1,5 @@
+//! What is the page of a number?
+//!
 //! A bounded pool of pages: each held page stands in a frame, and any other is read when it is wanted.
 //!
 //! # The contract

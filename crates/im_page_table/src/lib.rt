@@ -1,3 +1,5 @@
+//! Since when does each page lack something in its file?
+//!
 //! What a writer of pages keeps of its pages, over plain data: the dirty table, which full copies are known beside it, and what stays
 //! while Images join the log.
 //!
@@ -17,7 +19,7 @@
 //!
 //! A page may come in by a change once more: it had an entry in this life before, was written, and left by a sync. Its write found a
 //! full copy, and while the redo point stays that serves. Its own LSN says so, which is at or after that of the first record of this
-//! life, behind its last Checkpoint, that changed a leaf (`KnowsCopies`, `IsKnownFrom`): no copy is remembered beside the table.
+//! life, after its last Checkpoint, that changed a leaf (`KnowsCopies`, `IsKnownFrom`): no copy is remembered beside the table.
 //!
 //! `Keeps` says that each page is as it was, and that the log has Images more.
 //!

@@ -26,7 +26,7 @@ use im_page_file::{count_pages, sync_pages};
 use im_page_pool::Pool;
 use im_page_table::DirtyTable;
 
-// Writes pages whose full copies are durable; where the table has no room for the entry of one, the file is synced behind them.
+// Writes pages whose full copies are durable; where the table has no room for the entry of one, the file is synced after them.
 fn write_out<D: Disk>(
     disk: &mut D,
     table: &mut DirtyTable,

@@ -35,7 +35,7 @@ fn note(lsns: &mut Vec<Lsn>, lsn: Lsn)
     }
 }
 
-/// The LSN of the Image of the page at a place of a flush; behind the last one that is noted that one, which is no later.
+/// The LSN of the Image of the page at a place of a flush; after the last one that is noted that one, which is no later.
 pub(crate) fn lsn_of(lsns: &[Lsn], place: u64) -> Lsn
     ensures { result ≡ lsn_for lsns.now place }
 {

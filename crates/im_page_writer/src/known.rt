@@ -13,17 +13,17 @@ pub struct Synced {
     /// For each page that a record below the redo point changed, the LSN of the last such record. 12 bytes and some for each such page,
     /// as long as the writer lasts.
     pub lsns: BTreeMap<PageNo, Lsn>,
-    /// The page count that page 0 says behind its own, where that record is one of a structure change.
+    /// The page count that page 0 says after its own, where that record is one of a structure change.
     pub count: Option<PageNo>,
 }
 
 /// What is known of pages that are not held.
 #[derive(Drop)]
 pub(crate) struct Known {
-    /// The LSN of the first record of this life, behind its last Checkpoint, that changed a leaf. A page without an entry that has this
+    /// The LSN of the first record of this life, after its last Checkpoint, that changed a leaf. A page without an entry that has this
     /// LSN or a later one was changed since, and written since: the log has a full copy of it at or after its redo point.
     pub from: Option<Lsn>,
-    /// An Image by which a full copy of its page is known may wait in the log, behind all changes of that page.
+    /// An Image by which a full copy of its page is known may wait in the log, after all changes of that page.
     pub ahead: bool,
     pub synced: Synced,
 }

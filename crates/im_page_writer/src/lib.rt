@@ -1,3 +1,5 @@
+//! How is a page changed, logged, written and redone, so that each stop can be recovered from?
+//!
 //! Page writes: which pages may lack changes in their file, and the calls that write pages in place and sync them.
 //!
 //! A page is changed in memory and written in place later, at any time. That a stop tears the write never matters: before it the
@@ -13,8 +15,8 @@
 //!   from the page count up to it, so that no range of the file is left without a page. First the Images of those pages join the
 //!   log of which no full copy is known, in rising page number; then the log is forced, four device calls, and none where nothing
 //!   is buffered; then each page is entered and written, one device call each, in rising number. Where the table has no room for the entry of a page that is written along, the file is synced
-//!   behind them. A page that the file has, and whose last change and full copy are durable, is written with no force, whatever waits
-//!   in the log (`IsUnforced`): its LSN is below the log's durable end, and no Image waits that came behind the last change of its page.
+//!   after them. A page that the file has, and whose last change and full copy are durable, is written with no force, whatever waits
+//!   in the log (`IsUnforced`): its LSN is below the log's durable end, and no Image waits that came after the last change of its page.
 //! - A page that is got (`get`) stays in its frame. Where no frame is free, the least recently used page is flushed, if it was
 //!   changed, and its frame given up. Where that forces the log, changed pages that go next are flushed with it: of the half of the
 //!   frames that were used least recently, the first eight, as far as their Images fit into the log's buffer, in rising number. The log
@@ -50,7 +52,7 @@
 //! `LeavesCovered`; `StandsAs` says the same of a `PageWriter`, with its pool, which shows each page as the writer has it. Each call
 //! has a clause `kept`: where the writer stands, and may do the step, it stands as the step leaves it, and a stop at any moment within
 //! leaves what redo can start from. A call that flushes on its way leaves each page as it was, and the log with Images more (`Keeps`).
-//! What a stop leaves holds behind a refusal too, and behind one that leaves the writer working it stands as before (`again`).
+//! What a stop leaves holds after a refusal too, and after one that leaves the writer working it stands as before (`again`).
 //!
 //! It stands on the log, on pages and their file, on the dirty table, on the pool and on the disk.
 #![tactic(auto)]

@@ -293,7 +293,7 @@ impl PageWriter {
     /// is counted, and none for the page that goes.
     ///
     /// Refused `Failed` after a call that failed; otherwise only for a page that is not held: `LogFull`, where an Image would end above
-    /// LSN 2^62, `Device`, or `NotAStore` where the page's bytes are none. Behind the last one the writer goes on. No memory is taken.
+    /// LSN 2^62, `Device`, or `NotAStore` where the page's bytes are none. After the last one the writer goes on. No memory is taken.
     pub fn get<D: Disk>(&mut self, disk: &mut D, number: PageNo) -> Result<Frame, Fault>
         requires ready { IsReadyWriter D.Disk self.old disk.old }
         ensures outcome { Outcome D.Disk (AreLoadedTo number) no_page self.old disk.old self.new disk.new (fault_of result) }

@@ -4,7 +4,7 @@ use im_base_types::Lsn;
 use im_log::LogFile;
 use im_restart_analysis::{Analysed, LastChanges};
 
-/// The log behind its last record, and what its records say.
+/// The log after its last record, and what its records say.
 #[derive(Drop)]
 pub(crate) struct Found {
     pub log: LogFile,

@@ -1,3 +1,5 @@
+//! How is a store opened?
+//!
 //! Restart: a store's files are opened, its pages redone, and what was unfinished undone.
 //!
 //! `open_or_create` goes through the log once and then back from the ends of the losers:
@@ -26,7 +28,7 @@
 //! `MayRestart` is what files have to be: a lawful log (`IsLawful`, over the tree of pages) that covers the pages (`Covers`), or none
 //! and no page, whether its tree was split or not. `RestartKept` is what the clause `kept` says of such files:
 //!
-//! - behind an opening (`IsRestarted`) the log is the one that was found with Images and records of undo more (`GrowsByRestart`), it
+//! - after an opening (`IsRestarted`) the log is the one that was found with Images and records of undo more (`GrowsByRestart`), it
 //!   is lawful and durable, no loser is left, and each page is what the whole log made of it; each compensation took back the latest
 //!   of all records that losers had left to undo (`IsInOrder`);
 //! - a stop at any moment leaves such files again (`IsLeftUndoing`): the log that was found, or it with some of these records, in that

@@ -64,8 +64,8 @@ fn first_number(next: TxnId) -> TxnId
 #[tactic(auto, using(im_restart_redo::proofs::Recoveries::recovers_then, im_restart_redo::proofs::Recoveries::recovery_refused))]
 fn undo_found<D: Disk>(
     alloc: Global,
-    disk: &mut D,
     writer: &mut PageWriter,
+    disk: &mut D,
     analysed: &mut Analysed,
     room: &mut [u8],
 ) -> Result<(), Fault>
@@ -81,21 +81,21 @@ fn undo_found<D: Disk>(
     ensures next { analysed.new.next ≡ analysed.old.next }
 {
     undo_change(
-        disk,
         writer,
+        disk,
         &mut analysed.open_change,
         &mut analysed.losers,
         room,
     )?;
-    undo(alloc, disk, writer, &mut analysed.losers, room)
+    undo(alloc, writer, disk, &mut analysed.losers, room)
 }
 
 // Redoes the records from the redo point on, undoes and ends the losers, and makes what was logged durable. It answers how many
 // records were redone.
 fn settle<D: Disk>(
     alloc: Global,
-    disk: &mut D,
     writer: &mut PageWriter,
+    disk: &mut D,
     analysed: &mut Analysed,
     lsns: &[Lsn],
     room: &mut [u8],
@@ -113,14 +113,14 @@ fn settle<D: Disk>(
     ensures next { analysed.new.next ≡ analysed.old.next }
 {
     let applied = redo(
-        disk,
         writer,
+        disk,
         analysed.redo_point,
         &analysed.copies,
         lsns,
         room,
     )?;
-    undo_found(alloc, disk, writer, analysed, room)?;
+    undo_found(alloc, writer, disk, analysed, room)?;
     writer.force(disk)?;
     Ok(applied)
 }
@@ -158,7 +158,7 @@ fn restart<D: Disk>(
     writer.expect(synced_of(last));
     let mut room = make_room(alloc)?;
     let point = analysed.redo_point;
-    let applied = settle(alloc, disk, &mut writer, &mut analysed, &lsns, &mut room)?;
+    let applied = settle(alloc, &mut writer, disk, &mut analysed, &lsns, &mut room)?;
     Ok(Restarted {
         writer,
         next: first_number(analysed.next),
@@ -199,7 +199,7 @@ fn restart_tested<D: Disk>(
 
 /// Opens a store's log and pages, or makes a log where there is none yet and no page: analysis reads the log once, redo brings the
 /// pages to what all of it made of them, and the transactions with neither Commit nor End are undone and ended. Where that logs
-/// anything, it is made durable.
+/// anything, it is made durable. The log's buffer holds so many batches.
 ///
 /// Refused `NotAStore` where the bytes are no store, or there are pages without a log; `Capacity` where the key of a delete is put back into
 /// a full leaf, and page numbers or levels are used up, so that the leaf can't be split; `LogFull` only where the log's file then ends less
@@ -210,7 +210,9 @@ pub fn open_or_create<D: Disk>(
     alloc: Global,
     disk: &mut D,
     frames: usize,
+    batches: usize,
 ) -> Result<Restarted, Fault>
+    requires few { (1 ≤ batches) × (batches ≤ 64) }
     requires working { D.failed disk.old ≡ false }
     requires synced { IsSynced D.Disk disk.old }
     requires least { 8 ≤ frames }
@@ -226,6 +228,6 @@ pub fn open_or_create<D: Disk>(
     ensures redoes { (b : Base) (base : ℕ) (all : History) → D.tells → MayRedo b base all (D.seen disk.old) → IfErr result (λ e. e ≢ NotAStore) }
     ensures unspelled { D.tells → ¬ (SpellsLog (D.seen disk.old)) → Reads D.Disk disk.old disk.new × IfErr result (λ e. (e ≡ Memory) ⊎ (e ≡ Device) ⊎ (e ≡ NotAStore)) }
 {
-    let found = open_log(alloc, disk)?;
+    let found = open_log(alloc, disk, batches)?;
     restart_tested(alloc, disk, found, frames)
 }

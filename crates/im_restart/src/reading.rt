@@ -144,12 +144,13 @@ fn read_all<D: Disk>(
     })
 }
 
-/// Opens a store's log, or makes one where there is none yet, and reads its records once.
+/// Opens a store's log, or makes one where there is none yet, and reads its records once. Its buffer holds so many batches.
 ///
 /// Refused `NotAStore` where the bytes are no log, a structure change opens beside another's, a record leads to a later one or names a page
 /// that no page count before it has, or there are pages without a log;
 /// `Memory`; `Device`.
-pub(crate) fn open_log<D: Disk>(alloc: Global, disk: &mut D) -> Result<Found, Fault>
+pub(crate) fn open_log<D: Disk>(alloc: Global, disk: &mut D, batches: usize) -> Result<Found, Fault>
+    requires few { (1 ≤ batches) × (batches ≤ 64) }
     requires working { D.failed disk.old ≡ false }
     requires durable { Only Log (D.seen disk.old) (D.may_leave disk.old) }
     ensures ready { IfOk result (λ found. IsOpen D.Disk found.log disk.new) }
@@ -166,6 +167,6 @@ pub(crate) fn open_log<D: Disk>(alloc: Global, disk: &mut D) -> Result<Found, Fa
 {
     let gate = first_gate(alloc, disk)?;
     let least = gate.least_number();
-    let opening = Opening::start(alloc, gate, 1)?;
+    let opening = Opening::start(alloc, gate, batches)?;
     read_all(alloc, disk, opening, least)
 }

@@ -1,10 +1,10 @@
-//! A store's log and pages behind an opening.
+//! A store's log and pages after an opening.
 
 use crate::redo_report::RedoReport;
 use im_base_types::TxnId;
 use im_page_writer::PageWriter;
 
-/// The log and the pages of a store, open behind its last record, the number of the next transaction, and what redo did.
+/// The log and the pages of a store, open after its last record, the number of the next transaction, and what redo did.
 #[derive(Drop)]
 pub struct Restarted {
     pub writer: PageWriter,

@@ -25,11 +25,11 @@ use im_page_writer::PageWriter;
 use im_restart_analysis::{Loser, OpenRecord};
 use std::collections::BTreeMap;
 
-// Logs the undo of one page of a structure change behind its transaction's last record, and makes the page what it was. It answers
+// Logs the undo of one page of a structure change after its transaction's last record, and makes the page what it was. It answers
 // the LSN.
 fn take_back<D: Disk>(
-    disk: &mut D,
     writer: &mut PageWriter,
+    disk: &mut D,
     last: Lsn,
     record: &Record,
 ) -> Result<Lsn, Fault>
@@ -91,8 +91,8 @@ fn note_row(
 // Takes back one page, whose record this is.
 #[tactic(auto, using(im_restart_redo::proofs::Recoveries::recovers_then, im_restart_redo::proofs::Recoveries::recovery_refused))]
 fn undo_page<D: Disk>(
-    disk: &mut D,
     writer: &mut PageWriter,
+    disk: &mut D,
     losers: &mut BTreeMap<TxnId, Loser>,
     record: &Record,
 ) -> Result<(), Fault>
@@ -104,7 +104,7 @@ fn undo_page<D: Disk>(
         → open_smo s.log ≡ logged_at lsn (view record.now) ∷ rest → AreLosers losers.old s.log → PageKept D.Disk b base all s rest disk.old writer.new losers.new disk.new result }
 {
     let last = last_of(losers, record.transaction())?;
-    let lsn = take_back(disk, writer, last, record)?;
+    let lsn = take_back(writer, disk, last, record)?;
     let row = Loser {
         last: lsn,
         undo_next: record.prev(),
@@ -114,8 +114,8 @@ fn undo_page<D: Disk>(
 
 // The same, with the record read into the room.
 fn undo_page_at<D: Disk>(
-    disk: &mut D,
     writer: &mut PageWriter,
+    disk: &mut D,
     losers: &mut BTreeMap<TxnId, Loser>,
     lsn: Lsn,
     room: &mut [u8],
@@ -130,15 +130,15 @@ fn undo_page_at<D: Disk>(
 {
     let size = writer.read_at(disk, lsn, room)?;
     let record = decode(&room[..size])?;
-    undo_page(disk, writer, losers, &record)
+    undo_page(writer, disk, losers, &record)
 }
 
 /// Takes back the structure change that was open, whose records these are, the newest page first, and leaves its transaction's row in
 /// the table of the losers as that leaves it.
 #[tactic(auto, using(im_restart_redo::proofs::Recoveries::recovers_then, im_restart_redo::proofs::Recoveries::recovery_refused))]
 pub(crate) fn undo_change<D: Disk>(
-    disk: &mut D,
     writer: &mut PageWriter,
+    disk: &mut D,
     open_change: &mut Vec<OpenRecord>,
     losers: &mut BTreeMap<TxnId, Loser>,
     room: &mut [u8],
@@ -153,7 +153,7 @@ pub(crate) fn undo_change<D: Disk>(
     ensures none { open_change.old.items ≡ [] → (result ≡ Ok tt) × (writer.new ≡ writer.old) × (losers.new ≡ losers.old) × (disk.new ≡ disk.old) }
 {
     while let Some(newest) = open_change.pop() {
-        undo_page_at(disk, writer, losers, newest.lsn, room)?;
+        undo_page_at(writer, disk, losers, newest.lsn, room)?;
     }
     Ok(())
 }

@@ -44,11 +44,11 @@ fn answered(fault: Fault) -> Fault
     }
 }
 
-// Takes back a key record of a loser, wherever splits have moved its key. It answers the LSN of the loser's last record behind that.
+// Takes back a key record of a loser, wherever splits have moved its key. It answers the LSN of the loser's last record after that.
 fn compensate<D: Disk>(
     alloc: Global,
-    disk: &mut D,
     writer: &mut PageWriter,
+    disk: &mut D,
     chain: Chain,
     record: &Record,
 ) -> Result<Lsn, Fault>
@@ -72,7 +72,7 @@ fn compensate<D: Disk>(
 }
 
 // Logs the End of a transaction of which nothing is left to undo.
-fn end<D: Disk>(disk: &mut D, writer: &mut PageWriter, chain: Chain) -> Result<(), Fault>
+fn end<D: Disk>(writer: &mut PageWriter, disk: &mut D, chain: Chain) -> Result<(), Fault>
     requires ready { IsReadyWriter D.Disk writer.old disk.old }
     requires working { writer.old.failed ≡ false }
     ensures outcome { Recovers D.Disk mild writer.old writer.new disk.new (fault_of result) }
@@ -108,8 +108,8 @@ fn put_chain(chains: &mut BTreeMap<Lsn, Chain>, lsn: Lsn, chain: Chain) -> Resul
 
 // Undo of a transaction goes on at an LSN; where nothing is left, it ends.
 fn go_on<D: Disk>(
-    disk: &mut D,
     writer: &mut PageWriter,
+    disk: &mut D,
     chains: &mut BTreeMap<Lsn, Chain>,
     chain: Chain,
     lsn: Lsn,
@@ -123,18 +123,18 @@ fn go_on<D: Disk>(
     ensures above { OnOk result ((n : ℕ) → lsn < n → above chains.old.entries ≤ n → above chains.new.entries ≤ n) }
 {
     if lsn == 0 {
-        end(disk, writer, chain)
+        end(writer, disk, chain)
     } else {
         put_chain(chains, lsn, chain)
     }
 }
 
-// Takes back a key record, and goes on behind it.
+// Takes back a key record, and goes on after it.
 #[tactic(auto, using(im_restart_redo::proofs::Recoveries::recovers_then, im_restart_redo::proofs::Recoveries::recovery_refused))]
 fn undo_key<D: Disk>(
     alloc: Global,
-    disk: &mut D,
     writer: &mut PageWriter,
+    disk: &mut D,
     chains: &mut BTreeMap<Lsn, Chain>,
     chain: Chain,
     next: Lsn,
@@ -153,13 +153,13 @@ fn undo_key<D: Disk>(
     ensures used_up { (b : Base) (base : ℕ) (all : History) (s : Writer) → StandsAs D.Disk b base s writer.old disk.old → IsUndoing b all s → IsToUndo s.log chain (view record.now) → IfErr result (λ e. e ≡ Capacity → RunsOut b all) }
     ensures above { OnOk result ((n : ℕ) → next < n → above chains.old.entries ≤ n → above chains.new.entries ≤ n) }
 {
-    let last = compensate(alloc, disk, writer, chain, record)?;
+    let last = compensate(alloc, writer, disk, chain, record)?;
     let behind = Chain {
         transaction: chain.transaction,
         last,
         undo_next: next,
     };
-    go_on(disk, writer, chains, behind, next)
+    go_on(writer, disk, chains, behind, next)
 }
 
 // Takes back the record of a transaction at an LSN, or passes over it where it is a compensation or the end of a structure change.
@@ -167,8 +167,8 @@ fn undo_key<D: Disk>(
 // Refused `NotAStore` for a record of another kind, or of another transaction, and where it leads to no earlier one.
 fn undo_record<D: Disk>(
     alloc: Global,
-    disk: &mut D,
     writer: &mut PageWriter,
+    disk: &mut D,
     chains: &mut BTreeMap<Lsn, Chain>,
     chain: Chain,
     lsn: Lsn,
@@ -191,17 +191,17 @@ fn undo_record<D: Disk>(
     }
     let next = undo_next_after(record, lsn)?;
     if is_key_record(record) {
-        undo_key(alloc, disk, writer, chains, chain, next, record)
+        undo_key(alloc, writer, disk, chains, chain, next, record)
     } else {
-        go_on(disk, writer, chains, chain, next)
+        go_on(writer, disk, chains, chain, next)
     }
 }
 
 // The same, with the record read into the room.
 fn undo_at<D: Disk>(
     alloc: Global,
-    disk: &mut D,
     writer: &mut PageWriter,
+    disk: &mut D,
     chains: &mut BTreeMap<Lsn, Chain>,
     chain: Chain,
     lsn: Lsn,
@@ -221,7 +221,7 @@ fn undo_at<D: Disk>(
 {
     let size = writer.read_at(disk, lsn, room)?;
     let record = decode(&room[..size])?;
-    undo_record(alloc, disk, writer, chains, chain, lsn, &record)
+    undo_record(alloc, writer, disk, chains, chain, lsn, &record)
 }
 
 // Takes out the chain whose undo goes on at the greatest LSN.
@@ -239,8 +239,8 @@ fn take_last(chains: &mut BTreeMap<Lsn, Chain>) -> Option<(Lsn, Chain)>
 #[tactic(auto, using(im_restart_redo::proofs::Recoveries::recovers_then, im_restart_redo::proofs::Recoveries::recovery_refused))]
 fn undo_all<D: Disk>(
     alloc: Global,
-    disk: &mut D,
     writer: &mut PageWriter,
+    disk: &mut D,
     chains: &mut BTreeMap<Lsn, Chain>,
     room: &mut [u8],
 ) -> Result<(), Fault>
@@ -254,7 +254,7 @@ fn undo_all<D: Disk>(
     ensures none { chains.old.entries ≡ [] → (result ≡ Ok tt) × (writer.new ≡ writer.old) × (disk.new ≡ disk.old) }
 {
     while let Some((lsn, chain)) = take_last(chains) {
-        undo_at(alloc, disk, writer, chains, chain, lsn, room)?;
+        undo_at(alloc, writer, disk, chains, chain, lsn, room)?;
     }
     Ok(())
 }
@@ -262,8 +262,8 @@ fn undo_all<D: Disk>(
 // Puts each loser at the LSN where its undo goes on; those of which nothing is left end.
 #[tactic(auto, using(im_restart_redo::proofs::Recoveries::recovers_then, im_restart_redo::proofs::Recoveries::recovery_refused))]
 fn enter_all<D: Disk>(
-    disk: &mut D,
     writer: &mut PageWriter,
+    disk: &mut D,
     losers: &mut BTreeMap<TxnId, Loser>,
     chains: &mut BTreeMap<Lsn, Chain>,
 ) -> Result<(), Fault>
@@ -281,7 +281,7 @@ fn enter_all<D: Disk>(
             last: row.last,
             undo_next: row.undo_next,
         };
-        go_on(disk, writer, chains, chain, row.undo_next)?;
+        go_on(writer, disk, chains, chain, row.undo_next)?;
     }
     Ok(())
 }
@@ -293,8 +293,8 @@ fn enter_all<D: Disk>(
 #[tactic(auto, using(im_restart_redo::proofs::Recoveries::recovers_then, im_restart_redo::proofs::Recoveries::recovery_refused))]
 pub(crate) fn undo<D: Disk>(
     alloc: Global,
-    disk: &mut D,
     writer: &mut PageWriter,
+    disk: &mut D,
     losers: &mut BTreeMap<TxnId, Loser>,
     room: &mut [u8],
 ) -> Result<(), Fault>
@@ -308,6 +308,6 @@ pub(crate) fn undo<D: Disk>(
     ensures none { losers.old.entries ≡ [] → (result ≡ Ok tt) × (writer.new ≡ writer.old) × (disk.new ≡ disk.old) }
 {
     let mut chains = BTreeMap::new(alloc);
-    enter_all(disk, writer, losers, &mut chains)?;
-    undo_all(alloc, disk, writer, &mut chains, room)
+    enter_all(writer, disk, losers, &mut chains)?;
+    undo_all(alloc, writer, disk, &mut chains, room)
 }

@@ -11,3 +11,4 @@ pub mod Readings
 pub mod Tables
 pub mod LeadingDown
 pub mod Counting
+pub mod RecordsRead

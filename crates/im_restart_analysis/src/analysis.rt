@@ -114,7 +114,7 @@ impl Analysis {
         Ok(())
     }
 
-    /// What is known behind the last record.
+    /// What is known after the last record.
     pub fn finish(self) -> Analysed
         ensures { (least n : ℕ) (log : History) → IsAnalysed least n log self → IsAnalysis least log result }
     {

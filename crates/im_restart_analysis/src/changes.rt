@@ -38,7 +38,7 @@ pub struct Changes {
 pub struct LastChanges {
     /// For each page that a record below the point changed, the LSN of the last one.
     pub lsns: BTreeMap<PageNo, Lsn>,
-    /// The page count that page 0 says behind its own, where that record says one.
+    /// The page count that page 0 says after its own, where that record says one.
     pub count: Option<PageNo>,
     /// The least number above all pages that records of the whole log name.
     pub named: u64,
@@ -82,7 +82,7 @@ fn above_named(record: &Record) -> u64
     }
 }
 
-// The page count that page 0 says behind a change: its own, if it says one; a change of another page leaves it.
+// The page count that page 0 says after a change: its own, if it says one; a change of another page leaves it.
 fn said_behind(count: Option<PageNo>, change: &Change) -> Option<PageNo>
     ensures own { change.now.page ≡ 0 → (n : ℕ) → result ≡ Some n → (n ≡ change.now.said) × (1 ≤ n) }
     ensures other { change.now.page ≢ 0 → result ≡ count }
@@ -115,7 +115,7 @@ fn enter(
     }
 }
 
-// The last one of each page, of the changes below a redo point, the oldest first; and the page count that page 0 says behind its own.
+// The last one of each page, of the changes below a redo point, the oldest first; and the page count that page 0 says after its own.
 fn last_of(
     alloc: Global,
     changes: &[Change],

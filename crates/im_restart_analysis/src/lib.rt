@@ -1,6 +1,8 @@
+//! What does one pass over the log say?
+//!
 //! Analysis: what a restart has to know of the log before redo and undo, from one pass over its records.
 //!
-//! `Analysis::take` is handed each record with its LSN, the oldest first, and reads no page and no disk. Behind the
+//! `Analysis::take` is handed each record with its LSN, the oldest first, and reads no page and no disk. After the
 //! last one `Analysis::finish` hands out the next transaction number, the redo point, the losers, for each page the
 //! last full copy at or after the redo point, and the records of the structure change that is open.
 //!

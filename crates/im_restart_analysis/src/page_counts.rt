@@ -14,7 +14,7 @@ use im_base_types::PageNo;
 use im_log_record::Record;
 use std::cmp::max;
 
-// The byte at a place, 0 behind the end.
+// The byte at a place, 0 after the end.
 fn byte_at(bytes: &[u8], at: usize) -> u32
     ensures value { result ≡ slice_index bytes.now at }
     ensures byte { result < 256 }
@@ -26,7 +26,7 @@ fn byte_at(bytes: &[u8], at: usize) -> u32
     }
 }
 
-// The field behind a page's LSN in which page 0 says its page count.
+// The field after a page's LSN in which page 0 says its page count.
 fn count_behind(body: &[u8]) -> PageNo
     ensures { result ≡ u32_at body.now 16 }
 {

@@ -19,8 +19,8 @@ use std::collections::BTreeMap;
 
 // Loads one copy: its record is read again at its LSN, and says which page it is of.
 fn load_one<D: Disk>(
-    disk: &mut D,
     writer: &mut PageWriter,
+    disk: &mut D,
     point: Lsn,
     lsn: Lsn,
     room: &mut [u8],
@@ -40,8 +40,8 @@ fn load_one<D: Disk>(
 
 /// Loads the noted copies in rising page number.
 pub(crate) fn load_all<D: Disk>(
-    disk: &mut D,
     writer: &mut PageWriter,
+    disk: &mut D,
     point: Lsn,
     copies: &BTreeMap<PageNo, Lsn>,
     room: &mut [u8],
@@ -55,7 +55,7 @@ pub(crate) fn load_all<D: Disk>(
         → AreWaiting begun copies.now.entries s.pages → HaveFirst b begun file s.pages → point ≡ redo_point begun → LoadingKept D.Disk b base begun file [] from writer.new disk.new result }
 {
     for (_, lsn) in copies {
-        load_one(disk, writer, point, *lsn, room)?;
+        load_one(writer, disk, point, *lsn, room)?;
     }
     Ok(())
 }

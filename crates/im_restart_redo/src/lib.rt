@@ -1,3 +1,5 @@
+//! How do pages come back?
+//!
 //! Redo: the pages are brought to what the whole durable log made of them.
 //!
 //! Analysis (`im_restart_analysis`) says from which LSN on records may be lacking in the file of pages, the redo point, and where the last
@@ -13,19 +15,19 @@
 //!
 //! The records are read again, a room full of the log at once (`window`), into room that the caller lends: the larger it is, the fewer
 //! reads. A page that is evicted on the way is
-//! written as in any flush, behind its Image, so Images may join the log while redo goes on.
+//! written as in any flush, after its Image, so Images may join the log while redo goes on.
 //!
 //! # What is kept
 //!
 //! `kept`: where the writer stands as an opening finds it (`opened`), and each record of the log can be applied to its page as the
-//! records before it left that (`AreApplicable`), then behind an Ok each page is what the whole log made of it, Images alone joined
+//! records before it left that (`AreApplicable`), then after an Ok each page is what the whole log made of it, Images alone joined
 //! the log (`Redone`), and redo is over for the writer. A stop at any moment leaves the log with Images more, and a file of pages from
 //! which redo can start again (`LeavesRedoing`); and no such store is refused as none. On any other bytes `redo` is total: it is
 //! refused `NotAStore` where a page does not take its record, or no record stands at an LSN.
 //!
-//! How `redo` ends is one fact, its clause `outcome` (`Recovers`, over the fault that it was refused for, if it was): behind an Ok the
-//! writer works; `Failed`, it had failed before; `Device`, the disk has failed, and `LogFull`, the log has no room, and behind both the
-//! writer works no more; else `Memory` or `NotAStore`. Behind a refusal the store is to be opened again, so nothing is said of where the
+//! How `redo` ends is one fact, its clause `outcome` (`Recovers`, over the fault that it was refused for, if it was): after an Ok the
+//! writer works; `Failed`, it had failed before; `Device`, the disk has failed, and `LogFull`, the log has no room, and after both the
+//! writer works no more; else `Memory` or `NotAStore`. After a refusal the store is to be opened again, so nothing is said of where the
 //! writer goes on then.
 //!
 //! `lawful_is_applicable`, in proofs/Applicable, gives `AreApplicable` of each lawful log over a tree whose words speak of leaves

@@ -31,8 +31,8 @@ fn has_copy(copies: &BTreeMap<PageNo, Lsn>, page: PageNo) -> bool
 // Applies the record at an LSN to its page, unless the page has it, and says whether it did. A page that has a noted
 // copy needs no other.
 fn redo_one<D: Disk>(
-    disk: &mut D,
     writer: &mut PageWriter,
+    disk: &mut D,
     point: Lsn,
     copies: &BTreeMap<PageNo, Lsn>,
     lsn: Lsn,
@@ -51,7 +51,7 @@ fn redo_one<D: Disk>(
     ensures shows { (b : Base) (base : ℕ) (begun : History) (file : ℕ → Option Page) (from : D) (left : List ℕ) (count : ℕ) → IsApplying D.Disk b base begun file (lsn ∷ left) count from writer.old disk.old
         → Shows begun window.old room.old → OnOk result (Shows begun window.new room.new) }
 {
-    let place = window.bring(disk, writer, lsn, room)?;
+    let place = window.bring(writer, disk, lsn, room)?;
     let record = decode(&room[place.at..place.end])?;
     let copied = has_copy(copies, record.page());
     let applied = writer.redo_change(disk, point, lsn, &record, copied)?;
@@ -68,8 +68,8 @@ fn counted(count: u64, applied: bool) -> u64
 
 /// Applies the records at these LSNs in turn, and answers how many pages took theirs.
 pub(crate) fn redo_all<D: Disk>(
-    disk: &mut D,
     writer: &mut PageWriter,
+    disk: &mut D,
     point: Lsn,
     copies: &BTreeMap<PageNo, Lsn>,
     lsns: &[Lsn],
@@ -86,7 +86,7 @@ pub(crate) fn redo_all<D: Disk>(
     let mut count = 0;
     let mut window = Window::empty();
     for lsn in lsns {
-        let applied = redo_one(disk, writer, point, copies, *lsn, &mut window, room)?;
+        let applied = redo_one(writer, disk, point, copies, *lsn, &mut window, room)?;
         count = counted(count, applied);
     }
     Ok(count)

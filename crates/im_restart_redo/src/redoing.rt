@@ -24,10 +24,10 @@ use std::collections::BTreeMap;
 /// at least. It answers how many records were applied: those that change a page whose LSN was lower than theirs as redo first had it.
 ///
 /// Refused `NotAStore` where a page does not take its record or no such record stands there, otherwise as the writer's `get` is.
-/// Behind a refusal redo is not over: the store is to be opened again.
+/// After a refusal redo is not over: the store is to be opened again.
 pub fn redo<D: Disk>(
-    disk: &mut D,
     writer: &mut PageWriter,
+    disk: &mut D,
     point: Lsn,
     copies: &BTreeMap<PageNo, Lsn>,
     lsns: &[Lsn],
@@ -44,6 +44,6 @@ pub fn redo<D: Disk>(
     if writer.has_failed() {
         return Err(Fault::Failed);
     }
-    load_all(disk, writer, point, copies, room)?;
-    redo_all(disk, writer, point, copies, lsns, room)
+    load_all(writer, disk, point, copies, room)?;
+    redo_all(writer, disk, point, copies, lsns, room)
 }

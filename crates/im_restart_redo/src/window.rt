@@ -59,8 +59,8 @@ impl Window {
     // among that, it alone is read, as the writer's `read_at` does.
     fn read_anew<D: Disk>(
         &mut self,
-        disk: &mut D,
         writer: &mut PageWriter,
+        disk: &mut D,
         lsn: Lsn,
         room: &mut [u8],
     ) -> Result<Place, Fault>
@@ -93,8 +93,8 @@ impl Window {
     /// Refused `NotAStore` where no record can be at that LSN; `Device`.
     pub fn bring<D: Disk>(
         &mut self,
-        disk: &mut D,
         writer: &mut PageWriter,
+        disk: &mut D,
         lsn: Lsn,
         room: &mut [u8],
     ) -> Result<Place, Fault>
@@ -116,6 +116,6 @@ impl Window {
         if let Some(place) = self.find(lsn, room) {
             return Ok(place);
         }
-        self.read_anew(disk, writer, lsn, room)
+        self.read_anew(writer, disk, lsn, room)
     }
 }

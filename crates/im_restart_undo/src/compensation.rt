@@ -17,7 +17,7 @@ use im_base_types::{Fault, Lsn, PageNo};
 use im_log_record::Record;
 use im_page_writer::PageWriter;
 
-/// Logs the compensation of an insert or a delete behind its transaction's last record, and takes the key out of this page or puts it
+/// Logs the compensation of an insert or a delete after its transaction's last record, and takes the key out of this page or puts it
 /// back. It answers the compensation's LSN.
 ///
 /// Refused `NotAStore` where the page does not take it; otherwise as `PageWriter::log_change` is.

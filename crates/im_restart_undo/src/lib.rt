@@ -1,3 +1,5 @@
+//! How is one key record taken back, where its key is now?
+//!
 //! Undo of one key record: what an unfinished transaction did to one key is taken back, in the tree as it is now.
 //!
 //! Undo is logical. Since a key was put or dropped its leaf may have been split, and other transactions may have put keys into the

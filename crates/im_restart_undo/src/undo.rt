@@ -153,13 +153,13 @@ fn undo_delete<D: Disk>(
 }
 
 /// Takes back one key record of a transaction: the key is put back into the leaf in whose range it lies now, or taken out of it, wherever
-/// splits have moved it since. It answers the LSN of the transaction's last record behind that; undo goes on at the record's own prev.
+/// splits have moved it since. It answers the LSN of the transaction's last record after that; undo goes on at the record's own prev.
 ///
 /// A leaf that lacks room for a key that comes back is split first, whatever limit of pages there is, and a leaf other than the root that is
 /// left empty is taken out of the tree, each in a structure change of the transaction. For want of memory an empty leaf stays.
 ///
 /// No lock is asked. Refused `Capacity` only where a key that comes back finds its leaf without room, and page numbers or levels are used
-/// up; `Memory` only where it finds no room either, with all as it was; and `Failed` only where memory is wanted behind a record of the
+/// up; `Memory` only where it finds no room either, with all as it was; and `Failed` only where memory is wanted after a record of the
 /// transaction that joined the log; otherwise as `PageWriter::log_change` is.
 pub fn undo_one<D: Disk>(
     alloc: Global,

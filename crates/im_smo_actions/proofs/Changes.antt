@@ -26,11 +26,15 @@ use Rattle.im_smo_split.specs.Tops.{LacksRoomFor}
 use Rattle.im_smo_split.proofs.Froms.{seen_none}
 use Rattle.im_smo_split.proofs.OneLeaf.{one_leaf}
 use Rattle.im_smo_actions.specs.DropPlan.{IsKept, IsSpare, IsDropPlan}
-use Rattle.im_smo_actions.specs.Structure.{IsUnfinished, Restructured, SplitKept, SpareKept, DropKept}
+use Rattle.im_smo_actions.specs.Structure.{IsUnfinished, IsUsedUp, Restructured, SplitKept, SpareKept, DropKept}
 use Rattle.im_smo_actions.proofs.Growth.{images_as_change, change_then, record_front, no_images_of}
 use Rattle.im_smo_actions.proofs.Standing.{pages_stay, still_ready, unfinished_good, unfinished_images, images_made, left_images, left_then}
 
 -- ---- refusals
+
+-- a plan that wants numbers or levels wants them in each way that its refusal is told
+pub runs_out : (pages : Pages) (key : Key) (max : Option ℕ) (f : Fault) → WantsPages pages key max f → f ≡ Capacity → IsUsedUp pages key
+runs_out pages key max f wants is = elim (wants.used_up is) [ inl over ↦ inl over | inr tall ↦ elim (wants.whole_way is) [ inl over ↦ inl over | inr down ↦ inr (tall, down) ] ]
 
 module _ {D : Type 0} (d : Ghosts D) where
   -- a change that is logged wants no pages, and no page numbers
@@ -183,7 +187,7 @@ module _ {D : Type 0} (d : Ghosts D) (b : Base) (base : ℕ) (s : Writer) (e t l
           sound = sound;
           stops = plan_stops plan;
           full = wants.full;
-          used_up = wants.used_up;
+          used_up = runs_out (bodies s) key max f wants;
           lacks = wants.lacks;
           begun = λ failed. absurd (never_failed d f u.stands.working plan failed);
         })

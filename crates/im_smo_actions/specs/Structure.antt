@@ -19,12 +19,13 @@ use Rattle.im_theory_tree.specs.Theory.{page_tree}
 use Rattle.im_tree_search.specs.Levels.{bodies}
 use Rattle.im_smo_log.specs.Changes.{GrowsByChange, HasRecordOf, LeavesChange, Begun}
 use Rattle.im_smo_split.specs.Tops.{LacksRoomFor}
+use Rattle.im_smo_split.specs.Turns.{SplitsDown}
 use Rattle.im_smo_split.specs.Plan.{FitsInLeaf, IsOver, IsWithin}
 use Rattle.im_smo_actions.specs.DropPlan.{IsSpare, IsKept}
 
--- page numbers would be used up by the pages that the split of the key's leaf takes, or levels are
+-- Page numbers would be used up by the pages that the split of the key's leaf takes, or levels are: the root is of the last one, and has to be split.
 abbrev pub IsUsedUp : Pages → Key → Type 0
-IsUsedUp pages key = IsOver pages key (2 ^ 32 - 1) ⊎ (height pages ≡ 255)
+IsUsedUp pages key = IsOver pages key (2 ^ 32 - 1) ⊎ ((height pages ≡ 255) × SplitsDown pages key 255 1)
 
 module _ {D : Type 0} (d : Ghosts D) (b : Base) (base : ℕ) where
   -- Redo is over, the log lawful, and no structure change open; the transaction is not finished, its records end at this LSN, and its undo goes on at this one.

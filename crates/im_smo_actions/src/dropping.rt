@@ -93,7 +93,7 @@ fn drop_spare<D: Disk>(
 /// records end at `last` and whose undo goes on at `undo_next`. It answers the LSN of the transaction's last record, which is the old
 /// one where the leaf is none such; and `None` where the leaf is such a one and memory is wanted in front of the first record: it stays then.
 ///
-/// Refused `Failed` where memory is wanted behind the first record; otherwise as `PageWriter::get` is.
+/// Refused `Failed` where memory is wanted after the first record; otherwise as `PageWriter::get` is.
 pub fn drop_empty_leaf<D: Disk>(
     alloc: Global,
     writer: &mut PageWriter,

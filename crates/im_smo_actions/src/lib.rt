@@ -1,3 +1,5 @@
+//! Does this key want a structure change now?
+//!
 //! Structure changes that a key asks for: its leaf is split, or leaves the tree, as a nested top action of a transaction.
 //!
 //! - `split_for` splits the leaf of a key where it lacks room for the key, within a limit of pages or without one.
@@ -5,11 +7,11 @@
 //! - `has_room` and `is_last_entry` say of a held leaf whether a key more fits, and whether one less would leave it empty.
 //!
 //! Each plans first, in front of any record (`im_smo_split`, `im_smo_drop_leaf`), and then logs the plan and closes it (`im_smo_log`). So what is
-//! refused for want of memory, of pages or of page numbers leaves all as it was; behind the first record a want of memory is
+//! refused for want of memory, of pages or of page numbers leaves all as it was; after the first record a want of memory is
 //! `Failed`, since there is no way back then but a restart.
 //!
 //! The contract, for a transaction that is not finished, in a lawful log whose structure changes are all closed (`IsUnfinished`):
-//! behind the call it stands so again, its undo goes on where it did, the log has records of a structure change and Images more, or
+//! after the call it stands so again, its undo goes on where it did, the log has records of a structure change and Images more, or
 //! Images alone, and the tree has the same entries (`Restructured`). A structure is changed just where the key asks for it. It is not refused
 //! `NotAStore`. A stop at any moment leaves the older log with some of these records, lawful again.
 //!

@@ -20,7 +20,7 @@ use std::alloc::Global;
 /// was split. The store may have at most `max` pages that are not free; `None` is no limit.
 ///
 /// Refused `PagesFull` by that limit, `Capacity` where page numbers or levels are used up, `Memory` before the first record, each
-/// with all as it was; `Failed` where memory is wanted behind that record; otherwise as `PageWriter::get` is.
+/// with all as it was; `Failed` where memory is wanted after that record; otherwise as `PageWriter::get` is.
 pub fn split_for<D: Disk>(
     alloc: Global,
     writer: &mut PageWriter,

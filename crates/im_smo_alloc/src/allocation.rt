@@ -85,10 +85,10 @@ fn settle_taken(
 }
 
 /// Takes a page for a structure change, and answers its number: the first free page, and where there is none, the one past
-/// the page count. Its page and page 0, which says that it is taken, are among the images behind it.
+/// the page count. Its page and page 0, which says that it is taken, are among the images after it.
 ///
 /// Refused `Capacity` where no page is free and the page count is 2^32 - 1; `NotAStore` where page 0 is no meta page, or the
-/// first free page is not free or not below the page count; otherwise as `image` is. Behind a refusal the images may lack pages: the structure change is
+/// first free page is not free or not below the page count; otherwise as `image` is. After a refusal the images may lack pages: the structure change is
 /// given up.
 pub fn allocate<D: Disk>(
     alloc: Global,
@@ -128,9 +128,9 @@ fn settle_given(
 }
 
 /// Gives a page of a structure change back: it is the first free one, and it and page 0, which says so, are among the images
-/// behind it.
+/// after it.
 ///
-/// Refused `NotAStore` where page 0 is no meta page or counts 2^32 - 1 free pages; otherwise as `image` is. Behind a
+/// Refused `NotAStore` where page 0 is no meta page or counts 2^32 - 1 free pages; otherwise as `image` is. After a
 /// refusal the images may lack pages: the structure change is given up.
 #[tactic(auto, using(im_page_writer::proofs::Outcomes::then, im_page_writer::proofs::Outcomes::refused))]
 pub fn free<D: Disk>(

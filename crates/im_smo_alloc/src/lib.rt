@@ -1,3 +1,5 @@
+//! Which pages does a structure change take, and which does it give back?
+//!
 //! The pages that a structure change takes, changes and gives back, in front of any record.
 //!
 //! The images of a structure change (`im_smo_pages::Images`) stand in the place of the writer's pages: `image` takes the page

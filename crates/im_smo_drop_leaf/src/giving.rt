@@ -15,7 +15,7 @@ use std::alloc::Global;
 
 /// Gives the pages of a chain back, the leaf at its end first and then the others, from the last to the first.
 ///
-/// Refused as `free` is. Behind a refusal the images are of no use.
+/// Refused as `free` is. After a refusal the images are of no use.
 pub(crate) fn give_back<D: Disk>(
     alloc: Global,
     images: &mut Images,

@@ -1,3 +1,5 @@
+//! Which pages does the deletion of an empty leaf leave?
+//!
 //! The plan of a page deletion: the pages that have to be written so that the empty leaf of a key leaves the tree, as images,
 //! before any record is logged.
 //!

@@ -7,7 +7,7 @@ use im_base_types::{Lsn, TxnId};
 use im_smo_pages::Images;
 
 /// A structure change of a transaction under way: the pages that it leaves, and how many of them are logged. The next
-/// record of the transaction is chained from the one at `last`, and behind the change its undo goes on at `undo_next`.
+/// record of the transaction is chained from the one at `last`, and after the change its undo goes on at `undo_next`.
 #[derive(Drop)]
 pub struct Change {
     pub(crate) images: Images,

@@ -93,7 +93,7 @@ impl Change {
         Ok(())
     }
 
-    /// Logs the record that closes the change, behind its last page, from which undo goes on where it stood. It answers that
+    /// Logs the record that closes the change, after its last page, from which undo goes on where it stood. It answers that
     /// record's LSN. It wants no memory; refused `LogFull` or `Device`.
     pub fn close<D: Disk>(&self, writer: &mut PageWriter, disk: &mut D) -> Result<Lsn, Fault>
         requires ready { IsReadyWriter D.Disk writer.old disk.old }
@@ -127,7 +127,7 @@ impl Change {
         self.last
     }
 
-    /// Where undo of its transaction goes on behind it.
+    /// Where undo of its transaction goes on after it.
     pub fn undo_next(&self) -> Lsn
         ensures { result ≡ self.now.undo_next }
     {

@@ -1,12 +1,14 @@
+//! How is a planned change logged, whole or never?
+//!
 //! Structure changes in the log: each page that one changes, and the record that closes it.
 //!
 //! A structure change is a nested top action of the transaction that needs it: one Smo record for each page that it
 //! changes, in rising page number, and then one DummyClr, whose next record to undo is the one from before. Until that
-//! record the change is open, and undo takes its pages back one by one; behind it the change stands, whatever becomes of
+//! record the change is open, and undo takes its pages back one by one; after it the change stands, whatever becomes of
 //! the transaction. A stop at any moment leaves a front of a lawful log, and pages from which redo comes to it.
 //!
 //! `run` logs a whole one. `Change` is one that is made page by page, so that other transactions may log between its pages: it begins,
-//! each step logs a page, and it is closed behind its last one. The contract of `changes_go_on` says what keeps it under way
+//! each step logs a page, and it is closed after its last one. The contract of `changes_go_on` says what keeps it under way
 //! (`IsUnderWay`): whatever others log, as long as they change no page of it, its next page may come, and its end; each page that is
 //! not made yet is the settled one; and a key whose leaf it leaves alone keeps that leaf.
 #![tactic(auto)]

@@ -5,7 +5,7 @@ ghost use Rattle.im_log.specs.Whats.{page_behind};
 
 use im_page::Page;
 
-/// The 4,088 bytes behind a page's LSN.
+/// The 4,088 bytes after a page's LSN.
 pub(crate) fn behind(page: &Page) -> &[u8]
     ensures len { length result.now ≡ 4088 }
     ensures page { page_behind result.now ≡ Some (record page.now { lsn = 0 }) }

@@ -14,7 +14,7 @@ use im_log_record::Record;
 use im_page::Page;
 use im_page_writer::PageWriter;
 
-// Whether a page of this number may become this one. Page 0 may with a page count that is no more than before, or than the one behind the
+// Whether a page of this number may become this one. Page 0 may with a page count that is no more than before, or than the one after the
 // highest page of the change: so no page below the count is left out that the log has not named.
 fn is_counted(number: PageNo, before: &Page, after: &Page, highest: PageNo) -> bool
     ensures { IsTrue result ↔ (number ≡ 0 → after.now.body.leftmost ≤ max before.now.body.leftmost (highest + 1)) }
@@ -27,7 +27,7 @@ fn is_counted(number: PageNo, before: &Page, after: &Page, highest: PageNo) -> b
 }
 
 /// Logs one page of a structure change, as it is and as it will be, and makes it so. It answers the LSN. Page 0 is refused `Memory`,
-/// with nothing logged, where its page count is neither one from before nor the one behind the highest page of the change.
+/// with nothing logged, where its page count is neither one from before nor the one after the highest page of the change.
 pub(crate) fn log_page<D: Disk>(
     writer: &mut PageWriter,
     disk: &mut D,

@@ -29,7 +29,7 @@ pub(crate) fn are_counted(images: &Images) -> bool
     images.number(0) == 0 && images.number(len - 1) < images.page(0).leftmost()
 }
 
-// What a refusal at a page is answered as: for want of memory there is no way back behind the first record.
+// What a refusal at a page is answered as: for want of memory there is no way back after the first record.
 fn refused_at(i: usize, fault: Fault) -> Fault
     ensures first { i ≡ 0 → result ≡ fault }
     ensures late { 1 ≤ i → fault ≡ Memory → result ≡ Failed }
@@ -75,7 +75,7 @@ fn log_at<D: Disk>(
     }
 }
 
-// Logs the pages of a structure change in rising page number, each record behind the one before, and makes them so. It
+// Logs the pages of a structure change in rising page number, each record after the one before, and makes them so. It
 // answers the LSN of the last record.
 fn log_pages<D: Disk>(
     writer: &mut PageWriter,
@@ -104,10 +104,10 @@ fn log_pages<D: Disk>(
 /// for each page, with the page before and after, in rising page number, chained from the transaction's record at `last`,
 /// and then the DummyClr that closes it, from which undo goes on at `undo_next`. It answers that record's LSN.
 ///
-/// Refused `Memory` with all as it was, and `Failed` where memory is wanted behind the first record; `LogFull`, `Device`, or
+/// Refused `Memory` with all as it was, and `Failed` where memory is wanted after the first record; `LogFull`, `Device`, or
 /// `NotAStore` where a page's bytes are none. Images that are none of a plan are refused `Memory` too: each plan takes pages or gives some
 /// back, so that page 0 is among its images, names no page past the page count that it says there, and where that count grows has an image of
-/// the page below it. Behind a refusal other than `Memory` the structure change may be open in the log, so that
+/// the page below it. After a refusal other than `Memory` the structure change may be open in the log, so that
 /// the transaction can do nothing but be undone by a restart.
 pub fn run<D: Disk>(
     writer: &mut PageWriter,

@@ -8,7 +8,7 @@ ghost use Rattle.im_smo_pages.specs.Bodies.{says, with_prev, with_next};
 use im_base_types::{Fault, PageKind, PageNo};
 use im_page::Page;
 
-/// Tells a leaf which leaf is before it in the chain: behind a split the new right part, behind a deletion the leaf
+/// Tells a leaf which leaf is before it in the chain: after a split the new right part, after a deletion the leaf
 /// that was before the one that goes; 0 for none. Refused `NotAStore` exactly where the page is no leaf; it then stays as
 /// it was.
 pub fn link_prev(page: &mut Page, prev: PageNo) -> Result<(), Fault>
@@ -24,7 +24,7 @@ pub fn link_prev(page: &mut Page, prev: PageNo) -> Result<(), Fault>
     Ok(())
 }
 
-/// Tells a leaf which leaf is behind it in the chain; 0 for none. Refused `NotAStore` exactly where the page is no leaf;
+/// Tells a leaf which leaf is after it in the chain; 0 for none. Refused `NotAStore` exactly where the page is no leaf;
 /// it then stays as it was.
 pub fn link_next(page: &mut Page, next: PageNo) -> Result<(), Fault>
     ensures new { OnOk result (page.new ≡ says page.old (with_next page.old.body next)) }

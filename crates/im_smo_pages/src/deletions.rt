@@ -1,4 +1,4 @@
-//! Deletions: what the parent of a page that goes says behind it, and a root left without a child.
+//! Deletions: what the parent of a page that goes says after it, and a root left without a child.
 
 ghost use Rattle.std.specs.Prelude.{◌≡◌, ◌<◌, ◌↔◌, [], OnOk, OnErr, IfErr, IsOk, length};
 ghost use Rattle.im_base_types.specs.declared.fault.Fault.TheVariants.{NotAStore};

@@ -39,7 +39,7 @@ impl Images {
         Ok(())
     }
 
-    /// Tells the leaf of a number, which is among the images, which leaf is behind it. Number 0 stands for no leaf, and
+    /// Tells the leaf of a number, which is among the images, which leaf is after it. Number 0 stands for no leaf, and
     /// nothing is done.
     ///
     /// Refused as `link_prev` is.
@@ -60,7 +60,7 @@ impl Images {
         Ok(())
     }
 
-    /// Takes a leaf out of the chain: the leaf before it and the leaf behind it, which are among the images, name each
+    /// Takes a leaf out of the chain: the leaf before it and the leaf after it, which are among the images, name each
     /// other; 0 stands for none.
     ///
     /// Refused as `link_prev` is.

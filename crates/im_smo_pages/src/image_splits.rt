@@ -17,7 +17,7 @@ use std::alloc::Global;
 
 impl Images {
     /// Splits leaf p, which is `page`, under a parent that is among the images; q is the number of the right part. It
-    /// answers how many entries stay left. The page behind the right part has then to be told of q.
+    /// answers how many entries stay left. The page after the right part has then to be told of q.
     ///
     /// Refused as `split_leaf` is; `NotAStore` also where the parent is not among the images; and `Memory`. After a refusal
     /// the images are of no use.

@@ -89,7 +89,7 @@ pub fn images_are_a_plan()
     ensures rises { (n : ℕ) (p : Page) (xs : List Numbered) → IsRising xs → IsRising (put_image n p xs) }
 {}
 
-/// Steps on images one after another: the parting of a leaf and the link behind it are its split; the parent's change and
+/// Steps on images one after another: the parting of a leaf and the link after it are its split; the parent's change and
 /// the links beside the leaf are a deletion.
 pub fn steps_on_images_compose()
     ensures leaf { (a b c : List Numbered) (page : Body) (parent p q n : ℕ) (pages : Pages) → PartsLeaf a b page parent p q n → Becomes b c (λ h. linked_prev h page.next q)
@@ -101,14 +101,14 @@ pub fn steps_on_images_compose()
     ensures first { (a b : List Numbered) (page : Body) (q : ℕ) (pages : Pages) → TakesFirst a b page q → held pages a q ≡ page → SamePages (held pages b) (free_taken_pages (held pages a)) }
 {}
 
-/// An allocation among the images, in a good tree: the page is spare behind it.
+/// An allocation among the images, in a good tree: the page is spare after it.
 pub fn allocations_keep_the_tree()
     ensures first { (a b : List Numbered) (page : Body) (q : ℕ) (pages : Pages) (spare : List ℕ) → TakesFirst a b page q → held pages a q ≡ page → IsGoodTree (held pages a) spare
         → KeepsTree (held pages a) (held pages b) (q ∷ spare) }
     ensures next { (a b : List Numbered) (q : ℕ) (pages : Pages) (spare : List ℕ) → TakesNext a b q → IsGoodTree (held pages a) spare → KeepsTree (held pages a) (held pages b) (q ∷ spare) }
 {}
 
-/// A deletion among the images, in a good tree: the pages of the chain that goes are spare behind it, and may then be
+/// A deletion among the images, in a good tree: the pages of the chain that goes are spare after it, and may then be
 /// given back, one after another.
 pub fn deletions_keep_the_tree()
     ensures entry { (a b c : List Numbered) (page : Body) (pages : Pages) (spare : List ℕ) (h : ℕ) (key : Key) (parent p i : ℕ)

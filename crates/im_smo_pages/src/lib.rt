@@ -1,3 +1,5 @@
+//! What do splits, deletions and allocations make of page images?
+//!
 //! Structure changes, page by page: what the pages say that a split, a deletion or an allocation leaves. Nothing here reads
 //! a disk or writes a log: all pages of a structure change are made before its first record is.
 //!
@@ -5,13 +7,13 @@
 //!
 //! - `split_leaf`, `split_inner`, `split_root_leaf`, `split_root_inner` make the two parts of a page, from the page as it
 //!   was, and put the separator into the parent. The left part has the longest front of entries whose cells and slots take
-//!   at most 2,032 bytes; of an inner page the entry behind it moves up. No page is copied whole.
+//!   at most 2,032 bytes; of an inner page the entry after it moves up. No page is copied whole.
 //! - `link_prev`, `link_next` change one link of a leaf.
 //! - `drop_entry`, `drop_leftmost` take a child out of its parent; `empty_root` is the root left without a child.
 //! - `take_free`, `take_count`, `give_free` change the meta page: the first free page is taken, else the page of the number
 //!   that the page count is; a page given back is the first free one.
 //!
-//! Each says what the pages hold behind it, field by field, and is total: where the pages are none of a good tree it is
+//! Each says what the pages hold after it, field by field, and is total: where the pages are none of a good tree it is
 //! refused `NotAStore`, with nothing changed.
 //!
 //! # Images

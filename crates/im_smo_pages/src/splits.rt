@@ -50,8 +50,8 @@ fn put_separator(page: &Page, n: usize, parent: &mut Page, q: PageNo) -> Result<
 }
 
 /// Splits a leaf under its parent. `left` and `right`, whatever they were, become its parts, of numbers p and q: the
-/// longest front of entries whose cells and slots take at most 2,032 bytes, and the rest, behind it in the leaf chain.
-/// The parent gets the right part's first key, with q. It answers how many entries stay left. The page behind the
+/// longest front of entries whose cells and slots take at most 2,032 bytes, and the rest, after it in the leaf chain.
+/// The parent gets the right part's first key, with q. It answers how many entries stay left. The page after the
 /// right part, if there is one, has then to be told of q by `link_prev`.
 ///
 /// Refused `NotAStore`, with nothing changed, where the page is no leaf or has too few entries to be split, or the
@@ -80,7 +80,7 @@ pub fn split_leaf(
 }
 
 /// Splits an inner page under its parent. `left` and `right`, whatever they were, become its parts: the longest front of
-/// entries whose cells and slots take at most 2,032 bytes, and what stands behind the entry after it. That entry's key
+/// entries whose cells and slots take at most 2,032 bytes, and what stands after the entry after it. That entry's key
 /// moves up to the parent, with q, the right part's number, and its child is the right part's leftmost one. It answers
 /// how many entries stay left.
 ///

@@ -32,10 +32,10 @@ fn half(page: &Page, n: usize, key: &[u8], p: PageNo, q: PageNo) -> PageNo
 }
 
 impl Images {
-    /// Splits leaf p of a key, which is `page`, under a parent with room that is among the images, as is the leaf behind p,
+    /// Splits leaf p of a key, which is `page`, under a parent with room that is among the images, as is the leaf after p,
     /// if there is one; q is a page that was taken for it. It answers the half that is the key's leaf now.
     ///
-    /// Refused as `split_leaf` is; `NotAStore` also where the page behind p is not among the images or is no leaf. After a
+    /// Refused as `split_leaf` is; `NotAStore` also where the page after p is not among the images or is no leaf. After a
     /// refusal the images are of no use.
     pub fn split_leaf_for(
         &mut self,

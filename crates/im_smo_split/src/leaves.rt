@@ -28,7 +28,7 @@ use im_smo_alloc::image;
 use im_smo_pages::Images;
 use std::alloc::Global;
 
-// The leaf behind a leaf that is among the images; 0 where there is none.
+// The leaf after a leaf that is among the images; 0 where there is none.
 fn next_in(images: &Images, number: PageNo) -> PageNo
     ensures { (pages : Pages) → Has images.now number → result ≡ (held pages images.now number).next }
 {
@@ -38,7 +38,7 @@ fn next_in(images: &Images, number: PageNo) -> PageNo
     }
 }
 
-// A leaf joins the images, and so does the leaf behind it, if there is one. Refused as `bring` is.
+// A leaf joins the images, and so does the leaf after it, if there is one. Refused as `bring` is.
 #[tactic(auto, using(im_page_writer::proofs::Outcomes::then, im_page_writer::proofs::Outcomes::refused))]
 fn bring_both<D: Disk>(
     alloc: Global,
@@ -60,7 +60,7 @@ fn bring_both<D: Disk>(
     bring(alloc, images, writer, disk, next)
 }
 
-// Splits the leaf whose turn it is among the images, where the leaf behind it is too. It answers the half that is the key's leaf now.
+// Splits the leaf whose turn it is among the images, where the leaf after it is too. It answers the half that is the key's leaf now.
 fn part_leaf(
     alloc: Global,
     images: &mut Images,
@@ -99,11 +99,11 @@ fn part_root_leaf(
     Ok(half)
 }
 
-/// Splits the leaf whose turn it is, and the leaf behind it learns of the new one; the page that was taken first is no longer spare. It
+/// Splits the leaf whose turn it is, and the leaf after it learns of the new one; the page that was taken first is no longer spare. It
 /// answers the half that is the key's leaf now.
 ///
-/// Refused `NotAStore` where the page is no leaf or can not be split, or the page behind it is no leaf; otherwise as `image` is, and
-/// `Memory`. Behind a refusal the images are of no use.
+/// Refused `NotAStore` where the page is no leaf or can not be split, or the page after it is no leaf; otherwise as `image` is, and
+/// `Memory`. After a refusal the images are of no use.
 #[tactic(auto, using(im_page_writer::proofs::Outcomes::then, im_page_writer::proofs::Outcomes::refused))]
 pub(crate) fn split_leaf_turn<D: Disk>(
     alloc: Global,

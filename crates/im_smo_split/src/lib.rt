@@ -1,3 +1,5 @@
+//! Which pages does a split leave?
+//!
 //! The plan of a split: what pages have to hold before an entry goes into a leaf that lacks room for it.
 //!
 //! `plan_split` answers images, the pages that a split leaves, and changes none of the pool's: over the images the tree is good and
@@ -10,7 +12,7 @@
 //!
 //! - `laws`: the splits go from the top down. The page whose turn it is stands under a parent with room for its separator
 //!   (`IsTurn`); a split of it keeps the tree good and the walk as it was, and leaves the turn to its child on the key's way;
-//!   behind the leaf's split the key's leaf has room for an entry of any size. So one law serves all levels, and no step
+//!   after the leaf's split the key's leaf has room for an entry of any size. So one law serves all levels, and no step
 //!   meets a tree that is not good.
 //! - `reading`, `top`: one pass down from the root, by one get for each level, finds the highest page that splits, and how many pages
 //!   the split takes: one for each page that splits, and one more for the root (`new_pages`). Each split depends on the unsplit page alone.

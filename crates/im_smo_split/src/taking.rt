@@ -26,7 +26,7 @@ fn note(numbers: &mut Vec<PageNo>, number: PageNo) -> Result<(), Fault>
 
 /// Takes so many pages, and answers their numbers in the order in which they were taken.
 ///
-/// Refused as `allocate` is, and `Memory` also where there is none for the numbers. Behind a refusal the images are of no use.
+/// Refused as `allocate` is, and `Memory` also where there is none for the numbers. After a refusal the images are of no use.
 pub(crate) fn take_pages<D: Disk>(
     alloc: Global,
     images: &mut Images,

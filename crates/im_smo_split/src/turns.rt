@@ -39,7 +39,7 @@ pub(crate) struct Turn {
     pub(crate) page: PageNo,
 }
 
-/// A page joins the images, and what is seen of each page is as it was. Refused as `image` is, and `Memory`; behind a refusal
+/// A page joins the images, and what is seen of each page is as it was. Refused as `image` is, and `Memory`; after a refusal
 /// the images are of no use.
 pub(crate) fn bring<D: Disk>(
     alloc: Global,
@@ -125,7 +125,7 @@ fn part_root(
 
 /// Splits the inner page whose turn it is: the turn goes to its child on the key's way, and the page that was taken last is no
 /// longer spare. Refused `NotAStore` where the page is none of its level or can not be split; otherwise as `image` is, and
-/// `Memory`. Behind a refusal the images are of no use.
+/// `Memory`. After a refusal the images are of no use.
 pub(crate) fn split_inner_turn<D: Disk>(
     alloc: Global,
     images: &mut Images,

@@ -35,7 +35,7 @@ fn commit_once<D: Disk>(alloc: Global, disk: &mut D) -> Result<u64, Fault>
     Ok(log.durable_end())
 }
 
-// The file of the log has these bytes, and zeros behind them, so many bytes in all.
+// The file of the log has these bytes, and zeros after them, so many bytes in all.
 fn is_log<D: Disk>(alloc: Global, disk: &mut D, expected: &[u8], size: usize) -> Result<bool, Fault>
     requires { D.failed disk.old ≡ false }
 {
@@ -56,7 +56,7 @@ fn one_insert_and_commit_are_113_bytes(rt: HostRuntime) -> Result<(), Fail> {
     assert!(rt; commit_once(alloc, &mut disk)? == 112);
     let expected =
         *b"\x01ARIESIM1\0\0\x10\0\0\0\0\0\0\0\0\0\0\0\0\0\0\0\0\0\0\0\x01\0\0\0\x4c\0\0\0\x2b\x01\0\0\0\0\0\0\0\x01\0\0\0\0\0\0\0\0\0\0\0\0\0\0\0\0\0\0\0\x01\x01a\0\0\0\0\0\0\0\x07\0\0\0\x21\x08\0\0\0\0\0\0\0\x01\0\0\0\0\0\0\0\x24\0\0\0\0\0\0\0\0\0\0\0\0\0";
-    // The first batch makes the file longer by the room of a batch, from behind its gate on.
+    // The first batch makes the file longer by the room of a batch, from after its gate on.
     assert!(rt; is_log(alloc, &mut disk, &expected, 32 + 16_389)?);
     Ok(())
 }

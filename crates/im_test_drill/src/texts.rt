@@ -12,7 +12,7 @@ pub enum Part {
     /// These lines for each number from the first up to the end, which is left out. In them `N` stands for the number, and `M`, `H`, `D` and `U`
     /// for its thousands, hundreds, tens and units; `Z` for 253 times `7a`.
     Each(u32, u32, &'static str),
-    /// For twenty transactions from 1 on: lines in front, lines for each of fifteen keys, and lines behind. In them `T` stands for the
+    /// For twenty transactions from 1 on: lines in front, lines for each of fifteen keys, and lines after. In them `T` stands for the
     /// transaction, `N` for the key's place among the three hundred, from 1 on, and `H`, `D` and `U` for the digits of the key, which is
     /// that place times 7,919, of which the last three digits are taken.
     Scattered(&'static str, &'static str, &'static str),

@@ -5,7 +5,7 @@ use im_base_disk::Disk;
 use im_base_model_disk::ModelDisk;
 use im_base_steps::Step;
 use im_base_types::{FileId, PageKind, PageNo};
-use im_engine::{Config, Engine, live};
+use im_engine::{BufferSize, Config, Engine, live};
 use std::alloc::Global;
 use std::process::Abort;
 use std::test::Fail;
@@ -153,6 +153,7 @@ fn a_thousand_keys_come_and_go(rt: HostRuntime) -> Result<(), Fail> {
     let config = Config {
         frames: 8,
         max_pages: 100,
+        buffer: BufferSize::ONE,
         group: false,
     };
     let mut engine = created(alloc, config)?;

@@ -72,7 +72,7 @@ fn commit_all(rt: &impl Abort, alloc: Global, engine: &mut Engine<ModelDisk>) ->
     Ok(())
 }
 
-// How many entries there are behind a stop.
+// How many entries there are after a stop.
 fn left_after_stop(alloc: Global, engine: &Engine<ModelDisk>) -> Result<usize, Fail> {
     let mut next = opened_after_stop(alloc, engine, Config::default())?;
     let entries = next.entries(alloc);

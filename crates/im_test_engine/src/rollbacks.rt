@@ -5,7 +5,7 @@ use im_base_disk::Disk;
 use im_base_model_disk::ModelDisk;
 use im_base_steps::Step;
 use im_base_types::LONGEST_KEY;
-use im_engine::{Config, Engine};
+use im_engine::{BufferSize, Config, Engine};
 use std::alloc::Global;
 use std::test::Fail;
 
@@ -68,6 +68,7 @@ fn few_frames() -> Config {
     Config {
         frames: 8,
         max_pages: 1_000,
+        buffer: BufferSize::ONE,
         group: false,
     }
 }

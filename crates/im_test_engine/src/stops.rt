@@ -20,13 +20,13 @@ use std::thread::{Threads, join};
 /// How many transactions each of the two threads makes.
 const TXNS: u64 = 40;
 
-/// How many stops are tried: one within each of the first calls of the disk behind those of a creation.
+/// How many stops are tried: one within each of the first calls of the disk after those of a creation.
 const STOPS: u64 = 100;
 
 /// The device calls of a creation.
 const CREATION: u64 = 6;
 
-// The trace, the entries that were found behind the stop, and whether it came.
+// The trace, the entries that were found after the stop, and whether it came.
 #[derive(Drop)]
 struct Left {
     trace: Vec<Recorded>,

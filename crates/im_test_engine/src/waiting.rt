@@ -3,7 +3,7 @@
 use crate::said::{Said, created, end, make};
 use im_base_model_disk::ModelDisk;
 use im_base_steps::Step;
-use im_engine::{Config, Engine};
+use im_engine::{BufferSize, Config, Engine};
 use std::alloc::Global;
 use std::process::Abort;
 use std::test::Fail;
@@ -19,6 +19,7 @@ fn grouped(alloc: Global) -> Result<Engine<ModelDisk>, Fail> {
     let config = Config {
         frames: 64,
         max_pages: 1_000,
+        buffer: BufferSize::ONE,
         group: true,
     };
     Ok(created(alloc, config)?)

@@ -47,7 +47,7 @@ const AS_BATCH: Manner = Manner {
     is_batch: true,
 };
 
-static RUNS: [Run; 7] = [
+static RUNS: [Run; 8] = [
     Run {
         name: "a store answers each line",
         log: b"",
@@ -77,6 +77,16 @@ static RUNS: [Run; 7] = [
         lines: "begin\ninsert 1 x'6100ff' 1\ninsert 1 \"b c\" 2\ninsert 1 x'' 3\ninsert 1 x'6 3\ninsert 1 \"b+c\" 3\nfetch 1 x'622063'\ncommit 2\nseek 1 x'61'\nscan 1 x'61' \"b c\" 9\nnext 1 \"b c\"\nnext 1 c\nentries\n",
         end: StoreEnd::Input,
         printed: "started 1\ninserted\ninserted\nrefused 3: a key has 1 to 255 bytes\nrefused 16: a bad line\ninserted\nfound 2\nrefused 1: no active transaction of that number\nentry x'6100ff' 1\nentries x'6100ff' 1 \"b c\" 2\nentry \"b+c\" 3\nend\ntotal 3\nx'6100ff' 1\n\"b c\" 2\n\"b+c\" 3\n",
+    },
+    Run {
+        name: "help on a word, nothing right after a quoted key, and quit",
+        log: b"",
+        fails: 0,
+        bound: 0,
+        manner: IN_WORDS,
+        lines: "help die\nhelp force\nhelp di\nbegin\nfetch 1 \"a b\"c\nfetch 1 x'61'62\nfetch 1 \"é\"\nscan 1 \"a\" \"b\"c 9\nquit\nbegin\n",
+        end: StoreEnd::Input,
+        printed: "Nothing was done: an older transaction is in the way. `rollback N`, `continue N` while there is `more`, and begin again.\nforce                    makes the log durable\nA commit does that by itself.\nrefused 16: a bad line\nstarted 1\nrefused 16: a bad line\nrefused 16: a bad line\nabsent\nrefused 16: a bad line\n",
     },
     Run {
         name: "a batch ends at a refused line",
@@ -110,7 +120,7 @@ static RUNS: [Run; 7] = [
         printed: "started 1\ninserted\ncommitted\n",
     },
     Run {
-        name: "a Checkpoint in between is told behind the reply to the step that it follows, and what comes behind it is refused too",
+        name: "a Checkpoint in between is told after the reply to the step that it follows, and what comes after it is refused too",
         log: b"",
         fails: 11,
         bound: 4_096,
@@ -247,7 +257,7 @@ fn is_left(rt: &HostRuntime, bound: u64) -> Result<bool, Fail> {
     Ok(has_three(rt, bound)? && files(rt)? == left)
 }
 
-// Three inserts are redone where nothing bounds that, and none behind a close.
+// Three inserts are redone where nothing bounds that, and none after a close.
 #[test]
 fn a_closed_store_has_nothing_to_redo(rt: HostRuntime) -> Result<(), Fail> {
     for (bound, want) in [(0, "redo 36 3\n"), (16_777_216, " 0\n")] {

@@ -22,7 +22,7 @@ fn redo_length(alloc: Global, engine: &Engine<ModelDisk>) -> Result<u64, Fail> {
     }
 }
 
-// Makes a step, and takes the Checkpoint that is due behind it. Whether that was not refused.
+// Makes a step, and takes the Checkpoint that is due after it. Whether that was not refused.
 fn made(
     engine: &mut Engine<ModelDisk>,
     checkpoints: &mut Checkpoints,
@@ -62,7 +62,7 @@ fn what_is_redone_stays_within_the_bound(rt: HostRuntime) -> Result<(), Fail> {
     }
 }
 
-// Keys of 255 bytes, each committed, over leaves of fifteen: the store stops behind each commit.
+// Keys of 255 bytes, each committed, over leaves of fifteen: the store stops after each commit.
 fn stop_behind_each(
     rt: &impl Abort,
     alloc: Global,

@@ -21,7 +21,7 @@ enum Ask {
     Leaf(&'static [u8]),
     // The next entry at or above a key, or above it.
     Next(&'static [u8], bool),
-    // The leaf of a key, and the key behind it.
+    // The leaf of a key, and the key after it.
     Beside(&'static [u8]),
     // Whether the entries of a range, up to a limit, are those of these keys of one byte.
     Range(&'static [u8], &'static [u8], usize, &'static [u8]),
@@ -42,7 +42,7 @@ enum Told {
     Beside(PageNo, u8),
     // The number of a leaf with no next key.
     Last(PageNo),
-    // Whether a range is as it was said, and what stands behind it: 0 where nothing is said of it, 1 at the end, else the first byte of the
+    // Whether a range is as it was said, and what stands after it: 0 where nothing is said of it, 1 at the end, else the first byte of the
     // next key.
     Range(bool, u8),
     // Whether the entries are those that were said.
@@ -88,7 +88,7 @@ fn next<D: Disk>(writer: &mut PageWriter, disk: &mut D, key: &[u8], inclusive: b
     }
 }
 
-// The leaf of a key, and the key behind it.
+// The leaf of a key, and the key after it.
 fn beside<D: Disk>(writer: &mut PageWriter, disk: &mut D, key: &[u8]) -> Told
     requires ready { IsReadyWriter D.Disk writer.old disk.old }
     ensures ready { IsReadyWriter D.Disk writer.new disk.new }

@@ -1,3 +1,5 @@
+//! What follows from a lawful log?
+//!
 //! What follows from a log: the theory of lawful logs, of undo, redo and page writes.
 //!
 //! The abstract state of a store is its log, a list of records with a base. The pages, the open structure

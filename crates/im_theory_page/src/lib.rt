@@ -1,3 +1,5 @@
+//! Which bytes are a page?
+//!
 //! The form of a page, as definitions over its bytes, and what follows from it, with no code that runs.
 //!
 //! - `Number`: numbers at places, big-endian. `Entry`: keys with values, what they take, and where a key has its place. `Form`: the slots

@@ -9,7 +9,7 @@ pub fn stops_allow<T: PageTree>()
     ensures { StopsAllow T.tree }
 {}
 
-/// The Commits of a life stand so behind records that commit nothing, and where more of the log becomes durable.
+/// The Commits of a life stand so after records that commit nothing, and where more of the log becomes durable.
 pub fn commits_stand()
     ensures { CommitsStand }
 {}

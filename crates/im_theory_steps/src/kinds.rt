@@ -44,7 +44,7 @@ pub fn changes_are_served()
     ensures { ChangesAreServed }
 {}
 
-/// An insert that was granted its locks leaves a lawful log, also behind a structure change of its own.
+/// An insert that was granted its locks leaves a lawful log, also after a structure change of its own.
 pub fn inserts_are_served<T: PageTree>()
     ensures { InsertsAreServed T.tree }
 {}
@@ -69,7 +69,7 @@ pub fn dies_are_served()
     ensures { DiesAreServed }
 {}
 
-/// A Commit that was logged: the effect comes behind the others.
+/// A Commit that was logged: the effect comes after the others.
 pub fn commits_are_served()
     ensures { CommitsAreServed }
 {}
@@ -149,7 +149,7 @@ pub fn rows_take_owner()
     ensures { RowsTakeOwner }
 {}
 
-/// It ends, behind a change of a key.
+/// It ends, after a change of a key.
 pub fn rows_leave_owner()
     ensures { RowsLeaveOwner }
 {}

@@ -1,3 +1,5 @@
+//! How do log, machine, replies and tables go on together?
+//!
 //! Each step of a store of several transactions is a step of the machine of `im_base_lock` and a growth of the log.
 //!
 //! The log knows what is committed, what the tree holds and each transaction's net; the machine of `im_base_lock` knows marks, locks and
@@ -5,17 +7,17 @@
 //! is what the machine sees (`IsSeen`), steps and replies have shown the machine (`IsShownBy`), it came here by a run
 //! (`IsReached`), the committed effects are those before this life and the ones asked since, and the table of transactions and the
 //! lock table are the machine's. For each kind of step there is one law: from what the log grew by and what the lock table decided
-//! it gives the step of the machine, and all of `IsServing` behind it (`IsServed`). So whoever writes the engine proves of each step
+//! it gives the step of the machine, and all of `IsServing` after it (`IsServed`). So whoever writes the engine proves of each step
 //! how the log grew, and takes the rest from here.
 //!
 //! A step whose change needs a structure change first logs that before its key record: a transaction whose first change this is then
-//! has records but no net, so what holds between steps holds again only behind the key record (`IsOnTheWay`).
+//! has records but no net, so what holds between steps holds again only after the key record (`IsOnTheWay`).
 //!
 //! A change that is taken back is said of the log's growth alone (`UndoesNewest`): whatever records did it, the other transactions and what
-//! is committed are as they were (`undo_takes_back`), and an End behind the last one leaves nothing of the transaction
+//! is committed are as they were (`undo_takes_back`), and an End after the last one leaves nothing of the transaction
 //! (`ends_leave_nothing`).
 //!
-//! What a stop leaves is said of the log's Commits alone (`AreCommitted`, `stops_allow`); and a life goes on behind a step that breaks
+//! What a stop leaves is said of the log's Commits alone (`AreCommitted`, `stops_allow`); and a life goes on after a step that breaks
 //! the engine, whose log then says nothing but what a stop leaves (`IsLived`).
 //!
 //! Two laws carry the rest: whoever is granted the locks of a change finds its key in no other net, so that the log stays lawful

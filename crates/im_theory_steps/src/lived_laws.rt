@@ -8,7 +8,7 @@ pub fn rows_tell_checks()
     ensures { RowsTellChecks }
 {}
 
-/// A life goes on behind a step that breaks the engine, and behind the steps that it then refuses.
+/// A life goes on after a step that breaks the engine, and after the steps that it then refuses.
 pub fn lives_go_on()
     ensures { LivesGoOn }
 {}

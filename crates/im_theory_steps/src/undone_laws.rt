@@ -7,7 +7,7 @@ pub fn undo_takes_back()
     ensures { UndoTakesBack }
 {}
 
-/// The End behind the last change leaves nothing to undo.
+/// The End after the last change leaves nothing to undo.
 pub fn ends_leave_nothing()
     ensures { EndsLeaveNothing }
 {}
@@ -22,7 +22,7 @@ pub fn undone_changes_are_served()
     ensures { UndoneChangesAreServed }
 {}
 
-/// The last change that was taken back, with the End behind it.
+/// The last change that was taken back, with the End after it.
 pub fn last_undone_changes_are_served()
     ensures { LastUndoneChangesAreServed }
 {}

@@ -1,3 +1,5 @@
+//! What follows where a log goes on in another file?
+//!
 //! Laws of a log that goes on in another file, over plain data.
 //!
 //! A log is switched where nobody is unfinished and every page is in the file as the log made it: the pages of then are a

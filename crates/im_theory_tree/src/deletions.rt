@@ -8,7 +8,7 @@ ghost use Rattle.im_theory_tree.specs.Good.{IsGoodTree, AreOrdered};
 ghost use Rattle.im_theory_tree.specs.Deletions.{DropsChildOf, DropsFirstOf, EmptiesRoot};
 ghost use Rattle.im_theory_tree.specs.KeyDeletions.{DropsEntry, DropsLeftmost, DropsAll, chain_down};
 
-/// A leaf without entries that leaves its level, behind another or before another: walk and order stay.
+/// A leaf without entries that leaves its level, after another or before another: walk and order stay.
 pub fn drop_keeps()
     ensures walk { (pages new : Pages) (a b : List Node) (n : Node) → (pages n.page).entries ≡ [] → SameOn pages new (page_numbers a) → SameOn pages new (page_numbers b)
         → entries_in new (a ++ b) ≡ entries_in pages (a ++ n ∷ b) }

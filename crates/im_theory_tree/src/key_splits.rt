@@ -21,7 +21,7 @@ pub fn key_split_keeps()
         → KeepsWay pages new spare (suc h) key left right (entry_at (pages 1).entries n).0 }
 {}
 
-/// Behind a split of an inner page the half on the key's way has room for a separator of any size, and its child on the
+/// After a split of an inner page the half on the key's way has room for a separator of any size, and its child on the
 /// way is the one that it was before: so the next level is split under a parent with room.
 pub fn inner_split_goes_on()
     ensures inner { (pages new : Pages) (spare : List ℕ) (h : ℕ) (key : Key) (parent p q n child : ℕ) → SplitsKeyInner pages new spare h key parent p q n

@@ -1,3 +1,5 @@
+//! Which page steps keep a good tree, its entries, and the ways of other keys?
+//!
 //! The tree of pages: what a good tree is, and what keeps it good.
 //!
 //! A tree is a function from page numbers to what pages say (`Pages`). A level is a list of nodes, each a page number

@@ -14,7 +14,7 @@ pub fn runs_keep()
         → IsGoodTree (end_pages pages run) (end_spare spare run) × (walk (end_pages pages run) ≡ walk pages) }
 {}
 
-/// A split over several levels, from the top down: a run of allocations and splits, and behind it the split of the key's
+/// A split over several levels, from the top down: a run of allocations and splits, and after it the split of the key's
 /// leaf, which lacked room, leave a good tree with no page spare and the same walk, in which the key's leaf has room for
 /// an entry of any size.
 pub fn splits_make_room()

@@ -8,7 +8,7 @@ pub trait LineInput {
     /// Whether the next line is there.
     fn has_line(&self) -> bool;
 
-    /// Reads a line behind what the buffer has, with its newline. It answers false at the end of the input.
+    /// Reads a line after what the buffer has, with its newline. It answers false at the end of the input.
     fn next_line(&mut self, line: &mut Vec<u8>) -> io::Result<bool>;
 }
 

@@ -5,7 +5,7 @@ use crate::version::VERSION;
 use clap::builder::ValueParser;
 use clap::{Arg, ArgAction, ArgMatches, Command, Error};
 use im_base_types::{LEAST_FRAMES, MOST_FRAMES};
-use im_engine::Config;
+use im_engine::{BufferSize, Config};
 use im_engine_upkeep::RedoBound;
 use std::alloc::Global;
 
@@ -50,11 +50,13 @@ pub struct Options<'a> {
 }
 
 impl<'a> Options<'a> {
-    /// The limits of the engine: 1,024 frames for a folder and 64 in memory, and a million pages, where the words say nothing else.
+    /// The limits of the engine: 1,024 frames for a folder and 64 in memory, and a million pages, where the words say nothing else. The log of a
+    /// store in a folder has the buffer that suits files.
     pub(crate) fn config(&self) -> Config {
         let mut config = Config::default();
         if self.dir.is_some() {
             config.frames = MOST_FRAMES;
+            config.buffer = BufferSize::OVER_FILES;
         }
         if let Some(frames) = self.frames {
             config.frames = frames as usize;

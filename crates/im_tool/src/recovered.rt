@@ -3,13 +3,14 @@
 use crate::scratch_disk::ScratchDisk;
 use im_base_steps::{Reply, Step};
 use im_base_types::{Fault, Key, MOST_DIRTY, MOST_FRAMES, Rid};
-use im_engine::{Config, Engine, look};
+use im_engine::{BufferSize, Config, Engine, look};
 use std::alloc::Global;
 
 // How a store is opened that is only looked at.
 const TO_LOOK: Config = Config {
     frames: MOST_FRAMES,
     max_pages: u32::MAX,
+    buffer: BufferSize::ONE,
     group: false,
 };
 

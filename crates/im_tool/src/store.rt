@@ -45,11 +45,11 @@ pub enum StoreEnd {
 
 /// Opens the store of a disk, makes the steps that the input's lines ask for, and writes each reply, one a line.
 ///
-/// Replies are flushed before a line is waited for, behind each `committed`, and at the end. The line `entries` writes how
+/// Replies are flushed before a line is waited for, after each `committed`, and at the end. The line `entries` writes how
 /// many entries there are, and each; `redo` what redo did in the opening. A bad line is answered `refused 16`, and the store goes on. Empty lines are passed over,
 /// and a carriage return in front of a newline is left out. An error is of the program's own memory, input or output.
 ///
-/// Checkpoints are taken behind the opening and behind the steps, as the bound wants them. At the end of the input all changed
+/// Checkpoints are taken after the opening and after the steps, as the bound wants them. At the end of the input all changed
 /// pages are written and a last one is taken, so that the next opening has nothing to redo. Where such a step is refused, a line
 /// `checkpoint refused N` or `close refused N` says so. Where a call of the disk failed, what failed stands in a line of `causes`, once.
 pub fn store_text<D: Disk + Cause + Drop, R: LineInput, W: Write, E: Write>(
@@ -87,7 +87,7 @@ pub(crate) fn print_refused_opening<W: Write>(writer: &mut W, fault: Fault) -> i
     writer.flush()
 }
 
-// Makes the steps that the lines ask for, and closes the store behind them.
+// Makes the steps that the lines ask for, and closes the store after them.
 fn run_to_close<D: Disk + Cause, R: LineInput, W: Write, E: Write>(
     alloc: Global,
     engine: &mut Engine<D>,
@@ -208,7 +208,7 @@ fn print_prompt<W: Write>(manner: Manner, writer: &mut W) -> io::Result<()> {
     Ok(())
 }
 
-// The line of the last prompt, behind which the input ended.
+// The line of the last prompt, after which the input ended.
 fn end_prompt<W: Write>(manner: Manner, writer: &mut W) -> io::Result<()> {
     if manner.has_prompt {
         writeln!(writer)?;

@@ -4,7 +4,7 @@ use im_base_model_disk::ModelDisk;
 use im_base_types::{Fault, Key, Rid};
 use im_tool_answers::StoreAnswers;
 
-/// What the lives of a store answer, and what stands behind the last.
+/// What the lives of a store answer, and what stands after the last.
 #[derive(Drop)]
 pub struct StoreDrilled {
     /// The answers of each life.

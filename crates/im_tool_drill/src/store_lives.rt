@@ -92,6 +92,7 @@ pub fn config_of(options: LifeOptions) -> Config
     Config {
         frames,
         max_pages,
+        buffer: config.buffer,
         group: options.group,
     }
 }

@@ -49,7 +49,7 @@ fn is_next(failed: bool, plain: &StoreReply, told: &StoreReply) -> bool
     }
 }
 
-// Behind a device call that failed the engine has failed, and makes no more.
+// After a device call that failed the engine has failed, and makes no more.
 fn is_behind_failure(reply: &StoreReply) -> bool
     ensures { result ≡ is_behind_failure reply.now }
 {

@@ -415,7 +415,7 @@ pub(crate) struct Found {
     pending: Option<Change>,
 }
 
-// A transaction behind all that happened.
+// A transaction after all that happened.
 fn find(alloc: Global, events: &[Event], txn: TxnId) -> Result<Found, AllocError>
     ensures { IfOk result (λ found. IsFound found (running_from txn idle events.now)) }
 {

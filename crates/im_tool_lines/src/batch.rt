@@ -4,7 +4,7 @@ ghost use Rattle.std.specs.Prelude.{◌≡◌, ◌≤◌, ◌<◌, ◌⊎◌, le
 
 use im_base_types::LONGEST_BATCH;
 
-/// The bytes that one `put` line puts behind a gate: 1 to 16,384.
+/// The bytes that one `put` line puts after a gate: 1 to 16,384.
 #[derive(Debug, Drop)]
 pub struct Batch {
     /// The bytes.

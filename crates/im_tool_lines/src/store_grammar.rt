@@ -76,7 +76,7 @@ fn life_line(words: Option<&[u8]>) -> Result<StoreScriptLine, Fault>
     }))
 }
 
-// The number of the option of this name that the words begin with, and the words behind it; none, where they begin with no such
+// The number of the option of this name that the words begin with, and the words after it; none, where they begin with no such
 // option.
 fn option_of<'a>(
     name: &[u8],
@@ -104,7 +104,7 @@ fn option_of<'a>(
     Ok((Some(number), more))
 }
 
-// Whether the words begin with the option of this name that is a word alone, and the words behind it.
+// Whether the words begin with the option of this name that is a word alone, and the words after it.
 fn word_of<'a>(name: &[u8], words: Option<&'a [u8]>) -> (bool, Option<&'a [u8]>)
     requires { Lacks 32 name.now }
     ensures says { IsOption name.now (behind_word words.entry) (Word result.0) (behind_word result.1) }

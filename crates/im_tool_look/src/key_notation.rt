@@ -39,7 +39,7 @@ fn is_quotable_byte(byte: u8) -> bool {
     byte.is_ascii_graphic() && byte != b'"' && byte != b'\\'
 }
 
-/// A key in such a notation at the front of a text, and what stands behind it. None where no `x'` and no quotation mark begins it.
+/// A key in such a notation at the front of a text, and what stands after it. None where no `x'` and no quotation mark begins it.
 ///
 /// Refused `BadScript` where the notation is not closed or has a digit too few; `Memory`.
 pub fn noted_key(alloc: Global, text: &[u8]) -> Result<Option<(Vec<u8>, &[u8])>, Fault> {
@@ -56,7 +56,7 @@ pub fn noted_key(alloc: Global, text: &[u8]) -> Result<Option<(Vec<u8>, &[u8])>,
     Ok(None)
 }
 
-// What stands in front of the first such byte, and behind it.
+// What stands in front of the first such byte, and after it.
 fn up_to(text: &[u8], end: u8) -> Result<(&[u8], &[u8]), Fault> {
     for place in 0..text.len() {
         if text[place] == end {

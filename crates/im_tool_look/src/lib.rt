@@ -1,3 +1,5 @@
+//! What is broken in these files, and what do they hold?
+//!
 //! What the bytes of a store's files say, to whoever looks at a store that is not open: the log as its batches and records, with what is
 //! broken in it; the tree and the free list of a file of pages, rule by rule; and keys as users type them.
 //!

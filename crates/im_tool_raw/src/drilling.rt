@@ -16,13 +16,13 @@ use im_tool_lines::Script;
 use std::alloc::{AllocError, Global};
 
 /// Runs the lives of a script on a model disk, each on what the stop of the one before has left, and opens once
-/// more behind the last.
+/// more after the last.
 ///
 /// Every answer comes from a call: in each life the stop is armed, the log is opened on the disk that the stop before has left, and what its gate
 /// puts is what the lines answer, up to one into which the stop fell. `Stopped` is told only where the life has a stop within a device
 /// call, and it has come; an opening and a put are refused only for their causes.
 ///
-/// Where the script's log file stands for some batches at first, each life leaves those from before it and behind them a
+/// Where the script's log file stands for some batches at first, each life leaves those from before it and after them a
 /// front of those that it asked to put, in order, with all that were acknowledged; and the last opening finds what the last life left. No opening
 /// says that there is no store.
 /// Each life has its answers and each of its lines its reply, up to a line into which the stop fell.

@@ -25,7 +25,7 @@ use std::alloc::{AllocError, Global};
 
 /// Runs one life on the disk, and leaves the disk as it was when the stop came or the lines ended.
 ///
-/// Whatever a stop then leaves stands for the batches from before and behind them a front of those that the life asked
+/// Whatever a stop then leaves stands for the batches from before and after them a front of those that the life asked
 /// to put, in order, with all that were acknowledged. Each line has its reply, unless the stop came before or the opening did
 /// not succeed.
 pub(crate) fn run_life(

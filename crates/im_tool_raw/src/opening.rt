@@ -1,4 +1,4 @@
-//! A log behind a gate, opened: made where there is none yet, and read to its end.
+//! A log after a gate, opened: made where there is none yet, and read to its end.
 
 ghost use Rattle.std.specs.Prelude.{◌≡◌, ◌≢◌, ◌⊎◌, ◌↔◌, ℕ, [], Some, List, true, false, map, IfOk, IfErr, MatchResult};
 ghost use Rattle.im_base_types.specs.declared.file_id.FileId.TheVariants.{Log};
@@ -53,7 +53,7 @@ pub(crate) fn last_batches(alloc: Global, disk: &mut ModelDisk) -> Result<Vec<Ve
     }
 }
 
-// The batches from the gate on, and the gate behind the last. No list has more than numbers go.
+// The batches from the gate on, and the gate after the last. No list has more than numbers go.
 fn read_batches<D: Disk>(
     alloc: Global,
     disk: &mut D,

@@ -10,7 +10,7 @@ use std::alloc::Global;
 use std::io;
 use std::io::Write;
 
-/// Prints what the lives of a store answer, and what stands behind the last.
+/// Prints what the lives of a store answer, and what stands after the last.
 pub(crate) fn print_store<W: Write>(
     alloc: Global,
     writer: &mut W,

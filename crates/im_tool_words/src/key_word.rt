@@ -11,7 +11,7 @@ use crate::pieces::first_piece;
 use im_base_types::Fault;
 use std::alloc::Global;
 
-/// The most that a key word says behind its `*`.
+/// The most that a key word says after its `*`.
 const MOST: u64 = 1_000;
 
 /// The bytes of the key that the word writes: `TEXT`, which is some printable ASCII without space, `+` or `*`; or `T+C*N`,
@@ -53,7 +53,7 @@ fn plain_key(alloc: Global, text: &[u8]) -> Result<Vec<u8>, Fault>
     }
 }
 
-// The key of a text and what stands behind its `+`.
+// The key of a text and what stands after its `+`.
 #[tactic(auto, using(crate::proofs::KeyWords::repeating_is, crate::proofs::KeyWords::repeating_said))]
 fn repeating_key(alloc: Global, text: &[u8], repeated: &[u8]) -> Result<Vec<u8>, Fault>
     requires plain { is_text text.now ≡ true }

@@ -1,3 +1,5 @@
+//! What does a line that asks for a step say, and how is a reply printed?
+//!
 //! The words of lines: how a script, and a program that reads steps, writes a step, a key, a number and bytes, and how a reply and
 //! entries are printed.
 //!

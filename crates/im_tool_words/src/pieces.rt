@@ -3,7 +3,7 @@
 ghost use Rattle.std.specs.Prelude.{◌≡◌, ◌<◌, ◌++◌, ◌∷◌, length, IfSome, MatchOption};
 ghost use Rattle.im_tool_words.specs.Words.{Lacks};
 
-/// The text up to the first separator, and what stands behind that separator; none where there is none. The first piece has no separator.
+/// The text up to the first separator, and what stands after that separator; none where there is none. The first piece has no separator.
 #[tactic(auto, using(crate::proofs::Texts::lacks_more, crate::proofs::Texts::lacks_all))]
 pub fn first_piece(text: &[u8], separator: u8) -> (&[u8], Option<&[u8]>)
     ensures cut { MatchOption result.1 (result.0.now ≡ text.now) (λ rest. text.now ≡ result.0.now ++ separator ∷ rest.now) }

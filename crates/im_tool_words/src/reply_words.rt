@@ -38,7 +38,7 @@ pub fn reply_text<W: Write>(alloc: Global, writer: &mut W, reply: &Reply) -> io:
     }
 }
 
-// An entry behind other words.
+// An entry after other words.
 fn entry_words<W: Write>(alloc: Global, writer: &mut W, key: &Key, rid: Rid) -> io::Result<()> {
     let digits = hex::encode(alloc, key.bytes())?;
     write!(writer, " {digits} {rid}")

@@ -39,7 +39,7 @@ pub fn step_line(alloc: Global, line: &[u8]) -> Result<Step, Fault>
     access_line(alloc, word, rest)
 }
 
-// The line of an access: its word, and what stands behind that.
+// The line of an access: its word, and what stands after that.
 #[tactic(auto, using(crate::proofs::StepSpelled::step_word_said))]
 fn access_line(alloc: Global, word: &[u8], rest: &[u8]) -> Result<Step, Fault>
     requires { Lacks 32 word.now }
@@ -198,7 +198,7 @@ fn insert_line(alloc: Global, rest: &[u8]) -> Result<Step, Fault>
     Ok(Step::Insert(number, key, rid))
 }
 
-// A number, and the key behind it.
+// A number, and the key after it.
 #[tactic(auto, using(crate::proofs::StepSpelled::keyed_same))]
 fn keyed(alloc: Global, text: &[u8]) -> Result<(u64, Vec<u8>), Fault>
     ensures says { IfOk result (λ said. IsKeyed text.now said.0 said.1.items) }
@@ -210,7 +210,7 @@ fn keyed(alloc: Global, text: &[u8]) -> Result<(u64, Vec<u8>), Fault>
     Ok((number, key))
 }
 
-// The key of a word, and what stands behind it and a space.
+// The key of a word, and what stands after it and a space.
 #[tactic(auto, using(crate::proofs::StepSpelled::behind_one, crate::proofs::StepSpelled::behind_cut))]
 fn behind_key(alloc: Global, text: &[u8]) -> Result<(Vec<u8>, &[u8]), Fault>
     ensures says { IfOk result (λ said. IsBehindKey text.now said.0.items said.1.now) }
@@ -225,7 +225,7 @@ fn behind_key(alloc: Global, text: &[u8]) -> Result<(Vec<u8>, &[u8]), Fault>
     Ok((key, rest))
 }
 
-// A number, and what stands behind it and a space.
+// A number, and what stands after it and a space.
 #[tactic(auto, using(crate::proofs::StepSpelled::numbered_lacks, crate::proofs::StepSpelled::numbered_cut))]
 fn numbered(text: &[u8]) -> Result<(u64, &[u8]), Fault>
     ensures says { IfOk result (λ said. IsNumbered text.now said.0 said.1.now) }

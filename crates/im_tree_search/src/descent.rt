@@ -76,7 +76,7 @@ pub fn root<D: Disk>(writer: &mut PageWriter, disk: &mut D) -> Result<Frame, Fau
 /// Where the leaf of a key is held from now on: the one in whose range the key lies, by one get for each level, from page 1 down.
 ///
 /// Levels are read from the pages and have to fall by one, so that the search ends on any bytes. Refused `NotAStore` where they
-/// don't, or where a page above level 0 is no inner page, or that of level 0 no leaf; otherwise as `PageWriter::get` is. Behind
+/// don't, or where a page above level 0 is no inner page, or that of level 0 no leaf; otherwise as `PageWriter::get` is. After
 /// `NotAStore` the writer goes on. Where the pages of the key's way are held, nothing is asked of the disk (`quiet`).
 #[tactic(auto, using(im_page_writer::proofs::Outcomes::then, im_page_writer::proofs::Outcomes::refused))]
 pub fn leaf_for<D: Disk>(writer: &mut PageWriter, disk: &mut D, key: &[u8]) -> Result<Frame, Fault>

@@ -64,7 +64,7 @@ pub(crate) fn page_count<D: Disk>(writer: &mut PageWriter, disk: &mut D) -> Resu
     Ok(page.leftmost())
 }
 
-// The first entry past a key along the leaf chain, from a leaf behind that of the key on. There are fewer leaves than pages, so
+// The first entry past a key along the leaf chain, from a leaf after that of the key on. There are fewer leaves than pages, so
 // that a chain which goes on longer leads round in a ring.
 #[tactic(auto, using(im_page_writer::proofs::Outcomes::then, im_page_writer::proofs::Outcomes::refused))]
 pub(crate) fn first_along<D: Disk>(
@@ -103,7 +103,7 @@ pub(crate) fn first_along<D: Disk>(
 ///
 /// The search goes down to the key's leaf, and from there along the leaf chain past leaves that have no such entry; it gets page 0
 /// only then, for the page count. Refused `NotAStore` as `leaf_for` is, where a page of the chain is no leaf or page 0 no meta page,
-/// and where the chain has as many leaves as there are pages; otherwise as `PageWriter::get` is. Behind `NotAStore` the writer goes
+/// and where the chain has as many leaves as there are pages; otherwise as `PageWriter::get` is. After `NotAStore` the writer goes
 /// on.
 #[tactic(auto, using(im_page_writer::proofs::Outcomes::then, im_page_writer::proofs::Outcomes::refused))]
 pub fn next_entry<D: Disk>(

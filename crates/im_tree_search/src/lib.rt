@@ -1,19 +1,21 @@
+//! Where is a key, and which is next?
+//!
 //! Search: the leaf of a key, the row id of a key, the next entry, and all entries, over a writer of pages.
 //!
 //! - `leaf_for` goes from page 1 down to the leaf in whose range a key lies, by one get for each level.
 //! - `locate` answers the row id of a key.
 //! - `next_entry` answers where the first entry at or above a key stands, or the first above it: it goes down to the key's
 //!   leaf, and from there along the leaf chain past leaves that have no such entry.
-//! - `leaf_and_next` answers the leaf of a key, and the key behind it; `next_in_leaf` answers that key beside a leaf that the caller holds.
+//! - `leaf_and_next` answers the leaf of a key, and the key after it; `next_in_leaf` answers that key beside a leaf that the caller holds.
 //! - `entries` answers copies of all entries, along the leaf chain.
-//! - `entries_between` answers copies of the entries of a range, at most so many, and the key behind them.
+//! - `entries_between` answers copies of the entries of a range, at most so many, and the key after them.
 //! - `level_of` answers the level of a page of the tree, `child_of` the child of an inner page on a key's way, and where it
 //!   stands there; `child_in` answers it of a page that the caller has.
 //! - `root` gets page 1, `tree_page` gets a page that is to be of a level, and `has_level` tests whether a page is.
 //!
 //! The contract: where the pages are a good tree, all with their copies loaded (`HasTree`), the answers are those of the
 //! walk, the entries of the leaves from left to right; the number of gets is the root's level plus one; and no search is
-//! refused `NotAStore`. A get may take another page's frame, and write that page first. So each page is as it was behind a
+//! refused `NotAStore`. A get may take another page's frame, and write that page first. So each page is as it was after a
 //! search, the log has Images more at most (`GoesOn`), and a stop within leaves what redo can start from.
 //!
 //! A search whose pages are held asks nothing of the disk, whatever it answers (`quiet`, over a set of pages as `HoldsWay` or `HoldsOn` has
@@ -26,7 +28,7 @@
 //! place there: both are right as long as the leaf is held.
 //!
 //! It stands on `im_page_writer` for pages and their gets, on `im_page` for what a page has of a key, and on `im_theory_tree` for the
-//! laws of the way down and of the leaf chain. For callers `proofs/Pages` has `tree_still`: the tree is there still behind
+//! laws of the way down and of the leaf chain. For callers `proofs/Pages` has `tree_still`: the tree is there still after
 //! calls that change no page.
 #![tactic(auto)]
 

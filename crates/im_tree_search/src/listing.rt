@@ -31,7 +31,7 @@ fn add_entries(list: &mut Vec<(Key, Rid)>, page: &Page) -> Result<(), Fault>
 
 /// Copies of all entries of the index, in rising key order, along the leaf chain.
 ///
-/// Refused `Memory` where there is no room for the list too; otherwise as `next_entry` is. Behind `NotAStore` and `Memory` the writer
+/// Refused `Memory` where there is no room for the list too; otherwise as `next_entry` is. After `NotAStore` and `Memory` the writer
 /// goes on.
 #[tactic(auto, using(im_page_writer::proofs::Outcomes::then, im_page_writer::proofs::Outcomes::refused))]
 pub fn entries<D: Disk>(

@@ -1,4 +1,4 @@
-//! The leaf of a key, and the key behind it.
+//! The leaf of a key, and the key after it.
 
 ghost use Rattle.std.specs.Prelude.{◌≡◌, ◌≤◌, ◌<◌, ℕ, Bool, false, true, IfOk, length};
 ghost use Rattle.im_base_types.specs.Maps.{Above};
@@ -41,7 +41,7 @@ pub(crate) fn copied(page: &Page, i: usize) -> NextKey
     }
 }
 
-// The first key above a key along the leaf chain, from a leaf behind that of the key on, copied.
+// The first key above a key along the leaf chain, from a leaf after that of the key on, copied.
 fn name_along<D: Disk>(
     writer: &mut PageWriter,
     disk: &mut D,

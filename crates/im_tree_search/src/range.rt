@@ -45,7 +45,7 @@ fn add_entry(list: &mut Vec<(Key, Rid)>, page: &Page, i: usize) -> Result<(), Fa
     push_entry(list, page.key(i), page.value(i))
 }
 
-// Adds the entries of a leaf that lie in a range, until there are `limit`. Answers what stands behind the range, where the leaf ends
+// Adds the entries of a leaf that lie in a range, until there are `limit`. Answers what stands after the range, where the leaf ends
 // it: nothing at the limit, else the first key above `hi`.
 fn add_part(
     list: &mut Vec<(Key, Rid)>,
@@ -73,7 +73,7 @@ fn add_part(
     Ok(None)
 }
 
-// The rest of a range along the leaf chain, from a leaf behind that of `lo` on.
+// The rest of a range along the leaf chain, from a leaf after that of `lo` on.
 #[tactic(auto, using(im_page_writer::proofs::Outcomes::then, im_page_writer::proofs::Outcomes::refused))]
 fn range_along<D: Disk>(
     writer: &mut PageWriter,
@@ -110,11 +110,11 @@ fn range_along<D: Disk>(
     Ok(Some(NextKey::End))
 }
 
-/// Copies of the entries from `lo` to `hi`, in rising key order, the first `limit` of them, and the key behind them: where they are
+/// Copies of the entries from `lo` to `hi`, in rising key order, the first `limit` of them, and the key after them: where they are
 /// fewer than `limit`, and `hi` is not below `lo`, the first key above `hi`, copied, or the end; else nothing is said of it.
 ///
 /// It goes down once, to the leaf of `lo`, by one get for each level, and then along the leaf chain, by one get for each leaf, until
-/// a leaf has a key above `hi`. Refused `Memory` where there is no room for the list too; otherwise as `next_entry` is. Behind
+/// a leaf has a key above `hi`. Refused `Memory` where there is no room for the list too; otherwise as `next_entry` is. After
 /// `NotAStore` and `Memory` the writer goes on.
 #[tactic(auto, using(im_page_writer::proofs::Outcomes::then, im_page_writer::proofs::Outcomes::refused))]
 pub fn entries_between<D: Disk>(

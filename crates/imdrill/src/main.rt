@@ -1,5 +1,5 @@
 //! `imdrill [--every] [SCRIPT]`: runs a script of lives on a model disk and prints what they answer; or stops its one life everywhere, and
-//! prints how many openings behind that were bad.
+//! prints how many openings after that were bad.
 #![tactic(auto)]
 
 use im_tool_script::drill_program;

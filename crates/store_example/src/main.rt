@@ -5,7 +5,7 @@ mod threads;
 
 use im_base_file_disk::FileDisk;
 use im_base_steps::{Reply, Step};
-use im_engine::{Config, Engine};
+use im_engine::{BufferSize, Config, Engine};
 use im_front::Open;
 use im_open::open;
 use std::fs;
@@ -27,23 +27,24 @@ fn main(rt: HostRuntime) -> anyhow::Result<()> {
 
 // One transaction, and the entries behind it.
 fn alone(rt: &HostRuntime) -> anyhow::Result<()> {
-    let mut engine = open(rt, ALONE, Config::default())?.into_engine();
+    let mut engine = open(rt, ALONE, config(false))?.into_engine();
     insert(rt, &mut engine)?;
     list(rt, &mut engine)
 }
 
-// With group commit: one force serves all threads that commit meanwhile.
-fn grouped() -> Config {
+// How a store in files is opened. With group commit one force serves all threads that commit meanwhile.
+fn config(group: bool) -> Config {
     Config {
         frames: 64,
         max_pages: 1_000_000,
-        group: true,
+        buffer: BufferSize::OVER_FILES,
+        group,
     }
 }
 
 // Threads that commit in one store. They are started, and waited for, by `threads` alone.
 fn together<R: Threads + Wait + Sync>(rt: &HostRuntime, threads: &R) -> anyhow::Result<()> {
-    let front = match Open::new(rt.alloc(), open(rt, SHARED, grouped())?) {
+    let front = match Open::new(rt.alloc(), open(rt, SHARED, config(true))?) {
         Ok(front) => front,
         Err((fault, _at_rest)) => return Err(anyhow::Error::from(fault)),
     };

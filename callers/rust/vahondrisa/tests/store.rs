@@ -50,8 +50,18 @@ fn refusals_have_their_kinds() {
     let store = Store::open(&dir.0).unwrap();
     assert_eq!(Store::open(&dir.0).err().unwrap().kind(), ErrorKind::Locked);
     let txn = store.begin().unwrap();
-    assert_eq!(txn.insert(b"", 1).unwrap_err().kind(), ErrorKind::KeyLength);
-    assert_eq!(txn.insert(&[1; 256], 1).unwrap_err().kind(), ErrorKind::KeyLength);
+    for key in [&[][..], &[1; 256]] {
+        let errors = [
+            txn.insert(key, 1).unwrap_err(),
+            txn.get(key).unwrap_err(),
+            txn.remove(key).unwrap_err(),
+            txn.seek(key).unwrap_err(),
+            txn.next(key).unwrap_err(),
+            txn.range(key, b"a").next().unwrap().unwrap_err(),
+            txn.range(b"a", key).next().unwrap().unwrap_err(),
+        ];
+        assert!(errors.iter().all(|it| it.kind() == ErrorKind::KeyLength));
+    }
     assert!(txn.insert(b"a", 1).unwrap());
     assert!(!txn.insert(b"a", 2).unwrap());
     let younger = store.begin().unwrap();

@@ -104,7 +104,7 @@ fn read_first<D: Disk>(alloc: Global, log: &LogFile, disk: &mut D, count: u64) -
     read_many(log, disk, &mut room, 0, count, count)
 }
 
-/// Copies the bytes of one record so many times, one behind another into the room, and from its front again where it is
+/// Copies the bytes of one record so many times, one after another into the room, and from its front again where it is
 /// full.
 pub fn copy_by_hand(record: &[u8; 50], room: &mut [u8; LONGEST_BATCH], count: u64) -> u64 {
     let mut at = 0;

@@ -67,7 +67,7 @@ pub fn judged(alloc: Global, files: &Files, damaged: Damaged) -> Result<Outcome,
     }
 }
 
-// What the entries, and the steps behind them, come to.
+// What the entries, and the steps after them, come to.
 fn used(alloc: Global, engine: &mut Engine<BoundedDisk>) -> Result<Outcome, Fault> {
     let outcome = listed(alloc, engine)?;
     make_each(alloc, engine)?;
@@ -111,7 +111,7 @@ pub fn founded(alloc: Global) -> Result<Files, Fault> {
 // More pages than the store has.
 const PAGES: u32 = 64;
 
-// Writes each page, and takes a Checkpoint behind that.
+// Writes each page, and takes a Checkpoint after that.
 fn write_all(engine: &mut Engine<BoundedDisk>) {
     for page in 0..PAGES {
         let _reply = engine.step(&Step::FlushPage(page));
@@ -119,7 +119,7 @@ fn write_all(engine: &mut Engine<BoundedDisk>) {
     let _reply = engine.step(&Step::Checkpoint);
 }
 
-/// The same files behind an opening that takes the third transaction back, with all pages written and a Checkpoint behind them.
+/// The same files after an opening that takes the third transaction back, with all pages written and a Checkpoint after them.
 pub fn closed(alloc: Global, files: &Files) -> Result<Files, Fault> {
     let files = files.copy(alloc).map_err(|_| Fault::Memory)?;
     let mut engine = opened(alloc, BoundedDisk::new(files), FRAMES)?;
@@ -127,7 +127,7 @@ pub fn closed(alloc: Global, files: &Files) -> Result<Files, Fault> {
     Ok(engine.into_disk().into_files())
 }
 
-// Keys behind all others, by which leaves split.
+// Keys after all others, by which leaves split.
 const MORE: Span = Span {
     first: 400,
     keys: 60,

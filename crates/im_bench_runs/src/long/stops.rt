@@ -15,7 +15,7 @@ use im_base_types::Fault;
 use im_bench_layers::kinds::Kinds;
 use im_bench_layers::spans::{Order, Span, Work, committed, lose};
 use im_bench_layers::tally::Tally;
-use im_engine::{Config, Engine};
+use im_engine::{BufferSize, Config, Engine};
 use std::alloc::Global;
 
 /// The keys that are committed, in rising order: a tree of two levels, whose root is full.
@@ -46,6 +46,7 @@ const MOST_CALLS: u64 = 10_000;
 const CONFIG: Config = Config {
     frames: 8,
     max_pages: 1_000_000,
+    buffer: BufferSize::ONE,
     group: false,
 };
 

@@ -1,4 +1,4 @@
-//! Checkpoints: the rows of both tables in a record of the log, behind a sync of the file of pages.
+//! Checkpoints: the rows of both tables in a record of the log, after a sync of the file of pages.
 ghost use Rattle.std.specs.Prelude.{◌≡◌, ◌≤◌, ◌<◌, ◌^◌, ◌↔◌, ℕ, List, None, Some, Err, false, length, OnOk};
 ghost use Rattle.im_base_types.specs.declared.fault.Fault.TheVariants.{LogFull};
 ghost use Rattle.im_base_types.specs.declared.file_id.FileId.TheVariants.{Log};
@@ -59,7 +59,7 @@ impl PageWriter {
     /// written, and no memory is taken. The redo point of the log is then the least of the Checkpoint's LSN and the rec_lsns of its rows,
     /// and no page counts as having a full copy at or after it: the next write of each adds its Image.
     ///
-    /// Refused `LogFull`, behind the sync, exactly where the record would end above LSN 2^62, `Device`, or `Failed` after a call that failed.
+    /// Refused `LogFull`, after the sync, exactly where the record would end above LSN 2^62, `Device`, or `Failed` after a call that failed.
     pub fn log_checkpoint<D: Disk>(
         &mut self,
         disk: &mut D,

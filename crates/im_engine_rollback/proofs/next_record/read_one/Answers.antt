@@ -6,7 +6,8 @@ use Rattle.im_theory_tree.specs.Theory.{page_tree}
 use Rattle.im_theory_tree.proofs.TheoryLaws.{page_tree_laws}
 use Rattle.im_engine_rollback.specs.Going.{GoesOnAt}
 use Rattle.im_engine_rollback.proofs.Ends.{device_not_store, no_record, not_a_store, read_ends, turn_refused_on}
-use Rattle.im_engine_rollback.proofs.Readings.{leads_down, leads_else, next_here, spelled_here, spelled_none}
+use Rattle.im_restart_analysis.proofs.RecordsRead.{spelled_here, spelled_none}
+use Rattle.im_engine_rollback.proofs.Readings.{leads_down, leads_else, next_here}
 use Rattle.im_engine_rollback.proofs.next_record.read_one.Goals as goal
 
 pub returns-in_err-size-clause-outcome : goal.returns-in_err-size-clause-outcome

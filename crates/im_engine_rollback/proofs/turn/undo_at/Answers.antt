@@ -9,7 +9,7 @@ use Rattle.im_restart_undo.specs.Undoing.{IsToUndo}
 use Rattle.im_restart_undo.proofs.Growth.{going_ready}
 use Rattle.im_engine_rollback.specs.Ends.{may_turn}
 use Rattle.im_engine_rollback.proofs.Ends.{device_not_store, never_capacity, never_failed, never_memory, no_record, none_may, not_a_store, read_ends, taken_turn, turn_behind, turn_more, turn_refused_on}
-use Rattle.im_engine_rollback.proofs.Readings.{spelled_is, spelled_none}
+use Rattle.im_restart_analysis.proofs.RecordsRead.{spelled_is, spelled_none}
 use Rattle.im_engine_rollback.proofs.Turning.{going_read, read_on, read_stops, take_done, take_refused, taken_as, to_undo_so}
 use Rattle.im_engine_rollback.proofs.turn.undo_at.Goals as goal
 

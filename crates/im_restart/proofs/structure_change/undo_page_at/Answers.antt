@@ -7,7 +7,7 @@ use Rattle.im_page_writer.proofs.Outcomes.{sound_on}
 use Rattle.im_restart_redo.proofs.Recoveries.{moved, read_refused, recovers_then, recovery_own, recovery_refused}
 use Rattle.im_theory_tree.specs.Theory.{page_tree}
 use Rattle.im_restart.proofs.OpenChanges.{change_read, change_start, open_record, page_then}
-use Rattle.im_restart.proofs.Readings.{spelled_is, spelled_none}
+use Rattle.im_restart_analysis.proofs.RecordsRead.{spelled_is, spelled_none}
 use Rattle.im_base_disk.proofs.Runs.{reads_on}
 use Rattle.im_restart.proofs.structure_change.undo_page_at.Goals as goal
 

@@ -9,7 +9,7 @@ use Rattle.im_restart_redo.proofs.Recoveries.{moved, read_refused, recovers_more
 use Rattle.im_restart.specs.Restart.{RunsOut}
 use Rattle.im_restart.proofs.Ends.{other_cause, take_mild}
 use Rattle.im_restart.proofs.Others.{spares_none}
-use Rattle.im_restart.proofs.Readings.{spelled_here, spelled_none}
+use Rattle.im_restart_analysis.proofs.RecordsRead.{spelled_here, spelled_none}
 use Rattle.im_restart.proofs.Undos.{read_stops, step_then, undo_read}
 use Rattle.im_restart.proofs.undo.undo_at.Goals as goal
 

@@ -1,12 +1,15 @@
-use Rattle.std.proofs.Common.{◌≡◌, ◌+◌, [], length, ℕ, List, false, sym, ap, ◌∙◌, subst, arith}
+use Rattle.std.proofs.Common.{◌≡◌, ◌+◌, [], length, ℕ, List, false, Ok, Err, sym, ap, ◌∙◌, subst, arith}
+use Rattle.im_base_types.specs.declared.fault.Fault.TheVariants.{Failed, Busy}
 use Rattle.std.specs.FinMap.{empty, entries}
 use Rattle.im_base_types.specs.Changes.{apply_all}
 use Rattle.im_base_types.specs.Lives.{nothing_shown}
 use Rattle.im_front.specs.declared.recorded.Recorded.{Recorded}
 use Rattle.im_front.specs.Traces.{trace_of}
 use Rattle.im_front.specs.Events.{shown_in}
+use Rattle.im_front.specs.Cuts.{ComesFirst}
 use Rattle.im_front.specs.Held.{State, IsTallied, Stands, IsCut, forces_in}
 use Rattle.im_front.proofs.Steps.{stands_cut, stands_look, tallied_as, tallied_cut, none_waiting, rest_walk, is_cut, length-trace_of}
+use Rattle.im_front.proofs.Cuts.{told_failed, told_busy, told_else}
 use Rattle.im_front.proofs.held.Held.cut_trace.Goals as goal
 
 pub invariant_of-self : goal.invariant_of-self
@@ -74,3 +77,18 @@ returns-clause-base g c tells =
     let settled = g.met.E.Store.settles h.before (shown_in nothing_shown h.events) h.view c.entries.new.self list.1 running none in
     let is = is_cut g.E.Store.life c.self.inside.base.items trace c.self.inside.engine h c.in_ok-base.field-0.items running settled.0 (list.0 ∙ ap entries walk) in
     subst (λ (s : State g.row.E.Denot). IsCut s.base c.in_ok-base.field-0.items (trace_of s.trace)) c.self.view_is is
+
+pub returns-then-failed-clause-first : goal.returns-then-failed-clause-first
+returns-then-failed-clause-first g c =
+    subst (λ (s : State g.row.E.Denot). ComesFirst g.E.Store s.engine (Err Failed)) c.self.view_is (told_failed g.E.Store c.self.inside.engine c.failed.result c.failed.ensures c.if-failed.true)
+
+pub returns-then-is_busy-clause-first : goal.returns-then-is_busy-clause-first
+returns-then-is_busy-clause-first g c =
+    subst (λ (s : State g.row.E.Denot). ComesFirst g.E.Store s.engine (Err Busy)) c.self.view_is (told_busy g.E.Store c.self.inside.engine c.failed.result c.failed.ensures c.if-failed.false)
+
+pub returns-clause-first : goal.returns-clause-first
+returns-clause-first g c =
+    subst (λ (s : State g.row.E.Denot). ComesFirst g.E.Store s.engine (Ok tt)) c.self.view_is (
+    told_else g.E.Store c.self.inside.engine c.failed.result c.failed.ensures c.if-failed.false c.active.result c.active.ensures.machine (c.is_busy.ensures.free c.if-is_busy.false) (Ok tt)
+    (sym c.active.ensures.count ∙ c.is_busy.ensures.free c.if-is_busy.false)
+    )

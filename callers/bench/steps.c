@@ -1,0 +1,98 @@
+/* The work of bench.c in one thread by steps of the proved library alone, without locks, waits and masks of signals: what the layer of C adds to them.
+ * steps FOLDER */
+#define _GNU_SOURCE
+#include "internal.h"
+#include "work.h"
+#include <string.h>
+
+struct handle;
+size_t im_size(void);
+void im_init(struct handle *at);
+void im_step(struct handle *at, struct call *call);
+enum { BEGIN, FETCH, SCAN = 4, INSERT, COMMIT = 7, OPEN = 14, CLOSE };
+enum { FOUND = 1, ENTRIES = 5, INSERTED, COMMITTED = 9, DONE = 14 };
+
+static struct handle *handle;
+static struct call call;
+
+static void ask(uint32_t step, uint64_t key, uint64_t number, uint32_t wanted)
+{
+	call.step = step;
+	call.number = number;
+	call.key_len = 8;
+	memcpy(call.key, &key, 8);
+	im_step(handle, &call);
+	IS((int)call.word, (int)wanted);
+}
+
+static void begin(void)
+{
+	ask(BEGIN, 0, 0, 0);
+	call.txn = call.number;
+}
+
+static void commit(void) { ask(COMMIT, 0, 0, COMMITTED); }
+
+static double wall, processor;
+static void start(void)
+{
+	wall = on(CLOCK_MONOTONIC);
+	processor = on(CLOCK_PROCESS_CPUTIME_ID);
+}
+
+int main(int argc, char **argv)
+{
+	static struct device device;
+	char text[512];
+	vah_config config = VAH_CONFIG_INIT;
+	if (argc < 2) return 1;
+	OK(vah_device_open(&device, argv[1], text, sizeof text));
+	if (!(handle = malloc(im_size()))) return 1;
+	im_init(handle);
+	vah_device_serve(&device);
+	call = (struct call){ .step = OPEN, .limit = config.frames, .txn = config.max_pages, .number = config.redo_bytes,
+		.key_len = 0 };
+	im_step(handle, &call);
+	IS((int)call.word, DONE);
+
+	start();
+	for (uint64_t i = 0; i < KEYS; i += 64) {
+		begin();
+		for (uint64_t j = i; j < i + 64; j++) ask(INSERT, mix(j), j, INSERTED);
+		commit();
+	}
+	tell("steps", 1, "inserts, 64 a commit", KEYS, wall, processor);
+	start();
+	for (uint64_t i = 0; i < COMMITS; i++) {
+		begin();
+		ask(INSERT, mix(1000000 + i), i, INSERTED);
+		commit();
+	}
+	tell("steps", 1, "inserts, 1 a commit", COMMITS, wall, processor);
+	start();
+	for (uint64_t i = 0; i < READS; i += 100) {
+		begin();
+		for (uint64_t j = i; j < i + 100; j++) {
+			uint64_t wanted = mix(j * 7) % KEYS;
+			ask(FETCH, mix(wanted), 0, FOUND);
+			if (call.number != wanted) exit(2);
+		}
+		commit();
+	}
+	tell("steps", 1, "look-ups, 100 a transaction", READS, wall, processor);
+	start();
+	for (uint64_t i = 0; i < SCANS; i++) {
+		begin();
+		call.limit = LIMIT;
+		call.hi_len = 8;
+		memset(call.hi, 0xff, 8);
+		ask(SCAN, mix(i), 0, ENTRIES);
+		commit();
+	}
+	tell("steps", 1, "scans of 100", SCANS, wall, processor);
+
+	call.step = CLOSE;
+	im_step(handle, &call);
+	vah_device_close(&device);
+	return call.word != DONE;
+}

@@ -1,0 +1,60 @@
+"""Each call of the device fails in turn, and each after it; then the store is opened again. The library is one that was built for that, so
+`make -C callers test` runs this."""
+import errno
+import itertools
+import os
+import tempfile
+import unittest
+
+import vahondrisa
+
+TURNS, KEYS = 6, 12
+
+
+def key(turn: int, k: int) -> bytes:
+    """Keys of 220 bytes split pages soon."""
+    return bytes([k * 37 % 256, turn, k]).ljust(220, b"\0")
+
+
+def life(folder: str, acked: set) -> None:
+    """Each turn is a transaction; turn 2 is rolled back. `acked` has those that were committed."""
+    with vahondrisa.open(folder, frames=8, redo_bytes=200_000) as store:
+        for turn in range(TURNS):
+            with store.begin() as txn:
+                for k in range(KEYS):
+                    txn[key(turn, k)] = turn
+                if turn == 2:
+                    txn.rollback()
+                    continue
+            acked.add(turn)
+            if turn == 1:
+                store.checkpoint()
+
+
+@unittest.skipUnless(os.environ.get("VAHONDRISA_FAILS"), "over a library whose device fails: make -C callers test")
+class EveryCall(unittest.TestCase):
+    def test_every_call_fails_in_turn(self):
+        for n in itertools.count(1):
+            with self.subTest(n=n), tempfile.TemporaryDirectory() as room:
+                folder, acked, failed = os.path.join(room, "store"), set(), None
+                os.environ["VAH_FAIL_AT"] = str(n)
+                try:
+                    life(folder, acked)
+                except vahondrisa.Failed as it:
+                    failed = it
+                finally:
+                    del os.environ["VAH_FAIL_AT"]
+                if failed:
+                    self.assertEqual(failed.__cause__.errno, errno.EIO)
+                with vahondrisa.open(folder) as store, store.begin() as txn:
+                    found = {it: [number for key, number in txn.range() if number == it] for it in range(TURNS)}
+                self.assertTrue(all(len(it) in (0, KEYS) for it in found.values()), found)
+                self.assertTrue(all(found[it] for it in acked), (found, acked))
+                self.assertFalse(found[2])
+            if not failed:
+                break
+        self.assertGreater(n, 20)
+
+
+if __name__ == "__main__":
+    unittest.main()

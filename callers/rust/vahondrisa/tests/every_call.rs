@@ -1,0 +1,65 @@
+//! Each call of the device fails in turn, and each after it; then the store is opened again. The library is one that was built for that, so
+//! `make -C callers test` runs this.
+use std::error::Error;
+use std::path::Path;
+use vahondrisa::{ErrorKind, Result, Store};
+
+/// Keys of 220 bytes split pages soon.
+fn key(turn: u8, k: u8) -> [u8; 220] {
+    let mut key = [0; 220];
+    key[..3].copy_from_slice(&[k.wrapping_mul(37), turn, k]);
+    key
+}
+
+/// Each turn is a transaction of twelve keys; turn 2 is rolled back. `acked` has those that were committed.
+fn life(dir: &Path, acked: &mut Vec<u8>) -> Result<()> {
+    let store = Store::options().frames(8).redo_bytes(200_000).open(dir)?;
+    for turn in 0..6 {
+        let txn = store.begin()?;
+        for k in 0..12 {
+            txn.insert(&key(turn, k), turn.into())?;
+        }
+        if turn == 2 {
+            txn.rollback()?;
+            continue;
+        }
+        txn.commit()?;
+        acked.push(turn);
+        if turn == 1 {
+            store.checkpoint()?;
+        }
+    }
+    store.close()
+}
+
+#[test]
+#[ignore = "over a library whose device fails: make -C callers test"]
+fn every_call_fails_in_turn() {
+    let dir = std::env::temp_dir().join(format!("vahondrisa-every-call-{}", std::process::id()));
+    for n in 1.. {
+        let _ = std::fs::remove_dir_all(&dir);
+        let mut acked = Vec::new();
+        std::env::set_var("VAH_FAIL_AT", n.to_string());
+        let outcome = life(&dir, &mut acked);
+        std::env::remove_var("VAH_FAIL_AT");
+        if let Err(error) = &outcome {
+            assert!(matches!(error.kind(), ErrorKind::Device | ErrorKind::Failed), "{n}: {error}");
+            let source = error.source().and_then(|it| it.downcast_ref::<std::io::Error>());
+            assert_eq!(source.and_then(std::io::Error::raw_os_error), Some(5), "{n}: {error}");
+        }
+        let store = Store::open(&dir).unwrap();
+        let txn = store.begin().unwrap();
+        for turn in 0..6 {
+            let there = (0..12).filter(|k| txn.get(&key(turn, *k)).unwrap() == Some(turn.into())).count();
+            assert!(there == 0 || there == 12 && turn != 2, "{n}: {there} of turn {turn}");
+            assert!(there == 12 || !acked.contains(&turn), "{n}: turn {turn} is lost");
+        }
+        txn.commit().unwrap();
+        store.close().unwrap();
+        if outcome.is_ok() {
+            assert!(n > 20, "{n} calls alone");
+            break;
+        }
+    }
+    std::fs::remove_dir_all(&dir).unwrap();
+}

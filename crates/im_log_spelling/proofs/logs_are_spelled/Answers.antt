@@ -1,0 +1,8 @@
+use Rattle.im_log_spelling.proofs.Gates.{read, spelled}
+use Rattle.im_log_spelling.proofs.logs_are_spelled.Goals as goal
+
+pub returns-clause-read : goal.returns-clause-read
+returns-clause-read c = read c.spellings.ensures.least
+
+pub returns-clause-spelled : goal.returns-clause-spelled
+returns-clause-spelled c = spelled
