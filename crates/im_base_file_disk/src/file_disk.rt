@@ -122,6 +122,13 @@ impl FileDisk {
         }
     }
 
+    /// Whether the last call failed, after which there is no other.
+    pub fn has_failed(&self) -> bool
+        ensures { result ≡ ⟦<FileDisk as Disk>⟧.failed self.now }
+    {
+        self.has_failed
+    }
+
     // What a call came to, which was this one: where it failed, it is the last error, with what the system said.
     fn keep<T: Drop>(
         &mut self,

@@ -11,9 +11,16 @@ const COPY: u128 = IMAGE_SIZE as u128 + 5;
 /// A log that goes on so far after a Checkpoint has little more in it than that Checkpoint.
 const LITTLE: u128 = 4_096;
 
+/// The bytes of a bound that nobody names.
+const USUAL: u64 = 16_777_216;
+
 /// How much longer than the file of pages the log is that an opening may have to redo, of a bound that grows with the file. Each page that is
-/// written after a Checkpoint brings one full copy of itself: so these are less than a quarter of what is logged, however many pages there are.
-const TIMES: u64 = 12;
+/// written after a Checkpoint brings one full copy of itself: so these are a quarter of what is logged, however many pages there are.
+const TIMES: u64 = 7;
+
+/// Of a bound that has grown, twice as many bytes a page as a Checkpoint leaves to be redone: a sixteenth of the bound. In a store that is much larger
+/// than its pool few pages have older changes than that, so little is written for it, and a Checkpoint comes after nearly the whole bound.
+const LEFT: u64 = 3_584;
 
 /// How much log an opening may have to redo, whenever the store stopped: a number of bytes, and with 0 any.
 #[derive(Clone, Copy, Debug, PartialEq, Eq)]
@@ -35,7 +42,7 @@ impl RedoBound {
         }
     }
 
-    /// So many bytes, or twelve times as many as the file of pages has, whichever is more. A number above 0.
+    /// So many bytes, or seven times as many as the file of pages has, whichever is more. A number above 0.
     pub fn growing(bytes: u64) -> RedoBound
         ensures bytes { result.bytes ≡ bytes }
         ensures grows { IsTrue result.grows ↔ (1 ≤ bytes) }
@@ -56,6 +63,21 @@ impl RedoBound {
         }
         let grown = TIMES * PAGE_SIZE as u64 * pages as u64;
         RedoBound::of_bytes(self.bytes.max(grown))
+    }
+
+    /// The bound to half of which the redo is brought by writing pages before a Checkpoint, for a file of so many pages: what it is, or where it has grown
+    /// with the file an eighth of that.
+    pub(crate) fn left(&self, pages: PageNo) -> RedoBound
+        ensures fixed { self.now.grows ≡ false → result.bytes ≡ self.now.bytes }
+        ensures small { 28672 * pages ≤ self.now.bytes → result.bytes ≡ self.now.bytes }
+        ensures grown { IsTrue self.now.grows → self.now.bytes < 28672 * pages → result.bytes ≡ 3584 * pages }
+        ensures grows { result.grows ≡ false }
+    {
+        if self.grows && self.bytes < TIMES * PAGE_SIZE as u64 * pages as u64 {
+            RedoBound::of_bytes(LEFT * pages as u64)
+        } else {
+            RedoBound::of_bytes(self.bytes)
+        }
     }
 
     /// Whether there is a bound.
@@ -80,6 +102,16 @@ impl RedoBound {
         ensures { IsTrue result ↔ (self.now.bytes < 2 * redo_length change end pages) }
     {
         (self.bytes as u128) < 2 * redo_length(change, end, pages)
+    }
+}
+
+impl Default for RedoBound {
+    /// 16 MiB, or seven times as many bytes as the file of pages has, whichever is more.
+    fn default() -> Self
+        ensures bytes { result.bytes ≡ 16777216 }
+        ensures grows { IsTrue result.grows }
+    {
+        RedoBound::growing(USUAL)
     }
 }
 

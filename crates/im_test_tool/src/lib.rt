@@ -7,6 +7,8 @@
 #[cfg(test)]
 mod answered;
 #[cfg(test)]
+mod copies;
+#[cfg(test)]
 mod loaded;
 #[cfg(test)]
 mod looked;

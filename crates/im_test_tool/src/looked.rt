@@ -1,10 +1,13 @@
 //! A look at a store whose opening takes pages, and at one that a stop left with an empty leaf.
 
+use crate::copies::{Copies, copies_in, copies_of, is_whole, scratch};
 use im_base_file_disk::FileDisk;
-use im_engine::Config;
+use im_base_steps::{Reply, Step};
+use im_base_types::{Fault, LONGEST_KEY};
+use im_engine::{Config, Engine};
 use im_engine_upkeep::RedoBound;
 use im_log_gate::FIRST_GATE;
-use im_tool::{Causes, Copies, Manner, check_text, copies_of, stat_text, store_text};
+use im_tool::{Causes, Manner, ScratchDisk, check_text, stat_text, store_text};
 use std::alloc::Global;
 use std::io::{BufReader, Write};
 use std::process::Abort;
@@ -46,32 +49,19 @@ fn fill(rt: &HostRuntime, folder: &str, lines: &[u8]) -> Result<(), Fail> {
     Ok(())
 }
 
-// The files of the store that a folder has.
-fn copies_in(rt: &HostRuntime, folder: &str) -> Result<Copies, Fail> {
-    let mut disk = FileDisk::open_to_read(rt, folder)?;
-    Ok(copies_of(rt.alloc(), &mut disk)?)
-}
-
-// Whether the check of a store finds no damage.
-fn is_whole(alloc: Global, copies: Copies) -> io::Result<bool> {
-    let mut printed = Vec::new(alloc);
-    let status = check_text(alloc, &mut printed, copies)?;
-    Ok(status == 0 && printed.as_slice() == b"ok\n".as_slice())
-}
-
 // The numbers of a store, with the status.
-fn numbers_of(alloc: Global, copies: Copies) -> io::Result<(u8, Vec<u8>)> {
+fn numbers_of(alloc: Global, copies: &Copies) -> Result<(u8, Vec<u8>), Fail> {
     let mut printed = Vec::new(alloc);
-    let status = stat_text(alloc, &mut printed, copies)?;
-    Ok((status, printed))
+    let (status, _disk) = stat_text(alloc, &mut printed, scratch(alloc, copies)?);
+    Ok((status?, printed))
 }
 
-fn has_two_leaves(alloc: Global, copies: Copies) -> io::Result<bool> {
+fn has_two_leaves(alloc: Global, copies: &Copies) -> Result<bool, Fail> {
     let (status, printed) = numbers_of(alloc, copies)?;
     Ok(status == 0 && printed.starts_with(b"entries 16\nheight 2\nleaves 2 fill "))
 }
 
-fn has_empty_leaf(alloc: Global, copies: Copies) -> io::Result<bool> {
+fn has_empty_leaf(alloc: Global, copies: &Copies) -> Result<bool, Fail> {
     let (_status, printed) = numbers_of(alloc, copies)?;
     Ok(
         printed
@@ -88,9 +78,10 @@ fn pages_that_the_opening_takes_are_known(rt: HostRuntime) -> Result<(), Fail> {
     let mut lines = Vec::new(rt.alloc());
     write_lines(&mut lines)?;
     fill(&rt, "im_tool_looked", &lines)?;
-    assert!(rt; is_whole(rt.alloc(), copies_in(&rt, "im_tool_looked")?)?);
-    assert!(rt; has_two_leaves(rt.alloc(), copies_in(&rt, "im_tool_looked")?)?);
+    let copies = copies_in(&rt, "im_tool_looked")?;
     fs::remove_dir_all(&rt, "im_tool_looked")?;
+    assert!(rt; is_whole(rt.alloc(), &copies)?);
+    assert!(rt; has_two_leaves(rt.alloc(), &copies)?);
     Ok(())
 }
 
@@ -151,11 +142,100 @@ fn stop_at_each_gate(rt: &impl Abort, alloc: Global, copies: &Copies) -> Result<
             break;
         };
         gate = next;
-        assert!(rt; is_whole(alloc, cut_at(alloc, copies, gate)?)?, "{gate}");
-        if has_empty_leaf(alloc, cut_at(alloc, copies, gate)?)? {
+        let cut = cut_at(alloc, copies, gate)?;
+        assert!(rt; is_whole(alloc, &cut)?, "{gate}");
+        if has_empty_leaf(alloc, &cut)? {
             emptied = emptied.saturating_add(1);
         }
     }
     assert!(rt; emptied > 0);
+    Ok(())
+}
+
+// The files of a store in memory, with so many keys of 255 bytes, so many committed together.
+fn filled(alloc: Global, count: u64, together: u64) -> Result<Copies, Fail> {
+    let disk = ScratchDisk::new(alloc, None);
+    match Engine::open_or_create(alloc, disk, Config::default()) {
+        Ok(mut engine) => {
+            let put = put_all(alloc, &mut engine, count, together);
+            let mut disk = engine.into_disk();
+            put?;
+            copies_of(alloc, &mut disk)
+        }
+        Err((fault, _disk)) => Err(Fail::from(fault)),
+    }
+}
+
+fn put_all(
+    alloc: Global,
+    engine: &mut Engine<ScratchDisk>,
+    count: u64,
+    together: u64,
+) -> Result<(), Fail> {
+    let mut number = 0;
+    for n in 0..count {
+        if n % together.max(1) == 0 {
+            let Reply::Started(begun) = engine.step(&Step::Begin) else {
+                return Err(Fail::from(Fault::Failed));
+            };
+            number = begun;
+        }
+        let mut key = vec![in alloc; b'z'; LONGEST_KEY]?;
+        key[..8].copy_from_slice(&n.to_be_bytes());
+        let Reply::Inserted = engine.step(&Step::Insert(number, key, n)) else {
+            return Err(Fail::from(Fault::Failed));
+        };
+        if n % together.max(1) == together.saturating_sub(1) {
+            let Reply::Committed = engine.step(&Step::Commit(number)) else {
+                return Err(Fail::from(Fault::Failed));
+            };
+        }
+    }
+    Ok(())
+}
+
+// The files as they are where the gate at this place is closed, and all after it is left.
+fn closed_at(alloc: Global, copies: &Copies, gate: usize) -> Result<Copies, Fail> {
+    let mut log = Vec::from_slice(alloc, &copies.log)?;
+    if let Some(byte) = log.get_mut(gate) {
+        *byte = 0;
+    }
+    let pages = Vec::from_slice(alloc, &copies.pages)?;
+    Ok(Copies { log, pages })
+}
+
+// What the check says of such files.
+fn said_at(alloc: Global, copies: &Copies, gate: usize) -> Result<(u8, Vec<u8>), Fail> {
+    let closed = closed_at(alloc, copies, gate)?;
+    let mut printed = Vec::new(alloc);
+    let (status, _disk) = check_text(alloc, &mut printed, scratch(alloc, &closed)?);
+    Ok((status?, printed))
+}
+
+// The gate before which so many batches stand.
+fn gate_after(log: &[u8], batches: u32) -> usize {
+    let mut gate = FIRST_GATE as usize;
+    for _batch in 0..batches {
+        gate = next_gate(log, gate).unwrap_or(gate);
+    }
+    gate
+}
+
+// A stop within a put of several batches leaves all gates open but the first. A transaction of 240 long keys has more batches than any put.
+static BEHIND: [(u64, u64, u32, u8, &str); 2] = [
+    (6, 1, 2, 0, ", as a stop within a put leaves them\nok\n"),
+    (240, 240, 1, 1, "\n"),
+];
+
+#[test]
+fn batches_that_a_stop_left_are_no_damage(rt: HostRuntime) -> Result<(), Fail> {
+    for (count, together, closed, status, end) in &BEHIND {
+        let copies = filled(rt.alloc(), *count, *together)?;
+        let gate = gate_after(&copies.log, *closed);
+        let (found, printed) = said_at(rt.alloc(), &copies, gate)?;
+        let said = format!(in rt.alloc(); " whole batches behind the closed gate at {gate}{end}")?;
+        assert!(rt; found == *status, "{count}");
+        assert!(rt; printed.ends_with(said.as_bytes()), "{count}");
+    }
     Ok(())
 }

@@ -2,6 +2,7 @@
 
 ghost use Rattle.std.specs.Prelude.{◌≡◌, false};
 
+use crate::copies::{Copies, copies_in, scratch};
 use im_base_disk::Disk;
 use im_base_file_disk::FileDisk;
 use im_base_model_disk::ModelDisk;
@@ -9,7 +10,7 @@ use im_base_types::{Fault, PAGE_SIZE};
 use im_engine::{Config, Engine};
 use im_engine_upkeep::RedoBound;
 use im_log_gate::FIRST_GATE;
-use im_tool::{Causes, Copies, Manner, check_text, copies_of, stat_text, store_text};
+use im_tool::{Causes, Manner, check_text, stat_text, store_text};
 use std::alloc::Global;
 use std::io::{BufReader, Write};
 use std::test::Fail;
@@ -94,11 +95,6 @@ fn make_store(rt: &HostRuntime, folder: &str) -> Result<(), Fail> {
     Ok(())
 }
 
-fn copies_in(rt: &HostRuntime, folder: &str) -> Result<Copies, Fail> {
-    let mut disk = FileDisk::open_to_read(rt, folder)?;
-    Ok(copies_of(rt.alloc(), &mut disk)?)
-}
-
 fn damaged(alloc: Global, copies: &Copies, damage: Damage) -> Result<Copies, Fail> {
     let mut log = Vec::from_slice(alloc, &copies.log)?;
     let mut pages = Vec::from_slice(alloc, &copies.pages)?;
@@ -128,9 +124,10 @@ fn has_part(text: &[u8], part: &str) -> bool {
 fn is_named(alloc: Global, copies: &Copies, damage: Damage, name: &str) -> Result<bool, Fail> {
     let mut printed = Vec::new(alloc);
     let mut numbers = Vec::new(alloc);
-    let check = check_text(alloc, &mut printed, damaged(alloc, copies, damage)?)?;
-    let stat = stat_text(alloc, &mut numbers, damaged(alloc, copies, damage)?)?;
-    Ok(check == 1 && stat == 1 && has_part(&printed, name) && has_part(&numbers, name))
+    let copies = damaged(alloc, copies, damage)?;
+    let (check, _disk) = check_text(alloc, &mut printed, scratch(alloc, &copies)?);
+    let (stat, _disk) = stat_text(alloc, &mut numbers, scratch(alloc, &copies)?);
+    Ok(check? == 1 && stat? == 1 && has_part(&printed, name) && has_part(&numbers, name))
 }
 
 // Whether the opening is refused, or the first look at page 0 is.

@@ -2,18 +2,19 @@
 
 ghost use Rattle.std.specs.Prelude.{◌≤◌, IfOk};
 
-use crate::recovered::{Copies, log_of, opened, pages_of};
-use im_base_model_disk::ModelDisk;
-use im_base_types::{Fault, PAGE_ROOM, PAGE_SIZE, PageNo};
-use im_engine::Engine;
+use crate::recovered::{opened, write_changed};
+use crate::scratch_disk::ScratchDisk;
+use crate::store::print_refused_opening;
+use im_base_types::{Fault, FileId, PAGE_ROOM};
 use im_tool_look::{
-    Compared, LogDamage, Survey, TreeSurvey, batches_behind, check_pages, compare_pages, read_log,
+    BatchesBehind, Compared, Files, LogDamage, Survey, TreeSurvey, batches_behind, check_pages,
+    compare_pages, read_log,
 };
 use std::alloc::{AllocError, Global};
 use std::io;
 use std::io::Write;
 
-// What is broken of a store. `Memory` is told of none: what looked at it had too little.
+// What is broken of a store. Of a fault that is none of the store's it is told what kept it from being looked at.
 #[derive(Drop)]
 enum Broken {
     Log(LogDamage),
@@ -21,122 +22,127 @@ enum Broken {
     Opening(Fault),
 }
 
+// What is told of the files as they stand.
+#[derive(Drop)]
+struct Surveyed {
+    said: Survey,
+    // How long the file of the log is.
+    file: u64,
+    behind: Option<BatchesBehind>,
+    compared: Compared,
+}
+
 // What is told of a whole store.
 #[derive(Drop)]
 struct Looked {
-    said: Survey,
-    compared: Compared,
+    surveyed: Surveyed,
     tree: TreeSurvey,
 }
 
-// What the log says, how the pages go with it, and what the tree and the free list are behind an opening.
-fn look(alloc: Global, copies: Copies) -> Result<Looked, Broken> {
-    match read_log(alloc, &copies.log) {
-        Ok(said) => look_behind(alloc, said, copies),
-        Err(damage) => Err(Broken::Log(damage)),
-    }
+// What the log says, how the pages go with it, and what the tree and the free list are after an opening. The disk is handed back.
+fn look(alloc: Global, disk: ScratchDisk) -> (Result<Looked, Broken>, ScratchDisk) {
+    let mut disk = disk;
+    let surveyed = match read_files(alloc, &mut disk) {
+        Ok(surveyed) => surveyed,
+        Err(broken) => return (Err(broken), disk),
+    };
+    let (tree, disk) = tree_behind(alloc, disk);
+    let looked = match tree {
+        Ok(tree) => Ok(Looked { surveyed, tree }),
+        Err(broken) => Err(broken),
+    };
+    (looked, disk)
 }
 
-// The same of files whose log says this.
-fn look_behind(alloc: Global, said: Survey, copies: Copies) -> Result<Looked, Broken> {
-    let compared = match compare_pages(alloc, &said, &copies.pages) {
-        Ok(compared) => compared,
-        Err(fault) => return Err(Broken::Opening(fault)),
-    };
+// What the files say as they stand.
+fn read_files(alloc: Global, disk: &mut ScratchDisk) -> Result<Surveyed, Broken> {
+    let said = read_log(alloc, disk).map_err(Broken::Log)?;
+    let behind = batches_behind(alloc, disk, said.end).map_err(Broken::Log)?;
+    let file = disk.length(FileId::Log).map_err(Broken::Opening)?;
+    let compared = compare_pages(alloc, &said, disk).map_err(Broken::Opening)?;
     if !compared.damages.is_empty() {
         return Err(Broken::Pages(compared));
     }
-    match tree_behind(alloc, &said, copies) {
-        Ok(tree) => Ok(Looked {
-            said,
-            compared,
-            tree,
-        }),
-        Err(broken) => Err(broken),
-    }
-}
-
-fn tree_behind(alloc: Global, said: &Survey, copies: Copies) -> Result<TreeSurvey, Broken> {
-    let in_file = (copies.pages.len() / PAGE_SIZE) as u64;
-    let most = in_file.saturating_add(said.records).saturating_add(2);
-    let greatest = u64::from(said.greatest_page);
-    if greatest > most {
+    // Each record makes a page at most.
+    let most = compared
+        .pages
+        .saturating_add(said.records)
+        .saturating_add(2);
+    if u64::from(said.greatest_page) > most {
         return Err(Broken::Log(LogDamage::NoPage(said.greatest_page)));
     }
-    let count = greatest.max(in_file).saturating_add(1);
-    match opened(alloc, copies) {
-        Ok(mut engine) => tree_of(alloc, said, &mut engine, count),
-        Err(fault) => Err(Broken::Opening(fault)),
-    }
+    Ok(Surveyed {
+        said,
+        file,
+        behind,
+        compared,
+    })
 }
 
-// The tree in the pages below a number, as the opening left them.
-fn tree_of(
+// The tree in the pages as an opening leaves them.
+fn tree_behind(alloc: Global, disk: ScratchDisk) -> (Result<TreeSurvey, Broken>, ScratchDisk) {
+    let mut engine = match opened(alloc, disk) {
+        Ok(engine) => engine,
+        Err((fault, disk)) => return (Err(Broken::Opening(fault)), disk),
+    };
+    let written = write_changed(&mut engine);
+    let mut disk = engine.into_disk();
+    let tree = match written {
+        Ok(()) => check_pages(alloc, &mut disk),
+        Err(fault) => Err(fault),
+    };
+    (tree.map_err(Broken::Opening), disk)
+}
+
+/// Checks a store: the records of its log, the file of pages beside them, the whole batches after the log's end, and the tree and the free list as an opening
+/// finds them. Writes `ok`, or a line for each rule that does not hold, and answers the exit status, 0 or 1, and the disk. Whole batches after the log's end
+/// are told, and are no damage as long as one put can have left them.
+pub fn check_text<W: Write>(
     alloc: Global,
-    said: &Survey,
-    engine: &mut Engine<ModelDisk>,
-    count: u64,
-) -> Result<TreeSurvey, Broken> {
-    let named = if said.analysed.losers.is_empty() {
-        0
-    } else {
-        count_named(alloc, engine)?
-    };
-    let Ok(count) = PageNo::try_from(count.max(named)) else {
-        return Err(Broken::Log(LogDamage::NoPage(said.greatest_page)));
-    };
-    let pages = pages_of(alloc, engine, count).map_err(Broken::Opening)?;
-    check_pages(alloc, &pages).map_err(|_| Broken::Opening(Fault::Memory))
-}
-
-// How many pages the log behind an opening names: what was unfinished is taken back, which may have taken pages that nothing else names.
-fn count_named(alloc: Global, engine: &Engine<ModelDisk>) -> Result<u64, Broken> {
-    let Ok(log) = log_of(alloc, engine) else {
-        return Err(Broken::Opening(Fault::Memory));
-    };
-    match read_log(alloc, &log) {
-        Ok(behind) => Ok(u64::from(behind.greatest_page).saturating_add(1)),
-        Err(damage) => Err(Broken::Log(damage)),
-    }
-}
-
-/// Checks a store: the records of its log, the file of pages beside them, the whole batches behind the log's end, and the tree and the free list as an opening
-/// finds them. Writes `ok`, or a line for each rule that does not hold, and answers the exit status, 0 or 1.
-pub fn check_text<W: Write>(alloc: Global, writer: &mut W, copies: Copies) -> io::Result<u8>
-    ensures { IfOk result (λ status. status ≤ 1) }
-{
-    let log = clone_of(alloc, &copies.log)?;
-    match look(alloc, copies) {
-        Ok(looked) => whole_text(writer, &log, &looked.said, &looked.tree),
-        Err(broken) => broken_text(writer, &broken),
-    }
-}
-
-// A line for each thing that is broken behind an opening, or `ok`. It answers the exit status.
-fn whole_text<W: Write>(
     writer: &mut W,
-    log: &[u8],
-    said: &Survey,
-    tree: &TreeSurvey,
-) -> io::Result<u8>
+    disk: ScratchDisk,
+) -> (io::Result<u8>, ScratchDisk)
+    ensures { IfOk result.0 (λ status. status ≤ 1) }
+{
+    let (looked, disk) = look(alloc, disk);
+    let status = match looked {
+        Ok(looked) => whole_text(writer, &looked.surveyed, &looked.tree),
+        Err(broken) => broken_text(writer, &broken),
+    };
+    (status, disk)
+}
+
+// A line for each thing that is broken, or `ok`. It answers the exit status.
+fn whole_text<W: Write>(writer: &mut W, surveyed: &Surveyed, tree: &TreeSurvey) -> io::Result<u8>
     ensures { IfOk result (λ status. status ≤ 1) }
 {
-    let behind = batches_behind(log, said.end);
-    if behind > 0 {
-        writeln!(
-            writer,
-            "log: {behind} whole batches behind the closed gate at {}",
-            said.end
-        )?;
-    }
+    let is_cut = behind_text(writer, surveyed)?;
     for damage in &tree.damages {
         writeln!(writer, "{damage}")?;
     }
-    if behind > 0 || !tree.damages.is_empty() {
+    if is_cut || !tree.damages.is_empty() {
         return Ok(1);
     }
     writeln!(writer, "ok")?;
     Ok(0)
+}
+
+// What stands after the log's end, and whether that is damage.
+fn behind_text<W: Write>(writer: &mut W, surveyed: &Surveyed) -> io::Result<bool> {
+    let Some(behind) = surveyed.behind else {
+        return Ok(false);
+    };
+    write!(
+        writer,
+        "log: {} whole batches behind the closed gate at {}",
+        behind.batches, surveyed.said.end
+    )?;
+    if behind.are_damage() {
+        writeln!(writer)?;
+        return Ok(true);
+    }
+    writeln!(writer, ", as a stop within a put leaves them")?;
+    Ok(false)
 }
 
 // What is broken. It answers the exit status.
@@ -144,9 +150,11 @@ fn broken_text<W: Write>(writer: &mut W, broken: &Broken) -> io::Result<u8>
     ensures { IfOk result (λ status. status ≤ 1) }
 {
     match broken {
-        Broken::Log(LogDamage::Memory) | Broken::Opening(Fault::Memory) => {
+        Broken::Log(LogDamage::Unread(Fault::Memory)) | Broken::Opening(Fault::Memory) => {
             return Err(io::Error::from(AllocError));
         }
+        Broken::Log(LogDamage::Unread(fault)) => print_refused_opening(writer, *fault)?,
+        Broken::Opening(Fault::Device) => print_refused_opening(writer, Fault::Device)?,
         Broken::Log(damage) => writeln!(writer, "{damage}")?,
         Broken::Pages(compared) => {
             for damage in &compared.damages {
@@ -163,20 +171,29 @@ fn broken_text<W: Write>(writer: &mut W, broken: &Broken) -> io::Result<u8>
     Ok(1)
 }
 
-/// Writes what a store has, in numbers, and answers the exit status, 0, or 1 where it is broken.
-pub fn stat_text<W: Write>(alloc: Global, writer: &mut W, copies: Copies) -> io::Result<u8>
+/// Writes what a store has, in numbers, and answers the exit status, 0, or 1 where it is broken, and the disk.
+pub fn stat_text<W: Write>(
+    alloc: Global,
+    writer: &mut W,
+    disk: ScratchDisk,
+) -> (io::Result<u8>, ScratchDisk)
+    ensures { IfOk result.0 (λ status. status ≤ 1) }
+{
+    let (looked, disk) = look(alloc, disk);
+    let status = match looked {
+        Ok(looked) => numbers_text(writer, &looked),
+        Err(broken) => broken_text(writer, &broken),
+    };
+    (status, disk)
+}
+
+fn numbers_text<W: Write>(writer: &mut W, looked: &Looked) -> io::Result<u8>
     ensures { IfOk result (λ status. status ≤ 1) }
 {
-    let file = copies.log.len();
-    match look(alloc, copies) {
-        Ok(looked) => {
-            tree_text(writer, &looked.tree)?;
-            survey_text(writer, &looked.said, file)?;
-            compared_text(writer, &looked.compared)?;
-            Ok(0)
-        }
-        Err(broken) => broken_text(writer, &broken),
-    }
+    tree_text(writer, &looked.tree)?;
+    survey_text(writer, &looked.surveyed.said, looked.surveyed.file)?;
+    compared_text(writer, &looked.surveyed.compared)?;
+    Ok(0)
 }
 
 fn tree_text<W: Write>(writer: &mut W, tree: &TreeSurvey) -> io::Result<()> {
@@ -200,7 +217,7 @@ fn tree_text<W: Write>(writer: &mut W, tree: &TreeSurvey) -> io::Result<()> {
     writeln!(writer, "free pages {}", tree.free)
 }
 
-fn survey_text<W: Write>(writer: &mut W, said: &Survey, file: usize) -> io::Result<()> {
+fn survey_text<W: Write>(writer: &mut W, said: &Survey, file: u64) -> io::Result<()> {
     writeln!(writer, "log bytes {} of {file} in the file", said.end)?;
     writeln!(
         writer,
@@ -229,8 +246,4 @@ fn compared_text<W: Write>(writer: &mut W, compared: &Compared) -> io::Result<()
 fn fill(bytes: u64, pages: u64) -> u64 {
     let room = pages.saturating_mul(PAGE_ROOM as u64).max(1);
     bytes.saturating_mul(100) / room
-}
-
-fn clone_of(alloc: Global, bytes: &[u8]) -> io::Result<Vec<u8>> {
-    Ok(Vec::from_slice(alloc, bytes)?)
 }

@@ -9,9 +9,6 @@ use im_engine::{BufferSize, Config};
 use im_engine_upkeep::RedoBound;
 use std::alloc::Global;
 
-/// The MiB of log that an opening of a store in a folder redoes at most, where the words name no number.
-const CHECKPOINT: u64 = 16;
-
 /// The most MiB that may be named.
 const MOST_CHECKPOINT: u64 = 1_048_576;
 
@@ -70,15 +67,14 @@ impl<'a> Options<'a> {
         config
     }
 
-    /// How much log an opening may have to redo: 16 MiB for a folder, where the words say nothing else. A store in memory is never opened
-    /// again, and takes no Checkpoint then.
+    /// How much log an opening may have to redo: as many MiB as the words say. Where they say nothing, 16 MiB for a folder, or seven times as much as the
+    /// file of pages has, whichever is more. A store in memory is never opened again, and takes no Checkpoint then.
     pub(crate) fn redo_bound(&self) -> RedoBound {
-        let mib = match self.checkpoint {
-            Some(mib) => mib,
-            None if self.dir.is_some() => CHECKPOINT,
-            None => 0,
-        };
-        RedoBound::of_bytes(mib.min(MOST_CHECKPOINT) * MIB)
+        match self.checkpoint {
+            Some(mib) => RedoBound::of_bytes(mib.min(MOST_CHECKPOINT) * MIB),
+            None if self.dir.is_some() => RedoBound::default(),
+            None => RedoBound::of_bytes(0),
+        }
     }
 }
 
@@ -150,7 +146,7 @@ fn with_numbers<'a>(alloc: Global, command: Command<'a>) -> Result<Command<'a>, 
                 .long("checkpoint")
                 .value_parser(ValueParser::unsigned(0, MOST_CHECKPOINT))
                 .help(
-                    "MiB of log that an opening redoes at most, also after a kill, 0 to 1048576; smaller ones open sooner and write more, 0 takes no Checkpoint [16 with DIR, 0 without]",
+                    "MiB of log that an opening redoes at most, also after a kill, 0 to 1048576; smaller ones open sooner and write more, 0 takes no Checkpoint [with DIR 16, or 7 times the file of pages, 0 without]",
                 ),
         )?;
     Ok(command)

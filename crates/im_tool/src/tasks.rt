@@ -2,19 +2,20 @@
 
 ghost use Rattle.std.specs.Prelude.{◌≤◌, IfOk};
 
-use crate::causes::Causes;
+use crate::causes::{Cause, Causes};
 use crate::entry_text::{Form, dump_text};
 use crate::imstore::{tell, tell_unopened};
 use crate::line_input::LineInput;
 use crate::look::{check_text, stat_text};
 use crate::options::{Options, Task};
 use crate::progress::Progress;
-use crate::recovered::{Copies, copies_of, entries_of};
+use crate::recovered::entries_of;
+use crate::scratch_disk::ScratchDisk;
 use crate::store::print_refused_opening;
 use crate::transfer::{Loaded, load_text};
 use im_base_file_disk::{FileDisk, OpenError};
-use im_base_types::Fault;
-use im_tool_look::{log_text, read_log};
+use im_base_types::{Fault, Key, Rid};
+use im_tool_look::{LogDamage, log_text, read_log};
 use std::fmt::{Display, Formatter};
 use std::io::{BufReader, BufWriter, IsTerminal, Write};
 use std::{fmt, io};
@@ -35,12 +36,13 @@ fn look_in<W: Write>(rt: &HostRuntime, dir: &str, task: Task, writer: &mut W) ->
     ensures { IfOk result (λ status. status ≤ 1) }
 {
     match FileDisk::open_to_read(rt, dir) {
-        Ok(mut disk) => {
-            let copies = copies_of(rt.alloc(), &mut disk);
-            if let Some(error) = disk.last_error() {
+        Ok(files) => {
+            let disk = ScratchDisk::new(rt.alloc(), Some(files));
+            let (status, disk) = look_at(rt, dir, task, writer, disk);
+            if let Some(error) = disk.cause() {
                 tell(rt, dir, error);
             }
-            look_at(rt, dir, task, writer, copies)
+            status
         }
         Err(error) => {
             print_refused_opening(writer, error.fault())?;
@@ -50,26 +52,22 @@ fn look_in<W: Write>(rt: &HostRuntime, dir: &str, task: Task, writer: &mut W) ->
     }
 }
 
-// The same of the files that were read, if they were.
+// The same over its files.
 fn look_at<W: Write>(
     rt: &HostRuntime,
     dir: &str,
     task: Task,
     writer: &mut W,
-    copies: Result<Copies, Fault>,
-) -> io::Result<u8>
-    ensures { IfOk result (λ status. status ≤ 1) }
+    disk: ScratchDisk,
+) -> (io::Result<u8>, ScratchDisk)
+    ensures { IfOk result.0 (λ status. status ≤ 1) }
 {
-    let copies = match copies {
-        Ok(copies) => copies,
-        Err(fault) => return refused(rt, dir, writer, fault),
-    };
     match task {
-        Task::Check => check_text(rt.alloc(), writer, copies),
-        Task::Stat => stat_text(rt.alloc(), writer, copies),
-        Task::Log => print_log(rt, dir, writer, &copies),
-        Task::Dump(form) => dump(rt, dir, writer, form, copies),
-        Task::Steps | Task::Load => Ok(0),
+        Task::Check => check_text(rt.alloc(), writer, disk),
+        Task::Stat => stat_text(rt.alloc(), writer, disk),
+        Task::Log => print_log(rt, dir, writer, disk),
+        Task::Dump(form) => dump(rt, dir, writer, form, disk),
+        Task::Steps | Task::Load => (Ok(0), disk),
     }
 }
 
@@ -91,18 +89,16 @@ fn refused<W: Write>(rt: &HostRuntime, dir: &str, writer: &mut W, fault: Fault) 
 
 /// Says on standard error what of a store is damaged that was refused as none. Where that cannot be told, nothing is said.
 pub(crate) fn tell_damage(rt: &HostRuntime, dir: &str) {
-    let Ok(mut disk) = FileDisk::open_to_read(rt, dir) else {
+    let Ok(files) = FileDisk::open_to_read(rt, dir) else {
         return;
     };
-    let Ok(copies) = copies_of(rt.alloc(), &mut disk) else {
-        return;
-    };
-    let _ = check_text(rt.alloc(), &mut rt.stderr(), copies);
+    let disk = ScratchDisk::new(rt.alloc(), Some(files));
+    let _ = check_text(rt.alloc(), &mut rt.stderr(), disk);
 }
 
 // Says on standard error how many transactions a dump leaves out.
-fn tell_left_out(rt: &HostRuntime, dir: &str, copies: &Copies) {
-    if let Ok(said) = read_log(rt.alloc(), &copies.log) {
+fn tell_left_out(rt: &HostRuntime, dir: &str, disk: &mut ScratchDisk) {
+    if let Ok(said) = read_log(rt.alloc(), disk) {
         let losers = said.analysed.losers.len();
         if losers > 0 {
             tell(
@@ -136,11 +132,25 @@ fn print_log<W: Write>(
     rt: &HostRuntime,
     dir: &str,
     writer: &mut W,
-    copies: &Copies,
+    disk: ScratchDisk,
+) -> (io::Result<u8>, ScratchDisk)
+    ensures { IfOk result.0 (λ status. status ≤ 1) }
+{
+    let mut disk = disk;
+    let printed = log_text(rt.alloc(), writer, &mut disk);
+    (end_log(rt, dir, writer, printed), disk)
+}
+
+// Says at which damage the records end. It answers the exit status.
+fn end_log<W: Write>(
+    rt: &HostRuntime,
+    dir: &str,
+    writer: &mut W,
+    printed: io::Result<Result<(), LogDamage>>,
 ) -> io::Result<u8>
     ensures { IfOk result (λ status. status ≤ 1) }
 {
-    match log_text(rt.alloc(), writer, &copies.log)? {
+    match printed? {
         Ok(()) => Ok(0),
         Err(damage) => {
             writer.flush()?;
@@ -155,23 +165,36 @@ fn dump<W: Write>(
     dir: &str,
     writer: &mut W,
     form: Form,
-    copies: Copies,
-) -> io::Result<u8>
-    ensures { IfOk result (λ status. status ≤ 1) }
+    disk: ScratchDisk,
+) -> (io::Result<u8>, ScratchDisk)
+    ensures { IfOk result.0 (λ status. status ≤ 1) }
 {
-    tell_left_out(rt, dir, &copies);
+    let mut disk = disk;
+    tell_left_out(rt, dir, &mut disk);
     let mut progress = Progress {
         writer: rt.stderr(),
         is_shown: rt.stderr().is_terminal() && !rt.stdout().is_terminal(),
     };
     progress.say("opening a copy of the store");
-    match entries_of(rt.alloc(), copies) {
-        Ok(entries) => {
-            dump_text(rt.alloc(), writer, form, &entries, &mut progress)?;
-            Ok(0)
-        }
+    let (entries, disk) = entries_of(rt.alloc(), disk);
+    let status = match entries {
+        Ok(entries) => dumped(rt, writer, form, &entries, &mut progress),
         Err(fault) => refused(rt, dir, writer, fault),
-    }
+    };
+    (status, disk)
+}
+
+fn dumped<W: Write, P: Write>(
+    rt: &HostRuntime,
+    writer: &mut W,
+    form: Form,
+    entries: &[(Key, Rid)],
+    progress: &mut Progress<P>,
+) -> io::Result<u8>
+    ensures { IfOk result (λ status. status ≤ 1) }
+{
+    dump_text(rt.alloc(), writer, form, entries, progress)?;
+    Ok(0)
 }
 
 /// Loads the entries that standard input has into the store of a folder. It answers the exit status: 0, 1 where the opening was

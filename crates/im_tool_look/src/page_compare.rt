@@ -1,8 +1,9 @@
 //! The file of pages beside the log: whether each page is as a store leaves it under this log.
 
+use crate::files::{Files, Piece};
 use crate::log_bytes::Survey;
 use crate::page_damage::PageDamage;
-use im_base_types::{Fault, Lsn, PAGE_SIZE, PageNo};
+use im_base_types::{Fault, FileId, Lsn, PAGE_SIZE, PageNo};
 use im_page::Page;
 use im_restart_analysis::LastChanges;
 use std::alloc::Global;
@@ -39,11 +40,15 @@ impl Compared {
     }
 }
 
-/// Compares the file of pages with the log. Refused `Memory`.
-pub fn compare_pages(alloc: Global, said: &Survey, pages: &[u8]) -> Result<Compared, Fault> {
-    let whole = pages.len() / PAGE_SIZE;
+/// Compares the file of pages with the log. Refused `Memory` or `Device`.
+pub fn compare_pages<F: Files>(
+    alloc: Global,
+    said: &Survey,
+    files: &mut F,
+) -> Result<Compared, Fault> {
+    let whole = files.length(FileId::Pages)? / PAGE_SIZE as u64;
     let mut compared = Compared {
-        pages: whole as u64,
+        pages: whole,
         with_synced: 0,
         copied: 0,
         damages: Vec::new(alloc),
@@ -51,10 +56,15 @@ pub fn compare_pages(alloc: Global, said: &Survey, pages: &[u8]) -> Result<Compa
     };
     let copies = &said.analysed.copies;
     lengths(&mut compared, &said.last, copies, whole)?;
-    let mut number = 0;
-    for bytes in pages.chunks_exact(PAGE_SIZE) {
-        compare(&mut compared, said, number, bytes)?;
-        number = number.saturating_add(1);
+    let mut piece = Piece::new(alloc, FileId::Pages);
+    let mut place = 0u64;
+    for number in 0..PageNo::MAX {
+        if u64::from(number) >= whole {
+            break;
+        }
+        piece.hold(files, place, PAGE_SIZE)?;
+        compare(&mut compared, said, number, piece.held(place, PAGE_SIZE))?;
+        place = place.saturating_add(PAGE_SIZE as u64);
     }
     Ok(compared)
 }
@@ -64,7 +74,7 @@ fn lengths(
     compared: &mut Compared,
     last: &LastChanges,
     copies: &BTreeMap<PageNo, Lsn>,
-    whole: usize,
+    whole: u64,
 ) -> Result<(), Fault> {
     let mut greatest = None;
     for (page, _) in &last.lsns {
@@ -73,12 +83,12 @@ fn lengths(
         }
     }
     if let Some(page) = greatest {
-        if page as usize >= whole {
-            compared.note(PageDamage::Short(whole as u64, page))?;
+        if u64::from(page) >= whole {
+            compared.note(PageDamage::Short(whole, page))?;
         }
     }
-    if whole as u64 > last.named.max(2) {
-        compared.note(PageDamage::Long(whole as u64, last.named))?;
+    if whole > last.named.max(2) {
+        compared.note(PageDamage::Long(whole, last.named))?;
     }
     Ok(())
 }
@@ -90,7 +100,7 @@ fn compare(
     number: PageNo,
     bytes: &[u8],
 ) -> Result<(), Fault> {
-    let end = said.end as u64;
+    let end = said.end;
     let is_copied = said.analysed.copies.get(&number).is_some();
     if is_copied {
         compared.copied = compared.copied.saturating_add(1);

@@ -1,8 +1,10 @@
 //! The records of a log as text.
 
+use crate::files::Files;
 use crate::key_notation::write_key;
-use crate::log_bytes::{first_gate, is_made, next_gate, open_batch};
+use crate::log_bytes::{LogPiece, first_record, next_gate, place_in};
 use crate::log_damage::LogDamage;
+use im_base_types::Lsn;
 use im_log_record::{Kind, Record, decode_front};
 use std::alloc::Global;
 use std::io;
@@ -10,28 +12,28 @@ use std::io::Write;
 
 /// Writes a line for each record: its LSN, kind, transaction, prev, undo_next and page, and of a key record the key and its row
 /// id. Answers the damage that it ended at, if any.
-pub fn log_text<W: Write>(
+pub fn log_text<F: Files, W: Write>(
     alloc: Global,
     writer: &mut W,
-    log: &[u8],
+    files: &mut F,
 ) -> io::Result<Result<(), LogDamage>> {
-    if !is_made(log) {
-        return Ok(Ok(()));
-    }
-    let mut gate = match first_gate(log) {
-        Ok(gate) => gate,
+    let mut log = LogPiece::new(alloc);
+    let mut gate = match log.first_gate(files) {
+        Ok(Some(gate)) => gate,
+        Ok(None) => return Ok(Ok(())),
         Err(damage) => return Ok(Err(damage)),
     };
-    for _count in 0..log.len() {
-        let records = match open_batch(log, gate) {
-            Ok(Some(records)) => records,
+    for _count in 0..u64::MAX {
+        let size = match log.open_batch(files, gate) {
+            Ok(Some(size)) => size,
             Ok(None) => return Ok(Ok(())),
             Err(damage) => return Ok(Err(damage)),
         };
-        if let Err(damage) = batch_text(alloc, writer, gate.saturating_add(5), records)? {
+        let records = log.records(gate, size);
+        if let Err(damage) = batch_text(alloc, writer, first_record(gate), records)? {
             return Ok(Err(damage));
         }
-        gate = next_gate(gate, records);
+        gate = next_gate(gate, size);
     }
     Ok(Ok(()))
 }
@@ -39,7 +41,7 @@ pub fn log_text<W: Write>(
 fn batch_text<W: Write>(
     alloc: Global,
     writer: &mut W,
-    lsn: usize,
+    lsn: Lsn,
     records: &[u8],
 ) -> io::Result<Result<(), LogDamage>> {
     let mut left = records;
@@ -47,7 +49,7 @@ fn batch_text<W: Write>(
         if left.is_empty() {
             break;
         }
-        let at = lsn.saturating_add(records.len() - left.len().min(records.len()));
+        let at = place_in(lsn, records, left);
         let Ok((record, rest)) = decode_front(left) else {
             return Ok(Err(LogDamage::NoRecord(at)));
         };
@@ -60,7 +62,7 @@ fn batch_text<W: Write>(
 fn record_text<W: Write>(
     alloc: Global,
     writer: &mut W,
-    lsn: usize,
+    lsn: Lsn,
     record: &Record,
 ) -> io::Result<()> {
     let kind = kind_word(record.kind());

@@ -1,7 +1,8 @@
 //! The tree and the free list of a store, page by page.
 
+use crate::files::Files;
 use crate::tree_damage::TreeDamage;
-use im_base_types::{Fault, Key, PAGE_SIZE, PageKind, PageNo, compare};
+use im_base_types::{Fault, FileId, Key, PAGE_SIZE, PageKind, PageNo, compare};
 use im_page::Page;
 use std::alloc::Global;
 use std::cmp::Ordering;
@@ -31,17 +32,46 @@ struct Place {
     high: Option<Key>,
 }
 
+// The pages of a file, each read as it is asked for.
 #[derive(Drop)]
-struct Walk<'a> {
+struct Pages {
+    // The whole pages of the file.
+    whole: u64,
+    // Room for one.
+    room: Vec<u8>,
+}
+
+impl Pages {
+    fn of<F: Files>(alloc: Global, files: &mut F) -> Result<Pages, Fault> {
+        Ok(Pages {
+            whole: files.length(FileId::Pages)? / PAGE_SIZE as u64,
+            room: vec![in alloc; 0; PAGE_SIZE].map_err(|_| Fault::Memory)?,
+        })
+    }
+
+    // A page of the file; past its end the initial one. None where its bytes are no page.
+    fn page<F: Files>(&mut self, files: &mut F, number: PageNo) -> Result<Option<Page>, Fault> {
+        if u64::from(number) >= self.whole {
+            return Ok(Some(Page::initial(number)));
+        }
+        let place = u64::from(number) * PAGE_SIZE as u64;
+        files.fill(FileId::Pages, place, &mut self.room)?;
+        Ok(Page::read(&self.room).ok())
+    }
+}
+
+#[derive(Drop)]
+struct Walk {
     alloc: Global,
-    pages: &'a [u8],
+    pages: Pages,
     count: PageNo,
     seen: Vec<bool>,
     survey: TreeSurvey,
 }
 
-/// Checks all pages of a store. Refused `Memory`.
-pub fn check_pages(alloc: Global, pages: &[u8]) -> Result<TreeSurvey, Fault> {
+/// Checks all pages of a store. Refused `Memory` or `Device`.
+pub fn check_pages<F: Files>(alloc: Global, files: &mut F) -> Result<TreeSurvey, Fault> {
+    let mut pages = Pages::of(alloc, files)?;
     let mut survey = TreeSurvey {
         height: 0,
         leaves: 0,
@@ -53,7 +83,7 @@ pub fn check_pages(alloc: Global, pages: &[u8]) -> Result<TreeSurvey, Fault> {
         inner_bytes: 0,
         damages: Vec::new(alloc),
     };
-    let Some(meta) = page_of(pages, 0) else {
+    let Some(meta) = pages.page(files, 0)? else {
         push(&mut survey.damages, TreeDamage::NoPage(0))?;
         return Ok(survey);
     };
@@ -62,8 +92,8 @@ pub fn check_pages(alloc: Global, pages: &[u8]) -> Result<TreeSurvey, Fault> {
         return Ok(survey);
     }
     let count = meta.leftmost();
-    let places = (pages.len() / PAGE_SIZE).max(2);
-    if count as usize > places {
+    let places = pages.whole.max(2);
+    if u64::from(count) > places {
         push(&mut survey.damages, TreeDamage::PastCount(count))?;
         return Ok(survey);
     }
@@ -71,24 +101,14 @@ pub fn check_pages(alloc: Global, pages: &[u8]) -> Result<TreeSurvey, Fault> {
         alloc,
         pages,
         count,
-        seen: vec![in alloc; false; places].map_err(|_| Fault::Memory)?,
+        seen: vec![in alloc; false; count as usize].map_err(|_| Fault::Memory)?,
         survey,
     };
-    walk.levels()?;
-    walk.free_list(meta.next(), meta.prev())?;
+    walk.levels(files)?;
+    walk.free_list(files, meta.next(), meta.prev())?;
     walk.lost()?;
     let Walk { survey, .. } = walk;
     Ok(survey)
-}
-
-// A page of the file; past its end the initial one. None where its bytes are no page.
-fn page_of(pages: &[u8], number: PageNo) -> Option<Page> {
-    let from = (number as usize).checked_mul(PAGE_SIZE)?;
-    let to = from.checked_add(PAGE_SIZE)?;
-    match pages.get(from..to) {
-        Some(bytes) => Page::read(bytes).ok(),
-        None => Some(Page::initial(number)),
-    }
 }
 
 fn push<T: Drop>(list: &mut Vec<T>, item: T) -> Result<(), Fault> {
@@ -115,7 +135,7 @@ fn is_between(key: &[u8], low: &Option<Key>, high: &Option<Key>) -> bool {
     is_above && is_below
 }
 
-impl<'a> Walk<'a> {
+impl Walk {
     fn note(&mut self, damage: TreeDamage) -> Result<(), Fault> {
         push(&mut self.survey.damages, damage)
     }
@@ -141,8 +161,8 @@ impl<'a> Walk<'a> {
     }
 
     // Each level of the tree, from the root down.
-    fn levels(&mut self) -> Result<(), Fault> {
-        let Some(root) = page_of(self.pages, ROOT) else {
+    fn levels<F: Files>(&mut self, files: &mut F) -> Result<(), Fault> {
+        let Some(root) = self.pages.page(files, ROOT)? else {
             return self.note(TreeDamage::NoPage(ROOT));
         };
         let top = root.level();
@@ -159,10 +179,10 @@ impl<'a> Walk<'a> {
         for depth in 0..=top {
             let mut below = Vec::new(self.alloc);
             for place in &row {
-                self.look(place, top.saturating_sub(depth), &mut below)?;
+                self.look(files, place, top.saturating_sub(depth), &mut below)?;
             }
             if depth == top {
-                self.chain(&row)?;
+                self.chain(files, &row)?;
             }
             row = below;
         }
@@ -170,12 +190,18 @@ impl<'a> Walk<'a> {
     }
 
     // A page of a level, and its children.
-    fn look(&mut self, place: &Place, level: u8, below: &mut Vec<Place>) -> Result<(), Fault> {
+    fn look<F: Files>(
+        &mut self,
+        files: &mut F,
+        place: &Place,
+        level: u8,
+        below: &mut Vec<Place>,
+    ) -> Result<(), Fault> {
         let number = place.page;
         if !self.meet(number)? {
             return Ok(());
         }
-        let Some(page) = page_of(self.pages, number) else {
+        let Some(page) = self.pages.page(files, number)? else {
             return self.note(TreeDamage::NoPage(number));
         };
         let kind = if level == 0 {
@@ -262,9 +288,9 @@ impl<'a> Walk<'a> {
     }
 
     // The neighbours of the leaves.
-    fn chain(&mut self, row: &[Place]) -> Result<(), Fault> {
+    fn chain<F: Files>(&mut self, files: &mut F, row: &[Place]) -> Result<(), Fault> {
         for (i, place) in row.iter().enumerate() {
-            let Some(page) = page_of(self.pages, place.page) else {
+            let Some(page) = self.pages.page(files, place.page)? else {
                 continue;
             };
             let before = match row.get(i.wrapping_sub(1)) {
@@ -282,13 +308,18 @@ impl<'a> Walk<'a> {
         Ok(())
     }
 
-    fn free_list(&mut self, first: PageNo, count: PageNo) -> Result<(), Fault> {
+    fn free_list<F: Files>(
+        &mut self,
+        files: &mut F,
+        first: PageNo,
+        count: PageNo,
+    ) -> Result<(), Fault> {
         let mut at = first;
         for _step in 0..self.count {
             if at == 0 || !self.meet(at)? {
                 break;
             }
-            match page_of(self.pages, at) {
+            match self.pages.page(files, at)? {
                 Some(page) if page.kind() == PageKind::Free => at = page.next(),
                 _ => return self.note(TreeDamage::NotFree(at)),
             }
