@@ -1,5 +1,5 @@
-//! Tests of the programs' work: what a store answers to lines, in a folder and on the model disk; what is told of a
-//! load; how much a next opening redoes; and the exit statuses.
+//! Tests of the programs' work: what a store answers to lines, in a folder and on the model disk; what is told of a store that is not open, of files that do not
+//! belong together, of a load and of a dump; how much a next opening redoes; and the exit statuses.
 //!
 //! They are calls of what `im_tool` shows.
 #![tactic(auto)]
@@ -7,7 +7,13 @@
 #[cfg(test)]
 mod answered;
 #[cfg(test)]
+mod copies;
+#[cfg(test)]
 mod loaded;
+#[cfg(test)]
+mod looked;
+#[cfg(test)]
+mod mixed;
 #[cfg(test)]
 mod programs;
 #[cfg(test)]
