@@ -17,6 +17,7 @@ use im_base_types::{Fault, PageNo};
 use im_page::{Full, Page};
 use std::alloc::Global;
 use std::marker::Model;
+use std::mem;
 
 /// A page in memory, and whether it was changed since it was read or written.
 #[derive(Drop)]
@@ -114,6 +115,17 @@ impl Frames {
     {
         let slot = &mut self.slots[place as usize];
         slot.changed = false;
+    }
+
+    /// Puts another page into a frame, with a mark, in exchange for the page that it had. No page is copied.
+    pub fn exchange(&mut self, place: u32, page: &mut Box<Page>, changed: bool)
+        requires { place < length self.old }
+        ensures out { page.new.value ≡ (stored_at self.old place).page }
+        ensures put { self.new ≡ slice_set self.old place (record { page = page.old.value; changed = changed }) }
+    {
+        let slot = &mut self.slots[place as usize];
+        slot.changed = changed;
+        mem::swap(&mut slot.page, page);
     }
 
     /// Makes it the page that bytes are. On `Err` it stays as it was.

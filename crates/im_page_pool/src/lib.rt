@@ -18,6 +18,7 @@
 //!   where there is room for it, and not before.
 //! - `insert`, `remove`, `copy_in` and the setters change the one page of their frame, as the calls of `im_page` of the
 //!   same names do, and mark it.
+//! - `exchange` puts another page into a frame, and lends the page that it had: no page is missing from the pool.
 //! - `hold_copy` holds a page whatever the file has, without a call of the disk.
 //! - `write_back` writes one page at its place and takes the mark off; `write_page` does so for a page outside. A stop
 //!   within leaves any bytes where that page stands, and each other page as it was.

@@ -299,6 +299,17 @@ impl Pool {
         self.frames.load(frame.place, bytes)
     }
 
+    /// Puts another page into the frame of a held one, with a mark, in exchange for the page that it had: that one is then lent, until it
+    /// comes back by a second exchange. The order of use, the frame and its number stay, so that lent and held pages together are at most as
+    /// many as there are frames. No page is copied, and no memory taken.
+    pub fn exchange(&mut self, frame: Frame, page: &mut Box<Page>, changed: bool)
+        requires { IsAt self.old frame }
+        ensures out { page.new.value ≡ page_at self.old frame.number }
+        ensures here { Sets frame page.old.value changed self.old self.new }
+    {
+        self.frames.exchange(frame.place, page, changed);
+    }
+
     /// Writes a held page to its place in the file, one device call, and takes its mark off. Its number is at most the
     /// file's page count, so that no page is left out. A stop within leaves any bytes in the page's range, and each other
     /// page as it was. Refused `Device`; the pool then stays as it was.
