@@ -1,0 +1,7 @@
+pub mod Pages
+pub mod Rounds
+pub mod Held
+pub mod Sums
+pub mod Changes
+mod OnePage
+pub mod HandPages

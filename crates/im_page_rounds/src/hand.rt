@@ -1,0 +1,108 @@
+//! The records of a round, applied to its pages.
+ghost use Rattle.std.specs.Prelude.{◌≡◌, ◌≢◌, ◌≤◌, ◌<◌, ◌+◌, ◌-◌, ◌^◌, ◌⊎◌, ◌||◌, ℕ, List, Bool, true, length, drop, take, if◌then◌else◌, IfErr, IfOk, OnOk};
+ghost use Rattle.im_base_types.specs.declared.fault.Fault.TheVariants.{Memory, NotAStore};
+ghost use Rattle.im_base_types.specs.Pages.{Page};
+ghost use Rattle.im_base_types.specs.Records.{Logged};
+ghost use Rattle.im_theory_log.specs.Copies.{redo_one};
+ghost use Rattle.im_theory_log.specs.WriterSteps.{applies};
+ghost use Rattle.im_log_record.specs.Entry.{view};
+ghost use Rattle.im_log_record.specs.Spelling.{IsEntry};
+ghost use Rattle.im_log.specs.Spelled.{logged_at};
+ghost use Rattle.im_page_rounds.specs.Hand.{AllTaken, AreRedone, AreRising, AreThese, IsAmong, StandIn, StandsIn};
+ghost use Rattle.im_page_rounds.specs.OnePage.{PageTakes};
+
+use crate::one_page::redo_on;
+use crate::round_page::RoundPage;
+use im_base_types::{Fault, Lsn, PageNo};
+use im_log::whole_size;
+use im_log_record::{Record, decode};
+use im_page::Page;
+
+// The record at an LSN, in a part of the log that begins at another. Refused `NotAStore` where none stands there as a whole.
+fn record_at(lsn: Lsn, from: Lsn, span: &[u8]) -> Result<Record<'_>, Fault>
+    ensures entry { IfOk result (λ x. IsEntry (view x)) }
+    ensures found { (r : Logged) → StandsIn from span.now lsn r → IfOk result (λ x. logged_at lsn (view x) ≡ r) }
+    ensures some { (r : Logged) → StandsIn from span.now lsn r → IfErr result (λ e. ⊥) }
+    ensures refused { IfErr result (λ e. e ≡ NotAStore) }
+{
+    if lsn < from || lsn - from >= span.len() as u64 {
+        return Err(Fault::NotAStore);
+    }
+    let rest = &span[(lsn - from) as usize..];
+    match whole_size(rest) {
+        None => Err(Fault::NotAStore),
+        Some(size) => decode(&rest[..size]),
+    }
+}
+
+// Goes past a record, which is one of a page of these numbers, and answers whether it was applied to it.
+fn redo_in(
+    numbers: &[PageNo],
+    pages: &mut [RoundPage],
+    spare: &mut Page,
+    lsn: Lsn,
+    record: &Record,
+) -> Result<bool, Fault>
+    requires entry { IsEntry (view record.now) }
+    requires few { length numbers.now ≤ length pages.old }
+    requires rising { AreRising numbers.now }
+    ensures pages { (g : ℕ → Page) (changed : ℕ → Bool) → AreThese numbers.now pages.old g changed
+        → OnOk result (AreThese numbers.now pages.new (λ q. redo_one (logged_at lsn (view record.now)) q (g q)) (λ q. changed q || applies (logged_at lsn (view record.now)) q (g q))) }
+    ensures applied { (g : ℕ → Page) (changed : ℕ → Bool) → AreThese numbers.now pages.old g changed
+        → IfOk result (λ done. done ≡ applies (logged_at lsn (view record.now)) (logged_at lsn (view record.now)).page (g (logged_at lsn (view record.now)).page)) }
+    ensures taken { (g : ℕ → Page) (changed : ℕ → Bool) → AreThese numbers.now pages.old g changed
+        → (applies (logged_at lsn (view record.now)) (logged_at lsn (view record.now)).page (g (logged_at lsn (view record.now)).page) ≡ true → PageTakes (logged_at lsn (view record.now)).what (g (logged_at lsn (view record.now)).page))
+        → IfErr result (λ e. e ≢ NotAStore) }
+    ensures among { OnOk result (IsAmong numbers.now (logged_at lsn (view record.now)).page) }
+    ensures length { length pages.new ≡ length pages.old }
+    ensures causes { IfErr result (λ e. (e ≡ Memory) ⊎ (e ≡ NotAStore)) }
+{
+    match numbers.binary_search(&record.page()) {
+        Err(_) => Err(Fault::Memory),
+        Ok(i) => {
+            let here = &mut pages[i];
+            let done = redo_on(&mut here.page, spare, lsn, record)?;
+            here.changed = here.changed || done;
+            Ok(done)
+        }
+    }
+}
+
+// One more, where a record was applied.
+fn counted(count: u64, applied: bool) -> u64
+    requires room { count < 2 ^ 64 - 1 }
+    ensures { result ≡ count + (if applied then 1 else 0) }
+{
+    if applied { count + 1 } else { count }
+}
+
+/// Redoes the records at these LSNs in turn, whose bytes stand in a part of the log that begins at `from`: each changes its page where
+/// that needs it. The pages are those of `numbers`, which rise. It answers how many records were applied. `spare` is any page then.
+///
+/// Refused `NotAStore` where a page does not take a record that it needs, or no record stands at an LSN; `Memory` where a record is of
+/// none of these pages. The pages are then such as some of the records made them.
+pub fn redo_records(
+    numbers: &[PageNo],
+    pages: &mut [RoundPage],
+    spare: &mut Page,
+    lsns: &[Lsn],
+    from: Lsn,
+    span: &[u8],
+) -> Result<u64, Fault>
+    requires few { length numbers.now ≤ length pages.old }
+    requires rising { AreRising numbers.now }
+    ensures redone { (rs : List Logged) (g : ℕ → Page) (changed : ℕ → Bool) → StandIn from span.now lsns.now rs → AreThese numbers.now pages.old g changed
+        → IfOk result (λ count. AreRedone numbers.now rs g changed count pages.new) }
+    ensures taken { (rs : List Logged) (g : ℕ → Page) (changed : ℕ → Bool) → StandIn from span.now lsns.now rs → AreThese numbers.now pages.old g changed → AllTaken rs g
+        → IfErr result (λ e. e ≢ NotAStore) }
+    ensures length { length pages.new ≡ length pages.old }
+    ensures causes { IfErr result (λ e. (e ≡ Memory) ⊎ (e ≡ NotAStore)) }
+{
+    let mut count = 0;
+    for lsn in lsns {
+        let record = record_at(*lsn, from, span)?;
+        let applied = redo_in(numbers, pages, spare, *lsn, &record)?;
+        count = counted(count, applied);
+    }
+    Ok(count)
+}
