@@ -2,4 +2,5 @@ pub mod Logged
 pub mod Changes
 pub mod Under
 pub mod GoingOn
+pub mod Marks
 pub mod Stepping

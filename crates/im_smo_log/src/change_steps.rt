@@ -11,7 +11,7 @@ ghost use Rattle.im_smo_log.specs.Changes.{AreCounted};
 ghost use Rattle.im_smo_log.specs.Stepping.{StepKept, CloseKept};
 
 use crate::change::Change;
-use crate::page_record::log_page;
+use crate::page_record::log_marked;
 use crate::structure_change::are_counted;
 use im_base_disk::Disk;
 use im_base_types::{Fault, Lsn, TxnId};
@@ -66,20 +66,26 @@ impl Change {
         })
     }
 
-    /// Logs the next page, as it is and as it will be, and makes it so. Refused `Memory` with all as it was, so that it may be asked
+    /// Logs the next page, as it is and as it will be, and makes it so. Where `marked` is asked for, the page will be with the mark
+    /// of a structure change under way, as others have to see it between two steps. Refused `Memory` with all as it was, so that it may be asked
     /// again; `LogFull`, `Device`, or `NotAStore` where a page's bytes are none.
-    pub fn step<D: Disk>(&mut self, writer: &mut PageWriter, disk: &mut D) -> Result<(), Fault>
+    pub fn step<D: Disk>(
+        &mut self,
+        writer: &mut PageWriter,
+        disk: &mut D,
+        marked: bool,
+    ) -> Result<(), Fault>
         requires ready { IsReadyWriter D.Disk writer.old disk.old }
         requires working { writer.old.failed ≡ false }
         requires left { self.old.done < length self.old.images }
         ensures outcome { Logs D.Disk false mild writer.old disk.old writer.new disk.new (fault_of result) }
         ensures kept { (b : Base) (base : ℕ) (s : Writer) (e : ℕ) → StandsAs D.Disk b base s writer.old disk.old → s.redo_end ≡ Some e
-            → StepKept D.Disk b base s self.old disk.old self.new writer.new disk.new result }
+            → StepKept D.Disk b base s self.old marked disk.old self.new writer.new disk.new result }
         ensures same { OnErr result (self.new ≡ self.old) }
     {
         let len = self.images.len();
         let highest = self.images.number(len - 1);
-        let lsn = log_page(
+        let lsn = log_marked(
             writer,
             disk,
             self.transaction,
@@ -87,6 +93,7 @@ impl Change {
             self.images.number(self.done),
             self.images.page(self.done),
             highest,
+            marked,
         )?;
         self.done += 1;
         self.last = lsn;
