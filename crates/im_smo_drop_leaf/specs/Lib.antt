@@ -1,4 +1,5 @@
 pub mod Plan
+pub mod Emptied
 pub mod Chains
 pub mod Ways
 pub mod Given

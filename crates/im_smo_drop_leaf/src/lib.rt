@@ -12,6 +12,7 @@
 //! - `way`: one pass down from the root notes the pages that go, and where they hang (`IsPlaced`).
 //! - `dropping`: the parent loses the child, and the leaf goes out of the chain of leaves.
 //! - `giving`: the pages are given back.
+//! - `emptying`: the leaf without its last entry, for a plan that is made before that entry is taken out.
 //!
 //! It is total: where the pages are none of a good tree it is refused, and the images are dropped. In a good tree whose leaf for
 //! the key is empty and is not page 1, the images, put in the place of the pages that are there, are a good tree with the same
@@ -24,6 +25,7 @@
 #![tactic(auto)]
 
 mod dropping;
+mod emptying;
 mod giving;
 mod laws;
 mod plan;
@@ -31,4 +33,4 @@ mod reading;
 mod way;
 
 pub use laws::deletion_plans_keep_ways;
-pub use plan::plan_delete;
+pub use plan::{plan_delete, plan_delete_last};

@@ -5,9 +5,11 @@ ghost use Rattle.im_base_types.specs.declared.fault.Fault.TheVariants.{Memory};
 ghost use Rattle.im_page_writer.specs.PageWriter.{IsReadyWriter};
 ghost use Rattle.im_page_writer.specs.Outcome.{fault_of, AllPages, AreLoaded, HasPages, IsSound};
 ghost use Rattle.im_theory_tree.specs.Good.{IsGoodTree};
+ghost use Rattle.im_theory_tree.specs.Levels.{Pages};
 ghost use Rattle.im_smo_alloc.specs.Seen.{bodies};
 ghost use Rattle.im_smo_alloc.specs.Kept.{Plans};
 ghost use Rattle.im_tree_search.specs.declared.child_place.ChildPlace.TheVariants.{Only};
+ghost use Rattle.im_smo_drop_leaf.specs.Emptied.{SameAbove};
 ghost use Rattle.im_smo_drop_leaf.specs.Ways.{IsNext, IsPlaced};
 
 use im_base_disk::Disk;
@@ -66,7 +68,7 @@ fn next_place(above: &mut Vec<PageNo>, place: Place, child: Child) -> Result<Pla
 }
 
 /// The leaf of a key, and the chain of pages with one child each that it ends; `above` are the pages of the chain in front of
-/// the leaf, from the top down.
+/// the leaf, from the top down. It reads no leaf but for its kind and level, so what it finds is so of each tree with the same pages above its leaves.
 ///
 /// Refused `NotAStore` where a page on the way is none of its level, `Memory` also where there is none for the numbers; otherwise
 /// as `PageWriter::get` is.
@@ -79,8 +81,8 @@ pub(crate) fn find_chain<D: Disk>(
     requires ready { IsReadyWriter D.Disk writer.old disk.old }
     requires working { writer.old.failed ≡ false }
     ensures outcome { Plans D.Disk writer.old disk.old writer.new disk.new (fault_of result) }
-    ensures kept { (pages : AllPages) → HasPages D.Disk AreLoaded pages writer.old disk.old → IsGoodTree (bodies pages) []
-        → IsSound result (λ leaf. IsPlaced (bodies pages) key.now leaf.parent leaf.place 0 leaf.number above.new.items) }
+    ensures kept { (pages : AllPages) (tree : Pages) → HasPages D.Disk AreLoaded pages writer.old disk.old → SameAbove (bodies pages) tree → IsGoodTree tree []
+        → IsSound result (λ leaf. IsPlaced tree key.now leaf.parent leaf.place 0 leaf.number above.new.items) }
 {
     let mut level = level_of(writer, disk, 1)?;
     let mut place = Place {
