@@ -54,6 +54,10 @@ pub not_true : (a : Bool) → not a ≡ true → a ≡ false
 not_true true h = cc
 not_true false h = refl
 
+pub not_false : (a : Bool) → not a ≡ false → a ≡ true
+not_false true h = refl
+not_false false h = cc
+
 pub and_not_false : (a x : Bool) → x ≡ false → (a && not x) ≡ a
 and_not_false true true h = cc
 and_not_false true false h = refl
@@ -65,6 +69,26 @@ or_and_not true true h = sym (h refl)
 or_and_not true false h = refl
 or_and_not false true h = refl
 or_and_not false false h = refl
+
+-- the second of three comes last
+pub last_of_three : (a x k : Bool) → ((a || x) || k) ≡ ((a || k) || x)
+last_of_three true x k = refl
+last_of_three false true true = refl
+last_of_three false true false = refl
+last_of_three false false true = refl
+last_of_three false false false = refl
+
+-- the second of three says nothing more
+pub covered : (a x k : Bool) → (x ≡ true → k ≡ true) → ((a || x) || k) ≡ (a || k)
+covered true x k h = refl
+covered false true k h = sym (h refl)
+covered false false k h = refl
+
+pub turned_or : (a b : Bool) → (a || b) ≡ (b || a)
+turned_or true true = refl
+turned_or true false = refl
+turned_or false true = refl
+turned_or false false = refl
 
 -- one element less: b says that it is dropped, c that it passes, x that what is dropped passes
 pub dropped_and_not : (c x a : Bool) → c ≡ x → (a && not x) ≡ ((c || a) && not x)

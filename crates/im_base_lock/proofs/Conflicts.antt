@@ -1,16 +1,16 @@
 -- Rivals by the index of names are the holders in conflict, and what was kept is what is held.
 use Rattle.std.proofs.Common.{◌≡◌, ◌≢◌, ℕ, ◌<◌, ◌≤◌, Bool, true, false, not, ◌&&◌, ◌||◌, nat_eq, List, [], ◌∷◌, None, Some, refl, ap, sym, subst, ◌∙◌, ◌⊎◌, inl, inr, arith}
 use Rattle.std.proofs.lemmas.Bool.{eq-eqb, ne_eqb}
-use Rattle.im_base_lock.specs.Locks.{Name, Lock, Request, kept, kept_if, Holds, Asks, SameLocks, ConflictsWith, IsFree, WaitsFor, MustDie}
+use Rattle.im_base_lock.specs.Locks.{Name, Lock, Request, kept, kept_if, held_now, held_if, Holds, Asks, SameLocks, ConflictsWith, IsFree, WaitsFor, MustDie}
 use Rattle.im_base_lock.specs.Table.{Table, locks_of}
-use Rattle.im_base_lock.specs.Index.{is_held, same_lock, same_mode, is_exclusive, is_holder, is_among, is_against, is_rival, is_rival_of, holders_at, keeps, is_to_commit, IsLeast}
+use Rattle.im_base_lock.specs.Index.{is_held, same_lock, same_mode, is_exclusive, is_holder, is_among, is_against, is_rival, is_rival_of, holders_at, keeps, lasts, is_kept, is_to_commit, IsLeast}
 use Rattle.im_base_lock.specs.InStep.{IsInStep}
 use Rattle.im_base_lock.specs.declared.name_index.NameIndex.{NameIndex}
 use Rattle.im_base_lock.specs.declared.holder.Holder.{Holder}
 use Rattle.im_base_lock.specs.declared.request.Mode.{Mode}
 use Rattle.im_base_lock.specs.declared.request.Mode.TheVariants.{Shared, Exclusive}
 use Rattle.im_base_lock.specs.declared.request.Duration.{Duration}
-use Rattle.im_base_lock.specs.declared.request.Duration.TheVariants.{Instant, ToCommit}
+use Rattle.im_base_lock.specs.declared.request.Duration.TheVariants.{Instant, ToFinish, ToCommit}
 use Rattle.im_base_lock.proofs.Bools.{or_true, either, first_of_and, second_of_and, and_true, not_true, false_unless}
 use Rattle.im_base_lock.proofs.Names.{same_lock-name, same_lock-mode, same_lock-itself, same_mode-itself}
 use Rattle.im_base_lock.proofs.Holders.{is_holder-owner, is_holder-mode}
@@ -47,16 +47,27 @@ swapped false b c = refl
 
 kept_if-held : (d : Duration) (l : Lock) (ls : List Lock) (n : Name) (m : Mode) (a k : Bool) → is_held ls n m ≡ (a || k) → is_held (kept_if d l ls) n m ≡ (a || ((is_to_commit d && same_lock l n m) || k))
 kept_if-held Instant l ls n m a k h = h
+kept_if-held ToFinish l ls n m a k h = h
 kept_if-held ToCommit l ls n m a k h = ap (λ b. same_lock l n m || b) h ∙ swapped (same_lock l n m) a k
 
+or_same : (b : Bool) → b ≡ (b || false)
+or_same true = refl
+or_same false = refl
+
+-- what lasts after a grant lasted or is asked to commit
+pub kept-lasts : (qs : List Request) (ls : List Lock) (n : Name) (m : Mode) → is_held (kept qs ls) n m ≡ (is_held ls n m || lasts qs n m)
+kept-lasts [] ls n m = or_same (is_held ls n m)
+kept-lasts (q ∷ qs) ls n m = kept_if-held q.duration (record { name = q.name; mode = q.mode }) (kept qs ls) n m (is_held ls n m) (lasts qs n m) (kept-lasts qs ls n m)
+
+held_if-held : (d : Duration) (l : Lock) (ls : List Lock) (n : Name) (m : Mode) (a k : Bool) → is_held ls n m ≡ (a || k) → is_held (held_if d l ls) n m ≡ (a || ((is_kept d && same_lock l n m) || k))
+held_if-held Instant l ls n m a k h = h
+held_if-held ToFinish l ls n m a k h = ap (λ b. same_lock l n m || b) h ∙ swapped (same_lock l n m) a k
+held_if-held ToCommit l ls n m a k h = ap (λ b. same_lock l n m || b) h ∙ swapped (same_lock l n m) a k
+
 -- what is held after a grant was held or is kept
-pub kept-held : (qs : List Request) (ls : List Lock) (n : Name) (m : Mode) → is_held (kept qs ls) n m ≡ (is_held ls n m || keeps qs n m)
+pub kept-held : (qs : List Request) (ls : List Lock) (n : Name) (m : Mode) → is_held (held_now qs ls) n m ≡ (is_held ls n m || keeps qs n m)
 kept-held [] ls n m = or_same (is_held ls n m)
-  where
-    or_same : (b : Bool) → b ≡ (b || false)
-    or_same true = refl
-    or_same false = refl
-kept-held (q ∷ qs) ls n m = kept_if-held q.duration (record { name = q.name; mode = q.mode }) (kept qs ls) n m (is_held ls n m) (keeps qs n m) (kept-held qs ls n m)
+kept-held (q ∷ qs) ls n m = held_if-held q.duration (record { name = q.name; mode = q.mode }) (held_now qs ls) n m (is_held ls n m) (keeps qs n m) (kept-held qs ls n m)
 
 -- ---- rivals
 

@@ -97,11 +97,11 @@ pub first_moved : (xs ys : List HeldKey) (e : HeldKey) → 0 < length xs → e �
 first_moved [] ys e some is rest = absurd (omega arith)
 first_moved (x ∷ xs) ys e some is rest = ap (λ d. d ∷ ys) is ∙ ap (λ zs. x ∷ zs) rest
 
-nothing_in : (xs : List HeldKey) → length xs ≡ 0 → xs ≡ []
+nothing_in : {A : Type 0} (xs : List A) → length xs ≡ 0 → xs ≡ []
 nothing_in [] h = refl
 nothing_in (x ∷ xs) h = absurd (omega (arith, h))
 
-pub no_items : {Y : Type 0} (v : Vec HeldKey Y) → (vec_len v == 0) ≡ true → v.items ≡ []
+pub no_items : {A Y : Type 0} (v : Vec A Y) → (vec_len v == 0) ≡ true → v.items ≡ []
 no_items v h = nothing_in v.items (let zero_long : vec_len v ≡ 0 = grind (arith, nat_tests) in sym v.ok.0 ∙ zero_long)
 
 some_in : (xs : List HeldKey) → (length xs ≡ 0 → ⊥) → 0 < length xs

@@ -4,12 +4,14 @@ pub mod Keys
 pub mod Least
 pub mod Holders
 pub mod Held
+pub mod Locked
 pub mod Owners
 pub mod Conflicts
 pub mod Order
 pub mod Search
 pub mod Guards
 pub mod Scans
+pub mod Durations
 pub mod Changes
 pub mod ReadKeys
 pub mod Locks

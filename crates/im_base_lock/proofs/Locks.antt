@@ -10,7 +10,7 @@ use Rattle.im_base_lock.specs.Rows.{next_name, name_of, there_or_next, shared, s
 use Rattle.im_base_lock.specs.declared.request.Mode.{Mode}
 use Rattle.im_base_lock.specs.declared.request.Mode.TheVariants.{Exclusive}
 use Rattle.im_base_lock.specs.declared.request.Duration.{Duration}
-use Rattle.im_base_lock.specs.declared.request.Duration.TheVariants.{Instant, ToCommit}
+use Rattle.im_base_lock.specs.declared.request.Duration.TheVariants.{Instant, ToFinish, ToCommit}
 use Rattle.im_base_lock.proofs.Scans.{row-steps}
 use Rattle.im_base_lock.proofs.Guards.{guard, guard-there, guard-absent}
 use Rattle.im_base_lock.proofs.Changes.{was, owned}
@@ -18,6 +18,7 @@ use Rattle.im_base_lock.proofs.ReadKeys.{Reads, row_by-kept}
 
 kept_if-old : (d : Duration) (l : Lock) (ls : List Lock) (n : Name) (md : Mode) → Holds ls n md → Holds (kept_if d l ls) n md
 kept_if-old Instant l ls n md h = h
+kept_if-old ToFinish l ls n md h = h
 kept_if-old ToCommit l ls n md h = inr h
 
 pub kept-old : (qs : List Request) (ls : List Lock) (n : Name) (md : Mode) → Holds ls n md → Holds (kept qs ls) n md
@@ -26,6 +27,7 @@ kept-old (q ∷ qs) ls n md h = kept_if-old q.duration _ (kept qs ls) n md (kept
 
 kept_if-from : (d : Duration) (l : Lock) (ls : List Lock) (n : Name) (md : Mode) → Holds (kept_if d l ls) n md → ((l.name ≡ n) × (l.mode ≡ md)) ⊎ Holds ls n md
 kept_if-from Instant l ls n md h = inr h
+kept_if-from ToFinish l ls n md h = inr h
 kept_if-from ToCommit l ls n md h = h
 
 -- what is held afterwards was held or asked

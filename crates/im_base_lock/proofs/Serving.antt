@@ -3,7 +3,7 @@ use Rattle.std.proofs.Common.{◌≡◌, ℕ, nat_eq, Bool, true, false, cond, O
 use Rattle.im_base_types.specs.Answers.{Access, Going, MustRollBack, Committing}
 use Rattle.im_base_lock.specs.Locks.{Lock, Request, Holds, kept, SameLocks, ConflictsWith}
 use Rattle.im_base_lock.specs.Rows.{asked}
-use Rattle.im_base_lock.specs.Table.{Table, locks_of, Decides, IsReleased, OthersKeep}
+use Rattle.im_base_lock.specs.Table.{Table, Held, all_of, held_of, locks_of, Decides, IsReleased, OthersKeep}
 use Rattle.im_base_lock.specs.View.{View, Under, kept_lock, Txn, of_others, own_locks, locks_in, set_txn, idle, did_txn}
 use Rattle.im_base_lock.specs.Machine.{does, waits, dies}
 use Rattle.im_base_lock.specs.Serving.{KeepsNone, Matches, GoesBy, TableServes}
@@ -11,6 +11,7 @@ use Rattle.im_base_lock.specs.declared.verdict.Verdict.{Verdict}
 use Rattle.im_base_lock.specs.declared.verdict.Verdict.TheVariants.{Granted, Wait, Die as DieVerdict}
 use Rattle.im_base_lock.proofs.Bools.{cases_number}
 use Rattle.im_base_lock.proofs.Queue.{by_force_txn}
+use Rattle.im_base_lock.proofs.Durations.{asked-kept}
 use Rattle.im_base_lock.proofs.Invariant.{set_txn-same, set_txn-other}
 
 -- conflict looks at what is held alone
@@ -38,13 +39,13 @@ matches-set : (v : View) (old new : Table) (t : ℕ) (x : Txn) → Matches v old
 matches-set v old new t x h own others s =
     elim (cases_number s t) [
       | inl e ↦ subst (λ u. (set_txn v.txns t x u).locks ≡ locks_of new u) (sym e) (ap (λ (y : Txn). y.locks) (set_txn-same v.txns t x) ∙ own)
-      | inr ne ↦ ap (λ (y : Txn). y.locks) (set_txn-other v.txns t x s ne) ∙ (h.0 s ∙ sym (others s ne))
+      | inr ne ↦ ap (λ (y : Txn). y.locks) (set_txn-other v.txns t x s ne) ∙ (h.0 s ∙ sym (ap all_of (others s ne)))
     ]
 
 served : (v : View) (old new : Table) → Matches v old → (t : ℕ) (a : Access) (verdict : Verdict) → (v.txns t).mark ≡ Going → Decides old t (asked a v.walk) verdict new → GoesBy v t a verdict new
 served v old new h t a Granted going d = (
   does t a (locks_of new t) refl going (λ s p. d.0 s (conflict-by (locks_of old) (locks_in v) (λ u. sym (all_held v old h u)) t (asked a v.walk) s p))
-      (subst (λ (ls : List Lock). SameLocks (locks_of new t) (kept (asked a v.walk) ls)) (sym (h.0 t)) d.1.own)
+      (subst (λ (ls : List Lock). SameLocks (locks_of new t) ls) (asked-kept a v.walk (locks_of old t) ∙ ap (kept (asked a v.walk)) (sym (h.0 t))) d.1.own)
       refl
       refl,
   (matches-set v old new t (did_txn (v.txns t) a v.walk (locks_of new t)) h refl d.1.others, h.1),
@@ -76,5 +77,5 @@ table-serves = record {
   dropped = λ v old new h t r. (released v old new h t r, h.1);
   undone = λ v old new h t c r. (released v old new h t r, keeps_none v.under t h.1);
   queued = λ v old h t. (matches-set v old old t (record (v.txns t) { mark = Committing }) h (h.0 t) (λ u ne. refl), h.1);
-  forced = λ v old new h r. (by_force_txn (λ u y. y.locks ≡ locks_of new u) v.txns v.queue (λ u some. sym (r.none u some)) (λ u none. h.0 u ∙ sym (r.others u none)), h.1);
+  forced = λ v old new h r. (by_force_txn (λ u y. y.locks ≡ locks_of new u) v.txns v.queue (λ u some. sym (r.none u some)) (λ u none. h.0 u ∙ sym (ap all_of (r.others u none))), h.1);
 }

@@ -7,7 +7,7 @@ use Rattle.im_base_lock.specs.Locks.{Name, At, PastAll, Lock, Request}
 use Rattle.im_base_lock.specs.declared.request.Mode.{Mode}
 use Rattle.im_base_lock.specs.declared.request.Mode.TheVariants.{Shared, Exclusive}
 use Rattle.im_base_lock.specs.declared.request.Duration.{Duration}
-use Rattle.im_base_lock.specs.declared.request.Duration.TheVariants.{Instant, ToCommit}
+use Rattle.im_base_lock.specs.declared.request.Duration.TheVariants.{Instant, ToFinish, ToCommit}
 use Rattle.im_base_lock.specs.HeldKeys.{spelled, digest, among, listed_there}
 use Rattle.im_base_lock.specs.declared.holder.Holder.{Holder}
 use Rattle.im_base_lock.specs.declared.held_key.HeldKey.{HeldKey}
@@ -118,15 +118,28 @@ smaller_of (Some x) (Some y) = Some (cond (nat_lt y x) y x)
 abbrev pub rival_in : Holder → ℕ → Mode → Option ℕ
 rival_in h t m = cond (is_against h t m) (Some h.owner) None
 
--- a lock of this duration is kept
+-- a lock of this duration is held after its grant
+abbrev pub is_kept : Duration → Bool
+is_kept Instant = false
+is_kept ToFinish = true
+is_kept ToCommit = true
+
+-- and it lasts until it is released
 abbrev pub is_to_commit : Duration → Bool
 is_to_commit Instant = false
+is_to_commit ToFinish = false
 is_to_commit ToCommit = true
 
--- one of these requests, of commit duration, is for this name in this mode
+-- one of these requests, of a duration that passes the test, is for this name in this mode
+abbrev pub asks_for : (Duration → Bool) → List Request → Name → Mode → Bool
+asks_for passes [] n m = false
+asks_for passes (q ∷ qs) n m = (passes q.duration && same_lock (record { name = q.name; mode = q.mode }) n m) || asks_for passes qs n m
+
 abbrev pub keeps : List Request → Name → Mode → Bool
-keeps [] n m = false
-keeps (q ∷ qs) n m = (is_to_commit q.duration && same_lock (record { name = q.name; mode = q.mode }) n m) || keeps qs n m
+keeps = asks_for is_kept
+
+abbrev pub lasts : List Request → Name → Mode → Bool
+lasts = asks_for is_to_commit
 
 -- everybody but t holds by name what it held
 abbrev pub OthersHold : NameIndex → ℕ → NameIndex → Type 0

@@ -2,6 +2,7 @@ pub mod Locks
 pub mod Table
 pub mod HeldKeys
 pub mod Index
+pub mod Owned
 pub mod InStep
 pub mod Rows
 pub mod View

@@ -4,7 +4,7 @@ use Rattle.im_base_types.specs.Keys.{Key}
 use Rattle.im_base_lock.specs.declared.request.Mode.{Mode}
 use Rattle.im_base_lock.specs.declared.request.Mode.TheVariants.{Exclusive}
 use Rattle.im_base_lock.specs.declared.request.Duration.{Duration}
-use Rattle.im_base_lock.specs.declared.request.Duration.TheVariants.{Instant, ToCommit}
+use Rattle.im_base_lock.specs.declared.request.Duration.TheVariants.{Instant, ToFinish, ToCommit}
 
 -- what a lock is on: a key, or the name past the last key
 pub data Name : Type 0 where
@@ -22,15 +22,27 @@ pub record Lock : Type 0 where
   pub name : Name
   pub mode : Mode
 
--- a lock of commit duration is kept, one for the instant is not
+-- a lock of commit duration is kept, one for the instant or to the end of a structure change is not
 abbrev pub kept_if : Duration → Lock → List Lock → List Lock
 kept_if Instant l ls = ls
+kept_if ToFinish l ls = ls
 kept_if ToCommit l ls = l ∷ ls
 
--- the locks held after the requests were granted
+-- the locks that last after the requests were granted
 abbrev pub kept : List Request → List Lock → List Lock
 kept [] ls = ls
 kept (q ∷ qs) ls = kept_if q.duration (record { name = q.name; mode = q.mode }) (kept qs ls)
+
+-- a lock is held at first, unless it is for the instant
+abbrev pub held_if : Duration → Lock → List Lock → List Lock
+held_if Instant l ls = ls
+held_if ToFinish l ls = l ∷ ls
+held_if ToCommit l ls = l ∷ ls
+
+-- the locks held after the requests were granted, until those fall back that do not last
+abbrev pub held_now : List Request → List Lock → List Lock
+held_now [] ls = ls
+held_now (q ∷ qs) ls = held_if q.duration (record { name = q.name; mode = q.mode }) (held_now qs ls)
 
 -- the name is among these locks, in this mode
 abbrev pub Holds : List Lock → Name → Mode → Type 0

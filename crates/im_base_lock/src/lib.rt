@@ -7,12 +7,15 @@
 //! lock against it, those of commit duration are kept and those for the instant are not (`Granted`); where the
 //! requester's number is below that of every holder in conflict, it is told to wait for the smallest of them
 //! (`Wait`); any other requester must die (`Die`). Nothing changes unless all is granted, and where memory is
-//! refused nothing is. `release_all` takes out the locks of one owner; it cannot fail and takes no memory.
+//! refused nothing is. `release_all` takes out the locks of one owner; it cannot fail and takes no memory. A lock of the
+//! third duration is kept until the structure change ends that it was asked for: then `fall_back` takes it out, but not
+//! where it was asked to commit too.
 //!
-//! Contracts see the table as a list of owners, each with its locks (`Table`, `locks_of`). Within, each lock stands
-//! twice: in the list of its owner, and in an index from names to holders. That both say the same, and each lock once,
-//! is the table's invariant (`IsInStep`). The index finds a key by a digest of its bytes, whose bucket lists the keys of
-//! that digest that are held: mostly one, in place, as are keys of up to 31 bytes, so that a lock on such a key that
+//! Contracts see the table as a list of owners, each with its locks (`Table`, `locks_of`), of which some last
+//! (`lasting_of`). Within, each lock stands twice: in a list of its owner, who has one of those that last and one of
+//! those that fall back, and in an index from names to holders. That both say the same, and each list has each lock
+//! once, is the table's invariant (`IsInStep`). The index finds a key by a digest of its bytes, whose bucket lists the
+//! keys of that digest that are held: mostly one, in place, as are keys of up to 31 bytes, so that a lock on such a key that
 //! nobody else holds wants no memory but room in the two. So a request costs two look-ups of its name, however many
 //! locks are held: one for those who are against it, which is left out where nobody else has a lock, and one to keep it;
 //! and a release costs one for each lock of its owner. `im_bench lock --time` measures it.
@@ -40,6 +43,7 @@ mod lock_table;
 mod name;
 mod name_holders;
 mod name_index;
+mod own_locks;
 mod request;
 mod rivals;
 mod row;

@@ -9,10 +9,12 @@ pub enum Mode {
     Exclusive,
 }
 
-/// How long a lock stands: checked and not kept, or kept until the owner's locks are released.
+/// How long a lock stands: checked and not kept; kept until the structure change that its owner has under way ends, and it
+/// falls back (`LockTable::fall_back`); or kept until the owner's locks are released.
 #[derive(Clone, Copy, Debug, PartialEq, Eq)]
 pub enum Duration {
     Instant,
+    ToFinish,
     ToCommit,
 }
 

@@ -9,7 +9,7 @@ use Rattle.im_base_txn.specs.Rows.{AreAbove, AreRising, is_of, is_waiting, waits
 use Rattle.im_base_txn.specs.LookUps.{without}
 use Rattle.im_base_txn.proofs.LookUps.{look_ups_follow, rising_left, found_here, found_later}
 use Rattle.im_base_txn.proofs.Waiting.{AreTold, told_each, none_above, waiting_counts}
-use Rattle.im_base_lock.specs.Table.{Table, locks_of, IsReleased, AreReleased}
+use Rattle.im_base_lock.specs.Table.{Table, all_of, locks_of, IsReleased, AreReleased}
 use Rattle.im_base_lock.specs.View.{is_among, AreDifferent}
 use Rattle.im_base_lock.proofs.Bools.{cases_test, or_true}
 use Rattle.im_base_lock.proofs.Queue.{among_one, among_pushed, pushed_last, pushed_more}
@@ -103,7 +103,7 @@ released_one : (old mid new : Table) (t : ℕ) (queue : List ℕ) → AreRelease
 released_one old mid new t queue h one = record {
   none = λ s some. elim (cases_eq s t) [
     | inl e ↦ ap (locks_of new) e ∙ one.none
-    | inr ne ↦ one.others s ne ∙ h.none s (elim (among_pushed s t queue some) [ inl there ↦ there | inr e ↦ absurd (ne e) ])
+    | inr ne ↦ ap all_of (one.others s ne) ∙ h.none s (elim (among_pushed s t queue some) [ inl there ↦ there | inr e ↦ absurd (ne e) ])
   ];
   others = λ s out.
       one.others s (λ e. let never : true ≡ false = sym (pushed_last s t queue e) ∙ out in cc never)

@@ -1,28 +1,25 @@
-use Rattle.std.proofs.Common.{◌≡◌, List, [], ◌∷◌, ◌++◌, map, subst, ap, ◌∙◌}
-use Rattle.std.proofs.lemmas.List.{map-append}
-use Rattle.im_base_lock.specs.Locks.{Lock}
-use Rattle.im_base_lock.specs.Index.{Agrees, IsOnce, seen, seen_all}
-use Rattle.im_base_lock.proofs.Held.{Stays, stays-removed, last_held}
+use Rattle.std.proofs.Common.{map, sym, ap, ◌∙◌}
+use Rattle.im_base_lock.specs.Index.{is_held, seen, seen_all}
+use Rattle.im_base_lock.proofs.Held.{beside-covered, beside-held, beside-removed, beside-others}
+use Rattle.im_base_lock.proofs.Locked.{popped}
 use Rattle.im_base_lock.proofs.grants.forget_last.Goals as goal
 
-all_seen : (c : goal.Joined-lock) → seen_all c.args.locks.now ≡ seen_all c.pop.new.self ++ seen c.in-Some.lock ∷ []
-all_seen c = ap (λ xs. map seen xs) c.in-Some.ensures.items ∙ map-append seen c.pop.new.self.items (c.in-Some.lock ∷ [])
-
-stays : (c : goal.Joined-lock) → Stays c.args.names.now c.args.t c.remove.new.self (seen_all c.pop.new.self)
-stays c = stays-removed c.args.names.now c.remove.new.self c.args.t (seen_all c.pop.new.self) (seen c.in-Some.lock) _ c.lend.ensures c.remove.ensures.here c.remove.ensures.others
-    (subst (λ (ls : List Lock). Agrees c.args.names.now c.args.t ls) (all_seen c) c.requires.agrees)
-    (subst (λ (ls : List Lock). IsOnce ls) (all_seen c) c.requires.once)
+pub returns-then-is_locked-clause-known : goal.returns-then-is_locked-clause-known
+returns-then-is_locked-clause-known c =
+    beside-covered c.args.names.now c.args.t (seen_all c.pop.new.self) (seen c.in-Some.lock) (map seen c.args.beside.now)
+    (popped c.args.names.now c.args.t c.args.locks.now.items c.pop.new.self.items c.in-Some.lock (map seen c.args.beside.now) c.in-Some.ensures.items c.requires.known)
+    (ap (λ n. is_held (map seen c.args.beside.now) n c.in-Some.lock.mode) (sym c.lend.ensures) ∙ (sym c.is_locked.ensures ∙ c.if-is_locked.true))
 
 pub remove-requires : goal.remove-requires
 remove-requires c =
-    last_held c.args.names.now c.args.t (seen_all c.pop.new.self) (seen c.in-Some.lock) _ c.lend.ensures
-    (subst (λ (ls : List Lock). Agrees c.args.names.now c.args.t ls) (ap (λ xs. map seen xs) c.in-Some.ensures.items ∙ map-append seen c.pop.new.self.items (c.in-Some.lock ∷ [])) c.requires.agrees)
+    beside-held c.args.names.now c.args.t (seen_all c.pop.new.self) (seen c.in-Some.lock) (map seen c.args.beside.now) _ c.lend-2.ensures
+    (popped c.args.names.now c.args.t c.args.locks.now.items c.pop.new.self.items c.in-Some.lock (map seen c.args.beside.now) c.in-Some.ensures.items c.requires.known)
 
-pub returns-in-Some-clause-agrees : goal.returns-in-Some-clause-agrees
-returns-in-Some-clause-agrees c = (stays c).agrees
+pub returns-clause-known : goal.returns-clause-known
+returns-clause-known c =
+    beside-removed c.args.names.now c.remove.new.self c.args.t (seen_all c.pop.new.self) (seen c.in-Some.lock) (map seen c.args.beside.now) _ c.lend-2.ensures c.remove.ensures.here c.remove.ensures.others
+    (popped c.args.names.now c.args.t c.args.locks.now.items c.pop.new.self.items c.in-Some.lock (map seen c.args.beside.now) c.in-Some.ensures.items c.requires.known)
+    (ap (λ n. is_held (map seen c.args.beside.now) n c.in-Some.lock.mode) (sym c.lend.ensures) ∙ (sym c.is_locked.ensures ∙ c.if-is_locked.false))
 
-pub returns-in-Some-clause-once : goal.returns-in-Some-clause-once
-returns-in-Some-clause-once c = (stays c).once
-
-pub returns-in-Some-clause-others : goal.returns-in-Some-clause-others
-returns-in-Some-clause-others c = (stays c).others
+pub returns-clause-others : goal.returns-clause-others
+returns-clause-others c = beside-others c.args.names.now c.remove.new.self c.args.t _ c.in-Some.lock.mode c.remove.ensures.here c.remove.ensures.others

@@ -1,5 +1,5 @@
-use Rattle.std.proofs.Common.{refl, subst}
-use Rattle.im_base_lock.specs.Table.{Table, locks_of, row, IsGrown, SameTable}
+use Rattle.std.proofs.Common.{refl, ap, subst}
+use Rattle.im_base_lock.specs.Table.{Table, Held, all_of, locks_of, row, IsGrown, SameTable, SameLasting}
 use Rattle.im_base_lock.specs.Locks.{WaitsFor, MustDie, IsFree}
 use Rattle.im_base_lock.specs.InStep.{owned}
 use Rattle.im_base_lock.proofs.Conflicts.{free-by, waits-by, dies-by}
@@ -33,5 +33,8 @@ returns-in-Err-clause-refused c = (
   refl,
   subst (λ (table : Table). IsFree (locks_of table) c.args.t (row c.args.requests.now)) c.self.view_is
       (free-by c.self.inside.names (owned c.self.inside.owners) c.self.invariant c.args.t (row c.args.requests.now) c.in_default.ensures),
-  subst (λ (table : Table). SameTable table (owned c.grant_to.new.owners)) c.self.view_is c.in-Err.ensures.err,
+  subst (λ (table : Table). SameTable table (owned c.grant_to.new.owners)) c.self.view_is (λ s. ap all_of (c.in-Err.ensures.err s)),
 )
+
+pub returns-in-Err-clause-lasting : goal.returns-in-Err-clause-lasting
+returns-in-Err-clause-lasting c = subst (λ (table : Table). SameLasting table (owned c.grant_to.new.owners)) c.self.view_is (λ s. ap (λ (h : Held). h.lasting) (c.in-Err.ensures.err s))
