@@ -11,7 +11,8 @@ use Rattle.im_theory_tree.specs.Lookups.{IsAhead, key_of}
 use Rattle.im_theory_tree.proofs.LookupLemmas.{way_known, ahead_begins, ahead_is_leaf, ahead_answers, ahead_goes_on}
 use Rattle.im_tree_search.specs.Levels.{HasLevel, start_at}
 
-start_key : (inclusive : Bool) (key : Key) → key ≡ key_of (start_at inclusive key)
+-- the key that a start names
+pub start_key : (inclusive : Bool) (key : Key) → key ≡ key_of (start_at inclusive key)
 start_key true key = refl
 start_key false key = refl
 

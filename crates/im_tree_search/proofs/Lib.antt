@@ -8,4 +8,5 @@ pub mod NextNames
 pub mod Ranges
 pub mod Quiet
 pub mod HeldTrees
-pub mod Beside
+pub mod GoingOn
+pub mod Sighted

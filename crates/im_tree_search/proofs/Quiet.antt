@@ -1,15 +1,13 @@
 -- Calls that ask nothing of the disk, since their pages are held.
 use Rattle.std.proofs.Common.{◌≡◌, ◌≤◌, ℕ, Bool, true, Option, zero, suc, refl, sym, ◌∙◌, ap, subst, arith}
-use Rattle.std.specs.Prelude.{IfOk, IsSome, Result, Ok, Err}
-use Rattle.im_base_types.specs.declared.fault.Fault.{Fault}
-use Rattle.im_page_pool.specs.declared.frame.Frame.{Frame}
+use Rattle.std.specs.Prelude.{IsSome}
 use Rattle.std.specs.Option.{option_map_or}
 use Rattle.im_base_types.specs.Keys.{Key}
 use Rattle.im_base_types.specs.Pages.{Body, Page}
 use Rattle.im_base_types.specs.declared.page_kind.PageKind.TheVariants.{Leaf, Inner}
 use Rattle.im_theory_page.specs.Child.{IsChild}
 use Rattle.im_theory_page.specs.Header.{initial}
-use Rattle.im_page_pool.specs.Pool.{Held, PoolView, held_of, page_at, Holds, MovesFirst}
+use Rattle.im_page_pool.specs.Pool.{Held, PoolView, page_at, MovesFirst}
 use Rattle.im_page_writer.specs.declared.page_writer.PageWriter.{PageWriter}
 use Rattle.im_tree_search.specs.HeldPages.{HoldsWay, HoldsOn, IsQuiet}
 use Rattle.im_tree_search.specs.Levels.{HasLevel}
@@ -64,8 +62,3 @@ pub next_in_set : (key : Key) (set : ℕ → Bool) (pool : PoolView) (p n : ℕ)
 next_in_set key set pool p n lent on in_set level same is some =
     let to : n ≡ (page_at pool p).body.next = is ∙ ap (λ (x : Page). x.body.next) same in
     subst (λ (m : ℕ). set m ≡ true) (sym to) (on.next p in_set level.kind (subst (λ (m : ℕ). 1 ≤ m) to some))
-
--- a page that was got is in the set where its number is
-pub number_in_set : (set : ℕ → Bool) (n : ℕ) (r : Result Frame Fault) → set n ≡ true → IfOk r (λ frame. frame.number ≡ n) → IfOk r (λ frame. set frame.number ≡ true)
-number_in_set set n (Ok frame) in_set is = subst (λ (m : ℕ). set m ≡ true) (sym is) in_set
-number_in_set set n (Err e) in_set is = tt

@@ -5,3 +5,5 @@ pub mod NextKeys
 pub mod Ranges
 pub mod HeldPages
 pub mod Beside
+pub mod Sights
+pub mod RangesBeside

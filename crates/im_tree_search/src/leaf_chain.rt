@@ -4,7 +4,8 @@ ghost use Rattle.std.specs.Prelude.{◌≡◌, ◌≤◌, ◌<◌, ℕ, Bool, fa
 ghost use Rattle.im_base_types.specs.Maps.{first_in};
 ghost use Rattle.im_theory_page.specs.Entry.{entry_at};
 ghost use Rattle.im_page_writer.specs.PageWriter.{IsReadyWriter};
-ghost use Rattle.im_page_writer.specs.Outcome.{fault_of, AllPages, IsSound, Reads};
+ghost use Rattle.im_base_types.specs.declared.page_kind.PageKind.TheVariants.{Meta};
+ghost use Rattle.im_page_writer.specs.Outcome.{fault_of, AllPages, AreLoaded, HasPages, IsSound, Reads};
 ghost use Rattle.im_theory_tree.specs.Levels.{walk};
 ghost use Rattle.im_theory_tree.specs.Lookups.{IsAhead, IsFirstAt};
 ghost use Rattle.im_tree_search.specs.Levels.{bodies_of, start_at};
@@ -12,10 +13,15 @@ ghost use Rattle.im_page_pool.specs.Pool.{Holds};
 ghost use Rattle.im_tree_search.specs.Found.{HasTree, IsFirstOf, entry_of};
 ghost use Rattle.im_tree_search.specs.HeldPages.{HoldsOn, IsQuiet};
 ghost use Rattle.im_tree_search.specs.Ranges.{IsParted};
+ghost use Rattle.im_tree_search.specs.Beside.{Comes, MeetsDone};
+ghost use Rattle.im_tree_search.specs.Sights.{HasTreeBut, IfSeen, is_done};
 
-use crate::descent::leaf_for;
+use crate::change_beside::Beside;
+use crate::descent::leaf_beside;
 use crate::entry_place::EntryPlace;
-use crate::levels::tree_page;
+use crate::levels::page_beside;
+use crate::sight::Sight;
+use crate::sights::seen;
 use im_base_disk::Disk;
 use im_base_types::{Fault, PageKind, PageNo};
 use im_page::Page;
@@ -51,7 +57,7 @@ pub(crate) fn first_past(page: &Page, key: &[u8], inclusive: bool) -> Option<usi
 pub(crate) fn page_count<D: Disk>(writer: &mut PageWriter, disk: &mut D) -> Result<PageNo, Fault>
     requires ready { IsReadyWriter D.Disk writer.old disk.old }
     ensures outcome { Reads D.Disk writer.old disk.old writer.new disk.new (fault_of result) }
-    ensures kept { (pages : AllPages) → HasTree D.Disk pages writer.old disk.old
+    ensures kept { (pages : AllPages) → HasPages D.Disk AreLoaded pages writer.old disk.old → (pages 0).body.kind ≡ Meta
         → IsSound result (λ count. count ≡ (pages 0).body.leftmost) }
     ensures gets { OnOk result (writer.new.pool.gets ≡ writer.old.pool.gets + 1) }
     ensures quiet { writer.old.failed ≡ false → Holds writer.old.pool 0 → IsQuiet writer.old disk.old writer.new disk.new }
@@ -64,8 +70,28 @@ pub(crate) fn page_count<D: Disk>(writer: &mut PageWriter, disk: &mut D) -> Resu
     Ok(page.leftmost())
 }
 
-// The first entry past a key along the leaf chain, from a leaf after that of the key on. There are fewer leaves than pages, so
-// that a chain which goes on longer leads round in a ring.
+// The same beside a structure change: where the meta page is made, the page count of before is known, and nothing is read.
+pub(crate) fn count_beside<D: Disk>(
+    writer: &mut PageWriter,
+    disk: &mut D,
+    beside: Beside<'_>,
+) -> Result<PageNo, Fault>
+    requires ready { IsReadyWriter D.Disk writer.old disk.old }
+    requires working { writer.old.failed ≡ false }
+    ensures outcome { Reads D.Disk writer.old disk.old writer.new disk.new (fault_of result) }
+    ensures kept { (pages : AllPages) → HasTreeBut D.Disk pages beside.entry writer.old disk.old
+        → IsSound result (λ count. count ≡ (pages 0).body.leftmost) }
+    ensures gets { OnOk result (writer.new.pool.gets ≤ writer.old.pool.gets + 1) }
+    ensures quiet { Holds writer.old.pool 0 → IsQuiet writer.old disk.old writer.new disk.new }
+{
+    if beside.is_done(0) {
+        return Ok(beside.count);
+    }
+    page_count(writer, disk)
+}
+
+// The first entry past a key along the leaf chain, from a leaf after that of the key on; hidden where the walk comes to a leaf that is
+// made. There are fewer leaves than pages, so that a chain which goes on longer leads round in a ring.
 #[tactic(auto, using(im_page_writer::proofs::Outcomes::then, im_page_writer::proofs::Outcomes::refused))]
 pub(crate) fn first_along<D: Disk>(
     writer: &mut PageWriter,
@@ -73,29 +99,64 @@ pub(crate) fn first_along<D: Disk>(
     from: PageNo,
     key: &[u8],
     inclusive: bool,
-) -> Result<Option<EntryPlace>, Fault>
+    beside: Beside<'_>,
+) -> Result<Sight<Option<EntryPlace>>, Fault>
     requires ready { IsReadyWriter D.Disk writer.old disk.old }
+    requires working { writer.old.failed ≡ false }
     ensures outcome { Reads D.Disk writer.old disk.old writer.new disk.new (fault_of result) }
-    ensures kept { (pages : AllPages) → HasTree D.Disk pages writer.old disk.old → IsAhead (bodies_of pages) (start_at inclusive key.now) 0 from
-        → IsSound result (λ found. option_map (entry_of writer.new.pool) found ≡ first_in (start_at inclusive key.now) (walk (bodies_of pages))) }
-    ensures first { IfOk result (λ found. IfSome found (IsFirstOf (start_at inclusive key.now) writer.new.pool)) }
-    ensures quiet { (set : ℕ → Bool) → writer.old.failed ≡ false → HoldsOn key.now writer.old.pool set → (1 ≤ from → set from ≡ true) → IsQuiet writer.old disk.old writer.new disk.new }
+    ensures kept { (pages : AllPages) → HasTreeBut D.Disk pages beside.entry writer.old disk.old → IsAhead (bodies_of pages) (start_at inclusive key.now) 0 from → Comes (bodies_of pages) (start_at inclusive key.now) from
+        → IsSound result (IfSeen (λ found. option_map (entry_of writer.new.pool) found ≡ first_in (start_at inclusive key.now) (walk (bodies_of pages))) (MeetsDone (bodies_of pages) (is_done beside.entry) (start_at inclusive key.now))) }
+    ensures first { IfOk result (IfSeen (λ found. IfSome found (IsFirstOf (start_at inclusive key.now) writer.new.pool)) (1 ≤ beside.entry.done)) }
+    ensures quiet { (set : ℕ → Bool) → HoldsOn key.now writer.old.pool set → (1 ≤ from → set from ≡ true) → IsQuiet writer.old disk.old writer.new disk.new }
 {
-    let mut left = page_count(writer, disk)?;
+    let mut left = count_beside(writer, disk, beside)?;
     let mut number = from;
     while number != 0 {
         if left == 0 {
             return Err(Fault::NotAStore);
         }
         left -= 1;
-        let frame = tree_page(writer, disk, number, 0)?;
+        let Sight::Seen(frame) = page_beside(writer, disk, number, 0, beside)? else {
+            return Ok(Sight::Hidden);
+        };
         let leaf = writer.page(frame);
         if let Some(at) = first_past(leaf, key, inclusive) {
-            return Ok(Some(EntryPlace { frame, at }));
+            return Ok(Sight::Seen(Some(EntryPlace { frame, at })));
         }
         number = leaf.next();
     }
-    Ok(None)
+    Ok(Sight::Seen(None))
+}
+
+/// Where the first entry at or above a key stands beside a structure change (`inclusive`), or the first above it; `None` where the index
+/// has none. It is hidden where a page on the key's way is made, or a leaf that the walk along the chain comes to. Page 0 is read for the
+/// page count alone, and hides nothing.
+///
+/// Refused as `next_entry` is.
+#[tactic(auto, using(im_page_writer::proofs::Outcomes::then, im_page_writer::proofs::Outcomes::refused))]
+pub fn next_entry_beside<D: Disk>(
+    writer: &mut PageWriter,
+    disk: &mut D,
+    key: &[u8],
+    inclusive: bool,
+    beside: Beside<'_>,
+) -> Result<Sight<Option<EntryPlace>>, Fault>
+    requires ready { IsReadyWriter D.Disk writer.old disk.old }
+    ensures outcome { Reads D.Disk writer.old disk.old writer.new disk.new (fault_of result) }
+    ensures kept { (pages : AllPages) → HasTreeBut D.Disk pages beside.entry writer.old disk.old
+        → IsSound result (IfSeen (λ found. option_map (entry_of writer.new.pool) found ≡ first_in (start_at inclusive key.now) (walk (bodies_of pages))) (MeetsDone (bodies_of pages) (is_done beside.entry) (start_at inclusive key.now))) }
+    ensures first { IfOk result (IfSeen (λ found. IfSome found (IsFirstOf (start_at inclusive key.now) writer.new.pool)) (1 ≤ beside.entry.done)) }
+    ensures quiet { (set : ℕ → Bool) → writer.old.failed ≡ false → HoldsOn key.now writer.old.pool set → IsQuiet writer.old disk.old writer.new disk.new }
+{
+    let Sight::Seen(frame) = leaf_beside(writer, disk, key, beside)? else {
+        return Ok(Sight::Hidden);
+    };
+    let leaf = writer.page(frame);
+    if let Some(at) = first_past(leaf, key, inclusive) {
+        return Ok(Sight::Seen(Some(EntryPlace { frame, at })));
+    }
+    let next = leaf.next();
+    first_along(writer, disk, next, key, inclusive, beside)
 }
 
 /// Where the first entry at or above a key stands (`inclusive`), or the first above it; `None` where the index has none. Nothing is
@@ -105,7 +166,6 @@ pub(crate) fn first_along<D: Disk>(
 /// only then, for the page count. Refused `NotAStore` as `leaf_for` is, where a page of the chain is no leaf or page 0 no meta page,
 /// and where the chain has as many leaves as there are pages; otherwise as `PageWriter::get` is. After `NotAStore` the writer goes
 /// on.
-#[tactic(auto, using(im_page_writer::proofs::Outcomes::then, im_page_writer::proofs::Outcomes::refused))]
 pub fn next_entry<D: Disk>(
     writer: &mut PageWriter,
     disk: &mut D,
@@ -119,11 +179,5 @@ pub fn next_entry<D: Disk>(
     ensures first { IfOk result (λ found. IfSome found (IsFirstOf (start_at inclusive key.now) writer.new.pool)) }
     ensures quiet { (set : ℕ → Bool) → writer.old.failed ≡ false → HoldsOn key.now writer.old.pool set → IsQuiet writer.old disk.old writer.new disk.new }
 {
-    let frame = leaf_for(writer, disk, key)?;
-    let leaf = writer.page(frame);
-    if let Some(at) = first_past(leaf, key, inclusive) {
-        return Ok(Some(EntryPlace { frame, at }));
-    }
-    let next = leaf.next();
-    first_along(writer, disk, next, key, inclusive)
+    seen(next_entry_beside(writer, disk, key, inclusive, Beside::none()))
 }

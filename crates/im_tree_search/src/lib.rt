@@ -13,6 +13,10 @@
 //!   stands there; `child_in` answers it of a page that the caller has.
 //! - `root` gets page 1, `tree_page` gets a page that is to be of a level, and `has_level` tests whether a page is.
 //!
+//! Beside a structure change that is made page by page (`Beside`) a search goes on over the pages that are not made yet, and answers as over
+//! the tree from before the change; where it would have to read a page that is made, it answers `Hidden` (`leaf_beside`, `locate_beside`,
+//! `next_entry_beside`, `next_in_leaf_beside`, `leaf_and_next_beside`, `entries_between_beside`). The others are these beside nothing.
+//!
 //! The contract: where the pages are a good tree, all with their copies loaded (`HasTree`), the answers are those of the
 //! walk, the entries of the leaves from left to right; the number of gets is the root's level plus one; and no search is
 //! refused `NotAStore`. A get may take another page's frame, and write that page first. So each page is as it was after a
@@ -32,6 +36,8 @@
 //! calls that change no page.
 #![tactic(auto)]
 
+mod change_beside;
+mod change_pages;
 mod child_place;
 mod descent;
 mod entry_place;
@@ -43,14 +49,20 @@ mod lookup;
 mod next_key;
 mod range;
 mod reading;
+mod sight;
+mod sights;
 
+pub use change_beside::Beside;
 pub use child_place::{Child, ChildPlace};
-pub use descent::{leaf_for, root};
+pub use descent::{leaf_beside, leaf_for, root};
 pub use entry_place::EntryPlace;
-pub use leaf_chain::next_entry;
+pub use leaf_chain::{next_entry, next_entry_beside};
 pub use levels::{has_level, tree_page};
 pub use listing::entries;
-pub use lookup::{locate, value_of};
-pub use next_key::{NextKey, leaf_and_next, next_in_leaf};
-pub use range::entries_between;
+pub use lookup::{locate, locate_beside, value_of};
+pub use next_key::{
+    NextKey, leaf_and_next, leaf_and_next_beside, next_in_leaf, next_in_leaf_beside,
+};
+pub use range::{entries_between, entries_between_beside};
 pub use reading::{child_in, child_of, level_of};
+pub use sight::Sight;

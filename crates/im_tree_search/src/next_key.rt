@@ -12,10 +12,15 @@ ghost use Rattle.im_tree_search.specs.Found.{HasTree, IsReached, entries_of};
 ghost use Rattle.im_tree_search.specs.HeldPages.{HoldsOn, IsQuiet};
 ghost use Rattle.im_tree_search.specs.NextKeys.{far_name, name_above, IsFar, IsWithin, IsNextInLeaf, IsLeafAndNext};
 ghost use Rattle.im_tree_search.specs.declared.next_key.NextKey.TheVariants.{There};
+ghost use Rattle.im_tree_search.specs.Beside.{Comes, MeetsDone};
+ghost use Rattle.im_tree_search.specs.Sights.{HasTreeBut, IfSeen, IsSettled, is_done};
 
-use crate::descent::leaf_for;
+use crate::change_beside::Beside;
+use crate::descent::leaf_beside;
 use crate::leaf_chain::{first_along, first_past};
-use crate::levels::tree_page;
+use crate::levels::page_beside;
+use crate::sight::Sight;
+use crate::sights::seen;
 use im_base_disk::Disk;
 use im_base_types::{Fault, Key, PageNo};
 use im_page::Page;
@@ -47,25 +52,68 @@ fn name_along<D: Disk>(
     disk: &mut D,
     from: PageNo,
     key: &[u8],
-) -> Result<NextKey, Fault>
+    beside: Beside<'_>,
+) -> Result<Sight<NextKey>, Fault>
     requires ready { IsReadyWriter D.Disk writer.old disk.old }
+    requires working { writer.old.failed ≡ false }
     ensures outcome { Reads D.Disk writer.old disk.old writer.new disk.new (fault_of result) }
-    ensures kept { (pages : AllPages) → HasTree D.Disk pages writer.old disk.old → IsAhead (bodies_of pages) (Above key.now) 0 from
-        → IsSound result (λ next. far_name next ≡ name_above key.now (bodies_of pages)) }
-    ensures far { IfOk result IsFar }
-    ensures quiet { (set : ℕ → Bool) → writer.old.failed ≡ false → HoldsOn key.now writer.old.pool set → (1 ≤ from → set from ≡ true) → IsQuiet writer.old disk.old writer.new disk.new }
+    ensures kept { (pages : AllPages) → HasTreeBut D.Disk pages beside.entry writer.old disk.old → IsAhead (bodies_of pages) (Above key.now) 0 from → Comes (bodies_of pages) (Above key.now) from
+        → IsSound result (IfSeen (λ next. far_name next ≡ name_above key.now (bodies_of pages)) (MeetsDone (bodies_of pages) (is_done beside.entry) (Above key.now))) }
+    ensures far { IfOk result (IfSeen IsFar (1 ≤ beside.entry.done)) }
+    ensures quiet { (set : ℕ → Bool) → HoldsOn key.now writer.old.pool set → (1 ≤ from → set from ≡ true) → IsQuiet writer.old disk.old writer.new disk.new }
 {
-    let Some(place) = first_along(writer, disk, from, key, false)? else {
-        return Ok(NextKey::End);
+    let Sight::Seen(found) = first_along(writer, disk, from, key, false, beside)? else {
+        return Ok(Sight::Hidden);
     };
-    Ok(copied(writer.page(place.frame), place.at))
+    let Some(place) = found else {
+        return Ok(Sight::Seen(NextKey::End));
+    };
+    Ok(Sight::Seen(copied(writer.page(place.frame), place.at)))
+}
+
+/// The next key above a key beside a structure change, beside the key's leaf, which is held. It is hidden where the key's leaf has to be
+/// got again and is made, or the walk along the chain comes to a leaf that is.
+///
+/// Refused as `next_entry` is.
+#[tactic(auto, using(im_page_writer::proofs::Outcomes::then, im_page_writer::proofs::Outcomes::refused))]
+pub fn next_in_leaf_beside<D: Disk>(
+    writer: &mut PageWriter,
+    disk: &mut D,
+    leaf: Frame,
+    key: &[u8],
+    beside: Beside<'_>,
+) -> Result<Sight<(Frame, NextKey)>, Fault>
+    requires ready { IsReadyWriter D.Disk writer.old disk.old }
+    requires working { writer.old.failed ≡ false }
+    requires at { IsAt writer.old.pool leaf }
+    requires page { HasLevel 0 (page_at writer.old.pool leaf.number).body }
+    ensures outcome { Reads D.Disk writer.old disk.old writer.new disk.new (fault_of result) }
+    ensures kept { (pages : AllPages) → HasTreeBut D.Disk pages beside.entry writer.old disk.old → IsReached pages key.now 0 leaf.number writer.old.pool
+        → IsSound result (IfSeen (λ x. IsNextInLeaf pages key.now x.0.number x.1 writer.old.pool.gets writer.new.pool) (MeetsDone (bodies_of pages) (is_done beside.entry) (Above key.now))) }
+    ensures at { IfOk result (IfSeen (λ x. IsAt writer.new.pool x.0) (1 ≤ beside.entry.done)) }
+    ensures number { IfOk result (IfSeen (λ x. x.0.number ≡ leaf.number) Unit) }
+    ensures leaf { IfOk result (IfSeen (λ x. HasLevel 0 (page_at writer.new.pool x.0.number).body) Unit) }
+    ensures within { IfOk result (IfSeen (λ x. IsWithin (entries_of writer.new.pool x.0.number) x.1) Unit) }
+    ensures quiet { (set : ℕ → Bool) → HoldsOn key.now writer.old.pool set → set leaf.number ≡ true → IsQuiet writer.old disk.old writer.new disk.new }
+{
+    let page = writer.page(leaf);
+    if let Some(at) = first_past(page, key, false) {
+        return Ok(Sight::Seen((leaf, NextKey::Here(at))));
+    }
+    let next = page.next();
+    let Sight::Seen(name) = name_along(writer, disk, next, key, beside)? else {
+        return Ok(Sight::Hidden);
+    };
+    let Sight::Seen(frame) = page_beside(writer, disk, leaf.number, 0, beside)? else {
+        return Ok(Sight::Hidden);
+    };
+    Ok(Sight::Seen((frame, name)))
 }
 
 /// The next key above a key, beside the key's leaf, which is held: the leaf's own entries are looked at first, by no get; where none is
 /// above the key, the search goes along the leaf chain, and then gets the leaf again. Answered is where the leaf is held from now on.
 ///
 /// Refused as `next_entry` is.
-#[tactic(auto, using(im_page_writer::proofs::Outcomes::then, im_page_writer::proofs::Outcomes::refused))]
 pub fn next_in_leaf<D: Disk>(
     writer: &mut PageWriter,
     disk: &mut D,
@@ -85,21 +133,39 @@ pub fn next_in_leaf<D: Disk>(
     ensures within { IfOk result (λ x. IsWithin (entries_of writer.new.pool x.0.number) x.1) }
     ensures quiet { (set : ℕ → Bool) → HoldsOn key.now writer.old.pool set → set leaf.number ≡ true → IsQuiet writer.old disk.old writer.new disk.new }
 {
-    let page = writer.page(leaf);
-    if let Some(at) = first_past(page, key, false) {
-        return Ok((leaf, NextKey::Here(at)));
-    }
-    let next = page.next();
-    let name = name_along(writer, disk, next, key)?;
-    let frame = tree_page(writer, disk, leaf.number, 0)?;
-    Ok((frame, name))
+    seen(next_in_leaf_beside(writer, disk, leaf, key, Beside::none()))
+}
+
+/// Where the leaf of a key is held from now on, and the next key above it, beside a structure change. It is hidden where a page on the
+/// key's way is made, or a leaf that the walk along the chain comes to.
+///
+/// Refused as `next_entry` is.
+#[tactic(auto, using(im_page_writer::proofs::Outcomes::then, im_page_writer::proofs::Outcomes::refused))]
+pub fn leaf_and_next_beside<D: Disk>(
+    writer: &mut PageWriter,
+    disk: &mut D,
+    key: &[u8],
+    beside: Beside<'_>,
+) -> Result<Sight<(Frame, NextKey)>, Fault>
+    requires ready { IsReadyWriter D.Disk writer.old disk.old }
+    ensures outcome { Reads D.Disk writer.old disk.old writer.new disk.new (fault_of result) }
+    ensures kept { (pages : AllPages) → HasTreeBut D.Disk pages beside.entry writer.old disk.old
+        → IsSound result (IfSeen (λ x. IsLeafAndNext pages key.now x.0.number x.1 writer.old.pool.gets writer.new.pool) (MeetsDone (bodies_of pages) (is_done beside.entry) (Above key.now))) }
+    ensures at { IfOk result (IfSeen (λ x. IsAt writer.new.pool x.0) (1 ≤ beside.entry.done)) }
+    ensures leaf { IfOk result (IfSeen (λ x. HasLevel 0 (page_at writer.new.pool x.0.number).body) Unit) }
+    ensures within { IfOk result (IfSeen (λ x. IsWithin (entries_of writer.new.pool x.0.number) x.1) Unit) }
+    ensures quiet { (set : ℕ → Bool) → writer.old.failed ≡ false → HoldsOn key.now writer.old.pool set → IsQuiet writer.old disk.old writer.new disk.new }
+{
+    let Sight::Seen(leaf) = leaf_beside(writer, disk, key, beside)? else {
+        return Ok(Sight::Hidden);
+    };
+    next_in_leaf_beside(writer, disk, leaf, key, beside)
 }
 
 /// Where the leaf of a key is held from now on, and the next key above it. The leaf's own entries are looked at first, by one get for
 /// each level; where none is above the key, the search goes along the leaf chain, and then gets the leaf again, so that it is held.
 ///
 /// Refused as `next_entry` is.
-#[tactic(auto, using(im_page_writer::proofs::Outcomes::then, im_page_writer::proofs::Outcomes::refused))]
 pub fn leaf_and_next<D: Disk>(
     writer: &mut PageWriter,
     disk: &mut D,
@@ -114,6 +180,5 @@ pub fn leaf_and_next<D: Disk>(
     ensures within { IfOk result (λ x. IsWithin (entries_of writer.new.pool x.0.number) x.1) }
     ensures quiet { (set : ℕ → Bool) → writer.old.failed ≡ false → HoldsOn key.now writer.old.pool set → IsQuiet writer.old disk.old writer.new disk.new }
 {
-    let leaf = leaf_for(writer, disk, key)?;
-    next_in_leaf(writer, disk, leaf, key)
+    seen(leaf_and_next_beside(writer, disk, key, Beside::none()))
 }

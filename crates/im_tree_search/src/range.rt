@@ -10,11 +10,16 @@ ghost use Rattle.im_tree_search.specs.Levels.{bodies_of};
 ghost use Rattle.im_tree_search.specs.Found.{HasTree};
 ghost use Rattle.im_tree_search.specs.NextKeys.{IsFar};
 ghost use Rattle.im_tree_search.specs.Ranges.{IsAlong, IsPart, Ranged, RangesAlong};
+ghost use Rattle.im_tree_search.specs.RangesBeside.{ScanMeetsDone};
+ghost use Rattle.im_tree_search.specs.Sights.{HasTreeBut, IfSeen};
 
-use crate::descent::leaf_for;
-use crate::leaf_chain::{page_count, place_past};
-use crate::levels::tree_page;
+use crate::change_beside::Beside;
+use crate::descent::leaf_beside;
+use crate::leaf_chain::{count_beside, place_past};
+use crate::levels::page_beside;
 use crate::next_key::{NextKey, copied};
+use crate::sight::Sight;
+use crate::sights::seen;
 use im_base_disk::Disk;
 use im_base_types::{Fault, Key, MOST_ENTRIES, PageNo, Rid, compare, push_entry};
 use im_page::Page;
@@ -73,7 +78,7 @@ fn add_part(
     Ok(None)
 }
 
-// The rest of a range along the leaf chain, from a leaf after that of `lo` on.
+// The rest of a range along the leaf chain, from a leaf after that of `lo` on; hidden where it comes to a leaf that is made.
 #[tactic(auto, using(im_page_writer::proofs::Outcomes::then, im_page_writer::proofs::Outcomes::refused))]
 fn range_along<D: Disk>(
     writer: &mut PageWriter,
@@ -83,31 +88,78 @@ fn range_along<D: Disk>(
     lo: &[u8],
     hi: &[u8],
     limit: usize,
-) -> Result<Option<NextKey>, Fault>
+    beside: Beside<'_>,
+) -> Result<Sight<Option<NextKey>>, Fault>
     requires ready { IsReadyWriter D.Disk writer.old disk.old }
+    requires working { writer.old.failed ≡ false }
     requires room { length list.old.items < limit }
     requires order { is_below hi.now lo.now ≡ false }
     ensures outcome { Lists D.Disk writer.old disk.old writer.new disk.new (fault_of result) }
-    ensures kept { (pages : AllPages) (n : ℕ) → HasTree D.Disk pages writer.old disk.old → IsAlong (bodies_of pages) lo.now hi.now list.old.items n from → 1 ≤ n
-        → IsSound result (λ behind. RangesAlong (bodies_of pages) lo.now hi.now limit n list.new.items behind writer.old.pool.gets writer.new.pool.gets) }
-    ensures far { IfOk result (λ behind. IfSome behind IsFar) }
+    ensures kept { (pages : AllPages) (n : ℕ) → HasTreeBut D.Disk pages beside.entry writer.old disk.old → IsAlong (bodies_of pages) lo.now hi.now list.old.items n from → 1 ≤ n
+        → IsSound result (IfSeen (λ behind. RangesAlong (bodies_of pages) lo.now hi.now limit n list.new.items behind writer.old.pool.gets writer.new.pool.gets) (ScanMeetsDone (bodies_of pages) beside.entry lo.now hi.now limit)) }
+    ensures far { IfOk result (IfSeen (λ behind. IfSome behind IsFar) (1 ≤ beside.entry.done)) }
     ensures most { OnOk result (length list.new.items ≤ limit) }
 {
-    let mut left = page_count(writer, disk)?;
+    let mut left = count_beside(writer, disk, beside)?;
     let mut number = from;
     while number != 0 {
         if left == 0 {
             return Err(Fault::NotAStore);
         }
         left -= 1;
-        let frame = tree_page(writer, disk, number, 0)?;
+        let Sight::Seen(frame) = page_beside(writer, disk, number, 0, beside)? else {
+            return Ok(Sight::Hidden);
+        };
         let leaf = writer.page(frame);
         if let Some(behind) = add_part(list, leaf, lo, hi, limit)? {
-            return Ok(behind);
+            return Ok(Sight::Seen(behind));
         }
         number = leaf.next();
     }
-    Ok(Some(NextKey::End))
+    Ok(Sight::Seen(Some(NextKey::End)))
+}
+
+/// Copies of the entries of a range beside a structure change, and the key after them, as `entries_between` answers them. It is hidden
+/// where a page on the way to `lo` is made, or a leaf that the walk along the chain comes to before it has `limit` entries.
+///
+/// Refused as `entries_between` is.
+#[tactic(auto, using(im_page_writer::proofs::Outcomes::then, im_page_writer::proofs::Outcomes::refused))]
+pub fn entries_between_beside<D: Disk>(
+    alloc: Global,
+    writer: &mut PageWriter,
+    disk: &mut D,
+    lo: &[u8],
+    hi: &[u8],
+    limit: usize,
+    beside: Beside<'_>,
+) -> Result<Sight<(Vec<(Key, Rid)>, Option<NextKey>)>, Fault>
+    requires ready { IsReadyWriter D.Disk writer.old disk.old }
+    ensures outcome { Lists D.Disk writer.old disk.old writer.new disk.new (fault_of result) }
+    ensures kept { (pages : AllPages) → HasTreeBut D.Disk pages beside.entry writer.old disk.old
+        → IsSound result (IfSeen (λ x. Ranged (bodies_of pages) lo.now hi.now limit x.0.items x.1 writer.old.pool.gets writer.new.pool.gets) (ScanMeetsDone (bodies_of pages) beside.entry lo.now hi.now limit)) }
+    ensures far { IfOk result (IfSeen (λ x. IfSome x.1 IsFar) (1 ≤ beside.entry.done)) }
+    ensures most { IfOk result (IfSeen (λ x. length x.0.items ≤ limit) Unit) }
+{
+    let Sight::Seen(frame) = leaf_beside(writer, disk, lo, beside)? else {
+        return Ok(Sight::Hidden);
+    };
+    let mut list = list_for(alloc, limit)?;
+    if limit == 0 {
+        return Ok(Sight::Seen((list, None)));
+    }
+    if lies_below(hi, lo) {
+        return Ok(Sight::Seen((list, None)));
+    }
+    let leaf = writer.page(frame);
+    let next = leaf.next();
+    if let Some(behind) = add_part(&mut list, leaf, lo, hi, limit)? {
+        return Ok(Sight::Seen((list, behind)));
+    }
+    let Sight::Seen(behind) = range_along(writer, disk, &mut list, next, lo, hi, limit, beside)?
+    else {
+        return Ok(Sight::Hidden);
+    };
+    Ok(Sight::Seen((list, behind)))
 }
 
 /// Copies of the entries from `lo` to `hi`, in rising key order, the first `limit` of them, and the key after them: where they are
@@ -116,7 +168,6 @@ fn range_along<D: Disk>(
 /// It goes down once, to the leaf of `lo`, by one get for each level, and then along the leaf chain, by one get for each leaf, until
 /// a leaf has a key above `hi`. Refused `Memory` where there is no room for the list too; otherwise as `next_entry` is. After
 /// `NotAStore` and `Memory` the writer goes on.
-#[tactic(auto, using(im_page_writer::proofs::Outcomes::then, im_page_writer::proofs::Outcomes::refused))]
 pub fn entries_between<D: Disk>(
     alloc: Global,
     writer: &mut PageWriter,
@@ -132,19 +183,5 @@ pub fn entries_between<D: Disk>(
     ensures far { IfOk result (λ x. IfSome x.1 IsFar) }
     ensures most { IfOk result (λ x. length x.0.items ≤ limit) }
 {
-    let frame = leaf_for(writer, disk, lo)?;
-    let mut list = list_for(alloc, limit)?;
-    if limit == 0 {
-        return Ok((list, None));
-    }
-    if lies_below(hi, lo) {
-        return Ok((list, None));
-    }
-    let leaf = writer.page(frame);
-    let next = leaf.next();
-    if let Some(behind) = add_part(&mut list, leaf, lo, hi, limit)? {
-        return Ok((list, behind));
-    }
-    let behind = range_along(writer, disk, &mut list, next, lo, hi, limit)?;
-    Ok((list, behind))
+    seen(entries_between_beside(alloc, writer, disk, lo, hi, limit, Beside::none()))
 }

@@ -1,37 +1,6 @@
-use Rattle.std.proofs.Common.{ℕ, ap, sym, ◌∙◌, subst, false}
-use Rattle.std.specs.Bool.{IsTrue}
-use Rattle.im_base_types.specs.Pages.{Page}
-use Rattle.im_page_pool.specs.Pool.{page_at}
-use Rattle.im_page_writer.proofs.Outcomes.{pages_to, sound_on}
-use Rattle.im_theory_tree.specs.Levels.{height}
-use Rattle.im_theory_tree.proofs.Way.{way_begins}
-use Rattle.im_tree_search.specs.Levels.{HasLevel, bodies_of}
-use Rattle.im_tree_search.specs.Found.{IsReached}
-use Rattle.im_tree_search.proofs.Steps.{way_level}
-use Rattle.im_tree_search.proofs.Quiet.{got_quiet}
+use Rattle.im_tree_search.proofs.Steps.{root_level, root_reached}
 use Rattle.im_tree_search.proofs.descent.root.Goals as goal
-
-pub returns-in_err-frame-clause-kept : goal.returns-in_err-frame-clause-kept
-returns-in_err-frame-clause-kept g c pages key tree = sound_on c.from_residual.result _ _ c.from_residual.ensures.1 (c.in_err-frame.ensures.kept pages (pages_to g.D.Disk 1 tree.has))
-
-pub returns-then-not-has_level-clause-kept : goal.returns-then-not-has_level-clause-kept
-returns-then-not-has_level-clause-kept g c pages key tree =
-    let same = c.page-page.ensures.page ∙ ap (λ (n : ℕ). page_at c.get.new.self.pool n) c.in_ok-frame.ensures.frame ∙ c.in_ok-frame.ensures.kept pages (pages_to g.D.Disk 1 tree.has) in
-    let level = way_level (bodies_of pages) (height (bodies_of pages)) key 1 (way_begins (bodies_of pages) tree.spare key tree.good) in
-    let at : HasLevel c.page-page.result.now.body.level c.page-page.result.now.body = subst (λ (x : Page). HasLevel x.body.level x.body) (sym same) level in
-    let no : IsTrue false = c.if-not-has_level.ensures.1 (subst (λ (h : ℕ). HasLevel h c.page-page.result.now.body) (sym c.level.ensures) at) in
-    absurd (cc no)
 
 pub returns-clause-kept : goal.returns-clause-kept
 returns-clause-kept g c pages key tree =
-    subst (λ (n : ℕ). IsReached pages key (height (bodies_of pages)) n c.get.new.self.pool) (sym c.in_ok-frame.ensures.frame)
-    (record { shown = c.in_ok-frame.ensures.kept pages (pages_to g.D.Disk 1 tree.has); way = way_begins (bodies_of pages) tree.spare key tree.good })
-
-pub returns-in_err-frame-clause-quiet : goal.returns-in_err-frame-clause-quiet
-returns-in_err-frame-clause-quiet g c working holds = got_quiet (c.in_err-frame.ensures.held working holds) (c.in_err-frame.ensures.quiet working holds)
-
-pub returns-then-not-has_level-clause-quiet : goal.returns-then-not-has_level-clause-quiet
-returns-then-not-has_level-clause-quiet g c working holds = got_quiet (c.in_ok-frame.ensures.held working holds) (c.in_ok-frame.ensures.quiet working holds)
-
-pub returns-clause-quiet : goal.returns-clause-quiet
-returns-clause-quiet g c working holds = got_quiet (c.in_ok-frame.ensures.held working holds) (c.in_ok-frame.ensures.quiet working holds)
+    root_reached c.root_page.result pages key c.root_page.new.writer.pool tree.spare tree.good (c.root_page.ensures.kept pages tree.has (root_level pages key tree.spare tree.good)) c.root_page.ensures.root

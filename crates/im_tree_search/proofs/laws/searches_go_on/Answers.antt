@@ -1,4 +1,4 @@
-use Rattle.im_tree_search.proofs.Beside.{searches_go_on}
+use Rattle.im_tree_search.proofs.GoingOn.{searches_go_on}
 use Rattle.im_tree_search.proofs.laws.searches_go_on.Goals as goal
 
 pub returns : goal.returns

@@ -19,7 +19,7 @@ pub returns-in_err-left-clause-outcome : goal.returns-in_err-left-clause-outcome
 returns-in_err-left-clause-outcome g c = refused g.D.Disk c.from_residual-in_err-left.result c.from_residual-in_err-left.ensures.1 (then g.D.Disk c.in_ok-first.ensures.outcome (read_more g.D.Disk mild refl c.in_err-left.ensures.outcome))
 
 pub returns-in_err-left-clause-kept : goal.returns-in_err-left-clause-kept
-returns-in_err-left-clause-kept g c pages tree = sound_on c.from_residual-in_err-left.result _ _ c.from_residual-in_err-left.ensures.1 (c.in_err-left.ensures.kept pages (tree_still g.D.Disk tree c.in_ok-first.ensures.outcome))
+returns-in_err-left-clause-kept g c pages tree = sound_on c.from_residual-in_err-left.result _ _ c.from_residual-in_err-left.ensures.1 (c.in_err-left.ensures.kept pages (tree_still g.D.Disk tree c.in_ok-first.ensures.outcome).has tree.good.meta)
 
 pub loop-number-init : goal.loop-number-init
 loop-number-init g c =
@@ -30,7 +30,7 @@ loop-number-init g c =
       kept = λ pages tree. record {
         passed = 0;
         listed = subst (λ (es : List _). IsListed (bodies_of pages) es 0 c.in_ok-first.first.number) (sym c.new-list.ensures.items) (listed_begins (bodies_of pages) tree.spare c.in_ok-first.first.number tree.good (first.kept pages tree).reached.way);
-        count = omega (arith, e.kept pages (tree_still g.D.Disk tree first.outcome));
+        count = omega (arith, e.kept pages (tree_still g.D.Disk tree first.outcome).has tree.good.meta);
       };
     }
 

@@ -1,26 +1,14 @@
-use Rattle.std.proofs.Common.{ap, sym, ◌∙◌}
-use Rattle.std.specs.FinMap.Entries.{find}
-use Rattle.im_base_types.specs.Keys.{key_order}
-use Rattle.im_base_types.specs.Pages.{Page}
-use Rattle.im_page_writer.proofs.Outcomes.{sound_on}
-use Rattle.im_theory_tree.proofs.LookupLemmas.{leaf_value}
-use Rattle.im_tree_search.specs.Levels.{bodies_of}
+use Rattle.im_tree_search.proofs.Sighted.{open_of, seen_reads, seen_sound, tree_but}
 use Rattle.im_tree_search.proofs.lookup.locate.Goals as goal
 
-pub returns-in_err-frame-clause-kept : goal.returns-in_err-frame-clause-kept
-returns-in_err-frame-clause-kept g c pages tree = sound_on c.from_residual.result _ _ c.from_residual.ensures.1 (c.in_err-frame.ensures.kept pages tree)
+pub seen-requires : goal.seen-requires
+seen-requires g c = open_of c.locate_beside.result _ _ c.none.ensures.done c.locate_beside.ensures.made
+
+pub returns-clause-outcome : goal.returns-clause-outcome
+returns-clause-outcome g c = seen_reads g.D.Disk c.locate_beside.result c.seen.result c.seen.ensures c.locate_beside.ensures.outcome
 
 pub returns-clause-kept : goal.returns-clause-kept
-returns-clause-kept g c pages tree =
-    let r = c.in_ok-frame.ensures.kept pages tree in
-    record {
-      answer = c.value_of.ensures ∙ ap (λ (x : Page). find key_order c.args.key.now x.body.entries) (c.page.ensures.page ∙ r.reached.shown)
-          ∙ sym (leaf_value (bodies_of pages) tree.spare c.args.key.now c.in_ok-frame.frame.number tree.good r.reached.way);
-      gets = r.gets;
-    }
-
-pub returns-in_err-frame-clause-quiet : goal.returns-in_err-frame-clause-quiet
-returns-in_err-frame-clause-quiet g c set working way = c.in_err-frame.ensures.quiet set working way
+returns-clause-kept g c pages tree = seen_sound c.locate_beside.result c.seen.result _ _ c.seen.ensures (c.locate_beside.ensures.kept pages (tree_but g.D.Disk c.none.result c.none.ensures.done tree))
 
 pub returns-clause-quiet : goal.returns-clause-quiet
-returns-clause-quiet g c set working way = c.in_ok-frame.ensures.quiet set working way
+returns-clause-quiet g c set working way = c.locate_beside.ensures.quiet set working way

@@ -1,26 +1,23 @@
-use Rattle.std.proofs.Common.{◌∙◌}
-use Rattle.im_page_writer.proofs.Outcomes.{sound_also, sound_on, then}
-use Rattle.im_tree_search.proofs.Pages.{tree_still}
-use Rattle.im_tree_search.proofs.Quiet.{on_still, quiet_then}
+use Rattle.im_tree_search.proofs.Sighted.{open_of, seen_ok, seen_reads, seen_sound, tree_but}
 use Rattle.im_tree_search.proofs.next_key.leaf_and_next.Goals as goal
 
-pub returns-in_err-leaf-clause-kept : goal.returns-in_err-leaf-clause-kept
-returns-in_err-leaf-clause-kept g c pages tree = sound_on c.from_residual.result _ _ c.from_residual.ensures.1 (c.in_err-leaf.ensures.kept pages tree)
+pub seen-requires : goal.seen-requires
+seen-requires g c = open_of c.leaf_and_next_beside.result _ _ c.none.ensures.done c.leaf_and_next_beside.ensures.at
 
 pub returns-clause-outcome : goal.returns-clause-outcome
-returns-clause-outcome g c = then g.D.Disk c.in_ok-leaf.ensures.outcome c.next_in_leaf.ensures.outcome
+returns-clause-outcome g c = seen_reads g.D.Disk c.leaf_and_next_beside.result c.seen.result c.seen.ensures c.leaf_and_next_beside.ensures.outcome
 
 pub returns-clause-kept : goal.returns-clause-kept
-returns-clause-kept g c pages tree =
-    let r = c.in_ok-leaf.ensures.kept pages tree in
-    sound_also c.next_in_leaf.result _ _ (c.next_in_leaf.ensures.kept pages (tree_still g.D.Disk tree c.in_ok-leaf.ensures.outcome) r.reached)
-    (λ x is. record { leaf = is.leaf; name = is.name; gets = λ here. is.gets here ∙ r.gets })
+returns-clause-kept g c pages tree = seen_sound c.leaf_and_next_beside.result c.seen.result _ _ c.seen.ensures (c.leaf_and_next_beside.ensures.kept pages (tree_but g.D.Disk c.none.result c.none.ensures.done tree))
 
-pub returns-in_err-leaf-clause-quiet : goal.returns-in_err-leaf-clause-quiet
-returns-in_err-leaf-clause-quiet g c set working on = c.in_err-leaf.ensures.quiet set working on.way
+pub returns-clause-at : goal.returns-clause-at
+returns-clause-at g c = seen_ok c.leaf_and_next_beside.result c.seen.result _ _ _ c.seen.ensures c.leaf_and_next_beside.ensures.at (λ x is. is)
+
+pub returns-clause-leaf : goal.returns-clause-leaf
+returns-clause-leaf g c = seen_ok c.leaf_and_next_beside.result c.seen.result _ _ _ c.seen.ensures c.leaf_and_next_beside.ensures.leaf (λ x is. is)
+
+pub returns-clause-within : goal.returns-clause-within
+returns-clause-within g c = seen_ok c.leaf_and_next_beside.result c.seen.result _ _ _ c.seen.ensures c.leaf_and_next_beside.ensures.within (λ x is. is)
 
 pub returns-clause-quiet : goal.returns-clause-quiet
-returns-clause-quiet g c set working on =
-    let e = c.in_ok-leaf.ensures in
-    let still = e.quiet set working on.way in
-    quiet_then still (c.next_in_leaf.ensures.quiet set (on_still c.args.key.now set on still) (e.within set working on.way))
+returns-clause-quiet g c set working on = c.leaf_and_next_beside.ensures.quiet set working on

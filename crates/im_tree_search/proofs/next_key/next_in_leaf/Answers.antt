@@ -1,84 +1,26 @@
-use Rattle.std.proofs.Common.{◌<◌, ℕ, false, length, refl, sym, ◌∙◌, ap, subst}
-use Rattle.im_base_types.specs.Pages.{Page}
-use Rattle.im_base_types.specs.Maps.{Above}
-use Rattle.im_page_pool.specs.Pool.{page_at}
-use Rattle.im_page_writer.proofs.Outcomes.{idle, sound_on, then}
-use Rattle.im_theory_tree.proofs.LookupLemmas.{way_known}
-use Rattle.im_tree_search.specs.Levels.{bodies_of}
-use Rattle.im_tree_search.specs.Found.{IsReached, entries_of}
-use Rattle.im_tree_search.proofs.Chain.{ahead_here, ahead_answer, leads_on}
-use Rattle.im_tree_search.proofs.NextNames.{far_is, far_within, key_of, never_both}
-use Rattle.im_tree_search.proofs.Pages.{tree_still}
-use Rattle.im_tree_search.proofs.Steps.{way_level}
-use Rattle.im_tree_search.proofs.Quiet.{next_in_set, on_still, quiet_start, quiet_then}
+use Rattle.im_tree_search.proofs.Sighted.{open_of, seen_ok, seen_reads, seen_sound, tree_but}
 use Rattle.im_tree_search.proofs.next_key.next_in_leaf.Goals as goal
 
-pub returns-in-Some-clause-outcome : goal.returns-in-Some-clause-outcome
-returns-in-Some-clause-outcome g c = idle g.D.Disk g.met.D.Disk.only_now c.args.writer.now c.args.disk.now c.requires.working c.requires.ready
-
-pub returns-in-Some-clause-kept : goal.returns-in-Some-clause-kept
-returns-in-Some-clause-kept g c pages tree r =
-    let p = c.args.leaf.number in
-    let ahead = ahead_here (bodies_of pages) tree.spare false c.args.key.now p tree.good r.way in
-    record {
-      leaf = r;
-      name = ap key_of (ahead_answer (bodies_of pages) (Above c.args.key.now) 0 p c.page-page.result.now (page_at c.args.writer.now.pool p) c.in-Some.at ahead (way_known (bodies_of pages) tree.spare 0 c.args.key.now p tree.good r.way).0
-          c.page-page.ensures.page (ap (λ (x : Page). x.body) r.shown) c.in-Some.ensures.some.1);
-      gets = λ here. refl;
-    }
-
-pub returns-in_err-name-clause-kept : goal.returns-in_err-name-clause-kept
-returns-in_err-name-clause-kept g c pages tree r =
-    let p = c.args.leaf.number in
-    let next = leads_on (bodies_of pages) tree.spare false c.args.key.now p c.page-page.result.now (page_at c.args.writer.now.pool p) c.next-next.result tree.good r.way c.page-page.ensures.page (ap (λ (x : Page). x.body) r.shown) (c.in_default.ensures.none refl) c.next-next.ensures in
-    sound_on c.from_residual.result _ _ c.from_residual.ensures.1 (c.in_err-name.ensures.kept pages tree next)
-
-pub returns-in_err-frame-clause-kept : goal.returns-in_err-frame-clause-kept
-returns-in_err-frame-clause-kept g c pages tree r =
-    sound_on c.from_residual-in_err-frame.result _ _ c.from_residual-in_err-frame.ensures.1
-    (c.in_err-frame.ensures.kept pages (tree_still g.D.Disk tree c.in_ok-name.ensures.outcome).has (way_level (bodies_of pages) 0 c.args.key.now c.args.leaf.number r.way))
+pub seen-requires : goal.seen-requires
+seen-requires g c = open_of c.next_in_leaf_beside.result _ _ c.none.ensures.done c.next_in_leaf_beside.ensures.at
 
 pub returns-clause-outcome : goal.returns-clause-outcome
-returns-clause-outcome g c = then g.D.Disk c.in_ok-name.ensures.outcome c.in_ok-frame.ensures.outcome
+returns-clause-outcome g c = seen_reads g.D.Disk c.next_in_leaf_beside.result c.seen.result c.seen.ensures c.next_in_leaf_beside.ensures.outcome
 
 pub returns-clause-kept : goal.returns-clause-kept
-returns-clause-kept g c pages tree r =
-    let p = c.args.leaf.number in
-    let next = leads_on (bodies_of pages) tree.spare false c.args.key.now p c.page-page.result.now (page_at c.args.writer.now.pool p) c.next-next.result tree.good r.way c.page-page.ensures.page (ap (λ (x : Page). x.body) r.shown) (c.in_default.ensures.none refl) c.next-next.ensures in
-    let name = c.in_ok-name.ensures.kept pages tree next in
-    let shown = c.in_ok-frame.ensures.kept pages (tree_still g.D.Disk tree c.in_ok-name.ensures.outcome).has (way_level (bodies_of pages) 0 c.args.key.now p r.way) in
-    let pool = c.tree_page.new.writer.pool in
-    let leaf : IsReached pages c.args.key.now 0 p pool = record { shown = shown; way = r.way } in
-    record {
-      leaf = subst (λ (n : ℕ). IsReached pages c.args.key.now 0 n pool) (sym c.in_ok-frame.ensures.frame) leaf;
-      name = far_is pool c.in_ok-frame.frame.number c.in_ok-name.name c.in_ok-name.ensures.far ∙ name;
-      gets = λ here. absurd (never_both c.in_ok-name.name c.in_ok-name.ensures.far here);
-    }
+returns-clause-kept g c pages tree r = seen_sound c.next_in_leaf_beside.result c.seen.result _ _ c.seen.ensures (c.next_in_leaf_beside.ensures.kept pages (tree_but g.D.Disk c.none.result c.none.ensures.done tree) r)
 
-pub returns-in-Some-clause-within : goal.returns-in-Some-clause-within
-returns-in-Some-clause-within g c = subst (λ (x : Page). c.in-Some.at < length x.body.entries) c.page-page.ensures.page c.in-Some.ensures.some.0
+pub returns-clause-at : goal.returns-clause-at
+returns-clause-at g c = seen_ok c.next_in_leaf_beside.result c.seen.result _ _ _ c.seen.ensures c.next_in_leaf_beside.ensures.at (λ x is. is)
+
+pub returns-clause-number : goal.returns-clause-number
+returns-clause-number g c = seen_ok c.next_in_leaf_beside.result c.seen.result _ _ _ c.seen.ensures c.next_in_leaf_beside.ensures.number (λ x is. is)
+
+pub returns-clause-leaf : goal.returns-clause-leaf
+returns-clause-leaf g c = seen_ok c.next_in_leaf_beside.result c.seen.result _ _ _ c.seen.ensures c.next_in_leaf_beside.ensures.leaf (λ x is. is)
 
 pub returns-clause-within : goal.returns-clause-within
-returns-clause-within g c = far_within (entries_of c.tree_page.new.writer.pool c.in_ok-frame.frame.number) c.in_ok-name.name c.in_ok-name.ensures.far
-
-pub returns-in-Some-clause-quiet : goal.returns-in-Some-clause-quiet
-returns-in-Some-clause-quiet g c set on in_set = quiet_start c.args.writer.now c.args.disk.now
-
-pub returns-in_err-name-clause-quiet : goal.returns-in_err-name-clause-quiet
-returns-in_err-name-clause-quiet g c set on in_set =
-    c.in_err-name.ensures.quiet set c.requires.working on
-    (λ some. next_in_set c.args.key.now set c.args.writer.now.pool c.args.leaf.number c.next-next.result c.page-page.result.now on in_set c.requires.page c.page-page.ensures.page c.next-next.ensures some)
-
-pub returns-in_err-frame-clause-quiet : goal.returns-in_err-frame-clause-quiet
-returns-in_err-frame-clause-quiet g c set on in_set =
-    let e = c.in_ok-name.ensures in
-    let still = e.quiet set c.requires.working on
-    (λ some. next_in_set c.args.key.now set c.args.writer.now.pool c.args.leaf.number c.next-next.result c.page-page.result.now on in_set c.requires.page c.page-page.ensures.page c.next-next.ensures some) in
-    quiet_then still (c.in_err-frame.ensures.quiet e.outcome.ends.works ((on_still c.args.key.now set on still).way.held c.args.leaf.number in_set))
+returns-clause-within g c = seen_ok c.next_in_leaf_beside.result c.seen.result _ _ _ c.seen.ensures c.next_in_leaf_beside.ensures.within (λ x is. is)
 
 pub returns-clause-quiet : goal.returns-clause-quiet
-returns-clause-quiet g c set on in_set =
-    let e = c.in_ok-name.ensures in
-    let still = e.quiet set c.requires.working on
-    (λ some. next_in_set c.args.key.now set c.args.writer.now.pool c.args.leaf.number c.next-next.result c.page-page.result.now on in_set c.requires.page c.page-page.ensures.page c.next-next.ensures some) in
-    quiet_then still (c.in_ok-frame.ensures.quiet e.outcome.ends.works ((on_still c.args.key.now set on still).way.held c.args.leaf.number in_set))
+returns-clause-quiet g c set on in_set = c.next_in_leaf_beside.ensures.quiet set on in_set

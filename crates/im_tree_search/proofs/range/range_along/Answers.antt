@@ -1,9 +1,12 @@
-use Rattle.std.proofs.Common.{◌≤◌, ℕ, suc, sym, subst, arith, refl}
+use Rattle.std.proofs.Common.{◌≤◌, ◌<◌, ℕ, List, length, suc, sym, subst, arith, refl}
+use Rattle.im_base_types.specs.Pages.{Entry}
 use Rattle.im_page_pool.specs.Pool.{page_at}
 use Rattle.im_page_writer.proofs.Outcomes.{out_of_memory, refused, sound_on, then, read_more, refuses}
 use Rattle.im_tree_search.specs.Levels.{bodies_of}
 use Rattle.im_tree_search.specs.Ranges.{IsAlong}
-use Rattle.im_tree_search.proofs.Pages.{got_says, tree_still}
+use Rattle.im_tree_search.specs.RangesBeside.{along as made_along}
+use Rattle.im_tree_search.proofs.Sighted.{at_hidden, at_seen, but_still}
+use Rattle.im_tree_search.proofs.Pages.{got_says}
 use Rattle.im_tree_search.proofs.Walks.{memory_not}
 use Rattle.im_tree_search.proofs.Ranges.{along_ends, along_level, along_on, along_stops, along_within, part_none, part_some}
 use Rattle.im_page_writer.specs.Outcome.{mild}
@@ -42,7 +45,26 @@ returns-in_err-frame-clause-kept g c pages n tree along some =
     let l = c.loop-number in
     let so = l.invariant.kept pages n tree along some in
     let level = along_level (bodies_of pages) tree.spare c.args.lo.now c.args.hi.now l.list.items so.n l.number tree.good so.along (omega (arith, c.loop-number-test.true)) in
-    sound_on c.from_residual-in_err-frame.result _ _ c.from_residual-in_err-frame.ensures.1 (c.in_err-frame.ensures.kept pages (tree_still g.D.Disk tree l.invariant.outcome).has level)
+    sound_on c.from_residual-in_err-frame.result _ _ c.from_residual-in_err-frame.ensures.1 (c.in_err-frame.ensures.kept pages (but_still g.D.Disk tree l.invariant.outcome) level)
+
+pub returns-in_default-clause-outcome : goal.returns-in_default-clause-outcome
+returns-in_default-clause-outcome g c = then g.D.Disk c.loop-number.invariant.outcome (read_more g.D.Disk mild refl c.in_ok-frame.ensures.outcome)
+
+pub returns-in_default-clause-kept : goal.returns-in_default-clause-kept
+returns-in_default-clause-kept g c pages n tree along some =
+    let l = c.loop-number in
+    let so = l.invariant.kept pages n tree along some in
+    let here : 1 ≤ l.number = omega (arith, c.loop-number-test.true) in
+    let level = along_level (bodies_of pages) tree.spare c.args.lo.now c.args.hi.now l.list.items so.n l.number tree.good so.along here in
+    made_along l.number
+    (record { n = so.n; passes = so.along.passes; page = so.along.page; some = here; fewer = subst (λ (es : List Entry). length es < c.args.limit) so.along.entries l.invariant.room })
+    (at_hidden c.in_ok-frame.field-0 _ _ c.in_default.not-Seen (c.in_ok-frame.ensures.kept pages (but_still g.D.Disk tree l.invariant.outcome) level))
+
+pub returns-in_default-clause-far : goal.returns-in_default-clause-far
+returns-in_default-clause-far g c = at_hidden c.in_ok-frame.field-0 _ _ c.in_default.not-Seen c.in_ok-frame.ensures.settled
+
+pub returns-in_default-clause-most : goal.returns-in_default-clause-most
+returns-in_default-clause-most g c = omega (arith, c.loop-number.invariant.room)
 
 pub returns-in_err-behind-clause-outcome : goal.returns-in_err-behind-clause-outcome
 returns-in_err-behind-clause-outcome g c =
@@ -57,8 +79,8 @@ returns-in-Some-clause-outcome g c = then g.D.Disk c.loop-number.invariant.outco
 pub returns-in-Some-clause-kept : goal.returns-in-Some-clause-kept
 returns-in-Some-clause-kept g c pages n tree along some =
     let l = c.loop-number in
-    let pool = c.tree_page.new.writer.pool in
-    let frame = c.in_ok-frame.frame in
+    let pool = c.page_beside.new.writer.pool in
+    let frame = c.in-Seen.frame in
     let lo = c.args.lo.now in
     let hi = c.args.hi.now in
     let list = c.add_part.new.list.items in
@@ -66,39 +88,41 @@ returns-in-Some-clause-kept g c pages n tree along some =
     let here : 1 ≤ l.number = omega (arith, c.loop-number-test.true) in
     let so = l.invariant.kept pages n tree along some in
     let level = along_level (bodies_of pages) tree.spare lo hi l.list.items so.n l.number tree.good so.along here in
-    let says = got_says pages l.number pool frame (c.in_ok-frame.ensures.kept pages (tree_still g.D.Disk tree l.invariant.outcome).has level) c.in_ok-frame.ensures.frame in
+    let shown = at_seen c.in_ok-frame.field-0 frame _ _ c.in-Seen.is (c.in_ok-frame.ensures.kept pages (but_still g.D.Disk tree l.invariant.outcome) level) in
+    let says = got_says pages l.number pool frame shown (at_seen c.in_ok-frame.field-0 frame _ _ c.in-Seen.is c.in_ok-frame.ensures.frame) in
     let part = part_some lo hi c.args.limit lent.body.entries l.list.items list c.in_ok-behind.field-0 c.in-Some.behind c.in-Some.is c.in_ok-behind.ensures.part in
     record {
       range = along_stops (bodies_of pages) tree.spare lo hi c.args.limit l.list.items list so.n l.number tree.good c.requires.order so.along here lent (page_at pool frame.number) c.page-leaf.ensures.page says c.in-Some.behind part;
-      gets = record { m = so.n; passes = so.along.passes; some = so.some; count = omega (arith, so.gone, c.in_ok-frame.ensures.gets) };
+      gets = record { m = so.n; passes = so.along.passes; some = so.some; count = omega (arith, so.gone, at_seen c.in_ok-frame.field-0 frame _ _ c.in-Seen.is c.in_ok-frame.ensures.gets) };
     }
 
 pub loop-number-preserved : goal.loop-number-preserved
 loop-number-preserved g c =
     let l = c.loop-number in
-    let pool = c.tree_page.new.writer.pool in
-    let frame = c.in_ok-frame.frame in
+    let pool = c.page_beside.new.writer.pool in
+    let frame = c.in-Seen.frame in
     let e = c.in_ok-frame.ensures in
     let lo = c.args.lo.now in
     let hi = c.args.hi.now in
     let list = c.add_part.new.list.items in
     let lent = c.page-leaf.result.now in
     let here : 1 ≤ l.number = omega (arith, c.loop-number-test.true) in
-    let part = part_none lo hi c.args.limit lent.body.entries l.list.items list c.in_ok-behind.field-0 c.in_default.not-Some c.in_ok-behind.ensures.part in
+    let part = part_none lo hi c.args.limit lent.body.entries l.list.items list c.in_ok-behind.field-0 c.in_default-2.not-Some c.in_ok-behind.ensures.part in
     record {
       outcome = then g.D.Disk l.invariant.outcome e.outcome;
       room = part.1;
       kept = λ pages n tree along some.
           let so = l.invariant.kept pages n tree along some in
           let level = along_level (bodies_of pages) tree.spare lo hi l.list.items so.n l.number tree.good so.along here in
-          let says = got_says pages l.number pool frame (e.kept pages (tree_still g.D.Disk tree l.invariant.outcome).has level) e.frame in
+          let shown = at_seen c.in_ok-frame.field-0 frame _ _ c.in-Seen.is (e.kept pages (but_still g.D.Disk tree l.invariant.outcome) level) in
+          let says = got_says pages l.number pool frame shown (at_seen c.in_ok-frame.field-0 frame _ _ c.in-Seen.is e.frame) in
           let past = along_on (bodies_of pages) tree.spare lo hi c.args.limit l.list.items list so.n l.number tree.good so.along here lent (page_at pool frame.number) c.page-leaf.ensures.page says part in
           record {
             n = suc so.n;
             along = subst (λ (q : ℕ). IsAlong (bodies_of pages) lo hi list (suc so.n) q) (sym c.next-number.ensures) past;
             some = omega arith;
             count = omega (arith, so.count, c.if-left-eq0.false);
-            gone = omega (arith, so.gone, e.gets);
+            gone = omega (arith, so.gone, at_seen c.in_ok-frame.field-0 frame _ _ c.in-Seen.is e.gets);
           };
     }
 

@@ -1,9 +1,9 @@
 -- A search beside a structure change.
-use Rattle.std.proofs.Common.{◌≡◌, ◌≤◌, ℕ, List, [], ◌∷◌, ◌++◌, Some, None, refl, sym, ◌∙◌, ap, subst, arith, append_assoc}
+use Rattle.std.proofs.Common.{◌≡◌, ◌≤◌, ℕ, Bool, true, List, [], ◌∷◌, ◌++◌, Some, None, refl, sym, ◌∙◌, ap, subst, arith, append_assoc}
 use Rattle.std.proofs.lemmas.List.{append-nil}
 use Rattle.std.proofs.lemmas.List.Concat.{flat_map-append}
 use Rattle.im_base_types.specs.Keys.{Key}
-use Rattle.im_base_types.specs.Pages.{Body, Entry}
+use Rattle.im_base_types.specs.Pages.{Body, Entry, Page}
 use Rattle.im_base_types.specs.Maps.{Start, first_in}
 use Rattle.im_theory_page.specs.Child.{IsChild}
 use Rattle.im_theory_tree.specs.Good.{AllOf, AreChained, AreOrdered, first_page, IsGoodTree}
@@ -12,10 +12,12 @@ use Rattle.im_theory_tree.specs.Lookups.{key_of}
 use Rattle.im_theory_tree.specs.Search.{IsOnWay}
 use Rattle.im_theory_tree.proofs.Frame.{AllOf-append}
 use Rattle.im_theory_tree.proofs.LeafSplit.{chained_right}
-use Rattle.im_theory_tree.proofs.LookupLemmas.{first_behind, first_over, first_within, leaf_in_tree}
+use Rattle.im_theory_tree.proofs.LookupLemmas.{first_behind, first_over, first_within, leaf_in_tree, way_known}
 use Rattle.im_theory_tree.proofs.Order.{before_below}
 use Rattle.im_theory_tree.proofs.Way.{step_way}
-use Rattle.im_tree_search.specs.Beside.{Comes, SearchesGoOn}
+use Rattle.im_tree_search.specs.Beside.{Comes, MeetsDone, on_way, SearchesGoOn}
+use Rattle.im_tree_search.specs.Levels.{start_at}
+use Rattle.im_tree_search.proofs.Chain.{start_key}
 
 -- nothing past the start in leaves that were passed
 none_in : (pages : Pages) (s : Start) (ns : List Node) → AllOf (λ (m : Node). first_in s (pages m.page).entries ≡ None) ns → first_in s (entries_in pages ns) ≡ None
@@ -107,3 +109,26 @@ searches_go_on = record {
       subst (λ (x : Body). Comes pages s x.next) (sym (agree p not)) (goes_on pages spare s p good comes some (subst (λ (x : Body). first_in s x.entries ≡ None) (agree p not) is));
   ends = ends_none;
 }
+
+-- ---- as a search reads them, a page that was got
+
+-- the walk begins at the leaf of its key
+pub comes_here : (pages : Pages) (spare : List ℕ) (inclusive : Bool) (key : Key) (p : ℕ) → IsGoodTree pages spare → IsOnWay pages 0 key p → Comes pages (start_at inclusive key) p
+comes_here pages spare inclusive key p good way = behind_way pages spare (start_at inclusive key) p good (subst (λ (k : Key). IsOnWay pages 0 k p) (start_key inclusive key) way)
+
+-- where a leaf has no entry past the start, it comes to the next one
+pub comes_next : (pages : Pages) (spare : List ℕ) (s : Start) (p : ℕ) (lent held : Page) → IsGoodTree pages spare → Comes pages s p → 1 ≤ p → lent ≡ held → held.body ≡ pages p → first_in s lent.body.entries ≡ None → Comes pages s lent.body.next
+comes_next pages spare s p lent held good comes some same is none =
+    let body : lent.body ≡ pages p = ap (λ (g : Page). g.body) same ∙ is in
+    subst (λ (x : Body). Comes pages s x.next) (sym body) (goes_on pages spare s p good comes some (subst (λ (x : Body). first_in s x.entries ≡ None) body none))
+
+-- behind the leaf of the key
+pub comes_on : (pages : Pages) (spare : List ℕ) (inclusive : Bool) (key : Key) (p : ℕ) (lent held : Page) (next : ℕ) → IsGoodTree pages spare → IsOnWay pages 0 key p → lent ≡ held → held.body ≡ pages p
+    → first_in (start_at inclusive key) lent.body.entries ≡ None → next ≡ lent.body.next → Comes pages (start_at inclusive key) next
+comes_on pages spare inclusive key p lent held next good way same is none step =
+    subst (λ (n : ℕ). Comes pages (start_at inclusive key) n) (sym step)
+    (comes_next pages spare (start_at inclusive key) p lent held good (comes_here pages spare inclusive key p good way) (way_known pages spare 0 key p good way).0 same is none)
+
+-- a page of the key's way is one of the way of a start at the key
+pub way_made : (pages : Pages) (done : ℕ → Bool) (inclusive : Bool) (key : Key) (h p : ℕ) → IsOnWay pages h key p → done p ≡ true → MeetsDone pages done (start_at inclusive key)
+way_made pages done inclusive key h p way made = on_way h p (subst (λ (k : Key). IsOnWay pages h k p) (start_key inclusive key) way) made

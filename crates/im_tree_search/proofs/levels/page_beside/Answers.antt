@@ -1,0 +1,48 @@
+use Rattle.std.proofs.Common.{ℕ, refl, sym, ◌∙◌, ap, subst}
+use Rattle.im_base_types.specs.Pages.{Page}
+use Rattle.im_page_pool.specs.Pool.{page_at}
+use Rattle.im_page_writer.proofs.Outcomes.{sound_on}
+use Rattle.im_tree_search.specs.Levels.{HasLevel}
+use Rattle.im_tree_search.specs.Sights.{is_done}
+use Rattle.im_tree_search.proofs.Sighted.{hidden_ok, hidden_reads, hidden_sound, some_done}
+use Rattle.im_tree_search.proofs.levels.page_beside.Goals as goal
+
+pub returns-then-is_done-clause-outcome : goal.returns-then-is_done-clause-outcome
+returns-then-is_done-clause-outcome g c = hidden_reads g.D.Disk c.args.writer.now c.args.disk.now c.hidden.result c.hidden.ensures.works c.hidden.ensures.failed g.met.D.Disk.only_now c.requires.ready
+
+pub returns-then-is_done-clause-kept : goal.returns-then-is_done-clause-kept
+returns-then-is_done-clause-kept g c pages tree level = hidden_sound g.D.Disk c.args.writer.now c.args.disk.now c.hidden.result c.hidden.ensures.works c.hidden.ensures.failed _ _ (sym c.is_done.ensures ∙ c.if-is_done.true)
+
+pub returns-then-is_done-clause-settled : goal.returns-then-is_done-clause-settled
+returns-then-is_done-clause-settled g c = hidden_ok g.D.Disk c.args.writer.now c.args.disk.now c.hidden.result c.hidden.ensures.works c.hidden.ensures.failed _ _ (some_done c.args.beside c.args.number (sym c.is_done.ensures ∙ c.if-is_done.true))
+
+pub returns-then-is_done-clause-frame : goal.returns-then-is_done-clause-frame
+returns-then-is_done-clause-frame g c = hidden_ok g.D.Disk c.args.writer.now c.args.disk.now c.hidden.result c.hidden.ensures.works c.hidden.ensures.failed _ _ tt
+
+pub returns-then-is_done-clause-gets : goal.returns-then-is_done-clause-gets
+returns-then-is_done-clause-gets g c = hidden_ok g.D.Disk c.args.writer.now c.args.disk.now c.hidden.result c.hidden.ensures.works c.hidden.ensures.failed _ _ refl
+
+pub returns-in_err-frame-clause-kept : goal.returns-in_err-frame-clause-kept
+returns-in_err-frame-clause-kept g c pages tree level =
+    let same = tree.agrees c.args.number (sym c.is_done.ensures ∙ c.if-is_done.false) in
+    sound_on c.from_residual.result _ _ c.from_residual.ensures.1 (c.in_err-frame.ensures.kept tree.now tree.has (subst (λ (x : Page). HasLevel c.args.level x.body) (sym same) level))
+
+pub returns-clause-kept : goal.returns-clause-kept
+returns-clause-kept g c pages tree level =
+    let same = tree.agrees c.args.number (sym c.is_done.ensures ∙ c.if-is_done.false) in
+    c.in_ok-frame.ensures.kept tree.now tree.has (subst (λ (x : Page). HasLevel c.args.level x.body) (sym same) level) ∙ same
+
+pub returns-clause-settled : goal.returns-clause-settled
+returns-clause-settled g c =
+    let e = c.in_ok-frame.ensures in
+    record {
+      at = e.at;
+      level = subst (λ (n : ℕ). HasLevel c.args.level (page_at c.tree_page.new.writer.pool n).body) (sym e.frame) e.page;
+      clear = ap (is_done c.args.beside) e.frame ∙ sym c.is_done.ensures ∙ c.if-is_done.false;
+    }
+
+pub returns-in_err-frame-clause-quiet : goal.returns-in_err-frame-clause-quiet
+returns-in_err-frame-clause-quiet g c working holds = c.in_err-frame.ensures.quiet working holds
+
+pub returns-clause-quiet : goal.returns-clause-quiet
+returns-clause-quiet g c working holds = c.in_ok-frame.ensures.quiet working holds

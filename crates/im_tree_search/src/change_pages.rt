@@ -1,0 +1,46 @@
+//! Which pages a structure change beside a search has made.
+
+ghost use Rattle.std.specs.Prelude.{◌≡◌, ◌≤◌, ◌==◌, [], length};
+ghost use Rattle.std.specs.List.{list_any};
+ghost use Rattle.im_tree_search.specs.Sights.{is_done};
+
+use crate::change_beside::Beside;
+use im_base_types::PageNo;
+
+impl<'a> Beside<'a> {
+    /// No structure change is under way.
+    pub fn none() -> Beside<'a>
+        ensures pages { result.pages.now ≡ [] }
+        ensures done { result.done ≡ 0 }
+    {
+        Beside {
+            pages: &[],
+            done: 0,
+            count: 0,
+        }
+    }
+
+    /// A change of these pages, of which the first so many are made; `count` is the page count that page 0 had before.
+    pub fn of(pages: &'a [PageNo], done: usize, count: PageNo) -> Beside<'a>
+        ensures pages { result.pages.now ≡ pages.now }
+        ensures done { result.done ≡ done }
+        ensures count { result.count ≡ count }
+    {
+        Beside { pages, done, count }
+    }
+
+    /// Whether a page is one of its plan.
+    pub fn has(&self, number: PageNo) -> bool
+        ensures { result ≡ list_any (λ q. q == number) self.now.pages.now }
+    {
+        self.pages.contains(&number)
+    }
+
+    /// Whether a page is one of those that are made.
+    pub fn is_done(&self, number: PageNo) -> bool
+        ensures { result ≡ is_done self.now number }
+    {
+        let done = self.done.min(self.pages.len());
+        self.pages[..done].contains(&number)
+    }
+}
