@@ -22,3 +22,5 @@ pub mod Restarting
 pub mod Outcomes
 pub mod Checkpointing
 pub mod EarlyWrites
+mod Loans
+mod RoundsDone

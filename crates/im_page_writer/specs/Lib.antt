@@ -7,3 +7,4 @@ pub mod Checkpoints
 pub mod StructureChange
 pub mod Redoing
 pub mod Outcome
+pub mod Rounds

@@ -24,6 +24,7 @@ mod changes;
 mod checkpoints;
 mod least_used;
 mod redo;
+mod round;
 mod span;
 mod structure;
 

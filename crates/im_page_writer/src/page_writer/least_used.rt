@@ -139,7 +139,7 @@ impl PageWriter {
     }
 
     // Flushes the least recently used page that was changed, if there is one, with others that go next.
-    fn flush_next<D: Disk>(&mut self, disk: &mut D) -> Result<(), Fault>
+    pub(super) fn flush_next<D: Disk>(&mut self, disk: &mut D) -> Result<(), Fault>
         requires ready { IsReadyWriter D.Disk self.old disk.old }
         requires working { self.old.failed ≡ false }
         ensures outcome { Flushes D.Disk self.old disk.old self.new disk.new (fault_of result) }

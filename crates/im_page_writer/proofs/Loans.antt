@@ -1,0 +1,177 @@
+-- Pages are lent, one after another, and taken back.
+use Rattle.std.proofs.Common.{◌≡◌, ◌≢◌, ◌⊎◌, inl, inr, ⊎_elim, ℕ, suc, zero, ◌+◌, ◌<◌, ◌≤◌, List, [], ◌∷◌, length, get_or, Bool, true, false, refl, sym, ◌∙◌, ap, subst, arith, Option, Some, None}
+use Rattle.std.specs.Prelude.{slice_index_or, slice_set, option_map, ◌||◌}
+use Rattle.std.specs.Option.{option_map_or}
+use Rattle.std.proofs.lemmas.Bool.{cases_eq, cases_lt}
+use Rattle.std.proofs.lemmas.List.{get_or-set_same, get_or-set_other}
+use Rattle.im_base_types.specs.Pages.{Page}
+use Rattle.im_base_types.specs.Records.{Logged}
+use Rattle.im_theory_log.specs.Copies.{redo_all}
+use Rattle.im_theory_page.specs.Header.{initial}
+use Rattle.im_page_pool.specs.declared.frame.Frame.{Frame}
+use Rattle.im_page_pool.specs.Pool.{Held, PoolView, Sets, frame_of, held_of, is_changed, page_at}
+use Rattle.im_page_table.specs.declared.table_entry.TableEntry.{TableEntry}
+use Rattle.im_page_table.specs.DirtyTable.{entry_in}
+use Rattle.im_page_rounds.specs.declared.round_page.RoundPage.{RoundPage}
+use Rattle.im_page_rounds.specs.Hand.{AreRedone, AreRising, AreThese, is_applied}
+use Rattle.im_page_writer.specs.declared.page_writer.PageWriter.{PageWriter}
+use Rattle.im_page_writer.specs.Rounds.{AreShown, IsBack, IsOther, Lends, LendsAll, RoundHere, TakesBack, entry_after}
+
+-- ---- different numbers
+
+pub differ : (numbers : List ℕ) (i j : ℕ) → AreRising numbers → i < length numbers → j < length numbers → i ≢ j → slice_index_or numbers i 0 ≢ slice_index_or numbers j 0
+differ numbers i j rising i_in j_in ne = λ same. elim (cases_lt i j) [
+  | inl lt ↦ let less = rising i j lt j_in in absurd (omega (arith, less, same))
+  | inr ge ↦ elim (cases_eq i j) [
+    | inl e ↦ absurd (ne e)
+    | inr other ↦ (let lt : j < i = omega (arith, ge, other) in let less = rising j i lt i_in in absurd (omega (arith, less, same)))
+  ]
+]
+
+-- a number is none of those before it
+pub other_before : (numbers : List ℕ) (n : ℕ) → AreRising numbers → n < length numbers → IsOther numbers n (slice_index_or numbers n 0)
+other_before numbers n rising within i lt = differ numbers i n rising (omega (arith, lt, within)) within (λ e. absurd (omega (arith, e, lt)))
+
+fewer : (numbers : List ℕ) (n q : ℕ) → IsOther numbers (n + 1) q → IsOther numbers n q
+fewer numbers n q other i lt = other i (omega (arith, lt))
+
+-- ---- a held page
+
+held_page : (pool : PoolView) (p : ℕ) (h : Held) → held_of pool p ≡ Some h → page_at pool p ≡ h.page
+held_page pool p h is = ap (λ (o : Option Held). option_map_or (λ h. h.page) o (initial 0)) is
+
+-- A frame that was found, with what is held there.
+pub record Found (pool : PoolView) (number : ℕ) (frame : Frame) : Type 0 where
+  pub was : Held
+  pub held : held_of pool number ≡ Some was
+  pub place : was.place ≡ frame.place
+  pub is : frame.number ≡ number
+
+found_in : (pool : PoolView) (number : ℕ) (frame : Frame) (o : Option Held) → held_of pool number ≡ o → Some frame ≡ option_map (λ (h : Held). frame_of (number, h)) o → Found pool number frame
+found_in pool number frame None held is = absurd (cc is)
+found_in pool number frame (Some h) held is =
+    let same : frame ≡ frame_of (number, h) = cc is in
+    record { was = h; held = held; place = ap (λ (f : Frame). f.place) (sym same); is = ap (λ (f : Frame). f.number) same }
+
+pub found : (pool : PoolView) (number : ℕ) (frame : Frame) → Some frame ≡ option_map (λ (h : Held). frame_of (number, h)) (held_of pool number) → Found pool number frame
+found pool number frame is = found_in pool number frame (held_of pool number) refl is
+
+changed_is : (pool : PoolView) (p : ℕ) (h : Held) → held_of pool p ≡ Some h → is_changed pool p ≡ h.changed
+changed_is pool p h is = ap (λ (o : Option Held). option_map_or (λ h. h.changed) o false) is
+
+module _ (pool new : PoolView) (number : ℕ) (frame : Frame) (f : Found pool number frame) where
+  pub lend_one : (x : RoundPage) (spare : Page) (changed : Bool) → changed ≡ is_changed pool frame.number → x.page.value ≡ page_at pool frame.number → x.changed ≡ false → Sets frame spare changed pool new → Lends number x pool new
+  lend_one x spare changed marked out unchanged sets = record {
+    was = f.was;
+    held = f.held;
+    out = out ∙ ap (page_at pool) f.is ∙ held_page pool number f.was f.held;
+    unchanged = unchanged;
+    spare = spare;
+    now = sym (ap (held_of new) f.is) ∙ sets.here ∙ ap (λ (n : ℕ). Some (record { place = n; page = spare; changed = changed })) (sym f.place)
+        ∙ ap (λ (c : Bool). Some (record { place = f.was.place; page = spare; changed = c })) (marked ∙ ap (is_changed pool) f.is ∙ changed_is pool number f.was f.held);
+  }
+
+  pub set_others : (g : Page) (changed : Bool) → Sets frame g changed pool new → (q : ℕ) → q ≢ number → held_of new q ≡ held_of pool q
+  set_others g changed sets q ne = sets.others q (λ e. absurd (ne (e ∙ f.is)))
+
+  pub back_one : (x : RoundPage) (changed : Bool) → changed ≡ (is_changed pool frame.number || x.changed) → Sets frame x.page.value changed pool new → (was : Held) → held_of pool number ≡ Some was → IsBack was x new number
+  back_one x changed marked sets was held =
+      let same : f.was ≡ was = (let e : Some f.was ≡ Some was = sym f.held ∙ held in cc e) in
+      sym (ap (held_of new) f.is) ∙ sets.here ∙ ap (λ (n : ℕ). Some (record { place = n; page = x.page.value; changed = changed })) (sym f.place ∙ ap (λ (h : Held). h.place) same)
+      ∙ ap (λ (c : Bool). Some (record { place = was.place; page = x.page.value; changed = c })) (marked ∙ ap (λ (c : Bool). c || x.changed) (ap (is_changed pool) f.is ∙ changed_is pool number was held))
+
+-- an item is the same, whatever is taken where there is none
+pub same_item : (xs : List RoundPage) (i : ℕ) (d e : RoundPage) → i < length xs → get_or xs i d ≡ get_or xs i e
+same_item [] i d e lt = absurd (omega (arith, lt))
+same_item (x ∷ xs) zero d e lt = refl
+same_item (x ∷ xs) (suc i) d e lt = same_item xs i d e (omega (arith, lt))
+
+-- ---- loans
+
+pub lends_none : (numbers : List ℕ) (hand : List RoundPage) (pool : PoolView) → LendsAll numbers 0 hand pool pool
+lends_none numbers hand pool = record { these = λ i d lt. absurd (omega (arith, lt)); others = λ q other. refl; frames = refl }
+
+pub lends_more : (numbers : List ℕ) (n : ℕ) (hand : List RoundPage) (x : RoundPage) (old mid new : PoolView) → AreRising numbers → n < length numbers → n < length hand → LendsAll numbers n hand old mid
+    → Lends (slice_index_or numbers n 0) x mid new → ((q : ℕ) → q ≢ slice_index_or numbers n 0 → held_of new q ≡ held_of mid q) → new.frames ≡ mid.frames → LendsAll numbers (n + 1) (slice_set hand n x) old new
+lends_more numbers n hand x old mid new rising within room so one others frames = record {
+  these = λ i d lt. elim (cases_eq i n) [
+    | inl e ↦ subst (λ (k : ℕ). Lends (slice_index_or numbers k 0) (get_or (slice_set hand n x) k d) old new) (sym e)
+        (subst (λ (y : RoundPage). Lends (slice_index_or numbers n 0) y old new) (sym (get_or-set_same hand n x d room))
+        (record { was = one.was; held = sym (so.others (slice_index_or numbers n 0) (other_before numbers n rising within)) ∙ one.held; out = one.out; unchanged = one.unchanged; spare = one.spare; now = one.now }))
+    | inr ne ↦
+        (let low : i < n = omega (arith, lt, ne) in
+        let l = so.these i d low in
+        subst (λ (y : RoundPage). Lends (slice_index_or numbers i 0) y old new) (sym (get_or-set_other hand n i x d ne))
+        (record { was = l.was; held = l.held; out = l.out; unchanged = l.unchanged; spare = l.spare; now = others (slice_index_or numbers i 0) (differ numbers i n rising (omega (arith, low, within)) within ne) ∙ l.now }))
+  ];
+  others = λ q other. others q (λ e. other n (omega arith) (sym e)) ∙ so.others q (fewer numbers n q other);
+  frames = frames ∙ so.frames;
+}
+
+-- ---- pages that come back
+
+pub back_none : (numbers : List ℕ) (point : ℕ) (known : ℕ → Bool) (hand : List RoundPage) (pool : PoolView) (table : List TableEntry) → TakesBack numbers 0 point known hand pool pool table table
+back_none numbers point known hand pool table = record { these = λ i d was lt. absurd (omega (arith, lt)); others = λ q other. refl; entries = λ i d lt. absurd (omega (arith, lt)); other_entries = λ q other. refl; frames = refl }
+
+module _ (numbers : List ℕ) (n point : ℕ) (known : ℕ → Bool) (hand : List RoundPage) (x : RoundPage) (old mid new : PoolView) (one two three : List TableEntry) (rising : AreRising numbers) (within : n < length numbers)
+    (so : TakesBack numbers n point known hand old mid one two) (is : (d : RoundPage) → get_or hand n d ≡ x)
+    (back : (was : Held) → held_of mid (slice_index_or numbers n 0) ≡ Some was → IsBack was x new (slice_index_or numbers n 0))
+    (others : (q : ℕ) → q ≢ slice_index_or numbers n 0 → held_of new q ≡ held_of mid q)
+    (entry : entry_in three (slice_index_or numbers n 0) ≡ entry_after x.changed (known (slice_index_or numbers n 0)) point (entry_in two (slice_index_or numbers n 0)))
+    (other_entries : (q : ℕ) → q ≢ slice_index_or numbers n 0 → entry_in three q ≡ entry_in two q) (frames : new.frames ≡ mid.frames) where
+  pub back_more : TakesBack numbers (n + 1) point known hand old new one three
+  back_more = record {
+    these = λ i d was lt held. elim (cases_eq i n) [
+      | inl e ↦ subst (λ (k : ℕ). IsBack was (get_or hand k d) new (slice_index_or numbers k 0)) (sym e)
+          (subst (λ (y : RoundPage). IsBack was y new (slice_index_or numbers n 0)) (sym (is d))
+          (back was (so.others (slice_index_or numbers n 0) (other_before numbers n rising within) ∙ subst (λ (k : ℕ). held_of old (slice_index_or numbers k 0) ≡ Some was) e held)))
+      | inr ne ↦ (let low : i < n = omega (arith, lt, ne) in others (slice_index_or numbers i 0) (differ numbers i n rising (omega (arith, low, within)) within ne) ∙ so.these i d was low held)
+    ];
+    others = λ q other. others q (λ e. other n (omega arith) (sym e)) ∙ so.others q (fewer numbers n q other);
+    entries = λ i d lt. elim (cases_eq i n) [
+      | inl e ↦ subst (λ (k : ℕ). entry_in three (slice_index_or numbers k 0) ≡ entry_after (get_or hand k d).changed (known (slice_index_or numbers k 0)) point (entry_in one (slice_index_or numbers k 0))) (sym e)
+          (subst (λ (y : RoundPage). entry_in three (slice_index_or numbers n 0) ≡ entry_after y.changed (known (slice_index_or numbers n 0)) point (entry_in one (slice_index_or numbers n 0))) (sym (is d))
+          (entry ∙ ap (entry_after x.changed (known (slice_index_or numbers n 0)) point) (so.other_entries (slice_index_or numbers n 0) (other_before numbers n rising within))))
+      | inr ne ↦ (let low : i < n = omega (arith, lt, ne) in other_entries (slice_index_or numbers i 0) (differ numbers i n rising (omega (arith, low, within)) within ne) ∙ so.entries i d low)
+    ];
+    other_entries = λ q other. other_entries q (λ e. other n (omega arith) (sym e)) ∙ so.other_entries q (fewer numbers n q other);
+    frames = frames ∙ so.frames;
+  }
+
+-- ---- a round, its pages held
+
+-- what is lent are the pages
+pub lent_these : (numbers : List ℕ) (hand : List RoundPage) (old new : PoolView) (g : ℕ → Page) → AreShown numbers old g → LendsAll numbers (length numbers) hand old new → AreThese numbers hand g (λ q. false)
+lent_these numbers hand old new g shown lends i d lt = let l = lends.these i d lt in record { page = l.out ∙ shown i l.was lt l.held; changed = l.unchanged }
+
+pub shown_here : (numbers : List ℕ) (pool : PoolView) → AreShown numbers pool (page_at pool)
+shown_here numbers pool i h lt held = sym (held_page pool (slice_index_or numbers i 0) h held)
+
+-- one of some
+any : (hand : List RoundPage) → 1 ≤ length hand → RoundPage
+any [] some = absurd (omega (arith, some))
+any (x ∷ hand) some = x
+
+-- lent, redone, and taken back
+pub round_back : (numbers : List ℕ) (point : ℕ) (known : ℕ → Bool) (rs : List Logged) (old new : PageWriter) (mid : PoolView) (table : List TableEntry) (lent redone : List RoundPage) (count : ℕ) → length numbers ≤ length lent → LendsAll numbers (length numbers) lent old.pool mid
+    → AreRedone numbers rs (page_at old.pool) (λ q. false) count redone → table ≡ old.table → TakesBack numbers (length numbers) point known redone mid new.pool table new.table → RoundHere numbers point known rs old new
+round_back numbers point known rs old new mid table lent redone count few lends done same back = record {
+  among = done.among;
+  these = λ i lt.
+      let p : ℕ = slice_index_or numbers i 0 in
+      let d = any lent (omega (arith, few, lt)) in
+      let l = lends.these i d lt in
+      let is = done.pages i d lt in
+      let page : (get_or redone i d).page.value ≡ redo_all rs p l.was.page = is.page ∙ ap (redo_all rs p) (held_page old.pool p l.was l.held) in
+      let changed : (get_or redone i d).changed ≡ is_applied rs p l.was.page = is.changed ∙ ap (is_applied rs p) (held_page old.pool p l.was l.held) in
+      record {
+        was = l.was;
+        held = l.held;
+        now = back.these i d (record l.was { page = l.spare }) lt l.now
+            ∙ ap (λ (g : Page). Some (record l.was { page = g; changed = l.was.changed || (get_or redone i d).changed })) page
+            ∙ ap (λ (c : Bool). Some (record l.was { page = redo_all rs p l.was.page; changed = l.was.changed || c })) changed;
+        entry = back.entries i d lt ∙ ap (λ (c : Bool). entry_after c (known p) point (entry_in table p)) changed ∙ ap (λ (t : List TableEntry). entry_after (is_applied rs p l.was.page) (known p) point (entry_in t p)) same;
+      };
+  others = λ q other. back.others q other ∙ lends.others q other;
+  other_entries = λ q other. back.other_entries q other ∙ ap (λ (t : List TableEntry). entry_in t q) same;
+}

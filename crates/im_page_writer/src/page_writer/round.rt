@@ -1,0 +1,294 @@
+//! A round of redo: its pages are got, lent, changed by its records, and taken back.
+ghost use Rattle.std.specs.Prelude.{◌≡◌, ◌≢◌, ◌≤◌, ◌<◌, ◌+◌, ◌++◌, ◌⊎◌, ◌||◌, ℕ, List, Bool, None, Ok, true, false, is_some, length, IfErr, IfOk, OnOk};
+ghost use Rattle.std.specs.BTreeMap.{get};
+ghost use Rattle.std.specs.Ordering.{nat_cmp};
+ghost use Rattle.im_base_types.specs.declared.fault.Fault.TheVariants.{Memory, NotAStore};
+ghost use Rattle.im_base_types.specs.Records.{Logged};
+ghost use Rattle.im_theory_log.specs.Histories.{Base, History};
+ghost use Rattle.im_theory_log.specs.Copies.{HasCopy, onto};
+ghost use Rattle.im_theory_log.specs.Writer.{Writer};
+
+use crate::PageWriter;
+use im_base_disk::Disk;
+use im_base_types::{Fault, Lsn, MOST_DIRTY, PageNo};
+use im_page_rounds::{RoundPage, redo_records};
+use std::collections::BTreeMap;
+
+// Whether a copy of a page is noted.
+fn is_noted(copies: &BTreeMap<PageNo, Lsn>, number: PageNo) -> bool
+    ensures { result ≡ is_some (get nat_cmp copies.now number) }
+{
+    copies.get(&number).is_some()
+}
+
+// Whether one of the two is so.
+fn either(one: bool, other: bool) -> bool
+    ensures { result ≡ (one || other) }
+{
+    one || other
+}
+
+impl PageWriter {
+    ghost use Rattle.im_base_types.specs.Pages.{Page};
+    ghost use Rattle.im_page_pool.specs.Pool.{Held, held_of};
+    ghost use Rattle.im_page_table.specs.DirtyTable.{entry_in};
+    ghost use Rattle.im_page_rounds.specs.Hand.{AllTaken, AreRising, StandIn};
+    ghost use Rattle.im_page_rounds.specs.Rounds.{AreFrom, HaveHad, applied_of_all, changing};
+    ghost use Rattle.im_page_writer.specs.Outcome.{fault_of, mild, AllPages, AreLoaded, Flushes, HasPages, Reads, Redoes};
+    ghost use Rattle.im_page_writer.specs.PageWriter.{IsReadyWriter, StandsAs};
+    ghost use Rattle.im_page_writer.specs.Rounds.{AreShown, IsBack, Lends, LendsAll, RoundHere, RoundKept, TakesBack, entry_after};
+    ghost use Rattle.im_page_writer.specs.Writing.{SameHeld};
+
+    // Flushes the least recently used pages that were changed, with others that go next, until none is left.
+    fn flush_all<D: Disk>(&mut self, disk: &mut D) -> Result<(), Fault>
+        requires ready { IsReadyWriter D.Disk self.old disk.old }
+        requires working { self.old.failed ≡ false }
+        ensures outcome { Flushes D.Disk self.old disk.old self.new disk.new (fault_of result) }
+    {
+        for _company in 0..MOST_DIRTY {
+            if self.pool.oldest_changed().is_none() {
+                break;
+            }
+            self.flush_next(disk)?;
+        }
+        Ok(())
+    }
+
+    // Syncs the file of pages: pages that have not changed since their last write leave the dirty table.
+    fn sync_written<D: Disk>(&mut self, disk: &mut D) -> Result<(), Fault>
+        requires ready { IsReadyWriter D.Disk self.old disk.old }
+        ensures outcome { Flushes D.Disk self.old disk.old self.new disk.new (fault_of result) }
+    {
+        self.sync_pages(disk)
+    }
+
+    // Whether the dirty table has room for so many entries more.
+    fn has_entries_room(&self, count: usize) -> bool
+        ensures room { length self.now.table + count ≤ 1024 → result ≡ true }
+        ensures full { result ≡ true → length self.now.table + count ≤ 1024 }
+    {
+        if self.table.is_full() {
+            return count == 0;
+        }
+        count <= MOST_DIRTY - self.table.len()
+    }
+
+    // Flushes each page that was changed, where the dirty table lacks room for so many entries, and syncs the file of pages.
+    fn flush_for_entries<D: Disk>(&mut self, disk: &mut D, count: usize) -> Result<(), Fault>
+        requires ready { IsReadyWriter D.Disk self.old disk.old }
+        requires working { self.old.failed ≡ false }
+        ensures outcome { Flushes D.Disk self.old disk.old self.new disk.new (fault_of result) }
+    {
+        if self.has_entries_room(count) {
+            return Ok(());
+        }
+        self.flush_all(disk)?;
+        self.sync_written(disk)
+    }
+
+    /// Makes room in the dirty table for so many entries, 1,024 at most: where it lacks that, the file of pages is synced, and where it
+    /// still does, each page that was changed is flushed, and the file synced again.
+    ///
+    /// Refused `LogFull`, where an Image would end above LSN 2^62, `Device`, or `Failed` after a call that failed.
+    pub fn make_entries_room<D: Disk>(&mut self, disk: &mut D, count: usize) -> Result<(), Fault>
+        requires ready { IsReadyWriter D.Disk self.old disk.old }
+        ensures outcome { Flushes D.Disk self.old disk.old self.new disk.new (fault_of result) }
+        ensures unchanged { self.old.failed ≡ false → length self.old.table + count ≤ 1024 → (result ≡ Ok tt) × (self.new ≡ self.old) × (disk.new ≡ disk.old) }
+    {
+        if self.failed {
+            return Err(Fault::Failed);
+        }
+        if self.has_entries_room(count) {
+            return Ok(());
+        }
+        self.sync_written(disk)?;
+        self.flush_for_entries(disk, count)
+    }
+
+    // Gets pages, one after another.
+    fn get_all<D: Disk>(&mut self, disk: &mut D, numbers: &[PageNo]) -> Result<(), Fault>
+        requires ready { IsReadyWriter D.Disk self.old disk.old }
+        requires working { self.old.failed ≡ false }
+        ensures outcome { Reads D.Disk self.old disk.old self.new disk.new (fault_of result) }
+        ensures kept { (pages : AllPages) → HasPages D.Disk AreLoaded pages self.old disk.old → IfErr result (λ e. e ≢ NotAStore) }
+    {
+        for i in 0..numbers.len() {
+            self.get(disk, numbers[i])?;
+        }
+        Ok(())
+    }
+
+    // Lends a held page, in exchange for a spare one.
+    fn lend(&mut self, number: PageNo, out: &mut RoundPage) -> Result<(), Fault>
+        ensures lent { OnOk result (Lends number out.new self.old.pool self.new.pool) }
+        ensures others { OnOk result ((q : ℕ) → q ≢ number → held_of self.new.pool q ≡ held_of self.old.pool q) }
+        ensures frames { self.new.pool.frames ≡ self.old.pool.frames }
+        ensures log { self.new.log ≡ self.old.log }
+        ensures table { self.new.table ≡ self.old.table }
+        ensures known { self.new.known ≡ self.old.known }
+        ensures failed { self.new.failed ≡ self.old.failed }
+        ensures refused { IfErr result (λ e. e ≡ Memory) }
+    {
+        match self.pool.find(number) {
+            None => Err(Fault::Memory),
+            Some(frame) => {
+                let changed = self.pool.is_changed(frame);
+                self.pool.exchange(frame, &mut out.page, changed);
+                out.changed = false;
+                Ok(())
+            }
+        }
+    }
+
+    // Enters a page as changed from the redo point on, where it was changed.
+    fn enter_changed(&mut self, point: Lsn, number: PageNo, copied: bool, changed: bool)
+        requires room { entry_in self.old.table number ≡ None → length self.old.table < 1024 }
+        ensures entry { entry_in self.new.table number ≡ entry_after changed copied point (entry_in self.old.table number) }
+        ensures other_entries { (q : ℕ) → q ≢ number → entry_in self.new.table q ≡ entry_in self.old.table q }
+        ensures pool { self.new.pool ≡ self.old.pool }
+        ensures log { self.new.log ≡ self.old.log }
+        ensures known { self.new.known ≡ self.old.known }
+        ensures failed { self.new.failed ≡ self.old.failed }
+    {
+        if !changed {
+            return;
+        }
+        self.table.enter_at_point(number, point, copied);
+    }
+
+    // Takes a lent page back. Where a record was applied to it, it counts as changed, from the redo point on.
+    fn take_back(
+        &mut self,
+        point: Lsn,
+        number: PageNo,
+        copied: bool,
+        out: &mut RoundPage,
+    ) -> Result<(), Fault>
+        ensures back { (was : Held) → held_of self.old.pool number ≡ Some was → OnOk result (IsBack was out.old self.new.pool number) }
+        ensures others { OnOk result ((q : ℕ) → q ≢ number → held_of self.new.pool q ≡ held_of self.old.pool q) }
+        ensures entry { OnOk result (entry_in self.new.table number ≡ entry_after out.old.changed copied point (entry_in self.old.table number)) }
+        ensures other_entries { OnOk result ((q : ℕ) → q ≢ number → entry_in self.new.table q ≡ entry_in self.old.table q) }
+        ensures frames { self.new.pool.frames ≡ self.old.pool.frames }
+        ensures log { self.new.log ≡ self.old.log }
+        ensures known { self.new.known ≡ self.old.known }
+        ensures failed { self.new.failed ≡ self.old.failed }
+        ensures refused { IfErr result (λ e. e ≡ Memory) }
+    {
+        if self.lacks_room(number) {
+            return Err(Fault::Memory);
+        }
+        match self.pool.find(number) {
+            None => Err(Fault::Memory),
+            Some(frame) => {
+                let changed = either(self.pool.is_changed(frame), out.changed);
+                self.pool.exchange(frame, &mut out.page, changed);
+                self.enter_changed(point, number, copied, out.changed);
+                Ok(())
+            }
+        }
+    }
+
+    // Lends held pages, each in exchange for a spare one.
+    fn lend_all(&mut self, numbers: &[PageNo], pages: &mut [RoundPage]) -> Result<(), Fault>
+        requires few { length numbers.now ≤ length pages.old }
+        requires rising { AreRising numbers.now }
+        ensures lends { OnOk result (LendsAll numbers.now (length numbers.now) pages.new self.old.pool self.new.pool) }
+        ensures length { length pages.new ≡ length pages.old }
+        ensures frames { self.new.pool.frames ≡ self.old.pool.frames }
+        ensures log { self.new.log ≡ self.old.log }
+        ensures table { self.new.table ≡ self.old.table }
+        ensures known { self.new.known ≡ self.old.known }
+        ensures failed { self.new.failed ≡ self.old.failed }
+        ensures refused { IfErr result (λ e. e ≡ Memory) }
+    {
+        for i in 0..numbers.len() {
+            self.lend(numbers[i], &mut pages[i])?;
+        }
+        Ok(())
+    }
+
+    // Takes lent pages back.
+    fn take_all_back(
+        &mut self,
+        point: Lsn,
+        copies: &BTreeMap<PageNo, Lsn>,
+        numbers: &[PageNo],
+        pages: &mut [RoundPage],
+    ) -> Result<(), Fault>
+        requires few { length numbers.now ≤ length pages.old }
+        requires rising { AreRising numbers.now }
+        ensures takes { OnOk result (TakesBack numbers.now (length numbers.now) point (λ q. is_some (get nat_cmp copies.now q)) pages.old self.old.pool self.new.pool self.old.table self.new.table) }
+        ensures length { length pages.new ≡ length pages.old }
+        ensures frames { self.new.pool.frames ≡ self.old.pool.frames }
+        ensures log { self.new.log ≡ self.old.log }
+        ensures known { self.new.known ≡ self.old.known }
+        ensures failed { self.new.failed ≡ self.old.failed }
+        ensures refused { IfErr result (λ e. e ≡ Memory) }
+    {
+        for i in 0..numbers.len() {
+            let copied = is_noted(copies, numbers[i]);
+            self.take_back(point, numbers[i], copied, &mut pages[i])?;
+        }
+        Ok(())
+    }
+
+    // Redoes the records of a round, whose pages are all held. No call of the disk comes between the loan of the pages and their return.
+    fn redo_lent(
+        &mut self,
+        point: Lsn,
+        copies: &BTreeMap<PageNo, Lsn>,
+        numbers: &[PageNo],
+        pages: &mut [RoundPage],
+        lsns: &[Lsn],
+        from: Lsn,
+        span: &[u8],
+    ) -> Result<u64, Fault>
+        requires few { length numbers.now ≤ length pages.old }
+        requires rising { AreRising numbers.now }
+        ensures here { (rs : List Logged) → StandIn from span.now lsns.now rs → OnOk result (RoundHere numbers.now point (λ q. is_some (get nat_cmp copies.now q)) rs self.old self.new) }
+        ensures count { (rs : List Logged) (g : ℕ → Page) → StandIn from span.now lsns.now rs → AreShown numbers.now self.old.pool g → IfOk result (λ n. n ≡ applied_of_all rs g) }
+        ensures taken { (rs : List Logged) (g : ℕ → Page) → StandIn from span.now lsns.now rs → AreShown numbers.now self.old.pool g → AllTaken rs g → IfErr result (λ e. e ≢ NotAStore) }
+        ensures length { length pages.new ≡ length pages.old }
+        ensures frames { self.new.pool.frames ≡ self.old.pool.frames }
+        ensures log { self.new.log ≡ self.old.log }
+        ensures known { self.new.known ≡ self.old.known }
+        ensures failed { self.new.failed ≡ self.old.failed }
+        ensures causes { IfErr result (λ e. (e ≡ Memory) ⊎ (e ≡ NotAStore)) }
+    {
+        self.lend_all(numbers, pages)?;
+        let applied = redo_records(numbers, pages, &mut self.spare, lsns, from, span);
+        self.take_all_back(point, copies, numbers, pages)?;
+        applied
+    }
+
+    /// Redoes a round: records of the durable log one after another, at these LSNs, whose bytes stand in a part of the log that begins at
+    /// `from`. `numbers` are those of their pages, in rising order, no more than there are frames. Room is made for their entries first,
+    /// then each page is got; then they are lent, changed by the records, and taken back. `pages` has a spare page for each. It answers
+    /// how many records were applied.
+    ///
+    /// Refused `NotAStore` where a page does not take a record; otherwise as `get` is.
+    pub fn redo_round<D: Disk>(
+        &mut self,
+        disk: &mut D,
+        point: Lsn,
+        copies: &BTreeMap<PageNo, Lsn>,
+        numbers: &[PageNo],
+        pages: &mut [RoundPage],
+        lsns: &[Lsn],
+        from: Lsn,
+        span: &[u8],
+    ) -> Result<u64, Fault>
+        requires few { length numbers.now ≤ length pages.old }
+        requires rising { AreRising numbers.now }
+        requires ready { IsReadyWriter D.Disk self.old disk.old }
+        ensures outcome { Redoes D.Disk mild self.old self.new disk.new (fault_of result) }
+        ensures kept { (b : Base) (base : ℕ) (s : Writer) (newer front : History) (rs : List Logged) → StandsAs D.Disk b base s self.old disk.old → s.redo_end ≡ None → s.point ≡ point
+            → newer ++ onto rs front ≡ s.durable → AreFrom point rs → HaveHad b front s.pages → StandIn from span.now lsns.now (changing rs)
+            → ((p : ℕ) → is_some (get nat_cmp copies.now p) ≡ true → HasCopy s.durable p s.point) → RoundKept D.Disk b base s rs disk.old self.new disk.new result }
+        ensures length { length pages.new ≡ length pages.old }
+    {
+        self.make_entries_room(disk, numbers.len())?;
+        self.get_all(disk, numbers)?;
+        self.redo_lent(point, copies, numbers, pages, lsns, from, span)
+    }
+}
