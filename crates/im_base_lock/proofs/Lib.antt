@@ -27,4 +27,5 @@ pub mod Callers
 pub mod Isolates
 pub mod Later
 pub mod Serving
+pub mod Changing
 pub mod WorkedRuns

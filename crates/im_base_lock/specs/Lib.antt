@@ -11,4 +11,5 @@ pub mod Isolation
 pub mod Kept
 pub mod Found
 pub mod Serving
+pub mod Changing
 pub mod Worked

@@ -5,6 +5,7 @@ ghost use Rattle.im_base_types.specs.Maps.{IndexMap};
 ghost use Rattle.im_base_lock.specs.Isolation.{Isolates, GrantedChangesAreFree};
 ghost use Rattle.im_base_lock.specs.Kept.{KeptLocksStay, PendingInsertsAreGranted};
 ghost use Rattle.im_base_lock.specs.Serving.{TableServes};
+ghost use Rattle.im_base_lock.specs.Changing.{ChangesServe};
 
 /// Whatever steps of however many transactions come in whatever order, each transaction is as good as alone. It
 /// does nothing: its contract is the law.
@@ -16,6 +17,12 @@ pub fn isolation()
 /// table then holds what the next view says; so do its releases. It does nothing: its contract is the law.
 pub fn table_serves()
     ensures { TableServes }
+{}
+
+/// The same beside an insert that ends in a later step: the table keeps its lock on the next name until then, and it falls back when
+/// the insert ends. It does nothing: its contract is the law.
+pub fn changes_serve()
+    ensures { ChangesServe }
 {}
 
 /// Whoever is granted the locks of a change finds its key in no other transaction's net: so what the log asks of a
