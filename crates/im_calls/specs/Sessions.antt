@@ -1,6 +1,7 @@
 -- What a store that is open makes of a call.
-use Rattle.std.specs.Prelude.{◌≡◌, ◌≢◌, ◌⊎◌, ◌<◌, ◌↔◌, ℕ, false, true, [], Option, None, Some}
+use Rattle.std.specs.Prelude.{◌≡◌, ◌≢◌, ◌⊎◌, ◌<◌, ◌≤◌, ◌^◌, ◌↔◌, ℕ, false, true, [], Option, None, Some}
 use Rattle.im_base_types.specs.declared.fault.Fault.{Fault}
+use Rattle.im_base_types.specs.declared.fault.Fault.TheVariants.{Capacity, Device, LogFull, Memory, NotAStore, PoolSize}
 use Rattle.im_base_types.specs.Faults.{number_of}
 use Rattle.im_base_disk.specs.declared.disk.Disk.{Ghosts}
 use Rattle.im_base_steps.specs.declared.step.Step.{Step}
@@ -20,6 +21,12 @@ IsOther step = (step ≢ 13) × (step ≢ 14) × (step ≢ 15)
 -- a refusal is told, whichever it is
 abbrev pub IsRefused : Call → Type 0
 IsRefused told = (fault : Fault) × Refuses told (number_of fault)
+
+-- Why no store is opened. `Capacity` where more pages are asked for than have numbers; and else `PoolSize` just where the frames are too few or too many. Beside these it is what the engine's opening is refused for.
+pub record RefusesOpening (asked : Call) (fault : Fault) : Type 0 where
+  pub pages : 2 ^ 32 ≤ asked.txn → fault ≡ Capacity
+  pub frames : asked.txn < 2 ^ 32 → ((fault ≡ PoolSize) ↔ ((asked.limit < 8) ⊎ (1024 < asked.limit)))
+  pub any : (fault ≡ PoolSize) ⊎ (fault ≡ Memory) ⊎ (fault ≡ Device) ⊎ (fault ≡ NotAStore) ⊎ (fault ≡ LogFull) ⊎ (fault ≡ Capacity)
 
 module _ {D : Type 0} (d : Ghosts D) (asked told : Call) where
   -- The engine made the step that is asked, and its reply is told. What it made after that is upkeep.
@@ -52,8 +59,13 @@ module _ {D : Type 0} (d : Ghosts D) (asked told : Call) where
 
   -- what comes of an opening
   abbrev pub IsOpening : Option (Opened D d) → Type 0
-  IsOpening None = IsRefused told
+  IsOpening None = (fault : Fault) × Refuses told (number_of fault) × RefusesOpening asked fault
   IsOpening (Some store) = IsOpened store.engine
+
+  -- And of one over the descriptors that are asked: a number that no descriptor has is answered as a device that fails.
+  pub record IsOpeningOver (result : Option (Opened D d)) : Type 0 where
+    pub none : (2 ^ 31 ≤ asked.key_len) ⊎ (2 ^ 31 ≤ asked.hi_len) → Refuses told 8 × (result ≡ None)
+    pub opening : asked.key_len < 2 ^ 31 → asked.hi_len < 2 ^ 31 → IsOpening result
 
   -- what comes of a step of a store that is open, which stays open
   abbrev pub IsServed : Opened D d → Option (Opened D d) → Type 0

@@ -1,6 +1,8 @@
 //! A store that is open, over any disk.
 
-ghost use Rattle.std.specs.Prelude.{◌≡◌, ◌↔◌, ◌⊎◌, false, true};
+ghost use Rattle.std.specs.Prelude.{◌≡◌, ◌↔◌, ◌⊎◌, [], false, true, IfOk, IfErr};
+ghost use Rattle.im_base_disk.specs.Runs.{IsSynced};
+ghost use Rattle.im_calls.specs.Sessions.{RefusesOpening};
 
 use im_base_disk::Disk;
 use im_base_steps::{Reply, Step};
@@ -26,23 +28,15 @@ impl<D: Disk + Drop> Opened<D> {
 
     /// Opens the store of a disk as a call asks it: `limit` frames, `txn` pages at most, `number` bytes of log that the opening after this one
     /// may have to redo; with 1 as `word` a Commit waits for a Force. The log's buffer is of the size that programs take.
+    ///
+    /// Refused `Capacity` where more pages are asked for than have numbers, and else as `Engine::open_or_create` is.
     pub fn open(alloc: Global, disk: D, call: &mut Call) -> Option<Opened<D>>
         requires working { D.failed disk ≡ false }
         requires synced { IsSynced D.Disk disk }
         ensures opening { IsOpening D.Disk call.old call.new result }
         ensures question { IsAnswered call.old call.new }
     {
-        let Ok(max_pages) = u32::try_from(call.txn) else {
-            refuse(call, Fault::Capacity);
-            return None;
-        };
-        let config = Config {
-            frames: call.limit as usize,
-            max_pages,
-            buffer: BufferSize::OVER_FILES,
-            group: waits(call),
-        };
-        match Engine::open_or_create(alloc, disk, config) {
+        match engine_of(alloc, disk, call) {
             Ok(engine) => {
                 let checkpoints = Checkpoints::of(&engine, RedoBound::of_bytes(call.number));
                 tell(call, 14, 0);
@@ -51,7 +45,7 @@ impl<D: Disk + Drop> Opened<D> {
                     checkpoints,
                 })
             }
-            Err((fault, _disk)) => {
+            Err(fault) => {
                 refuse(call, fault);
                 None
             }
@@ -124,6 +118,31 @@ impl<D: Disk + Drop> Opened<D> {
             (Err(fault), _) => refuse(call, fault),
             (Ok(()), Err(fault)) => refuse(call, fault),
         }
+    }
+}
+
+// The engine of a disk, opened with the limits that a call asks.
+fn engine_of<D: Disk + Drop>(alloc: Global, disk: D, call: &Call) -> Result<Engine<D>, Fault>
+    requires working { D.failed disk ≡ false }
+    requires synced { IsSynced D.Disk disk }
+    ensures opened { IfOk result (λ e. (e.failed ≡ false) × (e.txns.rows ≡ [])) }
+    ensures pages { IfOk result (λ e. e.max_pages ≡ call.now.txn) }
+    ensures pool { IfOk result (λ e. e.writer.pool.frames ≡ call.now.limit) }
+    ensures group { IfOk result (λ e. (e.txns.group ≡ true) ↔ (call.now.word ≡ 1)) }
+    ensures causes { IfErr result (RefusesOpening call.now) }
+{
+    let Ok(max_pages) = u32::try_from(call.txn) else {
+        return Err(Fault::Capacity);
+    };
+    let config = Config {
+        frames: call.limit as usize,
+        max_pages,
+        buffer: BufferSize::OVER_FILES,
+        group: waits(call),
+    };
+    match Engine::open_or_create(alloc, disk, config) {
+        Ok(engine) => Ok(engine),
+        Err((fault, _disk)) => Err(fault),
     }
 }
 

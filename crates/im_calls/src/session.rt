@@ -2,7 +2,7 @@
 
 ghost use Rattle.std.specs.Prelude.{◌≡◌, ◌≢◌, IfSome};
 ghost use Rattle.im_calls_form.specs.Calls.{IsAnswered, Refuses, Says};
-ghost use Rattle.im_calls.specs.Sessions.{IsOpening, IsServed, IsOther};
+ghost use Rattle.im_calls.specs.Sessions.{IsOpeningOver, IsServed, IsOther};
 
 use crate::opened::Opened;
 use im_base_disk::Disk;
@@ -37,7 +37,7 @@ pub fn blank(alloc: Global) -> Session
 pub fn made(session: &mut Session, call: &mut Call)
     ensures question { IsAnswered call.old call.new }
     ensures closed { session.old.store ≡ None → call.old.step ≢ 14 → Refuses call.new 10 × (session.new.store ≡ None) }
-    ensures opening { session.old.store ≡ None → call.old.step ≡ 14 → IsOpening ⟦<PipeDisk as Disk>⟧ call.old call.new session.new.store }
+    ensures opening { session.old.store ≡ None → call.old.step ≡ 14 → IsOpeningOver ⟦<PipeDisk as Disk>⟧ call.old call.new session.new.store }
     ensures twice { IfSome session.old.store (λ store. call.old.step ≡ 14 → Refuses call.new 10 × (session.new.store ≡ Some store)) }
     ensures ended { call.old.step ≡ 15 → session.new.store ≡ None }
     ensures stat { IfSome session.old.store (λ store. call.old.step ≡ 13 → Says call.new 14 6 × (session.new.store ≡ Some store)) }
@@ -53,7 +53,7 @@ pub fn made(session: &mut Session, call: &mut Call)
 
 fn open(session: &mut Session, call: &mut Call)
     ensures question { IsAnswered call.old call.new }
-    ensures opening { session.old.store ≡ None → IsOpening ⟦<PipeDisk as Disk>⟧ call.old call.new session.new.store }
+    ensures opening { session.old.store ≡ None → IsOpeningOver ⟦<PipeDisk as Disk>⟧ call.old call.new session.new.store }
     ensures twice { IfSome session.old.store (λ store. Refuses call.new 10 × (session.new.store ≡ Some store)) }
 {
     if session.store.is_some() {
@@ -66,7 +66,7 @@ fn open(session: &mut Session, call: &mut Call)
 // Opens the store over the descriptors that are `key_len` and `hi_len`.
 fn opened(alloc: Global, call: &mut Call) -> Option<Opened<PipeDisk>>
     ensures question { IsAnswered call.old call.new }
-    ensures opening { IsOpening ⟦<PipeDisk as Disk>⟧ call.old call.new result }
+    ensures opening { IsOpeningOver ⟦<PipeDisk as Disk>⟧ call.old call.new result }
 {
     let (Ok(ask), Ok(answer)) = (i32::try_from(call.key_len), i32::try_from(call.hi_len)) else {
         refuse(call, Fault::Device);
