@@ -95,6 +95,7 @@ pub fn redo_records(
         → IfOk result (λ count. AreRedone numbers.now rs g changed count pages.new) }
     ensures taken { (rs : List Logged) (g : ℕ → Page) (changed : ℕ → Bool) → StandIn from span.now lsns.now rs → AreThese numbers.now pages.old g changed → AllTaken rs g
         → IfErr result (λ e. e ≢ NotAStore) }
+    ensures few { IfOk result (λ count. count ≤ length lsns.now) }
     ensures length { length pages.new ≡ length pages.old }
     ensures causes { IfErr result (λ e. (e ≡ Memory) ⊎ (e ≡ NotAStore)) }
 {

@@ -105,6 +105,13 @@ impl PageWriter {
         self.flush_for_entries(disk, count)
     }
 
+    /// How many pages may be held.
+    pub fn frames(&self) -> usize
+        ensures { result ≡ self.now.pool.frames }
+    {
+        self.pool.frames()
+    }
+
     // Gets pages, one after another.
     fn get_all<D: Disk>(&mut self, disk: &mut D, numbers: &[PageNo]) -> Result<(), Fault>
         requires ready { IsReadyWriter D.Disk self.old disk.old }
@@ -248,6 +255,7 @@ impl PageWriter {
         ensures here { (rs : List Logged) → StandIn from span.now lsns.now rs → OnOk result (RoundHere numbers.now point (λ q. is_some (get nat_cmp copies.now q)) rs self.old self.new) }
         ensures count { (rs : List Logged) (g : ℕ → Page) → StandIn from span.now lsns.now rs → AreShown numbers.now self.old.pool g → IfOk result (λ n. n ≡ applied_of_all rs g) }
         ensures taken { (rs : List Logged) (g : ℕ → Page) → StandIn from span.now lsns.now rs → AreShown numbers.now self.old.pool g → AllTaken rs g → IfErr result (λ e. e ≢ NotAStore) }
+        ensures few { IfOk result (λ n. n ≤ length lsns.now) }
         ensures length { length pages.new ≡ length pages.old }
         ensures frames { self.new.pool.frames ≡ self.old.pool.frames }
         ensures log { self.new.log ≡ self.old.log }
@@ -285,6 +293,7 @@ impl PageWriter {
         ensures kept { (b : Base) (base : ℕ) (s : Writer) (newer front : History) (rs : List Logged) → StandsAs D.Disk b base s self.old disk.old → s.redo_end ≡ None → s.point ≡ point
             → newer ++ onto rs front ≡ s.durable → AreFrom point rs → HaveHad b front s.pages → StandIn from span.now lsns.now (changing rs)
             → ((p : ℕ) → is_some (get nat_cmp copies.now p) ≡ true → HasCopy s.durable p s.point) → RoundKept D.Disk b base s rs disk.old self.new disk.new result }
+        ensures few { IfOk result (λ n. n ≤ length lsns.now) }
         ensures length { length pages.new ≡ length pages.old }
     {
         self.make_entries_room(disk, numbers.len())?;
