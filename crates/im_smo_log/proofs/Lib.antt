@@ -6,6 +6,7 @@ pub mod Refusals
 pub mod Runs
 pub mod Nets
 mod ImagePlaces
+pub mod DoneNumbers
 pub mod Others
 pub mod Going
 pub mod Coming

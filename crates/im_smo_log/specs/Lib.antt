@@ -1,6 +1,7 @@
 pub mod Logged
 pub mod Changes
 pub mod Under
+pub mod ChangePages
 pub mod GoingOn
 pub mod Marks
 pub mod Stepping

@@ -1,6 +1,6 @@
 //! The steps of a structure change that is made page by page, with records of others between its pages.
 
-ghost use Rattle.std.specs.Prelude.{◌≡◌, ◌<◌, ◌≤◌, ◌↔◌, ℕ, false, length, Some, IfErr, IfOk, IsTrue, OnErr};
+ghost use Rattle.std.specs.Prelude.{◌≡◌, ◌<◌, ◌≤◌, ◌↔◌, ℕ, false, [], ◌∷◌, ◌++◌, length, Some, IfErr, IfOk, IsTrue, OnErr, OnOk};
 ghost use Rattle.im_base_types.specs.declared.fault.Fault.TheVariants.{Memory};
 ghost use Rattle.im_theory_log.specs.Histories.{Base};
 ghost use Rattle.im_theory_log.specs.Writer.{Writer};
@@ -8,16 +8,18 @@ ghost use Rattle.im_log_record.specs.Entry.{DummyClr};
 ghost use Rattle.im_page_writer.specs.PageWriter.{IsReadyWriter, StandsAs, LogKept};
 ghost use Rattle.im_page_writer.specs.Outcome.{fault_of, mild, none_mild, Logs};
 ghost use Rattle.im_smo_log.specs.Changes.{AreCounted};
+ghost use Rattle.im_smo_log.specs.ChangePages.{numbers_of};
 ghost use Rattle.im_smo_log.specs.Stepping.{StepKept, CloseKept};
 
 use crate::change::Change;
 use crate::page_record::log_marked;
 use crate::structure_change::are_counted;
 use im_base_disk::Disk;
-use im_base_types::{Fault, Lsn, TxnId};
+use im_base_types::{Fault, Lsn, PageNo, TxnId};
 use im_log_record::Record;
 use im_page_writer::PageWriter;
 use im_smo_pages::Images;
+use std::alloc::Global;
 
 // Logs the record that closes a structure change.
 fn log_closing<D: Disk>(
@@ -39,6 +41,23 @@ fn log_closing<D: Disk>(
         undo_next,
     };
     writer.log_only(disk, &closing)
+}
+
+// An empty list with room for so many page numbers.
+fn list_for(alloc: Global, len: usize) -> Result<Vec<PageNo>, Fault>
+    ensures none { IfOk result (λ list. list.items ≡ []) }
+    ensures memory { IfErr result (λ e. e ≡ Memory) }
+{
+    Vec::with_capacity(alloc, len).map_err(|_| Fault::Memory)
+}
+
+// Adds a page number to a list.
+fn add_number(list: &mut Vec<PageNo>, number: PageNo) -> Result<(), Fault>
+    ensures added { OnOk result (list.new.items ≡ list.old.items ++ number ∷ []) }
+    ensures memory { IfErr result (λ e. e ≡ Memory) }
+{
+    list.push(number).map_err(|_| Fault::Memory)?;
+    Ok(())
 }
 
 impl Change {
@@ -118,6 +137,27 @@ impl Change {
         ensures { IsTrue result ↔ (self.now.done < length self.now.images) }
     {
         self.done < self.images.len()
+    }
+
+    /// How many of its pages are logged.
+    pub fn done(&self) -> usize
+        ensures { result ≡ self.now.done }
+    {
+        self.done
+    }
+
+    /// The numbers of all its pages, in the order in which they are logged: of a search beside it the first `done` of them are hidden.
+    /// Refused `Memory` where it is wanted for the list.
+    pub fn numbers(&self, alloc: Global) -> Result<Vec<PageNo>, Fault>
+        ensures numbers { IfOk result (λ list. list.items ≡ numbers_of self.now.images) }
+        ensures memory { IfErr result (λ e. e ≡ Memory) }
+    {
+        let len = self.images.len();
+        let mut list = list_for(alloc, len)?;
+        for i in 0..len {
+            add_number(&mut list, self.images.number(i))?;
+        }
+        Ok(list)
     }
 
     /// The transaction whose change it is.

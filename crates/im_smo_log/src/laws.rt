@@ -3,6 +3,7 @@
 ghost use Rattle.std.specs.Prelude.{◌≡◌, ◌≢◌, ℕ};
 ghost use Rattle.im_theory_log.specs.Histories.{Base, History};
 ghost use Rattle.im_theory_log.specs.Transactions.{committed, contents, net};
+ghost use Rattle.im_smo_log.specs.ChangePages.{FirstAreDone};
 ghost use Rattle.im_smo_log.specs.Changes.{GrowsByChange, IsSameOf};
 ghost use Rattle.im_smo_log.specs.GoingOn.{OthersKeep, OthersKeepWays, PagesGoOn, OtherPagesAreSettled, PagesAgree, ClosesWell, ChangesBegin, PagesMayCome, ClosesMayCome};
 
@@ -18,13 +19,14 @@ pub fn changes_keep()
 
 /// A structure change that is made page by page goes on whatever others log between its pages, as long as they leave its pages
 /// alone: it begins over pages with none open, its next page may come, and its end, and beside it each page that is not made
-/// yet is the settled one.
+/// yet is the settled one. The pages that are made are the first of its numbers.
 pub fn changes_go_on()
     ensures others { OthersKeep }
     ensures ways { OthersKeepWays }
     ensures pages { PagesGoOn }
     ensures settled { OtherPagesAreSettled }
     ensures agrees { PagesAgree }
+    ensures done { FirstAreDone }
     ensures closes { ClosesWell }
     ensures begins { ChangesBegin }
     ensures next { PagesMayCome }

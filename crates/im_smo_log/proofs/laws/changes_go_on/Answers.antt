@@ -1,3 +1,4 @@
+use Rattle.im_smo_log.proofs.DoneNumbers.{first_are_done}
 use Rattle.im_smo_log.proofs.Others.{others_keep, ways_keep}
 use Rattle.im_smo_log.proofs.Going.{page_goes_on, other_page_settled, pages_agree, closes_well}
 use Rattle.im_smo_log.proofs.Coming.{changes_begin, pages_may_come, closes_may_come}
@@ -17,6 +18,9 @@ returns-clause-settled c = other_page_settled
 
 pub returns-clause-agrees : goal.returns-clause-agrees
 returns-clause-agrees c = pages_agree
+
+pub returns-clause-done : goal.returns-clause-done
+returns-clause-done c = first_are_done
 
 pub returns-clause-closes : goal.returns-clause-closes
 returns-clause-closes c = closes_well
