@@ -1,7 +1,8 @@
 //! How the store of a folder is opened.
 
-ghost use Rattle.std.specs.Prelude.{◌≡◌, [], false, IfOk};
+ghost use Rattle.std.specs.Prelude.{◌≡◌, [], false, IfOk, IfErr};
 ghost use Rattle.im_front.specs.Held.{IsResting};
+ghost use Rattle.im_open.specs.Refusals.{IsRefusal};
 
 use crate::not_opened::NotOpened;
 use im_base_file_disk::FileDisk;
@@ -18,7 +19,9 @@ pub fn open(
 ) -> Result<Rested<Engine<FileDisk>>, NotOpened>
     ensures group { IfOk result (λ e. e.txns.group ≡ config.group) }
     ensures frames { IfOk result (λ e. e.writer.pool.frames ≡ config.frames) }
+    ensures limit { IfOk result (λ e. e.max_pages ≡ config.max_pages) }
     ensures works { IfOk result (λ e. (e.failed ≡ false) × (e.txns.rows ≡ [])) }
+    ensures causes { IfErr result (λ e. IsRefusal config e) }
 {
     match opened(rt, folder, config) {
         Ok(engine) => Ok(Rested::new(engine)),
@@ -31,7 +34,9 @@ fn opened(rt: &HostRuntime, folder: &str, config: Config) -> Result<Engine<FileD
     ensures rests { IfOk result (λ engine. IsResting ⟦<Engine<FileDisk> as Store>⟧ engine) }
     ensures group { IfOk result (λ e. e.txns.group ≡ config.group) }
     ensures frames { IfOk result (λ e. e.writer.pool.frames ≡ config.frames) }
+    ensures limit { IfOk result (λ e. e.max_pages ≡ config.max_pages) }
     ensures works { IfOk result (λ e. (e.failed ≡ false) × (e.txns.rows ≡ [])) }
+    ensures causes { IfErr result (λ e. IsRefusal config e) }
 {
     let disk = match FileDisk::open(rt, folder) {
         Ok(disk) => disk,
