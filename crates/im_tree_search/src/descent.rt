@@ -92,7 +92,7 @@ pub fn root<D: Disk>(writer: &mut PageWriter, disk: &mut D) -> Result<Frame, Fau
     root_page(writer, disk)
 }
 
-/// The same beside a structure change: it is hidden where page 1 is made.
+// The same beside a structure change: it is hidden where page 1 is made.
 fn root_beside<D: Disk>(
     writer: &mut PageWriter,
     disk: &mut D,
