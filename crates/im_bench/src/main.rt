@@ -7,6 +7,8 @@
 //! The last two are runs of whole stores, for what no contract can say, and have no figures: `long` is one long run of a store of ten
 //! thousand keys, and a life and an opening stopped at each device call; `damage` opens a store whose files are damaged, one byte at a
 //! time, by strides. `im_bench damage --all` damages each byte of both files, which takes minutes.
+//!
+//! Threads that commit are a program of their own, `im_bench_commits`, with figures beside five other stores.
 #![tactic(auto)]
 
 use anyhow::{Result, bail};
