@@ -1,0 +1,25 @@
+//! Tests of commits through a front whose store has group commit: what is durable when `commit` returns, who makes the force and who sleeps until it is
+//! made, and what each caller is told where the force fails, lacks memory, or meets a full trace.
+//!
+//! The store is the engine over a disk in memory, which fails or stops where a test wants it (`stores`); and a store of no keys, whose force lacks memory
+//! (`lacking`).
+#![tactic(auto)]
+
+#[cfg(test)]
+mod durable;
+#[cfg(test)]
+mod failing;
+#[cfg(test)]
+mod full;
+#[cfg(test)]
+mod lacking;
+#[cfg(test)]
+mod load;
+#[cfg(test)]
+mod sharing;
+#[cfg(test)]
+mod sleeping;
+#[cfg(test)]
+mod stops;
+#[cfg(test)]
+mod stores;
