@@ -114,6 +114,17 @@ fn every_stop_of_a_shared_force_prints_its_counts(rt: HostRuntime) -> Result<(),
     Ok(())
 }
 
+// The second flush logs no full copy of the page: one that is torn then is made anew of the copy that the first flush logged, and the records since.
+const LEFT_OUT: &str = "life\nbegin\ninsert 1 a 7\nflush 1\ninsert 1 b 8\nflush 1\n";
+
+// The life makes 17 device calls.
+#[test]
+fn every_stop_of_a_copy_left_out_prints_its_counts(rt: HostRuntime) -> Result<(), Fail> {
+    let want = "stops 102 restarts 2088 bad 0\n";
+    assert!(rt; prints_every(rt.alloc(), LEFT_OUT, want, 0)?);
+    Ok(())
+}
+
 static FAILURES: [(&str, &[Part]); 3] = [
     (
         "a_failure_within_one_insert_is_told",
