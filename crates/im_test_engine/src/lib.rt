@@ -7,6 +7,8 @@ mod lives;
 #[cfg(test)]
 mod many;
 #[cfg(test)]
+mod memory;
+#[cfg(test)]
 mod open_fronts;
 #[cfg(test)]
 mod readings;
